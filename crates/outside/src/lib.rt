@@ -1,11 +1,15 @@
-//! What stands outside of the program: where bytes come from and go to, each with a count of its faults,
-//! and the forms in memory.
+//! What stands outside of the program, as traits: where bytes come from and go to, and a disk that may crash, each
+//! with a count of its faults. The forms in memory stand beside them.
 #![tactic(auto)]
 
+mod disks;
 mod failures;
 mod memory_streams;
+mod sides;
 mod streams;
 
+pub use disks::Disk;
 pub use failures::Failed;
 pub use memory_streams::{BytesSink, BytesSource};
+pub use sides::Side;
 pub use streams::{Sink, Source};
