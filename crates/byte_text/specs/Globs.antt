@@ -99,7 +99,7 @@ tokens_from (s ∷ ss) place = turned (turn place s) (tokens_from ss)
 abbrev pub tokens : Bytes → Option (List Token)
 tokens pattern = tokens_from (signs (chars pattern)) outside
 
-abbrev pub is_well_formed : Bytes → Bool
+unfoldable pub is_well_formed : Bytes → Bool
 is_well_formed pattern = is_some (tokens pattern)
 
 abbrev pub in_item : ℕ → Item → Bool
@@ -127,5 +127,5 @@ option_meets None name = false
 option_meets (Some ts) name = tokens_meet ts (chars name)
 
 -- a pattern meets a name; one that is not well formed meets none
-abbrev pub glob_meets : Bytes → Bytes → Bool
+unfoldable pub glob_meets : Bytes → Bytes → Bool
 glob_meets pattern name = option_meets (tokens pattern) name

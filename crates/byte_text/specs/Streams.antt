@@ -104,7 +104,7 @@ words (suc n) allowed = do
   done (text ∷ others)
 
 -- a request
-abbrev pub request : Grammar (List Bytes)
+unfoldable pub request : Grammar (List Bytes)
 request = do
   byte 42 BadType
   n ← number count_limit None
@@ -131,7 +131,7 @@ first_requests zero bytes = record { requests = []; ending = holds bytes }
 first_requests (suc n) bytes = stream_behind bytes (request bytes) (first_requests n)
 
 -- the stream of some bytes, which hold less requests than bytes
-abbrev pub stream_of : Bytes → Stream
+unfoldable pub stream_of : Bytes → Stream
 stream_of bytes = first_requests (length bytes) bytes
 
 -- the stream with more bytes behind it: its rest goes on, and nothing comes behind a fault
