@@ -1,3 +1,3 @@
-pub mod Chains
-pub mod Places
-pub mod Roots
+pub mod ChainLemmas
+pub mod PlaceLemmas
+pub mod RootLemmas

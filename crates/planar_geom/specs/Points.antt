@@ -53,6 +53,13 @@ pub record InPlane (p : Point) : Type 0 where
   pub x_in : IsCoordinate p.x
   pub y_in : IsCoordinate p.y
 
+-- the point stands on the plane, or on it in doubled coordinates
+pub record InDoubledPlane (p : Point) : Type 0 where
+  pub left : (least_coordinate +ℤ least_coordinate) ≤ℤ p.x
+  pub right : p.x ≤ℤ (greatest_coordinate +ℤ greatest_coordinate)
+  pub bottom : (least_coordinate +ℤ least_coordinate) ≤ℤ p.y
+  pub top : p.y ≤ℤ (greatest_coordinate +ℤ greatest_coordinate)
+
 -- both corners stand on the plane, and neither range of the box is empty
 pub record IsBox (b : Bounds) : Type 0 where
   pub min_in_plane : InPlane b.min
@@ -100,6 +107,11 @@ with_point b p =
 -- the least box round points, the first of them given apart
 abbrev pub box_round : Point → List Point → Bounds
 box_round p ps = fold with_point (bounds p p) ps
+
+-- the least box round what is held by the box found so far, if there is one, and a point
+abbrev pub grown : Option Bounds → Point → Option Bounds
+grown None p = Some (bounds p p)
+grown (Some b) p = Some (with_point b p)
 
 -- the centre, each sum halved and rounded down
 abbrev pub centre : Bounds → Point

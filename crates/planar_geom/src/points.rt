@@ -96,8 +96,8 @@ impl Model for BBox {
 }
 
 impl BBox {
-    ghost use Rattle.std.specs.Prelude.{◌≡◌};
-    ghost use Rattle.planar_geom.specs.Points.{bounds_of, with_point, IsBox};
+    ghost use Rattle.std.specs.Prelude.{◌≡◌, pos};
+    ghost use Rattle.planar_geom.specs.Points.{pt, bounds, bounds_of, with_point, IsBox};
 
     /// The box between two corners; `None` exactly where `min` exceeds `max` in x or in y.
     pub fn of(min: Pt, max: Pt) -> Option<BBox>
@@ -108,6 +108,21 @@ impl BBox {
         } else {
             None
         }
+    }
+
+    /// The box of one point.
+    pub(crate) fn of_point(p: Pt) -> BBox
+        ensures { result ≡ bounds p p }
+    {
+        let _ = p.x;
+        BBox { min: p, max: p }
+    }
+
+    /// The box of the origin alone.
+    pub(crate) fn origin() -> BBox
+        ensures { result ≡ bounds (pt (pos 0) (pos 0)) (pt (pos 0) (pos 0)) }
+    {
+        BBox::of_point(Pt { x: 0, y: 0 })
     }
 
     /// The least corner.
@@ -148,6 +163,16 @@ impl BBox {
 pub struct Seg {
     pub a: Pt,
     pub b: Pt,
+}
+
+impl Model for Seg {
+    ghost use Rattle.planar_geom.specs.Figures.{Stretch, stretch};
+
+    ghost Value = { Stretch };
+
+    ghost view = { λ s. stretch s.a s.b };
+
+    ghost inverse = { λ s. record { a = s.a; b = s.b } };
 }
 
 /// The centre of a box, each sum of two coordinates halved and rounded down.
