@@ -1,0 +1,16 @@
+pub mod Worlds
+pub mod Records
+pub mod Filters
+pub mod Grammar
+pub mod Kinds
+pub mod Commands
+pub mod Served
+pub mod Queries
+pub mod Sound
+pub mod Fences
+pub mod Messages
+pub mod Effects
+pub mod Refusals
+pub mod Halls
+pub mod Histories
+pub mod Laws
