@@ -144,12 +144,18 @@ abbrev pub do_effect : Hall → ℕ → Effect → Hall
 do_effect h n e = closed_if e.closes n
     (apply_all (place_all (change_session (λ s. record s { subs = with_subs s.subs e.subs }) n h) (map (λ r. (n, frame_text r)) e.replies)) e.deeds)
 
+-- the effect of what the words are: a command, or a refusal
 abbrev effect_of : Hall → Session → Result Command WordFault → Effect
 effect_of h s (Ok c) = effect h.world h.now s.subs c
 effect_of h s (Err f) = says (fault_reply f)
 
+-- a session's words are done, whatever they are
+abbrev pub do_words : Hall → Session → Result Command WordFault → Hall
+do_words h s asked = do_effect h s.number (effect_of h s asked)
+
+-- what is asked is done: the words, or the end of a session that broke the protocol
 abbrev pub do_asked : Hall → Session → Asked → Hall
-do_asked h s (Words words) = do_effect h s.number (effect_of h s (asks words))
+do_asked h s (Words words) = do_words h s (asks words)
 do_asked h s (Broken f) = close_session s.number (place h (s.number, frame_text (broken_reply f)))
 
 abbrev do_live : Hall → Option Session → Asked → Hall
