@@ -1,0 +1,134 @@
+//! Points, segments and boxes of the plane.
+
+use std::marker::Model;
+
+/// The greatest size of a coordinate.
+pub const MAX_COORD: i64 = 1_000_000_000;
+
+/// A point, each coordinate at most [`MAX_COORD`] in size.
+#[derive(Clone, Copy)]
+pub struct Pt {
+    x: i32,
+    y: i32,
+}
+
+impl Model for Pt {
+    ghost use Rattle.planar_geom.specs.Points.{Point, InPlane, pt};
+
+    ghost Value = { Point };
+
+    ghost view = { λ p. pt p.x p.y };
+
+    ghost invariant = { λ p. InPlane (pt p.x p.y) };
+
+    ghost inverse = { λ p. record { x = p.x; y = p.y } };
+}
+
+impl Pt {
+    ghost use Rattle.std.specs.Prelude.{◌≡◌};
+    ghost use Rattle.planar_geom.specs.Points.{point_at, same_point, InPlane};
+
+    /// The point with these coordinates; `None` exactly where one of them is beyond [`MAX_COORD`].
+    pub fn of(x: i64, y: i64) -> Option<Pt>
+        ensures { result ≡ point_at x y }
+    {
+        if is_coordinate(x) && is_coordinate(y) {
+            Some(Pt {
+                x: x as i32,
+                y: y as i32,
+            })
+        } else {
+            None
+        }
+    }
+
+    /// How far east of the origin the point stands.
+    pub fn x(self) -> i32
+        ensures value { result ≡ self.x }
+        ensures in_plane { InPlane self }
+    {
+        self.x
+    }
+
+    /// How far north of the origin the point stands.
+    pub fn y(self) -> i32
+        ensures value { result ≡ self.y }
+        ensures in_plane { InPlane self }
+    {
+        self.y
+    }
+
+    /// Whether both coordinates agree.
+    pub(crate) fn is_at(self, other: Pt) -> bool
+        ensures { result ≡ same_point self other }
+    {
+        self.x == other.x && self.y == other.y
+    }
+}
+
+ghost use Rattle.std.specs.Prelude.{◌≡◌};
+ghost use Rattle.planar_geom.specs.Points.{is_coordinate as is_plane_coordinate};
+
+fn is_coordinate(a: i64) -> bool
+    ensures { result ≡ is_plane_coordinate a }
+{
+    -MAX_COORD <= a && a <= MAX_COORD
+}
+
+/// A box: its least corner `min` is at most its greatest corner `max` in x and in y.
+#[derive(Clone, Copy)]
+pub struct BBox {
+    min: Pt,
+    max: Pt,
+}
+
+impl Model for BBox {
+    ghost use Rattle.planar_geom.specs.Points.{Bounds, IsBox, bounds};
+
+    ghost Value = { Bounds };
+
+    ghost view = { λ b. bounds b.min b.max };
+
+    ghost invariant = { λ b. IsBox (bounds b.min b.max) };
+
+    ghost inverse = { λ b. record { min = b.min; max = b.max } };
+}
+
+impl BBox {
+    ghost use Rattle.std.specs.Prelude.{◌≡◌};
+    ghost use Rattle.planar_geom.specs.Points.{bounds_of, IsBox};
+
+    /// The box between two corners; `None` exactly where `min` exceeds `max` in x or in y.
+    pub fn of(min: Pt, max: Pt) -> Option<BBox>
+        ensures { result ≡ bounds_of min max }
+    {
+        if min.x() <= max.x() && min.y() <= max.y() {
+            Some(BBox { min, max })
+        } else {
+            None
+        }
+    }
+
+    /// The least corner.
+    pub fn min(self) -> Pt
+        ensures value { result ≡ self.min }
+        ensures is_box { IsBox self }
+    {
+        self.min
+    }
+
+    /// The greatest corner.
+    pub fn max(self) -> Pt
+        ensures value { result ≡ self.max }
+        ensures is_box { IsBox self }
+    {
+        self.max
+    }
+}
+
+/// The segment from `a` to `b`.
+#[derive(Clone, Copy)]
+pub struct Seg {
+    pub a: Pt,
+    pub b: Pt,
+}
