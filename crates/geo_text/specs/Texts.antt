@@ -1,16 +1,15 @@
 -- Texts of objects: what is stored for a point and a box, and the shape of every text or why it has none.
-use Rattle.std.specs.Prelude.{ℕ, ℤ, Bool, true, false, ◌&&◌, ◌||◌, ◌==◌, nat_le, int_le, nat_lt, List, [], ◌∷◌, ◌++◌, length, filter, map, codes, Option, Some, None, Result, Ok, Err, if◌then◌else◌}
+use Rattle.std.specs.Prelude.{ℕ, ℤ, Bool, true, false, ◌&&◌, ◌||◌, ◌==◌, nat_le, nat_lt, List, [], ◌∷◌, ◌++◌, length, filter, map, codes, Option, Some, None, Result, Ok, Err, if◌then◌else◌}
 use Rattle.std.specs.Fmt.{signed_decimal}
 use Rattle.std.specs.Str.{is_utf8}
 use Rattle.serde_json.specs.Data.{Data}
 use Rattle.serde_json.specs.Read.{read}
 use Rattle.byte_text.specs.Names.{Bytes, same}
 use Rattle.byte_text.specs.Numbers.{signed_value}
-use Rattle.planar_geom.specs.Points.{Point, Bounds, pt}
+use Rattle.planar_geom.specs.Points.{Point, Bounds, pt, bounds, is_coordinate, is_low_of}
 use Rattle.planar_geom.specs.declared.shapes.Part.TheVariants.{Spot, Face}
 use Rattle.geo_text.specs.declared.faults.GeoFault.{GeoFault}
 use Rattle.geo_text.specs.declared.faults.GeoFault.TheVariants.{NotJson}
-use Rattle.geo_text.specs.Walks.{in_range}
 use Rattle.geo_text.specs.Geometries as geometries
 
 -- the parts of a shape
@@ -57,11 +56,12 @@ stretches (b ∷ bs) = if is_of_number b then joins_first b (stretches bs) else 
 abbrev pub numbers_in : Bytes → List ℤ
 numbers_in text = map signed_value (filter (λ w. nat_lt 0 (length w)) (stretches text))
 
-abbrev in_plane : Point → Bool
-in_plane p = in_range p.x && in_range p.y
+-- the corners stand on the plane, the least first
+abbrev pub in_plane : Point → Bool
+in_plane p = is_coordinate p.x && is_coordinate p.y
 
-abbrev is_box : Bounds → Bool
-is_box b = in_plane b.min && in_plane b.max && int_le b.min.x b.max.x && int_le b.min.y b.max.y
+abbrev pub is_box : Bounds → Bool
+is_box b = in_plane b.min && in_plane b.max && is_low_of b.min b.max
 
 abbrev if_point : Bytes → Point → Option Shape
 if_point text p = if in_plane p && same (point_text p) text then Some (Spot p ∷ []) else None
@@ -72,7 +72,7 @@ if_bounds text b = if is_box b && same (bounds_text b) text then Some (Face (cor
 -- the shape of a text of one of the two stored forms
 abbrev stored_by : Bytes → List ℤ → Option Shape
 stored_by text (x ∷ y ∷ []) = if_point text (pt x y)
-stored_by text (a ∷ b ∷ c ∷ beside ∷ above ∷ d ∷ others) = if_bounds text (record { min = pt a b; max = pt c d })
+stored_by text (a ∷ b ∷ c ∷ beside ∷ above ∷ d ∷ others) = if_bounds text (bounds (pt a b) (pt c d))
 stored_by text numbers = None
 
 abbrev pub stored_shape : Bytes → Option Shape

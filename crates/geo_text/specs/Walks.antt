@@ -1,8 +1,9 @@
 -- RFC 7946, section 3.1: positions, lines and rings, read from left to right; the first fault met counts.
-use Rattle.std.specs.Prelude.{◌≡◌, ℕ, ◌+◌, ℤ, pos, neg_ℤ, int_le, nat_lt, ◌&&◌, Bool, true, false, List, [], ◌∷◌, length, Option, Some, None, Result, Ok, Err, if◌then◌else◌}
+use Rattle.std.specs.Prelude.{◌≡◌, ℕ, ◌+◌, ℤ, nat_lt, Bool, false, List, [], ◌∷◌, length, Option, Some, None, Result, Ok, Err, if◌then◌else◌}
 use Rattle.serde_json.specs.Data.{Num, unsigned, negative, float, Data, null, boolean, number, string, array, object, Items, no_items, item}
 use Rattle.serde_json.specs.Find.{as_i64}
-use Rattle.planar_geom.specs.Points.{Point, pt, same_point}
+use Rattle.planar_geom.specs.Points.{Point, pt, same_point, is_coordinate}
+use Rattle.planar_geom.specs.Figures.{last_of}
 use Rattle.geo_text.specs.declared.faults.GeoFault.{GeoFault}
 use Rattle.geo_text.specs.declared.faults.GeoFault.TheVariants.{NotJson, NotSpatial, BadType, NotWhole, OutOfRange, BadRing, TooFew, TooMany, BadPosition, Memory}
 
@@ -29,21 +30,14 @@ abbrev pub Gives : {X Y : Type 0} → (X → Y) → Result X GeoFault → Result
 Gives view (Ok x) read = read ≡ Ok (view x)
 Gives view (Err e) read = Fails e read
 
--- the greatest coordinate
-abbrev pub max_coord : ℕ
-max_coord = 1000000000
-
 -- the most positions of one object
 abbrev pub max_positions : ℕ
 max_positions = 10000
 
--- the number is no coordinate beyond the greatest
-abbrev pub in_range : ℤ → Bool
-in_range z = int_le (neg_ℤ (pos max_coord)) z && int_le z (pos max_coord)
-
+-- a number as a coordinate of the plane
 abbrev pub within : Option ℤ → Result ℤ GeoFault
 within None = Err OutOfRange
-within (Some z) = if in_range z then Ok z else Err OutOfRange
+within (Some z) = if is_coordinate z then Ok z else Err OutOfRange
 
 -- a coordinate: a number that JSON writes without fraction and exponent, within the range
 abbrev pub coordinate : Num → Result ℤ GeoFault
@@ -131,14 +125,10 @@ line d count = do
   ps ← positions_of d count
   if nat_lt (length ps.0) 2 then Err TooFew else Ok ps
 
-abbrev pub last_is : Point → List Point → Bool
-last_is p [] = false
-last_is p (q ∷ []) = same_point p q
-last_is p (q ∷ r ∷ ps) = last_is p (r ∷ ps)
-
+-- the first of the points is the last of them too
 abbrev pub is_closed : List Point → Bool
 is_closed [] = false
-is_closed (p ∷ ps) = last_is p (p ∷ ps)
+is_closed (p ∷ ps) = same_point p (last_of p ps)
 
 -- section 3.1.6, Polygon: a linear ring has four or more positions, and the first is the last
 unfoldable pub ring : Data → ℕ → Result (List Point × ℕ) GeoFault

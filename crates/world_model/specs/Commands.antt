@@ -10,6 +10,7 @@ use Rattle.planar_geom.specs.declared.shapes.Area.TheVariants.{Rect, Disc, Figur
 use Rattle.planar_geom.specs.declared.shapes.Part.TheVariants.{Spot, Face}
 use Rattle.geo_text.specs.Texts.{Shape, shape_of, point_text, bounds_text, corners, joined}
 use Rattle.geo_text.specs.declared.faults.GeoFault.{GeoFault}
+use Rattle.world_model.specs.Limits.{max_limit, max_tests, max_values}
 use Rattle.world_model.specs.Filters.{Field, last_values, is_zero}
 use Rattle.world_model.specs.Grammar.{Form, Reading, ◌>>=◌, ◌>>◌, ◌or◌, done, one_of, where_, word, maybe, repeated, once_or_more, times, live, spelled, goes_on, wants_coordinate, wants_geojson}
 use Rattle.world_model.specs.Kinds.{name, glob, integer, between, meters, seconds, lat_lon, four, geojson, bound, list_of, is_in, is_digit}
@@ -160,7 +161,7 @@ abbrev pub wherein_test : Form Test
 wherein_test = do
   word (codes "WHEREIN")
   field_name ← name
-  count ← between 1 256
+  count ← between 1 max_values
   values ← times count integer
   done (Among field_name values)
 
@@ -184,11 +185,11 @@ abbrev pub search_option : Bool → SearchOptions → Form SearchOptions
 search_option ordered so_far = one_of (
     where_ (is_none so_far.glob) (word (codes "MATCH") >> glob >>= λ pattern. done (record so_far { glob = Some pattern })) ∷
     where_ (is_none so_far.cursor) (word (codes "CURSOR") >> between 0 4294967295 >>= λ n. done (record so_far { cursor = Some n })) ∷
-    where_ (is_none so_far.limit) (word (codes "LIMIT") >> between 1 1000000 >>= λ n. done (record so_far { limit = Some n })) ∷
+    where_ (is_none so_far.limit) (word (codes "LIMIT") >> between 1 max_limit >>= λ n. done (record so_far { limit = Some n })) ∷
     where_ (not so_far.bare) (word (codes "NOFIELDS") >> done (record so_far { bare = true })) ∷
     where_ (ordered && is_none so_far.down) (word (codes "ASC") >> done (record so_far { down = Some false })) ∷
     where_ (ordered && is_none so_far.down) (word (codes "DESC") >> done (record so_far { down = Some true })) ∷
-    where_ (nat_lt (length so_far.tests) 64) (test >>= λ t. done (record so_far { tests = so_far.tests ++ t ∷ [] })) ∷ [])
+    where_ (nat_lt (length so_far.tests) max_tests) (test >>= λ t. done (record so_far { tests = so_far.tests ++ t ∷ [] })) ∷ [])
 
 abbrev pub output : Form Shown
 output = one_of ((word (codes "COUNT") >> done shown.Count) ∷ (word (codes "IDS") >> done shown.Ids) ∷ (word (codes "OBJECTS") >> done shown.Objects) ∷ (word (codes "POINTS") >> done shown.Points) ∷ (word (codes "BOUNDS") >> done shown.Bounds) ∷ [])
@@ -277,7 +278,7 @@ command_names = codes "set" ∷ codes "del" ∷ codes "drop" ∷ []
 abbrev pub fence_option : Bool → FenceOptions → Form FenceOptions
 fence_option near so_far = one_of (
     where_ (is_none so_far.glob) (word (codes "MATCH") >> glob >>= λ pattern. done (record so_far { glob = Some pattern })) ∷
-    where_ (nat_lt (length so_far.tests) 64) (test >>= λ t. done (record so_far { tests = so_far.tests ++ t ∷ [] })) ∷
+    where_ (nat_lt (length so_far.tests) max_tests) (test >>= λ t. done (record so_far { tests = so_far.tests ++ t ∷ [] })) ∷
     where_ (not so_far.fence) (word (codes "FENCE") >> done (record so_far { fence = true })) ∷
     where_ (is_none so_far.detect && not so_far.nodwell) (word (codes "DETECT") >> list_of detect_names >>= λ l. done (record so_far { detect = Some l })) ∷
     where_ (is_none so_far.commands) (word (codes "COMMANDS") >> list_of command_names >>= λ l. done (record so_far { commands = Some l })) ∷

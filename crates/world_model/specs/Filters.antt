@@ -4,7 +4,7 @@ use Rattle.std.specs.List.{list_any, list_all}
 use Rattle.byte_text.specs.Names.{Bytes, same, before}
 use Rattle.byte_text.specs.Globs.{glob_meets}
 use Rattle.planar_geom.specs.Points.{same_int}
-use Rattle.world_model.specs.Worlds.{put_in}
+use Rattle.world_model.specs.Lists.{put_in}
 use Rattle.world_model.specs.declared.filters.Test.{Test}
 use Rattle.world_model.specs.declared.filters.Test.TheVariants.{Range, Among}
 

@@ -8,7 +8,10 @@ use Rattle.std.specs.Prelude.{codes}
 use Rattle.world_model.specs.Worlds.{after}
 use Rattle.world_model.specs.Records.{record_len}
 use Rattle.world_model.specs.Served.{asks}
-use Rattle.world_model.specs.Effects.{Sub, Deed, loud, Effect, says, effect, with_subs, expired}
+use Rattle.world_model.specs.Limits.{cap_frames, cap_bytes}
+use Rattle.world_model.specs.Subscriptions.{Sub, with_subs}
+use Rattle.world_model.specs.Effects.{Deed, loud, Effect, says, effect}
+use Rattle.world_model.specs.Expiry.{expired}
 use Rattle.world_model.specs.Refusals.{fault_reply, broken_reply}
 use Rattle.world_model.specs.Messages.{Message, messages}
 use Rattle.world_model.specs.declared.worlds.World.{World}
@@ -17,22 +20,6 @@ use Rattle.world_model.specs.declared.commands.Command.{Command}
 use Rattle.world_model.specs.declared.faults.WordFault.{WordFault}
 use Rattle.world_model.specs.declared.events.Asked.{Asked}
 use Rattle.world_model.specs.declared.events.Asked.TheVariants.{Words, Broken}
-
--- limits
-abbrev pub cap_frames : ℕ
-cap_frames = 16384
-
-abbrev pub cap_bytes : ℕ
-cap_bytes = 6291456
-
-abbrev pub full_frames : ℕ
-full_frames = 1024
-
-abbrev pub full_bytes : ℕ
-full_bytes = 2097152
-
-abbrev pub max_sessions : ℕ
-max_sessions = 512
 
 -- whether a session is served, was cut off for its queue, or is to end behind its frames
 pub data Stage : Type 0 where

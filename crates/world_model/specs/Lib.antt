@@ -1,3 +1,5 @@
+pub mod Limits
+pub mod Lists
 pub mod Worlds
 pub mod Records
 pub mod Filters
@@ -9,8 +11,12 @@ pub mod Queries
 pub mod Sound
 pub mod Fences
 pub mod Messages
+pub mod Subscriptions
+pub mod Replies
 pub mod Effects
+pub mod Expiry
 pub mod Refusals
 pub mod Halls
 pub mod Histories
+pub mod Seats
 pub mod Laws

@@ -2,7 +2,7 @@
 use Rattle.std.specs.Prelude.{Bool, true, false, not, ◌&&◌, List, [], ◌∷◌, ◌++◌, filter, flat_map, map, Option, Some, None, if◌then◌else◌, codes, decimal}
 use Rattle.std.specs.Fmt.{signed_decimal}
 use Rattle.byte_text.specs.Names.{Bytes, same}
-use Rattle.byte_text.specs.Json.{quoted}
+use Rattle.byte_text.specs.JsonText.{quoted}
 use Rattle.planar_geom.specs.Points.{dist2, floor_root}
 use Rattle.geo_text.specs.Texts.{joined}
 use Rattle.world_model.specs.Worlds.{object_at}

@@ -4,7 +4,7 @@ use Rattle.byte_text.specs.Names.{Bytes}
 use Rattle.byte_text.specs.declared.replies.Piece.{Piece}
 use Rattle.geo_text.specs.declared.faults.GeoFault.{GeoFault}
 use Rattle.geo_text.specs.declared.faults.GeoFault.TheVariants as geo
-use Rattle.world_model.specs.Effects.{error}
+use Rattle.world_model.specs.Replies.{error}
 use Rattle.world_model.specs.declared.faults.WordFault.{WordFault}
 use Rattle.world_model.specs.declared.faults.WordFault.TheVariants as fault
 use Rattle.byte_text.specs.declared.faults.RespFault.{RespFault}

@@ -2,7 +2,7 @@
 use Rattle.std.specs.Prelude.{Bool, true, false, ◌&&◌, List, [], ◌∷◌, codes, is_some, if◌then◌else◌, ℤ, pos, neg_ℤ, Result, Ok, Err}
 use Rattle.byte_text.specs.Names.{Bytes, is_word, is_name}
 use Rattle.byte_text.specs.Numbers.{whole_within}
-use Rattle.world_model.specs.Kinds.{max_coord}
+use Rattle.world_model.specs.Limits.{max_coord}
 use Rattle.world_model.specs.Commands.{reads}
 use Rattle.world_model.specs.declared.commands.Command.{Command}
 use Rattle.world_model.specs.declared.faults.WordFault.{WordFault}
