@@ -8,7 +8,7 @@ use Rattle.byte_text.specs.Lines.{line, bulk_text}
 use Rattle.byte_text.specs.Requests.{request_text, IsRequest, max_word, max_words, max_request, total}
 use Rattle.byte_text.specs.Streams.{Front, Grammar, ◌>>=◌, ◌>>◌, done, found, begun, broken, go_on, byte, bytes_of, is_digit, with_digit, with_byte, one_more, unless, number_end, number, count_limit, word_limit, word, words, request}
 use Rattle.byte_text.specs.declared.faults.RespFault.{RespFault}
-use Rattle.byte_text.specs.declared.faults.RespFault.TheVariants.{BadType, BadLength, BadEnd, TooMany, TooLong}
+use Rattle.byte_text.specs.declared.faults.RespFault.TheVariants.{BadType, BadEnd, TooMany, TooLong}
 use Rattle.byte_text.proofs.LineLaws.{line-append, bulk_text-append}
 use Rattle.byte_text.proofs.RequestLaws.{AreShort}
 use Rattle.byte_text.proofs.StreamTexts.{word_end, behind_length, others, with_word, behind_count}

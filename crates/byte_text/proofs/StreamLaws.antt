@@ -1,9 +1,9 @@
 -- The laws of requests and streams.
-use Rattle.std.proofs.Common.{◌≡◌, ℕ, zero, suc, ◌+◌, ◌<◌, ◌≤◌, List, [], ◌∷◌, ◌++◌, length, flat_map, decimal, refl, sym, ap, subst, ◌∙◌, append_assoc, append-nil, arith, length-append}
+use Rattle.std.proofs.Common.{◌≡◌, ℕ, zero, suc, ◌<◌, ◌≤◌, List, [], ◌∷◌, ◌++◌, length, flat_map, decimal, refl, sym, ap, subst, ◌∙◌, append-nil, arith, length-append}
 use Rattle.std.proofs.lemmas.List.{nil_from_length}
 use Rattle.byte_text.specs.Names.{Bytes}
 use Rattle.byte_text.specs.Lines.{line_end, bulk_text}
-use Rattle.byte_text.specs.Requests.{request_text, IsRequest, IsRequestText}
+use Rattle.byte_text.specs.Requests.{request_text, IsRequestText}
 use Rattle.byte_text.specs.Streams.{Front, found, begun, broken, request, Stream, holds, fails, Ending, stream_behind, first_requests, stream_of, fed, fed_ending}
 use Rattle.byte_text.specs.declared.faults.RespFault.{RespFault}
 use Rattle.byte_text.proofs.StreamTexts.{request_read}

@@ -1,12 +1,12 @@
 -- A request's text is read as that request.
-use Rattle.std.proofs.Common.{◌≡◌, ◌≢◌, ℕ, zero, suc, ◌+◌, ◌-◌, ◌*◌, ◌/◌, ◌%◌, ◌<◌, ◌≤◌, ◌^◌, Bool, true, false, nat_le, ◌&&◌, ◌==◌, List, [], ◌∷◌, ◌++◌, length, take, drop, flat_map, decimal, Option, Some, None, refl, sym, ap, subst, ◌∙◌, append_assoc, arith, ne_eqb, if◌then◌else◌, take_at, length-append}
+use Rattle.std.proofs.Common.{◌≡◌, ℕ, zero, suc, ◌+◌, ◌-◌, ◌*◌, ◌/◌, ◌%◌, ◌<◌, ◌≤◌, ◌^◌, true, false, nat_le, ◌==◌, List, [], ◌∷◌, ◌++◌, length, flat_map, decimal, Option, Some, None, refl, ap, ◌∙◌, append_assoc, arith, ne_eqb, take_at, length-append}
 use Rattle.std.proofs.lemmas.Bool.{le-leb}
 use Rattle.std.proofs.lemmas.List.{drop_at}
 use Rattle.std.proofs.lemmas.Fmt.{decimal_by_steps}
 use Rattle.byte_text.specs.Names.{Bytes}
-use Rattle.byte_text.specs.Lines.{line, bulk_text, line_end}
+use Rattle.byte_text.specs.Lines.{line, bulk_text}
 use Rattle.byte_text.specs.Requests.{request_text, IsRequest, max_word, max_words, max_request, total}
-use Rattle.byte_text.specs.Streams.{Front, Grammar, ◌>>=◌, ◌>>◌, done, found, begun, broken, go_on, byte, bytes_of, is_digit, with_digit, with_byte, number, count_limit, word_limit, word, words, request}
+use Rattle.byte_text.specs.Streams.{Grammar, ◌>>=◌, ◌>>◌, done, found, go_on, byte, bytes_of, with_digit, number, count_limit, word_limit, word, words, request}
 use Rattle.byte_text.specs.declared.faults.RespFault.{RespFault}
 use Rattle.byte_text.specs.declared.faults.RespFault.TheVariants.{BadEnd}
 use Rattle.byte_text.proofs.LineLaws.{line-append, bulk_text-append}

@@ -1,4 +1,4 @@
-ghost use Rattle.std.specs.Prelude.{◌≡◌, IfOk};
+ghost use Rattle.std.specs.Prelude.{◌≡◌, ◌++◌, ◌∷◌, [], IfOk, OnOk};
 ghost use Rattle.byte_text.specs.Replies.{IsFrame};
 
 use super::*;
@@ -106,34 +106,35 @@ fn requests(rt: HostRuntime) -> Result<(), Fail> {
     Ok(())
 }
 
-// The pieces of an array of every other kind of piece.
-fn every_piece(alloc: Global) -> Result<Reply, NoMemory>
-    ensures { IfOk result (λ r. IsFrame r) }
+fn put(reply: &mut Reply, piece: Piece) -> Result<(), NoMemory>
+    ensures ok { OnOk result (reply.new ≡ reply.old ++ piece ∷ []) }
 {
-    let mut reply = Reply::new(alloc);
-    let mut items = Reply::new(alloc);
-    let pieces = (
-        reply.push(Piece::List(6)).is_ok(),
-        items.push(Piece::Status(text_of(alloc, b"OK")?)).is_ok(),
-        items.push(Piece::Fault(text_of(alloc, b"ERR x")?)).is_ok(),
-        items.push(Piece::Number(-12)).is_ok(),
-        items.push(Piece::Bulk(text_of(alloc, b"a\r\nb")?)).is_ok(),
-        items.push(Piece::NoBulk).is_ok(),
-        items.push(Piece::NoList).is_ok(),
-    );
-    if pieces != (true, true, true, true, true, true, true) {
-        return Err(NoMemory);
-    }
-    match reply.append(items) {
-        Ok(()) => Ok(reply),
+    match reply.push(piece) {
+        Ok(()) => Ok(()),
         Err(_) => Err(NoMemory),
     }
 }
 
+// An array of every other kind of piece.
+fn every_piece(alloc: Global) -> Result<Reply, NoMemory>
+    ensures { IfOk result (λ r. IsFrame r) }
+{
+    let mut reply = Reply::new(alloc);
+    put(&mut reply, Piece::List(6))?;
+    put(&mut reply, Piece::Status(text_of(alloc, b"OK")?))?;
+    put(&mut reply, Piece::Fault(text_of(alloc, b"ERR x")?))?;
+    put(&mut reply, Piece::Number(-12))?;
+    put(&mut reply, Piece::Bulk(text_of(alloc, b"a\r\nb")?))?;
+    put(&mut reply, Piece::NoBulk)?;
+    put(&mut reply, Piece::NoList)?;
+    Ok(reply)
+}
+
 #[test]
 fn replies(rt: HostRuntime) -> Result<(), Fail> {
-    let reply = every_piece(rt.alloc())?;
+    let mut reply = every_piece(rt.alloc())?;
     assert_eq!(rt; reply.len(), 7);
+    assert!(rt; matches!(reply.at(6), Piece::NoList));
     let mut text = Text::new(rt.alloc());
     push_frame(&mut text, &reply)?;
     assert_eq!(rt;
