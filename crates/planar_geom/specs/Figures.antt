@@ -67,7 +67,7 @@ ring_points rings = flat_map (λ ring. ring) rings
 abbrev pub edges : List (List Point) → List Stretch
 edges rings = flat_map stretches rings
 
--- p is above an end
+-- the end a stands above p
 abbrev pub above : Point → Point → Bool
 above p a = int_lt p.y a.y
 
