@@ -1,3 +1,4 @@
 pub mod Bytes
+pub mod Elapsing
 pub mod Reading
 pub mod Steps

@@ -2,9 +2,11 @@
 //! with a count of its faults. The forms in memory stand beside them.
 #![tactic(auto)]
 
+mod calls;
 mod contents;
 mod disks;
 mod failures;
+mod memory_disks;
 mod memory_streams;
 mod plain_disks;
 mod sides;
@@ -12,6 +14,7 @@ mod streams;
 
 pub use disks::Disk;
 pub use failures::Failed;
+pub use memory_disks::MemoryDisk;
 pub use memory_streams::{BytesSink, BytesSource};
 pub use plain_disks::PlainDisk;
 pub use sides::Side;
