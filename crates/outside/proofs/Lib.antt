@@ -1,4 +1,5 @@
 pub mod Bytes
+pub mod Choosing
 pub mod Elapsing
 pub mod Reading
 pub mod Steps

@@ -13,7 +13,7 @@ mod sides;
 mod streams;
 
 pub use disks::Disk;
-pub use failures::Failed;
+pub use failures::{Failed, NoMemory};
 pub use memory_disks::MemoryDisk;
 pub use memory_streams::{BytesSink, BytesSource};
 pub use plain_disks::PlainDisk;

@@ -1,14 +1,15 @@
 ghost use Rattle.std.specs.Prelude.{◌≡◌, ◌+◌, ◌-◌, ◌≤◌, ◌^◌, ◌++◌, [], ◌∷◌, Some, true, length, take, drop, min, reverse, unwrap_or, IsErr, IsTrue, IfOk, OnOk, OnErr};
+ghost use Rattle.std.specs.List.{list_any};
 ghost use Rattle.outside.specs.Causes.{HasCause, next_count};
 ghost use Rattle.outside.specs.Sides.{side_of};
 ghost use Rattle.outside.specs.Memory.{fails_at};
-ghost use Rattle.outside.specs.Calls.{Remembered, done, read_after, reads_as, remembers, refuses};
+ghost use Rattle.outside.specs.Calls.{Remembered, done, read_after, reads_as, remembers, refuses, IsImage, LeftSince, calls_until, chosen, done_by, with_ones, syncs, is_open};
 ghost use Rattle.outside.specs.declared.calls.Call.TheVariants.{Look, Write, Cut, Sync};
 
 use crate::calls::{Call, Piece};
 use crate::contents::Contents;
 use crate::disks::Disk;
-use crate::failures::Failed;
+use crate::failures::{Failed, NoMemory};
 use crate::sides::Side;
 use std::alloc::{AllocError, Global};
 use std::marker::Model;
@@ -40,9 +41,15 @@ impl MemoryDisk {
     pub fn new(alloc: Global, a: Vec<u8>, b: Vec<u8>, failing: Vec<u64>) -> MemoryDisk
         ensures { result ≡ record { start = record { a = a.items; b = b.items }; calls = []; failing = failing.items; made = 0; faults = 0 } }
     {
+        MemoryDisk::over(alloc, Contents::of(a, b), failing)
+    }
+
+    fn over(alloc: Global, first: Contents, failing: Vec<u64>) -> MemoryDisk
+        ensures { result ≡ record { start = first; calls = []; failing = failing.items; made = 0; faults = 0 } }
+    {
         MemoryDisk {
             alloc,
-            first: Contents::of(a, b),
+            first,
             changed: None,
             calls: Vec::new(alloc),
             failing,
@@ -56,6 +63,24 @@ impl MemoryDisk {
         ensures { result ≡ length self.now.calls }
     {
         self.calls.len() as u64
+    }
+
+    /// A disk with what a crash at a past moment may have left. `choice` says what became of the writes and cuts
+    /// that had been made then and that no sync of their side had followed. In base 3, its lowest digit belongs to
+    /// the oldest of them: 0, it did not happen; 1, it happened; 2, a cut happened, and a write left bytes 1 in its
+    /// range.
+    pub fn image(&self, moment: u64, choice: u64) -> Result<MemoryDisk, NoMemory>
+        requires { moment ≤ length self.now.calls }
+        ensures chosen { IfOk result (λ d. d ≡ record { start = chosen self.now.start (reverse (calls_until moment self.now.calls)) choice; calls = []; failing = []; made = 0; faults = 0 }) }
+
+        // It is one of the images that the disk tells.
+        ensures image { IfOk result (λ d. IsImage self.now.start (calls_until moment self.now.calls) d.start) }
+        ensures since { IfOk result (λ d. LeftSince self.now.start self.now.calls moment d.start) }
+    {
+        match crashed(self.alloc, &self.first, &self.calls[..moment as usize], choice) {
+            Ok(contents) => Ok(MemoryDisk::over(self.alloc, contents, Vec::new(self.alloc))),
+            Err(_) => Err(NoMemory),
+        }
     }
 
     // What it reads as.
@@ -105,7 +130,7 @@ impl MemoryDisk {
 }
 
 impl Disk for MemoryDisk {
-    ghost use Rattle.outside.specs.Calls.{IsImage, LeftSince, reads_as, longest_after};
+    ghost use Rattle.outside.specs.Calls.{longest_after};
     ghost use Rattle.outside.specs.CallLaws.{read_is_image, image_within, left_now, only_left_now, left_from_earlier};
 
     ghost seen = { λ d. Some (reads_as d) };
@@ -240,5 +265,94 @@ fn apply(contents: &mut Contents, call: &Call) -> Result<(), AllocError>
             contents.cut(*side, *len as usize);
             Ok(())
         }
+    }
+}
+
+// What a crash makes of the contents, by the choice.
+fn crashed(
+    alloc: Global,
+    first: &Contents,
+    calls: &[Call],
+    choice: u64,
+) -> Result<Contents, AllocError>
+    ensures { IfOk result (λ contents. contents ≡ chosen first.now calls.now choice) }
+{
+    let mut contents = first.copy(alloc)?;
+    let mut rest = calls;
+    let mut digits = choice;
+    while let [call, later @ ..] = rest {
+        digits = crash_by(alloc, &mut contents, call, later, digits)?;
+        rest = later;
+    }
+    Ok(contents)
+}
+
+// What a crash makes of one call; the rest of the choice is for the later ones.
+fn crash_by(
+    alloc: Global,
+    contents: &mut Contents,
+    call: &Call,
+    later: &[Call],
+    choice: u64,
+) -> Result<u64, AllocError>
+    ensures { IfOk result (λ rest. chosen contents.new later.now rest ≡ chosen contents.old (call.now ∷ later.now) choice) }
+{
+    if !is_open(call, later) {
+        apply(contents, call)?;
+        return Ok(choice);
+    }
+    apply_by(alloc, contents, call, choice % 3)?;
+    Ok(choice / 3)
+}
+
+fn is_open(call: &Call, later: &[Call]) -> bool
+    ensures { result ≡ is_open call.now later.now }
+{
+    match call {
+        Call::Look | Call::Sync { .. } => false,
+        Call::Write { side, .. } | Call::Cut { side, .. } => !is_synced(*side, later),
+    }
+}
+
+fn is_synced(side: Side, calls: &[Call]) -> bool
+    ensures { result ≡ list_any (syncs side) calls.now }
+{
+    calls.iter().any(|call| syncs(side, call))
+}
+
+fn syncs(side: Side, call: &Call) -> bool
+    ensures { result ≡ syncs side call.now }
+{
+    match (side, call) {
+        (Side::A, Call::Sync { side: Side::A }) | (Side::B, Call::Sync { side: Side::B }) => true,
+        _ => false,
+    }
+}
+
+fn apply_by(
+    alloc: Global,
+    contents: &mut Contents,
+    call: &Call,
+    digit: u64,
+) -> Result<(), AllocError>
+    ensures { OnOk result (contents.new ≡ done_by digit call.now contents.old) }
+{
+    match digit {
+        0 => Ok(()),
+        1 => apply(contents, call),
+        _ => apply_ones(alloc, contents, call),
+    }
+}
+
+// With bytes 1 in the range of a write.
+fn apply_ones(alloc: Global, contents: &mut Contents, call: &Call) -> Result<(), AllocError>
+    ensures { OnOk result (contents.new ≡ done (with_ones call.now) contents.old) }
+{
+    match call {
+        Call::Write { side, at, piece } => {
+            let ones = vec![in alloc; 1u8; piece.bytes().len()]?;
+            contents.write_at(*side, *at as usize, &ones)
+        }
+        _ => apply(contents, call),
     }
 }
