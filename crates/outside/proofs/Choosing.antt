@@ -6,7 +6,7 @@ use Rattle.outside.specs.declared.sides.Side.{Side}
 use Rattle.outside.specs.declared.sides.Side.TheVariants.{A, B}
 use Rattle.outside.specs.declared.calls.Call.{Call}
 use Rattle.outside.specs.declared.calls.Call.TheVariants.{Look, Write, Cut, Sync}
-use Rattle.outside.specs.Sides.{Sides, side_of, On}
+use Rattle.outside.specs.Sides.{Sides}
 use Rattle.outside.specs.Disks.{write_over, Torn, CutOrNot}
 use Rattle.outside.specs.Calls.{done, read_after, IsImage, calls_until, syncs, is_open, with_ones, done_by, chosen}
 use Rattle.outside.specs.CallLaws.{on_with}

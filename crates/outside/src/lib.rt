@@ -4,6 +4,7 @@
 
 mod calls;
 mod contents;
+mod crash_images;
 mod disks;
 mod failures;
 mod memory_disks;

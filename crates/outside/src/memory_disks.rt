@@ -1,13 +1,13 @@
 ghost use Rattle.std.specs.Prelude.{◌≡◌, ◌+◌, ◌-◌, ◌≤◌, ◌^◌, ◌++◌, [], ◌∷◌, Some, true, length, take, drop, min, reverse, unwrap_or, IsErr, IsTrue, IfOk, OnOk, OnErr};
-ghost use Rattle.std.specs.List.{list_any};
 ghost use Rattle.outside.specs.Causes.{HasCause, next_count};
 ghost use Rattle.outside.specs.Sides.{side_of};
 ghost use Rattle.outside.specs.Memory.{fails_at};
-ghost use Rattle.outside.specs.Calls.{Remembered, done, read_after, reads_as, remembers, refuses, IsImage, LeftSince, calls_until, chosen, done_by, with_ones, syncs, is_open};
+ghost use Rattle.outside.specs.Calls.{Remembered, done, read_after, reads_as, remembers, refuses, IsImage, LeftSince, calls_until, chosen};
 ghost use Rattle.outside.specs.declared.calls.Call.TheVariants.{Look, Write, Cut, Sync};
 
 use crate::calls::{Call, Piece};
 use crate::contents::Contents;
+use crate::crash_images;
 use crate::disks::Disk;
 use crate::failures::{Failed, NoMemory};
 use crate::sides::Side;
@@ -77,7 +77,12 @@ impl MemoryDisk {
         ensures image { IfOk result (λ d. IsImage self.now.start (calls_until moment self.now.calls) d.start) }
         ensures since { IfOk result (λ d. LeftSince self.now.start self.now.calls moment d.start) }
     {
-        match crashed(self.alloc, &self.first, &self.calls[..moment as usize], choice) {
+        match crash_images::crashed(
+            self.alloc,
+            &self.first,
+            &self.calls[..moment as usize],
+            choice,
+        ) {
             Ok(contents) => Ok(MemoryDisk::over(self.alloc, contents, Vec::new(self.alloc))),
             Err(_) => Err(NoMemory),
         }
@@ -249,110 +254,7 @@ fn change(
         Some(contents) => contents,
         None => first.copy(alloc)?,
     };
-    let applied = apply(&mut contents, call);
+    let applied = call.apply(&mut contents);
     *changed = Some(contents);
     applied
-}
-
-fn apply(contents: &mut Contents, call: &Call) -> Result<(), AllocError>
-    ensures ok { OnOk result (contents.new ≡ done call.now contents.old) }
-    ensures err { OnErr result (contents.new ≡ contents.old) }
-{
-    match call {
-        Call::Look | Call::Sync { .. } => Ok(()),
-        Call::Write { side, at, piece } => { contents.write_at(*side, *at as usize, piece.bytes()) }
-        Call::Cut { side, len } => {
-            contents.cut(*side, *len as usize);
-            Ok(())
-        }
-    }
-}
-
-// What a crash makes of the contents, by the choice.
-fn crashed(
-    alloc: Global,
-    first: &Contents,
-    calls: &[Call],
-    choice: u64,
-) -> Result<Contents, AllocError>
-    ensures { IfOk result (λ contents. contents ≡ chosen first.now calls.now choice) }
-{
-    let mut contents = first.copy(alloc)?;
-    let mut rest = calls;
-    let mut digits = choice;
-    while let [call, later @ ..] = rest {
-        digits = crash_by(alloc, &mut contents, call, later, digits)?;
-        rest = later;
-    }
-    Ok(contents)
-}
-
-// What a crash makes of one call; the rest of the choice is for the later ones.
-fn crash_by(
-    alloc: Global,
-    contents: &mut Contents,
-    call: &Call,
-    later: &[Call],
-    choice: u64,
-) -> Result<u64, AllocError>
-    ensures { IfOk result (λ rest. chosen contents.new later.now rest ≡ chosen contents.old (call.now ∷ later.now) choice) }
-{
-    if !is_open(call, later) {
-        apply(contents, call)?;
-        return Ok(choice);
-    }
-    apply_by(alloc, contents, call, choice % 3)?;
-    Ok(choice / 3)
-}
-
-fn is_open(call: &Call, later: &[Call]) -> bool
-    ensures { result ≡ is_open call.now later.now }
-{
-    match call {
-        Call::Look | Call::Sync { .. } => false,
-        Call::Write { side, .. } | Call::Cut { side, .. } => !is_synced(*side, later),
-    }
-}
-
-fn is_synced(side: Side, calls: &[Call]) -> bool
-    ensures { result ≡ list_any (syncs side) calls.now }
-{
-    calls.iter().any(|call| syncs(side, call))
-}
-
-fn syncs(side: Side, call: &Call) -> bool
-    ensures { result ≡ syncs side call.now }
-{
-    match (side, call) {
-        (Side::A, Call::Sync { side: Side::A }) | (Side::B, Call::Sync { side: Side::B }) => true,
-        _ => false,
-    }
-}
-
-fn apply_by(
-    alloc: Global,
-    contents: &mut Contents,
-    call: &Call,
-    digit: u64,
-) -> Result<(), AllocError>
-    ensures { OnOk result (contents.new ≡ done_by digit call.now contents.old) }
-{
-    match digit {
-        0 => Ok(()),
-        1 => apply(contents, call),
-        _ => apply_ones(alloc, contents, call),
-    }
-}
-
-// With bytes 1 in the range of a write.
-fn apply_ones(alloc: Global, contents: &mut Contents, call: &Call) -> Result<(), AllocError>
-    ensures { OnOk result (contents.new ≡ done (with_ones call.now) contents.old) }
-{
-    match call {
-        Call::Write { side, at, piece } => {
-            let ones = vec![in alloc; 1u8; piece.bytes().len()]?;
-            contents.write_at(*side, *at as usize, &ones)
-        }
-        _ => apply(contents, call),
-    }
 }

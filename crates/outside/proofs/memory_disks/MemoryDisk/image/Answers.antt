@@ -1,4 +1,4 @@
-use Rattle.std.proofs.Common.{◌≡◌, ◌≤◌, ◌∙◌, ℕ, List, [], length, take, reverse, sym, ap, subst, arith, vec_len}
+use Rattle.std.proofs.Common.{◌≡◌, ◌≤◌, ◌∙◌, ℕ, List, [], length, take, reverse, sym, ap, subst, arith}
 use Rattle.std.proofs.lemmas.List.{reverse-reverse, length-reverse}
 use Rattle.outside.specs.declared.calls.Call.{Call}
 use Rattle.outside.specs.Sides.{Sides}
@@ -14,7 +14,7 @@ returns-in-Ok-clause-chosen c =
     let within : c.args.moment ≤ length items = omega (arith, c.requires, ap length same_calls, length-reverse items) in
     let first : take c.args.moment items ≡ reverse (calls_until c.args.moment c.args.self.now.calls) = sym (ap (λ (l : List Call). reverse (calls_until c.args.moment l)) (sym same_calls) ∙ ap (λ (l : List Call). reverse l) (calls_until-reverse c.args.moment items within) ∙ reverse-reverse (take c.args.moment items)) in
     let contents : c.in-Ok.contents ≡ chosen c.args.self.now.start (reverse (calls_until c.args.moment c.args.self.now.calls)) c.args.choice =
-        c.in-Ok.ensures ∙ ap (λ (s : Sides). chosen s (take c.args.moment c.deref.result.now) c.args.choice) same_start ∙ ap (λ (l : List Call). chosen c.args.self.now.start l c.args.choice) (ap (λ (l : List Call). take c.args.moment l) c.deref.ensures.value ∙ first) in
+    c.in-Ok.ensures ∙ ap (λ (s : Sides). chosen s (take c.args.moment c.deref.result.now) c.args.choice) same_start ∙ ap (λ (l : List Call). chosen c.args.self.now.start l c.args.choice) (ap (λ (l : List Call). take c.args.moment l) c.deref.ensures.value ∙ first) in
     c.over.ensures ∙ ap (λ (s : Sides). record { start = s; calls = []; failing = c.new.result.items; made = 0; faults = 0 }) contents ∙ ap (λ (l : List ℕ). record { start = chosen c.args.self.now.start (reverse (calls_until c.args.moment c.args.self.now.calls)) c.args.choice; calls = []; failing = l; made = 0; faults = 0 }) c.new.ensures.items
 
 pub returns-in-Ok-clause-image : goal.returns-in-Ok-clause-image

@@ -1,6 +1,6 @@
-use Rattle.std.proofs.Common.{◌≡◌, ℕ, length}
+use Rattle.std.proofs.Common.{◌≡◌, length}
 use Rattle.outside.specs.Calls.{chosen}
-use Rattle.outside.proofs.memory_disks.crashed.Given as goal
+use Rattle.outside.proofs.crash_images.crashed.Given as goal
 
 abbrev pub invariant-loop-rest : goal.invariant-loop-rest
 invariant-loop-rest l = chosen l.contents l.rest l.digits ≡ chosen l.fn.first l.fn.calls l.fn.choice
