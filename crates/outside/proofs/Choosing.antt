@@ -9,9 +9,8 @@ use Rattle.outside.specs.declared.calls.Call.TheVariants.{Look, Write, Cut, Sync
 use Rattle.outside.specs.Sides.{Sides}
 use Rattle.outside.specs.Disks.{write_over, Torn, CutOrNot}
 use Rattle.outside.specs.Calls.{done, read_after, IsImage, calls_until, syncs, is_open, with_ones, done_by, chosen}
-use Rattle.outside.specs.CallLaws.{on_with}
+use Rattle.outside.specs.SideLaws.{on_with, on_self}
 use Rattle.outside.specs.Writes.{torn_done, torn_self, cut_done, cut_not}
-use Rattle.outside.proofs.Steps.{on_self}
 
 -- an image, of which each side that is synced later reads as the disk does
 pub record Leads (start : Sides) (earlier later : List Call) (c : Sides) : Type 0 where

@@ -2,16 +2,17 @@
 use Rattle.std.specs.Prelude.{Result, Ok, Err, OnOk, OnErr, MatchResult}
 use Rattle.std.proofs.Common.{◌≡◌, ◌⊎◌, ◌<◌, ◌≤◌, ℕ, true, List, [], ◌∷◌, length, refl, sym, ap, subst, inl, inr, arith}
 use Rattle.std.proofs.Math.Nat.{eq-or-lt_of_le}
-use Rattle.std.proofs.lemmas.Result.{on_err_weaker}
+use Rattle.std.proofs.lemmas.Result.{on_ok_weaker, on_err_weaker}
 use Rattle.outside.specs.declared.sides.Side.{Side}
 use Rattle.outside.specs.declared.sides.Side.TheVariants.{A, B}
 use Rattle.outside.specs.declared.calls.Call.{Call}
 use Rattle.outside.specs.declared.calls.Call.TheVariants.{Look, Write, Cut, Sync}
 use Rattle.outside.specs.Sides.{Sides, side_of, On}
+use Rattle.outside.specs.Crashes.{IsSettled}
 use Rattle.outside.specs.Disks.{Elapses, GoesOn, BeginsAnew, Follows, Torn}
 use Rattle.outside.specs.Calls.{Remembered, read_after, IsImage, LeftSince, longest_after, remembers, refuses, reads_as}
 use Rattle.outside.specs.Writes.{torn_self}
-use Rattle.outside.proofs.Steps.{on_self, on_same}
+use Rattle.outside.specs.SideLaws.{on_self, on_same}
 use Rattle.outside.specs.CallLaws.{calls_until-now, calls_until-more}
 
 -- time between two states of such a disk
@@ -98,3 +99,7 @@ write_follows (Err x) side at piece old new ok err = subst (λ (d : Remembered).
 -- and what it read as, where it failed
 pub refused_write : {T E : Type 0} (r : Result T E) (side : Side) (at n : ℕ) (old new : Remembered) → OnErr r (new ≡ refuses old) → OnErr r (On side (Torn at n) (reads_as old) (reads_as new))
 refused_write r side at n old new err = on_err_weaker r (λ e. on_same side (Torn at n) (torn_self at n) (reads_as old) (reads_as new) (ap reads_as e)) err
+
+-- after a sync its side is settled
+pub settles : {T E : Type 0} (r : Result T E) (side : Side) (old new : Remembered) → OnOk r (new ≡ remembers (Sync side) old) → OnOk r (IsSettled (IsImage new.start new.calls) side (side_of (reads_as old) side))
+settles r side old new ok = on_ok_weaker r (λ e. subst (λ (d : Remembered). IsSettled (IsImage d.start d.calls) side (side_of (reads_as old) side)) (sym e) (λ c image. image.1)) ok

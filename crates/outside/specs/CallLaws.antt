@@ -5,15 +5,11 @@ use Rattle.outside.specs.declared.sides.Side.{Side}
 use Rattle.outside.specs.declared.sides.Side.TheVariants.{A, B}
 use Rattle.outside.specs.declared.calls.Call.{Call}
 use Rattle.outside.specs.declared.calls.Call.TheVariants.{Look, Write, Cut, Sync}
-use Rattle.outside.specs.Sides.{Sides, side_of, with_side, On}
+use Rattle.outside.specs.Sides.{Sides, side_of}
 use Rattle.outside.specs.Disks.{write_over, Torn, CutOrNot}
 use Rattle.outside.specs.Calls.{read_after, IsImage, calls_until, LeftSince, longest_after}
+use Rattle.outside.specs.SideLaws.{on_with, on_keeps}
 use Rattle.outside.specs.Writes.{length-write_over, torn_done, cut_done}
-
--- a step on one side to bytes that it may lead to
-pub on_with : (side : Side) (P : List ℕ → List ℕ → Type 0) (s : Sides) (bytes : List ℕ) → P (side_of s side) bytes → On side P s (with_side s side bytes)
-on_with A P s bytes how = record { changed = refl; how = how }
-on_with B P s bytes how = record { changed = refl; how = how }
 
 -- a disk as it reads is one of its images
 pub read_is_image : (start : Sides) (calls : List Call) → IsImage start calls (read_after start calls)
@@ -26,13 +22,6 @@ read_is_image start (Cut side len ∷ earlier) =
     let s = read_after start earlier in
     (s, read_is_image start earlier, on_with side (CutOrNot len) s (take len (side_of s side)) (cut_done len (side_of s side)))
 read_is_image start (Sync side ∷ earlier) = (read_is_image start earlier, refl)
-
--- the step at one side leaves the other one's bytes
-on_a_keeps_b : (P : List ℕ → List ℕ → Type 0) (old new : Sides) → On A P old new → new.b ≡ old.b
-on_a_keeps_b P old new step = ap (λ (s : Sides). s.b) step.changed
-
-on_b_keeps_a : (P : List ℕ → List ℕ → Type 0) (old new : Sides) → On B P old new → new.a ≡ old.a
-on_b_keeps_a P old new step = ap (λ (s : Sides). s.a) step.changed
 
 torn_within : (at n most : ℕ) (piece old new read : List ℕ) → Torn at (length piece) old new → length old ≤ most → length new ≤ max most (length (write_over at piece read))
 torn_within at n most piece old new read torn within = omega (arith, torn.no_longer, length-write_over at piece read)
@@ -49,21 +38,21 @@ image_within start (Look ∷ earlier) c B image = let before = image_within star
 image_within start (Write A at piece ∷ earlier) c A image = torn_within at 0 (longest_after start earlier A) piece image.0.a c.a (read_after start earlier).a image.2.how (image_within start earlier image.0 A image.1)
 image_within start (Write A at piece ∷ earlier) c B image =
     let before = image_within start earlier image.0 B image.1 in
-    let kept = ap length (on_a_keeps_b (Torn at (length piece)) image.0 c image.2) in
+    let kept = ap length (on_keeps A (Torn at (length piece)) image.0 c image.2) in
     omega (arith, before, kept)
 image_within start (Write B at piece ∷ earlier) c A image =
     let before = image_within start earlier image.0 A image.1 in
-    let kept = ap length (on_b_keeps_a (Torn at (length piece)) image.0 c image.2) in
+    let kept = ap length (on_keeps B (Torn at (length piece)) image.0 c image.2) in
     omega (arith, before, kept)
 image_within start (Write B at piece ∷ earlier) c B image = torn_within at 0 (longest_after start earlier B) piece image.0.b c.b (read_after start earlier).b image.2.how (image_within start earlier image.0 B image.1)
 image_within start (Cut A len ∷ earlier) c A image = cut_within len (longest_after start earlier A) (length (take len (read_after start earlier).a)) image.0.a c.a image.2.how (image_within start earlier image.0 A image.1)
 image_within start (Cut A len ∷ earlier) c B image =
     let before = image_within start earlier image.0 B image.1 in
-    let kept = ap length (on_a_keeps_b (CutOrNot len) image.0 c image.2) in
+    let kept = ap length (on_keeps A (CutOrNot len) image.0 c image.2) in
     omega (arith, before, kept)
 image_within start (Cut B len ∷ earlier) c A image =
     let before = image_within start earlier image.0 A image.1 in
-    let kept = ap length (on_b_keeps_a (CutOrNot len) image.0 c image.2) in
+    let kept = ap length (on_keeps B (CutOrNot len) image.0 c image.2) in
     omega (arith, before, kept)
 image_within start (Cut B len ∷ earlier) c B image = cut_within len (longest_after start earlier B) (length (take len (read_after start earlier).b)) image.0.b c.b image.2.how (image_within start earlier image.0 B image.1)
 image_within start (Sync A ∷ earlier) c A image = let same = ap length image.1 in omega (arith, same)

@@ -4,7 +4,7 @@ use Rattle.outside.specs.declared.calls.Call.TheVariants.{Look, Write, Cut, Sync
 use Rattle.outside.specs.Sides.{side_of}
 use Rattle.outside.specs.Calls.{reads_as}
 use Rattle.outside.proofs.Reading.{read_bound, read_bytes}
-use Rattle.outside.proofs.Elapsing.{passes, lengthens, look_lengthens, write_lengthens, cut_lengthens, begins_anew, write_follows, refused_write}
+use Rattle.outside.proofs.Elapsing.{passes, lengthens, look_lengthens, write_lengthens, cut_lengthens, begins_anew, write_follows, refused_write, settles}
 use Rattle.outside.proofs.memory_disks.MemoryDiskDisk.TheImpl.Goals as goal
 
 pub len-tells : goal.len-tells
@@ -63,7 +63,7 @@ cut-tells c =
 
 pub sync-tells : goal.sync-tells
 sync-tells c = record {
-  durable = search rules;
+  durable = λ _. settles c.result c.args.side c.args.self.now c.new.self.now c.ensures.ok;
   same = search rules;
   crash = search rules;
   longest = λ _. begins_anew c.result c.args.side c.args.self.now c.new.self.now c.ensures.ok c.ensures.err;
