@@ -258,3 +258,6 @@ fn change(
     *changed = Some(contents);
     applied
 }
+
+#[cfg(test)]
+mod tests;
