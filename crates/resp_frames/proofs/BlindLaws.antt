@@ -1,10 +1,10 @@
 -- A request is read from the place of its `*` on, whatever its words are.
-use Rattle.std.proofs.Common.{◌≡◌, ℕ, zero, suc, ◌+◌, ◌-◌, ◌<◌, ◌≤◌, Bool, true, false, nat_le, List, [], ◌∷◌, ◌++◌, length, take, drop, Option, Some, None, refl, sym, ap, subst, ◌∙◌, append-nil, arith, if◌then◌else◌}
+use Rattle.std.proofs.Common.{◌≡◌, ℕ, zero, suc, ◌-◌, Bool, true, false, nat_le, List, ◌∷◌, length, take, drop, None, refl, ap, ◌∙◌, if◌then◌else◌}
 use Rattle.std.proofs.lemmas.Bool.{leb-true}
 use Rattle.std.proofs.lemmas.List.{length-take-le}
 use Rattle.byte_text.specs.Names.{Bytes}
 use Rattle.byte_text.specs.Requests.{max_request}
-use Rattle.byte_text.specs.Streams.{Front, found, begun, broken, Grammar, go_on, ◌>>=◌, ◌>>◌, done, byte, bytes_of, number, count_limit, word_limit, word, words, request}
+use Rattle.byte_text.specs.Streams.{Front, found, begun, broken, Grammar, go_on, ◌>>=◌, ◌>>◌, done, byte, bytes_of, number, count_limit, word_limit, words, request}
 use Rattle.byte_text.specs.declared.faults.RespFault.{RespFault}
 use Rattle.byte_text.specs.declared.faults.RespFault.TheVariants.{BadType, BadEnd}
 use Rattle.resp_frames.specs.declared.places.Place.TheVariants.{Star}

@@ -1,5 +1,5 @@
 -- What a piece gives.
-use Rattle.std.proofs.Common.{◌≡◌, ◌≢◌, ℕ, ◌+◌, ◌<◌, ◌≤◌, List, [], ◌∷◌, ◌++◌, length, take, drop, Option, Some, None, refl, sym, ap, subst, ◌∙◌, append_assoc, append-nil, arith, take-append-drop, length-drop, MatchOption}
+use Rattle.std.proofs.Common.{◌≡◌, ◌≢◌, ℕ, ◌≤◌, List, [], ◌∷◌, ◌++◌, length, take, drop, Option, Some, None, refl, sym, ap, subst, ◌∙◌, append_assoc, append-nil, arith, take-append-drop, length-drop, MatchOption}
 use Rattle.std.proofs.lemmas.List.{append_cancel_right, nil_from_length}
 use Rattle.byte_text.specs.Names.{Bytes}
 use Rattle.byte_text.specs.Requests.{request_text, IsRequest, IsRequestText}
@@ -13,7 +13,7 @@ use Rattle.resp_frames.specs.declared.places.Place.TheVariants.{Star}
 use Rattle.resp_frames.specs.declared.scans.Scan.TheVariants as scans
 use Rattle.resp_frames.specs.Places.{from, IsPlace}
 use Rattle.resp_frames.specs.Scans.{Says, IsOfBytes}
-use Rattle.resp_frames.specs.Readers.{Held, held_of, IsReader, IsFed, IsNotFed, IsRefused, IsTaken, blind, whole_request}
+use Rattle.resp_frames.specs.Readers.{Held, held_of, IsReader, IsFed, IsNotFed, IsRefused, blind, whole_request}
 use Rattle.resp_frames.proofs.StepLaws.{from_none}
 use Rattle.resp_frames.proofs.BlindLaws.{blind_request, blind_begun, blind_broken, blind_found}
 

@@ -1,7 +1,6 @@
 -- One more byte of a piece.
-use Rattle.std.proofs.Common.{◌≡◌, ℕ, zero, suc, ◌+◌, ◌<◌, ◌≤◌, List, [], ◌∷◌, ◌++◌, length, get_or, take, drop, refl, sym, ap, subst, ◌∙◌, append_assoc, append-nil, arith, take_all, take-append-drop}
+use Rattle.std.proofs.Common.{◌≡◌, ℕ, zero, suc, ◌+◌, ◌<◌, ◌≤◌, [], ◌∷◌, ◌++◌, length, get_or, take, drop, refl, sym, ap, subst, ◌∙◌, append_assoc, arith, take_all, take-append-drop}
 use Rattle.byte_text.specs.Names.{Bytes}
-use Rattle.byte_text.specs.Streams.{found, broken}
 use Rattle.byte_text.specs.declared.faults.RespFault.{RespFault}
 use Rattle.resp_frames.specs.declared.places.Place.{Place}
 use Rattle.resp_frames.specs.declared.places.Next.{Next}

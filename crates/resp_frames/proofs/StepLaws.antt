@@ -1,10 +1,10 @@
 -- One byte at a place: what is left to read goes on as the step says.
-use Rattle.std.proofs.Common.{◌≡◌, ◌≢◌, ℕ, zero, suc, ◌+◌, ◌-◌, ◌<◌, ◌≤◌, Bool, true, false, nat_le, ◌&&◌, ◌==◌, List, [], ◌∷◌, length, drop, Option, Some, None, IfSome, refl, sym, ap, subst, ◌∙◌, arith, rules, if◌then◌else◌, true≢false}
+use Rattle.std.proofs.Common.{◌≡◌, ℕ, zero, suc, ◌-◌, ◌<◌, Bool, true, false, nat_le, ◌&&◌, ◌==◌, [], ◌∷◌, length, drop, Option, Some, None, refl, sym, ap, ◌∙◌, arith, if◌then◌else◌, true≢false}
 use Rattle.std.proofs.lemmas.Bool.{leb-true, lt-leb, le-leb, eqb-true, eq-eqb}
 use Rattle.std.proofs.Math.Dec.{leb-suc-suc}
 use Rattle.byte_text.specs.Names.{Bytes}
 use Rattle.byte_text.specs.Requests.{max_words, max_word, max_request}
-use Rattle.byte_text.specs.Streams.{Front, found, begun, broken, Grammar, go_on, ◌>>=◌, ◌>>◌, done, byte, with_byte, one_more, unless, number_end, number, count_limit, word_limit}
+use Rattle.byte_text.specs.Streams.{Front, found, begun, broken, Grammar, go_on, ◌>>=◌, ◌>>◌, byte, with_byte, one_more, unless, number_end, number, count_limit, word_limit}
 use Rattle.byte_text.specs.declared.faults.RespFault.{RespFault}
 use Rattle.byte_text.specs.declared.faults.RespFault.TheVariants.{BadType, BadLength, BadEnd, TooMany, TooLong}
 use Rattle.resp_frames.specs.declared.places.Ahead.{Ahead}
@@ -12,7 +12,7 @@ use Rattle.resp_frames.specs.declared.places.Place.{Place}
 use Rattle.resp_frames.specs.declared.places.Place.TheVariants.{Star, Count, CountEnd, Dollar, Length, LengthEnd, Word, WordEnd}
 use Rattle.resp_frames.specs.declared.places.Next.{Next}
 use Rattle.resp_frames.specs.declared.places.Next.TheVariants.{Goes, Whole, Fails}
-use Rattle.resp_frames.specs.Steps.{step, count_step, count_digit, count_end, length_step, length_digit, length_end, word_step, word_end, HasNumbers}
+use Rattle.resp_frames.specs.Steps.{step, count_digit, count_end, length_digit, length_end, word_end, HasNumbers}
 use Rattle.resp_frames.specs.Places.{skipped, words_skipped, behind_word, behind_return, behind_bytes, behind_length, behind_dollar, behind_count, from, IsPlace}
 use Rattle.resp_frames.specs.Scans.{IsOfBytes}
 

@@ -1,8 +1,7 @@
 -- Reading the words of a request's text.
-use Rattle.std.proofs.Common.{◌≡◌, ◌≢◌, ℕ, zero, suc, ◌+◌, ◌-◌, ◌<◌, ◌≤◌, ◌^◌, List, [], ◌∷◌, ◌++◌, length, decimal, flat_map, get_or, take, drop, refl, sym, ap, subst, ◌∙◌, append_assoc, append-nil, length-append, arith, take_at, drop_at, take_all, Result, Ok, Err, IfOk}
-use Rattle.std.specs.List.{AllByRecursion}
+use Rattle.std.proofs.Common.{◌≡◌, ◌≢◌, ℕ, zero, suc, ◌+◌, ◌-◌, ◌<◌, ◌≤◌, ◌^◌, List, [], ◌∷◌, ◌++◌, length, decimal, flat_map, get_or, take, drop, refl, sym, ap, subst, ◌∙◌, append_assoc, length-append, arith, take_at, drop_at, take_all}
 use Rattle.byte_text.specs.Lines.{line, bulk_text}
-use Rattle.byte_text.specs.Requests.{request_text, IsRequest, FitsRequest, IsRequestText, max_word, max_words, max_request, total}
+use Rattle.byte_text.specs.Requests.{request_text, IsRequest, FitsRequest, max_word, total}
 use Rattle.byte_text.proofs.LineLaws.{NoReturn, NoReturn-decimal, line-append, bulk_text-append}
 use Rattle.byte_text.proofs.RequestLaws.{AreShort}
 

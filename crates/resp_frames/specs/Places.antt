@@ -1,8 +1,7 @@
 -- What is left to read of a request from a place on, and the numbers that a place holds.
-use Rattle.std.specs.Prelude.{ℕ, zero, suc, ◌-◌, ◌<◌, ◌≤◌, List, [], ◌∷◌, length, drop, Option, Some, None, IfSome, if◌then◌else◌, nat_le}
-use Rattle.byte_text.specs.Names.{Bytes}
+use Rattle.std.specs.Prelude.{ℕ, zero, suc, ◌-◌, ◌<◌, ◌≤◌, length, drop, Option, None, IfSome, if◌then◌else◌, nat_le}
 use Rattle.byte_text.specs.Requests.{max_words, max_word, max_request}
-use Rattle.byte_text.specs.Streams.{Front, found, begun, broken, Grammar, ◌>>=◌, ◌>>◌, done, byte, number, count_limit, word_limit}
+use Rattle.byte_text.specs.Streams.{found, begun, Grammar, ◌>>=◌, ◌>>◌, done, byte, number, count_limit, word_limit}
 use Rattle.byte_text.specs.declared.faults.RespFault.TheVariants.{BadType, BadEnd}
 use Rattle.resp_frames.specs.declared.places.Ahead.{Ahead}
 use Rattle.resp_frames.specs.declared.places.Place.{Place}

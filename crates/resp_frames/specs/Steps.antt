@@ -1,6 +1,5 @@
 -- What each byte of a request may be, by the place where it stands.
-use Rattle.std.specs.Prelude.{◌≡◌, ℕ, zero, suc, ◌+◌, ◌-◌, ◌*◌, ◌<◌, ◌≤◌, Option, Some, None, IfSome, if◌then◌else◌, ◌==◌, ◌&&◌, nat_le, nat_lt}
-use Rattle.byte_text.specs.declared.faults.RespFault.{RespFault}
+use Rattle.std.specs.Prelude.{ℕ, zero, suc, ◌-◌, ◌<◌, ◌≤◌, Option, Some, None, IfSome, if◌then◌else◌, ◌==◌, ◌&&◌, nat_le}
 use Rattle.byte_text.specs.declared.faults.RespFault.TheVariants.{BadType, BadLength, BadEnd, TooMany, TooLong}
 use Rattle.byte_text.specs.Requests.{max_words, max_word, max_request}
 use Rattle.byte_text.specs.Streams.{with_byte}

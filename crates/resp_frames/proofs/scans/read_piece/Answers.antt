@@ -1,5 +1,5 @@
 use Rattle.resp_frames.proofs.StepLaws.{numbers_of}
-use Rattle.resp_frames.proofs.ScanLaws.{begins, goes, whole, fails}
+use Rattle.resp_frames.proofs.ScanLaws.{goes, whole, fails}
 use Rattle.resp_frames.proofs.scans.read_piece.Goals as goal
 
 pub step-requires : goal.step-requires

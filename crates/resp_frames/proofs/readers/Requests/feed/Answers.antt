@@ -1,7 +1,7 @@
-use Rattle.std.proofs.Common.{◌≡◌, ◌++◌, [], Some, rules, sym, subst}
+use Rattle.std.proofs.Common.{◌≡◌, ◌++◌, Some, rules, sym, subst}
 use Rattle.resp_frames.specs.declared.places.Place.TheVariants.{Star}
 use Rattle.resp_frames.specs.Readers.{IsReader, IsFed}
-use Rattle.resp_frames.proofs.ReaderLaws.{Stands, reader_begins, ended_text, fed_on, fed_whole}
+use Rattle.resp_frames.proofs.ReaderLaws.{reader_begins, ended_text, fed_on, fed_whole}
 use Rattle.resp_frames.proofs.readers.Requests.feed.Goals as goal
 
 pub finish-requires : goal.finish-requires

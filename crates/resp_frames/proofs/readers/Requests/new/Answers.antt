@@ -1,4 +1,4 @@
-use Rattle.std.proofs.Common.{[], sym, subst}
+use Rattle.std.proofs.Common.{sym, subst}
 use Rattle.resp_frames.specs.declared.places.Place.TheVariants.{Star}
 use Rattle.std.proofs.Common.{Some}
 use Rattle.resp_frames.specs.Readers.{IsReader}
