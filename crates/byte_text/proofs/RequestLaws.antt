@@ -1,12 +1,12 @@
 -- No request's text begins another's.
-use Rattle.std.proofs.Common.{◌≡◌, ℕ, zero, suc, ◌+◌, ◌<◌, ◌≤◌, ◌^◌, List, [], ◌∷◌, ◌++◌, length, decimal, refl, sym, ap, subst, ◌∙◌, append_assoc, arith, flat_map}
+use Rattle.std.proofs.Common.{◌≡◌, ℕ, ◌<◌, ◌≤◌, ◌^◌, List, [], ◌∷◌, ◌++◌, length, decimal, refl, sym, ◌∙◌, append_assoc, arith, flat_map}
 use Rattle.std.specs.List.{AllByRecursion}
 use Rattle.std.proofs.lemmas.Fmt.{decimal_injective}
 use Rattle.byte_text.specs.Lines.{line, bulk_text}
 use Rattle.byte_text.specs.Requests.{request_text, IsRequest, max_word}
 use Rattle.byte_text.proofs.LineLaws.{same_line, same_bulk, NoReturn-decimal}
 
-abbrev AreShort : List (List ℕ) → Type 0
+abbrev pub AreShort : List (List ℕ) → Type 0
 AreShort ws = AllByRecursion (λ w. length w ≤ max_word) ws
 
 pub same_words : (v w : List (List ℕ)) (x y : List ℕ) → length v ≡ length w → AreShort v → AreShort w → flat_map bulk_text v ++ x ≡ flat_map bulk_text w ++ y → (v ≡ w) × (x ≡ y)
@@ -23,5 +23,5 @@ same_request a b x y p q e =
     let small : length a < 2 ^ 64 = omega (arith, p.fits.few) in
     let small' : length b < 2 ^ 64 = omega (arith, q.fits.few) in
     let heads = same_line 42 42 (decimal (length a)) (decimal (length b)) (flat_map bulk_text a ++ x) (flat_map bulk_text b ++ y) (NoReturn-decimal (length a) small) (NoReturn-decimal (length b) small')
-      (sym (append_assoc (line 42 (decimal (length a))) (flat_map bulk_text a) x) ∙ e ∙ append_assoc (line 42 (decimal (length b))) (flat_map bulk_text b) y) in
+    (sym (append_assoc (line 42 (decimal (length a))) (flat_map bulk_text a) x) ∙ e ∙ append_assoc (line 42 (decimal (length b))) (flat_map bulk_text b) y) in
     same_words a b x y (decimal_injective (length a) (length b) small small' heads.1) p.fits.short q.fits.short heads.2

@@ -18,3 +18,6 @@ pub use replies::{Piece, Reply, frame_texts_differ, lists_are_whole, push_frame}
 pub use requests::{Request, push_request, request_texts_differ};
 pub use streams::{requests_are_read, streams_read_once};
 pub use texts::{NoMemory, Text, TextFault};
+
+#[cfg(test)]
+mod tests;

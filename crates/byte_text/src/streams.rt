@@ -17,11 +17,9 @@ pub fn requests_are_read()
         → request bytes ≡ begun }
     ensures broken { (bytes more : Bytes) (fault : RespFault) → request bytes ≡ broken fault
         → request (bytes ++ more) ≡ broken fault }
-{
-}
+{}
 
 /// However the bytes of a stream are cut, its requests, its rest and its fault are the same.
 pub fn streams_read_once()
     ensures { (bytes more : Bytes) → stream_of (bytes ++ more) ≡ fed (stream_of bytes) more }
-{
-}
+{}
