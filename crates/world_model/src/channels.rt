@@ -4,6 +4,7 @@ ghost use Rattle.std.specs.Prelude.{◌≡◌, ◌∷◌, ◌++◌, [], true, no
 ghost use Rattle.world_model.specs.Lists.{IsHeld, IsFree, put_in};
 ghost use Rattle.world_model.specs.Worlds.{are_channels, channel_before, is_named};
 
+use crate::copies::{copy_area, copy_pattern, copy_request};
 use crate::filters::Tests;
 use crate::orders::{is_before, is_same};
 use crate::places::insert_at;
@@ -26,6 +27,25 @@ pub enum Kind {
 pub enum Watch {
     Spot(Kind, Area),
     Roam(Name, Name, u32, bool),
+}
+
+impl Watch {
+    ghost use Rattle.std.specs.Prelude.{◌≡◌, IfOk};
+
+    // The same watch in memory of its own.
+    fn copy(&self, alloc: Global) -> Result<Watch, NoMemory>
+        ensures { IfOk result (λ watch. watch ≡ self.now) }
+    {
+        match self {
+            Watch::Spot(kind, area) => Ok(Watch::Spot(*kind, copy_area(alloc, area)?)),
+            Watch::Roam(key, pattern, meters, nodwell) => Ok(Watch::Roam(
+                key.copy(alloc)?,
+                pattern.copy(alloc)?,
+                *meters,
+                *nodwell,
+            )),
+        }
+    }
 }
 
 /// What a channel wants to hear of: the words of DETECT and of COMMANDS.
@@ -51,12 +71,44 @@ pub struct Fence {
     pub watch: Watch,
 }
 
+impl Fence {
+    ghost use Rattle.std.specs.Prelude.{◌≡◌, IfOk};
+
+    // The same fence in memory of its own.
+    fn copy(&self, alloc: Global) -> Result<Fence, NoMemory>
+        ensures { IfOk result (λ fence. fence ≡ self.now) }
+    {
+        Ok(Fence {
+            key: self.key.copy(alloc)?,
+            glob: copy_pattern(alloc, &self.glob)?,
+            tests: self.tests.copy(alloc)?,
+            wanted: self.wanted,
+            watch: self.watch.copy(alloc)?,
+        })
+    }
+}
+
 /// A channel: its name, its fence, and the words that set it, in their normal form.
 #[derive(Drop)]
 pub struct Channel {
     pub name: Name,
     pub fence: Fence,
     pub words: Request,
+}
+
+impl Channel {
+    ghost use Rattle.std.specs.Prelude.{◌≡◌, IfOk};
+
+    /// The same channel in memory of its own.
+    pub fn copy(&self, alloc: Global) -> Result<Channel, NoMemory>
+        ensures { IfOk result (λ channel. channel ≡ self.now) }
+    {
+        Ok(Channel {
+            name: self.name.copy(alloc)?,
+            fence: self.fence.copy(alloc)?,
+            words: copy_request(alloc, &self.words)?,
+        })
+    }
 }
 
 /// Channels in order of names, no name twice.
