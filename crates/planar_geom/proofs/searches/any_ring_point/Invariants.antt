@@ -5,4 +5,4 @@ use Rattle.planar_geom.proofs.searches.any_ring_point.Given as goal
 
 -- the rings that are left decide
 abbrev pub invariant-loop-ring : goal.invariant-loop-ring
-invariant-loop-ring g l = list_any (g.T.passes l.test) (ring_points (drop l.ring-index l.rings)) ≡ list_any (g.T.passes l.test) (ring_points l.rings)
+invariant-loop-ring g l = list_any (g.T.PointTest.passes l.test) (ring_points (drop l.ring-index l.rings)) ≡ list_any (g.T.PointTest.passes l.test) (ring_points l.rings)
