@@ -27,7 +27,7 @@ least_coordinate = negsuc 999999999
 abbrev pub greatest_coordinate : ℤ
 greatest_coordinate = pos 1000000000
 
--- the number is a coordinate of the plane
+-- whether the number is a coordinate of the plane
 abbrev pub is_coordinate : ℤ → Bool
 is_coordinate a = int_le least_coordinate a && int_le a greatest_coordinate
 
@@ -43,12 +43,15 @@ is_low_of low high = int_le low.x high.x && int_le low.y high.y
 abbrev pub bounds_of : Point → Point → Option Bounds
 bounds_of low high = if is_low_of low high then Some (bounds low high) else None
 
+-- the number is a coordinate of the plane
+pub record IsCoordinate (a : ℤ) : Type 0 where
+  pub low : least_coordinate ≤ℤ a
+  pub high : a ≤ℤ greatest_coordinate
+
 -- the point stands on the plane
 pub record InPlane (p : Point) : Type 0 where
-  pub left : least_coordinate ≤ℤ p.x
-  pub right : p.x ≤ℤ greatest_coordinate
-  pub bottom : least_coordinate ≤ℤ p.y
-  pub top : p.y ≤ℤ greatest_coordinate
+  pub x_in : IsCoordinate p.x
+  pub y_in : IsCoordinate p.y
 
 -- both corners stand on the plane, and neither range of the box is empty
 pub record IsBox (b : Bounds) : Type 0 where

@@ -2,10 +2,12 @@
 //! between them.
 #![tactic(auto)]
 
+mod distances;
 mod lists;
 mod points;
 mod shapes;
 
+pub use distances::{box_dist2, dist2, floor_root};
 pub use lists::{Line, NoMemory, Parts, Points, Poly, Rings};
-pub use points::{BBox, MAX_COORD, Pt, Seg};
+pub use points::{BBox, MAX_COORD, Pt, Seg, centre};
 pub use shapes::{Area, Part, Shape};

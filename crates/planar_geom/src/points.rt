@@ -66,8 +66,9 @@ impl Pt {
     }
 }
 
-ghost use Rattle.std.specs.Prelude.{◌≡◌};
-ghost use Rattle.planar_geom.specs.Points.{is_coordinate as is_plane_coordinate};
+ghost use Rattle.std.specs.Prelude.{◌≡◌, ◌+ℤ◌, pos};
+ghost use Rattle.std.specs.Int.{int_div_euclid};
+ghost use Rattle.planar_geom.specs.Points.{IsCoordinate, is_coordinate as is_plane_coordinate, centre as box_centre};
 
 fn is_coordinate(a: i64) -> bool
     ensures { result ≡ is_plane_coordinate a }
@@ -96,7 +97,7 @@ impl Model for BBox {
 
 impl BBox {
     ghost use Rattle.std.specs.Prelude.{◌≡◌};
-    ghost use Rattle.planar_geom.specs.Points.{bounds_of, IsBox};
+    ghost use Rattle.planar_geom.specs.Points.{bounds_of, with_point, IsBox};
 
     /// The box between two corners; `None` exactly where `min` exceeds `max` in x or in y.
     pub fn of(min: Pt, max: Pt) -> Option<BBox>
@@ -124,6 +125,22 @@ impl BBox {
     {
         self.max
     }
+
+    /// The least box round the box and a point.
+    pub(crate) fn with_point(self, p: Pt) -> BBox
+        ensures { result ≡ with_point self p }
+    {
+        BBox {
+            min: Pt {
+                x: self.min.x.min(p.x),
+                y: self.min.y.min(p.y),
+            },
+            max: Pt {
+                x: self.max.x.max(p.x),
+                y: self.max.y.max(p.y),
+            },
+        }
+    }
 }
 
 /// The segment from `a` to `b`.
@@ -131,4 +148,23 @@ impl BBox {
 pub struct Seg {
     pub a: Pt,
     pub b: Pt,
+}
+
+/// The centre of a box, each sum of two coordinates halved and rounded down.
+pub fn centre(b: BBox) -> Pt
+    ensures { result ≡ box_centre b }
+{
+    Pt {
+        x: middle(b.min.x, b.max.x),
+        y: middle(b.min.y, b.max.y),
+    }
+}
+
+fn middle(low: i32, high: i32) -> i32
+    requires low_in { IsCoordinate low }
+    requires high_in { IsCoordinate high }
+    ensures value { result ≡ int_div_euclid (low +ℤ high) (pos 2) }
+    ensures coordinate { IsCoordinate result }
+{
+    (i64::from(low) + i64::from(high)).div_euclid(2) as i32
 }
