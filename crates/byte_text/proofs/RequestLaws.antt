@@ -23,5 +23,5 @@ same_request a b x y p q e =
     let small : length a < 2 ^ 64 = omega (arith, p.fits.few) in
     let small' : length b < 2 ^ 64 = omega (arith, q.fits.few) in
     let heads = same_line 42 42 (decimal (length a)) (decimal (length b)) (flat_map bulk_text a ++ x) (flat_map bulk_text b ++ y) (NoReturn-decimal (length a) small) (NoReturn-decimal (length b) small')
-      (sym (append_assoc (line 42 (decimal (length a))) (flat_map bulk_text a) x) ∙ e ∙ append_assoc (line 42 (decimal (length b))) (flat_map bulk_text b) y) in
+    (sym (append_assoc (line 42 (decimal (length a))) (flat_map bulk_text a) x) ∙ e ∙ append_assoc (line 42 (decimal (length b))) (flat_map bulk_text b) y) in
     same_words a b x y (decimal_injective (length a) (length b) small small' heads.1) p.fits.short q.fits.short heads.2

@@ -1,8 +1,8 @@
 -- Lists of bytes: their order, words without regard to case, names.
-use Rattle.std.specs.Prelude.{ℕ, Bool, true, false, ◌&&◌, ◌||◌, ◌==◌, nat_eq, nat_lt, nat_le, List, [], ◌∷◌, length, bytes_eq, Option, Some, None, if◌then◌else◌, Result, Ok, Err, ◌≡◌}
+use Rattle.std.specs.Prelude.{ℕ, Bool, true, false, ◌&&◌, ◌||◌, ◌==◌, nat_eq, nat_lt, nat_le, List, [], ◌∷◌, length, bytes_eq, Option, Some, None, if◌then◌else◌, Result, Err, MatchResult, ◌≡◌}
 use Rattle.std.specs.Str.{is_utf8, str_eq_ignore_ascii_case}
 use Rattle.byte_text.specs.declared.texts.TextFault.{TextFault}
-use Rattle.byte_text.specs.declared.texts.TextFault.TheVariants.{Empty, TooLong, NotUtf8, NotNumber, Memory}
+use Rattle.byte_text.specs.declared.texts.TextFault.TheVariants.{Empty, TooLong, NotUtf8, Memory}
 
 abbrev pub Bytes : Type 0
 Bytes = List ℕ
@@ -34,11 +34,7 @@ is_name w = nat_le 1 (length w) && nat_le (length w) max_name && is_utf8 w
 abbrev pub name_fault : Bytes → Option TextFault
 name_fault w = if nat_eq (length w) 0 then Some Empty else if nat_lt max_name (length w) then Some TooLong else if is_utf8 w then None else Some NotUtf8
 
--- the name of the bytes, or why they are none; want of memory comes for a name alone
-abbrev pub IsNameOf : Bytes → Result Bytes TextFault → Type 0
-IsNameOf w (Ok name) = (name_fault w ≡ None) × (name ≡ w)
-IsNameOf w (Err Memory) = name_fault w ≡ None
-IsNameOf w (Err Empty) = name_fault w ≡ Some Empty
-IsNameOf w (Err TooLong) = name_fault w ≡ Some TooLong
-IsNameOf w (Err NotUtf8) = name_fault w ≡ Some NotUtf8
-IsNameOf w (Err NotNumber) = ⊥
+-- an answer to bytes with this fault, if any: the fault; and for a name its bytes, or want of memory
+abbrev pub IsNameOf : Option TextFault → Bytes → Result Bytes TextFault → Type 0
+IsNameOf (Some fault) w answer = answer ≡ Err fault
+IsNameOf None w answer = MatchResult answer (λ name. name ≡ w) (λ fault. fault ≡ Memory)

@@ -22,7 +22,14 @@ fn push_byte(into: &mut Text, byte: u8) -> Result<(), NoMemory>
         b'\n' => into.push(b"\\n"),
         0x0C => into.push(b"\\f"),
         b'\r' => into.push(b"\\r"),
-        0..=0x1F => into.push(&[b'\\', b'u', b'0', b'0', hex_digit(byte / 16), hex_digit(byte % 16)]),
+        0..=0x1F => into.push(&[
+            b'\\',
+            b'u',
+            b'0',
+            b'0',
+            hex_digit(byte / 16),
+            hex_digit(byte % 16),
+        ]),
         _ => into.push(&[byte]),
     }
 }

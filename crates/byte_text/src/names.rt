@@ -1,11 +1,11 @@
-ghost use Rattle.std.specs.Prelude.{◌≡◌, ◌==◌, IfOk, IfErr, true};
+ghost use Rattle.std.specs.Prelude.{◌≡◌, ◌==◌, IfOk, true};
 ghost use Rattle.std.proofs.Common.{rules};
 ghost use Rattle.std.specs.Hash as fed;
 ghost use Rattle.std.specs.Cmp.Rules.{comparing, hashing};
 ghost use Rattle.std.specs.Cmp.{partial_order_from_own_ties};
 ghost use Rattle.std.specs.Cmp.Lexicographic.{pointwise, slice_cmp};
 ghost use Rattle.std.specs.Ordering.{nat_cmp, as_partial_cmp};
-ghost use Rattle.byte_text.specs.Names.{is_name, IsNameOf};
+ghost use Rattle.byte_text.specs.Names.{is_name, name_fault, IsNameOf};
 
 use crate::texts::{NoMemory, TextFault};
 use std::alloc::Global;
@@ -30,20 +30,30 @@ impl Model for Name {
     ghost invariant = { λ n. is_name n.bytes.items ≡ true };
 }
 
+// Why the bytes are no name.
+fn fault_of(bytes: &[u8]) -> Option<TextFault>
+    ensures { result ≡ name_fault bytes.now }
+{
+    if bytes.is_empty() {
+        return Some(TextFault::Empty);
+    }
+    if bytes.len() > 255 {
+        return Some(TextFault::TooLong);
+    }
+    match std::str::from_utf8(bytes) {
+        Ok(_) => None,
+        Err(_) => Some(TextFault::NotUtf8),
+    }
+}
+
 impl Name {
     /// The name of these bytes. Empty where there is none, else TooLong over 255 bytes, else NotUtf8 where they are not
     /// UTF-8; Memory for want of memory.
     pub fn of(alloc: Global, bytes: &[u8]) -> Result<Name, TextFault>
-        ensures { IsNameOf bytes.now result }
+        ensures { IsNameOf (name_fault bytes.now) bytes.now result }
     {
-        if bytes.is_empty() {
-            return Err(TextFault::Empty);
-        }
-        if bytes.len() > 255 {
-            return Err(TextFault::TooLong);
-        }
-        if std::str::from_utf8(bytes).is_err() {
-            return Err(TextFault::NotUtf8);
+        if let Some(fault) = fault_of(bytes) {
+            return Err(fault);
         }
         match bytes.to_vec(alloc) {
             Ok(bytes) => Ok(Name { bytes }),

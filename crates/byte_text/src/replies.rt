@@ -6,8 +6,8 @@ ghost use Rattle.byte_text.specs.Replies.{piece_text, frame_text, IsFrame, IsInR
 ghost use Rattle.byte_text.specs.declared.replies.Piece.TheVariants as piece;
 ghost use Rattle.byte_text.specs.declared.replies.Piece.{Piece};
 
-use crate::requests::{push_bulk, push_header};
 use crate::numbers::push_i64;
+use crate::requests::{push_bulk, push_header};
 use crate::texts::{NoMemory, Text};
 use std::alloc::Global;
 use std::marker::Model;
@@ -165,12 +165,10 @@ pub fn frame_texts_differ()
     ensures { (a b : List Piece) (x y : List ℕ) → IsFrame a → IsFrame b
         → AllByRecursion IsInRange a → AllByRecursion IsInRange b
         → frame_text a ++ x ≡ frame_text b ++ y → (a ≡ b) × (x ≡ y) }
-{
-}
+{}
 
 /// Whole replies one behind another are what a list of that many holds.
 pub fn lists_are_whole()
     ensures next { (m n : ℕ) (a b : List Piece) → AreReplies m a → AreReplies n b → AreReplies (m + n) (a ++ b) }
     ensures list { (n : ℕ) (a : List Piece) → AreReplies n a → IsWhole (piece.List n ∷ a) }
-{
-}
+{}

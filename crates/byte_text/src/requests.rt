@@ -92,6 +92,7 @@ pub(crate) fn push_bulk(into: &mut Text, bytes: &[u8]) -> Result<(), NoMemory>
 
 #[tactic(auto, using(crate::proofs::Kept::kept))]
 fn push_words(into: &mut Text, request: &Request) -> Result<(), NoMemory>
+    ensures fits { FitsRequest request.now }
     ensures ok { OnOk result (into.new ≡ into.old ++ request_text request.now) }
     ensures kept { take (length into.old) into.new ≡ into.old }
 {
@@ -123,5 +124,4 @@ pub fn push_request(into: &mut Text, request: &Request) -> Result<(), NoMemory>
 pub fn request_texts_differ()
     ensures { (a b : List Bytes) (x y : Bytes) → IsRequest a → IsRequest b
         → request_text a ++ x ≡ request_text b ++ y → (a ≡ b) × (x ≡ y) }
-{
-}
+{}

@@ -10,5 +10,4 @@ pub fn checks()
     ensures texts { HoldTexts }
     ensures globs { HoldGlobs }
     ensures streams { HoldStreams }
-{
-}
+{}
