@@ -1,4 +1,5 @@
 use byte_text::Name;
+use std::alloc::Global;
 use std::marker::Model;
 
 /// Names with values, in byte order, distinct, none of them 0.
@@ -13,4 +14,17 @@ impl Model for Fields {
     ghost Value = { List (List ℕ × ℤ) };
 
     ghost view = { λ f. f.list.items };
+}
+
+impl Fields {
+    ghost use Rattle.std.specs.Prelude.{◌≡◌, []};
+
+    /// No name.
+    pub fn new(alloc: Global) -> Fields
+        ensures { result ≡ [] }
+    {
+        Fields {
+            list: Vec::new(alloc),
+        }
+    }
 }

@@ -1,4 +1,5 @@
 use byte_text::Name;
+use std::alloc::Global;
 use std::marker::Model;
 
 /// A list of names.
@@ -13,6 +14,19 @@ impl Model for NameList {
     ghost Value = { List (List ℕ) };
 
     ghost view = { λ n. n.list.items };
+}
+
+impl NameList {
+    ghost use Rattle.std.specs.Prelude.{◌≡◌, []};
+
+    /// No name.
+    pub fn new(alloc: Global) -> NameList
+        ensures { result ≡ [] }
+    {
+        NameList {
+            list: Vec::new(alloc),
+        }
+    }
 }
 
 /// A list of numbers.
