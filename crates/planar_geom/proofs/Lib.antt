@@ -1,3 +1,6 @@
-pub mod Chains
-pub mod Places
-pub mod Roots
+pub mod BoolLemmas
+pub mod ChainLemmas
+pub mod ParityLemmas
+pub mod PlaceLemmas
+pub mod RootLemmas
+pub mod SideLemmas

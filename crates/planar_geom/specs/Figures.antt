@@ -1,13 +1,17 @@
 -- Signs, segments, rings and polygons: the figures of the plane.
-use Rattle.std.specs.Prelude.{ℤ, pos, Bool, true, false, not, ◌&&◌, ◌||◌, ◌==◌, ◌%◌, ◌-ℤ◌, ◌*ℤ◌, int_lt, int_le, nat_lt, if◌then◌else◌, List, [], ◌∷◌, length, flat_map, count_by, Result, Ok, Err}
+use Rattle.std.specs.Prelude.{ℤ, pos, Bool, false, not, ◌&&◌, ◌||◌, ◌==◌, ◌%◌, ◌+ℤ◌, ◌-ℤ◌, ◌*ℤ◌, int_lt, int_le, nat_lt, if◌then◌else◌, List, [], ◌∷◌, length, flat_map, count_by, Result, Ok, Err}
 use Rattle.std.specs.List.{list_any, list_all}
 use Rattle.std.specs.Int.{int_signum}
-use Rattle.planar_geom.specs.Points.{Point, Bounds, same_point, box_round, boxes_meet}
+use Rattle.planar_geom.specs.Points.{Point, Bounds, pt, same_point, box_round, boxes_meet}
 
 -- a segment, from a to b
 pub record Stretch : Type 0 where
   pub a : Point
   pub b : Point
+
+-- the segment from p to q
+abbrev pub stretch : Point → Point → Stretch
+stretch p q = record { a = p; b = q }
 
 -- twice the area of the triangle a, b, c, positive where they go round against the clock
 abbrev pub cross : Point → Point → Point → ℤ
@@ -35,12 +39,20 @@ crosses s t = int_lt (sides s t) (pos 0) && int_lt (sides t s) (pos 0)
 
 -- p is on the segment: the segment from p to p meets it
 abbrev pub on_stretch : Point → Stretch → Bool
-on_stretch p s = meets (record { a = p; b = p }) s
+on_stretch p s = meets (stretch p p) s
+
+-- a point in doubled coordinates
+abbrev pub doubled : Point → Point
+doubled p = pt (pos 2 *ℤ p.x) (pos 2 *ℤ p.y)
+
+-- the middle of a segment, in doubled coordinates
+abbrev pub doubled_middle : Stretch → Point
+doubled_middle s = pt (s.a.x +ℤ s.b.x) (s.a.y +ℤ s.b.y)
 
 -- the segments of a chain, from each point to the next
 abbrev pub stretches_from : Point → List Point → List Stretch
 stretches_from p [] = []
-stretches_from p (q ∷ qs) = record { a = p; b = q } ∷ stretches_from q qs
+stretches_from p (q ∷ qs) = stretch p q ∷ stretches_from q qs
 
 -- the segments of a chain of points
 abbrev pub stretches : List Point → List Stretch
@@ -55,7 +67,7 @@ ring_points rings = flat_map (λ ring. ring) rings
 abbrev pub edges : List (List Point) → List Stretch
 edges rings = flat_map stretches rings
 
--- p is above an end
+-- the end a stands above p
 abbrev pub above : Point → Point → Bool
 above p a = int_lt p.y a.y
 

@@ -1,9 +1,9 @@
 -- `within` and `intersects` between a shape and an area, by parts, vertices and segments.
-use Rattle.std.specs.Prelude.{ℕ, ℤ, pos, ◌*◌, Bool, true, false, not, ◌&&◌, ◌||◌, ◌-ℤ◌, ◌+ℤ◌, ◌*ℤ◌, int_lt, int_le, nat_le, List, [], ◌∷◌, flat_map, map}
+use Rattle.std.specs.Prelude.{ℕ, ℤ, pos, ◌*◌, Bool, true, false, not, ◌&&◌, ◌||◌, ◌-ℤ◌, ◌+ℤ◌, ◌*ℤ◌, int_lt, int_le, nat_le, List, [], ◌∷◌, map}
 use Rattle.std.specs.List.{list_any, list_all}
 use Rattle.std.specs.Int.{int_min, int_max}
 use Rattle.planar_geom.specs.Points.{Point, Bounds, pt, bounds, least_coordinate, greatest_coordinate, same_point, dist2, in_box, boxes_meet, square}
-use Rattle.planar_geom.specs.Figures.{Stretch, stretches, edges, ring_points, meets, crosses, on_stretch, in_poly, strictly_in}
+use Rattle.planar_geom.specs.Figures.{Stretch, stretches, edges, ring_points, meets, crosses, on_stretch, in_poly, strictly_in, doubled, doubled_middle}
 pub use Rattle.planar_geom.specs.Shapes.{vertices, segments, all_vertices, all_segments, positions, box_of_points, box_of}
 use Rattle.planar_geom.specs.declared.shapes.Part.{Part}
 use Rattle.planar_geom.specs.declared.shapes.Part.TheVariants.{Spot, Chain, Face}
@@ -67,14 +67,6 @@ unfoldable pub intersects : List Part → Area → Bool
 intersects shape (Rect b) = figures_touch shape (face_of b ∷ [])
 intersects shape (Figure other) = figures_touch shape other
 intersects shape (Disc c r) = list_any (λ p. in_part p c) shape || list_any (in_disc c r) (all_vertices shape) || list_any (stretch_near c r) (all_segments shape)
-
--- a point in doubled coordinates
-abbrev pub doubled : Point → Point
-doubled p = pt (pos 2 *ℤ p.x) (pos 2 *ℤ p.y)
-
--- the middle of a segment, in doubled coordinates
-abbrev pub doubled_middle : Stretch → Point
-doubled_middle s = pt (s.a.x +ℤ s.b.x) (s.a.y +ℤ s.b.y)
 
 -- where the part is a face, none of the rings' points is strictly inside it
 abbrev pub no_hole_inside : List (List Point) → Part → Bool

@@ -85,7 +85,7 @@ impl Model for Rings {
 }
 
 impl Rings {
-    ghost use Rattle.std.specs.Prelude.{◌≡◌, [], ◌∷◌, ◌++◌, length, OnOk, OnErr, IfErr};
+    ghost use Rattle.std.specs.Prelude.{◌≡◌, [], ◌∷◌, ◌++◌, length, OnOk, OnErr, IfErr, IfOk};
     ghost use Rattle.planar_geom.specs.Figures.{ring_points};
 
     /// No ring yet. What is pushed takes its memory from `alloc`.
@@ -115,6 +115,22 @@ impl Rings {
             }
             Err(full) => Err(full.value),
         }
+    }
+
+    /// The same rings in memory of their own.
+    pub(crate) fn copy(&self, alloc: Global) -> Result<Rings, NoMemory>
+        ensures { IfOk result (λ rings. rings ≡ self.now) }
+    {
+        let mut list = Vec::new(alloc);
+        for ring in self.list.as_slice() {
+            if list.push(ring.copy(alloc)?).is_err() {
+                return Err(NoMemory);
+            }
+        }
+        Ok(Rings {
+            list,
+            count: self.count,
+        })
     }
 
     /// The number of points in all rings.
@@ -151,7 +167,7 @@ impl Model for Line {
 }
 
 impl Line {
-    ghost use Rattle.std.specs.Prelude.{◌≡◌, IsTrue};
+    ghost use Rattle.std.specs.Prelude.{◌≡◌, IsTrue, IfOk};
     ghost use Rattle.planar_geom.specs.Figures.{is_line, line_of};
 
     /// The line through these points; `Err`, which hands them back, exactly under two points.
@@ -163,6 +179,15 @@ impl Line {
         } else {
             Err(points)
         }
+    }
+
+    /// The same line in memory of its own.
+    pub(crate) fn copy(&self, alloc: Global) -> Result<Line, NoMemory>
+        ensures { IfOk result (λ line. line ≡ self.now) }
+    {
+        Ok(Line {
+            points: self.points.copy(alloc)?,
+        })
     }
 
     /// The points of the line.
@@ -194,7 +219,7 @@ impl Model for Poly {
 }
 
 impl Poly {
-    ghost use Rattle.std.specs.Prelude.{◌≡◌, IsTrue};
+    ghost use Rattle.std.specs.Prelude.{◌≡◌, IsTrue, IfOk};
     ghost use Rattle.planar_geom.specs.Figures.{is_poly, poly_of};
 
     /// The polygon of these rings; `Err`, which hands them back, exactly where there is no ring, a
@@ -207,6 +232,15 @@ impl Poly {
         } else {
             Err(rings)
         }
+    }
+
+    /// The same polygon in memory of its own.
+    pub(crate) fn copy(&self, alloc: Global) -> Result<Poly, NoMemory>
+        ensures { IfOk result (λ poly. poly ≡ self.now) }
+    {
+        Ok(Poly {
+            rings: self.rings.copy(alloc)?,
+        })
     }
 
     /// The rings of the polygon.
@@ -286,6 +320,22 @@ impl Parts {
             }
             Err(full) => Err(full.value),
         }
+    }
+
+    /// The same parts in memory of their own.
+    pub(crate) fn copy(&self, alloc: Global) -> Result<Parts, NoMemory>
+        ensures { IfOk result (λ parts. parts ≡ self.now) }
+    {
+        let mut list = Vec::new(alloc);
+        for part in self.list.as_slice() {
+            if list.push(part.copy(alloc)?).is_err() {
+                return Err(NoMemory);
+            }
+        }
+        Ok(Parts {
+            list,
+            count: self.count,
+        })
     }
 
     /// The number of points in all parts.

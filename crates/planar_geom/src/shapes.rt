@@ -1,7 +1,8 @@
 //! Parts, shapes and areas.
 
-use crate::lists::{Line, Parts, Poly};
+use crate::lists::{Line, NoMemory, Parts, Poly};
 use crate::points::{BBox, Pt};
+use std::alloc::Global;
 use std::marker::Model;
 
 /// A part of a shape: a point, a chain of segments or a polygon.
@@ -13,7 +14,7 @@ pub enum Part {
 }
 
 impl Part {
-    ghost use Rattle.std.specs.Prelude.{◌≡◌, length, IsTrue};
+    ghost use Rattle.std.specs.Prelude.{◌≡◌, length, IsTrue, IfOk};
     ghost use Rattle.planar_geom.specs.Shapes.{vertices, is_part};
 
     /// The number of points.
@@ -25,6 +26,17 @@ impl Part {
             Part::Spot(_) => 1,
             Part::Chain(line) => line.points().as_slice().len() as u64,
             Part::Face(poly) => poly.rings().positions(),
+        }
+    }
+
+    /// The same part in memory of its own.
+    pub(crate) fn copy(&self, alloc: Global) -> Result<Part, NoMemory>
+        ensures { IfOk result (λ part. part ≡ self.now) }
+    {
+        match self {
+            Part::Spot(p) => Ok(Part::Spot(*p)),
+            Part::Chain(line) => Ok(Part::Chain(line.copy(alloc)?)),
+            Part::Face(poly) => Ok(Part::Face(poly.copy(alloc)?)),
         }
     }
 }
@@ -48,7 +60,7 @@ impl Model for Shape {
 }
 
 impl Shape {
-    ghost use Rattle.std.specs.Prelude.{◌≡◌, IsTrue};
+    ghost use Rattle.std.specs.Prelude.{◌≡◌, IsTrue, IfOk};
     ghost use Rattle.planar_geom.specs.Shapes.{shape_of, is_shape, positions as position_count};
 
     /// The shape of these parts; `Err`, which hands them back, exactly where there is no part.
@@ -60,6 +72,15 @@ impl Shape {
         } else {
             Ok(Shape { parts })
         }
+    }
+
+    /// The same shape in memory of its own.
+    pub fn copy(&self, alloc: Global) -> Result<Shape, NoMemory>
+        ensures { IfOk result (λ shape. shape ≡ self.now) }
+    {
+        Ok(Shape {
+            parts: self.parts.copy(alloc)?,
+        })
     }
 
     /// The number of points in all parts, each ring's last point counted beside its first.

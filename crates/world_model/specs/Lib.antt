@@ -18,5 +18,6 @@ pub mod Expiry
 pub mod Refusals
 pub mod Halls
 pub mod Histories
+pub mod Frames
 pub mod Seats
 pub mod Laws

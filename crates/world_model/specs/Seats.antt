@@ -17,11 +17,6 @@ use Rattle.world_model.specs.declared.events.Outcome.TheVariants.{Entered, TooMa
 use Rattle.world_model.specs.declared.events.Entry.{Entry}
 use Rattle.world_model.specs.declared.events.Opening.{Opening}
 
--- the frames that a call gives into, and the places that they have
-pub record FrameList : Type 0 where
-  pub list : List Bytes
-  pub places : ℕ
-
 -- answers as outcomes
 
 abbrev pub enter_outcome : Result ℕ EnterFault → Outcome

@@ -9,19 +9,26 @@ mod events;
 mod faults;
 mod fields;
 mod filters;
+mod frames;
+mod halls;
 mod lists;
 mod objects;
+mod orders;
+mod places;
 mod queries;
 mod worlds;
 
 pub use channels::{Channel, Channels, Detect, Fence, Kind, Raised, Wanted, Watch};
 pub use commands::{AreaWords, Command, Only};
-pub use events::{Asked, Called, Entry, Event, Opening, Outcome};
+pub use events::{Asked, Called, EnterFault, Entry, Event, Opening, Outcome, Taken};
 pub use faults::WordFault;
 pub use fields::Fields;
 pub use filters::{Test, Tests};
+pub use frames::{Frames, TAKE};
+pub use halls::{HallApi, HallSplit};
 pub use lists::{NameList, Numbers};
 pub use objects::{Object, Objects};
+pub use orders::{is_before, is_same};
 pub use queries::{Query, Rule, Shown};
 pub use worlds::{Change, World};
 

@@ -1,4 +1,4 @@
-use Rattle.planar_geom.proofs.Roots.{floor_root_is}
+use Rattle.planar_geom.proofs.RootLemmas.{floor_root_is}
 use Rattle.planar_geom.proofs.distances.floor_root.Goals as goal
 
 pub returns : goal.returns

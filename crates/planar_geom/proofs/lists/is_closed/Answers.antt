@@ -1,5 +1,5 @@
 use Rattle.std.proofs.Common.{◌∙◌}
-use Rattle.planar_geom.proofs.Chains.{is_ring-ends}
+use Rattle.planar_geom.proofs.ChainLemmas.{is_ring-ends}
 use Rattle.planar_geom.proofs.lists.is_closed.Goals as goal
 
 pub returns-then-ring-gt3 : goal.returns-then-ring-gt3
