@@ -4,7 +4,7 @@ use Rattle.std.proofs.lemmas.List.{nil_from_length}
 use Rattle.byte_text.specs.Names.{Bytes}
 use Rattle.byte_text.specs.Lines.{line_end, bulk_text}
 use Rattle.byte_text.specs.Requests.{request_text, IsRequestText}
-use Rattle.byte_text.specs.Streams.{Front, found, begun, broken, request, Stream, holds, fails, Ending, stream_behind, first_requests, stream_of, fed, fed_ending}
+use Rattle.byte_text.specs.Streams.{Front, found, begun, broken, request, Stream, holds, fails, Ending, with_first, only_rest, only_fault, stream_behind, first_requests, stream_of, fed, fed_ending}
 use Rattle.byte_text.specs.declared.faults.RespFault.{RespFault}
 use Rattle.byte_text.proofs.StreamTexts.{request_read}
 use Rattle.byte_text.proofs.StreamFound.{request_found}
@@ -52,7 +52,7 @@ empty_begun = refl
 
 enough_by : (n m : ℕ) (bytes : Bytes) → ((r : Bytes) → length r < length bytes → first_requests n r ≡ first_requests m r) → (x : Front (List Bytes)) → request bytes ≡ x
     → stream_behind bytes x (first_requests n) ≡ stream_behind bytes x (first_requests m)
-enough_by n m bytes go (found first r) e = ap (λ (s : Stream). let t : Stream = record { requests = first ∷ s.requests; ending = s.ending } in t) (go r (shorter bytes first r e))
+enough_by n m bytes go (found first r) e = ap (with_first first) (go r (shorter bytes first r e))
 enough_by n m bytes go begun e = refl
 enough_by n m bytes go (broken fault) e = refl
 
@@ -87,7 +87,7 @@ fed_by n bytes more go (found first r) e =
     enough (length (bytes ++ more)) (length (r ++ more)) (r ++ more) (omega (arith, size, length-append bytes more, length-append r more)) (omega arith) in
     opened (bytes ++ more)
     ∙ ap (λ x. stream_behind (bytes ++ more) x (first_requests (length (bytes ++ more)))) front
-    ∙ ap (λ (s : Stream). let t : Stream = record { requests = first ∷ s.requests; ending = s.ending } in t) (rest ∙ go r size)
+    ∙ ap (with_first first) (rest ∙ go r size)
     ∙ fed_behind first (first_requests n r).requests (first_requests n r).ending more
 fed_by n bytes more go begun e = refl
 fed_by n bytes more go (broken fault) e =
@@ -103,3 +103,16 @@ fed_from (suc n) bytes more l = fed_by n bytes more (λ r s. fed_from n r more (
 pub stream_fed : (bytes more : Bytes) → stream_of (bytes ++ more) ≡ fed (stream_of bytes) more
 unfolding stream_of
 stream_fed bytes more = fed_from (length bytes) bytes more (omega arith)
+
+pub stream_found : (bytes behind : Bytes) (words : List Bytes) → request bytes ≡ found words behind → stream_of bytes ≡ with_first words (stream_of behind)
+unfolding stream_of
+stream_found bytes behind words e =
+    opened bytes
+    ∙ ap (λ x. stream_behind bytes x (first_requests (length bytes))) e
+    ∙ ap (with_first words) (enough (length bytes) (length behind) behind (omega (arith, shorter bytes words behind e)) (omega arith))
+
+pub stream_begun : (bytes : Bytes) → request bytes ≡ begun → stream_of bytes ≡ only_rest bytes
+stream_begun bytes e = opened bytes ∙ ap (λ x. stream_behind bytes x (first_requests (length bytes))) e
+
+pub stream_broken : (bytes : Bytes) (fault : RespFault) → request bytes ≡ broken fault → stream_of bytes ≡ only_fault fault
+stream_broken bytes fault e = opened bytes ∙ ap (λ x. stream_behind bytes x (first_requests (length bytes))) e
