@@ -1,5 +1,5 @@
 -- What the served words spell.
-use Rattle.std.proofs.Common.{◌≡◌, true, false, refl, List, [], ◌∷◌}
+use Rattle.std.proofs.Common.{◌≡◌, true, false, refl, [], ◌∷◌}
 use Rattle.std.specs.Prelude.{ℤ, codes, Some, None, Ok}
 use Rattle.std.specs.Str.{str_to_ascii_lowercase}
 use Rattle.std.proofs.lemmas.Slice.Eq.{bytes_eq-Decides}

@@ -1,16 +1,14 @@
 -- What is asked for by the words that are served.
 use Rattle.std.proofs.Common.{◌≡◌, ◌⊎◌, inl, inr, Bool, true, false, refl, sym, ◌∙◌, ap, List, [], ◌∷◌}
-use Rattle.std.specs.Prelude.{ℤ, pos, codes, Option, Some, None, Result, Ok, Err, IfOk, IfErr, if◌then◌else◌, option_and_then, ◌&&◌}
+use Rattle.std.specs.Prelude.{ℤ, codes, Option, Some, None, Result, Ok, Err, IfOk, IfErr, if◌then◌else◌, option_and_then, ◌&&◌}
 use Rattle.std.specs.Str.{str_to_ascii_lowercase}
 use Rattle.std.proofs.Math.Bool.{and-false}
 use Rattle.byte_text.specs.Names.{Bytes, is_word, is_name}
 use Rattle.byte_text.specs.Numbers.{whole}
 use Rattle.planar_geom.specs.Points.{pt, point_at, is_coordinate, Point}
-use Rattle.planar_geom.specs.declared.shapes.Part.{Part}
 use Rattle.planar_geom.specs.declared.shapes.Part.TheVariants.{Spot}
 use Rattle.geo_text.specs.Texts.{point_text}
-use Rattle.world_model.specs.Filters.{Field}
-use Rattle.world_model.specs.Served.{asks, is_served}
+use Rattle.world_model.specs.Served.{asks}
 use Rattle.world_model.specs.declared.commands.Command.{Command}
 use Rattle.world_model.specs.declared.commands.Command.TheVariants as command
 use Rattle.world_model.specs.declared.commands.Only.TheVariants.{Any}

@@ -1,5 +1,5 @@
 -- How the words that are served are read.
-use Rattle.std.specs.Prelude.{◌≡◌, ℤ, true, false, List, [], ◌∷◌, codes, Some, None, Ok}
+use Rattle.std.specs.Prelude.{◌≡◌, ℤ, true, false, [], ◌∷◌, codes, Some, None, Ok}
 use Rattle.byte_text.specs.Names.{Bytes, is_word, is_name}
 use Rattle.planar_geom.specs.Points.{pt}
 use Rattle.planar_geom.specs.declared.shapes.Part.TheVariants.{Spot}

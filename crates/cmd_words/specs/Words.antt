@@ -1,5 +1,5 @@
 -- What a reader takes of the words that are left.
-use Rattle.std.specs.Prelude.{◌≡◌, ℤ, pos, neg_ℤ, Bool, true, false, List, [], ◌∷◌, Option, Some, None, Result, Ok, Err, if◌then◌else◌, ◌⊎◌, ◌<◌, length}
+use Rattle.std.specs.Prelude.{◌≡◌, ℤ, pos, neg_ℤ, List, [], ◌∷◌, Option, Some, None, Result, Ok, Err, if◌then◌else◌, ◌⊎◌, ◌<◌, length}
 use Rattle.byte_text.specs.Names.{Bytes, is_word, is_name}
 use Rattle.byte_text.specs.Numbers.{whole_within}
 use Rattle.planar_geom.specs.Points.{Point}
