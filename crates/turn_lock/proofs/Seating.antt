@@ -1,6 +1,6 @@
 -- The first seat, a split and a join keep the rule.
-use Rattle.std.proofs.Common.{◌≡◌, ◌≢◌, ◌⊎◌, ℕ, zero, suc, ◌<◌, Bool, true, List, [], ◌∷◌, ◌++◌, length, set, get_or, refl, sym, ap, ◌∙◌, subst, inl, inr, ⊎_elim, arith}
-use Rattle.std.specs.Prelude.{Option, Some, slice_get}
+use Rattle.std.proofs.Common.{◌≡◌, ◌≢◌, ◌⊎◌, ℕ, zero, suc, Bool, true, List, [], ◌∷◌, ◌++◌, length, set, get_or, refl, sym, ap, ◌∙◌, subst, inl, inr, ⊎_elim, arith}
+use Rattle.std.specs.Prelude.{Option, Some}
 use mathlib.Core.Option.{some, none, some-injective, some-ne-none}
 use mathlib.Core.List.{IsPrefix}
 use lib.ListN.{get_elem?}

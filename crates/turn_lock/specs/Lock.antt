@@ -1,5 +1,5 @@
 -- Whose seat a seat is.
-use Rattle.std.specs.Prelude.{◌≡◌, List, [], Option, Some}
+use Rattle.std.specs.Prelude.{◌≡◌, [], Option, Some}
 use Rattle.atomic_table.specs.declared.shared.Seat.{Seat}
 use Rattle.turn_lock.specs.declared.lock.TurnLock.{TurnLock}
 use Rattle.turn_lock.specs.declared.seat.View.{View}

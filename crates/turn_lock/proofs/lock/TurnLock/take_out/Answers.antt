@@ -1,4 +1,4 @@
-use Rattle.std.proofs.Common.{◌≡◌, List, ℕ, ◌∷◌, ◌∙◌, ap, sym}
+use Rattle.std.proofs.Common.{List, ℕ, ◌∷◌, ◌∙◌, ap, sym}
 use Rattle.std.specs.Prelude.{Option, Some}
 use Rattle.atomic_table.specs.Table.{rest}
 use Rattle.turn_lock.proofs.lock.TurnLock.take_out.Goals as goal
