@@ -1,0 +1,18 @@
+//! Names, texts, canonical numbers, JSON strings, requests and replies: the bytes that the other crates speak of.
+#![tactic(auto)]
+
+mod faults;
+mod json;
+mod names;
+mod numbers;
+mod replies;
+mod requests;
+mod texts;
+
+pub use faults::RespFault;
+pub use json::push_json;
+pub use names::Name;
+pub use numbers::{push_i64, push_u64, read_i64, read_u64};
+pub use replies::{Piece, Reply, frame_texts_differ, lists_are_whole, push_frame};
+pub use requests::{Request, push_request, request_texts_differ};
+pub use texts::{NoMemory, Text, TextFault};

@@ -1,0 +1,129 @@
+ghost use Rattle.std.specs.Prelude.{◌≡◌, ◌==◌, IfOk, true};
+ghost use Rattle.std.proofs.Common.{rules};
+ghost use Rattle.std.specs.Hash as fed;
+ghost use Rattle.std.specs.Cmp.Rules.{comparing, hashing};
+ghost use Rattle.std.specs.Cmp.{partial_order_from_own_ties};
+ghost use Rattle.std.specs.Cmp.Lexicographic.{pointwise, slice_cmp};
+ghost use Rattle.std.specs.Ordering.{nat_cmp, as_partial_cmp};
+ghost use Rattle.byte_text.specs.Names.{is_name, name_fault, IsNameOf};
+
+use crate::texts::{NoMemory, TextFault};
+use std::alloc::Global;
+use std::cmp::Ordering;
+use std::hash::{Hash, Hasher};
+use std::marker::Model;
+
+/// A list of 1 to 255 bytes of UTF-8: a key, an id, a field's name, a channel's name or a pattern. In byte order.
+#[derive(Drop)]
+pub struct Name {
+    bytes: Vec<u8>,
+}
+
+impl Model for Name {
+    ghost use Rattle.std.specs.Prelude.{List, ℕ, true, ◌≡◌};
+    ghost use Rattle.byte_text.specs.Names.{is_name};
+
+    ghost Value = { List ℕ };
+
+    ghost view = { λ n. n.bytes.items };
+
+    ghost invariant = { λ n. is_name n.bytes.items ≡ true };
+}
+
+// Why the bytes are no name.
+fn fault_of(bytes: &[u8]) -> Option<TextFault>
+    ensures { result ≡ name_fault bytes.now }
+{
+    if bytes.is_empty() {
+        return Some(TextFault::Empty);
+    }
+    if bytes.len() > 255 {
+        return Some(TextFault::TooLong);
+    }
+    match std::str::from_utf8(bytes) {
+        Ok(_) => None,
+        Err(_) => Some(TextFault::NotUtf8),
+    }
+}
+
+impl Name {
+    /// The name of these bytes. Empty where there is none, else TooLong over 255 bytes, else NotUtf8 where they are not
+    /// UTF-8; Memory for want of memory.
+    pub fn of(alloc: Global, bytes: &[u8]) -> Result<Name, TextFault>
+        ensures { IsNameOf (name_fault bytes.now) bytes.now result }
+    {
+        if let Some(fault) = fault_of(bytes) {
+            return Err(fault);
+        }
+        match bytes.to_vec(alloc) {
+            Ok(bytes) => Ok(Name { bytes }),
+            Err(_) => Err(TextFault::Memory),
+        }
+    }
+
+    /// Its bytes, which are a name's.
+    pub fn bytes(&self) -> &[u8]
+        ensures same { result.now ≡ self.now }
+        ensures name { is_name self.now ≡ true }
+    {
+        self.bytes.as_slice()
+    }
+
+    /// A name of the same bytes.
+    pub fn copy(&self, alloc: Global) -> Result<Name, NoMemory>
+        ensures { IfOk result (λ n. n ≡ self.now) }
+    {
+        match self.bytes.as_slice().to_vec(alloc) {
+            Ok(bytes) => Ok(Name { bytes }),
+            Err(_) => Err(NoMemory),
+        }
+    }
+}
+
+impl PartialEq for Name {
+    ghost eq = { pointwise ◌==◌ };
+
+    ghost laws = { Prim.search (comparing, rules) };
+
+    fn eq(&self, other: &Name) -> bool {
+        self.bytes == other.bytes
+    }
+}
+
+impl Eq for Name {
+    ghost laws = { Prim.search (comparing, rules) };
+}
+
+impl Hash for Name {
+    ghost hash_input = { fed.slice fed.u8 };
+
+    ghost respects_eq = { Prim.search (hashing, rules) };
+
+    fn hash<H: Hasher>(&self, state: &mut H) {
+        self.bytes.hash(state);
+    }
+}
+
+impl Ord for Name {
+    ghost cmp = { slice_cmp nat_cmp };
+
+    ghost total = { Prim.search (comparing, rules) };
+
+    ghost matches_partial_cmp = { Prim.search (comparing, rules) };
+
+    ghost matches_eq = { Prim.search (comparing, rules) };
+
+    fn cmp(&self, other: &Name) -> Ordering {
+        self.bytes.as_slice().cmp(other.bytes.as_slice())
+    }
+}
+
+impl PartialOrd for Name {
+    ghost partial_cmp = { as_partial_cmp (slice_cmp nat_cmp) };
+
+    ghost laws = { partial_order_from_own_ties (Prim.search (comparing, rules)) (Prim.search (comparing, rules)) };
+
+    fn partial_cmp(&self, other: &Name) -> Option<Ordering> {
+        Some(self.cmp(other))
+    }
+}

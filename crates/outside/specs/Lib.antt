@@ -1,0 +1,4 @@
+pub mod Causes
+pub mod Disks
+pub mod Memory
+pub mod Sides

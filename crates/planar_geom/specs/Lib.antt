@@ -1,0 +1,4 @@
+pub mod Points
+pub mod Figures
+pub mod Shapes
+pub mod Relations
