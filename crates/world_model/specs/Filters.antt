@@ -4,7 +4,7 @@ use Rattle.std.specs.List.{list_any, list_all}
 use Rattle.byte_text.specs.Names.{Bytes, same, before}
 use Rattle.byte_text.specs.Globs.{glob_meets}
 use Rattle.planar_geom.specs.Points.{same_int}
-use Rattle.world_model.specs.Lists.{put_in}
+use Rattle.world_model.specs.Lists.{ascends, put_in}
 use Rattle.world_model.specs.declared.filters.Test.{Test}
 use Rattle.world_model.specs.declared.filters.Test.TheVariants.{Range, Among}
 
@@ -19,6 +19,10 @@ is_zero f = same_int f.1 (pos 0)
 
 abbrev pub is_called : Bytes → Field → Bool
 is_called name f = same f.0 name
+
+-- fields in byte order of their names, no name twice, and no value 0
+abbrev pub are_fields : List Field → Bool
+are_fields fields = ascends field_before fields && list_all (λ f. not (is_zero f)) fields
 
 -- the value of a field, 0 where it is missing
 abbrev pub value_of : List Field → Bytes → ℤ

@@ -1,5 +1,10 @@
+//! Tests on the fields of objects.
+
+ghost use Rattle.std.specs.Prelude.{◌≡◌, ◌<◌, [], ◌∷◌, ◌++◌, length, slice_get, Some, OnOk, OnErr, IfErr};
+
 use crate::lists::Numbers;
 use byte_text::Name;
+use std::alloc::Global;
 use std::marker::Model;
 
 /// What the value of a field has to be: within a range (`None` is its endless end), or one of some values.
@@ -22,4 +27,49 @@ impl Model for Tests {
     ghost Value = { List Test };
 
     ghost view = { λ t. t.list.items };
+}
+
+impl Tests {
+    /// No test yet. What is pushed takes its memory from `alloc`.
+    pub fn new(alloc: Global) -> Tests
+        ensures { result ≡ [] }
+    {
+        Tests {
+            list: Vec::new(alloc),
+        }
+    }
+
+    /// How many tests there are.
+    pub fn len(&self) -> usize
+        ensures { result ≡ length self.now }
+    {
+        self.list.len()
+    }
+
+    /// The test at a place, counted from 0.
+    pub fn at(&self, i: usize) -> &Test
+        requires { i < length self.now }
+        ensures { slice_get self.now i ≡ Some result.now }
+    {
+        &self.list[i]
+    }
+
+    /// Lets all tests go.
+    pub fn clear(&mut self)
+        ensures { self.new ≡ [] }
+    {
+        self.list.clear();
+    }
+
+    /// Puts a test last. For want of memory the list stays as it was, and the test is handed back.
+    pub fn push(&mut self, item: Test) -> Result<(), Test>
+        ensures ok { OnOk result (self.new ≡ self.old ++ item ∷ []) }
+        ensures err { OnErr result (self.new ≡ self.old) }
+        ensures handed_back { IfErr result (λ back. back ≡ item) }
+    {
+        match self.list.push(item) {
+            Ok(()) => Ok(()),
+            Err(full) => Err(full.value),
+        }
+    }
 }

@@ -14,6 +14,7 @@ mod halls;
 mod lists;
 mod objects;
 mod orders;
+mod places;
 mod queries;
 mod worlds;
 
