@@ -79,13 +79,15 @@ impl Text {
         }
     }
 
-    pub(crate) fn len(&self) -> usize
+    /// The number of its bytes.
+    pub fn len(&self) -> usize
         ensures { result ≡ length self.now }
     {
         self.bytes.len()
     }
 
-    pub(crate) fn truncate(&mut self, len: usize)
+    /// Leaves the first `len` bytes, or all where there are fewer.
+    pub fn truncate(&mut self, len: usize)
         ensures { self.new ≡ take len self.old }
     {
         self.bytes.truncate(len);

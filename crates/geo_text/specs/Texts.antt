@@ -40,15 +40,17 @@ bounds_text b = codes "{\"type\":\"Polygon\",\"coordinates\":[[" ++ joined (map 
 
 -- reading a stored text back: its numbers say which point or box it could be of, and it is then compared with that one's text
 
-abbrev is_of_number : ℕ → Bool
+-- a digit or a minus sign
+abbrev pub is_of_number : ℕ → Bool
 is_of_number b = b == 45 || (nat_le 48 b && nat_le b 57)
 
-abbrev joins_first : ℕ → List Bytes → List Bytes
+-- a byte more in front of the first of these stretches
+abbrev pub joins_first : ℕ → List Bytes → List Bytes
 joins_first b [] = (b ∷ []) ∷ []
 joins_first b (w ∷ ws) = (b ∷ w) ∷ ws
 
 -- the stretches of digits and minus signs between all other bytes
-abbrev stretches : Bytes → List Bytes
+abbrev pub stretches : Bytes → List Bytes
 stretches [] = [] ∷ []
 stretches (b ∷ bs) = if is_of_number b then joins_first b (stretches bs) else [] ∷ stretches bs
 
@@ -63,14 +65,16 @@ in_plane p = is_coordinate p.x && is_coordinate p.y
 abbrev pub is_box : Bounds → Bool
 is_box b = in_plane b.min && in_plane b.max && is_low_of b.min b.max
 
-abbrev if_point : Bytes → Point → Option Shape
+-- the point's shape, where the text is the one that is stored for it
+abbrev pub if_point : Bytes → Point → Option Shape
 if_point text p = if in_plane p && same (point_text p) text then Some (Spot p ∷ []) else None
 
-abbrev if_bounds : Bytes → Bounds → Option Shape
+-- the box's shape, where the text is the one that is stored for it
+abbrev pub if_bounds : Bytes → Bounds → Option Shape
 if_bounds text b = if is_box b && same (bounds_text b) text then Some (Face (corners b ∷ []) ∷ []) else None
 
 -- the shape of a text of one of the two stored forms
-abbrev stored_by : Bytes → List ℤ → Option Shape
+abbrev pub stored_by : Bytes → List ℤ → Option Shape
 stored_by text (x ∷ y ∷ []) = if_point text (pt x y)
 stored_by text (a ∷ b ∷ c ∷ beside ∷ above ∷ d ∷ others) = if_bounds text (bounds (pt a b) (pt c d))
 stored_by text numbers = None
