@@ -1,7 +1,5 @@
 -- Chains of points and their segments.
-use Rattle.std.proofs.Common.{◌≡◌, ℕ, ◌+◌, ◌-◌, ◌<◌, ◌≤◌, List, [], ◌∷◌, length, refl, sym, ap, ◌∙◌, get_or, arith, Bool, true, false, nat_lt}
-use Rattle.std.specs.Prelude.{◌&&◌}
-use Rattle.std.proofs.lemmas.Grind.{common_steps}
+use Rattle.std.proofs.Common.{◌≡◌, ◌-◌, ◌<◌, List, [], ◌∷◌, length, refl, ap, ◌∙◌, get_or, arith, true, nat_lt}
 use Rattle.planar_geom.specs.Points.{Point, same_point}
 use Rattle.planar_geom.specs.Figures.{last_of, is_ring}
 

@@ -1,3 +1,4 @@
+pub mod BoolLemmas
 pub mod ChainLemmas
 pub mod PlaceLemmas
 pub mod RootLemmas

@@ -1,9 +1,9 @@
 -- Points, coordinates and boxes.
-use Rattle.std.proofs.Common.{◌≡◌, ℕ, ◌+◌, ◌*◌, ◌/◌, ◌<◌, ◌≤◌, ℤ, pos, negsuc, ◌+ℤ◌, ◌-ℤ◌, ◌≤ℤ◌, arith, refl, sym, ap, ◌∙◌, List, [], ◌∷◌, length, get_or, drop, suc, add-one, drop-cons}
-use Rattle.std.specs.Prelude.{Option, Some, None, unwrap_or, fold, flat_map}
+use Rattle.std.proofs.Common.{◌≡◌, ℕ, ◌+◌, ◌<◌, ℤ, pos, negsuc, ◌+ℤ◌, ◌*ℤ◌, ◌≤ℤ◌, arith, refl, sym, ap, ◌∙◌, List, [], ◌∷◌, length, get_or, drop, suc, add-one, drop-cons}
+use Rattle.std.specs.Prelude.{Some, None, unwrap_or, fold, flat_map}
 use Rattle.std.proofs.lemmas.List.Sums.{fold-append}
-use Rattle.std.specs.Int.{int_div_euclid, int_min, int_max}
-use Rattle.std.proofs.lemmas.Int.{ints, clamps}
+use Rattle.std.specs.Int.{int_div_euclid}
+use Rattle.std.proofs.lemmas.Int.{ints}
 use Rattle.planar_geom.specs.Points.{Point, Bounds, pt, bounds, IsCoordinate, with_point, grown}
 use Rattle.planar_geom.specs.Shapes.{box_of_points}
 
@@ -15,6 +15,14 @@ half_in (negsuc n) low high = record { low = omega (arith, ints); high = omega (
 -- the middle of two coordinates is one
 pub middle_in : (a b : ℤ) → IsCoordinate a → IsCoordinate b → IsCoordinate (int_div_euclid (a +ℤ b) (pos 2))
 middle_in a b a_in b_in = half_in (a +ℤ b) (omega (arith, ints)) (omega (arith, ints))
+
+-- a product from its factors
+pub product_from : (r d e a b : ℤ) → r ≡ d *ℤ e → d ≡ a → e ≡ b → r ≡ a *ℤ b
+product_from r d e a b r_is d_is e_is = r_is ∙ rw (d_is, e_is) refl
+
+-- points of equal coordinates are equal
+pub pt_is : (a b a' b' : ℤ) → a ≡ a' → b ≡ b' → pt a b ≡ pt a' b'
+pt_is a b a' b' p q = cc
 
 -- boxes of equal corners are equal
 pub bounds_are : (a b c d a' b' c' d' : ℤ) → a ≡ a' → b ≡ b' → c ≡ c' → d ≡ d' → bounds (pt a b) (pt c d) ≡ bounds (pt a' b') (pt c' d')

@@ -1,9 +1,8 @@
 -- The root of a number, bit by bit.
-use Rattle.std.proofs.Common.{◌≡◌, ℕ, zero, suc, ◌+◌, ◌*◌, ◌^◌, ◌<◌, ◌≤◌, arith, refl, sym, Bool, true, false, inl, inr}
+use Rattle.std.proofs.Common.{◌≡◌, ℕ, zero, suc, ◌+◌, ◌*◌, ◌^◌, ◌<◌, ◌≤◌, arith, sym, inl, inr}
 use Rattle.std.proofs.Math.Nat.{mul-le-mul, two-pow-succ}
-use Rattle.std.specs.Prelude.{nat_le, if◌then◌else◌}
 use Rattle.std.proofs.lemmas.Bool.Decides.{leb_tells}
-use Rattle.planar_geom.specs.Points.{root_above, floor_root, IsFloorRoot}
+use Rattle.planar_geom.specs.Points.{root_above, floor_root}
 
 squares_rise : (a b : ℕ) → a ≤ b → a * a ≤ b * b
 squares_rise a b h = mul-le-mul h h

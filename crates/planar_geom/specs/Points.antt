@@ -1,5 +1,5 @@
 -- Points and boxes as contracts see them, and squared distances.
-use Rattle.std.specs.Prelude.{ℕ, zero, suc, ◌^◌, nat_le, ℤ, pos, negsuc, ◌+◌, ◌*◌, ◌<◌, ◌≤◌, Bool, ◌&&◌, ◌-ℤ◌, ◌+ℤ◌, ◌≤ℤ◌, int_le, int_lt, nat_abs, if◌then◌else◌, List, fold, Option, Some, None}
+use Rattle.std.specs.Prelude.{ℕ, zero, suc, ◌^◌, nat_le, ℤ, pos, negsuc, ◌+◌, ◌*◌, ◌<◌, Bool, ◌&&◌, ◌-ℤ◌, ◌+ℤ◌, ◌≤ℤ◌, int_le, int_lt, nat_abs, if◌then◌else◌, List, fold, Option, Some, None}
 use Rattle.std.specs.Int.{int_min, int_max, int_div_euclid}
 
 -- a point of whole coordinates
@@ -27,9 +27,17 @@ least_coordinate = negsuc 999999999
 abbrev pub greatest_coordinate : ℤ
 greatest_coordinate = pos 1000000000
 
+-- the number is in a range, ends included
+abbrev pub in_range : ℤ → ℤ → ℤ → Bool
+in_range low high a = int_le low a && int_le a high
+
+-- two ranges overlap, ends included
+abbrev pub ranges_meet : ℤ → ℤ → ℤ → ℤ → Bool
+ranges_meet low high low' high' = int_le low high' && int_le low' high
+
 -- whether the number is a coordinate of the plane
 abbrev pub is_coordinate : ℤ → Bool
-is_coordinate a = int_le least_coordinate a && int_le a greatest_coordinate
+is_coordinate a = in_range least_coordinate greatest_coordinate a
 
 -- the point with these coordinates, where the plane has it
 abbrev pub point_at : ℤ → ℤ → Option Point
@@ -93,11 +101,11 @@ box_dist2 p b = square (outside_by b.min.x b.max.x p.x) + square (outside_by b.m
 
 -- the point is in the box, ends included
 abbrev pub in_box : Bounds → Point → Bool
-in_box b p = int_le b.min.x p.x && int_le p.x b.max.x && int_le b.min.y p.y && int_le p.y b.max.y
+in_box b p = in_range b.min.x b.max.x p.x && in_range b.min.y b.max.y p.y
 
 -- both ranges overlap, ends included
 abbrev pub boxes_meet : Bounds → Bounds → Bool
-boxes_meet b c = int_le b.min.x c.max.x && int_le c.min.x b.max.x && int_le b.min.y c.max.y && int_le c.min.y b.max.y
+boxes_meet b c = ranges_meet b.min.x b.max.x c.min.x c.max.x && ranges_meet b.min.y b.max.y c.min.y c.max.y
 
 -- the least box round a box and a point
 abbrev pub with_point : Bounds → Point → Bounds

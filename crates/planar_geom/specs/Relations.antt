@@ -1,5 +1,5 @@
 -- `within` and `intersects` between a shape and an area, by parts, vertices and segments.
-use Rattle.std.specs.Prelude.{ℕ, ℤ, pos, ◌*◌, Bool, true, false, not, ◌&&◌, ◌||◌, ◌-ℤ◌, ◌+ℤ◌, ◌*ℤ◌, int_lt, int_le, nat_le, List, [], ◌∷◌, flat_map, map}
+use Rattle.std.specs.Prelude.{ℕ, ℤ, pos, ◌*◌, Bool, true, false, not, ◌&&◌, ◌||◌, ◌-ℤ◌, ◌+ℤ◌, ◌*ℤ◌, int_lt, int_le, nat_le, List, [], ◌∷◌, map}
 use Rattle.std.specs.List.{list_any, list_all}
 use Rattle.std.specs.Int.{int_min, int_max}
 use Rattle.planar_geom.specs.Points.{Point, Bounds, pt, bounds, least_coordinate, greatest_coordinate, same_point, dist2, in_box, boxes_meet, square}

@@ -7,10 +7,12 @@ mod distances;
 mod lists;
 mod places;
 mod points;
+mod segments;
 mod shapes;
 
 pub use boxes::box_of;
 pub use distances::{box_dist2, dist2, floor_root};
 pub use lists::{Line, NoMemory, Parts, Points, Poly, Rings};
 pub use points::{BBox, MAX_COORD, Pt, Seg, centre};
+pub use segments::{meets, orient};
 pub use shapes::{Area, Part, Shape};

@@ -24,7 +24,7 @@ impl Model for Place {
 }
 
 impl Place {
-    ghost use Rattle.std.specs.Prelude.{◌≡◌, ◌&&◌, int_le, int_lt};
+    ghost use Rattle.std.specs.Prelude.{◌≡◌};
     ghost use Rattle.planar_geom.specs.Points.{in_box};
     ghost use Rattle.planar_geom.specs.Figures.{doubled, doubled_middle, stretch, above, box_of_stretch};
 
@@ -69,29 +69,39 @@ impl Place {
     pub(crate) fn is_between(self, a: Place, b: Place) -> bool
         ensures { result ≡ in_box (box_of_stretch (stretch a b)) self }
     {
-        a.x.min(b.x) <= self.x
-            && self.x <= a.x.max(b.x)
-            && a.y.min(b.y) <= self.y
-            && self.y <= a.y.max(b.y)
+        is_between(a.x, b.x, self.x) && is_between(a.y, b.y, self.y)
     }
 }
 
-ghost use Rattle.std.specs.Prelude.{◌≡◌, ◌*ℤ◌, ◌≤◌, ◌^◌, nat_abs};
+ghost use Rattle.std.specs.Prelude.{◌≡◌, ◌*ℤ◌, ◌≤ℤ◌, ◌^◌, ◌-◌, pos, neg_ℤ};
+ghost use Rattle.std.specs.Int.{int_min, int_max};
+ghost use Rattle.planar_geom.specs.Points.{in_range};
 ghost use Rattle.planar_geom.specs.Figures.{cross as cross_product};
+
+// Whether a number is in the range that has `a` and `b` for its ends.
+fn is_between(a: i64, b: i64, number: i64) -> bool
+    ensures { result ≡ in_range (int_min a b) (int_max a b) number }
+{
+    a.min(b) <= number && number <= a.max(b)
+}
 
 /// Twice the area of the triangle `a`, `b`, `c`: positive where they go round against the clock.
 pub(crate) fn cross(a: Place, b: Place, c: Place) -> i128
     ensures value { result ≡ cross_product a b c }
-    ensures bound { nat_abs result ≤ 2 ^ 66 }
+    ensures above { neg_ℤ (pos (2 ^ 66)) ≤ℤ result }
+    ensures below { result ≤ℤ pos (2 ^ 66) }
 {
     product(b.x - a.x, c.y - a.y) - product(b.y - a.y, c.x - a.x)
 }
 
 fn product(a: i64, b: i64) -> i128
-    requires a_small { nat_abs a ≤ 2 ^ 32 }
-    requires b_small { nat_abs b ≤ 2 ^ 32 }
+    requires a_above { neg_ℤ (pos (2 ^ 32)) ≤ℤ a }
+    requires a_below { a ≤ℤ pos (2 ^ 32) }
+    requires b_above { neg_ℤ (pos (2 ^ 32)) ≤ℤ b }
+    requires b_below { b ≤ℤ pos (2 ^ 32) }
     ensures value { result ≡ a *ℤ b }
-    ensures bound { nat_abs result ≤ 2 ^ 64 }
+    ensures above { neg_ℤ (pos (2 ^ 64)) ≤ℤ result }
+    ensures below { result ≤ℤ pos (2 ^ 64) }
 {
     i128::from(a) * i128::from(b)
 }

@@ -68,7 +68,7 @@ impl Pt {
 
 ghost use Rattle.std.specs.Prelude.{◌≡◌, ◌+ℤ◌, pos};
 ghost use Rattle.std.specs.Int.{int_div_euclid};
-ghost use Rattle.planar_geom.specs.Points.{IsCoordinate, is_coordinate as is_plane_coordinate, centre as box_centre};
+ghost use Rattle.planar_geom.specs.Points.{IsCoordinate, in_range, ranges_meet, is_coordinate as is_plane_coordinate, centre as box_centre};
 
 fn is_coordinate(a: i64) -> bool
     ensures { result ≡ is_plane_coordinate a }
@@ -97,7 +97,7 @@ impl Model for BBox {
 
 impl BBox {
     ghost use Rattle.std.specs.Prelude.{◌≡◌, pos};
-    ghost use Rattle.planar_geom.specs.Points.{pt, bounds, bounds_of, with_point, IsBox};
+    ghost use Rattle.planar_geom.specs.Points.{pt, bounds, bounds_of, boxes_meet, in_box, with_point, IsBox};
 
     /// The box between two corners; `None` exactly where `min` exceeds `max` in x or in y.
     pub fn of(min: Pt, max: Pt) -> Option<BBox>
@@ -108,6 +108,21 @@ impl BBox {
         } else {
             None
         }
+    }
+
+    /// Whether two boxes have a point in common.
+    pub(crate) fn meets(self, other: BBox) -> bool
+        ensures { result ≡ boxes_meet self other }
+    {
+        ranges_overlap(self.min.x, self.max.x, other.min.x, other.max.x)
+            && ranges_overlap(self.min.y, self.max.y, other.min.y, other.max.y)
+    }
+
+    /// Whether a point is in the box, ends included.
+    pub(crate) fn holds(self, p: Pt) -> bool
+        ensures { result ≡ in_box self p }
+    {
+        is_between(self.min.x, self.max.x, p.x) && is_between(self.min.y, self.max.y, p.y)
     }
 
     /// The box of one point.
@@ -158,6 +173,20 @@ impl BBox {
     }
 }
 
+// Whether two ranges overlap, ends included.
+fn ranges_overlap(low: i32, high: i32, other_low: i32, other_high: i32) -> bool
+    ensures { result ≡ ranges_meet low high other_low other_high }
+{
+    low <= other_high && other_low <= high
+}
+
+// Whether a number is in a range, ends included.
+fn is_between(low: i32, high: i32, number: i32) -> bool
+    ensures { result ≡ in_range low high number }
+{
+    low <= number && number <= high
+}
+
 /// The segment from `a` to `b`.
 #[derive(Clone, Copy)]
 pub struct Seg {
@@ -173,6 +202,18 @@ impl Model for Seg {
     ghost view = { λ s. stretch s.a s.b };
 
     ghost inverse = { λ s. record { a = s.a; b = s.b } };
+}
+
+impl Seg {
+    ghost use Rattle.std.specs.Prelude.{◌≡◌};
+    ghost use Rattle.planar_geom.specs.Figures.{box_of_stretch};
+
+    /// The least box round the segment.
+    pub(crate) fn bounds(self) -> BBox
+        ensures { result ≡ box_of_stretch self }
+    {
+        BBox::of_point(self.a).with_point(self.b)
+    }
 }
 
 /// The centre of a box, each sum of two coordinates halved and rounded down.
