@@ -40,9 +40,11 @@ bounds_text b = codes "{\"type\":\"Polygon\",\"coordinates\":[[" ++ joined (map 
 
 -- reading a stored text back: its numbers say which point or box it could be of, and it is then compared with that one's text
 
+-- a digit or a minus sign
 abbrev pub is_of_number : ℕ → Bool
 is_of_number b = b == 45 || (nat_le 48 b && nat_le b 57)
 
+-- a byte more in front of the first of these stretches
 abbrev pub joins_first : ℕ → List Bytes → List Bytes
 joins_first b [] = (b ∷ []) ∷ []
 joins_first b (w ∷ ws) = (b ∷ w) ∷ ws
@@ -63,9 +65,11 @@ in_plane p = is_coordinate p.x && is_coordinate p.y
 abbrev pub is_box : Bounds → Bool
 is_box b = in_plane b.min && in_plane b.max && is_low_of b.min b.max
 
+-- the point's shape, where the text is the one that is stored for it
 abbrev pub if_point : Bytes → Point → Option Shape
 if_point text p = if in_plane p && same (point_text p) text then Some (Spot p ∷ []) else None
 
+-- the box's shape, where the text is the one that is stored for it
 abbrev pub if_bounds : Bytes → Bounds → Option Shape
 if_bounds text b = if is_box b && same (bounds_text b) text then Some (Face (corners b ∷ []) ∷ []) else None
 

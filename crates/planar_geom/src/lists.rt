@@ -48,7 +48,7 @@ impl Points {
     }
 
     /// The points, in order.
-    pub(crate) fn as_slice(&self) -> &[Pt]
+    pub fn as_slice(&self) -> &[Pt]
         ensures { result.now ≡ self.now }
     {
         self.list.as_slice()
