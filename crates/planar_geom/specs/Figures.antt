@@ -67,7 +67,7 @@ ring_points rings = flat_map (λ ring. ring) rings
 abbrev pub edges : List (List Point) → List Stretch
 edges rings = flat_map stretches rings
 
--- the end a stands above p
+-- p is above an end
 abbrev pub above : Point → Point → Bool
 above p a = int_lt p.y a.y
 

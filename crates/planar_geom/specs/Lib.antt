@@ -1,5 +1,4 @@
 pub mod Points
 pub mod Figures
-pub mod Standings
 pub mod Shapes
 pub mod Relations

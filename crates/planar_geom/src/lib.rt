@@ -7,8 +7,6 @@ mod distances;
 mod lists;
 mod places;
 mod points;
-mod polygons;
-mod searches;
 mod segments;
 mod shapes;
 
@@ -16,6 +14,5 @@ pub use boxes::box_of;
 pub use distances::{box_dist2, dist2, floor_root};
 pub use lists::{Line, NoMemory, Parts, Points, Poly, Rings};
 pub use points::{BBox, MAX_COORD, Pt, Seg, centre};
-pub use polygons::in_poly;
 pub use segments::{meets, orient};
 pub use shapes::{Area, Part, Shape};

@@ -174,9 +174,11 @@ impl Channels {
     pub(crate) fn remove(&mut self, name: &Name)
         ensures { self.new ≡ filter (λ c. not (is_named name.now c)) self.old }
     {
-        self.list.retain(|channel: &Channel| -> bool
-            ensures { result ≡ not (is_named name.entry.now channel.now) }
-        { !is_same(&channel.name, name) });
+        self.list.retain(
+            |channel: &Channel| -> bool
+                ensures { result ≡ not (is_named name.entry.now channel.now) }
+            { !is_same(&channel.name, name) },
+        );
     }
 
     // Takes all channels away.

@@ -25,5 +25,5 @@ pub invariant_of-self-in-Err : goal.invariant_of-self-in-Err
 invariant_of-self-in-Err c =
     let free = rw c.as_slice.ensures.value at c.in-Err.ensures.free in
     either_way c.insert_at.result c.insert_at.new.list.items (put_in channel_before c.args.channel c.self.inside.list.items) c.self.inside.list.items (λ os. are_channels os ≡ true)
-      (on_ok_as _ _ _ _ c.insert_at.ensures.ok (sym (put_in-insert channel_before channel_asym c.args.channel c.self.inside.list.items c.in-Err.at free.front free.behind))) c.insert_at.ensures.err
-      (ascends-put_in channel_before channel_trans channel_tie c.args.channel c.self.inside.list.items c.self.invariant) c.self.invariant
+    (on_ok_as _ _ _ _ c.insert_at.ensures.ok (sym (put_in-insert channel_before channel_asym c.args.channel c.self.inside.list.items c.in-Err.at free.front free.behind))) c.insert_at.ensures.err
+    (ascends-put_in channel_before channel_trans channel_tie c.args.channel c.self.inside.list.items c.self.invariant) c.self.invariant
