@@ -1,4 +1,0 @@
-pub mod Signs
-pub mod Tokens
-pub mod Classes
-pub mod Matches
