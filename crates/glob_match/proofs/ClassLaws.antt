@@ -1,9 +1,9 @@
 -- Reading a class.
-use Rattle.std.proofs.Common.{◌≡◌, ◌≢◌, ℕ, zero, suc, ◌+◌, ◌<◌, ◌≤◌, Bool, true, false, not, ◌&&◌, ◌||◌, ◌==◌, nat_le, List, [], ◌∷◌, length, Option, Some, None, refl, sym, ap, subst, ◌∙◌, arith, ne_eqb, true≢false, if◌then◌else◌}
+use Rattle.std.proofs.Common.{◌≡◌, ◌≢◌, ℕ, Bool, true, false, not, ◌&&◌, ◌||◌, nat_le, List, [], ◌∷◌, Option, None, refl, sym, ap, ◌∙◌, ne_eqb, true≢false, if◌then◌else◌}
 use Rattle.std.specs.List.{list_any}
 use Rattle.byte_text.specs.Names.{Bytes}
-use Rattle.byte_text.specs.Globs.{Token, one_char, Item, Sign, plain, literal, unpaired, Place, outside, opened, behind_item, behind_char, class_end, turned, tokens_from, in_item, fits}
-use Rattle.glob_match.specs.Tokens.{left, with_token, Begins}
+use Rattle.byte_text.specs.Globs.{Token, Item, Sign, plain, literal, unpaired, Place, outside, opened, behind_item, behind_char, class_end, turned, tokens_from, in_item}
+use Rattle.glob_match.specs.Tokens.{left, Begins}
 
 -- ---- a character that may begin a range, where it begins none
 

@@ -1,7 +1,6 @@
 -- Going back to the last `*` alone.
-use Rattle.std.proofs.Common.{◌≡◌, ◌≢◌, ℕ, zero, suc, ◌+◌, ◌-◌, ◌<◌, ◌≤◌, Bool, true, false, not, ◌&&◌, ◌||◌, List, [], ◌∷◌, ◌++◌, length, drop, Option, Some, None, refl, sym, ap, subst, ◌∙◌, arith, true≢false, length-drop, length-append, append_assoc}
-use Rattle.std.specs.List.{list_any}
-use Rattle.byte_text.specs.Globs.{Token, any_list, one_char, Item, fits as items_fit, endings, tokens_meet}
+use Rattle.std.proofs.Common.{◌≡◌, ℕ, zero, suc, ◌+◌, ◌≤◌, Bool, true, false, ◌&&◌, ◌||◌, List, [], ◌∷◌, ◌++◌, length, drop, Option, Some, None, refl, sym, ap, ◌∙◌, arith, true≢false, length-drop, length-append, append_assoc}
+use Rattle.byte_text.specs.Globs.{Token, any_list, one_char, fits as items_fit, tokens_meet}
 use Rattle.glob_match.specs.Tokens.{with_token, Begins}
 use Rattle.glob_match.specs.Matches.{some_end}
 

@@ -1,6 +1,6 @@
 -- The first sign of a list of characters.
 use Rattle.std.proofs.Common.{◌≡◌, ◌≢◌, ℕ, List, [], ◌∷◌, ne_eqb, refl, ap, ◌∙◌}
-use Rattle.byte_text.specs.Globs.{Sign, plain, literal, unpaired, signs}
+use Rattle.byte_text.specs.Globs.{plain, signs}
 
 pub plain_sign : (c : ℕ) (cs : List ℕ) → c ≢ 92 → signs (c ∷ cs) ≡ plain c ∷ signs cs
 plain_sign c [] n = rw (ne_eqb c 92 n) refl

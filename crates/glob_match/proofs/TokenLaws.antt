@@ -1,13 +1,13 @@
 -- The first token of a pattern, and what a whole pattern meets.
-use Rattle.std.proofs.Common.{◌≡◌, ◌≢◌, ◌⊎◌, ℕ, ◌<◌, ◌≤◌, Bool, true, false, not, ◌&&◌, ◌||◌, nat_eq, nat_le, List, [], ◌∷◌, Option, Some, None, refl, sym, ap, subst, ◌∙◌, arith, ne_eqb, true≢false, chars}
-use Rattle.std.specs.Prelude.{is_some, option_map}
+use Rattle.std.proofs.Common.{◌≡◌, ◌≢◌, ℕ, Bool, true, false, ◌&&◌, nat_eq, nat_le, List, [], ◌∷◌, Option, Some, None, refl, sym, ap, ◌∙◌, arith, ne_eqb, true≢false, chars}
+use Rattle.std.specs.Prelude.{is_some}
 use Rattle.std.specs.Str.{IsUtf8, is_utf8}
 use Rattle.std.proofs.lemmas.Str.{IsUtf8-from_is_utf8, is_utf8-from_IsUtf8}
 use Rattle.std.proofs.lemmas.Bool.{le-leb, lt-leb, eqb-true, eq-eqb}
 use mathlib.Core.Logic.{dite}
 use native.Mathlib.Decide.{dec_le}
 use Rattle.byte_text.specs.Names.{Bytes}
-use Rattle.byte_text.specs.Globs.{Token, one_char, this_char, Sign, plain, outside, signs, tokens_from, fits, tokens_meet, option_meets, glob_meets, is_well_formed}
+use Rattle.byte_text.specs.Globs.{Token, this_char, Sign, plain, outside, tokens_from, fits, tokens_meet, option_meets, glob_meets, is_well_formed}
 use Rattle.glob_match.specs.Tokens.{left, with_token, Begins}
 
 not_same : (d c : ℕ) → nat_eq d c ≡ false → d ≢ c

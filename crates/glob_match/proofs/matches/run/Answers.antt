@@ -1,6 +1,5 @@
-use Rattle.std.proofs.Common.{rules, arith, chars, ap, sym, ◌∙◌, true, false, ◌≡◌, subst, length}
-use Rattle.std.specs.Prelude.{is_some}
-use Rattle.byte_text.specs.Globs.{Token, outside, tokens_meet}
+use Rattle.std.proofs.Common.{rules, arith, chars, ap, ◌∙◌, true, false, ◌≡◌, subst}
+use Rattle.byte_text.specs.Globs.{outside, tokens_meet}
 use Rattle.glob_match.specs.Tokens.{left}
 use Rattle.std.proofs.Common.{[]}
 use Rattle.glob_match.specs.Tokens.{Begins}
