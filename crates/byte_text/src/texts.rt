@@ -79,13 +79,15 @@ impl Text {
         }
     }
 
-    pub(crate) fn len(&self) -> usize
+    /// The number of bytes.
+    pub fn len(&self) -> usize
         ensures { result ≡ length self.now }
     {
         self.bytes.len()
     }
 
-    pub(crate) fn truncate(&mut self, len: usize)
+    /// Keeps the first `len` bytes, and all where there are no more.
+    pub fn truncate(&mut self, len: usize)
         ensures { self.new ≡ take len self.old }
     {
         self.bytes.truncate(len);

@@ -1,0 +1,4 @@
+pub mod Walks
+pub mod Geometries
+pub mod Texts
+pub mod Laws

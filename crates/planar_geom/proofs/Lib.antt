@@ -1,0 +1,6 @@
+pub mod BoolLemmas
+pub mod ChainLemmas
+pub mod ParityLemmas
+pub mod PlaceLemmas
+pub mod RootLemmas
+pub mod SideLemmas

@@ -1,0 +1,9 @@
+use Rattle.std.proofs.Common.{arith}
+use Rattle.std.proofs.lemmas.Int.{to_z-of_z}
+use Rattle.planar_geom.proofs.points.BBox.holds.Goals as goal
+
+pub returns-then-is_between : goal.returns-then-is_between
+returns-then-is_between c = rw (← c.self.view_is, ← c.p.view_is) (grind (arith, to_z-of_z))
+
+pub returns-else-is_between : goal.returns-else-is_between
+returns-else-is_between c = rw (← c.self.view_is, ← c.p.view_is) (grind (arith, to_z-of_z))

@@ -1,0 +1,65 @@
+//! The boxes round shapes and areas.
+
+ghost use Rattle.std.specs.Prelude.{◌≡◌, fold, Some};
+ghost use Rattle.planar_geom.specs.Points.{grown};
+ghost use Rattle.planar_geom.specs.Figures.{ring_points};
+ghost use Rattle.planar_geom.specs.Shapes.{vertices, all_vertices, box_of as box_of_shape};
+
+use crate::lists::Points;
+use crate::points::{BBox, Pt};
+use crate::shapes::{Part, Shape};
+
+/// The least box round a shape.
+pub fn box_of(shape: &Shape) -> BBox
+    ensures { result ≡ box_of_shape shape.now }
+{
+    round_parts(None, shape.parts()).unwrap_or(BBox::origin())
+}
+
+// The least box round what `found` holds, if it holds anything, and all points of the parts.
+fn round_parts(found: Option<BBox>, parts: &[Part]) -> Option<BBox>
+    ensures { result ≡ fold grown found (all_vertices parts.now) }
+{
+    let mut all = found;
+    for part in parts {
+        all = round_part(all, part);
+    }
+    all
+}
+
+fn round_part(found: Option<BBox>, part: &Part) -> Option<BBox>
+    ensures { result ≡ fold grown found (vertices part.now) }
+{
+    match part {
+        Part::Spot(p) => Some(round_point(found, *p)),
+        Part::Chain(line) => round_points(found, line.points().as_slice()),
+        Part::Face(poly) => round_rings(found, poly.rings().as_slice()),
+    }
+}
+
+fn round_rings(found: Option<BBox>, rings: &[Points]) -> Option<BBox>
+    ensures { result ≡ fold grown found (ring_points rings.now) }
+{
+    let mut all = found;
+    for ring in rings {
+        all = round_points(all, ring.as_slice());
+    }
+    all
+}
+
+fn round_points(found: Option<BBox>, points: &[Pt]) -> Option<BBox>
+    ensures { result ≡ fold grown found points.now }
+{
+    points
+        .iter()
+        .fold(found, |found, p| Some(round_point(found, *p)))
+}
+
+fn round_point(found: Option<BBox>, p: Pt) -> BBox
+    ensures { Some result ≡ grown found p }
+{
+    match found {
+        Some(b) => b.with_point(p),
+        None => BBox::of_point(p),
+    }
+}

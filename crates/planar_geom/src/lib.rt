@@ -1,0 +1,21 @@
+//! Exact planar geometry over whole coordinates: points, boxes, shapes and areas, and the relations
+//! between them.
+#![tactic(auto)]
+
+mod boxes;
+mod distances;
+mod lists;
+mod places;
+mod points;
+mod polygons;
+mod searches;
+mod segments;
+mod shapes;
+
+pub use boxes::box_of;
+pub use distances::{box_dist2, dist2, floor_root};
+pub use lists::{Line, NoMemory, Parts, Points, Poly, Rings};
+pub use points::{BBox, MAX_COORD, Pt, Seg, centre};
+pub use polygons::in_poly;
+pub use segments::{meets, orient};
+pub use shapes::{Area, Part, Shape};

@@ -1,0 +1,107 @@
+//! Points in doubled coordinates beside those of the plane, and the side of a line on which one stands.
+
+use crate::points::{Pt, Seg};
+use std::marker::Model;
+
+/// A point whose coordinates are at most twice [`crate::MAX_COORD`] in size: one of the plane, or one in
+/// doubled coordinates, in which the middle of a segment is whole.
+#[derive(Clone, Copy)]
+pub(crate) struct Place {
+    x: i64,
+    y: i64,
+}
+
+impl Model for Place {
+    ghost use Rattle.planar_geom.specs.Points.{Point, pt, InDoubledPlane};
+
+    ghost Value = { Point };
+
+    ghost view = { λ p. pt p.x p.y };
+
+    ghost invariant = { λ p. InDoubledPlane (pt p.x p.y) };
+
+    ghost inverse = { λ p. record { x = p.x; y = p.y } };
+}
+
+impl Place {
+    ghost use Rattle.std.specs.Prelude.{◌≡◌};
+    ghost use Rattle.planar_geom.specs.Points.{in_box};
+    ghost use Rattle.planar_geom.specs.Figures.{doubled, doubled_middle, stretch, above, box_of_stretch};
+
+    /// A point of the plane.
+    pub(crate) fn of(p: Pt) -> Place
+        ensures { result ≡ p }
+    {
+        Place {
+            x: i64::from(p.x()),
+            y: i64::from(p.y()),
+        }
+    }
+
+    /// A point of the plane in doubled coordinates.
+    pub(crate) fn doubled(p: Pt) -> Place
+        ensures { result ≡ doubled p }
+    {
+        Place {
+            x: 2 * i64::from(p.x()),
+            y: 2 * i64::from(p.y()),
+        }
+    }
+
+    /// The middle of a segment in doubled coordinates.
+    pub(crate) fn middle(s: Seg) -> Place
+        ensures { result ≡ doubled_middle s }
+    {
+        Place {
+            x: i64::from(s.a.x()) + i64::from(s.b.x()),
+            y: i64::from(s.a.y()) + i64::from(s.b.y()),
+        }
+    }
+
+    /// Whether the place is under another.
+    pub(crate) fn is_under(self, other: Place) -> bool
+        ensures { result ≡ above self other }
+    {
+        self.y < other.y
+    }
+
+    /// Whether the place is in the least box round two others.
+    pub(crate) fn is_between(self, a: Place, b: Place) -> bool
+        ensures { result ≡ in_box (box_of_stretch (stretch a b)) self }
+    {
+        is_between(a.x, b.x, self.x) && is_between(a.y, b.y, self.y)
+    }
+}
+
+ghost use Rattle.std.specs.Prelude.{◌≡◌, ◌*ℤ◌, ◌≤ℤ◌, ◌^◌, ◌-◌, pos, neg_ℤ};
+ghost use Rattle.std.specs.Int.{int_min, int_max};
+ghost use Rattle.planar_geom.specs.Points.{in_range};
+ghost use Rattle.planar_geom.specs.Figures.{cross as cross_product};
+
+// Whether a number is in the range that has `a` and `b` for its ends.
+fn is_between(a: i64, b: i64, number: i64) -> bool
+    ensures { result ≡ in_range (int_min a b) (int_max a b) number }
+{
+    a.min(b) <= number && number <= a.max(b)
+}
+
+/// Twice the area of the triangle `a`, `b`, `c`: positive where they go round against the clock.
+pub(crate) fn cross(a: Place, b: Place, c: Place) -> i128
+    ensures value { result ≡ cross_product a b c }
+    ensures above { neg_ℤ (pos (2 ^ 66)) ≤ℤ result }
+    ensures below { result ≤ℤ pos (2 ^ 66) }
+{
+    product(b.x - a.x, c.y - a.y) - product(b.y - a.y, c.x - a.x)
+}
+
+fn product(a: i64, b: i64) -> i128
+    requires a_above { neg_ℤ (pos (2 ^ 32)) ≤ℤ a }
+    requires a_below { a ≤ℤ pos (2 ^ 32) }
+    requires b_above { neg_ℤ (pos (2 ^ 32)) ≤ℤ b }
+    requires b_below { b ≤ℤ pos (2 ^ 32) }
+    ensures value { result ≡ a *ℤ b }
+    ensures above { neg_ℤ (pos (2 ^ 64)) ≤ℤ result }
+    ensures below { result ≤ℤ pos (2 ^ 64) }
+{
+    i128::from(a) * i128::from(b)
+}

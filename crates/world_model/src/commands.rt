@@ -1,0 +1,121 @@
+use crate::channels::Channel;
+use crate::fields::Fields;
+use crate::lists::NameList;
+use crate::queries::{Query, Shown};
+use byte_text::{Name, Text};
+use planar_geom::{Area, Pt, Shape};
+
+#[derive(Drop)]
+pub enum Only {
+    Any,
+    Absent,
+    Present,
+}
+
+#[derive(Drop)]
+pub enum AreaWords {
+    Given(Area),
+    Of(Name, Name),
+}
+
+#[derive(Drop)]
+pub enum Command {
+    Set {
+        key: Name,
+        id: Name,
+        fields: Fields,
+        cleared: NameList,
+        seconds: Option<u32>,
+        only: Only,
+        text: Text,
+        shape: Shape,
+    },
+    Get {
+        key: Name,
+        id: Name,
+        with_fields: bool,
+        shown: Shown,
+    },
+    Del {
+        key: Name,
+        id: Name,
+    },
+    Pdel {
+        key: Name,
+        glob: Name,
+    },
+    Drop {
+        key: Name,
+    },
+    Fset {
+        key: Name,
+        id: Name,
+        fields: Fields,
+        cleared: NameList,
+    },
+    Fget {
+        key: Name,
+        id: Name,
+        field: Name,
+    },
+    Expire {
+        key: Name,
+        id: Name,
+        seconds: u32,
+    },
+    Persist {
+        key: Name,
+        id: Name,
+    },
+    Ttl {
+        key: Name,
+        id: Name,
+    },
+    Keys {
+        glob: Name,
+    },
+    Bounds {
+        key: Name,
+    },
+    Stats {
+        keys: NameList,
+    },
+    Flush,
+    Shrink,
+    Ping,
+    Quit,
+    Scan {
+        key: Name,
+        query: Query,
+    },
+    Search {
+        key: Name,
+        query: Query,
+        area: AreaWords,
+    },
+    Nearby {
+        key: Name,
+        query: Query,
+        at: Pt,
+        reach: Option<u32>,
+    },
+    Setchan {
+        channel: Channel,
+        area: Option<AreaWords>,
+    },
+    Delchan {
+        name: Name,
+    },
+    Pdelchan {
+        glob: Name,
+    },
+    Chans {
+        glob: Name,
+    },
+    Subscribe {
+        names: NameList,
+    },
+    Psubscribe {
+        globs: NameList,
+    },
+}

@@ -1,0 +1,97 @@
+use crate::worlds::World;
+use byte_text::{Request, RespFault, Text};
+use std::collections::LinkedList;
+
+/// What a session asks for: the words of a request, or the end that its broken protocol brings.
+#[derive(Drop)]
+pub enum Asked {
+    Words(Request),
+    Broken(RespFault),
+}
+
+/// How a call, a tick or a step of rewriting ended.
+#[derive(Clone, Copy, Debug, PartialEq, Eq)]
+pub enum Called {
+    Ok,
+    /// The session has too many frames, or bytes of frames, that it has not taken.
+    Full,
+    /// No session of this number is served.
+    Gone,
+    /// The log could not be written; the hall has stopped.
+    LogFault,
+    /// The hall had stopped before.
+    Stopped,
+    /// The log, or the turns of the lock, have come to their greatest number.
+    Spent,
+    /// Memory ran out; nothing has changed.
+    Memory,
+}
+
+/// How a take ended.
+#[derive(Clone, Copy, Debug, PartialEq, Eq)]
+pub enum Taken {
+    /// So many frames were given.
+    Some(usize),
+    /// There is no frame now.
+    Empty,
+    /// There is no session of this number any more, and no frame of it.
+    Ended,
+    LogFault,
+    Stopped,
+    Spent,
+}
+
+/// Why no session was entered.
+#[derive(Clone, Copy, Debug, PartialEq, Eq)]
+pub enum EnterFault {
+    TooMany,
+    Stopped,
+    Spent,
+    Memory,
+}
+
+/// What may happen to a hall. No value of it is ever made.
+#[derive(Drop)]
+pub enum Event {
+    Enter,
+    /// A session, a moment, what is asked.
+    Call(u32, u64, Asked),
+    Take(u32),
+    Tick(u64),
+    Close(u32),
+    Remove(u32),
+    Rewrite,
+    Retire,
+}
+
+/// How an event ended. No value of it is ever made.
+#[derive(Drop)]
+pub enum Outcome {
+    Done,
+    Entered(u32),
+    TooMany,
+    Answered(Called),
+    /// The frames of a take.
+    Given(LinkedList<Text>),
+    Empty,
+    Ended,
+}
+
+/// An event with its outcome, a note, and the disk's moment and count of faults at its end. No value of it is ever made.
+#[derive(Drop)]
+pub struct Entry {
+    pub event: Event,
+    pub outcome: Outcome,
+    pub note: Text,
+    pub moment: u64,
+    pub count: u64,
+}
+
+/// The world, the log's length, and the disk's moment and count of faults with which a history opens. No value of it is ever made.
+#[derive(Drop)]
+pub struct Opening {
+    pub world: World,
+    pub logged: u64,
+    pub moment: u64,
+    pub count: u64,
+}
