@@ -1,5 +1,5 @@
 -- What a line of a script says. A line is read without its line feed.
-use Rattle.std.specs.Prelude.{◌≡◌, ℕ, ◌==◌, ◌&&◌, Bool, nat_le, nat_lt, List, [], ◌∷◌, length, Option, Some, None, if◌then◌else◌, option_map, option_and_then, codes, Result, Ok, Err}
+use Rattle.std.specs.Prelude.{◌≡◌, ℕ, ◌==◌, ◌&&◌, Bool, true, not, nat_le, nat_lt, List, [], ◌∷◌, length, Option, Some, None, if◌then◌else◌, option_map, option_and_then, codes, Result, Ok, Err}
 use Rattle.std.specs.List.{list_all}
 use Rattle.std.specs.Char.{is_ascii_graphic}
 use Rattle.percent_encoding.specs.Percent.{percent_decode}
@@ -27,10 +27,13 @@ session w = natural_within 0 4294967295 w
 abbrev pub moment : Bytes → Option ℕ
 moment w = natural_within 0 max_moment w
 
--- one or more bytes from 0x21 to 0x7E, with their escapes replaced
+-- one or more bytes from 0x21 to 0x7E
+abbrev pub is_piece : Bytes → Bool
+is_piece bytes = not (length bytes == 0) && list_all is_ascii_graphic bytes
+
+-- such bytes with their escapes replaced
 abbrev pub piece : Bytes → Option Bytes
-piece [] = None
-piece (b ∷ bytes) = if list_all is_ascii_graphic (b ∷ bytes) then Some (percent_decode (b ∷ bytes)) else None
+piece bytes = if is_piece bytes then Some (percent_decode bytes) else None
 
 -- `open`, `step`, `reopen`
 abbrev pub bare_line : Bytes → Option ScriptLine
@@ -63,13 +66,16 @@ line_of_words (name ∷ number ∷ at ∷ bytes ∷ []) = feed_line name number 
 line_of_words (name ∷ number ∷ at ∷ bytes ∷ more ∷ others) = None
 
 -- a line that is empty or begins with `#` says nothing
-abbrev pub said : Bytes → Option ScriptLine
-said [] = Some Nothing
-said (b ∷ bytes) = if b == 35 then Some Nothing else line_of_words (words (b ∷ bytes))
+abbrev pub is_silent : Bytes → Bool
+is_silent [] = true
+is_silent (b ∷ bytes) = b == 35
 
 -- what a line says, where it is a line of a script
 unfoldable pub line : Bytes → Option ScriptLine
-line bytes = if nat_lt max_line (length bytes) then None else said bytes
+line bytes =
+    if nat_lt max_line (length bytes) then None else
+    if is_silent bytes then Some Nothing else
+    line_of_words (words bytes)
 
 -- an answer that this says: nothing is outside, and what says something is said, or memory wants
 abbrev pub IsAnswer : Option ScriptLine → Result ScriptLine LineFault → Type 0

@@ -17,15 +17,32 @@ fn push_escaped(into: &mut Text, byte: u8) -> Result<(), NoMemory>
     }
 }
 
-// The line's text by itself.
-fn line_text(alloc: Global, frame: &[u8]) -> Result<Text, NoMemory>
-    ensures { IfOk result (λ t. t ≡ frame_line frame.now) }
+#[tactic(auto, using(crate::proofs::Kept::kept))]
+fn push_line(into: &mut Text, frame: &[u8]) -> Result<(), NoMemory>
+    ensures ok { OnOk result (into.new ≡ into.old ++ frame_line frame.now) }
+    ensures kept { take (length into.old) into.new ≡ into.old }
 {
-    let mut line = Text::new(alloc);
-    line.push(b"frame ")?;
+    into.push(b"frame ")?;
     for byte in frame {
-        push_escaped(&mut line, *byte)?;
+        push_escaped(into, *byte)?;
     }
-    line.push(b"\n")?;
-    Ok(line)
+    into.push(b"\n")
+}
+
+/// Appends the line of a frame that was taken: `frame `, its bytes with every byte outside 0x21 to 0x7E, and `%`, as `%` and
+/// two upper-case hexadecimal digits, and a line feed. What is decoded from the escaped bytes is the frame. At want of
+/// memory the text is as before.
+pub fn push_frame_line(into: &mut Text, frame: &[u8]) -> Result<(), NoMemory>
+    ensures ok { OnOk result (into.new ≡ into.old ++ frame_line frame.now) }
+    ensures err { OnErr result (into.new ≡ into.old) }
+    ensures decoded { percent_decode (escaped frame.now) ≡ frame.now }
+{
+    let before = into.len();
+    match push_line(into, frame) {
+        Ok(()) => Ok(()),
+        Err(NoMemory) => {
+            into.truncate(before);
+            Err(NoMemory)
+        }
+    }
 }

@@ -7,3 +7,6 @@ mod words;
 
 pub use frames::push_frame_line;
 pub use lines::{LineFault, ScriptLine, line_of};
+
+#[cfg(test)]
+mod tests;
