@@ -1,5 +1,5 @@
 -- The first word of a line ends at its first space.
-use Rattle.std.proofs.Common.{◌≡◌, ◌≢◌, ℕ, zero, suc, ◌+◌, ◌<◌, ◌≤◌, Bool, true, false, ◌==◌, List, [], ◌∷◌, ◌++◌, length, get_or, take, drop, Option, Some, None, refl, sym, ap, ◌∙◌, arith, true≢false, if◌then◌else◌, ◌-◌, take_all, length-drop}
+use Rattle.std.proofs.Common.{◌≡◌, ℕ, zero, suc, ◌+◌, ◌<◌, ◌≤◌, Bool, true, false, ◌==◌, List, [], ◌∷◌, length, get_or, take, drop, Option, Some, None, refl, sym, ap, ◌∙◌, arith, if◌then◌else◌, ◌-◌, take_all, length-drop}
 use Rattle.byte_text.specs.Names.{Bytes}
 use Rattle.script_text.specs.Lines.{line_of_words}
 use Rattle.script_text.specs.Words.{words, with_byte, word_and_rest}

@@ -1,4 +1,4 @@
-use Rattle.std.proofs.Common.{arith, ◌<◌}
+use Rattle.std.proofs.Common.{arith}
 use Rattle.script_text.proofs.EscapeLaws.{decoded}
 use Rattle.script_text.proofs.frames.push_frame_line.Goals as goal
 

@@ -1,4 +1,3 @@
-use Rattle.std.proofs.Common.{◌≡◌, ◌∙◌}
 use Rattle.script_text.proofs.WordLaws.{none_found, one_found}
 use Rattle.script_text.proofs.words.split_word.Goals as goal
 
