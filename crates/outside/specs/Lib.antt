@@ -4,6 +4,7 @@ pub mod Causes
 pub mod Clocks
 pub mod Crashes
 pub mod Disks
+pub mod Links
 pub mod Memory
 pub mod SideLaws
 pub mod Sides
