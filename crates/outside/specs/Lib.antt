@@ -5,6 +5,7 @@ pub mod Clocks
 pub mod Crashes
 pub mod Disks
 pub mod Links
+pub mod Listed
 pub mod Memory
 pub mod SideLaws
 pub mod Sides
