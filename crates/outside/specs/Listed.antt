@@ -1,7 +1,6 @@
 -- What a door in memory shows.
 use Rattle.std.specs.Prelude.{◌≡◌, ℕ, List, [], ◌∷◌}
 use Rattle.outside.specs.Memory.{Given}
-use Rattle.outside.specs.declared.doors.Link.{Link}
 use Rattle.outside.specs.declared.doors.Accepted.{Accepted}
 use Rattle.outside.specs.declared.doors.Accepted.TheVariants.{Joined, Idle, Over}
 

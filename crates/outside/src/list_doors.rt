@@ -187,42 +187,48 @@ fn sheets(alloc: Global, count: usize) -> Result<Vec<Written>, AllocError>
 mod tests {
     use super::*;
     use crate::streams::Source;
+    use std::process::Abort;
     use std::test::Fail;
 
-    #[test]
-    fn callers_come_in_order(rt: HostRuntime) -> Result<(), Fail> {
-        let alloc = rt.alloc();
-        let mut links = Vec::new(alloc);
-        links.push(b"ab".to_vec(alloc)?)?;
-        links.push(b"c".to_vec(alloc)?)?;
-        let door = ListDoor::new(alloc, links, [1, 3u64].to_vec(alloc)?);
-        assert!(rt; door.is_ok());
-        let Ok(mut door) = door else { return Ok(()) };
-        assert_eq!(rt; door.listen("x"), Err(Failed));
-        assert_eq!(rt; door.listen("x"), Ok(()));
-        assert!(rt; door.accept().is_err());
-        for text in [b"ab".as_slice(), b"c".as_slice()] {
-            let Ok(
-                Accepted::Joined(
-                    Link {
-                        mut incoming,
-                        mut outgoing,
-                    },
-                ),
-            ) = door.accept()
-            else {
-                assert!(rt; false);
-                return Ok(());
-            };
+    // The next caller sends this text, and gets it and a mark behind it.
+    fn answer(rt: &impl Abort, door: &mut ListDoor, text: &[u8])
+        ensures { door.new.all ≡ door.old.all }
+    {
+        let accepted = door.accept();
+        assert!(rt; matches!(accepted, Ok(Accepted::Joined(_))));
+        if let Ok(
+            Accepted::Joined(
+                Link {
+                    mut incoming,
+                    mut outgoing,
+                },
+            ),
+        ) = accepted
+        {
             let mut into = [0; 4];
             assert_eq!(rt; incoming.read(&mut into), Ok(text.len()));
             assert_eq!(rt; outgoing.write(text), Ok(text.len()));
             assert_eq!(rt; outgoing.write(b"!"), Ok(1));
         }
-        assert!(rt; matches!(door.accept(), Ok(Accepted::Over)));
-        for (link, text) in [(0, b"ab!".as_slice()), (1, b"c!".as_slice())] {
-            let written = door.written(&rt, alloc, link);
-            assert!(rt; written.is_ok_and(|written| written.as_slice() == text));
+    }
+
+    #[test]
+    fn callers_come_in_order(rt: HostRuntime) -> Result<(), Fail> {
+        let alloc = rt.alloc();
+        let links = Vec::from_array(alloc, [b"ab".to_vec(alloc)?, b"c".to_vec(alloc)?])?;
+        let made = ListDoor::new(alloc, links, [1, 3u64].to_vec(alloc)?);
+        assert!(rt; made.is_ok());
+        if let Ok(mut door) = made {
+            assert_eq!(rt; door.listen("x"), Err(Failed));
+            assert_eq!(rt; door.listen("x"), Ok(()));
+            assert!(rt; door.accept().is_err());
+            answer(&rt, &mut door, b"ab");
+            answer(&rt, &mut door, b"c");
+            assert!(rt; matches!(door.accept(), Ok(Accepted::Over)));
+            let first = door.written(&rt, alloc, 0);
+            assert!(rt; first.is_ok_and(|written| written.as_slice() == b"ab!".as_slice()));
+            let second = door.written(&rt, alloc, 1);
+            assert!(rt; second.is_ok_and(|written| written.as_slice() == b"c!".as_slice()));
         }
         Ok(())
     }
