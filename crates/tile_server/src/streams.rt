@@ -69,3 +69,31 @@ impl<W: Write + Drop> Sink for StdoutSink<W> {
         }
     }
 }
+
+#[cfg(test)]
+mod tests {
+    use super::*;
+    use std::test::Fail;
+
+    #[test]
+    fn a_source_gives_what_the_reader_has(rt: HostRuntime) -> Result<(), Fail> {
+        let mut source = StdinSource::new(b"abc".as_slice());
+        let mut into = [b'.'; 4];
+        assert_eq!(rt; source.read(&mut into), Ok(3));
+        assert_eq!(rt; into, *b"abc.");
+        assert_eq!(rt; source.read(&mut into), Ok(0));
+        assert_eq!(rt; source.faults, 0);
+        Ok(())
+    }
+
+    #[test]
+    fn a_sink_counts_what_its_writer_refuses(rt: HostRuntime) -> Result<(), Fail> {
+        let mut room = [0u8; 3];
+        let mut sink = StdoutSink::new(&mut room[..]);
+        assert_eq!(rt; sink.write(b"abcd"), Ok(3));
+        assert_eq!(rt; sink.write(b"d"), Err(Failed));
+        assert_eq!(rt; sink.write(b""), Ok(0));
+        assert_eq!(rt; sink.faults, 1);
+        Ok(())
+    }
+}

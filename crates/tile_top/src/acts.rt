@@ -27,7 +27,13 @@ fn enter(alloc: Global, core: &mut Core) -> Result<Text, NoMemory>
 }
 
 // Makes a call of a session, where the bytes are one whole request.
-fn feed(alloc: Global, core: &mut Core, session: u32, moment: u64, bytes: &Text) -> Result<Option<Text>, NoMemory>
+fn feed(
+    alloc: Global,
+    core: &mut Core,
+    session: u32,
+    moment: u64,
+    bytes: &Text,
+) -> Result<Option<Text>, NoMemory>
     ensures { IfOk result (λ o. MatchOption o (IsServed (says.Feed session moment bytes.now) → ⊥) (λ out. Acts core.old.hall (says.Feed session moment bytes.now) out core.new.hall)) }
 {
     let Some(request) = request_of(alloc, bytes.bytes())? else {
@@ -61,7 +67,12 @@ fn take(alloc: Global, core: &mut Core, frames: &mut Frames, session: u32) -> Re
 }
 
 /// Does what a line says, and answers its output; none where the line is none of a script, and then nothing is done.
-pub(crate) fn act(alloc: Global, core: &mut Core, frames: &mut Frames, line: &[u8]) -> Result<Option<Text>, NoMemory>
+pub(crate) fn act(
+    alloc: Global,
+    core: &mut Core,
+    frames: &mut Frames,
+    line: &[u8],
+) -> Result<Option<Text>, NoMemory>
     requires { frames.old ≡ record { list = []; places = take_frames } }
     ensures acts { IfOk result (λ o. ActsOn core.old.hall core.new.hall line.now o) }
     ensures cleared { frames.new ≡ record { list = []; places = take_frames } }

@@ -8,3 +8,6 @@ mod streams;
 mod tops;
 
 pub use tops::{Ended, top};
+
+#[cfg(test)]
+mod tests;

@@ -29,7 +29,13 @@ pub(crate) enum Turn {
 }
 
 // Does a line that was read, and writes its output.
-fn do_line<K: Sink>(alloc: Global, sink: &mut K, core: &mut Core, frames: &mut Frames, line: &[u8]) -> Turn
+fn do_line<K: Sink>(
+    alloc: Global,
+    sink: &mut K,
+    core: &mut Core,
+    frames: &mut Frames,
+    line: &[u8],
+) -> Turn
     requires { frames.old ≡ record { list = []; places = take_frames } }
     ensures told { OnLineDone result (K.held sink.old) (K.held sink.new) core.old.hall core.new.hall line.now }
     ensures cleared { frames.new ≡ record { list = []; places = take_frames } }
@@ -77,7 +83,12 @@ fn next_line<S: Source, K: Sink>(
 }
 
 /// Plays a script to its end or to the first line that can't be done, and answers how it ended and at which line, counted from 1.
-pub(crate) fn play<S: Source, K: Sink>(alloc: Global, source: &mut S, sink: &mut K, frames: &mut Frames) -> (Turn, u64)
+pub(crate) fn play<S: Source, K: Sink>(
+    alloc: Global,
+    source: &mut S,
+    sink: &mut K,
+    frames: &mut Frames,
+) -> (Turn, u64)
     requires { frames.old ≡ record { list = []; places = take_frames } }
     ensures told { OnPlay result.0 (S.left source.old) (S.left source.new) (K.held sink.old) (K.held sink.new) result.1 }
     ensures later { K.faults sink.old ≤ K.faults sink.new }

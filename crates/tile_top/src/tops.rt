@@ -14,7 +14,8 @@ use outside::{Failed, Sink, Source};
 use std::alloc::Global;
 use world_model::Frames;
 
-const USAGE: &[u8] = b"usage: tile_server replay | check | load N SEED | serve ADDR [--sessions N]\n";
+const USAGE: &[u8] =
+    b"usage: tile_server replay | check | load N SEED | serve ADDR [--sessions N]\n";
 
 const READ_FAULT: &[u8] = b"read fault\n";
 
@@ -91,7 +92,12 @@ fn replay<S: Source, K: Sink>(alloc: Global, source: &mut S, sink: &mut K) -> En
 /// is none of a script, and the bytes written are the whole output of the lines before it and then the status's line. At status 3
 /// (reading failed), 4 (writing failed) and 7 (want of memory) they are the output of some first lines, a part of that of the
 /// next one, and the status's line, which at 4 is cut or missing.
-pub fn top<S: Source, K: Sink>(alloc: Global, words: &[String], source: &mut S, sink: &mut K) -> Ended
+pub fn top<S: Source, K: Sink>(
+    alloc: Global,
+    words: &[String],
+    source: &mut S,
+    sink: &mut K,
+) -> Ended
     ensures replay { IsReplay (map string_bytes words.now) → Replays (S.left source.old) (S.left source.new) (K.held sink.old) (K.held sink.new) result.status }
     ensures usage { (IsReplay (map string_bytes words.now) → ⊥) → ((result.status ≡ 1) × Appends (K.held sink.old) (K.held sink.new) usage_line)
         ⊎ ((result.status ≡ 4) × ((part : Bytes) × IsPrefix part usage_line × Appends (K.held sink.old) (K.held sink.new) part)) }
