@@ -10,3 +10,4 @@ mod Served
 mod Takes
 mod Calls
 mod Finishing
+mod Requests

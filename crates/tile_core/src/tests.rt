@@ -10,8 +10,11 @@ use world_model::{Called, Frames, Taken};
 fn request(alloc: Global, line: &str) -> Result<Request, Fail> {
     let mut words = Request::new(alloc);
     for word in line.split(' ') {
-        if words.words() >= 64 || word.len() > 255 {
-            Err("a test's line is short")?;
+        if words.words() >= 64 {
+            return Err(Fail::from("a test's line has few words"));
+        }
+        if word.len() > 255 {
+            return Err(Fail::from("a test's word is short"));
         }
         words.push(word.as_bytes())?;
     }
