@@ -1,8 +1,8 @@
 -- What makes bytes a name.
-use Rattle.std.proofs.Common.{◌≡◌, ◌≢◌, ℕ, ◌<◌, ◌≤◌, Bool, true, false, List, length, Option, Some, None, refl, ◌∙◌, sym, arith, rules, nat_eq, nat_lt, nat_le}
+use Rattle.std.proofs.Common.{◌≡◌, ℕ, ◌≤◌, Bool, true, false, List, length, Some, None, refl, arith, rules, nat_eq, nat_lt}
 use Rattle.std.specs.Str.{IsUtf8, is_utf8}
 use Rattle.std.proofs.lemmas.Str.{IsUtf8-from_is_utf8, is_utf8-from_IsUtf8}
-use Rattle.byte_text.specs.Names.{is_name, name_fault}
+use Rattle.byte_text.specs.Names.{name_fault}
 use Rattle.byte_text.specs.declared.texts.TextFault.TheVariants.{NotUtf8}
 
 false_by : (b : Bool) → (b ≡ true → ⊥) → b ≡ false

@@ -1,12 +1,12 @@
 -- The readers of canonical numbers answer what their definitions say.
-use Rattle.std.proofs.Common.{arith, rules, ◌≡◌, ℕ, suc, zero, ◌+◌, ◌-◌, ◌*◌, ◌/◌, ◌%◌, ℤ, pos, negsuc, neg_ℤ, ◌^◌, ◌<◌, ◌≤◌, ◌≤ℤ◌, int_le, List, [], ◌∷◌, ◌++◌, decimal, Ok, Err, Result, Option, Some, None, ◌∙◌, sym, ap, subst, refl, w64, Bool, true, false, IfOk, IfErr, fold, true≢false, nat_le, ◌&&◌, ◌==◌, ne_eqb, ◌≢◌, if◌then◌else◌, MatchResult}
+use Rattle.std.proofs.Common.{arith, ◌≡◌, ℕ, suc, ◌+◌, ◌-◌, ◌*◌, ◌%◌, ℤ, pos, negsuc, ◌^◌, ◌<◌, ◌≤◌, int_le, [], ◌∷◌, ◌++◌, decimal, Ok, Err, Result, Option, Some, None, ◌∙◌, sym, ap, refl, w64, Bool, true, false, fold, true≢false, nat_le, ◌&&◌, ne_eqb, if◌then◌else◌, MatchResult}
 use Rattle.std.specs.Fmt.{signed_decimal}
 use Rattle.std.proofs.lemmas.Fmt.{decimal_by_steps}
 use Rattle.std.proofs.lemmas.Slice.Eq.{bytes_eq-Decides}
 use Rattle.std.proofs.lemmas.Bool.{le-leb, leb-true}
 use mir.Val.{SFits as FitsSigned}
 use Rattle.byte_text.specs.Names.{Bytes, same}
-use Rattle.byte_text.specs.Numbers.{digits_value, signed_value, whole, natural, whole_within, natural_within, number_or_fault, read_natural, read_whole}
+use Rattle.byte_text.specs.Numbers.{digits_value, signed_value, whole, natural, number_or_fault, read_natural, read_whole}
 use Rattle.byte_text.proofs.LineLaws.{AreDigits, AreDigits-decimal}
 use Rattle.byte_text.specs.declared.texts.TextFault.{TextFault}
 use Rattle.byte_text.specs.declared.texts.TextFault.TheVariants.{NotNumber}

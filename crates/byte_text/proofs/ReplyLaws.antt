@@ -1,13 +1,13 @@
 -- No frame's text begins another's.
-use Rattle.std.proofs.Common.{◌≡◌, ℕ, zero, suc, ◌+◌, ◌-◌, ◌*◌, ◌/◌, ◌%◌, ◌<◌, ◌≤◌, ◌^◌, List, [], ◌∷◌, ◌++◌, length, decimal, refl, sym, ap, subst, ◌∙◌, append_assoc, arith, flat_map}
+use Rattle.std.proofs.Common.{◌≡◌, ℕ, zero, suc, ◌+◌, ◌<◌, ◌^◌, List, [], ◌∷◌, ◌++◌, length, decimal, refl, sym, ap, subst, ◌∙◌, append_assoc, arith}
 use Rattle.std.specs.List.{AllByRecursion}
 use Rattle.std.specs.Fmt.{signed_decimal}
-use Rattle.std.proofs.lemmas.Fmt.{decimal_by_steps, decimal_injective}
-use Rattle.byte_text.specs.Lines.{line, bulk_text}
+use Rattle.std.proofs.lemmas.Fmt.{decimal_injective}
+use Rattle.byte_text.specs.Lines.{line}
 use Rattle.byte_text.specs.Replies.{piece_text, frame_text, inside, AreReplies, IsClean, IsInRange}
 use Rattle.byte_text.specs.declared.replies.Piece.{Piece}
 use Rattle.byte_text.specs.declared.replies.Piece.TheVariants as piece
-use Rattle.byte_text.proofs.LineLaws.{NoReturn, NoReturn-one_line, NoReturn-decimal, NoReturn-signed, same_line, same_length, line-append, bulk_text-append, signed_is, no_sign}
+use Rattle.byte_text.proofs.LineLaws.{NoReturn, NoReturn-one_line, NoReturn-decimal, NoReturn-signed, same_line, same_length, bulk_text-append, signed_is, no_sign}
 
 abbrev mark : Piece → ℕ
 mark (piece.Status text) = 43

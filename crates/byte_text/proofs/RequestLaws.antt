@@ -1,12 +1,12 @@
 -- No request's text begins another's.
-use Rattle.std.proofs.Common.{◌≡◌, ℕ, zero, suc, ◌+◌, ◌<◌, ◌≤◌, ◌^◌, List, [], ◌∷◌, ◌++◌, length, decimal, refl, sym, ap, subst, ◌∙◌, append_assoc, arith, flat_map}
+use Rattle.std.proofs.Common.{◌≡◌, ℕ, ◌<◌, ◌≤◌, ◌^◌, List, [], ◌∷◌, ◌++◌, length, decimal, refl, sym, ◌∙◌, append_assoc, arith, flat_map}
 use Rattle.std.specs.List.{AllByRecursion}
 use Rattle.std.proofs.lemmas.Fmt.{decimal_injective}
 use Rattle.byte_text.specs.Lines.{line, bulk_text}
 use Rattle.byte_text.specs.Requests.{request_text, IsRequest, max_word}
 use Rattle.byte_text.proofs.LineLaws.{same_line, same_bulk, NoReturn-decimal}
 
-abbrev AreShort : List (List ℕ) → Type 0
+abbrev pub AreShort : List (List ℕ) → Type 0
 AreShort ws = AllByRecursion (λ w. length w ≤ max_word) ws
 
 pub same_words : (v w : List (List ℕ)) (x y : List ℕ) → length v ≡ length w → AreShort v → AreShort w → flat_map bulk_text v ++ x ≡ flat_map bulk_text w ++ y → (v ≡ w) × (x ≡ y)

@@ -120,14 +120,26 @@ pub record Stream : Type 0 where
   pub requests : List (List Bytes)
   pub ending : Ending
 
+-- a request, and then a stream
+abbrev pub with_first : List Bytes → Stream → Stream
+with_first first others = record { requests = first ∷ others.requests; ending = others.ending }
+
+-- no request, and these bytes
+abbrev pub only_rest : Bytes → Stream
+only_rest bytes = record { requests = []; ending = holds bytes }
+
+-- no request, and this fault
+abbrev pub only_fault : RespFault → Stream
+only_fault fault = record { requests = []; ending = fails fault }
+
 abbrev pub stream_behind : Bytes → Front (List Bytes) → (Bytes → Stream) → Stream
-stream_behind bytes (found first behind) next = let others = next behind in record { requests = first ∷ others.requests; ending = others.ending }
-stream_behind bytes begun next = record { requests = []; ending = holds bytes }
-stream_behind bytes (broken fault) next = record { requests = []; ending = fails fault }
+stream_behind bytes (found first behind) next = with_first first (next behind)
+stream_behind bytes begun next = only_rest bytes
+stream_behind bytes (broken fault) next = only_fault fault
 
 -- up to so many requests of a stream
 abbrev pub first_requests : ℕ → Bytes → Stream
-first_requests zero bytes = record { requests = []; ending = holds bytes }
+first_requests zero bytes = only_rest bytes
 first_requests (suc n) bytes = stream_behind bytes (request bytes) (first_requests n)
 
 -- the stream of some bytes, which hold less requests than bytes

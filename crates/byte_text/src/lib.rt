@@ -7,6 +7,7 @@ mod names;
 mod numbers;
 mod replies;
 mod requests;
+mod streams;
 mod texts;
 
 pub use faults::RespFault;
@@ -15,4 +16,8 @@ pub use names::Name;
 pub use numbers::{push_i64, push_u64, read_i64, read_u64};
 pub use replies::{Piece, Reply, frame_texts_differ, lists_are_whole, push_frame};
 pub use requests::{Request, push_request, request_texts_differ};
+pub use streams::{requests_are_read, streams_read_once};
 pub use texts::{NoMemory, Text, TextFault};
+
+#[cfg(test)]
+mod tests;

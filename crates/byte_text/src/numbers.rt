@@ -64,9 +64,9 @@ pub fn read_i64(bytes: &[u8]) -> Result<i64, TextFault>
         return Err(TextFault::NotNumber);
     };
     match text.parse::<i64>() {
-        Ok(n) => {
-            if Buffer::new().format(n) == text {
-                Ok(n)
+        Ok(z) => {
+            if Buffer::new().format(z) == text {
+                Ok(z)
             } else {
                 Err(TextFault::NotNumber)
             }

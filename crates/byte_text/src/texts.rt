@@ -79,14 +79,14 @@ impl Text {
         }
     }
 
-    /// The number of its bytes.
+    /// The number of bytes.
     pub fn len(&self) -> usize
         ensures { result ≡ length self.now }
     {
         self.bytes.len()
     }
 
-    /// Leaves the first `len` bytes, or all where there are fewer.
+    /// Keeps the first `len` bytes, and all where there are no more.
     pub fn truncate(&mut self, len: usize)
         ensures { self.new ≡ take len self.old }
     {

@@ -1,3 +1,4 @@
 pub mod Walks
 pub mod Geometries
 pub mod Texts
+pub mod Laws

@@ -1,3 +1,6 @@
 pub mod Bytes
+pub mod Choosing
+pub mod Crashes
+pub mod Elapsing
 pub mod Reading
-pub mod Steps
+pub mod Torn

@@ -1,4 +1,6 @@
 -- What a read gives, and what is left.
+use Rattle.std.specs.Prelude.{Result, Ok, Err, IfOk}
+use Rattle.std.specs.Io.{ReadsAtMost}
 use Rattle.std.proofs.Common.{◌≡◌, ℕ, ◌+◌, ◌-◌, ◌≤◌, ◌<◌, List, ◌++◌, length, take, drop, min, sym, ap, ◌∙◌, arith, length-drop, length-take, length-append, take-append-drop}
 use Rattle.std.proofs.lemmas.List.{drop-drop, take_at}
 
@@ -18,3 +20,16 @@ ended xs ys into at n m p least room some within fits is none into_some =
     let k : at + n - at ≡ n = omega arith in
     let long : length ys ≡ n = ap length is ∙ ap (λ (j : ℕ). length (take j (drop at xs))) k ∙ length-take n (drop at xs) ∙ omega (arith, length-drop at xs) in
     omega (arith, least, room, long, length-append ys (drop n into), length-drop n into)
+
+-- bytes that were copied into a front are at most as many as there is room
+pub read_bound : {E : Type 0} (r : Result ℕ E) (bytes into into' : List ℕ) → IfOk r (λ n. n ≡ min (length into) (length bytes)) → IfOk r (λ n. into' ≡ take n bytes ++ drop n into) → ReadsAtMost r into'
+read_bound (Ok n) bytes into into' count copied =
+    let front : length (take n bytes) ≡ n = omega (arith, length-take n bytes, count) in
+    let room : length into' ≡ length into = ap length copied ∙ length-append (take n bytes) (drop n into) ∙ omega (arith, front, length-drop n into, count) in
+    (omega (arith, room, count), omega (arith, room, count, length-take n into'))
+read_bound (Err e) bytes into into' count copied = tt
+
+-- and they stand there
+pub read_bytes : {E : Type 0} (r : Result ℕ E) (bytes into into' : List ℕ) → IfOk r (λ n. n ≡ min (length into) (length bytes)) → IfOk r (λ n. into' ≡ take n bytes ++ drop n into) → IfOk r (λ n. take n into' ≡ take n bytes)
+read_bytes (Ok n) bytes into into' count copied = ap (λ (l : List ℕ). take n l) copied ∙ take_at (take n bytes) (drop n into) n (omega (arith, length-take n bytes, count))
+read_bytes (Err e) bytes into into' count copied = tt

@@ -1,4 +1,9 @@
+pub mod Calls
+pub mod CallLaws
 pub mod Causes
+pub mod Crashes
 pub mod Disks
 pub mod Memory
+pub mod SideLaws
 pub mod Sides
+pub mod Writes

@@ -56,7 +56,6 @@ impl Contents {
     }
 
     pub(crate) fn write_at(&mut self, side: Side, at: usize, piece: &[u8]) -> Result<(), AllocError>
-        requires { at + length piece.now ≤ 2 ^ 63 }
         ensures ok { OnOk result (self.new ≡ with_side self.old side (write_over at piece.now (side_of self.old side))) }
         ensures err { OnErr result (self.new ≡ self.old) }
     {
@@ -76,12 +75,15 @@ impl Contents {
     }
 }
 
+// There is no memory for an end that no number of 64 bits tells.
 fn write_into(bytes: &mut Vec<u8>, at: usize, piece: &[u8]) -> Result<(), AllocError>
-    requires { at + length piece.now ≤ 2 ^ 63 }
     ensures ok { OnOk result (bytes.new.items ≡ write_over at piece.now bytes.old.items) }
     ensures err { OnErr result (bytes.new.items ≡ bytes.old.items) }
 {
-    grow(bytes, at + piece.len())?;
+    let Some(end) = at.checked_add(piece.len()) else {
+        return Err(AllocError);
+    };
+    grow(bytes, end)?;
     put(bytes, at, piece);
     Ok(())
 }

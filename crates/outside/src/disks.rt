@@ -3,6 +3,7 @@ ghost use Rattle.std.specs.Io.{ReadsAtMost};
 ghost use Rattle.outside.specs.Causes.{HasCause};
 ghost use Rattle.outside.specs.declared.sides.Side.{Side};
 ghost use Rattle.outside.specs.Sides.{Sides, side_of, with_side, Told, IfTold, On};
+ghost use Rattle.outside.specs.Crashes.{IsSettled};
 ghost use Rattle.outside.specs.Disks.{write_over, Torn, CutOrNot, Follows, Elapses, GoesOn, BeginsAnew};
 
 use crate::failures::Failed;
@@ -79,7 +80,7 @@ pub trait Disk {
 
     /// After it, a crash leaves of this side what a read gives. At `Failed` nothing is made sure.
     fn sync(&mut self, side: Side) -> Result<(), Failed>
-        ensures durable { crashes self.old ≡ true → OnOk result (IfTold (seen self.old) (λ s. (c : Sides) → images self.new c → side_of c side ≡ side_of s side)) }
+        ensures durable { crashes self.old ≡ true → OnOk result (IfTold (seen self.old) (λ s. IsSettled (images self.new) side (side_of s side))) }
         ensures same { Told (seen self.old) (seen self.new) (λ s t. t ≡ s) }
         ensures crash { (c : Sides) → images self.new c → images self.old c }
         ensures longest { crashes self.old ≡ true → IfTold (seen self.new) (λ s. MatchResult result (λ _. BeginsAnew side (longest self.old) (longest self.new) s) (λ _. GoesOn (longest self.old) (longest self.new) s)) }

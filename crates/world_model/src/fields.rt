@@ -38,6 +38,20 @@ impl Fields {
         }
     }
 
+    /// The same fields in memory of their own.
+    pub fn copy(&self, alloc: Global) -> Result<Fields, NoMemory>
+        ensures { IfOk result (λ fields. fields ≡ self.now) }
+    {
+        let mut list = Vec::new(alloc);
+        for field in self.list.as_slice() {
+            let name = field.0.copy(alloc)?;
+            if list.push((name, field.1)).is_err() {
+                return Err(NoMemory);
+            }
+        }
+        Ok(Fields { list })
+    }
+
     /// How many fields there are.
     pub fn len(&self) -> usize
         ensures count { result ≡ length self.now }

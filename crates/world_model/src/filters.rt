@@ -1,9 +1,9 @@
 //! Tests on the fields of objects.
 
-ghost use Rattle.std.specs.Prelude.{◌≡◌, ◌<◌, [], ◌∷◌, ◌++◌, length, slice_get, Some, OnOk, OnErr, IfErr};
+ghost use Rattle.std.specs.Prelude.{◌≡◌, ◌<◌, [], ◌∷◌, ◌++◌, length, slice_get, Some, IfOk, IfErr, OnOk, OnErr};
 
 use crate::lists::Numbers;
-use byte_text::Name;
+use byte_text::{Name, NoMemory};
 use std::alloc::Global;
 use std::marker::Model;
 
@@ -12,6 +12,20 @@ use std::marker::Model;
 pub enum Test {
     Range(Name, Option<i64>, Option<i64>),
     Among(Name, Numbers),
+}
+
+impl Test {
+    ghost use Rattle.std.specs.Prelude.{◌≡◌, IfOk};
+
+    /// The same test in memory of its own.
+    pub fn copy(&self, alloc: Global) -> Result<Test, NoMemory>
+        ensures { IfOk result (λ test. test ≡ self.now) }
+    {
+        match self {
+            Test::Range(name, low, high) => Ok(Test::Range(name.copy(alloc)?, *low, *high)),
+            Test::Among(name, values) => Ok(Test::Among(name.copy(alloc)?, values.copy(alloc)?)),
+        }
+    }
 }
 
 /// A list of tests.
@@ -37,6 +51,19 @@ impl Tests {
         Tests {
             list: Vec::new(alloc),
         }
+    }
+
+    /// The same tests in memory of their own.
+    pub fn copy(&self, alloc: Global) -> Result<Tests, NoMemory>
+        ensures { IfOk result (λ tests. tests ≡ self.now) }
+    {
+        let mut list = Vec::new(alloc);
+        for test in self.list.as_slice() {
+            if list.push(test.copy(alloc)?).is_err() {
+                return Err(NoMemory);
+            }
+        }
+        Ok(Tests { list })
     }
 
     /// How many tests there are.

@@ -33,7 +33,14 @@ pub trait HallApi {
         ensures spent { result ≡ Err refused.Spent → Dries (knows seat.old) (knows seat.new) };
 
     /// Does what a session asks for at a moment.
-    fn call<R: Wait>(&self, rt: &R, seat: &mut Self::Seat, session: u32, moment: u64, asked: &Asked) -> Called
+    fn call<R: Wait>(
+        &self,
+        rt: &R,
+        seat: &mut Self::Seat,
+        session: u32,
+        moment: u64,
+        asked: &Asked,
+    ) -> Called
         requires seat { is_of self.now seat.old }
         requires moment { moment ≤ max_moment }
         requires asked { is_proper asked.now ≡ true }

@@ -5,6 +5,7 @@ ghost use Rattle.world_model.specs.Laws.{BeginningsAreOpen, SpellingsAreOpen, St
 
 mod channels;
 mod commands;
+mod copies;
 mod events;
 mod faults;
 mod fields;

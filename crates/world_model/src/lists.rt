@@ -1,8 +1,8 @@
 //! Lists of names and of numbers.
 
-ghost use Rattle.std.specs.Prelude.{◌≡◌, ◌<◌, [], ◌∷◌, ◌++◌, length, slice_get, Some, OnOk, OnErr, IfErr};
+ghost use Rattle.std.specs.Prelude.{◌≡◌, ◌<◌, [], ◌∷◌, ◌++◌, length, slice_get, Some, IfOk, IfErr, OnOk, OnErr};
 
-use byte_text::Name;
+use byte_text::{Name, NoMemory};
 use std::alloc::Global;
 use std::marker::Model;
 
@@ -28,6 +28,19 @@ impl NameList {
         NameList {
             list: Vec::new(alloc),
         }
+    }
+
+    /// The same names in memory of their own.
+    pub fn copy(&self, alloc: Global) -> Result<NameList, NoMemory>
+        ensures { IfOk result (λ names. names ≡ self.now) }
+    {
+        let mut list = Vec::new(alloc);
+        for name in self.list.as_slice() {
+            if list.push(name.copy(alloc)?).is_err() {
+                return Err(NoMemory);
+            }
+        }
+        Ok(NameList { list })
     }
 
     /// How many names there are.
@@ -86,6 +99,16 @@ impl Numbers {
     {
         Numbers {
             list: Vec::new(alloc),
+        }
+    }
+
+    /// The same numbers in memory of their own.
+    pub fn copy(&self, alloc: Global) -> Result<Numbers, NoMemory>
+        ensures { IfOk result (λ numbers. numbers ≡ self.now) }
+    {
+        match Vec::from_slice(alloc, self.list.as_slice()) {
+            Ok(list) => Ok(Numbers { list }),
+            Err(_) => Err(NoMemory),
         }
     }
 

@@ -1,5 +1,4 @@
-use Rattle.std.proofs.Common.{rules, arith, ◌≡◌, ◌<◌, Ok, ◌∙◌, ap, refl}
-use Rattle.std.specs.Fmt.{signed_decimal}
+use Rattle.std.proofs.Common.{rules, ◌≡◌, Ok, ◌∙◌, ap, refl}
 use Rattle.std.specs.Str.{IsUtf8}
 use Rattle.std.proofs.lemmas.Str.{IsUtf8-from_ascii}
 use Rattle.std.proofs.lemmas.Int.{to_z-of_z}
@@ -16,13 +15,13 @@ returns-in_default-clause-exact c = λ z fits e.
 pub returns-then-eq-clause-exact : goal.returns-then-eq-clause-exact
 returns-then-eq-clause-exact c = λ z fits e.
     let read = reads_back z _ _ fits (c.in-Ok.ensures.cases.0 ∙ e) c.parse.ensures.value.0 in
-    let value : c.in-Ok-parse.n ≡ z = cc (c.in-Ok-parse.is, read) in
+    let value : c.in-Ok-parse.z ≡ z = cc (c.in-Ok-parse.is, read) in
     rw value (ap Ok (to_z-of_z w64 z fits))
 
 pub returns-else-eq-clause-exact : goal.returns-else-eq-clause-exact
 returns-else-eq-clause-exact c = λ z fits e.
     let read = reads_back z _ _ fits (c.in-Ok.ensures.cases.0 ∙ e) c.parse.ensures.value.0 in
-    let value : c.in-Ok-parse.n ≡ z = cc (c.in-Ok-parse.is, read) in
+    let value : c.in-Ok-parse.z ≡ z = cc (c.in-Ok-parse.is, read) in
     let text : c.format.result.now ≡ c.in-Ok.text.now = rw (c.format.ensures.text, value, c.in-Ok.ensures.cases.0, e, to_z-of_z w64 z fits) refl in
     search rules
 

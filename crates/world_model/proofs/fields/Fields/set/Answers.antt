@@ -35,8 +35,8 @@ invariant_of-self-in-Err c =
     let some : is_zero (c.args.name, c.args.value) ≡ false = sym (rw (to_z-of_z c.ranges.value) at c.is_nothing-in-Err.ensures) ∙ c.if-is_nothing-2.false in
     let inserted = set_inserts c.self.inside.list.items c.args.name c.args.value c.in-Err.at c.self.invariant (rw c.as_slice.ensures.value at c.in-Err.ensures.free) some in
     either_way c.insert_at.result c.insert_at.new.list.items (with_values c.self.inside.list.items ((c.args.name, c.args.value) ∷ [])) c.self.inside.list.items (λ fs. are_fields fs ≡ true)
-      (on_ok_as _ _ _ _ (rw (to_z-of_z c.ranges.value) at c.insert_at.ensures.ok) inserted) c.insert_at.ensures.err
-      (with_values-are_fields c.self.inside.list.items ((c.args.name, c.args.value) ∷ []) c.self.invariant) c.self.invariant
+    (on_ok_as _ _ _ _ (rw (to_z-of_z c.ranges.value) at c.insert_at.ensures.ok) inserted) c.insert_at.ensures.err
+    (with_values-are_fields c.self.inside.list.items ((c.args.name, c.args.value) ∷ []) c.self.invariant) c.self.invariant
 
 pub returns-else-is_nothing-2-clause-ok : goal.returns-else-is_nothing-2-clause-ok
 returns-else-is_nothing-2-clause-ok c =

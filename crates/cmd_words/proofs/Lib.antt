@@ -1,0 +1,4 @@
+pub mod Readings
+pub mod Lefts
+pub mod Served
+pub mod Requests

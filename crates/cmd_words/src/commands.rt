@@ -1,0 +1,202 @@
+//! The commands, each read from its words.
+
+ghost use Rattle.std.specs.Prelude.{◌≡◌, ◌⊎◌, ◌∷◌, [], List, ℕ, IfOk, IfErr, Ok, Err, None, codes, true};
+ghost use Rattle.byte_text.specs.Names.{Bytes, is_word};
+ghost use Rattle.geo_text.specs.Texts.{point_text};
+ghost use Rattle.planar_geom.specs.declared.shapes.Part.TheVariants.{Spot};
+ghost use Rattle.world_model.specs.declared.commands.Command.TheVariants as command;
+ghost use Rattle.world_model.specs.declared.commands.Only.TheVariants.{Any};
+ghost use Rattle.world_model.specs.Served.{asks};
+ghost use Rattle.cmd_words.specs.Words.{Asks};
+
+use crate::readers::Reader;
+use byte_text::{Name, NoMemory, Request, Text};
+use geojson_model::push_point;
+use planar_geom::{Part, Parts, Pt, Shape};
+use std::alloc::Global;
+use world_model::{Command, Fields, NameList, Only, Shown, WordFault};
+
+/// The command that the words of a request spell, or how they are refused.
+pub fn command_of(alloc: Global, words: &Request) -> Result<Command, WordFault>
+    ensures ok { IfOk result (λ c. asks words.now ≡ Ok c) }
+    ensures err { IfErr result (λ f. (f ≡ WordFault.Memory) ⊎ (asks words.now ≡ Err f)) }
+{
+    let mut reader = Reader::new(alloc, words);
+    let Some(called) = reader.next() else {
+        return Err(WordFault::Unserved);
+    };
+    if called.eq_ignore_ascii_case(b"SET") {
+        set_command(&mut reader)
+    } else if called.eq_ignore_ascii_case(b"GET") {
+        get_command(&mut reader)
+    } else {
+        Err(WordFault::Unserved)
+    }
+}
+
+// `key id POINT lat lon`
+fn set_command(reader: &mut Reader) -> Result<Command, WordFault>
+    ensures { (called : Bytes) → is_word called (codes "SET") ≡ true → Asks (called ∷ reader.old) result }
+{
+    let key = reader.name()?;
+    let id = reader.name()?;
+    reader.word(b"POINT")?;
+    let at = reader.point()?;
+    reader.end()?;
+    put_point(reader.alloc(), key, id, at)
+}
+
+// `key id`
+fn get_command(reader: &mut Reader) -> Result<Command, WordFault>
+    ensures { (called : Bytes) → is_word called (codes "GET") ≡ true → Asks (called ∷ reader.old) result }
+{
+    let key = reader.name()?;
+    let id = reader.name()?;
+    reader.end()?;
+    Ok(Command::Get {
+        key,
+        id,
+        with_fields: false,
+        shown: Shown::Objects,
+    })
+}
+
+// The command that puts a point under a key and an id: no field, no deadline, no condition.
+fn put_point(alloc: Global, key: Name, id: Name, at: Pt) -> Result<Command, WordFault>
+    ensures ok { IfOk result (λ c. c ≡ command.Set key id [] [] None Any (point_text at) (Spot at ∷ [])) }
+    ensures err { IfErr result (λ f. f ≡ WordFault.Memory) }
+{
+    let text = stored_point(alloc, at)?;
+    let shape = spot(alloc, at)?;
+    Ok(Command::Set {
+        key,
+        id,
+        fields: Fields::new(alloc),
+        cleared: NameList::new(alloc),
+        seconds: None,
+        only: Only::Any,
+        text,
+        shape,
+    })
+}
+
+// The text that is stored for a point.
+fn stored_point(alloc: Global, at: Pt) -> Result<Text, WordFault>
+    ensures ok { IfOk result (λ t. t ≡ point_text at) }
+    ensures err { IfErr result (λ f. f ≡ WordFault.Memory) }
+{
+    let mut text = Text::new(alloc);
+    match push_point(&mut text, at) {
+        Ok(()) => Ok(text),
+        Err(NoMemory) => Err(WordFault::Memory),
+    }
+}
+
+// The shape of a point.
+fn spot(alloc: Global, at: Pt) -> Result<Shape, WordFault>
+    ensures ok { IfOk result (λ s. s ≡ Spot at ∷ []) }
+    ensures err { IfErr result (λ f. f ≡ WordFault.Memory) }
+{
+    let mut parts = Parts::new(alloc);
+    if parts.push(Part::Spot(at)).is_err() {
+        return Err(WordFault::Memory);
+    }
+    match Shape::of(parts) {
+        Ok(shape) => Ok(shape),
+        Err(_) => unreachable!(),
+    }
+}
+
+#[cfg(test)]
+mod tests {
+    use super::*;
+    use std::test::Fail;
+
+    // The request of a line's words, which are split at spaces.
+    fn request(alloc: Global, line: &str) -> Result<Request, Fail> {
+        let mut words = Request::new(alloc);
+        for word in line.split(' ') {
+            if words.words() >= 64 || word.len() > 255 {
+                Err("a test's line is short")?;
+            }
+            words.push(word.as_bytes())?;
+        }
+        Ok(words)
+    }
+
+    #[test]
+    fn lines_are_read_or_not_served(rt: HostRuntime) -> Result<(), Fail> {
+        let alloc = rt.alloc();
+        let unserved = [
+            "",
+            "SET",
+            "GET k",
+            "GET k a b",
+            "SET k a POINT 1",
+            "SET k a POINT 1 2 3",
+            "SET k a POINT 1.0 2",
+            "SET k a POINT 01 2",
+            "SET k a POINT 1 1000000001",
+            "SET k a PLACE 1 2",
+            "SET k  POINT 1 2",
+            "SETS k a POINT 1 2",
+            "PING",
+        ];
+        for line in unserved {
+            let read = command_of(alloc, &request(alloc, line)?);
+            assert!(rt; matches!(read, Err(WordFault::Unserved)), "{line}");
+        }
+        Ok(())
+    }
+
+    #[test]
+    fn a_point_is_set(rt: HostRuntime) -> Result<(), Fail> {
+        let alloc = rt.alloc();
+        match command_of(
+            alloc,
+            &request(alloc, "sEt fleet truck point -7 1000000000")?,
+        ) {
+            Ok(
+                Command::Set {
+                    key,
+                    id,
+                    seconds: None,
+                    only: Only::Any,
+                    text,
+                    shape,
+                    ..
+                },
+            ) => {
+                assert_eq!(rt; key.bytes(), b"fleet".as_slice());
+                assert_eq!(rt; id.bytes(), b"truck".as_slice());
+                assert_eq!(rt;
+                    text.bytes(),
+                    b"{\"type\":\"Point\",\"coordinates\":[1000000000,-7]}".as_slice()
+                );
+                assert_eq!(rt; shape.positions(), 1);
+            }
+            _ => Err("the line sets a point")?,
+        }
+        Ok(())
+    }
+
+    #[test]
+    fn an_object_is_asked_for(rt: HostRuntime) -> Result<(), Fail> {
+        let alloc = rt.alloc();
+        match command_of(alloc, &request(alloc, "get fleet truck")?) {
+            Ok(
+                Command::Get {
+                    key,
+                    id,
+                    with_fields: false,
+                    shown: Shown::Objects,
+                },
+            ) => {
+                assert_eq!(rt; key.bytes(), b"fleet".as_slice());
+                assert_eq!(rt; id.bytes(), b"truck".as_slice());
+            }
+            _ => Err("the line asks for an object")?,
+        }
+        Ok(())
+    }
+}

@@ -1,0 +1,9 @@
+//! The words of requests, read as commands.
+#![tactic(auto)]
+
+mod commands;
+mod laws;
+mod readers;
+
+pub use commands::command_of;
+pub use laws::served_words_are_read;

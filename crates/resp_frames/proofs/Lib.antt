@@ -1,0 +1,5 @@
+pub mod WordLaws
+pub mod StepLaws
+pub mod BlindLaws
+pub mod ScanLaws
+pub mod ReaderLaws
