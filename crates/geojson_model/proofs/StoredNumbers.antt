@@ -1,6 +1,5 @@
 -- A number that a byte ends.
-use Rattle.std.proofs.Common.{◌≡◌, ◌≢◌, ◌⊎◌, ℕ, zero, suc, ◌+◌, ◌-◌, ◌<◌, ◌≤◌, ◌^◌, List, [], ◌∷◌, ◌++◌, length, get_or, take, drop, ℤ, pos, negsuc, decimal, refl, sym, ap, subst, ◌∙◌, append_assoc, length-append, arith, take_at, drop_at, take_all, Bool, ◌&&◌, nat_eq, eqb-true, eq-eqb, MatchOption, Bor, take-append-drop, true, false, true≢false, to_z, of_z, Result, Ok, Option, Some, None, IfSome, IsSome, inl, inr}
-use Rattle.std.specs.List.{AllByRecursion}
+use Rattle.std.proofs.Common.{◌≡◌, ◌≢◌, ◌⊎◌, ℕ, zero, suc, ◌+◌, ◌-◌, ◌<◌, ◌≤◌, List, [], ◌∷◌, ◌++◌, length, get_or, take, drop, ℤ, pos, negsuc, decimal, refl, sym, ap, subst, ◌∙◌, length-append, arith, take_at, drop_at, take_all, Bool, ◌&&◌, nat_eq, eqb-true, eq-eqb, MatchOption, Bor, take-append-drop, true, false, true≢false, to_z, of_z, Result, Ok, Option, Some, None, IfSome, IsSome, inl, inr}
 use Rattle.std.specs.Fmt.{signed_decimal}
 use Rattle.std.proofs.lemmas.Int.{to_z-of_z}
 use Rattle.byte_text.specs.declared.texts.TextFault.{TextFault}

@@ -9,6 +9,8 @@ mod parts;
 mod positions;
 mod shapes;
 mod stored;
+#[cfg(test)]
+mod tests;
 mod texts;
 
 pub use geo_text::GeoFault;

@@ -1,4 +1,4 @@
-use Rattle.std.proofs.Common.{◌≡◌, length, sym, ◌∙◌, refl, Ok}
+use Rattle.std.proofs.Common.{length, refl}
 use Rattle.std.specs.Fmt.{signed_decimal}
 use Rattle.geojson_model.proofs.StoredNumbers.{without_number, number_found, not_there, the_number}
 use Rattle.geojson_model.proofs.stored.number_until.Goals as goal
