@@ -1,6 +1,6 @@
 -- What the next item of a class says of the tokens from there on.
-use Rattle.std.specs.Prelude.{◌≡◌, ℕ, ◌<◌, length, ◌∷◌, Bool, List, Option, None, chars}
-use Rattle.byte_text.specs.Globs.{Token, Item, behind_item, class_end, turned, signs, tokens_from}
+use Rattle.std.specs.Prelude.{◌≡◌, ℕ, ◌<◌, length, ◌∷◌, Bool, List, Option, None}
+use Rattle.byte_text.specs.Globs.{Token, Item, behind_item, class_end, turned}
 use Rattle.glob_match.specs.declared.classes.ItemAt.{ItemAt}
 use Rattle.glob_match.specs.declared.classes.ItemAt.TheVariants as at
 use Rattle.glob_match.specs.Tokens.{left}

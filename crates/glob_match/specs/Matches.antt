@@ -1,5 +1,5 @@
 -- How far tokens without a `*` go in a name.
-use Rattle.std.specs.Prelude.{◌≡◌, ℕ, ◌<◌, length, ◌∷◌, Bool, true, false, List, Option, Some, chars}
+use Rattle.std.specs.Prelude.{◌≡◌, ℕ, ◌<◌, length, Bool, true, false, List, Some, chars}
 use Rattle.std.specs.List.{list_any}
 use Rattle.byte_text.specs.Globs.{Token, outside, endings, tokens_meet}
 use Rattle.glob_match.specs.declared.matches.Went.{Went}

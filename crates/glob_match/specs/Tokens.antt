@@ -13,18 +13,18 @@ left text place = tokens_from (signs (chars text)) place
 abbrev pub with_token : Token → Option (List Token) → Option (List Token)
 with_token token others = option_map (λ ts. token ∷ ts) others
 
--- a token of one character stands before what is left, and this is whether the character meets it
-pub record Begins (all : Option (List Token)) (rest : Bytes) (c : ℕ) (hit : Bool) : Type 0 where
+-- a token of one character stands before the others, and this is whether the character meets it
+pub record Begins (all rest : Option (List Token)) (c : ℕ) (hit : Bool) : Type 0 where
   pub others : Bool
   pub items : List Item
-  pub same : all ≡ with_token (one_char others items) (left rest outside)
+  pub same : all ≡ with_token (one_char others items) rest
   pub hits : hit ≡ fits others items c
 
 abbrev pub OnToken : TokenAt → Option (List Token) → ℕ → Type 0
 OnToken at.End all c = all ≡ Some []
 OnToken at.Broken all c = all ≡ None
 OnToken (at.AnyList rest) all c = all ≡ with_token any_list (left rest.now outside)
-OnToken (at.OneChar hit rest) all c = Begins all rest.now c hit
+OnToken (at.OneChar hit rest) all c = Begins all (left rest.now outside) c hit
 
 -- the text behind it is shorter
 abbrev pub IsShorter : TokenAt → ℕ → Type 0

@@ -1,5 +1,5 @@
 ghost use Rattle.std.specs.Prelude.{◌≡◌, Bool, List, ℕ, ◌<◌, ◌∷◌, [], MatchOption, IfSome, length, ◌||◌, ◌&&◌, nat_le, not, if◌then◌else◌};
-ghost use Rattle.byte_text.specs.Globs.{Item, opened, behind_item, behind_char};
+ghost use Rattle.byte_text.specs.Globs.{Item, outside, opened, behind_item, behind_char};
 ghost use Rattle.glob_match.specs.Tokens.{left, Begins};
 ghost use Rattle.glob_match.specs.Classes.{OnItem, IsShorter};
 
@@ -78,7 +78,7 @@ fn is_hit(others: bool, hit: bool) -> bool
 fn class_at(text: &str, others: bool, c: char) -> Option<(bool, &str)>
     ensures shorter { IfSome result (λ x. length x.1.now < length text.now) }
     ensures read { MatchOption result (left text.now (behind_item others []) ≡ None)
-        (λ x. Begins (left text.now (behind_item others [])) x.1.now c x.0) }
+        (λ x. Begins (left text.now (behind_item others [])) (left x.1.now outside) c x.0) }
 {
     let mut rest = text;
     let mut some = false;
@@ -105,7 +105,7 @@ fn class_at(text: &str, others: bool, c: char) -> Option<(bool, &str)>
 pub(crate) fn whole_class_at(text: &str, c: char) -> Option<(bool, &str)>
     ensures shorter { IfSome result (λ x. length x.1.now < length text.now) }
     ensures read { MatchOption result (left text.now opened ≡ None)
-        (λ x. Begins (left text.now opened) x.1.now c x.0) }
+        (λ x. Begins (left text.now opened) (left x.1.now outside) c x.0) }
 {
     match sign_at(text) {
         SignAt::Plain('^', behind) => class_at(behind, true, c),

@@ -7,3 +7,6 @@ mod signs;
 mod tokens;
 
 pub use matches::{glob_meets, well_formed};
+
+#[cfg(test)]
+mod tests;

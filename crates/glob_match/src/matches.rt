@@ -1,5 +1,5 @@
-ghost use Rattle.std.specs.Prelude.{◌≡◌, List, length, chars, Some, IsTrue, is_some, true, ◌↔◌};
-ghost use Rattle.std.specs.Str.{IsUtf8};
+ghost use Rattle.std.specs.Prelude.{◌≡◌, List, length, chars, Some, is_some, true, ◌&&◌};
+ghost use Rattle.std.specs.Str.{is_utf8};
 ghost use Rattle.byte_text.specs.Globs as globs;
 ghost use Rattle.byte_text.specs.Globs.{Token, outside, tokens_meet};
 ghost use Rattle.glob_match.specs.Tokens.{left};
@@ -10,7 +10,7 @@ use crate::tokens::{TokenAt, token_at};
 
 /// Whether a pattern is well formed: UTF-8, each class with a `]` and an item, each `\` with a character behind it.
 pub fn well_formed(pattern: &[u8]) -> bool
-    ensures { IsTrue result ↔ (IsUtf8 pattern.now × (globs.is_well_formed pattern.now ≡ true)) }
+    ensures { result ≡ (is_utf8 pattern.now && globs.is_well_formed pattern.now) }
 {
     match std::str::from_utf8(pattern) {
         Ok(pattern) => is_pattern(pattern),
@@ -135,8 +135,8 @@ fn text_meets(pattern: &str, name: &str) -> bool
 /// since the first place where the tokens up to the next `*` fit is as good as any later one; no memory is taken.
 pub fn glob_meets(pattern: &[u8], name: &[u8]) -> bool
     requires pattern { globs.is_well_formed pattern.now ≡ true }
-    requires pattern_text { IsUtf8 pattern.now }
-    requires name { IsUtf8 name.now }
+    requires pattern_text { is_utf8 pattern.now ≡ true }
+    requires name_text { is_utf8 name.now ≡ true }
     ensures { result ≡ globs.glob_meets pattern.now name.now }
 {
     match (std::str::from_utf8(pattern), std::str::from_utf8(name)) {

@@ -1,0 +1,4 @@
+pub mod SignLaws
+pub mod ClassLaws
+pub mod Matching
+pub mod TokenLaws

@@ -1,0 +1,4 @@
+pub mod Objects
+pub mod Sessions
+pub mod Plans
+pub mod Kernels

@@ -1,0 +1,37 @@
+-- The sessions that a core keeps.
+use Rattle.std.specs.Prelude.{◌≡◌, ◌≢◌, ℕ, Bool, ◌||◌, nat_le, ◌<◌, ◌≤◌, List, [], ◌∷◌, length, slice_get, Some, Result, Ok, Err, true, false}
+use Rattle.world_model.specs.Limits.{full_frames, full_bytes}
+use Rattle.world_model.specs.Halls as halls
+use Rattle.world_model.specs.declared.events.Called.{Called}
+use Rattle.world_model.specs.declared.events.Called.TheVariants as called
+use Rattle.tile_core.specs.declared.sessions.Session.{Session}
+
+-- the session of the hall that it stands for: it is served, and has no subscriptions so far
+abbrev pub session_of : Session → halls.Session
+session_of s = record { number = s.number; subs = []; frames = s.outbox; stage = halls.live }
+
+-- it has too many frames, or too many bytes of frames, for a call to be made
+abbrev pub is_full : Session → Bool
+is_full s = nat_le full_frames (length s.outbox) || nat_le full_bytes (halls.frame_bytes s.outbox)
+
+-- the session of this number stands at this place
+pub record IsAt (sessions : List Session) (number i : ℕ) : Type 0 where
+  pub session : Session
+  pub here : slice_get sessions i ≡ Some session
+  pub numbered : session.number ≡ number
+
+-- numbers rise along the list from above `low` on, and none is over the last one drawn
+abbrev pub Rises : ℕ → ℕ → List Session → Type 0
+Rises low drawn [] = low ≤ drawn
+Rises low drawn (s ∷ sessions) = (low < s.number) × Rises s.number drawn sessions
+
+-- no session has the number
+abbrev pub AreOthers : ℕ → List Session → Type 0
+AreOthers number sessions = (k : ℕ) (s : Session) → slice_get sessions k ≡ Some s → s.number ≢ number
+
+-- the session of the number may make a call, or is absent, or is full
+abbrev pub IsServed : List Session → ℕ → Result ℕ Called → Type 0
+IsServed sessions number (Ok i) = (at : IsAt sessions number i) × (is_full at.session ≡ false) × (i < length sessions)
+IsServed sessions number (Err called.Gone) = AreOthers number sessions
+IsServed sessions number (Err called.Full) = (i : ℕ) × (at : IsAt sessions number i) × (is_full at.session ≡ true)
+IsServed sessions number (Err c) = ⊥

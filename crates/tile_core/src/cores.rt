@@ -1,0 +1,148 @@
+//! The core and its calls.
+
+ghost use Rattle.std.specs.Prelude.{◌≡◌, ◌≤◌, ◌+◌, [], length};
+ghost use Rattle.world_model.specs.Limits.{take_frames};
+ghost use Rattle.world_model.specs.Worlds.{empty_world};
+ghost use Rattle.world_model.specs.Histories.{Step, opening_hall};
+ghost use Rattle.world_model.specs.Seats.{enter_outcome, take_outcome, given_count};
+ghost use Rattle.world_model.specs.declared.events.Event.TheVariants as event;
+ghost use Rattle.world_model.specs.declared.events.Outcome.TheVariants as outcome;
+ghost use Rattle.world_model.specs.declared.events.Asked.TheVariants.{Words};
+ghost use Rattle.tile_core.specs.Kernels.{Kernel};
+ghost use Rattle.tile_core.specs.Objects.{max_record};
+
+use crate::objects::{Stored, put_object};
+use crate::plans::{Plan, Storing, plan_words};
+use crate::sessions::{Session, position_of, put_frame, served, take_frames};
+use byte_text::{NoMemory, Request};
+use std::alloc::Global;
+use std::marker::Model;
+use subscriber_queue::Outbox;
+use world_model::{Called, EnterFault, Frames, Taken};
+
+/// The most sessions that are present at once.
+const MAX_SESSIONS: usize = 512;
+
+/// From this length of the log on no call is made.
+const MOST_LOGGED: u64 = 1 << 60;
+
+/// A world and the sessions that are served.
+#[derive(Drop)]
+pub struct Core {
+    alloc: Global,
+    objects: Vec<Stored>,
+    /// The bytes of the records of all objects.
+    weight: u64,
+    now: u64,
+    logged: u64,
+    drawn: u32,
+    sessions: Vec<Session>,
+}
+
+impl Model for Core {
+    ghost use Rattle.tile_core.specs.Kernels.{Kernel, hall_of, IsSound};
+
+    ghost Value = { Kernel };
+
+    ghost view = { λ c. record { hall = hall_of c.objects.items c.now c.logged c.drawn c.sessions.items } };
+
+    ghost invariant = { λ c. IsSound c.objects.items c.weight c.drawn c.sessions.items };
+}
+
+impl Core {
+    /// A core of an empty world, without sessions, at moment 0.
+    pub fn new(alloc: Global) -> Core
+        ensures { result.hall ≡ opening_hall empty_world 0 }
+    {
+        Core {
+            alloc,
+            objects: Vec::new(alloc),
+            weight: 0,
+            now: 0,
+            logged: 0,
+            drawn: 0,
+            sessions: Vec::new(alloc),
+        }
+    }
+
+    /// Lets a session in and answers its number. It is refused where 512 sessions are present or 4,294,967,295 numbers were
+    /// drawn. For want of memory the core is as before.
+    pub fn enter(&mut self) -> Result<u32, EnterFault>
+        ensures step { Step self.old.hall event.Enter (enter_outcome result) self.new.hall }
+        ensures logged { self.new.hall.logged ≡ self.old.hall.logged }
+    {
+        if self.sessions.len() >= MAX_SESSIONS || self.drawn == u32::MAX {
+            return Err(EnterFault::TooMany);
+        }
+        let outbox = match Outbox::new(self.alloc) {
+            Ok(outbox) => outbox,
+            Err(NoMemory) => return Err(EnterFault::Memory),
+        };
+        let number = self.drawn + 1;
+        if self.sessions.push(Session { number, outbox }).is_err() {
+            return Err(EnterFault::Memory);
+        }
+        self.drawn = number;
+        Ok(number)
+    }
+
+    /// Gives the first frames of a session, at most 64, into `into`. It takes no memory.
+    pub fn take(&mut self, session: u32, into: &mut Frames) -> Taken
+        requires { into.old ≡ record { list = []; places = take_frames } }
+        ensures step { Step self.old.hall (event.Take session) (take_outcome result into.new.list) self.new.hall }
+        ensures count { given_count result ≡ length into.new.list }
+        ensures places { into.new.places ≡ take_frames }
+        ensures logged { self.new.hall.logged ≡ self.old.hall.logged }
+    {
+        let Some(at) = position_of(self.sessions.as_slice(), session) else {
+            return Taken::Ended;
+        };
+        if self.sessions[at].outbox.frames() == 0 {
+            return Taken::Empty;
+        }
+        Taken::Some(take_frames(&mut self.sessions[at], into))
+    }
+
+    /// Makes a call of a session at a moment: what the words of its request ask for is done, and its reply is put last in the
+    /// session's queue. For want of memory the core is as before.
+    pub fn call(&mut self, session: u32, moment: u64, words: &Request) -> Called
+        ensures step { Step self.old.hall (event.Call session moment (Words words.now)) (outcome.Answered result) self.new.hall }
+        ensures logged { self.new.hall.logged ≤ self.old.hall.logged + max_record }
+    {
+        if self.logged >= MOST_LOGGED {
+            return Called::Spent;
+        }
+        let at = match served(self.sessions.as_slice(), session) {
+            Ok(at) => at,
+            Err(answer) => return answer,
+        };
+        let Ok(plan) = plan_words(self.alloc, self.objects.as_slice(), self.weight, words) else {
+            return Called::Memory;
+        };
+        match plan {
+            Plan::Reply(frame) => {
+                self.now = self.now.max(moment);
+                put_frame(&mut self.sessions[at], frame);
+                Called::Ok
+            }
+            Plan::Store(storing) => {
+                if self.objects.reserve(1).is_err() {
+                    return Called::Memory;
+                }
+                let Storing {
+                    frame,
+                    place,
+                    object,
+                    length,
+                    weight,
+                } = storing;
+                self.now = self.now.max(moment);
+                put_frame(&mut self.sessions[at], frame);
+                put_object(&mut self.objects, place, object);
+                self.weight = weight;
+                self.logged += length;
+                Called::Ok
+            }
+        }
+    }
+}

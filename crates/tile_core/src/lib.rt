@@ -1,0 +1,11 @@
+//! The core: a world of objects and the sessions that are served, each of whose calls is one step of the defined machine.
+#![tactic(auto)]
+
+mod cores;
+mod frames;
+mod objects;
+mod plans;
+mod records;
+mod sessions;
+
+pub use cores::Core;

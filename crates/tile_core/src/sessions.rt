@@ -1,0 +1,86 @@
+//! The sessions that are present, in the order of their numbers.
+
+ghost use Rattle.std.specs.Prelude.{◌≡◌, ◌≢◌, ◌<◌, ◌≤◌, ◌+◌, ◌++◌, ◌∷◌, [], ℕ, length, drop, take, min, Some, IfSome, IfNone, slice_get, slice_set};
+ghost use Rattle.world_model.specs.Limits.{full_frames, full_bytes, max_reply, take_frames};
+ghost use Rattle.world_model.specs.Halls.{frame_bytes};
+ghost use Rattle.world_model.specs.Frames.{FrameList};
+ghost use Rattle.tile_core.specs.Sessions.{IsAt, is_full};
+ghost use Rattle.tile_core.specs.declared.sessions.Session.{Session};
+ghost use Rattle.tile_core.specs.Sessions.{IsServed};
+
+use byte_text::Text;
+use subscriber_queue::Outbox;
+use world_model::{Called, Frames};
+
+/// From this many frames on a session is full.
+const FULL_FRAMES: usize = 1024;
+
+/// From this many bytes of frames on a session is full.
+const FULL_BYTES: u64 = 2_097_152;
+
+/// A session with the frames that wait for it.
+#[derive(Drop)]
+pub(crate) struct Session {
+    pub(crate) number: u32,
+    pub(crate) outbox: Outbox,
+}
+
+impl Session {
+    /// Whether it has more frames, or bytes of frames, than a call may be made with.
+    pub(crate) fn is_full(&self) -> bool
+        ensures { result ≡ is_full self.now }
+    {
+        self.outbox.frames() >= FULL_FRAMES || self.outbox.bytes() >= FULL_BYTES
+    }
+}
+
+/// Where the session of this number stands.
+pub(crate) fn position_of(sessions: &[Session], number: u32) -> Option<usize>
+    ensures found { IfSome result (λ i. IsAt sessions.now number i) }
+    ensures within { IfSome result (λ i. i < length sessions.now) }
+    ensures absent { IfNone result ((k : ℕ) (s : Session) → slice_get sessions.now k ≡ Some s → s.number ≢ number) }
+{
+    for (i, session) in sessions.iter().enumerate() {
+        if session.number == number {
+            return Some(i);
+        }
+    }
+    None
+}
+
+/// Where the session stands that may make a call now; else how the call is answered: it is gone, or full.
+pub(crate) fn served(sessions: &[Session], number: u32) -> Result<usize, Called>
+    ensures { IsServed sessions.now number result }
+{
+    let Some(at) = position_of(sessions, number) else {
+        return Err(Called::Gone);
+    };
+    if sessions[at].is_full() {
+        Err(Called::Full)
+    } else {
+        Ok(at)
+    }
+}
+
+/// Puts a frame last in the queue of a session that is not full.
+pub(crate) fn put_frame(session: &mut Session, frame: Text)
+    requires frames { length session.old.outbox < full_frames }
+    requires bytes { frame_bytes session.old.outbox < full_bytes }
+    requires short { length frame ≤ max_reply }
+    ensures { session.new ≡ record session.old { outbox = session.old.outbox ++ frame ∷ [] } }
+{
+    match session.outbox.place(frame) {
+        Ok(()) => {}
+        Err(_) => unreachable!(),
+    }
+}
+
+/// Moves the first frames of a session's queue into `into`, and answers their number.
+pub(crate) fn take_frames(session: &mut Session, into: &mut Frames) -> usize
+    requires { into.old ≡ record { list = []; places = take_frames } }
+    ensures given { into.new ≡ record { list = take take_frames session.old.outbox; places = take_frames } }
+    ensures left { session.new ≡ record session.old { outbox = drop take_frames session.old.outbox } }
+    ensures count { result ≡ min take_frames (length session.old.outbox) }
+{
+    session.outbox.take(into)
+}

@@ -1,0 +1,5 @@
+//! The program, as one call over the things outside.
+#![tactic(auto)]
+
+mod instructions;
+mod streams;
