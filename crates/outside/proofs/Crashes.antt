@@ -1,7 +1,7 @@
 -- How a call of a disk carries on what holds of whatever a crash may leave.
-use Rattle.std.proofs.Common.{◌≡◌, ◌≤◌, ℕ, Bool, List, ◌∙◌, inl, inr, ⊎_elim, subst, arith}
+use Rattle.std.proofs.Common.{◌≡◌, ◌≤◌, ℕ, Bool, List, ◌∙◌, inl, inr, ⊎_elim, subst, arith, Option, Some, None, refl}
 use Rattle.outside.specs.declared.sides.Side.{Side}
-use Rattle.outside.specs.Sides.{Sides, side_of, other_side, On}
+use Rattle.outside.specs.Sides.{Sides, side_of, other_side, On, Told, IfTold}
 use Rattle.outside.specs.Disks.{Torn, CutOrNot, Follows, Elapses}
 use Rattle.outside.specs.Crashes.{EachImage, IsSettled, EachSince, LeavesOnly}
 use Rattle.outside.specs.SideLaws.{on_keeps}
@@ -77,3 +77,14 @@ settled_other P old new side bytes crash settled = followed (On side P) old new 
 -- where a call changes it itself, it leads there from these bytes
 pub settled_changed : (P : List ℕ → List ℕ → Type 0) (old new : Sides → Type 0) (side : Side) (bytes : List ℕ) → Follows (On side P) old new → IsSettled old side bytes → EachImage new (λ c. P bytes (side_of c side))
 settled_changed P old new side bytes crash settled = followed (On side P) old new (λ c. P bytes (side_of c side)) crash (λ d c image step. subst (λ (l : List ℕ). P l (side_of c side)) (settled d image) step.how)
+
+-- what a disk tells at Some, and what it tells after a call
+pub if_told : (o : Option Sides) (s : Sides) (P : Sides → Type 0) → o ≡ Some s → IfTold o P → P s
+if_told o s P e told = subst (λ (p : Option Sides). IfTold p P) e told
+
+pub told_next : (o o' : Option Sides) (s : Sides) (P : Sides → Sides → Type 0) → o ≡ Some s → Told o o' P → (t : Sides) × (o' ≡ Some t) × P s t
+told_next o o' s P e told = told_next_some o' s P (subst (λ (p : Option Sides). Told p o' P) e told)
+  where
+    told_next_some : (o' : Option Sides) (s : Sides) (P : Sides → Sides → Type 0) → Told (Some s) o' P → (t : Sides) × (o' ≡ Some t) × P s t
+    told_next_some None s P told = absurd told
+    told_next_some (Some t) s P told = (t, refl, told)

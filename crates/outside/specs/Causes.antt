@@ -1,6 +1,6 @@
 -- How a count rises, and what a failure shows. A count stops at the greatest u64: there "rose" is read as "or
 -- stands there".
-use Rattle.std.specs.Prelude.{◌≡◌, ◌⊎◌, ℕ, ◌+◌, ◌-◌, ◌^◌, ◌≤◌, min, OnErr, Result}
+use Rattle.std.specs.Prelude.{◌≡◌, ◌⊎◌, ℕ, ◌+◌, ◌-◌, ◌^◌, ◌≤◌, ◌<◌, min, OnErr, Result}
 
 -- where a count stops
 abbrev pub most_count : ℕ
@@ -13,6 +13,10 @@ next_count n = min (n + 1) most_count
 -- the count rose, or stands at its end
 abbrev pub Rose : ℕ → ℕ → Type 0
 Rose before now = min (before + 1) most_count ≤ now
+
+-- the count did not rise, and does not stand at its end
+abbrev pub Stood : ℕ → ℕ → Type 0
+Stood before now = (now ≡ before) × (now < most_count)
 
 -- the count rose by n, or came to its end on the way
 abbrev pub RoseBy : ℕ → ℕ → ℕ → Type 0

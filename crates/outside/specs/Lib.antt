@@ -1,9 +1,13 @@
-pub mod Calls
 pub mod CallLaws
+pub mod Calls
 pub mod Causes
+pub mod Clocks
 pub mod Crashes
 pub mod Disks
+pub mod Links
+pub mod Listed
 pub mod Memory
 pub mod SideLaws
 pub mod Sides
+pub mod Spawners
 pub mod Writes

@@ -2,19 +2,33 @@
 //! with a count of its faults. The forms in memory stand beside them.
 #![tactic(auto)]
 
+mod bells;
 mod calls;
+mod clocks;
 mod contents;
 mod crash_images;
 mod disks;
+mod doors;
 mod failures;
+mod gates;
+mod jobs;
+mod list_doors;
+mod listed_spawners;
 mod memory_disks;
 mod memory_streams;
 mod plain_disks;
 mod sides;
 mod streams;
 
+pub use bells::{Bell, PlainBell};
+pub use clocks::{Clock, HandClock, MAX_MOMENT};
 pub use disks::Disk;
+pub use doors::{Accepted, Door, Link};
 pub use failures::{Failed, NoMemory};
+pub use gates::{Gate, NoGate};
+pub use jobs::{Ender, Job, Spawner, Tally};
+pub use list_doors::{ListDoor, ListSink};
+pub use listed_spawners::{ListedSpawner, RunningJob};
 pub use memory_disks::MemoryDisk;
 pub use memory_streams::{BytesSink, BytesSource};
 pub use plain_disks::PlainDisk;

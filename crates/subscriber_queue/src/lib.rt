@@ -105,3 +105,32 @@ impl Outbox {
         self.bytes
     }
 }
+
+#[cfg(test)]
+mod tests {
+    use super::*;
+    use std::test::Fail;
+
+    #[test]
+    fn frames_come_in_order_and_the_bytes_are_limited(rt: HostRuntime) -> Result<(), Fail> {
+        let alloc = rt.alloc();
+        let mut outbox = Outbox::new(alloc)?;
+        for i in 0..70u8 {
+            let mut frame = Text::new(alloc);
+            frame.push(&[b'a' + i % 26])?;
+            assert!(rt; outbox.place(frame).is_ok());
+        }
+        let mut long = Text::new(alloc);
+        long.push(vec![in alloc; 0u8; 6_291_387]?.as_slice())?;
+        assert!(rt; outbox.place(long).is_err());
+        assert_eq!(rt; (outbox.frames(), outbox.bytes()), (70, 70));
+        let mut frames = Frames::new(alloc)?;
+        assert_eq!(rt; outbox.take(&mut frames), 64);
+        assert_eq!(rt; (outbox.frames(), outbox.bytes()), (6, 6));
+        if frames.len() != 64 {
+            Err("64 frames were given")?;
+        }
+        assert_eq!(rt; frames.at(63), b"l".as_slice());
+        Ok(())
+    }
+}

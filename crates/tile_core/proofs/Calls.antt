@@ -67,6 +67,7 @@ fits s frame open_ short =
   where
     room : (a : ℕ) → a < full_frames → nat_lt a cap_frames ≡ true
     room a p = grind (arith, nat_tests)
+
     bytes : (a b : ℕ) → a < full_bytes → b ≤ max_reply → nat_le (a + b) cap_bytes ≡ true
     bytes a b p q = grind (arith, nat_tests)
 
@@ -140,9 +141,9 @@ module _ (objects : List Stored) (now logged drawn : ℕ) (sessions : List Sessi
             → Step hall (Call n moment (Words words)) (Answered called.Ok) (hall_of next (max now moment) (logged + len) drawn (slice_set sessions i v))
         stored frame v c next len is e short world long = done (hall_of next (max now moment) (logged + len) drawn (slice_set sessions i v))
             (changes_it e.0 _ frame c e.1 e.2 short ∙ applied _ c
-              ∙ ap (λ (w : World). record (answered (record s { outbox = s.outbox ++ frame ∷ [] })) { world = w; logged = logged + record_len c }) world
-              ∙ ap (λ (m : ℕ). record (answered (record s { outbox = s.outbox ++ frame ∷ [] })) { world = world_of next; logged = logged + m }) (sym long)
-              ∙ ap (λ (u : Session). record (answered u) { world = world_of next; logged = logged + len }) (sym is))
+            ∙ ap (λ (w : World). record (answered (record s { outbox = s.outbox ++ frame ∷ [] })) { world = w; logged = logged + record_len c }) world
+            ∙ ap (λ (m : ℕ). record (answered (record s { outbox = s.outbox ++ frame ∷ [] })) { world = world_of next; logged = logged + m }) (sym long)
+            ∙ ap (λ (u : Session). record (answered u) { world = world_of next; logged = logged + len }) (sym is))
 
 -- a session that may be served is the one read at its place
 pub served_is : (sessions : List Session) (n i : ℕ) (sv : IsServed sessions n (Ok i)) (r : Session) → r ≡ get_or sessions i r → r ≡ sv.0.session

@@ -118,6 +118,7 @@ none_behind y key id (z ∷ zs) far all =
         let k = same_is z.key key (grind arith) in
         let j = same_is z.id id (grind arith) in
         ap (λ (m : Bytes). before y.key m || (same y.key m && before y.id z.id)) k ∙ ap (λ (m : Bytes). before y.key key || (same y.key key && before y.id m)) j
+
     by : (t : Bool) → is_at key id z ≡ t → find (is_at key id) zs ≡ None → find (is_at key id) (z ∷ zs) ≡ None
     by true e rest = let here : object_before y z ≡ true = grind arith in absurd (no (sym here ∙ alike e ∙ far))
       where

@@ -66,7 +66,9 @@ point_record key id x y shape k i e f =
   where
     line_length : (m : ℕ) (d : List ℕ) → length (line m d) ≡ length d + 3
     line_length m d = omega (arith, length-append d (13 ∷ 10 ∷ []))
+
     longer : (n : ℕ) → n ≤ 100 → n ≤ 255
     longer n p = omega arith
+
     sum : (a b c d e f : ℕ) → a ≤ 4 → b ≤ 263 → c ≤ 263 → d ≤ 263 → e ≤ 263 → f ≤ 263 → a + b + c + d + e + f ≤ 1500
     sum a b c d e f p q r s t u = omega arith

@@ -47,8 +47,10 @@ module _ (h : Hall) (n : ℕ) (s : Session) (going : h.stopped ≡ false) (here 
     where
       none : (length s.frames == 0) ≡ false
       none = grind (arith, nat_tests)
+
       given : Given (take take_frames s.frames) ≡ Given (take take_frames (frames_in (session_of h n)))
       given = ap (λ (o : Option Session). Given (take take_frames (frames_in o))) (sym here)
+
       by : (t : Bool) → is_live s ≡ t → Step h (Take n) (Given (take take_frames s.frames)) (change_session (λ t. record t { frames = drop take_frames t.frames }) n h)
       by true l = rw (going, here, l, none) (inr (inr (given, refl)))
       by false l = rw (going, here, l, none) (inr (inr (given, refl)))

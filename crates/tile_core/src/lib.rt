@@ -9,3 +9,6 @@ mod records;
 mod sessions;
 
 pub use cores::Core;
+
+#[cfg(test)]
+mod tests;

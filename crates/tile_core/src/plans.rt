@@ -128,7 +128,12 @@ fn plan_set(alloc: Global, objects: &[Stored], total: u64, object: Stored) -> Re
 }
 
 // What a command as it is served so far will do.
-fn plan_command(alloc: Global, objects: &[Stored], total: u64, command: Command) -> Result<Plan, NoMemory>
+fn plan_command(
+    alloc: Global,
+    objects: &[Stored],
+    total: u64,
+    command: Command,
+) -> Result<Plan, NoMemory>
     requires sorted { ascends object_before (map object_of objects.now) ≡ true }
     requires weight { total ≡ weight (world_of objects.now) }
     requires most { total ≤ max_weight }
@@ -176,7 +181,12 @@ fn unserved_frame(alloc: Global, fault: WordFault) -> Result<Text, NoMemory>
 }
 
 /// What the request of these words will do in the world of these objects.
-pub(crate) fn plan_words(alloc: Global, objects: &[Stored], total: u64, words: &Request) -> Result<Plan, NoMemory>
+pub(crate) fn plan_words(
+    alloc: Global,
+    objects: &[Stored],
+    total: u64,
+    words: &Request,
+) -> Result<Plan, NoMemory>
     requires sorted { ascends object_before (map object_of objects.now) ≡ true }
     requires weight { total ≡ weight (world_of objects.now) }
     requires most { total ≤ max_weight }

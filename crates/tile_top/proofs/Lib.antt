@@ -1,3 +1,5 @@
 mod Reading
 mod Writing
-mod FirstWords
+mod Shown
+mod Playing
+mod Ends

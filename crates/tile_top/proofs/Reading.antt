@@ -116,9 +116,12 @@ reads_long (Some text) (Some rest) None used now line x ne h r c = absurd c
 reads_long (Some text) (Some rest) (Some left) used now line x ne h r c =
     let long = length-append line (x ∷ []) in
     let f = first_of (line ++ x ∷ []) (lines left) (omega (arith, long)) in
-    let l : length (line ++ x ∷ []) ≤ length f.0.bytes = f.3 in
-    (f.0, f.1, r ∙ ap (λ (z : List ℕ). all_in_front line (lines z)) c ∙ ap (all_in_front line) (plain_line x left ne) ∙ one_more line x (lines left) ∙ f.2,
-      λ s. let short : length f.0.bytes ≤ max_line = s.in_line in absurd (omega (arith, long, l, h, short)))
+    let l : length (line ++ x ∷ []) ≤ length f.0.bytes = f.3 in (
+      f.0,
+      f.1,
+      r ∙ ap (λ (z : List ℕ). all_in_front line (lines z)) c ∙ ap (all_in_front line) (plain_line x left ne) ∙ one_more line x (lines left) ∙ f.2,
+      λ s. let short : length f.0.bytes ≤ max_line = s.in_line in absurd (omega (arith, long, l, h, short)),
+    )
 
 -- the script passes its limit in this line
 pub reads_past : (old mid new : Option (List ℕ)) (used now : ℕ) (line : List ℕ) (x : ℕ) → max_script ≤ used + length line → Reads old mid line → Consumes mid new (x ∷ []) → OnLine TooLong old new used now line
@@ -127,9 +130,12 @@ reads_past (Some text) None new used now line x h r c = absurd r
 reads_past (Some text) (Some rest) None used now line x h r c = absurd c
 reads_past (Some text) (Some rest) (Some left) used now line x h r c =
     let f = longer line x left in
-    let l : length line + 1 ≤ size f.0 = f.3 in
-    (f.0, f.1, r ∙ ap (λ (z : List ℕ). all_in_front line (lines z)) c ∙ f.2,
-      λ s. let short : used + size f.0 ≤ max_script = s.in_script in absurd (omega (arith, l, h, short)))
+    let l : length line + 1 ≤ size f.0 = f.3 in (
+      f.0,
+      f.1,
+      r ∙ ap (λ (z : List ℕ). all_in_front line (lines z)) c ∙ f.2,
+      λ s. let short : used + size f.0 ≤ max_script = s.in_script in absurd (omega (arith, l, h, short)),
+    )
 
 -- nothing is said of these
 pub told_fault : (old mid new : Option (List ℕ)) (used now : ℕ) (line more : List ℕ) → Reads old mid line → Keeps mid new → OnLine ReadFault old new used now more

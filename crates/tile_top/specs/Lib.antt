@@ -1,3 +1,6 @@
 pub mod TextLines
 pub mod Reads
-pub mod Instructions
+pub mod Outputs
+pub mod Scripts
+pub mod Plays
+pub mod Tops

@@ -1,5 +1,13 @@
 //! The program, as one call over the things outside.
 #![tactic(auto)]
 
-mod instructions;
+mod acts;
+mod outputs;
+mod plays;
 mod streams;
+mod tops;
+
+pub use tops::{Ended, top};
+
+#[cfg(test)]
+mod tests;

@@ -62,7 +62,7 @@ returns-then-is_err-clause-step c =
     let sv = subst (λ (ss : List Session). IsServed ss c.args.session (Ok c.in-Ok.at)) c.as_slice.ensures.value c.in-Ok.ensures in
     let step = lacks k.objects.items k.now k.logged k.drawn k.sessions.items c.args.session c.args.moment c.args.words.now c.if-self-ge-MOST_LOGGED.false c.in-Ok.at sv.0.session c.self.invariant.rises sv.0.here sv.0.numbered sv.1 in
     subst (λ (os : List Stored). Step c.args.self.now.hall (event.Call c.args.session c.args.moment (Words c.args.words.now)) (outcome.Answered called.Memory) (hall_of os k.now k.logged k.drawn k.sessions.items)) (sym c.reserve.ensures.items)
-      (subst (λ (n : Kernel). Step n.hall (event.Call c.args.session c.args.moment (Words c.args.words.now)) (outcome.Answered called.Memory) (hall_of k.objects.items k.now k.logged k.drawn k.sessions.items)) c.self.view_is step)
+    (subst (λ (n : Kernel). Step n.hall (event.Call c.args.session c.args.moment (Words c.args.words.now)) (outcome.Answered called.Memory) (hall_of k.objects.items k.now k.logged k.drawn k.sessions.items)) c.self.view_is step)
 
 pub put_frame-requires-in-Store-clause-frames : goal.put_frame-requires-in-Store-clause-frames
 put_frame-requires-in-Store-clause-frames c =
@@ -96,7 +96,7 @@ returns-in-Reply-clause-step c =
     let after_it : ℕ → Type 0 = λ now. Step c.args.self.now.hall (event.Call c.args.session c.args.moment (Words c.args.words.now)) (outcome.Answered called.Ok) (hall_of k.objects.items now k.logged k.drawn (slice_set k.sessions.items c.in-Ok.at c.put_frame.new.session)) in
     let step = replied k.objects.items k.now k.logged k.drawn k.sessions.items c.args.session c.args.moment c.args.words.now c.if-self-ge-MOST_LOGGED.false c.in-Ok.at sv.0.session c.self.invariant.rises sv.0.here sv.0.numbered sv.1 c.in-Reply.frame c.put_frame.new.session put (plan.reply (max k.now c.args.moment)) plan.short in
     subst after_it (sym c.max-self-inside.ensures)
-      (subst (λ (n : Kernel). Step n.hall (event.Call c.args.session c.args.moment (Words c.args.words.now)) (outcome.Answered called.Ok) (hall_of k.objects.items (max k.now c.args.moment) k.logged k.drawn (slice_set k.sessions.items c.in-Ok.at c.put_frame.new.session))) c.self.view_is step)
+    (subst (λ (n : Kernel). Step n.hall (event.Call c.args.session c.args.moment (Words c.args.words.now)) (outcome.Answered called.Ok) (hall_of k.objects.items (max k.now c.args.moment) k.logged k.drawn (slice_set k.sessions.items c.in-Ok.at c.put_frame.new.session))) c.self.view_is step)
 
 pub returns-else-is_err-clause-step : goal.returns-else-is_err-clause-step
 returns-else-is_err-clause-step c =
@@ -109,4 +109,4 @@ returns-else-is_err-clause-step c =
     let after_it : ℕ → Type 0 = λ now. Step c.args.self.now.hall (event.Call c.args.session c.args.moment (Words c.args.words.now)) (outcome.Answered called.Ok) (hall_of c.put_object.new.objects.items now (k.logged + c.in-Store.storing.length) k.drawn (slice_set k.sessions.items c.in-Ok.at c.put_frame-in-Store.new.session)) in
     let step = stored k.objects.items k.now k.logged k.drawn k.sessions.items c.args.session c.args.moment c.args.words.now c.if-self-ge-MOST_LOGGED.false c.in-Ok.at sv.0.session c.self.invariant.rises sv.0.here sv.0.numbered sv.1 c.in-Store.storing.frame c.put_frame-in-Store.new.session (change.Put (object_of c.in-Store.storing.object)) c.put_object.new.objects.items c.in-Store.storing.length put (plan.reply (max k.now c.args.moment)) plan.short world plan.length_is in
     subst after_it (sym c.max-self-inside-in-Store.ensures)
-      (subst (λ (n : Kernel). Step n.hall (event.Call c.args.session c.args.moment (Words c.args.words.now)) (outcome.Answered called.Ok) (hall_of c.put_object.new.objects.items (max k.now c.args.moment) (k.logged + c.in-Store.storing.length) k.drawn (slice_set k.sessions.items c.in-Ok.at c.put_frame-in-Store.new.session))) c.self.view_is step)
+    (subst (λ (n : Kernel). Step n.hall (event.Call c.args.session c.args.moment (Words c.args.words.now)) (outcome.Answered called.Ok) (hall_of c.put_object.new.objects.items (max k.now c.args.moment) (k.logged + c.in-Store.storing.length) k.drawn (slice_set k.sessions.items c.in-Ok.at c.put_frame-in-Store.new.session))) c.self.view_is step)

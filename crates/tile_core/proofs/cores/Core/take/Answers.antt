@@ -50,7 +50,7 @@ returns-clause-step c =
     let shown : c.take_frames.new.into.list ≡ take take_frames at.session.outbox = ap (λ (f : FrameList). f.list) c.take_frames.ensures.given ∙ ap (λ (s : Session). take take_frames s.outbox) is in
     let step = given k.objects.items k.now k.logged k.drawn k.sessions.items c.args.session c.in-Some.at at.session c.self.invariant.rises at.here at.numbered c.take_frames.new.session left some in
     subst (λ (fs : List Bytes). Step c.args.self.now.hall (event.Take c.args.session) (outcome.Given fs) (hall_of k.objects.items k.now k.logged k.drawn (slice_set k.sessions.items c.in-Some.at c.take_frames.new.session))) (sym shown)
-      (subst (λ (n : Kernel). Step n.hall (event.Take c.args.session) (outcome.Given (take take_frames at.session.outbox)) (hall_of k.objects.items k.now k.logged k.drawn (slice_set k.sessions.items c.in-Some.at c.take_frames.new.session))) c.self.view_is step)
+    (subst (λ (n : Kernel). Step n.hall (event.Take c.args.session) (outcome.Given (take take_frames at.session.outbox)) (hall_of k.objects.items k.now k.logged k.drawn (slice_set k.sessions.items c.in-Some.at c.take_frames.new.session))) c.self.view_is step)
   where
     some_of : (a b : ℕ) → a ≡ b → (a ≡ 0 → ⊥) → 0 < b
     some_of a b e ne = omega (arith, e, ne)

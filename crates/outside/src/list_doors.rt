@@ -1,0 +1,235 @@
+ghost use Rattle.std.specs.Prelude.{◌≡◌, ◌<◌, ◌≤◌, ◌↔◌, None, length, map, reverse, if◌then◌else◌, IsErr, IsTrue, OnOk, OnErr, IfOk, MatchResult};
+ghost use Rattle.outside.specs.Causes.{HasCause, next_count};
+ghost use Rattle.outside.specs.Memory.{fails_at};
+ghost use Rattle.outside.specs.Listed.{Listed};
+
+use crate::doors::{Accepted, Door, Link};
+use crate::failures::{Failed, NoMemory};
+use crate::memory_streams::BytesSource;
+use crate::streams::Sink;
+use std::alloc::{AllocError, Global};
+use std::marker::Model;
+use std::sync::{Arc, Mutex, Wait};
+
+// What was written on one link.
+type Written = Arc<Mutex<Vec<u8>>, Global>;
+
+/// Keeps what is written to it where its door can read it. It waits for nobody: while another reads, it fails.
+#[derive(Drop)]
+pub struct ListSink {
+    written: Written,
+    faults: u64,
+}
+
+impl Sink for ListSink {
+    ghost held = { λ _. None };
+
+    ghost faults = { λ sink. sink.faults };
+
+    fn write(&mut self, piece: &[u8]) -> Result<usize, Failed> {
+        let taken = match self.written.try_lock() {
+            Some(mut written) => written.extend_from_slice(piece).is_ok(),
+            None => false,
+        };
+        if !taken {
+            self.faults = self.faults.saturating_add(1);
+            return Err(Failed);
+        }
+        Ok(piece.len())
+    }
+}
+
+/// A door in memory, with a list of callers.
+#[derive(Drop)]
+pub struct ListDoor {
+    alloc: Global,
+    // The callers to come, the last one first.
+    waiting: Vec<Vec<u8>>,
+    // What was written to each of all the callers.
+    written: Vec<Written>,
+    failing: Vec<u64>,
+    calls: u64,
+    faults: u64,
+    links: u64,
+    ends: u64,
+}
+
+impl Model for ListDoor {
+    ghost Value = { Listed };
+
+    ghost view = { λ d. record { waiting = map (λ bytes. bytes.items) (reverse d.waiting.items); all = length d.written.items; failing = d.failing.items; calls = d.calls; faults = d.faults; links = d.links; ends = d.ends } };
+
+    ghost invariant = { λ d. length d.waiting.items ≤ length d.written.items };
+}
+
+impl ListDoor {
+    /// Each of `links` holds what a caller sends. The calls whose numbers are in `failing`, counted from 1, fail.
+    pub fn new(alloc: Global, links: Vec<Vec<u8>>, failing: Vec<u64>) -> Result<ListDoor, NoMemory>
+        ensures { IfOk result (λ d. d ≡ record { waiting = map (λ bytes. bytes.items) links.items; all = length links.items; failing = failing.items; calls = 0; faults = 0; links = 0; ends = 0 }) }
+    {
+        let Ok(written) = sheets(alloc, links.len()) else {
+            return Err(NoMemory);
+        };
+        let mut waiting = links;
+        waiting.reverse();
+        Ok(ListDoor {
+            alloc,
+            waiting,
+            written,
+            failing,
+            calls: 0,
+            faults: 0,
+            links: 0,
+            ends: 0,
+        })
+    }
+
+    /// What was written to a caller, counted from 0. It waits for the caller's sink.
+    pub fn written<R: Wait>(&self, rt: &R, alloc: Global, link: usize) -> Result<Vec<u8>, NoMemory>
+        requires { link < self.now.all }
+    {
+        match self.written[link].lock(rt).to_vec(alloc) {
+            Ok(written) => Ok(written),
+            Err(_) => Err(NoMemory),
+        }
+    }
+
+    // The next call is one that is to fail.
+    fn fails(&mut self) -> bool
+        ensures fails { IsTrue result ↔ IsTrue (fails_at (next_count self.old.calls) self.old.failing) }
+        ensures faults { self.new ≡ record self.old { calls = next_count self.old.calls; faults = if result then next_count self.old.faults else self.old.faults } }
+        ensures later { self.old.faults ≤ self.new.faults }
+    {
+        self.calls = self.calls.saturating_add(1);
+        if self.failing.contains(&self.calls) {
+            self.faults = self.faults.saturating_add(1);
+            return true;
+        }
+        false
+    }
+}
+
+impl Door for ListDoor {
+    ghost use Rattle.outside.specs.Links.{links_after, ends_after};
+    ghost use Rattle.outside.specs.Listed.{Comes};
+
+    type In = BytesSource;
+
+    type Out = ListSink;
+
+    ghost faults = { λ d. d.faults };
+
+    ghost links = { λ d. d.links };
+
+    ghost ends = { λ d. d.ends };
+
+    fn listen(&mut self, _addr: &str) -> Result<(), Failed>
+        ensures fails { IsErr result ↔ IsTrue (fails_at (next_count self.old.calls) self.old.failing) }
+        ensures ok { OnOk result (self.new ≡ record self.old { calls = next_count self.old.calls }) }
+        ensures err { OnErr result (self.new ≡ record self.old { calls = next_count self.old.calls; faults = next_count self.old.faults }) }
+        ensures cause { HasCause self.old.faults self.new.faults result }
+    {
+        if self.fails() {
+            return Err(Failed);
+        }
+        Ok(())
+    }
+
+    /// It is never idle, and fails also where no memory is left.
+    fn accept(&mut self) -> Result<Accepted<BytesSource, ListSink>, Failed>
+        ensures links { MatchResult result (λ a. self.new.links ≡ links_after a self.old.links) (λ _. self.new.links ≡ self.old.links) }
+        ensures ends { MatchResult result (λ a. self.new.ends ≡ ends_after a self.old.ends) (λ _. self.new.ends ≡ self.old.ends) }
+        ensures cause { HasCause self.old.faults self.new.faults result }
+        ensures fails { IsTrue (fails_at (next_count self.old.calls) self.old.failing) → IsErr result }
+        ensures comes { IfOk result (λ a. Comes a self.old.waiting self.new.waiting) }
+        ensures err { OnErr result (self.new.waiting ≡ self.old.waiting) }
+        ensures same { (self.new.calls ≡ next_count self.old.calls) × (self.new.failing ≡ self.old.failing) × (self.new.all ≡ self.old.all) }
+    {
+        if self.fails() {
+            return Err(Failed);
+        }
+        if self.waiting.is_empty() {
+            self.ends = self.ends.saturating_add(1);
+            return Ok(Accepted::Over);
+        }
+        let place = self.written.len() - self.waiting.len();
+        match Arc::try_clone(&self.written[place]) {
+            Ok(written) => {
+                let incoming = BytesSource::new(
+                    self.waiting.pop().unwrap(),
+                    usize::MAX,
+                    Vec::new(self.alloc),
+                );
+                self.links = self.links.saturating_add(1);
+                let outgoing = ListSink { written, faults: 0 };
+                Ok(Accepted::Joined(Link { incoming, outgoing }))
+            }
+            Err(_) => {
+                self.faults = self.faults.saturating_add(1);
+                Err(Failed)
+            }
+        }
+    }
+}
+
+// Nothing was written yet to any of so many callers.
+fn sheets(alloc: Global, count: usize) -> Result<Vec<Written>, AllocError>
+    ensures { IfOk result (λ all. length all.items ≡ count) }
+{
+    let mut all = Vec::with_capacity(alloc, count)?;
+    for _ in 0..count {
+        all.push(Arc::new(alloc, Mutex::new(Vec::new(alloc)))?)?;
+    }
+    Ok(all)
+}
+
+#[cfg(test)]
+mod tests {
+    use super::*;
+    use crate::streams::Source;
+    use std::process::Abort;
+    use std::test::Fail;
+
+    // The next caller sends this text, and gets it and a mark behind it.
+    fn answer(rt: &impl Abort, door: &mut ListDoor, text: &[u8])
+        ensures { door.new.all ≡ door.old.all }
+    {
+        let accepted = door.accept();
+        assert!(rt; matches!(accepted, Ok(Accepted::Joined(_))));
+        if let Ok(
+            Accepted::Joined(
+                Link {
+                    mut incoming,
+                    mut outgoing,
+                },
+            ),
+        ) = accepted
+        {
+            let mut into = [0; 4];
+            assert_eq!(rt; incoming.read(&mut into), Ok(text.len()));
+            assert_eq!(rt; outgoing.write(text), Ok(text.len()));
+            assert_eq!(rt; outgoing.write(b"!"), Ok(1));
+        }
+    }
+
+    #[test]
+    fn callers_come_in_order(rt: HostRuntime) -> Result<(), Fail> {
+        let alloc = rt.alloc();
+        let links = Vec::from_array(alloc, [b"ab".to_vec(alloc)?, b"c".to_vec(alloc)?])?;
+        let made = ListDoor::new(alloc, links, [1, 3u64].to_vec(alloc)?);
+        assert!(rt; made.is_ok());
+        if let Ok(mut door) = made {
+            assert_eq!(rt; door.listen("x"), Err(Failed));
+            assert_eq!(rt; door.listen("x"), Ok(()));
+            assert!(rt; door.accept().is_err());
+            answer(&rt, &mut door, b"ab");
+            answer(&rt, &mut door, b"c");
+            assert!(rt; matches!(door.accept(), Ok(Accepted::Over)));
+            let first = door.written(&rt, alloc, 0);
+            assert!(rt; first.is_ok_and(|written| written.as_slice() == b"ab!".as_slice()));
+            let second = door.written(&rt, alloc, 1);
+            assert!(rt; second.is_ok_and(|written| written.as_slice() == b"c!".as_slice()));
+        }
+        Ok(())
+    }
+}

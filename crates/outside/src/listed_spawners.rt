@@ -1,0 +1,194 @@
+ghost use Rattle.std.specs.Prelude.{◌≡◌, ◌≤◌, IsErr, IsTrue, OnOk};
+ghost use Rattle.outside.specs.Causes.{HasCause, Stood, next_count};
+ghost use Rattle.outside.specs.Memory.{fails_at};
+ghost use Rattle.outside.specs.Spawners.{Starting};
+
+use crate::failures::Failed;
+use crate::jobs::{Ender, Job, Spawner, Tally};
+use std::alloc::{AllocError, Global};
+use std::marker::Model;
+use std::sync::{Arc, Condvar, Mutex, Wait};
+use std::thread::Threads;
+
+// The jobs that run now.
+#[derive(Drop)]
+struct Running {
+    count: Mutex<u64>,
+    fewer: Condvar,
+}
+
+/// One of the jobs that run, which takes itself off the count at its end.
+#[derive(Drop)]
+pub struct RunningJob {
+    running: Arc<Running, Global>,
+}
+
+impl Ender for RunningJob {
+    fn end<R: Wait>(self, rt: &R) {
+        take_off(rt, &self.running);
+    }
+}
+
+fn take_off<R: Wait>(rt: &R, running: &Running) {
+    let mut count = running.count.lock(rt);
+    *count = count.saturating_sub(1);
+    running.fewer.notify_all();
+}
+
+fn put_on<R: Wait>(rt: &R, running: &Running) {
+    let mut count = running.count.lock(rt);
+    *count = count.saturating_add(1);
+}
+
+/// It starts threads, and refuses the starts that are listed.
+#[derive(Drop)]
+pub struct ListedSpawner {
+    alloc: Global,
+    refused: Vec<u64>,
+    running: Option<Arc<Running, Global>>,
+    starts: u64,
+    jobs: u64,
+    faults: u64,
+}
+
+impl Model for ListedSpawner {
+    ghost Value = { Starting };
+
+    ghost view = { λ s. record { refused = s.refused.items; starts = s.starts; jobs = s.jobs; faults = s.faults } };
+}
+
+impl ListedSpawner {
+    /// The starts whose numbers are in `refused`, counted from 1, are refused.
+    pub fn new(alloc: Global, refused: Vec<u64>) -> ListedSpawner
+        ensures { result ≡ record { refused = refused.items; starts = 0; jobs = 0; faults = 0 } }
+    {
+        ListedSpawner {
+            alloc,
+            refused,
+            running: None,
+            starts: 0,
+            jobs: 0,
+            faults: 0,
+        }
+    }
+}
+
+impl Tally for ListedSpawner {
+    type End = RunningJob;
+
+    ghost faults = { λ s. s.faults };
+
+    ghost jobs = { λ s. s.jobs };
+
+    fn admit<R: Wait>(&mut self, rt: &R) -> Result<RunningJob, Failed>
+        ensures cause { HasCause self.old.faults self.new.faults result }
+        ensures stood { OnOk result (Stood self.old.faults self.new.faults) }
+        ensures jobs { self.new.jobs ≡ self.old.jobs }
+        ensures listed { IsTrue (fails_at (next_count self.old.starts) self.old.refused) → IsErr result }
+        ensures counted { (self.new.refused ≡ self.old.refused) × (self.new.starts ≡ next_count self.old.starts) }
+    {
+        self.starts = self.starts.saturating_add(1);
+        // A count at its end could not tell a refusal from a start.
+        if self.faults < u64::MAX && !self.refused.contains(&self.starts) {
+            if let Ok(running) = shared(self.alloc, &mut self.running) {
+                put_on(rt, &running);
+                return Ok(RunningJob { running });
+            }
+        }
+        self.faults = self.faults.saturating_add(1);
+        Err(Failed)
+    }
+
+    fn began(&mut self)
+        ensures { self.new ≡ record self.old { jobs = next_count self.old.jobs } }
+    {
+        self.jobs = self.jobs.saturating_add(1);
+    }
+
+    fn failed<R: Wait>(&mut self, rt: &R)
+        ensures failed { self.new ≡ record self.old { faults = next_count self.old.faults } }
+        ensures later { self.old.faults ≤ self.new.faults }
+    {
+        self.faults = self.faults.saturating_add(1);
+        if let Some(running) = &self.running {
+            take_off(rt, running);
+        }
+    }
+
+    fn finish<R: Threads + Wait>(&mut self, rt: &R)
+        ensures { self.new ≡ self.old }
+    {
+        if let Some(running) = &self.running {
+            drop(
+                running
+                    .fewer
+                    .wait_while(rt, running.count.lock(rt), |count| *count > 0),
+            );
+        }
+    }
+}
+
+impl<J: Job> Spawner<J> for ListedSpawner {}
+
+// One more holder of the count of running jobs, which is made at the first start.
+fn shared(
+    alloc: Global,
+    running: &mut Option<Arc<Running, Global>>,
+) -> Result<Arc<Running, Global>, AllocError> {
+    if let Some(running) = running {
+        return Arc::try_clone(running);
+    }
+    let first = Arc::new(
+        alloc,
+        Running {
+            count: Mutex::new(0),
+            fewer: Condvar::new(),
+        },
+    )?;
+    let more = Arc::try_clone(&first)?;
+    *running = Some(first);
+    Ok(more)
+}
+
+#[cfg(test)]
+mod tests {
+    use super::*;
+    use std::sync::atomic::{AtomicU64, Ordering};
+    use std::test::Fail;
+
+    #[derive(Drop)]
+    struct Adds {
+        sum: Arc<AtomicU64, Global>,
+        number: u64,
+    }
+
+    impl Job for Adds {
+        type Out = u64;
+
+        ghost gives = { λ _ _. Unit {0} };
+
+        ghost ready = { λ _. Unit {0} };
+
+        fn run<R: Wait>(self, _rt: &R) -> u64 {
+            self.sum.fetch_add(self.number, Ordering::SeqCst)
+        }
+    }
+
+    #[test]
+    fn it_runs_each_job_but_those_refused(rt: HostRuntime) -> Result<(), Fail> {
+        let alloc = rt.alloc();
+        let sum = Arc::new(alloc, AtomicU64::new(0))?;
+        let mut spawner = ListedSpawner::new(alloc, [2u64].to_vec(alloc)?);
+        spawner.finish(&rt);
+        for (number, answer) in [(1, Ok(())), (10, Err(Failed)), (100, Ok(()))] {
+            let job = Adds {
+                sum: Arc::try_clone(&sum)?,
+                number,
+            };
+            assert_eq!(rt; spawner.start(&rt, job), answer);
+        }
+        spawner.finish(&rt);
+        assert_eq!(rt; sum.load(Ordering::SeqCst), 101);
+        Ok(())
+    }
+}

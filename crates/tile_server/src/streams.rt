@@ -1,0 +1,99 @@
+//! The real source and sink. They tell nothing of their content, and count their failures.
+
+ghost use Rattle.std.specs.Prelude.{None};
+
+use outside::{Failed, Sink, Source};
+use std::io::{Read, Write};
+
+/// What is read from standard input, or another reader.
+#[derive(Drop)]
+pub(crate) struct StdinSource<R: Read + Drop> {
+    reader: R,
+    faults: u64,
+}
+
+impl<R: Read + Drop> StdinSource<R> {
+    /// Nothing was read yet, and nothing has failed.
+    pub(crate) fn new(reader: R) -> StdinSource<R> {
+        StdinSource { reader, faults: 0 }
+    }
+}
+
+impl<R: Read + Drop> Source for StdinSource<R> {
+    ghost left = { λ s. None };
+
+    ghost faults = { λ s. s.faults };
+
+    fn read(&mut self, into: &mut [u8]) -> Result<usize, Failed> {
+        match self.reader.read(into) {
+            Ok(count) => Ok(count),
+            Err(_) => {
+                self.faults = self.faults.saturating_add(1);
+                Err(Failed)
+            }
+        }
+    }
+}
+
+/// What is written to standard output, or to another writer.
+#[derive(Drop)]
+pub(crate) struct StdoutSink<W: Write + Drop> {
+    writer: W,
+    faults: u64,
+}
+
+impl<W: Write + Drop> StdoutSink<W> {
+    /// Nothing was written yet, and nothing has failed.
+    pub(crate) fn new(writer: W) -> StdoutSink<W> {
+        StdoutSink { writer, faults: 0 }
+    }
+}
+
+impl<W: Write + Drop> Sink for StdoutSink<W> {
+    ghost held = { λ s. None };
+
+    ghost faults = { λ s. s.faults };
+
+    /// A writer that takes nothing of a piece has failed.
+    fn write(&mut self, piece: &[u8]) -> Result<usize, Failed> {
+        match self.writer.write(piece) {
+            Ok(0) if !piece.is_empty() => {
+                self.faults = self.faults.saturating_add(1);
+                Err(Failed)
+            }
+            Ok(count) => Ok(count),
+            Err(_) => {
+                self.faults = self.faults.saturating_add(1);
+                Err(Failed)
+            }
+        }
+    }
+}
+
+#[cfg(test)]
+mod tests {
+    use super::*;
+    use std::test::Fail;
+
+    #[test]
+    fn a_source_gives_what_the_reader_has(rt: HostRuntime) -> Result<(), Fail> {
+        let mut source = StdinSource::new(b"abc".as_slice());
+        let mut into = [b'.'; 4];
+        assert_eq!(rt; source.read(&mut into), Ok(3));
+        assert_eq!(rt; into, *b"abc.");
+        assert_eq!(rt; source.read(&mut into), Ok(0));
+        assert_eq!(rt; source.faults, 0);
+        Ok(())
+    }
+
+    #[test]
+    fn a_sink_counts_what_its_writer_refuses(rt: HostRuntime) -> Result<(), Fail> {
+        let mut room = [0u8; 3];
+        let mut sink = StdoutSink::new(&mut room[..]);
+        assert_eq!(rt; sink.write(b"abcd"), Ok(3));
+        assert_eq!(rt; sink.write(b"d"), Err(Failed));
+        assert_eq!(rt; sink.write(b""), Ok(0));
+        assert_eq!(rt; sink.faults, 1);
+        Ok(())
+    }
+}

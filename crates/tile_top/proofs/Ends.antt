@@ -1,0 +1,107 @@
+-- The end of a play, with its last line.
+use Rattle.std.proofs.Common.{◌≡◌, ◌≢◌, ◌⊎◌, ℕ, refl, sym, ap, ◌∙◌, subst, List, [], ◌∷◌, ◌++◌, ◌≤◌, ◌<◌, Bool, length, get_or, append_assoc, arith, inl, inr}
+use Rattle.std.specs.Prelude.{Option, None, Some, map, IsTrue, bytes_eq, true, false}
+use Rattle.std.proofs.lemmas.Bool.Decides.{nat_tests}
+use Rattle.std.proofs.lemmas.List.{append-nil}
+use Rattle.std.specs.Io.KnownBytes.{Appends}
+use mathlib.Core.List.{IsPrefix}
+use Rattle.byte_text.specs.Names.{Bytes}
+use Rattle.world_model.specs.Halls.{Hall}
+use Rattle.tile_top.specs.TextLines.{TextLine, lines, size_of_all}
+use Rattle.tile_top.specs.Scripts.{opening}
+use Rattle.tile_top.specs.Plays.{IsDone, IsFaulty, IsPart, IsCut}
+use Rattle.tile_top.specs.Tops.{IsLast, IsLastPart, IsStopped, IsEnd, Replays, script_line, read_line, memory_line}
+use Rattle.tile_top.proofs.Writing.{appends_more, appends_nothing}
+
+no_part : (before : ℕ) (h : Hall) (ls : List TextLine) → IsPart before h ls []
+no_part before h [] = refl
+no_part before h (l ∷ ls) = inl refl
+
+-- nothing was done
+pub cut_none : (left0 held0 : Option Bytes) → IsCut left0 held0 held0 []
+cut_none left0 held0 text is = ([], lines text, [], opening, [], refl, (refl, refl), no_part 0 opening (lines text), appends_nothing held0)
+
+-- more was written behind what was cut
+cut_more : (left0 held0 mid held : Option Bytes) (tail : Bytes) → IsCut left0 held0 mid [] → Appends mid held tail → IsCut left0 held0 held tail
+cut_more left0 held0 mid held tail c a text is =
+    let p = c text is in
+    let same : (p.2 ++ (p.4 ++ [])) ++ tail ≡ p.2 ++ (p.4 ++ tail) = ap (λ (z : Bytes). (p.2 ++ z) ++ tail) (append-nil p.4) ∙ append_assoc p.2 p.4 tail in
+    (p.0, p.1, p.2, p.3, p.4, p.5, p.6, p.7, subst (λ (z : Bytes). Appends held0 held z) same (appends_more held0 mid held (p.2 ++ (p.4 ++ [])) tail p.8 a))
+
+faulty_more : (left0 held0 mid held : Option Bytes) (number : ℕ) (tail : Bytes) → IsFaulty left0 held0 mid number [] → Appends mid held tail → IsFaulty left0 held0 held number tail
+faulty_more left0 held0 mid held number tail f a text is =
+    let p = f text is in
+    let same : (p.3 ++ []) ++ tail ≡ p.3 ++ tail = ap (λ (z : Bytes). z ++ tail) (append-nil p.3) in
+    (p.0, p.1, p.2, p.3, p.4, p.5, p.6, p.7, p.8, subst (λ (z : Bytes). Appends held0 held z) same (appends_more held0 mid held (p.3 ++ []) tail p.9 a))
+
+-- the lines before a faulty one were done
+pub faulty_cut : (left0 held0 mid : Option Bytes) (number : ℕ) → IsFaulty left0 held0 mid number [] → IsCut left0 held0 mid []
+faulty_cut left0 held0 mid number f text is =
+    let p = f text is in
+    (p.0, p.1 ∷ p.2, p.3, p.4, [], p.5, p.7, inl refl, p.9)
+
+stopped_part : (left0 held0 mid held : Option Bytes) (last part : Bytes) → IsCut left0 held0 mid [] → IsLast last → IsPrefix part last → Appends mid held part → IsStopped left0 held0 held
+stopped_part left0 held0 mid held last part c l p a = (part, (last, p, l), cut_more left0 held0 mid held part c a)
+
+pub stopped_none : (left0 held0 mid : Option Bytes) → IsCut left0 held0 mid [] → IsStopped left0 held0 mid
+stopped_none left0 held0 mid c = ([], (memory_line, (memory_line, refl), inr (inr (inr refl))), c)
+
+-- the status of a play that was done, or stopped by a write
+pub replays_done : (left0 left held0 held : Option Bytes) → IsDone left0 left held0 held → Replays left0 left held0 held 0
+replays_done left0 left held0 held d = record { done = λ _. d; script = λ e. absurd (omega (arith, e)); read = λ e. absurd (omega (arith, e)); write = λ e. absurd (omega (arith, e)); memory = λ e. absurd (omega (arith, e)); few = inl refl }
+
+pub replays_stopped : (left0 left held0 held : Option Bytes) (status : ℕ) → status ≡ 4 → IsStopped left0 held0 held → Replays left0 left held0 held status
+replays_stopped left0 left held0 held status is s = record { done = λ e. absurd (omega (arith, e, is)); script = λ e. absurd (omega (arith, e, is)); read = λ e. absurd (omega (arith, e, is)); write = λ _. s; memory = λ e. absurd (omega (arith, e, is)); few = inr (inr (inr (inl is))) }
+
+replays_script : (left0 left held0 held : Option Bytes) (status number : ℕ) → status ≡ 2 → IsFaulty left0 held0 held number (script_line number) → Replays left0 left held0 held status
+replays_script left0 left held0 held status number is f = record { done = λ e. absurd (omega (arith, e, is)); script = λ _. (number, f); read = λ e. absurd (omega (arith, e, is)); write = λ e. absurd (omega (arith, e, is)); memory = λ e. absurd (omega (arith, e, is)); few = inr (inl is) }
+
+replays_read : (left0 left held0 held : Option Bytes) (status : ℕ) → status ≡ 3 → IsCut left0 held0 held read_line → Replays left0 left held0 held status
+replays_read left0 left held0 held status is c = record { done = λ e. absurd (omega (arith, e, is)); script = λ e. absurd (omega (arith, e, is)); read = λ _. c; write = λ e. absurd (omega (arith, e, is)); memory = λ e. absurd (omega (arith, e, is)); few = inr (inr (inl is)) }
+
+replays_memory : (left0 left held0 held : Option Bytes) (status : ℕ) → status ≡ 7 → IsCut left0 held0 held memory_line → Replays left0 left held0 held status
+replays_memory left0 left held0 held status is c = record { done = λ e. absurd (omega (arith, e, is)); script = λ e. absurd (omega (arith, e, is)); read = λ e. absurd (omega (arith, e, is)); write = λ e. absurd (omega (arith, e, is)); memory = λ _. c; few = inr (inr (inr (inr is))) }
+
+-- the last line was written, or in part
+pub ends_script : (left0 left held0 mid held : Option Bytes) (number ended : ℕ) (last : Bytes) → IsFaulty left0 held0 mid number [] → last ≡ script_line number → IsEnd mid held 2 last ended → Replays left0 left held0 held ended
+ends_script left0 left held0 mid held number ended last f is (inl w) = replays_script left0 left held0 held ended number w.0 (subst (λ (z : Bytes). IsFaulty left0 held0 held number z) is (faulty_more left0 held0 mid held number last f w.1))
+ends_script left0 left held0 mid held number ended last f is (inr w) = replays_stopped left0 left held0 held ended w.0 (stopped_part left0 held0 mid held last w.1.0 (faulty_cut left0 held0 mid number f) (inr (inl (number, is))) w.1.1 w.1.2)
+
+pub ends_read : (left0 left held0 mid held : Option Bytes) (ended : ℕ) → IsCut left0 held0 mid [] → IsEnd mid held 3 read_line ended → Replays left0 left held0 held ended
+ends_read left0 left held0 mid held ended c (inl w) = replays_read left0 left held0 held ended w.0 (cut_more left0 held0 mid held read_line c w.1)
+ends_read left0 left held0 mid held ended c (inr w) = replays_stopped left0 left held0 held ended w.0 (stopped_part left0 held0 mid held read_line w.1.0 c (inr (inr (inl refl))) w.1.1 w.1.2)
+
+pub ends_memory : (left0 left held0 mid held : Option Bytes) (ended : ℕ) → IsCut left0 held0 mid [] → IsEnd mid held 7 memory_line ended → Replays left0 left held0 held ended
+ends_memory left0 left held0 mid held ended c (inl w) = replays_memory left0 left held0 held ended w.0 (cut_more left0 held0 mid held memory_line c w.1)
+ends_memory left0 left held0 mid held ended c (inr w) = replays_stopped left0 left held0 held ended w.0 (stopped_part left0 held0 mid held memory_line w.1.0 c (inr (inr (inr refl))) w.1.1 w.1.2)
+
+-- a list of one item
+pub single : {A : Type 0} (f : A → Bytes) (xs : List A) (w : A) → 1 ≤ length xs → length xs < 2 → w ≡ get_or xs 0 w → f w ∷ [] ≡ map f xs
+single f [] w a b e = absurd (omega (arith, a))
+single f (x ∷ []) w a b e = ap (λ z. f z ∷ []) e
+single f (x ∷ y ∷ xs) w a b e = absurd (omega (arith, b))
+
+head_is : (x y : Bytes) → x ∷ [] ≡ y ∷ [] → x ≡ y
+head_is x y e = cc
+
+pub is_one : {A : Type 0} (f : A → Bytes) (xs : List A) (w : A) (name text : Bytes) (t : Bool) → 1 ≤ length xs → length xs < 2 → w ≡ get_or xs 0 w → text ≡ f w → (IsTrue t → text ≡ name) → (text ≡ name → IsTrue t)
+    → (IsTrue t → map f xs ≡ name ∷ []) × (map f xs ≡ name ∷ [] → IsTrue t)
+is_one f xs w name text t a b e is to from =
+    let one = single f xs w a b e in
+    (λ h. sym one ∙ ap (λ (z : Bytes). z ∷ []) (sym is ∙ to h), λ m. from (is ∙ head_is (f w) name (one ∙ m)))
+
+alike : (a b : Bytes) → bytes_eq a b ≡ true → a ≡ b
+alike [] [] e = refl
+alike [] (y ∷ b) e = absurd (cc)
+alike (x ∷ a) [] e = absurd (cc)
+alike (x ∷ a) (y ∷ b) e = let ih = alike a b in grind (arith, nat_tests)
+
+itself : (a : Bytes) → bytes_eq a a ≡ true
+itself [] = refl
+itself (x ∷ a) = let ih = itself a in grind (arith, nat_tests)
+
+pub alike_if : (t : Bool) (a b : Bytes) → t ≡ bytes_eq a b → IsTrue t → a ≡ b
+alike_if t a b e h = alike a b (sym e ∙ h)
+
+pub if_alike : (t : Bool) (a b : Bytes) → t ≡ bytes_eq a b → a ≡ b → IsTrue t
+if_alike t a b e is = e ∙ subst (λ (z : Bytes). bytes_eq a z ≡ true) is (itself a)

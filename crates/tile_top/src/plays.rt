@@ -1,0 +1,112 @@
+//! The play of a script, line by line: the output of a line is written before the next one is read.
+
+ghost use Rattle.std.specs.Prelude.{◌≡◌, ◌≤◌, ◌<◌, ◌+◌, []};
+ghost use Rattle.outside.specs.Causes.{Rose};
+ghost use Rattle.world_model.specs.Limits.{take_frames};
+ghost use Rattle.tile_top.specs.TextLines.{max_script};
+ghost use Rattle.tile_top.specs.Plays.{OnTurn, OnPlay, OnLineDone};
+
+use crate::acts::act;
+use crate::streams::{LineEnd, read_line, write_all};
+use byte_text::NoMemory;
+use outside::{Failed, Sink, Source};
+use std::alloc::Global;
+use tile_core::Core;
+use world_model::Frames;
+
+/// How a line of a script ended.
+#[derive(Clone, Copy, Debug, PartialEq, Eq)]
+pub(crate) enum Turn {
+    /// The line was done.
+    Next,
+    /// No line was left.
+    End,
+    /// The line is none of a script.
+    Script,
+    ReadFault,
+    WriteFault,
+    Memory,
+}
+
+// Does a line that was read, and writes its output.
+fn do_line<K: Sink>(
+    alloc: Global,
+    sink: &mut K,
+    core: &mut Core,
+    frames: &mut Frames,
+    line: &[u8],
+) -> Turn
+    requires { frames.old ≡ record { list = []; places = take_frames } }
+    ensures told { OnLineDone result (K.held sink.old) (K.held sink.new) core.old.hall core.new.hall line.now }
+    ensures cleared { frames.new ≡ record { list = []; places = take_frames } }
+    ensures later { K.faults sink.old ≤ K.faults sink.new }
+    ensures cause { result ≡ Turn.WriteFault → Rose (K.faults sink.old) (K.faults sink.new) }
+{
+    match act(alloc, core, frames, line) {
+        Ok(Some(out)) => match write_all(sink, out.bytes()) {
+            Ok(()) => Turn::Next,
+            Err(Failed) => Turn::WriteFault,
+        },
+        Ok(None) => Turn::Script,
+        Err(NoMemory) => Turn::Memory,
+    }
+}
+
+// Reads the next line, does it, and writes its output.
+fn next_line<S: Source, K: Sink>(
+    alloc: Global,
+    source: &mut S,
+    sink: &mut K,
+    core: &mut Core,
+    frames: &mut Frames,
+    line: &mut Vec<u8>,
+    used: &mut u64,
+) -> Turn
+    requires read { used.old ≤ max_script }
+    requires empty { frames.old ≡ record { list = []; places = take_frames } }
+    ensures told { OnTurn result (S.left source.old) (S.left source.new) (K.held sink.old) (K.held sink.new) core.old.hall core.new.hall used.old used.new }
+    ensures cleared { frames.new ≡ record { list = []; places = take_frames } }
+    ensures most { used.new ≤ max_script }
+    ensures some { result ≡ Turn.Next → used.old + 1 ≤ used.new }
+    ensures source { S.faults source.old ≤ S.faults source.new }
+    ensures sink { K.faults sink.old ≤ K.faults sink.new }
+    ensures read_cause { result ≡ Turn.ReadFault → Rose (S.faults source.old) (S.faults source.new) }
+    ensures write_cause { result ≡ Turn.WriteFault → Rose (K.faults sink.old) (K.faults sink.new) }
+{
+    match read_line(source, line, used) {
+        LineEnd::Line => do_line(alloc, sink, core, frames, line.as_slice()),
+        LineEnd::End => Turn::End,
+        LineEnd::TooLong => Turn::Script,
+        LineEnd::ReadFault => Turn::ReadFault,
+        LineEnd::Memory => Turn::Memory,
+    }
+}
+
+/// Plays a script to its end or to the first line that can't be done, and answers how it ended and at which line, counted from 1.
+pub(crate) fn play<S: Source, K: Sink>(
+    alloc: Global,
+    source: &mut S,
+    sink: &mut K,
+    frames: &mut Frames,
+) -> (Turn, u64)
+    requires { frames.old ≡ record { list = []; places = take_frames } }
+    ensures told { OnPlay result.0 (S.left source.old) (S.left source.new) (K.held sink.old) (K.held sink.new) result.1 }
+    ensures later { K.faults sink.old ≤ K.faults sink.new }
+    ensures read { result.0 ≡ Turn.ReadFault → Rose (S.faults source.old) (S.faults source.new) }
+    ensures write { result.0 ≡ Turn.WriteFault → Rose (K.faults sink.old) (K.faults sink.new) }
+{
+    let mut core = Core::new(alloc);
+    let mut line = Vec::new(alloc);
+    let mut used = 0u64;
+    let mut number = 1u64;
+    loop {
+        match next_line(alloc, source, sink, &mut core, frames, &mut line, &mut used) {
+            Turn::Next => number += 1,
+            Turn::End => return (Turn::End, number),
+            Turn::Script => return (Turn::Script, number),
+            Turn::ReadFault => return (Turn::ReadFault, number),
+            Turn::WriteFault => return (Turn::WriteFault, number),
+            Turn::Memory => return (Turn::Memory, number),
+        }
+    }
+}
