@@ -1,11 +1,11 @@
 -- The parity of edges, met one after another.
-use Rattle.std.proofs.Common.{◌≡◌, ℕ, zero, suc, ◌+◌, ◌%◌, Bool, true, false, refl, sym, ap, ◌∙◌, arith, List, [], ◌∷◌, nat_eq, cond}
+use Rattle.std.proofs.Common.{◌≡◌, ℕ, zero, suc, ◌+◌, ◌%◌, Bool, true, false, refl, sym, ap, ◌∙◌, arith, List, [], ◌∷◌, nat_eq, cond, append-nil}
 use Rattle.std.proofs.lemmas.List.Sums.{sum_by-cons}
 use Rattle.std.specs.Prelude.{Option, Some, None, not, ◌||◌, ◌==◌, fold, map, count_by, unwrap_or, if◌then◌else◌}
 use Rattle.std.specs.List.{list_any}
 use Rattle.std.proofs.lemmas.Bool.Decides.{nat_tests}
 use Rattle.planar_geom.specs.Points.{Point}
-use Rattle.planar_geom.specs.Figures.{Stretch, edges, differ, on_stretch, passes_right, in_poly, on_edge, is_odd}
+use Rattle.planar_geom.specs.Figures.{Stretch, stretches, edges, differ, on_stretch, passes_right, in_poly, on_edge, is_odd}
 use Rattle.planar_geom.specs.Standings.{on_grid, with_edge, parity}
 use Rattle.planar_geom.specs.declared.polygons.Grid.{Grid}
 use Rattle.planar_geom.specs.declared.polygons.Grid.TheVariants.{Whole, Doubled}
@@ -61,3 +61,8 @@ map-map-whole (ring ∷ rings) = rw (map-whole ring, map-map-whole rings) refl
 -- a point is in a polygon where it is on an edge or the parity is odd
 pub unwrap_or-parity : (rings : List (List Point)) (p : Point) → unwrap_or (parity (edges rings) p) true ≡ in_poly rings p
 unwrap_or-parity rings p = elim (on_edge rings p) as (λ b. unwrap_or (if b then None else Some (is_odd rings p)) true ≡ (b || is_odd rings p)) [ true ↦ refl | false ↦ refl ]
+
+-- the edges of one ring of the whole grid give the parity of its polygon
+pub fold-ring : (p : Point) (ring : List Point) → fold (with_edge p) (Some false) (stretches (map (on_grid Whole) ring)) ≡ parity (edges (ring ∷ [])) p
+fold-ring p ring =
+    ap (λ points. fold (with_edge p) (Some false) (stretches points)) (map-whole ring) ∙ fold-parity p (stretches ring) ∙ ap (λ es. parity es p) (sym (append-nil (stretches ring)))

@@ -1,5 +1,5 @@
 -- Points and boxes as contracts see them, and squared distances.
-use Rattle.std.specs.Prelude.{ℕ, zero, suc, ◌^◌, nat_le, ℤ, pos, negsuc, ◌+◌, ◌*◌, ◌<◌, Bool, ◌&&◌, ◌-ℤ◌, ◌+ℤ◌, ◌≤ℤ◌, int_le, int_lt, nat_abs, if◌then◌else◌, List, fold, Option, Some, None}
+use Rattle.std.specs.Prelude.{ℕ, zero, suc, ◌^◌, nat_le, ℤ, pos, negsuc, ◌+◌, ◌*◌, ◌<◌, Bool, ◌&&◌, ◌-ℤ◌, ◌+ℤ◌, ◌≤ℤ◌, int_le, int_lt, nat_abs, if◌then◌else◌, List, [], ◌∷◌, fold, Option, Some, None}
 use Rattle.std.specs.Int.{int_min, int_max, int_div_euclid}
 
 -- a point of whole coordinates
@@ -120,6 +120,10 @@ box_round p ps = fold with_point (bounds p p) ps
 abbrev pub grown : Option Bounds → Point → Option Bounds
 grown None p = Some (bounds p p)
 grown (Some b) p = Some (with_point b p)
+
+-- the corners of a box against the clock, the first also last
+abbrev pub corners_of : Bounds → List Point
+corners_of b = b.min ∷ pt b.max.x b.min.y ∷ b.max ∷ pt b.min.x b.max.y ∷ b.min ∷ []
 
 -- the centre, each sum halved and rounded down
 abbrev pub centre : Bounds → Point

@@ -2,8 +2,8 @@
 use Rattle.std.specs.Prelude.{ℕ, ℤ, pos, ◌*◌, Bool, true, false, not, ◌&&◌, ◌||◌, ◌-ℤ◌, ◌+ℤ◌, ◌*ℤ◌, int_lt, int_le, nat_le, List, [], ◌∷◌, map}
 use Rattle.std.specs.List.{list_any, list_all}
 use Rattle.std.specs.Int.{int_min, int_max}
-use Rattle.planar_geom.specs.Points.{Point, Bounds, pt, bounds, least_coordinate, greatest_coordinate, same_point, dist2, in_box, boxes_meet, square}
-use Rattle.planar_geom.specs.Figures.{Stretch, stretches, edges, ring_points, meets, crosses, on_stretch, in_poly, strictly_in, doubled, doubled_middle}
+use Rattle.planar_geom.specs.Points.{Point, Bounds, pt, bounds, corners_of, least_coordinate, greatest_coordinate, same_point, dist2, in_box, boxes_meet, square}
+use Rattle.planar_geom.specs.Figures.{Stretch, stretches, edges, ring_points, meets, crosses, on_stretch, in_poly, strictly_in, doubled, doubled_middle, dot, minus}
 pub use Rattle.planar_geom.specs.Shapes.{vertices, segments, all_vertices, all_segments, positions, box_of_points, box_of}
 use Rattle.planar_geom.specs.declared.shapes.Part.{Part}
 use Rattle.planar_geom.specs.declared.shapes.Part.TheVariants.{Spot, Chain, Face}
@@ -31,7 +31,7 @@ area_box (Figure shape) = box_of shape
 
 -- a box as a figure: the face of its four corners
 abbrev pub face_of : Bounds → Part
-face_of b = Face ((b.min ∷ pt b.max.x b.min.y ∷ b.max ∷ pt b.min.x b.max.y ∷ b.min ∷ []) ∷ [])
+face_of b = Face (corners_of b ∷ [])
 
 -- two parts touch: two segments meet, or a vertex of one is in the other
 abbrev pub touch : Part → Part → Bool
@@ -44,14 +44,6 @@ figures_touch a b = boxes_meet (box_of a) (box_of b) && list_any (λ p. list_any
 -- p is at most r away from c
 abbrev pub in_disc : Point → ℕ → Point → Bool
 in_disc c r p = nat_le (dist2 p c) (r * r)
-
--- the scalar product of two vectors
-abbrev pub dot : Point → Point → ℤ
-dot d e = d.x *ℤ e.x +ℤ d.y *ℤ e.y
-
--- the vector from q to p
-abbrev pub minus : Point → Point → Point
-minus p q = pt (p.x -ℤ q.x) (p.y -ℤ q.y)
 
 -- with d along the segment and e from its start to the centre: the foot of the centre is on it, and near
 abbrev pub comes_near : Point → ℕ → Point → Bool

@@ -3,11 +3,13 @@
 #![tactic(auto)]
 
 mod boxes;
+mod discs;
 mod distances;
 mod lists;
 mod places;
 mod points;
 mod polygons;
+mod regions;
 mod searches;
 mod segments;
 mod shapes;

@@ -97,7 +97,7 @@ impl Model for BBox {
 
 impl BBox {
     ghost use Rattle.std.specs.Prelude.{◌≡◌, pos};
-    ghost use Rattle.planar_geom.specs.Points.{pt, bounds, bounds_of, boxes_meet, in_box, with_point, IsBox};
+    ghost use Rattle.planar_geom.specs.Points.{pt, bounds, bounds_of, corners_of, boxes_meet, in_box, with_point, IsBox};
 
     /// The box between two corners; `None` exactly where `min` exceeds `max` in x or in y.
     pub fn of(min: Pt, max: Pt) -> Option<BBox>
@@ -123,6 +123,20 @@ impl BBox {
         ensures { result ≡ in_box self p }
     {
         is_between(self.min.x, self.max.x, p.x) && is_between(self.min.y, self.max.y, p.y)
+    }
+
+    /// The corners against the clock, the first also last.
+    pub(crate) fn corners(self) -> [Pt; 5]
+        ensures { result ≡ corners_of self }
+    {
+        let Pt { x: left, y: bottom } = self.min;
+        let Pt { x: right, y: top } = self.max;
+        let south_east = Pt {
+            x: right,
+            y: bottom,
+        };
+        let north_west = Pt { x: left, y: top };
+        [self.min, south_east, self.max, north_west, self.min]
     }
 
     /// The box of one point.

@@ -25,7 +25,7 @@ impl Grid {
     }
 }
 
-ghost use Rattle.std.specs.Prelude.{◌≡◌, map, fold};
+ghost use Rattle.std.specs.Prelude.{◌≡◌, [], ◌∷◌, map, fold};
 ghost use Rattle.planar_geom.specs.Figures.{in_poly as is_in_poly, edges, stretches, stretches_from, stretch, on_stretch, passes_right as passes_right_of};
 ghost use Rattle.planar_geom.specs.Standings.{on_grid, parity as parity_of, with_edge};
 
@@ -35,6 +35,13 @@ pub fn in_poly(p: Pt, poly: &Poly) -> bool
     ensures { result ≡ is_in_poly poly.now p }
 {
     parity(poly.rings().as_slice(), Grid::Whole, Place::of(p)).unwrap_or(true)
+}
+
+/// Whether a point is on an edge of the polygon of one ring, or inside it by parity.
+pub(crate) fn in_ring(p: Pt, ring: &[Pt]) -> bool
+    ensures { result ≡ is_in_poly (ring.now ∷ []) p }
+{
+    past_ring(ring, Grid::Whole, Place::of(p), Some(false)).unwrap_or(true)
 }
 
 /// Whether an odd number of the rings' edges passes to the right of a place; `None` where it is on one.

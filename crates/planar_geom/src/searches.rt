@@ -56,7 +56,8 @@ pub(crate) fn any_in_rings<T: SegmentTest>(rings: &[Points], test: &T) -> bool
     false
 }
 
-fn any_in_chain<T: SegmentTest>(points: &[Pt], test: &T) -> bool
+/// Whether a segment of the chain passes the test.
+pub(crate) fn any_in_chain<T: SegmentTest>(points: &[Pt], test: &T) -> bool
     ensures { result ≡ list_any (T.passes test.now) (stretches points.now) }
 {
     match points {
@@ -101,7 +102,8 @@ pub(crate) fn any_ring_point<T: PointTest>(rings: &[Points], test: &T) -> bool
     false
 }
 
-fn any_point<T: PointTest>(points: &[Pt], test: &T) -> bool
+/// Whether one of the points passes the test.
+pub(crate) fn any_point<T: PointTest>(points: &[Pt], test: &T) -> bool
     ensures { result ≡ list_any (T.passes test.now) points.now }
 {
     for p in points {
