@@ -20,3 +20,7 @@ and-swap false false = refl
 pub and-true : (p : Bool) → (p && true) ≡ p
 and-true true = refl
 and-true false = refl
+
+pub and-false : (p : Bool) → (p && false) ≡ false
+and-false true = refl
+and-false false = refl

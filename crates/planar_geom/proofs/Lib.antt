@@ -1,5 +1,6 @@
 pub mod BoolLemmas
 pub mod ChainLemmas
+pub mod DiscLemmas
 pub mod ParityLemmas
 pub mod PlaceLemmas
 pub mod RootLemmas

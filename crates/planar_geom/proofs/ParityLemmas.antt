@@ -1,11 +1,12 @@
 -- The parity of edges, met one after another.
 use Rattle.std.proofs.Common.{◌≡◌, ℕ, zero, suc, ◌+◌, ◌%◌, Bool, true, false, refl, sym, ap, ◌∙◌, arith, List, [], ◌∷◌, nat_eq, cond, append-nil}
 use Rattle.std.proofs.lemmas.List.Sums.{sum_by-cons}
-use Rattle.std.specs.Prelude.{Option, Some, None, not, ◌||◌, ◌==◌, fold, map, count_by, unwrap_or, if◌then◌else◌}
+use Rattle.std.specs.Prelude.{Option, Some, None, not, ◌||◌, ◌&&◌, ◌==◌, fold, map, count_by, unwrap_or, if◌then◌else◌}
 use Rattle.std.specs.List.{list_any}
 use Rattle.std.proofs.lemmas.Bool.Decides.{nat_tests}
 use Rattle.planar_geom.specs.Points.{Point}
-use Rattle.planar_geom.specs.Figures.{Stretch, stretches, edges, differ, on_stretch, passes_right, in_poly, on_edge, is_odd}
+use Rattle.planar_geom.specs.Figures.{Stretch, stretches, edges, differ, on_stretch, passes_right, in_poly, strictly_in, on_edge, is_odd}
+use Rattle.planar_geom.proofs.BoolLemmas.{and-true, and-false}
 use Rattle.planar_geom.specs.Standings.{on_grid, with_edge, parity}
 use Rattle.planar_geom.specs.declared.polygons.Grid.{Grid}
 use Rattle.planar_geom.specs.declared.polygons.Grid.TheVariants.{Whole, Doubled}
@@ -66,3 +67,7 @@ unwrap_or-parity rings p = elim (on_edge rings p) as (λ b. unwrap_or (if b then
 pub fold-ring : (p : Point) (ring : List Point) → fold (with_edge p) (Some false) (stretches (map (on_grid Whole) ring)) ≡ parity (edges (ring ∷ [])) p
 fold-ring p ring =
     ap (λ points. fold (with_edge p) (Some false) (stretches points)) (map-whole ring) ∙ fold-parity p (stretches ring) ∙ ap (λ es. parity es p) (sym (append-nil (stretches ring)))
+
+-- a point is strictly in a polygon where it is on no edge and the parity is odd
+pub unwrap_or-parity_strictly : (rings : List (List Point)) (p : Point) → unwrap_or (parity (edges rings) p) false ≡ strictly_in rings p
+unwrap_or-parity_strictly rings p = elim (on_edge rings p) as (λ b. unwrap_or (if b then None else Some (is_odd rings p)) false ≡ (is_odd rings p && not b)) [ true ↦ sym (and-false (is_odd rings p)) | false ↦ sym (and-true (is_odd rings p)) ]

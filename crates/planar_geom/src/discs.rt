@@ -24,9 +24,10 @@ impl Disc {
     }
 }
 
-ghost use Rattle.std.specs.Prelude.{◌≡◌, ◌*◌, ◌+◌, ◌≤◌, ◌^◌, ◌&&◌, ◌≤ℤ◌, ◌*ℤ◌, pos, neg_ℤ, int_le, int_lt};
+ghost use Rattle.std.specs.Prelude.{◌≡◌, ◌*◌, ◌&&◌, ◌≤ℤ◌, ◌*ℤ◌, ◌-ℤ◌, pos, int_le, int_lt};
 ghost use Rattle.planar_geom.specs.Points.{square as square_of};
-ghost use Rattle.planar_geom.specs.Relations.{comes_near as is_near, stretch_near};
+ghost use Rattle.planar_geom.specs.Figures.{dot as scalar_product};
+ghost use Rattle.planar_geom.specs.Relations.{stretch_near};
 
 fn square(side: u32) -> u64
     ensures { result ≡ side * side }
@@ -40,22 +41,33 @@ pub(crate) fn comes_near(s: Seg, disc: Disc) -> bool
 {
     let to_centre = Place::between(s.a, disc.centre);
     let along = Place::between(s.a, s.b);
-    if !has_foot(dot(to_centre, along), dot(along, along)) {
-        return false;
-    }
-    is_within(turn(to_centre, along), disc.radius, dot(along, along))
+    has_foot(to_centre, along) && has_near_foot(to_centre, along, disc.radius)
 }
 
-// Whether the foot of a point is on a segment: the scalar product is in the range from 0 to the squared
-// length, which is not 0.
-fn has_foot(product: i64, length2: i64) -> bool
+// Whether the foot of the way `e` is on the way `d`, which has a length.
+fn has_foot(e: Place, d: Place) -> bool
+    ensures { result ≡ (int_lt (pos 0) (scalar_product d d) && int_le (pos 0) (scalar_product e d) && int_le (scalar_product e d) (scalar_product d d)) }
+{
+    is_part_of_square(dot(e, d), dot(d, d))
+}
+
+// Whether a scalar product is in the range from 0 to a squared length, which is not 0.
+fn is_part_of_square(product: i64, length2: i64) -> bool
     ensures { result ≡ (int_lt (pos 0) length2 && int_le (pos 0) product && int_le product length2) }
 {
     0 < length2 && 0 <= product && product <= length2
 }
 
-// Whether a point whose triangle with a segment has twice this area is at most `radius` from its line.
-fn is_within(area: i64, radius: u32, length2: i64) -> bool
+// Whether the foot of the way `e` on the line along `d` is at most `radius` from its end.
+fn has_near_foot(e: Place, d: Place, radius: u32) -> bool
+    ensures { result ≡ int_le (pos (square_of (e.x *ℤ d.y -ℤ e.y *ℤ d.x))) (pos (radius * radius) *ℤ scalar_product d d) }
+{
+    is_low(turn(e, d), radius, dot(d, d))
+}
+
+// Whether the height over a side of this squared length, in a triangle of half this area, is at most
+// `radius`.
+fn is_low(area: i64, radius: u32, length2: i64) -> bool
     requires { pos 0 ≤ℤ length2 }
     ensures { result ≡ int_le (pos (square_of area)) (pos (radius * radius) *ℤ length2) }
 {

@@ -2,11 +2,11 @@
 
 use crate::lists::{Points, Poly};
 use crate::places::{Place, cross};
-use crate::points::Pt;
+use crate::points::{Pt, Seg};
 
 /// The whole coordinates of the plane, or the doubled ones in which the middle of a segment is whole.
 #[derive(Clone, Copy)]
-pub(crate) enum Grid {
+enum Grid {
     Whole,
     Doubled,
 }
@@ -26,7 +26,7 @@ impl Grid {
 }
 
 ghost use Rattle.std.specs.Prelude.{◌≡◌, [], ◌∷◌, map, fold};
-ghost use Rattle.planar_geom.specs.Figures.{in_poly as is_in_poly, edges, stretches, stretches_from, stretch, on_stretch, passes_right as passes_right_of};
+ghost use Rattle.planar_geom.specs.Figures.{in_poly as is_in_poly, strictly_in as is_strictly_in, doubled, doubled_middle, edges, stretches, stretches_from, stretch, on_stretch, passes_right as passes_right_of};
 ghost use Rattle.planar_geom.specs.Standings.{on_grid, parity as parity_of, with_edge};
 
 /// Whether a point is on an edge of a polygon, or inside it by parity: an odd number of edges passes its
@@ -34,7 +34,28 @@ ghost use Rattle.planar_geom.specs.Standings.{on_grid, parity as parity_of, with
 pub fn in_poly(p: Pt, poly: &Poly) -> bool
     ensures { result ≡ is_in_poly poly.now p }
 {
-    parity(poly.rings().as_slice(), Grid::Whole, Place::of(p)).unwrap_or(true)
+    in_rings(p, poly.rings().as_slice())
+}
+
+/// Whether a point is on an edge of the rings, or inside by parity.
+pub(crate) fn in_rings(p: Pt, rings: &[Points]) -> bool
+    ensures { result ≡ is_in_poly rings.now p }
+{
+    parity(rings, Grid::Whole, Place::of(p)).unwrap_or(true)
+}
+
+/// Whether a point is inside the rings by parity, and on no edge.
+pub(crate) fn strictly_in(p: Pt, rings: &[Points]) -> bool
+    ensures { result ≡ is_strictly_in rings.now p }
+{
+    parity(rings, Grid::Whole, Place::of(p)).unwrap_or(false)
+}
+
+/// Whether the middle of a segment is in the rings, in doubled coordinates.
+pub(crate) fn hold_middle(rings: &[Points], s: Seg) -> bool
+    ensures { result ≡ is_in_poly (map (map doubled) rings.now) (doubled_middle s) }
+{
+    parity(rings, Grid::Doubled, Place::middle(s)).unwrap_or(true)
 }
 
 /// Whether a point is on an edge of the polygon of one ring, or inside it by parity.
@@ -44,8 +65,8 @@ pub(crate) fn in_ring(p: Pt, ring: &[Pt]) -> bool
     past_ring(ring, Grid::Whole, Place::of(p), Some(false)).unwrap_or(true)
 }
 
-/// Whether an odd number of the rings' edges passes to the right of a place; `None` where it is on one.
-pub(crate) fn parity(rings: &[Points], grid: Grid, p: Place) -> Option<bool>
+// Whether an odd number of the rings' edges passes to the right of a place; `None` where it is on one.
+fn parity(rings: &[Points], grid: Grid, p: Place) -> Option<bool>
     ensures { result ≡ parity_of (edges (map (map (on_grid grid)) rings.now)) p }
 {
     let mut odd = Some(false);

@@ -31,7 +31,7 @@ pub(crate) trait PointTest {
 ghost use Rattle.std.specs.Prelude.{◌≡◌};
 ghost use Rattle.std.specs.List.{list_any};
 ghost use Rattle.planar_geom.specs.Figures.{edges, stretches, stretches_from, ring_points};
-ghost use Rattle.planar_geom.specs.Shapes.{segments, vertices};
+ghost use Rattle.planar_geom.specs.Shapes.{segments, vertices, all_vertices};
 
 /// Whether a segment of the part passes the test.
 pub(crate) fn any_segment<T: SegmentTest>(part: &Part, test: &T) -> bool
@@ -75,6 +75,18 @@ fn any_from<T: SegmentTest>(first: Pt, rest: &[Pt], test: &T) -> bool
             return true;
         }
         last = *next;
+    }
+    false
+}
+
+/// Whether a point of one of the parts passes the test.
+pub(crate) fn any_vertex_of<T: PointTest>(parts: &[Part], test: &T) -> bool
+    ensures { result ≡ list_any (T.passes test.now) (all_vertices parts.now) }
+{
+    for part in parts {
+        if any_vertex(part, test) {
+            return true;
+        }
     }
     false
 }
