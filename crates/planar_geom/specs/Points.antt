@@ -121,6 +121,13 @@ abbrev pub grown : Option Bounds → Point → Option Bounds
 grown None p = Some (bounds p p)
 grown (Some b) p = Some (with_point b p)
 
+-- the least box round a disc, cut at the ends of the plane
+abbrev pub box_of_disc : Point → ℕ → Bounds
+box_of_disc c r =
+    bounds
+    (pt (int_max (c.x -ℤ pos r) least_coordinate) (int_max (c.y -ℤ pos r) least_coordinate))
+    (pt (int_min (c.x +ℤ pos r) greatest_coordinate) (int_min (c.y +ℤ pos r) greatest_coordinate))
+
 -- the corners of a box against the clock, the first also last
 abbrev pub corners_of : Bounds → List Point
 corners_of b = b.min ∷ pt b.max.x b.min.y ∷ b.max ∷ pt b.min.x b.max.y ∷ b.min ∷ []

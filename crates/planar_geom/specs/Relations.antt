@@ -1,8 +1,7 @@
 -- `within` and `intersects` between a shape and an area, by parts, vertices and segments.
 use Rattle.std.specs.Prelude.{ℕ, ℤ, pos, ◌*◌, Bool, true, false, not, ◌&&◌, ◌||◌, ◌-ℤ◌, ◌+ℤ◌, ◌*ℤ◌, int_lt, int_le, nat_le, List, [], ◌∷◌, map}
 use Rattle.std.specs.List.{list_any, list_all}
-use Rattle.std.specs.Int.{int_min, int_max}
-use Rattle.planar_geom.specs.Points.{Point, Bounds, pt, bounds, corners_of, least_coordinate, greatest_coordinate, same_point, dist2, in_box, boxes_meet, square}
+use Rattle.planar_geom.specs.Points.{Point, Bounds, pt, bounds, corners_of, box_of_disc, same_point, dist2, in_box, boxes_meet, square}
 use Rattle.planar_geom.specs.Figures.{Stretch, stretches, edges, ring_points, meets, crosses, on_stretch, in_poly, strictly_in, doubled, doubled_middle, dot, minus}
 pub use Rattle.planar_geom.specs.Shapes.{vertices, segments, all_vertices, all_segments, positions, box_of_points, box_of}
 use Rattle.planar_geom.specs.declared.shapes.Part.{Part}
@@ -15,13 +14,6 @@ abbrev pub in_part : Part → Point → Bool
 in_part (Spot q) p = same_point q p
 in_part (Chain line) p = list_any (on_stretch p) (stretches line)
 in_part (Face rings) p = in_poly rings p
-
--- the least box round a disc, cut at the ends of the plane
-abbrev pub box_of_disc : Point → ℕ → Bounds
-box_of_disc c r =
-    bounds
-    (pt (int_max (c.x -ℤ pos r) least_coordinate) (int_max (c.y -ℤ pos r) least_coordinate))
-    (pt (int_min (c.x +ℤ pos r) greatest_coordinate) (int_min (c.y +ℤ pos r) greatest_coordinate))
 
 -- the least box round an area
 abbrev pub area_box : Area → Bounds
@@ -53,6 +45,11 @@ comes_near e r d = int_lt (pos 0) (dot d d) && int_le (pos 0) (dot e d) && int_l
 -- the segment comes within r of c, at the foot of c on it
 abbrev pub stretch_near : Point → ℕ → Stretch → Bool
 stretch_near c r s = comes_near (minus c s.a) r (minus s.b s.a)
+
+-- a part and a disc have a point in common: the centre is in the part, or a vertex is in the disc, or a
+-- segment comes near the centre
+abbrev pub reaches_disc : Part → Point → ℕ → Bool
+reaches_disc part c r = in_part part c || list_any (in_disc c r) (vertices part) || list_any (stretch_near c r) (segments part)
 
 -- the shape and the area have a point in common
 unfoldable pub intersects : List Part → Area → Bool

@@ -4,16 +4,28 @@ ghost use Rattle.std.specs.Prelude.{◌≡◌, fold, Some};
 ghost use Rattle.planar_geom.specs.Points.{grown};
 ghost use Rattle.planar_geom.specs.Figures.{ring_points};
 ghost use Rattle.planar_geom.specs.Shapes.{vertices, all_vertices, box_of as box_of_shape};
+ghost use Rattle.planar_geom.specs.Relations.{area_box as box_of_area};
 
 use crate::lists::Points;
 use crate::points::{BBox, Pt};
-use crate::shapes::{Part, Shape};
+use crate::shapes::{Area, Part, Shape};
 
 /// The least box round a shape.
 pub fn box_of(shape: &Shape) -> BBox
     ensures { result ≡ box_of_shape shape.now }
 {
     round_parts(None, shape.parts()).unwrap_or(BBox::origin())
+}
+
+/// The least box round an area, that of a disc cut at the ends of the plane.
+pub fn area_box(area: &Area) -> BBox
+    ensures { result ≡ box_of_area area.now }
+{
+    match area {
+        Area::Rect(b) => *b,
+        Area::Disc(centre, radius) => BBox::of_disc(*centre, *radius),
+        Area::Figure(shape) => box_of(shape),
+    }
 }
 
 // The least box round what `found` holds, if it holds anything, and all points of the parts.

@@ -1,5 +1,6 @@
 //! What stands for a part of a shape: a part itself, a box for its face, and a segment for its chain.
 
+use crate::discs::{Disc, comes_near};
 use crate::points::{BBox, Pt, Seg};
 use crate::polygons::{in_poly, in_ring};
 use crate::searches::{PointTest, SegmentTest, any_in_chain, any_point, any_segment, any_vertex};
@@ -130,8 +131,40 @@ impl<'a, R: Region> PointTest for IsIn<'a, R> {
     }
 }
 
+/// Whether a point is in a disc, and a segment comes near its centre.
+#[derive(Clone, Copy)]
+struct Near(Disc);
+
+impl PointTest for Near {
+    ghost use Rattle.planar_geom.specs.Relations.{in_disc};
+
+    ghost passes = { λ t p. in_disc t.0.centre t.0.radius p };
+
+    fn test(&self, p: Pt) -> bool {
+        self.0.holds(p)
+    }
+}
+
+impl SegmentTest for Near {
+    ghost use Rattle.planar_geom.specs.Relations.{stretch_near};
+
+    ghost passes = { λ t s. stretch_near t.0.centre t.0.radius s };
+
+    fn test(&self, s: Seg) -> bool {
+        comes_near(s, self.0)
+    }
+}
+
 ghost use Rattle.std.specs.Prelude.{◌≡◌};
-ghost use Rattle.planar_geom.specs.Relations.{touch};
+ghost use Rattle.planar_geom.specs.Relations.{touch, reaches_disc};
+
+/// Whether a region and a disc have a point in common: the centre is in the region, or a point that spans
+/// it is in the disc, or a segment comes near the centre.
+pub(crate) fn reaches<A: Region>(a: &A, disc: Disc) -> bool
+    ensures { result ≡ reaches_disc (A.part a.now) disc.centre disc.radius }
+{
+    a.contains(disc.centre) || a.any_vertex(&Near(disc)) || a.any_segment(&Near(disc))
+}
 
 /// Whether two regions have a point in common: two of their segments meet, or a point that spans one of
 /// them is in the other.
