@@ -1,5 +1,5 @@
 -- Tests joined by `and`, as the branches of code leave them.
-use Rattle.std.proofs.Common.{◌≡◌, Bool, true, false, refl, ◌∙◌}
+use Rattle.std.proofs.Common.{◌≡◌, Bool, true, false, refl, sym, ap, ◌∙◌}
 use Rattle.std.specs.Prelude.{◌&&◌}
 
 -- the first test fails
@@ -24,3 +24,13 @@ and-true false = refl
 pub and-false : (p : Bool) → (p && false) ≡ false
 and-false true = refl
 and-false false = refl
+
+-- of four tests the first fails; the second and the third fail; the first three pass, and the fourth decides
+pub four-first : (a b c d : Bool) → a ≡ false → false ≡ (a && b && c && d)
+four-first a b c d fails = rw fails refl
+
+pub four-middle : (a b c d : Bool) → a ≡ true → (b && c) ≡ false → false ≡ (a && b && c && d)
+four-middle a b c d passes fails = rw passes (ap (λ m. m && d) (sym fails))
+
+pub four-last : (a b c d r : Bool) → a ≡ true → (b && c) ≡ true → r ≡ d → r ≡ (a && b && c && d)
+four-last a b c d r passes others r_is = rw passes (r_is ∙ ap (λ m. m && d) (sym others))

@@ -16,9 +16,17 @@ impl Disc {
     ghost use Rattle.std.specs.Prelude.{◌≡◌};
     ghost use Rattle.planar_geom.specs.Relations.{in_disc};
 
+    /// The disc of a centre and a radius.
+    pub(crate) fn of(centre: Pt, radius: u32) -> Disc
+        ensures centre_is { result.centre ≡ centre }
+        ensures radius_is { result.radius ≡ radius }
+    {
+        Disc { centre, radius }
+    }
+
     /// Whether a point is in the disc.
-    pub(crate) fn holds(self, p: Pt) -> bool
-        ensures { result ≡ in_disc self.centre self.radius p }
+    pub(crate) fn holds(&self, p: Pt) -> bool
+        ensures { result ≡ in_disc self.now.centre self.now.radius p }
     {
         dist2(p, self.centre) <= square(self.radius)
     }
@@ -36,8 +44,8 @@ fn square(side: u32) -> u64
 }
 
 /// Whether a segment comes within the disc at the foot of the centre on it.
-pub(crate) fn comes_near(s: Seg, disc: Disc) -> bool
-    ensures { result ≡ stretch_near disc.centre disc.radius s }
+pub(crate) fn comes_near(s: Seg, disc: &Disc) -> bool
+    ensures { result ≡ stretch_near disc.now.centre disc.now.radius s }
 {
     let to_centre = Place::between(s.a, disc.centre);
     let along = Place::between(s.a, s.b);

@@ -112,7 +112,8 @@ impl BBox {
 
     /// Whether two boxes have a point in common.
     pub(crate) fn meets(self, other: BBox) -> bool
-        ensures { result ≡ boxes_meet self other }
+        ensures value { result ≡ boxes_meet self other }
+        ensures is_box { IsBox other }
     {
         ranges_overlap(self.min.x, self.max.x, other.min.x, other.max.x)
             && ranges_overlap(self.min.y, self.max.y, other.min.y, other.max.y)

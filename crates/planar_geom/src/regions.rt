@@ -133,22 +133,22 @@ impl<'a, R: Region> PointTest for IsIn<'a, R> {
 
 /// Whether a point is in a disc, and a segment comes near its centre.
 #[derive(Clone, Copy)]
-struct Near(Disc);
+struct Near<'a>(&'a Disc);
 
-impl PointTest for Near {
+impl<'a> PointTest for Near<'a> {
     ghost use Rattle.planar_geom.specs.Relations.{in_disc};
 
-    ghost passes = { λ t p. in_disc t.0.centre t.0.radius p };
+    ghost passes = { λ t p. in_disc t.0.now.centre t.0.now.radius p };
 
     fn test(&self, p: Pt) -> bool {
         self.0.holds(p)
     }
 }
 
-impl SegmentTest for Near {
+impl<'a> SegmentTest for Near<'a> {
     ghost use Rattle.planar_geom.specs.Relations.{stretch_near};
 
-    ghost passes = { λ t s. stretch_near t.0.centre t.0.radius s };
+    ghost passes = { λ t s. stretch_near t.0.now.centre t.0.now.radius s };
 
     fn test(&self, s: Seg) -> bool {
         comes_near(s, self.0)
@@ -160,10 +160,11 @@ ghost use Rattle.planar_geom.specs.Relations.{touch, reaches_disc};
 
 /// Whether a region and a disc have a point in common: the centre is in the region, or a point that spans
 /// it is in the disc, or a segment comes near the centre.
-pub(crate) fn reaches<A: Region>(a: &A, disc: Disc) -> bool
-    ensures { result ≡ reaches_disc (A.part a.now) disc.centre disc.radius }
+pub(crate) fn reaches<A: Region>(a: &A, disc: &Disc) -> bool
+    ensures { result ≡ reaches_disc (A.part a.now) disc.now.centre disc.now.radius }
 {
-    a.contains(disc.centre) || a.any_vertex(&Near(disc)) || a.any_segment(&Near(disc))
+    let near = Near(disc);
+    a.contains(disc.centre) || a.any_vertex(&near) || a.any_segment(&near)
 }
 
 /// Whether two regions have a point in common: two of their segments meet, or a point that spans one of

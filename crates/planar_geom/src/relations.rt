@@ -23,13 +23,7 @@ pub fn intersects(shape: &Shape, area: &Area) -> bool
 {
     match area {
         Area::Rect(b) => meets_box(shape, *b),
-        Area::Disc(centre, radius) => any_reaches(
-            shape.parts(),
-            Disc {
-                centre: *centre,
-                radius: *radius,
-            },
-        ),
+        Area::Disc(centre, radius) => any_reaches(shape.parts(), &Disc::of(*centre, *radius)),
         Area::Figure(other) => meets_shape(shape, other),
     }
 }
@@ -40,7 +34,13 @@ fn meets_box(shape: &Shape, b: BBox) -> bool
     if !box_of(shape).meets(b) {
         return false;
     }
-    shape.parts().iter().any(|part| touches(part, &b))
+    any_touches_box(shape.parts(), &b)
+}
+
+fn any_touches_box(parts: &[Part], b: &BBox) -> bool
+    ensures { result ≡ list_any (λ part. touch part (face_of b.now)) parts.now }
+{
+    parts.iter().any(|part| touches(part, b))
 }
 
 fn meets_shape(shape: &Shape, other: &Shape) -> bool
@@ -69,8 +69,8 @@ fn touches_any<A: Region>(a: &A, others: &[Part]) -> bool
     false
 }
 
-fn any_reaches(parts: &[Part], disc: Disc) -> bool
-    ensures { result ≡ list_any (λ part. reaches_disc part disc.centre disc.radius) parts.now }
+fn any_reaches(parts: &[Part], disc: &Disc) -> bool
+    ensures { result ≡ list_any (λ part. reaches_disc part disc.now.centre disc.now.radius) parts.now }
 {
     parts.iter().any(|part| reaches(part, disc))
 }
@@ -82,13 +82,7 @@ pub fn way_meets(from: Pt, to: Pt, area: &Area) -> bool
     let way = Seg { a: from, b: to };
     match area {
         Area::Rect(b) => way.bounds().meets(*b) && touches(&way, b),
-        Area::Disc(centre, radius) => reaches(
-            &way,
-            Disc {
-                centre: *centre,
-                radius: *radius,
-            },
-        ),
+        Area::Disc(centre, radius) => reaches(&way, &Disc::of(*centre, *radius)),
         Area::Figure(other) => {
             way.bounds().meets(box_of(other)) && touches_any(&way, other.parts())
         }
@@ -104,10 +98,7 @@ pub fn within(shape: &Shape, area: &Area) -> bool
         Area::Rect(b) => !any_vertex_of(shape.parts(), &OutsideBox(*b)),
         Area::Disc(centre, radius) => !any_vertex_of(
             shape.parts(),
-            &OutsideDisc(Disc {
-                centre: *centre,
-                radius: *radius,
-            }),
+            &OutsideDisc(&Disc::of(*centre, *radius)),
         ),
         Area::Figure(other) => all_lie_in(shape.parts(), other.parts()),
     }
@@ -166,13 +157,13 @@ impl PointTest for OutsideBox {
 }
 
 #[derive(Clone, Copy)]
-struct OutsideDisc(Disc);
+struct OutsideDisc<'a>(&'a Disc);
 
-impl PointTest for OutsideDisc {
+impl<'a> PointTest for OutsideDisc<'a> {
     ghost use Rattle.std.specs.Prelude.{not};
     ghost use Rattle.planar_geom.specs.Relations.{in_disc};
 
-    ghost passes = { λ t p. not (in_disc t.0.centre t.0.radius p) };
+    ghost passes = { λ t p. not (in_disc t.0.now.centre t.0.now.radius p) };
 
     fn test(&self, p: Pt) -> bool {
         !self.0.holds(p)
