@@ -1,15 +1,14 @@
 -- The parity of edges, met one after another.
-use Rattle.std.proofs.Common.{◌≡◌, ℕ, zero, suc, ◌+◌, ◌%◌, Bool, true, false, refl, sym, ap, ◌∙◌, arith, List, [], ◌∷◌, nat_eq, cond, append-nil}
+use Rattle.std.proofs.Common.{◌≡◌, ℕ, suc, ◌+◌, ◌%◌, Bool, true, false, refl, sym, ap, ◌∙◌, arith, List, [], ◌∷◌, cond, append-nil}
 use Rattle.std.proofs.lemmas.List.Sums.{sum_by-cons}
-use Rattle.std.specs.Prelude.{Option, Some, None, not, ◌||◌, ◌&&◌, ◌==◌, fold, map, count_by, unwrap_or, if◌then◌else◌}
+use Rattle.std.specs.Prelude.{Some, None, not, ◌||◌, ◌&&◌, ◌==◌, fold, map, count_by, unwrap_or, if◌then◌else◌}
 use Rattle.std.specs.List.{list_any}
 use Rattle.std.proofs.lemmas.Bool.Decides.{nat_tests}
 use Rattle.planar_geom.specs.Points.{Point}
 use Rattle.planar_geom.specs.Figures.{Stretch, stretches, edges, differ, on_stretch, passes_right, in_poly, strictly_in, on_edge, is_odd}
 use Rattle.planar_geom.proofs.BoolLemmas.{and-true, and-false}
 use Rattle.planar_geom.specs.Standings.{on_grid, with_edge, parity}
-use Rattle.planar_geom.specs.declared.polygons.Grid.{Grid}
-use Rattle.planar_geom.specs.declared.polygons.Grid.TheVariants.{Whole, Doubled}
+use Rattle.planar_geom.specs.declared.polygons.Grid.TheVariants.{Whole}
 
 -- once a point is on an edge, no further edge matters
 fold-with_edge-none : (p : Point) (es : List Stretch) → fold (with_edge p) None es ≡ None

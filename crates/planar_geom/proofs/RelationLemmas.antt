@@ -1,17 +1,18 @@
 -- Searches through parts, and the relations that they decide.
-use Rattle.std.proofs.Common.{◌≡◌, ℕ, Bool, true, false, refl, sym, ap, ◌∙◌, List, [], ◌∷◌, ◌++◌, arith}
-use Rattle.std.specs.Prelude.{not, ◌&&◌, ◌||◌, flat_map, map}
+use Rattle.std.proofs.Common.{◌≡◌, ℕ, Bool, true, false, refl, sym, ap, ◌∙◌, List, [], ◌∷◌, arith}
+use Rattle.std.specs.Prelude.{not, ◌&&◌, ◌||◌, map}
 use Rattle.std.specs.List.{list_any, list_all}
 use Rattle.std.proofs.lemmas.List.Folds.{list_any-append}
 use Rattle.std.proofs.lemmas.Int.{ints, clamps}
-use Rattle.planar_geom.specs.Points.{Point, Bounds, pt, bounds, IsBox}
+use Rattle.planar_geom.specs.Points.{Point, Bounds, boxes_meet, IsBox}
 use Rattle.planar_geom.specs.Figures.{Stretch, edges, in_poly, crosses, doubled, doubled_middle}
 use Rattle.planar_geom.specs.Shapes.{vertices, segments, all_vertices, all_segments, box_of}
-use Rattle.planar_geom.specs.Relations.{in_part, in_disc, stretch_near, reaches_disc, face_of, touch}
+use Rattle.planar_geom.specs.Relations.{in_part, in_disc, stretch_near, reaches_disc, face_of}
 use Rattle.planar_geom.specs.declared.shapes.Part.{Part}
 use Rattle.planar_geom.proofs.PlaceLemmas.{bounds_are}
 
-or-false : (p : Bool) → (p || false) ≡ p
+-- a search that has one item
+pub or-false : (p : Bool) → (p || false) ≡ p
 or-false true = refl
 or-false false = refl
 
@@ -85,3 +86,12 @@ any-reaches c r (part ∷ parts) =
     ∙ or_triples (in_part part c) (list_any (in_disc c r) (vertices part)) (list_any (stretch_near c r) (segments part)) (list_any (λ p. in_part p c) parts) (list_any (in_disc c r) (all_vertices parts)) (list_any (stretch_near c r) (all_segments parts))
     ∙ ap (λ b. (in_part part c || list_any (λ p. in_part p c) parts) || b || (list_any (stretch_near c r) (segments part) || list_any (stretch_near c r) (all_segments parts))) (sym (list_any-append (in_disc c r) (vertices part) (all_vertices parts)))
     ∙ ap (λ b. (in_part part c || list_any (λ p. in_part p c) parts) || list_any (in_disc c r) (all_vertices (part ∷ parts)) || b) (sym (list_any-append (stretch_near c r) (segments part) (all_segments parts)))
+
+-- the boxes of a shape and of a box's face meet where the shape's box meets the box
+pub face_met : (box b : Bounds) (met : Bool) → IsBox b → met ≡ boxes_meet box b → boxes_meet box (box_of (face_of b ∷ [])) ≡ met
+face_met box b met is_box met_is = ap (boxes_meet box) (box_of-face b is_box) ∙ sym met_is
+
+-- a search that has one item in one list
+pub only_one : (p : Bool) → p ≡ (p || false || false)
+only_one true = refl
+only_one false = refl

@@ -1,5 +1,5 @@
 -- Sides of lines, and points on segments.
-use Rattle.std.proofs.Common.{◌≡◌, ℕ, zero, suc, ◌<◌, ◌^◌, ◌+◌, Bool, true, false, refl, sym, ap, ◌∙◌, arith, ℤ, pos, negsuc, ◌-ℤ◌, ◌*ℤ◌, of_z, nat_eq, cond}
+use Rattle.std.proofs.Common.{◌≡◌, zero, suc, ◌<◌, ◌^◌, Bool, true, false, refl, ap, ◌∙◌, arith, ℤ, pos, negsuc, ◌-ℤ◌, ◌*ℤ◌, of_z, nat_eq, cond}
 use Rattle.std.specs.Prelude.{◌&&◌, int_le, int_lt}
 use Rattle.std.specs.Int.{int_min, int_signum}
 use Rattle.std.proofs.Common.{min}
@@ -7,7 +7,7 @@ use Rattle.std.proofs.lemmas.Bool.Decides.{nat_tests}
 use Rattle.std.proofs.lemmas.Int.{ints}
 use lib.Signed.{mag}
 use mir.Syntax.{w128}
-use Rattle.planar_geom.specs.Points.{Point, pt, bounds, boxes_meet, in_box, Bounds}
+use Rattle.planar_geom.specs.Points.{Point, bounds, boxes_meet, in_box, Bounds}
 use Rattle.planar_geom.specs.Figures.{Stretch, stretch, cross, orient, sides, box_of_stretch, on_stretch}
 use Rattle.planar_geom.proofs.BoolLemmas.{and-swap, and-true}
 

@@ -1,7 +1,7 @@
 -- `within` and `intersects` between a shape and an area, by parts, vertices and segments.
-use Rattle.std.specs.Prelude.{ℕ, ℤ, pos, ◌*◌, Bool, true, false, not, ◌&&◌, ◌||◌, ◌-ℤ◌, ◌+ℤ◌, ◌*ℤ◌, int_lt, int_le, nat_le, List, [], ◌∷◌, map}
+use Rattle.std.specs.Prelude.{ℕ, pos, ◌*◌, Bool, true, false, not, ◌&&◌, ◌||◌, ◌-ℤ◌, ◌*ℤ◌, int_lt, int_le, nat_le, List, [], ◌∷◌, map}
 use Rattle.std.specs.List.{list_any, list_all}
-use Rattle.planar_geom.specs.Points.{Point, Bounds, pt, bounds, corners_of, box_of_disc, same_point, dist2, in_box, boxes_meet, square}
+use Rattle.planar_geom.specs.Points.{Point, Bounds, corners_of, box_of_disc, same_point, dist2, in_box, boxes_meet, square}
 use Rattle.planar_geom.specs.Figures.{Stretch, stretches, edges, ring_points, meets, crosses, on_stretch, in_poly, strictly_in, doubled, doubled_middle, dot, minus}
 pub use Rattle.planar_geom.specs.Shapes.{vertices, segments, all_vertices, all_segments, positions, box_of_points, box_of}
 use Rattle.planar_geom.specs.declared.shapes.Part.{Part}

@@ -1,5 +1,5 @@
 -- How the edges of a polygon, met one after another, tell where a point stands.
-use Rattle.std.specs.Prelude.{Bool, true, false, ◌||◌, ◌==◌, ◌%◌, if◌then◌else◌, Option, Some, None, List, fold, count_by, unwrap_or}
+use Rattle.std.specs.Prelude.{Bool, ◌==◌, ◌%◌, if◌then◌else◌, Option, Some, None, List, count_by}
 use Rattle.std.specs.List.{list_any}
 use Rattle.planar_geom.specs.Points.{Point}
 use Rattle.planar_geom.specs.Figures.{Stretch, doubled, differ, on_stretch, passes_right}

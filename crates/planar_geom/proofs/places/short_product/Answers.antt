@@ -1,4 +1,4 @@
-use Rattle.std.proofs.Common.{◌≡◌, ◌≤◌, ◌*◌, ◌∙◌, arith, w64, to_z, of_z, lit<, ◌*ℤ◌, FitsSigned}
+use Rattle.std.proofs.Common.{◌≤◌, ◌*◌, arith, w64, to_z, of_z, lit<, ◌*ℤ◌, FitsSigned}
 use Rattle.std.proofs.Math.Nat.{mul-le-mul}
 use Rattle.std.specs.Prelude.{unsigned_abs}
 use Rattle.std.proofs.lemmas.Int.{ints, to_z-of_z, fits_signed_mul, unsigned_abs-mul}

@@ -1,6 +1,6 @@
-use Rattle.std.proofs.Common.{◌≡◌, ◌∙◌, sym, ap, true, false}
-use Rattle.std.specs.Prelude.{not, ◌&&◌, map}
-use Rattle.std.specs.List.{list_all, list_any}
+use Rattle.std.proofs.Common.{◌∙◌, sym, ap}
+use Rattle.std.specs.Prelude.{not, map}
+use Rattle.std.specs.List.{list_all}
 use Rattle.planar_geom.specs.Figures.{in_poly, edges, crosses, doubled, doubled_middle}
 use Rattle.planar_geom.specs.Shapes.{vertices, segments}
 use Rattle.planar_geom.specs.Relations.{no_hole_inside}

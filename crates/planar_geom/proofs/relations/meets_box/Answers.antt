@@ -1,15 +1,11 @@
-use Rattle.std.proofs.Common.{◌≡◌, ◌∙◌, refl, sym, ap, false, [], ◌∷◌, Bool}
+use Rattle.std.proofs.Common.{◌∙◌, refl, sym, ap, false, [], ◌∷◌}
 use Rattle.std.specs.List.{list_any}
-use Rattle.planar_geom.specs.Points.{Bounds, boxes_meet, IsBox}
+use Rattle.planar_geom.specs.Points.{boxes_meet}
 use Rattle.planar_geom.specs.Shapes.{box_of}
 use Rattle.planar_geom.specs.Relations.{touch, face_of}
 use Rattle.planar_geom.proofs.BoolLemmas.{and-first, and-second}
-use Rattle.planar_geom.proofs.RelationLemmas.{box_of-face, any-single}
+use Rattle.planar_geom.proofs.RelationLemmas.{face_met, any-single}
 use Rattle.planar_geom.proofs.relations.meets_box.Goals as goal
-
--- the boxes of a shape and of a box's face meet where the shape's box meets the box
-face_met : (box b : Bounds) (met : Bool) → IsBox b → met ≡ boxes_meet box b → boxes_meet box (box_of (face_of b ∷ [])) ≡ met
-face_met box b met is_box met_is = ap (boxes_meet box) (box_of-face b is_box) ∙ sym met_is
 
 pub returns-then-not-meets : goal.returns-then-not-meets
 returns-then-not-meets c =

@@ -13,7 +13,7 @@ returns-in-Rect c =
 pub returns-in-Disc : goal.returns-in-Disc
 unfolding within
 returns-in-Disc c =
-    rw (c.any_vertex_of-in-Disc.ensures, c.parts-in-Disc.ensures.value, c.in-Disc.is) (not-any (in_disc c.in-Disc.centre c.in-Disc.radius) (all_vertices c.args.shape.now))
+    rw (c.any_vertex_of-in-Disc.ensures, c.parts-in-Disc.ensures.value, c.in-Disc.is, c.of.ensures.centre_is, c.of.ensures.radius_is) (not-any (in_disc c.in-Disc.centre c.in-Disc.radius) (all_vertices c.args.shape.now))
 
 pub returns-in-Figure : goal.returns-in-Figure
 unfolding within
