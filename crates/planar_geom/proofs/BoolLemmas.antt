@@ -34,3 +34,8 @@ four-middle a b c d passes fails = rw passes (ap (λ m. m && d) (sym fails))
 
 pub four-last : (a b c d r : Bool) → a ≡ true → (b && c) ≡ true → r ≡ d → r ≡ (a && b && c && d)
 four-last a b c d r passes others r_is = rw passes (r_is ∙ ap (λ m. m && d) (sym others))
+
+-- the last two of three tests change places
+pub and-third_second : (p q r : Bool) → (p && q && r) ≡ (p && r && q)
+and-third_second true q r = and-swap q r
+and-third_second false q r = refl

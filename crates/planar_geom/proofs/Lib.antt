@@ -1,8 +1,11 @@
 pub mod BoolLemmas
 pub mod ChainLemmas
 pub mod DiscLemmas
+pub mod DistanceLaws
 pub mod ParityLemmas
 pub mod PlaceLemmas
+pub mod ProductLaws
 pub mod RelationLemmas
 pub mod RootLemmas
+pub mod SegmentLaws
 pub mod SideLemmas
