@@ -1,6 +1,6 @@
 -- Tests joined by `and`, as the branches of code leave them.
 use Rattle.std.proofs.Common.{◌≡◌, Bool, true, false, refl, sym, ap, ◌∙◌}
-use Rattle.std.specs.Prelude.{◌&&◌}
+use Rattle.std.specs.Prelude.{◌&&◌, ◌||◌}
 
 -- the first test fails
 pub and-first : (p q r : Bool) → p ≡ false → r ≡ false → r ≡ (p && q)
@@ -39,3 +39,27 @@ four-last a b c d r passes others r_is = rw passes (r_is ∙ ap (λ m. m && d) (
 pub and-third_second : (p q r : Bool) → (p && q && r) ≡ (p && r && q)
 and-third_second true q r = and-swap q r
 and-third_second false q r = refl
+
+-- two tests that both pass
+pub and-left : (p q : Bool) → (p && q) ≡ true → p ≡ true
+and-left true q h = refl
+and-left false q h = h
+
+pub and-right : (p q : Bool) → (p && q) ≡ true → q ≡ true
+and-right true q h = h
+and-right false q h = cc
+
+pub and-both : (p q : Bool) → p ≡ true → q ≡ true → (p && q) ≡ true
+and-both p q h k = rw (h, k) refl
+
+pub or-left : (p q : Bool) → p ≡ true → (p || q) ≡ true
+or-left p q h = rw h refl
+
+pub or-right : (p q : Bool) → q ≡ true → (p || q) ≡ true
+or-right true q h = refl
+or-right false q h = h
+
+-- of two tests one passes
+pub or-elim : {P : Type 0} (p q : Bool) → (p || q) ≡ true → (p ≡ true → P) → (q ≡ true → P) → P
+or-elim true q h first second = first refl
+or-elim false q h first second = second h

@@ -1,11 +1,16 @@
 pub mod BoolLemmas
+pub mod BoxLaws
 pub mod ChainLemmas
+pub mod DiscLaws
 pub mod DiscLemmas
 pub mod DistanceLaws
+pub mod FaceLaws
+pub mod ParityLaws
 pub mod ParityLemmas
 pub mod PlaceLemmas
 pub mod ProductLaws
 pub mod RelationLemmas
 pub mod RootLemmas
 pub mod SegmentLaws
+pub mod SideLaws
 pub mod SideLemmas

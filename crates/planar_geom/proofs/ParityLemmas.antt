@@ -15,19 +15,19 @@ fold-with_edge-none : (p : Point) (es : List Stretch) → fold (with_edge p) Non
 fold-with_edge-none p [] = refl
 fold-with_edge-none p (e ∷ es) = fold-with_edge-none p es
 
-odd-suc : (n : ℕ) → (suc n % 2 == 1) ≡ not (n % 2 == 1)
+pub odd-suc : (n : ℕ) → (suc n % 2 == 1) ≡ not (n % 2 == 1)
 odd-suc n = grind (arith, nat_tests)
 
 not-not : (b : Bool) → not (not b) ≡ b
 not-not true = refl
 not-not false = refl
 
-count_by-cons : {X : Type 0} (test : X → Bool) (x : X) (xs : List X) → count_by test (x ∷ xs) ≡ (if test x then suc (count_by test xs) else count_by test xs)
+pub count_by-cons : {X : Type 0} (test : X → Bool) (x : X) (xs : List X) → count_by test (x ∷ xs) ≡ (if test x then suc (count_by test xs) else count_by test xs)
 count_by-cons test x xs =
     sum_by-cons (λ y. cond (test y) 1 0) x xs ∙ elim (test x) as (λ b. cond b 1 0 + count_by test xs ≡ (if b then suc (count_by test xs) else count_by test xs)) [ true ↦ omega arith | false ↦ omega arith ]
 
 -- the parity after one more edge
-differ-count : (odd right : Bool) (n : ℕ) → differ (differ odd right) (n % 2 == 1) ≡ differ odd ((if right then suc n else n) % 2 == 1)
+pub differ-count : (odd right : Bool) (n : ℕ) → differ (differ odd right) (n % 2 == 1) ≡ differ odd ((if right then suc n else n) % 2 == 1)
 differ-count true true n = rw (odd-suc n) (sym (not-not (n % 2 == 1)))
 differ-count true false n = refl
 differ-count false true n = sym (odd-suc n)

@@ -46,7 +46,7 @@ grown-box [] = refl
 grown-box (p ∷ ps) = ap (λ o. unwrap_or o (bounds (pt (pos 0) (pos 0)) (pt (pos 0) (pos 0)))) (fold-grown (bounds p p) ps)
 
 -- a number times itself is its size times itself
-square_is : (a : ℤ) → a *ℤ a ≡ pos (square a)
+pub square_is : (a : ℤ) → a *ℤ a ≡ pos (square a)
 square_is (pos n) = refl
 square_is (negsuc n) = refl
 

@@ -29,7 +29,7 @@ box-turned : (p q : Point) → box_of_stretch (stretch q p) ≡ box_of_stretch (
 box-turned p q = bounds_are _ _ _ _ _ _ _ _ (omega (arith, ints, clamps)) (omega (arith, ints, clamps)) (omega (arith, ints, clamps)) (omega (arith, ints, clamps))
 
 -- seen from the other end, a point stands on the other side
-cross-turned : (a b c : Point) → cross b a c ≡ neg_ℤ (cross a b c)
+pub cross-turned : (a b c : Point) → cross b a c ≡ neg_ℤ (cross a b c)
 cross-turned a b c =
     let first = mul-differences a.x b.x c.y b.y in
     let second = mul-differences a.y b.y c.x b.x in
