@@ -14,3 +14,4 @@ pub mod RootLemmas
 pub mod SegmentLaws
 pub mod SideLaws
 pub mod SideLemmas
+pub mod WayLaws

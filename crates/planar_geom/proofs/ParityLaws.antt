@@ -27,11 +27,11 @@ pub not_lt : {a b : ℤ} → b ≤ℤ a → int_lt a b ≡ false
 not_lt {a} {b} h = grind (arith, ints)
 
 -- whether an odd number of segments passes to the right of a point
-pub odd_past : Point → List Stretch → Bool
+unfoldable pub odd_past : Point → List Stretch → Bool
 odd_past p es = count_by (passes_right p) es % 2 == 1
 
 -- one more segment turns the parity where it passes
-odd_past-cons : (p : Point) (e : Stretch) (es : List Stretch) → odd_past p (e ∷ es) ≡ differ (passes_right p e) (odd_past p es)
+pub odd_past-cons : (p : Point) (e : Stretch) (es : List Stretch) → odd_past p (e ∷ es) ≡ differ (passes_right p e) (odd_past p es)
 unfolding odd_past
 odd_past-cons p e es =
     ap (λ n. n % 2 == 1) (count_by-cons (passes_right p) e es) ∙ elim (passes_right p e) as (λ b. ((if b then suc (count_by (passes_right p) es) else count_by (passes_right p) es) % 2 == 1) ≡ differ b (count_by (passes_right p) es % 2 == 1)) [ true ↦ odd-suc (count_by (passes_right p) es) | false ↦ refl ]
