@@ -1,9 +1,10 @@
 -- What boxes hold.
-use Rattle.std.proofs.Common.{◌≡◌, ℕ, Bool, true, false, refl, sym, ap, ◌∙◌, arith, ℤ, pos, ◌≤ℤ◌, ◌<ℤ◌, List, [], ◌∷◌, ◌++◌}
+use Rattle.std.proofs.Common.{◌≡◌, ℕ, Bool, true, false, refl, sym, ap, ◌∙◌, arith, ℤ, pos, negsuc, ◌+ℤ◌, ◌≤ℤ◌, ◌<ℤ◌, List, [], ◌∷◌, ◌++◌}
 use Rattle.std.specs.Prelude.{◌&&◌, int_le, int_lt, fold}
 use Rattle.std.specs.List.{list_all}
+use Rattle.std.specs.Int.{int_div_euclid}
 use Rattle.std.proofs.lemmas.Int.{ints, clamps}
-use Rattle.planar_geom.specs.Points.{Point, Bounds, in_range, in_box, boxes_meet, with_point, bounds}
+use Rattle.planar_geom.specs.Points.{Point, Bounds, in_range, in_box, boxes_meet, with_point, bounds, ranges_meet, centre, box_round_both, IsBox}
 use Rattle.planar_geom.specs.Figures.{Stretch, stretch, box_of_stretch}
 use Rattle.planar_geom.specs.Shapes.{box_of_points}
 use Rattle.planar_geom.proofs.BoolLemmas.{and-left, and-right, and-both}
@@ -70,3 +71,33 @@ meet-at b c p h k =
 -- what the box round a segment holds, each box that holds its ends does
 pub stretch_box-inside : (b : Bounds) (s : Stretch) (p : Point) → Inside b s.a → Inside b s.b → Inside (box_of_stretch s) p → Inside b p
 stretch_box-inside b s p h k i = record { left = omega (arith, ints, clamps, i.left); right = omega (arith, ints, clamps, i.right); bottom = omega (arith, ints, clamps, i.bottom); top = omega (arith, ints, clamps, i.top) }
+
+half-between : (z low high : ℤ) → (low +ℤ low) ≤ℤ z → z ≤ℤ (high +ℤ high) → (low ≤ℤ int_div_euclid z (pos 2)) × (int_div_euclid z (pos 2) ≤ℤ high)
+half-between (pos n) low high h k = (omega (arith, ints), omega (arith, ints))
+half-between (negsuc n) low high h k = (omega (arith, ints), omega (arith, ints))
+
+-- a box holds its centre
+pub centre-inside : (b : Bounds) → IsBox b → Inside b (centre b)
+centre-inside b is_box =
+    let x_ordered = is_box.x_ordered in
+    let y_ordered = is_box.y_ordered in
+    let x_half = half-between (b.min.x +ℤ b.max.x) b.min.x b.max.x (omega (arith, ints)) (omega (arith, ints)) in
+    let y_half = half-between (b.min.y +ℤ b.max.y) b.min.y b.max.y (omega (arith, ints)) (omega (arith, ints)) in
+    record { left = x_half.0; right = x_half.1; bottom = y_half.0; top = y_half.1 }
+
+-- what meets the box of a way from one box to another meets the least box round both
+pub both-meet : (b c d : Bounds) (p q : Point) → Inside b p → Inside c q → IsBox c → boxes_meet (box_of_stretch (stretch p q)) d ≡ true → boxes_meet (box_round_both b c) d ≡ true
+both-meet b c d p q in_b in_c is_box met =
+    let way = box_of_stretch (stretch p q) in
+    let x_met = and-left (ranges_meet way.min.x way.max.x d.min.x d.max.x) (ranges_meet way.min.y way.max.y d.min.y d.max.y) met in
+    let y_met = and-right (ranges_meet way.min.x way.max.x d.min.x d.max.x) (ranges_meet way.min.y way.max.y d.min.y d.max.y) met in
+    let x₁ : way.min.x ≤ℤ d.max.x = from_le (and-left (int_le way.min.x d.max.x) (int_le d.min.x way.max.x) x_met) in
+    let x₂ : d.min.x ≤ℤ way.max.x = from_le (and-right (int_le way.min.x d.max.x) (int_le d.min.x way.max.x) x_met) in
+    let y₁ : way.min.y ≤ℤ d.max.y = from_le (and-left (int_le way.min.y d.max.y) (int_le d.min.y way.max.y) y_met) in
+    let y₂ : d.min.y ≤ℤ way.max.y = from_le (and-right (int_le way.min.y d.max.y) (int_le d.min.y way.max.y) y_met) in
+    let all = box_round_both b c in
+    let u₁ : all.min.x ≤ℤ d.max.x = omega (arith, ints, clamps, x₁, in_b.left, in_c.left, is_box.x_ordered) in
+    let u₂ : d.min.x ≤ℤ all.max.x = omega (arith, ints, clamps, x₂, in_b.right, in_c.right, is_box.x_ordered) in
+    let v₁ : all.min.y ≤ℤ d.max.y = omega (arith, ints, clamps, y₁, in_b.bottom, in_c.bottom, is_box.y_ordered) in
+    let v₂ : d.min.y ≤ℤ all.max.y = omega (arith, ints, clamps, y₂, in_b.top, in_c.top, is_box.y_ordered) in
+    rw (to_le u₁, to_le u₂, to_le v₁, to_le v₂) refl

@@ -13,8 +13,8 @@ use Rattle.planar_geom.proofs.SideLaws.{product-not_negative}
 pub reach-bound : (D P W r : ℕ) → 0 < D → P * P ≤ D → W * W ≤ r * r * D → P * W < D * (r + 1)
 reach-bound D P W r some part low =
     elim (leb_tells (D * (r + 1)) (P * W)) [
-      inl h ↦ absurd (let great : D * (r + 1) * (D * (r + 1)) ≤ P * W * (P * W) = mul-le-mul h.1 h.1 in let small : P * P * (W * W) ≤ D * (r * r * D) = mul-le-mul part low in let one : 1 ≤ D * D = one-le-mul some some in omega arith)
-    | inr h ↦ h.1
+      | inl h ↦ absurd (let great : D * (r + 1) * (D * (r + 1)) ≤ P * W * (P * W) = mul-le-mul h.1 h.1 in let small : P * P * (W * W) ≤ D * (r * r * D) = mul-le-mul part low in let one : 1 ≤ D * D = one-le-mul some some in omega arith)
+      | inr h ↦ h.1
     ]
 
 -- the way e to a centre, beside the way d of a segment: the foot is on d, and at most r away

@@ -53,5 +53,6 @@ inside-box_dist2 p b none =
   where
     first : (a b : ℕ) → a + b ≡ 0 → a ≡ 0
     first a b e = omega arith
+
     second : (a b : ℕ) → a + b ≡ 0 → b ≡ 0
     second a b e = omega arith

@@ -55,11 +55,12 @@ pub face-holds : (b : Bounds) (p : Point) → Inside b p → in_poly (corners_of
 face-holds b p held =
     by_lt_z p.x b.max.x
     (λ left_of. by_lt_z p.y b.max.y
-      (λ under. or-right (on_edge (corners_of b ∷ []) p) (is_odd (corners_of b ∷ []) p) (odd-face b p held left_of under))
-      (λ over. or-left (on_edge (corners_of b ∷ []) p) (is_odd (corners_of b ∷ []) p) (on_third (on_horizontal b.min.x b.max.x b.max.y p (omega (arith, ints, held.top, over)) held.left held.right))))
+    (λ under. or-right (on_edge (corners_of b ∷ []) p) (is_odd (corners_of b ∷ []) p) (odd-face b p held left_of under))
+    (λ over. or-left (on_edge (corners_of b ∷ []) p) (is_odd (corners_of b ∷ []) p) (on_third (on_horizontal b.min.x b.max.x b.max.y p (omega (arith, ints, held.top, over)) held.left held.right))))
     (λ right_of. or-left (on_edge (corners_of b ∷ []) p) (is_odd (corners_of b ∷ []) p) (on_second (on_vertical b.max.x b.min.y b.max.y p (omega (arith, ints, held.right, right_of)) held.bottom held.top)))
   where
     on_second : on_stretch p (stretch (pt b.max.x b.min.y) b.max) ≡ true → on_edge (corners_of b ∷ []) p ≡ true
     on_second on = or-right (on_stretch p (stretch b.min (pt b.max.x b.min.y))) (list_any (on_stretch p) (stretches_from (pt b.max.x b.min.y) (b.max ∷ pt b.min.x b.max.y ∷ b.min ∷ []))) (or-left (on_stretch p (stretch (pt b.max.x b.min.y) b.max)) (list_any (on_stretch p) (stretches_from b.max (pt b.min.x b.max.y ∷ b.min ∷ []))) on)
+
     on_third : on_stretch p (stretch b.max (pt b.min.x b.max.y)) ≡ true → on_edge (corners_of b ∷ []) p ≡ true
     on_third on = or-right (on_stretch p (stretch b.min (pt b.max.x b.min.y))) (list_any (on_stretch p) (stretches_from (pt b.max.x b.min.y) (b.max ∷ pt b.min.x b.max.y ∷ b.min ∷ []))) (or-right (on_stretch p (stretch (pt b.max.x b.min.y) b.max)) (list_any (on_stretch p) (stretches_from b.max (pt b.min.x b.max.y ∷ b.min ∷ []))) (or-left (on_stretch p (stretch b.max (pt b.min.x b.max.y))) (list_any (on_stretch p) (stretches_from (pt b.min.x b.max.y) (b.min ∷ []))) on))

@@ -15,3 +15,4 @@ pub mod SegmentLaws
 pub mod SideLaws
 pub mod SideLemmas
 pub mod WayLaws
+pub mod WithinLaws

@@ -10,7 +10,7 @@ use Rattle.std.proofs.lemmas.Int.{ints, clamps, by_lt_z}
 use Rattle.planar_geom.specs.Points.{Point, Bounds, pt, bounds, square, dist2, in_box, boxes_meet, box_of_disc, InPlane, IsBox, least_coordinate, greatest_coordinate}
 use Rattle.planar_geom.specs.Figures.{Stretch, stretch, box_of_stretch, on_stretch, dot, minus, orient}
 use Rattle.planar_geom.specs.Shapes.{box_of}
-use Rattle.planar_geom.specs.Relations.{in_part, in_disc, stretch_near, comes_near, face_of, touch, intersects, way_meets, area_box}
+use Rattle.planar_geom.specs.Relations.{in_part, in_disc, stretch_near, comes_near, face_of, touch, intersects, way_meets, area_box, IsArea}
 use Rattle.planar_geom.specs.declared.shapes.Part.{Part}
 use Rattle.planar_geom.specs.declared.shapes.Part.TheVariants.{Spot, Chain, Face}
 use Rattle.planar_geom.specs.declared.shapes.Area.{Area}
@@ -56,6 +56,7 @@ point-reaches b p c r held near =
   where
     first : (a b c : ℕ) → a + b ≤ c → a ≤ c
     first a b c h = omega arith
+
     second : (a b c : ℕ) → a + b ≤ c → b ≤ c
     second a b c h = omega arith
 
@@ -98,3 +99,44 @@ segment-reaches p q c r near =
       top = by_lt_z (c.y +ℤ pos r) (box_of_stretch (stretch p q)).min.y (λ out. absurd (not-beyond e.y e.x d.y d.x D T r m (omega (arith, ints, clamps, out)) (omega (arith, ints, clamps, out)))) (λ h. h);
       bottom = by_lt_z (box_of_stretch (stretch p q)).max.y (c.y -ℤ pos r) (λ out. absurd (not-before e.y e.x d.y d.x D T r m (omega (arith, ints, clamps, out)) (omega (arith, ints, clamps, out)))) (λ h. h);
     }
+
+-- the box of a way meets that of an area that the way meets
+pub way_meets-boxes : (p q : Point) (area : Area) → InPlane p → IsArea area → way_meets p q area ≡ true → boxes_meet (box_of_stretch (stretch p q)) (area_box area) ≡ true
+unfolding intersects
+way_meets-boxes p q (Rect b) p_in whole met =
+    let chain = Chain (p ∷ q ∷ []) in
+    sym (ap (boxes_meet (box_of_stretch (stretch p q))) (box_of-face b whole))
+    ∙ and-left (boxes_meet (box_of (chain ∷ [])) (box_of (face_of b ∷ []))) (list_any (λ a. list_any (touch a) (face_of b ∷ [])) (chain ∷ [])) met
+way_meets-boxes p q (Figure other) p_in whole met =
+    let chain = Chain (p ∷ q ∷ []) in
+    and-left (boxes_meet (box_of (chain ∷ [])) (box_of other)) (list_any (λ a. list_any (touch a) other) (chain ∷ [])) met
+way_meets-boxes p q (Disc c r) p_in whole met =
+    let way = stretch p q in
+    let box = box_of_stretch way in
+    let at_p : Inside box p = record { left = omega (arith, ints, clamps); right = omega (arith, ints, clamps); bottom = omega (arith, ints, clamps); top = omega (arith, ints, clamps) } in
+    let at_q : Inside box q = record { left = omega (arith, ints, clamps); right = omega (arith, ints, clamps); bottom = omega (arith, ints, clamps); top = omega (arith, ints, clamps) } in
+    reaches-meets p q c r p_in
+    (or-elim ((on_stretch c way || false || false) || (in_disc c r p || in_disc c r q || false)) (stretch_near c r way || false) (shape_of_three (on_stretch c way) (in_disc c r p) (in_disc c r q) (stretch_near c r way) met)
+    (λ some. or-elim (on_stretch c way || false || false) (in_disc c r p || in_disc c r q || false) some
+    (λ on. centre-reaches box c r (inside box c (and-left (in_box box c) (int_le (orient p q c *ℤ orient p q c) (pos 0)) (sym (on_stretch-is c way) ∙ first_of_three (on_stretch c way) on))))
+    (λ ends. or-elim (in_disc c r p) (in_disc c r q) (two_of_three (in_disc c r p) (in_disc c r q) ends) (λ h. point-reaches box p c r at_p h) (λ h. point-reaches box q c r at_q h)))
+    (λ near. segment-reaches p q c r (first_of_two (stretch_near c r way) near)))
+  where
+    first_of_three : (a : Bool) → (a || false || false) ≡ true → a ≡ true
+    first_of_three true h = refl
+    first_of_three false h = h
+
+    two_of_three : (a b : Bool) → (a || b || false) ≡ true → (a || b) ≡ true
+    two_of_three true b h = refl
+    two_of_three false true h = refl
+    two_of_three false false h = h
+
+    first_of_two : (a : Bool) → (a || false) ≡ true → a ≡ true
+    first_of_two true h = refl
+    first_of_two false h = h
+
+    shape_of_three : (o a b n : Bool) → (((o || false) || false) || (a || (b || false)) || (n || false)) ≡ true → (((o || false || false) || (a || b || false)) || (n || false)) ≡ true
+    shape_of_three true a b n h = refl
+    shape_of_three false true b n h = refl
+    shape_of_three false false true n h = refl
+    shape_of_three false false false n h = h

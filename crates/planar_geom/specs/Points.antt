@@ -112,6 +112,10 @@ abbrev pub with_point : Bounds → Point → Bounds
 with_point b p =
     bounds (pt (int_min b.min.x p.x) (int_min b.min.y p.y)) (pt (int_max b.max.x p.x) (int_max b.max.y p.y))
 
+-- the least box round two boxes
+abbrev pub box_round_both : Bounds → Bounds → Bounds
+box_round_both b c = with_point (with_point b c.min) c.max
+
 -- the least box round points, the first of them given apart
 abbrev pub box_round : Point → List Point → Bounds
 box_round p ps = fold with_point (bounds p p) ps

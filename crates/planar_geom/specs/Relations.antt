@@ -1,9 +1,9 @@
 -- `within` and `intersects` between a shape and an area, by parts, vertices and segments.
-use Rattle.std.specs.Prelude.{ℕ, pos, ◌*◌, Bool, true, false, not, ◌&&◌, ◌||◌, ◌-ℤ◌, ◌*ℤ◌, int_lt, int_le, nat_le, List, [], ◌∷◌, map}
+use Rattle.std.specs.Prelude.{IsTrue, ℕ, pos, ◌*◌, Bool, true, false, not, ◌&&◌, ◌||◌, ◌-ℤ◌, ◌*ℤ◌, int_lt, int_le, nat_le, List, [], ◌∷◌, map}
 use Rattle.std.specs.List.{list_any, list_all}
-use Rattle.planar_geom.specs.Points.{Point, Bounds, corners_of, box_of_disc, same_point, dist2, in_box, boxes_meet, square}
+use Rattle.planar_geom.specs.Points.{Point, Bounds, corners_of, box_of_disc, InPlane, IsBox, same_point, dist2, in_box, boxes_meet, square}
 use Rattle.planar_geom.specs.Figures.{Stretch, stretches, edges, ring_points, meets, crosses, on_stretch, in_poly, strictly_in, doubled, doubled_middle, dot, minus}
-pub use Rattle.planar_geom.specs.Shapes.{vertices, segments, all_vertices, all_segments, positions, box_of_points, box_of}
+pub use Rattle.planar_geom.specs.Shapes.{vertices, segments, all_vertices, all_segments, positions, box_of_points, box_of, is_shape}
 use Rattle.planar_geom.specs.declared.shapes.Part.{Part}
 use Rattle.planar_geom.specs.declared.shapes.Part.TheVariants.{Spot, Chain, Face}
 use Rattle.planar_geom.specs.declared.shapes.Area.{Area}
@@ -20,6 +20,12 @@ abbrev pub area_box : Area → Bounds
 area_box (Rect b) = b
 area_box (Disc c r) = box_of_disc c r
 area_box (Figure shape) = box_of shape
+
+-- what each area is: its box is one, its centre stands on the plane, its figure is a shape
+abbrev pub IsArea : Area → Type 0
+IsArea (Rect b) = IsBox b
+IsArea (Disc c r) = InPlane c
+IsArea (Figure shape) = IsTrue (is_shape shape)
 
 -- a box as a figure: the face of its four corners
 abbrev pub face_of : Bounds → Part
