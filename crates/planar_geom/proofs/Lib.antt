@@ -14,5 +14,6 @@ pub mod RootLemmas
 pub mod SegmentLaws
 pub mod SideLaws
 pub mod SideLemmas
+pub mod TouchLaws
 pub mod WayLaws
 pub mod WithinLaws

@@ -185,7 +185,7 @@ odd-inside p rings b closed held odd = record {
     clash even = let both : true ≡ false = sym odd ∙ even in cc
 
 -- a point on a chain is in each box that holds the chain
-on_chain-inside : (p q : Point) (qs : List Point) (b : Bounds) → list_all (in_box b) (q ∷ qs) ≡ true → list_any (on_stretch p) (stretches_from q qs) ≡ true → Inside b p
+pub on_chain-inside : (p q : Point) (qs : List Point) (b : Bounds) → list_all (in_box b) (q ∷ qs) ≡ true → list_any (on_stretch p) (stretches_from q qs) ≡ true → Inside b p
 on_chain-inside p q [] b held on = absurd (let no : false ≡ true = on in cc)
 on_chain-inside p q (r ∷ rs) b held on =
     let h = inside b q (and-left (in_box b q) (list_all (in_box b) (r ∷ rs)) held) in

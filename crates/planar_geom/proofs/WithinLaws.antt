@@ -22,7 +22,7 @@ clash : false ≡ true → ⊥
 clash h = cc
 
 -- each part has a vertex
-with_vertex : {P : Type 0} (part : Part) → is_part part ≡ true → ((v : Point) (vs : List Point) → vertices part ≡ v ∷ vs → P) → P
+pub with_vertex : {P : Type 0} (part : Part) → is_part part ≡ true → ((v : Point) (vs : List Point) → vertices part ≡ v ∷ vs → P) → P
 with_vertex (Spot p) whole k = k p [] refl
 with_vertex (Chain []) whole k = absurd (clash whole)
 with_vertex (Chain (v ∷ vs)) whole k = k v vs refl
@@ -52,7 +52,7 @@ touch-at a b v vs e h =
     (or-right (list_any (λ s. list_any (meets s) (segments b)) (segments a)) (list_any (in_part b) (vertices a)) (one-passes (in_part b) (vertices a) v vs e h))
 
 -- a part that lies in a face has its vertices there
-lies-vertices : (part : Part) (rings : List (List Point)) → lies_in part rings ≡ true → list_all (in_poly rings) (vertices part) ≡ true
+pub lies-vertices : (part : Part) (rings : List (List Point)) → lies_in part rings ≡ true → list_all (in_poly rings) (vertices part) ≡ true
 lies-vertices part rings lies =
     let middles = list_all (λ s. in_poly (map (map doubled) rings) (doubled_middle s)) (segments part) in
     let clear = list_all (λ s. list_all (λ t. not (crosses s t)) (edges rings)) (segments part) in

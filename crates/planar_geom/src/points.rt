@@ -96,7 +96,7 @@ impl Model for BBox {
 }
 
 impl BBox {
-    ghost use Rattle.std.specs.Prelude.{◌≡◌, pos};
+    ghost use Rattle.std.specs.Prelude.{◌≡◌, ◌&&◌, pos};
     ghost use Rattle.planar_geom.specs.Points.{pt, bounds, bounds_of, box_of_disc, corners_of, boxes_meet, in_box, with_point, IsBox};
 
     /// The box between two corners; `None` exactly where `min` exceeds `max` in x or in y.
@@ -124,6 +124,13 @@ impl BBox {
         ensures { result ≡ in_box self p }
     {
         is_between(self.min.x, self.max.x, p.x) && is_between(self.min.y, self.max.y, p.y)
+    }
+
+    /// Whether the box holds both corners of another.
+    pub(crate) fn holds_box(self, other: BBox) -> bool
+        ensures { result ≡ (in_box self other.min && in_box self other.max) }
+    {
+        self.holds(other.min) && self.holds(other.max)
     }
 
     /// The corners against the clock, the first also last.

@@ -1,5 +1,6 @@
 //! What stands for a part of a shape: a part itself, a box for its face, and a segment for its chain.
 
+use crate::boxes::box_of_part;
 use crate::discs::{Disc, comes_near};
 use crate::points::{BBox, Pt, Seg};
 use crate::polygons::{in_poly, in_ring};
@@ -9,13 +10,18 @@ use crate::shapes::Part;
 
 /// What stands for one part.
 pub(crate) trait Region {
-    ghost use Rattle.std.specs.Prelude.{◌≡◌};
+    ghost use Rattle.std.specs.Prelude.{◌≡◌, IsTrue};
     ghost use Rattle.std.specs.List.{list_any};
     ghost use Rattle.planar_geom.specs.declared.shapes.Part.{Part};
-    ghost use Rattle.planar_geom.specs.Shapes.{segments, vertices};
+    ghost use Rattle.planar_geom.specs.Shapes.{segments, vertices, is_part, box_of_points};
     ghost use Rattle.planar_geom.specs.Relations.{in_part};
 
     ghost part: { Self → Part };
+
+    /// The least box round it.
+    fn bounds(&self) -> BBox
+        ensures value { result ≡ box_of_points (vertices (part self.now)) }
+        ensures is_part { IsTrue (is_part (part self.now)) };
 
     /// Whether a segment passes the test.
     fn any_segment<T: SegmentTest>(&self, test: &T) -> bool
@@ -47,6 +53,10 @@ impl SegmentTest for Meets {
 impl Region for Part {
     ghost part = { λ p. p };
 
+    fn bounds(&self) -> BBox {
+        box_of_part(self)
+    }
+
     fn any_segment<T: SegmentTest>(&self, test: &T) -> bool {
         any_segment(self, test)
     }
@@ -69,6 +79,11 @@ impl Region for BBox {
 
     ghost part = { face_of };
 
+    fn bounds(&self) -> BBox {
+        let _low = self.min();
+        *self
+    }
+
     fn any_segment<T: SegmentTest>(&self, test: &T) -> bool {
         any_in_chain(&self.corners(), test)
     }
@@ -87,6 +102,10 @@ impl Region for Seg {
     ghost use Rattle.planar_geom.specs.declared.shapes.Part.TheVariants.{Chain};
 
     ghost part = { λ s. Chain (s.a ∷ s.b ∷ []) };
+
+    fn bounds(&self) -> BBox {
+        Seg::bounds(*self)
+    }
 
     fn any_segment<T: SegmentTest>(&self, test: &T) -> bool {
         test.test(*self)
@@ -172,5 +191,8 @@ pub(crate) fn reaches<A: Region>(a: &A, disc: &Disc) -> bool
 pub(crate) fn touches<A: Region, B: Region>(a: &A, b: &B) -> bool
     ensures { result ≡ touch (A.part a.now) (B.part b.now) }
 {
+    if !a.bounds().meets(b.bounds()) {
+        return false;
+    }
     a.any_segment(&MeetsRegion(b)) || a.any_vertex(&IsIn(b)) || b.any_vertex(&IsIn(a))
 }

@@ -5,9 +5,9 @@ ghost use Rattle.std.specs.List.{list_any, list_all};
 ghost use Rattle.planar_geom.specs.Shapes.{all_vertices};
 ghost use Rattle.planar_geom.specs.Relations.{intersects as is_met, within as is_inside, way_meets as is_on_way, figures_touch, face_of, touch, reaches_disc, in_disc, lies_in as lies_in_face, lies_in_part, no_hole_inside};
 
-use crate::boxes::box_of;
+use crate::boxes::{box_of, box_of_part, box_of_poly};
 use crate::discs::Disc;
-use crate::lists::Points;
+use crate::lists::{Points, Poly};
 use crate::points::{BBox, Pt, Seg};
 use crate::polygons::{hold_middle, in_rings, strictly_in};
 use crate::regions::{Region, reaches, touches};
@@ -114,14 +114,23 @@ fn lies_in_any(part: &Part, others: &[Part]) -> bool
     ensures { result ≡ list_any (lies_in_part part.now) others.now }
 {
     others.iter().any(|other| match other {
-        Part::Face(poly) => lies_in(part, poly.rings().as_slice()),
+        Part::Face(poly) => lies_in(part, poly),
         _ => false,
     })
 }
 
+fn lies_in(part: &Part, poly: &Poly) -> bool
+    ensures { result ≡ lies_in_face part.now poly.now }
+{
+    if !box_of_poly(poly).holds_box(box_of_part(part)) {
+        return false;
+    }
+    lies_in_rings(part, poly.rings().as_slice())
+}
+
 // Whether a part lies in a face: its points and the middles of its segments are in it, no segment crosses
 // an edge, and the part goes round no hole.
-fn lies_in(part: &Part, rings: &[Points]) -> bool
+fn lies_in_rings(part: &Part, rings: &[Points]) -> bool
     ensures { result ≡ lies_in_face part.now rings.now }
 {
     if any_vertex(part, &OutsideFace(rings)) {
