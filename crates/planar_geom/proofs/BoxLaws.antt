@@ -1,6 +1,6 @@
 -- What boxes hold.
-use Rattle.std.proofs.Common.{◌≡◌, ℕ, Bool, true, false, refl, sym, ap, ◌∙◌, arith, ℤ, pos, negsuc, ◌+ℤ◌, ◌≤ℤ◌, ◌<ℤ◌, List, [], ◌∷◌, ◌++◌}
-use Rattle.std.specs.Prelude.{◌&&◌, int_le, int_lt, fold}
+use Rattle.std.proofs.Common.{◌≡◌, true, refl, arith, ℤ, pos, negsuc, ◌+ℤ◌, ◌≤ℤ◌, List, [], ◌∷◌}
+use Rattle.std.specs.Prelude.{int_le, fold}
 use Rattle.std.specs.List.{list_all}
 use Rattle.std.specs.Int.{int_div_euclid}
 use Rattle.std.proofs.lemmas.Int.{ints, clamps}

@@ -1,12 +1,12 @@
 -- A segment that comes within a disc reaches the box round it.
-use Rattle.std.proofs.Common.{◌≡◌, ℕ, zero, suc, ◌+◌, ◌*◌, ◌<◌, ◌≤◌, Bool, true, false, refl, sym, ap, ◌∙◌, arith, ℤ, pos, negsuc, ◌+ℤ◌, ◌-ℤ◌, ◌*ℤ◌, neg_ℤ, ◌≤ℤ◌, ◌<ℤ◌, inl, inr, unsigned_abs}
+use Rattle.std.proofs.Common.{◌≡◌, ℕ, ◌+◌, ◌*◌, ◌<◌, ◌≤◌, ap, ◌∙◌, arith, ℤ, pos, ◌+ℤ◌, ◌-ℤ◌, ◌*ℤ◌, neg_ℤ, ◌≤ℤ◌, ◌<ℤ◌, inl, inr}
 use Rattle.std.proofs.Math.Nat.{mul-le-mul, one-le-mul}
 use Rattle.std.specs.Prelude.{nat_abs}
 use Rattle.std.proofs.lemmas.Bool.Decides.{leb_tells}
 use Rattle.std.proofs.lemmas.Int.{ints, unsigned_abs-mul}
-use Rattle.planar_geom.specs.Points.{Point, square}
+use Rattle.planar_geom.specs.Points.{square}
 use Rattle.planar_geom.proofs.PlaceLemmas.{square_is}
-use Rattle.planar_geom.proofs.ProductLaws.{mul-add, mul-neg, mul-sub, mul-comm, add-mul, sub-mul, mul-differences, mul-right-comm}
+use Rattle.planar_geom.proofs.ProductLaws.{mul-neg, mul-sub, mul-comm, add-mul, sub-mul, mul-differences, mul-right-comm}
 use Rattle.planar_geom.proofs.SideLaws.{product-not_negative}
 
 -- a height of at most r over a side, times a part of the side, is less than r + 1 times the side

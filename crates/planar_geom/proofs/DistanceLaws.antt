@@ -1,7 +1,7 @@
 -- The distance to a box: 0 in it, and at most that to any of its points.
-use Rattle.std.proofs.Common.{◌≡◌, ℕ, zero, suc, ◌+◌, ◌*◌, ◌≤◌, Bool, true, false, refl, sym, ap, ◌∙◌, arith, ℤ, pos, negsuc, ◌-ℤ◌, ◌≤ℤ◌, inl, inr}
+use Rattle.std.proofs.Common.{◌≡◌, ℕ, zero, suc, ◌+◌, ◌*◌, ◌≤◌, true, refl, ap, ◌∙◌, arith, ℤ, pos, ◌-ℤ◌, ◌≤ℤ◌}
 use Rattle.std.proofs.Math.Nat.{mul-le-mul}
-use Rattle.std.specs.Prelude.{◌&&◌, int_le, int_lt, nat_abs, ◌↔◌}
+use Rattle.std.specs.Prelude.{nat_abs}
 use Rattle.std.proofs.lemmas.Int.{ints}
 use Rattle.planar_geom.specs.Points.{Point, Bounds, square, outside_by, box_dist2, dist2, in_range, in_box}
 use Rattle.planar_geom.proofs.BoolLemmas.{and-left, and-right, and-both}

@@ -1,12 +1,12 @@
 -- The face of a box holds what the box holds.
-use Rattle.std.proofs.Common.{◌≡◌, ℕ, Bool, true, false, refl, sym, ap, ◌∙◌, arith, ℤ, pos, ◌+ℤ◌, ◌-ℤ◌, ◌*ℤ◌, ◌≤ℤ◌, ◌<ℤ◌, List, [], ◌∷◌}
+use Rattle.std.proofs.Common.{◌≡◌, true, false, refl, ap, ◌∙◌, arith, ℤ, pos, ◌+ℤ◌, ◌-ℤ◌, ◌*ℤ◌, ◌≤ℤ◌, ◌<ℤ◌, [], ◌∷◌}
 use Rattle.std.proofs.Math.IntN.{*ℤ-zero, zero-*ℤ}
-use Rattle.std.specs.Prelude.{◌&&◌, ◌||◌, int_le, int_lt}
+use Rattle.std.specs.Prelude.{int_le, int_lt}
 use Rattle.std.specs.Int.{int_signum}
 use Rattle.std.specs.List.{list_any}
 use Rattle.std.proofs.lemmas.Int.{ints, clamps, by_lt_z}
 use Rattle.planar_geom.specs.Points.{Point, Bounds, pt, in_box, corners_of}
-use Rattle.planar_geom.specs.Figures.{Stretch, stretch, stretches_from, cross, orient, differ, on_stretch, on_edge, is_odd, in_poly, box_of_stretch}
+use Rattle.planar_geom.specs.Figures.{stretch, stretches_from, cross, orient, differ, on_stretch, on_edge, is_odd, in_poly, box_of_stretch}
 use Rattle.planar_geom.proofs.BoolLemmas.{and-both, or-left, or-right}
 use Rattle.planar_geom.proofs.BoxLaws.{Inside, in_box-from}
 use Rattle.planar_geom.proofs.ParityLaws.{odd_past, odd_past-cons, passes-level, passes-rising_left, passes-falling_right, to_lt, not_lt}

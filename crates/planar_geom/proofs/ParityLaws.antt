@@ -1,14 +1,14 @@
 -- A polygon stands in each box that holds its points.
-use Rattle.std.proofs.Common.{◌≡◌, ℕ, zero, suc, ◌%◌, Bool, true, false, refl, sym, ap, ◌∙◌, arith, ℤ, pos, ◌≤ℤ◌, ◌<ℤ◌, ◌*ℤ◌, List, [], ◌∷◌, ◌++◌, inl, inr}
-use Rattle.std.specs.Prelude.{not, ◌&&◌, ◌||◌, ◌==◌, ◌⊎◌, int_le, int_lt, nat_lt, count_by, flat_map, length, if◌then◌else◌}
+use Rattle.std.proofs.Common.{◌≡◌, suc, ◌%◌, Bool, true, false, refl, sym, ap, ◌∙◌, arith, ℤ, pos, ◌≤ℤ◌, ◌<ℤ◌, ◌*ℤ◌, List, [], ◌∷◌, ◌++◌}
+use Rattle.std.specs.Prelude.{◌==◌, int_le, int_lt, nat_lt, count_by, length, if◌then◌else◌}
 use Rattle.std.specs.List.{list_any, list_all}
 use Rattle.std.proofs.lemmas.Int.{ints, by_lt_z}
 use Rattle.std.proofs.lemmas.List.Folds.{list_any-append, list_all-append}
-use Rattle.planar_geom.specs.Points.{Point, Bounds, in_range, in_box, same_point, same_int}
-use Rattle.planar_geom.specs.Figures.{Stretch, stretch, stretches, stretches_from, edges, ring_points, cross, above, differ, passes_right, on_stretch, on_edge, is_odd, in_poly, box_of_stretch, last_of, is_ring, is_poly, orient}
+use Rattle.planar_geom.specs.Points.{Point, Bounds, in_box, same_point, same_int}
+use Rattle.planar_geom.specs.Figures.{Stretch, stretch, stretches_from, edges, ring_points, cross, above, differ, passes_right, on_stretch, on_edge, is_odd, in_poly, box_of_stretch, last_of, is_ring, is_poly, orient}
 use Rattle.planar_geom.proofs.BoolLemmas.{and-left, and-right, or-elim}
-use Rattle.planar_geom.proofs.BoxLaws.{from_le, to_le, Inside, inside, in_box-from, stretch_box-inside}
-use Rattle.planar_geom.proofs.ParityLemmas.{count_by-cons, differ-count, odd-suc}
+use Rattle.planar_geom.proofs.BoxLaws.{from_le, Inside, inside, stretch_box-inside}
+use Rattle.planar_geom.proofs.ParityLemmas.{count_by-cons, odd-suc}
 use Rattle.planar_geom.proofs.SegmentLaws.{cross-turned}
 use Rattle.planar_geom.proofs.SideLemmas.{on_stretch-is}
 use Rattle.planar_geom.proofs.SideLaws.{rising-left, rising-right}

@@ -1,5 +1,5 @@
 -- Products of whole numbers, multiplied out and in other orders.
-use Rattle.std.proofs.Common.{◌≡◌, ℕ, zero, suc, refl, sym, ap, ◌∙◌, arith, ℤ, pos, negsuc, ◌-ℤ◌, ◌+ℤ◌, ◌*ℤ◌, neg_ℤ, ◌+◌, ◌*◌}
+use Rattle.std.proofs.Common.{◌≡◌, refl, ap, ◌∙◌, arith, ℤ, ◌-ℤ◌, ◌+ℤ◌, ◌*ℤ◌, neg_ℤ, ◌+◌, ◌*◌}
 use Rattle.std.proofs.lemmas.Int.{ints}
 use borrow.Author.Differences.{up, down, same_in, sum_is_lem, neg_is, product_is}
 

@@ -1,5 +1,5 @@
 -- The order of two segments and of their ends does not matter.
-use Rattle.std.proofs.Common.{◌≡◌, ℕ, zero, suc, Bool, refl, sym, ap, ◌∙◌, arith, ℤ, pos, negsuc, ◌-ℤ◌, ◌*ℤ◌, neg_ℤ}
+use Rattle.std.proofs.Common.{◌≡◌, zero, suc, refl, ap, ◌∙◌, arith, ℤ, pos, negsuc, ◌*ℤ◌, neg_ℤ}
 use Rattle.std.specs.Prelude.{◌&&◌, int_le}
 use Rattle.std.specs.Int.{int_signum}
 use Rattle.std.proofs.lemmas.Int.{ints, clamps}

@@ -4,7 +4,7 @@ use Rattle.std.specs.Prelude.{◌&&◌, ◌||◌, int_le, fold}
 use Rattle.std.specs.List.{list_any, list_all}
 use Rattle.std.proofs.lemmas.Int.{ints, clamps}
 use Rattle.std.proofs.lemmas.List.Folds.{list_all-append}
-use Rattle.planar_geom.specs.Points.{Point, Bounds, bounds, in_box, boxes_meet, ranges_meet, same_point, same_int, with_point}
+use Rattle.planar_geom.specs.Points.{Point, Bounds, bounds, in_box, boxes_meet, ranges_meet, same_int, with_point}
 use Rattle.planar_geom.specs.Figures.{Stretch, stretch, stretches_from, edges, ring_points, meets, sides, box_of_stretch, is_poly, in_poly}
 use Rattle.planar_geom.specs.Shapes.{vertices, segments, is_part, box_of_points}
 use Rattle.planar_geom.specs.Relations.{in_part, face_of, touch, lies_in}

@@ -1,18 +1,17 @@
 -- What is met by a way has a box that meets the way's box.
-use Rattle.std.proofs.Common.{◌≡◌, ℕ, zero, suc, ◌+◌, ◌*◌, ◌<◌, ◌≤◌, Bool, true, false, refl, sym, ap, ◌∙◌, arith, ℤ, pos, negsuc, ◌+ℤ◌, ◌-ℤ◌, ◌*ℤ◌, ◌≤ℤ◌, ◌<ℤ◌, inl, inr, List, [], ◌∷◌}
+use Rattle.std.proofs.Common.{◌≡◌, ℕ, ◌+◌, ◌*◌, ◌≤◌, Bool, true, false, refl, sym, ap, ◌∙◌, arith, pos, ◌+ℤ◌, ◌-ℤ◌, ◌*ℤ◌, ◌≤ℤ◌, inl, inr, [], ◌∷◌}
 use Rattle.std.proofs.Math.Nat.{mul-le-mul}
-use Rattle.std.specs.Prelude.{◌&&◌, ◌||◌, nat_abs, nat_le, int_le, int_lt}
+use Rattle.std.specs.Prelude.{◌&&◌, ◌||◌, nat_abs, int_le, int_lt}
 use Rattle.std.specs.List.{list_any}
 use Rattle.std.proofs.lemmas.Bool.Decides.{leb_tells}
 use Rattle.std.proofs.lemmas.Bool.{leb-true}
 use borrow.Author.Tests.{ltb-true}
 use Rattle.std.proofs.lemmas.Int.{ints, clamps, by_lt_z}
-use Rattle.planar_geom.specs.Points.{Point, Bounds, pt, bounds, square, dist2, in_box, boxes_meet, box_of_disc, InPlane, IsBox, least_coordinate, greatest_coordinate}
-use Rattle.planar_geom.specs.Figures.{Stretch, stretch, box_of_stretch, on_stretch, dot, minus, orient}
+use Rattle.planar_geom.specs.Points.{Point, Bounds, square, dist2, in_box, boxes_meet, box_of_disc, InPlane}
+use Rattle.planar_geom.specs.Figures.{stretch, box_of_stretch, on_stretch, dot, minus, orient}
 use Rattle.planar_geom.specs.Shapes.{box_of}
-use Rattle.planar_geom.specs.Relations.{in_part, in_disc, stretch_near, comes_near, face_of, touch, intersects, way_meets, area_box, IsArea}
-use Rattle.planar_geom.specs.declared.shapes.Part.{Part}
-use Rattle.planar_geom.specs.declared.shapes.Part.TheVariants.{Spot, Chain, Face}
+use Rattle.planar_geom.specs.Relations.{in_disc, stretch_near, comes_near, face_of, touch, intersects, way_meets, area_box, IsArea}
+use Rattle.planar_geom.specs.declared.shapes.Part.TheVariants.{Chain}
 use Rattle.planar_geom.specs.declared.shapes.Area.{Area}
 use Rattle.planar_geom.specs.declared.shapes.Area.TheVariants.{Rect, Disc, Figure}
 use Rattle.planar_geom.proofs.BoolLemmas.{and-left, and-right, or-elim}

@@ -1,10 +1,10 @@
 -- What lies in an area meets it.
 use Rattle.std.proofs.Common.{◌≡◌, suc, Bool, true, false, refl, sym, ap, ◌∙◌, List, [], ◌∷◌, ◌++◌}
-use Rattle.std.specs.Prelude.{IsTrue, ◌&&◌, ◌||◌, not, map, nat_lt, length}
+use Rattle.std.specs.Prelude.{◌&&◌, ◌||◌, not, map, nat_lt, length}
 use Rattle.std.specs.List.{list_any, list_all}
 use Rattle.std.proofs.lemmas.List.Folds.{list_all-append}
-use Rattle.planar_geom.specs.Points.{Point, Bounds, in_box, boxes_meet, corners_of, IsBox}
-use Rattle.planar_geom.specs.Figures.{Stretch, edges, ring_points, crosses, doubled, doubled_middle, in_poly, is_poly, is_ring, is_line}
+use Rattle.planar_geom.specs.Points.{Point, Bounds, in_box, boxes_meet}
+use Rattle.planar_geom.specs.Figures.{edges, ring_points, crosses, doubled, doubled_middle, in_poly, is_poly, is_ring}
 use Rattle.planar_geom.specs.Shapes.{vertices, segments, all_vertices, all_segments, box_of, is_part, is_shape}
 use Rattle.planar_geom.specs.Relations.{in_part, in_disc, stretch_near, face_of, touch, intersects, within, lies_in, lies_in_part, no_hole_inside, IsArea}
 use Rattle.planar_geom.specs.Figures.{meets}

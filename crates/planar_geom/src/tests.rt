@@ -168,14 +168,19 @@ fn corners(area: &Area) -> (Place, Place) {
 
 #[test]
 fn distances(rt: HostRuntime) {
-    let alloc = rt.alloc();
-    // Sums below 0 are halved downwards too.
-    assert_eq!(rt; box_centre(&chain(&rt, alloc, &[(0, 3), (-1, 0)])), (-1, 1));
-    assert_eq!(rt; distance(&rt, (0, 0), (3, 4)), 25);
-    assert_eq!(rt;
-        distance(&rt, (FAR, FAR), (-FAR, -FAR)),
-        8_000_000_000_000_000_000
-    );
+    for (p, q, expected) in [
+        ((0, 0), (3, 4), 25),
+        ((FAR, FAR), (-FAR, -FAR), 8_000_000_000_000_000_000),
+    ] {
+        assert_eq!(rt; distance(&rt, p, q), expected);
+    }
+    for (place, expected) in [((13, 14), 25), ((10, 3), 0), ((-2, 5), 4)] {
+        assert_eq!(rt; distance_to_square(&rt, place), expected);
+    }
+}
+
+#[test]
+fn roots(rt: HostRuntime) {
     for (n, expected) in [
         (0, 0),
         (2499, 49),
@@ -185,9 +190,13 @@ fn distances(rt: HostRuntime) {
     ] {
         assert_eq!(rt; root(n), expected);
     }
-    for (place, expected) in [((13, 14), 25), ((10, 3), 0), ((-2, 5), 4)] {
-        assert_eq!(rt; distance_to_square(&rt, place), expected);
-    }
+}
+
+#[test]
+fn boxes(rt: HostRuntime) {
+    let alloc = rt.alloc();
+    // Sums below 0 are halved downwards too.
+    assert_eq!(rt; box_centre(&chain(&rt, alloc, &[(0, 3), (-1, 0)])), (-1, 1));
     assert_eq!(rt; corners(&disc(&rt, (FAR, 0), 5)), ((FAR - 5, -5), (FAR, 5)));
 }
 
@@ -250,11 +259,21 @@ fn is_on_way(rt: &impl Abort, from: Place, to: Place, area: &Area) -> bool {
     way_meets(at(rt, from), at(rt, to), area)
 }
 
+fn holed(rt: &impl Abort, alloc: Global) -> Area {
+    figure(rt, alloc, &[&BORDER, &HOLE])
+}
+
+/// Whether a point is in, meets and lies in the square with a hole.
+fn point_answers(rt: &impl Abort, alloc: Global, place: Place) -> (bool, bool, bool) {
+    let point = spot(rt, alloc, place);
+    let area = holed(rt, alloc);
+    let inside = is_in(rt, place, &poly(rt, alloc, &[&BORDER, &HOLE]));
+    (inside, is_met(&point, &area), is_inside(&point, &area))
+}
+
 #[test]
 fn points_in_a_polygon_with_a_hole(rt: HostRuntime) {
     let alloc = rt.alloc();
-    let holed = poly(&rt, alloc, &[&BORDER, &HOLE]);
-    let area = figure(&rt, alloc, &[&BORDER, &HOLE]);
     for (place, expected) in [
         // an edge, a vertex, the hole, the hole's edge, inside, left of all, right of all
         ((5, 0), true),
@@ -265,10 +284,10 @@ fn points_in_a_polygon_with_a_hole(rt: HostRuntime) {
         ((-1, 4), false),
         ((11, 4), false),
     ] {
-        assert_eq!(rt; is_in(&rt, place, &holed), expected);
-        let point = spot(&rt, alloc, place);
-        assert_eq!(rt; is_met(&point, &area), expected);
-        assert_eq!(rt; is_inside(&point, &area), expected);
+        assert_eq!(rt;
+            point_answers(&rt, alloc, place),
+            (expected, expected, expected)
+        );
     }
 }
 
@@ -286,40 +305,82 @@ fn edges_through_vertices(rt: HostRuntime) {
     }
 }
 
-#[test]
-fn figures_within_a_polygon_with_a_hole(rt: HostRuntime) {
-    let alloc = rt.alloc();
-    let area = figure(&rt, alloc, &[&BORDER, &HOLE]);
-    let square = rect(&rt, (0, 0), (10, 10));
-    let whole = face(&rt, alloc, &[&BORDER, &HOLE]);
-    let round_hole = face(&rt, alloc, &[&[(3, 3), (7, 3), (7, 7), (3, 7), (3, 3)]]);
-    assert!(rt; is_inside(&whole, &area));
-    assert!(rt; is_inside(&whole, &square));
-    assert!(rt; !is_inside(&round_hole, &area));
-    assert!(rt; is_inside(&round_hole, &square));
-    assert!(rt; is_met(&round_hole, &area));
-    // across the hole, and beside it
-    assert!(rt; !is_inside(&chain(&rt, alloc, &[(2, 5), (8, 5)]), &area));
-    assert!(rt; is_inside(&chain(&rt, alloc, &[(2, 2), (8, 2)]), &area));
+/// Whether a polygon lies in the square with a hole, in the square, and meets the first.
+fn face_answers(rt: &impl Abort, alloc: Global, lists: &[&[Place]]) -> (bool, bool, bool) {
+    let shape = face(rt, alloc, lists);
+    let area = holed(rt, alloc);
+    let square = rect(rt, (0, 0), (10, 10));
+    (
+        is_inside(&shape, &area),
+        is_inside(&shape, &square),
+        is_met(&shape, &area),
+    )
 }
 
 #[test]
-fn boxes_and_ways(rt: HostRuntime) {
+fn faces_in_a_polygon_with_a_hole(rt: HostRuntime) {
     let alloc = rt.alloc();
-    let area = figure(&rt, alloc, &[&BORDER, &HOLE]);
-    let square = rect(&rt, (0, 0), (10, 10));
-    assert!(rt; !is_met(&spot(&rt, alloc, (11, 11)), &square));
-    // a box of no size is met where it stands
-    let point_box = rect(&rt, (2, 2), (2, 2));
-    assert!(rt; is_met(&spot(&rt, alloc, (2, 2)), &point_box));
-    assert!(rt; !is_met(&spot(&rt, alloc, (2, 3)), &point_box));
-    assert!(rt; is_on_way(&rt, (-5, 5), (15, 5), &square));
-    assert!(rt; !is_on_way(&rt, (-5, 5), (5, 25), &square));
-    assert!(rt; is_on_way(&rt, (-5, 5), (15, 5), &area));
+    let itself = face_answers(&rt, alloc, &[&BORDER, &HOLE]);
+    assert_eq!(rt; itself, (true, true, true));
+    let round_hole = face_answers(&rt, alloc, &[&[(3, 3), (7, 3), (7, 7), (3, 7), (3, 3)]]);
+    assert_eq!(rt; round_hole, (false, true, true));
+}
+
+/// Whether a segment lies in the square with a hole, and its way meets that and the square.
+fn way_answers(rt: &impl Abort, alloc: Global, p: Place, q: Place) -> (bool, bool, bool) {
+    let area = holed(rt, alloc);
+    let inside = is_inside(&chain(rt, alloc, &[p, q]), &area);
+    let met = is_on_way(rt, p, q, &area);
+    (
+        inside,
+        met,
+        is_on_way(rt, p, q, &rect(rt, (0, 0), (10, 10))),
+    )
 }
 
 #[test]
-fn discs(rt: HostRuntime) {
+fn ways(rt: HostRuntime) {
+    let alloc = rt.alloc();
+    for (p, q, expected) in [
+        // across the hole, beside it, in it, across the square, past it
+        ((2, 5), (8, 5), (false, true, true)),
+        ((2, 2), (8, 2), (true, true, true)),
+        ((5, 5), (5, 5), (false, false, true)),
+        ((-5, 5), (15, 5), (false, true, true)),
+        ((-5, 5), (5, 25), (false, false, false)),
+    ] {
+        assert_eq!(rt; way_answers(&rt, alloc, p, q), expected);
+    }
+}
+
+fn point_meets_box(rt: &impl Abort, alloc: Global, place: Place, min: Place, max: Place) -> bool {
+    is_met(&spot(rt, alloc, place), &rect(rt, min, max))
+}
+
+#[test]
+fn points_and_boxes(rt: HostRuntime) {
+    let alloc = rt.alloc();
+    for (place, min, max, expected) in [
+        ((11, 11), (0, 0), (10, 10), false),
+        ((10, 4), (0, 0), (10, 10), true),
+        // a box of no size is met where it stands
+        ((2, 2), (2, 2), (2, 2), true),
+        ((2, 3), (2, 2), (2, 2), false),
+    ] {
+        assert_eq!(rt; point_meets_box(&rt, alloc, place, min, max), expected);
+    }
+}
+
+/// Whether a segment meets a disc, and whether its way does.
+fn disc_answers(rt: &impl Abort, alloc: Global, p: Place, q: Place, area: &Area) -> (bool, bool) {
+    (
+        is_met(&chain(rt, alloc, &[p, q]), area),
+        is_on_way(rt, p, q, area),
+    )
+}
+
+#[test]
+fn segments_and_discs(rt: HostRuntime) {
     let alloc = rt.alloc();
     let five = disc(&rt, (0, 0), 5);
     for (p, q, expected) in [
@@ -332,31 +393,64 @@ fn discs(rt: HostRuntime) {
         ((5, 0), (5, 0), true),
         ((50, 50), (50, 50), false),
     ] {
-        assert_eq!(rt; is_met(&chain(&rt, alloc, &[p, q]), &five), expected);
-        assert_eq!(rt; is_on_way(&rt, p, q, &five), expected);
+        assert_eq!(rt; disc_answers(&rt, alloc, p, q, &five), (expected, expected));
     }
-    // a face round the centre, with no border near it
-    let round = face(
-        &rt,
+}
+
+/// Whether a square of this half side round the origin meets the disc of radius 5, and lies in it.
+fn square_answers(rt: &impl Abort, alloc: Global, half: u8) -> (bool, bool) {
+    let side = i64::from(half);
+    let shape = face(
+        rt,
         alloc,
-        &[&[(-90, -90), (90, -90), (90, 90), (-90, 90), (-90, -90)]],
+        &[&[
+            (-side, -side),
+            (side, -side),
+            (side, side),
+            (-side, side),
+            (-side, -side),
+        ]],
     );
-    assert!(rt; is_met(&round, &five));
-    assert!(rt; !is_inside(&round, &five));
-    assert!(rt; is_inside(&spot(&rt, alloc, (3, 4)), &five));
+    let five = disc(rt, (0, 0), 5);
+    (is_met(&shape, &five), is_inside(&shape, &five))
+}
+
+#[test]
+fn faces_and_discs(rt: HostRuntime) {
+    let alloc = rt.alloc();
+    // a border far from the centre, and one in the disc
+    for (half, expected) in [(90, (true, false)), (3, (true, true)), (4, (true, false))] {
+        assert_eq!(rt; square_answers(&rt, alloc, half), expected);
+    }
+}
+
+/// Whether the north-east corner of the plane and the diagonal to it meet a disc.
+fn far_answers(rt: &impl Abort, alloc: Global, centre: Place, radius: u32) -> (bool, bool) {
+    let area = disc(rt, centre, radius);
+    let corner = is_met(&spot(rt, alloc, (FAR, FAR)), &area);
+    (
+        corner,
+        is_met(&chain(rt, alloc, &[(-FAR, -FAR), (FAR, FAR)]), &area),
+    )
 }
 
 #[test]
 fn corners_of_the_plane(rt: HostRuntime) {
     let alloc = rt.alloc();
-    let corner = spot(&rt, alloc, (FAR, FAR));
-    let diagonal = chain(&rt, alloc, &[(-FAR, -FAR), (FAR, FAR)]);
-    assert!(rt; is_met(&corner, &disc(&rt, (-FAR, FAR), 2_000_000_000)));
-    assert!(rt; !is_met(&corner, &disc(&rt, (-FAR, -FAR), 2_000_000_000)));
-    assert!(rt; is_met(&diagonal, &disc(&rt, (FAR, -FAR), 1_414_213_563)));
-    assert!(rt; !is_met(&diagonal, &disc(&rt, (FAR, -FAR), 1_414_213_562)));
+    for (centre, radius, expected) in [
+        ((-FAR, FAR), 2_000_000_000, (true, true)),
+        ((-FAR, -FAR), 2_000_000_000, (false, true)),
+        ((FAR, -FAR), 1_414_213_563, (false, true)),
+        ((FAR, -FAR), 1_414_213_562, (false, false)),
+    ] {
+        assert_eq!(rt; far_answers(&rt, alloc, centre, radius), expected);
+    }
+}
+
+/// Whether the plane as a face holds its diagonal.
+fn plane_holds_diagonal(rt: &impl Abort, alloc: Global) -> bool {
     let plane = figure(
-        &rt,
+        rt,
         alloc,
         &[&[
             (-FAR, -FAR),
@@ -366,5 +460,10 @@ fn corners_of_the_plane(rt: HostRuntime) {
             (-FAR, -FAR),
         ]],
     );
-    assert!(rt; is_inside(&diagonal, &plane));
+    is_inside(&chain(rt, alloc, &[(-FAR, -FAR), (FAR, FAR)]), &plane)
+}
+
+#[test]
+fn doubled_middles_at_the_corners(rt: HostRuntime) {
+    assert!(rt; plane_holds_diagonal(&rt, rt.alloc()));
 }

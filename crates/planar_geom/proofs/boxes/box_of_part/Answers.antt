@@ -1,4 +1,4 @@
-use Rattle.std.proofs.Common.{◌≡◌, ◌∙◌}
+use Rattle.std.proofs.Common.{◌∙◌}
 use Rattle.planar_geom.specs.Shapes.{vertices}
 use Rattle.planar_geom.proofs.PlaceLemmas.{grown-box}
 use Rattle.planar_geom.proofs.boxes.box_of_part.Goals as goal

@@ -1,4 +1,4 @@
-use Rattle.std.proofs.Common.{◌≡◌, sym, ap, subst, true}
+use Rattle.std.proofs.Common.{◌≡◌, sym, subst, true}
 use Rattle.planar_geom.specs.Points.{Point, boxes_meet, centre}
 use Rattle.planar_geom.specs.Figures.{stretch, box_of_stretch}
 use Rattle.planar_geom.specs.Relations.{way_meets, area_box}

@@ -1,8 +1,8 @@
 use Rattle.std.proofs.Common.{◌≡◌, ◌∙◌, refl, sym, ap, false}
 use Rattle.std.specs.Prelude.{◌&&◌}
 use Rattle.planar_geom.specs.Points.{in_box}
-use Rattle.planar_geom.specs.Figures.{ring_points, is_poly}
-use Rattle.planar_geom.specs.Shapes.{vertices, is_part, box_of_points}
+use Rattle.planar_geom.specs.Figures.{ring_points}
+use Rattle.planar_geom.specs.Shapes.{vertices, box_of_points}
 use Rattle.planar_geom.specs.Relations.{lies_in}
 use Rattle.planar_geom.proofs.TouchLaws.{outside-lies}
 use Rattle.planar_geom.proofs.relations.lies_in.Goals as goal
