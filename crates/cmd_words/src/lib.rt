@@ -4,6 +4,8 @@
 mod commands;
 mod laws;
 mod readers;
+#[cfg(test)]
+mod tests;
 
 pub use commands::command_of;
 pub use laws::served_words_are_read;

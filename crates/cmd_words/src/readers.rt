@@ -110,10 +110,10 @@ impl<'a> Reader<'a> {
     pub(crate) fn end(&self) -> Result<(), WordFault>
         ensures { IsEnd self.now result }
     {
-        if self.read < self.words.words() {
-            Err(WordFault::Unserved)
-        } else {
+        if self.read == self.words.words() {
             Ok(())
+        } else {
+            Err(WordFault::Unserved)
         }
     }
 }
