@@ -1,4 +1,5 @@
 pub mod Readings
 pub mod Lefts
+pub mod Follows
 pub mod Served
 pub mod Requests
