@@ -10,10 +10,10 @@ use Rattle.world_model.specs.declared.commands.Command.{Command}
 use Rattle.world_model.proofs.Prefixes.{beginnings, spelling_open, stops_there}
 use Rattle.cmd_words.specs.Places.{Place, all_words, IsBehind, Follows, due_fault}
 
-open_by : (words : List Bytes) (r : Reading Command) (rs : List (Reading Command)) → readings words ≡ r ∷ rs → is_open words ≡ true
+pub open_by : (words : List Bytes) (r : Reading Command) (rs : List (Reading Command)) → readings words ≡ r ∷ rs → is_open words ≡ true
 open_by words r rs e = rw e (grind (arith, nat_tests))
 
-shut_by : (words : List Bytes) → readings words ≡ [] → is_open words ≡ false
+pub shut_by : (words : List Bytes) → readings words ≡ [] → is_open words ≡ false
 shut_by words e = rw e refl
 
 unspelled : (words : List Bytes) (o : Option Command) → command_spelled words ≡ o → is_open words ≡ false → o ≡ None
@@ -53,10 +53,10 @@ spelt words c e = rw e refl
 pub now : (p : Place) (f : Form Command) → Follows p f → readings p.read ≡ live (f [])
 now p f h = subst (λ (l : List Bytes). readings l ≡ live (f [])) (append-nil p.read) (h.goes [])
 
-no_more : (p : Place) → p.left ≡ [] → all_words p ≡ p.read
+pub no_more : (p : Place) → p.left ≡ [] → all_words p ≡ p.read
 no_more p e = rw e (append-nil p.read)
 
-some_more : (p : Place) (w : Bytes) (rest : List Bytes) → p.left ≡ w ∷ rest → all_words p ≡ p.read ++ w ∷ rest
+pub some_more : (p : Place) (w : Bytes) (rest : List Bytes) → p.left ≡ w ∷ rest → all_words p ≡ p.read ++ w ∷ rest
 some_more p w rest e = rw e refl
 
 -- one word of a kind

@@ -1,5 +1,5 @@
-pub mod Readings
-pub mod Lefts
 pub mod Follows
-pub mod Served
-pub mod Requests
+pub mod Lefts
+pub mod Gets
+pub mod Heads
+pub mod Ends

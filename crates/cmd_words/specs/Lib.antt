@@ -1,3 +1,2 @@
 pub mod Places
-pub mod Words
-pub mod Laws
+pub mod Asked

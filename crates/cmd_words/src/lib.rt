@@ -2,10 +2,8 @@
 #![tactic(auto)]
 
 mod commands;
-mod laws;
+mod faults;
 mod readers;
-#[cfg(test)]
-mod tests;
+mod words;
 
 pub use commands::command_of;
-pub use laws::served_words_are_read;
