@@ -13,8 +13,9 @@ use Rattle.cmd_words.specs.Asked.{unbuilt}
 use Rattle.cmd_words.proofs.Follows.{stopped, shut_by}
 use Rattle.world_model.specs.declared.commands.Command.{Command}
 use Rattle.world_model.specs.declared.commands.Command.TheVariants as command
-use Rattle.cmd_words.specs.Places.{Place, Follows, Answers, IsFault, all_words, a_name, key_and_id, get_options}
+use Rattle.cmd_words.specs.Places.{Place, Follows, Answers, IsFault, all_words, a_name, key_and_id, get_options, stats_names}
 use Rattle.cmd_words.proofs.Gets.{lower_word}
+use Rattle.cmd_words.proofs.Stats.{first_name}
 
 -- the name of a command, and the words behind it
 begins : (called : Bytes) (p : Place) (f : Form Command) → p.read ≡ called ∷ [] → ((more : List Bytes) → readings (called ∷ more) ≡ live (f more)) → Follows p f
@@ -35,6 +36,10 @@ drop_goes called more e = rw e (simp append-nil)
 bounds_goes : (called : Bytes) (more : List Bytes) → str_to_ascii_lowercase called ≡ codes "bounds" → readings (called ∷ more) ≡ live (a_name (λ key. done (command.Bounds key)) more)
 unfolding readings
 bounds_goes called more e = rw e (simp append-nil)
+
+stats_goes : (called : Bytes) (more : List Bytes) → str_to_ascii_lowercase called ≡ codes "stats" → readings (called ∷ more) ≡ live (stats_names more)
+unfolding readings
+stats_goes called more e = rw e (simp append-nil (first_name more))
 
 flush_goes : (called : Bytes) (more : List Bytes) → str_to_ascii_lowercase called ≡ codes "flushdb" → readings (called ∷ more) ≡ live (done command.Flush more)
 unfolding readings
@@ -60,6 +65,9 @@ drop_head called p r e = begins called p _ r (λ more. drop_goes called more (lo
 pub bounds_head : (called : Bytes) (p : Place) → p.read ≡ called ∷ [] → is_word called (codes "BOUNDS") ≡ true → Follows p (a_name (λ key. done (command.Bounds key)))
 bounds_head called p r e = begins called p _ r (λ more. bounds_goes called more (lower_word called (codes "BOUNDS") e))
 
+pub stats_head : (called : Bytes) (p : Place) → p.read ≡ called ∷ [] → is_word called (codes "STATS") ≡ true → Follows p stats_names
+stats_head called p r e = begins called p _ r (λ more. stats_goes called more (lower_word called (codes "STATS") e))
+
 pub flush_head : (called : Bytes) (p : Place) → p.read ≡ called ∷ [] → is_word called (codes "FLUSHDB") ≡ true → Follows p (done command.Flush)
 flush_head called p r e = begins called p _ r (λ more. flush_goes called more (lower_word called (codes "FLUSHDB") e))
 
@@ -82,15 +90,15 @@ nothing_starts : is_open [] ≡ true
 unfolding readings
 nothing_starts = refl
 
-nothing_goes : (called : Bytes) → is_word called (codes "GET") ≡ false → is_word called (codes "DEL") ≡ false → is_word called (codes "DROP") ≡ false → is_word called (codes "BOUNDS") ≡ false → is_word called (codes "FLUSHDB") ≡ false → is_word called (codes "PING") ≡ false → is_word called (codes "QUIT") ≡ false → is_word called (codes "SET") ≡ false → is_word called (codes "PDEL") ≡ false → is_word called (codes "FSET") ≡ false → is_word called (codes "FGET") ≡ false → is_word called (codes "EXPIRE") ≡ false → is_word called (codes "PERSIST") ≡ false → is_word called (codes "TTL") ≡ false → is_word called (codes "KEYS") ≡ false → is_word called (codes "STATS") ≡ false → is_word called (codes "AOFSHRINK") ≡ false → is_word called (codes "SCAN") ≡ false → is_word called (codes "WITHIN") ≡ false → is_word called (codes "INTERSECTS") ≡ false → is_word called (codes "NEARBY") ≡ false → is_word called (codes "SETCHAN") ≡ false → is_word called (codes "DELCHAN") ≡ false → is_word called (codes "PDELCHAN") ≡ false → is_word called (codes "CHANS") ≡ false → is_word called (codes "SUBSCRIBE") ≡ false → is_word called (codes "PSUBSCRIBE") ≡ false → readings (called ∷ []) ≡ []
+nothing_goes : (called : Bytes) → is_word called (codes "GET") ≡ false → is_word called (codes "DEL") ≡ false → is_word called (codes "DROP") ≡ false → is_word called (codes "BOUNDS") ≡ false → is_word called (codes "STATS") ≡ false → is_word called (codes "FLUSHDB") ≡ false → is_word called (codes "PING") ≡ false → is_word called (codes "QUIT") ≡ false → is_word called (codes "SET") ≡ false → is_word called (codes "PDEL") ≡ false → is_word called (codes "FSET") ≡ false → is_word called (codes "FGET") ≡ false → is_word called (codes "EXPIRE") ≡ false → is_word called (codes "PERSIST") ≡ false → is_word called (codes "TTL") ≡ false → is_word called (codes "KEYS") ≡ false → is_word called (codes "AOFSHRINK") ≡ false → is_word called (codes "SCAN") ≡ false → is_word called (codes "WITHIN") ≡ false → is_word called (codes "INTERSECTS") ≡ false → is_word called (codes "NEARBY") ≡ false → is_word called (codes "SETCHAN") ≡ false → is_word called (codes "DELCHAN") ≡ false → is_word called (codes "PDELCHAN") ≡ false → is_word called (codes "CHANS") ≡ false → is_word called (codes "SUBSCRIBE") ≡ false → is_word called (codes "PSUBSCRIBE") ≡ false → readings (called ∷ []) ≡ []
 unfolding readings
-nothing_goes called w_get w_del w_drop w_bounds w_flushdb w_ping w_quit w_set w_pdel w_fset w_fget w_expire w_persist w_ttl w_keys w_stats w_aofshrink w_scan w_within w_intersects w_nearby w_setchan w_delchan w_pdelchan w_chans w_subscribe w_psubscribe = rw (w_get, w_del, w_drop, w_bounds, w_flushdb, w_ping, w_quit, w_set, w_pdel, w_fset, w_fget, w_expire, w_persist, w_ttl, w_keys, w_stats, w_aofshrink, w_scan, w_within, w_intersects, w_nearby, w_setchan, w_delchan, w_pdelchan, w_chans, w_subscribe, w_psubscribe) refl
+nothing_goes called w_get w_del w_drop w_bounds w_stats w_flushdb w_ping w_quit w_set w_pdel w_fset w_fget w_expire w_persist w_ttl w_keys w_aofshrink w_scan w_within w_intersects w_nearby w_setchan w_delchan w_pdelchan w_chans w_subscribe w_psubscribe = rw (w_get, w_del, w_drop, w_bounds, w_stats, w_flushdb, w_ping, w_quit, w_set, w_pdel, w_fset, w_fget, w_expire, w_persist, w_ttl, w_keys, w_aofshrink, w_scan, w_within, w_intersects, w_nearby, w_setchan, w_delchan, w_pdelchan, w_chans, w_subscribe, w_psubscribe) refl
 
-pub unknown : (called : Bytes) (rest : List Bytes) → is_word called (codes "GET") ≡ false → is_word called (codes "DEL") ≡ false → is_word called (codes "DROP") ≡ false → is_word called (codes "BOUNDS") ≡ false → is_word called (codes "FLUSHDB") ≡ false → is_word called (codes "PING") ≡ false → is_word called (codes "QUIT") ≡ false → list_any (is_word called) unbuilt ≡ false → reads (called ∷ rest) ≡ Err (fault.Unknown (shown_of called))
-unknown called rest w_get w_del w_drop w_bounds w_flushdb w_ping w_quit others =
+unknown : (called : Bytes) (rest : List Bytes) → is_word called (codes "GET") ≡ false → is_word called (codes "DEL") ≡ false → is_word called (codes "DROP") ≡ false → is_word called (codes "BOUNDS") ≡ false → is_word called (codes "STATS") ≡ false → is_word called (codes "FLUSHDB") ≡ false → is_word called (codes "PING") ≡ false → is_word called (codes "QUIT") ≡ false → list_any (is_word called) unbuilt ≡ false → reads (called ∷ rest) ≡ Err (fault.Unknown (shown_of called))
+unknown called rest w_get w_del w_drop w_bounds w_stats w_flushdb w_ping w_quit others =
     let u = none_is called unbuilt others in
-    stopped [] called rest nothing_starts (shut_by (called ∷ []) (nothing_goes called w_get w_del w_drop w_bounds w_flushdb w_ping w_quit u.0 u.1.0 u.1.1.0 u.1.1.1.0 u.1.1.1.1.0 u.1.1.1.1.1.0 u.1.1.1.1.1.1.0 u.1.1.1.1.1.1.1.0 u.1.1.1.1.1.1.1.1.0 u.1.1.1.1.1.1.1.1.1.0 u.1.1.1.1.1.1.1.1.1.1.0 u.1.1.1.1.1.1.1.1.1.1.1.0 u.1.1.1.1.1.1.1.1.1.1.1.1.0 u.1.1.1.1.1.1.1.1.1.1.1.1.1.0 u.1.1.1.1.1.1.1.1.1.1.1.1.1.1.0 u.1.1.1.1.1.1.1.1.1.1.1.1.1.1.1.0 u.1.1.1.1.1.1.1.1.1.1.1.1.1.1.1.1.0 u.1.1.1.1.1.1.1.1.1.1.1.1.1.1.1.1.1.0 u.1.1.1.1.1.1.1.1.1.1.1.1.1.1.1.1.1.1.0 u.1.1.1.1.1.1.1.1.1.1.1.1.1.1.1.1.1.1.1.0))
+    stopped [] called rest nothing_starts (shut_by (called ∷ []) (nothing_goes called w_get w_del w_drop w_bounds w_stats w_flushdb w_ping w_quit u.0 u.1.0 u.1.1.0 u.1.1.1.0 u.1.1.1.1.0 u.1.1.1.1.1.0 u.1.1.1.1.1.1.0 u.1.1.1.1.1.1.1.0 u.1.1.1.1.1.1.1.1.0 u.1.1.1.1.1.1.1.1.1.0 u.1.1.1.1.1.1.1.1.1.1.0 u.1.1.1.1.1.1.1.1.1.1.1.0 u.1.1.1.1.1.1.1.1.1.1.1.1.0 u.1.1.1.1.1.1.1.1.1.1.1.1.1.0 u.1.1.1.1.1.1.1.1.1.1.1.1.1.1.0 u.1.1.1.1.1.1.1.1.1.1.1.1.1.1.1.0 u.1.1.1.1.1.1.1.1.1.1.1.1.1.1.1.1.0 u.1.1.1.1.1.1.1.1.1.1.1.1.1.1.1.1.1.0 u.1.1.1.1.1.1.1.1.1.1.1.1.1.1.1.1.1.1.0))
 
-pub not_known : (p : Place) (called : Bytes) (why : WordFault) → p.read ≡ called ∷ [] → is_word called (codes "GET") ≡ false → is_word called (codes "DEL") ≡ false → is_word called (codes "DROP") ≡ false → is_word called (codes "BOUNDS") ≡ false → is_word called (codes "FLUSHDB") ≡ false → is_word called (codes "PING") ≡ false → is_word called (codes "QUIT") ≡ false → list_any (is_word called) unbuilt ≡ false → IsFault (fault.Unknown (shown_of called)) why → Answers (all_words p) (Err why)
-not_known p called why r w_get w_del w_drop w_bounds w_flushdb w_ping w_quit others (inl m) = inl m
-not_known p called why r w_get w_del w_drop w_bounds w_flushdb w_ping w_quit others (inr e) = inr (rw (e, r) (unknown called p.left w_get w_del w_drop w_bounds w_flushdb w_ping w_quit others))
+pub not_known : (p : Place) (called : Bytes) (why : WordFault) → p.read ≡ called ∷ [] → is_word called (codes "GET") ≡ false → is_word called (codes "DEL") ≡ false → is_word called (codes "DROP") ≡ false → is_word called (codes "BOUNDS") ≡ false → is_word called (codes "STATS") ≡ false → is_word called (codes "FLUSHDB") ≡ false → is_word called (codes "PING") ≡ false → is_word called (codes "QUIT") ≡ false → list_any (is_word called) unbuilt ≡ false → IsFault (fault.Unknown (shown_of called)) why → Answers (all_words p) (Err why)
+not_known p called why r w_get w_del w_drop w_bounds w_stats w_flushdb w_ping w_quit others (inl m) = inl m
+not_known p called why r w_get w_del w_drop w_bounds w_stats w_flushdb w_ping w_quit others (inr e) = inr (rw (e, r) (unknown called p.left w_get w_del w_drop w_bounds w_stats w_flushdb w_ping w_quit others))

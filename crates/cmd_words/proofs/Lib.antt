@@ -1,5 +1,10 @@
 pub mod Follows
 pub mod Lefts
 pub mod Gets
+pub mod Stats
 pub mod Heads
 pub mod Ends
+pub mod Readings
+pub mod Served
+pub mod Requests
+pub mod Asks

@@ -1,7 +1,8 @@
 -- What is served so far.
-use Rattle.std.specs.Prelude.{Bool, true, false, not, List, [], ◌∷◌, codes, if◌then◌else◌, Result, Ok, Err}
+use Rattle.std.specs.Prelude.{Bool, true, false, not, ◌||◌, List, [], ◌∷◌, codes, if◌then◌else◌, Result, Ok, Err}
 use Rattle.std.specs.List.{list_any}
 use Rattle.byte_text.specs.Names.{Bytes, is_word}
+use Rattle.world_model.specs.Served.{is_served as sets_or_gets}
 use Rattle.world_model.specs.Commands.{reads}
 use Rattle.world_model.specs.declared.commands.Command.{Command}
 use Rattle.world_model.specs.declared.faults.WordFault.{WordFault}
@@ -9,12 +10,12 @@ use Rattle.world_model.specs.declared.faults.WordFault.TheVariants.{Unserved}
 
 -- the names of the commands that are not built yet
 abbrev pub unbuilt : List Bytes
-unbuilt = codes "SET" ∷ codes "PDEL" ∷ codes "FSET" ∷ codes "FGET" ∷ codes "EXPIRE" ∷ codes "PERSIST" ∷ codes "TTL" ∷ codes "KEYS" ∷ codes "STATS" ∷ codes "AOFSHRINK" ∷ codes "SCAN" ∷ codes "WITHIN" ∷ codes "INTERSECTS" ∷ codes "NEARBY" ∷ codes "SETCHAN" ∷ codes "DELCHAN" ∷ codes "PDELCHAN" ∷ codes "CHANS" ∷ codes "SUBSCRIBE" ∷ codes "PSUBSCRIBE" ∷ []
+unbuilt = codes "SET" ∷ codes "PDEL" ∷ codes "FSET" ∷ codes "FGET" ∷ codes "EXPIRE" ∷ codes "PERSIST" ∷ codes "TTL" ∷ codes "KEYS" ∷ codes "AOFSHRINK" ∷ codes "SCAN" ∷ codes "WITHIN" ∷ codes "INTERSECTS" ∷ codes "NEARBY" ∷ codes "SETCHAN" ∷ codes "DELCHAN" ∷ codes "PDELCHAN" ∷ codes "CHANS" ∷ codes "SUBSCRIBE" ∷ codes "PSUBSCRIBE" ∷ []
 
--- the first word is no name of a command that is not built yet
+-- the words set a point, or their first word is no name of a command that is not built yet
 abbrev pub is_served : List Bytes → Bool
 is_served [] = false
-is_served (called ∷ words) = not (list_any (is_word called) unbuilt)
+is_served (called ∷ words) = sets_or_gets (called ∷ words) || not (list_any (is_word called) unbuilt)
 
 -- the command that is asked for, or how the words are refused
 abbrev pub asks : List Bytes → Result Command WordFault

@@ -1,2 +1,4 @@
 pub mod Places
 pub mod Asked
+pub mod PointWords
+pub mod Laws

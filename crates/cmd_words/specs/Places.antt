@@ -1,7 +1,7 @@
 -- How far the words of a request were read, and what may follow.
 use Rattle.std.specs.Prelude.{◌≡◌, ◌⊎◌, ◌<◌, Bool, true, false, List, [], ◌∷◌, ◌++◌, length, Option, Some, None, Result, Ok, Err, codes, ℕ, take, drop, if◌then◌else◌}
 use Rattle.byte_text.specs.Names.{Bytes, is_word, is_name}
-use Rattle.world_model.specs.Grammar.{Form, Due, a_word, a_coordinate, a_geojson, ◌>>=◌, ◌>>◌, done, maybe, word, live}
+use Rattle.world_model.specs.Grammar.{Form, Due, a_word, a_coordinate, a_geojson, ◌>>=◌, ◌>>◌, done, maybe, repeated, word, live}
 use Rattle.world_model.specs.Kinds.{name, when}
 use Rattle.world_model.specs.Commands.{readings, reads, as_objects, shown_of, is_fraction, geo_fault_of}
 use Rattle.geo_text.specs.Texts.{shape_of}
@@ -118,3 +118,13 @@ name_of w = when (is_name w) w
 -- so many of the words were read
 abbrev pub place_at : List Bytes → ℕ → Place
 place_at words n = record { read = take n words; left = drop n words }
+
+-- STATS: one more key, and the keys behind the first
+abbrev pub key_step : List Bytes → Form (List Bytes)
+key_step keys = name >>= λ key. done (keys ++ key ∷ [])
+
+abbrev pub stats_more : List Bytes → Form Command
+stats_more keys = repeated key_step keys >>= λ all. done (command.Stats all)
+
+abbrev pub stats_names : Form Command
+stats_names = a_name (λ key. stats_more (key ∷ []))

@@ -1,18 +1,20 @@
 //! The commands, each read from the words behind its name.
 
-ghost use Rattle.std.specs.Prelude.{◌≡◌, ◌⊎◌, [], ◌∷◌, false, IfOk, IfErr, Ok, Err};
+ghost use Rattle.std.specs.Prelude.{◌≡◌, ◌⊎◌, [], ◌∷◌, ◌++◌, false, OnOk, IfOk, IfErr, Ok, Err};
 ghost use Rattle.std.specs.List.{list_any};
 ghost use Rattle.byte_text.specs.Names.{is_word};
 ghost use Rattle.world_model.specs.Grammar.{done};
 ghost use Rattle.world_model.specs.declared.commands.Command.TheVariants as command;
 ghost use Rattle.cmd_words.specs.Asked.{asks, unbuilt};
-ghost use Rattle.cmd_words.specs.Places.{all_words, Follows, Answers, a_name, key_and_id, get_options};
+ghost use Rattle.cmd_words.specs.Places.{all_words, Follows, Answers, a_name, key_and_id, get_options, stats_names};
 
 use crate::faults::unknown;
+use crate::points::set_command;
 use crate::readers::Reader;
-use byte_text::Request;
+use crate::words::read_name;
+use byte_text::{Name, Request};
 use std::alloc::Global;
-use world_model::{Command, Shown, WordFault};
+use world_model::{Command, NameList, Shown, WordFault};
 
 /// The command that the words of a request spell, or how they are refused.
 pub fn command_of(alloc: Global, words: &Request) -> Result<Command, WordFault>
@@ -23,6 +25,9 @@ pub fn command_of(alloc: Global, words: &Request) -> Result<Command, WordFault>
     let Some(called) = reader.next() else {
         return Err(WordFault::Unserved);
     };
+    if called.eq_ignore_ascii_case(b"SET") {
+        return set_command(alloc, words);
+    }
     if is_unbuilt(called) {
         return Err(WordFault::Unserved);
     }
@@ -40,8 +45,8 @@ fn is_any(called: &[u8], names: &[&[u8]]) -> bool
 fn is_unbuilt(called: &[u8]) -> bool
     ensures { result ≡ list_any (is_word called.now) unbuilt }
 {
-    let names: [&[u8]; 20] = [
-        b"SET", b"PDEL", b"FSET", b"FGET", b"EXPIRE", b"PERSIST", b"TTL", b"KEYS", b"STATS", b"AOFSHRINK", b"SCAN", b"WITHIN",
+    let names: [&[u8]; 19] = [
+        b"SET", b"PDEL", b"FSET", b"FGET", b"EXPIRE", b"PERSIST", b"TTL", b"KEYS", b"AOFSHRINK", b"SCAN", b"WITHIN",
         b"INTERSECTS", b"NEARBY", b"SETCHAN", b"DELCHAN", b"PDELCHAN", b"CHANS", b"SUBSCRIBE", b"PSUBSCRIBE",
     ];
     is_any(called, &names)
@@ -63,6 +68,9 @@ fn read_command(reader: &mut Reader, called: &[u8]) -> Result<Command, WordFault
     }
     if called.eq_ignore_ascii_case(b"BOUNDS") {
         return bounds_command(reader);
+    }
+    if called.eq_ignore_ascii_case(b"STATS") {
+        return stats_command(reader);
     }
     if called.eq_ignore_ascii_case(b"FLUSHDB") {
         return flush_command(reader);
@@ -125,6 +133,30 @@ fn bounds_command(reader: &mut Reader) -> Result<Command, WordFault>
     let key = reader.name()?;
     reader.end()?;
     Ok(Command::Bounds { key })
+}
+
+// `key+`
+fn stats_command(reader: &mut Reader) -> Result<Command, WordFault>
+    ensures { Follows reader.old stats_names → Answers (all_words reader.old) result }
+{
+    let mut keys = NameList::new(reader.alloc());
+    let first = reader.name()?;
+    push_key(&mut keys, first)?;
+    'keys: while let Some(word) = reader.next() {
+        let key = read_name(reader.alloc(), word)?;
+        push_key(&mut keys, key)?;
+    }
+    Ok(Command::Stats { keys })
+}
+
+fn push_key(keys: &mut NameList, key: Name) -> Result<(), WordFault>
+    ensures ok { OnOk result (keys.new ≡ keys.old ++ key ∷ []) }
+    ensures err { IfErr result (λ f. f ≡ WordFault.Memory) }
+{
+    match keys.push(key) {
+        Ok(()) => Ok(()),
+        Err(_) => Err(WordFault::Memory),
+    }
 }
 
 // no word

@@ -1,7 +1,7 @@
 use Rattle.std.proofs.Common.{◌≡◌, true, false, rules}
 use Rattle.std.specs.Prelude.{codes}
 use Rattle.byte_text.specs.Names.{is_word}
-use Rattle.cmd_words.proofs.Heads.{get_head, del_head, drop_head, bounds_head, flush_head, ping_head, quit_head, not_known}
+use Rattle.cmd_words.proofs.Heads.{get_head, del_head, drop_head, bounds_head, stats_head, flush_head, ping_head, quit_head, not_known}
 use Rattle.cmd_words.proofs.commands.read_command.Goals as goal
 
 pub returns-then-eq_ignore_ascii_case : goal.returns-then-eq_ignore_ascii_case
@@ -26,16 +26,21 @@ returns-then-eq_ignore_ascii_case-4 c = λ others.
 
 pub returns-then-eq_ignore_ascii_case-5 : goal.returns-then-eq_ignore_ascii_case-5
 returns-then-eq_ignore_ascii_case-5 c = λ others.
-    let named : is_word c.args.called.now (codes "FLUSHDB") ≡ true = search rules in
-    c.flush_command.ensures (flush_head c.args.called.now c.args.reader.now c.requires named)
+    let named : is_word c.args.called.now (codes "STATS") ≡ true = search rules in
+    c.stats_command.ensures (stats_head c.args.called.now c.args.reader.now c.requires named)
 
 pub returns-then-eq_ignore_ascii_case-6 : goal.returns-then-eq_ignore_ascii_case-6
 returns-then-eq_ignore_ascii_case-6 c = λ others.
-    let named : is_word c.args.called.now (codes "PING") ≡ true = search rules in
-    c.ping_command.ensures (ping_head c.args.called.now c.args.reader.now c.requires named)
+    let named : is_word c.args.called.now (codes "FLUSHDB") ≡ true = search rules in
+    c.flush_command.ensures (flush_head c.args.called.now c.args.reader.now c.requires named)
 
 pub returns-then-eq_ignore_ascii_case-7 : goal.returns-then-eq_ignore_ascii_case-7
 returns-then-eq_ignore_ascii_case-7 c = λ others.
+    let named : is_word c.args.called.now (codes "PING") ≡ true = search rules in
+    c.ping_command.ensures (ping_head c.args.called.now c.args.reader.now c.requires named)
+
+pub returns-then-eq_ignore_ascii_case-8 : goal.returns-then-eq_ignore_ascii_case-8
+returns-then-eq_ignore_ascii_case-8 c = λ others.
     let named : is_word c.args.called.now (codes "QUIT") ≡ true = search rules in
     c.quit_command.ensures (quit_head c.args.called.now c.args.reader.now c.requires named)
 
@@ -45,7 +50,8 @@ returns c = λ others.
     let no_del : is_word c.args.called.now (codes "DEL") ≡ false = search rules in
     let no_drop : is_word c.args.called.now (codes "DROP") ≡ false = search rules in
     let no_bounds : is_word c.args.called.now (codes "BOUNDS") ≡ false = search rules in
+    let no_stats : is_word c.args.called.now (codes "STATS") ≡ false = search rules in
     let no_flushdb : is_word c.args.called.now (codes "FLUSHDB") ≡ false = search rules in
     let no_ping : is_word c.args.called.now (codes "PING") ≡ false = search rules in
     let no_quit : is_word c.args.called.now (codes "QUIT") ≡ false = search rules in
-    not_known c.args.reader.now c.args.called.now c.unknown.result c.requires no_get no_del no_drop no_bounds no_flushdb no_ping no_quit others c.unknown.ensures
+    not_known c.args.reader.now c.args.called.now c.unknown.result c.requires no_get no_del no_drop no_bounds no_stats no_flushdb no_ping no_quit others c.unknown.ensures
