@@ -46,8 +46,25 @@ fn is_unbuilt(called: &[u8]) -> bool
     ensures { result ≡ list_any (is_word called.now) unbuilt }
 {
     let names: [&[u8]; 19] = [
-        b"SET", b"PDEL", b"FSET", b"FGET", b"EXPIRE", b"PERSIST", b"TTL", b"KEYS", b"AOFSHRINK", b"SCAN", b"WITHIN",
-        b"INTERSECTS", b"NEARBY", b"SETCHAN", b"DELCHAN", b"PDELCHAN", b"CHANS", b"SUBSCRIBE", b"PSUBSCRIBE",
+        b"SET",
+        b"PDEL",
+        b"FSET",
+        b"FGET",
+        b"EXPIRE",
+        b"PERSIST",
+        b"TTL",
+        b"KEYS",
+        b"AOFSHRINK",
+        b"SCAN",
+        b"WITHIN",
+        b"INTERSECTS",
+        b"NEARBY",
+        b"SETCHAN",
+        b"DELCHAN",
+        b"PDELCHAN",
+        b"CHANS",
+        b"SUBSCRIBE",
+        b"PSUBSCRIBE",
     ];
     is_any(called, &names)
 }
