@@ -1,6 +1,6 @@
 -- What is asked for by words that are read, or that are not built yet.
 use Rattle.std.proofs.Common.{◌≡◌, ◌⊎◌, inl, inr, Bool, true, false, refl, sym, ◌∙◌, ap, subst, List, [], ◌∷◌, ◌++◌}
-use Rattle.std.specs.Prelude.{codes, not, ◌||◌, Ok, Err, Result, IfOk, IfErr}
+use Rattle.std.specs.Prelude.{codes, ◌||◌, Ok, Err, Result, IfOk, IfErr}
 use Rattle.std.specs.Str.{str_to_ascii_lowercase}
 use Rattle.std.specs.List.{list_any}
 use Rattle.byte_text.specs.Names.{Bytes, is_word}

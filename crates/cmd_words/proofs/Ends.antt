@@ -1,8 +1,8 @@
 -- How a whole command is read or refused.
-use Rattle.std.proofs.Common.{◌≡◌, ◌⊎◌, inl, inr, sym, ◌∙◌, ap, subst, List, [], ◌∷◌, ◌++◌}
+use Rattle.std.proofs.Common.{◌≡◌, inl, inr, sym, ◌∙◌, ap, subst, []}
 use Rattle.std.specs.Prelude.{Option, Some, None, Result, Ok, Err, Bool, codes}
 use Rattle.byte_text.specs.Names.{Bytes}
-use Rattle.world_model.specs.Grammar.{Form, Due, a_word, done, one_word, ◌>>=◌}
+use Rattle.world_model.specs.Grammar.{Form, Due, done, one_word, ◌>>=◌}
 use Rattle.world_model.specs.Commands.{reads, wrong_count, shown_of}
 use Rattle.world_model.specs.declared.commands.Command.{Command}
 use Rattle.world_model.specs.declared.commands.Command.TheVariants as command
@@ -10,7 +10,7 @@ use Rattle.world_model.specs.declared.queries.Shown.{Shown}
 use Rattle.world_model.specs.declared.queries.Shown.TheVariants as shown
 use Rattle.world_model.specs.declared.faults.WordFault.{WordFault}
 use Rattle.world_model.specs.declared.faults.WordFault.TheVariants as fault
-use Rattle.cmd_words.specs.Places.{Place, all_words, IsBehind, IsFault, IsOne, Follows, Parses, Answers, IsEnd, Took, ReadsShown, a_name, name_of, key_and_id, get_options}
+use Rattle.cmd_words.specs.Places.{Place, all_words, IsBehind, IsFault, IsOne, Follows, Parses, Answers, IsEnd, Took, ReadsShown, a_name, key_and_id, get_options}
 use Rattle.cmd_words.proofs.Follows.{took, lacks, refuses, finished, unfinished}
 use Rattle.cmd_words.proofs.Gets.{moved, option_faults, objects_read, shown_behind}
 

@@ -1,10 +1,10 @@
 -- How the words behind others are read or refused.
-use Rattle.std.proofs.Common.{◌≡◌, ◌⊎◌, inl, inr, ℕ, ◌<◌, Bool, true, false, refl, sym, ◌∙◌, ap, subst, List, [], ◌∷◌, ◌++◌, length, arith, length-append, append_assoc}
-use Rattle.std.specs.Prelude.{Option, Some, None, Ok, Err, flat_map, nat_lt}
+use Rattle.std.proofs.Common.{◌≡◌, ◌<◌, Bool, true, false, refl, sym, ◌∙◌, ap, subst, List, [], ◌∷◌, ◌++◌, length, arith, length-append, append_assoc}
+use Rattle.std.specs.Prelude.{Option, Some, None, Ok, Err, flat_map}
 use Rattle.std.proofs.lemmas.List.{append-nil}
 use Rattle.std.proofs.lemmas.Bool.Decides.{nat_tests}
 use Rattle.byte_text.specs.Names.{Bytes}
-use Rattle.world_model.specs.Grammar.{Form, Due, a_word, a_coordinate, a_geojson, Reading, spells, runs_out, go_on, ◌>>=◌, done, one_word, read_as, live, spelled}
+use Rattle.world_model.specs.Grammar.{Form, Due, a_word, a_coordinate, a_geojson, Reading, spells, runs_out, go_on, ◌>>=◌, done, one_word, read_as, live}
 use Rattle.world_model.specs.Commands.{readings, reads, is_open, command_spelled, stop_behind, fault_at, wrong_count}
 use Rattle.world_model.specs.declared.commands.Command.{Command}
 use Rattle.world_model.proofs.Prefixes.{beginnings, spelling_open, stops_there}

@@ -1,5 +1,5 @@
 -- What stands behind GET's key and id.
-use Rattle.std.proofs.Common.{◌≡◌, ◌⊎◌, inl, inr, ℕ, ◌<◌, Bool, true, false, refl, sym, ◌∙◌, ap, subst, List, [], ◌∷◌, ◌++◌, length, arith, length-append, append_assoc}
+use Rattle.std.proofs.Common.{◌≡◌, inl, inr, ◌<◌, Bool, true, false, refl, sym, ◌∙◌, ap, subst, List, [], ◌∷◌, ◌++◌, length, arith, length-append, append_assoc}
 use Rattle.std.specs.Prelude.{codes, Some, None, Ok, Err}
 use Rattle.std.specs.Str.{str_to_ascii_lowercase}
 use Rattle.std.specs.List.{list_any}
@@ -14,7 +14,7 @@ use Rattle.world_model.specs.declared.queries.Shown.{Shown}
 use Rattle.world_model.specs.declared.queries.Shown.TheVariants as shown
 use Rattle.world_model.specs.declared.faults.WordFault.TheVariants as fault
 use Rattle.world_model.specs.declared.faults.WordFault.{WordFault}
-use Rattle.cmd_words.specs.Places.{Place, all_words, IsBehind, Follows, Took, Answers, IsFault, IsEnd, ReadsShown, IsNot, IsShown, IsNotShown, get_output, get_options}
+use Rattle.cmd_words.specs.Places.{Place, all_words, IsBehind, Follows, Took, Answers, IsEnd, ReadsShown, IsNot, IsShown, IsNotShown, get_output, get_options}
 use Rattle.cmd_words.proofs.Follows.{stopped, spelt, now, no_more, some_more, open_by, shut_by}
 
 pub lower_word : (w n : Bytes) → is_word w n ≡ true → str_to_ascii_lowercase w ≡ str_to_ascii_lowercase n

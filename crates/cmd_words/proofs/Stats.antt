@@ -1,15 +1,13 @@
 -- STATS: its keys.
-use Rattle.std.proofs.Common.{◌≡◌, ◌⊎◌, inl, inr, ℕ, ◌+◌, suc, Bool, true, false, refl, sym, ◌∙◌, ap, subst, List, [], ◌∷◌, ◌++◌, length, add-one, arith}
+use Rattle.std.proofs.Common.{◌≡◌, inl, inr, suc, Bool, true, false, refl, ◌∙◌, ap, subst, List, [], ◌∷◌, ◌++◌, length, add-one}
 use Rattle.std.specs.Prelude.{Option, Some, None, Ok, Err, flat_map}
 use Rattle.std.proofs.lemmas.List.{append-nil}
 use Rattle.byte_text.specs.Names.{Bytes, is_name}
-use Rattle.world_model.specs.Grammar.{Form, a_word, Reading, spells, runs_out, go_on, ◌>>=◌, done, read_as, at_most_times, repeated, once_or_more, live}
+use Rattle.world_model.specs.Grammar.{a_word, Reading, runs_out, go_on, ◌>>=◌, done, read_as, at_most_times, repeated, once_or_more, live}
 use Rattle.world_model.specs.Kinds.{when}
-use Rattle.world_model.specs.Commands.{reads, shown_of}
-use Rattle.world_model.specs.declared.commands.Command.{Command}
+use Rattle.world_model.specs.Commands.{reads}
 use Rattle.world_model.specs.declared.commands.Command.TheVariants as command
 use Rattle.world_model.specs.declared.faults.WordFault.{WordFault}
-use Rattle.world_model.specs.declared.faults.WordFault.TheVariants as fault
 use Rattle.cmd_words.specs.Places.{Place, all_words, IsBehind, Follows, Parses, Answers, IsOne, name_of, a_name, key_step, stats_more, stats_names}
 use Rattle.cmd_words.proofs.Gets.{step, ends, stops, moved}
 

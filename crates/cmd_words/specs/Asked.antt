@@ -1,5 +1,5 @@
 -- What is served so far.
-use Rattle.std.specs.Prelude.{Bool, true, false, not, ◌||◌, List, [], ◌∷◌, codes, if◌then◌else◌, Result, Ok, Err}
+use Rattle.std.specs.Prelude.{Bool, false, not, ◌||◌, List, [], ◌∷◌, codes, if◌then◌else◌, Result, Err}
 use Rattle.std.specs.List.{list_any}
 use Rattle.byte_text.specs.Names.{Bytes, is_word}
 use Rattle.world_model.specs.Served.{is_served as sets_or_gets}

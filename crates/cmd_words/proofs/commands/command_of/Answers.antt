@@ -3,7 +3,7 @@ use Rattle.std.specs.Prelude.{codes}
 use Rattle.std.specs.List.{list_any}
 use Rattle.byte_text.specs.Names.{is_word}
 use Rattle.cmd_words.specs.Asked.{unbuilt}
-use Rattle.cmd_words.proofs.Asks.{Answered, first_of, one_read, answered_set, answered_unbuilt, answered_read, ok_of, err_of}
+use Rattle.cmd_words.proofs.Asks.{first_of, one_read, answered_set, answered_unbuilt, answered_read, ok_of, err_of}
 use Rattle.cmd_words.proofs.commands.command_of.Goals as goal
 
 pub returns-then-eq_ignore_ascii_case-clause-ok : goal.returns-then-eq_ignore_ascii_case-clause-ok

@@ -1,4 +1,4 @@
-use Rattle.std.proofs.Common.{◌≡◌, ◌<◌, ◌+◌, true, false, refl, length, drop, arith, rules}
+use Rattle.std.proofs.Common.{◌≡◌, ◌+◌, true, false, refl, drop, arith, rules}
 use Rattle.byte_text.specs.Names.{is_word}
 use Rattle.cmd_words.proofs.Lefts.{behind, one_left, not_next}
 use Rattle.cmd_words.proofs.readers.Reader.takes.Goals as goal
