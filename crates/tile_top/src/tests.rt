@@ -75,3 +75,18 @@ fn a_read_or_a_write_fails_in_mid_stream(rt: HostRuntime) -> Result<(), Fail> {
     }
     Ok(())
 }
+
+#[test]
+fn no_words_show_the_usage(rt: HostRuntime) -> Result<(), Fail> {
+    let alloc = rt.alloc();
+    let words: Vec<String> = Vec::new(alloc);
+    let mut source = BytesSource::new(SCRIPT.to_vec(alloc)?, 7, Vec::new(alloc));
+    let mut sink = BytesSink::new(alloc, 100, Vec::new(alloc));
+    let ended = top(alloc, words.as_slice(), &mut source, &mut sink);
+    assert_eq!(rt; ended.status, 1);
+    assert_eq!(rt;
+        sink.written(),
+        b"usage: tile_server replay | check | load N SEED | serve ADDR [--sessions N]\n".as_slice()
+    );
+    Ok(())
+}
