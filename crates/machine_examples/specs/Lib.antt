@@ -1,3 +1,5 @@
 pub mod Commands
 pub mod Texts
 pub mod Runs
+pub mod Areas
+pub mod Served

@@ -42,7 +42,7 @@ fresh = opening_hall empty_world 17
 abbrev pub asks : ℕ → ℕ → String → Event
 asks n moment s = Call n moment (Words (line s))
 
-abbrev frames_in : Option Session → List Bytes
+abbrev pub frames_in : Option Session → List Bytes
 frames_in None = []
 frames_in (Some s) = s.frames
 
@@ -99,6 +99,12 @@ pub record HoldsRuns : Type 0 where
       ≡ confirmed "r"
       ∷ on "r" "{\"command\":\"set\",\"detect\":\"roam\",\"hook\":\"r\",\"key\":\"people\",\"id\":\"b\",\"object\":{\"type\":\"Point\",\"coordinates\":[5,0]},\"nearby\":{\"key\":\"people\",\"id\":\"a\",\"object\":{\"type\":\"Point\",\"coordinates\":[0,0]},\"meters\":5}}"
       ∷ on "r" "{\"command\":\"set\",\"detect\":\"roam\",\"hook\":\"r\",\"key\":\"people\",\"id\":\"b\",\"object\":{\"type\":\"Point\",\"coordinates\":[50,0]},\"faraway\":{\"key\":\"people\",\"id\":\"a\",\"object\":{\"type\":\"Point\",\"coordinates\":[0,0]},\"meters\":50}}" ∷ []
+  -- without NODWELL what is still near is told again
+  pub roam_again : waiting 1 (asks 1 0 "SUBSCRIBE r" ∷ asks 2 0 "SETCHAN r NEARBY people FENCE ROAM people * 10" ∷ asks 2 0 "SET people a POINT 0 0"
+      ∷ asks 2 0 "SET people b POINT 0 5" ∷ asks 2 0 "SET people b POINT 0 6" ∷ [])
+      ≡ confirmed "r"
+      ∷ on "r" "{\"command\":\"set\",\"detect\":\"roam\",\"hook\":\"r\",\"key\":\"people\",\"id\":\"b\",\"object\":{\"type\":\"Point\",\"coordinates\":[5,0]},\"nearby\":{\"key\":\"people\",\"id\":\"a\",\"object\":{\"type\":\"Point\",\"coordinates\":[0,0]},\"meters\":5}}"
+      ∷ on "r" "{\"command\":\"set\",\"detect\":\"roam\",\"hook\":\"r\",\"key\":\"people\",\"id\":\"b\",\"object\":{\"type\":\"Point\",\"coordinates\":[6,0]},\"nearby\":{\"key\":\"people\",\"id\":\"a\",\"object\":{\"type\":\"Point\",\"coordinates\":[0,0]},\"meters\":6}}" ∷ []
   -- a name and two patterns: three frames of one message
   pub patterns : map length (waiting 1 (asks 2 0 "SETCHAN z WITHIN k FENCE COMMANDS del BOUNDS 0 0 10 10" ∷ asks 2 0 "SET k a POINT 1 1" ∷ asks 1 0 "SUBSCRIBE z" ∷ asks 1 0 "PSUBSCRIBE * z*" ∷ asks 2 0 "DEL k a" ∷ []))
       ≡ 30 ∷ 32 ∷ 33 ∷ 78 ∷ 86 ∷ 87 ∷ []

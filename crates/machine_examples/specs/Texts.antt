@@ -1,5 +1,5 @@
 -- GeoJSON texts: accepted with their shapes, and a refusal of each kind (RFC 7946).
-use Rattle.std.specs.Prelude.{◌≡◌, pos, negsuc, List, [], ◌∷◌, codes, Ok, Err}
+use Rattle.std.specs.Prelude.{◌≡◌, pos, negsuc, [], ◌∷◌, codes, Ok, Err}
 use Prim.Native.String.{String}
 use Rattle.planar_geom.specs.Points.{pt}
 use Rattle.planar_geom.specs.declared.shapes.Part.TheVariants.{Spot, Chain, Face}

@@ -1,8 +1,10 @@
 //! Worked examples of the machine, each proved by computing its definitions.
 #![tactic(auto)]
 
+ghost use Rattle.machine_examples.specs.Areas.{HoldsAreas};
 ghost use Rattle.machine_examples.specs.Commands.{HoldsCommands};
 ghost use Rattle.machine_examples.specs.Runs.{HoldsRuns};
+ghost use Rattle.machine_examples.specs.Served.{HoldsServed};
 ghost use Rattle.machine_examples.specs.Texts.{HoldsTexts};
 
 /// Commands and how others are refused.
@@ -18,4 +20,14 @@ pub fn texts()
 /// Runs of two sessions.
 pub fn runs()
     ensures { HoldsRuns }
+{}
+
+/// Searches by an area with a hole.
+pub fn areas()
+    ensures { HoldsAreas }
+{}
+
+/// What is served so far.
+pub fn served()
+    ensures { HoldsServed }
 {}

@@ -4,7 +4,8 @@ use Rattle.std.specs.Prelude.{Some, None, unwrap_or, fold, flat_map}
 use Rattle.std.proofs.lemmas.List.Sums.{fold-append}
 use Rattle.std.specs.Int.{int_div_euclid}
 use Rattle.std.proofs.lemmas.Int.{ints}
-use Rattle.planar_geom.specs.Points.{Point, Bounds, pt, bounds, IsCoordinate, with_point, grown}
+use Rattle.planar_geom.specs.Points.{Point, Bounds, pt, bounds, IsCoordinate, with_point, grown, square}
+use Rattle.planar_geom.specs.Figures.{dot}
 use Rattle.planar_geom.specs.Shapes.{box_of_points}
 
 -- half of what lies between -2 and 2 thousand million is a coordinate
@@ -43,3 +44,15 @@ fold-grown b (p ∷ ps) = fold-grown (with_point b p) ps
 pub grown-box : (ps : List Point) → unwrap_or (fold grown None ps) (bounds (pt (pos 0) (pos 0)) (pt (pos 0) (pos 0))) ≡ box_of_points ps
 grown-box [] = refl
 grown-box (p ∷ ps) = ap (λ o. unwrap_or o (bounds (pt (pos 0) (pos 0)) (pt (pos 0) (pos 0)))) (fold-grown (bounds p p) ps)
+
+-- a number times itself is its size times itself
+pub square_is : (a : ℤ) → a *ℤ a ≡ pos (square a)
+square_is (pos n) = refl
+square_is (negsuc n) = refl
+
+-- the scalar product of a way with itself is the square of its length
+pub dot-self : (d : Point) → dot d d ≡ pos (square d.x + square d.y)
+dot-self d = rw (square_is d.x, square_is d.y) refl
+
+pub dot-self-not_negative : (d : Point) → pos 0 ≤ℤ dot d d
+dot-self-not_negative d = rw (dot-self d) (omega (arith, ints))

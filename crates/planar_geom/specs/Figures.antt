@@ -41,6 +41,14 @@ crosses s t = int_lt (sides s t) (pos 0) && int_lt (sides t s) (pos 0)
 abbrev pub on_stretch : Point → Stretch → Bool
 on_stretch p s = meets (stretch p p) s
 
+-- the scalar product of two vectors
+abbrev pub dot : Point → Point → ℤ
+dot d e = d.x *ℤ e.x +ℤ d.y *ℤ e.y
+
+-- the vector from q to p
+abbrev pub minus : Point → Point → Point
+minus p q = pt (p.x -ℤ q.x) (p.y -ℤ q.y)
+
 -- a point in doubled coordinates
 abbrev pub doubled : Point → Point
 doubled p = pt (pos 2 *ℤ p.x) (pos 2 *ℤ p.y)
@@ -67,7 +75,7 @@ ring_points rings = flat_map (λ ring. ring) rings
 abbrev pub edges : List (List Point) → List Stretch
 edges rings = flat_map stretches rings
 
--- p is above an end
+-- the end a stands above p
 abbrev pub above : Point → Point → Bool
 above p a = int_lt p.y a.y
 

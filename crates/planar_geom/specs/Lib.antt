@@ -1,4 +1,5 @@
 pub mod Points
 pub mod Figures
+pub mod Standings
 pub mod Shapes
 pub mod Relations

@@ -1,5 +1,5 @@
 -- Points and boxes as contracts see them, and squared distances.
-use Rattle.std.specs.Prelude.{ℕ, zero, suc, ◌^◌, nat_le, ℤ, pos, negsuc, ◌+◌, ◌*◌, ◌<◌, Bool, ◌&&◌, ◌-ℤ◌, ◌+ℤ◌, ◌≤ℤ◌, int_le, int_lt, nat_abs, if◌then◌else◌, List, fold, Option, Some, None}
+use Rattle.std.specs.Prelude.{ℕ, zero, suc, ◌^◌, nat_le, ℤ, pos, negsuc, ◌+◌, ◌*◌, ◌<◌, Bool, ◌&&◌, ◌-ℤ◌, ◌+ℤ◌, ◌≤ℤ◌, int_le, int_lt, nat_abs, if◌then◌else◌, List, [], ◌∷◌, fold, Option, Some, None}
 use Rattle.std.specs.Int.{int_min, int_max, int_div_euclid}
 
 -- a point of whole coordinates
@@ -112,6 +112,10 @@ abbrev pub with_point : Bounds → Point → Bounds
 with_point b p =
     bounds (pt (int_min b.min.x p.x) (int_min b.min.y p.y)) (pt (int_max b.max.x p.x) (int_max b.max.y p.y))
 
+-- the least box round two boxes
+abbrev pub box_round_both : Bounds → Bounds → Bounds
+box_round_both b c = with_point (with_point b c.min) c.max
+
 -- the least box round points, the first of them given apart
 abbrev pub box_round : Point → List Point → Bounds
 box_round p ps = fold with_point (bounds p p) ps
@@ -120,6 +124,17 @@ box_round p ps = fold with_point (bounds p p) ps
 abbrev pub grown : Option Bounds → Point → Option Bounds
 grown None p = Some (bounds p p)
 grown (Some b) p = Some (with_point b p)
+
+-- the least box round a disc, cut at the ends of the plane
+abbrev pub box_of_disc : Point → ℕ → Bounds
+box_of_disc c r =
+    bounds
+    (pt (int_max (c.x -ℤ pos r) least_coordinate) (int_max (c.y -ℤ pos r) least_coordinate))
+    (pt (int_min (c.x +ℤ pos r) greatest_coordinate) (int_min (c.y +ℤ pos r) greatest_coordinate))
+
+-- the corners of a box against the clock, the first also last
+abbrev pub corners_of : Bounds → List Point
+corners_of b = b.min ∷ pt b.max.x b.min.y ∷ b.max ∷ pt b.min.x b.max.y ∷ b.min ∷ []
 
 -- the centre, each sum halved and rounded down
 abbrev pub centre : Bounds → Point

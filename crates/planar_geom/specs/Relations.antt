@@ -1,10 +1,9 @@
 -- `within` and `intersects` between a shape and an area, by parts, vertices and segments.
-use Rattle.std.specs.Prelude.{ℕ, ℤ, pos, ◌*◌, Bool, true, false, not, ◌&&◌, ◌||◌, ◌-ℤ◌, ◌+ℤ◌, ◌*ℤ◌, int_lt, int_le, nat_le, List, [], ◌∷◌, map}
+use Rattle.std.specs.Prelude.{IsTrue, ℕ, pos, ◌*◌, Bool, true, false, not, ◌&&◌, ◌||◌, ◌-ℤ◌, ◌*ℤ◌, int_lt, int_le, nat_le, List, [], ◌∷◌, map}
 use Rattle.std.specs.List.{list_any, list_all}
-use Rattle.std.specs.Int.{int_min, int_max}
-use Rattle.planar_geom.specs.Points.{Point, Bounds, pt, bounds, least_coordinate, greatest_coordinate, same_point, dist2, in_box, boxes_meet, square}
-use Rattle.planar_geom.specs.Figures.{Stretch, stretches, edges, ring_points, meets, crosses, on_stretch, in_poly, strictly_in, doubled, doubled_middle}
-pub use Rattle.planar_geom.specs.Shapes.{vertices, segments, all_vertices, all_segments, positions, box_of_points, box_of}
+use Rattle.planar_geom.specs.Points.{Point, Bounds, corners_of, box_of_disc, InPlane, IsBox, same_point, dist2, in_box, boxes_meet, square}
+use Rattle.planar_geom.specs.Figures.{Stretch, stretches, edges, ring_points, meets, crosses, on_stretch, in_poly, strictly_in, doubled, doubled_middle, dot, minus}
+pub use Rattle.planar_geom.specs.Shapes.{vertices, segments, all_vertices, all_segments, positions, box_of_points, box_of, is_shape}
 use Rattle.planar_geom.specs.declared.shapes.Part.{Part}
 use Rattle.planar_geom.specs.declared.shapes.Part.TheVariants.{Spot, Chain, Face}
 use Rattle.planar_geom.specs.declared.shapes.Area.{Area}
@@ -16,22 +15,21 @@ in_part (Spot q) p = same_point q p
 in_part (Chain line) p = list_any (on_stretch p) (stretches line)
 in_part (Face rings) p = in_poly rings p
 
--- the least box round a disc, cut at the ends of the plane
-abbrev pub box_of_disc : Point → ℕ → Bounds
-box_of_disc c r =
-    bounds
-    (pt (int_max (c.x -ℤ pos r) least_coordinate) (int_max (c.y -ℤ pos r) least_coordinate))
-    (pt (int_min (c.x +ℤ pos r) greatest_coordinate) (int_min (c.y +ℤ pos r) greatest_coordinate))
-
 -- the least box round an area
 abbrev pub area_box : Area → Bounds
 area_box (Rect b) = b
 area_box (Disc c r) = box_of_disc c r
 area_box (Figure shape) = box_of shape
 
+-- what each area is: its box is one, its centre stands on the plane, its figure is a shape
+abbrev pub IsArea : Area → Type 0
+IsArea (Rect b) = IsBox b
+IsArea (Disc c r) = InPlane c
+IsArea (Figure shape) = IsTrue (is_shape shape)
+
 -- a box as a figure: the face of its four corners
 abbrev pub face_of : Bounds → Part
-face_of b = Face ((b.min ∷ pt b.max.x b.min.y ∷ b.max ∷ pt b.min.x b.max.y ∷ b.min ∷ []) ∷ [])
+face_of b = Face (corners_of b ∷ [])
 
 -- two parts touch: two segments meet, or a vertex of one is in the other
 abbrev pub touch : Part → Part → Bool
@@ -45,14 +43,6 @@ figures_touch a b = boxes_meet (box_of a) (box_of b) && list_any (λ p. list_any
 abbrev pub in_disc : Point → ℕ → Point → Bool
 in_disc c r p = nat_le (dist2 p c) (r * r)
 
--- the scalar product of two vectors
-abbrev pub dot : Point → Point → ℤ
-dot d e = d.x *ℤ e.x +ℤ d.y *ℤ e.y
-
--- the vector from q to p
-abbrev pub minus : Point → Point → Point
-minus p q = pt (p.x -ℤ q.x) (p.y -ℤ q.y)
-
 -- with d along the segment and e from its start to the centre: the foot of the centre is on it, and near
 abbrev pub comes_near : Point → ℕ → Point → Bool
 comes_near e r d = int_lt (pos 0) (dot d d) && int_le (pos 0) (dot e d) && int_le (dot e d) (dot d d)
@@ -61,6 +51,11 @@ comes_near e r d = int_lt (pos 0) (dot d d) && int_le (pos 0) (dot e d) && int_l
 -- the segment comes within r of c, at the foot of c on it
 abbrev pub stretch_near : Point → ℕ → Stretch → Bool
 stretch_near c r s = comes_near (minus c s.a) r (minus s.b s.a)
+
+-- a part and a disc have a point in common: the centre is in the part, or a vertex is in the disc, or a
+-- segment comes near the centre
+abbrev pub reaches_disc : Part → Point → ℕ → Bool
+reaches_disc part c r = in_part part c || list_any (in_disc c r) (vertices part) || list_any (stretch_near c r) (segments part)
 
 -- the shape and the area have a point in common
 unfoldable pub intersects : List Part → Area → Bool

@@ -3,8 +3,8 @@
 use crate::points::{Pt, Seg};
 use std::marker::Model;
 
-/// A point whose coordinates are at most twice [`crate::MAX_COORD`] in size: one of the plane, or one in
-/// doubled coordinates, in which the middle of a segment is whole.
+/// A point whose coordinates are at most twice [`crate::MAX_COORD`] in size: one of the plane, one in
+/// doubled coordinates, in which the middle of a segment is whole, or the way between two points.
 #[derive(Clone, Copy)]
 pub(crate) struct Place {
     x: i64,
@@ -26,7 +26,7 @@ impl Model for Place {
 impl Place {
     ghost use Rattle.std.specs.Prelude.{◌≡◌};
     ghost use Rattle.planar_geom.specs.Points.{in_box};
-    ghost use Rattle.planar_geom.specs.Figures.{doubled, doubled_middle, stretch, above, box_of_stretch};
+    ghost use Rattle.planar_geom.specs.Figures.{doubled, doubled_middle, stretch, above, box_of_stretch, minus};
 
     /// A point of the plane.
     pub(crate) fn of(p: Pt) -> Place
@@ -45,6 +45,16 @@ impl Place {
         Place {
             x: 2 * i64::from(p.x()),
             y: 2 * i64::from(p.y()),
+        }
+    }
+
+    /// The way from `a` to `b`.
+    pub(crate) fn between(a: Pt, b: Pt) -> Place
+        ensures { result ≡ minus b a }
+    {
+        Place {
+            x: i64::from(b.x()) - i64::from(a.x()),
+            y: i64::from(b.y()) - i64::from(a.y()),
         }
     }
 
@@ -73,10 +83,10 @@ impl Place {
     }
 }
 
-ghost use Rattle.std.specs.Prelude.{◌≡◌, ◌*ℤ◌, ◌≤ℤ◌, ◌^◌, ◌-◌, pos, neg_ℤ};
+ghost use Rattle.std.specs.Prelude.{◌≡◌, ◌*◌, ◌*ℤ◌, ◌-ℤ◌, ◌≤ℤ◌, ◌^◌, pos, neg_ℤ};
 ghost use Rattle.std.specs.Int.{int_min, int_max};
 ghost use Rattle.planar_geom.specs.Points.{in_range};
-ghost use Rattle.planar_geom.specs.Figures.{cross as cross_product};
+ghost use Rattle.planar_geom.specs.Figures.{cross as cross_product, dot as scalar_product};
 
 // Whether a number is in the range that has `a` and `b` for its ends.
 fn is_between(a: i64, b: i64, number: i64) -> bool
@@ -104,4 +114,30 @@ fn product(a: i64, b: i64) -> i128
     ensures below { result ≤ℤ pos (2 ^ 64) }
 {
     i128::from(a) * i128::from(b)
+}
+
+/// The scalar product of two ways.
+pub(crate) fn dot(d: Place, e: Place) -> i64
+    ensures { result ≡ scalar_product d e }
+{
+    short_product(d.x, e.x) + short_product(d.y, e.y)
+}
+
+/// Twice the area between two ways.
+pub(crate) fn turn(e: Place, d: Place) -> i64
+    ensures { result ≡ e.x *ℤ d.y -ℤ e.y *ℤ d.x }
+{
+    short_product(e.x, d.y) - short_product(e.y, d.x)
+}
+
+fn short_product(a: i64, b: i64) -> i64
+    requires a_above { neg_ℤ (pos (2 * 10 ^ 9)) ≤ℤ a }
+    requires a_below { a ≤ℤ pos (2 * 10 ^ 9) }
+    requires b_above { neg_ℤ (pos (2 * 10 ^ 9)) ≤ℤ b }
+    requires b_below { b ≤ℤ pos (2 * 10 ^ 9) }
+    ensures value { result ≡ a *ℤ b }
+    ensures above { neg_ℤ (pos (4 * 10 ^ 18)) ≤ℤ result }
+    ensures below { result ≤ℤ pos (4 * 10 ^ 18) }
+{
+    a * b
 }

@@ -66,9 +66,9 @@ impl Pt {
     }
 }
 
-ghost use Rattle.std.specs.Prelude.{◌≡◌, ◌+ℤ◌, pos};
-ghost use Rattle.std.specs.Int.{int_div_euclid};
-ghost use Rattle.planar_geom.specs.Points.{IsCoordinate, in_range, ranges_meet, is_coordinate as is_plane_coordinate, centre as box_centre};
+ghost use Rattle.std.specs.Prelude.{◌≡◌, ◌+ℤ◌, ◌-ℤ◌, ◌≤ℤ◌, ◌^◌, pos};
+ghost use Rattle.std.specs.Int.{int_div_euclid, int_min, int_max};
+ghost use Rattle.planar_geom.specs.Points.{IsCoordinate, least_coordinate, greatest_coordinate, in_range, ranges_meet, is_coordinate as is_plane_coordinate, centre as box_centre};
 
 fn is_coordinate(a: i64) -> bool
     ensures { result ≡ is_plane_coordinate a }
@@ -96,8 +96,8 @@ impl Model for BBox {
 }
 
 impl BBox {
-    ghost use Rattle.std.specs.Prelude.{◌≡◌, pos};
-    ghost use Rattle.planar_geom.specs.Points.{pt, bounds, bounds_of, boxes_meet, in_box, with_point, IsBox};
+    ghost use Rattle.std.specs.Prelude.{◌≡◌, ◌&&◌, pos};
+    ghost use Rattle.planar_geom.specs.Points.{pt, bounds, bounds_of, box_of_disc, corners_of, boxes_meet, in_box, with_point, IsBox};
 
     /// The box between two corners; `None` exactly where `min` exceeds `max` in x or in y.
     pub fn of(min: Pt, max: Pt) -> Option<BBox>
@@ -111,8 +111,9 @@ impl BBox {
     }
 
     /// Whether two boxes have a point in common.
-    pub(crate) fn meets(self, other: BBox) -> bool
-        ensures { result ≡ boxes_meet self other }
+    pub fn meets(self, other: BBox) -> bool
+        ensures value { result ≡ boxes_meet self other }
+        ensures is_box { IsBox other }
     {
         ranges_overlap(self.min.x, self.max.x, other.min.x, other.max.x)
             && ranges_overlap(self.min.y, self.max.y, other.min.y, other.max.y)
@@ -125,12 +126,50 @@ impl BBox {
         is_between(self.min.x, self.max.x, p.x) && is_between(self.min.y, self.max.y, p.y)
     }
 
+    /// Whether the box holds both corners of another.
+    pub(crate) fn holds_box(self, other: BBox) -> bool
+        ensures { result ≡ (in_box self other.min && in_box self other.max) }
+    {
+        self.holds(other.min) && self.holds(other.max)
+    }
+
+    /// The corners against the clock, the first also last.
+    pub(crate) fn corners(self) -> [Pt; 5]
+        ensures { result ≡ corners_of self }
+    {
+        let Pt { x: left, y: bottom } = self.min;
+        let Pt { x: right, y: top } = self.max;
+        let south_east = Pt {
+            x: right,
+            y: bottom,
+        };
+        let north_west = Pt { x: left, y: top };
+        [self.min, south_east, self.max, north_west, self.min]
+    }
+
     /// The box of one point.
     pub(crate) fn of_point(p: Pt) -> BBox
         ensures { result ≡ bounds p p }
     {
         let _ = p.x;
         BBox { min: p, max: p }
+    }
+
+    /// The least box round a disc, cut at the ends of the plane.
+    pub(crate) fn of_disc(centre: Pt, radius: u32) -> BBox
+        ensures { result ≡ box_of_disc centre radius }
+    {
+        let reach = i64::from(radius);
+        BBox {
+            min: Pt {
+                x: lowered(centre.x, reach),
+                y: lowered(centre.y, reach),
+            },
+            max: Pt {
+                x: raised(centre.x, reach),
+                y: raised(centre.y, reach),
+            },
+        }
     }
 
     /// The box of the origin alone.
@@ -157,7 +196,7 @@ impl BBox {
     }
 
     /// The least box round the box and a point.
-    pub(crate) fn with_point(self, p: Pt) -> BBox
+    pub fn with_point(self, p: Pt) -> BBox
         ensures { result ≡ with_point self p }
     {
         BBox {
@@ -171,6 +210,30 @@ impl BBox {
             },
         }
     }
+}
+
+// A coordinate less a distance, or the least coordinate.
+fn lowered(a: i32, by: i64) -> i32
+    requires a_in { IsCoordinate a }
+    requires by_natural { pos 0 ≤ℤ by }
+    requires by_small { by ≤ℤ pos (2 ^ 32) }
+    ensures value { result ≡ int_max (a -ℤ by) least_coordinate }
+    ensures coordinate { IsCoordinate result }
+    ensures below { result ≤ℤ a }
+{
+    (i64::from(a) - by).max(-MAX_COORD) as i32
+}
+
+// A coordinate more a distance, or the greatest coordinate.
+fn raised(a: i32, by: i64) -> i32
+    requires a_in { IsCoordinate a }
+    requires by_natural { pos 0 ≤ℤ by }
+    requires by_small { by ≤ℤ pos (2 ^ 32) }
+    ensures value { result ≡ int_min (a +ℤ by) greatest_coordinate }
+    ensures coordinate { IsCoordinate result }
+    ensures above { a ≤ℤ result }
+{
+    (i64::from(a) + by).min(MAX_COORD) as i32
 }
 
 // Whether two ranges overlap, ends included.

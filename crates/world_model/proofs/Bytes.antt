@@ -1,5 +1,5 @@
 -- Byte order is the order of slices.
-use Rattle.std.proofs.Common.{◌≡◌, ℕ, Bool, true, false, refl, sym, ◌∙◌, List, [], ◌∷◌, arith, rules}
+use Rattle.std.proofs.Common.{◌≡◌, ℕ, true, false, refl, List, ◌∷◌, arith}
 use Rattle.std.proofs.lemmas.Bool.Decides.{nat_tests}
 use Rattle.std.proofs.lemmas.Cmp.{same_from_slice_cmp}
 use Rattle.std.specs.Ordering.{nat_cmp, is_lt, MatchOrdering}

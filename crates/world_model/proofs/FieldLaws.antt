@@ -1,6 +1,6 @@
 -- Fields stay in order, without doubles and without zeros.
 use Rattle.std.proofs.Common.{◌≡◌, ℕ, true, false, not, refl, sym, ap, subst, List, [], ◌∷◌, arith}
-use Rattle.std.specs.Prelude.{ℤ, filter}
+use Rattle.std.specs.Prelude.{ℤ}
 use Rattle.std.specs.List.{list_all, slice_set, insert, remove}
 use Rattle.std.proofs.lemmas.Bool.Decides.{nat_tests}
 use Rattle.byte_text.specs.Names.{Bytes, before}

@@ -1,8 +1,8 @@
 -- Places in lists: where an item goes among ascending ones, and what stands there afterwards.
-use Rattle.std.proofs.Common.{◌≡◌, ◌<◌, ◌+◌, ℕ, zero, suc, Bool, true, false, not, refl, sym, ◌∙◌, ap, subst, List, [], ◌∷◌, ◌++◌, length, take, drop, get_or, add-one, arith}
-use Rattle.std.specs.Prelude.{Option, Some, None, Result, Ok, Err, ◌&&◌, filter, IfSome, OnOk, OnErr}
+use Rattle.std.proofs.Common.{◌≡◌, ◌<◌, ◌+◌, ℕ, zero, suc, Bool, true, false, refl, sym, ◌∙◌, ap, subst, List, [], ◌∷◌, ◌++◌, length, take, get_or, add-one, arith}
+use Rattle.std.specs.Prelude.{Some, Result, Ok, Err, filter, IfSome, OnOk, OnErr}
 use Rattle.std.specs.List.{list_all, slice_get, slice_set, insert, remove}
-use Rattle.world_model.specs.Lists.{ascends, put_in}
+use Rattle.world_model.specs.Lists.{put_in}
 
 all_more : {A : Type 0} (p : A → Bool) (xs : List A) (i : ℕ) (x : A) → i < length xs → x ≡ get_or xs i x → list_all p (take i xs) ≡ true → p x ≡ true → list_all p (take (suc i) xs) ≡ true
 all_more p [] i x within is all here = absurd (omega arith)

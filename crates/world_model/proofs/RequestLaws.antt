@@ -1,6 +1,6 @@
 -- The first words of a request.
-use Rattle.std.proofs.Common.{◌≡◌, ◌≤◌, ◌+◌, ℕ, zero, suc, refl, ap, subst, List, [], ◌∷◌, ◌++◌, length, take, add-one, arith}
-use Rattle.std.specs.Prelude.{Option, Some, None}
+use Rattle.std.proofs.Common.{◌≡◌, ◌≤◌, ◌+◌, ℕ, zero, suc, ap, List, [], ◌∷◌, ◌++◌, length, take, add-one, arith}
+use Rattle.std.specs.Prelude.{Some}
 use Rattle.std.specs.List.{slice_get, AllByRecursion}
 use Rattle.byte_text.specs.Names.{Bytes}
 use Rattle.byte_text.specs.Requests.{FitsRequest, total, max_word}

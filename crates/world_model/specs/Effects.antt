@@ -1,5 +1,5 @@
 -- Effects: what a command replies, changes and subscribes to, and its refusals in their order.
-use Rattle.std.specs.Prelude.{ℕ, ℤ, pos, ◌+◌, ◌*◌, Bool, true, false, not, ◌&&◌, ◌==◌, nat_lt, nat_le, List, [], ◌∷◌, ◌++◌, length, filter, map, count_by, Option, Some, None, is_some, is_none, option_map, if◌then◌else◌, codes}
+use Rattle.std.specs.Prelude.{ℕ, pos, ◌+◌, ◌*◌, Bool, true, false, not, ◌&&◌, ◌==◌, nat_lt, nat_le, List, [], ◌∷◌, ◌++◌, length, filter, map, count_by, Option, Some, None, is_some, is_none, option_map, if◌then◌else◌, codes}
 use Rattle.std.specs.List.{list_any, list_all}
 use Rattle.byte_text.specs.Names.{Bytes, same}
 use Rattle.byte_text.specs.Globs.{glob_meets}
@@ -25,7 +25,6 @@ use Rattle.world_model.specs.declared.channels.Watch.{Watch}
 use Rattle.world_model.specs.declared.channels.Watch.TheVariants.{Spot, Roam}
 use Rattle.world_model.specs.declared.queries.Rule.{Rule}
 use Rattle.world_model.specs.declared.queries.Rule.TheVariants.{All, Down, Kept, Nearest}
-use Rattle.world_model.specs.declared.queries.Query.{Query}
 use Rattle.world_model.specs.declared.commands.Only.{Only}
 use Rattle.world_model.specs.declared.commands.Only.TheVariants.{Any, Absent, Present}
 use Rattle.world_model.specs.declared.commands.AreaWords.{AreaWords}

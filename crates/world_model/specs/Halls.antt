@@ -10,12 +10,11 @@ use Rattle.world_model.specs.Records.{record_len}
 use Rattle.world_model.specs.Served.{asks}
 use Rattle.world_model.specs.Limits.{cap_frames, cap_bytes}
 use Rattle.world_model.specs.Subscriptions.{Sub, with_subs}
-use Rattle.world_model.specs.Effects.{Deed, loud, Effect, says, effect}
+use Rattle.world_model.specs.Effects.{Deed, Effect, says, dels, effect}
 use Rattle.world_model.specs.Expiry.{expired}
 use Rattle.world_model.specs.Refusals.{fault_reply, broken_reply}
 use Rattle.world_model.specs.Messages.{Message, messages}
 use Rattle.world_model.specs.declared.worlds.World.{World}
-use Rattle.world_model.specs.declared.worlds.Change.TheVariants as change
 use Rattle.world_model.specs.declared.commands.Command.{Command}
 use Rattle.world_model.specs.declared.faults.WordFault.{WordFault}
 use Rattle.world_model.specs.declared.events.Asked.{Asked}
@@ -63,7 +62,7 @@ without_session n h = record h { sessions = filter (λ s. not (is_session n s)) 
 
 -- placing frames
 
-abbrev has_room : Session → Bytes → Bool
+abbrev pub has_room : Session → Bytes → Bool
 has_room s frame = nat_lt (length s.frames) cap_frames && nat_le (frame_bytes s.frames + length frame) cap_bytes
 
 -- the frame goes last; where there is no room the session is cut, and keeps the frames it has
@@ -71,6 +70,12 @@ abbrev pub placed : Bytes → Session → Session
 placed frame s = if not (is_live s) then s else
     if has_room s frame then record s { frames = s.frames ++ frame ∷ [] } else record s { stage = cut; subs = [] }
 
+-- frames placed on a session, one after another
+abbrev pub placed_each : Session → List Bytes → Session
+placed_each s [] = s
+placed_each s (frame ∷ frames) = placed_each (placed frame s) frames
+
+-- a frame placed on the session of a number
 abbrev pub place : Hall → ℕ × Bytes → Hall
 place h delivery = change_session (placed delivery.1) delivery.0 h
 
@@ -80,26 +85,26 @@ place_all h (d ∷ deliveries) = place_all (place h d) deliveries
 
 -- deliveries: each message to each live session, first for its name, then for each pattern that meets it
 
-abbrev message_frame : Message → Bytes
+abbrev pub message_frame : Message → Bytes
 message_frame m = frame_text (array (bulk (codes "message") ∷ bulk m.0 ∷ bulk m.1 ∷ []))
 
-abbrev pattern_frame : Bytes → Message → Bytes
+abbrev pub pattern_frame : Bytes → Message → Bytes
 pattern_frame pattern m = frame_text (array (bulk (codes "pmessage") ∷ bulk pattern ∷ bulk m.0 ∷ bulk m.1 ∷ []))
 
-abbrev holds_name : Bytes → Sub → Bool
+abbrev pub holds_name : Bytes → Sub → Bool
 holds_name n s = not s.pattern && same s.word n
 
-abbrev pattern_meets : Bytes → Sub → Bool
+abbrev pub pattern_meets : Bytes → Sub → Bool
 pattern_meets n s = if s.pattern then glob_meets s.word n else false
 
-abbrev frames_for : Message → List Sub → List Bytes
+abbrev pub frames_for : Message → List Sub → List Bytes
 frames_for m subs = (if list_any (holds_name m.0) subs then message_frame m ∷ [] else [])
     ++ map (λ s. pattern_frame s.word m) (filter (pattern_meets m.0) subs)
 
-abbrev sent_to : Message → Session → List (ℕ × Bytes)
+abbrev pub sent_to : Message → Session → List (ℕ × Bytes)
 sent_to m s = if is_live s then map (λ f. (s.number, f)) (frames_for m s.subs) else []
 
-abbrev deliveries_of : List Message → List Session → List (ℕ × Bytes)
+abbrev pub deliveries_of : List Message → List Session → List (ℕ × Bytes)
 deliveries_of ms sessions = flat_map (λ m. flat_map (sent_to m) sessions) ms
 
 -- the deliveries of a change, from the world before it
@@ -116,14 +121,14 @@ apply_all h (d ∷ deeds) = apply_all (apply h d) deeds
 
 -- the clock goes on, and each object that is due then is deleted
 abbrev pub due : Hall → ℕ → Hall
-due h moment = let now = max h.now moment in apply_all (record h { now = now }) (map (λ o. loud (change.Del o.key o.id)) (expired h.world now))
+due h moment = let now = max h.now moment in apply_all (record h { now = now }) (dels (expired h.world now))
 
 -- doing a command
 
 abbrev pub close_session : ℕ → Hall → Hall
 close_session n h = change_session (λ s. if is_live s then record s { stage = closing; subs = [] } else s) n h
 
-abbrev closed_if : Bool → ℕ → Hall → Hall
+abbrev pub closed_if : Bool → ℕ → Hall → Hall
 closed_if closes n h = if closes then close_session n h else h
 
 -- the subscriptions are added, the replies placed, the changes applied
@@ -132,7 +137,7 @@ do_effect h n e = closed_if e.closes n
     (apply_all (place_all (change_session (λ s. record s { subs = with_subs s.subs e.subs }) n h) (map (λ r. (n, frame_text r)) e.replies)) e.deeds)
 
 -- the effect of what the words are: a command, or a refusal
-abbrev effect_of : Hall → Session → Result Command WordFault → Effect
+abbrev pub effect_of : Hall → Session → Result Command WordFault → Effect
 effect_of h s (Ok c) = effect h.world h.now s.subs c
 effect_of h s (Err f) = says (fault_reply f)
 
@@ -145,7 +150,7 @@ abbrev pub do_asked : Hall → Session → Asked → Hall
 do_asked h s (Words words) = do_words h s (asks words)
 do_asked h s (Broken f) = close_session s.number (place h (s.number, frame_text (broken_reply f)))
 
-abbrev do_live : Hall → Option Session → Asked → Hall
+abbrev pub do_live : Hall → Option Session → Asked → Hall
 do_live h None asked = h
 do_live h (Some s) asked = if is_live s then do_asked h s asked else h
 

@@ -1,5 +1,5 @@
 -- What is served so far. Every other request is answered that it is not served yet, whatever its words are.
-use Rattle.std.specs.Prelude.{Bool, true, false, ◌&&◌, List, [], ◌∷◌, codes, is_some, if◌then◌else◌, ℤ, pos, neg_ℤ, Result, Ok, Err}
+use Rattle.std.specs.Prelude.{Bool, false, ◌&&◌, List, [], ◌∷◌, codes, is_some, if◌then◌else◌, pos, neg_ℤ, Result, Err}
 use Rattle.byte_text.specs.Names.{Bytes, is_word, is_name}
 use Rattle.byte_text.specs.Numbers.{whole_within}
 use Rattle.world_model.specs.Limits.{max_coord}

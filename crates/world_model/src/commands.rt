@@ -1,3 +1,5 @@
+//! Commands.
+
 use crate::channels::Channel;
 use crate::fields::Fields;
 use crate::lists::NameList;
@@ -5,19 +7,23 @@ use crate::queries::{Query, Shown};
 use byte_text::{Name, Text};
 use planar_geom::{Area, Pt, Shape};
 
-#[derive(Drop)]
+/// Whether a SET is done for an object of any kind, for an absent one alone (NX), or for one that is there alone (XX).
+#[derive(Clone, Copy, Debug, PartialEq, Eq)]
 pub enum Only {
     Any,
     Absent,
     Present,
 }
 
+/// Where an area is from: given in the words, or the shape of an object (its key and id) when the command is done.
 #[derive(Drop)]
 pub enum AreaWords {
     Given(Area),
     Of(Name, Name),
 }
 
+/// A command. `cleared` are the names of fields that are written 0. Where an area is an object's, the rule or the watch holds the box
+/// of the one point (0, 0) until the command is done, and a channel's words end before the area's.
 #[derive(Drop)]
 pub enum Command {
     Set {

@@ -11,7 +11,7 @@ pub trait HallApi {
     type Seat;
 
     ghost use Rattle.std.specs.Prelude.{◌≡◌, ◌≢◌, ◌≤◌, ◌⊎◌, Err, [], length, true, false};
-    ghost use Rattle.world_model.specs.Limits.{max_moment};
+    ghost use Rattle.world_model.specs.Limits.{max_moment, take_frames};
     ghost use Rattle.world_model.specs.Seats.{Knows, Adds, Dries, is_proper, enter_outcome, take_outcome, given_count};
     ghost use Rattle.world_model.specs.declared.events.Event.TheVariants as event;
     ghost use Rattle.world_model.specs.declared.events.Outcome.TheVariants as outcome;
@@ -52,9 +52,9 @@ pub trait HallApi {
     fn take<R: Wait>(&self, rt: &R, seat: &mut Self::Seat, session: u32, into: &mut Frames) -> Taken
         requires seat { is_of self.now seat.old }
         requires bare { into.old.list ≡ [] }
-        requires places { into.old.places ≡ 64 }
+        requires places { into.old.places ≡ take_frames }
         ensures seat { is_of self.now seat.new }
-        ensures places { into.new.places ≡ 64 }
+        ensures places { into.new.places ≡ take_frames }
         ensures count { length into.new.list ≡ given_count result }
         ensures entry { result ≢ taken.Spent → Adds (event.Take session) (take_outcome result into.new.list) (knows seat.old) (knows seat.new) }
         ensures spent { result ≡ taken.Spent → Dries (knows seat.old) (knows seat.new) };

@@ -1,9 +1,16 @@
+//! Queries: which objects are sought, in which order, and how they are shown.
+
+ghost use Rattle.std.specs.Prelude.{◌≡◌, []};
+
 use crate::channels::Kind;
 use crate::filters::Tests;
+use crate::lists::NameList;
 use byte_text::Name;
 use planar_geom::Area;
+use std::alloc::Global;
 
-#[derive(Drop)]
+/// How objects are shown: their number, or of each its id, its text, the centre of its box or its bounds.
+#[derive(Clone, Copy, Debug, PartialEq, Eq)]
 pub enum Shown {
     Count,
     Ids,
@@ -12,6 +19,7 @@ pub enum Shown {
     Bounds,
 }
 
+/// Which objects are sought: all by id, all by id downwards, those that meet an area, or the nearest first.
 #[derive(Drop)]
 pub enum Rule {
     All,
@@ -20,6 +28,7 @@ pub enum Rule {
     Nearest,
 }
 
+/// A query. `bare` leaves the fields out; a page begins at the place `cursor` and has at most `limit` items.
 #[derive(Drop)]
 pub struct Query {
     pub rule: Rule,
@@ -29,4 +38,27 @@ pub struct Query {
     pub limit: u32,
     pub bare: bool,
     pub shown: Shown,
+}
+
+/// A page of a query: the ids of its items and where the next page begins, or the number of all matches alone.
+#[derive(Drop)]
+pub struct Page {
+    pub ids: NameList,
+    pub cursor: u64,
+    pub count: u64,
+}
+
+impl Page {
+    /// An empty page. Its ids take their memory from `alloc`.
+    pub fn new(alloc: Global) -> Page
+        ensures ids { result.ids ≡ [] }
+        ensures cursor { result.cursor ≡ 0 }
+        ensures count { result.count ≡ 0 }
+    {
+        Page {
+            ids: NameList::new(alloc),
+            cursor: 0,
+            count: 0,
+        }
+    }
 }

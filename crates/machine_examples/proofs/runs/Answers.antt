@@ -24,6 +24,7 @@ returns c = record {
   fields = refl;
   refused = refl;
   roam = refl;
+  roam_again = refl;
   patterns = refl;
   record_length = refl;
   chans = refl;

@@ -1,4 +1,4 @@
-use Rattle.std.proofs.Common.{◌≡◌, ◌++◌, ◌∷◌, [], ◌+◌, take, ap, sym, ◌∙◌, subst}
+use Rattle.std.proofs.Common.{◌++◌, ◌∷◌, [], ◌+◌, ap, sym, ◌∙◌, subst}
 use Rattle.byte_text.specs.Requests.{FitsRequest}
 use Rattle.world_model.proofs.RequestLaws.{take_next, fits_take}
 use Rattle.world_model.proofs.copies.copy_request.Goals as goal

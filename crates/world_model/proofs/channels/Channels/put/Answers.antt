@@ -1,4 +1,4 @@
-use Rattle.std.proofs.Common.{◌≡◌, true, sym, subst, ◌∙◌}
+use Rattle.std.proofs.Common.{◌≡◌, true, sym, subst}
 use Rattle.world_model.specs.Lists.{put_in}
 use Rattle.world_model.specs.Worlds.{are_channels, channel_before}
 use Rattle.world_model.proofs.PlaceLaws.{put_in-set, put_in-insert, either_way, on_ok_as}

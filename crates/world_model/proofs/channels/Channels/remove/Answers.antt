@@ -1,4 +1,4 @@
-use Rattle.std.proofs.Common.{◌≡◌, true, not, rules, sym, subst, filter}
+use Rattle.std.proofs.Common.{◌≡◌, true, not, rules, sym, subst}
 use Rattle.std.proofs.lemmas.Fn.{filter_same}
 use Rattle.world_model.specs.Worlds.{are_channels, channel_before, is_named}
 use Rattle.world_model.proofs.Order.{ascends-filter}

@@ -1,4 +1,4 @@
-use Rattle.std.proofs.Common.{rules, ◌≡◌, true, false, [], ◌∷◌, subst, sym, ◌∙◌, arith}
+use Rattle.std.proofs.Common.{◌≡◌, true, false, [], ◌∷◌, sym, ◌∙◌}
 use Rattle.std.proofs.Math.Facts.{to_z-of_z}
 use Rattle.world_model.specs.Filters.{are_fields, with_values, is_zero}
 use Rattle.world_model.proofs.FieldLaws.{set_writes, set_inserts, set_removes, set_keeps, with_values-are_fields}

@@ -1,4 +1,4 @@
-use Rattle.std.proofs.Common.{◌≡◌, true, not, rules, sym, subst, filter}
+use Rattle.std.proofs.Common.{◌≡◌, true, not, rules, sym, subst}
 use Rattle.std.proofs.lemmas.Fn.{filter_same}
 use Rattle.world_model.specs.Worlds.{are_objects, object_before, has_key}
 use Rattle.world_model.proofs.Order.{ascends-filter}

@@ -1,0 +1,4 @@
+pub mod Clean
+pub mod Counted
+pub mod Finishing
+pub mod Completions

@@ -1,0 +1,21 @@
+//! Each law is the contract of a function that does nothing.
+
+ghost use Rattle.machine_laws.specs.Faults.{TextsNeverLackMemory, WordsNeverLackMemory};
+ghost use Rattle.machine_laws.specs.Openings.{OpenIsBegun};
+ghost use Rattle.machine_laws.specs.Weights.{WeightIsCounted};
+
+/// No text and no words are refused for want of memory.
+pub fn fault_laws()
+    ensures texts { TextsNeverLackMemory }
+    ensures words { WordsNeverLackMemory }
+{}
+
+/// A change adds the record that it puts or sets, and takes away the records of what it replaces or deletes.
+pub fn weight_laws()
+    ensures { WeightIsCounted }
+{}
+
+/// Every open list of words is the beginning of a spelling.
+pub fn opening_laws()
+    ensures { OpenIsBegun }
+{}

@@ -1,0 +1,6 @@
+//! Further laws of the machine, of which no code makes use.
+#![tactic(auto)]
+
+mod laws;
+
+pub use laws::{fault_laws, opening_laws, weight_laws};

@@ -1,0 +1,8 @@
+use Rattle.std.proofs.Common.{◌≡◌, drop}
+use Rattle.std.specs.List.{list_any}
+use Rattle.planar_geom.specs.Figures.{ring_points}
+use Rattle.planar_geom.proofs.searches.any_ring_point.Given as goal
+
+-- the rings that are left decide
+abbrev pub invariant-loop-ring : goal.invariant-loop-ring
+invariant-loop-ring g l = list_any (g.T.PointTest.passes l.test) (ring_points (drop l.ring-index l.rings)) ≡ list_any (g.T.PointTest.passes l.test) (ring_points l.rings)

@@ -1,0 +1,79 @@
+//! Laws of the plane: each is what a function that does nothing ensures.
+
+ghost use Rattle.std.specs.Prelude.{◌≡◌, ◌≤◌, ◌↔◌, ◌∷◌, [], true, false};
+ghost use Rattle.planar_geom.specs.Points.{boxes_meet, in_box, box_round, box_round_both, box_dist2 as distance_to_box, dist2 as distance, centre as box_centre};
+ghost use Rattle.planar_geom.specs.Figures.{meets as stretches_meet, stretch};
+ghost use Rattle.planar_geom.specs.Shapes.{box_of as box_of_shape};
+ghost use Rattle.planar_geom.specs.Relations.{intersects as is_met, within as is_inside, way_meets as is_on_way, area_box as box_of_area, face_of, IsArea};
+ghost use Rattle.planar_geom.specs.declared.shapes.Part.TheVariants.{Chain};
+
+use crate::points::{BBox, Pt, Seg, centre};
+use crate::shapes::{Area, Shape};
+
+/// Two segments meet in either order, and whichever end of one comes first.
+pub fn segments_meet_in_any_order(_s: Seg, _t: Seg)
+    ensures order { stretches_meet _s _t ≡ stretches_meet _t _s }
+    ensures ends { stretches_meet (stretch _s.b _s.a) _t ≡ stretches_meet _s _t }
+{}
+
+/// A shape meets a box where it meets the face of its four corners.
+pub fn box_is_its_face(_shape: &Shape, _b: BBox)
+    ensures { is_met _shape.now (Area.Rect _b) ≡ is_met _shape.now (Area.Figure (face_of _b ∷ [])) }
+{}
+
+/// What lies in an area meets it.
+pub fn within_intersects(shape: &Shape, area: &Area)
+    ensures { is_inside shape.now area.now ≡ true → is_met shape.now area.now ≡ true }
+{
+    let _parts = shape.parts();
+    is_whole(area);
+}
+
+/// Two shapes whose boxes do not meet do not meet.
+pub fn boxes_apart(_shape: &Shape, _other: &Shape)
+    ensures { boxes_meet (box_of_shape _shape.now) (box_of_shape _other.now) ≡ false → is_met _shape.now (Area.Figure _other.now) ≡ false }
+{}
+
+/// The box of the way between two points is the least box round both, and an area that the way meets has
+/// a box that meets it.
+pub fn way_stays_in_box(from: Pt, to: Pt, area: &Area)
+    ensures way { box_of_shape (Chain (from ∷ to ∷ []) ∷ []) ≡ box_round from (to ∷ []) }
+    ensures area { is_on_way from to area.now ≡ true → boxes_meet (box_round from (to ∷ [])) (box_of_area area.now) ≡ true }
+{
+    let _east = from.x();
+    is_whole(area);
+}
+
+/// The way between the centres of two boxes stays in the least box round both: an area that it meets has
+/// a box that meets that one.
+pub fn way_stays_in_both_boxes(old: BBox, new: BBox, area: &Area)
+    ensures { is_on_way (box_centre old) (box_centre new) area.now ≡ true → boxes_meet (box_round_both old new) (box_of_area area.now) ≡ true }
+{
+    let _low = old.min();
+    let _other_low = new.min();
+    way_stays_in_box(centre(old), centre(new), area);
+}
+
+/// A box is no distance away exactly from the points that it holds, and at most as far away as any of
+/// them.
+pub fn box_is_nearest(_p: Pt, _b: BBox, _q: Pt)
+    ensures inside { (distance_to_box _p _b ≡ 0) ↔ (in_box _b _p ≡ true) }
+    ensures nearest { in_box _b _q ≡ true → distance_to_box _p _b ≤ distance _p _q }
+{}
+
+// Every area is made of a box, of points of the plane or of a shape.
+fn is_whole(area: &Area)
+    ensures { IsArea area.now }
+{
+    match area {
+        Area::Rect(b) => {
+            let _low = b.min();
+        }
+        Area::Disc(centre, _) => {
+            let _east = centre.x();
+        }
+        Area::Figure(shape) => {
+            let _parts = shape.parts();
+        }
+    }
+}
