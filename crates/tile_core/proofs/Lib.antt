@@ -10,4 +10,3 @@ mod Served
 mod Takes
 mod Calls
 mod Finishing
-mod Requests

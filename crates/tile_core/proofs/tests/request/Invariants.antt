@@ -1,4 +1,4 @@
-use Rattle.tile_core.proofs.Requests.{AreShort}
+use Rattle.cmd_words.proofs.Requests.{AreShort}
 use Rattle.tile_core.proofs.tests.request.Given as goal
 
 abbrev pub invariant-loop-word : goal.invariant-loop-word
