@@ -1,4 +1,10 @@
-pub mod Readings
+pub mod Follows
 pub mod Lefts
-pub mod Served
+pub mod Gets
+pub mod Stats
+pub mod Binds
+pub mod OptionWords
+pub mod Heads
+pub mod Ends
 pub mod Requests
+pub mod Asks

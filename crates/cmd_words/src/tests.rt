@@ -55,7 +55,23 @@ fn shown(alloc: Global, read: &Result<Command, WordFault>) -> Result<Text, NoMem
             out.push(b" ")?;
             out.push(text.bytes())?;
         }
+        Ok(Command::Get { .. }) => out.push(b"get in another form")?,
+        Ok(Command::Del { .. }) => out.push(b"del")?,
+        Ok(Command::Stats { keys }) if keys.len() == 2 => out.push(b"stats of two")?,
+        Ok(Command::Ping) => out.push(b"ping")?,
         Err(WordFault::Unserved) => out.push(b"not served")?,
+        Err(WordFault::Unknown(word)) => {
+            out.push(b"unknown ")?;
+            out.push(word.bytes())?;
+        }
+        Err(WordFault::WrongCount(name)) => {
+            out.push(b"wrong count ")?;
+            out.push(name.bytes())?;
+        }
+        Err(WordFault::Invalid(word)) => {
+            out.push(b"invalid ")?;
+            out.push(word.bytes())?;
+        }
         _ => out.push(b"another answer")?,
     }
     Ok(out)
@@ -75,10 +91,18 @@ fn lines_are_read(rt: HostRuntime) -> Result<(), Fail> {
             "sEt fleet truck point -7 1000000000",
             "set fleet truck {\"type\":\"Point\",\"coordinates\":[1000000000,-7]}",
         ),
-        ("", "not served"),
+        ("", "unknown "),
         ("SET", "not served"),
-        ("GET k", "not served"),
-        ("GET k a b", "not served"),
+        ("GET k", "wrong count get"),
+        ("GET k a b", "invalid b"),
+        ("GET k a withfields point", "get in another form"),
+        ("GET k a POINT b", "wrong count get"),
+        ("GET k a WITHFIELDS WITHFIELDS", "invalid WITHFIELDS"),
+        ("del k a", "del"),
+        ("Del k a b", "wrong count del"),
+        ("STATS k l", "stats of two"),
+        ("STATS", "wrong count stats"),
+        ("TTL k a", "not served"),
         ("SET k a POINT 1", "not served"),
         ("SET k a POINT 1 2 3", "not served"),
         ("SET k a POINT 1.0 2", "not served"),
@@ -86,8 +110,9 @@ fn lines_are_read(rt: HostRuntime) -> Result<(), Fail> {
         ("SET k a POINT 1 1000000001", "not served"),
         ("SET k a PLACE 1 2", "not served"),
         ("SET k  POINT 1 2", "not served"),
-        ("SETS k a POINT 1 2", "not served"),
-        ("PING", "not served"),
+        ("SETS k a POINT 1 2", "unknown SETS"),
+        ("PING", "ping"),
+        ("PING x", "wrong count ping"),
     ];
     for (line, wanted) in table {
         let words = request(alloc, line)?;
