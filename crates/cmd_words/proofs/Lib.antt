@@ -8,3 +8,7 @@ pub mod Heads
 pub mod Ends
 pub mod Requests
 pub mod Asks
+pub mod ServedCommands
+pub mod SetWords
+pub mod FieldValues
+pub mod Coordinates

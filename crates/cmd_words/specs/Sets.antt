@@ -1,5 +1,6 @@
 -- SET: its options and its place.
-use Rattle.std.specs.Prelude.{◌≡◌, ◌⊎◌, ◌<◌, length, ◌&&◌, ◌||◌, ℤ, pos, neg_ℤ, ◌^◌, ◌-◌, ℕ, Bool, true, false, List, [], ◌∷◌, Option, Some, None, is_none, unwrap_or, Result, Ok, Err, codes}
+use Rattle.std.specs.Prelude.{◌≡◌, ◌⊎◌, ◌<◌, length, ◌&&◌, ◌||◌, ℤ, pos, neg_ℤ, ◌^◌, ◌-◌, ℕ, Bool, true, false, List, [], ◌∷◌, Option, Some, None, is_none, unwrap_or, if◌then◌else◌, Result, Ok, Err, codes}
+use Rattle.planar_geom.specs.Points.{same_int}
 use Rattle.byte_text.specs.Names.{Bytes, is_word}
 use Rattle.byte_text.specs.Numbers.{whole_within, natural_within}
 use Rattle.geo_text.specs.Texts.{Shape, shape_of}
@@ -117,3 +118,7 @@ ReadsPlace o old new (Err why) = Refuses o old why
 -- the text has a shape
 abbrev pub IsAccepted : Bytes → Type 0
 IsAccepted text = (shape : Shape) × (shape_of text ≡ Ok shape)
+
+-- what marks a field of this value: 1 where it is 0, and else 0
+abbrev pub mark_of : ℤ → ℤ
+mark_of value = if same_int value (pos 0) then pos 1 else pos 0

@@ -88,16 +88,23 @@ fn read_option(reader: &mut Reader, options: &mut SetOptions) -> Result<bool, Wo
         Some(OptionWord::Field) => {
             let field = reader.field()?;
             options.push(field)?;
+            Ok(true)
         }
         Some(OptionWord::Seconds) => {
             let seconds = reader.seconds()?;
             options.seconds = Some(seconds);
+            Ok(true)
         }
-        Some(OptionWord::Absent) => options.only = Some(Only::Absent),
-        Some(OptionWord::Present) => options.only = Some(Only::Present),
-        None => return Ok(false),
+        Some(OptionWord::Absent) => {
+            options.only = Some(Only::Absent);
+            Ok(true)
+        }
+        Some(OptionWord::Present) => {
+            options.only = Some(Only::Present);
+            Ok(true)
+        }
+        None => Ok(false),
     }
-    Ok(true)
 }
 
 /// Reads all options.

@@ -61,10 +61,10 @@ fn point_object(alloc: Global, at: Pt) -> Result<(Text, Shape), WordFault>
     ensures err { IfErr result (λ why. why ≡ WordFault.Memory) }
 {
     let mut text = Text::new(alloc);
-    if push_point(&mut text, at).is_err() {
-        return Err(WordFault::Memory);
+    match push_point(&mut text, at) {
+        Ok(()) => stored(alloc, text),
+        Err(NoMemory) => Err(WordFault::Memory),
     }
-    stored(alloc, text)
 }
 
 // The text and shape of a box.
@@ -73,10 +73,10 @@ fn bounds_object(alloc: Global, bounds: BBox) -> Result<(Text, Shape), WordFault
     ensures err { IfErr result (λ why. why ≡ WordFault.Memory) }
 {
     let mut text = Text::new(alloc);
-    if push_bounds(&mut text, bounds).is_err() {
-        return Err(WordFault::Memory);
+    match push_bounds(&mut text, bounds) {
+        Ok(()) => stored(alloc, text),
+        Err(NoMemory) => Err(WordFault::Memory),
     }
-    stored(alloc, text)
 }
 
 // The text that is stored for a place, which is accepted, and its shape.

@@ -41,7 +41,7 @@ fn put_command(
         seconds,
         only,
     } = options;
-    let (fields, cleared) = fields_of(alloc, fields)?;
+    let (fields, cleared) = fields_of(alloc, fields.as_slice())?;
     Ok(Command::Set {
         key,
         id,

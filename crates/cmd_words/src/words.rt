@@ -1,9 +1,11 @@
 //! The kinds of word that stand in commands, each read from one word.
 
-ghost use Rattle.std.specs.Prelude.{◌≡◌, ◌≤ℤ◌, pos, IfOk};
+ghost use Rattle.std.specs.Prelude.{◌≡◌, ◌==◌, ◌≤◌, ◌≤ℤ◌, pos, length, IfOk};
+ghost use Rattle.std.specs.List.{list_all, position_or_len};
 ghost use Rattle.world_model.specs.Grammar.{a_word, a_coordinate, a_geojson};
 ghost use Rattle.world_model.specs.Limits.{max_coord};
-ghost use Rattle.world_model.specs.Commands.{is_fraction as is_decimal_fraction, are_digits as are_decimal_digits};
+ghost use Rattle.world_model.specs.Kinds.{is_digit as is_decimal_digit};
+ghost use Rattle.world_model.specs.Commands.{is_fraction as is_decimal_fraction, are_digits as are_decimal_digits, without_minus as without_sign};
 ghost use Rattle.cmd_words.specs.Places.{IsOne, IsFault, due_fault, name_of};
 ghost use Rattle.cmd_words.specs.Sets.{integer_of, coordinate_of, seconds_of, object_of};
 
@@ -55,8 +57,16 @@ pub(crate) fn read_coordinate(alloc: Global, word: &[u8], low: i64) -> Result<i6
     ensures greatest { IfOk result (λ z. z ≤ℤ pos max_coord) }
 {
     match read_i64(word) {
-        Ok(n) if low <= n && n <= MAX_COORD => Ok(n),
-        _ => Err(no_coordinate(alloc, word)),
+        Ok(n) => {
+            if n < low {
+                Err(no_coordinate(alloc, word))
+            } else if n > MAX_COORD {
+                Err(no_coordinate(alloc, word))
+            } else {
+                Ok(n)
+            }
+        }
+        Err(_) => Err(no_coordinate(alloc, word)),
     }
 }
 
@@ -75,21 +85,53 @@ fn no_coordinate(alloc: Global, word: &[u8]) -> WordFault
 fn is_fraction(word: &[u8]) -> bool
     ensures { result ≡ is_decimal_fraction word.now }
 {
-    let digits = match word.strip_prefix(b"-") {
-        Some(digits) => digits,
-        None => word,
-    };
-    match digits.iter().position(|byte| *byte == b'.') {
-        Some(at) => are_digits(&digits[..at]) && are_digits(&digits[at + 1..]),
-        None => false,
+    let digits = without_minus(word);
+    let point = point_of(digits);
+    point < digits.len() && are_digits(&digits[..point]) && are_digits(&digits[point + 1..])
+}
+
+// The word without the `-` that it may begin with.
+fn without_minus(word: &[u8]) -> &[u8]
+    ensures { result.now ≡ without_sign word.now }
+{
+    if !word.is_empty() && word[0] == b'-' {
+        &word[1..]
+    } else {
+        word
     }
+}
+
+// The place of the first point, or the number of bytes where there is none.
+fn point_of(bytes: &[u8]) -> usize
+    ensures place { result ≡ position_or_len (λ b. b == 46) bytes.now }
+    ensures within { result ≤ length bytes.now }
+{
+    for at in 0..bytes.len() {
+        if bytes[at] == b'.' {
+            return at;
+        }
+    }
+    bytes.len()
 }
 
 // Whether there are bytes, and each is a decimal digit.
 fn are_digits(bytes: &[u8]) -> bool
     ensures { result ≡ are_decimal_digits bytes.now }
 {
-    !bytes.is_empty() && bytes.iter().all(|byte| byte.is_ascii_digit())
+    bytes.len() > 0 && all_digits(bytes)
+}
+
+// Whether each byte is a decimal digit.
+fn all_digits(bytes: &[u8]) -> bool
+    ensures { result ≡ list_all is_decimal_digit bytes.now }
+{
+    bytes.iter().all(|byte| is_digit(*byte))
+}
+
+fn is_digit(byte: u8) -> bool
+    ensures { result ≡ is_decimal_digit byte }
+{
+    b'0' <= byte && byte <= b'9'
 }
 
 /// The GeoJSON text that the word is, and its shape.
