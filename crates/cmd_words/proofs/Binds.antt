@@ -47,8 +47,11 @@ module _ {A B : Type 0} (f : Form A) (g : A → Form B) where
   bind_then old mid new a (Err why) k (inr i) = inr (λ next h. subst (λ ws. reads ws ≡ Err why) k.0.words (i next (k.1 (λ x. g x >>= next) (regroup old next h))))
 
   pub bind_done : (old mid : Place) (a : A) (b : B) (made : g a ≡ done b) → Reads f old mid (Ok a) → Reads (f >>= g) old mid (Ok b)
-  bind_done old mid a b made k = (k.0, λ next h. follows_same mid (done b >>= next) (next b) (λ words. append-nil (next b words))
-      (subst (λ (x : Form B). Follows mid (x >>= next)) made (k.1 (λ x. g x >>= next) (regroup old next h))))
+  bind_done old mid a b made k = (
+    k.0,
+    λ next h. follows_same mid (done b >>= next) (next b) (λ words. append-nil (next b words))
+        (subst (λ (x : Form B). Follows mid (x >>= next)) made (k.1 (λ x. g x >>= next) (regroup old next h))),
+  )
 
 -- a step that may be repeated: none, or one and what is behind it
 module _ {S B : Type 0} (step : S → Form S) (takes : (s : S) → Takes (step s)) (g : S → Form B) where

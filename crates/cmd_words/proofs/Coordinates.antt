@@ -19,8 +19,8 @@ abbrev most : ℤ
 most = pos 9223372036854775807
 
 not_true : (b : Bool) → (b ≡ true → ⊥) → b ≡ false
-not_true true no = absurd (no refl)
-not_true false _ = refl
+not_true true fails = absurd (fails refl)
+not_true false fails = refl
 
 both : (a b : Bool) → (a && b) ≡ true → (a ≡ true) × (b ≡ true)
 both true true e = (refl, refl)
@@ -95,7 +95,8 @@ minus_taken [] d some e = absurd (omega arith)
 minus_taken (b ∷ w) d some e = rw e refl
 
 past : (n : Bytes) (k : ℕ) → length n ≤ k → drop k n ≡ []
-past [] k le = refl
+past [] zero le = refl
+past [] (suc k) le = refl
 past (b ∷ n) zero le = absurd (omega arith)
 past (b ∷ n) (suc k) le = past n k (omega arith)
 

@@ -1,6 +1,6 @@
 -- Of each name the last value counts: the fields that are left, and the names that are written 0.
-use Rattle.std.proofs.Common.{◌≡◌, ℕ, zero, suc, ◌<◌, ◌+◌, Bool, true, false, not, refl, sym, ◌∙◌, ap, subst, List, [], ◌∷◌, ◌++◌, take, length, add-one, arith}
-use Rattle.std.specs.Prelude.{ℤ, pos, filter, map, if◌then◌else◌, ◌&&◌, Some, slice_get}
+use Rattle.std.proofs.Common.{◌≡◌, ℕ, zero, suc, ◌<◌, ◌+◌, Bool, true, false, not, refl, sym, ◌∙◌, ap, subst, List, [], ◌∷◌, ◌++◌, take, length, get_or, arith}
+use Rattle.std.specs.Prelude.{ℤ, pos, filter, map, if◌then◌else◌, ◌&&◌, Some, slice_get, IfSome}
 use Rattle.std.specs.List.{list_all}
 use Rattle.std.proofs.lemmas.List.{take_more, map-append}
 use Rattle.std.proofs.lemmas.Option.{get_or_from_slice_get}
@@ -99,7 +99,9 @@ values_marked found [] = refl
 values_marked found (f ∷ given) = ap (λ (l : List Field). last_values l (map marked given)) (put_marked f found) ∙ values_marked (put_in field_before f found) given
 
 kept_case : (x : Field) (xs : List Field) (b : Bool) → is_zero x ≡ b → filter is_kept (map marked xs) ≡ map marked (filter is_zero xs) → filter is_kept (map marked (x ∷ xs)) ≡ map marked (filter is_zero (x ∷ xs))
-kept_case x xs true e ih = rw e (ap (λ (l : List Field). (x.0, pos 1) ∷ l) ih)
+kept_case x xs true e ih =
+    let one : mark_of x.1 ≡ pos 1 = rw e refl in
+    rw e (ap (λ (l : List Field). (x.0, pos 1) ∷ l) ih ∙ ap (λ (v : ℤ). (x.0, v) ∷ map marked (filter is_zero xs)) (sym one))
 kept_case x xs false e ih = rw e ih
 
 kept_marked : (xs : List Field) → filter is_kept (map marked xs) ≡ map marked (filter is_zero xs)
@@ -113,3 +115,29 @@ names_marked (x ∷ xs) = ap (λ (l : List Bytes). x.0 ∷ l) (names_marked xs)
 -- the names with a mark are those that are written 0
 pub names_cleared : (given : List Field) → map (λ f. f.0) (with_values [] (map marked given)) ≡ cleared_of given
 names_cleared given = ap (λ (l : List Field). map (λ f. f.0) (filter is_kept l)) (values_marked [] given) ∙ ap (map (λ f. f.0)) (kept_marked (last_values [] given)) ∙ names_marked (filter is_zero (last_values [] given))
+
+-- one more of the fields that are given
+
+module _ (given : List Field) (i : ℕ) (f : Field) (within : i < length given) (is : f ≡ get_or given i f) where
+  taken : take (i + 1) given ≡ take i given ++ f ∷ []
+  taken = take_more given i f within ∙ ap (λ (x : Field). take i given ++ x ∷ []) (sym is)
+
+  pub field_more : (fields new : List Field) → fields ≡ with_values [] (take i given) → new ≡ with_values fields (f ∷ []) → new ≡ with_values [] (take (i + 1) given)
+  field_more fields new s e = e ∙ ap (λ (l : List Field). with_values l (f ∷ [])) s ∙ value_more (take i given) f ∙ ap (with_values []) (sym taken)
+
+  pub mark_more : (zeros new : List Field) → zeros ≡ with_values [] (map marked (take i given)) → new ≡ with_values zeros (marked f ∷ []) → new ≡ with_values [] (map marked (take (i + 1) given))
+  mark_more zeros new s e = e ∙ ap (λ (l : List Field). with_values l (marked f ∷ [])) s ∙ value_more (map marked (take i given)) (marked f)
+      ∙ ap (with_values []) (sym (ap (map marked) taken ∙ map-append marked (take i given) (f ∷ [])))
+
+some_at : (fields : List Field) (at : ℕ) → at < length fields → (f : Field) × (slice_get fields at ≡ Some f)
+some_at [] at within = absurd (omega arith)
+some_at (f ∷ fields) zero within = (f, refl)
+some_at (f ∷ fields) (suc at) within = some_at fields at (omega arith)
+
+pub name_more : (fields : List Field) (at : ℕ) (n : Bytes) (names new : List Bytes) → at < length fields → IfSome (slice_get fields at) (λ f. n ≡ f.0) → names ≡ map (λ f. f.0) (take at fields) → new ≡ names ++ n ∷ []
+    → new ≡ map (λ f. f.0) (take (at + 1) fields)
+name_more fields at n names new within h s e =
+    let found = some_at fields at within in
+    let is : n ≡ found.0.0 = rw found.1 at h in
+    let taken : take (at + 1) fields ≡ take at fields ++ found.0 ∷ [] = take_more fields at found.0 within ∙ ap (λ (x : Field). take at fields ++ x ∷ []) (get_or_from_slice_get fields at found.0 found.0 found.1) in
+    e ∙ ap (λ (l : List Bytes). l ++ n ∷ []) s ∙ ap (λ (m : Bytes). map (λ f. f.0) (take at fields) ++ m ∷ []) is ∙ sym (ap (map (λ f. f.0)) taken ∙ map-append (λ (f : Field). f.0) (take at fields) (found.0 ∷ []))

@@ -105,10 +105,12 @@ module _ (o : SetOptions) (w : Bytes) (more : List Bytes) (n : is_option o w ≡
   no_option =
       let conditions = each_of (is_none o.only) (is_word w (codes "NX")) (is_word w (codes "XX")) parts.2 in
       let no_field = parts.0 in
-      rw (no_field,
-          absent_when (is_none o.after_ex) (is_word w (codes "EX")) ((word (codes "EX") >> seconds >>= λ s. done (record o { after_ex = Some s })) (w ∷ more)) parts.1 (λ e. rw e refl),
-          absent_when (is_none o.only) (is_word w (codes "NX")) ((word (codes "NX") >> done (record o { only = Some Absent })) (w ∷ more)) conditions.0 (λ e. rw e refl),
-          absent_when (is_none o.only) (is_word w (codes "XX")) ((word (codes "XX") >> done (record o { only = Some Present })) (w ∷ more)) conditions.1 (λ e. rw e refl)) refl
+      rw (
+        no_field,
+        absent_when (is_none o.after_ex) (is_word w (codes "EX")) ((word (codes "EX") >> seconds >>= λ s. done (record o { after_ex = Some s })) (w ∷ more)) parts.1 (λ e. rw e refl),
+        absent_when (is_none o.only) (is_word w (codes "NX")) ((word (codes "NX") >> done (record o { only = Some Absent })) (w ∷ more)) conditions.0 (λ e. rw e refl),
+        absent_when (is_none o.only) (is_word w (codes "XX")) ((word (codes "XX") >> done (record o { only = Some Present })) (w ∷ more)) conditions.1 (λ e. rw e refl),
+      ) refl
 
   none_goes : (next : SetOptions → Bytes × Shape → Form Command) → LacksPlace (w ∷ more) → options_and_place o next (w ∷ more) ≡ []
   none_goes next p = let no_point = p.0 in let no_bounds = p.1 in let no_object = p.2 in unroll o next (w ∷ more) ∙ rw (no_option, no_point, no_bounds, no_object) refl

@@ -10,10 +10,11 @@ ghost use Rattle.world_model.specs.Served.{asks, unbuilt, is_built};
 ghost use Rattle.cmd_words.specs.Places.{all_words, Follows, Answers, a_name, key_and_id, get_options, stats_names};
 
 use crate::faults::unknown;
+use crate::fields::push_name;
 use crate::readers::Reader;
 use crate::sets::set_command;
 use crate::words::read_name;
-use byte_text::{Name, Request};
+use byte_text::Request;
 use std::alloc::Global;
 use world_model::{Command, NameList, Shown, WordFault};
 
@@ -184,22 +185,12 @@ fn stats_command(reader: &mut Reader) -> Result<Command, WordFault>
 {
     let mut keys = NameList::new(reader.alloc());
     let first = reader.name()?;
-    push_key(&mut keys, first)?;
+    push_name(&mut keys, first)?;
     'keys: while let Some(word) = reader.next() {
         let key = read_name(reader.alloc(), word)?;
-        push_key(&mut keys, key)?;
+        push_name(&mut keys, key)?;
     }
     Ok(Command::Stats { keys })
-}
-
-fn push_key(keys: &mut NameList, key: Name) -> Result<(), WordFault>
-    ensures ok { OnOk result (keys.new ≡ keys.old ++ key ∷ []) }
-    ensures err { IfErr result (λ f. f ≡ WordFault.Memory) }
-{
-    match keys.push(key) {
-        Ok(()) => Ok(()),
-        Err(_) => Err(WordFault::Memory),
-    }
 }
 
 // no word

@@ -1,6 +1,6 @@
 //! The fields that a command gives: of each name the last value counts.
 
-ghost use Rattle.std.specs.Prelude.{◌≡◌, [], ◌∷◌, map, IfOk, IfErr, OnOk, OnErr};
+ghost use Rattle.std.specs.Prelude.{◌≡◌, [], ◌∷◌, ◌++◌, map, IfOk, IfErr, OnOk};
 ghost use Rattle.world_model.specs.Filters.{with_values};
 ghost use Rattle.world_model.specs.Commands.{nonzero_of, cleared_of};
 ghost use Rattle.cmd_words.specs.Sets.{mark_of};
@@ -59,9 +59,18 @@ fn names_of(alloc: Global, fields: &Fields) -> Result<NameList, WordFault>
         let Ok(name) = fields.name(at).copy(alloc) else {
             return Err(WordFault::Memory);
         };
-        if names.push(name).is_err() {
-            return Err(WordFault::Memory);
-        }
+        push_name(&mut names, name)?;
     }
     Ok(names)
+}
+
+/// Puts a name last.
+pub(crate) fn push_name(names: &mut NameList, name: Name) -> Result<(), WordFault>
+    ensures ok { OnOk result (names.new ≡ names.old ++ name ∷ []) }
+    ensures err { IfErr result (λ why. why ≡ WordFault.Memory) }
+{
+    match names.push(name) {
+        Ok(()) => Ok(()),
+        Err(_) => Err(WordFault::Memory),
+    }
 }

@@ -138,7 +138,7 @@ impl<'a> Reader<'a> {
         if self.read == self.words.words() {
             Ok(())
         } else {
-            Err(invalid(self.alloc, self.words.word(self.read)))
+            Err(self.refusal())
         }
     }
 

@@ -4,7 +4,7 @@ ghost use Rattle.std.specs.Prelude.{◌≡◌, IfOk, IfErr};
 ghost use Rattle.cmd_words.specs.Places.{all_words, Follows, Answers, key_and_id};
 ghost use Rattle.cmd_words.specs.Sets.{behind_set, set_of};
 
-use crate::fields::{fields_of};
+use crate::fields::fields_of;
 use crate::options::{SetOptions, read_options};
 use crate::places::read_place;
 use crate::readers::Reader;

@@ -50,9 +50,7 @@ fn shown_text(shown: Shown) -> &'static str {
 // The command, as a line of words.
 fn push_command(out: &mut Text, command: &Command) -> Result<(), NoMemory> {
     match command {
-        Command::Get {
-            key, id, shown, ..
-        } => push_two(out, shown_text(*shown), key, id),
+        Command::Get { key, id, shown, .. } => push_two(out, shown_text(*shown), key, id),
         Command::Set {
             key,
             id,
@@ -142,7 +140,10 @@ fn sets_are_read(rt: HostRuntime) -> Result<(), Fail> {
         ("SET k  POINT 1 2", "invalid "),
         ("SET k a BOUNDS 3 2 1 4", "invalid 1"),
         ("SET k a OBJECT x", "not json"),
-        ("SET k a OBJECT {\"type\":\"Point\",\"coordinates\":[1.5,2]}", "not whole"),
+        (
+            "SET k a OBJECT {\"type\":\"Point\",\"coordinates\":[1.5,2]}",
+            "not whole",
+        ),
         ("SET k a OBJECT", "wrong count set"),
     ];
     lines_are_read(rt.alloc(), &table)

@@ -12,7 +12,7 @@ returns-in_err-first c =
     rw (p.1, p.2) (λ h. begun_fails a_name (λ key. stats_more (key ∷ [])) c.args.reader.now c.name.new.self _ c.in_err-first.ensures h)
 
 pub keys-init : goal.keys-init
-keys-init c = begun c.args.reader.now c.name.new.self c.in_ok-first.first _ c.in_ok-first.ensures (c.in_ok-push_key.ensures.ok ∙ ap (λ (l : List Bytes). l ++ c.in_ok-first.first ∷ []) c.new-keys.ensures)
+keys-init c = begun c.args.reader.now c.name.new.self c.in_ok-first.first _ c.in_ok-first.ensures (c.in_ok-push_name.ensures.ok ∙ ap (λ (l : List Bytes). l ++ c.in_ok-first.first ∷ []) c.new-keys.ensures)
 
 pub returns-in_err-key : goal.returns-in_err-key
 returns-in_err-key c =
@@ -20,4 +20,4 @@ returns-in_err-key c =
     rw (p.1, p.2) (λ h. refused c.args.reader.now c.keys.reader c.next.new.self c.keys.keys c.in-Some.word.now _ c.keys.invariant c.in-Some.ensures c.in_err-key.ensures h)
 
 pub keys-preserved : goal.keys-preserved
-keys-preserved c = one_more c.args.reader.now c.keys.reader c.next.new.self c.keys.keys _ c.in-Some.word.now c.in_ok-key.key c.keys.invariant c.in-Some.ensures c.in_ok-key.ensures c.in_ok-push_key-2.ensures.ok
+keys-preserved c = one_more c.args.reader.now c.keys.reader c.next.new.self c.keys.keys _ c.in-Some.word.now c.in_ok-key.key c.keys.invariant c.in-Some.ensures c.in_ok-key.ensures c.in_ok-push_name-2.ensures.ok

@@ -1,4 +1,4 @@
-use Rattle.std.proofs.Common.{sym, rules}
+use Rattle.std.proofs.Common.{sym, rules, ◌<ℤ◌}
 use Rattle.world_model.specs.Grammar.{a_coordinate}
 use Rattle.cmd_words.specs.Sets.{coordinate_of}
 use Rattle.cmd_words.proofs.Coordinates.{coordinate_below, no_number, not_one}
@@ -6,7 +6,8 @@ use Rattle.cmd_words.proofs.words.read_coordinate.Goals as goal
 
 pub returns-then-n-low-clause-one : goal.returns-then-n-low-clause-one
 returns-then-n-low-clause-one c =
-    not_one a_coordinate (coordinate_of c.args.low) c.args.word.now c.no_coordinate.result (coordinate_below c.args.low c.in-Ok.n c.args.word.now (sym c.in-Ok.ensures.reads) c.if-n-low.true) c.no_coordinate.ensures
+    let less : c.in-Ok.n <ℤ c.args.low = search rules in
+    not_one a_coordinate (coordinate_of c.args.low) c.args.word.now c.no_coordinate.result (coordinate_below c.args.low c.in-Ok.n c.args.word.now (sym c.in-Ok.ensures.reads) less) c.no_coordinate.ensures
 
 pub returns-in-Err-clause-one : goal.returns-in-Err-clause-one
 returns-in-Err-clause-one c =
