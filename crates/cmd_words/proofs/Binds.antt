@@ -1,5 +1,5 @@
 -- Forms behind one another, and how they are read.
-use Rattle.std.proofs.Common.{◌≡◌, ◌<◌, ◌+◌, ℕ, zero, suc, inl, inr, refl, sym, ◌∙◌, ap, subst, List, [], ◌∷◌, ◌++◌, length, arith, add-one}
+use Rattle.std.proofs.Common.{◌≡◌, ◌<◌, ◌+◌, ℕ, inl, inr, refl, ◌∙◌, ap, subst, List, [], ◌∷◌, ◌++◌, length, arith, add-one}
 use Rattle.std.specs.Prelude.{flat_map, Ok, Err, Result}
 use Rattle.std.proofs.lemmas.Grind.{flat_map-append}
 use Rattle.std.proofs.lemmas.List.{append-nil}

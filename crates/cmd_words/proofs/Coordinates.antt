@@ -1,10 +1,10 @@
 -- Words that are coordinates, and words with a fraction.
-use Rattle.std.proofs.Common.{◌≡◌, ◌<◌, ◌≤◌, ◌+◌, ℕ, ℤ, zero, suc, inl, inr, ◌≤ℤ◌, ◌<ℤ◌, pos, negsuc, Bool, true, false, refl, sym, ◌∙◌, ap, subst, List, [], ◌∷◌, length, drop, get_or, arith, rules}
-use Rattle.std.specs.Prelude.{Option, Some, None, Result, Ok, Err, ◌&&◌, ◌==◌, int_le, option_and_then, if◌then◌else◌}
+use Rattle.std.proofs.Common.{◌≡◌, ◌<◌, ◌≤◌, ◌+◌, ℕ, ℤ, zero, suc, inl, inr, ◌≤ℤ◌, ◌<ℤ◌, pos, negsuc, Bool, true, false, refl, ap, [], ◌∷◌, length, drop, get_or, arith, rules}
+use Rattle.std.specs.Prelude.{Option, Some, None, Ok, Err, ◌&&◌, int_le, option_and_then, if◌then◌else◌}
 use Rattle.byte_text.specs.Names.{Bytes}
-use Rattle.byte_text.specs.Numbers.{whole, whole_within, read_whole, number_or_fault}
+use Rattle.byte_text.specs.Numbers.{whole, read_whole, number_or_fault}
 use Rattle.byte_text.specs.declared.texts.TextFault.{TextFault}
-use Rattle.planar_geom.specs.Points.{Point, Bounds, pt, bounds, bounds_of}
+use Rattle.planar_geom.specs.Points.{pt, bounds, bounds_of}
 use Rattle.world_model.specs.Limits.{max_coord}
 use Rattle.world_model.specs.Commands.{without_minus, are_digits}
 use Rattle.world_model.specs.Grammar.{Due}

@@ -1,14 +1,13 @@
 -- Of each name the last value counts: the fields that are left, and the names that are written 0.
 use Rattle.std.proofs.Common.{◌≡◌, ℕ, zero, suc, ◌<◌, ◌+◌, Bool, true, false, not, refl, sym, ◌∙◌, ap, subst, List, [], ◌∷◌, ◌++◌, take, length, get_or, arith}
-use Rattle.std.specs.Prelude.{ℤ, pos, filter, map, if◌then◌else◌, ◌&&◌, Some, slice_get, IfSome}
+use Rattle.std.specs.Prelude.{ℤ, pos, filter, map, ◌&&◌, Some, slice_get, IfSome}
 use Rattle.std.specs.List.{list_all}
 use Rattle.std.proofs.lemmas.List.{take_more, map-append}
 use Rattle.std.proofs.lemmas.Option.{get_or_from_slice_get}
 use Rattle.byte_text.specs.Names.{Bytes, before}
-use Rattle.planar_geom.specs.Points.{same_int}
 use Rattle.world_model.specs.Lists.{ascends, put_in}
 use Rattle.world_model.specs.Filters.{Field, field_before, is_zero, last_values, with_values}
-use Rattle.world_model.specs.Commands.{nonzero_of, cleared_of}
+use Rattle.world_model.specs.Commands.{cleared_of}
 use Rattle.world_model.proofs.Order.{before_trans, before_tie}
 use Rattle.world_model.proofs.FieldLaws.{last_values-ascends}
 use Rattle.world_model.proofs.PlaceLaws.{filter-all, filter-passes}

@@ -56,16 +56,16 @@ abbrev pub whole : Bool → Bytes × Bytes → Command
 whole b k = command.Get k.0 k.1 b shown.Objects
 
 output_takes : (b : Bool) (k : Bytes × Bytes) (w : Bytes) (how : Shown) (more : List Bytes) → IsShown w how → live (get_output b k (w ∷ more)) ≡ live (done (command.Get k.0 k.1 b how) more)
-output_takes b k w shown.Objects more e = let l : str_to_ascii_lowercase w ≡ codes "object" = lower_word w (codes "OBJECT") e in rw l refl
-output_takes b k w shown.Points more e = let l : str_to_ascii_lowercase w ≡ codes "point" = lower_word w (codes "POINT") e in rw l refl
-output_takes b k w shown.Bounds more e = let l : str_to_ascii_lowercase w ≡ codes "bounds" = lower_word w (codes "BOUNDS") e in rw l refl
+output_takes b k w shown.Objects more e = let l : str_to_ascii_lowercase w ≡ codes "object" = lower_word w (codes "OBJECT") e in rw l (refl {a = live (done (command.Get k.0 k.1 b shown.Objects) more)})
+output_takes b k w shown.Points more e = let l : str_to_ascii_lowercase w ≡ codes "point" = lower_word w (codes "POINT") e in rw l (refl {a = live (done (command.Get k.0 k.1 b shown.Points) more)})
+output_takes b k w shown.Bounds more e = let l : str_to_ascii_lowercase w ≡ codes "bounds" = lower_word w (codes "BOUNDS") e in rw l (refl {a = live (done (command.Get k.0 k.1 b shown.Bounds) more)})
 output_takes b k w shown.Ids more e = absurd e
 output_takes b k w shown.Count more e = absurd e
 
 options_takes : (k : Bytes × Bytes) (w : Bytes) (how : Shown) (more : List Bytes) → IsShown w how → live (get_options k (w ∷ more)) ≡ live (done (command.Get k.0 k.1 false how) more)
-options_takes k w shown.Objects more e = let l : str_to_ascii_lowercase w ≡ codes "object" = lower_word w (codes "OBJECT") e in rw l refl
-options_takes k w shown.Points more e = let l : str_to_ascii_lowercase w ≡ codes "point" = lower_word w (codes "POINT") e in rw l refl
-options_takes k w shown.Bounds more e = let l : str_to_ascii_lowercase w ≡ codes "bounds" = lower_word w (codes "BOUNDS") e in rw l refl
+options_takes k w shown.Objects more e = let l : str_to_ascii_lowercase w ≡ codes "object" = lower_word w (codes "OBJECT") e in rw l (refl {a = live (done (command.Get k.0 k.1 false shown.Objects) more)})
+options_takes k w shown.Points more e = let l : str_to_ascii_lowercase w ≡ codes "point" = lower_word w (codes "POINT") e in rw l (refl {a = live (done (command.Get k.0 k.1 false shown.Points) more)})
+options_takes k w shown.Bounds more e = let l : str_to_ascii_lowercase w ≡ codes "bounds" = lower_word w (codes "BOUNDS") e in rw l (refl {a = live (done (command.Get k.0 k.1 false shown.Bounds) more)})
 options_takes k w shown.Ids more e = absurd e
 options_takes k w shown.Count more e = absurd e
 

@@ -1,6 +1,6 @@
 -- What stands behind SET's key and id: options in any order, and a place.
-use Rattle.std.proofs.Common.{◌≡◌, ◌<◌, ◌+◌, ℕ, zero, suc, Bool, true, false, inl, inr, refl, sym, ◌∙◌, ap, subst, List, [], ◌∷◌, ◌++◌, length, arith}
-use Rattle.std.specs.Prelude.{codes, flat_map, is_none, if◌then◌else◌, ◌&&◌, ◌||◌, Option, Some, None, Ok, Err, Result, IfOk, IfErr}
+use Rattle.std.proofs.Common.{◌≡◌, ◌<◌, ℕ, zero, suc, Bool, true, false, inl, inr, refl, sym, ◌∙◌, ap, subst, List, [], ◌∷◌, ◌++◌, length, arith}
+use Rattle.std.specs.Prelude.{codes, is_none, if◌then◌else◌, ◌&&◌, ◌||◌, Option, Some, None, Ok, Err, Result, IfOk, IfErr}
 use Rattle.std.specs.List.{list_any}
 use Rattle.std.specs.Str.{str_to_ascii_lowercase}
 use Rattle.std.proofs.lemmas.List.{append-nil}
@@ -8,7 +8,7 @@ use Rattle.byte_text.specs.Names.{Bytes, is_word}
 use Rattle.geo_text.specs.Texts.{Shape, point_text, bounds_text, corners}
 use Rattle.planar_geom.specs.Points.{Point, Bounds}
 use Rattle.planar_geom.specs.declared.shapes.Part.TheVariants.{Spot, Face}
-use Rattle.world_model.specs.Grammar.{Form, a_word, Reading, spells, runs_out, go_on, ◌>>=◌, ◌>>◌, done, one_of, where_, word, repeated, live, spelled, goes_on, wants_coordinate, wants_geojson}
+use Rattle.world_model.specs.Grammar.{Form, a_word, Reading, runs_out, ◌>>=◌, ◌>>◌, done, where_, word, live, spelled, wants_coordinate, wants_geojson}
 use Rattle.world_model.specs.Kinds.{name, integer, seconds, lat_lon, four, geojson}
 use Rattle.world_model.specs.Filters.{Field}
 use Rattle.world_model.specs.Commands.{SetOptions, set_option, field, place, reads, readings, shown_of, fault_at, command_spelled, wrong_count}
@@ -17,7 +17,7 @@ use Rattle.world_model.specs.declared.commands.Only.TheVariants.{Absent, Present
 use Rattle.world_model.specs.declared.commands.Command.{Command}
 use Rattle.world_model.specs.declared.faults.WordFault.{WordFault}
 use Rattle.world_model.specs.declared.faults.WordFault.TheVariants as fault
-use Rattle.world_model.proofs.Forms.{Each, Left, Takes, Fair, fair_done, fair_word, fair_bind, takes_word, takes_bind}
+use Rattle.world_model.proofs.Forms.{Each, Takes, Fair, fair_done, fair_word, fair_bind, takes_word, takes_bind}
 use Rattle.cmd_words.specs.Places.{Place, all_words, IsBehind, Moves, Follows, Reads, IsFault, IsRefusal}
 use Rattle.cmd_words.specs.declared.options.OptionWord.TheVariants as option
 use Rattle.cmd_words.specs.declared.places.PlaceWord.TheVariants as at

@@ -1,5 +1,5 @@
 -- Which commands are asked for.
-use Rattle.std.specs.Prelude.{◌≡◌, ◌<◌, true, false, List, [], None, Ok, length}
+use Rattle.std.specs.Prelude.{◌≡◌, ◌<◌, true, List, [], None, Ok, length}
 use Rattle.std.specs.List.{AllByRecursion}
 use Rattle.byte_text.specs.Names.{Bytes, is_name}
 use Rattle.geo_text.specs.Texts.{shape_of}

@@ -2,9 +2,8 @@ use Rattle.std.proofs.Common.{◌≡◌, ◌∙◌, ap, arith, rules}
 use Rattle.std.specs.Prelude.{map}
 use Rattle.std.proofs.Math.Facts.{to_z-of_z}
 use Rattle.std.proofs.lemmas.List.{take_all}
-use Rattle.world_model.specs.Filters.{with_values}
 use Rattle.cmd_words.specs.Sets.{mark_of}
-use Rattle.cmd_words.proofs.FieldValues.{marked, field_more, mark_more, names_cleared}
+use Rattle.cmd_words.proofs.FieldValues.{field_more, mark_more, names_cleared}
 use Rattle.cmd_words.proofs.fields.fields_of.Goals as goal
 use mir.Syntax.{w64}
 use mir.Val.{SFits}

@@ -1,4 +1,4 @@
-use Rattle.std.proofs.Common.{arith, subst, sym, List, ◌∷◌, [], ◌++◌, ap, ◌∙◌}
+use Rattle.std.proofs.Common.{arith, ◌∷◌, [], ◌++◌, ap, ◌∙◌}
 use Rattle.byte_text.specs.Names.{Bytes}
 use Rattle.cmd_words.proofs.FieldValues.{name_more}
 use Rattle.cmd_words.proofs.fields.names_of.Goals as goal

@@ -1,7 +1,6 @@
 use Rattle.std.proofs.Common.{◌≡◌, ◌∙◌}
-use Rattle.std.specs.Prelude.{Some, None}
 use Rattle.std.proofs.Math.Facts.{to_z-of_z}
-use Rattle.planar_geom.specs.Points.{pt, bounds, bounds_of}
+use Rattle.planar_geom.specs.Points.{pt, bounds_of}
 use Rattle.cmd_words.proofs.Coordinates.{box_made}
 use Rattle.cmd_words.proofs.kinds.box_between.Goals as goal
 
