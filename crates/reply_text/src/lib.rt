@@ -14,3 +14,5 @@ pub use objects::{bounds_reply, get_reply, object_reply, stats_reply};
 pub use refusals::{broken_reply, error_reply, fault_reply};
 pub use replies::{count_reply, fine_reply, null_reply, number_reply, status_reply, value_reply};
 
+#[cfg(test)]
+mod tests;

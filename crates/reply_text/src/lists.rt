@@ -58,6 +58,12 @@ impl ReplyList {
         ensures frame { AllByRecursion IsFrame self → IfOk result IsFrame }
     {
         lists_are_whole();
+        self.joined(alloc)
+    }
+
+    fn joined(self, alloc: Global) -> Result<Reply, NoMemory>
+        ensures { IfOk result (λ reply. reply ≡ array self) }
+    {
         let Ok(count) = u32::try_from(self.list.len()) else {
             return Err(NoMemory);
         };

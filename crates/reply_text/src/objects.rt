@@ -5,7 +5,6 @@ ghost use Rattle.byte_text.specs.Replies.{array, IsFrame};
 ghost use Rattle.planar_geom.specs.Shapes.{positions};
 ghost use Rattle.world_model.specs.Replies.{no_list, bounds_reply as bounds_pieces, fields_reply, object_reply as object_pieces, stats_of_key};
 ghost use Rattle.world_model.specs.declared.objects.Object.{Object};
-ghost use Rattle.world_model.specs.declared.queries.Shown.TheVariants as shown;
 
 use crate::drafts::Draft;
 use byte_text::{NoMemory, Piece, Reply, lists_are_whole};
@@ -48,7 +47,7 @@ fn push_fields(draft: &mut Draft, fields: &Fields) -> Result<(), NoMemory>
 /// nothing of it.
 pub fn object_reply(alloc: Global, object: &Object, shown: Shown) -> Result<Reply, NoMemory>
     ensures value { IfOk result (λ reply. reply ≡ object_pieces shown object.now) }
-    ensures frame { shown ≢ shown.Count → IfOk result IsFrame }
+    ensures frame { shown ≢ Shown.Count → IfOk result IsFrame }
 {
     let mut draft = Draft::new(alloc);
     push_object(&mut draft, object, shown)?;
@@ -56,9 +55,14 @@ pub fn object_reply(alloc: Global, object: &Object, shown: Shown) -> Result<Repl
 }
 
 /// The answer to GET for an object that is there: the object as it is shown, or an array of that and its fields.
-pub fn get_reply(alloc: Global, object: &Object, with_fields: bool, shown: Shown) -> Result<Reply, NoMemory>
+pub fn get_reply(
+    alloc: Global,
+    object: &Object,
+    with_fields: bool,
+    shown: Shown,
+) -> Result<Reply, NoMemory>
     ensures value { IfOk result (λ reply. reply ≡ (if with_fields then array (object_pieces shown object.now ∷ fields_reply object.now.fields ∷ []) else object_pieces shown object.now)) }
-    ensures frame { shown ≢ shown.Count → IfOk result IsFrame }
+    ensures frame { shown ≢ Shown.Count → IfOk result IsFrame }
 {
     lists_are_whole();
     if !with_fields {

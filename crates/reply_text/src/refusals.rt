@@ -5,7 +5,6 @@ ghost use Rattle.byte_text.specs.Lines.{IsOneLine};
 ghost use Rattle.byte_text.specs.Replies.{IsFrame};
 ghost use Rattle.world_model.specs.Replies.{error};
 ghost use Rattle.world_model.specs.Refusals.{fault_reply as fault_pieces, broken_reply as broken_pieces};
-ghost use Rattle.world_model.specs.declared.faults.WordFault.TheVariants as fault;
 
 use crate::drafts::Draft;
 use byte_text::{NoMemory, Piece, Reply, RespFault, Text};
@@ -31,7 +30,22 @@ pub fn error_reply(alloc: Global, text: &[u8]) -> Result<Reply, NoMemory>
 fn shown(byte: u8) -> u8
     ensures { result ≡ (if nat_le 32 byte && nat_le byte 126 then byte else 63) }
 {
-    if b' ' <= byte && byte <= b'~' { byte } else { b'?' }
+    if b' ' <= byte && byte <= b'~' {
+        byte
+    } else {
+        b'?'
+    }
+}
+
+// Appends a word as a refusal shows it, in quotes.
+fn push_quoted(text: &mut Text, word: &[u8]) -> Result<(), NoMemory>
+    ensures { OnOk result (text.new ≡ text.old ++ (codes "'" ++ map (λ b. if nat_le 32 b && nat_le b 126 then b else 63) word.now ++ codes "'")) }
+{
+    text.push(b"'")?;
+    for byte in word {
+        text.push(&[shown(*byte)])?;
+    }
+    text.push(b"'")
 }
 
 // The error of a word in quotes, between two texts.
@@ -43,18 +57,15 @@ fn quoted_reply(alloc: Global, before: &[u8], word: &[u8], after: &[u8]) -> Resu
 {
     let mut text = Text::new(alloc);
     text.push(before)?;
-    text.push(b"'")?;
-    for byte in word {
-        text.push(&[shown(*byte)])?;
-    }
-    text.push(b"'")?;
+    push_quoted(&mut text, word)?;
     text.push(after)?;
     error_reply(alloc, text.bytes())
 }
 
 // How a GeoJSON text is refused.
 fn geo_words(fault: GeoFault) -> &'static [u8]
-    ensures { error (codes "invalid object: " ++ result.now) ≡ fault_pieces (fault.Geo fault) }
+    ensures value { error (codes "invalid object: " ++ result.now) ≡ fault_pieces (WordFault.Geo fault) }
+    ensures line { IsOneLine result.now }
 {
     match fault {
         GeoFault::NotJson => b"not json",
