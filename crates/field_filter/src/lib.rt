@@ -74,9 +74,16 @@ fn is_among(value: i64, values: &Numbers) -> bool
     ensures { result ≡ list_any (same_int value) values.now }
 {
     for i in 0..values.len() {
-        if value == *values.at(i) {
+        if is_equal(value, values.at(i)) {
             return true;
         }
     }
     false
+}
+
+// Whether a value is this one.
+fn is_equal(value: i64, other: &i64) -> bool
+    ensures { result ≡ same_int value other.now }
+{
+    value == *other
 }
