@@ -1,0 +1,4 @@
+pub mod ByteOrder
+pub mod Lists
+pub mod Ids
+pub mod Counts

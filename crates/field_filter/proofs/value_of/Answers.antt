@@ -1,0 +1,23 @@
+use Rattle.std.proofs.Common.{◌≡◌, ◌<◌, true, false, length, w64, to_z, of_z, arith, sym, ◌∙◌}
+use Rattle.std.proofs.lemmas.Int.{ints}
+use Rattle.byte_text.specs.Names.{same}
+use Rattle.world_model.specs.Filters.{value_of}
+use Rattle.field_filter.proofs.FoundValues.{found, passed}
+use Rattle.field_filter.proofs.value_of.Goals as goal
+
+pub returns-then-is_same : goal.returns-then-is_same
+returns-then-is_same c =
+    let fields = c.args.fields.now in
+    let name = c.args.name.now in
+    let within : c.loop-i.i < length fields = omega arith in
+    let holds : same c.name.result.now name ≡ true = sym c.is_same.ensures ∙ c.if-is_same.true in
+    let value : to_z w64 (of_z w64 c.value.result) ≡ c.value.result = omega (arith, ints) in
+    value ∙ found fields c.loop-i.i c.name.result.now name within c.name.ensures c.value.result (value_of fields name) c.value.ensures holds c.loop-i.invariant
+
+pub loop-i-preserved : goal.loop-i-preserved
+loop-i-preserved c =
+    let fields = c.args.fields.now in
+    let name = c.args.name.now in
+    let within : c.loop-i.i < length fields = omega arith in
+    let fails : same c.name.result.now name ≡ false = sym c.is_same.ensures ∙ c.if-is_same.false in
+    passed fields c.loop-i.i c.name.result.now name within c.name.ensures (value_of fields name) fails c.loop-i.invariant
