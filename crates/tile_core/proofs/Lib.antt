@@ -1,13 +1,7 @@
 mod ByteOrder
 mod Places
-mod RecordLengths
-mod Effects
-mod Weights
-mod Settings
 mod Present
 mod Steps
-mod Served
 mod Takes
 mod Calls
 mod Finishing
-mod Requests

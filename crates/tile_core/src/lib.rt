@@ -2,13 +2,8 @@
 #![tactic(auto)]
 
 mod cores;
-mod frames;
 mod objects;
 mod plans;
-mod records;
 mod sessions;
 
 pub use cores::Core;
-
-#[cfg(test)]
-mod tests;
