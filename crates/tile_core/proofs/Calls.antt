@@ -106,6 +106,18 @@ fits s frame lives room_ short =
 closes_it : (s : Session) (frame : Bytes) → is_open s ≡ true → closing (session_of (answered frame false s)) ≡ session_of (answered frame true s)
 closes_it s frame lives = rw lives refl
 
+-- the clock
+
+module _ (objects : List Object) (now logged drawn : ℕ) (sessions : List Session) (moment : ℕ) where
+  clock : ArePlain objects → due (hall_of objects now logged drawn sessions) moment ≡ hall_of objects (max now moment) logged drawn sessions
+  clock plain = ap (λ (os : List Object). apply_all (hall_of objects (max now moment) logged drawn sessions) (map (λ o. loud (change.Del o.key o.id)) (sorted_by due_before os))) (none_due (max now moment) objects plain)
+
+  pub not_ticked : most_logged ≤ logged → Step (hall_of objects now logged drawn sessions) (Tick moment) (Answered called.Spent) (hall_of objects now logged drawn sessions)
+  not_ticked le = tick_spent (hall_of objects now logged drawn sessions) moment refl le
+
+  pub ticked : logged < most_logged → ArePlain objects → Step (hall_of objects now logged drawn sessions) (Tick moment) (Answered called.Ok) (hall_of objects (max now moment) logged drawn sessions)
+  ticked unspent plain = subst (λ (h : Hall). Step (hall_of objects now logged drawn sessions) (Tick moment) (Answered called.Ok) h) (clock plain) (tick_done (hall_of objects now logged drawn sessions) moment refl unspent)
+
 module _ (objects : List Object) (now logged drawn : ℕ) (sessions : List Session) (n moment : ℕ) (asked : Asked) where
   abbrev hall : Hall
   hall = hall_of objects now logged drawn sessions
@@ -114,19 +126,10 @@ module _ (objects : List Object) (now logged drawn : ℕ) (sessions : List Sessi
   abbrev later : Hall
   later = hall_of objects (max now moment) logged drawn sessions
 
-  clock : ArePlain objects → due hall moment ≡ later
-  clock plain = ap (λ (os : List Object). apply_all later (map (λ o. loud (change.Del o.key o.id)) (sorted_by due_before os))) (none_due (max now moment) objects plain)
-
   pub spent : most_logged ≤ logged → Step hall (Call n moment asked) (Answered called.Spent) hall
   spent le = call_spent hall n moment asked refl le
 
-  pub not_ticked : most_logged ≤ logged → Step hall (Tick moment) (Answered called.Spent) hall
-  not_ticked le = tick_spent hall moment refl le
-
   module _ (unspent : logged < most_logged) where
-    pub ticked : ArePlain objects → Step hall (Tick moment) (Answered called.Ok) later
-    ticked plain = subst (λ (h : Hall). Step hall (Tick moment) (Answered called.Ok) h) (clock plain) (tick_done hall moment refl unspent)
-
     pub gone : AreOthers n sessions → Step hall (Call n moment asked) (Answered called.Gone) hall
     gone o = call_gone hall n moment asked refl unspent (none_found sessions n o)
 
@@ -190,7 +193,7 @@ module _ (objects : List Object) (now logged drawn : ℕ) (sessions : List Sessi
           pub done : ArePlain objects → (p : Plan) → IsPlan objects (effect_of_asked (world_of objects) (max now moment) asked) p
               → Step hall (Call n moment asked) (Answered called.Ok) (answered_hall (moved objects p.action) (logged + p.length) p.frame p.closes)
           done plain p is = subst (λ (h : Hall). Step hall (Call n moment asked) (Answered called.Ok) h)
-              (ap (λ (h : Hall). do_call h n asked) (clock plain) ∙ calls ∙ effects asked ∙ finishes (effect_of_asked (world_of objects) (max now moment) asked) p is)
+              (ap (λ (h : Hall). do_call h n asked) (clock objects now logged drawn sessions moment plain) ∙ calls ∙ effects asked ∙ finishes (effect_of_asked (world_of objects) (max now moment) asked) p is)
               (call_done hall n moment asked refl unspent (session_of s) (found 0 drawn sessions i n s rises at numbered) lives open_)
 
 -- a call that is not served

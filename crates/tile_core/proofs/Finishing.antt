@@ -63,10 +63,10 @@ plain_insert [] (suc i) o p ps = (p, ps)
 plain_insert (x ∷ xs) zero o p ps = (p, ps)
 plain_insert (x ∷ xs) (suc i) o p ps = (ps.0, plain_insert xs i o p ps.1)
 
-plain_remove : (xs : List Object) (i : ℕ) → ArePlain xs → ArePlain (remove xs i)
-plain_remove [] i ps = ps
-plain_remove (x ∷ xs) zero ps = ps.1
-plain_remove (x ∷ xs) (suc i) ps = (ps.0, plain_remove xs i ps.1)
+plain_remove : (xs : List Object) (i : ℕ) → i < length xs → ArePlain xs → ArePlain (remove xs i)
+plain_remove [] i lt ps = absurd (omega (arith, lt))
+plain_remove (x ∷ xs) zero lt ps = ps.1
+plain_remove (x ∷ xs) (suc i) lt ps = (ps.0, plain_remove xs i (omega (arith, lt)) ps.1)
 
 plain_filter : (f : Object → Bool) (xs : List Object) → ArePlain xs → ArePlain (filter f xs)
 plain_filter f [] ps = ps
@@ -80,7 +80,7 @@ plain_moved : (xs : List Object) (action : Move) → IsMove xs action → ArePla
 plain_moved xs Stay m ps = ps
 plain_moved xs (Put (Held i) o) m ps = plain_set xs i o m.1 ps
 plain_moved xs (Put (Free i) o) m ps = plain_insert xs i o m.1 ps
-plain_moved xs (Delete i) m ps = plain_remove xs i ps
+plain_moved xs (Delete i) m ps = plain_remove xs i m ps
 plain_moved xs (Leave key) m ps = plain_filter (λ o. not (has_key key o)) xs ps
 plain_moved xs Clear m ps = tt
 
@@ -103,13 +103,19 @@ present_set drawn sessions i s v present at numbered = record {
   few = let long = length-set sessions i v in let few = present.few in omega (arith, long, few);
 }
 
-shorter : (xs : List Session) (i : ℕ) → length (remove xs i) ≤ length xs
-shorter [] i = omega arith
-shorter (x ∷ xs) zero = omega arith
-shorter (x ∷ xs) (suc i) = let ih = shorter xs i in omega (arith, ih)
+shorter : (xs : List Session) (i : ℕ) → i < length xs → length (remove xs i) ≤ length xs
+shorter [] i lt = absurd (omega (arith, lt))
+shorter (x ∷ xs) zero lt = omega arith
+shorter (x ∷ xs) (suc i) lt = let ih = shorter xs i (omega (arith, lt)) in omega (arith, ih)
 
 pub present_remove : (drawn : ℕ) (sessions : List Session) (i : ℕ) → i < length sessions → ArePresent drawn sessions → ArePresent drawn (remove sessions i)
 present_remove drawn sessions i lt present = record {
   rises = rises_remove 0 drawn sessions i lt present.rises;
-  few = let less = shorter sessions i in let few = present.few in omega (arith, less, few);
+  few = let less = shorter sessions i lt in let few = present.few in omega (arith, less, few);
 }
+
+-- what stands at a place is within the list
+pub within : {A : Type 0} (xs : List A) (i : ℕ) (x : A) → slice_get xs i ≡ Some x → i < length xs
+within [] i x at = absurd (cc)
+within (y ∷ ys) zero x at = omega arith
+within (y ∷ ys) (suc i) x at = let ih = within ys i x at in omega (arith, ih)

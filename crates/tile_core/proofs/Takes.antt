@@ -1,6 +1,6 @@
 -- Taking, closing and removing, in the words of the parts of a core.
 use Rattle.std.proofs.Common.{◌≡◌, ℕ, ◌<◌, refl, sym, ap, ◌∙◌, subst, true, false, inl, inr, List, [], ◌∷◌, length, take, drop, arith}
-use Rattle.std.specs.Prelude.{Some, slice_get, slice_set, remove, map}
+use Rattle.std.specs.Prelude.{Some, slice_get, slice_set, remove, map, if◌then◌else◌}
 use Rattle.world_model.specs.Limits.{take_frames}
 use Rattle.world_model.specs.Halls.{Hall}
 use Rattle.world_model.specs.Halls as halls

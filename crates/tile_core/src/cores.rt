@@ -16,7 +16,7 @@ use byte_text::NoMemory;
 use std::alloc::Global;
 use std::marker::Model;
 use subscriber_queue::Outbox;
-use world_model::{Asked, Called, EnterFault, Frames, Object, Taken};
+use world_model::{Asked, Called, EnterFault, Frames, Object, Taken, world_laws};
 
 /// The most sessions that are present at once.
 const MAX_SESSIONS: usize = 512;
@@ -137,6 +137,7 @@ impl Core {
         if make_room(&mut self.objects, &action).is_err() {
             return Called::Memory;
         }
+        world_laws();
         self.now = self.now.max(moment);
         self.sessions[at].answer(frame, closes);
         make_move(&mut self.objects, action);
