@@ -1,4 +1,14 @@
-pub mod Readings
+pub mod Follows
 pub mod Lefts
-pub mod Served
+pub mod Gets
+pub mod Stats
+pub mod Binds
+pub mod OptionWords
+pub mod Heads
+pub mod Ends
 pub mod Requests
+pub mod Asks
+pub mod ServedCommands
+pub mod SetWords
+pub mod FieldValues
+pub mod Coordinates

@@ -1,22 +1,36 @@
--- How the words that are served are read.
-use Rattle.std.specs.Prelude.{◌≡◌, ℤ, true, false, [], ◌∷◌, codes, Some, None, Ok}
-use Rattle.byte_text.specs.Names.{Bytes, is_word, is_name}
-use Rattle.planar_geom.specs.Points.{pt}
-use Rattle.planar_geom.specs.declared.shapes.Part.TheVariants.{Spot}
-use Rattle.geo_text.specs.Texts.{point_text}
-use Rattle.world_model.specs.Commands.{reads}
+-- Which commands are asked for.
+use Rattle.std.specs.Prelude.{◌≡◌, ◌<◌, true, List, [], None, Ok, length}
+use Rattle.std.specs.List.{AllByRecursion}
+use Rattle.byte_text.specs.Names.{Bytes, is_name}
+use Rattle.geo_text.specs.Texts.{shape_of}
+use Rattle.world_model.specs.Served.{asks}
+use Rattle.world_model.specs.declared.commands.Command.{Command}
 use Rattle.world_model.specs.declared.commands.Command.TheVariants as command
-use Rattle.world_model.specs.declared.commands.Only.TheVariants.{Any}
+use Rattle.world_model.specs.declared.queries.Shown.{Shown}
 use Rattle.world_model.specs.declared.queries.Shown.TheVariants as shown
-use Rattle.cmd_words.specs.Words.{coordinate_of}
 
--- `SET key id POINT lat lon` puts the point there, with no field, no deadline and under no condition
-abbrev pub SetsAreRead : Type 0
-SetsAreRead = (called key id place lat lon : Bytes) (x y : ℤ) → is_word called (codes "SET") ≡ true → is_name key ≡ true → is_name id ≡ true
-    → is_word place (codes "POINT") ≡ true → coordinate_of lat ≡ Some y → coordinate_of lon ≡ Some x
-    → reads (called ∷ key ∷ id ∷ place ∷ lat ∷ lon ∷ []) ≡ Ok (command.Set key id [] [] None Any (point_text (pt x y)) (Spot (pt x y) ∷ []))
+-- an output of one object
+abbrev pub IsOfObject : Shown → Type 0
+IsOfObject shown.Objects = Unit {0}
+IsOfObject shown.Points = Unit {0}
+IsOfObject shown.Bounds = Unit {0}
+IsOfObject shown.Ids = ⊥
+IsOfObject shown.Count = ⊥
 
--- `GET key id` asks for the object's text alone
-abbrev pub GetsAreRead : Type 0
-GetsAreRead = (called key id : Bytes) → is_word called (codes "GET") ≡ true → is_name key ≡ true → is_name id ≡ true
-    → reads (called ∷ key ∷ id ∷ []) ≡ Ok (command.Get key id false shown.Objects)
+-- the command is served: its keys and ids are names; a SET has no field and no deadline, and a text that has the shape
+abbrev pub IsServed : Command → Type 0
+IsServed (command.Set key id fields cleared seconds only text shape) =
+    (is_name key ≡ true) × (is_name id ≡ true) × (fields ≡ []) × (cleared ≡ []) × (seconds ≡ None) × (shape_of text ≡ Ok shape)
+IsServed (command.Get key id with_fields how) = (is_name key ≡ true) × (is_name id ≡ true) × IsOfObject how
+IsServed (command.Del key id) = (is_name key ≡ true) × (is_name id ≡ true)
+IsServed (command.Drop key) = is_name key ≡ true
+IsServed (command.Bounds key) = is_name key ≡ true
+IsServed (command.Stats keys) = (0 < length keys) × AllByRecursion (λ key. is_name key ≡ true) keys
+IsServed command.Flush = Unit {0}
+IsServed command.Ping = Unit {0}
+IsServed command.Quit = Unit {0}
+IsServed c = ⊥
+
+-- what words ask for is served
+abbrev pub CommandsAreServed : Type 0
+CommandsAreServed = (words : List Bytes) (c : Command) → asks words ≡ Ok c → IsServed c

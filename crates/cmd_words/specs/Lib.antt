@@ -1,2 +1,3 @@
-pub mod Words
+pub mod Places
+pub mod Sets
 pub mod Laws

@@ -1,20 +1,22 @@
-//! The commands, each read from its words.
+//! The commands, each read from the words behind its name.
 
-ghost use Rattle.std.specs.Prelude.{◌≡◌, ◌⊎◌, ◌∷◌, [], List, ℕ, IfOk, IfErr, Ok, Err, None, codes, true};
-ghost use Rattle.byte_text.specs.Names.{Bytes, is_word};
-ghost use Rattle.geo_text.specs.Texts.{point_text};
-ghost use Rattle.planar_geom.specs.declared.shapes.Part.TheVariants.{Spot};
+ghost use Rattle.std.specs.Prelude.{◌≡◌, ◌⊎◌, [], ◌∷◌, ◌++◌, false, not, if◌then◌else◌, OnOk, IfOk, IfErr, Ok, Err};
+ghost use Rattle.std.specs.List.{list_any};
+ghost use Rattle.byte_text.specs.Names.{is_word};
+ghost use Rattle.world_model.specs.Grammar.{done};
 ghost use Rattle.world_model.specs.declared.commands.Command.TheVariants as command;
-ghost use Rattle.world_model.specs.declared.commands.Only.TheVariants.{Any};
-ghost use Rattle.world_model.specs.Served.{asks};
-ghost use Rattle.cmd_words.specs.Words.{Asks};
+ghost use Rattle.world_model.specs.declared.faults.WordFault.TheVariants as fault;
+ghost use Rattle.world_model.specs.Served.{asks, unbuilt, is_built};
+ghost use Rattle.cmd_words.specs.Places.{all_words, Follows, Answers, a_name, key_and_id, get_options, stats_names};
 
+use crate::faults::unknown;
+use crate::fields::push_name;
 use crate::readers::Reader;
-use byte_text::{Name, NoMemory, Request, Text};
-use geojson_model::push_point;
-use planar_geom::{Part, Parts, Pt, Shape};
+use crate::sets::set_command;
+use crate::words::read_name;
+use byte_text::Request;
 use std::alloc::Global;
-use world_model::{Command, Fields, NameList, Only, Shown, WordFault};
+use world_model::{Command, NameList, Shown, WordFault};
 
 /// The command that the words of a request spell, or how they are refused.
 pub fn command_of(alloc: Global, words: &Request) -> Result<Command, WordFault>
@@ -25,84 +27,192 @@ pub fn command_of(alloc: Global, words: &Request) -> Result<Command, WordFault>
     let Some(called) = reader.next() else {
         return Err(WordFault::Unserved);
     };
-    if called.eq_ignore_ascii_case(b"SET") {
-        set_command(&mut reader)
-    } else if called.eq_ignore_ascii_case(b"GET") {
-        get_command(&mut reader)
-    } else {
-        Err(WordFault::Unserved)
+    if is_unbuilt(called) {
+        return Err(WordFault::Unserved);
+    }
+    let command = read_command(&mut reader, called)?;
+    built(command)
+}
+
+// The command, where it has no option that is not built yet.
+fn built(command: Command) -> Result<Command, WordFault>
+    ensures { result ≡ (if is_built command then Ok command else Err fault.Unserved) }
+{
+    if has_unbuilt_option(&command) {
+        return Err(WordFault::Unserved);
+    }
+    Ok(command)
+}
+
+// Whether the command has an option that is not built yet: FIELD or EX.
+fn has_unbuilt_option(command: &Command) -> bool
+    ensures { result ≡ not (is_built command.now) }
+{
+    match command {
+        Command::Set {
+            fields,
+            cleared,
+            seconds,
+            ..
+        } => fields.len() > 0 || cleared.len() > 0 || seconds.is_some(),
+        _ => false,
     }
 }
 
-// `key id POINT lat lon`
-fn set_command(reader: &mut Reader) -> Result<Command, WordFault>
-    ensures { (called : Bytes) → is_word called (codes "SET") ≡ true → Asks (called ∷ reader.old) result }
+// Whether this is one of these names, in any case of its ASCII letters.
+fn is_any(called: &[u8], names: &[&[u8]]) -> bool
+    ensures { result ≡ list_any (λ n. is_word called.now n.now) names.now }
 {
-    let key = reader.name()?;
-    let id = reader.name()?;
-    reader.word(b"POINT")?;
-    let at = reader.point()?;
-    reader.end()?;
-    put_point(reader.alloc(), key, id, at)
+    names.iter().any(|name| called.eq_ignore_ascii_case(name))
 }
 
-// `key id`
-fn get_command(reader: &mut Reader) -> Result<Command, WordFault>
-    ensures { (called : Bytes) → is_word called (codes "GET") ≡ true → Asks (called ∷ reader.old) result }
+// Whether this is the name of a command that is not built yet.
+fn is_unbuilt(called: &[u8]) -> bool
+    ensures { result ≡ list_any (is_word called.now) unbuilt }
 {
-    let key = reader.name()?;
-    let id = reader.name()?;
+    let names: [&[u8]; 18] = [
+        b"PDEL",
+        b"FSET",
+        b"FGET",
+        b"EXPIRE",
+        b"PERSIST",
+        b"TTL",
+        b"KEYS",
+        b"AOFSHRINK",
+        b"SCAN",
+        b"WITHIN",
+        b"INTERSECTS",
+        b"NEARBY",
+        b"SETCHAN",
+        b"DELCHAN",
+        b"PDELCHAN",
+        b"CHANS",
+        b"SUBSCRIBE",
+        b"PSUBSCRIBE",
+    ];
+    is_any(called, &names)
+}
+
+// The command of this name, or none has it.
+fn read_command(reader: &mut Reader, called: &[u8]) -> Result<Command, WordFault>
+    requires { reader.old.read ≡ called.now ∷ [] }
+    ensures { list_any (is_word called.now) unbuilt ≡ false → Answers (all_words reader.old) result }
+{
+    if called.eq_ignore_ascii_case(b"SET") {
+        return set_command(reader);
+    }
+    if called.eq_ignore_ascii_case(b"GET") {
+        return get_command(reader);
+    }
+    if called.eq_ignore_ascii_case(b"DEL") {
+        return del_command(reader);
+    }
+    if called.eq_ignore_ascii_case(b"DROP") {
+        return drop_command(reader);
+    }
+    if called.eq_ignore_ascii_case(b"BOUNDS") {
+        return bounds_command(reader);
+    }
+    if called.eq_ignore_ascii_case(b"STATS") {
+        return stats_command(reader);
+    }
+    if called.eq_ignore_ascii_case(b"FLUSHDB") {
+        return flush_command(reader);
+    }
+    if called.eq_ignore_ascii_case(b"PING") {
+        return ping_command(reader);
+    }
+    if called.eq_ignore_ascii_case(b"QUIT") {
+        return quit_command(reader);
+    }
+    Err(unknown(reader.alloc(), called))
+}
+
+// `key id [WITHFIELDS] [OBJECT | POINT | BOUNDS]`
+fn get_command(reader: &mut Reader) -> Result<Command, WordFault>
+    ensures { Follows reader.old (key_and_id get_options) → Answers (all_words reader.old) result }
+{
+    let (key, id) = reader.key_and_id()?;
+    let with_fields = reader.takes(b"WITHFIELDS");
+    let Some(shown) = reader.shown() else {
+        reader.stop()?;
+        return Ok(Command::Get {
+            key,
+            id,
+            with_fields,
+            shown: Shown::Objects,
+        });
+    };
     reader.end()?;
     Ok(Command::Get {
         key,
         id,
-        with_fields: false,
-        shown: Shown::Objects,
+        with_fields,
+        shown,
     })
 }
 
-// The command that puts a point under a key and an id: no field, no deadline, no condition.
-fn put_point(alloc: Global, key: Name, id: Name, at: Pt) -> Result<Command, WordFault>
-    ensures ok { IfOk result (λ c. c ≡ command.Set key id [] [] None Any (point_text at) (Spot at ∷ [])) }
-    ensures err { IfErr result (λ f. f ≡ WordFault.Memory) }
+// `key id`
+fn del_command(reader: &mut Reader) -> Result<Command, WordFault>
+    ensures { Follows reader.old (key_and_id (λ k. done (command.Del k.0 k.1))) → Answers (all_words reader.old) result }
 {
-    let text = stored_point(alloc, at)?;
-    let shape = spot(alloc, at)?;
-    Ok(Command::Set {
-        key,
-        id,
-        fields: Fields::new(alloc),
-        cleared: NameList::new(alloc),
-        seconds: None,
-        only: Only::Any,
-        text,
-        shape,
-    })
+    let (key, id) = reader.key_and_id()?;
+    reader.end()?;
+    Ok(Command::Del { key, id })
 }
 
-// The text that is stored for a point.
-fn stored_point(alloc: Global, at: Pt) -> Result<Text, WordFault>
-    ensures ok { IfOk result (λ t. t ≡ point_text at) }
-    ensures err { IfErr result (λ f. f ≡ WordFault.Memory) }
+// `key`
+fn drop_command(reader: &mut Reader) -> Result<Command, WordFault>
+    ensures { Follows reader.old (a_name (λ key. done (command.Drop key))) → Answers (all_words reader.old) result }
 {
-    let mut text = Text::new(alloc);
-    match push_point(&mut text, at) {
-        Ok(()) => Ok(text),
-        Err(NoMemory) => Err(WordFault::Memory),
-    }
+    let key = reader.name()?;
+    reader.end()?;
+    Ok(Command::Drop { key })
 }
 
-// The shape of a point.
-fn spot(alloc: Global, at: Pt) -> Result<Shape, WordFault>
-    ensures ok { IfOk result (λ s. s ≡ Spot at ∷ []) }
-    ensures err { IfErr result (λ f. f ≡ WordFault.Memory) }
+// `key`
+fn bounds_command(reader: &mut Reader) -> Result<Command, WordFault>
+    ensures { Follows reader.old (a_name (λ key. done (command.Bounds key))) → Answers (all_words reader.old) result }
 {
-    let mut parts = Parts::new(alloc);
-    if parts.push(Part::Spot(at)).is_err() {
-        return Err(WordFault::Memory);
+    let key = reader.name()?;
+    reader.end()?;
+    Ok(Command::Bounds { key })
+}
+
+// `key+`
+fn stats_command(reader: &mut Reader) -> Result<Command, WordFault>
+    ensures { Follows reader.old stats_names → Answers (all_words reader.old) result }
+{
+    let mut keys = NameList::new(reader.alloc());
+    let first = reader.name()?;
+    push_name(&mut keys, first)?;
+    'keys: while let Some(word) = reader.next() {
+        let key = read_name(reader.alloc(), word)?;
+        push_name(&mut keys, key)?;
     }
-    match Shape::of(parts) {
-        Ok(shape) => Ok(shape),
-        Err(_) => unreachable!(),
-    }
+    Ok(Command::Stats { keys })
+}
+
+// no word
+fn flush_command(reader: &Reader) -> Result<Command, WordFault>
+    ensures { Follows reader.now (done command.Flush) → Answers (all_words reader.now) result }
+{
+    reader.end()?;
+    Ok(Command::Flush)
+}
+
+// no word
+fn ping_command(reader: &Reader) -> Result<Command, WordFault>
+    ensures { Follows reader.now (done command.Ping) → Answers (all_words reader.now) result }
+{
+    reader.end()?;
+    Ok(Command::Ping)
+}
+
+// no word
+fn quit_command(reader: &Reader) -> Result<Command, WordFault>
+    ensures { Follows reader.now (done command.Quit) → Answers (all_words reader.now) result }
+{
+    reader.end()?;
+    Ok(Command::Quit)
 }

@@ -2,10 +2,17 @@
 #![tactic(auto)]
 
 mod commands;
+mod faults;
+mod fields;
+mod kinds;
 mod laws;
+mod options;
+mod places;
 mod readers;
+mod sets;
 #[cfg(test)]
 mod tests;
+mod words;
 
 pub use commands::command_of;
-pub use laws::served_words_are_read;
+pub use laws::served_commands;

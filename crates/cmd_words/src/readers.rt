@@ -1,15 +1,18 @@
 //! A reader of a request's words, from left to right: one function a kind of word.
 
-ghost use Rattle.std.specs.Prelude.{◌≡◌, [], ◌∷◌, MatchOption};
-ghost use Rattle.cmd_words.specs.Words.{Reads, ReadsPoint, IsEnd, name_of, coordinate_of, word_of};
+ghost use Rattle.std.specs.Prelude.{◌≡◌, [], MatchOption};
+ghost use Rattle.world_model.specs.Commands.{wrong_count as count_fault, shown_of};
+ghost use Rattle.world_model.specs.declared.faults.WordFault.TheVariants as fault;
+ghost use Rattle.cmd_words.specs.Places.{start, all_words, IsBehind, IsFault, Parses, Took, a_name, key_and_id, ReadsShown, IsEnd, IsRefusal};
 
-use byte_text::{Name, Request, TextFault, read_i64};
-use planar_geom::{MAX_COORD, Pt};
+use crate::faults::{invalid, wrong_count};
+use crate::words::read_name;
+use byte_text::{Name, Request};
 use std::alloc::Global;
 use std::marker::Model;
-use world_model::WordFault;
+use world_model::{Shown, WordFault};
 
-/// The words of a request that are left to read.
+/// The words of a request, and how many of them were read.
 #[derive(Drop)]
 pub(crate) struct Reader<'a> {
     alloc: Global,
@@ -18,19 +21,20 @@ pub(crate) struct Reader<'a> {
 }
 
 impl<'a> Model for Reader<'a> {
-    ghost use Rattle.std.specs.Prelude.{List, ℕ, ◌≤◌, drop, length};
+    ghost use Rattle.std.specs.Prelude.{◌≤◌, length};
+    ghost use Rattle.cmd_words.specs.Places.{Place, place_at};
 
-    ghost Value = { List (List ℕ) };
+    ghost Value = { Place };
 
-    ghost view = { λ r. drop r.read r.words.now };
+    ghost view = { λ r. place_at r.words.now r.read };
 
     ghost invariant = { λ r. r.read ≤ length r.words.now };
 }
 
 impl<'a> Reader<'a> {
-    /// All words of a request are left.
+    /// No word of the request was read.
     pub(crate) fn new(alloc: Global, words: &'a Request) -> Reader<'a>
-        ensures { result ≡ words.now }
+        ensures { result ≡ start words.now }
     {
         Reader {
             alloc,
@@ -46,7 +50,7 @@ impl<'a> Reader<'a> {
 
     /// The next word; none where the words have run out.
     pub(crate) fn next(&mut self) -> Option<&'a [u8]>
-        ensures { MatchOption result ((self.old ≡ []) × (self.new ≡ [])) (λ w. self.old ≡ w.now ∷ self.new) }
+        ensures { MatchOption result ((self.new ≡ self.old) × (self.old.left ≡ [])) (λ w. IsBehind w.now self.old self.new) }
     {
         if self.read < self.words.words() {
             let word = self.words.word(self.read);
@@ -57,63 +61,95 @@ impl<'a> Reader<'a> {
         }
     }
 
+    /// The command takes another number of words.
+    pub(crate) fn wrong_count(&self) -> WordFault
+        ensures { IsFault (count_fault (all_words self.now)) result }
+    {
+        if self.words.words() > 0 {
+            wrong_count(self.alloc, self.words.word(0))
+        } else {
+            wrong_count(self.alloc, b"")
+        }
+    }
+
     /// Reads a name.
     pub(crate) fn name(&mut self) -> Result<Name, WordFault>
-        ensures { Reads name_of self.old self.new result }
-    {
-        let Some(word) = self.next() else {
-            return Err(WordFault::Unserved);
-        };
-        match Name::of(self.alloc, word) {
-            Ok(name) => Ok(name),
-            Err(TextFault::Memory) => Err(WordFault::Memory),
-            Err(_) => Err(WordFault::Unserved),
-        }
-    }
-
-    /// Reads a coordinate.
-    fn coordinate(&mut self) -> Result<i64, WordFault>
-        ensures { Reads coordinate_of self.old self.new result }
-    {
-        let Some(word) = self.next() else {
-            return Err(WordFault::Unserved);
-        };
-        match read_i64(word) {
-            Ok(n) if -MAX_COORD <= n && n <= MAX_COORD => Ok(n),
-            _ => Err(WordFault::Unserved),
-        }
-    }
-
-    /// Reads a latitude and a longitude, the point's y and x.
-    pub(crate) fn point(&mut self) -> Result<Pt, WordFault>
-        ensures { ReadsPoint self.old self.new result }
-    {
-        let lat = self.coordinate()?;
-        let lon = self.coordinate()?;
-        match Pt::of(lon, lat) {
-            Some(at) => Ok(at),
-            None => unreachable!(),
-        }
-    }
-
-    /// Reads this word, in any case of its ASCII letters.
-    pub(crate) fn word(&mut self, called: &[u8]) -> Result<(), WordFault>
-        ensures { Reads (word_of called.now) self.old self.new result }
+        ensures { Parses a_name self.old self.new result }
     {
         match self.next() {
-            Some(word) if word.eq_ignore_ascii_case(called) => Ok(()),
-            _ => Err(WordFault::Unserved),
+            Some(word) => read_name(self.alloc, word),
+            None => Err(self.wrong_count()),
         }
     }
 
-    /// Finds that no word is left.
-    pub(crate) fn end(&self) -> Result<(), WordFault>
-        ensures { IsEnd self.now result }
+    /// Reads a key and an id.
+    pub(crate) fn key_and_id(&mut self) -> Result<(Name, Name), WordFault>
+        ensures { Parses key_and_id self.old self.new result }
+    {
+        let key = self.name()?;
+        let id = self.name()?;
+        Ok((key, id))
+    }
+
+    /// Reads this word where it is next, in any case of its ASCII letters.
+    pub(crate) fn takes(&mut self, called: &[u8]) -> bool
+        ensures { Took called.now self.old self.new result }
+    {
+        if self.read == self.words.words() {
+            return false;
+        }
+        if !self.words.word(self.read).eq_ignore_ascii_case(called) {
+            return false;
+        }
+        self.read += 1;
+        true
+    }
+
+    /// Reads how one object is shown, where that is next.
+    pub(crate) fn shown(&mut self) -> Option<Shown>
+        ensures { ReadsShown self.old self.new result }
+    {
+        if self.takes(b"OBJECT") {
+            Some(Shown::Objects)
+        } else if self.takes(b"POINT") {
+            Some(Shown::Points)
+        } else if self.takes(b"BOUNDS") {
+            Some(Shown::Bounds)
+        } else {
+            None
+        }
+    }
+
+    /// Why all words are refused where a word of another kind is due.
+    pub(crate) fn refusal(&self) -> WordFault
+        ensures { IsRefusal (all_words self.now) self.now.left result }
+    {
+        if self.read == self.words.words() {
+            self.wrong_count()
+        } else {
+            invalid(self.alloc, self.words.word(self.read))
+        }
+    }
+
+    /// Finds that no word is left, behind a command that could take more words.
+    pub(crate) fn stop(&self) -> Result<(), WordFault>
+        ensures { IsEnd (λ w. fault.Invalid (shown_of w)) self.now result }
     {
         if self.read == self.words.words() {
             Ok(())
         } else {
-            Err(WordFault::Unserved)
+            Err(self.refusal())
+        }
+    }
+
+    /// Finds that no word is left, behind a command that takes no more words.
+    pub(crate) fn end(&self) -> Result<(), WordFault>
+        ensures { IsEnd (λ _. count_fault (all_words self.now)) self.now result }
+    {
+        if self.read == self.words.words() {
+            Ok(())
+        } else {
+            Err(self.wrong_count())
         }
     }
 }

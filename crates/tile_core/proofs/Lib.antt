@@ -5,3 +5,10 @@ mod Steps
 mod Takes
 mod Calls
 mod Finishing
+mod Weights
+mod Answering
+mod Setting
+mod Removing
+mod Reading
+mod Boxes
+mod Faults

@@ -51,17 +51,17 @@ said o x Equal Greater p q =
     let g = greater o.id x.id q in
     (λ e. absurd (cc), λ e. absurd (cc), λ _. record { before_it = grind arith; behind_it = grind arith; is_it = grind arith })
 
-below : (o x : Object) → order_of x.key x.id o ≡ Less → Says o x true false false
+pub below : (o x : Object) → order_of x.key x.id o ≡ Less → Says o x true false false
 below o x e = (said o x _ _ refl refl).0 e
 
-equals : (o x : Object) → order_of x.key x.id o ≡ Equal → Says o x false false true
+pub equals : (o x : Object) → order_of x.key x.id o ≡ Equal → Says o x false false true
 equals o x e = (said o x _ _ refl refl).1 e
 
 above : (o x : Object) → order_of x.key x.id o ≡ Greater → Says o x false true false
 above o x e = (said o x _ _ refl refl).2 e
 
 -- what holds of the places behind the first
-next_below : (y : Object) (ys : List Object) (key id : Bytes) (i : ℕ) → AreBelow (y ∷ ys) key id (suc i) → AreBelow ys key id i
+pub next_below : (y : Object) (ys : List Object) (key id : Bytes) (i : ℕ) → AreBelow (y ∷ ys) key id (suc i) → AreBelow ys key id i
 next_below y ys key id i b k s near at = b (suc k) s (omega arith) at
 
 -- where no object has the key and the id, the new one goes between those before and those behind
@@ -89,7 +89,7 @@ put_held (y ∷ ys) x (suc i) s b at e =
     rw (t.behind_it, t.before_it) (ap (λ (zs : List Object). y ∷ zs) ih)
 
 -- an object of this key and this id, to compare with
-abbrev probe : Bytes → Bytes → Object
+abbrev pub probe : Bytes → Bytes → Object
 probe key id = record { key = key; id = id; text = []; shape = []; fields = []; deadline = None }
 
 -- the object at the place is the one of the key and the id

@@ -1,5 +1,5 @@
 -- The objects that a core keeps: a plain list in order of key and id.
-use Rattle.std.specs.Prelude.{◌≡◌, ℕ, ◌≤◌, ◌<◌, not, List, [], length, filter, Some, None, slice_get, slice_set}
+use Rattle.std.specs.Prelude.{◌≡◌, ℕ, ◌≤◌, ◌<◌, Bool, true, false, not, List, [], length, filter, flat_map, Some, None, slice_get, slice_set}
 use Rattle.std.specs.List.{insert, AllByRecursion}
 use Rattle.std.specs.Prelude.{remove}
 use Rattle.std.specs.Cmp.Lexicographic.{slice_cmp}
@@ -7,7 +7,11 @@ use Rattle.std.specs.Ordering.{nat_cmp, ordering_then}
 use Rattle.std.specs.declared.cmp.Ordering.{Ordering}
 use Rattle.std.specs.declared.cmp.Ordering.TheVariants.{Less, Equal, Greater}
 use Rattle.byte_text.specs.Names.{Bytes}
+use Rattle.planar_geom.specs.Points.{Point}
+use Rattle.planar_geom.specs.Shapes.{all_vertices}
 use Rattle.world_model.specs.Worlds.{has_key}
+use Rattle.world_model.specs.Records.{record_len}
+use Rattle.world_model.specs.declared.worlds.Change.TheVariants as change
 use Rattle.world_model.specs.declared.objects.Object.{Object}
 use Rattle.world_model.specs.declared.worlds.World.{World}
 use Rattle.tile_core.specs.declared.objects.Place.{Place}
@@ -18,6 +22,10 @@ use Rattle.tile_core.specs.declared.objects.Move.TheVariants.{Stay, Put, Delete,
 -- the world of these objects; it has no channels so far
 abbrev pub world_of : List Object → World
 world_of objects = record { objects = objects; channels = [] }
+
+-- the length of the record of an object
+abbrev pub len_of : Object → ℕ
+len_of o = record_len (change.Put o)
 
 -- an object as it is kept so far: without fields and without a deadline
 pub record IsPlain (o : Object) : Type 0 where
@@ -39,6 +47,15 @@ AreBelow objects key id i = (k : ℕ) (o : Object) → k < i → slice_get objec
 abbrev pub IsPlace : List Object → Bytes → Bytes → Place → Type 0
 IsPlace objects key id (Held i) = AreBelow objects key id i × ((o : Object) × (slice_get objects i ≡ Some o) × (order_of key id o ≡ Equal))
 IsPlace objects key id (Free i) = AreBelow objects key id i × (i ≤ length objects) × ((o : Object) → slice_get objects i ≡ Some o → order_of key id o ≡ Greater)
+
+-- the points of the objects of a key
+abbrev pub points_of : Bytes → List Object → List Point
+points_of key objects = flat_map (λ o. all_vertices o.shape) (filter (has_key key) objects)
+
+-- the object stands there
+abbrev pub is_held : Place → Bool
+is_held (Held i) = true
+is_held (Free i) = false
 
 -- the list with an object at a place: in place of the one that is held there, or in front of it
 abbrev pub placed_at : List Object → Place → Object → List Object

@@ -1,10 +1,12 @@
 -- What a call will do, made ready before anything is changed.
-use Rattle.std.specs.Prelude.{◌≡◌, ℕ, ◌+◌, ◌≤◌, Bool, true, List, [], ◌∷◌, length, Result, Ok, Err}
+use Rattle.std.specs.Prelude.{◌≡◌, ℕ, ◌+◌, ◌≤◌, Bool, true, false, nat_le, List, [], ◌∷◌, length, flat_map, Option, Some, None, Result, Ok, Err}
 use Rattle.std.specs.List.{AllByRecursion}
 use Rattle.byte_text.specs.Names.{Bytes}
 use Rattle.byte_text.specs.Replies.{frame_text}
 use Rattle.byte_text.specs.declared.replies.Piece.{Piece}
-use Rattle.world_model.specs.Limits.{max_reply, max_weight}
+use Rattle.planar_geom.specs.Points.{Bounds}
+use Rattle.planar_geom.specs.Shapes.{all_vertices, box_of_points}
+use Rattle.world_model.specs.Limits.{max_reply, max_weight, max_objects}
 use Rattle.world_model.specs.Worlds.{after}
 use Rattle.world_model.specs.Records.{record_len, weight}
 use Rattle.world_model.specs.Effects.{Effect, Deed, says, effect}
@@ -14,10 +16,15 @@ use Rattle.world_model.specs.declared.worlds.World.{World}
 use Rattle.world_model.specs.declared.worlds.Change.{Change}
 use Rattle.world_model.specs.declared.worlds.Change.TheVariants as change
 use Rattle.world_model.specs.declared.commands.Command.{Command}
+use Rattle.world_model.specs.declared.commands.Only.{Only}
+use Rattle.world_model.specs.declared.commands.Only.TheVariants.{Any, Absent, Present}
 use Rattle.world_model.specs.declared.faults.WordFault.{WordFault}
 use Rattle.world_model.specs.declared.events.Asked.{Asked}
 use Rattle.world_model.specs.declared.events.Asked.TheVariants.{Words, Broken}
+use Rattle.tile_core.specs.declared.objects.Place.{Place}
+use Rattle.tile_core.specs.declared.objects.Place.TheVariants.{Held, Free}
 use Rattle.tile_core.specs.declared.objects.Move.{Move}
+use Rattle.tile_core.specs.declared.objects.Move.TheVariants.{Stay}
 use Rattle.world_model.specs.declared.objects.Object.{Object}
 use Rattle.tile_core.specs.Objects.{world_of, IsMove, moved}
 use Rattle.tile_core.specs.declared.plans.Plan.{Plan}
@@ -73,3 +80,33 @@ pub record IsPlan (objects : List Object) (e : Effect) (p : Plan) : Type 0 where
   pub small : p.length ≤ max_weight
   pub weight_is : p.weight ≡ weight (world_of (moved objects p.action))
   pub light : p.weight ≤ max_weight
+
+-- the effect is one reply and nothing else, and this is its frame
+pub record Replies (e : Effect) (frame : Bytes) : Type 0 where
+  pub reply : List Piece
+  pub is : e ≡ says reply
+  pub frame_is : frame ≡ frame_text reply
+  pub short : length frame ≤ max_reply
+
+-- the plan is the answer of the effect, and changes nothing in a world of this weight
+pub record Says (e : Effect) (total : ℕ) (p : Plan) : Type 0 where
+  pub replies : Replies e p.frame
+  pub is : p ≡ record { frame = p.frame; action = Stay; length = 0; weight = total; closes = false }
+
+-- NX with an object held there, or XX without one
+abbrev pub keeps_back : Only → Place → Bool
+keeps_back Any place = false
+keeps_back Absent (Held i) = true
+keeps_back Absent (Free i) = false
+keeps_back Present (Held i) = false
+keeps_back Present (Free i) = true
+
+-- the object would be a new one beside the greatest number of objects
+abbrev pub lacks_room : List Object → Place → Bool
+lacks_room objects (Held i) = false
+lacks_room objects (Free i) = nat_le max_objects (length objects)
+
+-- the least box round all points of objects, where there is an object
+abbrev pub box_of_objects : List Object → Option Bounds
+box_of_objects [] = None
+box_of_objects (o ∷ objects) = Some (box_of_points (flat_map (λ p. all_vertices p.shape) (o ∷ objects)))

@@ -1,6 +1,7 @@
 //! The objects of a world as a plain list, in order of key and id.
 
 ghost use Rattle.std.specs.Prelude.{◌≡◌, ◌<◌, not, filter, vec_len, vec_capacity, OnOk};
+ghost use Rattle.std.specs.List.{list_any};
 ghost use Rattle.world_model.specs.Worlds.{has_key};
 ghost use Rattle.tile_core.specs.Objects.{order_of, IsPlace, IsWithin, IsMove, HasRoom, placed_at, moved};
 
@@ -13,6 +14,21 @@ use world_model::{Object, is_same};
 pub(crate) enum Place {
     Held(usize),
     Free(usize),
+}
+
+impl Place {
+    ghost use Rattle.std.specs.Prelude.{◌≡◌};
+    ghost use Rattle.tile_core.specs.Objects.{is_held};
+
+    /// Whether the object stands there.
+    pub(crate) fn is_held(self) -> bool
+        ensures { result ≡ is_held self }
+    {
+        match self {
+            Place::Held(_) => true,
+            Place::Free(_) => false,
+        }
+    }
 }
 
 /// What is done to the list.
@@ -40,7 +56,8 @@ fn compare(object: &Object, key: &Name, id: &Name) -> Ordering
 
 /// Where the object of this key and this id stands in the list, or would stand.
 pub(crate) fn place_of(objects: &[Object], key: &Name, id: &Name) -> Place
-    ensures { IsPlace objects.now key.now id.now result }
+    ensures place { IsPlace objects.now key.now id.now result }
+    ensures within { IsWithin objects.now result }
 {
     for (i, object) in objects.iter().enumerate() {
         match compare(object, key, id) {
@@ -50,6 +67,13 @@ pub(crate) fn place_of(objects: &[Object], key: &Name, id: &Name) -> Place
         }
     }
     Place::Free(objects.len())
+}
+
+/// Whether there is an object of the key.
+pub(crate) fn is_key(objects: &[Object], key: &Name) -> bool
+    ensures { result ≡ list_any (has_key key.now) objects.now }
+{
+    objects.iter().any(|object| is_same(&object.key, key))
 }
 
 /// Makes room in the list for what is put. For want of memory the list is as before.

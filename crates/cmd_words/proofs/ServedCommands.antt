@@ -1,0 +1,197 @@
+-- What every command that is asked for keeps to.
+use Rattle.std.proofs.Common.{◌≡◌, ◌<◌, Bool, true, false, not, refl, ap, subst, List, [], ◌∷◌, ◌++◌, length, arith, ℕ, ◌==◌}
+use Rattle.std.specs.Prelude.{◌&&◌, ◌||◌, Option, Some, None, is_none, unwrap_or, Result, Ok, Err, if◌then◌else◌, codes}
+use Rattle.std.specs.List.{list_any, AllByRecursion}
+use Rattle.byte_text.specs.Names.{Bytes, is_word, is_name}
+use Rattle.geo_text.specs.Texts.{Shape}
+use Rattle.world_model.specs.Grammar.{Form, Reading, spells, runs_out, done, word, maybe, ◌>>=◌, repeated, once_or_more, live, spelled, a_word}
+use Rattle.world_model.specs.Kinds.{name, when}
+use Rattle.world_model.specs.Commands as table
+use Rattle.world_model.specs.Filters.{Field}
+use Rattle.world_model.specs.Served.{asks, unbuilt, is_built, are_built}
+use Rattle.world_model.specs.Sound.{IsSoundCommand}
+use Rattle.world_model.specs.declared.queries.Shown.TheVariants as shown
+use Rattle.world_model.specs.declared.commands.Only.{Only}
+use Rattle.world_model.specs.declared.commands.Only.TheVariants.{Any}
+use Rattle.world_model.specs.declared.commands.Command.{Command}
+use Rattle.world_model.specs.declared.commands.Command.TheVariants as command
+use Rattle.world_model.specs.declared.faults.WordFault.{WordFault}
+use Rattle.world_model.specs.declared.faults.WordFault.TheVariants as fault
+use Rattle.world_model.proofs.Forms.{Each}
+use Rattle.world_model.proofs.Making.{Makes, Said, makes_done, makes_or, makes_none, makes_word, makes_bind, makes_behind, makes_then, makes_maybe, makes_repeated}
+use Rattle.world_model.proofs.SoundCommands.{reads_sound}
+use Rattle.cmd_words.specs.Laws.{IsServed, IsOfObject}
+
+abbrev IsName : Bytes → Type 0
+IsName w = is_name w ≡ true
+
+-- where the command is sound and built, it is one that is served
+abbrev Keeps : Command → Type 0
+Keeps c = IsSoundCommand c → is_built c ≡ true → IsServed c
+
+when_is : (test : Bool) (a b : Bytes) → when test a ≡ Some b → (test ≡ true) × (a ≡ b)
+when_is true a b e = (refl, cc)
+when_is false a b e = absurd cc
+
+name_is : (w n : Bytes) → when (is_name w) w ≡ Some n → IsName n
+name_is w n e = let h = when_is (is_name w) w n e in subst IsName h.1 h.0
+
+makes_name : Makes IsName name
+makes_name = makes_word IsName a_word (λ w. when (is_name w) w) name_is
+
+-- SET
+
+empty : {A : Type 0} (xs : List A) → (length xs == 0) ≡ true → xs ≡ []
+empty [] e = refl
+empty (x ∷ xs) e = absurd (grind arith)
+
+absent : {A : Type 0} (o : Option A) → is_none o ≡ true → o ≡ None
+absent None e = refl
+absent (Some a) e = absurd cc
+
+all_three : (a b c : Bool) → (a && b && c) ≡ true → (a ≡ true) × (b ≡ true) × (c ≡ true)
+all_three a b c e = (grind arith, grind arith, grind arith)
+
+set_keeps : (key id : Bytes) (fields : List Field) (cleared : List Bytes) (seconds : Option ℕ) (only : Only) (text : Bytes) (shape : Shape) → IsName key → IsName id → Keeps (command.Set key id fields cleared seconds only text shape)
+set_keeps key id fields cleared seconds only text shape k i sound b =
+    let all = all_three (length fields == 0) (length cleared == 0) (is_none seconds) b in
+    (k, i, empty fields all.0, empty cleared all.1, absent seconds all.2, sound.1)
+
+makes_set : Makes Keeps table.set_command
+makes_set = makes_then Keeps (word (codes "SET")) _ (makes_bind IsName Keeps name _ makes_name (λ key k. makes_bind IsName Keeps name _ makes_name (λ id i. makes_behind Keeps (repeated table.set_option _) _ (λ o.
+    makes_behind Keeps table.place _ (λ at. makes_done Keeps (command.Set key id (table.nonzero_of o.given) (table.cleared_of o.given) o.after_ex (unwrap_or o.only Any) at.0 at.1)
+    (set_keeps key id (table.nonzero_of o.given) (table.cleared_of o.given) o.after_ex (unwrap_or o.only Any) at.0 at.1 k i))))))
+
+-- GET
+
+makes_output : Makes IsOfObject (maybe shown.Objects table.as_objects)
+makes_output = makes_maybe IsOfObject shown.Objects table.as_objects tt (
+    makes_or IsOfObject _ _ (makes_then IsOfObject (word (codes "OBJECT")) _ (makes_done IsOfObject shown.Objects tt)) (
+    makes_or IsOfObject _ _ (makes_then IsOfObject (word (codes "POINT")) _ (makes_done IsOfObject shown.Points tt)) (
+    makes_or IsOfObject _ _ (makes_then IsOfObject (word (codes "BOUNDS")) _ (makes_done IsOfObject shown.Bounds tt)) (makes_none IsOfObject))))
+
+makes_get : Makes Keeps table.get_command
+makes_get = makes_then Keeps (word (codes "GET")) _ (makes_bind IsName Keeps name _ makes_name (λ key k. makes_bind IsName Keeps name _ makes_name (λ id i. makes_behind Keeps (maybe false _) _ (λ with_fields.
+    makes_bind IsOfObject Keeps (maybe shown.Objects table.as_objects) _ makes_output (λ how h. makes_done Keeps (command.Get key id with_fields how) (λ sound b. (k, i, h)))))))
+
+-- STATS
+
+abbrev AreNames : List Bytes → Type 0
+AreNames keys = AllByRecursion IsName keys
+
+abbrev SomeNames : List Bytes → Type 0
+SomeNames keys = (0 < length keys) × AreNames keys
+
+names_more : (keys : List Bytes) (key : Bytes) → AreNames keys → IsName key → SomeNames (keys ++ key ∷ [])
+names_more [] key all k = (omega arith, (k, tt))
+names_more (other ∷ keys) key all k = (omega arith, (all.0, (names_more keys key all.1 k).1))
+
+makes_names : Makes SomeNames (once_or_more (λ read. name >>= λ w. done (read ++ w ∷ [])) [])
+makes_names = makes_bind SomeNames SomeNames _ _ (step [] tt) (λ keys all. repeats keys all)
+  where
+    step : (read : List Bytes) → AreNames read → Makes SomeNames (name >>= λ w. done (read ++ w ∷ []))
+    step read all = makes_bind IsName SomeNames name _ makes_name (λ w k. makes_done SomeNames (read ++ w ∷ []) (names_more read w all k))
+
+    repeats : (keys : List Bytes) → SomeNames keys → Makes SomeNames (repeated (λ read. name >>= λ w. done (read ++ w ∷ [])) keys)
+    repeats keys all = makes_repeated SomeNames (λ read. name >>= λ w. done (read ++ w ∷ [])) (λ read some. step read some.1) keys all
+
+makes_stats : Makes Keeps (table.of_some (codes "STATS") name command.Stats)
+makes_stats = makes_then Keeps (word (codes "STATS")) _ (makes_bind SomeNames Keeps _ _ makes_names (λ keys all. makes_done Keeps (command.Stats keys) (λ sound b. all)))
+
+-- the others
+
+makes_del : Makes Keeps (table.of_key_and_id (codes "DEL") command.Del)
+makes_del = makes_then Keeps (word (codes "DEL")) _ (makes_bind IsName Keeps name _ makes_name (λ key k. makes_bind IsName Keeps name _ makes_name (λ id i. makes_done Keeps (command.Del key id) (λ sound b. (k, i)))))
+
+makes_drop : Makes Keeps (table.of_one (codes "DROP") name command.Drop)
+makes_drop = makes_then Keeps (word (codes "DROP")) _ (makes_bind IsName Keeps name _ makes_name (λ key k. makes_done Keeps (command.Drop key) (λ sound b. k)))
+
+makes_bounds : Makes Keeps (table.of_one (codes "BOUNDS") name command.Bounds)
+makes_bounds = makes_then Keeps (word (codes "BOUNDS")) _ (makes_bind IsName Keeps name _ makes_name (λ key k. makes_done Keeps (command.Bounds key) (λ sound b. k)))
+
+makes_flush : Makes Keeps (table.of_none (codes "FLUSHDB") command.Flush)
+makes_flush = makes_then Keeps (word (codes "FLUSHDB")) _ (makes_done Keeps command.Flush (λ sound b. tt))
+
+makes_ping : Makes Keeps (table.of_none (codes "PING") command.Ping)
+makes_ping = makes_then Keeps (word (codes "PING")) _ (makes_done Keeps command.Ping (λ sound b. tt))
+
+makes_quit : Makes Keeps (table.of_none (codes "QUIT") command.Quit)
+makes_quit = makes_then Keeps (word (codes "QUIT")) _ (makes_done Keeps command.Quit (λ sound b. tt))
+
+-- every reading of words whose first is no name that is not built yet
+
+each_both : {A : Type 0} (P : Reading A → Type 0) (xs ys : List (Reading A)) → Each P xs → Each P ys → Each P (xs ++ ys)
+each_both P [] ys p q = q
+each_both P (x ∷ xs) ys p q = (p.0, each_both P xs ys p.1 q)
+
+neither : (a b : Bool) → (a || b) ≡ false → (a ≡ false) × (b ≡ false)
+neither false b e = (refl, e)
+neither true b e = absurd cc
+
+none_is : (called : Bytes) (names : List Bytes) → list_any (is_word called) names ≡ false → AllByRecursion (λ n. is_word called n ≡ false) names
+none_is called [] e = tt
+none_is called (n ∷ names) e = let both = neither (is_word called n) (list_any (is_word called) names) e in (both.0, none_is called names both.1)
+
+module _ (called : Bytes) (rest : List Bytes) where
+  -- a form that begins with another word has no reading
+  other : {B : Type 0} (P : Reading B → Type 0) (n : Bytes) (g : Bytes → Form B) → is_word called n ≡ false → Each P ((word n >>= g) (called ∷ rest))
+  other P n g e = rw e tt
+
+  table_keeps : AllByRecursion (λ n. is_word called n ≡ false) unbuilt → Each (Said Keeps) (table.command_table (called ∷ rest))
+  table_keeps u =
+      each_both (Said Keeps) _ _ (makes_set.made (called ∷ rest)) (
+      each_both (Said Keeps) _ _ (makes_get.made (called ∷ rest)) (
+      each_both (Said Keeps) _ _ (makes_del.made (called ∷ rest)) (
+      each_both (Said Keeps) _ _ (other (Said Keeps) (codes "PDEL") _ u.0) (
+      each_both (Said Keeps) _ _ (makes_drop.made (called ∷ rest)) (
+      each_both (Said Keeps) _ _ (other (Said Keeps) (codes "FSET") _ u.1.0) (
+      each_both (Said Keeps) _ _ (other (Said Keeps) (codes "FGET") _ u.1.1.0) (
+      each_both (Said Keeps) _ _ (other (Said Keeps) (codes "EXPIRE") _ u.1.1.1.0) (
+      each_both (Said Keeps) _ _ (other (Said Keeps) (codes "PERSIST") _ u.1.1.1.1.0) (
+      each_both (Said Keeps) _ _ (other (Said Keeps) (codes "TTL") _ u.1.1.1.1.1.0) (
+      each_both (Said Keeps) _ _ (other (Said Keeps) (codes "KEYS") _ u.1.1.1.1.1.1.0) (
+      each_both (Said Keeps) _ _ (makes_bounds.made (called ∷ rest)) (
+      each_both (Said Keeps) _ _ (makes_stats.made (called ∷ rest)) (
+      each_both (Said Keeps) _ _ (makes_flush.made (called ∷ rest)) (
+      each_both (Said Keeps) _ _ (other (Said Keeps) (codes "AOFSHRINK") _ u.1.1.1.1.1.1.1.0) (
+      each_both (Said Keeps) _ _ (makes_ping.made (called ∷ rest)) (
+      each_both (Said Keeps) _ _ (makes_quit.made (called ∷ rest)) (
+      each_both (Said Keeps) _ _ (other (Said Keeps) (codes "SCAN") _ u.1.1.1.1.1.1.1.1.0) (
+      each_both (Said Keeps) _ _ (other (Said Keeps) (codes "WITHIN") _ u.1.1.1.1.1.1.1.1.1.0) (
+      each_both (Said Keeps) _ _ (other (Said Keeps) (codes "INTERSECTS") _ u.1.1.1.1.1.1.1.1.1.1.0) (
+      each_both (Said Keeps) _ _ (other (Said Keeps) (codes "NEARBY") _ u.1.1.1.1.1.1.1.1.1.1.1.0) (
+      each_both (Said Keeps) _ _ (other (Said Keeps) (codes "SETCHAN") _ u.1.1.1.1.1.1.1.1.1.1.1.1.0) (
+      each_both (Said Keeps) _ _ (other (Said Keeps) (codes "DELCHAN") _ u.1.1.1.1.1.1.1.1.1.1.1.1.1.0) (
+      each_both (Said Keeps) _ _ (other (Said Keeps) (codes "PDELCHAN") _ u.1.1.1.1.1.1.1.1.1.1.1.1.1.1.0) (
+      each_both (Said Keeps) _ _ (other (Said Keeps) (codes "CHANS") _ u.1.1.1.1.1.1.1.1.1.1.1.1.1.1.1.0) (
+      each_both (Said Keeps) _ _ (other (Said Keeps) (codes "SUBSCRIBE") _ u.1.1.1.1.1.1.1.1.1.1.1.1.1.1.1.1.0) (
+      each_both (Said Keeps) _ _ (other (Said Keeps) (codes "PSUBSCRIBE") _ u.1.1.1.1.1.1.1.1.1.1.1.1.1.1.1.1.1.0) tt))))))))))))))))))))))))))
+
+said : (rs : List (Reading Command)) (c : Command) → Each (Said Keeps) rs → spelled (live rs) ≡ Some c → Keeps c
+said [] c all e = absurd cc
+said (spells d [] ∷ rs) c all e = let same : d ≡ c = cc in subst Keeps same all.0
+said (spells d (w ∷ rest) ∷ rs) c all e = said rs c all.1 e
+said (runs_out due ∷ rs) c all e = said rs c all.1 e
+
+spelled_keeps : (called : Bytes) (rest : List Bytes) (c : Command) → list_any (is_word called) unbuilt ≡ false → table.command_spelled (called ∷ rest) ≡ Some c → Keeps c
+unfolding table.readings
+spelled_keeps called rest c u e = said (table.command_table (called ∷ rest)) c (table_keeps called rest (none_is called unbuilt u)) e
+
+ok_of : (words : List Bytes) (o : Option Command) (c : Command) → table.ok_or_fault words o ≡ Ok c → o ≡ Some c
+ok_of words (Some d) c e = ap Some (cc e)
+ok_of words None c e = absurd cc
+
+built_is : (b : Bool) (d c : Command) → (if b then Ok d else Err fault.Unserved) ≡ Ok c → (b ≡ true) × (d ≡ c)
+built_is true d c e = (refl, cc)
+built_is false d c e = absurd cc
+
+asked_is : (b : Bool) (r : Result Command WordFault) (c : Command) → (if not b && are_built r then r else Err fault.Unserved) ≡ Ok c → (b ≡ false) × (r ≡ Ok c) × (is_built c ≡ true)
+asked_is true r c e = absurd cc
+asked_is false (Ok d) c e = let h = built_is (is_built d) d c e in (refl, ap Ok h.1, subst (λ x. is_built x ≡ true) h.1 h.0)
+asked_is false (Err f) c e = absurd cc
+
+pub commands_are_served : (words : List Bytes) (c : Command) → asks words ≡ Ok c → IsServed c
+commands_are_served [] c e = absurd cc
+commands_are_served (called ∷ rest) c e =
+    let h = asked_is (list_any (is_word called) unbuilt) (table.reads (called ∷ rest)) c e in
+    spelled_keeps called rest c h.0 (ok_of (called ∷ rest) (table.command_spelled (called ∷ rest)) c h.1) (reads_sound (called ∷ rest) c h.1) h.2

@@ -1,0 +1,124 @@
+-- SET: its options and its place.
+use Rattle.std.specs.Prelude.{◌≡◌, ◌⊎◌, ◌<◌, length, ◌&&◌, ◌||◌, ℤ, pos, neg_ℤ, ◌^◌, ◌-◌, ℕ, Bool, true, false, List, [], ◌∷◌, Option, Some, None, is_none, unwrap_or, if◌then◌else◌, Result, Ok, Err, codes}
+use Rattle.planar_geom.specs.Points.{same_int}
+use Rattle.byte_text.specs.Names.{Bytes, is_word}
+use Rattle.byte_text.specs.Numbers.{whole_within, natural_within}
+use Rattle.geo_text.specs.Texts.{Shape, shape_of}
+use Rattle.world_model.specs.Limits.{max_coord, max_seconds}
+use Rattle.world_model.specs.Grammar.{Form, ◌>>=◌, done, repeated}
+use Rattle.world_model.specs.Kinds.{accepted}
+use Rattle.world_model.specs.Commands.{SetOptions, set_option, place, nonzero_of, cleared_of, reads}
+use Rattle.world_model.specs.declared.commands.Only.TheVariants.{Any}
+use Rattle.world_model.specs.declared.commands.Command.{Command}
+use Rattle.world_model.specs.declared.commands.Command.TheVariants as command
+use Rattle.world_model.specs.declared.faults.WordFault.{WordFault}
+use Rattle.world_model.specs.declared.faults.WordFault.TheVariants as fault
+use Rattle.cmd_words.specs.Places.{Place, all_words, IsBehind, Moves, Follows}
+use Rattle.cmd_words.specs.declared.options.OptionWord.{OptionWord}
+use Rattle.cmd_words.specs.declared.options.OptionWord.TheVariants as option
+use Rattle.cmd_words.specs.declared.places.PlaceWord.{PlaceWord}
+use Rattle.cmd_words.specs.declared.places.PlaceWord.TheVariants as at
+
+-- kinds of word
+
+-- the number of 64 signed bits that a word is
+abbrev pub integer_of : Bytes → Option ℤ
+integer_of = whole_within (neg_ℤ (pos (2 ^ 63))) (pos (2 ^ 63 - 1))
+
+-- the coordinate of at least this that a word is
+abbrev pub coordinate_of : ℤ → Bytes → Option ℤ
+coordinate_of low = whole_within low (pos max_coord)
+
+-- the time to live that a word is
+abbrev pub seconds_of : Bytes → Option ℕ
+seconds_of = natural_within 1 max_seconds
+
+-- the object that a word is, with its shape
+abbrev pub object_of : Bytes → Option (Bytes × Shape)
+object_of w = accepted w (shape_of w)
+
+-- what the options say before any was read
+abbrev pub no_options : SetOptions
+no_options = record { given = []; after_ex = None; only = None }
+
+-- more options behind those that were read, and then a place
+abbrev pub options_and_place : SetOptions → (SetOptions → Bytes × Shape → Form Command) → Form Command
+options_and_place o next = repeated set_option o >>= λ all. place >>= next all
+
+-- the SET that a key and an id, the options and the place ask for
+abbrev pub set_of : Bytes × Bytes → SetOptions → Bytes × Shape → Command
+set_of k o at = command.Set k.0 k.1 (nonzero_of o.given) (cleared_of o.given) o.after_ex (unwrap_or o.only Any) at.0 at.1
+
+-- what stands behind SET's key and id
+abbrev pub behind_set : Bytes × Bytes → Form Command
+behind_set k = options_and_place no_options (λ o at. done (set_of k o at))
+
+-- the word begins this option, which may still come
+abbrev pub IsOption : SetOptions → Bytes → OptionWord → Type 0
+IsOption o w option.Field = is_word w (codes "FIELD") ≡ true
+IsOption o w option.Seconds = (is_word w (codes "EX") ≡ true) × (o.after_ex ≡ None)
+IsOption o w option.Absent = (is_word w (codes "NX") ≡ true) × (o.only ≡ None)
+IsOption o w option.Present = (is_word w (codes "XX") ≡ true) × (o.only ≡ None)
+
+-- the word begins an option that may still come
+abbrev pub is_option : SetOptions → Bytes → Bool
+is_option o w = is_word w (codes "FIELD") || (is_none o.after_ex && is_word w (codes "EX")) || (is_none o.only && (is_word w (codes "NX") || is_word w (codes "XX")))
+
+-- no such option is next
+abbrev pub LacksOption : SetOptions → List Bytes → Type 0
+LacksOption o [] = Unit {0}
+LacksOption o (w ∷ words) = is_option o w ≡ false
+
+-- the word of an option was read; or none was, and none is next
+abbrev pub TakesOption : SetOptions → Place → Place → Option OptionWord → Type 0
+TakesOption o old new (Some kind) = (w : Bytes) × IsOption o w kind × IsBehind w old new
+TakesOption o old new None = (new ≡ old) × LacksOption o old.left
+
+-- the words behind are read from here on with these options in place of those
+pub record Goes (o p : SetOptions) (old new : Place) : Type 0 where
+  pub moves : Moves old new
+  pub follows : (next : SetOptions → Bytes × Shape → Form Command) → Follows old (options_and_place o next) → Follows new (options_and_place p next)
+
+-- how all the words are refused, whatever is to follow the place; or memory ran out
+abbrev pub Refuses : SetOptions → Place → WordFault → Type 0
+Refuses o old why = (why ≡ fault.Memory) ⊎ ((next : SetOptions → Bytes × Shape → Form Command) → Follows old (options_and_place o next) → reads (all_words old) ≡ Err why)
+
+-- an option was read; or none was, and none is next
+abbrev pub ReadsOption : SetOptions → SetOptions → Place → Place → Result Bool WordFault → Type 0
+ReadsOption o p old new (Ok true) = Goes o p old new × (length new.left < length old.left)
+ReadsOption o p old new (Ok false) = (new ≡ old) × (p ≡ o) × LacksOption o old.left
+ReadsOption o p old new (Err why) = Refuses o old why
+
+-- all options were read
+abbrev pub ReadsOptions : SetOptions → Place → Place → Result SetOptions WordFault → Type 0
+ReadsOptions o old new (Ok p) = Goes o p old new × LacksOption p new.left
+ReadsOptions o old new (Err why) = Refuses o old why
+
+-- the word begins this place
+abbrev pub IsPlace : Bytes → PlaceWord → Type 0
+IsPlace w at.Point = is_word w (codes "POINT") ≡ true
+IsPlace w at.Bounds = is_word w (codes "BOUNDS") ≡ true
+IsPlace w at.Object = is_word w (codes "OBJECT") ≡ true
+
+-- no place is next
+abbrev pub LacksPlace : List Bytes → Type 0
+LacksPlace [] = Unit {0}
+LacksPlace (w ∷ words) = (is_word w (codes "POINT") ≡ false) × (is_word w (codes "BOUNDS") ≡ false) × (is_word w (codes "OBJECT") ≡ false)
+
+-- the word of a place was read; or none was, and none is next
+abbrev pub TakesPlace : Place → Place → Option PlaceWord → Type 0
+TakesPlace old new (Some kind) = (w : Bytes) × IsPlace w kind × IsBehind w old new
+TakesPlace old new None = (new ≡ old) × LacksPlace old.left
+
+-- the place behind these options was read
+abbrev pub ReadsPlace : SetOptions → Place → Place → Result (Bytes × Shape) WordFault → Type 0
+ReadsPlace o old new (Ok at) = Moves old new × ((next : SetOptions → Bytes × Shape → Form Command) → Follows old (options_and_place o next) → Follows new (next o at))
+ReadsPlace o old new (Err why) = Refuses o old why
+
+-- the text has a shape
+abbrev pub IsAccepted : Bytes → Type 0
+IsAccepted text = (shape : Shape) × (shape_of text ≡ Ok shape)
+
+-- what marks a field of this value: 1 where it is 0, and else 0
+abbrev pub mark_of : ℤ → ℤ
+mark_of value = if same_int value (pos 0) then pos 1 else pos 0

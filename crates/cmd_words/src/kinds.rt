@@ -1,0 +1,123 @@
+//! What a reader reads of one kind: of one word, and of several.
+
+ghost use Rattle.std.specs.Prelude.{◌≡◌, ◌≤ℤ◌, pos, IfOk};
+ghost use Rattle.planar_geom.specs.Points.{pt, bounds, IsCoordinate};
+ghost use Rattle.world_model.specs.Limits.{max_coord};
+ghost use Rattle.world_model.specs.Kinds as kinds;
+ghost use Rattle.world_model.specs.Commands.{field as a_field};
+ghost use Rattle.cmd_words.specs.Places.{Reads};
+
+use crate::readers::Reader;
+use crate::words::{read_coordinate, read_geojson, read_integer, read_seconds};
+use byte_text::{Name, Text};
+use planar_geom::{BBox, MAX_COORD, Pt, Shape};
+use world_model::WordFault;
+
+impl<'a> Reader<'a> {
+    /// Reads a number of 64 signed bits.
+    fn integer(&mut self) -> Result<i64, WordFault>
+        ensures { Reads kinds.integer self.old self.new result }
+    {
+        match self.next() {
+            Some(word) => read_integer(self.alloc(), word),
+            None => Err(self.wrong_count()),
+        }
+    }
+
+    /// Reads a time to live in seconds.
+    pub(crate) fn seconds(&mut self) -> Result<u32, WordFault>
+        ensures { Reads kinds.seconds self.old self.new result }
+    {
+        match self.next() {
+            Some(word) => read_seconds(self.alloc(), word),
+            None => Err(self.wrong_count()),
+        }
+    }
+
+    /// Reads a coordinate of at least `low`.
+    fn coordinate_from(&mut self, low: i64) -> Result<i64, WordFault>
+        ensures reads { Reads (kinds.coordinate_from low) self.old self.new result }
+        ensures least { IfOk result (λ z. low ≤ℤ z) }
+        ensures greatest { IfOk result (λ z. z ≤ℤ pos max_coord) }
+    {
+        match self.next() {
+            Some(word) => read_coordinate(self.alloc(), word, low),
+            None => Err(self.wrong_count()),
+        }
+    }
+
+    /// Reads a coordinate.
+    fn coordinate(&mut self) -> Result<i64, WordFault>
+        ensures reads { Reads kinds.coordinate self.old self.new result }
+        ensures coordinate { IfOk result (λ z. IsCoordinate z) }
+    {
+        self.coordinate_from(-MAX_COORD)
+    }
+
+    /// Reads a latitude and a longitude, the point's y and x.
+    pub(crate) fn point(&mut self) -> Result<Pt, WordFault>
+        ensures { Reads kinds.lat_lon self.old self.new result }
+    {
+        let lat = self.coordinate()?;
+        let lon = self.coordinate()?;
+        Ok(point_at(lon, lat))
+    }
+
+    /// Reads the least latitude and longitude of a box, and then the greatest.
+    pub(crate) fn bounds(&mut self) -> Result<BBox, WordFault>
+        ensures { Reads kinds.four self.old self.new result }
+    {
+        let min_lat = self.coordinate()?;
+        let min_lon = self.coordinate()?;
+        let max_lat = self.coordinate_from(min_lat)?;
+        let max_lon = self.coordinate_from(min_lon)?;
+        Ok(box_between(min_lon, min_lat, max_lon, max_lat))
+    }
+
+    /// Reads a field's name and value.
+    pub(crate) fn field(&mut self) -> Result<(Name, i64), WordFault>
+        ensures { Reads a_field self.old self.new result }
+    {
+        let name = self.name()?;
+        let value = self.integer()?;
+        Ok((name, value))
+    }
+
+    /// Reads a GeoJSON text, and its shape.
+    pub(crate) fn geojson(&mut self) -> Result<(Text, Shape), WordFault>
+        ensures { Reads kinds.geojson self.old self.new result }
+    {
+        match self.next() {
+            Some(word) => read_geojson(self.alloc(), word),
+            None => Err(self.wrong_count()),
+        }
+    }
+}
+
+// The point with these coordinates of the plane.
+fn point_at(x: i64, y: i64) -> Pt
+    requires x_in { IsCoordinate x }
+    requires y_in { IsCoordinate y }
+    ensures { result ≡ pt x y }
+{
+    match Pt::of(x, y) {
+        Some(at) => at,
+        None => unreachable!(),
+    }
+}
+
+// The box between two corners of the plane, of which the first is the least.
+fn box_between(min_x: i64, min_y: i64, max_x: i64, max_y: i64) -> BBox
+    requires min_x_in { IsCoordinate min_x }
+    requires min_y_in { IsCoordinate min_y }
+    requires max_x_in { IsCoordinate max_x }
+    requires max_y_in { IsCoordinate max_y }
+    requires x_ordered { min_x ≤ℤ max_x }
+    requires y_ordered { min_y ≤ℤ max_y }
+    ensures { result ≡ bounds (pt min_x min_y) (pt max_x max_y) }
+{
+    match BBox::of(point_at(min_x, min_y), point_at(max_x, max_y)) {
+        Some(found) => found,
+        None => unreachable!(),
+    }
+}

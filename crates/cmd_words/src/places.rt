@@ -1,0 +1,93 @@
+//! The place that SET puts an object at.
+
+ghost use Rattle.std.specs.Prelude.{◌≡◌, [], ◌∷◌, Ok, IfOk, IfErr};
+ghost use Rattle.geo_text.specs.Texts.{point_text, bounds_text, shape_of as accepted_shape, corners as box_corners};
+ghost use Rattle.planar_geom.specs.declared.shapes.Part.TheVariants.{Spot, Face};
+ghost use Rattle.world_model.specs.Commands.{SetOptions};
+ghost use Rattle.cmd_words.specs.Sets.{LacksOption, TakesPlace, ReadsPlace, IsAccepted};
+
+use crate::readers::Reader;
+use byte_text::{NoMemory, Text};
+use geojson_model::{GeoFault, push_bounds, push_point, shape_of};
+use planar_geom::{BBox, Part, Parts, Pt, Shape};
+use std::alloc::Global;
+use world_model::WordFault;
+
+/// The word that a place begins with.
+#[derive(Clone, Copy)]
+pub(crate) enum PlaceWord {
+    Point,
+    Bounds,
+    Object,
+}
+
+// Reads the word that a place begins with, where one is next.
+fn place_word(reader: &mut Reader) -> Option<PlaceWord>
+    ensures { TakesPlace reader.old reader.new result }
+{
+    if reader.takes(b"POINT") {
+        Some(PlaceWord::Point)
+    } else if reader.takes(b"BOUNDS") {
+        Some(PlaceWord::Bounds)
+    } else if reader.takes(b"OBJECT") {
+        Some(PlaceWord::Object)
+    } else {
+        None
+    }
+}
+
+/// Reads a place behind these options, of which no further one is next: `POINT lat lon`,
+/// `BOUNDS minlat minlon maxlat maxlon`, or `OBJECT` and a GeoJSON text. The text that is stored, and its shape.
+pub(crate) fn read_place(reader: &mut Reader) -> Result<(Text, Shape), WordFault>
+    ensures { (o : SetOptions) → LacksOption o reader.old.left → ReadsPlace o reader.old reader.new result }
+{
+    match place_word(reader) {
+        Some(PlaceWord::Point) => {
+            let at = reader.point()?;
+            point_object(reader.alloc(), at)
+        }
+        Some(PlaceWord::Bounds) => {
+            let bounds = reader.bounds()?;
+            bounds_object(reader.alloc(), bounds)
+        }
+        Some(PlaceWord::Object) => reader.geojson(),
+        None => Err(reader.refusal()),
+    }
+}
+
+// The text and shape of a point.
+fn point_object(alloc: Global, at: Pt) -> Result<(Text, Shape), WordFault>
+    ensures ok { IfOk result (λ t. t ≡ (point_text at, Spot at ∷ [])) }
+    ensures err { IfErr result (λ why. why ≡ WordFault.Memory) }
+{
+    let mut text = Text::new(alloc);
+    match push_point(&mut text, at) {
+        Ok(()) => stored(alloc, text),
+        Err(NoMemory) => Err(WordFault::Memory),
+    }
+}
+
+// The text and shape of a box.
+fn bounds_object(alloc: Global, bounds: BBox) -> Result<(Text, Shape), WordFault>
+    ensures ok { IfOk result (λ t. t ≡ (bounds_text bounds, Face (box_corners bounds ∷ []) ∷ [])) }
+    ensures err { IfErr result (λ why. why ≡ WordFault.Memory) }
+{
+    let mut text = Text::new(alloc);
+    match push_bounds(&mut text, bounds) {
+        Ok(()) => stored(alloc, text),
+        Err(NoMemory) => Err(WordFault::Memory),
+    }
+}
+
+// The text that is stored for a place, which is accepted, and its shape.
+fn stored(alloc: Global, text: Text) -> Result<(Text, Shape), WordFault>
+    requires { IsAccepted text }
+    ensures ok { IfOk result (λ t. (t.0 ≡ text) × (accepted_shape text ≡ Ok t.1)) }
+    ensures err { IfErr result (λ why. why ≡ WordFault.Memory) }
+{
+    match shape_of(alloc, text.bytes()) {
+        Ok(shape) => Ok((text, shape)),
+        Err(GeoFault::Memory) => Err(WordFault::Memory),
+        Err(_) => unreachable!(),
+    }
+}

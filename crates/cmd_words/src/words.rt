@@ -1,0 +1,149 @@
+//! The kinds of word that stand in commands, each read from one word.
+
+ghost use Rattle.std.specs.Prelude.{◌≡◌, ◌==◌, ◌≤◌, ◌≤ℤ◌, pos, length, IfOk};
+ghost use Rattle.std.specs.List.{list_all, position_or_len};
+ghost use Rattle.world_model.specs.Grammar.{a_word, a_coordinate, a_geojson};
+ghost use Rattle.world_model.specs.Limits.{max_coord};
+ghost use Rattle.world_model.specs.Kinds.{is_digit as is_decimal_digit};
+ghost use Rattle.world_model.specs.Commands.{is_fraction as is_decimal_fraction, are_digits as are_decimal_digits, without_minus as without_sign};
+ghost use Rattle.cmd_words.specs.Places.{IsOne, IsFault, due_fault, name_of};
+ghost use Rattle.cmd_words.specs.Sets.{integer_of, coordinate_of, seconds_of, object_of};
+
+use crate::faults::{fraction, invalid, text};
+use byte_text::{Name, Text, TextFault, read_i64, read_u64};
+use geojson_model::{GeoFault, shape_of};
+use planar_geom::{MAX_COORD, Shape};
+use std::alloc::Global;
+use world_model::WordFault;
+
+/// The longest time to live, in seconds.
+const MAX_SECONDS: u64 = 1_000_000_000;
+
+/// The name that the word is.
+pub(crate) fn read_name(alloc: Global, word: &[u8]) -> Result<Name, WordFault>
+    ensures { IsOne a_word name_of word.now result }
+{
+    match Name::of(alloc, word) {
+        Ok(name) => Ok(name),
+        Err(TextFault::Memory) => Err(WordFault::Memory),
+        Err(_) => Err(invalid(alloc, word)),
+    }
+}
+
+/// The number of 64 signed bits that the word is.
+pub(crate) fn read_integer(alloc: Global, word: &[u8]) -> Result<i64, WordFault>
+    ensures { IsOne a_word integer_of word.now result }
+{
+    match read_i64(word) {
+        Ok(n) => Ok(n),
+        Err(_) => Err(invalid(alloc, word)),
+    }
+}
+
+/// The time to live in seconds that the word is.
+pub(crate) fn read_seconds(alloc: Global, word: &[u8]) -> Result<u32, WordFault>
+    ensures { IsOne a_word seconds_of word.now result }
+{
+    match read_u64(word) {
+        Ok(n) if 1 <= n && n <= MAX_SECONDS => Ok(n as u32),
+        _ => Err(invalid(alloc, word)),
+    }
+}
+
+/// The coordinate of at least `low` that the word is.
+pub(crate) fn read_coordinate(alloc: Global, word: &[u8], low: i64) -> Result<i64, WordFault>
+    ensures one { IsOne a_coordinate (coordinate_of low) word.now result }
+    ensures least { IfOk result (λ z. low ≤ℤ z) }
+    ensures greatest { IfOk result (λ z. z ≤ℤ pos max_coord) }
+{
+    match read_i64(word) {
+        Ok(n) => {
+            if n < low {
+                Err(no_coordinate(alloc, word))
+            } else if n > MAX_COORD {
+                Err(no_coordinate(alloc, word))
+            } else {
+                Ok(n)
+            }
+        }
+        Err(_) => Err(no_coordinate(alloc, word)),
+    }
+}
+
+// The word is no coordinate that may stand here.
+fn no_coordinate(alloc: Global, word: &[u8]) -> WordFault
+    ensures { IsFault (due_fault a_coordinate word.now) result }
+{
+    if is_fraction(word) {
+        fraction(alloc, word)
+    } else {
+        invalid(alloc, word)
+    }
+}
+
+// Whether the word is a number with a fraction: an optional `-`, digits, `.`, digits.
+fn is_fraction(word: &[u8]) -> bool
+    ensures { result ≡ is_decimal_fraction word.now }
+{
+    let digits = without_minus(word);
+    let point = point_of(digits);
+    point < digits.len() && are_digits(&digits[..point]) && are_digits(&digits[point + 1..])
+}
+
+// The word without the `-` that it may begin with.
+fn without_minus(word: &[u8]) -> &[u8]
+    ensures { result.now ≡ without_sign word.now }
+{
+    if !word.is_empty() && word[0] == b'-' {
+        &word[1..]
+    } else {
+        word
+    }
+}
+
+// The place of the first point, or the number of bytes where there is none.
+fn point_of(bytes: &[u8]) -> usize
+    ensures place { result ≡ position_or_len (λ b. b == 46) bytes.now }
+    ensures within { result ≤ length bytes.now }
+{
+    for at in 0..bytes.len() {
+        if bytes[at] == b'.' {
+            return at;
+        }
+    }
+    bytes.len()
+}
+
+// Whether there are bytes, and each is a decimal digit.
+fn are_digits(bytes: &[u8]) -> bool
+    ensures { result ≡ are_decimal_digits bytes.now }
+{
+    bytes.len() > 0 && all_digits(bytes)
+}
+
+// Whether each byte is a decimal digit.
+fn all_digits(bytes: &[u8]) -> bool
+    ensures { result ≡ list_all is_decimal_digit bytes.now }
+{
+    bytes.iter().all(|byte| is_digit(*byte))
+}
+
+fn is_digit(byte: u8) -> bool
+    ensures { result ≡ is_decimal_digit byte }
+{
+    b'0' <= byte && byte <= b'9'
+}
+
+/// The GeoJSON text that the word is, and its shape.
+pub(crate) fn read_geojson(alloc: Global, word: &[u8]) -> Result<(Text, Shape), WordFault>
+    ensures { IsOne a_geojson object_of word.now result }
+{
+    match shape_of(alloc, word) {
+        Ok(shape) => match text(alloc, word) {
+            Ok(text) => Ok((text, shape)),
+            Err(want) => Err(want),
+        },
+        Err(GeoFault::Memory) => Err(WordFault::Memory),
+        Err(fault) => Err(WordFault::Geo(fault)),
+    }
+}

@@ -1,0 +1,56 @@
+-- Which replies are whole and clean.
+use Rattle.std.proofs.Common.{◌≡◌, ◌≢◌, ℕ, ◌+◌, suc, List, [], ◌∷◌, ◌++◌, length, flat_map, subst, arith, refl}
+use Rattle.std.specs.List.{AllByRecursion}
+use Rattle.std.specs.Fmt.{signed_decimal}
+use Rattle.byte_text.specs.Names.{Bytes}
+use Rattle.byte_text.specs.Replies.{AreReplies, IsWhole, IsClean, IsFrame, array, bulk}
+use Rattle.byte_text.specs.declared.replies.Piece.{Piece}
+use Rattle.byte_text.specs.declared.replies.Piece.TheVariants as piece
+use Rattle.world_model.specs.Filters.{Field}
+use Rattle.world_model.specs.Replies.{number_text, fields_reply, object_reply}
+use Rattle.world_model.specs.declared.objects.Object.{Object}
+use Rattle.world_model.specs.declared.queries.Shown.{Shown}
+use Rattle.world_model.specs.declared.queries.Shown.TheVariants as shown
+
+abbrev pub Next : Type 0
+Next = (m n : ℕ) (a b : List Piece) → AreReplies m a → AreReplies n b → AreReplies (m + n) (a ++ b)
+
+abbrev pub Listed : Type 0
+Listed = (n : ℕ) (a : List Piece) → AreReplies n a → IsWhole (piece.List n ∷ a)
+
+clean_joined : (a b : List Piece) → AllByRecursion IsClean a → AllByRecursion IsClean b → AllByRecursion IsClean (a ++ b)
+clean_joined [] b p q = q
+clean_joined (x ∷ a) b p q = (p.0, clean_joined a b p.1 q)
+
+items_whole : Next → (rs : List (List Piece)) → AllByRecursion IsFrame rs → AreReplies (length rs) (flat_map (λ r. r) rs)
+items_whole next [] f = tt
+items_whole next (r ∷ rs) f =
+    let e : 1 + length rs ≡ suc (length rs) = omega arith in
+    subst (λ (n : ℕ). AreReplies n (r ++ flat_map (λ r. r) rs)) e (next 1 (length rs) r (flat_map (λ r. r) rs) f.0.whole (items_whole next rs f.1))
+
+items_clean : (rs : List (List Piece)) → AllByRecursion IsFrame rs → AllByRecursion IsClean (flat_map (λ r. r) rs)
+items_clean [] f = tt
+items_clean (r ∷ rs) f = clean_joined r _ f.0.clean (items_clean rs f.1)
+
+pub array_frame : Next → Listed → (rs : List (List Piece)) → AllByRecursion IsFrame rs → IsFrame (array rs)
+array_frame next list rs f = record { whole = list (length rs) _ (items_whole next rs f); clean = (tt, items_clean rs f) }
+
+bulk_frame : (b : Bytes) → IsFrame (bulk b)
+bulk_frame b = record { whole = tt; clean = (tt, tt) }
+
+fields_frames : (fields : List Field) → AllByRecursion IsFrame (flat_map (λ f. bulk f.0 ∷ number_text f.1 ∷ []) fields)
+fields_frames [] = tt
+fields_frames (f ∷ fields) = (bulk_frame f.0, (bulk_frame (signed_decimal f.1), fields_frames fields))
+
+pub fields_frame : Next → Listed → (fields : List Field) → IsFrame (fields_reply fields)
+fields_frame next list fields = array_frame next list _ (fields_frames fields)
+
+pub object_frame : (s : Shown) (o : Object) → s ≢ shown.Count → IsFrame (object_reply s o)
+object_frame shown.Points o h = record { whole = tt; clean = (tt, (tt, (tt, tt))) }
+object_frame shown.Bounds o h = record { whole = tt; clean = (tt, (tt, (tt, (tt, (tt, (tt, (tt, tt))))))) }
+object_frame shown.Objects o h = bulk_frame o.text
+object_frame shown.Ids o h = bulk_frame o.id
+object_frame shown.Count o h = absurd (h refl)
+
+pub with_fields_frame : Next → Listed → (s : Shown) (o : Object) → s ≢ shown.Count → IsFrame (array (object_reply s o ∷ fields_reply o.fields ∷ []))
+with_fields_frame next list s o h = array_frame next list (object_reply s o ∷ fields_reply o.fields ∷ []) (object_frame s o h, (fields_frame next list o.fields, tt))

@@ -1,0 +1,40 @@
+//! The texts of frames.
+
+ghost use Rattle.std.specs.Prelude.{◌≡◌, ◌<◌, ◌≤◌, ◌++◌, length, IfErr, OnOk, OnErr};
+ghost use Rattle.byte_text.specs.Replies.{IsFrame, frame_text};
+ghost use Rattle.world_model.specs.Limits.{max_reply};
+
+use byte_text::{NoMemory, Reply, Text, push_frame};
+
+/// The most bytes of a reply's frame.
+const MAX_REPLY: usize = 4_194_304;
+
+/// Why a reply has no frame.
+#[derive(Clone, Copy, Debug, PartialEq, Eq)]
+pub enum ReplyFault {
+    /// The frame would have more than 4,194,304 bytes.
+    TooLong,
+    /// Want of memory.
+    Memory,
+}
+
+/// Appends the frame of a whole reply (RESP2). TooLong where the frame alone has more than 4,194,304 bytes. The text is as before
+/// then, and for want of memory.
+pub fn push_reply(into: &mut Text, reply: &Reply) -> Result<(), ReplyFault>
+    requires { IsFrame reply.now }
+    ensures ok { OnOk result (into.new ≡ into.old ++ frame_text reply.now) }
+    ensures short { OnOk result (length (frame_text reply.now) ≤ max_reply) }
+    ensures too_long { IfErr result (λ f. f ≡ ReplyFault.TooLong → max_reply < length (frame_text reply.now)) }
+    ensures err { OnErr result (into.new ≡ into.old) }
+{
+    let before = into.len();
+    match push_frame(into, reply) {
+        Ok(()) => {}
+        Err(NoMemory) => return Err(ReplyFault::Memory),
+    }
+    if into.len() - before > MAX_REPLY {
+        into.truncate(before);
+        return Err(ReplyFault::TooLong);
+    }
+    Ok(())
+}

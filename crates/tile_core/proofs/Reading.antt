@@ -1,0 +1,44 @@
+-- What GET, BOUNDS and STATS do.
+use Rattle.std.proofs.Common.{◌≡◌, ℕ, Bool, true, false, refl, sym, ap, ◌∙◌, subst, List, [], ◌∷◌}
+use Rattle.std.specs.Prelude.{Some, None, codes, map, if◌then◌else◌}
+use Rattle.byte_text.specs.Names.{Bytes}
+use Rattle.byte_text.specs.Replies.{array, fine}
+use Rattle.byte_text.specs.declared.replies.Piece.{Piece}
+use Rattle.byte_text.specs.declared.replies.Piece.TheVariants as piece
+use Rattle.world_model.specs.Worlds.{object_at, objects_of}
+use Rattle.world_model.specs.Replies.{null, object_reply, fields_reply, bounds_of_key, stats_of_key}
+use Rattle.world_model.specs.Effects.{effect, says, within_reply}
+use Rattle.world_model.specs.declared.objects.Object.{Object}
+use Rattle.world_model.specs.declared.worlds.World.{World}
+use Rattle.world_model.specs.declared.commands.Command.TheVariants as command
+use Rattle.world_model.specs.declared.queries.Shown.{Shown}
+use Rattle.tile_core.specs.Plans.{ends_with}
+
+-- the reply to GET for an object that is there
+abbrev pub get_pieces : Bool → Shown → Object → List Piece
+get_pieces with_fields how o = if with_fields then array (object_reply how o ∷ fields_reply o.fields ∷ []) else object_reply how o
+
+module _ (w : World) (now : ℕ) where
+  pub got : (key id : Bytes) (o : Object) (with_fields : Bool) (how : Shown) → object_at w key id ≡ Some o → effect w now [] (command.Get key id with_fields how) ≡ within_reply (says (get_pieces with_fields how o))
+  unfolding effect
+  got key id o with_fields how e = rw e refl
+
+  pub got_none : (key id : Bytes) (with_fields : Bool) (how : Shown) → object_at w key id ≡ None → effect w now [] (command.Get key id with_fields how) ≡ within_reply (says null)
+  unfolding effect
+  got_none key id with_fields how e = rw e refl
+
+  pub bounded : (key : Bytes) → effect w now [] (command.Bounds key) ≡ within_reply (says (bounds_of_key (objects_of w key)))
+  unfolding effect
+  bounded key = refl
+
+  pub counted : (keys : List Bytes) → effect w now [] (command.Stats keys) ≡ within_reply (says (array (map (λ key. stats_of_key (objects_of w key)) keys)))
+  unfolding effect
+  counted keys = refl
+
+  pub answered : effect w now [] command.Ping ≡ within_reply (says (piece.Status (codes "PONG") ∷ []))
+  unfolding effect
+  answered = refl
+
+  pub left : effect w now [] command.Quit ≡ ends_with fine
+  unfolding effect
+  left = refl
