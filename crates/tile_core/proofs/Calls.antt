@@ -1,6 +1,7 @@
 -- Calls, in the words of the parts of a core.
-use Rattle.std.proofs.Common.{◌≡◌, ℕ, ◌+◌, ◌<◌, ◌≤◌, Bool, true, false, refl, sym, ap, ◌∙◌, subst, List, [], ◌∷◌, ◌++◌, length, get_or, max, arith}
+use Rattle.std.proofs.Common.{◌≡◌, ℕ, zero, suc, ◌+◌, ◌<◌, ◌≤◌, Bool, true, false, refl, sym, ap, ◌∙◌, subst, inl, inr, List, [], ◌∷◌, ◌++◌, length, get_or, max, arith, add-zero}
 use Rattle.std.specs.Prelude.{Some, None, Result, Ok, Err, slice_get, slice_set, map, filter, nat_le, nat_lt, ◌||◌, if◌then◌else◌}
+use Rattle.std.specs.List.{AllByRecursion}
 use Rattle.std.proofs.lemmas.Bool.Decides.{nat_tests}
 use Rattle.byte_text.specs.Names.{Bytes}
 use Rattle.byte_text.specs.Replies.{frame_text}
@@ -12,8 +13,9 @@ use Rattle.world_model.specs.Messages.{messages}
 use Rattle.world_model.specs.Records.{record_len}
 use Rattle.world_model.specs.Worlds.{after}
 use Rattle.world_model.specs.Served.{asks}
-use Rattle.world_model.specs.Effects.{Effect, Deed, says, changes, loud}
-use Rattle.world_model.specs.Halls.{Hall, due, apply, apply_all, do_call, do_words, do_effect, place, placed, change_session, is_session, frame_bytes}
+use Rattle.world_model.specs.Refusals.{broken_reply}
+use Rattle.world_model.specs.Effects.{Effect, Deed, loud}
+use Rattle.world_model.specs.Halls.{Hall, due, apply, apply_all, deliveries, deliveries_of, do_call, do_asked, do_words, do_effect, place, place_all, placed, change_session, close_session, closed_if, is_session, frame_bytes}
 use Rattle.world_model.specs.Halls as halls
 use Rattle.world_model.specs.Histories.{Step}
 use Rattle.world_model.specs.declared.commands.Command.{Command}
@@ -22,30 +24,60 @@ use Rattle.world_model.specs.declared.objects.Object.{Object}
 use Rattle.world_model.specs.declared.worlds.World.{World}
 use Rattle.world_model.specs.declared.worlds.Change.{Change}
 use Rattle.world_model.specs.declared.worlds.Change.TheVariants as change
-use Rattle.world_model.specs.declared.events.Asked.TheVariants.{Words}
+use Rattle.world_model.specs.declared.events.Asked.{Asked}
+use Rattle.world_model.specs.declared.events.Asked.TheVariants.{Words, Broken}
 use Rattle.world_model.specs.declared.events.Called.{Called}
 use Rattle.world_model.specs.declared.events.Called.TheVariants as called
-use Rattle.world_model.specs.declared.events.Event.TheVariants.{Call}
+use Rattle.world_model.specs.declared.events.Event.TheVariants.{Call, Tick}
 use Rattle.world_model.specs.declared.events.Outcome.TheVariants.{Answered}
-use Rattle.tile_core.specs.declared.objects.Stored.{Stored}
 use Rattle.tile_core.specs.declared.sessions.Session.{Session}
-use Rattle.tile_core.specs.Objects.{object_of, world_of}
-use Rattle.tile_core.specs.Sessions.{session_of, is_full, Rises, AreOthers, IsAt, IsServed}
+use Rattle.tile_core.specs.declared.plans.Plan.{Plan}
+use Rattle.tile_core.specs.Objects.{world_of, moved, IsPlain, ArePlain}
+use Rattle.tile_core.specs.Sessions.{session_of, is_open, is_full, answered, Rises, AreOthers, IsAt, IsServed}
 use Rattle.tile_core.specs.Kernels.{hall_of}
-use Rattle.tile_core.specs.Plans.{effect_of_read, effect_of_words}
-use Rattle.tile_core.proofs.Weights.{read_at}
-use Rattle.tile_core.proofs.Present.{found, none_found, changed}
-use Rattle.tile_core.proofs.Steps.{call_spent, call_gone, call_full, call_lacks, call_done}
+use Rattle.tile_core.specs.Plans.{effect_of_read, effect_of_asked, after_all, records_len, IsOfObjects, IsPlan}
+use Rattle.tile_core.proofs.Present.{found, none_found, changed, rises_set, get_set, set_twice}
+use Rattle.tile_core.proofs.Steps.{call_spent, call_gone, call_closed, call_full, call_lacks, call_done, tick_spent, tick_done}
+use Rattle.tile_core.proofs.Takes.{closing}
 
 -- no object has a deadline
-none_due : (now : ℕ) (xs : List Stored) → filter (is_due now) (map object_of xs) ≡ []
-none_due now [] = refl
-none_due now (x ∷ xs) = none_due now xs
+none_due : (now : ℕ) (xs : List Object) → ArePlain xs → filter (is_due now) xs ≡ []
+none_due now [] p = refl
+none_due now (x ∷ xs) p = let t : is_due now x ≡ false = rw (p.0.deadline) refl in rw t (none_due now xs p.1)
 
 -- no channel, no message
+
 no_messages : (w : World) (c : Change) → w.channels ≡ [] → messages w c ≡ []
 unfolding messages
 no_messages w c e = rw e refl
+
+no_deliveries : (w : World) (sessions : List halls.Session) (d : Deed) → w.channels ≡ [] → deliveries w sessions d ≡ []
+no_deliveries w sessions d e = by d.loud
+  where
+    by : (b : Bool) → (if b then deliveries_of (messages w d.change) sessions else []) ≡ []
+    by true = rw (no_messages w d.change e) refl
+    by false = refl
+
+apply_one : (h : Hall) (d : Deed) → h.world.channels ≡ [] → apply h d ≡ record h { world = after h.world d.change; logged = h.logged + record_len d.change }
+unfolding apply
+apply_one h d e = ap (place_all (record h { world = after h.world d.change; logged = h.logged + record_len d.change })) (no_deliveries h.world h.sessions d e)
+
+still_none : (w : World) (c : Change) → IsOfObjects c → w.channels ≡ [] → (after w c).channels ≡ []
+still_none w (change.Put o) is e = e
+still_none w (change.Del key id) is e = e
+still_none w (change.Drop key) is e = e
+still_none w change.Flush is e = refl
+still_none w (change.SetChan c) is e = absurd is
+still_none w (change.DelChan name) is e = absurd is
+
+-- changes of objects in a world without channels place no frame
+apply_each : (h : Hall) (deeds : List Deed) → AllByRecursion (λ d. IsOfObjects d.change) deeds → h.world.channels ≡ [] → apply_all h deeds ≡ record h { world = after_all h.world deeds; logged = h.logged + records_len deeds }
+apply_each h [] are e = ap (λ (m : ℕ). record h { logged = m }) (sym (add-zero h.logged))
+apply_each h (d ∷ deeds) are e =
+    let next : Hall = record h { world = after h.world d.change; logged = h.logged + record_len d.change } in
+    let sum : (h.logged + record_len d.change) + records_len deeds ≡ h.logged + (record_len d.change + records_len deeds) = omega arith in
+    ap (λ (k : Hall). apply_all k deeds) (apply_one h d e) ∙ apply_each next deeds are.1 (still_none h.world d.change are.0 e)
+    ∙ ap (λ (m : ℕ). record h { world = after_all (after h.world d.change) deeds; logged = m }) sum
 
 -- a change that leaves each session as it is
 same_if : (b : Bool) (f : halls.Session → halls.Session) (s : halls.Session) → f s ≡ s → (if b then f s else s) ≡ s
@@ -56,14 +88,14 @@ all_same : (n : ℕ) (f : halls.Session → halls.Session) (ss : List halls.Sess
 all_same n f [] e = refl
 all_same n f (s ∷ ss) e = ap (λ (z : halls.Session). z ∷ map (λ s. if is_session n s then f s else s) ss) (same_if (is_session n s) f s (e s)) ∙ ap (λ (zs : List halls.Session). s ∷ zs) (all_same n f ss e)
 
--- the frame is placed on a session that is not full
-fits : (s : Session) (frame : Bytes) → is_full s ≡ false → length frame ≤ max_reply → placed frame (session_of s) ≡ session_of (record s { outbox = s.outbox ++ frame ∷ [] })
-fits s frame open_ short =
+-- the frame is placed on a session that is served and not full
+fits : (s : Session) (frame : Bytes) → is_open s ≡ true → is_full s ≡ false → length frame ≤ max_reply → placed frame (session_of s) ≡ session_of (answered frame false s)
+fits s frame lives room_ short =
     let few : length s.outbox < full_frames = grind (arith, nat_tests) in
     let light : frame_bytes s.outbox < full_bytes = grind (arith, nat_tests) in
     let t : nat_lt (length s.outbox) cap_frames ≡ true = room (length s.outbox) few in
     let u : nat_le (frame_bytes s.outbox + length frame) cap_bytes ≡ true = bytes (frame_bytes s.outbox) (length frame) light short in
-    rw (t, u) refl
+    rw (lives, t, u) refl
   where
     room : (a : ℕ) → a < full_frames → nat_lt a cap_frames ≡ true
     room a p = grind (arith, nat_tests)
@@ -71,7 +103,22 @@ fits s frame open_ short =
     bytes : (a b : ℕ) → a < full_bytes → b ≤ max_reply → nat_le (a + b) cap_bytes ≡ true
     bytes a b p q = grind (arith, nat_tests)
 
-module _ (objects : List Stored) (now logged drawn : ℕ) (sessions : List Session) (n moment : ℕ) (words : List Bytes) where
+closes_it : (s : Session) (frame : Bytes) → is_open s ≡ true → closing (session_of (answered frame false s)) ≡ session_of (answered frame true s)
+closes_it s frame lives = rw lives refl
+
+-- the clock
+
+module _ (objects : List Object) (now logged drawn : ℕ) (sessions : List Session) (moment : ℕ) where
+  clock : ArePlain objects → due (hall_of objects now logged drawn sessions) moment ≡ hall_of objects (max now moment) logged drawn sessions
+  clock plain = ap (λ (os : List Object). apply_all (hall_of objects (max now moment) logged drawn sessions) (map (λ o. loud (change.Del o.key o.id)) (sorted_by due_before os))) (none_due (max now moment) objects plain)
+
+  pub not_ticked : most_logged ≤ logged → Step (hall_of objects now logged drawn sessions) (Tick moment) (Answered called.Spent) (hall_of objects now logged drawn sessions)
+  not_ticked le = tick_spent (hall_of objects now logged drawn sessions) moment refl le
+
+  pub ticked : logged < most_logged → ArePlain objects → Step (hall_of objects now logged drawn sessions) (Tick moment) (Answered called.Ok) (hall_of objects (max now moment) logged drawn sessions)
+  ticked unspent plain = subst (λ (h : Hall). Step (hall_of objects now logged drawn sessions) (Tick moment) (Answered called.Ok) h) (clock plain) (tick_done (hall_of objects now logged drawn sessions) moment refl unspent)
+
+module _ (objects : List Object) (now logged drawn : ℕ) (sessions : List Session) (n moment : ℕ) (asked : Asked) where
   abbrev hall : Hall
   hall = hall_of objects now logged drawn sessions
 
@@ -79,83 +126,84 @@ module _ (objects : List Stored) (now logged drawn : ℕ) (sessions : List Sessi
   abbrev later : Hall
   later = hall_of objects (max now moment) logged drawn sessions
 
-  pub spent : most_logged ≤ logged → Step hall (Call n moment (Words words)) (Answered called.Spent) hall
-  spent le = call_spent hall n moment (Words words) refl le
+  pub spent : most_logged ≤ logged → Step hall (Call n moment asked) (Answered called.Spent) hall
+  spent le = call_spent hall n moment asked refl le
 
   module _ (unspent : logged < most_logged) where
-    pub gone : AreOthers n sessions → Step hall (Call n moment (Words words)) (Answered called.Gone) hall
-    gone o = call_gone hall n moment (Words words) refl unspent (none_found sessions n o)
+    pub gone : AreOthers n sessions → Step hall (Call n moment asked) (Answered called.Gone) hall
+    gone o = call_gone hall n moment asked refl unspent (none_found sessions n o)
 
     module _ (i : ℕ) (s : Session) (rises : Rises 0 drawn sessions) (at : slice_get sessions i ≡ Some s) (numbered : s.number ≡ n) where
-      pub full : is_full s ≡ true → Step hall (Call n moment (Words words)) (Answered called.Full) hall
-      full f = call_full hall n moment (Words words) refl unspent (session_of s) (found 0 drawn sessions i n s rises at numbered) refl f
+      pub not_served : is_open s ≡ false → Step hall (Call n moment asked) (Answered called.Gone) hall
+      not_served l = call_closed hall n moment asked refl unspent (session_of s) (found 0 drawn sessions i n s rises at numbered) l
 
-      module _ (open_ : is_full s ≡ false) where
-        pub lacks : Step hall (Call n moment (Words words)) (Answered called.Memory) hall
-        lacks = call_lacks hall n moment (Words words) refl unspent (session_of s) (found 0 drawn sessions i n s rises at numbered) refl open_
+      module _ (lives : is_open s ≡ true) where
+        pub full : is_full s ≡ true → Step hall (Call n moment asked) (Answered called.Full) hall
+        full f = call_full hall n moment asked refl unspent (session_of s) (found 0 drawn sessions i n s rises at numbered) lives f
 
-        clock : due hall moment ≡ later
-        clock = ap (λ (os : List Object). apply_all later (map (λ o. loud (change.Del o.key o.id)) (sorted_by due_before os))) (none_due (max now moment) objects)
+        module _ (open_ : is_full s ≡ false) where
+          pub lacks : Step hall (Call n moment asked) (Answered called.Memory) hall
+          lacks = call_lacks hall n moment asked refl unspent (session_of s) (found 0 drawn sessions i n s rises at numbered) lives open_
 
-        calls : do_call later n (Words words) ≡ do_words later (session_of s) (asks words)
-        unfolding do_call
-        calls = rw (found 0 drawn sessions i n s rises at numbered) refl
+          calls : do_call later n asked ≡ do_asked later (session_of s) asked
+          unfolding do_call
+          calls = rw (found 0 drawn sessions i n s rises at numbered, lives) refl
 
-        -- the effect is that of the words for a session without subscriptions
-        effects : (r : Result Command WordFault) → do_words later (session_of s) r ≡ do_effect later s.number (effect_of_read (world_of objects) (max now moment) r)
-        effects (Ok c) = refl
-        effects (Err f) = refl
+          same_subs : change_session (λ t. record t { subs = t.subs }) s.number later ≡ later
+          same_subs = ap (λ (ss : List halls.Session). record later { sessions = ss }) (all_same s.number (λ t. record t { subs = t.subs }) (map session_of sessions) (λ t. refl))
 
-        -- the hall with the frame placed
-        abbrev answered : Session → Hall
-        answered v = hall_of objects (max now moment) logged drawn (slice_set sessions i v)
+          -- the effect is that of what is asked, for a session without subscriptions
+          effects : (a : Asked) → do_asked later (session_of s) a ≡ do_effect later s.number (effect_of_asked (world_of objects) (max now moment) a)
+          effects (Words words) = of_read (asks words)
+            where
+              of_read : (r : Result Command WordFault) → do_words later (session_of s) r ≡ do_effect later s.number (effect_of_read (world_of objects) (max now moment) r)
+              of_read (Ok c) = refl
+              of_read (Err f) = refl
+          effects (Broken f) = ap (λ (h : Hall). close_session s.number (place h (s.number, frame_text (broken_reply f)))) (sym same_subs)
 
-        same_subs : change_session (λ t. record t { subs = t.subs }) s.number later ≡ later
-        same_subs = ap (λ (ss : List halls.Session). record later { sessions = ss }) (all_same s.number (λ t. record t { subs = t.subs }) (map session_of sessions) (λ t. refl))
+          -- the hall with the session answered
+          abbrev answered_hall : List Object → ℕ → Bytes → Bool → Hall
+          answered_hall next more frame closes = hall_of next (max now moment) more drawn (slice_set sessions i (answered frame closes s))
 
-        put_frame : (frame : Bytes) → length frame ≤ max_reply → place later (s.number, frame) ≡ answered (record s { outbox = s.outbox ++ frame ∷ [] })
-        put_frame frame short = ap (λ (ss : List halls.Session). record later { sessions = ss }) (changed (placed frame) 0 drawn sessions i s.number s (record s { outbox = s.outbox ++ frame ∷ [] }) rises at refl (fits s frame open_ short))
+          put_frame : (frame : Bytes) → length frame ≤ max_reply → place later (s.number, frame) ≡ answered_hall objects logged frame false
+          put_frame frame short = ap (λ (ss : List halls.Session). record later { sessions = ss }) (changed (placed frame) 0 drawn sessions i s.number s (answered frame false s) rises at refl (fits s frame lives open_ short))
 
-        says_it : (r : List Piece) (e : Effect) (frame : Bytes) → e ≡ says r → frame_text r ≡ frame → length frame ≤ max_reply → do_effect later s.number e ≡ answered (record s { outbox = s.outbox ++ frame ∷ [] })
-        says_it r e frame is text short = ap (do_effect later s.number) is ∙ ap (λ (h : Hall). place h (s.number, frame_text r)) same_subs ∙ ap (λ (f : Bytes). place later (s.number, f)) text ∙ put_frame frame short
+          ends : (next : List Object) (more : ℕ) (frame : Bytes) (closes : Bool) → closed_if closes s.number (answered_hall next more frame false) ≡ answered_hall next more frame closes
+          ends next more frame false = refl
+          ends next more frame true =
+              let one = answered frame false s in
+              let two = answered frame true s in
+              let set = slice_set sessions i one in
+              ap (λ (ss : List halls.Session). record (answered_hall next more frame false) { sessions = ss })
+              (changed closing 0 drawn set i s.number one two (rises_set 0 drawn sessions i s one rises at refl) (get_set sessions i s one at) refl (closes_it s frame lives)
+              ∙ ap (map session_of) (set_twice sessions i one two))
 
-        changes_it : (r : List Piece) (e : Effect) (frame : Bytes) (c : Change) → e ≡ changes r (loud c ∷ []) → frame_text r ≡ frame → length frame ≤ max_reply
-            → do_effect later s.number e ≡ apply (answered (record s { outbox = s.outbox ++ frame ∷ [] })) (loud c)
-        changes_it r e frame c is text short = ap (do_effect later s.number) is ∙ ap (λ (h : Hall). apply (place h (s.number, frame_text r)) (loud c)) same_subs ∙ ap (λ (f : Bytes). apply (place later (s.number, f)) (loud c)) text ∙ ap (λ (h : Hall). apply h (loud c)) (put_frame frame short)
+          finishes : (e : Effect) (p : Plan) → IsPlan objects e p → do_effect later s.number e ≡ answered_hall (moved objects p.action) (logged + p.length) p.frame p.closes
+          finishes e p is =
+              let deeds = is.deeds in
+              ap (do_effect later s.number) is.is
+              ∙ ap (λ (h : Hall). closed_if p.closes s.number (apply_all (place h (s.number, frame_text is.reply)) deeds)) same_subs
+              ∙ ap (λ (f : Bytes). closed_if p.closes s.number (apply_all (place later (s.number, f)) deeds)) (sym is.frame)
+              ∙ ap (λ (h : Hall). closed_if p.closes s.number (apply_all h deeds)) (put_frame p.frame is.short)
+              ∙ ap (closed_if p.closes s.number) (apply_each (answered_hall objects logged p.frame false) deeds is.does.objects_only refl)
+              ∙ ap (λ (w : World). closed_if p.closes s.number (record (answered_hall objects logged p.frame false) { world = w; logged = logged + records_len deeds })) is.does.world
+              ∙ ap (λ (m : ℕ). closed_if p.closes s.number (answered_hall (moved objects p.action) (logged + m) p.frame false)) (sym is.length_is)
+              ∙ ends (moved objects p.action) (logged + p.length) p.frame p.closes
 
-        applied : (v : Session) (c : Change) → apply (answered v) (loud c) ≡ record (answered v) { world = after (world_of objects) c; logged = logged + record_len c }
-        unfolding apply
-        applied v c = rw (no_messages (world_of objects) c refl) refl
-
-        done : (next : Hall) → do_effect later s.number (effect_of_words (world_of objects) (max now moment) words) ≡ next → Step hall (Call n moment (Words words)) (Answered called.Ok) next
-        done next is = subst (λ (h : Hall). Step hall (Call n moment (Words words)) (Answered called.Ok) h) (ap (λ (h : Hall). do_call h n (Words words)) clock ∙ calls ∙ effects (asks words) ∙ is)
-            (call_done hall n moment (Words words) refl unspent (session_of s) (found 0 drawn sessions i n s rises at numbered) refl open_)
-
-        pub replied : (frame : Bytes) (v : Session) → v ≡ record s { outbox = s.outbox ++ frame ∷ [] } → ((r : List Piece) × (effect_of_words (world_of objects) (max now moment) words ≡ says r) × (frame_text r ≡ frame)) → length frame ≤ max_reply
-            → Step hall (Call n moment (Words words)) (Answered called.Ok) (answered v)
-        replied frame v is e short = done (answered v) (says_it e.0 _ frame e.1 e.2 short ∙ ap answered (sym is))
-
-        pub stored : (frame : Bytes) (v : Session) (c : Change) (next : List Stored) (len : ℕ) → v ≡ record s { outbox = s.outbox ++ frame ∷ [] }
-            → ((r : List Piece) × (effect_of_words (world_of objects) (max now moment) words ≡ changes r (loud c ∷ [])) × (frame_text r ≡ frame)) → length frame ≤ max_reply
-            → after (world_of objects) c ≡ world_of next → len ≡ record_len c
-            → Step hall (Call n moment (Words words)) (Answered called.Ok) (hall_of next (max now moment) (logged + len) drawn (slice_set sessions i v))
-        stored frame v c next len is e short world long = done (hall_of next (max now moment) (logged + len) drawn (slice_set sessions i v))
-            (changes_it e.0 _ frame c e.1 e.2 short ∙ applied _ c
-            ∙ ap (λ (w : World). record (answered (record s { outbox = s.outbox ++ frame ∷ [] })) { world = w; logged = logged + record_len c }) world
-            ∙ ap (λ (m : ℕ). record (answered (record s { outbox = s.outbox ++ frame ∷ [] })) { world = world_of next; logged = logged + m }) (sym long)
-            ∙ ap (λ (u : Session). record (answered u) { world = world_of next; logged = logged + len }) (sym is))
-
--- a session that may be served is the one read at its place
-pub served_is : (sessions : List Session) (n i : ℕ) (sv : IsServed sessions n (Ok i)) (r : Session) → r ≡ get_or sessions i r → r ≡ sv.0.session
-served_is sessions n i sv r e = e ∙ read_at sessions i sv.0.session r sv.0.here
+          pub done : ArePlain objects → (p : Plan) → IsPlan objects (effect_of_asked (world_of objects) (max now moment) asked) p
+              → Step hall (Call n moment asked) (Answered called.Ok) (answered_hall (moved objects p.action) (logged + p.length) p.frame p.closes)
+          done plain p is = subst (λ (h : Hall). Step hall (Call n moment asked) (Answered called.Ok) h)
+              (ap (λ (h : Hall). do_call h n asked) (clock objects now logged drawn sessions moment plain) ∙ calls ∙ effects asked ∙ finishes (effect_of_asked (world_of objects) (max now moment) asked) p is)
+              (call_done hall n moment asked refl unspent (session_of s) (found 0 drawn sessions i n s rises at numbered) lives open_)
 
 -- a call that is not served
-pub refused : (objects : List Stored) (now logged drawn : ℕ) (sessions : List Session) (n moment : ℕ) (words : List Bytes) → logged < most_logged → Rises 0 drawn sessions → (answer : Called) → IsServed sessions n (Err answer)
-    → Step (hall_of objects now logged drawn sessions) (Call n moment (Words words)) (Answered answer) (hall_of objects now logged drawn sessions)
-refused objects now logged drawn sessions n moment words u r called.Gone e = gone objects now logged drawn sessions n moment words u e
-refused objects now logged drawn sessions n moment words u r called.Full e = full objects now logged drawn sessions n moment words u e.0 e.1.session r e.1.here e.1.numbered e.2
-refused objects now logged drawn sessions n moment words u r called.Ok e = absurd e
-refused objects now logged drawn sessions n moment words u r called.LogFault e = absurd e
-refused objects now logged drawn sessions n moment words u r called.Stopped e = absurd e
-refused objects now logged drawn sessions n moment words u r called.Spent e = absurd e
-refused objects now logged drawn sessions n moment words u r called.Memory e = absurd e
+pub refused : (objects : List Object) (now logged drawn : ℕ) (sessions : List Session) (n moment : ℕ) (asked : Asked) → logged < most_logged → Rises 0 drawn sessions → (answer : Called) → IsServed sessions n (Err answer)
+    → Step (hall_of objects now logged drawn sessions) (Call n moment asked) (Answered answer) (hall_of objects now logged drawn sessions)
+refused objects now logged drawn sessions n moment asked u r called.Gone e =
+    elim e [ inl o ↦ gone objects now logged drawn sessions n moment asked u o | inr p ↦ not_served objects now logged drawn sessions n moment asked u p.0 p.1.session r p.1.here p.1.numbered p.2 ]
+refused objects now logged drawn sessions n moment asked u r called.Full e = full objects now logged drawn sessions n moment asked u e.0 e.1.session r e.1.here e.1.numbered e.2 e.3
+refused objects now logged drawn sessions n moment asked u r called.Ok e = absurd e
+refused objects now logged drawn sessions n moment asked u r called.LogFault e = absurd e
+refused objects now logged drawn sessions n moment asked u r called.Stopped e = absurd e
+refused objects now logged drawn sessions n moment asked u r called.Spent e = absurd e
+refused objects now logged drawn sessions n moment asked u r called.Memory e = absurd e

@@ -1,22 +1,37 @@
 -- What holds of the parts of a core after a call.
-use Rattle.std.proofs.Common.{◌≡◌, ℕ, ◌<◌, ◌≤◌, Bool, true, false, refl, sym, ap, ◌∙◌, subst, List, [], ◌∷◌, length, arith}
-use Rattle.std.specs.Prelude.{Some, slice_get, slice_set, map, ◌&&◌}
+use Rattle.std.proofs.Common.{◌≡◌, ℕ, zero, suc, ◌<◌, ◌≤◌, Bool, true, false, not, refl, sym, ap, ◌∙◌, subst, List, [], ◌∷◌, length, get_or, arith}
+use Rattle.std.specs.Prelude.{Some, Ok, slice_get, slice_set, remove, map, filter, ◌&&◌, if◌then◌else◌}
+use Rattle.std.specs.List.{insert}
 use Rattle.std.proofs.lemmas.Bool.Decides.{nat_tests}
 use Rattle.std.proofs.Math.ListN.{length-set}
 use Rattle.world_model.specs.Limits.{max_weight, max_sessions, full_frames, full_bytes}
-use Rattle.world_model.specs.Lists.{ascends}
 use Rattle.world_model.specs.Halls.{frame_bytes}
-use Rattle.world_model.specs.Worlds.{after, object_before, is_sorted_world}
+use Rattle.world_model.specs.Worlds.{is_sorted_world, are_objects, has_key, after}
 use Rattle.world_model.specs.Records.{weight}
+use Rattle.world_model.specs.Effects.{Effect, Deed}
 use Rattle.world_model.specs.Laws.{ChangesKeepOrder}
-use Rattle.world_model.specs.declared.worlds.Change.{Change}
+use Rattle.world_model.specs.declared.objects.Object.{Object}
 use Rattle.world_model.specs.declared.worlds.World.{World}
-use Rattle.tile_core.specs.declared.objects.Stored.{Stored}
 use Rattle.tile_core.specs.declared.sessions.Session.{Session}
-use Rattle.tile_core.specs.Objects.{object_of, world_of}
-use Rattle.tile_core.specs.Sessions.{Rises, is_full}
-use Rattle.tile_core.specs.Kernels.{IsSound}
-use Rattle.tile_core.proofs.Present.{rises_set}
+use Rattle.tile_core.specs.declared.objects.Place.TheVariants.{Held, Free}
+use Rattle.tile_core.specs.declared.objects.Move.{Move}
+use Rattle.tile_core.specs.declared.objects.Move.TheVariants.{Stay, Put, Delete, Leave, Clear}
+use Rattle.tile_core.specs.declared.plans.Plan.{Plan}
+use Rattle.tile_core.specs.Objects.{world_of, moved, IsMove, IsPlain, ArePlain}
+use Rattle.tile_core.specs.Sessions.{Rises, IsServed, is_full, is_open}
+use Rattle.tile_core.specs.Plans.{after_all, IsPlan}
+use Rattle.tile_core.specs.Kernels.{AreKept, ArePresent}
+use Rattle.tile_core.proofs.Present.{rises_set, rises_remove}
+
+-- what is read at a place where something stands
+pub read_at : {A : Type 0} (xs : List A) (i : ℕ) (s d : A) → slice_get xs i ≡ Some s → get_or xs i d ≡ s
+read_at [] i s d at = absurd (cc)
+read_at (y ∷ ys) zero s d at = cc
+read_at (y ∷ ys) (suc i) s d at = read_at ys i s d at
+
+-- a session that may be served is the one read at its place
+pub served_is : (sessions : List Session) (n i : ℕ) (sv : IsServed sessions n (Ok i)) (r : Session) → r ≡ get_or sessions i r → r ≡ sv.0.session
+served_is sessions n i sv r e = e ∙ read_at sessions i sv.0.session r sv.0.here
 
 pub few_frames : (s : Session) → is_full s ≡ false → length s.outbox < full_frames
 few_frames s e = grind (arith, nat_tests)
@@ -31,27 +46,76 @@ both : (a : Bool) → a ≡ true → (a && true) ≡ true
 both a e = grind arith
 
 -- the order is kept
-pub sorted_after : ChangesKeepOrder → (xs next : List Stored) (c : Change) → ascends object_before (map object_of xs) ≡ true → after (world_of xs) c ≡ world_of next → ascends object_before (map object_of next) ≡ true
-sorted_after law xs next c asc is =
-    let kept : is_sorted_world (after (world_of xs) c) ≡ true = law (world_of xs) c (both (ascends object_before (map object_of xs)) asc) in
-    left_of (ascends object_before (map object_of next)) true (subst (λ (w : World). is_sorted_world w ≡ true) is kept)
+sorted_all : ChangesKeepOrder → (w : World) (deeds : List Deed) → is_sorted_world w ≡ true → is_sorted_world (after_all w deeds) ≡ true
+sorted_all law w [] sorted = sorted
+sorted_all law w (d ∷ deeds) sorted = sorted_all law (after w d.change) deeds (law w d.change sorted)
 
-module _ (objects : List Stored) (total drawn : ℕ) (sessions : List Session) (i : ℕ) (s v : Session) (sound : IsSound objects total drawn sessions) (at : slice_get sessions i ≡ Some s) (numbered : v.number ≡ s.number) where
-  pub sound_answer : IsSound objects total drawn (slice_set sessions i v)
-  sound_answer = record {
-    sorted = sound.sorted;
-    weighed = sound.weighed;
-    light = sound.light;
-    rises = rises_set 0 drawn sessions i s v sound.rises at numbered;
-    few = let long = length-set sessions i v in let few = sound.few in omega (arith, long, few);
-  }
+-- objects stay plain
 
-  pub sound_store : (next : List Stored) (more : ℕ) (c : Change) → after (world_of objects) c ≡ world_of next → ascends object_before (map object_of next) ≡ true → more ≡ weight (after (world_of objects) c) → more ≤ max_weight
-      → IsSound next more drawn (slice_set sessions i v)
-  sound_store next more c is asc weighs light = record {
-    sorted = asc;
-    weighed = weighs ∙ ap weight is;
-    light = light;
-    rises = rises_set 0 drawn sessions i s v sound.rises at numbered;
-    few = let long = length-set sessions i v in let few = sound.few in omega (arith, long, few);
-  }
+plain_set : (xs : List Object) (i : ℕ) (o : Object) → IsPlain o → ArePlain xs → ArePlain (slice_set xs i o)
+plain_set [] i o p ps = ps
+plain_set (x ∷ xs) zero o p ps = (p, ps.1)
+plain_set (x ∷ xs) (suc i) o p ps = (ps.0, plain_set xs i o p ps.1)
+
+plain_insert : (xs : List Object) (i : ℕ) (o : Object) → IsPlain o → ArePlain xs → ArePlain (insert xs i o)
+plain_insert [] zero o p ps = (p, ps)
+plain_insert [] (suc i) o p ps = (p, ps)
+plain_insert (x ∷ xs) zero o p ps = (p, ps)
+plain_insert (x ∷ xs) (suc i) o p ps = (ps.0, plain_insert xs i o p ps.1)
+
+plain_remove : (xs : List Object) (i : ℕ) → i < length xs → ArePlain xs → ArePlain (remove xs i)
+plain_remove [] i lt ps = absurd (omega (arith, lt))
+plain_remove (x ∷ xs) zero lt ps = ps.1
+plain_remove (x ∷ xs) (suc i) lt ps = (ps.0, plain_remove xs i (omega (arith, lt)) ps.1)
+
+plain_filter : (f : Object → Bool) (xs : List Object) → ArePlain xs → ArePlain (filter f xs)
+plain_filter f [] ps = ps
+plain_filter f (x ∷ xs) ps = by (f x) (plain_filter f xs ps.1)
+  where
+    by : (b : Bool) → ArePlain (filter f xs) → ArePlain (if b then x ∷ filter f xs else filter f xs)
+    by true qs = (ps.0, qs)
+    by false qs = qs
+
+plain_moved : (xs : List Object) (action : Move) → IsMove xs action → ArePlain xs → ArePlain (moved xs action)
+plain_moved xs Stay m ps = ps
+plain_moved xs (Put (Held i) o) m ps = plain_set xs i o m.1 ps
+plain_moved xs (Put (Free i) o) m ps = plain_insert xs i o m.1 ps
+plain_moved xs (Delete i) m ps = plain_remove xs i m ps
+plain_moved xs (Leave key) m ps = plain_filter (λ o. not (has_key key o)) xs ps
+plain_moved xs Clear m ps = tt
+
+-- the objects after a plan
+pub kept_after : ChangesKeepOrder → (objects : List Object) (total : ℕ) → AreKept objects total → (e : Effect) (p : Plan) → IsPlan objects e p → AreKept (moved objects p.action) p.weight
+kept_after law objects total kept e p is = record {
+  sorted =
+      let all = sorted_all law (world_of objects) is.deeds (both (are_objects objects) kept.sorted) in
+      left_of (are_objects (moved objects p.action)) true (subst (λ (w : World). is_sorted_world w ≡ true) is.does.world all);
+  plain = plain_moved objects p.action is.does.valid kept.plain;
+  weighed = is.weight_is;
+  light = is.light;
+}
+
+-- the sessions after one is changed, or taken out
+
+pub present_set : (drawn : ℕ) (sessions : List Session) (i : ℕ) (s v : Session) → ArePresent drawn sessions → slice_get sessions i ≡ Some s → v.number ≡ s.number → ArePresent drawn (slice_set sessions i v)
+present_set drawn sessions i s v present at numbered = record {
+  rises = rises_set 0 drawn sessions i s v present.rises at numbered;
+  few = let long = length-set sessions i v in let few = present.few in omega (arith, long, few);
+}
+
+shorter : (xs : List Session) (i : ℕ) → i < length xs → length (remove xs i) ≤ length xs
+shorter [] i lt = absurd (omega (arith, lt))
+shorter (x ∷ xs) zero lt = omega arith
+shorter (x ∷ xs) (suc i) lt = let ih = shorter xs i (omega (arith, lt)) in omega (arith, ih)
+
+pub present_remove : (drawn : ℕ) (sessions : List Session) (i : ℕ) → i < length sessions → ArePresent drawn sessions → ArePresent drawn (remove sessions i)
+present_remove drawn sessions i lt present = record {
+  rises = rises_remove 0 drawn sessions i lt present.rises;
+  few = let less = shorter sessions i lt in let few = present.few in omega (arith, less, few);
+}
+
+-- what stands at a place is within the list
+pub within : {A : Type 0} (xs : List A) (i : ℕ) (x : A) → slice_get xs i ≡ Some x → i < length xs
+within [] i x at = absurd (cc)
+within (y ∷ ys) zero x at = omega arith
+within (y ∷ ys) (suc i) x at = let ih = within ys i x at in omega (arith, ih)

@@ -1,6 +1,6 @@
 -- The place of a key and an id in the list of objects, in the words of the world.
 use Rattle.std.proofs.Common.{◌≡◌, ℕ, zero, suc, ◌<◌, ◌≤◌, Bool, true, false, refl, sym, ap, ◌∙◌, subst, List, [], ◌∷◌, length, arith}
-use Rattle.std.specs.Prelude.{Option, Some, None, map, find, slice_get, slice_set, if◌then◌else◌, ◌&&◌, ◌||◌}
+use Rattle.std.specs.Prelude.{Option, Some, None, find, slice_get, slice_set, if◌then◌else◌, ◌&&◌, ◌||◌}
 use Rattle.std.specs.List.{insert, list_all}
 use Rattle.std.specs.Cmp.Lexicographic.{slice_cmp}
 use Rattle.std.specs.Ordering.{nat_cmp, ordering_then}
@@ -10,8 +10,7 @@ use Rattle.byte_text.specs.Names.{Bytes, before, same}
 use Rattle.world_model.specs.Lists.{ascends, put_in}
 use Rattle.world_model.specs.Worlds.{object_before, is_at}
 use Rattle.world_model.specs.declared.objects.Object.{Object}
-use Rattle.tile_core.specs.declared.objects.Stored.{Stored}
-use Rattle.tile_core.specs.Objects.{object_of, order_of, AreBelow}
+use Rattle.tile_core.specs.Objects.{order_of, AreBelow}
 use Rattle.tile_core.proofs.ByteOrder.{less, greater, equal, irreflexive, same_self, same_is}
 
 -- what the order of an object and a key and an id says in the world: of the object before them, of them before it, and whether it is at them
@@ -52,68 +51,68 @@ said o x Equal Greater p q =
     let g = greater o.id x.id q in
     (λ e. absurd (cc), λ e. absurd (cc), λ _. record { before_it = grind arith; behind_it = grind arith; is_it = grind arith })
 
-below : (o x : Stored) → order_of x.key x.id o ≡ Less → Says (object_of o) (object_of x) true false false
-below o x e = (said (object_of o) (object_of x) _ _ refl refl).0 e
+pub below : (o x : Object) → order_of x.key x.id o ≡ Less → Says o x true false false
+below o x e = (said o x _ _ refl refl).0 e
 
-equals : (o x : Stored) → order_of x.key x.id o ≡ Equal → Says (object_of o) (object_of x) false false true
-equals o x e = (said (object_of o) (object_of x) _ _ refl refl).1 e
+pub equals : (o x : Object) → order_of x.key x.id o ≡ Equal → Says o x false false true
+equals o x e = (said o x _ _ refl refl).1 e
 
-above : (o x : Stored) → order_of x.key x.id o ≡ Greater → Says (object_of o) (object_of x) false true false
-above o x e = (said (object_of o) (object_of x) _ _ refl refl).2 e
+above : (o x : Object) → order_of x.key x.id o ≡ Greater → Says o x false true false
+above o x e = (said o x _ _ refl refl).2 e
 
 -- what holds of the places behind the first
-next_below : (y : Stored) (ys : List Stored) (key id : Bytes) (i : ℕ) → AreBelow (y ∷ ys) key id (suc i) → AreBelow ys key id i
+pub next_below : (y : Object) (ys : List Object) (key id : Bytes) (i : ℕ) → AreBelow (y ∷ ys) key id (suc i) → AreBelow ys key id i
 next_below y ys key id i b k s near at = b (suc k) s (omega arith) at
 
 -- where no object has the key and the id, the new one goes between those before and those behind
-pub put_free : (xs : List Stored) (x : Stored) (i : ℕ) → AreBelow xs x.key x.id i → i ≤ length xs → ((s : Stored) → slice_get xs i ≡ Some s → order_of x.key x.id s ≡ Greater)
-    → put_in object_before (object_of x) (map object_of xs) ≡ map object_of (insert xs i x)
+pub put_free : (xs : List Object) (x : Object) (i : ℕ) → AreBelow xs x.key x.id i → i ≤ length xs → ((s : Object) → slice_get xs i ≡ Some s → order_of x.key x.id s ≡ Greater)
+    → put_in object_before x xs ≡ insert xs i x
 put_free [] x zero b le g = refl
 put_free [] x (suc i) b le g = absurd (omega arith)
 put_free (y ∷ ys) x zero b le g = let s = above y x (g y refl) in rw s.behind_it refl
 put_free (y ∷ ys) x (suc i) b le g =
     let s = below y x (b 0 y (omega arith) refl) in
     let ih = put_free ys x i (next_below y ys x.key x.id i b) (omega arith) (λ z at. g z at) in
-    rw (s.behind_it, s.before_it) (ap (λ (zs : List Object). object_of y ∷ zs) ih)
+    rw (s.behind_it, s.before_it) (ap (λ (zs : List Object). y ∷ zs) ih)
 
 -- where an object has them, the new one takes its place
-pub put_held : (xs : List Stored) (x : Stored) (i : ℕ) (s : Stored) → AreBelow xs x.key x.id i → slice_get xs i ≡ Some s → order_of x.key x.id s ≡ Equal
-    → put_in object_before (object_of x) (map object_of xs) ≡ map object_of (slice_set xs i x)
+pub put_held : (xs : List Object) (x : Object) (i : ℕ) (s : Object) → AreBelow xs x.key x.id i → slice_get xs i ≡ Some s → order_of x.key x.id s ≡ Equal
+    → put_in object_before x xs ≡ slice_set xs i x
 put_held [] x i s b at e = absurd (cc)
 put_held (y ∷ ys) x zero s b at e =
     let is : y ≡ s = cc in
-    let t = equals y x (subst (λ (z : Stored). order_of x.key x.id z ≡ Equal) (sym is) e) in
+    let t = equals y x (subst (λ (z : Object). order_of x.key x.id z ≡ Equal) (sym is) e) in
     rw (t.behind_it, t.before_it) refl
 put_held (y ∷ ys) x (suc i) s b at e =
     let t = below y x (b 0 y (omega arith) refl) in
     let ih = put_held ys x i s (next_below y ys x.key x.id i b) at e in
-    rw (t.behind_it, t.before_it) (ap (λ (zs : List Object). object_of y ∷ zs) ih)
+    rw (t.behind_it, t.before_it) (ap (λ (zs : List Object). y ∷ zs) ih)
 
 -- an object of this key and this id, to compare with
-abbrev probe : Bytes → Bytes → Stored
-probe key id = record { key = key; id = id; text = []; shape = [] }
+abbrev pub probe : Bytes → Bytes → Object
+probe key id = record { key = key; id = id; text = []; shape = []; fields = []; deadline = None }
 
 -- the object at the place is the one of the key and the id
-pub found_held : (xs : List Stored) (key id : Bytes) (i : ℕ) (s : Stored) → AreBelow xs key id i → slice_get xs i ≡ Some s → order_of key id s ≡ Equal
-    → find (is_at key id) (map object_of xs) ≡ Some (object_of s)
+pub found_held : (xs : List Object) (key id : Bytes) (i : ℕ) (s : Object) → AreBelow xs key id i → slice_get xs i ≡ Some s → order_of key id s ≡ Equal
+    → find (is_at key id) xs ≡ Some s
 found_held [] key id i s b at e = absurd (cc)
 found_held (y ∷ ys) key id zero s b at e =
     let is : y ≡ s = cc in
-    let t = equals y (probe key id) (subst (λ (z : Stored). order_of key id z ≡ Equal) (sym is) e) in
-    rw t.is_it (ap (λ (z : Stored). Some (object_of z)) is)
+    let t = equals y (probe key id) (subst (λ (z : Object). order_of key id z ≡ Equal) (sym is) e) in
+    rw t.is_it (ap (λ (z : Object). Some z) is)
 found_held (y ∷ ys) key id (suc i) s b at e =
     let t = below y (probe key id) (b 0 y (omega arith) refl) in
     rw t.is_it (found_held ys key id i s (next_below y ys key id i b) at e)
 
 -- behind an object that stands behind the key and the id, none has them
-none_behind : (y : Object) (key id : Bytes) (zs : List Object) → object_before y (object_of (probe key id)) ≡ false → list_all (object_before y) zs ≡ true → find (is_at key id) zs ≡ None
+none_behind : (y : Object) (key id : Bytes) (zs : List Object) → object_before y (probe key id) ≡ false → list_all (object_before y) zs ≡ true → find (is_at key id) zs ≡ None
 none_behind y key id [] far all = refl
 none_behind y key id (z ∷ zs) far all =
     let here : object_before y z ≡ true = grind arith in
     let rest : list_all (object_before y) zs ≡ true = grind arith in
     by (is_at key id z) refl (none_behind y key id zs far rest)
   where
-    alike : is_at key id z ≡ true → object_before y z ≡ object_before y (object_of (probe key id))
+    alike : is_at key id z ≡ true → object_before y z ≡ object_before y (probe key id)
     alike e =
         let k = same_is z.key key (grind arith) in
         let j = same_is z.id id (grind arith) in
@@ -127,14 +126,14 @@ none_behind y key id (z ∷ zs) far all =
     by false e rest = rw e rest
 
 -- no object has the key and the id where there is no place of theirs
-pub found_free : (xs : List Stored) (key id : Bytes) (i : ℕ) → ascends object_before (map object_of xs) ≡ true → AreBelow xs key id i → i ≤ length xs → ((s : Stored) → slice_get xs i ≡ Some s → order_of key id s ≡ Greater)
-    → find (is_at key id) (map object_of xs) ≡ None
+pub found_free : (xs : List Object) (key id : Bytes) (i : ℕ) → ascends object_before xs ≡ true → AreBelow xs key id i → i ≤ length xs → ((s : Object) → slice_get xs i ≡ Some s → order_of key id s ≡ Greater)
+    → find (is_at key id) xs ≡ None
 found_free [] key id i asc b le g = refl
 found_free (y ∷ ys) key id zero asc b le g =
     let t = above y (probe key id) (g y refl) in
-    let all : list_all (object_before (object_of y)) (map object_of ys) ≡ true = grind arith in
-    rw t.is_it (none_behind (object_of y) key id (map object_of ys) t.before_it all)
+    let all : list_all (object_before y) ys ≡ true = grind arith in
+    rw t.is_it (none_behind y key id ys t.before_it all)
 found_free (y ∷ ys) key id (suc i) asc b le g =
     let t = below y (probe key id) (b 0 y (omega arith) refl) in
-    let rest : ascends object_before (map object_of ys) ≡ true = grind arith in
+    let rest : ascends object_before ys ≡ true = grind arith in
     rw t.is_it (found_free ys key id i rest (next_below y ys key id i b) (omega arith) (λ s at. g s at))

@@ -39,7 +39,7 @@ none_removed (y ∷ ys) n o = let t = is_other n y (o 0 y refl) in rw t (ap (λ 
 others : (d : ℕ) (y : Session) (ys : List Session) → Rises y.number d ys → AreOthers y.number ys
 others d y ys r k s at e = let h : y.number < s.number = above y.number d ys k s r at in absurd (omega (arith, h, e))
 
-unchanged : (f : halls.Session → halls.Session) (xs : List Session) (n : ℕ) → AreOthers n xs → map (λ s. if halls.is_session n s then f s else s) (map session_of xs) ≡ map session_of xs
+pub unchanged : (f : halls.Session → halls.Session) (xs : List Session) (n : ℕ) → AreOthers n xs → map (λ s. if halls.is_session n s then f s else s) (map session_of xs) ≡ map session_of xs
 unchanged f [] n o = refl
 unchanged f (y ∷ ys) n o = let t = is_other n y (o 0 y refl) in rw t (ap (λ (zs : List halls.Session). session_of y ∷ zs) (unchanged f ys n (λ k s at. o (suc k) s at)))
 
@@ -100,3 +100,15 @@ one_more (x ∷ xs) v = ap (λ (zs : List halls.Session). session_of x ∷ zs) (
 pub as_many : (xs : List Session) → length (map session_of xs) ≡ length xs
 as_many [] = refl
 as_many (x ∷ xs) = ap suc (as_many xs)
+
+-- what is set at a place stands there, and what is set last counts
+
+pub get_set : (xs : List Session) (i : ℕ) (s v : Session) → slice_get xs i ≡ Some s → slice_get (slice_set xs i v) i ≡ Some v
+get_set [] i s v at = absurd (cc)
+get_set (y ∷ ys) zero s v at = refl
+get_set (y ∷ ys) (suc i) s v at = get_set ys i s v at
+
+pub set_twice : (xs : List Session) (i : ℕ) (u v : Session) → slice_set (slice_set xs i u) i v ≡ slice_set xs i v
+set_twice [] i u v = refl
+set_twice (y ∷ ys) zero u v = refl
+set_twice (y ∷ ys) (suc i) u v = ap (λ (zs : List Session). y ∷ zs) (set_twice ys i u v)

@@ -4,12 +4,12 @@ use Rattle.std.specs.Prelude.{Some, None, Option, max, nat_le, ◌||◌, ◌==�
 use Rattle.std.proofs.lemmas.Bool.Decides.{nat_tests}
 use Rattle.byte_text.specs.Names.{Bytes}
 use Rattle.world_model.specs.Limits.{most_logged, full_frames, full_bytes, max_sessions, most_drawn, take_frames}
-use Rattle.world_model.specs.Halls.{Hall, Session, live, is_live, session_of, frame_bytes, change_session, due, do_call, without_session}
+use Rattle.world_model.specs.Halls.{Hall, Session, live, is_live, session_of, frame_bytes, change_session, close_session, due, do_call, without_session}
 use Rattle.world_model.specs.Histories.{Step}
 use Rattle.world_model.specs.declared.events.Asked.{Asked}
 use Rattle.world_model.specs.declared.events.Called.TheVariants as called
-use Rattle.world_model.specs.declared.events.Event.TheVariants.{Enter, Call, Take}
-use Rattle.world_model.specs.declared.events.Outcome.TheVariants.{TooMany, Entered, Answered, Given, Empty, Ended}
+use Rattle.world_model.specs.declared.events.Event.TheVariants.{Enter, Call, Take, Tick, Close, Remove}
+use Rattle.world_model.specs.declared.events.Outcome.TheVariants.{Done, TooMany, Entered, Answered, Given, Empty, Ended}
 
 -- entering
 
@@ -71,6 +71,9 @@ module _ (h : Hall) (n moment : ℕ) (asked : Asked) (going : h.stopped ≡ fals
     pub call_gone : session_of h n ≡ None → Step h (Call n moment asked) (Answered called.Gone) h
     call_gone e = rw (going, spent, e) (refl, refl)
 
+    pub call_closed : (s : Session) → session_of h n ≡ Some s → is_live s ≡ false → Step h (Call n moment asked) (Answered called.Gone) h
+    call_closed s here closed = rw (going, spent, here, closed) (refl, refl)
+
     module _ (s : Session) (here : session_of h n ≡ Some s) (lives : is_live s ≡ true) where
       pub call_full : is_full s ≡ true → Step h (Call n moment asked) (Answered called.Full) h
       call_full f = rw (going, spent, here, lives, f) (refl, refl)
@@ -81,3 +84,20 @@ module _ (h : Hall) (n moment : ℕ) (asked : Asked) (going : h.stopped ≡ fals
 
         pub call_done : Step h (Call n moment asked) (Answered called.Ok) (do_call (due h moment) n asked)
         call_done = rw (going, spent, here, lives, open_) (inr (inr (refl, refl)))
+
+-- the clock
+
+module _ (h : Hall) (moment : ℕ) (going : h.stopped ≡ false) where
+  pub tick_spent : most_logged ≤ h.logged → Step h (Tick moment) (Answered called.Spent) h
+  tick_spent le = let t : nat_le most_logged h.logged ≡ true = grind (arith, nat_tests) in rw (going, t) (refl, refl)
+
+  pub tick_done : h.logged < most_logged → Step h (Tick moment) (Answered called.Ok) (due h moment)
+  tick_done lt = let t : nat_le most_logged h.logged ≡ false = grind (arith, nat_tests) in rw (going, t) (inr (inr (refl, refl)))
+
+-- closing and removing
+
+pub close_done : (h : Hall) (n : ℕ) → h.stopped ≡ false → Step h (Close n) Done (close_session n h)
+close_done h n going = rw going (inr (inr (refl, refl)))
+
+pub remove_done : (h : Hall) (n : ℕ) → h.stopped ≡ false → Step h (Remove n) Done (without_session n h)
+remove_done h n going = rw going (inr (inr (refl, refl)))

@@ -1,34 +1,65 @@
--- Taking, in the words of the parts of a core.
-use Rattle.std.proofs.Common.{◌≡◌, ℕ, ◌<◌, refl, sym, ap, ◌∙◌, subst, true, false, List, [], ◌∷◌, length, take, drop, arith}
-use Rattle.std.specs.Prelude.{Some, slice_get, slice_set, map}
+-- Taking, closing and removing, in the words of the parts of a core.
+use Rattle.std.proofs.Common.{◌≡◌, ℕ, ◌<◌, refl, sym, ap, ◌∙◌, subst, true, false, inl, inr, List, [], ◌∷◌, length, take, drop, arith}
+use Rattle.std.specs.Prelude.{Some, slice_get, slice_set, remove, map, if◌then◌else◌}
 use Rattle.world_model.specs.Limits.{take_frames}
 use Rattle.world_model.specs.Halls.{Hall}
 use Rattle.world_model.specs.Halls as halls
 use Rattle.world_model.specs.Histories.{Step}
-use Rattle.world_model.specs.declared.events.Event.TheVariants.{Take}
-use Rattle.world_model.specs.declared.events.Outcome.TheVariants.{Given, Empty, Ended}
-use Rattle.tile_core.specs.declared.objects.Stored.{Stored}
+use Rattle.world_model.specs.declared.events.Event.TheVariants.{Take, Close, Remove}
+use Rattle.world_model.specs.declared.events.Outcome.TheVariants.{Done, Given, Empty, Ended}
+use Rattle.world_model.specs.declared.objects.Object.{Object}
+use Rattle.tile_core.specs.declared.sessions.Stage.{Stage}
+use Rattle.tile_core.specs.declared.sessions.Stage.TheVariants.{Live, Closing}
 use Rattle.tile_core.specs.declared.sessions.Session.{Session}
 use Rattle.tile_core.specs.Objects.{world_of}
-use Rattle.tile_core.specs.Sessions.{session_of, Rises, AreOthers}
+use Rattle.tile_core.specs.Sessions.{session_of, stage_of, is_open, closed, Rises, AreOthers}
 use Rattle.tile_core.specs.Kernels.{hall_of}
-use Rattle.tile_core.proofs.Present.{found, none_found, none_removed, changed}
-use Rattle.tile_core.proofs.Steps.{take_absent, take_empty, take_given}
+use Rattle.tile_core.proofs.Present.{found, none_found, none_removed, removed, changed, unchanged}
+use Rattle.tile_core.proofs.Steps.{take_absent, take_ended, take_empty, take_given, close_done, remove_done}
 
-module _ (objects : List Stored) (now logged drawn : ℕ) (sessions : List Session) (n : ℕ) where
+-- what a close does to a session of the hall
+abbrev pub closing : halls.Session → halls.Session
+closing s = if halls.is_live s then record s { stage = halls.closing; subs = [] } else s
+
+closing_is : (s : Session) → closing (session_of s) ≡ session_of (closed s)
+closing_is s = by s.stage
+  where
+    by : (g : Stage) → closing (session_of (record s { stage = g })) ≡ session_of (closed s)
+    by Live = refl
+    by Closing = refl
+
+module _ (objects : List Object) (now logged drawn : ℕ) (sessions : List Session) (n : ℕ) where
+  abbrev hall : Hall
+  hall = hall_of objects now logged drawn sessions
+
   -- the hall of these parts, with these sessions
   abbrev hall_with : List halls.Session → Hall
   hall_with ss = record { world = world_of objects; now = now; logged = logged; stopped = false; drawn = drawn; sessions = ss }
 
-  pub absent : AreOthers n sessions → Step (hall_of objects now logged drawn sessions) (Take n) Ended (hall_of objects now logged drawn sessions)
-  absent o = subst (λ (ss : List halls.Session). Step (hall_of objects now logged drawn sessions) (Take n) Ended (hall_with ss)) (none_removed sessions n o) (take_absent (hall_of objects now logged drawn sessions) n refl (none_found sessions n o))
+  pub absent : AreOthers n sessions → Step hall (Take n) Ended hall
+  absent o = subst (λ (ss : List halls.Session). Step hall (Take n) Ended (hall_with ss)) (none_removed sessions n o) (take_absent hall n refl (none_found sessions n o))
+
+  pub close_absent : AreOthers n sessions → Step hall (Close n) Done hall
+  close_absent o = subst (λ (ss : List halls.Session). Step hall (Close n) Done (hall_with ss)) (unchanged closing sessions n o) (close_done hall n refl)
+
+  pub remove_absent : AreOthers n sessions → Step hall (Remove n) Done hall
+  remove_absent o = subst (λ (ss : List halls.Session). Step hall (Remove n) Done (hall_with ss)) (none_removed sessions n o) (remove_done hall n refl)
 
   module _ (i : ℕ) (s : Session) (rises : Rises 0 drawn sessions) (at : slice_get sessions i ≡ Some s) (numbered : s.number ≡ n) where
-    pub empty : length s.outbox ≡ 0 → Step (hall_of objects now logged drawn sessions) (Take n) Empty (hall_of objects now logged drawn sessions)
-    empty e = take_empty (hall_of objects now logged drawn sessions) n (session_of s) refl (found 0 drawn sessions i n s rises at numbered) refl e
+    pub empty : is_open s ≡ true → length s.outbox ≡ 0 → Step hall (Take n) Empty hall
+    empty l e = take_empty hall n (session_of s) refl (found 0 drawn sessions i n s rises at numbered) l e
+
+    pub ended : is_open s ≡ false → length s.outbox ≡ 0 → Step hall (Take n) Ended (hall_of objects now logged drawn (remove sessions i))
+    ended l e = subst (λ (ss : List halls.Session). Step hall (Take n) Ended (hall_with ss)) (removed 0 drawn sessions i n s rises at numbered) (take_ended hall n (session_of s) refl (found 0 drawn sessions i n s rises at numbered) l e)
 
     pub given : (v : Session) → v ≡ record s { outbox = drop take_frames s.outbox } → 0 < length s.outbox
-        → Step (hall_of objects now logged drawn sessions) (Take n) (Given (take take_frames s.outbox)) (hall_of objects now logged drawn (slice_set sessions i v))
+        → Step hall (Take n) (Given (take take_frames s.outbox)) (hall_of objects now logged drawn (slice_set sessions i v))
     given v is some =
         let left : halls.Session → halls.Session = λ t. record t { frames = drop take_frames t.frames } in
-        subst (λ (ss : List halls.Session). Step (hall_of objects now logged drawn sessions) (Take n) (Given (take take_frames s.outbox)) (hall_with ss)) (changed left 0 drawn sessions i n s v rises at numbered (ap session_of (sym is))) (take_given (hall_of objects now logged drawn sessions) n (session_of s) refl (found 0 drawn sessions i n s rises at numbered) some)
+        subst (λ (ss : List halls.Session). Step hall (Take n) (Given (take take_frames s.outbox)) (hall_with ss)) (changed left 0 drawn sessions i n s v rises at numbered (ap session_of (sym is))) (take_given hall n (session_of s) refl (found 0 drawn sessions i n s rises at numbered) some)
+
+    pub close_present : (v : Session) → v ≡ closed s → Step hall (Close n) Done (hall_of objects now logged drawn (slice_set sessions i v))
+    close_present v is = subst (λ (ss : List halls.Session). Step hall (Close n) Done (hall_with ss)) (changed closing 0 drawn sessions i n s v rises at numbered (closing_is s ∙ ap session_of (sym is))) (close_done hall n refl)
+
+    pub remove_present : Step hall (Remove n) Done (hall_of objects now logged drawn (remove sessions i))
+    remove_present = subst (λ (ss : List halls.Session). Step hall (Remove n) Done (hall_with ss)) (removed 0 drawn sessions i n s rises at numbered) (remove_done hall n refl)

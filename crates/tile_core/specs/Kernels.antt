@@ -1,13 +1,12 @@
 -- What contracts see of a core, and what holds of its parts.
 use Rattle.std.specs.Prelude.{◌≡◌, ℕ, ◌≤◌, true, false, List, length, map}
 use Rattle.world_model.specs.Limits.{max_weight, max_sessions}
-use Rattle.world_model.specs.Lists.{ascends}
-use Rattle.world_model.specs.Worlds.{object_before}
+use Rattle.world_model.specs.Worlds.{are_objects}
 use Rattle.world_model.specs.Records.{weight}
 use Rattle.world_model.specs.Halls.{Hall}
-use Rattle.tile_core.specs.declared.objects.Stored.{Stored}
+use Rattle.world_model.specs.declared.objects.Object.{Object}
 use Rattle.tile_core.specs.declared.sessions.Session.{Session}
-use Rattle.tile_core.specs.Objects.{object_of, world_of}
+use Rattle.tile_core.specs.Objects.{world_of, ArePlain}
 use Rattle.tile_core.specs.Sessions.{session_of, Rises}
 
 -- what contracts see: the hall
@@ -15,13 +14,21 @@ pub record Kernel : Type 0 where
   pub hall : Hall
 
 -- the hall of these parts; no log can fail so far, so it never stops
-abbrev pub hall_of : List Stored → ℕ → ℕ → ℕ → List Session → Hall
+abbrev pub hall_of : List Object → ℕ → ℕ → ℕ → List Session → Hall
 hall_of objects now logged drawn sessions = record { world = world_of objects; now = now; logged = logged; stopped = false; drawn = drawn; sessions = map session_of sessions }
 
--- objects in order, their weight at hand and within its limit, sessions by rising numbers and not too many
-pub record IsSound (objects : List Stored) (total drawn : ℕ) (sessions : List Session) : Type 0 where
-  pub sorted : ascends object_before (map object_of objects) ≡ true
+-- objects in order, their weight at hand and within its limit
+pub record AreKept (objects : List Object) (total : ℕ) : Type 0 where
+  pub sorted : are_objects objects ≡ true
+  pub plain : ArePlain objects
   pub weighed : total ≡ weight (world_of objects)
   pub light : total ≤ max_weight
+
+-- sessions by rising numbers, and not too many
+pub record ArePresent (drawn : ℕ) (sessions : List Session) : Type 0 where
   pub rises : Rises 0 drawn sessions
   pub few : length sessions ≤ max_sessions
+
+pub record IsSound (objects : List Object) (total drawn : ℕ) (sessions : List Session) : Type 0 where
+  pub kept : AreKept objects total
+  pub present : ArePresent drawn sessions

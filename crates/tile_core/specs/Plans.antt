@@ -1,65 +1,112 @@
--- What a request will do, made ready before anything is changed.
-use Rattle.std.specs.Prelude.{◌≡◌, ℕ, ◌≤◌, Bool, false, nat_le, List, [], ◌∷◌, length, Result, Ok, Err, None}
+-- What a call will do, made ready before anything is changed.
+use Rattle.std.specs.Prelude.{◌≡◌, ℕ, ◌+◌, ◌≤◌, Bool, true, false, nat_le, List, [], ◌∷◌, length, flat_map, Option, Some, None, Result, Ok, Err}
+use Rattle.std.specs.List.{AllByRecursion}
 use Rattle.byte_text.specs.Names.{Bytes}
 use Rattle.byte_text.specs.Replies.{frame_text}
 use Rattle.byte_text.specs.declared.replies.Piece.{Piece}
+use Rattle.planar_geom.specs.Points.{Bounds}
+use Rattle.planar_geom.specs.Shapes.{all_vertices, box_of_points}
 use Rattle.world_model.specs.Limits.{max_reply, max_weight, max_objects}
 use Rattle.world_model.specs.Worlds.{after}
 use Rattle.world_model.specs.Records.{record_len, weight}
-use Rattle.world_model.specs.Effects.{Effect, says, changes, loud, effect}
-use Rattle.world_model.specs.Refusals.{fault_reply}
+use Rattle.world_model.specs.Effects.{Effect, Deed, says, effect}
+use Rattle.world_model.specs.Refusals.{fault_reply, broken_reply}
 use Rattle.world_model.specs.Served.{asks}
 use Rattle.world_model.specs.declared.worlds.World.{World}
+use Rattle.world_model.specs.declared.worlds.Change.{Change}
 use Rattle.world_model.specs.declared.worlds.Change.TheVariants as change
 use Rattle.world_model.specs.declared.commands.Command.{Command}
-use Rattle.world_model.specs.declared.commands.Command.TheVariants as command
-use Rattle.world_model.specs.declared.commands.Only.TheVariants.{Any}
-use Rattle.world_model.specs.declared.queries.Shown.TheVariants as shown
+use Rattle.world_model.specs.declared.commands.Only.{Only}
+use Rattle.world_model.specs.declared.commands.Only.TheVariants.{Any, Absent, Present}
 use Rattle.world_model.specs.declared.faults.WordFault.{WordFault}
-use Rattle.tile_core.specs.Objects.{object_of, world_of, IsPlace, max_record}
-use Rattle.tile_core.specs.declared.objects.Stored.{Stored}
+use Rattle.world_model.specs.declared.events.Asked.{Asked}
+use Rattle.world_model.specs.declared.events.Asked.TheVariants.{Words, Broken}
 use Rattle.tile_core.specs.declared.objects.Place.{Place}
 use Rattle.tile_core.specs.declared.objects.Place.TheVariants.{Held, Free}
+use Rattle.tile_core.specs.declared.objects.Move.{Move}
+use Rattle.tile_core.specs.declared.objects.Move.TheVariants.{Stay}
+use Rattle.world_model.specs.declared.objects.Object.{Object}
+use Rattle.tile_core.specs.Objects.{world_of, IsMove, moved}
 use Rattle.tile_core.specs.declared.plans.Plan.{Plan}
-use Rattle.tile_core.specs.declared.plans.Plan.TheVariants.{Reply, Store}
-use Rattle.tile_core.specs.declared.plans.Storing.{Storing}
 
--- what a request does in a world at a moment, for a session without subscriptions, by how its words are read
+-- what words do in a world at a moment, for a session without subscriptions, by how they are read
 abbrev pub effect_of_read : World → ℕ → Result Command WordFault → Effect
 effect_of_read w now (Ok c) = effect w now [] c
 effect_of_read w now (Err f) = says (fault_reply f)
 
-abbrev pub effect_of_words : World → ℕ → List Bytes → Effect
-effect_of_words w now words = effect_of_read w now (asks words)
+-- a reply, and the end of the session
+abbrev pub ends_with : List Piece → Effect
+ends_with reply = record { replies = reply ∷ []; subs = []; deeds = []; closes = true }
 
--- the effect is a reply of this frame, whatever the moment is
-pub record Replies (e : ℕ → Effect) (frame : Bytes) : Type 0 where
-  pub reply : (now : ℕ) → (r : List Piece) × (e now ≡ says r) × (frame_text r ≡ frame)
+-- what is asked does it: the words, or the fault of a broken protocol, behind which the session ends
+abbrev pub effect_of_asked : World → ℕ → Asked → Effect
+effect_of_asked w now (Words words) = effect_of_read w now (asks words)
+effect_of_asked w now (Broken f) = ends_with (broken_reply f)
+
+-- the world after changes in order
+abbrev pub after_all : World → List Deed → World
+after_all w [] = w
+after_all w (d ∷ deeds) = after_all (after w d.change) deeds
+
+-- the bytes of the records of changes
+abbrev pub records_len : List Deed → ℕ
+records_len [] = 0
+records_len (d ∷ deeds) = record_len d.change + records_len deeds
+
+-- a change of objects, which leaves a world without channels as it is
+abbrev pub IsOfObjects : Change → Type 0
+IsOfObjects (change.Put o) = Unit {0}
+IsOfObjects (change.Del key id) = Unit {0}
+IsOfObjects (change.Drop key) = Unit {0}
+IsOfObjects change.Flush = Unit {0}
+IsOfObjects (change.SetChan c) = ⊥
+IsOfObjects (change.DelChan name) = ⊥
+
+-- what is done to the list of objects is what the changes do to the world
+pub record Does (objects : List Object) (action : Move) (deeds : List Deed) : Type 0 where
+  pub valid : IsMove objects action
+  pub objects_only : AllByRecursion (λ d. IsOfObjects d.change) deeds
+  pub world : after_all (world_of objects) deeds ≡ world_of (moved objects action)
+
+-- the plan is that of an effect in the world of these objects: one reply, whose frame is at hand, and changes, for which all is known that is needed
+pub record IsPlan (objects : List Object) (e : Effect) (p : Plan) : Type 0 where
+  pub reply : List Piece
+  pub deeds : List Deed
+  pub is : e ≡ record { replies = reply ∷ []; subs = []; deeds = deeds; closes = p.closes }
+  pub frame : p.frame ≡ frame_text reply
+  pub short : length p.frame ≤ max_reply
+  pub does : Does objects p.action deeds
+  pub length_is : p.length ≡ records_len deeds
+  pub small : p.length ≤ max_weight
+  pub weight_is : p.weight ≡ weight (world_of (moved objects p.action))
+  pub light : p.weight ≤ max_weight
+
+-- the effect is one reply and nothing else, and this is its frame
+pub record Replies (e : Effect) (frame : Bytes) : Type 0 where
+  pub reply : List Piece
+  pub is : e ≡ says reply
+  pub frame_is : frame ≡ frame_text reply
   pub short : length frame ≤ max_reply
 
--- the effect is a reply and the put of an object, for which all is known that is needed
-pub record Stores (objects : List Stored) (e : ℕ → Effect) (s : Storing) : Type 0 where
-  pub reply : (now : ℕ) → (r : List Piece) × (e now ≡ changes r (loud (change.Put (object_of s.object)) ∷ [])) × (frame_text r ≡ s.frame)
-  pub short : length s.frame ≤ max_reply
-  pub place : IsPlace objects s.object.key s.object.id s.place
-  pub length_is : s.length ≡ record_len (change.Put (object_of s.object))
-  pub small : s.length ≤ max_record
-  pub weight_is : s.weight ≡ weight (after (world_of objects) (change.Put (object_of s.object)))
-  pub fits : s.weight ≤ max_weight
+-- the plan is the answer of the effect, and changes nothing in a world of this weight
+pub record Says (e : Effect) (total : ℕ) (p : Plan) : Type 0 where
+  pub replies : Replies e p.frame
+  pub is : p ≡ record { frame = p.frame; action = Stay; length = 0; weight = total; closes = false }
+
+-- NX with an object held there, or XX without one
+abbrev pub keeps_back : Only → Place → Bool
+keeps_back Any place = false
+keeps_back Absent (Held i) = true
+keeps_back Absent (Free i) = false
+keeps_back Present (Held i) = false
+keeps_back Present (Free i) = true
 
 -- the object would be a new one beside the greatest number of objects
-abbrev pub lacks_room : List Stored → Place → Bool
+abbrev pub lacks_room : List Object → Place → Bool
 lacks_room objects (Held i) = false
 lacks_room objects (Free i) = nat_le max_objects (length objects)
 
--- a command as it is served so far: a point without fields, deadline or condition, whose record is short; or an object's text
-abbrev pub IsSimple : Command → Type 0
-IsSimple (command.Set key id fields cleared seconds only text shape) =
-    (fields ≡ []) × (cleared ≡ []) × (seconds ≡ None) × (only ≡ Any) × (record_len (change.Put (object_of (record { key = key; id = id; text = text; shape = shape }))) ≤ max_record)
-IsSimple (command.Get key id with_fields how) = (with_fields ≡ false) × (how ≡ shown.Objects)
-IsSimple c = ⊥
-
--- the plan is that of the effect in the world of these objects
-abbrev pub IsPlan : List Stored → (ℕ → Effect) → Plan → Type 0
-IsPlan objects e (Reply frame) = Replies e frame
-IsPlan objects e (Store s) = Stores objects e s
+-- the least box round all points of objects, where there is an object
+abbrev pub box_of_objects : List Object → Option Bounds
+box_of_objects [] = None
+box_of_objects (o ∷ objects) = Some (box_of_points (flat_map (λ p. all_vertices p.shape) (o ∷ objects)))

@@ -1,18 +1,38 @@
 -- The sessions that a core keeps.
-use Rattle.std.specs.Prelude.{◌≡◌, ◌≢◌, ℕ, Bool, ◌||◌, nat_le, ◌<◌, ◌≤◌, List, [], ◌∷◌, length, slice_get, Some, Result, Ok, Err, true, false}
+use Rattle.std.specs.Prelude.{◌≡◌, ◌≢◌, ◌⊎◌, ℕ, Bool, ◌||◌, nat_le, ◌<◌, ◌≤◌, List, [], ◌∷◌, ◌++◌, length, slice_get, Some, Result, Ok, Err, true, false, if◌then◌else◌}
+use Rattle.byte_text.specs.Names.{Bytes}
 use Rattle.world_model.specs.Limits.{full_frames, full_bytes}
 use Rattle.world_model.specs.Halls as halls
 use Rattle.world_model.specs.declared.events.Called.{Called}
 use Rattle.world_model.specs.declared.events.Called.TheVariants as called
+use Rattle.tile_core.specs.declared.sessions.Stage.{Stage}
+use Rattle.tile_core.specs.declared.sessions.Stage.TheVariants.{Live, Closing}
 use Rattle.tile_core.specs.declared.sessions.Session.{Session}
 
--- the session of the hall that it stands for: it is served, and has no subscriptions so far
+-- the stage of the hall's session; none is cut so far
+abbrev pub stage_of : Stage → halls.Stage
+stage_of Live = halls.live
+stage_of Closing = halls.closing
+
+-- the session of the hall that it stands for; it has no subscriptions so far
 abbrev pub session_of : Session → halls.Session
-session_of s = record { number = s.number; subs = []; frames = s.outbox; stage = halls.live }
+session_of s = record { number = s.number; subs = []; frames = s.outbox; stage = stage_of s.stage }
+
+-- it is served
+abbrev pub is_open : Session → Bool
+is_open s = halls.is_live (session_of s)
 
 -- it has too many frames, or too many bytes of frames, for a call to be made
 abbrev pub is_full : Session → Bool
 is_full s = nat_le full_frames (length s.outbox) || nat_le full_bytes (halls.frame_bytes s.outbox)
+
+-- it is to end behind its frames
+abbrev pub closed : Session → Session
+closed s = record s { stage = Closing }
+
+-- a frame is placed on it, and an answer that closes lets it end behind it
+abbrev pub answered : Bytes → Bool → Session → Session
+answered frame closes s = record s { outbox = s.outbox ++ frame ∷ []; stage = if closes then Closing else s.stage }
 
 -- the session of this number stands at this place
 pub record IsAt (sessions : List Session) (number i : ℕ) : Type 0 where
@@ -29,9 +49,9 @@ Rises low drawn (s ∷ sessions) = (low < s.number) × Rises s.number drawn sess
 abbrev pub AreOthers : ℕ → List Session → Type 0
 AreOthers number sessions = (k : ℕ) (s : Session) → slice_get sessions k ≡ Some s → s.number ≢ number
 
--- the session of the number may make a call, or is absent, or is full
+-- the session of the number may make a call, or is absent or not served any more, or is full
 abbrev pub IsServed : List Session → ℕ → Result ℕ Called → Type 0
-IsServed sessions number (Ok i) = (at : IsAt sessions number i) × (is_full at.session ≡ false) × (i < length sessions)
-IsServed sessions number (Err called.Gone) = AreOthers number sessions
-IsServed sessions number (Err called.Full) = (i : ℕ) × (at : IsAt sessions number i) × (is_full at.session ≡ true)
+IsServed sessions number (Ok i) = (at : IsAt sessions number i) × (is_open at.session ≡ true) × (is_full at.session ≡ false) × (i < length sessions)
+IsServed sessions number (Err called.Gone) = AreOthers number sessions ⊎ ((i : ℕ) × (at : IsAt sessions number i) × (is_open at.session ≡ false))
+IsServed sessions number (Err called.Full) = (i : ℕ) × (at : IsAt sessions number i) × (is_open at.session ≡ true) × (is_full at.session ≡ true)
 IsServed sessions number (Err c) = ⊥

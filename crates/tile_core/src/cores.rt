@@ -1,24 +1,22 @@
 //! The core and its calls.
 
 ghost use Rattle.std.specs.Prelude.{◌≡◌, ◌≤◌, ◌+◌, [], length};
-ghost use Rattle.world_model.specs.Limits.{take_frames};
+ghost use Rattle.world_model.specs.Limits.{take_frames, max_weight};
 ghost use Rattle.world_model.specs.Worlds.{empty_world};
 ghost use Rattle.world_model.specs.Histories.{Step, opening_hall};
 ghost use Rattle.world_model.specs.Seats.{enter_outcome, take_outcome, given_count};
 ghost use Rattle.world_model.specs.declared.events.Event.TheVariants as event;
 ghost use Rattle.world_model.specs.declared.events.Outcome.TheVariants as outcome;
-ghost use Rattle.world_model.specs.declared.events.Asked.TheVariants.{Words};
 ghost use Rattle.tile_core.specs.Kernels.{Kernel};
-ghost use Rattle.tile_core.specs.Objects.{max_record};
 
-use crate::objects::{Stored, put_object};
-use crate::plans::{Plan, Storing, plan_words};
-use crate::sessions::{Session, position_of, put_frame, served, take_frames};
-use byte_text::{NoMemory, Request};
+use crate::objects::{make_move, make_room};
+use crate::plans::{Plan, plan_asked};
+use crate::sessions::{Session, Stage, position_of, served};
+use byte_text::NoMemory;
 use std::alloc::Global;
 use std::marker::Model;
 use subscriber_queue::Outbox;
-use world_model::{Called, EnterFault, Frames, Taken};
+use world_model::{Asked, Called, EnterFault, Frames, Object, Taken, world_laws};
 
 /// The most sessions that are present at once.
 const MAX_SESSIONS: usize = 512;
@@ -30,7 +28,7 @@ const MOST_LOGGED: u64 = 1 << 60;
 #[derive(Drop)]
 pub struct Core {
     alloc: Global,
-    objects: Vec<Stored>,
+    objects: Vec<Object>,
     /// The bytes of the records of all objects.
     weight: u64,
     now: u64,
@@ -79,14 +77,20 @@ impl Core {
             Err(NoMemory) => return Err(EnterFault::Memory),
         };
         let number = self.drawn + 1;
-        if self.sessions.push(Session { number, outbox }).is_err() {
+        let session = Session {
+            number,
+            outbox,
+            stage: Stage::Live,
+        };
+        if self.sessions.push(session).is_err() {
             return Err(EnterFault::Memory);
         }
         self.drawn = number;
         Ok(number)
     }
 
-    /// Gives the first frames of a session, at most 64, into `into`. It takes no memory.
+    /// Gives the first frames of a session, at most 64, into `into`. A session that is not served any more is removed by the
+    /// first take that finds no frame. It takes no memory.
     pub fn take(&mut self, session: u32, into: &mut Frames) -> Taken
         requires { into.old ≡ record { list = []; places = take_frames } }
         ensures step { Step self.old.hall (event.Take session) (take_outcome result into.new.list) self.new.hall }
@@ -97,17 +101,21 @@ impl Core {
         let Some(at) = position_of(self.sessions.as_slice(), session) else {
             return Taken::Ended;
         };
-        if self.sessions[at].outbox.frames() == 0 {
+        if self.sessions[at].outbox.frames() > 0 {
+            return Taken::Some(self.sessions[at].take_frames(into));
+        }
+        if self.sessions[at].is_open() {
             return Taken::Empty;
         }
-        Taken::Some(take_frames(&mut self.sessions[at], into))
+        self.sessions.remove(at);
+        Taken::Ended
     }
 
-    /// Makes a call of a session at a moment: what the words of its request ask for is done, and its reply is put last in the
-    /// session's queue. For want of memory the core is as before.
-    pub fn call(&mut self, session: u32, moment: u64, words: &Request) -> Called
-        ensures step { Step self.old.hall (event.Call session moment (Words words.now)) (outcome.Answered result) self.new.hall }
-        ensures logged { self.new.hall.logged ≤ self.old.hall.logged + max_record }
+    /// Makes a call of a session at a moment: what is asked is done, and its reply is put last in the session's queue. A
+    /// broken protocol, as QUIT, lets the session end behind the reply. For want of memory the core is as before.
+    pub fn call(&mut self, session: u32, moment: u64, asked: &Asked) -> Called
+        ensures step { Step self.old.hall (event.Call session moment asked.now) (outcome.Answered result) self.new.hall }
+        ensures logged { self.new.hall.logged ≤ self.old.hall.logged + max_weight }
     {
         if self.logged >= MOST_LOGGED {
             return Called::Spent;
@@ -116,33 +124,57 @@ impl Core {
             Ok(at) => at,
             Err(answer) => return answer,
         };
-        let Ok(plan) = plan_words(self.alloc, self.objects.as_slice(), self.weight, words) else {
+        let Ok(plan) = plan_asked(self.alloc, self.objects.as_slice(), self.weight, asked) else {
             return Called::Memory;
         };
-        match plan {
-            Plan::Reply(frame) => {
-                self.now = self.now.max(moment);
-                put_frame(&mut self.sessions[at], frame);
-                Called::Ok
-            }
-            Plan::Store(storing) => {
-                if self.objects.reserve(1).is_err() {
-                    return Called::Memory;
-                }
-                let Storing {
-                    frame,
-                    place,
-                    object,
-                    length,
-                    weight,
-                } = storing;
-                self.now = self.now.max(moment);
-                put_frame(&mut self.sessions[at], frame);
-                put_object(&mut self.objects, place, object);
-                self.weight = weight;
-                self.logged += length;
-                Called::Ok
-            }
+        let Plan {
+            frame,
+            action,
+            length,
+            weight,
+            closes,
+        } = plan;
+        if make_room(&mut self.objects, &action).is_err() {
+            return Called::Memory;
+        }
+        world_laws();
+        self.now = self.now.max(moment);
+        self.sessions[at].answer(frame, closes);
+        make_move(&mut self.objects, action);
+        self.weight = weight;
+        self.logged += length;
+        Called::Ok
+    }
+
+    /// Lets the clock go on to a moment.
+    pub fn tick(&mut self, moment: u64) -> Called
+        ensures step { Step self.old.hall (event.Tick moment) (outcome.Answered result) self.new.hall }
+        ensures logged { self.new.hall.logged ≤ self.old.hall.logged + max_weight }
+    {
+        if self.logged >= MOST_LOGGED {
+            return Called::Spent;
+        }
+        self.now = self.now.max(moment);
+        Called::Ok
+    }
+
+    /// Lets a session end behind the frames that it has.
+    pub fn close_session(&mut self, session: u32)
+        ensures step { Step self.old.hall (event.Close session) outcome.Done self.new.hall }
+        ensures logged { self.new.hall.logged ≡ self.old.hall.logged }
+    {
+        if let Some(at) = position_of(self.sessions.as_slice(), session) {
+            self.sessions[at].close();
+        }
+    }
+
+    /// Takes a session away with its frames.
+    pub fn remove_session(&mut self, session: u32)
+        ensures step { Step self.old.hall (event.Remove session) outcome.Done self.new.hall }
+        ensures logged { self.new.hall.logged ≡ self.old.hall.logged }
+    {
+        if let Some(at) = position_of(self.sessions.as_slice(), session) {
+            self.sessions.remove(at);
         }
     }
 }

@@ -1,14 +1,14 @@
 //! The core: a world of objects and the sessions that are served, each of whose calls is one step of the defined machine.
 #![tactic(auto)]
 
+mod answers;
 mod cores;
-mod frames;
+mod deletes;
 mod objects;
 mod plans;
+mod puts;
+mod reads;
 mod records;
 mod sessions;
 
 pub use cores::Core;
-
-#[cfg(test)]
-mod tests;

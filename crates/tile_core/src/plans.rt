@@ -1,144 +1,100 @@
-//! What a request will do: its reply and its change, made ready before anything is changed.
+//! What a call will do: its reply and its change, made ready before anything is changed.
 
-ghost use Rattle.std.specs.Prelude.{◌≡◌, ◌≢◌, ◌≤◌, ℕ, true, false, map, IfOk, [], None, codes};
-ghost use Rattle.byte_text.specs.Replies.{bulk, frame_text};
-ghost use Rattle.world_model.specs.Replies.{error};
-ghost use Rattle.world_model.specs.Limits.{max_weight};
-ghost use Rattle.world_model.specs.Lists.{ascends};
-ghost use Rattle.world_model.specs.Worlds.{object_before, after};
-ghost use Rattle.world_model.specs.Records.{record_len, weight};
-ghost use Rattle.world_model.specs.Effects.{effect, says, within_reply};
+ghost use Rattle.std.specs.Prelude.{◌≡◌, ◌≢◌, ◌≤◌, ℕ, [], length, IfOk};
+ghost use Rattle.byte_text.specs.Replies.{frame_text};
+ghost use Rattle.world_model.specs.Limits.{max_reply};
+ghost use Rattle.world_model.specs.Effects.{effect, says};
+ghost use Rattle.world_model.specs.Refusals.{fault_reply as fault_pieces, broken_reply as broken_pieces};
+ghost use Rattle.world_model.specs.Served.{asks};
 ghost use Rattle.world_model.specs.declared.commands.Command.TheVariants as command;
-ghost use Rattle.world_model.specs.declared.commands.Only.TheVariants.{Any};
-ghost use Rattle.world_model.specs.declared.queries.Shown.TheVariants as shown;
-ghost use Rattle.world_model.specs.declared.worlds.Change.TheVariants as change;
-ghost use Rattle.tile_core.specs.Objects.{object_of, world_of, IsPlace, max_record};
-ghost use Rattle.tile_core.specs.Plans.{IsPlan, IsSimple, Replies, effect_of_words, lacks_room};
+ghost use Rattle.cmd_words.specs.Laws.{IsServed};
+ghost use Rattle.tile_core.specs.Kernels.{AreKept};
+ghost use Rattle.tile_core.specs.Objects.{world_of};
+ghost use Rattle.tile_core.specs.Plans.{IsPlan, ends_with, effect_of_read, effect_of_asked};
 
-use crate::frames::{bulk_frame, error_frame, fine_frame, null_frame};
-use crate::objects::{Place, Stored, place_of};
-use crate::records::record_len;
-use byte_text::{Name, NoMemory, Request, Text};
-use cmd_words::{command_of, served_words_are_read};
+use crate::answers::{say, short_frame};
+use crate::deletes::{plan_del, plan_drop, plan_flush};
+use crate::objects::Move;
+use crate::puts::plan_set;
+use crate::reads::{plan_bounds, plan_get, plan_stats};
+use byte_text::{NoMemory, Request, RespFault, Text};
+use cmd_words::{command_of, served_commands};
+use reply_text::{broken_reply, fault_reply, fine_reply, status_reply};
 use std::alloc::Global;
-use world_model::{Command, WordFault};
+use world_model::{Asked, Command, Fields, Object, WordFault};
 
-/// The most bytes of a reply's frame.
-const MAX_REPLY: usize = 4_194_304;
-
-/// The most objects of a world.
-const MAX_OBJECTS: usize = 1_000_000;
-
-/// The most bytes of the records of all objects together.
-const MAX_WEIGHT: u64 = 536_870_912;
-
-/// What a request will do.
+/// What a call will do.
 #[derive(Drop)]
-pub(crate) enum Plan {
-    /// It is answered by this frame.
-    Reply(Text),
-    /// It is answered, and an object is put.
-    Store(Storing),
-}
-
-/// An object that is to be put, with all that is needed for it.
-#[derive(Drop)]
-pub(crate) struct Storing {
+pub(crate) struct Plan {
+    /// The frame of its reply.
     pub(crate) frame: Text,
-    pub(crate) place: Place,
-    pub(crate) object: Stored,
-    /// The length of the record.
+    pub(crate) action: Move,
+    /// The bytes of the records of the changes.
     pub(crate) length: u64,
-    /// The weight of the world after the put.
+    /// The weight of the world after them.
     pub(crate) weight: u64,
+    /// Whether the session ends behind the reply.
+    pub(crate) closes: bool,
 }
 
-// The frame of a reply that is a text, or of the refusal where it would be too long.
-fn text_frame(alloc: Global, text: &[u8]) -> Result<Text, NoMemory>
-    ensures { IfOk result (λ frame. Replies (λ (now : ℕ). within_reply (says (bulk text.now))) frame) }
+impl Plan {
+    ghost use Rattle.std.specs.Prelude.{◌≡◌, true, false};
+    ghost use Rattle.tile_core.specs.declared.objects.Move.TheVariants.{Stay};
+
+    /// A reply and no change, in a world of this weight.
+    pub(crate) fn reply(frame: Text, weight: u64) -> Plan
+        ensures { result ≡ record { frame = frame; action = Stay; length = 0; weight = weight; closes = false } }
+    {
+        Plan {
+            frame,
+            action: Move::Stay,
+            length: 0,
+            weight,
+            closes: false,
+        }
+    }
+
+    // The same, and the session ends behind it.
+    fn last_reply(frame: Text, weight: u64) -> Plan
+        ensures { result ≡ record { frame = frame; action = Stay; length = 0; weight = weight; closes = true } }
+    {
+        Plan {
+            frame,
+            action: Move::Stay,
+            length: 0,
+            weight,
+            closes: true,
+        }
+    }
+}
+
+// What PING will do.
+fn plan_ping(alloc: Global, _objects: &[Object], total: u64) -> Result<Plan, NoMemory>
+    requires { AreKept _objects.now total }
+    ensures { IfOk result (λ p. (now : ℕ) → IsPlan _objects.now (effect (world_of _objects.now) now [] command.Ping) p) }
 {
-    let frame = bulk_frame(alloc, text)?;
-    if frame.bytes().len() > MAX_REPLY {
-        error_frame(alloc, b"reply too long")
-    } else {
-        Ok(frame)
-    }
+    say(alloc, total, &status_reply(alloc, b"PONG")?)
 }
 
-// The frame of the reply to `GET key id`.
-fn get_frame(alloc: Global, objects: &[Stored], key: &Name, id: &Name) -> Result<Text, NoMemory>
-    requires { ascends object_before (map object_of objects.now) ≡ true }
-    ensures { IfOk result (λ frame. Replies (λ (now : ℕ). effect (world_of objects.now) now [] (command.Get key.now id.now false shown.Objects)) frame) }
+// What QUIT will do.
+fn plan_quit(alloc: Global, _objects: &[Object], total: u64) -> Result<Plan, NoMemory>
+    requires { AreKept _objects.now total }
+    ensures { IfOk result (λ p. (now : ℕ) → IsPlan _objects.now (effect (world_of _objects.now) now [] command.Quit) p) }
 {
-    match place_of(objects, key, id) {
-        Place::Held(at) => text_frame(alloc, objects[at].text.bytes()),
-        Place::Free(_) => null_frame(alloc),
-    }
+    let frame = short_frame(alloc, &fine_reply(alloc)?)?;
+    Ok(Plan::last_reply(frame, total))
 }
 
-// The weight of the world after a put of an object whose record has this length.
-fn weight_after(objects: &[Stored], total: u64, place: Place, object: &Stored, length: u64) -> u64
-    requires place { IsPlace objects.now object.now.key object.now.id place }
-    requires weight { total ≡ weight (world_of objects.now) }
-    requires most { total ≤ max_weight }
-    requires length { length ≡ record_len (change.Put (object_of object.now)) }
-    requires small { length ≤ max_record }
-    ensures { result ≡ weight (after (world_of objects.now) (change.Put (object_of object.now))) }
-{
-    match place {
-        Place::Held(at) => total + length - record_len(&objects[at]),
-        Place::Free(_) => total + length,
-    }
-}
-
-// Whether the object would be a new one beside the greatest number of objects.
-fn lacks_room(objects: &[Stored], place: Place) -> bool
-    ensures { result ≡ lacks_room objects.now place }
-{
-    match place {
-        Place::Held(_) => false,
-        Place::Free(_) => objects.len() >= MAX_OBJECTS,
-    }
-}
-
-// What `SET key id POINT lat lon` will do.
-fn plan_set(alloc: Global, objects: &[Stored], total: u64, object: Stored) -> Result<Plan, NoMemory>
-    requires sorted { ascends object_before (map object_of objects.now) ≡ true }
-    requires weight { total ≡ weight (world_of objects.now) }
-    requires most { total ≤ max_weight }
-    requires small { record_len (change.Put (object_of object)) ≤ max_record }
-    ensures { IfOk result (λ p. IsPlan objects.now (λ (now : ℕ). effect (world_of objects.now) now [] (command.Set object.key object.id [] [] None Any object.text object.shape)) p) }
-{
-    let place = place_of(objects, &object.key, &object.id);
-    if lacks_room(objects, place) {
-        return Ok(Plan::Reply(error_frame(alloc, b"too many objects")?));
-    }
-    let length = record_len(&object);
-    let weight = weight_after(objects, total, place, &object, length);
-    if weight > MAX_WEIGHT {
-        return Ok(Plan::Reply(error_frame(alloc, b"database is full")?));
-    }
-    Ok(Plan::Store(Storing {
-        frame: fine_frame(alloc)?,
-        place,
-        object,
-        length,
-        weight,
-    }))
-}
-
-// What a command as it is served so far will do.
+// What a command that is served will do.
 fn plan_command(
     alloc: Global,
-    objects: &[Stored],
+    objects: &[Object],
     total: u64,
     command: Command,
 ) -> Result<Plan, NoMemory>
-    requires sorted { ascends object_before (map object_of objects.now) ≡ true }
-    requires weight { total ≡ weight (world_of objects.now) }
-    requires most { total ≤ max_weight }
-    requires simple { IsSimple command }
-    ensures { IfOk result (λ p. IsPlan objects.now (λ (now : ℕ). effect (world_of objects.now) now [] command) p) }
+    requires kept { AreKept objects.now total }
+    requires served { IsServed command }
+    ensures { IfOk result (λ p. (now : ℕ) → IsPlan objects.now (effect (world_of objects.now) now [] command) p) }
 {
     match command {
         Command::Set {
@@ -147,54 +103,99 @@ fn plan_command(
             fields: _,
             cleared: _,
             seconds: _,
-            only: _,
+            only,
             text,
             shape,
         } => {
-            let object = Stored {
+            let object = Object {
                 key,
                 id,
                 text,
                 shape,
+                fields: Fields::new(alloc),
+                deadline: None,
             };
-            plan_set(alloc, objects, total, object)
+            plan_set(alloc, objects, total, only, object)
         }
         Command::Get {
             key,
             id,
-            with_fields: _,
-            shown: _,
-        } => Ok(Plan::Reply(get_frame(alloc, objects, &key, &id)?)),
+            with_fields,
+            shown,
+        } => plan_get(alloc, objects, total, &key, &id, with_fields, shown),
+        Command::Del { key, id } => plan_del(alloc, objects, total, &key, &id),
+        Command::Drop { key } => plan_drop(alloc, objects, total, key),
+        Command::Bounds { key } => plan_bounds(alloc, objects, total, &key),
+        Command::Stats { keys } => plan_stats(alloc, objects, total, &keys),
+        Command::Flush => plan_flush(alloc, objects),
+        Command::Ping => plan_ping(alloc, objects, total),
+        Command::Quit => plan_quit(alloc, objects, total),
         _ => unreachable!(),
     }
 }
 
-// The frame of the reply to a request that is not served.
-fn unserved_frame(alloc: Global, fault: WordFault) -> Result<Text, NoMemory>
-    ensures frame { IfOk result (λ frame. frame ≡ frame_text (error (codes "not served yet"))) }
-    ensures memory { IfOk result (λ frame. fault ≢ WordFault.Memory) }
+// The answer to words that are refused.
+fn plan_fault(
+    alloc: Global,
+    _objects: &[Object],
+    total: u64,
+    fault: &WordFault,
+) -> Result<Plan, NoMemory>
+    requires kept { AreKept _objects.now total }
+    requires fault { fault.now ≢ WordFault.Memory }
+    requires short { length (frame_text (fault_pieces fault.now)) ≤ max_reply }
+    ensures { IfOk result (λ p. IsPlan _objects.now (says (fault_pieces fault.now)) p) }
 {
-    match fault {
-        WordFault::Memory => Err(NoMemory),
-        _ => error_frame(alloc, b"not served yet"),
-    }
+    let refusal = short_frame(alloc, &fault_reply(alloc, fault)?)?;
+    Ok(Plan::reply(refusal, total))
 }
 
-/// What the request of these words will do in the world of these objects.
-pub(crate) fn plan_words(
+// The answer to a broken protocol, behind which the session ends.
+fn plan_broken(
     alloc: Global,
-    objects: &[Stored],
+    _objects: &[Object],
+    total: u64,
+    fault: RespFault,
+) -> Result<Plan, NoMemory>
+    requires { AreKept _objects.now total }
+    ensures { IfOk result (λ p. IsPlan _objects.now (ends_with (broken_pieces fault)) p) }
+{
+    let refusal = short_frame(alloc, &broken_reply(alloc, fault)?)?;
+    Ok(Plan::last_reply(refusal, total))
+}
+
+// What words will do.
+fn plan_words(
+    alloc: Global,
+    objects: &[Object],
     total: u64,
     words: &Request,
 ) -> Result<Plan, NoMemory>
-    requires sorted { ascends object_before (map object_of objects.now) ≡ true }
-    requires weight { total ≡ weight (world_of objects.now) }
-    requires most { total ≤ max_weight }
-    ensures { IfOk result (λ p. IsPlan objects.now (λ (now : ℕ). effect_of_words (world_of objects.now) now words.now) p) }
+    requires { AreKept objects.now total }
+    ensures { IfOk result (λ p. (now : ℕ) → IsPlan objects.now (effect_of_read (world_of objects.now) now (asks words.now)) p) }
 {
-    served_words_are_read();
+    served_commands();
+    // A request is within its limits, and so is what a refusal shows of it.
+    let _count = words.words();
     match command_of(alloc, words) {
         Ok(command) => plan_command(alloc, objects, total, command),
-        Err(fault) => Ok(Plan::Reply(unserved_frame(alloc, fault)?)),
+        Err(WordFault::Memory) => Err(NoMemory),
+        Err(fault) => plan_fault(alloc, objects, total, &fault),
+    }
+}
+
+/// What is asked will do this in the world of these objects, whose weight is `total`.
+pub(crate) fn plan_asked(
+    alloc: Global,
+    objects: &[Object],
+    total: u64,
+    asked: &Asked,
+) -> Result<Plan, NoMemory>
+    requires { AreKept objects.now total }
+    ensures { IfOk result (λ p. (now : ℕ) → IsPlan objects.now (effect_of_asked (world_of objects.now) now asked.now) p) }
+{
+    match asked {
+        Asked::Words(words) => plan_words(alloc, objects, total, words),
+        Asked::Broken(fault) => plan_broken(alloc, objects, total, *fault),
     }
 }

@@ -1,12 +1,10 @@
 //! The sessions that are present, in the order of their numbers.
 
-ghost use Rattle.std.specs.Prelude.{◌≡◌, ◌≢◌, ◌<◌, ◌≤◌, ◌+◌, ◌++◌, ◌∷◌, [], ℕ, length, drop, take, min, Some, IfSome, IfNone, slice_get, slice_set};
+ghost use Rattle.std.specs.Prelude.{◌≡◌, ◌≢◌, ◌<◌, ◌≤◌, [], ℕ, length, drop, take, min, Some, IfSome, IfNone, slice_get};
 ghost use Rattle.world_model.specs.Limits.{full_frames, full_bytes, max_reply, take_frames};
 ghost use Rattle.world_model.specs.Halls.{frame_bytes};
-ghost use Rattle.world_model.specs.Frames.{FrameList};
-ghost use Rattle.tile_core.specs.Sessions.{IsAt, is_full};
 ghost use Rattle.tile_core.specs.declared.sessions.Session.{Session};
-ghost use Rattle.tile_core.specs.Sessions.{IsServed};
+ghost use Rattle.tile_core.specs.Sessions.{IsAt, IsServed, is_full, is_open, answered, closed};
 
 use byte_text::Text;
 use subscriber_queue::Outbox;
@@ -18,11 +16,19 @@ const FULL_FRAMES: usize = 1024;
 /// From this many bytes of frames on a session is full.
 const FULL_BYTES: u64 = 2_097_152;
 
+/// Whether a session is served, or is to end behind the frames that it has.
+#[derive(Clone, Copy, Debug, PartialEq, Eq)]
+pub(crate) enum Stage {
+    Live,
+    Closing,
+}
+
 /// A session with the frames that wait for it.
 #[derive(Drop)]
 pub(crate) struct Session {
     pub(crate) number: u32,
     pub(crate) outbox: Outbox,
+    pub(crate) stage: Stage,
 }
 
 impl Session {
@@ -31,6 +37,50 @@ impl Session {
         ensures { result ≡ is_full self.now }
     {
         self.outbox.frames() >= FULL_FRAMES || self.outbox.bytes() >= FULL_BYTES
+    }
+
+    /// Whether it is served.
+    pub(crate) fn is_open(&self) -> bool
+        ensures { result ≡ is_open self.now }
+    {
+        match self.stage {
+            Stage::Live => true,
+            Stage::Closing => false,
+        }
+    }
+
+    /// Puts the frame of an answer last in its queue, for which a session that is not full has room, and where the answer
+    /// closes it lets it end behind its frames.
+    pub(crate) fn answer(&mut self, frame: Text, closes: bool)
+        requires frames { length self.old.outbox < full_frames }
+        requires bytes { frame_bytes self.old.outbox < full_bytes }
+        requires short { length frame ≤ max_reply }
+        ensures { self.new ≡ answered frame closes self.old }
+    {
+        match self.outbox.place(frame) {
+            Ok(()) => {}
+            Err(_) => unreachable!(),
+        }
+        if closes {
+            self.stage = Stage::Closing;
+        }
+    }
+
+    /// Lets it end behind its frames.
+    pub(crate) fn close(&mut self)
+        ensures { self.new ≡ closed self.old }
+    {
+        self.stage = Stage::Closing;
+    }
+
+    /// Moves the first frames of its queue into `into`, and answers their number.
+    pub(crate) fn take_frames(&mut self, into: &mut Frames) -> usize
+        requires { into.old ≡ record { list = []; places = take_frames } }
+        ensures given { into.new ≡ record { list = take take_frames self.old.outbox; places = take_frames } }
+        ensures left { self.new ≡ record self.old { outbox = drop take_frames self.old.outbox } }
+        ensures count { result ≡ min take_frames (length self.old.outbox) }
+    {
+        self.outbox.take(into)
     }
 }
 
@@ -55,32 +105,11 @@ pub(crate) fn served(sessions: &[Session], number: u32) -> Result<usize, Called>
     let Some(at) = position_of(sessions, number) else {
         return Err(Called::Gone);
     };
+    if !sessions[at].is_open() {
+        return Err(Called::Gone);
+    }
     if sessions[at].is_full() {
-        Err(Called::Full)
-    } else {
-        Ok(at)
+        return Err(Called::Full);
     }
-}
-
-/// Puts a frame last in the queue of a session that is not full.
-pub(crate) fn put_frame(session: &mut Session, frame: Text)
-    requires frames { length session.old.outbox < full_frames }
-    requires bytes { frame_bytes session.old.outbox < full_bytes }
-    requires short { length frame ≤ max_reply }
-    ensures { session.new ≡ record session.old { outbox = session.old.outbox ++ frame ∷ [] } }
-{
-    match session.outbox.place(frame) {
-        Ok(()) => {}
-        Err(_) => unreachable!(),
-    }
-}
-
-/// Moves the first frames of a session's queue into `into`, and answers their number.
-pub(crate) fn take_frames(session: &mut Session, into: &mut Frames) -> usize
-    requires { into.old ≡ record { list = []; places = take_frames } }
-    ensures given { into.new ≡ record { list = take take_frames session.old.outbox; places = take_frames } }
-    ensures left { session.new ≡ record session.old { outbox = drop take_frames session.old.outbox } }
-    ensures count { result ≡ min take_frames (length session.old.outbox) }
-{
-    session.outbox.take(into)
+    Ok(at)
 }

@@ -1,4 +1,5 @@
 use Rattle.std.proofs.Common.{◌≡◌, ℕ, ◌+◌, ◌++◌, ◌∷◌, [], List, length, length-append, sym, ap, ◌∙◌, subst, arith, rules, refl}
+use Rattle.tile_core.specs.declared.sessions.Stage.TheVariants.{Live}
 use Rattle.tile_core.specs.declared.sessions.Session.{Session}
 use Rattle.tile_core.specs.Sessions.{Rises}
 use Rattle.tile_core.proofs.Present.{rises_more}
@@ -8,12 +9,12 @@ pub invariant_of-self-2 : goal.invariant_of-self-2
 invariant_of-self-2 c =
     let i = c.self.invariant in
     let items = c.self.inside.sessions.items in
-    let v : Session = record { number = c.self.inside.drawn + 1; outbox = c.in-Ok.outbox } in
+    let v : Session = record { number = c.self.inside.drawn + 1; outbox = c.in-Ok.outbox; stage = Live } in
     let pushed : c.push.new.self.items ≡ items ++ v ∷ [] = search rules in
     record {
-      sorted = i.sorted;
-      weighed = i.weighed;
-      light = i.light;
-      rises = subst (λ (xs : List Session). Rises 0 (c.self.inside.drawn + 1) xs) (sym pushed) (rises_more 0 c.self.inside.drawn items v i.rises refl);
-      few = let long = ap length pushed ∙ length-append items (v ∷ []) in omega (arith, long);
+      kept = i.kept;
+      present = record {
+        rises = subst (λ (xs : List Session). Rises 0 (c.self.inside.drawn + 1) xs) (sym pushed) (rises_more 0 c.self.inside.drawn items v i.present.rises refl);
+        few = let long = ap length pushed ∙ length-append items (v ∷ []) in omega (arith, long);
+      };
     }

@@ -1,5 +1,5 @@
-use Rattle.std.proofs.Common.{◌≡◌, ℕ, ◌<◌, ◌≤◌, List, [], length, length-take, get_or, take, drop, min, sym, ap, ◌∙◌, subst, arith, refl}
-use Rattle.std.specs.Prelude.{slice_set}
+use Rattle.std.proofs.Common.{◌≡◌, ℕ, ◌<◌, ◌≤◌, List, [], length, length-take, take, drop, min, sym, ap, ◌∙◌, subst, arith, refl}
+use Rattle.std.specs.Prelude.{slice_set, remove}
 use Rattle.world_model.specs.Limits.{take_frames}
 use Rattle.world_model.specs.Frames.{FrameList}
 use Rattle.byte_text.specs.Names.{Bytes}
@@ -7,12 +7,17 @@ use Rattle.world_model.specs.Histories.{Step}
 use Rattle.world_model.specs.declared.events.Event.TheVariants as event
 use Rattle.world_model.specs.declared.events.Outcome.TheVariants as outcome
 use Rattle.tile_core.specs.declared.sessions.Session.{Session}
-use Rattle.tile_core.specs.Kernels.{Kernel, hall_of}
-use Rattle.tile_core.specs.Sessions.{IsAt, AreOthers}
-use Rattle.tile_core.proofs.Weights.{read_at}
-use Rattle.tile_core.proofs.Takes.{absent, empty, given}
-use Rattle.tile_core.proofs.Finishing.{sound_answer}
+use Rattle.tile_core.specs.Kernels.{Kernel, hall_of, ArePresent}
+use Rattle.tile_core.specs.Sessions.{IsAt, AreOthers, is_open}
+use Rattle.tile_core.proofs.Takes.{absent, empty, ended, given}
+use Rattle.tile_core.proofs.Finishing.{read_at, within, present_set, present_remove}
 use Rattle.tile_core.proofs.cores.Core.take.Goals as goal
+
+some_of : (a b : ℕ) → a ≡ b → 0 < a → 0 < b
+some_of a b e lt = omega (arith, e, lt)
+
+none_of : (a b : ℕ) → a ≡ b → a ≤ 0 → b ≡ 0
+none_of a b e le = omega (arith, e, le)
 
 pub returns-in_default-clause-step : goal.returns-in_default-clause-step
 returns-in_default-clause-step c =
@@ -21,40 +26,60 @@ returns-in_default-clause-step c =
     let step = absent k.objects.items k.now k.logged k.drawn k.sessions.items c.args.session others in
     subst (λ (n : Kernel). Step n.hall (event.Take c.args.session) outcome.Ended n.hall) c.self.view_is step
 
-pub returns-then-frames-eq0-clause-step : goal.returns-then-frames-eq0-clause-step
-returns-then-frames-eq0-clause-step c =
-    let k = c.self.inside in
-    let at = subst (λ (ss : List Session). IsAt ss c.args.session c.in-Some.at) c.as_slice.ensures.value c.in-Some.ensures.found in
-    let is : c.index.result.now ≡ at.session = c.index.ensures ∙ read_at k.sessions.items c.in-Some.at at.session c.index.result.now at.here in
-    let none : length at.session.outbox ≡ 0 = sym (c.frames.ensures ∙ ap (λ (s : Session). length s.outbox) is) ∙ c.if-frames-eq0.true in
-    let step = empty k.objects.items k.now k.logged k.drawn k.sessions.items c.args.session c.in-Some.at at.session c.self.invariant.rises at.here at.numbered none in
-    subst (λ (n : Kernel). Step n.hall (event.Take c.args.session) outcome.Empty n.hall) c.self.view_is step
-
 pub invariant_of-self : goal.invariant_of-self
 invariant_of-self c =
     let k = c.self.inside in
     let at = subst (λ (ss : List Session). IsAt ss c.args.session c.in-Some.at) c.as_slice.ensures.value c.in-Some.ensures.found in
     let is : c.index_mut.result.now ≡ at.session = c.index_mut.ensures.value ∙ read_at k.sessions.items c.in-Some.at at.session c.index_mut.result.now at.here in
-    let same : c.take_frames.new.session.number ≡ at.session.number = ap (λ (s : Session). s.number) c.take_frames.ensures.left ∙ ap (λ (s : Session). s.number) is in
-    sound_answer k.objects.items k.weight k.drawn k.sessions.items c.in-Some.at at.session c.take_frames.new.session c.self.invariant at.here same
+    let same : c.take_frames.new.self.number ≡ at.session.number = ap (λ (s : Session). s.number) c.take_frames.ensures.left ∙ ap (λ (s : Session). s.number) is in
+    record { kept = c.self.invariant.kept; present = present_set k.drawn k.sessions.items c.in-Some.at at.session c.take_frames.new.self c.self.invariant.present at.here same }
+
+pub returns-then-frames-gt0-clause-step : goal.returns-then-frames-gt0-clause-step
+returns-then-frames-gt0-clause-step c =
+    let k = c.self.inside in
+    let at = subst (λ (ss : List Session). IsAt ss c.args.session c.in-Some.at) c.as_slice.ensures.value c.in-Some.ensures.found in
+    let read : c.index.result.now ≡ at.session = c.index.ensures ∙ read_at k.sessions.items c.in-Some.at at.session c.index.result.now at.here in
+    let is : c.index_mut.result.now ≡ at.session = c.index_mut.ensures.value ∙ read_at k.sessions.items c.in-Some.at at.session c.index_mut.result.now at.here in
+    let left : c.take_frames.new.self ≡ record at.session { outbox = drop take_frames at.session.outbox } = c.take_frames.ensures.left ∙ ap (λ (s : Session). record s { outbox = drop take_frames s.outbox }) is in
+    let count : c.frames.result ≡ length at.session.outbox = c.frames.ensures ∙ ap (λ (s : Session). length s.outbox) read in
+    let some : 0 < length at.session.outbox = some_of c.frames.result (length at.session.outbox) count c.if-frames-gt0.true in
+    let shown : c.take_frames.new.into.list ≡ take take_frames at.session.outbox = ap (λ (f : FrameList). f.list) c.take_frames.ensures.given ∙ ap (λ (s : Session). take take_frames s.outbox) is in
+    let step = given k.objects.items k.now k.logged k.drawn k.sessions.items c.args.session c.in-Some.at at.session c.self.invariant.present.rises at.here at.numbered c.take_frames.new.self left some in
+    subst (λ (fs : List Bytes). Step c.args.self.now.hall (event.Take c.args.session) (outcome.Given fs) (hall_of k.objects.items k.now k.logged k.drawn (slice_set k.sessions.items c.in-Some.at c.take_frames.new.self))) (sym shown)
+    (subst (λ (n : Kernel). Step n.hall (event.Take c.args.session) (outcome.Given (take take_frames at.session.outbox)) (hall_of k.objects.items k.now k.logged k.drawn (slice_set k.sessions.items c.in-Some.at c.take_frames.new.self))) c.self.view_is step)
+
+pub returns-then-frames-gt0-clause-count : goal.returns-then-frames-gt0-clause-count
+returns-then-frames-gt0-clause-count c =
+    c.take_frames.ensures.count ∙ sym (length-take take_frames c.index_mut.result.now.outbox) ∙ ap length (sym (ap (λ (f : FrameList). f.list) c.take_frames.ensures.given))
+
+pub returns-then-is_open-clause-step : goal.returns-then-is_open-clause-step
+returns-then-is_open-clause-step c =
+    let k = c.self.inside in
+    let at = subst (λ (ss : List Session). IsAt ss c.args.session c.in-Some.at) c.as_slice.ensures.value c.in-Some.ensures.found in
+    let is : c.index.result.now ≡ at.session = c.index.ensures ∙ read_at k.sessions.items c.in-Some.at at.session c.index.result.now at.here in
+    let also : c.index-2.result.now ≡ at.session = c.index-2.ensures ∙ read_at k.sessions.items c.in-Some.at at.session c.index-2.result.now at.here in
+    let none : length at.session.outbox ≡ 0 = none_of c.frames.result (length at.session.outbox) (c.frames.ensures ∙ ap (λ (s : Session). length s.outbox) is) c.if-frames-gt0.false in
+    let lives = sym (ap is_open also) ∙ sym c.is_open.ensures ∙ c.if-is_open.true in
+    let step = empty k.objects.items k.now k.logged k.drawn k.sessions.items c.args.session c.in-Some.at at.session c.self.invariant.present.rises at.here at.numbered lives none in
+    subst (λ (n : Kernel). Step n.hall (event.Take c.args.session) outcome.Empty n.hall) c.self.view_is step
+
+pub invariant_of-self-2 : goal.invariant_of-self-2
+invariant_of-self-2 c =
+    let k = c.self.inside in
+    let at = subst (λ (ss : List Session). IsAt ss c.args.session c.in-Some.at) c.as_slice.ensures.value c.in-Some.ensures.found in
+    record {
+      kept = c.self.invariant.kept;
+      present = subst (ArePresent k.drawn) (sym c.remove.ensures.items) (present_remove k.drawn k.sessions.items c.in-Some.at (within k.sessions.items c.in-Some.at at.session at.here) c.self.invariant.present);
+    }
 
 pub returns-clause-step : goal.returns-clause-step
 returns-clause-step c =
     let k = c.self.inside in
     let at = subst (λ (ss : List Session). IsAt ss c.args.session c.in-Some.at) c.as_slice.ensures.value c.in-Some.ensures.found in
-    let read : c.index.result.now ≡ at.session = c.index.ensures ∙ read_at k.sessions.items c.in-Some.at at.session c.index.result.now at.here in
-    let is : c.index_mut.result.now ≡ at.session = c.index_mut.ensures.value ∙ read_at k.sessions.items c.in-Some.at at.session c.index_mut.result.now at.here in
-    let left : c.take_frames.new.session ≡ record at.session { outbox = drop take_frames at.session.outbox } = c.take_frames.ensures.left ∙ ap (λ (s : Session). record s { outbox = drop take_frames s.outbox }) is in
-    let count : c.frames.result ≡ length at.session.outbox = c.frames.ensures ∙ ap (λ (s : Session). length s.outbox) read in
-    let some : 0 < length at.session.outbox = some_of c.frames.result (length at.session.outbox) count c.if-frames-eq0.false in
-    let shown : c.take_frames.new.into.list ≡ take take_frames at.session.outbox = ap (λ (f : FrameList). f.list) c.take_frames.ensures.given ∙ ap (λ (s : Session). take take_frames s.outbox) is in
-    let step = given k.objects.items k.now k.logged k.drawn k.sessions.items c.args.session c.in-Some.at at.session c.self.invariant.rises at.here at.numbered c.take_frames.new.session left some in
-    subst (λ (fs : List Bytes). Step c.args.self.now.hall (event.Take c.args.session) (outcome.Given fs) (hall_of k.objects.items k.now k.logged k.drawn (slice_set k.sessions.items c.in-Some.at c.take_frames.new.session))) (sym shown)
-    (subst (λ (n : Kernel). Step n.hall (event.Take c.args.session) (outcome.Given (take take_frames at.session.outbox)) (hall_of k.objects.items k.now k.logged k.drawn (slice_set k.sessions.items c.in-Some.at c.take_frames.new.session))) c.self.view_is step)
-  where
-    some_of : (a b : ℕ) → a ≡ b → (a ≡ 0 → ⊥) → 0 < b
-    some_of a b e ne = omega (arith, e, ne)
-
-pub returns-clause-count : goal.returns-clause-count
-returns-clause-count c =
-    c.take_frames.ensures.count ∙ sym (length-take take_frames c.index_mut.result.now.outbox) ∙ ap length (sym (ap (λ (f : FrameList). f.list) c.take_frames.ensures.given))
+    let is : c.index.result.now ≡ at.session = c.index.ensures ∙ read_at k.sessions.items c.in-Some.at at.session c.index.result.now at.here in
+    let also : c.index-2.result.now ≡ at.session = c.index-2.ensures ∙ read_at k.sessions.items c.in-Some.at at.session c.index-2.result.now at.here in
+    let none : length at.session.outbox ≡ 0 = none_of c.frames.result (length at.session.outbox) (c.frames.ensures ∙ ap (λ (s : Session). length s.outbox) is) c.if-frames-gt0.false in
+    let closed_ = sym (ap is_open also) ∙ sym c.is_open.ensures ∙ c.if-is_open.false in
+    let step = ended k.objects.items k.now k.logged k.drawn k.sessions.items c.args.session c.in-Some.at at.session c.self.invariant.present.rises at.here at.numbered closed_ none in
+    subst (λ (ss : List Session). Step c.args.self.now.hall (event.Take c.args.session) outcome.Ended (hall_of k.objects.items k.now k.logged k.drawn ss)) (sym c.remove.ensures.items)
+    (subst (λ (n : Kernel). Step n.hall (event.Take c.args.session) outcome.Ended (hall_of k.objects.items k.now k.logged k.drawn (remove k.sessions.items c.in-Some.at))) c.self.view_is step)

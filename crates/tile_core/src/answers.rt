@@ -1,0 +1,47 @@
+//! Answers: the frames of replies, and plans that change nothing.
+
+ghost use Rattle.std.specs.Prelude.{◌≡◌, ◌≤◌, length, IfOk};
+ghost use Rattle.byte_text.specs.Replies.{IsFrame, frame_text};
+ghost use Rattle.world_model.specs.Limits.{max_reply};
+ghost use Rattle.world_model.specs.Effects.{says, within_reply};
+ghost use Rattle.tile_core.specs.Plans.{Replies, Says};
+
+use crate::plans::Plan;
+use byte_text::{NoMemory, Reply, Text};
+use reply_text::{ReplyFault, error_reply, push_reply};
+use std::alloc::Global;
+
+/// The frame of a reply that is short enough for one.
+pub(crate) fn short_frame(alloc: Global, reply: &Reply) -> Result<Text, NoMemory>
+    requires frame { IsFrame reply.now }
+    requires short { length (frame_text reply.now) ≤ max_reply }
+    ensures { IfOk result (λ frame. frame ≡ frame_text reply.now) }
+{
+    let mut frame = Text::new(alloc);
+    match push_reply(&mut frame, reply) {
+        Ok(()) => Ok(frame),
+        Err(ReplyFault::TooLong) => unreachable!(),
+        Err(ReplyFault::Memory) => Err(NoMemory),
+    }
+}
+
+// The frame of a reply, or of the refusal where it would be too long.
+fn frame_of(alloc: Global, reply: &Reply) -> Result<Text, NoMemory>
+    requires { IsFrame reply.now }
+    ensures { IfOk result (λ frame. Replies (within_reply (says reply.now)) frame) }
+{
+    let mut frame = Text::new(alloc);
+    match push_reply(&mut frame, reply) {
+        Ok(()) => Ok(frame),
+        Err(ReplyFault::TooLong) => short_frame(alloc, &error_reply(alloc, b"reply too long")?),
+        Err(ReplyFault::Memory) => Err(NoMemory),
+    }
+}
+
+/// The plan of this answer and nothing else, in a world of this weight.
+pub(crate) fn say(alloc: Global, weight: u64, reply: &Reply) -> Result<Plan, NoMemory>
+    requires { IsFrame reply.now }
+    ensures { IfOk result (λ p. Says (within_reply (says reply.now)) weight p) }
+{
+    Ok(Plan::reply(frame_of(alloc, reply)?, weight))
+}
