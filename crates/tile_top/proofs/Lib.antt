@@ -3,3 +3,6 @@ mod Writing
 mod Shown
 mod Playing
 mod Ends
+mod Present
+mod Feeding
+mod Acting

@@ -1,6 +1,9 @@
 pub mod TextLines
 pub mod Reads
 pub mod Outputs
+pub mod Played
+pub mod Readers
 pub mod Scripts
+pub mod Steps
 pub mod Plays
 pub mod Tops

@@ -2,8 +2,10 @@
 #![tactic(auto)]
 
 mod acts;
+mod feeds;
 mod outputs;
 mod plays;
+mod readers;
 mod streams;
 mod tops;
 
