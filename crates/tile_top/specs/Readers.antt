@@ -40,3 +40,8 @@ with_unread n unread (r ∷ readers) = if is_of n r then record r { unread = unr
 abbrev pub with_entered : Outcome → List Reader → List Reader
 with_entered (Entered n) readers = readers ++ record { session = n; unread = Some [] } ∷ []
 with_entered o readers = readers
+
+-- a session that was closed has a reader no more
+abbrev pub without_reader : ℕ → List Reader → List Reader
+without_reader n [] = []
+without_reader n (r ∷ readers) = if is_of n r then readers else r ∷ without_reader n readers

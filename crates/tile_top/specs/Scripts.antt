@@ -14,7 +14,7 @@ use Rattle.world_model.specs.declared.events.Outcome.{Outcome}
 use Rattle.tile_top.specs.declared.readers.Reader.{Reader}
 use Rattle.tile_top.specs.TextLines.{TextLine, size, IsShort}
 use Rattle.tile_top.specs.Outputs.{printed}
-use Rattle.tile_top.specs.Readers.{Unread, unread_of, asked_by, reader_of, with_unread, with_entered}
+use Rattle.tile_top.specs.Readers.{Unread, unread_of, asked_by, reader_of, with_unread, with_entered, without_reader}
 use Rattle.tile_top.specs.Played.{Played}
 
 -- what a script begins with: an empty world and no session
@@ -27,8 +27,8 @@ IsServed says.Nothing = Unit {0}
 IsServed says.Enter = Unit {0}
 IsServed (says.Feed n m bytes) = Unit {0}
 IsServed (says.Take n) = Unit {0}
-IsServed (says.Tick m) = ⊥
-IsServed (says.Close n) = ⊥
+IsServed (says.Tick m) = Unit {0}
+IsServed (says.Close n) = Unit {0}
 IsServed says.Step = ⊥
 IsServed says.Reopen = ⊥
 
@@ -51,6 +51,10 @@ MakesOne p e out next = Makes p.hall e out next.hall × (next.readers ≡ p.read
 abbrev pub Enters : Played → Bytes → Played → Type 0
 Enters p out next = (made : Makes p.hall event.Enter out next.hall) × (next.readers ≡ with_entered made.outcome p.readers)
 
+-- a session is closed
+abbrev pub Closes : Played → ℕ → Bytes → Played → Type 0
+Closes p n out next = Makes p.hall (event.Close n) out next.hall × (next.readers ≡ without_reader n p.readers)
+
 -- a session makes a call at a moment for each thing that its stream asks for
 abbrev pub Calls : Hall → ℕ → ℕ → Stream → Bytes → Hall → Type 0
 Calls h n m stream out next = MakesEach h (map (event.Call n m) (asked_by stream)) out next
@@ -71,8 +75,8 @@ Acts p says.Nothing out next = (out ≡ []) × (next ≡ p)
 Acts p says.Enter out next = Enters p out next
 Acts p (says.Feed n m bytes) out next = Feeds p n m bytes (reader_of n p.readers) out next
 Acts p (says.Take n) out next = MakesOne p (event.Take n) out next
-Acts p (says.Tick m) out next = ⊥
-Acts p (says.Close n) out next = ⊥
+Acts p (says.Tick m) out next = MakesOne p (event.Tick m) out next
+Acts p (says.Close n) out next = Closes p n out next
 Acts p says.Step out next = ⊥
 Acts p says.Reopen out next = ⊥
 

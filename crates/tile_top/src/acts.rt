@@ -4,17 +4,17 @@ ghost use Rattle.std.specs.Prelude.{◌≡◌, [], IfOk};
 ghost use Rattle.world_model.specs.Limits.{take_frames};
 ghost use Rattle.world_model.specs.declared.events.Event.TheVariants as event;
 ghost use Rattle.tile_top.specs.Readers.{reader_of};
-ghost use Rattle.tile_top.specs.Scripts.{opening, Makes, MakesOne, Enters, Feeds, ActsOn};
+ghost use Rattle.tile_top.specs.Scripts.{opening, Makes, MakesOne, Enters, Closes, Feeds, ActsOn};
 
 use crate::feeds::feed;
 use crate::outputs::{frame_lines, session_line, text_of};
-use crate::readers::{Reader, add_reader};
+use crate::readers::{Reader, add_reader, drop_reader};
 use byte_text::{NoMemory, Text};
 use script_text::{LineFault, ScriptLine, line_of};
 use std::alloc::Global;
 use std::marker::Model;
 use tile_core::Core;
-use world_model::{EnterFault, Frames, Taken};
+use world_model::{Called, EnterFault, Frames, Taken};
 
 /// What the lines of a script that were played have made: a core, and the readers of the sessions that were entered.
 #[derive(Drop)]
@@ -105,6 +105,26 @@ impl Player {
         take(self.alloc, &mut self.core, &mut self.frames, session)
     }
 
+    // Lets the clock go on.
+    fn tick(&mut self, moment: u64) -> Result<Text, NoMemory>
+        ensures { IfOk result (λ out. MakesOne self.old (event.Tick moment) out self.new) }
+    {
+        match self.core.tick(moment) {
+            Called::Ok => text_of(self.alloc, b"ok\n"),
+            // As no log is kept, the hall never stops and is never spent.
+            _ => Err(NoMemory),
+        }
+    }
+
+    // Closes a session, whose reader is dropped.
+    fn close(&mut self, session: u32) -> Result<Text, NoMemory>
+        ensures { IfOk result (λ out. Closes self.old session out self.new) }
+    {
+        self.core.close_session(session);
+        drop_reader(&mut self.readers, session);
+        text_of(self.alloc, b"ok\n")
+    }
+
     /// Does what a line says, and answers its output; none where the line is none of a script, and then nothing is done.
     pub(crate) fn act(&mut self, line: &[u8]) -> Result<Option<Text>, NoMemory>
         ensures { IfOk result (λ o. ActsOn self.old self.new line.now o) }
@@ -116,8 +136,8 @@ impl Player {
                 Ok(Some(self.feed(session, moment, bytes.bytes())?))
             }
             Ok(ScriptLine::Take(session)) => Ok(Some(self.take(session)?)),
-            Ok(ScriptLine::Tick(_)) => Ok(None),
-            Ok(ScriptLine::Close(_)) => Ok(None),
+            Ok(ScriptLine::Tick(moment)) => Ok(Some(self.tick(moment)?)),
+            Ok(ScriptLine::Close(session)) => Ok(Some(self.close(session)?)),
             Ok(ScriptLine::Step) => Ok(None),
             Ok(ScriptLine::Reopen) => Ok(None),
             Err(LineFault::Outside) => Ok(None),

@@ -1,7 +1,7 @@
 //! The sessions that a script has entered, each with the reader of its requests.
 
 ghost use Rattle.std.specs.Prelude.{◌≡◌, ◌++◌, ◌∷◌, [], Some, OnOk, position};
-ghost use Rattle.tile_top.specs.Readers.{is_of};
+ghost use Rattle.tile_top.specs.Readers.{is_of, without_reader};
 
 use byte_text::NoMemory;
 use resp_frames::Requests;
@@ -36,5 +36,14 @@ pub(crate) fn add_reader(
     match readers.push(reader) {
         Ok(()) => Ok(()),
         Err(_) => Err(NoMemory),
+    }
+}
+
+/// Drops the session's reader, where it has one.
+pub(crate) fn drop_reader(readers: &mut Vec<Reader>, session: u32)
+    ensures { readers.new.items ≡ without_reader session readers.old.items }
+{
+    if let Some(at) = position_of(readers.as_slice(), session) {
+        readers.remove(at);
     }
 }

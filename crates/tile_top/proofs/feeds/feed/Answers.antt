@@ -21,4 +21,4 @@ returns-in-None c =
     let readers = c.args.readers.now.items in
     let p : Played = record { hall = c.args.core.now.hall; readers = readers } in
     let place : position (is_of c.args.session) readers ≡ None = ap (λ (rs : List Reader). position (is_of c.args.session) rs) (sym c.as_slice.ensures.value) ∙ sym c.position_of.ensures ∙ c.in-None.is in
-    fed_none p c.args.session c.args.moment c.args.bytes.now c.text_of.result (none_found c.args.session readers place) c.text_of.ensures
+    fed_none p c.args.session c.args.moment c.args.bytes.now c.text_of.result (none_found c.args.session readers place).0 c.text_of.ensures
