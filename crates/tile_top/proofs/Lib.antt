@@ -6,3 +6,4 @@ mod Ends
 mod Present
 mod Feeding
 mod Acting
+mod Cutting

@@ -5,5 +5,6 @@ pub mod Played
 pub mod Readers
 pub mod Scripts
 pub mod Steps
+pub mod Cuts
 pub mod Plays
 pub mod Tops

@@ -3,12 +3,14 @@
 
 mod acts;
 mod feeds;
+mod laws;
 mod outputs;
 mod plays;
 mod readers;
 mod streams;
 mod tops;
 
+pub use laws::feeds_are_one_stream;
 pub use tops::{Ended, top};
 
 #[cfg(test)]

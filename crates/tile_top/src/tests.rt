@@ -19,7 +19,8 @@ const OUTPUT: &[u8] = b"session 1\nok\nok\n\
     empty\n";
 
 // The two requests of the script.
-const REQUESTS: &[u8] = b"*6\r\n$3\r\nSET\r\n$5\r\nfleet\r\n$6\r\ntruck1\r\n$5\r\nPOINT\r\n$2\r\n33\r\n$3\r\n112\r\n*3\r\n$3\r\nGET\r\n$5\r\nfleet\r\n$6\r\ntruck1\r\n";
+const REQUESTS: &[u8] =
+    b"*6\r\n$3\r\nSET\r\n$5\r\nfleet\r\n$6\r\ntruck1\r\n$5\r\nPOINT\r\n$2\r\n33\r\n$3\r\n112\r\n*3\r\n$3\r\nGET\r\n$5\r\nfleet\r\n$6\r\ntruck1\r\n";
 
 // Plays the script, which is read in pieces of 7 bytes and whose output is written in pieces of 5. The reads and writes of these
 // numbers fail.
@@ -214,7 +215,10 @@ fn commands_and_their_answers(rt: HostRuntime) -> Result<(), Fail> {
         ("GET k h POINT", "*2\r\n$1\r\n5\r\n$1\r\n5\r\n"),
         ("SCAN k", "-ERR not served yet\r\n"),
         ("NOSUCH k", "-ERR unknown command 'NOSUCH'\r\n"),
-        ("GET k", "-ERR wrong number of arguments for 'get' command\r\n"),
+        (
+            "GET k",
+            "-ERR wrong number of arguments for 'get' command\r\n",
+        ),
         ("DEL k a", ":1\r\n"),
         ("DROP k", ":1\r\n"),
         ("BOUNDS k", "*-1\r\n"),
@@ -240,7 +244,10 @@ fn refused_objects(rt: HostRuntime) -> Result<(), Fail> {
             "{\"type\":\"Feature\",\"geometry\":null,\"properties\":{}}",
             "not spatial",
         ),
-        ("{\"type\":\"MultiPoint\",\"coordinates\":[]}", "not spatial"),
+        (
+            "{\"type\":\"MultiPoint\",\"coordinates\":[]}",
+            "not spatial",
+        ),
         ("{\"type\":\"Circle\",\"coordinates\":[1,2]}", "bad type"),
         (
             "{\"type\":\"Point\",\"coordinates\":[1.5,2]}",
