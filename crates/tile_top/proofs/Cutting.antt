@@ -4,7 +4,6 @@ use Rattle.std.specs.Prelude.{Option, Some, None, map}
 use Rattle.std.proofs.lemmas.List.{append-nil}
 use Rattle.byte_text.specs.Names.{Bytes}
 use Rattle.byte_text.specs.Streams.{Stream, Ending, holds, fails, stream_of, fed, fed_ending}
-use Rattle.script_text.specs.declared.lines.ScriptLine.TheVariants as says
 use Rattle.world_model.specs.Halls.{Hall}
 use Rattle.world_model.specs.declared.events.Asked.{Asked}
 use Rattle.world_model.specs.declared.events.Asked.TheVariants.{Words}

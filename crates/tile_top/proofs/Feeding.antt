@@ -1,6 +1,6 @@
 -- Bytes that are fed to a reader, request by request.
-use Rattle.std.proofs.Common.{◌≡◌, ℕ, ◌+◌, ◌<◌, ◌≤◌, refl, sym, ap, ◌∙◌, subst, List, [], ◌∷◌, ◌++◌, length, drop, append_assoc, length-append, arith}
-use Rattle.std.specs.Prelude.{Option, Some, None}
+use Rattle.std.proofs.Common.{◌≡◌, ℕ, ◌+◌, ◌<◌, ◌≤◌, refl, sym, ap, ◌∙◌, subst, List, [], ◌++◌, length, drop, append_assoc, length-append, arith}
+use Rattle.std.specs.Prelude.{Some, None}
 use Rattle.std.proofs.lemmas.List.{append-nil}
 use Rattle.byte_text.specs.Names.{Bytes}
 use Rattle.byte_text.specs.Requests.{IsRequest, request_text}
@@ -11,7 +11,6 @@ use Rattle.resp_frames.specs.Readers.{Held, IsFed, IsNotFed}
 use Rattle.world_model.specs.Halls.{Hall}
 use Rattle.world_model.specs.declared.events.Asked.TheVariants.{Words, Broken}
 use Rattle.world_model.specs.declared.events.Event.TheVariants as event
-use Rattle.tile_top.specs.declared.readers.Reader.{Reader}
 use Rattle.tile_top.specs.Readers.{Unread, unread_of}
 use Rattle.tile_top.specs.Scripts.{Makes, Calls, FedTo}
 use Rattle.tile_top.specs.Steps.{IsBrokenOff, IsFirst, IsStep}

@@ -1,5 +1,5 @@
 -- A script, line by line.
-use Rattle.std.proofs.Common.{◌≡◌, ℕ, ◌+◌, ◌≤◌, refl, sym, ap, ◌∙◌, subst, List, [], ◌∷◌, ◌++◌, length, append_assoc, length-append, arith, inl, inr}
+use Rattle.std.proofs.Common.{◌≡◌, ℕ, ◌+◌, refl, sym, ap, ◌∙◌, subst, List, [], ◌∷◌, ◌++◌, length, append_assoc, length-append, arith, inl, inr}
 use Rattle.std.specs.Prelude.{Option, None, Some}
 use Rattle.std.proofs.lemmas.List.{append-nil}
 use Rattle.std.specs.Io.KnownBytes.{Appends}
@@ -10,10 +10,10 @@ use Rattle.tile_top.specs.Played.{Played}
 use Rattle.tile_top.specs.declared.streams.LineEnd.TheVariants as read
 use Rattle.tile_top.specs.declared.plays.Turn.{Turn}
 use Rattle.tile_top.specs.declared.plays.Turn.TheVariants.{Next, End, Script, ReadFault, WriteFault, Memory}
-use Rattle.tile_top.specs.TextLines.{TextLine, lines, size, size_of_all, IsShort}
+use Rattle.tile_top.specs.TextLines.{TextLine, lines, size, size_of_all}
 use Rattle.tile_top.specs.Reads.{OnLine}
-use Rattle.tile_top.specs.Scripts.{opening, ActsOn, IsLine, Does, Runs}
-use Rattle.tile_top.specs.Plays.{IsDone, IsFaulty, IsPart, IsCut, OnTurn, OnPlay, OnLineDone}
+use Rattle.tile_top.specs.Scripts.{opening, IsLine, Does, Runs}
+use Rattle.tile_top.specs.Plays.{IsPart, IsCut, OnTurn, OnPlay, OnLineDone}
 use Rattle.tile_top.proofs.Writing.{appends_more, appends_nothing}
 
 -- a line was read, and then done

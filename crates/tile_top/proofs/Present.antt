@@ -1,6 +1,6 @@
 -- A session's reader, found by its number.
-use Rattle.std.proofs.Common.{◌≡◌, ℕ, zero, suc, ◌<◌, ◌≤◌, Bool, true, false, refl, sym, ap, ◌∙◌, List, [], ◌∷◌, length, get_or, arith}
-use Rattle.std.specs.Prelude.{Option, Some, None, if◌then◌else◌, nat_lt, position, ◌==◌, slice_get, slice_set, remove}
+use Rattle.std.proofs.Common.{◌≡◌, ℕ, zero, suc, ◌<◌, ◌≤◌, Bool, true, false, refl, sym, ap, List, [], ◌∷◌, length, get_or, arith}
+use Rattle.std.specs.Prelude.{Some, None, if◌then◌else◌, nat_lt, position, slice_get, slice_set, remove}
 use Rattle.std.specs.List.{position_or_len}
 use Rattle.std.proofs.lemmas.Bool.{ltb-false}
 use Rattle.std.proofs.lemmas.Bool.Decides.{nat_tests}

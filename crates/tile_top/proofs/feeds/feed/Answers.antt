@@ -1,7 +1,7 @@
-use Rattle.std.proofs.Common.{◌≡◌, ℕ, Some, None, List, sym, ap, ◌∙◌}
-use Rattle.std.specs.Prelude.{Option, position}
+use Rattle.std.proofs.Common.{◌≡◌, Some, None, List, sym, ap, ◌∙◌}
+use Rattle.std.specs.Prelude.{position}
 use Rattle.tile_top.specs.declared.readers.Reader.{Reader}
-use Rattle.tile_top.specs.Readers.{is_of, reader_of}
+use Rattle.tile_top.specs.Readers.{is_of}
 use Rattle.tile_top.specs.Played.{Played}
 use Rattle.tile_top.proofs.Present.{IsAt, one_found, none_found, read_at}
 use Rattle.tile_top.proofs.Acting.{fed_at, fed_none}

@@ -1,4 +1,4 @@
-use Rattle.std.proofs.Common.{◌≡◌, ◌≤◌, ◌+◌, arith, refl, sym, subst}
+use Rattle.std.proofs.Common.{◌≤◌, ◌+◌, arith, refl, sym, subst}
 use Rattle.tile_top.specs.Played.{Played}
 use Rattle.tile_top.proofs.Playing.{Going, going_start, going_next, plays_part}
 use Rattle.tile_top.proofs.plays.play.Goals as goal

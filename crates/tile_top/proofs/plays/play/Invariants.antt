@@ -1,4 +1,4 @@
-use Rattle.std.proofs.Common.{◌≡◌, ◌≤◌, ◌+◌, ◌-◌}
+use Rattle.std.proofs.Common.{◌≤◌, ◌+◌, ◌-◌}
 use Rattle.tile_top.specs.TextLines.{max_script}
 use Rattle.tile_top.proofs.Playing.{Going}
 use Rattle.tile_top.proofs.plays.play.Given as goal

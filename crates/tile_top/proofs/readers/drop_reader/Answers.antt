@@ -1,5 +1,5 @@
-use Rattle.std.proofs.Common.{◌≡◌, ℕ, Some, None, List, sym, ap, ◌∙◌}
-use Rattle.std.specs.Prelude.{Option, position}
+use Rattle.std.proofs.Common.{◌≡◌, Some, None, List, sym, ap, ◌∙◌}
+use Rattle.std.specs.Prelude.{position}
 use Rattle.tile_top.specs.declared.readers.Reader.{Reader}
 use Rattle.tile_top.specs.Readers.{is_of}
 use Rattle.tile_top.proofs.Present.{IsAt, one_found, none_found}

@@ -1,5 +1,5 @@
-use Rattle.std.proofs.Common.{◌≡◌, subst, sym, IfOk}
-use Rattle.std.specs.Prelude.{Result, Ok, Err}
+use Rattle.std.proofs.Common.{subst, IfOk}
+use Rattle.std.specs.Prelude.{Err}
 use Rattle.world_model.specs.Histories.{Step}
 use Rattle.world_model.specs.Seats.{enter_outcome}
 use Rattle.world_model.specs.declared.events.EnterFault.{EnterFault}
