@@ -1,19 +1,19 @@
 -- The end of a play, with its last line.
-use Rattle.std.proofs.Common.{◌≡◌, ◌≢◌, ◌⊎◌, ℕ, refl, sym, ap, ◌∙◌, subst, List, [], ◌∷◌, ◌++◌, ◌≤◌, ◌<◌, Bool, length, get_or, append_assoc, arith, inl, inr}
-use Rattle.std.specs.Prelude.{Option, None, Some, map, IsTrue, bytes_eq, true, false}
+use Rattle.std.proofs.Common.{◌≡◌, ℕ, refl, sym, ap, ◌∙◌, subst, List, [], ◌∷◌, ◌++◌, ◌≤◌, ◌<◌, Bool, length, get_or, append_assoc, arith, inl, inr}
+use Rattle.std.specs.Prelude.{Option, map, IsTrue, bytes_eq, true}
 use Rattle.std.proofs.lemmas.Bool.Decides.{nat_tests}
 use Rattle.std.proofs.lemmas.List.{append-nil}
 use Rattle.std.specs.Io.KnownBytes.{Appends}
 use mathlib.Core.List.{IsPrefix}
 use Rattle.byte_text.specs.Names.{Bytes}
-use Rattle.world_model.specs.Halls.{Hall}
-use Rattle.tile_top.specs.TextLines.{TextLine, lines, size_of_all}
+use Rattle.tile_top.specs.Played.{Played}
+use Rattle.tile_top.specs.TextLines.{TextLine, lines}
 use Rattle.tile_top.specs.Scripts.{opening}
 use Rattle.tile_top.specs.Plays.{IsDone, IsFaulty, IsPart, IsCut}
-use Rattle.tile_top.specs.Tops.{IsLast, IsLastPart, IsStopped, IsEnd, Replays, script_line, read_line, memory_line}
+use Rattle.tile_top.specs.Tops.{IsLast, IsStopped, IsEnd, Replays, script_line, read_line, memory_line}
 use Rattle.tile_top.proofs.Writing.{appends_more, appends_nothing}
 
-no_part : (before : ℕ) (h : Hall) (ls : List TextLine) → IsPart before h ls []
+no_part : (before : ℕ) (h : Played) (ls : List TextLine) → IsPart before h ls []
 no_part before h [] = refl
 no_part before h (l ∷ ls) = inl refl
 

@@ -3,3 +3,7 @@ mod Writing
 mod Shown
 mod Playing
 mod Ends
+mod Present
+mod Feeding
+mod Acting
+mod Cutting

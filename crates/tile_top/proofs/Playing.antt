@@ -1,23 +1,23 @@
 -- A script, line by line.
-use Rattle.std.proofs.Common.{◌≡◌, ℕ, ◌+◌, ◌≤◌, refl, sym, ap, ◌∙◌, subst, List, [], ◌∷◌, ◌++◌, length, append_assoc, length-append, arith, inl, inr}
+use Rattle.std.proofs.Common.{◌≡◌, ℕ, ◌+◌, refl, sym, ap, ◌∙◌, subst, List, [], ◌∷◌, ◌++◌, length, append_assoc, length-append, arith, inl, inr}
 use Rattle.std.specs.Prelude.{Option, None, Some}
 use Rattle.std.proofs.lemmas.List.{append-nil}
 use Rattle.std.specs.Io.KnownBytes.{Appends}
 use mathlib.Core.List.{IsPrefix}
 use Rattle.byte_text.specs.Names.{Bytes}
 use Rattle.script_text.specs.Lines.{line}
-use Rattle.world_model.specs.Halls.{Hall}
+use Rattle.tile_top.specs.Played.{Played}
 use Rattle.tile_top.specs.declared.streams.LineEnd.TheVariants as read
 use Rattle.tile_top.specs.declared.plays.Turn.{Turn}
 use Rattle.tile_top.specs.declared.plays.Turn.TheVariants.{Next, End, Script, ReadFault, WriteFault, Memory}
-use Rattle.tile_top.specs.TextLines.{TextLine, lines, size, size_of_all, IsShort}
+use Rattle.tile_top.specs.TextLines.{TextLine, lines, size, size_of_all}
 use Rattle.tile_top.specs.Reads.{OnLine}
-use Rattle.tile_top.specs.Scripts.{opening, ActsOn, IsLine, Does, Runs}
-use Rattle.tile_top.specs.Plays.{IsDone, IsFaulty, IsPart, IsCut, OnTurn, OnPlay, OnLineDone}
+use Rattle.tile_top.specs.Scripts.{opening, IsLine, Does, Runs}
+use Rattle.tile_top.specs.Plays.{IsPart, IsCut, OnTurn, OnPlay, OnLineDone}
 use Rattle.tile_top.proofs.Writing.{appends_more, appends_nothing}
 
 -- a line was read, and then done
-pub line_done : (t : Turn) (left left' held held' : Option Bytes) (h h' : Hall) (used used' : ℕ) (bytes : Bytes) → OnLine read.Line left left' used used' bytes → OnLineDone t held held' h h' bytes → OnTurn t left left' held held' h h' used used'
+pub line_done : (t : Turn) (left left' held held' : Option Bytes) (h h' : Played) (used used' : ℕ) (bytes : Bytes) → OnLine read.Line left left' used used' bytes → OnLineDone t held held' h h' bytes → OnTurn t left left' held held' h h' used used'
 line_done Next left left' held held' h h' used used' bytes r d = (d.0, d.2, told left left' r)
   where
     told : (left left' : Option Bytes) → OnLine read.Line left left' used used' bytes → (text : Bytes) → left ≡ Some text →
@@ -30,7 +30,7 @@ line_done Next left left' held held' h h' used used' bytes r d = (d.0, d.2, told
 line_done WriteFault left left' held held' h h' used used' bytes r d = (d.1, d.4, told left left' r)
   where
     told : (left left' : Option Bytes) → OnLine read.Line left left' used used' bytes → (text : Bytes) → left ≡ Some text →
-        (l : TextLine) × (behind : List TextLine) × (out : Bytes) × (next : Hall) × (lines text ≡ l ∷ behind) × Does used h l out next × IsPrefix d.1 out
+        (l : TextLine) × (behind : List TextLine) × (out : Bytes) × (next : Played) × (lines text ≡ l ∷ behind) × Does used h l out next × IsPrefix d.1 out
     told None left' r text e = absurd (cc)
     told (Some xs) None r text e = absurd r
     told (Some xs) (Some ys) r text e =
@@ -50,20 +50,20 @@ line_done ReadFault left left' held held' h h' used used' bytes r d = absurd d
 line_done End left left' held held' h h' used used' bytes r d = absurd d
 
 -- no line was read
-pub no_line : (left left' held : Option Bytes) (h : Hall) (used used' : ℕ) (bytes : Bytes) → OnLine read.End left left' used used' bytes → OnTurn End left left' held held h h used used'
+pub no_line : (left left' held : Option Bytes) (h : Played) (used used' : ℕ) (bytes : Bytes) → OnLine read.End left left' used used' bytes → OnTurn End left left' held held h h used used'
 no_line None left' held h used used' bytes r = (refl, λ text e. absurd (cc))
 no_line (Some xs) None held h used used' bytes r = absurd r
 no_line (Some xs) (Some ys) held h used used' bytes r = (refl, λ text e. let is : xs ≡ text = cc in (subst (λ (z : Bytes). lines z ≡ []) is r.0, ap (λ (z : Bytes). Some z) r.1))
 
-pub long_line : (left left' held : Option Bytes) (h : Hall) (used used' : ℕ) (bytes : Bytes) → OnLine read.TooLong left left' used used' bytes → OnTurn Script left left' held held h h used used'
+pub long_line : (left left' held : Option Bytes) (h : Played) (used used' : ℕ) (bytes : Bytes) → OnLine read.TooLong left left' used used' bytes → OnTurn Script left left' held held h h used used'
 long_line None left' held h used used' bytes r = (refl, λ text e. absurd (cc))
 long_line (Some xs) None held h used used' bytes r = absurd r
 long_line (Some xs) (Some ys) held h used used' bytes r = (refl, λ text e. let is : xs ≡ text = cc in (r.0, r.1, subst (λ (z : Bytes). lines z ≡ r.0 ∷ r.1) is r.2, λ k. r.3 k.short))
 
 -- one line more behind those that were done
-pub runs_more : (before : ℕ) (h : Hall) (front : List TextLine) (out : Bytes) (mid : Hall) (l : TextLine) (now : Bytes) (last : Hall) → Runs before h front out mid → Does (before + size_of_all front) mid l now last → Runs before h (front ++ l ∷ []) (out ++ now) last
+pub runs_more : (before : ℕ) (h : Played) (front : List TextLine) (out : Bytes) (mid : Played) (l : TextLine) (now : Bytes) (last : Played) → Runs before h front out mid → Does (before + size_of_all front) mid l now last → Runs before h (front ++ l ∷ []) (out ++ now) last
 runs_more before h [] out mid l now last r d =
-    let here : Does before h l now last = subst (λ (z : Hall). Does before z l now last) r.1 (subst (λ (n : ℕ). Does n mid l now last) (plus before) d) in
+    let here : Does before h l now last = subst (λ (z : Played). Does before z l now last) r.1 (subst (λ (n : ℕ). Does n mid l now last) (plus before) d) in
     (last, now, [], here, (refl, refl), ap (λ (z : Bytes). z ++ now) r.0 ∙ sym (append-nil now))
   where
     plus : (n : ℕ) → n + 0 ≡ n
@@ -81,7 +81,7 @@ size_more [] l = omega arith
 size_more (k ∷ front) l = let ih = size_more front l in omega (arith, ih)
 
 -- what was done so far, and what is left of the script
-pub record Going (left0 left held0 held : Option Bytes) (number used : ℕ) (h : Hall) : Type 0 where
+pub record Going (left0 left held0 held : Option Bytes) (number used : ℕ) (h : Played) : Type 0 where
   pub done : Bytes
   pub written : Appends held0 held done
   pub text : (xs : Bytes) → left0 ≡ Some xs → (front : List TextLine) × (rest : Bytes) × (left ≡ Some rest) × (lines xs ≡ front ++ lines rest)
@@ -90,7 +90,7 @@ pub record Going (left0 left held0 held : Option Bytes) (number used : ℕ) (h :
 pub going_start : (left0 held0 : Option Bytes) → Going left0 left0 held0 held0 1 0 opening
 going_start left0 held0 = record { done = []; written = appends_nothing held0; text = λ xs is. ([], xs, is, refl, refl, refl, (refl, refl)) }
 
-pub going_next : (left0 left left' held0 held held' : Option Bytes) (number used used' : ℕ) (h h' : Hall) → Going left0 left held0 held number used h → OnTurn Next left left' held held' h h' used used' → Going left0 left' held0 held' (number + 1) used' h'
+pub going_next : (left0 left left' held0 held held' : Option Bytes) (number used used' : ℕ) (h h' : Played) → Going left0 left held0 held number used h → OnTurn Next left left' held held' h h' used used' → Going left0 left' held0 held' (number + 1) used' h'
 going_next left0 left left' held0 held held' number used used' h h' g t = record {
   done = g.done ++ t.0;
   written = appends_more held0 held held' g.done t.0 g.written t.1;
@@ -115,29 +115,29 @@ going_next left0 left left' held0 held held' number used used' h h' g t = record
 kept_held : (held0 held held' : Option Bytes) (done : Bytes) → held' ≡ held → Appends held0 held done → Appends held0 held' done
 kept_held held0 held held' done e a = subst (λ (z : Option Bytes). Appends held0 z done) (sym e) a
 
-pub plays_end : (left0 left left' held0 held held' : Option Bytes) (number used used' m : ℕ) (h h' : Hall) → Going left0 left held0 held number used h → OnTurn End left left' held held' h h' used used' → OnPlay End left0 left' held0 held' m
+pub plays_end : (left0 left left' held0 held held' : Option Bytes) (number used used' m : ℕ) (h h' : Played) → Going left0 left held0 held number used h → OnTurn End left left' held held' h h' used used' → OnPlay End left0 left' held0 held' m
 plays_end left0 left left' held0 held held' number used used' m h h' g t xs is =
     let p = g.text xs is in
     let e = t.1 p.1 p.2 in
     let all : lines xs ≡ p.0 = p.3 ∙ ap (λ (ls : List TextLine). p.0 ++ ls) e.0 ∙ append-nil p.0 in
     (e.1, (g.done, h, subst (λ (ls : List TextLine). Runs 0 opening ls g.done h) (sym all) p.6, kept_held held0 held held' g.done t.0 g.written))
 
-pub plays_fault : (left0 left left' held0 held held' : Option Bytes) (number used used' : ℕ) (h h' : Hall) → Going left0 left held0 held number used h → OnTurn Script left left' held held' h h' used used' → OnPlay Script left0 left' held0 held' number
+pub plays_fault : (left0 left left' held0 held held' : Option Bytes) (number used used' : ℕ) (h h' : Played) → Going left0 left held0 held number used h → OnTurn Script left left' held held' h h' used used' → OnPlay Script left0 left' held0 held' number
 plays_fault left0 left left' held0 held held' number used used' h h' g t xs is =
     let p = g.text xs is in
     let e = t.1 p.1 p.2 in
     (p.0, e.0, e.1, g.done, h, p.3 ∙ ap (λ (ls : List TextLine). p.0 ++ ls) e.2, p.4, p.6, subst (λ (n : ℕ). IsLine n e.0 → ⊥) p.5 e.3, subst (λ (o : Bytes). Appends held0 held' o) (sym (append-nil g.done)) (kept_held held0 held held' g.done t.0 g.written))
 
-no_part : (before : ℕ) (h : Hall) (ls : List TextLine) → IsPart before h ls []
+no_part : (before : ℕ) (h : Played) (ls : List TextLine) → IsPart before h ls []
 no_part before h [] = refl
 no_part before h (l ∷ ls) = inl refl
 
-pub plays_cut : (left0 left held0 held held' : Option Bytes) (number used : ℕ) (h : Hall) → Going left0 left held0 held number used h → held' ≡ held → IsCut left0 held0 held' []
+pub plays_cut : (left0 left held0 held held' : Option Bytes) (number used : ℕ) (h : Played) → Going left0 left held0 held number used h → held' ≡ held → IsCut left0 held0 held' []
 plays_cut left0 left held0 held held' number used h g t xs is =
     let p = g.text xs is in
     (p.0, lines p.1, g.done, h, [], p.3, p.6, no_part (size_of_all p.0) h (lines p.1), subst (λ (o : Bytes). Appends held0 held' o) (sym (append-nil g.done)) (kept_held held0 held held' g.done t g.written))
 
-pub plays_part : (left0 left left' held0 held held' : Option Bytes) (number used used' : ℕ) (h h' : Hall) → Going left0 left held0 held number used h → OnTurn WriteFault left left' held held' h h' used used' → IsCut left0 held0 held' []
+pub plays_part : (left0 left left' held0 held held' : Option Bytes) (number used used' : ℕ) (h h' : Played) → Going left0 left held0 held number used h → OnTurn WriteFault left left' held held' h h' used used' → IsCut left0 held0 held' []
 plays_part left0 left left' held0 held held' number used used' h h' g t xs is =
     let p = g.text xs is in
     let e = t.2 p.1 p.2 in

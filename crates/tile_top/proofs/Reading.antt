@@ -4,7 +4,7 @@ use Rattle.std.specs.Prelude.{Option, if◌then◌else◌, ◌==◌}
 use Rattle.std.proofs.lemmas.Bool.Decides.{nat_tests}
 use Rattle.std.specs.Io.KnownBytes.{Consumes, Keeps, IsAtEnd}
 use Rattle.tile_top.specs.declared.streams.LineEnd.TheVariants.{Line, End, TooLong, ReadFault, Memory}
-use Rattle.tile_top.specs.TextLines.{TextLine, in_front, lines, size, IsShort, max_line, max_script}
+use Rattle.tile_top.specs.TextLines.{TextLine, in_front, lines, size, max_line, max_script}
 use Rattle.tile_top.specs.Reads.{OnLine}
 
 -- the lines with these bytes in front of the first

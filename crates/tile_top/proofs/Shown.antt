@@ -1,5 +1,5 @@
 -- The lines of frames, one frame more.
-use Rattle.std.proofs.Common.{◌≡◌, ℕ, zero, suc, ◌+◌, refl, sym, ap, ◌∙◌, List, [], ◌∷◌, ◌++◌, take, append_assoc}
+use Rattle.std.proofs.Common.{◌≡◌, ℕ, zero, suc, sym, ap, ◌∙◌, List, [], ◌∷◌, ◌++◌, take, append_assoc}
 use Rattle.std.specs.Prelude.{Some, flat_map, slice_get}
 use Rattle.std.proofs.lemmas.List.{append-nil}
 

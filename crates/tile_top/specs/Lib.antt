@@ -1,6 +1,10 @@
 pub mod TextLines
 pub mod Reads
 pub mod Outputs
+pub mod Played
+pub mod Readers
 pub mod Scripts
+pub mod Steps
+pub mod Cuts
 pub mod Plays
 pub mod Tops

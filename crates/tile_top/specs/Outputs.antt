@@ -1,5 +1,5 @@
 -- The output lines of a script.
-use Rattle.std.specs.Prelude.{ℕ, List, ◌++◌, Option, Some, None, flat_map, codes, decimal}
+use Rattle.std.specs.Prelude.{◌++◌, Option, Some, None, flat_map, codes, decimal}
 use Rattle.byte_text.specs.Names.{Bytes}
 use Rattle.script_text.specs.Escaped.{frame_line}
 use Rattle.world_model.specs.declared.events.Called.{Called}

@@ -1,5 +1,5 @@
 -- What the reading of one line gives.
-use Rattle.std.specs.Prelude.{◌≡◌, ℕ, ◌+◌, ◌<◌, ◌≤◌, List, [], ◌∷◌, length, Option, None, Some}
+use Rattle.std.specs.Prelude.{◌≡◌, ℕ, ◌+◌, List, [], ◌∷◌, Option, None, Some}
 use Rattle.tile_top.specs.declared.streams.LineEnd.{LineEnd}
 use Rattle.tile_top.specs.declared.streams.LineEnd.TheVariants.{Line, End, TooLong, ReadFault, Memory}
 use Rattle.tile_top.specs.TextLines.{TextLine, lines, size, IsShort}

@@ -1,52 +1,41 @@
 //! What one line of a script does.
 
-ghost use Rattle.std.specs.Prelude.{◌≡◌, [], Some, None, IfOk, MatchOption};
+ghost use Rattle.std.specs.Prelude.{◌≡◌, [], IfOk};
 ghost use Rattle.world_model.specs.Limits.{take_frames};
 ghost use Rattle.world_model.specs.declared.events.Event.TheVariants as event;
-ghost use Rattle.script_text.specs.declared.lines.ScriptLine.TheVariants as says;
-ghost use Rattle.tile_top.specs.Scripts.{Makes, Acts, ActsOn, IsServed};
+ghost use Rattle.tile_top.specs.Readers.{reader_of};
+ghost use Rattle.tile_top.specs.Scripts.{opening, Makes, MakesOne, Enters, Closes, Feeds, ActsOn};
 
+use crate::feeds::feed;
 use crate::outputs::{frame_lines, session_line, text_of};
+use crate::readers::{Reader, add_reader, drop_reader};
 use byte_text::{NoMemory, Text};
-use resp_frames::request_of;
 use script_text::{LineFault, ScriptLine, line_of};
 use std::alloc::Global;
+use std::marker::Model;
 use tile_core::Core;
 use world_model::{Called, EnterFault, Frames, Taken};
 
-// Lets a session in.
-fn enter(alloc: Global, core: &mut Core) -> Result<Text, NoMemory>
-    ensures { IfOk result (λ out. Makes core.old.hall event.Enter out core.new.hall) }
-{
-    match core.enter() {
-        Ok(number) => session_line(alloc, number),
-        Err(EnterFault::TooMany) => text_of(alloc, b"toomany\n"),
-        // As no log is kept, the hall never stops and is never spent.
-        Err(_) => Err(NoMemory),
-    }
+/// What the lines of a script that were played have made: a core, and the readers of the sessions that were entered.
+#[derive(Drop)]
+pub(crate) struct Player {
+    alloc: Global,
+    core: Core,
+    readers: Vec<Reader>,
+    // The places that a take gives its frames into; empty between two lines.
+    frames: Frames,
 }
 
-// Makes a call of a session, where the bytes are one whole request.
-fn feed(
-    alloc: Global,
-    core: &mut Core,
-    session: u32,
-    moment: u64,
-    bytes: &Text,
-) -> Result<Option<Text>, NoMemory>
-    ensures { IfOk result (λ o. MatchOption o (IsServed (says.Feed session moment bytes.now) → ⊥) (λ out. Acts core.old.hall (says.Feed session moment bytes.now) out core.new.hall)) }
-{
-    let Some(request) = request_of(alloc, bytes.bytes())? else {
-        return Ok(None);
-    };
-    let answer = match core.call(session, moment, &request) {
-        Called::Ok => text_of(alloc, b"ok\n")?,
-        Called::Full => text_of(alloc, b"full\n")?,
-        Called::Gone => text_of(alloc, b"gone\n")?,
-        // As no log is kept, the hall never stops and is never spent.
-        _ => return Err(NoMemory),
-    };
-    Ok(Some(answer))
+impl Model for Player {
+    ghost use Rattle.std.specs.Prelude.{◌≡◌, []};
+    ghost use Rattle.world_model.specs.Limits.{take_frames};
+    ghost use Rattle.tile_top.specs.Played.{Played};
+
+    ghost Value = { Played };
+
+    ghost view = { λ p. record { hall = p.core.hall; readers = p.readers.items } };
+
+    ghost invariant = { λ p. p.frames ≡ record { list = []; places = take_frames } };
 }
 
 // Takes the frames of a session.
@@ -55,7 +44,7 @@ fn take(alloc: Global, core: &mut Core, frames: &mut Frames, session: u32) -> Re
     ensures made { IfOk result (λ out. Makes core.old.hall (event.Take session) out core.new.hall) }
     ensures cleared { frames.new ≡ record { list = []; places = take_frames } }
 {
-    let line = match core.take(session, frames) {
+    let lines = match core.take(session, frames) {
         Taken::Some(_) => frame_lines(alloc, frames),
         Taken::Empty => text_of(alloc, b"empty\n"),
         Taken::Ended => text_of(alloc, b"ended\n"),
@@ -63,30 +52,96 @@ fn take(alloc: Global, core: &mut Core, frames: &mut Frames, session: u32) -> Re
         _ => Err(NoMemory),
     };
     frames.clear();
-    line
+    lines
 }
 
-/// Does what a line says, and answers its output; none where the line is none of a script, and then nothing is done.
-pub(crate) fn act(
-    alloc: Global,
-    core: &mut Core,
-    frames: &mut Frames,
-    line: &[u8],
-) -> Result<Option<Text>, NoMemory>
-    requires { frames.old ≡ record { list = []; places = take_frames } }
-    ensures acts { IfOk result (λ o. ActsOn core.old.hall core.new.hall line.now o) }
-    ensures cleared { frames.new ≡ record { list = []; places = take_frames } }
-{
-    match line_of(alloc, line) {
-        Ok(ScriptLine::Nothing) => Ok(Some(Text::new(alloc))),
-        Ok(ScriptLine::Enter) => Ok(Some(enter(alloc, core)?)),
-        Ok(ScriptLine::Feed(session, moment, bytes)) => feed(alloc, core, session, moment, &bytes),
-        Ok(ScriptLine::Take(session)) => Ok(Some(take(alloc, core, frames, session)?)),
-        Ok(ScriptLine::Tick(_)) => Ok(None),
-        Ok(ScriptLine::Close(_)) => Ok(None),
-        Ok(ScriptLine::Step) => Ok(None),
-        Ok(ScriptLine::Reopen) => Ok(None),
-        Err(LineFault::Outside) => Ok(None),
-        Err(LineFault::Memory) => Err(NoMemory),
+impl Player {
+    /// The player of a script, before its first line.
+    pub(crate) fn new(alloc: Global) -> Result<Player, NoMemory>
+        ensures { IfOk result (λ p. p ≡ opening) }
+    {
+        let frames = Frames::new(alloc)?;
+        Ok(Player {
+            alloc,
+            core: Core::new(alloc),
+            readers: Vec::new(alloc),
+            frames,
+        })
+    }
+
+    // Lets a session in, which has a reader from then on.
+    fn enter(&mut self) -> Result<Text, NoMemory>
+        ensures { IfOk result (λ out. Enters self.old out self.new) }
+    {
+        match self.core.enter() {
+            Ok(session) => {
+                add_reader(self.alloc, &mut self.readers, session)?;
+                session_line(self.alloc, session)
+            }
+            Err(EnterFault::TooMany) => text_of(self.alloc, b"toomany\n"),
+            // As no log is kept, the hall never stops and is never spent.
+            Err(_) => Err(NoMemory),
+        }
+    }
+
+    // Feeds bytes to a session's reader.
+    fn feed(&mut self, session: u32, moment: u64, bytes: &[u8]) -> Result<Text, NoMemory>
+        ensures { IfOk result (λ out. Feeds self.old session moment bytes.now (reader_of session self.old.readers) out self.new) }
+    {
+        feed(
+            self.alloc,
+            &mut self.core,
+            &mut self.readers,
+            session,
+            moment,
+            bytes,
+        )
+    }
+
+    // Takes the frames of a session.
+    fn take(&mut self, session: u32) -> Result<Text, NoMemory>
+        ensures { IfOk result (λ out. MakesOne self.old (event.Take session) out self.new) }
+    {
+        take(self.alloc, &mut self.core, &mut self.frames, session)
+    }
+
+    // Lets the clock go on.
+    fn tick(&mut self, moment: u64) -> Result<Text, NoMemory>
+        ensures { IfOk result (λ out. MakesOne self.old (event.Tick moment) out self.new) }
+    {
+        match self.core.tick(moment) {
+            Called::Ok => text_of(self.alloc, b"ok\n"),
+            // As no log is kept, the hall never stops and is never spent.
+            _ => Err(NoMemory),
+        }
+    }
+
+    // Closes a session, whose reader is dropped.
+    fn close(&mut self, session: u32) -> Result<Text, NoMemory>
+        ensures { IfOk result (λ out. Closes self.old session out self.new) }
+    {
+        self.core.close_session(session);
+        drop_reader(&mut self.readers, session);
+        text_of(self.alloc, b"ok\n")
+    }
+
+    /// Does what a line says, and answers its output; none where the line is none of a script, and then nothing is done.
+    pub(crate) fn act(&mut self, line: &[u8]) -> Result<Option<Text>, NoMemory>
+        ensures { IfOk result (λ o. ActsOn self.old self.new line.now o) }
+    {
+        match line_of(self.alloc, line) {
+            Ok(ScriptLine::Nothing) => Ok(Some(Text::new(self.alloc))),
+            Ok(ScriptLine::Enter) => Ok(Some(self.enter()?)),
+            Ok(ScriptLine::Feed(session, moment, bytes)) => {
+                Ok(Some(self.feed(session, moment, bytes.bytes())?))
+            }
+            Ok(ScriptLine::Take(session)) => Ok(Some(self.take(session)?)),
+            Ok(ScriptLine::Tick(moment)) => Ok(Some(self.tick(moment)?)),
+            Ok(ScriptLine::Close(session)) => Ok(Some(self.close(session)?)),
+            Ok(ScriptLine::Step) => Ok(None),
+            Ok(ScriptLine::Reopen) => Ok(None),
+            Err(LineFault::Outside) => Ok(None),
+            Err(LineFault::Memory) => Err(NoMemory),
+        }
     }
 }

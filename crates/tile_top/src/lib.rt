@@ -2,11 +2,15 @@
 #![tactic(auto)]
 
 mod acts;
+mod feeds;
+mod laws;
 mod outputs;
 mod plays;
+mod readers;
 mod streams;
 mod tops;
 
+pub use laws::feeds_are_one_stream;
 pub use tops::{Ended, top};
 
 #[cfg(test)]

@@ -2,17 +2,15 @@
 
 ghost use Rattle.std.specs.Prelude.{◌≡◌, ◌≤◌, ◌<◌, ◌+◌, []};
 ghost use Rattle.outside.specs.Causes.{Rose};
-ghost use Rattle.world_model.specs.Limits.{take_frames};
 ghost use Rattle.tile_top.specs.TextLines.{max_script};
+ghost use Rattle.tile_top.specs.Scripts.{opening};
 ghost use Rattle.tile_top.specs.Plays.{OnTurn, OnPlay, OnLineDone};
 
-use crate::acts::act;
+use crate::acts::Player;
 use crate::streams::{LineEnd, read_line, write_all};
 use byte_text::NoMemory;
 use outside::{Failed, Sink, Source};
 use std::alloc::Global;
-use tile_core::Core;
-use world_model::Frames;
 
 /// How a line of a script ended.
 #[derive(Clone, Copy, Debug, PartialEq, Eq)]
@@ -29,20 +27,12 @@ pub(crate) enum Turn {
 }
 
 // Does a line that was read, and writes its output.
-fn do_line<K: Sink>(
-    alloc: Global,
-    sink: &mut K,
-    core: &mut Core,
-    frames: &mut Frames,
-    line: &[u8],
-) -> Turn
-    requires { frames.old ≡ record { list = []; places = take_frames } }
-    ensures told { OnLineDone result (K.held sink.old) (K.held sink.new) core.old.hall core.new.hall line.now }
-    ensures cleared { frames.new ≡ record { list = []; places = take_frames } }
+fn do_line<K: Sink>(sink: &mut K, player: &mut Player, line: &[u8]) -> Turn
+    ensures told { OnLineDone result (K.held sink.old) (K.held sink.new) player.old player.new line.now }
     ensures later { K.faults sink.old ≤ K.faults sink.new }
     ensures cause { result ≡ Turn.WriteFault → Rose (K.faults sink.old) (K.faults sink.new) }
 {
-    match act(alloc, core, frames, line) {
+    match player.act(line) {
         Ok(Some(out)) => match write_all(sink, out.bytes()) {
             Ok(()) => Turn::Next,
             Err(Failed) => Turn::WriteFault,
@@ -54,18 +44,14 @@ fn do_line<K: Sink>(
 
 // Reads the next line, does it, and writes its output.
 fn next_line<S: Source, K: Sink>(
-    alloc: Global,
     source: &mut S,
     sink: &mut K,
-    core: &mut Core,
-    frames: &mut Frames,
+    player: &mut Player,
     line: &mut Vec<u8>,
     used: &mut u64,
 ) -> Turn
-    requires read { used.old ≤ max_script }
-    requires empty { frames.old ≡ record { list = []; places = take_frames } }
-    ensures told { OnTurn result (S.left source.old) (S.left source.new) (K.held sink.old) (K.held sink.new) core.old.hall core.new.hall used.old used.new }
-    ensures cleared { frames.new ≡ record { list = []; places = take_frames } }
+    requires { used.old ≤ max_script }
+    ensures told { OnTurn result (S.left source.old) (S.left source.new) (K.held sink.old) (K.held sink.new) player.old player.new used.old used.new }
     ensures most { used.new ≤ max_script }
     ensures some { result ≡ Turn.Next → used.old + 1 ≤ used.new }
     ensures source { S.faults source.old ≤ S.faults source.new }
@@ -74,7 +60,7 @@ fn next_line<S: Source, K: Sink>(
     ensures write_cause { result ≡ Turn.WriteFault → Rose (K.faults sink.old) (K.faults sink.new) }
 {
     match read_line(source, line, used) {
-        LineEnd::Line => do_line(alloc, sink, core, frames, line.as_slice()),
+        LineEnd::Line => do_line(sink, player, line.as_slice()),
         LineEnd::End => Turn::End,
         LineEnd::TooLong => Turn::Script,
         LineEnd::ReadFault => Turn::ReadFault,
@@ -87,20 +73,19 @@ pub(crate) fn play<S: Source, K: Sink>(
     alloc: Global,
     source: &mut S,
     sink: &mut K,
-    frames: &mut Frames,
+    player: &mut Player,
 ) -> (Turn, u64)
-    requires { frames.old ≡ record { list = []; places = take_frames } }
+    requires { player.old ≡ opening }
     ensures told { OnPlay result.0 (S.left source.old) (S.left source.new) (K.held sink.old) (K.held sink.new) result.1 }
     ensures later { K.faults sink.old ≤ K.faults sink.new }
     ensures read { result.0 ≡ Turn.ReadFault → Rose (S.faults source.old) (S.faults source.new) }
     ensures write { result.0 ≡ Turn.WriteFault → Rose (K.faults sink.old) (K.faults sink.new) }
 {
-    let mut core = Core::new(alloc);
     let mut line = Vec::new(alloc);
     let mut used = 0u64;
     let mut number = 1u64;
     loop {
-        match next_line(alloc, source, sink, &mut core, frames, &mut line, &mut used) {
+        match next_line(source, sink, player, &mut line, &mut used) {
             Turn::Next => number += 1,
             Turn::End => return (Turn::End, number),
             Turn::Script => return (Turn::Script, number),

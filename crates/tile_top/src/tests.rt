@@ -1,7 +1,9 @@
 //! Scripts that are played whole, that end at a faulty line, and that a failing read or write cuts short.
 
 use super::*;
+use byte_text::{NoMemory, Text, push_u64};
 use outside::{BytesSink, BytesSource};
+use script_text::push_frame_line;
 use std::alloc::Global;
 use std::test::Fail;
 
@@ -15,6 +17,10 @@ const OUTPUT: &[u8] = b"session 1\nok\nok\n\
     frame +OK%0D%0A\n\
     frame $39%0D%0A{\"type\":\"Point\",\"coordinates\":[112,33]}%0D%0A\n\
     empty\n";
+
+// The two requests of the script.
+const REQUESTS: &[u8] =
+    b"*6\r\n$3\r\nSET\r\n$5\r\nfleet\r\n$6\r\ntruck1\r\n$5\r\nPOINT\r\n$2\r\n33\r\n$3\r\n112\r\n*3\r\n$3\r\nGET\r\n$5\r\nfleet\r\n$6\r\ntruck1\r\n";
 
 // Plays the script, which is read in pieces of 7 bytes and whose output is written in pieces of 5. The reads and writes of these
 // numbers fail.
@@ -33,29 +39,266 @@ fn played(
     Ok((ended.status, sink))
 }
 
+// The lines that feed session 1 these bytes, cut into pieces of this size.
+fn feeds(alloc: Global, bytes: &[u8], size: usize) -> Result<Text, NoMemory> {
+    let mut lines = Text::new(alloc);
+    for piece in bytes.chunks(size.max(1)) {
+        lines.push(b"feed 1 0 ")?;
+        for byte in piece {
+            match byte {
+                b'\r' => lines.push(b"%0D")?,
+                b'\n' => lines.push(b"%0A")?,
+                other => lines.push(&[*other])?,
+            }
+        }
+        lines.push(b"\n")?;
+    }
+    Ok(lines)
+}
+
+// The request of these words, which spaces separate.
+fn request(alloc: Global, words: &str) -> Result<Text, NoMemory> {
+    let mut text = Text::new(alloc);
+    text.push(b"*")?;
+    push_u64(&mut text, words.split(' ').count() as u64)?;
+    text.push(b"\r\n")?;
+    for word in words.split(' ') {
+        text.push(b"$")?;
+        push_u64(&mut text, word.len() as u64)?;
+        text.push(b"\r\n")?;
+        text.push(word.as_bytes())?;
+        text.push(b"\r\n")?;
+    }
+    Ok(text)
+}
+
+// A script whose session asks for each of these and takes the answer at once, and what it prints where these are the answers.
+fn exchanges(alloc: Global, table: &[(&str, &str)]) -> Result<(Text, Text), NoMemory> {
+    let mut script = Text::new(alloc);
+    let mut output = Text::new(alloc);
+    script.push(b"open\n")?;
+    output.push(b"session 1\n")?;
+    for (words, answer) in table {
+        let text = request(alloc, words)?;
+        script.push(feeds(alloc, text.bytes(), text.len())?.bytes())?;
+        script.push(b"take 1\n")?;
+        output.push(b"ok\n")?;
+        push_frame_line(&mut output, answer.as_bytes())?;
+    }
+    Ok((script, output))
+}
+
 #[test]
 fn scripts_and_their_output(rt: HostRuntime) -> Result<(), Fail> {
     let usage =
         b"usage: tile_server replay | check | load N SEED | serve ADDR [--sessions N]\n".as_slice();
-    let faulty = b"session 1\nsession 2\nscript fault at line 3\n".as_slice();
-    let several =
-        b"session 1\nsession 2\ngone\nok\nempty\nframe -ERR%20not%20served%20yet%0D%0A\n".as_slice();
-    for (word, script, status, output) in [
+    let table: [(&str, &[u8], u8, &[u8]); 7] = [
         ("replay", SCRIPT, 0, OUTPUT),
-        ("replay", b"".as_slice(), 0, b"".as_slice()),
-        ("replay", b"open\nopen\nshut\nopen\n".as_slice(), 2, faulty),
+        ("replay", b"", 0, b""),
         (
             "replay",
-            b"open\nopen\nfeed 3 0 *1%0D%0A$4%0D%0APING%0D%0A\nfeed 2 0 *1%0D%0A$3%0D%0ASCA%0D%0A\ntake 1\ntake 2".as_slice(),
+            b"open\nopen\nshut\nopen\n",
+            2,
+            b"session 1\nsession 2\nscript fault at line 3\n",
+        ),
+        (
+            "replay",
+            b"# two sessions\n\nopen\nopen\n#\nfeed 3 0 x\ntake 3\nfeed 2 0 *1%0D%0A$4%0D%0AS\nfeed 1 0 *1%0D%0A$4%0D%0APING%0D%0A\nfeed 2 0 CAN%0D%0A\ntake 1\ntake 2",
             0,
-            several,
+            b"session 1\nsession 2\ngone\nended\nok\nok\nframe +PONG%0D%0A\nframe -ERR%20not%20served%20yet%0D%0A\n",
+        ),
+        (
+            "replay",
+            b"open\nfeed 1 0 *1%0D%0A$4%0D%0AQUIT%0D%0A*1%0D%0A$4%0D%0APING%0D%0A*\ntake 1\ntake 1\nfeed 1 0 0\nfeed 1 0 0\n",
+            0,
+            b"session 1\nok\ngone\nframe +OK%0D%0A\nended\ngone\ndead\n",
+        ),
+        (
+            "replay",
+            b"open\ntick 5\nclose 1\nfeed 1 0 x\ntake 1\nclose 1\nstep\n",
+            2,
+            b"session 1\nok\nok\ngone\nended\nok\nscript fault at line 7\n",
         ),
         ("serve", SCRIPT, 1, usage),
-    ] {
+    ];
+    for (word, script, status, output) in table {
         let (ended, sink) = played(rt.alloc(), word, script, &[], &[])?;
         assert_eq!(rt; ended, status, "{word}");
         assert_eq!(rt; sink.written(), output);
     }
+    Ok(())
+}
+
+#[test]
+fn requests_in_any_cutting(rt: HostRuntime) -> Result<(), Fail> {
+    let alloc = rt.alloc();
+    for size in 1..REQUESTS.len() + 1 {
+        let mut script = Text::new(alloc);
+        script.push(b"open\n")?;
+        script.push(feeds(alloc, REQUESTS, size)?.bytes())?;
+        script.push(b"take 1\ntake 1\n")?;
+        let (ended, sink) = played(alloc, "replay", script.bytes(), &[], &[])?;
+        assert_eq!(rt; ended, 0);
+        assert_eq!(rt; sink.written(), OUTPUT, "in pieces of {size}");
+    }
+    Ok(())
+}
+
+#[test]
+fn broken_protocols(rt: HostRuntime) -> Result<(), Fail> {
+    let alloc = rt.alloc();
+    for (bytes, fault) in [
+        ("+PING%0D%0A", "bad type"),
+        ("*0", "bad length"),
+        ("*-1", "bad length"),
+        ("*01", "bad length"),
+        ("*1%0A", "bad length"),
+        ("*1%0DX", "bad end"),
+        ("*1%0D%0A+", "bad type"),
+        ("*1%0D%0A$03", "bad length"),
+        ("*1%0D%0A$1%0D%0Aab", "bad end"),
+        ("*1%0D%0A$1048577", "too long"),
+        ("*4097", "too many words"),
+    ] {
+        let mut script = Text::new(alloc);
+        script.push(b"open\nfeed 1 0 ")?;
+        script.push(bytes.as_bytes())?;
+        script.push(b"*1%0D%0A\ntake 1\ntake 1\nfeed 1 0 *\n")?;
+        let mut frame = Text::new(alloc);
+        frame.push(b"-ERR protocol error: ")?;
+        frame.push(fault.as_bytes())?;
+        frame.push(b"\r\n")?;
+        let mut output = Text::new(alloc);
+        output.push(b"session 1\nok\n")?;
+        push_frame_line(&mut output, frame.bytes())?;
+        output.push(b"ended\ndead\n")?;
+        let (ended, sink) = played(alloc, "replay", script.bytes(), &[], &[])?;
+        assert_eq!(rt; ended, 0);
+        assert_eq!(rt; sink.written(), output.bytes(), "{bytes}");
+    }
+    Ok(())
+}
+
+#[test]
+fn commands_and_their_answers(rt: HostRuntime) -> Result<(), Fail> {
+    let alloc = rt.alloc();
+    let square = "{\"type\":\"Polygon\",\"coordinates\":[[[0,0],[10,0],[10,10],[0,10],[0,0]]]}";
+    let mut set_square = "SET k h OBJECT ".to_string(alloc)?;
+    set_square.push_str(square)?;
+    let table = [
+        (
+            "SET fleet t POINT 33.5123 -112.2693",
+            "-ERR coordinate is not a whole number '33.5123'\r\n",
+        ),
+        ("GET fleet t", "$-1\r\n"),
+        ("SET far a POINT 1000000000 1000000000", "+OK\r\n"),
+        (
+            "SET far b POINT 1000000001 0",
+            "-ERR invalid argument '1000000001'\r\n",
+        ),
+        ("SET k a POINT 1 2", "+OK\r\n"),
+        (
+            "GET k a",
+            "$36\r\n{\"type\":\"Point\",\"coordinates\":[2,1]}\r\n",
+        ),
+        ("GET k a POINT", "*2\r\n$1\r\n1\r\n$1\r\n2\r\n"),
+        ("SET k a NX POINT 9 9", "$-1\r\n"),
+        (
+            "STATS k none",
+            "*2\r\n*4\r\n$11\r\nnum_objects\r\n:1\r\n$10\r\nnum_points\r\n:1\r\n*-1\r\n",
+        ),
+        (set_square.as_str(), "+OK\r\n"),
+        (
+            "GET k h BOUNDS",
+            "*2\r\n*2\r\n$1\r\n0\r\n$1\r\n0\r\n*2\r\n$2\r\n10\r\n$2\r\n10\r\n",
+        ),
+        ("GET k h POINT", "*2\r\n$1\r\n5\r\n$1\r\n5\r\n"),
+        ("SCAN k", "-ERR not served yet\r\n"),
+        ("NOSUCH k", "-ERR unknown command 'NOSUCH'\r\n"),
+        (
+            "GET k",
+            "-ERR wrong number of arguments for 'get' command\r\n",
+        ),
+        ("DEL k a", ":1\r\n"),
+        ("DROP k", ":1\r\n"),
+        ("BOUNDS k", "*-1\r\n"),
+        ("FLUSHDB", "+OK\r\n"),
+        ("GET far a", "$-1\r\n"),
+        ("PING", "+PONG\r\n"),
+        ("QUIT", "+OK\r\n"),
+    ];
+    let (script, output) = exchanges(alloc, &table)?;
+    let (ended, sink) = played(alloc, "replay", script.bytes(), &[], &[])?;
+    assert_eq!(rt; ended, 0);
+    assert_eq!(rt; sink.written(), output.bytes());
+    Ok(())
+}
+
+#[test]
+fn refused_objects(rt: HostRuntime) -> Result<(), Fail> {
+    let alloc = rt.alloc();
+    for (text, refusal) in [
+        ("{\"type\":\"Point\",\"coordinates\":[1,2]", "not json"),
+        ("[1,2]", "not spatial"),
+        (
+            "{\"type\":\"Feature\",\"geometry\":null,\"properties\":{}}",
+            "not spatial",
+        ),
+        (
+            "{\"type\":\"MultiPoint\",\"coordinates\":[]}",
+            "not spatial",
+        ),
+        ("{\"type\":\"Circle\",\"coordinates\":[1,2]}", "bad type"),
+        (
+            "{\"type\":\"Point\",\"coordinates\":[1.5,2]}",
+            "coordinate is not a whole number",
+        ),
+        (
+            "{\"type\":\"Point\",\"coordinates\":[1000000001,2]}",
+            "coordinate out of range",
+        ),
+        (
+            "{\"type\":\"Point\",\"coordinates\":[1,2,3,4]}",
+            "bad position",
+        ),
+        (
+            "{\"type\":\"LineString\",\"coordinates\":[[1,2]]}",
+            "too few positions",
+        ),
+        (
+            "{\"type\":\"Polygon\",\"coordinates\":[[[0,0],[1,0],[1,1],[0,1]]]}",
+            "ring is not closed",
+        ),
+    ] {
+        let mut words = "SET k a OBJECT ".to_string(alloc)?;
+        words.push_str(text)?;
+        let mut answer = "-ERR invalid object: ".to_string(alloc)?;
+        answer.push_str(refusal)?;
+        answer.push_str("\r\n")?;
+        let (script, output) = exchanges(alloc, &[(words.as_str(), answer.as_str())])?;
+        let (ended, sink) = played(alloc, "replay", script.bytes(), &[], &[])?;
+        assert_eq!(rt; ended, 0);
+        assert_eq!(rt; sink.written(), output.bytes(), "{text}");
+    }
+    Ok(())
+}
+
+#[test]
+fn a_session_is_full(rt: HostRuntime) -> Result<(), Fail> {
+    let alloc = rt.alloc();
+    let mut script = Text::new(alloc);
+    let mut output = Text::new(alloc);
+    script.push(b"open\nfeed 1 0 ")?;
+    output.push(b"session 1\n")?;
+    for _ in 0..1024 {
+        script.push(b"*1%0D%0A$4%0D%0APING%0D%0A")?;
+        output.push(b"ok\n")?;
+    }
+    script.push(b"*1%0D%0A$4%0D%0APING%0D%0A\n")?;
+    output.push(b"full\n")?;
+    let (ended, sink) = played(alloc, "replay", script.bytes(), &[], &[])?;
+    assert_eq!(rt; ended, 0);
+    assert_eq!(rt; sink.written(), output.bytes());
     Ok(())
 }
 

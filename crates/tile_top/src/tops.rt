@@ -7,12 +7,12 @@ ghost use mathlib.Core.List.{IsPrefix};
 ghost use Rattle.byte_text.specs.Names.{Bytes};
 ghost use Rattle.tile_top.specs.Tops.{IsReplay, Replays, IsStopped, IsEnd, usage_line, script_line};
 
+use crate::acts::Player;
 use crate::plays::{Turn, play};
 use crate::streams::write_all;
 use byte_text::{NoMemory, Text, push_u64};
 use outside::{Failed, Sink, Source};
 use std::alloc::Global;
-use world_model::Frames;
 
 const USAGE: &[u8] =
     b"usage: tile_server replay | check | load N SEED | serve ADDR [--sessions N]\n";
@@ -68,10 +68,10 @@ fn replay<S: Source, K: Sink>(alloc: Global, source: &mut S, sink: &mut K) -> En
     ensures read { result.status ≡ 3 → Rose (S.faults source.old) (S.faults source.new) }
     ensures write { result.status ≡ 4 → Rose (K.faults sink.old) (K.faults sink.new) }
 {
-    let Ok(mut frames) = Frames::new(alloc) else {
+    let Ok(mut player) = Player::new(alloc) else {
         return end(sink, 7, OUT_OF_MEMORY);
     };
-    let (turn, number) = play(alloc, source, sink, &mut frames);
+    let (turn, number) = play(alloc, source, sink, &mut player);
     match turn {
         Turn::End => Ended { status: 0 },
         Turn::Script => match script_fault(alloc, number) {

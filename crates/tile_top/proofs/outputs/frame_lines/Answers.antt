@@ -1,4 +1,4 @@
-use Rattle.std.proofs.Common.{◌≡◌, ℕ, suc, ◌+◌, List, ◌++◌, take, sym, ap, ◌∙◌}
+use Rattle.std.proofs.Common.{ℕ, List, ◌++◌, take, sym, ap, ◌∙◌}
 use Rattle.std.proofs.Math.Numerals.{add-one}
 use Rattle.std.specs.Prelude.{flat_map}
 use Rattle.script_text.specs.Escaped.{frame_line}

@@ -1,12 +1,11 @@
-use Rattle.std.proofs.Common.{◌≡◌, ◌≤◌, ◌+◌, arith, refl, sym, subst}
-use Rattle.world_model.specs.Halls.{Hall}
+use Rattle.std.proofs.Common.{◌≤◌, ◌+◌, arith, refl, sym, subst}
+use Rattle.tile_top.specs.Played.{Played}
 use Rattle.tile_top.proofs.Playing.{Going, going_start, going_next, plays_part}
 use Rattle.tile_top.proofs.plays.play.Goals as goal
 
 pub loop-number-init : goal.loop-number-init
 loop-number-init g c = record {
-  going = subst (λ (h : Hall). Going (g.S.Source.left c.args.source.now) (g.S.Source.left c.args.source.now) (g.K.Sink.held c.args.sink.now) (g.K.Sink.held c.args.sink.now) 1 0 h) (sym c.new-core.ensures) (going_start (g.S.Source.left c.args.source.now) (g.K.Sink.held c.args.sink.now));
-  cleared = c.requires;
+  going = subst (λ (p : Played). Going (g.S.Source.left c.args.source.now) (g.S.Source.left c.args.source.now) (g.K.Sink.held c.args.sink.now) (g.K.Sink.held c.args.sink.now) 1 0 p) (sym c.requires) (going_start (g.S.Source.left c.args.source.now) (g.K.Sink.held c.args.sink.now));
   most = omega arith;
   few = omega arith;
   source = omega arith;
@@ -24,8 +23,7 @@ loop-number-preserved g c =
     let few : c.loop-number.number ≤ c.loop-number.used + 1 = i.few in
     let some : c.loop-number.used + 1 ≤ c.next_line.new.used = e.some refl in
     record {
-      going = going_next _ _ _ _ _ _ c.loop-number.number c.loop-number.used c.next_line.new.used c.loop-number.core.hall c.next_line.new.core.hall i.going e.told;
-      cleared = e.cleared;
+      going = going_next _ _ _ _ _ _ c.loop-number.number c.loop-number.used c.next_line.new.used c.loop-number.player c.next_line.new.player i.going e.told;
       most = e.most;
       few = omega (arith, few, some);
       source = omega (arith, before, now);
@@ -33,4 +31,4 @@ loop-number-preserved g c =
     }
 
 pub returns-in-WriteFault-clause-told : goal.returns-in-WriteFault-clause-told
-returns-in-WriteFault-clause-told g c = plays_part _ _ (g.S.Source.left c.next_line.new.source) _ _ _ c.loop-number.number c.loop-number.used c.next_line.new.used c.loop-number.core.hall c.next_line.new.core.hall c.loop-number.invariant.going c.in-WriteFault.ensures.told
+returns-in-WriteFault-clause-told g c = plays_part _ _ (g.S.Source.left c.next_line.new.source) _ _ _ c.loop-number.number c.loop-number.used c.next_line.new.used c.loop-number.player c.next_line.new.player c.loop-number.invariant.going c.in-WriteFault.ensures.told

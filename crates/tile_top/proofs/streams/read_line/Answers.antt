@@ -1,5 +1,5 @@
-use Rattle.std.proofs.Common.{◌≡◌, ◌≢◌, ◌+◌, ◌≤◌, ◌<◌, ℕ, Bool, List, [], ◌∷◌, ◌++◌, length, length-append, arith, rules, subst, ap, ◌∙◌, sym}
-use Rattle.std.specs.Prelude.{Option, MatchOption, if◌then◌else◌}
+use Rattle.std.proofs.Common.{◌≡◌, ◌+◌, ◌≤◌, ◌<◌, ℕ, List, [], ◌∷◌, ◌++◌, length, length-append, arith, rules, subst, ap, ◌∙◌, sym}
+use Rattle.std.specs.Prelude.{Option, MatchOption}
 use Rattle.std.specs.Io.KnownBytes.{Consumes, Keeps, IsAtEnd}
 use Rattle.tile_top.specs.TextLines.{max_line, max_script}
 use Rattle.tile_top.specs.declared.streams.LineEnd.TheVariants.{Line}

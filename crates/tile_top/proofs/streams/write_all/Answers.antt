@@ -1,4 +1,4 @@
-use Rattle.std.proofs.Common.{arith, rules}
+use Rattle.std.proofs.Common.{rules}
 use Rattle.tile_top.proofs.Writing.{written_more, written_part}
 use Rattle.tile_top.proofs.streams.write_all.Goals as goal
 

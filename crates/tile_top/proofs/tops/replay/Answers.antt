@@ -1,6 +1,5 @@
-use Rattle.std.proofs.Common.{◌≡◌, ◌∙◌, refl, subst}
+use Rattle.std.proofs.Common.{◌∙◌, refl, subst}
 use Rattle.tile_top.specs.declared.plays.Turn.{Turn}
-use Rattle.tile_top.specs.declared.plays.Turn.TheVariants.{Script, ReadFault, WriteFault, Memory}
 use Rattle.tile_top.specs.Plays.{OnPlay}
 use Rattle.tile_top.proofs.Ends.{cut_none, faulty_cut, stopped_none, replays_stopped, ends_script, ends_read, ends_memory}
 use Rattle.tile_top.proofs.tops.replay.Goals as goal

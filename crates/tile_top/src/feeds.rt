@@ -1,0 +1,138 @@
+//! Bytes that come to a session's reader, and the calls that they bring.
+
+ghost use Rattle.std.specs.Prelude.{◌≡◌, IfOk};
+ghost use Rattle.world_model.specs.declared.events.Event.TheVariants as event;
+ghost use Rattle.tile_top.specs.Readers.{reader_of};
+ghost use Rattle.tile_top.specs.Scripts.{Makes, FedTo, Feeds};
+ghost use Rattle.tile_top.specs.Steps.{IsBrokenOff, IsStep};
+
+use crate::outputs::text_of;
+use crate::readers::{Reader, position_of};
+use byte_text::{NoMemory, RespFault, Text, requests_are_read, streams_read_once};
+use resp_frames::Fed;
+use std::alloc::Global;
+use tile_core::Core;
+use world_model::{Asked, Called};
+
+// What comes of the first request, or fault, of some bytes.
+#[derive(Drop)]
+pub(crate) struct Step {
+    // What is printed of it.
+    out: Text,
+    // How many of the bytes end the request; none where nothing more is read of them.
+    taken: Option<usize>,
+}
+
+// Makes a call, and answers what is printed of its ending.
+fn call(
+    alloc: Global,
+    core: &mut Core,
+    session: u32,
+    moment: u64,
+    asked: &Asked,
+) -> Result<Text, NoMemory>
+    ensures { IfOk result (λ out. Makes core.old.hall (event.Call session moment asked.now) out core.new.hall) }
+{
+    match core.call(session, moment, asked) {
+        Called::Ok => text_of(alloc, b"ok\n"),
+        Called::Full => text_of(alloc, b"full\n"),
+        Called::Gone => text_of(alloc, b"gone\n"),
+        // As no log is kept, the hall never stops and is never spent.
+        _ => Err(NoMemory),
+    }
+}
+
+// Tells a session's stream of its fault, which ends it; a stream that was ended before makes no call.
+fn break_off(
+    alloc: Global,
+    core: &mut Core,
+    session: u32,
+    moment: u64,
+    fault: RespFault,
+) -> Result<Text, NoMemory>
+    ensures { IfOk result (λ out. IsBrokenOff core.old.hall session moment fault out core.new.hall) }
+{
+    match fault {
+        RespFault::Dead => text_of(alloc, b"dead\n"),
+        RespFault::Memory => Err(NoMemory),
+        _ => call(alloc, core, session, moment, &Asked::Broken(fault)),
+    }
+}
+
+// Reads the first request of the bytes, or their fault, and makes its call.
+fn feed_next(
+    alloc: Global,
+    core: &mut Core,
+    reader: &mut Reader,
+    moment: u64,
+    bytes: &[u8],
+) -> Result<Step, NoMemory>
+    ensures step { IfOk result (λ s. IsStep core.old.hall reader.old.session moment reader.old.unread bytes.now s.out core.new.hall reader.new.unread s.taken) }
+    ensures session { reader.new.session ≡ reader.old.session }
+{
+    // What was read first is the stream's first request, and leaves less than there was.
+    streams_read_once();
+    requests_are_read();
+    match reader.unread.feed(bytes) {
+        Ok(fed) => {
+            let Fed { taken, request } = fed;
+            let Some(request) = request else {
+                return Ok(Step {
+                    out: Text::new(alloc),
+                    taken: None,
+                });
+            };
+            let asked = Asked::Words(request);
+            let out = call(alloc, core, reader.session, moment, &asked)?;
+            Ok(Step {
+                out,
+                taken: Some(taken),
+            })
+        }
+        Err(fault) => {
+            let out = break_off(alloc, core, reader.session, moment, fault)?;
+            Ok(Step { out, taken: None })
+        }
+    }
+}
+
+// Feeds bytes to a reader: makes a call for each whole request that ends in them, and for the fault that they make.
+fn feed_reader(
+    alloc: Global,
+    core: &mut Core,
+    reader: &mut Reader,
+    moment: u64,
+    bytes: &[u8],
+) -> Result<Text, NoMemory>
+    ensures fed { IfOk result (λ out. FedTo core.old.hall reader.old.session moment reader.old.unread bytes.now out core.new.hall reader.new.unread) }
+    ensures session { reader.new.session ≡ reader.old.session }
+{
+    let mut out = Text::new(alloc);
+    let mut rest = bytes;
+    loop {
+        let step = feed_next(alloc, core, reader, moment, rest)?;
+        out.push(step.out.bytes())?;
+        match step.taken {
+            Some(taken) => rest = &rest[taken..],
+            None => return Ok(out),
+        }
+    }
+}
+
+/// Feeds bytes to a session's reader at a moment: makes a call for each whole request that ends in them, and for the fault that
+/// they make, and answers what is printed of the calls.
+pub(crate) fn feed(
+    alloc: Global,
+    core: &mut Core,
+    readers: &mut Vec<Reader>,
+    session: u32,
+    moment: u64,
+    bytes: &[u8],
+) -> Result<Text, NoMemory>
+    ensures { IfOk result (λ out. Feeds (record { hall = core.old.hall; readers = readers.old.items }) session moment bytes.now (reader_of session readers.old.items) out (record { hall = core.new.hall; readers = readers.new.items })) }
+{
+    match position_of(readers.as_slice(), session) {
+        Some(at) => feed_reader(alloc, core, &mut readers[at], moment, bytes),
+        None => text_of(alloc, b"gone\n"),
+    }
+}
