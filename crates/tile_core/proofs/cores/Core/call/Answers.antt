@@ -1,6 +1,6 @@
-use Rattle.std.proofs.Common.{◌≡◌, ℕ, ◌<◌, ◌≤◌, ◌+◌, ◌^◌, ◌++◌, ◌∷◌, List, [], length, get_or, max, sym, ap, ◌∙◌, subst, arith, refl, set}
-use Rattle.std.specs.Prelude.{Ok, Err, Result, slice_set}
-use Rattle.world_model.specs.Limits.{full_frames, full_bytes, max_weight}
+use Rattle.std.proofs.Common.{◌≡◌, ℕ, ◌<◌, ◌+◌, List, length, max, sym, ap, ◌∙◌, subst, arith}
+use Rattle.std.specs.Prelude.{Ok, Err, slice_set}
+use Rattle.world_model.specs.Limits.{full_frames, full_bytes}
 use Rattle.world_model.specs.Halls.{frame_bytes}
 use Rattle.world_model.specs.Histories.{Step}
 use Rattle.world_model.specs.declared.events.Event.TheVariants as event
@@ -8,7 +8,6 @@ use Rattle.world_model.specs.declared.events.Outcome.TheVariants as outcome
 use Rattle.world_model.specs.declared.events.Called.TheVariants as called
 use Rattle.world_model.specs.declared.objects.Object.{Object}
 use Rattle.tile_core.specs.declared.sessions.Session.{Session}
-use Rattle.tile_core.specs.declared.plans.Plan.{Plan}
 use Rattle.tile_core.specs.Kernels.{Kernel, hall_of, AreKept}
 use Rattle.tile_core.specs.Objects.{world_of, moved, IsMove}
 use Rattle.tile_core.specs.Plans.{IsPlan, effect_of_asked}
