@@ -1,4 +1,0 @@
-pub mod ByteOrder
-pub mod Lists
-pub mod Ids
-pub mod Counts

@@ -1,7 +1,0 @@
--- Objects with a deadline, counted.
-use Rattle.std.specs.Prelude.{ℕ, is_some, if◌then◌else◌}
-use Rattle.world_model.specs.declared.objects.Object.{Object}
-
--- 1 for an object with a deadline, else 0
-abbrev pub due_count : Object → ℕ
-due_count o = if is_some o.deadline then 1 else 0
