@@ -1,0 +1,58 @@
+-- Byte order is total.
+use Rattle.std.proofs.Common.{◌≡◌, true, false, refl, [], ◌∷◌, arith}
+use Rattle.std.proofs.lemmas.Bool.Decides.{nat_tests}
+use Rattle.byte_text.specs.Names.{Bytes, before, same}
+
+pub before_trans : (a b c : Bytes) → before a b ≡ true → before b c ≡ true → before a c ≡ true
+before_trans [] [] c p q = grind arith
+before_trans [] (y ∷ b) [] p q = grind arith
+before_trans [] (y ∷ b) (z ∷ c) p q = refl
+before_trans (x ∷ a) [] c p q = grind arith
+before_trans (x ∷ a) (y ∷ b) [] p q = grind arith
+before_trans (x ∷ a) (y ∷ b) (z ∷ c) p q = let ih = before_trans a b c in grind (arith, nat_tests)
+
+pub before_tie : (a b : Bytes) → before a b ≡ false → before b a ≡ false → a ≡ b
+before_tie [] [] p q = refl
+before_tie [] (y ∷ b) p q = grind arith
+before_tie (x ∷ a) [] p q = grind arith
+before_tie (x ∷ a) (y ∷ b) p q = let ih = before_tie a b in grind (arith, nat_tests)
+
+pub before_asym : (a b : Bytes) → before a b ≡ true → before b a ≡ false
+before_asym [] [] p = refl
+before_asym [] (y ∷ b) p = refl
+before_asym (x ∷ a) [] p = absurd (grind arith)
+before_asym (x ∷ a) (y ∷ b) p = let ih = before_asym a b in grind (arith, nat_tests)
+
+pub before_self : (a : Bytes) → before a a ≡ false
+before_self [] = refl
+before_self (x ∷ a) = let ih = before_self a in grind (arith, nat_tests)
+
+pub same_refl : (a : Bytes) → same a a ≡ true
+same_refl [] = refl
+same_refl (x ∷ a) = let ih = same_refl a in grind (arith, nat_tests)
+
+pub same_equal : (a b : Bytes) → same a b ≡ true → a ≡ b
+same_equal [] [] p = refl
+same_equal [] (y ∷ b) p = grind arith
+same_equal (x ∷ a) [] p = grind arith
+same_equal (x ∷ a) (y ∷ b) p = let ih = same_equal a b in grind (arith, nat_tests)
+
+-- what stands before or behind is another
+pub other_before : (a b : Bytes) → before a b ≡ true → same a b ≡ false
+other_before [] [] p = grind arith
+other_before [] (y ∷ b) p = refl
+other_before (x ∷ a) [] p = grind arith
+other_before (x ∷ a) (y ∷ b) p = let ih = other_before a b in grind (arith, nat_tests)
+
+pub other_behind : (a b : Bytes) → before b a ≡ true → same a b ≡ false
+other_behind [] [] p = grind arith
+other_behind [] (y ∷ b) p = grind arith
+other_behind (x ∷ a) [] p = refl
+other_behind (x ∷ a) (y ∷ b) p = let ih = other_behind a b in grind (arith, nat_tests)
+
+-- what is neither before nor the same is behind
+pub behind : (a b : Bytes) → before a b ≡ false → same a b ≡ false → before b a ≡ true
+behind [] [] p q = grind arith
+behind [] (y ∷ b) p q = grind arith
+behind (x ∷ a) [] p q = refl
+behind (x ∷ a) (y ∷ b) p q = let ih = behind a b in grind (arith, nat_tests)

@@ -1,0 +1,5 @@
+pub mod ByteOrder
+pub mod Lists
+pub mod Ids
+pub mod Counts
+pub mod Boxes

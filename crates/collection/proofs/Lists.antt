@@ -1,0 +1,83 @@
+-- Places in ascending lists.
+use Rattle.std.proofs.Common.{◌≡◌, ◌<◌, ◌≤◌, ℕ, zero, suc, Bool, true, false, refl, sym, ap, List, [], ◌∷◌, length, take, get_or, arith}
+use Rattle.std.specs.Prelude.{Some, filter, IfSome, ◌&&◌}
+use Rattle.std.specs.List.{list_all, slice_get, slice_set, insert}
+use Rattle.world_model.specs.Lists.{ascends, put_in}
+
+pub both_of : (a b : Bool) → (a && b) ≡ true → (a ≡ true) × (b ≡ true)
+both_of a b e = (grind arith, grind arith)
+
+pub all_get : {A : Type 0} (q : A → Bool) (xs : List A) (j : ℕ) (d : A) → j < length xs → list_all q xs ≡ true → q (get_or xs j d) ≡ true
+all_get q [] j d lt all = absurd (omega arith)
+all_get q (x ∷ xs) zero d lt all = (both_of (q x) (list_all q xs) all).0
+all_get q (x ∷ xs) (suc j) d lt all = all_get q xs j d (omega arith) (both_of (q x) (list_all q xs) all).1
+
+pub front_all : {A : Type 0} (q : A → Bool) (xs : List A) (at : ℕ) → at ≤ length xs → ((k : ℕ) (d : A) → 0 ≤ k → k < at → q (get_or xs k d) ≡ true) → list_all q (take at xs) ≡ true
+front_all q [] zero le f = refl
+front_all q [] (suc at) le f = refl
+front_all q (x ∷ xs) zero le f = refl
+front_all q (x ∷ xs) (suc at) le f =
+    let here : q x ≡ true = f zero x (omega arith) (omega arith) in
+    let rest : list_all q (take at xs) ≡ true = front_all q xs at (omega arith) (λ k d lo hi. f (suc k) d (omega arith) (omega arith)) in
+    rw (here, rest) refl
+
+-- the item that is read at a place stands there
+pub stands_at : {A : Type 0} (xs : List A) (i : ℕ) (x : A) → i < length xs → x ≡ get_or xs i x → slice_get xs i ≡ Some x
+stands_at [] i x within is = absurd (omega arith)
+stands_at (y ∷ xs) zero x within is = ap Some (sym is)
+stands_at (y ∷ xs) (suc i) x within is = stands_at xs i x (omega arith) is
+
+pub got_at : {A : Type 0} (xs : List A) (i : ℕ) (x d : A) → slice_get xs i ≡ Some x → get_or xs i d ≡ x
+got_at [] i x d e = absurd (cc)
+got_at (y ∷ xs) zero x d e = cc
+got_at (y ∷ xs) (suc i) x d e = got_at xs i x d e
+
+pub past_end : {A : Type 0} (xs : List A) (P : A → Type 0) → IfSome (slice_get xs (length xs)) P
+past_end [] P = tt
+past_end (x ∷ xs) P = past_end xs P
+
+module _ {A : Type 0} (lt : A → A → Bool) (asym : (x y : A) → lt x y ≡ true → lt y x ≡ false) where
+  -- behind those that stand before it, and before the next one: it is put in between
+  pub put_in-insert : (x : A) (xs : List A) (p : ℕ) → list_all (λ y. lt y x) (take p xs) ≡ true → IfSome (slice_get xs p) (λ y. lt x y ≡ true) → put_in lt x xs ≡ insert xs p x
+  put_in-insert x [] zero all next = refl
+  put_in-insert x [] (suc p) all next = refl
+  put_in-insert x (y ∷ ys) zero all next = rw next refl
+  put_in-insert x (y ∷ ys) (suc p) all next =
+      let ih : list_all (λ z. lt z x) (take p ys) ≡ true → put_in lt x ys ≡ insert ys p x = λ more. put_in-insert x ys p more next in
+      let fails = asym y x in
+      grind arith
+
+  -- where the next one ties with it: it takes that one's place
+  pub put_in-set : (x : A) (xs : List A) (p : ℕ) → list_all (λ y. lt y x) (take p xs) ≡ true → p < length xs → IfSome (slice_get xs p) (λ y. (lt x y ≡ false) × (lt y x ≡ false)) → put_in lt x xs ≡ slice_set xs p x
+  put_in-set x [] p all within tie = absurd (omega arith)
+  put_in-set x (y ∷ ys) zero all within tie = rw (tie.0, tie.1) refl
+  put_in-set x (y ∷ ys) (suc p) all within tie =
+      let ih : list_all (λ z. lt z x) (take p ys) ≡ true → put_in lt x ys ≡ slice_set ys p x = λ more. put_in-set x ys p more (omega arith) tie in
+      let fails = asym y x in
+      grind arith
+
+module _ {A : Type 0} (lt : A → A → Bool) (trans : (x y z : A) → lt x y ≡ true → lt y z ≡ true → lt x z ≡ true) (tie : (x y z : A) → lt x y ≡ false → lt y x ≡ false → lt y z ≡ true → lt x z ≡ true) where
+  all_above : (x y : A) (zs : List A) → ((z : A) → lt y z ≡ true → lt x z ≡ true) → list_all (lt y) zs ≡ true → list_all (lt x) zs ≡ true
+  all_above x y [] h all = refl
+  all_above x y (z ∷ zs) h all = let ih = all_above x y zs h in let here = h z in grind arith
+
+  all_put : (y x : A) (zs : List A) → lt y x ≡ true → list_all (lt y) zs ≡ true → list_all (lt y) (put_in lt x zs) ≡ true
+  all_put y x [] p all = grind arith
+  all_put y x (z ∷ zs) p all = let ih = all_put y x zs p in grind arith
+
+  pub ascends-put_in : (x : A) (ys : List A) → ascends lt ys ≡ true → ascends lt (put_in lt x ys) ≡ true
+  ascends-put_in x [] asc = refl
+  ascends-put_in x (y ∷ ys) asc =
+      let ih = ascends-put_in x ys in
+      let below : lt x y ≡ true → list_all (lt y) ys ≡ true → list_all (lt x) ys ≡ true = λ p. all_above x y ys (λ z q. trans x y z p q) in
+      let same : lt x y ≡ false → lt y x ≡ false → list_all (lt y) ys ≡ true → list_all (lt x) ys ≡ true = λ p r. all_above x y ys (λ z q. tie x y z p r q) in
+      let put = all_put y x ys in
+      grind arith
+
+all_filter : {A : Type 0} (p q : A → Bool) (xs : List A) → list_all p xs ≡ true → list_all p (filter q xs) ≡ true
+all_filter p q [] all = refl
+all_filter p q (x ∷ xs) all = let ih = all_filter p q xs in grind arith
+
+pub ascends-filter : {A : Type 0} (lt : A → A → Bool) (q : A → Bool) (xs : List A) → ascends lt xs ≡ true → ascends lt (filter q xs) ≡ true
+ascends-filter lt q [] asc = refl
+ascends-filter lt q (x ∷ xs) asc = let ih = ascends-filter lt q xs in let all = all_filter (lt x) q xs in grind arith
