@@ -1,0 +1,13 @@
+pub mod Order
+pub mod Lists
+pub mod Slots
+pub mod Insides
+pub mod Meetings
+pub mod Places
+pub mod Losses
+pub mod Inserts
+pub mod Children
+pub mod Mends
+pub mod Mended
+pub mod Shrinks
+pub mod Bags

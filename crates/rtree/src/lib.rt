@@ -1,0 +1,23 @@
+//! A tree of boxes for searches by box and by distance, each node visited counted.
+//!
+//! Nodes own what stands below them. Lists for new nodes wait in a pool, so that adding a pair takes no
+//! memory. Each call that reads a node's slots ticks once for it.
+#![tactic(auto)]
+
+mod boxes;
+mod entries;
+mod ids;
+mod moves;
+mod near;
+mod nodes;
+mod pool;
+mod steps;
+mod tree;
+
+pub use ids::Ids;
+pub use near::NearWalk;
+pub use steps::{Ledger, NoLedger, Steps, Visits};
+pub use tree::Tree;
+
+#[cfg(test)]
+mod tests;

@@ -1,0 +1,157 @@
+//! The tree beside a plain list of pairs, and how many nodes searches visit.
+
+use crate::{Ids, NearWalk, NoLedger, Steps, Tree, Visits};
+use planar_geom::{BBox, Pt, box_dist2};
+use std::alloc::Global;
+use std::process::Abort;
+
+fn square(rt: &impl Abort, x: u32, y: u32, side: u16) -> BBox {
+    let low = Pt::of(i64::from(x), i64::from(y));
+    let high = Pt::of(
+        i64::from(x) + i64::from(side),
+        i64::from(y) + i64::from(side),
+    );
+    BBox::of(low.expect(rt, "a point"), high.expect(rt, "a point")).expect(rt, "a box")
+}
+
+fn is_same(a: BBox, b: BBox) -> bool {
+    let (a_low, b_low, a_high, b_high) = (a.min(), b.min(), a.max(), b.max());
+    a_low.x() == b_low.x()
+        && a_low.y() == b_low.y()
+        && a_high.x() == b_high.x()
+        && a_high.y() == b_high.y()
+}
+
+// The plain program: takes one such pair out of a list.
+fn take_out(list: &mut Vec<(BBox, u32)>, b: BBox, id: u32) -> bool {
+    for i in 0..list.len() {
+        let (bounds, number) = list[i];
+        if number == id && is_same(bounds, b) {
+            let _ = list.swap_remove(i);
+            return true;
+        }
+    }
+    false
+}
+
+// How many pairs meet a box, and the sum of their numbers.
+fn met(list: &Vec<(BBox, u32)>, b: BBox) -> (usize, u64) {
+    let mut count = 0usize;
+    let mut sum = 0u64;
+    for (bounds, id) in list {
+        if bounds.meets(b) {
+            count = count.wrapping_add(1);
+            sum = sum.wrapping_add(u64::from(*id));
+        }
+    }
+    (count, sum)
+}
+
+fn found(rt: &impl Abort, alloc: Global, tree: &Tree, b: BBox) -> (usize, u64) {
+    let mut ids = Ids::new(alloc);
+    let searched = tree.search(&b, &mut ids, &mut Steps::new(NoLedger));
+    assert!(rt; searched.is_ok(), "searched");
+    let mut sum = 0u64;
+    for i in 0..ids.len() {
+        sum = sum.wrapping_add(u64::from(ids.at(i)));
+    }
+    (ids.len(), sum)
+}
+
+// The least squared distance of a pair from a point, and how many pairs stand at it.
+fn nearest(list: &Vec<(BBox, u32)>, p: Pt) -> (Option<u64>, usize) {
+    let mut least = None;
+    let mut count = 0usize;
+    for (bounds, _) in list {
+        let distance = box_dist2(p, *bounds);
+        match least {
+            Some(known) if known < distance => {}
+            Some(known) if known == distance => count = count.wrapping_add(1),
+            _ => {
+                least = Some(distance);
+                count = 1;
+            }
+        }
+    }
+    (least, count)
+}
+
+fn walked(rt: &impl Abort, alloc: Global, tree: &Tree, p: Pt) -> (Option<u64>, usize) {
+    let mut ids = Ids::new(alloc);
+    let Ok(mut walk) = NearWalk::of(tree, p) else {
+        panic!(rt; "a walk");
+    };
+    match walk.next(&mut ids, &mut Steps::new(NoLedger)) {
+        Ok(distance) => (distance, ids.len()),
+        Err(_) => (None, 0),
+    }
+}
+
+#[test]
+fn keeps_a_list(rt: HostRuntime) {
+    let alloc = rt.alloc();
+    let mut tree = Tree::new(alloc);
+    let mut list = Vec::new(alloc);
+    let mut steps = Steps::new(NoLedger);
+    for n in 0..600u32 {
+        let b = square(&rt, n * 7 % 40, n * 11 % 30, (n % 3) as u16);
+        let id = n % 5;
+        if n % 3 == 2 {
+            let other = square(&rt, n * 5 % 40, n * 3 % 30, (n % 2) as u16);
+            let removed = tree.remove(other, id, &mut steps);
+            assert_eq!(rt; removed, take_out(&mut list, other, id));
+            assert_eq!(rt; tree.remove(b, id, &mut steps), take_out(&mut list, b, id));
+        } else if tree.reserve(1).is_ok() && list.push((b, id)).is_ok() {
+            tree.insert(b, id, &mut steps);
+        }
+        let window = square(&rt, n % 40, n % 30, 4);
+        assert_eq!(rt; found(&rt, alloc, &tree, window), met(&list, window));
+        let corner = window.max();
+        assert_eq!(rt; walked(&rt, alloc, &tree, corner), nearest(&list, corner));
+    }
+    for n in 0..600u32 {
+        let b = square(&rt, n * 7 % 40, n * 11 % 30, (n % 3) as u16);
+        let removed = tree.remove(b, n % 5, &mut steps);
+        assert_eq!(rt; removed, take_out(&mut list, b, n % 5));
+    }
+    assert_eq!(rt; list.len(), 0);
+    assert_eq!(rt; found(&rt, alloc, &tree, square(&rt, 0, 0, 100)), (0, 0));
+}
+
+#[test]
+fn visits_few_nodes(rt: HostRuntime) {
+    let alloc = rt.alloc();
+    let mut tree = Tree::new(alloc);
+    let mut steps = Steps::new(NoLedger);
+    for i in 0..100u32 {
+        for j in 0..100u32 {
+            if tree.reserve(1).is_ok() {
+                tree.insert(square(&rt, 10 * i, 10 * j, 0), 100 * i + j, &mut steps);
+            }
+        }
+    }
+    let mut visits = Steps::new(Visits::new());
+    let mut ids = Ids::new(alloc);
+    for m in 0..1000u32 {
+        let place = square(&rt, 10 * (m / 10), 100 * (m % 10), 0);
+        assert!(rt; tree.search(&place, &mut ids, &mut visits).is_ok());
+    }
+    assert_eq!(rt; ids.len(), 1000);
+    let count = visits.ledger().count();
+    assert!(rt; count <= 300_000);
+    let _ = rt.println(count);
+    ids.clear();
+    let mut visits = Steps::new(Visits::new());
+    for m in 0..1000u32 {
+        let place = square(&rt, 10 * (m / 10), 100 * (m % 10), 0).min();
+        if let Ok(mut walk) = NearWalk::of(&tree, place) {
+            assert_eq!(rt; walk.next(&mut ids, &mut visits).ok(), Some(Some(0)));
+        }
+    }
+    assert_eq!(rt; ids.len(), 1000);
+    let count = visits.ledger().count();
+    assert!(rt; count <= 300_000);
+    let _ = rt.println(count);
+    ids.clear();
+    assert!(rt; ids.is_empty());
+}
