@@ -8,7 +8,8 @@ use Rattle.world_model.specs.Commands.{reads}
 use Rattle.world_model.specs.declared.commands.Command.{Command}
 use Rattle.world_model.specs.declared.faults.WordFault.{WordFault}
 use Rattle.world_model.specs.declared.faults.WordFault.TheVariants as fault
-use Rattle.cmd_words.specs.Places.{Place, Answers, IsBehind, all_words, start}
+use Rattle.cmd_words.specs.Places.{Place, Answers, IsBehind, all_words, start, unread}
+use Rattle.cmd_words.proofs.NoneOf.{none_is}
 
 -- the answer to words whose first is no name that is not built yet
 built_asks : (called : Bytes) (rest : List Bytes) → list_any (is_word called) unbuilt ≡ false → asks (called ∷ rest) ≡ (if are_built (reads (called ∷ rest)) then reads (called ∷ rest) else Err fault.Unserved)
@@ -46,3 +47,20 @@ ok_of words (Err why) a = tt
 pub err_of : (words : List Bytes) (r : Result Command WordFault) → asks words ≡ r → IfErr r (λ why. (why ≡ fault.Memory) ⊎ (asks words ≡ Err why))
 err_of words (Ok c) a = tt
 err_of words (Err why) a = inr a
+
+-- a name that is built is one that is read
+pub built_is_read : (called : Bytes) → list_any (is_word called) unbuilt ≡ false → list_any (is_word called) unread ≡ false
+built_is_read called e =
+    let u = none_is called unbuilt e in
+    let no_aofshrink = u.1.1.1.1.1.1.1.0 in
+    let no_scan = u.1.1.1.1.1.1.1.1.0 in
+    let no_within = u.1.1.1.1.1.1.1.1.1.0 in
+    let no_intersects = u.1.1.1.1.1.1.1.1.1.1.0 in
+    let no_nearby = u.1.1.1.1.1.1.1.1.1.1.1.0 in
+    let no_setchan = u.1.1.1.1.1.1.1.1.1.1.1.1.0 in
+    let no_delchan = u.1.1.1.1.1.1.1.1.1.1.1.1.1.0 in
+    let no_pdelchan = u.1.1.1.1.1.1.1.1.1.1.1.1.1.1.0 in
+    let no_chans = u.1.1.1.1.1.1.1.1.1.1.1.1.1.1.1.0 in
+    let no_subscribe = u.1.1.1.1.1.1.1.1.1.1.1.1.1.1.1.1.0 in
+    let no_psubscribe = u.1.1.1.1.1.1.1.1.1.1.1.1.1.1.1.1.1.0 in
+    rw (no_aofshrink, no_scan, no_within, no_intersects, no_nearby, no_setchan, no_delchan, no_pdelchan, no_chans, no_subscribe, no_psubscribe) refl

@@ -12,3 +12,6 @@ pub mod ServedCommands
 pub mod SetWords
 pub mod FieldValues
 pub mod Coordinates
+pub mod NoneOf
+pub mod Seconds
+pub mod FieldLists

@@ -17,20 +17,16 @@ use Rattle.world_model.specs.declared.commands.Only.TheVariants.{Absent, Present
 use Rattle.world_model.specs.declared.commands.Command.{Command}
 use Rattle.world_model.specs.declared.faults.WordFault.{WordFault}
 use Rattle.world_model.specs.declared.faults.WordFault.TheVariants as fault
-use Rattle.world_model.proofs.Forms.{Each, Takes, Fair, fair_done, fair_word, fair_bind, takes_word, takes_bind}
+use Rattle.world_model.proofs.Forms.{Takes, Fair, fair_done, fair_word, fair_bind, takes_word, takes_bind}
 use Rattle.cmd_words.specs.Places.{Place, all_words, IsBehind, Moves, Follows, Reads, IsFault, IsRefusal}
 use Rattle.cmd_words.specs.declared.options.OptionWord.TheVariants as option
 use Rattle.cmd_words.specs.declared.places.PlaceWord.TheVariants as at
 use Rattle.cmd_words.specs.Sets.{options_and_place, IsOption, is_option, LacksOption, IsPlace, LacksPlace, ReadsPlace, Goes, Refuses}
 use Rattle.cmd_words.proofs.Gets.{lower_word, step, moves, moves_on}
 use Rattle.cmd_words.proofs.Follows.{stopped, now, no_more, some_more, open_by, shut_by, ran_out}
-use Rattle.cmd_words.proofs.Binds.{unrolled, done_behind}
+use Rattle.cmd_words.proofs.Binds.{unrolled, done_behind, each_both}
 
 -- every option takes a word
-
-each_both : {A : Type 0} (P : Reading A → Type 0) (xs ys : List (Reading A)) → Each P xs → Each P ys → Each P (xs ++ ys)
-each_both P [] ys p q = q
-each_both P (x ∷ xs) ys p q = (p.0, each_both P xs ys p.1 q)
 
 takes_where : {A : Type 0} (test : Bool) (f : Form A) → Takes f → Takes (where_ test f)
 takes_where true f p = p

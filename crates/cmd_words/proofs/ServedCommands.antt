@@ -1,6 +1,6 @@
 -- What every command that is asked for keeps to.
 use Rattle.std.proofs.Common.{◌≡◌, ◌<◌, Bool, true, false, not, refl, ap, subst, List, [], ◌∷◌, ◌++◌, length, arith, ℕ, ◌==◌}
-use Rattle.std.specs.Prelude.{◌&&◌, ◌||◌, Option, Some, None, is_none, unwrap_or, Result, Ok, Err, if◌then◌else◌, codes}
+use Rattle.std.specs.Prelude.{◌&&◌, Option, Some, None, is_none, unwrap_or, Result, Ok, Err, if◌then◌else◌, codes}
 use Rattle.std.specs.List.{list_any, AllByRecursion}
 use Rattle.byte_text.specs.Names.{Bytes, is_word, is_name}
 use Rattle.geo_text.specs.Texts.{Shape}
@@ -15,6 +15,8 @@ use Rattle.world_model.specs.declared.commands.Only.{Only}
 use Rattle.world_model.specs.declared.commands.Only.TheVariants.{Any}
 use Rattle.world_model.specs.declared.commands.Command.{Command}
 use Rattle.world_model.specs.declared.commands.Command.TheVariants as command
+use Rattle.cmd_words.proofs.Binds.{each_both}
+use Rattle.cmd_words.proofs.NoneOf.{none_is}
 use Rattle.world_model.specs.declared.faults.WordFault.{WordFault}
 use Rattle.world_model.specs.declared.faults.WordFault.TheVariants as fault
 use Rattle.world_model.proofs.Forms.{Each}
@@ -119,18 +121,6 @@ makes_quit : Makes Keeps (table.of_none (codes "QUIT") command.Quit)
 makes_quit = makes_then Keeps (word (codes "QUIT")) _ (makes_done Keeps command.Quit (λ sound b. tt))
 
 -- every reading of words whose first is no name that is not built yet
-
-each_both : {A : Type 0} (P : Reading A → Type 0) (xs ys : List (Reading A)) → Each P xs → Each P ys → Each P (xs ++ ys)
-each_both P [] ys p q = q
-each_both P (x ∷ xs) ys p q = (p.0, each_both P xs ys p.1 q)
-
-neither : (a b : Bool) → (a || b) ≡ false → (a ≡ false) × (b ≡ false)
-neither false b e = (refl, e)
-neither true b e = absurd cc
-
-none_is : (called : Bytes) (names : List Bytes) → list_any (is_word called) names ≡ false → AllByRecursion (λ n. is_word called n ≡ false) names
-none_is called [] e = tt
-none_is called (n ∷ names) e = let both = neither (is_word called n) (list_any (is_word called) names) e in (both.0, none_is called names both.1)
 
 module _ (called : Bytes) (rest : List Bytes) where
   -- a form that begins with another word has no reading

@@ -7,10 +7,12 @@ ghost use Rattle.world_model.specs.Grammar.{done};
 ghost use Rattle.world_model.specs.declared.commands.Command.TheVariants as command;
 ghost use Rattle.world_model.specs.declared.faults.WordFault.TheVariants as fault;
 ghost use Rattle.world_model.specs.Served.{asks, unbuilt, is_built};
-ghost use Rattle.cmd_words.specs.Places.{all_words, Follows, Answers, a_name, key_and_id, get_options, stats_names};
+ghost use Rattle.cmd_words.specs.Places.{all_words, Follows, Answers, a_name, key_and_id, get_options, stats_names, of_objects, unread};
 
 use crate::faults::unknown;
 use crate::fields::push_name;
+use crate::objects::{expire_command, fget_command, fset_command, persist_command, ttl_command};
+use crate::patterns::{keys_command, pdel_command};
 use crate::readers::Reader;
 use crate::sets::set_command;
 use crate::words::read_name;
@@ -96,7 +98,7 @@ fn is_unbuilt(called: &[u8]) -> bool
 // The command of this name, or none has it.
 fn read_command(reader: &mut Reader, called: &[u8]) -> Result<Command, WordFault>
     requires { reader.old.read ≡ called.now ∷ [] }
-    ensures { list_any (is_word called.now) unbuilt ≡ false → Answers (all_words reader.old) result }
+    ensures { list_any (is_word called.now) unread ≡ false → Answers (all_words reader.old) result }
 {
     if called.eq_ignore_ascii_case(b"SET") {
         return set_command(reader);
@@ -107,8 +109,37 @@ fn read_command(reader: &mut Reader, called: &[u8]) -> Result<Command, WordFault
     if called.eq_ignore_ascii_case(b"DEL") {
         return del_command(reader);
     }
+    if called.eq_ignore_ascii_case(b"FSET") {
+        return fset_command(reader);
+    }
+    if called.eq_ignore_ascii_case(b"FGET") {
+        return fget_command(reader);
+    }
+    if called.eq_ignore_ascii_case(b"EXPIRE") {
+        return expire_command(reader);
+    }
+    if called.eq_ignore_ascii_case(b"PERSIST") {
+        return persist_command(reader);
+    }
+    if called.eq_ignore_ascii_case(b"TTL") {
+        return ttl_command(reader);
+    }
+    read_wider_command(reader, called)
+}
+
+// The command of this name that is about more than one object, or none has it.
+fn read_wider_command(reader: &mut Reader, called: &[u8]) -> Result<Command, WordFault>
+    requires { reader.old.read ≡ called.now ∷ [] }
+    ensures { list_any (is_word called.now) of_objects ≡ false → list_any (is_word called.now) unread ≡ false → Answers (all_words reader.old) result }
+{
+    if called.eq_ignore_ascii_case(b"PDEL") {
+        return pdel_command(reader);
+    }
     if called.eq_ignore_ascii_case(b"DROP") {
         return drop_command(reader);
+    }
+    if called.eq_ignore_ascii_case(b"KEYS") {
+        return keys_command(reader);
     }
     if called.eq_ignore_ascii_case(b"BOUNDS") {
         return bounds_command(reader);

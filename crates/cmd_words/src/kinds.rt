@@ -8,18 +8,28 @@ ghost use Rattle.world_model.specs.Commands.{field as a_field};
 ghost use Rattle.cmd_words.specs.Places.{Reads};
 
 use crate::readers::Reader;
-use crate::words::{read_coordinate, read_geojson, read_integer, read_seconds};
+use crate::words::{read_coordinate, read_geojson, read_glob, read_integer, read_seconds};
 use byte_text::{Name, Text};
 use planar_geom::{BBox, MAX_COORD, Pt, Shape};
 use world_model::WordFault;
 
 impl<'a> Reader<'a> {
     /// Reads a number of 64 signed bits.
-    fn integer(&mut self) -> Result<i64, WordFault>
+    pub(crate) fn integer(&mut self) -> Result<i64, WordFault>
         ensures { Reads kinds.integer self.old self.new result }
     {
         match self.next() {
             Some(word) => read_integer(self.alloc(), word),
+            None => Err(self.wrong_count()),
+        }
+    }
+
+    /// Reads a pattern.
+    pub(crate) fn glob(&mut self) -> Result<Name, WordFault>
+        ensures { Reads kinds.glob self.old self.new result }
+    {
+        match self.next() {
+            Some(word) => read_glob(self.alloc(), word),
             None => Err(self.wrong_count()),
         }
     }

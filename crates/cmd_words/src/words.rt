@@ -6,12 +6,13 @@ ghost use Rattle.world_model.specs.Grammar.{a_word, a_coordinate, a_geojson};
 ghost use Rattle.world_model.specs.Limits.{max_coord};
 ghost use Rattle.world_model.specs.Kinds.{is_digit as is_decimal_digit};
 ghost use Rattle.world_model.specs.Commands.{is_fraction as is_decimal_fraction, are_digits as are_decimal_digits, without_minus as without_sign};
-ghost use Rattle.cmd_words.specs.Places.{IsOne, IsFault, due_fault, name_of};
+ghost use Rattle.cmd_words.specs.Places.{IsOne, IsFault, due_fault, name_of, glob_of};
 ghost use Rattle.cmd_words.specs.Sets.{integer_of, coordinate_of, seconds_of, object_of};
 
 use crate::faults::{fraction, invalid, text};
 use byte_text::{Name, Text, TextFault, read_i64, read_u64};
 use geojson_model::{GeoFault, shape_of};
+use glob_match::well_formed;
 use planar_geom::{MAX_COORD, Shape};
 use std::alloc::Global;
 use world_model::WordFault;
@@ -27,6 +28,17 @@ pub(crate) fn read_name(alloc: Global, word: &[u8]) -> Result<Name, WordFault>
         Ok(name) => Ok(name),
         Err(TextFault::Memory) => Err(WordFault::Memory),
         Err(_) => Err(invalid(alloc, word)),
+    }
+}
+
+/// The pattern that the word is: a name that is well formed as one.
+pub(crate) fn read_glob(alloc: Global, word: &[u8]) -> Result<Name, WordFault>
+    ensures { IsOne a_word glob_of word.now result }
+{
+    if well_formed(word) {
+        read_name(alloc, word)
+    } else {
+        Err(invalid(alloc, word))
     }
 }
 
