@@ -18,9 +18,12 @@ pub at_most_all : (xs : List Object) → due_counts xs ≤ length xs
 at_most_all [] = omega arith
 at_most_all (x ∷ xs) = one_more (due_count x) (due_counts xs) (length xs) (at_most_one x.deadline x refl) (at_most_all xs)
 
+one_is_zero : (n : ℕ) → n ≡ 0 → n ≡ 1 → ⊥
+one_is_zero n a b = omega arith
+
 none_here : (d : Option ℕ) (o : Object) → o.deadline ≡ d → due_count o ≡ 0 → o.deadline ≡ None
 none_here None o e z = e
-none_here (Some d) o e z = let one : due_count o ≡ 1 = rw e refl in let zero_is_one : 1 ≡ 0 = sym one ∙ z in absurd (omega arith)
+none_here (Some d) o e z = let one : due_count o ≡ 1 = rw e refl in absurd (one_is_zero (due_count o) z one)
 
 left_zero : (a s : ℕ) → a + s ≡ 0 → a ≡ 0
 left_zero a s e = omega arith

@@ -1,4 +1,4 @@
-use Rattle.std.proofs.Common.{◌≡◌, true, false, subst, sym, ap, ◌∙◌, List, ℕ, ◌-◌}
+use Rattle.std.proofs.Common.{◌≡◌, true, false, subst, sym, ap, ◌∙◌, List, ℕ, ◌-◌, ◌≤◌}
 use Rattle.std.specs.Prelude.{Option, IfSome}
 use Rattle.byte_text.specs.Names.{before}
 use Rattle.world_model.specs.declared.objects.Object.{Object}
@@ -6,8 +6,16 @@ use Rattle.collection.specs.Objects.{are_by_id}
 use Rattle.collection.specs.Deadlines.{due_count, due_counts}
 use Rattle.collection.proofs.Lists.{stands_at}
 use Rattle.collection.proofs.Ids.{found_held, found_free, left_held, left_free, left_by_id, ties}
-use Rattle.collection.proofs.Counts.{removed, after_removal}
+use Rattle.collection.proofs.Counts.{one_of, removed, after_removal}
 use Rattle.collection.proofs.collections.Collection.take_out.Goals as goal
+
+pub overflow_sub-self : goal.overflow_sub-self
+overflow_sub-self c =
+    let items = c.self.inside.objects.items in
+    let x = c.remove-object.result in
+    let held = rw c.as_slice.ensures.value at c.in-Ok.ensures.held in
+    let least = one_of items c.in-Ok.at x (stands_at items c.in-Ok.at x held.within c.remove-object.ensures.value) in
+    subst (λ (n : ℕ). n ≤ c.self.inside.due) (sym c.due_count.ensures) (subst (λ (n : ℕ). due_count x ≤ n) (sym c.self.invariant.1) least)
 
 pub invariant_of-self : goal.invariant_of-self
 invariant_of-self c =
