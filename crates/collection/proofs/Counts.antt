@@ -1,5 +1,5 @@
 -- Objects with a deadline.
-use Rattle.std.proofs.Common.{◌≡◌, ◌<◌, ◌≤◌, ◌+◌, ◌-◌, ℕ, zero, suc, Bool, true, false, refl, sym, ◌∙◌, ap, subst, List, [], ◌∷◌, length, arith}
+use Rattle.std.proofs.Common.{◌≡◌, ◌≤◌, ◌+◌, ◌-◌, ℕ, zero, suc, Bool, true, false, refl, ◌∙◌, ap, subst, List, [], ◌∷◌, length, arith}
 use Rattle.std.specs.Prelude.{Option, Some, None, fold, find, nat_le, ◌||◌, slice_get}
 use Rattle.std.specs.List.{list_any, slice_set, insert, remove}
 use Rattle.std.proofs.lemmas.Bool.Decides.{nat_tests}

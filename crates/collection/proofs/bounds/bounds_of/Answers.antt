@@ -1,5 +1,5 @@
 use Rattle.std.proofs.Common.{◌≡◌, ap, refl, sym, ◌∙◌}
-use Rattle.std.specs.Prelude.{Option, Some, None, unwrap_or, slice_get}
+use Rattle.std.specs.Prelude.{Some, unwrap_or, slice_get}
 use Rattle.planar_geom.specs.Points.{Bounds}
 use Rattle.collection.proofs.Boxes.{bounds_from}
 use Rattle.collection.proofs.bounds.bounds_of.Goals as goal

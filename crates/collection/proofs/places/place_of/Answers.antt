@@ -1,7 +1,5 @@
-use Rattle.std.proofs.Common.{◌≡◌, ◌<◌, ℕ, Bool, true, false, rules, List, length, take, get_or, subst, sym, ◌∙◌, arith}
+use Rattle.std.proofs.Common.{◌≡◌, ◌<◌, ℕ, true, false, rules, length, subst, sym, ◌∙◌, arith}
 use Rattle.std.specs.Prelude.{Option, IfSome, slice_get}
-use Rattle.std.specs.List.{list_all}
-use Rattle.std.specs.List.Sorted.{IsPartitionPoint}
 use Rattle.std.proofs.lemmas.List.Sorted.{IsPartitionPoint-from_clause}
 use Rattle.byte_text.specs.Names.{before, same}
 use Rattle.world_model.specs.declared.objects.Object.{Object}

@@ -1,5 +1,5 @@
-use Rattle.std.proofs.Common.{◌≡◌, ℕ, sym, ◌∙◌}
-use Rattle.collection.specs.Deadlines.{due_count, due_counts}
+use Rattle.std.proofs.Common.{◌≡◌, sym, ◌∙◌}
+use Rattle.collection.specs.Deadlines.{due_counts}
 use Rattle.collection.proofs.Counts.{nothing_due}
 use Rattle.collection.proofs.collections.Collection.least_due.Goals as goal
 

@@ -1,4 +1,4 @@
-use Rattle.std.proofs.Common.{◌≡◌, ◌<◌, ◌≤◌, ◌+◌, ◌-◌, ℕ, true, false, subst, sym, ap, ◌∙◌, List, length, arith}
+use Rattle.std.proofs.Common.{◌≡◌, ◌≤◌, ◌+◌, ◌-◌, ℕ, true, false, subst, sym, ap, ◌∙◌, List, arith}
 use Rattle.std.specs.Prelude.{Option, IfSome, vec_len, vec_capacity}
 use Rattle.std.specs.List.{list_any, slice_set}
 use Rattle.byte_text.specs.Names.{before}
