@@ -38,7 +38,7 @@ fn push_fields(draft: &mut Draft, fields: &Fields) -> Result<(), NoMemory>
     draft.head(words)?;
     for i in 0..fields.len() {
         draft.bulk(fields.name(i).bytes())?;
-        draft.number(fields.value(i))?;
+        draft.value(fields, i)?;
     }
     Ok(())
 }
