@@ -1,0 +1,8 @@
+//! Queries over the objects of one key by id: SCAN, WITHIN and INTERSECTS.
+#![tactic(auto)]
+
+mod matches;
+mod pages;
+
+pub use pages::page;
+
