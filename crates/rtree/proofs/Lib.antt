@@ -10,4 +10,5 @@ pub mod Children
 pub mod Mends
 pub mod Mended
 pub mod Shrinks
-pub mod Bags
+pub mod Swaps
+pub mod Nears

@@ -1,7 +1,4 @@
 //! A tree of boxes for searches by box and by distance, each node visited counted.
-//!
-//! Nodes own what stands below them. Lists for new nodes wait in a pool, so that adding a pair takes no
-//! memory. Each call that reads a node's slots ticks once for it.
 #![tactic(auto)]
 
 mod boxes;
@@ -13,6 +10,7 @@ mod nodes;
 mod pool;
 mod steps;
 mod tree;
+mod waiting;
 
 pub use ids::Ids;
 pub use near::NearWalk;

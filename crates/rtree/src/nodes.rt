@@ -98,7 +98,7 @@ impl Slot {
 }
 
 impl Node {
-    ghost use Rattle.rtree.specs.Slots.{IsSlot};
+    ghost use Rattle.rtree.specs.Slots.{IsSlot, all_entries, all_nodes};
 
     /// A leaf of one entry.
     pub(crate) fn leaf(mut slots: Vec<Slot>, entry: Entry) -> Node
@@ -136,11 +136,11 @@ impl Node {
         Node { height, slots }
     }
 
-    /// The slots in order.
+    /// The slots.
     pub(crate) fn slots(&self) -> &[Slot]
-        ensures entries { all_entries result.now ≡ self.now.entries }
         ensures each { All (IsSlot self.now.height) result.now }
-        ensures nodes { all_nodes result.now + 1 ≡ self.now.nodes }
+        ensures entries { self.now.entries ≡ all_entries result.now }
+        ensures nodes { self.now.nodes ≡ all_nodes result.now + 1 }
     {
         self.slots.as_slice()
     }

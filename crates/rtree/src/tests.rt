@@ -58,33 +58,15 @@ fn found(rt: &impl Abort, alloc: Global, tree: &Tree, b: BBox) -> (usize, u64) {
     (ids.len(), sum)
 }
 
-// The least squared distance of a pair from a point, and how many pairs stand at it.
-fn nearest(list: &Vec<(BBox, u32)>, p: Pt) -> (Option<u64>, usize) {
-    let mut least = None;
+// How many pairs stand at a squared distance from a point.
+fn standing_at(list: &Vec<(BBox, u32)>, p: Pt, distance: u64) -> usize {
     let mut count = 0usize;
     for (bounds, _) in list {
-        let distance = box_dist2(p, *bounds);
-        match least {
-            Some(known) if known < distance => {}
-            Some(known) if known == distance => count = count.wrapping_add(1),
-            _ => {
-                least = Some(distance);
-                count = 1;
-            }
+        if box_dist2(p, *bounds) == distance {
+            count = count.wrapping_add(1);
         }
     }
-    (least, count)
-}
-
-fn walked(rt: &impl Abort, alloc: Global, tree: &Tree, p: Pt) -> (Option<u64>, usize) {
-    let mut ids = Ids::new(alloc);
-    let Ok(mut walk) = NearWalk::of(tree, p) else {
-        panic!(rt; "a walk");
-    };
-    match walk.next(&mut ids, &mut Steps::new(NoLedger)) {
-        Ok(distance) => (distance, ids.len()),
-        Err(_) => (None, 0),
-    }
+    count
 }
 
 #[test]
@@ -106,8 +88,6 @@ fn keeps_a_list(rt: HostRuntime) {
         }
         let window = square(&rt, n % 40, n % 30, 4);
         assert_eq!(rt; found(&rt, alloc, &tree, window), met(&list, window));
-        let corner = window.max();
-        assert_eq!(rt; walked(&rt, alloc, &tree, corner), nearest(&list, corner));
     }
     for n in 0..600u32 {
         let b = square(&rt, n * 7 % 40, n * 11 % 30, (n % 3) as u16);
@@ -116,6 +96,35 @@ fn keeps_a_list(rt: HostRuntime) {
     }
     assert_eq!(rt; list.len(), 0);
     assert_eq!(rt; found(&rt, alloc, &tree, square(&rt, 0, 0, 100)), (0, 0));
+}
+
+#[test]
+fn walks_by_distance(rt: HostRuntime) {
+    let alloc = rt.alloc();
+    let mut tree = Tree::new(alloc);
+    let mut list = Vec::new(alloc);
+    let mut steps = Steps::new(NoLedger);
+    for n in 0..80u32 {
+        let b = square(&rt, n * 7 % 40, n * 11 % 30, (n % 3) as u16);
+        if tree.reserve(1).is_ok() && list.push((b, n)).is_ok() {
+            tree.insert(b, n, &mut steps);
+        }
+    }
+    let from = square(&rt, 17, 11, 0).min();
+    let Ok(mut walk) = NearWalk::of(&tree, from) else {
+        panic!(rt; "a walk");
+    };
+    let mut ids = Ids::new(alloc);
+    for distance in 0..900u64 {
+        let there = standing_at(&list, from, distance);
+        if there > 0 {
+            ids.clear();
+            let answer = walk.next(&mut ids, &mut steps);
+            assert_eq!(rt; answer.ok(), Some(Some(distance)));
+            assert_eq!(rt; ids.len(), there);
+        }
+    }
+    assert_eq!(rt; walk.next(&mut ids, &mut steps).ok(), Some(None));
 }
 
 #[test]
@@ -141,6 +150,7 @@ fn visits_few_nodes(rt: HostRuntime) {
     assert!(rt; count <= 300_000);
     let _ = rt.println(count);
     ids.clear();
+    assert!(rt; ids.is_empty());
     let mut visits = Steps::new(Visits::new());
     for m in 0..1000u32 {
         let place = square(&rt, 10 * (m / 10), 100 * (m % 10), 0).min();
@@ -152,6 +162,4 @@ fn visits_few_nodes(rt: HostRuntime) {
     let count = visits.ledger().count();
     assert!(rt; count <= 300_000);
     let _ = rt.println(count);
-    ids.clear();
-    assert!(rt; ids.is_empty());
 }

@@ -123,16 +123,6 @@ impl Tree {
             Some(root) => root.search(b, into, steps),
         }
     }
-
-    pub(crate) fn root(&self) -> Option<&Node>
-        ensures { MatchOption result (self.now.pairs ≡ []) (λ n. self.now.pairs ≡ n.now.entries) }
-    {
-        self.root.as_ref()
-    }
-
-    pub(crate) fn allocator(&self) -> Global {
-        self.pool.allocator()
-    }
 }
 
 // A root with an entry more.
@@ -172,5 +162,19 @@ fn shrunk<L: Ledger>(
         (root.settled(pool), true)
     } else {
         (Some(root), false)
+    }
+}
+
+impl Tree {
+    /// The node over all others, where there is any pair.
+    pub(crate) fn root(&self) -> Option<&Node>
+        ensures { MatchOption result (self.now.pairs ≡ []) (λ n. n.now.entries ≡ self.now.pairs) }
+    {
+        self.root.as_ref()
+    }
+
+    /// What the tree takes its memory from.
+    pub(crate) fn allocator(&self) -> Global {
+        self.pool.allocator()
     }
 }

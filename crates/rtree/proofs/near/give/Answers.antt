@@ -1,90 +1,80 @@
-use Rattle.std.proofs.Common.{◌≡◌, ◌+◌, ◌++◌, ◌∷◌, [], length, ap, ◌∙◌, subst, arith}
+use Rattle.std.proofs.Common.{◌≡◌, ◌≤◌, ◌∷◌, ◌++◌, [], subst, ap, arith}
 use Rattle.std.specs.BinaryHeap.{heap_items}
-use Rattle.rtree.specs.Frontier.{IsMet, met_pairs, met_weight, waiting_pairs}
-use Rattle.rtree.proofs.Bags.{popped_walk, popped_met, popped_weight, going_single, going_below, given_all}
+use Rattle.std.specs.List.Sorted.{IsPermutation}
+use Rattle.std.proofs.lemmas.List.Sorted.{IsPermutation-trans, length_permutation}
+use Rattle.std.proofs.lemmas.Result.{err_from_is_err_and}
+use Rattle.rtree.specs.Near.{met_nodes, pairs_of}
+use Rattle.rtree.proofs.Nears.{far, found_one, found_moved, found_all, found_part, queue_less, pairs_popped, nodes_popped}
 use Rattle.rtree.proofs.near.give.Goals as goal
 
-pub returns-in_err-push-in-Single-clause-walk : goal.returns-in_err-push-in-Single-clause-walk
-returns-in_err-push-in-Single-clause-walk g c =
-    let from = c.args.from in
-    let old = heap_items c.walk.waiting in
-    let mid = heap_items c.pop.new.self in
-    let w = c.in-Some.nearest in
-    let going = c.walk.invariant in
-    let moved = c.in-Some.ensures.permutation in
-    let rest = c.in-Some.ensures.heap_order going.walk.heap in
-    let walk = popped_walk from w old mid going.walk moved rest.0 in
-    walk
+pub returns-in_err-push-in-One-clause-err : goal.returns-in_err-push-in-One-clause-err
+returns-in_err-push-in-One-clause-err g c =
+    let p = err_from_is_err_and c.from_residual.result c.from_residual.ensures.1 in
+    let same = c.in_err-push-in-One.ensures.err in
+    rw (p.1, same) (found_part c.loop-nearest.found c.args.from (pairs_of (heap_items c.args.waiting.now)) (pairs_of (heap_items c.loop-nearest.waiting)) c.args.into.now c.loop-nearest.into c.loop-nearest.invariant.found)
 
-pub walk-smaller-in-Single : goal.walk-smaller-in-Single
-walk-smaller-in-Single g c =
-    let from = c.args.from in
-    let old = heap_items c.walk.waiting in
-    let mid = heap_items c.pop.new.self in
+pub loop-nearest-smaller-in-One : goal.loop-nearest-smaller-in-One
+loop-nearest-smaller-in-One g c =
     let w = c.in-Some.nearest in
-    let going = c.walk.invariant in
-    let moved = c.in-Some.ensures.permutation in
-    let rest = c.in-Some.ensures.heap_order going.walk.heap in
-    let walk = popped_walk from w old mid going.walk moved rest.0 in
-    let one : met_weight w.met ≡ 1 = ap met_weight c.in-Single.is in
-    omega (arith, popped_weight w old mid moved, one)
+    let old = heap_items c.loop-nearest.waiting in
+    let new = heap_items c.take_due.new.waiting in
+    let top = c.in-Some.ensures in
+    let pairs : IsPermutation (pairs_of old) (c.in-One.entry ∷ pairs_of new) = pairs_popped w _ old new c.in-One.is top.taken in
+    omega (arith, length_permutation (pairs_of old) (c.in-One.entry ∷ pairs_of new) pairs, nodes_popped w old new top.taken)
 
-pub walk-preserved-in-Single : goal.walk-preserved-in-Single
-walk-preserved-in-Single g c =
-    let from = c.args.from in
-    let old = heap_items c.walk.waiting in
-    let mid = heap_items c.pop.new.self in
+pub loop-nearest-preserved-in-One : goal.loop-nearest-preserved-in-One
+loop-nearest-preserved-in-One g c =
     let w = c.in-Some.nearest in
-    let going = c.walk.invariant in
-    let moved = c.in-Some.ensures.permutation in
-    let rest = c.in-Some.ensures.heap_order going.walk.heap in
-    let walk = popped_walk from w old mid going.walk moved rest.0 in
-    let p = c.in-Single.entry in
-    let exact = subst (IsMet from w.distance) c.in-Single.is (popped_met from w old mid going.walk moved) in
-    let put = c.in_ok-push-in-Single.ensures.ok ∙ ap (λ n. c.walk.into ++ n ∷ []) c.id.ensures in
-    going_single from (waiting_pairs (heap_items c.args.waiting.now)) c.args.into.now c.walk.into c.push.new.self p w c.walk.found old mid going (c.is_due.ensures.due c.walk-test.true) c.in-Some.ensures.top (ap met_pairs c.in-Single.is) exact moved rest.0 rest.1 put
+    let from = c.args.from in
+    let found = c.loop-nearest.found in
+    let old = heap_items c.loop-nearest.waiting in
+    let new = heap_items c.take_due.new.waiting in
+    let top = c.in-Some.ensures in
+    let q = queue_less found from w old new c.loop-nearest.invariant.queue top in
+    let pairs : IsPermutation (pairs_of old) (c.in-One.entry ∷ pairs_of new) = pairs_popped w _ old new c.in-One.is top.taken in
+    let least = far (λ n. w.distance ≤ n) (λ m k l e. omega (arith, l, e)) from new top.nearest q.0.near in
+    let id = c.in-One.entry.id in
+    let put : c.push.new.self ≡ c.loop-nearest.into ++ id ∷ [] = subst (λ n. c.push.new.self ≡ c.loop-nearest.into ++ n ∷ []) c.id.ensures c.in_ok-push-in-One.ensures.ok in record {
+      queue = q.0;
+      found = found_one found from (pairs_of (heap_items c.args.waiting.now)) (pairs_of old) (pairs_of new) c.in-One.entry w.distance c.args.into.now c.loop-nearest.into c.push.new.self c.loop-nearest.invariant.found pairs (q.1.exact c.in-One.entry c.in-One.is) top.due least put;
+    }
 
-pub open-requires-clause-walk : goal.open-requires-clause-walk
-open-requires-clause-walk g c =
-    let from = c.args.from in
-    let old = heap_items c.walk.waiting in
-    let mid = heap_items c.pop.new.self in
-    let w = c.in-Some.nearest in
-    let going = c.walk.invariant in
-    let moved = c.in-Some.ensures.permutation in
-    let rest = c.in-Some.ensures.heap_order going.walk.heap in
-    let walk = popped_walk from w old mid going.walk moved rest.0 in
-    walk
+pub open-requires : goal.open-requires
+open-requires g c =
+    let q = queue_less c.loop-nearest.found c.args.from c.in-Some.nearest (heap_items c.loop-nearest.waiting) (heap_items c.take_due.new.waiting) c.loop-nearest.invariant.queue c.in-Some.ensures in
+    record { queue = q.0 }
 
-pub walk-smaller-in-Continue-branch-2 : goal.walk-smaller-in-Continue-branch-2
-walk-smaller-in-Continue-branch-2 g c =
-    let from = c.args.from in
-    let old = heap_items c.walk.waiting in
-    let mid = heap_items c.pop.new.self in
+pub loop-nearest-smaller : goal.loop-nearest-smaller
+loop-nearest-smaller g c =
     let w = c.in-Some.nearest in
-    let going = c.walk.invariant in
-    let moved = c.in-Some.ensures.permutation in
-    let rest = c.in-Some.ensures.heap_order going.walk.heap in
-    let walk = popped_walk from w old mid going.walk moved rest.0 in
     let n = c.in-Below.node.now in
-    let opened = c.in_ok-open-in-Below.ensures.ok in
-    let heavy : met_weight w.met ≡ n.nodes + length n.entries = ap met_weight c.in-Below.is in
-    omega (arith, popped_weight w old mid moved, heavy, opened.lighter)
+    let old = heap_items c.loop-nearest.waiting in
+    let new = heap_items c.take_due.new.waiting in
+    let opened = heap_items c.open.new.waiting in
+    let top = c.in-Some.ensures in
+    let pairs : IsPermutation (pairs_of old) (n.entries ++ pairs_of new) = pairs_popped w _ old new c.in-Below.is top.taken in
+    let all = IsPermutation-trans (pairs_of old) (n.entries ++ pairs_of new) (pairs_of opened) pairs c.in_ok-open-in-Below.ensures.pairs in
+    let nodes : met_nodes w.met ≡ n.nodes = ap met_nodes c.in-Below.is in
+    omega (arith, length_permutation (pairs_of old) (pairs_of opened) all, nodes_popped w old new top.taken, nodes, c.in_ok-open-in-Below.ensures.nodes)
 
-pub walk-preserved-in-Continue-branch-2 : goal.walk-preserved-in-Continue-branch-2
-walk-preserved-in-Continue-branch-2 g c =
-    let from = c.args.from in
-    let old = heap_items c.walk.waiting in
-    let mid = heap_items c.pop.new.self in
+pub loop-nearest-preserved : goal.loop-nearest-preserved
+loop-nearest-preserved g c =
     let w = c.in-Some.nearest in
-    let going = c.walk.invariant in
-    let moved = c.in-Some.ensures.permutation in
-    let rest = c.in-Some.ensures.heap_order going.walk.heap in
-    let walk = popped_walk from w old mid going.walk moved rest.0 in
     let n = c.in-Below.node.now in
-    let opened = c.in_ok-open-in-Below.ensures.ok in
-    going_below from (waiting_pairs (heap_items c.args.waiting.now)) c.args.into.now c.walk.into w c.walk.found old mid (heap_items c.open.new.waiting) n.entries n.nodes going (ap met_pairs c.in-Below.is) moved c.open.ensures.walk opened
+    let old = heap_items c.loop-nearest.waiting in
+    let new = heap_items c.take_due.new.waiting in
+    let opened = heap_items c.open.new.waiting in
+    let pairs : IsPermutation (pairs_of old) (n.entries ++ pairs_of new) = pairs_popped w _ old new c.in-Below.is c.in-Some.ensures.taken in
+    let all = IsPermutation-trans (pairs_of old) (n.entries ++ pairs_of new) (pairs_of opened) pairs c.in_ok-open-in-Below.ensures.pairs in record {
+      queue = c.in_ok-open-in-Below.ensures.queue;
+      found = found_moved c.loop-nearest.found c.args.from (pairs_of (heap_items c.args.waiting.now)) (pairs_of old) (pairs_of opened) c.args.into.now c.loop-nearest.into all c.loop-nearest.invariant.found;
+    }
+
+pub returns-in_err-open-in-Below-clause-err : goal.returns-in_err-open-in-Below-clause-err
+returns-in_err-open-in-Below-clause-err g c =
+    let p = err_from_is_err_and c.from_residual-in_err-open-in-Below.result c.from_residual-in_err-open-in-Below.ensures.1 in
+    rw (p.1) (found_part c.loop-nearest.found c.args.from (pairs_of (heap_items c.args.waiting.now)) (pairs_of (heap_items c.loop-nearest.waiting)) c.args.into.now c.loop-nearest.into c.loop-nearest.invariant.found)
 
 pub returns-clause-ok : goal.returns-clause-ok
 returns-clause-ok g c =
-    given_all c.args.from (waiting_pairs (heap_items c.args.waiting.now)) c.args.into.now c.walk.into c.walk.found (heap_items c.walk.waiting) c.walk.invariant (c.is_due.ensures.end c.walk-test.false)
+    found_all c.loop-nearest.found c.args.from (pairs_of (heap_items c.args.waiting.now)) (heap_items c.loop-nearest.waiting) (heap_items c.take_due.new.waiting) c.args.into.now c.loop-nearest.into c.loop-nearest.invariant.found c.loop-nearest.invariant.queue.near c.in_default.ensures
