@@ -1,0 +1,19 @@
+//! A tree of boxes for searches by box and by distance, each node visited counted.
+#![tactic(auto)]
+
+mod boxes;
+mod entries;
+mod ids;
+mod near;
+mod nodes;
+mod pool;
+mod steps;
+mod tree;
+
+pub use ids::Ids;
+pub use near::NearWalk;
+pub use steps::{Ledger, NoLedger, Steps, Visits};
+pub use tree::Tree;
+
+#[cfg(test)]
+mod tests;
