@@ -7,6 +7,7 @@ use crate::ids::Ids;
 use crate::pool::Pool;
 use crate::steps::{Ledger, Steps};
 use planar_geom::{BBox, NoMemory};
+use std::marker::Model;
 
 /// The most that a node holds.
 pub(crate) const MOST: usize = 16;
@@ -30,6 +31,27 @@ pub(crate) struct Slot {
 pub(crate) struct Node {
     height: usize,
     slots: Vec<Slot>,
+}
+
+impl Model for Node {
+    ghost use Rattle.rtree.specs.Subtrees.{Subtree};
+
+    ghost Value = { Subtree };
+
+    ghost use Rattle.std.specs.Prelude.{vec_capacity};
+    ghost use Rattle.rtree.specs.Slots.{subtree, IsNode};
+
+    ghost view = { λ n. subtree n.height n.slots.items };
+
+    ghost invariant = { λ n. IsNode n.height n.slots.items (vec_capacity n.slots) };
+
+    ghost size = { λ n. n.height };
+
+    ghost use Rattle.rtree.specs.Falls.{no_deeper};
+
+    ghost use Rattle.std.proofs.Common.{arith};
+
+    ghost size_decreases = { λ n h. omega (arith, no_deeper n.height n.slots.items h.each) };
 }
 
 impl Slot {
