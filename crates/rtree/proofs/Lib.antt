@@ -1,2 +1,4 @@
 pub mod Order
 pub mod Lists
+pub mod Slots
+pub mod Insides

@@ -68,3 +68,10 @@ ids pairs = map (λ p. p.id) pairs
 -- the numbers of the pairs whose box meets a box
 abbrev pub ids_meeting : Bounds → List Pair → List ℕ
 ids_meeting b pairs = ids (filter (λ p. boxes_meet p.bounds b) pairs)
+
+-- some first numbers of a list were put behind the old ones
+pub record IsPart (old new all : List ℕ) : Type 0 where
+  pub some : List ℕ
+  pub rest : List ℕ
+  pub put : new ≡ old ++ some
+  pub whole : all ≡ some ++ rest

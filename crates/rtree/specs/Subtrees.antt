@@ -33,6 +33,7 @@ height_of (Some n) = n.height
 pub record IsFull (n : Subtree) : Type 0 where
   pub least : 4 ≤ n.width
   pub most : n.width ≤ 16
+  pub high : 1 ≤ n.height
   pub few_nodes : 3 * n.nodes + 1 ≤ length n.entries
   pub low : n.height ≤ n.nodes
   pub many : 2 ^ n.height ≤ length n.entries

@@ -4,6 +4,7 @@
 mod boxes;
 mod entries;
 mod ids;
+mod moves;
 mod near;
 mod nodes;
 mod pool;

@@ -1,9 +1,15 @@
 //! Nodes: each holds its slots in order, at least four unless it is the root, at most sixteen, and all
 //! leaves stand at one depth.
 
+ghost use Rattle.std.specs.Prelude.{◌≡◌, ℕ, ◌≢◌, ◌≤◌, ◌<◌, ◌+◌, ◌-◌, ◌*◌, ◌++◌, [], ◌∷◌, Some, None, true, false, min, take, drop, length, All, IfSome, MatchOption, OnOk, OnErr, vec_capacity, vec_len};
+ghost use Rattle.planar_geom.specs.Points.{IsBox};
+ghost use Rattle.rtree.specs.Pairs.{IsInside, IsOrdered, IsWith, IsPut, IsPart, ids_meeting};
+ghost use Rattle.rtree.specs.Subtrees.{entries_of, nodes_of, IsFull, IsRoot, IsHalved, IsRemoved};
+
 use crate::boxes::round_both;
 use crate::entries::Entry;
 use crate::ids::Ids;
+use crate::moves::{move_tail, put};
 use crate::pool::Pool;
 use crate::steps::{Ledger, Steps};
 use planar_geom::{BBox, NoMemory};
@@ -55,8 +61,14 @@ impl Model for Node {
 }
 
 impl Slot {
+    ghost use Rattle.rtree.specs.Slots.{IsSlot};
+
     // The slot of an entry.
-    fn of(entry: Entry) -> Slot {
+    fn of(entry: Entry) -> Slot
+        ensures slot { IsSlot 1 result }
+        ensures first { result.first ≡ entry }
+        ensures below { result.below ≡ None }
+    {
         Slot {
             first: entry,
             bounds: entry.bounds(),
@@ -65,24 +77,38 @@ impl Slot {
     }
 
     /// The first entry, or the one entry.
-    pub(crate) fn first(&self) -> Entry {
+    pub(crate) fn first(&self) -> Entry
+        ensures { result ≡ self.now.first }
+    {
         self.first
     }
 
     /// The box round all entries.
-    pub(crate) fn bounds(&self) -> BBox {
+    pub(crate) fn bounds(&self) -> BBox
+        ensures { result ≡ self.now.bounds }
+    {
         self.bounds
     }
 
     /// The node, where it is not one entry.
-    pub(crate) fn below(&self) -> Option<&Node> {
+    pub(crate) fn below(&self) -> Option<&Node>
+        ensures { MatchOption result (self.now.below ≡ None) (λ n. self.now.below ≡ Some n.now) }
+    {
         self.below.as_ref()
     }
 }
 
 impl Node {
+    ghost use Rattle.rtree.specs.Slots.{IsSlot};
+
     /// A leaf of one entry.
-    pub(crate) fn leaf(mut slots: Vec<Slot>, entry: Entry) -> Node {
+    pub(crate) fn leaf(mut slots: Vec<Slot>, entry: Entry) -> Node
+        requires empty { slots.items ≡ [] }
+        requires roomy { 20 ≤ vec_capacity slots }
+        ensures entries { result.entries ≡ entry ∷ [] }
+        ensures nodes { result.nodes ≡ 1 }
+        ensures root { IsRoot result }
+    {
         slots.push_reserved(Slot::of(entry));
         Node { height: 1, slots }
     }
@@ -93,7 +119,18 @@ impl Node {
         low: Node,
         high: Node,
         steps: &mut Steps<L>,
-    ) -> Node {
+    ) -> Node
+        requires empty { slots.items ≡ [] }
+        requires roomy { 20 ≤ vec_capacity slots }
+        requires halves { IsHalved low (Some high) }
+        requires ordered { IsOrdered (low.entries ++ high.entries) }
+        requires fits { low.height < 64 }
+        ensures entries { result.entries ≡ low.entries ++ high.entries }
+        ensures height { result.height ≡ low.height + 1 }
+        ensures nodes { result.nodes ≡ low.nodes + high.nodes + 1 }
+        ensures root { IsRoot result }
+        ensures cost { steps.new.count ≤ steps.old.count + 2 }
+    {
         let height = low.height + 1;
         slots.push_reserved(low.into_slot(steps));
         slots.push_reserved(high.into_slot(steps));
@@ -105,7 +142,13 @@ impl Node {
     }
 
     // The first entry, and the least box round all.
-    fn summary<L: Ledger>(&self, steps: &mut Steps<L>) -> (Entry, BBox) {
+    fn summary<L: Ledger>(&self, steps: &mut Steps<L>) -> (Entry, BBox)
+        requires { 1 ≤ self.now.width }
+        ensures begins { self.now.entries ≡ result.0 ∷ drop 1 self.now.entries }
+        ensures covers { All (λ p. IsInside result.1 p.bounds) self.now.entries }
+        ensures full { 4 ≤ self.now.width → self.now.width ≤ 16 → IsFull self.now }
+        ensures cost { steps.new.count ≤ steps.old.count + 1 }
+    {
         steps.tick();
         let first = &self.slots[0];
         let mut bounds = first.bounds;
@@ -115,7 +158,13 @@ impl Node {
         (first.first, bounds)
     }
 
-    fn into_slot<L: Ledger>(self, steps: &mut Steps<L>) -> Slot {
+    fn into_slot<L: Ledger>(self, steps: &mut Steps<L>) -> Slot
+        requires least { 4 ≤ self.width }
+        requires most { self.width ≤ 16 }
+        ensures slot { IsSlot (self.height + 1) result }
+        ensures below { result.below ≡ Some self }
+        ensures cost { steps.new.count ≤ steps.old.count + 1 }
+    {
         let (first, bounds) = self.summary(steps);
         Slot {
             first,
@@ -125,7 +174,18 @@ impl Node {
     }
 
     // Hands out the upper half where there are too many slots.
-    fn halve(&mut self, pool: &mut Pool) -> Option<Node> {
+    fn halve(&mut self, pool: &mut Pool) -> Option<Node>
+        requires spare { 1 ≤ pool.old.spare }
+        requires most { self.old.width ≤ 18 }
+        ensures halved { IsHalved self.new result }
+        ensures height { self.new.height ≡ self.old.height }
+        ensures width { min 8 self.old.width ≤ self.new.width }
+        ensures entries { self.new.entries ++ entries_of result ≡ self.old.entries }
+        ensures lists { pool.new.spare + (self.new.nodes + nodes_of result) ≡ pool.old.spare + self.old.nodes }
+        ensures taken { pool.old.spare ≤ pool.new.spare + 1 }
+        ensures room { pool.new.room ≡ pool.old.room }
+        ensures root { 1 ≤ self.new.width → (1 < self.new.height → 2 ≤ self.new.width) → IsRoot self.new }
+    {
         if self.slots.len() <= MOST {
             return None;
         }
@@ -139,7 +199,19 @@ impl Node {
     }
 
     // Takes in what another node holds, and hands out the upper half where that is too much for one.
-    fn join(&mut self, other: Node, pool: &mut Pool) -> Option<Node> {
+    fn join(&mut self, other: Node, pool: &mut Pool) -> Option<Node>
+        requires level { self.old.height ≡ other.height }
+        requires least { 7 ≤ self.old.width + other.width }
+        requires most { self.old.width + other.width ≤ 20 }
+        requires ordered { IsOrdered (self.old.entries ++ other.entries) }
+        requires room { pool.old.spare < pool.old.room }
+        ensures halved { IsHalved self.new result }
+        ensures height { self.new.height ≡ self.old.height }
+        ensures width { 7 ≤ self.new.width }
+        ensures entries { self.new.entries ++ entries_of result ≡ self.old.entries ++ other.entries }
+        ensures lists { pool.new.spare + (self.new.nodes + nodes_of result) ≡ pool.old.spare + (self.old.nodes + other.nodes) }
+        ensures room { pool.new.room ≡ pool.old.room }
+    {
         let Node {
             height,
             slots: mut upper,
@@ -163,11 +235,24 @@ impl Node {
         entry: Entry,
         pool: &mut Pool,
         steps: &mut Steps<L>,
-    ) -> Option<Node> {
+    ) -> Option<Node>
+        requires least { 1 ≤ self.old.width }
+        requires most { self.old.width ≤ 16 }
+        requires spare { self.old.height ≤ pool.old.spare }
+        ensures halved { IsHalved self.new result }
+        ensures height { self.new.height ≡ self.old.height }
+        ensures width { min 8 self.old.width ≤ self.new.width }
+        ensures entries { IsPut entry self.old.entries (self.new.entries ++ entries_of result) }
+        ensures lists { pool.new.spare + (self.new.nodes + nodes_of result) ≡ pool.old.spare + self.old.nodes }
+        ensures taken { pool.old.spare ≤ pool.new.spare + self.old.height }
+        ensures room { pool.new.room ≡ pool.old.room }
+        ensures root { 1 ≤ self.new.width → (1 < self.new.height → 2 ≤ self.new.width) → IsRoot self.new }
+        ensures cost { steps.new.count ≤ steps.old.count + 3 * self.old.height }
+    {
         steps.tick();
         let place = place_for(self.slots.as_slice(), &entry);
         if self.height == 1 {
-            let _ = self.slots.insert(place, Slot::of(entry));
+            put(&mut self.slots, place, Slot::of(entry));
         } else {
             let at = place.saturating_sub(1);
             let slot = &mut self.slots[at];
@@ -177,7 +262,7 @@ impl Node {
                 slot.first = first;
                 slot.bounds = bounds;
                 if let Some(upper) = upper {
-                    let _ = self.slots.insert(at + 1, upper.into_slot(steps));
+                    put(&mut self.slots, at + 1, upper.into_slot(steps));
                 }
             }
         }
@@ -190,7 +275,19 @@ impl Node {
         entry: &Entry,
         pool: &mut Pool,
         steps: &mut Steps<L>,
-    ) -> bool {
+    ) -> bool
+        requires least { 1 ≤ self.old.width }
+        requires two { 1 < self.old.height → 2 ≤ self.old.width }
+        requires most { self.old.width ≤ 16 }
+        requires room { pool.old.spare + self.old.nodes ≤ pool.old.room }
+        ensures removed { IsRemoved result entry.now self.old self.new }
+        ensures height { self.new.height ≡ self.old.height }
+        ensures width { self.old.width ≤ self.new.width + 1 }
+        ensures no_wider { self.new.width ≤ self.old.width }
+        ensures lists { pool.new.spare + self.new.nodes ≡ pool.old.spare + self.old.nodes }
+        ensures room { pool.new.room ≡ pool.old.room }
+        ensures cost { steps.new.count ≤ steps.old.count + 5 * self.old.height }
+    {
         steps.tick();
         let place = place_for(self.slots.as_slice(), entry);
         if place == 0 {
@@ -220,7 +317,15 @@ impl Node {
 
     /// The root that is left of a root: none where it holds nothing, and the one node below it where it
     /// holds no other.
-    pub(crate) fn settled(self, pool: &mut Pool) -> Option<Node> {
+    pub(crate) fn settled(self, pool: &mut Pool) -> Option<Node>
+        requires some { 1 < self.height → 1 ≤ self.width }
+        requires most { self.width ≤ 16 }
+        requires room { pool.old.spare < pool.old.room }
+        ensures root { IfSome result IsRoot }
+        ensures entries { entries_of result ≡ self.entries }
+        ensures lists { pool.new.spare + nodes_of result ≡ pool.old.spare + self.nodes }
+        ensures room { pool.new.room ≡ pool.old.room }
+    {
         let Node { height, mut slots } = self;
         if slots.len() > 1 || height == 1 && slots.len() == 1 {
             return Some(Node { height, slots });
@@ -236,7 +341,10 @@ impl Node {
         b: &BBox,
         into: &mut Ids,
         steps: &mut Steps<L>,
-    ) -> Result<(), NoMemory> {
+    ) -> Result<(), NoMemory>
+        ensures ok { OnOk result (into.new ≡ into.old ++ ids_meeting b.now self.now.entries) }
+        ensures err { OnErr result (IsPart into.old into.new (ids_meeting b.now self.now.entries)) }
+    {
         steps.tick();
         for slot in &self.slots {
             if slot.bounds.meets(*b) {
@@ -250,8 +358,12 @@ impl Node {
     }
 }
 
+ghost use Rattle.rtree.specs.Slots.{IsPlaceFor, IsThinAt, all_entries, all_nodes, IsSlot};
+
 // How many slots begin with an entry that is not after the given one.
-fn place_for(slots: &[Slot], entry: &Entry) -> usize {
+fn place_for(slots: &[Slot], entry: &Entry) -> usize
+    ensures { IsPlaceFor slots.now entry.now result }
+{
     for (i, slot) in slots.iter().enumerate() {
         if entry.is_before(&slot.first) {
             return i;
@@ -260,26 +372,28 @@ fn place_for(slots: &[Slot], entry: &Entry) -> usize {
     slots.len()
 }
 
-// Moves what stands behind the first `keep` to the front of another list.
-fn move_tail<T: Drop>(from: &mut Vec<T>, keep: usize, to: &mut Vec<T>) {
-    while from.len() > keep {
-        if let Some(item) = from.pop() {
-            let _ = to.insert(0, item);
-        }
-    }
-}
-
 // Brings the node at a slot together with a neighbour: one node of both, where there is room, or two halves.
-fn mend<L: Ledger>(slots: &mut Vec<Slot>, at: usize, pool: &mut Pool, steps: &mut Steps<L>) {
+fn mend<L: Ledger>(slots: &mut Vec<Slot>, at: usize, pool: &mut Pool, steps: &mut Steps<L>)
+    requires thin { (height : ℕ) × IsThinAt height slots.old.items at }
+    requires room { pool.old.spare < pool.old.room }
+    ensures slots { (height : ℕ) → IsThinAt height slots.old.items at → All (IsSlot height) slots.new.items }
+    ensures entries { all_entries slots.new.items ≡ all_entries slots.old.items }
+    ensures width { vec_len slots.old ≤ vec_len slots.new + 1 }
+    ensures no_wider { vec_len slots.new ≤ vec_len slots.old }
+    ensures capacity { vec_capacity slots.old ≤ vec_capacity slots.new }
+    ensures lists { pool.new.spare + all_nodes slots.new.items ≡ pool.old.spare + all_nodes slots.old.items }
+    ensures room { pool.new.room ≡ pool.old.room }
+    ensures cost { steps.new.count ≤ steps.old.count + 3 }
+{
     let left = if at + 1 < slots.len() { at } else { at - 1 };
     let high = slots.remove(left + 1);
     let low = slots.remove(left);
     steps.tick();
     if let (Some(mut low), Some(high)) = (low.below, high.below) {
         let upper = low.join(high, pool);
-        let _ = slots.insert(left, low.into_slot(steps));
+        put(slots, left, low.into_slot(steps));
         if let Some(upper) = upper {
-            let _ = slots.insert(left + 1, upper.into_slot(steps));
+            put(slots, left + 1, upper.into_slot(steps));
         }
     }
 }
