@@ -1,14 +1,15 @@
 -- Slots side by side: their entries and their nodes, and that there are enough entries.
 use Rattle.std.proofs.Common.{◌≡◌, ℕ, zero, suc, ◌+◌, ◌-◌, ◌*◌, ◌^◌, ◌≤◌, ◌<◌, refl, sym, ap, ◌∙◌, subst, Option, Some, None, IfSome, List, [], ◌∷◌, ◌++◌, length, take, drop, get_or, arith, add-one, append_assoc, length-append, All}
 use Rattle.std.proofs.Math.Nat.{two-pow-succ, mul-le-mul_right}
-use Rattle.std.proofs.lemmas.List.Elements.{All-nil, All-cons, All-head, All-tail, All-weaker, All-get_or, All-append}
-use Rattle.std.proofs.lemmas.List.{take_more, append-nil}
+use Rattle.std.proofs.lemmas.List.Elements.{All-nil, All-cons, All-head, All-tail, All-weaker, All-get_or, All-append, All-take, All-drop}
+use Rattle.std.proofs.lemmas.List.{take_more, append-nil, take-append-drop}
 use Rattle.std.proofs.lemmas.List.Concat.{flat_map-append}
 use Rattle.rtree.specs.declared.nodes.Slot.{Slot}
 use Rattle.planar_geom.specs.Points.{Bounds, box_round_both}
-use Rattle.rtree.specs.Pairs.{Pair, IsInside}
+use Rattle.rtree.specs.Pairs.{Pair, IsInside, IsOrdered}
 use Rattle.rtree.specs.Subtrees.{Subtree, entries_at, nodes_of, height_of, IsFull, IsRoot}
 use Rattle.rtree.specs.Slots.{slot_entries, all_entries, all_nodes, subtree, IsSlot, IsNode}
+use Rattle.rtree.proofs.Lists.{ordered-left, ordered-right}
 use Rattle.rtree.proofs.Insides.{inside-first, inside-second}
 
 pub entries-append : (xs ys : List Slot) → all_entries (xs ++ ys) ≡ all_entries xs ++ all_entries ys
@@ -93,6 +94,10 @@ begins_all h (x ∷ slots) s each some read =
     let e : all_entries (x ∷ slots) ≡ x.first ∷ drop 1 (all_entries (x ∷ slots)) = begins-append x.first (slot_entries x) (all_entries slots) (All-head (IsSlot h) x slots each).summed.begins in
     subst (λ t. all_entries (x ∷ slots) ≡ t.first ∷ drop 1 (all_entries (x ∷ slots))) (sym read) e
 
+pub entries_more : (slots : List Slot) (i : ℕ) (s : Slot) → i < length slots → s ≡ get_or slots i s → all_entries (take (i + 1) slots) ≡ all_entries (take i slots) ++ slot_entries s
+entries_more slots i s within read =
+    ap all_entries (take_more slots i s within) ∙ (entries-append (take i slots) (get_or slots i s ∷ []) ∙ ap (λ x. all_entries (take i slots) ++ x) (append-nil (slot_entries (get_or slots i s)) ∙ ap slot_entries (sym read)))
+
 -- a box round some first slots and the next one
 pub covers_more : (h : ℕ) (slots : List Slot) (i : ℕ) (s : Slot) (b : Bounds) → All (IsSlot h) slots → i < length slots → s ≡ get_or slots i s → All (λ p. IsInside b p.bounds) (all_entries (take i slots)) → All (λ p. IsInside (box_round_both b s.bounds) p.bounds) (all_entries (take (i + 1) slots))
 covers_more h slots i s b each within read so_far =
@@ -100,5 +105,32 @@ covers_more h slots i s b each within read so_far =
     let old : All P (all_entries (take i slots)) = All-weaker (λ p. IsInside b p.bounds) P (λ p k. inside-first b s.bounds p.bounds k) (all_entries (take i slots)) so_far in
     let own : IsSlot h s = subst (IsSlot h) (sym read) (All-get_or (IsSlot h) slots i s within each) in
     let new : All P (slot_entries s) = All-weaker (λ p. IsInside s.bounds p.bounds) P (λ p k. inside-second b s.bounds p.bounds k) (slot_entries s) own.summed.covers in
-    let e : all_entries (take (i + 1) slots) ≡ all_entries (take i slots) ++ slot_entries s = ap all_entries (take_more slots i s within) ∙ (entries-append (take i slots) (get_or slots i s ∷ []) ∙ ap (λ x. all_entries (take i slots) ++ x) (append-nil (slot_entries (get_or slots i s)) ∙ ap slot_entries (sym read))) in
+    let e = entries_more slots i s within read in
     subst (All P) (sym e) (All-append P (all_entries (take i slots)) (slot_entries s) old new)
+
+pub entries_parts : (n : ℕ) (slots : List Slot) → all_entries (take n slots) ++ all_entries (drop n slots) ≡ all_entries slots
+entries_parts n slots = sym (entries-append (take n slots) (drop n slots)) ∙ ap all_entries (take-append-drop n slots)
+
+pub nodes_parts : (n : ℕ) (slots : List Slot) → all_nodes (take n slots) + all_nodes (drop n slots) ≡ all_nodes slots
+nodes_parts n slots = sym (nodes-append (take n slots) (drop n slots)) ∙ ap all_nodes (take-append-drop n slots)
+
+pub part_left : (h n room room' : ℕ) (slots : List Slot) → IsNode h slots room → 20 ≤ room' → IsNode h (take n slots) room'
+part_left h n room room' slots node roomy = record {
+  each = All-take (IsSlot h) n slots node.each;
+  ordered = ordered-left (all_entries (take n slots)) (all_entries (drop n slots)) (subst IsOrdered (sym (entries_parts n slots)) node.ordered);
+  roomy = roomy;
+}
+
+pub part_right : (h n room room' : ℕ) (slots : List Slot) → IsNode h slots room → 20 ≤ room' → IsNode h (drop n slots) room'
+part_right h n room room' slots node roomy = record {
+  each = All-drop (IsSlot h) n slots node.each;
+  ordered = ordered-right (all_entries (take n slots)) (all_entries (drop n slots)) (subst IsOrdered (sym (entries_parts n slots)) node.ordered);
+  roomy = roomy;
+}
+
+pub joined : (h k room room' room'' : ℕ) (low high : List Slot) → IsNode h low room → IsNode k high room' → h ≡ k → IsOrdered (all_entries low ++ all_entries high) → 20 ≤ room'' → IsNode h (low ++ high) room''
+joined h k room room' room'' low high one two same order roomy = record {
+  each = All-append (IsSlot h) low high one.each (subst (λ n. All (IsSlot n) high) (sym same) two.each);
+  ordered = subst IsOrdered (sym (entries-append low high)) order;
+  roomy = roomy;
+}

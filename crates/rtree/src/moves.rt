@@ -1,6 +1,6 @@
 //! Moves into lists with room, and between them.
 
-ghost use Rattle.std.specs.Prelude.{◌≡◌, ◌≤◌, ◌<◌, ◌+◌, [], take, drop, vec_len, vec_capacity};
+ghost use Rattle.std.specs.Prelude.{◌≡◌, ◌≤◌, ◌<◌, ◌+◌, ◌++◌, [], take, drop, vec_len, vec_capacity};
 ghost use Rattle.std.specs.List.{insert};
 
 /// Puts an item at a place of a list that has room for it.
@@ -29,4 +29,15 @@ pub(crate) fn move_tail<T: Drop>(from: &mut Vec<T>, keep: usize, to: &mut Vec<T>
             put(to, 0, item);
         }
     }
+}
+
+/// Moves all items of a list behind those of another that has room for them.
+pub(crate) fn move_all<T>(from: &mut Vec<T>, to: &mut Vec<T>)
+    requires room { vec_len to.old + vec_len from.old ≤ vec_capacity to.old }
+    ensures items { to.new.items ≡ to.old.items ++ from.old.items }
+    ensures emptied { from.new.items ≡ [] }
+    ensures capacity { vec_capacity to.old ≤ vec_capacity to.new }
+    ensures from_capacity { vec_capacity from.new ≡ vec_capacity from.old }
+{
+    let _ = to.append(from);
 }

@@ -9,7 +9,7 @@ ghost use Rattle.rtree.specs.Subtrees.{entries_of, nodes_of, IsFull, IsRoot, IsH
 use crate::boxes::round_both;
 use crate::entries::Entry;
 use crate::ids::Ids;
-use crate::moves::{move_tail, put};
+use crate::moves::{move_all, move_tail, put};
 use crate::pool::Pool;
 use crate::steps::{Ledger, Steps};
 use planar_geom::{BBox, NoMemory};
@@ -216,7 +216,7 @@ impl Node {
             height,
             slots: mut upper,
         } = other;
-        let _ = self.slots.append(&mut upper);
+        move_all(&mut upper, &mut self.slots);
         if self.slots.len() <= MOST {
             pool.give(upper);
             return None;
@@ -327,7 +327,7 @@ impl Node {
         ensures room { pool.new.room ≡ pool.old.room }
     {
         let Node { height, mut slots } = self;
-        if slots.len() > 1 || height == 1 && slots.len() == 1 {
+        if slots.len() >= least_of_root(height) {
             return Some(Node { height, slots });
         }
         let only = slots.pop();
@@ -356,6 +356,14 @@ impl Node {
         }
         Ok(())
     }
+}
+
+// The least that a root holds.
+fn least_of_root(height: usize) -> usize
+    ensures above { 1 < height → result ≡ 2 }
+    ensures leaf { height ≤ 1 → result ≡ 1 }
+{
+    if height > 1 { 2 } else { 1 }
 }
 
 ghost use Rattle.rtree.specs.Slots.{IsPlaceFor, IsThinAt, all_entries, all_nodes, IsSlot};

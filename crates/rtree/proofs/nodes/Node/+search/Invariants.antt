@@ -1,0 +1,10 @@
+use Rattle.std.proofs.Common.{◌≡◌, ◌++◌, take}
+use Rattle.rtree.specs.Pairs.{ids_meeting}
+use Rattle.rtree.specs.Slots.{all_entries}
+use Rattle.rtree.proofs.nodes.Node.+search.Given as goal
+
+abbrev pub decreases-search : goal.decreases-search
+decreases-search g l = goal.size-search g l
+
+abbrev pub invariant-loop-slot : goal.invariant-loop-slot
+invariant-loop-slot g l = l.into ≡ l.initial.into ++ ids_meeting l.b (all_entries (take l.slot-index l.slot-items))
