@@ -3,3 +3,7 @@ pub mod Lists
 pub mod Slots
 pub mod Insides
 pub mod Meetings
+pub mod Places
+pub mod Losses
+pub mod Inserts
+pub mod Children

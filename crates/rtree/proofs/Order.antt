@@ -89,3 +89,10 @@ pair_tied a b h =
 
 pub at_most-antisymm : (a b : Pair) → IsAtMost a b → IsAtMost b a → a ≡ b
 at_most-antisymm a b h k = pair_tied a b (neither (pair_cmp a b) k.not_less (sym (less_is a b) ∙ h.not_less))
+
+before_by : (a b c : Pair) → IsBefore a b → IsAtMost b c → (t : Bool) → is_lt (pair_cmp a c) ≡ t → is_lt (pair_cmp a c) ≡ true
+before_by a b c h k true e = e
+before_by a b c h k false e = absurd (before-not_at_most a b h (at_most-trans b c a k (record { not_less = e })))
+
+pub before-trans : (a b c : Pair) → IsBefore a b → IsAtMost b c → IsBefore a c
+before-trans a b c h k = record { less = before_by a b c h k (is_lt (pair_cmp a c)) refl }

@@ -5,14 +5,12 @@ mod boxes;
 mod entries;
 mod ids;
 mod moves;
-mod near;
 mod nodes;
 mod pool;
 mod steps;
 mod tree;
 
 pub use ids::Ids;
-pub use near::NearWalk;
 pub use steps::{Ledger, NoLedger, Steps, Visits};
 pub use tree::Tree;
 

@@ -1,7 +1,7 @@
 //! Nodes: each holds its slots in order, at least four unless it is the root, at most sixteen, and all
 //! leaves stand at one depth.
 
-ghost use Rattle.std.specs.Prelude.{◌≡◌, ℕ, ◌≢◌, ◌≤◌, ◌<◌, ◌+◌, ◌-◌, ◌*◌, ◌++◌, [], ◌∷◌, Some, None, true, false, min, take, drop, length, All, IfSome, MatchOption, OnOk, OnErr, vec_capacity, vec_len};
+ghost use Rattle.std.specs.Prelude.{◌≡◌, ℕ, ◌≢◌, ◌≤◌, ◌<◌, ◌+◌, ◌-◌, ◌*◌, ◌^◌, ◌++◌, [], ◌∷◌, Some, None, true, false, min, take, drop, length, All, IfSome, MatchOption, OnOk, OnErr, vec_capacity, vec_len};
 ghost use Rattle.planar_geom.specs.Points.{IsBox};
 ghost use Rattle.rtree.specs.Pairs.{IsInside, IsOrdered, IsWith, IsPut, IsPart, ids_meeting};
 ghost use Rattle.rtree.specs.Subtrees.{entries_of, nodes_of, IsFull, IsRoot, IsHalved, IsRemoved};
@@ -124,7 +124,7 @@ impl Node {
         requires roomy { 20 ≤ vec_capacity slots }
         requires halves { IsHalved low (Some high) }
         requires ordered { IsOrdered (low.entries ++ high.entries) }
-        requires fits { low.height < 64 }
+        requires fits { low.height + 1 < 2 ^ 64 }
         ensures entries { result.entries ≡ low.entries ++ high.entries }
         ensures height { result.height ≡ low.height + 1 }
         ensures nodes { result.nodes ≡ low.nodes + high.nodes + 1 }
@@ -139,6 +139,13 @@ impl Node {
 
     pub(crate) fn slots(&self) -> &[Slot] {
         self.slots.as_slice()
+    }
+
+    // How many slots the node has.
+    fn width(&self) -> usize
+        ensures { result ≡ self.now.width }
+    {
+        self.slots.len()
     }
 
     // The first entry, and the least box round all.
@@ -183,6 +190,7 @@ impl Node {
         ensures entries { self.new.entries ++ entries_of result ≡ self.old.entries }
         ensures lists { pool.new.spare + (self.new.nodes + nodes_of result) ≡ pool.old.spare + self.old.nodes }
         ensures taken { pool.old.spare ≤ pool.new.spare + 1 }
+        ensures ordered { IsOrdered self.old.entries }
         ensures room { pool.new.room ≡ pool.old.room }
         ensures root { 1 ≤ self.new.width → (1 < self.new.height → 2 ≤ self.new.width) → IsRoot self.new }
     {
@@ -244,6 +252,7 @@ impl Node {
         ensures width { min 8 self.old.width ≤ self.new.width }
         ensures entries { IsPut entry self.old.entries (self.new.entries ++ entries_of result) }
         ensures lists { pool.new.spare + (self.new.nodes + nodes_of result) ≡ pool.old.spare + self.old.nodes }
+        ensures ordered { IsOrdered (self.new.entries ++ entries_of result) }
         ensures taken { pool.old.spare ≤ pool.new.spare + self.old.height }
         ensures room { pool.new.room ≡ pool.old.room }
         ensures root { 1 ≤ self.new.width → (1 < self.new.height → 2 ≤ self.new.width) → IsRoot self.new }
@@ -253,19 +262,17 @@ impl Node {
         let place = place_for(self.slots.as_slice(), &entry);
         if self.height == 1 {
             put(&mut self.slots, place, Slot::of(entry));
-        } else {
-            let at = place.saturating_sub(1);
-            let slot = &mut self.slots[at];
-            if let Some(child) = &mut slot.below {
-                let upper = child.insert(entry, pool, steps);
-                let (first, bounds) = child.summary(steps);
-                slot.first = first;
-                slot.bounds = bounds;
-                if let Some(upper) = upper {
-                    put(&mut self.slots, at + 1, upper.into_slot(steps));
-                }
-            }
+            return self.halve(pool);
         }
+        let at = place.saturating_sub(1);
+        let slot = &mut self.slots[at];
+        let child = slot.below.as_mut()?;
+        let upper = child.insert(entry, pool, steps);
+        let (first, bounds) = child.summary(steps);
+        slot.first = first;
+        slot.bounds = bounds;
+        let upper = upper?.into_slot(steps);
+        put(&mut self.slots, at + 1, upper);
         self.halve(pool)
     }
 
@@ -306,12 +313,13 @@ impl Node {
             return false;
         }
         let (first, bounds) = child.summary(steps);
-        let thin = child.slots.len() < LEAST;
+        let width = child.width();
         slot.first = first;
         slot.bounds = bounds;
-        if thin {
-            mend(&mut self.slots, at, pool, steps);
+        if width >= LEAST {
+            return true;
         }
+        mend(&mut self.slots, at, pool, steps);
         true
     }
 

@@ -1,5 +1,9 @@
 //! A tree of boxes: a balanced tree in one order, with the least box of each subtree on the way up.
 
+ghost use Rattle.std.specs.Prelude.{◌≡◌, ◌≤◌, ◌<◌, ◌+◌, ◌*◌, ◌^◌, ◌++◌, [], true, false, length, OnOk, OnErr, MatchOption, None, Some};
+ghost use Rattle.rtree.specs.Pairs.{pair, IsWith, IsPart, ids_meeting};
+ghost use Rattle.rtree.specs.Subtrees.{IsRoot};
+
 use crate::entries::Entry;
 use crate::ids::Ids;
 use crate::nodes::Node;
@@ -7,8 +11,9 @@ use crate::pool::Pool;
 use crate::steps::{Ledger, Steps};
 use planar_geom::{BBox, NoMemory};
 use std::alloc::Global;
+use std::marker::Model;
 
-/// Pairs of a box and a number.
+/// Pairs of a box and a number, each as often as it was added.
 #[derive(Drop)]
 pub struct Tree {
     root: Option<Node>,
@@ -19,9 +24,23 @@ pub struct Tree {
     lists: usize,
 }
 
+impl Model for Tree {
+    ghost use Rattle.rtree.specs.Trees.{Seen, seen, IsTree};
+
+    ghost Value = { Seen };
+
+    ghost view = { λ t. seen t.root t.len t.lists };
+
+    ghost invariant = { λ t. IsTree t.root t.pool t.len t.lists };
+}
+
 impl Tree {
     /// No pair yet. What is reserved takes its memory from `alloc`.
-    pub fn new(alloc: Global) -> Tree {
+    pub fn new(alloc: Global) -> Tree
+        ensures pairs { result.pairs ≡ [] }
+        ensures spare { result.spare ≡ 0 }
+        ensures depth { result.depth ≡ 0 }
+    {
         Tree {
             root: None,
             pool: Pool::new(alloc),
@@ -30,9 +49,17 @@ impl Tree {
         }
     }
 
-    /// Makes room for at least so many more pairs.
-    pub fn reserve(&mut self, extra: usize) -> Result<(), NoMemory> {
-        let Some(wanted) = extra.checked_add(self.len + 1) else {
+    /// Makes room for at least `extra` more pairs.
+    pub fn reserve(&mut self, extra: usize) -> Result<(), NoMemory>
+        ensures spare { OnOk result (extra ≤ self.new.spare) }
+        ensures kept { self.old.spare ≤ self.new.spare }
+        ensures pairs { self.new.pairs ≡ self.old.pairs }
+        ensures depth { self.new.depth ≡ self.old.depth }
+    {
+        let Some(pairs) = self.len.checked_add(extra) else {
+            return Err(NoMemory);
+        };
+        let Some(wanted) = pairs.checked_add(1) else {
             return Err(NoMemory);
         };
         self.pool.reserve(wanted)?;
@@ -43,53 +70,55 @@ impl Tree {
         Ok(())
     }
 
-    /// Adds a pair.
-    pub fn insert<L: Ledger>(&mut self, b: BBox, id: u32, steps: &mut Steps<L>) {
+    /// Adds a pair, for which there is room, so that one less fits then. It visits at most
+    /// 40 times one node more than there are levels.
+    pub fn insert<L: Ledger>(&mut self, b: BBox, id: u32, steps: &mut Steps<L>)
+        requires { 1 ≤ self.old.spare }
+        ensures pairs { IsWith (pair b id) self.old.pairs self.new.pairs }
+        ensures spare { self.new.spare + 1 ≡ self.old.spare }
+        ensures levels { 2 ^ self.old.depth ≤ 2 * length self.old.pairs + 1 }
+        ensures cost { steps.new.count ≤ steps.old.count + 40 * (self.old.depth + 1) }
+    {
         let entry = Entry::of(b, id);
         self.len += 1;
         let root = match self.root.take() {
             None => Node::leaf(self.pool.take(), entry),
-            Some(mut root) => match root.insert(entry, &mut self.pool, steps) {
-                None => root,
-                Some(upper) => Node::over(self.pool.take(), root, upper, steps),
-            },
+            Some(root) => grown(root, entry, &mut self.pool, steps),
         };
         self.root = Some(root);
     }
 
-    /// Takes one such pair out; false exactly where there is none.
-    pub fn remove<L: Ledger>(&mut self, b: BBox, id: u32, steps: &mut Steps<L>) -> bool {
-        let Some(root) = &mut self.root else {
-            return false;
-        };
-        if !root.remove(&Entry::of(b, id), &mut self.pool, steps) {
-            return false;
-        }
-        self.len -= 1;
-        if let Some(root) = self.root.take() {
-            self.root = root.settled(&mut self.pool);
-        }
-        true
-    }
-
-    /// Appends the numbers of exactly the pairs whose box meets `b`.
+    /// Appends the numbers of exactly the pairs whose box meets `b`. Where memory wants, some of them
+    /// stand behind the old ones.
     pub fn search<L: Ledger>(
         &self,
         b: &BBox,
         into: &mut Ids,
         steps: &mut Steps<L>,
-    ) -> Result<(), NoMemory> {
+    ) -> Result<(), NoMemory>
+        ensures ok { OnOk result (into.new ≡ into.old ++ ids_meeting b.now self.now.pairs) }
+        ensures err { OnErr result (IsPart into.old into.new (ids_meeting b.now self.now.pairs)) }
+    {
         match &self.root {
             None => Ok(()),
             Some(root) => root.search(b, into, steps),
         }
     }
+}
 
-    pub(crate) fn root(&self) -> Option<&Node> {
-        self.root.as_ref()
-    }
-
-    pub(crate) fn allocator(&self) -> Global {
-        self.pool.allocator()
+// A root with an entry more.
+fn grown<L: Ledger>(mut root: Node, entry: Entry, pool: &mut Pool, steps: &mut Steps<L>) -> Node
+    requires root { IsRoot root }
+    requires spare { root.height < pool.old.spare }
+    requires fits { root.height + 1 < 2 ^ 64 }
+    ensures root { IsRoot result }
+    ensures entries { IsWith entry root.entries result.entries }
+    ensures lists { pool.new.spare + result.nodes ≡ pool.old.spare + root.nodes }
+    ensures room { pool.new.room ≡ pool.old.room }
+    ensures cost { steps.new.count ≤ steps.old.count + (3 * root.height + 2) }
+{
+    match root.insert(entry, pool, steps) {
+        None => root,
+        Some(upper) => Node::over(pool.take(), root, upper, steps),
     }
 }
