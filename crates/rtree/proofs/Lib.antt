@@ -7,3 +7,6 @@ pub mod Places
 pub mod Losses
 pub mod Inserts
 pub mod Children
+pub mod Mends
+pub mod Mended
+pub mod Shrinks

@@ -1,6 +1,6 @@
 -- The pairs of a box and a number that a tree holds, their order, and what is asked of them.
 use Rattle.std.specs.Prelude.{ℕ, ◌≡◌, ◌≤◌, ◌<◌, ◌+◌, ◌*◌, ◌==◌, ◌≤ℤ◌, Bool, true, false, List, [], ◌∷◌, ◌++◌, map, length, All}
-use Rattle.std.specs.List.{filter}
+use Rattle.std.specs.List.{filter, Contains}
 use Rattle.std.specs.declared.cmp.Ordering.{Ordering}
 use Rattle.std.specs.Ordering.{nat_cmp, int_cmp, on, then_cmp, is_lt}
 use Rattle.planar_geom.specs.Points.{Point, Bounds, boxes_meet, box_dist2}
@@ -51,6 +51,11 @@ pub record IsPut (p : Pair) (small large : List Pair) : Type 0 where
   pub there : IsWith p small large
   pub below : All (λ q. IsAtMost q p) there.front
   pub above : All (IsAtMost p) there.back
+
+-- what taking a pair out answers: it was there and is gone, or there was none and all is as before
+abbrev pub IsTaken : Bool → Pair → List Pair → List Pair → Type 0
+IsTaken true p old new = IsWith p new old
+IsTaken false p old new = (Contains old p → ⊥) × (new ≡ old)
 
 -- the inner box is one, and the outer holds it
 pub record IsInside (outer inner : Bounds) : Type 0 where

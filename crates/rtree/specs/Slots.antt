@@ -2,7 +2,7 @@
 use Rattle.std.specs.Prelude.{ℕ, ◌≡◌, ◌≢◌, ◌≤◌, ◌<◌, ◌+◌, ◌-◌, Option, Some, None, IfSome, List, [], ◌∷◌, ◌++◌, length, drop, All, flat_map, slice_index_or}
 use Rattle.rtree.specs.declared.nodes.Slot.{Slot}
 use Rattle.rtree.specs.Pairs.{Pair, IsBefore, IsAtMost, IsOrdered, IsInside}
-use Rattle.rtree.specs.Subtrees.{Subtree, entries_at, height_of, nodes_of, IsFull}
+use Rattle.rtree.specs.Subtrees.{Subtree, entries_at, height_of, nodes_of, width_of, IsFull}
 
 -- the entries of a slot
 abbrev pub slot_entries : Slot → List Pair
@@ -58,3 +58,17 @@ pub record IsThinAt (height : ℕ) (slots : List Slot) (at : ℕ) : Type 0 where
   pub thin : (d : Slot) → IsThin height (slice_index_or slots at d)
   pub others : (k : ℕ) (d : Slot) → k < length slots → k ≢ at → IsSlot height (slice_index_or slots k d)
   pub ordered : IsOrdered (all_entries slots)
+
+-- a slot, and perhaps another
+abbrev pub slots_of : Slot → Option Slot → List Slot
+slots_of s None = s ∷ []
+slots_of s (Some t) = s ∷ t ∷ []
+
+-- two slots side by side above leaves, one of them over a node that has lost a slot too many
+pub record IsThinPair (height : ℕ) (low high : Slot) : Type 0 where
+  pub above : 2 ≤ height
+  pub low_summed : IsSummed height low
+  pub high_summed : IsSummed height high
+  pub least : 7 ≤ width_of low.below + width_of high.below
+  pub most : width_of low.below + width_of high.below ≤ 20
+  pub ordered : IsOrdered (all_entries (low ∷ high ∷ []))

@@ -24,6 +24,11 @@ abbrev pub nodes_of : Option Subtree → ℕ
 nodes_of None = 0
 nodes_of (Some n) = n.nodes
 
+-- how many slots there are
+abbrev pub width_of : Option Subtree → ℕ
+width_of None = 0
+width_of (Some n) = n.width
+
 -- how many levels there are
 abbrev pub height_of : Option Subtree → ℕ
 height_of None = 0

@@ -1,7 +1,7 @@
 //! Nodes: each holds its slots in order, at least four unless it is the root, at most sixteen, and all
 //! leaves stand at one depth.
 
-ghost use Rattle.std.specs.Prelude.{◌≡◌, ℕ, ◌≢◌, ◌≤◌, ◌<◌, ◌+◌, ◌-◌, ◌*◌, ◌^◌, ◌++◌, [], ◌∷◌, Some, None, true, false, min, take, drop, length, All, IfSome, MatchOption, OnOk, OnErr, vec_capacity, vec_len};
+ghost use Rattle.std.specs.Prelude.{◌≡◌, ℕ, ◌≢◌, ◌≤◌, ◌<◌, ◌+◌, ◌-◌, ◌⊎◌, ◌*◌, ◌^◌, ◌++◌, [], ◌∷◌, Some, None, true, false, min, take, drop, length, All, IfSome, MatchOption, OnOk, OnErr, vec_capacity, vec_len};
 ghost use Rattle.planar_geom.specs.Points.{IsBox};
 ghost use Rattle.rtree.specs.Pairs.{IsInside, IsOrdered, IsWith, IsPut, IsPart, ids_meeting};
 ghost use Rattle.rtree.specs.Subtrees.{entries_of, nodes_of, IsFull, IsRoot, IsHalved, IsRemoved};
@@ -301,13 +301,16 @@ impl Node {
             return false;
         }
         let at = place - 1;
-        let slot = &mut self.slots[at];
-        let Some(child) = &mut slot.below else {
-            if slot.first.is_before(entry) {
+        if self.height == 1 {
+            if self.slots[at].first.is_before(entry) {
                 return false;
             }
             let _ = self.slots.remove(at);
             return true;
+        }
+        let slot = &mut self.slots[at];
+        let Some(child) = slot.below.as_mut() else {
+            unreachable!()
         };
         if !child.remove(entry, pool, steps) {
             return false;
@@ -328,7 +331,7 @@ impl Node {
     pub(crate) fn settled(self, pool: &mut Pool) -> Option<Node>
         requires some { 1 < self.height → 1 ≤ self.width }
         requires most { self.width ≤ 16 }
-        requires room { pool.old.spare < pool.old.room }
+        requires room { pool.old.spare + self.nodes ≤ pool.old.room }
         ensures root { IfSome result IsRoot }
         ensures entries { entries_of result ≡ self.entries }
         ensures lists { pool.new.spare + nodes_of result ≡ pool.old.spare + self.nodes }
@@ -374,7 +377,7 @@ fn least_of_root(height: usize) -> usize
     if height > 1 { 2 } else { 1 }
 }
 
-ghost use Rattle.rtree.specs.Slots.{IsPlaceFor, IsThinAt, all_entries, all_nodes, IsSlot};
+ghost use Rattle.rtree.specs.Slots.{IsPlaceFor, IsThinAt, IsThinPair, slots_of, all_entries, all_nodes, IsSlot};
 
 // How many slots begin with an entry that is not after the given one.
 fn place_for(slots: &[Slot], entry: &Entry) -> usize
@@ -388,7 +391,17 @@ fn place_for(slots: &[Slot], entry: &Entry) -> usize
     slots.len()
 }
 
-// Brings the node at a slot together with a neighbour: one node of both, where there is room, or two halves.
+// The place of a slot, or that before it where no other slot stands behind.
+fn first_of_two(at: usize, len: usize) -> usize
+    requires within { at < len }
+    requires two { 2 ≤ len }
+    ensures place { (result ≡ at) ⊎ (result + 1 ≡ at) }
+    ensures pair { result + 1 < len }
+{
+    if at + 1 < len { at } else { at - 1 }
+}
+
+// Brings the node at a slot, which has lost a slot too many, together with a neighbour.
 fn mend<L: Ledger>(slots: &mut Vec<Slot>, at: usize, pool: &mut Pool, steps: &mut Steps<L>)
     requires thin { (height : ℕ) × IsThinAt height slots.old.items at }
     requires room { pool.old.spare < pool.old.room }
@@ -401,15 +414,42 @@ fn mend<L: Ledger>(slots: &mut Vec<Slot>, at: usize, pool: &mut Pool, steps: &mu
     ensures room { pool.new.room ≡ pool.old.room }
     ensures cost { steps.new.count ≤ steps.old.count + 3 }
 {
-    let left = if at + 1 < slots.len() { at } else { at - 1 };
+    let left = first_of_two(at, slots.len());
     let high = slots.remove(left + 1);
     let low = slots.remove(left);
+    let (low, high) = merged(low, high, pool, steps);
+    put(slots, left, low);
+    if let Some(high) = high {
+        put(slots, left + 1, high);
+    }
+}
+
+// The nodes of two slots together: one node of both, where there is room, or two halves.
+fn merged<L: Ledger>(
+    low: Slot,
+    high: Slot,
+    pool: &mut Pool,
+    steps: &mut Steps<L>,
+) -> (Slot, Option<Slot>)
+    requires pair { (height : ℕ) × IsThinPair height low high }
+    requires room { pool.old.spare < pool.old.room }
+    ensures slots { (height : ℕ) → IsThinPair height low high → All (IsSlot height) (slots_of result.0 result.1) }
+    ensures entries { all_entries (slots_of result.0 result.1) ≡ all_entries (low ∷ high ∷ []) }
+    ensures lists { pool.new.spare + all_nodes (slots_of result.0 result.1) ≡ pool.old.spare + all_nodes (low ∷ high ∷ []) }
+    ensures room { pool.new.room ≡ pool.old.room }
+    ensures cost { steps.new.count ≤ steps.old.count + 3 }
+{
     steps.tick();
-    if let (Some(mut low), Some(high)) = (low.below, high.below) {
-        let upper = low.join(high, pool);
-        put(slots, left, low.into_slot(steps));
-        if let Some(upper) = upper {
-            put(slots, left + 1, upper.into_slot(steps));
-        }
+    let Some(mut node) = low.below else {
+        unreachable!()
+    };
+    let Some(other) = high.below else {
+        unreachable!()
+    };
+    let upper = node.join(other, pool);
+    let low = node.into_slot(steps);
+    match upper {
+        None => (low, None),
+        Some(upper) => (low, Some(upper.into_slot(steps))),
     }
 }

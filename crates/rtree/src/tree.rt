@@ -1,8 +1,8 @@
 //! A tree of boxes: a balanced tree in one order, with the least box of each subtree on the way up.
 
-ghost use Rattle.std.specs.Prelude.{◌≡◌, ◌≤◌, ◌<◌, ◌+◌, ◌*◌, ◌^◌, ◌++◌, [], true, false, length, OnOk, OnErr, MatchOption, None, Some};
-ghost use Rattle.rtree.specs.Pairs.{pair, IsWith, IsPart, ids_meeting};
-ghost use Rattle.rtree.specs.Subtrees.{IsRoot};
+ghost use Rattle.std.specs.Prelude.{◌≡◌, ◌≤◌, ◌<◌, ◌+◌, ◌*◌, ◌^◌, ◌++◌, [], true, false, length, OnOk, OnErr, IfSome, None, Some, if◌then◌else◌};
+ghost use Rattle.rtree.specs.Pairs.{pair, IsWith, IsTaken, IsPart, ids_meeting};
+ghost use Rattle.rtree.specs.Subtrees.{entries_of, nodes_of, IsRoot};
 
 use crate::entries::Entry;
 use crate::ids::Ids;
@@ -88,6 +88,25 @@ impl Tree {
         self.root = Some(root);
     }
 
+    /// Takes one such pair out; false exactly where there is none, and all is then as before. It visits at
+    /// most 40 times one node more than there are levels.
+    pub fn remove<L: Ledger>(&mut self, b: BBox, id: u32, steps: &mut Steps<L>) -> bool
+        ensures taken { IsTaken result (pair b id) self.old.pairs self.new.pairs }
+        ensures spare { self.new.spare ≡ (if result then self.old.spare + 1 else self.old.spare) }
+        ensures levels { 2 ^ self.old.depth ≤ 2 * length self.old.pairs + 1 }
+        ensures cost { steps.new.count ≤ steps.old.count + 40 * (self.old.depth + 1) }
+    {
+        let Some(root) = self.root.take() else {
+            return false;
+        };
+        let (root, removed) = shrunk(root, &Entry::of(b, id), &mut self.pool, steps);
+        self.root = root;
+        if removed {
+            self.len -= 1;
+        }
+        removed
+    }
+
     /// Appends the numbers of exactly the pairs whose box meets `b`. Where memory wants, some of them
     /// stand behind the old ones.
     pub fn search<L: Ledger>(
@@ -120,5 +139,28 @@ fn grown<L: Ledger>(mut root: Node, entry: Entry, pool: &mut Pool, steps: &mut S
     match root.insert(entry, pool, steps) {
         None => root,
         Some(upper) => Node::over(pool.take(), root, upper, steps),
+    }
+}
+
+// What is left of a root without such an entry, and whether there was one.
+fn shrunk<L: Ledger>(
+    mut root: Node,
+    entry: &Entry,
+    pool: &mut Pool,
+    steps: &mut Steps<L>,
+) -> (Option<Node>, bool)
+    requires root { IsRoot root }
+    requires room { pool.old.spare + root.nodes ≤ pool.old.room }
+    ensures root { IfSome result.0 IsRoot }
+    ensures taken { IsTaken result.1 entry.now root.entries (entries_of result.0) }
+    ensures lists { pool.new.spare + nodes_of result.0 ≡ pool.old.spare + root.nodes }
+    ensures room { pool.new.room ≡ pool.old.room }
+    ensures same { result.1 ≡ false → result.0 ≡ Some root }
+    ensures cost { steps.new.count ≤ steps.old.count + 5 * root.height }
+{
+    if root.remove(entry, pool, steps) {
+        (root.settled(pool), true)
+    } else {
+        (Some(root), false)
     }
 }
