@@ -1,5 +1,5 @@
 -- What a tree is seen as.
-use Rattle.std.specs.Prelude.{ℕ, ◌≡◌, ◌≤◌, ◌+◌, ◌-◌, Option, Some, None, IfSome, List, length}
+use Rattle.std.specs.Prelude.{ℕ, ◌≡◌, ◌≤◌, ◌<◌, ◌+◌, ◌-◌, Option, Some, None, IfSome, List, length}
 use Rattle.rtree.specs.Pairs.{Pair}
 use Rattle.rtree.specs.Subtrees.{Subtree, Stock, entries_of, nodes_of, height_of, IsRoot}
 
@@ -18,5 +18,5 @@ pub record IsTree (root : Option Subtree) (pool : Stock) (pairs lists : ℕ) : T
   pub whole : IfSome root IsRoot
   pub pairs_are : pairs ≡ length (entries_of root)
   pub lists_are : lists ≡ pool.spare + nodes_of root
-  pub enough : pairs ≤ lists
+  pub enough : 1 ≤ pairs → pairs < lists
   pub room : lists ≤ pool.room

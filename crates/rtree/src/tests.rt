@@ -1,55 +1,114 @@
-//! The tree beside a plain list of pairs.
+//! The tree beside a plain list of pairs, and how many nodes searches visit.
 
-use crate::{Ids, NearWalk, Steps, Tree, Visits};
+use crate::{Ids, NoLedger, Steps, Tree, Visits};
 use planar_geom::{BBox, Pt};
 use std::alloc::Global;
 use std::process::Abort;
 
-fn point(rt: &impl Abort, x: u32, y: u32) -> Pt {
-    Pt::of(i64::from(x), i64::from(y)).expect(rt, "a point")
-}
-
-fn bounds(rt: &impl Abort, x: u32, y: u32, side: u32) -> BBox {
+fn square(rt: &impl Abort, x: u32, y: u32, side: u16) -> BBox {
+    let low = Pt::of(i64::from(x), i64::from(y));
     let high = Pt::of(
         i64::from(x) + i64::from(side),
         i64::from(y) + i64::from(side),
     );
-    BBox::of(point(rt, x, y), high.expect(rt, "a point")).expect(rt, "a box")
+    BBox::of(low.expect(rt, "a point"), high.expect(rt, "a point")).expect(rt, "a box")
+}
+
+fn is_same(a: BBox, b: BBox) -> bool {
+    let (a_low, b_low, a_high, b_high) = (a.min(), b.min(), a.max(), b.max());
+    a_low.x() == b_low.x()
+        && a_low.y() == b_low.y()
+        && a_high.x() == b_high.x()
+        && a_high.y() == b_high.y()
+}
+
+// The plain program: takes one such pair out of a list.
+fn take_out(list: &mut Vec<(BBox, u32)>, b: BBox, id: u32) -> bool {
+    for i in 0..list.len() {
+        let (bounds, number) = list[i];
+        if number == id && is_same(bounds, b) {
+            let _ = list.swap_remove(i);
+            return true;
+        }
+    }
+    false
+}
+
+// How many pairs meet a box, and the sum of their numbers.
+fn met(list: &Vec<(BBox, u32)>, b: BBox) -> (usize, u64) {
+    let mut count = 0usize;
+    let mut sum = 0u64;
+    for (bounds, id) in list {
+        if bounds.meets(b) {
+            count = count.wrapping_add(1);
+            sum = sum.wrapping_add(u64::from(*id));
+        }
+    }
+    (count, sum)
+}
+
+fn found(rt: &impl Abort, alloc: Global, tree: &Tree, b: BBox) -> (usize, u64) {
+    let mut ids = Ids::new(alloc);
+    let searched = tree.search(&b, &mut ids, &mut Steps::new(NoLedger));
+    assert!(rt; searched.is_ok(), "searched");
+    let mut sum = 0u64;
+    for i in 0..ids.len() {
+        sum = sum.wrapping_add(u64::from(ids.at(i)));
+    }
+    (ids.len(), sum)
 }
 
 #[test]
-fn grid(rt: HostRuntime) {
+fn keeps_a_list(rt: HostRuntime) {
     let alloc = rt.alloc();
     let mut tree = Tree::new(alloc);
-    let mut steps = Steps::new(Visits::new());
-    assert!(rt; tree.reserve(10_000).is_ok());
+    let mut list = Vec::new(alloc);
+    let mut steps = Steps::new(NoLedger);
+    for n in 0..600u32 {
+        let b = square(&rt, n * 7 % 40, n * 11 % 30, (n % 3) as u16);
+        let id = n % 5;
+        if n % 3 == 2 {
+            let other = square(&rt, n * 5 % 40, n * 3 % 30, (n % 2) as u16);
+            let removed = tree.remove(other, id, &mut steps);
+            assert_eq!(rt; removed, take_out(&mut list, other, id));
+            assert_eq!(rt; tree.remove(b, id, &mut steps), take_out(&mut list, b, id));
+        } else if tree.reserve(1).is_ok() && list.push((b, id)).is_ok() {
+            tree.insert(b, id, &mut steps);
+        }
+        let window = square(&rt, n % 40, n % 30, 4);
+        assert_eq!(rt; found(&rt, alloc, &tree, window), met(&list, window));
+    }
+    for n in 0..600u32 {
+        let b = square(&rt, n * 7 % 40, n * 11 % 30, (n % 3) as u16);
+        let removed = tree.remove(b, n % 5, &mut steps);
+        assert_eq!(rt; removed, take_out(&mut list, b, n % 5));
+    }
+    assert_eq!(rt; list.len(), 0);
+    assert_eq!(rt; found(&rt, alloc, &tree, square(&rt, 0, 0, 100)), (0, 0));
+}
+
+#[test]
+fn visits_few_nodes(rt: HostRuntime) {
+    let alloc = rt.alloc();
+    let mut tree = Tree::new(alloc);
+    let mut steps = Steps::new(NoLedger);
     for i in 0..100u32 {
         for j in 0..100u32 {
-            tree.insert(bounds(&rt, 10 * i, 10 * j, 0), 100 * i + j, &mut steps);
+            if tree.reserve(1).is_ok() {
+                tree.insert(square(&rt, 10 * i, 10 * j, 0), 100 * i + j, &mut steps);
+            }
         }
     }
-    let mut searches = Steps::new(Visits::new());
-    let mut walks = Steps::new(Visits::new());
+    let mut visits = Steps::new(Visits::new());
+    let mut ids = Ids::new(alloc);
     for m in 0..1000u32 {
-        let n = 10 * m;
-        let (x, y) = (10 * (n / 100), 10 * (n % 100));
-        let mut ids = Ids::new(alloc);
-        assert!(rt; tree.search(&bounds(&rt, x, y, 0), &mut ids, &mut searches).is_ok());
-        assert_eq!(rt; ids.len(), 1);
-        let walk = NearWalk::of(&tree, point(&rt, x, y));
-        let Ok(mut walk) = walk else {
-            panic!(rt; "a walk");
-        };
-        assert!(rt; walk.next(&mut ids, &mut walks) == Ok(Some(0)));
-        assert_eq!(rt; ids.len(), 2);
+        let place = square(&rt, 10 * (m / 10), 100 * (m % 10), 0);
+        assert!(rt; tree.search(&place, &mut ids, &mut visits).is_ok());
     }
-    let _ = rt.println(searches.ledger().count());
-    let _ = rt.println(walks.ledger().count());
-    let _ = rt.println(steps.ledger().count());
-    for n in 0..10_000u32 {
-        let b = bounds(&rt, 10 * (n / 100), 10 * (n % 100), 0);
-        assert!(rt; !tree.remove(b, n + 1, &mut steps));
-        assert!(rt; tree.remove(b, n, &mut steps));
-    }
-    let _ = rt.println(steps.ledger().count());
+    assert_eq!(rt; ids.len(), 1000);
+    let count = visits.ledger().count();
+    assert!(rt; count <= 300_000);
+    let _ = rt.println(count);
+    ids.clear();
+    assert!(rt; ids.is_empty());
 }

@@ -1,5 +1,6 @@
-use Rattle.std.proofs.Common.{rules, ◌≡◌, ℕ, ◌+◌, ◌-◌, ◌≤◌, ◌<◌, ◌++◌, [], ◌∷◌, Option, Some, None, List, length, take, drop, get_or, set, slice_set, vec_capacity, set-get_or, refl, arith, ap, sym, ◌∙◌, subst, All}
+use Rattle.std.proofs.Common.{rules, ◌≡◌, ℕ, ◌+◌, ◌-◌, ◌≤◌, ◌<◌, ◌++◌, [], ◌∷◌, Option, Some, None, List, length, take, drop, get_or, set, slice_set, vec_capacity, refl, arith, ap, sym, ◌∙◌, subst, All}
 use Rattle.std.specs.List.{Contains, remove}
+use Rattle.std.proofs.lemmas.List.{set-get_or}
 use Rattle.std.proofs.lemmas.List.Elements.{All-get_or}
 use Rattle.rtree.specs.declared.nodes.Slot.{Slot}
 use Rattle.rtree.specs.Pairs.{Pair, IsWith, IsOrdered}
