@@ -86,10 +86,7 @@ inner_nodes slots new at s within read =
     let old : all_nodes slots ≡ all_nodes a + (nodes_of s.below + all_nodes c) = sym (ap all_nodes whole) ∙ nodes-append a (s ∷ c) in
     omega (arith, old, nodes-middle a new c)
 
--- the slot over a node with its first entry and a box that holds all
-pub over : Pair → Bounds → Subtree → Slot
-over first box n = record { first = first; bounds = box; below = Some n }
-
+-- the slot over a node with its first entry and a box that holds all is one
 pub made_slot : (h : ℕ) (n : Subtree) (first : Pair) (box : Bounds) → n.height + 1 ≡ h → n.entries ≡ first ∷ drop 1 n.entries → All (λ p. IsInside box p.bounds) n.entries → IsFull n → IsSlot h (record { first = first; bounds = box; below = Some n })
 made_slot h n first box height begins covers full = record {
   summed = record { height_is = height; begins = begins; covers = covers; exact = λ none. absurd cc };

@@ -96,7 +96,7 @@ not_around e f a b c order low above none there =
           let low' : IsAtMost e f = All-contains (λ x. IsAtMost x f) a e (ordered-before a f (b ++ c) order) in_a in
           none (subst (λ x. Contains (f ∷ b) x) (at_most-antisymm f e low low') (0, omega arith, refl))
       | inr behind ↦ elim (Contains-append_cases (f ∷ b) c e behind) [
-          | inl in_b ↦ none in_b
-          | inr in_c ↦ before-not_at_most e e (All-contains (IsBefore e) c e above in_c) (at_most-refl e)
-        ]
+        | inl in_b ↦ none in_b
+        | inr in_c ↦ before-not_at_most e e (All-contains (IsBefore e) c e above in_c) (at_most-refl e)
+      ]
     ]

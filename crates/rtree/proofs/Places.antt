@@ -55,9 +55,9 @@ high_past slots p k past = subst (λ xs. All (IsBefore p) (all_entries xs)) (sym
 
 pub high_part : (h room : ℕ) (slots : List Slot) (p : Pair) (k : ℕ) (d : Slot) → IsNode h slots room → IsPlaceFor slots p k → All (IsBefore p) (all_entries (drop k slots))
 high_part h room slots p k d node place = elim (cases_lt k (length slots)) [
-    | inl within ↦ high_within h room slots p k d node place within
-    | inr past ↦ high_past slots p k past
-  ]
+  | inl within ↦ high_within h room slots p k d node place within
+  | inr past ↦ high_past slots p k past
+]
 
 -- some slots in the middle are replaced by others, with a pair more
 pub grown-entries : (p : Pair) (a m n c : List Slot) → IsPut p (all_entries m) (all_entries n) → All (λ q. IsAtMost q p) (all_entries a) → All (IsBefore p) (all_entries c) → IsPut p (all_entries (a ++ (m ++ c))) (all_entries (a ++ (n ++ c)))

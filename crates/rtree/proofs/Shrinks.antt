@@ -49,9 +49,9 @@ leaf_shrinks h room room' slots p at s node within read none first roomy =
     let w = shrunk-entries p a (s ∷ []) [] c one in
     let old = subst (λ xs. IsNode h xs room) (sym whole) node in
     let all : Shrinks h p slots (a ++ c) room' = record {
-          node = shrunk-node h room room' p a (s ∷ []) [] c old (All-nil (IsSlot h)) w roomy;
-          there = subst (λ xs. IsWith p (all_entries (a ++ c)) (all_entries xs)) whole w;
-        } in
+      node = shrunk-node h room room' p a (s ∷ []) [] c old (All-nil (IsSlot h)) w roomy;
+      there = subst (λ xs. IsWith p (all_entries (a ++ c)) (all_entries xs)) whole w;
+    } in
     subst (λ n. Shrinks h p slots (a ++ drop n slots) room') (add-one at) all
 
 pub leaf_less : (slots : List Slot) (at : ℕ) (s : Slot) → at < length slots → s ≡ get_or slots at s → s.below ≡ None → all_nodes (remove slots at) ≡ all_nodes slots

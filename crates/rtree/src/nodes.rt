@@ -54,7 +54,6 @@ impl Model for Node {
     ghost size = { λ n. n.height };
 
     ghost use Rattle.rtree.specs.Falls.{no_deeper};
-
     ghost use Rattle.std.proofs.Common.{arith};
 
     ghost size_decreases = { λ n h. omega (arith, no_deeper n.height n.slots.items h.each) };
@@ -74,27 +73,6 @@ impl Slot {
             bounds: entry.bounds(),
             below: None,
         }
-    }
-
-    /// The first entry, or the one entry.
-    pub(crate) fn first(&self) -> Entry
-        ensures { result ≡ self.now.first }
-    {
-        self.first
-    }
-
-    /// The box round all entries.
-    pub(crate) fn bounds(&self) -> BBox
-        ensures { result ≡ self.now.bounds }
-    {
-        self.bounds
-    }
-
-    /// The node, where it is not one entry.
-    pub(crate) fn below(&self) -> Option<&Node>
-        ensures { MatchOption result (self.now.below ≡ None) (λ n. self.now.below ≡ Some n.now) }
-    {
-        self.below.as_ref()
     }
 }
 
@@ -135,10 +113,6 @@ impl Node {
         slots.push_reserved(low.into_slot(steps));
         slots.push_reserved(high.into_slot(steps));
         Node { height, slots }
-    }
-
-    pub(crate) fn slots(&self) -> &[Slot] {
-        self.slots.as_slice()
     }
 
     // How many slots the node has.
@@ -268,9 +242,9 @@ impl Node {
         let slot = &mut self.slots[at];
         let child = slot.below.as_mut()?;
         let upper = child.insert(entry, pool, steps);
-        let (first, bounds) = child.summary(steps);
-        slot.first = first;
-        slot.bounds = bounds;
+        let (least, around) = child.summary(steps);
+        slot.first = least;
+        slot.bounds = around;
         let upper = upper?.into_slot(steps);
         put(&mut self.slots, at + 1, upper);
         self.halve(pool)

@@ -22,5 +22,5 @@ loop-from-preserved-in-Some g c =
       moved = c.put.ensures.items ∙ (ap (λ xs. c.in-Some.item ∷ xs) inv.moved ∙ sym (tail_more init c.loop-from.from.items c.pop.new.self.items n m c.in-Some.item (search rules) more inv.kept c.in-Some.ensures.items));
       whole = search rules;
       from_room = search rules;
-      to_room = search rules
+      to_room = search rules;
     }

@@ -8,7 +8,7 @@ invariant-loop-from g l = record {
   moved : l.to.items ≡ drop (vec_len l.from) l.fn.from.items;
   whole : vec_len l.to + vec_len l.from ≡ vec_len l.fn.from;
   from_room : vec_capacity l.fn.from ≤ vec_capacity l.from;
-  to_room : vec_capacity l.fn.to ≤ vec_capacity l.to
+  to_room : vec_capacity l.fn.to ≤ vec_capacity l.to;
 }
 
 abbrev pub decreases-loop-from : goal.decreases-loop-from

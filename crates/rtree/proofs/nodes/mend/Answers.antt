@@ -143,4 +143,3 @@ returns-in_default-clause-lists g c =
     let e2 = ap (λ o. all_nodes (slots_of r0 o)) r1 in
     let e3 = ap all_nodes (same_pair left slots low high within is_low is_high) in
     omega (arith, e1, e2, e3, c.merged-low.ensures.lists, mended_nodes left slots (slots_of r0 (None)) low within)
-

@@ -20,7 +20,7 @@ pub returns-then-is_before : goal.returns-then-is_before
 returns-then-is_before c = record {
   within = search rules;
   before = c.loop-i.invariant;
-  behind = λ d _. next c.args.slots.now c.args.entry.now c.index-slots-i.result c.loop-i.i c.loop-i-test.true c.index-slots-i.is (sym c.is_before.ensures ∙ c.if-is_before.true) d
+  behind = λ d _. next c.args.slots.now c.args.entry.now c.index-slots-i.result c.loop-i.i c.loop-i-test.true c.index-slots-i.is (sym c.is_before.ensures ∙ c.if-is_before.true) d;
 }
 
 pub returns : goal.returns
@@ -29,5 +29,5 @@ returns c =
     record {
       within = search rules;
       before = subst (λ k. (d : Slot) → 0 < k → IsAtMost (slice_index_or c.args.slots.now (k - 1) d).first c.args.entry.now) end c.loop-i.invariant;
-      behind = λ d h. absurd (omega arith)
+      behind = λ d h. absurd (omega arith);
     }

@@ -418,4 +418,3 @@ returns-clause-lists g t0 c =
     let level : m.height + 1 ≡ h = omega (arith, child.height, c.remove-2.ensures.height) in
     let w : IsWith e m.entries n.entries = c.if-not-remove.ensures.removed in
     omega (arith, whole_nodes at items s t within read, own, nodes, c.remove-2.ensures.lists, c.mend.ensures.lists)
-

@@ -8,7 +8,7 @@ pub returns-then-len-least_of_root-clause-root : goal.returns-then-len-least_of_
 returns-then-len-least_of_root-clause-root c =
     let wide : length c.self.inside.slots.items ≡ c.args.self.width = ap (λ (v : Subtree). v.width) c.self.view_is in
     let some : 1 ≤ c.least_of_root.result = elim (cases_lt 1 c.self.inside.height) [
-          | inl above ↦ omega (arith, c.least_of_root.ensures.above above)
-          | inr leaf ↦ omega (arith, c.least_of_root.ensures.leaf leaf)
-        ] in
+      | inl above ↦ omega (arith, c.least_of_root.ensures.above above)
+      | inr leaf ↦ omega (arith, c.least_of_root.ensures.leaf leaf)
+    ] in
     root_of c.self.inside.height c.self.inside.slots.items c.self.invariant.each (omega arith) (λ h. omega (arith, c.least_of_root.ensures.above h)) (omega arith)

@@ -26,5 +26,5 @@ returns g c =
       begins = begins_all h items c.index-first.result.now each some c.index-first.ensures;
       covers = subst (λ xs. All (λ p. IsInside c.loop-slot.bounds p.bounds) (all_entries xs)) c.deref-slot-items.ensures.value all;
       full = λ least most. full_of h items each least most;
-      cost = omega arith
+      cost = omega arith;
     })

@@ -8,7 +8,7 @@ invariant-loop-self l = record {
   pairs : l.self-inside.len ≡ l.initial.self-inside.len;
   tree : IsTree l.self-inside.root l.self-inside.pool l.self-inside.len l.self-inside.lists;
   room : l.wanted ≤ l.self-inside.pool.room;
-  more : l.initial.self-inside.lists ≤ l.self-inside.lists
+  more : l.initial.self-inside.lists ≤ l.self-inside.lists;
 }
 
 abbrev pub decreases-loop-self : goal.decreases-loop-self
