@@ -54,7 +54,6 @@ impl Model for Node {
     ghost size = { λ n. n.height };
 
     ghost use Rattle.rtree.specs.Falls.{no_deeper};
-
     ghost use Rattle.std.proofs.Common.{arith};
 
     ghost size_decreases = { λ n h. omega (arith, no_deeper n.height n.slots.items h.each) };
@@ -99,7 +98,7 @@ impl Slot {
 }
 
 impl Node {
-    ghost use Rattle.rtree.specs.Slots.{IsSlot};
+    ghost use Rattle.rtree.specs.Slots.{IsSlot, all_entries, all_nodes};
 
     /// A leaf of one entry.
     pub(crate) fn leaf(mut slots: Vec<Slot>, entry: Entry) -> Node
@@ -137,7 +136,12 @@ impl Node {
         Node { height, slots }
     }
 
-    pub(crate) fn slots(&self) -> &[Slot] {
+    /// The slots.
+    pub(crate) fn slots(&self) -> &[Slot]
+        ensures each { All (IsSlot self.now.height) result.now }
+        ensures entries { self.now.entries ≡ all_entries result.now }
+        ensures nodes { self.now.nodes ≡ all_nodes result.now + 1 }
+    {
         self.slots.as_slice()
     }
 
