@@ -101,7 +101,7 @@ fn give<'a, L: Ledger>(
 {
     let mut found = None;
     while let Some(nearest) = take_due(waiting, found) {
-        match nearest.met {
+        match &nearest.met {
             Met::One(entry) => {
                 into.push(entry.id())?;
                 found = Some(nearest.distance);
