@@ -1,12 +1,11 @@
 -- What a walk by distance has met, and what it gives.
-use Rattle.std.proofs.Common.{◌≡◌, ℕ, ◌+◌, ◌<◌, ◌≤◌, ◌∙◌, refl, sym, ap, subst, Option, Some, None, List, [], ◌∷◌, ◌++◌, length, map, take, get_or, append_assoc, append-nil, length-append, All, arith, Bor, true, Result, Ok, Err}
-use Rattle.std.specs.List.{sum_by}
+use Rattle.std.proofs.Common.{◌≡◌, ℕ, ◌+◌, ◌<◌, ◌≤◌, ◌∙◌, refl, sym, ap, subst, Option, Some, None, List, [], ◌∷◌, ◌++◌, length, take, get_or, append_assoc, append-nil, length-append, All, arith, Bor, true, Result, Ok, Err}
 use Rattle.std.specs.Result.{is_ok, OnOk}
 use Rattle.std.specs.List.Sorted.{IsPermutation}
 use Rattle.std.specs.BinaryHeap.{IsHeap}
 use Rattle.std.proofs.lemmas.List.{take_more, map-append}
 use Rattle.std.proofs.lemmas.List.Elements.{All-nil, All-cons, All-head, All-tail, All-append, All-weaker}
-use Rattle.std.proofs.lemmas.List.Sorted.{All-permutation, length_permutation, sum_by_pushed, sum_by_popped, IsPermutation-refl, IsPermutation-sym, IsPermutation-trans, IsPermutation-append_left, IsPermutation-append_right, IsPermutation-append_comm, IsPermutation-pop_more}
+use Rattle.std.proofs.lemmas.List.Sorted.{All-permutation, length_permutation, sum_by_pushed, sum_by_popped, IsPermutation-refl, IsPermutation-trans, IsPermutation-append_left, IsPermutation-append_right, IsPermutation-append_comm, IsPermutation-pop_more}
 use Rattle.planar_geom.specs.Points.{Point, box_dist2}
 use Rattle.rtree.specs.declared.nodes.Slot.{Slot}
 use Rattle.rtree.specs.declared.waiting.Met.{Met}
@@ -15,7 +14,7 @@ use Rattle.rtree.specs.declared.waiting.Waiting.{Waiting}
 use Rattle.rtree.specs.Pairs.{Pair, IsInside, ids}
 use Rattle.rtree.specs.Subtrees.{Subtree, entries_at, nodes_of}
 use Rattle.rtree.specs.Slots.{slot_entries, all_entries, all_nodes, IsSlot}
-use Rattle.rtree.specs.Near.{nearest_first, met_pairs, met_nodes, pairs_of, nodes_in, IsNear, IsQueue, IsTop, IsDue, IsUndue, IsGiving, IsNearest, IsAnswer, IsCutOff}
+use Rattle.rtree.specs.Near.{nearest_first, met_pairs, met_nodes, pairs_of, nodes_in, IsNear, IsQueue, IsTop, IsDue, IsUndue, IsGiving, IsAnswer, IsCutOff}
 use Rattle.rtree.proofs.Insides.{nearer-outer}
 use Rattle.rtree.proofs.Slots.{entries_more, nodes-append}
 use Rattle.rtree.proofs.Swaps.{flat_map-permutation}
@@ -45,9 +44,9 @@ found_moved (Some d) from old now new before after h f =
         whole = IsPermutation-trans old (g.given ++ now) (g.given ++ new) g.whole (IsPermutation-append_right g.given now new h);
         alike = g.alike;
         no_nearer = All-permutation (λ p. d ≤ box_dist2 from p.bounds) now new h g.no_nearer;
-        put = g.put
+        put = g.put;
       };
-      some = f.some
+      some = f.some;
     }
 
 -- one more pair is given, of those nearest
@@ -58,9 +57,9 @@ found_one None from old now rest p n before after more f taken there due least p
     whole = IsPermutation-trans old now (p ∷ rest) f.0 taken;
     alike = All-cons (λ q. box_dist2 from q.bounds ≡ n) p [] (sym there) (All-nil (λ q. box_dist2 from q.bounds ≡ n));
     no_nearer = least;
-    put = put ∙ ap (λ x. x ++ p.id ∷ []) f.1
+    put = put ∙ ap (λ x. x ++ p.id ∷ []) f.1;
   };
-  some = omega arith
+  some = omega arith;
 }
 found_one (Some d) from old now rest p n before after more f taken there due least put =
     let g = f.giving in
@@ -73,9 +72,9 @@ found_one (Some d) from old now rest p n before after more f taken there due lea
         whole = IsPermutation-pop_more old g.given now rest p g.whole taken;
         alike = All-append (λ q. box_dist2 from q.bounds ≡ n) g.given (p ∷ []) alike (All-cons (λ q. box_dist2 from q.bounds ≡ n) p [] (sym there) (All-nil (λ q. box_dist2 from q.bounds ≡ n)));
         no_nearer = least;
-        put = put ∙ (ap (λ x. x ++ p.id ∷ []) g.put ∙ (append_assoc before (ids g.given) (p.id ∷ []) ∙ ap (λ x. before ++ x) (sym (map-append (λ (q : Pair). q.id) g.given (p ∷ [])))))
+        put = put ∙ (ap (λ x. x ++ p.id ∷ []) g.put ∙ (append_assoc before (ids g.given) (p.id ∷ []) ∙ ap (λ x. before ++ x) (sym (map-append (λ (q : Pair). q.id) g.given (p ∷ [])))));
       };
-      some = omega (arith, long)
+      some = omega (arith, long);
     }
 
 -- a bound on the distances of what waits is one on those of its pairs
@@ -101,7 +100,7 @@ found_all (Some d) from old ws left before after f near h =
     let moved : IsPartly d from old (pairs_of left) before after = subst (λ x. IsPartly d from old x before after) same f in record {
       giving = moved.giving;
       some = moved.some;
-      farther = subst (All (λ p. d < box_dist2 from p.bounds)) same (far (λ n. d < n) (λ m k l e. omega (arith, l, e)) from ws h.0 near)
+      farther = subst (All (λ p. d < box_dist2 from p.bounds)) same (far (λ n. d < n) (λ m k l e. omega (arith, l, e)) from ws h.0 near);
     }
 
 -- where the walk is cut off, what was found was given
@@ -114,8 +113,8 @@ found_part None from old now before after f = record {
     whole = f.0;
     alike = All-nil (λ p. box_dist2 from p.bounds ≡ 0);
     no_nearer = λ k d h. omega arith;
-    put = f.1 ∙ sym (append-nil before)
-  }
+    put = f.1 ∙ sym (append-nil before);
+  };
 }
 found_part (Some d) from old now before after f = record { distance = d; others = now; giving = f.giving }
 
@@ -126,7 +125,7 @@ nothing_found from old before = (IsPermutation-refl old, refl)
 pub queue_more : (from : Point) (w : Waiting) (old new : List Waiting) → IsQueue from old → IsNear from w → IsPermutation (w ∷ old) new → (IsHeap nearest_first old → IsHeap nearest_first new) → IsQueue from new
 queue_more from w old new q near more keeps = record {
   heap = keeps q.heap;
-  near = All-permutation (IsNear from) (w ∷ old) new more (All-cons (IsNear from) w old near q.near)
+  near = All-permutation (IsNear from) (w ∷ old) new more (All-cons (IsNear from) w old near q.near);
 }
 
 -- the queue without its first
@@ -138,6 +137,10 @@ queue_less found from w old new q top =
 -- the pairs of what waits, in another order
 pub pairs_moved : (xs ys : List Waiting) → IsPermutation xs ys → IsPermutation (pairs_of xs) (pairs_of ys)
 pairs_moved xs ys h = flat_map-permutation (λ (w : Waiting). met_pairs w.met) xs ys h
+
+-- what was taken out and the others have the pairs of all
+pub pairs_popped : (w : Waiting) (m : Met) (old new : List Waiting) → w.met ≡ m → IsPermutation old (w ∷ new) → IsPermutation (pairs_of old) (met_pairs m ++ pairs_of new)
+pairs_popped w m old new is taken = subst (λ n. IsPermutation (pairs_of old) (met_pairs n ++ pairs_of new)) is (pairs_moved old (w ∷ new) taken)
 
 pub nodes_pushed : (w : Waiting) (xs ys : List Waiting) → IsPermutation (w ∷ xs) ys → nodes_in ys ≡ met_nodes w.met + nodes_in xs
 nodes_pushed w xs ys h = sum_by_pushed (λ (v : Waiting). met_nodes v.met) w xs ys h
@@ -170,12 +173,30 @@ covered from h s slot =
 pub near_one : (from : Point) (h : ℕ) (s : Slot) → IsSlot h s → s.below ≡ None → IsNear from (record { distance = box_dist2 from s.bounds; met = One s.first })
 near_one from h s slot none = record {
   least = subst (All (λ p. box_dist2 from s.bounds ≤ box_dist2 from p.bounds)) (ap (entries_at s.first) none) (covered from h s slot);
-  exact = λ p e. let first : s.first ≡ p = cc in ap (box_dist2 from) (slot.summed.exact none ∙ ap (λ (q : Pair). q.bounds) first)
+  exact = λ p e. let first : s.first ≡ p = cc in ap (box_dist2 from) (slot.summed.exact none ∙ ap (λ (q : Pair). q.bounds) first);
 }
 
 -- the entries below a node are no nearer than the box of its slot
 pub near_below : (from : Point) (h : ℕ) (s : Slot) (n : Bor Subtree) → IsSlot h s → s.below ≡ Some n.now → IsNear from (record { distance = box_dist2 from s.bounds; met = Below n })
 near_below from h s n slot some = record {
   least = subst (All (λ p. box_dist2 from s.bounds ≤ box_dist2 from p.bounds)) (ap (entries_at s.first) some) (covered from h s slot);
-  exact = λ p e. absurd cc
+  exact = λ p e. absurd cc;
 }
+
+-- an empty queue
+pub queue_none : (from : Point) (ws : List Waiting) → IsHeap nearest_first ws → ws ≡ [] → IsQueue from ws
+queue_none from ws h e = record { heap = h; near = subst (All (IsNear from)) (sym e) (All-nil (IsNear from)) }
+
+-- nothing is nearer than no distance
+pub near_root : (from : Point) (n : Bor Subtree) → IsNear from (record { distance = 0; met = Below n })
+near_root from n = record {
+  least = λ k d h. omega arith;
+  exact = λ p e. absurd cc;
+}
+
+pub only_one : (w : Waiting) (ws : List Waiting) → IsPermutation (w ∷ []) ws → ws ≡ w ∷ []
+only_one w [] h = absurd (omega (arith, length_permutation (w ∷ []) [] h))
+only_one w (v ∷ []) h =
+    let same : v ≡ w = All-head (λ (u : Waiting). u ≡ w) v [] (All-permutation (λ u. u ≡ w) (w ∷ []) (v ∷ []) h (All-cons (λ (u : Waiting). u ≡ w) w [] refl (All-nil (λ (u : Waiting). u ≡ w)))) in
+    ap (λ u. u ∷ []) same
+only_one w (v ∷ u ∷ us) h = absurd (omega (arith, length_permutation (w ∷ []) (v ∷ u ∷ us) h))

@@ -1,6 +1,6 @@
 //! Walks through a tree's pairs by rising distance from a point.
 
-ghost use Rattle.std.specs.Prelude.{◌≡◌, ◌+◌, ◌++◌, ℕ, true, false, [], OnOk, OnErr, IfOk, IfErr, IsErr, MatchOption, is_err};
+ghost use Rattle.std.specs.Prelude.{◌≡◌, ◌+◌, ◌++◌, ℕ, true, false, OnOk, OnErr, IfOk, IsErr, MatchOption, is_err};
 ghost use Rattle.std.specs.BinaryHeap.{heap_items, IsHeap};
 ghost use Rattle.std.specs.List.Sorted.{IsPermutation};
 ghost use Rattle.rtree.specs.Subtrees.{nodes_of};

@@ -1,10 +1,10 @@
-use Rattle.std.proofs.Common.{◌≡◌, ℕ, ◌+◌, ◌<◌, ◌≤◌, ◌∷◌, ◌++◌, [], subst, sym, ap, ◌∙◌, arith, length}
+use Rattle.std.proofs.Common.{◌≡◌, ◌≤◌, ◌∷◌, ◌++◌, [], subst, ap, arith}
 use Rattle.std.specs.BinaryHeap.{heap_items}
 use Rattle.std.specs.List.Sorted.{IsPermutation}
 use Rattle.std.proofs.lemmas.List.Sorted.{IsPermutation-trans, length_permutation}
 use Rattle.std.proofs.lemmas.Result.{err_from_is_err_and}
-use Rattle.rtree.specs.Near.{met_pairs, met_nodes, pairs_of, nodes_in}
-use Rattle.rtree.proofs.Nears.{far, found_one, found_moved, found_all, found_part, queue_less, pairs_moved, nodes_popped}
+use Rattle.rtree.specs.Near.{met_nodes, pairs_of}
+use Rattle.rtree.proofs.Nears.{far, found_one, found_moved, found_all, found_part, queue_less, pairs_popped, nodes_popped}
 use Rattle.rtree.proofs.near.give.Goals as goal
 
 pub returns-in_err-push-in-One-clause-err : goal.returns-in_err-push-in-One-clause-err
@@ -19,7 +19,7 @@ loop-nearest-smaller-in-One g c =
     let old = heap_items c.loop-nearest.waiting in
     let new = heap_items c.take_due.new.waiting in
     let top = c.in-Some.ensures in
-    let pairs : IsPermutation (pairs_of old) (c.in-One.entry ∷ pairs_of new) = subst (λ m. IsPermutation (pairs_of old) (met_pairs m ++ pairs_of new)) c.in-One.is (pairs_moved old (w ∷ new) top.taken) in
+    let pairs : IsPermutation (pairs_of old) (c.in-One.entry ∷ pairs_of new) = pairs_popped w _ old new c.in-One.is top.taken in
     omega (arith, length_permutation (pairs_of old) (c.in-One.entry ∷ pairs_of new) pairs, nodes_popped w old new top.taken)
 
 pub loop-nearest-preserved-in-One : goal.loop-nearest-preserved-in-One
@@ -31,11 +31,12 @@ loop-nearest-preserved-in-One g c =
     let new = heap_items c.take_due.new.waiting in
     let top = c.in-Some.ensures in
     let q = queue_less found from w old new c.loop-nearest.invariant.queue top in
-    let pairs : IsPermutation (pairs_of old) (c.in-One.entry ∷ pairs_of new) = subst (λ m. IsPermutation (pairs_of old) (met_pairs m ++ pairs_of new)) c.in-One.is (pairs_moved old (w ∷ new) top.taken) in
+    let pairs : IsPermutation (pairs_of old) (c.in-One.entry ∷ pairs_of new) = pairs_popped w _ old new c.in-One.is top.taken in
     let least = far (λ n. w.distance ≤ n) (λ m k l e. omega (arith, l, e)) from new top.nearest q.0.near in
-    let put = c.in_ok-push-in-One.ensures.ok ∙ ap (λ n. c.loop-nearest.into ++ n ∷ []) c.id.ensures in record {
+    let id = c.in-One.entry.id in
+    let put : c.push.new.self ≡ c.loop-nearest.into ++ id ∷ [] = subst (λ n. c.push.new.self ≡ c.loop-nearest.into ++ n ∷ []) c.id.ensures c.in_ok-push-in-One.ensures.ok in record {
       queue = q.0;
-      found = found_one found from (pairs_of (heap_items c.args.waiting.now)) (pairs_of old) (pairs_of new) c.in-One.entry w.distance c.args.into.now c.loop-nearest.into c.push.new.self c.loop-nearest.invariant.found pairs (q.1.exact c.in-One.entry c.in-One.is) top.due least put
+      found = found_one found from (pairs_of (heap_items c.args.waiting.now)) (pairs_of old) (pairs_of new) c.in-One.entry w.distance c.args.into.now c.loop-nearest.into c.push.new.self c.loop-nearest.invariant.found pairs (q.1.exact c.in-One.entry c.in-One.is) top.due least put;
     }
 
 pub open-requires : goal.open-requires
@@ -51,7 +52,7 @@ loop-nearest-smaller g c =
     let new = heap_items c.take_due.new.waiting in
     let opened = heap_items c.open.new.waiting in
     let top = c.in-Some.ensures in
-    let pairs : IsPermutation (pairs_of old) (n.entries ++ pairs_of new) = subst (λ m. IsPermutation (pairs_of old) (met_pairs m ++ pairs_of new)) c.in-Below.is (pairs_moved old (w ∷ new) top.taken) in
+    let pairs : IsPermutation (pairs_of old) (n.entries ++ pairs_of new) = pairs_popped w _ old new c.in-Below.is top.taken in
     let all = IsPermutation-trans (pairs_of old) (n.entries ++ pairs_of new) (pairs_of opened) pairs c.in_ok-open-in-Below.ensures.pairs in
     let nodes : met_nodes w.met ≡ n.nodes = ap met_nodes c.in-Below.is in
     omega (arith, length_permutation (pairs_of old) (pairs_of opened) all, nodes_popped w old new top.taken, nodes, c.in_ok-open-in-Below.ensures.nodes)
@@ -63,10 +64,10 @@ loop-nearest-preserved g c =
     let old = heap_items c.loop-nearest.waiting in
     let new = heap_items c.take_due.new.waiting in
     let opened = heap_items c.open.new.waiting in
-    let pairs : IsPermutation (pairs_of old) (n.entries ++ pairs_of new) = subst (λ m. IsPermutation (pairs_of old) (met_pairs m ++ pairs_of new)) c.in-Below.is (pairs_moved old (w ∷ new) c.in-Some.ensures.taken) in
+    let pairs : IsPermutation (pairs_of old) (n.entries ++ pairs_of new) = pairs_popped w _ old new c.in-Below.is c.in-Some.ensures.taken in
     let all = IsPermutation-trans (pairs_of old) (n.entries ++ pairs_of new) (pairs_of opened) pairs c.in_ok-open-in-Below.ensures.pairs in record {
       queue = c.in_ok-open-in-Below.ensures.queue;
-      found = found_moved c.loop-nearest.found c.args.from (pairs_of (heap_items c.args.waiting.now)) (pairs_of old) (pairs_of opened) c.args.into.now c.loop-nearest.into all c.loop-nearest.invariant.found
+      found = found_moved c.loop-nearest.found c.args.from (pairs_of (heap_items c.args.waiting.now)) (pairs_of old) (pairs_of opened) c.args.into.now c.loop-nearest.into all c.loop-nearest.invariant.found;
     }
 
 pub returns-in_err-open-in-Below-clause-err : goal.returns-in_err-open-in-Below-clause-err

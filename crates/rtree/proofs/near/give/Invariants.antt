@@ -7,7 +7,7 @@ use Rattle.rtree.proofs.near.give.Given as goal
 abbrev pub invariant-loop-nearest : goal.invariant-loop-nearest
 invariant-loop-nearest g l = record {
   queue : IsQueue l.from (heap_items l.waiting);
-  found : IsFound l.found l.from (pairs_of (heap_items l.initial.waiting)) (pairs_of (heap_items l.waiting)) l.initial.into l.into
+  found : IsFound l.found l.from (pairs_of (heap_items l.initial.waiting)) (pairs_of (heap_items l.waiting)) l.initial.into l.into;
 }
 
 abbrev pub decreases-loop-nearest : goal.decreases-loop-nearest

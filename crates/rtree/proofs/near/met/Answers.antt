@@ -1,4 +1,3 @@
-use Rattle.std.proofs.Common.{◌≡◌}
 use Rattle.rtree.proofs.Nears.{near_one, near_below}
 use Rattle.rtree.proofs.near.met.Goals as goal
 use Rattle.rtree.proofs.near.met.Goals.{in-None, in-Some}

@@ -1,10 +1,10 @@
-use Rattle.std.proofs.Common.{◌≡◌, ℕ, ◌+◌, ◌≤◌, ◌∷◌, ◌++◌, subst, sym, ap, ◌∙◌, take, All, arith, length}
+use Rattle.std.proofs.Common.{◌≡◌, ◌∷◌, ◌++◌, subst, sym, ap, ◌∙◌, take, arith}
 use Rattle.std.specs.BinaryHeap.{heap_items, IsHeap}
 use Rattle.std.specs.List.Sorted.{IsPermutation}
 use Rattle.std.proofs.lemmas.List.{take_all}
 use Rattle.std.proofs.lemmas.List.Sorted.{IsPermutation-refl}
 use Rattle.rtree.specs.Slots.{all_entries, all_nodes}
-use Rattle.rtree.specs.Near.{nearest_first, pairs_of, nodes_in}
+use Rattle.rtree.specs.Near.{nearest_first, pairs_of}
 use Rattle.rtree.proofs.Nears.{kept_promise, queue_more, opened_more, nodes_more, nodes_pushed}
 use Rattle.rtree.proofs.near.open.Goals as goal
 
@@ -12,7 +12,7 @@ pub loop-slot-init : goal.loop-slot-init
 loop-slot-init c = record {
   queue = c.requires.queue;
   pairs = IsPermutation-refl _;
-  nodes = omega arith
+  nodes = omega arith;
 }
 
 pub loop-slot-preserved : goal.loop-slot-preserved
@@ -28,7 +28,7 @@ loop-slot-preserved c =
     let keeps : IsHeap nearest_first old → IsHeap nearest_first new = kept_promise c.push.result (IsHeap nearest_first old → IsHeap nearest_first new) ok c.push.ensures.heap_order in record {
       queue = queue_more c.args.from w old new c.loop-slot.invariant.queue c.met.ensures.near more keeps;
       pairs = opened_more items i s w (pairs_of (heap_items c.args.waiting.now)) old new c.loop-slot-test.true c.slot-item.is c.met.ensures.pairs more c.loop-slot.invariant.pairs;
-      nodes = omega (arith, nodes_pushed w old new more, nodes_more items i s c.loop-slot-test.true c.slot-item.is, c.met.ensures.nodes, c.loop-slot.invariant.nodes)
+      nodes = omega (arith, nodes_pushed w old new more, nodes_more items i s c.loop-slot-test.true c.slot-item.is, c.met.ensures.nodes, c.loop-slot.invariant.nodes);
     }
 
 pub returns-clause-queue : goal.returns-clause-queue

@@ -9,5 +9,5 @@ abbrev pub invariant-loop-slot : goal.invariant-loop-slot
 invariant-loop-slot l = record {
   queue : IsQueue l.from (heap_items l.waiting);
   pairs : IsPermutation (all_entries (take l.slot-index l.slot-items) ++ pairs_of (heap_items l.initial.waiting)) (pairs_of (heap_items l.waiting));
-  nodes : nodes_in (heap_items l.waiting) ≡ nodes_in (heap_items l.initial.waiting) + all_nodes (take l.slot-index l.slot-items)
+  nodes : nodes_in (heap_items l.waiting) ≡ nodes_in (heap_items l.initial.waiting) + all_nodes (take l.slot-index l.slot-items);
 }
