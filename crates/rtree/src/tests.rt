@@ -34,10 +34,7 @@ fn grid(rt: HostRuntime) {
         let n = 10 * m;
         let (x, y) = (10 * (n / 100), 10 * (n % 100));
         let mut ids = Ids::new(alloc);
-        assert!(rt;
-            tree.search(&bounds(&rt, x, y, 0), &mut ids, &mut searches)
-                .is_ok()
-        );
+        assert!(rt; tree.search(&bounds(&rt, x, y, 0), &mut ids, &mut searches).is_ok());
         assert_eq!(rt; ids.len(), 1);
         let walk = NearWalk::of(&tree, point(&rt, x, y));
         let Ok(mut walk) = walk else {
