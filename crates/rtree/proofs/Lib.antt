@@ -10,3 +10,5 @@ pub mod Children
 pub mod Mends
 pub mod Mended
 pub mod Shrinks
+pub mod Swaps
+pub mod Nears

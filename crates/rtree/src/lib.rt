@@ -5,12 +5,15 @@ mod boxes;
 mod entries;
 mod ids;
 mod moves;
+mod near;
 mod nodes;
 mod pool;
 mod steps;
 mod tree;
+mod waiting;
 
 pub use ids::Ids;
+pub use near::NearWalk;
 pub use steps::{Ledger, NoLedger, Steps, Visits};
 pub use tree::Tree;
 

@@ -74,10 +74,31 @@ impl Slot {
             below: None,
         }
     }
+
+    /// The first entry, or the one entry.
+    pub(crate) fn first(&self) -> Entry
+        ensures { result ≡ self.now.first }
+    {
+        self.first
+    }
+
+    /// The box round all entries.
+    pub(crate) fn bounds(&self) -> BBox
+        ensures { result ≡ self.now.bounds }
+    {
+        self.bounds
+    }
+
+    /// The node, where it is not one entry.
+    pub(crate) fn below(&self) -> Option<&Node>
+        ensures { MatchOption result (self.now.below ≡ None) (λ n. self.now.below ≡ Some n.now) }
+    {
+        self.below.as_ref()
+    }
 }
 
 impl Node {
-    ghost use Rattle.rtree.specs.Slots.{IsSlot};
+    ghost use Rattle.rtree.specs.Slots.{IsSlot, all_entries, all_nodes};
 
     /// A leaf of one entry.
     pub(crate) fn leaf(mut slots: Vec<Slot>, entry: Entry) -> Node
@@ -113,6 +134,15 @@ impl Node {
         slots.push_reserved(low.into_slot(steps));
         slots.push_reserved(high.into_slot(steps));
         Node { height, slots }
+    }
+
+    /// The slots.
+    pub(crate) fn slots(&self) -> &[Slot]
+        ensures each { All (IsSlot self.now.height) result.now }
+        ensures entries { self.now.entries ≡ all_entries result.now }
+        ensures nodes { self.now.nodes ≡ all_nodes result.now + 1 }
+    {
+        self.slots.as_slice()
     }
 
     // How many slots the node has.

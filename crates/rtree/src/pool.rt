@@ -36,6 +36,10 @@ impl Pool {
         }
     }
 
+    pub(crate) fn allocator(&self) -> Global {
+        self.alloc
+    }
+
     /// Takes one list out.
     pub(crate) fn take(&mut self) -> Vec<Slot>
         requires { 1 ≤ self.old.spare }

@@ -1,7 +1,7 @@
 //! The tree beside a plain list of pairs, and how many nodes searches visit.
 
-use crate::{Ids, NoLedger, Steps, Tree, Visits};
-use planar_geom::{BBox, Pt};
+use crate::{Ids, NearWalk, NoLedger, Steps, Tree, Visits};
+use planar_geom::{BBox, Pt, box_dist2};
 use std::alloc::Global;
 use std::process::Abort;
 
@@ -58,6 +58,17 @@ fn found(rt: &impl Abort, alloc: Global, tree: &Tree, b: BBox) -> (usize, u64) {
     (ids.len(), sum)
 }
 
+// How many pairs stand at a squared distance from a point.
+fn standing_at(list: &Vec<(BBox, u32)>, p: Pt, distance: u64) -> usize {
+    let mut count = 0usize;
+    for (bounds, _) in list {
+        if box_dist2(p, *bounds) == distance {
+            count = count.wrapping_add(1);
+        }
+    }
+    count
+}
+
 #[test]
 fn keeps_a_list(rt: HostRuntime) {
     let alloc = rt.alloc();
@@ -88,6 +99,35 @@ fn keeps_a_list(rt: HostRuntime) {
 }
 
 #[test]
+fn walks_by_distance(rt: HostRuntime) {
+    let alloc = rt.alloc();
+    let mut tree = Tree::new(alloc);
+    let mut list = Vec::new(alloc);
+    let mut steps = Steps::new(NoLedger);
+    for n in 0..80u32 {
+        let b = square(&rt, n * 7 % 40, n * 11 % 30, (n % 3) as u16);
+        if tree.reserve(1).is_ok() && list.push((b, n)).is_ok() {
+            tree.insert(b, n, &mut steps);
+        }
+    }
+    let from = square(&rt, 17, 11, 0).min();
+    let Ok(mut walk) = NearWalk::of(&tree, from) else {
+        panic!(rt; "a walk");
+    };
+    let mut ids = Ids::new(alloc);
+    for distance in 0..900u64 {
+        let there = standing_at(&list, from, distance);
+        if there > 0 {
+            ids.clear();
+            let answer = walk.next(&mut ids, &mut steps);
+            assert_eq!(rt; answer.ok(), Some(Some(distance)));
+            assert_eq!(rt; ids.len(), there);
+        }
+    }
+    assert_eq!(rt; walk.next(&mut ids, &mut steps).ok(), Some(None));
+}
+
+#[test]
 fn visits_few_nodes(rt: HostRuntime) {
     let alloc = rt.alloc();
     let mut tree = Tree::new(alloc);
@@ -111,4 +151,15 @@ fn visits_few_nodes(rt: HostRuntime) {
     let _ = rt.println(count);
     ids.clear();
     assert!(rt; ids.is_empty());
+    let mut visits = Steps::new(Visits::new());
+    for m in 0..1000u32 {
+        let place = square(&rt, 10 * (m / 10), 100 * (m % 10), 0).min();
+        if let Ok(mut walk) = NearWalk::of(&tree, place) {
+            assert_eq!(rt; walk.next(&mut ids, &mut visits).ok(), Some(Some(0)));
+        }
+    }
+    assert_eq!(rt; ids.len(), 1000);
+    let count = visits.ledger().count();
+    assert!(rt; count <= 300_000);
+    let _ = rt.println(count);
 }

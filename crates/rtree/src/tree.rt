@@ -1,6 +1,6 @@
 //! A tree of boxes: a balanced tree in one order, with the least box of each subtree on the way up.
 
-ghost use Rattle.std.specs.Prelude.{◌≡◌, ◌≤◌, ◌<◌, ◌+◌, ◌*◌, ◌^◌, ◌++◌, [], true, false, length, OnOk, OnErr, IfSome, None, Some, if◌then◌else◌};
+ghost use Rattle.std.specs.Prelude.{◌≡◌, ◌≤◌, ◌<◌, ◌+◌, ◌*◌, ◌^◌, ◌++◌, [], true, false, length, OnOk, OnErr, IfSome, MatchOption, None, Some, if◌then◌else◌};
 ghost use Rattle.rtree.specs.Pairs.{pair, IsWith, IsTaken, IsPart, ids_meeting};
 ghost use Rattle.rtree.specs.Subtrees.{entries_of, nodes_of, IsRoot};
 
@@ -162,5 +162,19 @@ fn shrunk<L: Ledger>(
         (root.settled(pool), true)
     } else {
         (Some(root), false)
+    }
+}
+
+impl Tree {
+    /// The node over all others, where there is any pair.
+    pub(crate) fn root(&self) -> Option<&Node>
+        ensures { MatchOption result (self.now.pairs ≡ []) (λ n. n.now.entries ≡ self.now.pairs) }
+    {
+        self.root.as_ref()
+    }
+
+    /// What the tree takes its memory from.
+    pub(crate) fn allocator(&self) -> Global {
+        self.pool.allocator()
     }
 }
