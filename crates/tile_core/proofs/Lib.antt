@@ -3,8 +3,12 @@ mod Places
 mod Present
 mod Steps
 mod Takes
+mod Expiring
+mod DueOrder
 mod Calls
 mod Finishing
+mod Taken
+mod RecordWords
 mod Weights
 mod Answering
 mod Setting

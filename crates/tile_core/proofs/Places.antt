@@ -57,7 +57,7 @@ below o x e = (said o x _ _ refl refl).0 e
 pub equals : (o x : Object) → order_of x.key x.id o ≡ Equal → Says o x false false true
 equals o x e = (said o x _ _ refl refl).1 e
 
-above : (o x : Object) → order_of x.key x.id o ≡ Greater → Says o x false true false
+pub above : (o x : Object) → order_of x.key x.id o ≡ Greater → Says o x false true false
 above o x e = (said o x _ _ refl refl).2 e
 
 -- what holds of the places behind the first

@@ -18,10 +18,10 @@ use Rattle.world_model.specs.declared.commands.Only.{Only}
 use Rattle.world_model.specs.declared.commands.Only.TheVariants.{Any, Absent, Present}
 use Rattle.tile_core.specs.declared.objects.Place.{Place}
 use Rattle.tile_core.specs.declared.objects.Place.TheVariants.{Held, Free}
-use Rattle.tile_core.specs.Objects.{world_of, len_of, placed_at, IsPlain, ArePlain, IsPlace, IsWithin}
+use Rattle.tile_core.specs.Objects.{world_of, len_of, placed_at, HasFewFields, HaveFewFields, IsPlace, IsWithin}
 use Rattle.tile_core.specs.Plans.{keeps_back, lacks_room}
 use Rattle.tile_core.proofs.Places.{found_held, found_free}
-use Rattle.tile_core.proofs.Weights.{after_held, after_free, plain_at, weight_insert, weight_set, weighs, there}
+use Rattle.tile_core.proofs.Weights.{after_held, after_free, few_at, weight_insert, weight_set, weighs, there}
 
 -- by its tests
 
@@ -61,11 +61,11 @@ free_back Any i = refl
 free_back Absent i = refl
 free_back Present i = refl
 
-stands : (xs : List Object) (x : Object) (only : Only) → are_objects xs ≡ true → ArePlain xs → (place : Place) → IsPlace xs x.key x.id place → Stands xs x only place
+stands : (xs : List Object) (x : Object) (only : Only) → are_objects xs ≡ true → HaveFewFields xs → (place : Place) → IsPlace xs x.key x.id place → Stands xs x only place
 stands xs x only sorted plain (Held i) p = record {
   old = Some p.1.0;
   found = found_held xs x.key x.id i p.1.0 p.0 p.1.1 p.1.2;
-  bare = let is = plain_at xs i p.1.0 plain p.1.1 in is.fields;
+  bare = let is = few_at xs i p.1.0 plain p.1.1 in is.fields;
   kept_is = held_back only p.1.0 i;
   full_is = refl;
   world = after_held xs x i p.1.0 p.0 p.1.1 p.1.2;
@@ -79,7 +79,7 @@ stands xs x only sorted plain (Free i) p = record {
   world = after_free xs x i p.0 p.1 p.2;
 }
 
-module _ (xs : List Object) (x : Object) (only : Only) (now : ℕ) (sorted : are_objects xs ≡ true) (plain : ArePlain xs) (is : IsPlain x) (place : Place) (p : IsPlace xs x.key x.id place) where
+module _ (xs : List Object) (x : Object) (only : Only) (now : ℕ) (sorted : are_objects xs ≡ true) (plain : HaveFewFields xs) (is : HasFewFields x) (place : Place) (p : IsPlace xs x.key x.id place) where
   abbrev setting : Effect
   setting = effect (world_of xs) now [] (command.Set x.key x.id [] [] None only x.text x.shape)
 

@@ -1,4 +1,6 @@
+pub mod Records
 pub mod Objects
 pub mod Sessions
 pub mod Plans
+pub mod Dues
 pub mod Kernels

@@ -9,6 +9,7 @@ use Rattle.std.specs.declared.cmp.Ordering.TheVariants.{Less, Equal, Greater}
 use Rattle.byte_text.specs.Names.{Bytes}
 use Rattle.planar_geom.specs.Points.{Point}
 use Rattle.planar_geom.specs.Shapes.{all_vertices}
+use Rattle.world_model.specs.Limits.{max_fields}
 use Rattle.world_model.specs.Worlds.{has_key}
 use Rattle.world_model.specs.Records.{record_len}
 use Rattle.world_model.specs.declared.worlds.Change.TheVariants as change
@@ -27,13 +28,12 @@ world_of objects = record { objects = objects; channels = [] }
 abbrev pub len_of : Object → ℕ
 len_of o = record_len (change.Put o)
 
--- an object as it is kept so far: without fields and without a deadline
-pub record IsPlain (o : Object) : Type 0 where
-  pub fields : o.fields ≡ []
-  pub deadline : o.deadline ≡ None
+-- an object has no more fields than it may have
+abbrev pub HasFewFields : Object → Type 0
+HasFewFields o = length o.fields ≤ max_fields
 
-abbrev pub ArePlain : List Object → Type 0
-ArePlain objects = AllByRecursion IsPlain objects
+abbrev pub HaveFewFields : List Object → Type 0
+HaveFewFields objects = AllByRecursion HasFewFields objects
 
 -- how an object compares with a key and an id
 abbrev pub order_of : Bytes → Bytes → Object → Ordering
@@ -78,7 +78,7 @@ IsWithin objects (Free i) = i ≤ length objects
 -- it can be done to the list
 abbrev pub IsMove : List Object → Move → Type 0
 IsMove objects Stay = Unit {0}
-IsMove objects (Put place o) = IsWithin objects place × IsPlain o
+IsMove objects (Put place o) = IsWithin objects place × HasFewFields o
 IsMove objects (Delete i) = i < length objects
 IsMove objects (Leave key) = Unit {0}
 IsMove objects Clear = Unit {0}
@@ -90,3 +90,11 @@ HasRoom Stay len capacity = Unit {0}
 HasRoom (Delete i) len capacity = Unit {0}
 HasRoom (Leave key) len capacity = Unit {0}
 HasRoom Clear len capacity = Unit {0}
+
+-- it holds of the object that is put
+abbrev pub HoldsOfPut : (Object → Type 0) → Move → Type 0
+HoldsOfPut P (Put place o) = P o
+HoldsOfPut P Stay = Unit {0}
+HoldsOfPut P (Delete i) = Unit {0}
+HoldsOfPut P (Leave key) = Unit {0}
+HoldsOfPut P Clear = Unit {0}

@@ -6,7 +6,7 @@ ghost use Rattle.world_model.specs.Records.{weight};
 ghost use Rattle.world_model.specs.Effects.{effect};
 ghost use Rattle.world_model.specs.declared.commands.Command.TheVariants as command;
 ghost use Rattle.tile_core.specs.Kernels.{AreKept};
-ghost use Rattle.tile_core.specs.Objects.{world_of, IsPlain, len_of};
+ghost use Rattle.tile_core.specs.Objects.{world_of, HasFewFields, len_of};
 ghost use Rattle.tile_core.specs.Plans.{IsPlan};
 
 use crate::answers::{say, short_frame};
@@ -43,7 +43,7 @@ pub(crate) fn plan_del(
 
 // The length of the record of an object, where it is not of a key.
 fn len_without(object: &Object, key: &Name) -> u64
-    requires { IsPlain object.now }
+    requires { HasFewFields object.now }
     ensures value { result ≡ sum_by len_of (filter (λ o. not (has_key key.now o)) (object.now ∷ [])) }
 {
     if is_same(&object.key, key) {

@@ -4,10 +4,12 @@
 mod answers;
 mod cores;
 mod deletes;
+mod dues;
 mod objects;
 mod plans;
 mod puts;
 mod reads;
+mod ready;
 mod records;
 mod sessions;
 

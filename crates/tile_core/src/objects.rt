@@ -1,6 +1,6 @@
 //! The objects of a world as a plain list, in order of key and id.
 
-ghost use Rattle.std.specs.Prelude.{◌≡◌, ◌<◌, not, filter, vec_len, vec_capacity, OnOk};
+ghost use Rattle.std.specs.Prelude.{◌≡◌, ◌<◌, ◌≤◌, not, filter, vec_len, vec_capacity, OnOk};
 ghost use Rattle.std.specs.List.{list_any};
 ghost use Rattle.world_model.specs.Worlds.{has_key};
 ghost use Rattle.tile_core.specs.Objects.{order_of, IsPlace, IsWithin, IsMove, HasRoom, placed_at, moved};
@@ -79,6 +79,8 @@ pub(crate) fn is_key(objects: &[Object], key: &Name) -> bool
 /// Makes room in the list for what is put. For want of memory the list is as before.
 pub(crate) fn make_room(objects: &mut Vec<Object>, action: &Move) -> Result<(), NoMemory>
     ensures kept { objects.new.items ≡ objects.old.items }
+    ensures len { vec_len objects.new ≡ vec_len objects.old }
+    ensures capacity { vec_capacity objects.old ≤ vec_capacity objects.new }
     ensures room { OnOk result (HasRoom action.now (vec_len objects.new) (vec_capacity objects.new)) }
 {
     match action {

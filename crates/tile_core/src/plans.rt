@@ -90,11 +90,12 @@ fn plan_command(
     alloc: Global,
     objects: &[Object],
     total: u64,
+    now: u64,
     command: Command,
 ) -> Result<Plan, NoMemory>
     requires kept { AreKept objects.now total }
     requires served { IsServed command }
-    ensures { IfOk result (λ p. (now : ℕ) → IsPlan objects.now (effect (world_of objects.now) now [] command) p) }
+    ensures { IfOk result (λ p. IsPlan objects.now (effect (world_of objects.now) now [] command) p) }
 {
     match command {
         Command::Set {
@@ -169,33 +170,35 @@ fn plan_words(
     alloc: Global,
     objects: &[Object],
     total: u64,
+    now: u64,
     words: &Request,
 ) -> Result<Plan, NoMemory>
     requires { AreKept objects.now total }
-    ensures { IfOk result (λ p. (now : ℕ) → IsPlan objects.now (effect_of_read (world_of objects.now) now (asks words.now)) p) }
+    ensures { IfOk result (λ p. IsPlan objects.now (effect_of_read (world_of objects.now) now (asks words.now)) p) }
 {
     served_commands();
     // A request is within its limits, and so is what a refusal shows of it.
     let _count = words.words();
     match command_of(alloc, words) {
-        Ok(command) => plan_command(alloc, objects, total, command),
+        Ok(command) => plan_command(alloc, objects, total, now, command),
         Err(WordFault::Memory) => Err(NoMemory),
         Err(fault) => plan_fault(alloc, objects, total, &fault),
     }
 }
 
-/// What is asked will do this in the world of these objects, whose weight is `total`.
+/// What is asked will do this at a moment in the world of these objects, whose weight is `total`.
 pub(crate) fn plan_asked(
     alloc: Global,
     objects: &[Object],
     total: u64,
+    now: u64,
     asked: &Asked,
 ) -> Result<Plan, NoMemory>
     requires { AreKept objects.now total }
-    ensures { IfOk result (λ p. (now : ℕ) → IsPlan objects.now (effect_of_asked (world_of objects.now) now asked.now) p) }
+    ensures { IfOk result (λ p. IsPlan objects.now (effect_of_asked (world_of objects.now) now asked.now) p) }
 {
     match asked {
-        Asked::Words(words) => plan_words(alloc, objects, total, words),
+        Asked::Words(words) => plan_words(alloc, objects, total, now, words),
         Asked::Broken(fault) => plan_broken(alloc, objects, total, *fault),
     }
 }

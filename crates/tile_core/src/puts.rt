@@ -6,7 +6,7 @@ ghost use Rattle.world_model.specs.Effects.{effect};
 ghost use Rattle.world_model.specs.declared.commands.Command.TheVariants as command;
 ghost use Rattle.world_model.specs.declared.worlds.Change.TheVariants as change;
 ghost use Rattle.tile_core.specs.Kernels.{AreKept};
-ghost use Rattle.tile_core.specs.Objects.{world_of, placed_at, IsWithin, IsPlain};
+ghost use Rattle.tile_core.specs.Objects.{world_of, placed_at, IsWithin, HasFewFields};
 ghost use Rattle.tile_core.specs.Plans.{IsPlan, lacks_room, keeps_back};
 
 use crate::answers::{say, short_frame};
@@ -50,7 +50,7 @@ fn weight_after(objects: &[Object], total: u64, place: Place, object: &Object, l
     requires kept { AreKept objects.now total }
     requires within { IsWithin objects.now place }
     requires length { length ≡ record_len (change.Put object.now) }
-    requires short { length ≤ 2 ^ 63 + 1000 }
+    requires short { length ≤ 2 ^ 63 + 300000 }
     ensures { result ≡ weight (world_of (placed_at objects.now place object.now)) }
 {
     match place {
@@ -68,7 +68,7 @@ pub(crate) fn plan_set(
     object: Object,
 ) -> Result<Plan, NoMemory>
     requires kept { AreKept objects.now total }
-    requires plain { IsPlain object }
+    requires plain { HasFewFields object }
     ensures { IfOk result (λ p. (now : ℕ) → IsPlan objects.now (effect (world_of objects.now) now [] (command.Set object.key object.id [] [] None only object.text object.shape)) p) }
 {
     let place = place_of(objects, &object.key, &object.id);

@@ -8,10 +8,10 @@ use Rattle.world_model.specs.Effects.{says, within_reply, loud}
 use Rattle.world_model.specs.Records.{weight, record_len}
 use Rattle.world_model.specs.declared.objects.Object.{Object}
 use Rattle.world_model.specs.declared.worlds.Change.TheVariants as change
-use Rattle.tile_core.specs.Objects.{world_of, len_of, IsPlain, IsPlace}
+use Rattle.tile_core.specs.Objects.{world_of, len_of, HasFewFields, IsPlace}
 use Rattle.tile_core.proofs.Answering.{said, one_fits, within_changes}
 use Rattle.tile_core.proofs.Places.{found_held, found_free}
-use Rattle.tile_core.proofs.Weights.{weight_remove, weighs, plain_at}
+use Rattle.tile_core.proofs.Weights.{weight_remove, weighs, few_at}
 use Rattle.tile_core.proofs.Finishing.{read_at, within}
 use Rattle.tile_core.proofs.Removing.{del_some, del_none, deleted, keys_are}
 use Rattle.tile_core.proofs.deletes.plan_del.Goals as goal
@@ -24,7 +24,7 @@ put_len-requires c =
     let xs = c.args.objects.now in
     let p = c.in-Held.ensures.place in
     let is : c.index-objects-at.result ≡ p.1.0 = c.index-objects-at.is ∙ read_at xs c.in-Held.at p.1.0 c.index-objects-at.result p.1.1 in
-    subst IsPlain (sym is) (plain_at xs c.in-Held.at p.1.0 c.requires.plain p.1.1)
+    subst HasFewFields (sym is) (few_at xs c.in-Held.at p.1.0 c.requires.few p.1.1)
 
 pub overflow_sub-result : goal.overflow_sub-result
 overflow_sub-result c =

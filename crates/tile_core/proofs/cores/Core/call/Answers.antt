@@ -89,7 +89,7 @@ returns-clause-step c =
     let plan = subst (λ (os : List Object). IsPlan os (effect_of_asked (world_of os) m c.args.asked.now) p) c.as_slice-2.ensures.value (c.in-Ok-plan_asked.ensures m) in
     let items : c.make_move.new.objects.items ≡ moved k.objects.items p.action = c.make_move.ensures ∙ ap (λ (os : List Object). moved os p.action) c.make_room.ensures.kept in
     let now_ : c.answer.new.self ≡ answered p.frame p.closes sv.0.session = c.answer.ensures ∙ ap (answered p.frame p.closes) is in
-    let step = done k.objects.items k.now k.logged k.drawn k.sessions.items c.args.session c.args.moment c.args.asked.now c.if-self-ge-MOST_LOGGED.false c.in-Ok.at sv.0.session c.self.invariant.present.rises sv.0.here sv.0.numbered sv.1 sv.2 c.self.invariant.kept.plain p plan in
+    let step = done k.objects.items k.now k.logged k.drawn k.sessions.items c.args.session c.args.moment c.args.asked.now c.if-self-ge-MOST_LOGGED.false c.in-Ok.at sv.0.session c.self.invariant.present.rises sv.0.here sv.0.numbered sv.1 sv.2 c.self.invariant.kept.few p plan in
     let call = event.Call c.args.session c.args.moment c.args.asked.now in
     let ok = outcome.Answered called.Ok in
     subst (λ (os : List Object). Step c.args.self.now.hall call ok (hall_of os c.max-self-inside.result (k.logged + p.length) k.drawn (slice_set k.sessions.items c.in-Ok.at c.answer.new.self))) (sym items)
