@@ -9,6 +9,7 @@ mod Calls
 mod Finishing
 mod Taken
 mod RecordWords
+mod FieldOrder
 mod Weights
 mod Answering
 mod Setting

@@ -1,5 +1,5 @@
 -- What a call will do, made ready before anything is changed.
-use Rattle.std.specs.Prelude.{◌≡◌, ℕ, ◌+◌, ◌≤◌, Bool, true, false, nat_le, List, [], ◌∷◌, length, flat_map, Option, Some, None, Result, Ok, Err}
+use Rattle.std.specs.Prelude.{◌≡◌, ℕ, ◌+◌, ◌≤◌, Bool, true, false, not, nat_le, codes, slice_get, List, [], ◌∷◌, length, flat_map, Option, Some, None, Result, Ok, Err}
 use Rattle.std.specs.List.{AllByRecursion}
 use Rattle.byte_text.specs.Names.{Bytes}
 use Rattle.byte_text.specs.Replies.{frame_text}
@@ -9,7 +9,8 @@ use Rattle.planar_geom.specs.Shapes.{all_vertices, box_of_points}
 use Rattle.world_model.specs.Limits.{max_reply, max_weight, max_objects}
 use Rattle.world_model.specs.Worlds.{after}
 use Rattle.world_model.specs.Records.{record_len, weight}
-use Rattle.world_model.specs.Effects.{Effect, Deed, says, effect}
+use Rattle.world_model.specs.Filters.{Field}
+use Rattle.world_model.specs.Effects.{Effect, Deed, says, effect, changes, refuses, unless, fits, within_reply, fields_of}
 use Rattle.world_model.specs.Refusals.{fault_reply, broken_reply}
 use Rattle.world_model.specs.Served.{asks}
 use Rattle.world_model.specs.declared.worlds.World.{World}
@@ -92,6 +93,15 @@ pub record Replies (e : Effect) (frame : Bytes) : Type 0 where
 pub record Says (e : Effect) (total : ℕ) (p : Plan) : Type 0 where
   pub replies : Replies e p.frame
   pub is : p ≡ record { frame = p.frame; action = Stay; length = 0; weight = total; closes = false }
+
+-- the fields of the object that is held there
+abbrev pub fields_at : List Object → Place → List Field
+fields_at objects (Held i) = fields_of (slice_get objects i)
+fields_at objects (Free i) = []
+
+-- the object is put and this is replied, or it is refused where the world would be too heavy
+abbrev pub put_or_full : World → Object → List Piece → Bool → Effect
+put_or_full w o reply is_loud = within_reply (unless ((not (fits w (change.Put o)), refuses (codes "database is full")) ∷ []) (changes reply (record { change = change.Put o; loud = is_loud } ∷ [])))
 
 -- NX with an object held there, or XX without one
 abbrev pub keeps_back : Only → Place → Bool

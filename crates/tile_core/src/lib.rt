@@ -5,6 +5,7 @@ mod answers;
 mod cores;
 mod deletes;
 mod dues;
+mod fields;
 mod objects;
 mod plans;
 mod puts;

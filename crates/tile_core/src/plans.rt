@@ -21,7 +21,7 @@ use byte_text::{NoMemory, Request, RespFault, Text};
 use cmd_words::{command_of, served_commands};
 use reply_text::{broken_reply, fault_reply, fine_reply, status_reply};
 use std::alloc::Global;
-use world_model::{Asked, Command, Fields, Object, WordFault};
+use world_model::{Asked, Command, Object, WordFault};
 
 /// What a call will do.
 #[derive(Drop)]
@@ -101,9 +101,9 @@ fn plan_command(
         Command::Set {
             key,
             id,
-            fields: _,
-            cleared: _,
-            seconds: _,
+            fields,
+            cleared,
+            seconds,
             only,
             text,
             shape,
@@ -113,10 +113,10 @@ fn plan_command(
                 id,
                 text,
                 shape,
-                fields: Fields::new(alloc),
+                fields,
                 deadline: None,
             };
-            plan_set(alloc, objects, total, only, object)
+            plan_set(alloc, objects, total, now, seconds, &cleared, only, object)
         }
         Command::Get {
             key,
