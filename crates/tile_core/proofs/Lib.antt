@@ -10,6 +10,7 @@ mod Finishing
 mod Taken
 mod RecordWords
 mod FieldOrder
+mod Timing
 mod Weights
 mod Answering
 mod Setting

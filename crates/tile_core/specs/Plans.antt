@@ -1,5 +1,5 @@
 -- What a call will do, made ready before anything is changed.
-use Rattle.std.specs.Prelude.{◌≡◌, ℕ, ◌+◌, ◌≤◌, Bool, true, false, not, nat_le, codes, slice_get, List, [], ◌∷◌, length, flat_map, Option, Some, None, Result, Ok, Err}
+use Rattle.std.specs.Prelude.{◌≡◌, ℕ, ◌+◌, ◌≤◌, Bool, true, false, not, nat_le, codes, slice_get, is_some, if◌then◌else◌, List, [], ◌∷◌, length, flat_map, Option, Some, None, Result, Ok, Err}
 use Rattle.std.specs.List.{AllByRecursion}
 use Rattle.byte_text.specs.Names.{Bytes}
 use Rattle.byte_text.specs.Replies.{frame_text}
@@ -120,3 +120,7 @@ lacks_room objects (Free i) = nat_le max_objects (length objects)
 abbrev pub box_of_objects : List Object → Option Bounds
 box_of_objects [] = None
 box_of_objects (o ∷ objects) = Some (box_of_points (flat_map (λ p. all_vertices p.shape) (o ∷ objects)))
+
+-- the object without its deadline, where it has one
+abbrev pub without_deadline : Object → Option Object
+without_deadline o = if is_some o.deadline then Some (record o { deadline = None }) else None

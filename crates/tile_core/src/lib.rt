@@ -3,6 +3,7 @@
 
 mod answers;
 mod cores;
+mod deadlines;
 mod deletes;
 mod dues;
 mod fields;
