@@ -91,3 +91,15 @@ del_short o few =
     two : (d : Option ℕ) → length (deadline_words d) ≤ 2
     two None = omega arith
     two (Some d) = omega arith
+
+-- the record of a put is shorter where the object has no deadline
+pub bare_short : (o : Object) (m : ℕ) → o.deadline ≡ Some m → HasFewFields o → record_len (change.Put (record o { deadline = None })) ≤ record_len (change.Put o)
+bare_short o m is few =
+    let x : Object = record o { deadline = None } in
+    let count = length (record_words (change.Put x)) in
+    let more = length (record_words (change.Put o)) in
+    let below : count < 10 ^ 3 = omega (arith, put_count x, few) in
+    let head = length-decimal-le 3 count (omega arith) below (omega (arith, below)) in
+    let size : length (bulk_text (codes "AT")) ≡ length (line 36 (decimal 2)) + 4 = bulk_size (codes "AT") in
+    let words : words_len (deadline_words o.deadline) ≡ words_len (codes "AT" ∷ decimal m ∷ []) = ap (λ (d : Option ℕ). words_len (deadline_words d)) is in
+    omega (arith, put_record x count refl, put_record o more refl, head, length-append (decimal count) (13 ∷ 10 ∷ []), length-append (decimal more) (13 ∷ 10 ∷ []), size, words, words_cons (codes "AT") (decimal m ∷ []))

@@ -13,6 +13,7 @@ ghost use Rattle.tile_core.specs.Objects.{world_of};
 ghost use Rattle.tile_core.specs.Plans.{IsPlan, ends_with, effect_of_read, effect_of_asked};
 
 use crate::answers::{say, short_frame};
+use crate::deadlines::{plan_expire, plan_persist, plan_ttl};
 use crate::deletes::{plan_del, plan_drop, plan_flush};
 use crate::objects::Move;
 use crate::puts::plan_set;
@@ -126,6 +127,11 @@ fn plan_command(
         } => plan_get(alloc, objects, total, &key, &id, with_fields, shown),
         Command::Del { key, id } => plan_del(alloc, objects, total, &key, &id),
         Command::Drop { key } => plan_drop(alloc, objects, total, key),
+        Command::Expire { key, id, seconds } => {
+            plan_expire(alloc, objects, total, now, &key, &id, seconds)
+        }
+        Command::Persist { key, id } => plan_persist(alloc, objects, total, &key, &id),
+        Command::Ttl { key, id } => plan_ttl(alloc, objects, total, now, &key, &id),
         Command::Bounds { key } => plan_bounds(alloc, objects, total, &key),
         Command::Stats { keys } => plan_stats(alloc, objects, total, &keys),
         Command::Flush => plan_flush(alloc, objects),
