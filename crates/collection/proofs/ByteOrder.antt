@@ -1,5 +1,5 @@
 -- Byte order is total.
-use Rattle.std.proofs.Common.{◌≡◌, true, false, refl, sym, subst, [], ◌∷◌, arith, ◌+◌}
+use Rattle.std.proofs.Common.{◌≡◌, true, false, refl, [], ◌∷◌, arith}
 use Rattle.std.proofs.lemmas.Bool.Decides.{nat_tests}
 use Rattle.byte_text.specs.Names.{Bytes, before, same}
 

@@ -1,10 +1,10 @@
 -- Objects by id: where one stands, and what is found.
-use Rattle.std.proofs.Common.{◌≡◌, ◌<◌, ◌≤◌, ℕ, zero, suc, Bool, true, false, not, refl, sym, ◌∙◌, ap, subst, List, [], ◌∷◌, length, take, drop, get_or, arith}
-use Rattle.std.specs.Prelude.{Option, Some, None, filter, find, IfSome, ◌&&◌}
+use Rattle.std.proofs.Common.{◌≡◌, ℕ, zero, suc, true, false, not, refl, sym, ap, subst, List, [], ◌∷◌, take, get_or, arith}
+use Rattle.std.specs.Prelude.{Some, None, filter, find, IfSome}
 use Rattle.std.specs.List.{list_all, slice_get, slice_set, insert, remove}
 use Rattle.std.specs.List.Sorted.{IsPartitionedBy}
 use Rattle.byte_text.specs.Names.{Bytes, before, same}
-use Rattle.world_model.specs.Lists.{ascends, put_in, IsHeld, IsFree}
+use Rattle.world_model.specs.Lists.{put_in, IsHeld, IsFree}
 use Rattle.world_model.specs.declared.objects.Object.{Object}
 use Rattle.collection.specs.Objects.{id_before, has_id, are_by_id}
 use Rattle.collection.proofs.ByteOrder.{before_trans, before_tie, before_asym, before_self, same_refl, same_equal, other_before, other_behind, behind}

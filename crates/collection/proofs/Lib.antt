@@ -2,3 +2,4 @@ pub mod ByteOrder
 pub mod Lists
 pub mod Ids
 pub mod Counts
+pub mod Boxes

@@ -1,7 +1,7 @@
 -- Places in ascending lists.
-use Rattle.std.proofs.Common.{◌≡◌, ◌<◌, ◌≤◌, ◌+◌, ℕ, zero, suc, Bool, true, false, refl, sym, ◌∙◌, ap, subst, List, [], ◌∷◌, ◌++◌, length, take, drop, get_or, arith}
-use Rattle.std.specs.Prelude.{Some, None, filter, find, IfSome, ◌&&◌}
-use Rattle.std.specs.List.{list_all, slice_get, slice_set, insert, remove}
+use Rattle.std.proofs.Common.{◌≡◌, ◌<◌, ◌≤◌, ℕ, zero, suc, Bool, true, false, refl, sym, ap, List, [], ◌∷◌, length, take, get_or, arith}
+use Rattle.std.specs.Prelude.{Some, filter, IfSome, ◌&&◌}
+use Rattle.std.specs.List.{list_all, slice_get, slice_set, insert}
 use Rattle.world_model.specs.Lists.{ascends, put_in}
 
 pub both_of : (a b : Bool) → (a && b) ≡ true → (a ≡ true) × (b ≡ true)

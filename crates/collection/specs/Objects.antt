@@ -1,5 +1,5 @@
 -- The objects of one key.
-use Rattle.std.specs.Prelude.{ℕ, ◌-◌, min, Bool, ◌||◌, nat_le, List, [], ◌∷◌, flat_map, fold, Option, Some, None}
+use Rattle.std.specs.Prelude.{ℕ, min, Bool, ◌||◌, nat_le, List, [], ◌∷◌, flat_map, fold, Option, Some, None}
 use Rattle.std.specs.List.{list_any}
 use Rattle.byte_text.specs.Names.{Bytes, same, before}
 use Rattle.planar_geom.specs.Points.{Bounds}

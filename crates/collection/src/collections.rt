@@ -1,4 +1,4 @@
-ghost use Rattle.std.specs.Prelude.{◌≡◌, ◌+◌, ◌<◌, ◌≤◌, ℕ, [], true, not, length, filter, find, sum_by, is_some, if◌then◌else◌, slice_get, Some, None, IfNone, IfSome, MatchOption, OnOk};
+ghost use Rattle.std.specs.Prelude.{◌≡◌, ◌+◌, ◌<◌, ◌≤◌, ℕ, [], true, not, length, filter, find, is_some, if◌then◌else◌, slice_get, Some, None, IfNone, IfSome, MatchOption, OnOk};
 ghost use Rattle.world_model.specs.Lists.{put_in};
 ghost use Rattle.world_model.specs.declared.objects.Object.{Object};
 ghost use Rattle.collection.specs.Objects.{id_before, has_id, are_by_id, has_room, earlier, least_due, bounds_of};
@@ -24,15 +24,15 @@ pub struct Collection {
 }
 
 impl Model for Collection {
-    ghost use Rattle.std.specs.Prelude.{◌≡◌, ◌-◌, true, sum_by, vec_len, vec_capacity};
+    ghost use Rattle.std.specs.Prelude.{◌≡◌, ◌-◌, true, vec_len, vec_capacity};
     ghost use Rattle.collection.specs.Objects.{Held, are_by_id};
-    ghost use Rattle.collection.specs.Deadlines.{due_count};
+    ghost use Rattle.collection.specs.Deadlines.{due_counts};
 
     ghost Value = { Held };
 
     ghost view = { λ c. record { objects = c.objects.items; spare = vec_capacity c.objects - vec_len c.objects } };
 
-    ghost invariant = { λ c. (are_by_id c.objects.items ≡ true) × (c.due ≡ sum_by due_count c.objects.items) };
+    ghost invariant = { λ c. (are_by_id c.objects.items ≡ true) × (c.due ≡ due_counts c.objects.items) };
 }
 
 impl Collection {

@@ -6,3 +6,6 @@ mod collections;
 mod places;
 
 pub use collections::Collection;
+
+#[cfg(test)]
+mod tests;

@@ -1,12 +1,12 @@
 -- Answers, and the plans that are answers alone.
-use Rattle.std.proofs.Common.{◌≡◌, ℕ, ◌<◌, ◌≤◌, Bool, true, false, refl, sym, ap, ◌∙◌, subst, lit≤, lit<, List, [], ◌∷◌, ◌++◌, length, length-append, arith}
+use Rattle.std.proofs.Common.{◌≡◌, ℕ, ◌<◌, ◌≤◌, Bool, true, false, refl, sym, ◌∙◌, subst, lit≤, lit<, List, [], ◌∷◌, ◌++◌, length, length-append, arith}
 use Rattle.std.specs.Prelude.{codes, nat_le, decimal}
 use Rattle.std.proofs.lemmas.Fmt.{length-decimal-le}
 use Rattle.std.proofs.lemmas.Bool.Decides.{nat_tests}
 use Rattle.byte_text.specs.Names.{Bytes}
 use Rattle.byte_text.specs.Replies.{frame_text, number}
 use Rattle.byte_text.specs.declared.replies.Piece.{Piece}
-use Rattle.world_model.specs.Limits.{max_reply, max_weight}
+use Rattle.world_model.specs.Limits.{max_reply}
 use Rattle.byte_text.specs.declared.faults.RespFault.{RespFault}
 use Rattle.byte_text.specs.declared.faults.RespFault.TheVariants as resp
 use Rattle.world_model.specs.Replies.{error}

@@ -1,10 +1,10 @@
 -- The least box round the points of many objects.
-use Rattle.std.proofs.Common.{◌≡◌, ℕ, ℤ, ◌≤ℤ◌, Bool, true, false, refl, sym, ap, ◌∙◌, subst, List, [], ◌∷◌, ◌++◌, length, arith}
+use Rattle.std.proofs.Common.{◌≡◌, ℕ, ℤ, ◌≤ℤ◌, Bool, true, false, refl, sym, ap, ◌∙◌, List, [], ◌∷◌, ◌++◌, length, arith}
 use Rattle.std.specs.Prelude.{Option, Some, None, fold, filter, flat_map, if◌then◌else◌, unwrap_or}
 use Rattle.std.specs.List.{list_any}
 use Rattle.std.specs.Int.{int_min, int_max}
 use Rattle.std.proofs.lemmas.Int.{ints, clamps}
-use Rattle.planar_geom.specs.Points.{Point, Bounds, pt, bounds, with_point, box_round, box_round_both, grown}
+use Rattle.planar_geom.specs.Points.{Point, Bounds, pt, bounds, with_point, box_round_both, grown}
 use Rattle.planar_geom.specs.Shapes.{all_vertices, box_of_points}
 use Rattle.world_model.specs.Worlds.{has_key}
 use Rattle.world_model.specs.declared.objects.Object.{Object}

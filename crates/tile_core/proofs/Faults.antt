@@ -1,7 +1,7 @@
 -- The frame of a refusal of words is short.
-use Rattle.std.proofs.Common.{◌≡◌, ◌⊎◌, inl, inr, ℕ, ◌+◌, ◌≤◌, ◌<◌, Bool, true, false, refl, sym, ap, ◌∙◌, subst, lit≤, List, [], ◌∷◌, ◌++◌, length, length-append, length-take, arith}
+use Rattle.std.proofs.Common.{◌≡◌, ◌⊎◌, inl, inr, ℕ, ◌≤◌, Bool, true, false, refl, sym, subst, lit≤, List, [], ◌∷◌, ◌++◌, length, length-append, length-take, arith}
 use Rattle.std.proofs.lemmas.List.{length-map}
-use Rattle.std.specs.Prelude.{Option, Some, None, Result, Ok, Err, map, take, codes, nat_le, if◌then◌else◌, ◌&&◌, not, is_some}
+use Rattle.std.specs.Prelude.{Option, Some, None, Result, Ok, Err, map, codes, nat_le, if◌then◌else◌, ◌&&◌, not, is_some}
 use Rattle.std.specs.List.{AllByRecursion, list_any}
 use Rattle.std.specs.Str.{str_to_ascii_lowercase}
 use Rattle.byte_text.specs.Names.{Bytes}
@@ -15,7 +15,7 @@ use Rattle.world_model.specs.Limits.{max_reply}
 use Rattle.world_model.specs.Replies.{error}
 use Rattle.world_model.specs.Refusals.{fault_reply}
 use Rattle.world_model.specs.Served.{asks, is_served}
-use Rattle.world_model.specs.Commands.{reads, is_fraction, command_spelled, ok_or_fault, fault_of, fault_at, geo_fault_of, stop_behind, is_open, wrong_count, first_word, shown_of, Stop, readings}
+use Rattle.world_model.specs.Commands.{reads, is_fraction, command_spelled, ok_or_fault, fault_of, fault_at, geo_fault_of, stop_behind, is_open, wrong_count, shown_of, Stop, readings}
 use Rattle.world_model.specs.declared.commands.Command.{Command}
 use Rattle.world_model.specs.declared.faults.WordFault.{WordFault}
 use Rattle.world_model.specs.declared.faults.WordFault.TheVariants as fault

@@ -1,6 +1,6 @@
 -- The place of a key and an id in the list of objects, in the words of the world.
-use Rattle.std.proofs.Common.{◌≡◌, ℕ, zero, suc, ◌<◌, ◌≤◌, Bool, true, false, refl, sym, ap, ◌∙◌, subst, List, [], ◌∷◌, length, arith}
-use Rattle.std.specs.Prelude.{Option, Some, None, find, slice_get, slice_set, if◌then◌else◌, ◌&&◌, ◌||◌}
+use Rattle.std.proofs.Common.{◌≡◌, ℕ, zero, suc, ◌≤◌, Bool, true, false, refl, sym, ap, ◌∙◌, subst, List, [], ◌∷◌, length, arith}
+use Rattle.std.specs.Prelude.{Some, None, find, slice_get, slice_set, ◌&&◌, ◌||◌}
 use Rattle.std.specs.List.{insert, list_all}
 use Rattle.std.specs.Cmp.Lexicographic.{slice_cmp}
 use Rattle.std.specs.Ordering.{nat_cmp, ordering_then}

@@ -1,6 +1,6 @@
 -- The sessions that are present, found and changed by their numbers.
-use Rattle.std.proofs.Common.{◌≡◌, ◌≢◌, ℕ, zero, suc, ◌+◌, ◌<◌, ◌≤◌, Bool, true, false, refl, sym, ap, ◌∙◌, subst, List, [], ◌∷◌, ◌++◌, length, arith}
-use Rattle.std.specs.Prelude.{Some, None, map, find, filter, not, ◌==◌, slice_get, slice_set, remove, if◌then◌else◌}
+use Rattle.std.proofs.Common.{◌≡◌, ◌≢◌, ℕ, zero, suc, ◌+◌, ◌<◌, ◌≤◌, true, false, refl, sym, ap, ◌∙◌, subst, List, [], ◌∷◌, ◌++◌, length, arith}
+use Rattle.std.specs.Prelude.{Some, None, map, find, filter, not, slice_get, slice_set, remove, if◌then◌else◌}
 use Rattle.std.proofs.lemmas.Bool.Decides.{nat_tests}
 use Rattle.world_model.specs.Halls as halls
 use Rattle.tile_core.specs.declared.sessions.Session.{Session}

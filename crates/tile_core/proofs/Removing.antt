@@ -1,6 +1,6 @@
 -- What DEL, DROP and FLUSHDB do.
 use Rattle.std.proofs.Common.{◌≡◌, ℕ, zero, suc, ◌+◌, ◌≤◌, ◌<◌, Bool, true, false, not, refl, sym, ap, ◌∙◌, subst, List, [], ◌∷◌, length, get_or, drop, arith}
-use Rattle.std.specs.Prelude.{Some, None, slice_get, remove, filter, find, sum_by, take, if◌then◌else◌, ◌&&◌, ◌||◌}
+use Rattle.std.specs.Prelude.{Some, None, slice_get, remove, filter, sum_by, if◌then◌else◌, ◌&&◌, ◌||◌}
 use Rattle.std.specs.List.{list_all, list_any}
 use Rattle.std.specs.Cmp.Lexicographic.{slice_cmp}
 use Rattle.std.specs.Ordering.{nat_cmp, ordering_then}
@@ -10,14 +10,14 @@ use Rattle.std.proofs.lemmas.List.Sums.{sum_by-cons}
 use Rattle.byte_text.specs.Names.{Bytes, before, same}
 use Rattle.byte_text.specs.Replies.{fine, number}
 use Rattle.world_model.specs.Worlds.{after, are_objects, object_before, object_at, is_at, has_key}
-use Rattle.world_model.specs.Effects.{Effect, effect, says, changes, loud, quiet, within_reply}
+use Rattle.world_model.specs.Effects.{effect, says, changes, loud, quiet, within_reply}
 use Rattle.world_model.specs.declared.objects.Object.{Object}
 use Rattle.world_model.specs.declared.worlds.World.{World}
 use Rattle.world_model.specs.declared.worlds.Change.TheVariants as change
 use Rattle.world_model.specs.declared.commands.Command.TheVariants as command
 use Rattle.tile_core.specs.Objects.{world_of, len_of, order_of, AreBelow}
 use Rattle.tile_core.proofs.ByteOrder.{equal, irreflexive, same_is}
-use Rattle.tile_core.proofs.Places.{below, equals, next_below, probe}
+use Rattle.tile_core.proofs.Places.{below, equals, next_below}
 
 -- the object at the place has the key and the id
 

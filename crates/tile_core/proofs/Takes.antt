@@ -1,6 +1,6 @@
 -- Taking, closing and removing, in the words of the parts of a core.
-use Rattle.std.proofs.Common.{◌≡◌, ℕ, ◌<◌, refl, sym, ap, ◌∙◌, subst, true, false, inl, inr, List, [], ◌∷◌, length, take, drop, arith}
-use Rattle.std.specs.Prelude.{Some, slice_get, slice_set, remove, map, if◌then◌else◌}
+use Rattle.std.proofs.Common.{◌≡◌, ℕ, ◌<◌, refl, sym, ap, ◌∙◌, subst, true, false, List, [], length, take, drop}
+use Rattle.std.specs.Prelude.{Some, slice_get, slice_set, remove, if◌then◌else◌}
 use Rattle.world_model.specs.Limits.{take_frames}
 use Rattle.world_model.specs.Halls.{Hall}
 use Rattle.world_model.specs.Halls as halls
@@ -12,7 +12,7 @@ use Rattle.tile_core.specs.declared.sessions.Stage.{Stage}
 use Rattle.tile_core.specs.declared.sessions.Stage.TheVariants.{Live, Closing}
 use Rattle.tile_core.specs.declared.sessions.Session.{Session}
 use Rattle.tile_core.specs.Objects.{world_of}
-use Rattle.tile_core.specs.Sessions.{session_of, stage_of, is_open, closed, Rises, AreOthers}
+use Rattle.tile_core.specs.Sessions.{session_of, is_open, closed, Rises, AreOthers}
 use Rattle.tile_core.specs.Kernels.{hall_of}
 use Rattle.tile_core.proofs.Present.{found, none_found, none_removed, removed, changed, unchanged}
 use Rattle.tile_core.proofs.Steps.{take_absent, take_ended, take_empty, take_given, close_done, remove_done}

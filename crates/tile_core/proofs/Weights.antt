@@ -1,13 +1,12 @@
 -- The weight of the world, and what changes of the list make of it.
-use Rattle.std.proofs.Common.{◌≡◌, ℕ, zero, suc, ◌+◌, ◌<◌, ◌≤◌, Bool, true, false, not, refl, sym, ap, ◌∙◌, subst, List, [], ◌∷◌, length, arith, add-zero}
-use Rattle.std.specs.Prelude.{Some, sum_by, slice_get, slice_set, remove, filter, if◌then◌else◌}
+use Rattle.std.proofs.Common.{◌≡◌, ℕ, zero, suc, ◌+◌, ◌<◌, ◌≤◌, refl, sym, ap, ◌∙◌, subst, List, [], ◌∷◌, length, arith, add-zero}
+use Rattle.std.specs.Prelude.{Some, sum_by, slice_get, slice_set, remove}
 use Rattle.std.specs.List.{insert}
 use Rattle.std.specs.declared.cmp.Ordering.TheVariants.{Equal, Greater}
 use Rattle.std.proofs.lemmas.List.Sums.{sum_by-insert, sum_by-cons}
 use Rattle.world_model.specs.Worlds.{after}
 use Rattle.world_model.specs.Records.{weight}
 use Rattle.world_model.specs.declared.worlds.Change.TheVariants as change
-use Rattle.world_model.specs.declared.worlds.World.{World}
 use Rattle.world_model.specs.declared.objects.Object.{Object}
 use Rattle.tile_core.specs.Objects.{world_of, len_of, order_of, AreBelow, HasFewFields, HaveFewFields}
 use Rattle.tile_core.proofs.Places.{put_free, put_held}

@@ -16,3 +16,6 @@ mod records;
 mod sessions;
 
 pub use cores::Core;
+
+#[cfg(test)]
+mod tests;

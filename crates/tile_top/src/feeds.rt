@@ -42,7 +42,7 @@ fn call(
     }
 }
 
-// Tells a session's stream of its fault, which ends it; a stream that was ended before makes no call.
+// Makes the call of the fault that ends a session's stream; a stream that had ended before makes none.
 fn break_off(
     alloc: Global,
     core: &mut Core,

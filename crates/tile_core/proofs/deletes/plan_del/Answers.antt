@@ -1,12 +1,11 @@
-use Rattle.std.proofs.Common.{◌≡◌, ◌≤◌, ◌<◌, ◌+◌, ◌-◌, ℕ, lit≤, length, subst, ap, ◌∙◌, sym, arith, [], ◌∷◌, List, add-zero, get_or}
+use Rattle.std.proofs.Common.{◌≡◌, ◌≤◌, ℕ, length, subst, ap, ◌∙◌, sym, arith, [], ◌∷◌, List, add-zero}
 use Rattle.std.proofs.lemmas.Result.{IfOk-weaker}
 use Rattle.byte_text.specs.Names.{Bytes}
 use Rattle.byte_text.specs.Replies.{number, frame_text}
 use Rattle.byte_text.specs.declared.replies.Piece.{Piece}
-use Rattle.world_model.specs.Limits.{max_weight, max_reply}
+use Rattle.world_model.specs.Limits.{max_reply}
 use Rattle.world_model.specs.Effects.{says, within_reply, loud}
-use Rattle.world_model.specs.Records.{weight, record_len}
-use Rattle.world_model.specs.declared.objects.Object.{Object}
+use Rattle.world_model.specs.Records.{record_len}
 use Rattle.world_model.specs.declared.worlds.Change.TheVariants as change
 use Rattle.tile_core.specs.Objects.{world_of, len_of, HasFewFields, IsPlace}
 use Rattle.tile_core.proofs.Answering.{said, one_fits, within_changes}

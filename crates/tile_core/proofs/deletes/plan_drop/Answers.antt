@@ -1,14 +1,14 @@
-use Rattle.std.proofs.Common.{◌≡◌, ◌≤◌, ◌<◌, ◌+◌, ℕ, true, false, not, lit≤, length, subst, ap, ◌∙◌, sym, refl, arith, [], ◌∷◌, List, add-zero}
-use Rattle.std.specs.Prelude.{filter, sum_by}
+use Rattle.std.proofs.Common.{◌≡◌, ◌≤◌, ℕ, true, false, not, length, subst, ap, ◌∙◌, sym, refl, arith, [], ◌∷◌, List, add-zero}
+use Rattle.std.specs.Prelude.{filter}
 use Rattle.std.specs.List.{list_any}
 use Rattle.std.proofs.lemmas.Result.{IfOk-weaker}
 use Rattle.byte_text.specs.Names.{Bytes}
 use Rattle.byte_text.specs.Replies.{number, frame_text}
 use Rattle.byte_text.specs.declared.replies.Piece.{Piece}
-use Rattle.world_model.specs.Limits.{max_weight, max_reply}
+use Rattle.world_model.specs.Limits.{max_reply}
 use Rattle.world_model.specs.Worlds.{has_key}
 use Rattle.world_model.specs.Effects.{says, within_reply, loud}
-use Rattle.world_model.specs.Records.{weight, record_len}
+use Rattle.world_model.specs.Records.{record_len}
 use Rattle.world_model.specs.declared.worlds.Change.TheVariants as change
 use Rattle.tile_core.specs.Objects.{world_of}
 use Rattle.tile_core.proofs.Answering.{said, one_fits, within_changes}

@@ -1,8 +1,5 @@
-use Rattle.std.proofs.Common.{◌≡◌, ◌≤◌, ◌<◌, ◌+◌, ◌-◌, ◌^◌, ℕ, subst, ap, ◌∙◌, sym, arith, get_or}
-use Rattle.std.specs.Prelude.{Some, slice_get}
-use Rattle.world_model.specs.Limits.{max_weight}
+use Rattle.std.proofs.Common.{◌≡◌, ◌+◌, ◌-◌, ℕ, subst, ap, ◌∙◌, sym, arith}
 use Rattle.world_model.specs.Records.{weight}
-use Rattle.world_model.specs.declared.objects.Object.{Object}
 use Rattle.tile_core.specs.declared.objects.Place.{Place}
 use Rattle.tile_core.specs.Objects.{world_of, len_of, placed_at, IsWithin, HasFewFields}
 use Rattle.tile_core.proofs.Weights.{weight_insert, weight_set, weighs, few_at, there}

@@ -1,4 +1,4 @@
-use Rattle.std.proofs.Common.{◌≡◌, sym, ap, ◌∙◌, true, false}
+use Rattle.std.proofs.Common.{sym, ap, ◌∙◌}
 use Rattle.std.specs.Prelude.{Option, Some, None, fold, unwrap_or}
 use Rattle.planar_geom.specs.Points.{Bounds, grown}
 use Rattle.tile_core.specs.Objects.{points_of}

@@ -1,8 +1,7 @@
-use Rattle.std.proofs.Common.{◌≡◌, ℕ, subst, ap, ◌∙◌, sym, List, []}
+use Rattle.std.proofs.Common.{◌≡◌, ℕ, ap, ◌∙◌, sym, List}
 use Rattle.std.proofs.lemmas.Result.{IfOk-weaker}
 use Rattle.byte_text.specs.declared.replies.Piece.{Piece}
 use Rattle.world_model.specs.Effects.{says, within_reply}
-use Rattle.world_model.specs.declared.objects.Object.{Object}
 use Rattle.tile_core.specs.Objects.{world_of}
 use Rattle.tile_core.proofs.Answering.{said}
 use Rattle.tile_core.proofs.Places.{found_held, found_free}

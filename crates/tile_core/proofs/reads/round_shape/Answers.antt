@@ -1,4 +1,4 @@
-use Rattle.std.proofs.Common.{◌≡◌, ◌∙◌, ℕ, sym, ap, length, arith}
+use Rattle.std.proofs.Common.{◌≡◌, ◌∙◌, sym, ap, length}
 use Rattle.std.specs.Prelude.{Option, Some, fold}
 use Rattle.planar_geom.specs.Points.{Bounds, with_point, grown, box_round_both}
 use Rattle.planar_geom.specs.Shapes.{all_vertices, box_of_points}

@@ -1,5 +1,4 @@
-use Rattle.std.proofs.Common.{◌≡◌, ℕ, sym, ap, ◌∙◌, true, false, inr, get_or}
-use Rattle.tile_core.specs.declared.sessions.Session.{Session}
+use Rattle.std.proofs.Common.{◌≡◌, sym, ap, ◌∙◌, inr}
 use Rattle.tile_core.specs.Sessions.{is_full, is_open}
 use Rattle.tile_core.proofs.Finishing.{read_at}
 use Rattle.tile_core.proofs.sessions.served.Goals as goal

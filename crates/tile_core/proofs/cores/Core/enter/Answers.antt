@@ -1,4 +1,4 @@
-use Rattle.std.proofs.Common.{◌≡◌, ℕ, ◌+◌, ◌++◌, ◌∷◌, [], List, length, length-append, sym, ap, ◌∙◌, subst, arith, rules, refl}
+use Rattle.std.proofs.Common.{◌≡◌, ◌+◌, ◌++◌, ◌∷◌, [], List, length, length-append, sym, ap, ◌∙◌, subst, arith, rules, refl}
 use Rattle.tile_core.specs.declared.sessions.Stage.TheVariants.{Live}
 use Rattle.tile_core.specs.declared.sessions.Session.{Session}
 use Rattle.tile_core.specs.Sessions.{Rises}

@@ -1,4 +1,4 @@
-use Rattle.std.proofs.Common.{◌≡◌, ℕ, List, sym, ap, ◌∙◌, subst, rules}
+use Rattle.std.proofs.Common.{List, sym, subst}
 use Rattle.std.specs.Prelude.{remove}
 use Rattle.world_model.specs.Histories.{Step}
 use Rattle.world_model.specs.declared.events.Event.TheVariants as event

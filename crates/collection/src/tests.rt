@@ -1,0 +1,78 @@
+//! A collection that is changed and read.
+
+use super::*;
+use byte_text::{Name, NoMemory, Text};
+use planar_geom::{Part, Parts, Pt, Shape};
+use std::alloc::Global;
+use std::test::Fail;
+use world_model::{Fields, Object};
+
+fn spot(alloc: Global, x: i64, y: i64) -> Result<Shape, NoMemory> {
+    let mut parts = Parts::new(alloc);
+    match Pt::of(x, y) {
+        Some(p) => match parts.push(Part::Spot(p)) {
+            Ok(()) => {}
+            Err(_) => return Err(NoMemory),
+        },
+        None => return Err(NoMemory),
+    }
+    match Shape::of(parts) {
+        Ok(shape) => Ok(shape),
+        Err(_) => Err(NoMemory),
+    }
+}
+
+// Puts an object of this id, deadline and place, and gives the deadline of the one that stood there, 0 for none.
+fn put(
+    alloc: Global,
+    collection: &mut Collection,
+    id: &[u8],
+    deadline: Option<u64>,
+    place: (i64, i64),
+) -> Result<Option<u64>, Fail> {
+    let object = Object {
+        key: Name::of(alloc, b"fleet")?,
+        id: Name::of(alloc, id)?,
+        text: Text::new(alloc),
+        shape: spot(alloc, place.0, place.1)?,
+        fields: Fields::new(alloc),
+        deadline,
+    };
+    collection.prepare()?;
+    match collection.put(object) {
+        Some(old) => Ok(Some(old.deadline.unwrap_or(0))),
+        None => Ok(None),
+    }
+}
+
+// The corners of the box round all objects.
+fn corners(collection: &Collection) -> Option<(i32, i32, i32, i32)> {
+    let bounds = collection.bounds()?;
+    let (min, max) = (bounds.min(), bounds.max());
+    Some((min.x(), min.y(), max.x(), max.y()))
+}
+
+#[test]
+fn objects_are_put_and_taken(rt: HostRuntime) -> Result<(), Fail> {
+    let alloc = rt.alloc();
+    let mut trucks = Collection::new(alloc);
+    assert_eq!(rt; corners(&trucks), None);
+    assert_eq!(rt; trucks.least_due(), None);
+    assert_eq!(rt; put(alloc, &mut trucks, b"b", Some(9), (1, 2))?, None);
+    assert_eq!(rt; put(alloc, &mut trucks, b"c", Some(7), (0, 3))?, None);
+    assert_eq!(rt; put(alloc, &mut trucks, b"a", None, (-3, 4))?, None);
+    assert_eq!(rt; trucks.len(), 3);
+    assert_eq!(rt; trucks.at(0).id.bytes(), b"a".as_slice());
+    assert_eq!(rt; trucks.least_due(), Some(7));
+    assert_eq!(rt; corners(&trucks), Some((-3, 2, 1, 4)));
+    assert_eq!(rt; put(alloc, &mut trucks, b"c", None, (0, 0))?, Some(7));
+    assert_eq!(rt; trucks.least_due(), Some(9));
+    let b = Name::of(alloc, b"b")?;
+    assert!(rt; matches!(trucks.get(&b), Some(object) if object.deadline == Some(9)));
+    assert!(rt; trucks.take_out(&b).is_some());
+    assert!(rt; trucks.take_out(&b).is_none());
+    assert!(rt; trucks.get(&b).is_none());
+    assert_eq!(rt; trucks.least_due(), None);
+    assert_eq!(rt; corners(&trucks), Some((-3, 0, 0, 4)));
+    Ok(())
+}

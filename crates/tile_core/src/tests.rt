@@ -1,0 +1,125 @@
+//! Sessions that enter, call, take and end, and a world that is changed and read.
+
+use super::*;
+use byte_text::{Request, RespFault, Text};
+use std::alloc::Global;
+use std::test::Fail;
+use world_model::{Asked, Called, Frames, Taken};
+
+// The request of a line's words, which are split at spaces.
+fn request(alloc: Global, line: &str) -> Result<Request, Fail> {
+    let mut words = Request::new(alloc);
+    for word in line.split(' ') {
+        if words.words() >= 64 {
+            return Err(Fail::from("a test's line has few words"));
+        }
+        if word.len() > 255 {
+            return Err(Fail::from("a test's word is short"));
+        }
+        words.push(word.as_bytes())?;
+    }
+    Ok(words)
+}
+
+// How the call of a session with a line is answered.
+fn called(alloc: Global, core: &mut Core, session: u32, line: &str) -> Result<Called, Fail> {
+    let words = request(alloc, line)?;
+    Ok(core.call(session, 0, &Asked::Words(words)))
+}
+
+// The first of the frames that a take of a session gives, or nothing.
+fn taken(alloc: Global, core: &mut Core, session: u32) -> Result<Text, Fail> {
+    let mut frames = Frames::new(alloc)?;
+    core.take(session, &mut frames);
+    let mut text = Text::new(alloc);
+    if !frames.is_empty() {
+        text.push(frames.at(0))?;
+    }
+    Ok(text)
+}
+
+#[test]
+fn commands_are_answered(rt: HostRuntime) -> Result<(), Fail> {
+    let alloc = rt.alloc();
+    let mut core = Core::new(alloc);
+    assert_eq!(rt; core.enter(), Ok(1));
+    for (line, reply) in [
+        ("PING", "+PONG\r\n"),
+        ("GET k a", "$-1\r\n"),
+        ("SET k a POINT 33 112", "+OK\r\n"),
+        ("SET k a NX POINT 1 1", "$-1\r\n"),
+        ("SET k b XX POINT 1 1", "$-1\r\n"),
+        ("SET k a XX POINT 1 2", "+OK\r\n"),
+        (
+            "GET k a",
+            "$36\r\n{\"type\":\"Point\",\"coordinates\":[2,1]}\r\n",
+        ),
+        (
+            "GET k a WITHFIELDS POINT",
+            "*2\r\n*2\r\n$1\r\n1\r\n$1\r\n2\r\n*0\r\n",
+        ),
+        ("SET k b BOUNDS 0 0 4 6", "+OK\r\n"),
+        (
+            "BOUNDS k",
+            "*2\r\n*2\r\n$1\r\n0\r\n$1\r\n0\r\n*2\r\n$1\r\n4\r\n$1\r\n6\r\n",
+        ),
+        (
+            "STATS k none",
+            "*2\r\n*4\r\n$11\r\nnum_objects\r\n:2\r\n$10\r\nnum_points\r\n:6\r\n*-1\r\n",
+        ),
+        ("DEL k b", ":1\r\n"),
+        ("DEL k b", ":0\r\n"),
+        ("DROP k", ":1\r\n"),
+        ("DROP k", ":0\r\n"),
+        ("FLUSHDB", "+OK\r\n"),
+        ("BOUNDS k", "*-1\r\n"),
+        (
+            "SET k a POINT 33.5 1",
+            "-ERR coordinate is not a whole number '33.5'\r\n",
+        ),
+        (
+            "DEL k",
+            "-ERR wrong number of arguments for 'del' command\r\n",
+        ),
+        ("NOPE k", "-ERR unknown command 'NOPE'\r\n"),
+        ("KEYS k", "-ERR not served yet\r\n"),
+    ] {
+        assert_eq!(rt; called(alloc, &mut core, 1, line)?, Called::Ok, "{line}");
+        assert_eq!(rt;
+            taken(alloc, &mut core, 1)?.bytes(),
+            reply.as_bytes(),
+            "{line}"
+        );
+    }
+    Ok(())
+}
+
+#[test]
+fn sessions_end_behind_their_frames(rt: HostRuntime) -> Result<(), Fail> {
+    let alloc = rt.alloc();
+    let mut core = Core::new(alloc);
+    for session in 1..=4 {
+        assert_eq!(rt; core.enter(), Ok(session));
+    }
+    assert_eq!(rt; called(alloc, &mut core, 1, "QUIT")?, Called::Ok);
+    assert_eq!(rt; called(alloc, &mut core, 1, "PING")?, Called::Gone);
+    assert_eq!(rt; taken(alloc, &mut core, 1)?.bytes(), "+OK\r\n".as_bytes());
+    let broken = Asked::Broken(RespFault::BadType);
+    assert_eq!(rt; core.call(2, 0, &broken), Called::Ok);
+    assert_eq!(rt; core.call(2, 0, &broken), Called::Gone);
+    assert_eq!(rt;
+        taken(alloc, &mut core, 2)?.bytes(),
+        "-ERR protocol error: bad type\r\n".as_bytes()
+    );
+    core.close_session(3);
+    core.remove_session(4);
+    assert_eq!(rt; core.tick(5), Called::Ok);
+    let mut frames = Frames::new(alloc)?;
+    assert_eq!(rt; core.take(1, &mut frames), Taken::Ended);
+    assert_eq!(rt; core.take(2, &mut frames), Taken::Ended);
+    assert_eq!(rt; core.take(3, &mut frames), Taken::Ended);
+    assert_eq!(rt; core.take(4, &mut frames), Taken::Ended);
+    assert_eq!(rt; core.enter(), Ok(5));
+    assert_eq!(rt; core.take(5, &mut frames), Taken::Empty);
+    Ok(())
+}
