@@ -4,9 +4,10 @@ use Rattle.std.specs.Prelude.{Some, Ok, slice_get, slice_set, remove, map, filte
 use Rattle.std.specs.List.{insert, AllByRecursion}
 use Rattle.std.proofs.lemmas.Bool.Decides.{nat_tests}
 use Rattle.std.proofs.Math.ListN.{length-set}
-use Rattle.world_model.specs.Limits.{full_frames, full_bytes}
+use Rattle.world_model.specs.Limits.{max_weight, max_sessions, full_frames, full_bytes}
 use Rattle.world_model.specs.Halls.{frame_bytes}
 use Rattle.world_model.specs.Worlds.{is_sorted_world, are_objects, has_key, after}
+use Rattle.world_model.specs.Records.{weight}
 use Rattle.world_model.specs.Effects.{Effect, Deed}
 use Rattle.world_model.specs.Laws.{ChangesKeepOrder}
 use Rattle.world_model.specs.declared.objects.Object.{Object}

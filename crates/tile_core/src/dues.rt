@@ -34,12 +34,7 @@ pub(crate) struct Gone {
 }
 
 // The first of what was found and an object that stands behind it: the one with the least deadline of those that have come.
-fn sooner(
-    found: Option<(usize, u64)>,
-    i: usize,
-    object: &Object,
-    now: u64,
-) -> Option<(usize, u64)>
+fn sooner(found: Option<(usize, u64)>, i: usize, object: &Object, now: u64) -> Option<(usize, u64)>
     ensures { (objects : List Object) → slice_get objects i ≡ Some object.now → IsFound objects now i found → IsFound objects now (i + 1) result }
 {
     let Some(deadline) = object.deadline else {
@@ -118,7 +113,12 @@ pub(crate) fn put_back(objects: &mut Vec<Object>, held: Vec<Held>)
 }
 
 // Takes all objects out that are due. For want of memory the list is as before.
-fn take_due(alloc: Global, objects: &mut Vec<Object>, total: u64, now: u64) -> Result<Gone, NoMemory>
+fn take_due(
+    alloc: Global,
+    objects: &mut Vec<Object>,
+    total: u64,
+    now: u64,
+) -> Result<Gone, NoMemory>
     requires { AreKept objects.old.items total }
     ensures taken { IfOk result (λ g. IsTaken objects.old.items now total objects.new.items g.held.items g.length g.weight) }
     ensures none { OnOk result (IsFound objects.new.items now (length objects.new.items) None) }

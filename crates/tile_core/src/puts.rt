@@ -65,7 +65,7 @@ fn weight_after(objects: &[Object], total: u64, place: Place, object: &Object, l
     }
 }
 
-// An object is put in its place and this is replied, where the world will not be too heavy.
+/// An object is put in its place and this is replied, where the world will not be too heavy.
 pub(crate) fn plan_put(
     alloc: Global,
     objects: &[Object],
@@ -96,7 +96,7 @@ pub(crate) fn plan_put(
     })
 }
 
-// The deadline that EX gives. One that no `u64` holds has room in no memory.
+/// The deadline that EX gives. One that no `u64` holds has room in no memory.
 pub(crate) fn deadline_after(now: u64, seconds: Option<u32>) -> Result<Option<u64>, NoMemory>
     ensures { IfOk result (λ d. d ≡ deadline_after now seconds) }
 {

@@ -38,9 +38,9 @@ returns-in_ok-reply-in-Held c =
     let at = c.args.now + 1000 * c.args.seconds in
     let deadline : c.in_ok-object-in-Held-2.field-0 ≡ Some at = c.in_ok-object-in-Held-2.ensures in
     let put = expired_some w c.args.now c.args.key.now c.args.id.now o some c.args.seconds
-        ∙ ap (λ (z : Object). put_or_full w (record z { deadline = Some at }) (number 1) false) (sym is)
-        ∙ ap (λ (d : Option ℕ). put_or_full w (record x { deadline = d }) (number 1) false) (sym deadline)
-        ∙ ap (λ (r : List Piece). put_or_full w (record x { deadline = c.in_ok-object-in-Held-2.field-0 }) r false) (sym c.in_ok-reply-in-Held.ensures.value) in
+    ∙ ap (λ (z : Object). put_or_full w (record z { deadline = Some at }) (number 1) false) (sym is)
+    ∙ ap (λ (d : Option ℕ). put_or_full w (record x { deadline = d }) (number 1) false) (sym deadline)
+    ∙ ap (λ (r : List Piece). put_or_full w (record x { deadline = c.in_ok-object-in-Held-2.field-0 }) r false) (sym c.in_ok-reply-in-Held.ensures.value) in
     IfOk-weaker c.plan_put.result _ _ (λ q s. subst (λ (e : Effect). IsPlan xs e q) (sym put) (s false)) c.plan_put.ensures
 
 pub returns-in_ok-count_reply-in-Free : goal.returns-in_ok-count_reply-in-Free

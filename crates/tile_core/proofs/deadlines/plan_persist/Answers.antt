@@ -44,7 +44,7 @@ returns-in_ok-reply-in-Some c =
     let light = subst (λ (n : ℕ). n ≤ max_weight) c.requires.weighed c.requires.light in
     let fits = bare_fits xs c.in-Held.at o b.0 p.1.1 b.1 few light (own_place xs c.args.key.now c.args.id.now c.in-Held.at o o p.0 p.1.1 p.1.2 refl refl) in
     IfOk-weaker c.plan_put.result _ _ (λ q s. λ (now : ℕ). subst (λ (e : Effect). IsPlan xs e q)
-        (sym (persisted_some w now c.args.key.now c.args.id.now o some b.0 b.1 fits ∙ ap (λ (z : Object). put_or_full w z (number 1) false) b.2 ∙ ap (λ (r : List Piece). put_or_full w x r false) (sym c.in_ok-reply-in-Some.ensures.value))) (s false)) c.plan_put.ensures
+    (sym (persisted_some w now c.args.key.now c.args.id.now o some b.0 b.1 fits ∙ ap (λ (z : Object). put_or_full w z (number 1) false) b.2 ∙ ap (λ (r : List Piece). put_or_full w x r false) (sym c.in_ok-reply-in-Some.ensures.value))) (s false)) c.plan_put.ensures
 
 pub returns-in_ok-count_reply-in-None : goal.returns-in_ok-count_reply-in-None
 returns-in_ok-count_reply-in-None c =

@@ -27,7 +27,7 @@ returns-then-len-gt-MAX_FIELDS c =
     let fields : c.in_ok-with_values.field-0 ≡ with_values (fields_at xs place) (given_and_cleared o.fields c.args.cleared.now) = c.in_ok-with_values.ensures ∙ ap (λ (fs : List Field). with_values fs (given_and_cleared o.fields c.args.cleared.now)) c.in_ok-old.ensures in
     let more : max_fields < length c.in_ok-with_values.field-0 = omega (arith, c.if-len-gt-MAX_FIELDS.true, c.len.ensures.count) in
     IfOk-weaker c.say-then-len-gt-MAX_FIELDS-2.result _ _ (λ p s. said xs c.args.total c.requires _ c.in_ok-error_reply.field-0 p
-        (many xs o o.fields c.args.cleared.now c.args.seconds c.args.only c.args.now c.requires.sorted place c.place_of-place.ensures.place keeps c.in_ok-with_values.field-0 c.in_ok-deadline_after.field-0 fields c.in_ok-deadline_after.ensures more ∙ ap (λ (r : List Piece). within_reply (says r)) (sym c.in_ok-error_reply.ensures.value)) s) c.say-then-len-gt-MAX_FIELDS-2.ensures
+    (many xs o o.fields c.args.cleared.now c.args.seconds c.args.only c.args.now c.requires.sorted place c.place_of-place.ensures.place keeps c.in_ok-with_values.field-0 c.in_ok-deadline_after.field-0 fields c.in_ok-deadline_after.ensures more ∙ ap (λ (r : List Piece). within_reply (says r)) (sym c.in_ok-error_reply.ensures.value)) s) c.say-then-len-gt-MAX_FIELDS-2.ensures
 
 pub returns-then-lacks_room : goal.returns-then-lacks_room
 returns-then-lacks_room c =
@@ -39,7 +39,7 @@ returns-then-lacks_room c =
     let less : length c.in_ok-with_values.field-0 ≤ max_fields = omega (arith, c.if-len-gt-MAX_FIELDS.false, c.len.ensures.count) in
     let lacks : lacks_room xs place ≡ true = sym c.lacks_room.ensures ∙ c.if-lacks_room.true in
     IfOk-weaker c.say-then-lacks_room-2.result _ _ (λ p s. said xs c.args.total c.requires _ c.in_ok-error_reply-2.field-0 p
-        (full xs o o.fields c.args.cleared.now c.args.seconds c.args.only c.args.now c.requires.sorted place c.place_of-place.ensures.place keeps c.in_ok-with_values.field-0 c.in_ok-deadline_after.field-0 fields c.in_ok-deadline_after.ensures less lacks ∙ ap (λ (r : List Piece). within_reply (says r)) (sym c.in_ok-error_reply-2.ensures.value)) s) c.say-then-lacks_room-2.ensures
+    (full xs o o.fields c.args.cleared.now c.args.seconds c.args.only c.args.now c.requires.sorted place c.place_of-place.ensures.place keeps c.in_ok-with_values.field-0 c.in_ok-deadline_after.field-0 fields c.in_ok-deadline_after.ensures less lacks ∙ ap (λ (r : List Piece). within_reply (says r)) (sym c.in_ok-error_reply-2.ensures.value)) s) c.say-then-lacks_room-2.ensures
 
 pub returns : goal.returns
 returns c =
@@ -54,5 +54,5 @@ returns c =
     let room : lacks_room xs place ≡ false = sym c.lacks_room.ensures ∙ c.if-lacks_room.false in
     let whole : Object = record { key = o.key; id = o.id; text = o.text; shape = o.shape; fields = fs; deadline = d } in
     let put = put_it xs o o.fields c.args.cleared.now c.args.seconds c.args.only c.args.now c.requires.sorted place c.place_of-place.ensures.place keeps fs d fields c.in_ok-deadline_after.ensures less room
-        ∙ ap (λ (r : List Piece). put_or_full (world_of xs) whole r true) (sym c.in_ok-fine_reply.ensures.value) in
+    ∙ ap (λ (r : List Piece). put_or_full (world_of xs) whole r true) (sym c.in_ok-fine_reply.ensures.value) in
     IfOk-weaker c.plan_put-2.result _ _ (λ p s. subst (λ (e : Effect). IsPlan xs e p) (sym put) (s true)) c.plan_put-2.ensures
