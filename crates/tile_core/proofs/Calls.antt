@@ -1,11 +1,10 @@
 -- Calls, in the words of the parts of a core.
-use Rattle.std.proofs.Common.{◌≡◌, ℕ, zero, suc, ◌+◌, ◌<◌, ◌≤◌, Bool, true, false, refl, sym, ap, ◌∙◌, subst, inl, inr, List, [], ◌∷◌, ◌++◌, length, get_or, max, arith, add-zero}
-use Rattle.std.specs.Prelude.{Some, None, Result, Ok, Err, slice_get, slice_set, map, filter, nat_le, nat_lt, ◌||◌, if◌then◌else◌}
+use Rattle.std.proofs.Common.{◌≡◌, ℕ, ◌+◌, ◌<◌, ◌≤◌, Bool, true, false, refl, sym, ap, ◌∙◌, subst, inl, inr, List, [], ◌∷◌, ◌++◌, length, max, arith, add-zero}
+use Rattle.std.specs.Prelude.{Some, Result, Ok, Err, slice_get, slice_set, map, nat_le, nat_lt, if◌then◌else◌}
 use Rattle.std.specs.List.{AllByRecursion}
 use Rattle.std.proofs.lemmas.Bool.Decides.{nat_tests}
 use Rattle.byte_text.specs.Names.{Bytes}
 use Rattle.byte_text.specs.Replies.{frame_text}
-use Rattle.byte_text.specs.declared.replies.Piece.{Piece}
 use Rattle.world_model.specs.Limits.{most_logged, full_frames, full_bytes, cap_frames, cap_bytes, max_reply}
 use Rattle.world_model.specs.Lists.{sorted_by}
 use Rattle.world_model.specs.Expiry.{expired, due_before}
@@ -35,7 +34,7 @@ use Rattle.tile_core.specs.declared.plans.Plan.{Plan}
 use Rattle.tile_core.specs.Objects.{world_of, moved}
 use Rattle.tile_core.specs.declared.dues.Gone.{Gone}
 use Rattle.tile_core.specs.Dues.{IsExpired, held_objects}
-use Rattle.tile_core.specs.Sessions.{session_of, is_open, is_full, answered, Rises, AreOthers, IsAt, IsServed}
+use Rattle.tile_core.specs.Sessions.{session_of, is_open, is_full, answered, Rises, AreOthers, IsServed}
 use Rattle.tile_core.specs.Kernels.{hall_of}
 use Rattle.tile_core.specs.Plans.{effect_of_read, effect_of_asked, after_all, records_len, IsOfObjects, IsPlan}
 use Rattle.tile_core.proofs.Present.{found, none_found, changed, rises_set, get_set, set_twice}

@@ -1,22 +1,18 @@
 -- The object that expires first stands in front of the others that are due.
-use Rattle.std.proofs.Common.{◌≡◌, ◌⊎◌, inl, inr, ℕ, zero, suc, ◌<◌, ◌≤◌, Bool, true, false, refl, sym, ap, ◌∙◌, subst, List, [], ◌∷◌, ◌++◌, length, take, drop, arith}
+use Rattle.std.proofs.Common.{◌≡◌, ℕ, zero, suc, ◌<◌, ◌≤◌, Bool, true, false, refl, sym, ap, ◌∙◌, subst, List, [], ◌∷◌, length, take, drop, arith}
 use Rattle.std.specs.Prelude.{Option, Some, None, slice_get, remove, filter, nat_lt, nat_le, ◌==◌, ◌&&◌, ◌||◌, if◌then◌else◌}
 use Rattle.std.specs.List.{AllByRecursion, list_all}
-use Rattle.std.specs.Cmp.Lexicographic.{slice_cmp}
-use Rattle.std.specs.Ordering.{nat_cmp, ordering_then}
 use Rattle.std.specs.declared.cmp.Ordering.{Ordering}
 use Rattle.std.specs.declared.cmp.Ordering.TheVariants.{Less, Equal, Greater}
 use Rattle.std.proofs.lemmas.Bool.Decides.{nat_tests}
-use Rattle.byte_text.specs.Names.{Bytes, before, same}
-use Rattle.world_model.specs.Lists.{ascends, sorted_by, insert_by}
-use Rattle.world_model.specs.Worlds.{object_before, are_objects, is_at}
-use Rattle.world_model.specs.Expiry.{is_due, due_before, deadline_of}
+use Rattle.world_model.specs.Lists.{sorted_by, insert_by}
+use Rattle.world_model.specs.Worlds.{object_before, are_objects}
+use Rattle.world_model.specs.Expiry.{is_due, due_before}
 use Rattle.world_model.specs.declared.objects.Object.{Object}
 use Rattle.tile_core.specs.Objects.{order_of, AreBelow}
 use Rattle.tile_core.specs.Dues.{IsFirstDue, IsFound}
 use Rattle.tile_core.proofs.ByteOrder.{irreflexive}
 use Rattle.tile_core.proofs.Places.{below, equals, above}
-use Rattle.tile_core.proofs.Expiring.{compared}
 
 -- the order of key and id
 

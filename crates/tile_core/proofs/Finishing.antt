@@ -1,13 +1,12 @@
 -- What holds of the parts of a core after a call.
-use Rattle.std.proofs.Common.{◌≡◌, ℕ, zero, suc, ◌<◌, ◌≤◌, Bool, true, false, not, refl, sym, ap, ◌∙◌, subst, List, [], ◌∷◌, length, get_or, arith}
-use Rattle.std.specs.Prelude.{Some, Ok, slice_get, slice_set, remove, map, filter, ◌&&◌, if◌then◌else◌}
+use Rattle.std.proofs.Common.{◌≡◌, ℕ, zero, suc, ◌<◌, ◌≤◌, Bool, true, false, not, ◌∙◌, subst, List, [], ◌∷◌, length, get_or, arith}
+use Rattle.std.specs.Prelude.{Some, Ok, slice_get, slice_set, remove, filter, ◌&&◌, if◌then◌else◌}
 use Rattle.std.specs.List.{insert, AllByRecursion}
 use Rattle.std.proofs.lemmas.Bool.Decides.{nat_tests}
 use Rattle.std.proofs.Math.ListN.{length-set}
-use Rattle.world_model.specs.Limits.{max_weight, max_sessions, full_frames, full_bytes}
+use Rattle.world_model.specs.Limits.{max_weight, full_frames, full_bytes}
 use Rattle.world_model.specs.Halls.{frame_bytes}
 use Rattle.world_model.specs.Worlds.{is_sorted_world, are_objects, has_key, after}
-use Rattle.world_model.specs.Records.{weight}
 use Rattle.world_model.specs.Effects.{Effect, Deed}
 use Rattle.world_model.specs.Laws.{ChangesKeepOrder}
 use Rattle.world_model.specs.declared.objects.Object.{Object}
@@ -18,7 +17,7 @@ use Rattle.tile_core.specs.declared.objects.Move.{Move}
 use Rattle.tile_core.specs.declared.objects.Move.TheVariants.{Stay, Put, Delete, Leave, Clear}
 use Rattle.tile_core.specs.declared.plans.Plan.{Plan}
 use Rattle.tile_core.specs.Objects.{world_of, moved, IsMove, HasFewFields, HaveFewFields, HoldsOfPut}
-use Rattle.tile_core.specs.Sessions.{Rises, IsServed, is_full, is_open}
+use Rattle.tile_core.specs.Sessions.{IsServed, is_full}
 use Rattle.tile_core.specs.Plans.{after_all, IsPlan}
 use Rattle.tile_core.specs.Kernels.{AreKept, ArePresent}
 use Rattle.tile_core.specs.declared.dues.Held.{Held as HeldObject}

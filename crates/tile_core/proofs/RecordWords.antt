@@ -1,5 +1,5 @@
 -- The lengths of records, word by word.
-use Rattle.std.proofs.Common.{◌≡◌, ℕ, ℤ, zero, suc, ◌+◌, ◌*◌, ◌^◌, ◌<◌, ◌≤◌, lit<, refl, sym, ap, subst, ◌∙◌, List, [], ◌∷◌, ◌++◌, length, take, length-append, arith}
+use Rattle.std.proofs.Common.{◌≡◌, ℕ, ℤ, zero, suc, ◌+◌, ◌*◌, ◌^◌, ◌<◌, ◌≤◌, lit<, refl, ap, subst, ◌∙◌, List, [], ◌∷◌, ◌++◌, length, take, length-append, arith}
 use Rattle.std.specs.Prelude.{Option, Some, None, IfSome, codes, decimal, flat_map, slice_get}
 use Rattle.std.proofs.lemmas.Fmt.{length-decimal-le, decimal_nonempty}
 use Rattle.byte_text.specs.Names.{Bytes}

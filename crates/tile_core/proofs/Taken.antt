@@ -1,6 +1,6 @@
 -- The objects that are due are taken out one by one, and may be put back.
 use Rattle.std.proofs.Common.{◌≡◌, ℕ, zero, suc, ◌+◌, ◌<◌, ◌≤◌, true, refl, sym, ap, ◌∙◌, subst, List, [], ◌∷◌, ◌++◌, length, length-append, arith}
-use Rattle.std.specs.Prelude.{Some, None, slice_get, remove, filter}
+use Rattle.std.specs.Prelude.{Some, slice_get, remove, filter}
 use Rattle.std.specs.List.{insert}
 use Rattle.world_model.specs.Lists.{sorted_by}
 use Rattle.world_model.specs.Worlds.{after, are_objects, is_sorted_world}
@@ -13,7 +13,7 @@ use Rattle.world_model.specs.declared.worlds.World.{World}
 use Rattle.world_model.specs.declared.worlds.Change.TheVariants as change
 use Rattle.tile_core.specs.declared.dues.Held.{Held}
 use Rattle.tile_core.specs.Kernels.{AreKept}
-use Rattle.tile_core.specs.Objects.{world_of, len_of}
+use Rattle.tile_core.specs.Objects.{world_of}
 use Rattle.tile_core.specs.Plans.{after_all, records_len}
 use Rattle.tile_core.specs.Dues.{IsFirstDue, IsTaken, IsTakenOut, with_back, HavePlaces, held_objects}
 use Rattle.tile_core.proofs.Expiring.{some_is}

@@ -1,5 +1,5 @@
 -- What EXPIRE, PERSIST and TTL do.
-use Rattle.std.proofs.Common.{◌≡◌, ℕ, ◌+◌, ◌*◌, ◌≤◌, arith, Bool, true, false, refl, sym, ap, ◌∙◌, subst, List, [], ◌∷◌}
+use Rattle.std.proofs.Common.{◌≡◌, ℕ, ◌+◌, ◌*◌, ◌≤◌, arith, true, false, refl, sym, ap, ◌∙◌, subst, List, []}
 use Rattle.std.specs.Prelude.{Option, Some, None, nat_le, slice_get, slice_set}
 use Rattle.std.proofs.lemmas.Bool.Decides.{nat_tests}
 use Rattle.world_model.specs.Limits.{max_weight}
@@ -7,7 +7,6 @@ use Rattle.world_model.specs.Records.{weight}
 use Rattle.std.specs.declared.cmp.Ordering.TheVariants.{Equal}
 use Rattle.byte_text.specs.Names.{Bytes}
 use Rattle.byte_text.specs.Replies.{number}
-use Rattle.byte_text.specs.declared.replies.Piece.{Piece}
 use Rattle.world_model.specs.Worlds.{object_at}
 use Rattle.world_model.specs.Effects.{effect, says, fits, within_reply}
 use Rattle.world_model.specs.declared.worlds.Change.TheVariants as change

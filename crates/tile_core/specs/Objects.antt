@@ -1,5 +1,5 @@
 -- The objects that a core keeps: a plain list in order of key and id.
-use Rattle.std.specs.Prelude.{◌≡◌, ℕ, ◌≤◌, ◌<◌, Bool, true, false, not, List, [], length, filter, flat_map, Some, None, slice_get, slice_set}
+use Rattle.std.specs.Prelude.{◌≡◌, ℕ, ◌≤◌, ◌<◌, Bool, true, false, not, List, [], length, filter, flat_map, Some, slice_get, slice_set}
 use Rattle.std.specs.List.{insert, AllByRecursion}
 use Rattle.std.specs.Prelude.{remove}
 use Rattle.std.specs.Cmp.Lexicographic.{slice_cmp}

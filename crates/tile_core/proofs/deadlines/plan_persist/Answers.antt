@@ -1,5 +1,5 @@
 use Rattle.std.proofs.Common.{◌≡◌, ◌≤◌, ℕ, length, subst, ap, ◌∙◌, sym, refl, false, List}
-use Rattle.std.specs.Prelude.{Some, None}
+use Rattle.std.specs.Prelude.{Some}
 use Rattle.std.proofs.lemmas.Result.{IfOk-weaker}
 use Rattle.byte_text.specs.Replies.{number, frame_text}
 use Rattle.byte_text.specs.declared.replies.Piece.{Piece}

@@ -1,6 +1,5 @@
-use Rattle.std.proofs.Common.{◌≡◌, ℕ, ℤ, ap, ◌∙◌, sym, List, to_z-of_z, w64, rules}
+use Rattle.std.proofs.Common.{◌≡◌, ap, ◌∙◌, sym, List, to_z-of_z, w64, rules}
 use mir.Val.{SFits}
-use Rattle.std.specs.Prelude.{Option}
 use Rattle.std.proofs.lemmas.Result.{IfOk-weaker}
 use Rattle.byte_text.specs.declared.replies.Piece.{Piece}
 use Rattle.world_model.specs.Effects.{says, within_reply}

@@ -7,7 +7,7 @@ use Rattle.world_model.specs.Limits.{max_reply}
 use Rattle.world_model.specs.Effects.{says, within_reply, loud}
 use Rattle.world_model.specs.Records.{record_len}
 use Rattle.world_model.specs.declared.worlds.Change.TheVariants as change
-use Rattle.tile_core.specs.Objects.{world_of, len_of, HasFewFields, IsPlace}
+use Rattle.tile_core.specs.Objects.{world_of, len_of, HasFewFields}
 use Rattle.tile_core.proofs.Answering.{said, one_fits, within_changes}
 use Rattle.tile_core.proofs.Places.{found_held, found_free}
 use Rattle.tile_core.proofs.Weights.{weight_remove, weighs, few_at}

@@ -1,6 +1,5 @@
-use Rattle.std.proofs.Common.{◌≡◌, ℕ, suc, ◌+◌, sym, ap, ◌∙◌, ◌∷◌, ◌++◌, [], List, subst, vec_len, arith}
+use Rattle.std.proofs.Common.{◌≡◌, ℕ, suc, sym, ap, ◌∙◌, List, subst, vec_len, arith}
 use Rattle.world_model.specs.declared.objects.Object.{Object}
-use Rattle.tile_core.specs.declared.dues.Held.{Held}
 use Rattle.tile_core.specs.Dues.{with_back, HavePlaces}
 use Rattle.tile_core.proofs.Taken.{back_last, last_place, other_places}
 use Rattle.tile_core.proofs.dues.put_back.Goals as goal

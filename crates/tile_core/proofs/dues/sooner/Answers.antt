@@ -1,5 +1,5 @@
-use Rattle.std.proofs.Common.{◌≡◌, ℕ, ◌≤◌, ap, sym, ◌∙◌, subst, arith}
-use Rattle.std.specs.Prelude.{Option, Some, List, slice_get}
+use Rattle.std.proofs.Common.{◌≡◌, ℕ, sym, ◌∙◌, subst, arith}
+use Rattle.std.specs.Prelude.{List}
 use Rattle.world_model.specs.declared.objects.Object.{Object}
 use Rattle.tile_core.specs.Dues.{IsFound}
 use Rattle.tile_core.proofs.Expiring.{some_more, sooner_one, some_is}

@@ -1,7 +1,7 @@
-use Rattle.std.proofs.Common.{◌≡◌, ℕ, ◌+◌, ◌≤◌, subst, ap, sym, ◌∙◌, length, List, arith}
+use Rattle.std.proofs.Common.{subst, length, List, arith}
 use Rattle.world_model.specs.declared.objects.Object.{Object}
-use Rattle.tile_core.specs.Dues.{IsFound, IsFirstDue}
-use Rattle.tile_core.proofs.Taken.{taken_none, taken_more}
+use Rattle.tile_core.specs.Dues.{IsFirstDue}
+use Rattle.tile_core.proofs.Taken.{taken_more}
 use Rattle.tile_core.proofs.dues.take_due.Goals as goal
 
 pub loop-at-preserved : goal.loop-at-preserved

@@ -1,7 +1,6 @@
 use Rattle.std.proofs.Common.{◌≡◌, ◌+◌, sym, ap, ◌∙◌, ◌∷◌, ◌++◌, [], List, arith}
 use Rattle.std.specs.Prelude.{Some, slice_get}
 use Rattle.tile_core.specs.declared.dues.Held.{Held}
-use Rattle.tile_core.specs.Objects.{len_of}
 use Rattle.tile_core.proofs.Weights.{there, weighs}
 use Rattle.tile_core.proofs.Finishing.{read_at}
 use Rattle.tile_core.proofs.dues.take_out.Goals as goal

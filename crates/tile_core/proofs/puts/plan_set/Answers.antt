@@ -1,8 +1,7 @@
-use Rattle.std.proofs.Common.{◌≡◌, ◌≤◌, ◌<◌, ℕ, lit≤, length, subst, ap, ◌∙◌, sym, true, false, [], List, arith}
+use Rattle.std.proofs.Common.{◌≡◌, ◌≤◌, ◌<◌, length, subst, ap, ◌∙◌, sym, true, false, List, arith}
 use Rattle.std.proofs.lemmas.Result.{IfOk-weaker}
-use Rattle.byte_text.specs.Replies.{fine, frame_text}
 use Rattle.byte_text.specs.declared.replies.Piece.{Piece}
-use Rattle.world_model.specs.Limits.{max_reply, max_fields}
+use Rattle.world_model.specs.Limits.{max_fields}
 use Rattle.world_model.specs.Filters.{Field, with_values}
 use Rattle.world_model.specs.Effects.{Effect, says, within_reply, given_and_cleared}
 use Rattle.world_model.specs.declared.objects.Object.{Object}

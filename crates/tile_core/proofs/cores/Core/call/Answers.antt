@@ -1,5 +1,5 @@
-use Rattle.std.proofs.Common.{◌≡◌, ℕ, ◌<◌, ◌≤◌, ◌+◌, ◌^◌, ◌++◌, ◌∷◌, List, [], length, get_or, max, sym, ap, ◌∙◌, subst, arith, refl, set}
-use Rattle.std.specs.Prelude.{Ok, Err, Result, slice_set}
+use Rattle.std.proofs.Common.{◌≡◌, ℕ, ◌<◌, ◌+◌, List, length, max, sym, ap, ◌∙◌, subst, arith}
+use Rattle.std.specs.Prelude.{Ok, Err, slice_set}
 use Rattle.world_model.specs.Limits.{full_frames, full_bytes}
 use Rattle.world_model.specs.Halls.{frame_bytes}
 use Rattle.world_model.specs.Histories.{Step}
