@@ -1,13 +1,14 @@
 //! The fields of an object.
 
-ghost use Rattle.std.specs.Prelude.{◌≡◌, ◌<◌, [], ◌∷◌, true, length, IfOk, IfErr, IfSome, OnOk, OnErr, slice_get};
+ghost use Rattle.std.specs.Prelude.{◌≡◌, ◌<◌, [], ◌∷◌, ◌++◌, true, length, IfOk, IfErr, IfSome, OnOk, OnErr, slice_get};
+ghost use Rattle.std.specs.Fmt.{signed_decimal};
 ghost use Rattle.byte_text.specs.Names.{before};
 ghost use Rattle.world_model.specs.Lists.{IsHeld, IsFree};
 ghost use Rattle.world_model.specs.Filters.{are_fields, is_zero, with_values};
 
 use crate::orders::is_before;
 use crate::places::insert_at;
-use byte_text::{Name, NoMemory};
+use byte_text::{Name, NoMemory, Text, push_i64};
 use std::alloc::Global;
 use std::marker::Model;
 
@@ -74,6 +75,26 @@ impl Fields {
         ensures { IfSome (slice_get self.now i) (λ f. result ≡ f.1) }
     {
         self.list[i].1
+    }
+
+    /// Appends the value of the field at a place, counted from 0, as a reply shows it: its canonical decimal. For want of memory
+    /// the text is as before.
+    pub fn show(&self, i: usize, into: &mut Text) -> Result<(), NoMemory>
+        requires { i < length self.now }
+        ensures ok { OnOk result (IfSome (slice_get self.now i) (λ f. into.new ≡ into.old ++ signed_decimal f.1)) }
+        ensures err { OnErr result (into.new ≡ into.old) }
+    {
+        push_i64(into, self.value(i))
+    }
+
+    /// Appends the value of the field at a place, counted from 0, as a message shows it: its canonical decimal, which is a JSON
+    /// number. For want of memory the text is as before.
+    pub fn show_json(&self, i: usize, into: &mut Text) -> Result<(), NoMemory>
+        requires { i < length self.now }
+        ensures ok { OnOk result (IfSome (slice_get self.now i) (λ f. into.new ≡ into.old ++ signed_decimal f.1)) }
+        ensures err { OnErr result (into.new ≡ into.old) }
+    {
+        push_i64(into, self.value(i))
     }
 
     /// Gives the field of this name the value, and removes it where the value is 0. For want of memory the fields are as before.

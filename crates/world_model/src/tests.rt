@@ -80,6 +80,10 @@ fn fields_in_order(rt: HostRuntime) -> Result<(), Fail> {
     assert_eq!(rt; copy.len(), 2);
     assert_eq!(rt; copy.name(0).bytes(), b"age".as_slice());
     assert_eq!(rt; copy.value(1), 55);
+    let mut text = Text::new(alloc);
+    copy.show(0, &mut text)?;
+    copy.show_json(1, &mut text)?;
+    assert_eq!(rt; text.bytes(), b"-755".as_slice());
     Ok(())
 }
 
