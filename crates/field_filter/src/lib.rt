@@ -37,8 +37,8 @@ fn passes_one(test: &Test, fields: &Fields) -> bool
     }
 }
 
-// The value of the field of this name, 0 where it is missing.
-fn value_of(fields: &Fields, name: &Name) -> i64
+/// The value of the field of this name, 0 where it is missing.
+pub fn value_of(fields: &Fields, name: &Name) -> i64
     ensures { result ≡ value_of fields.now name.now }
 {
     for i in 0..fields.len() {

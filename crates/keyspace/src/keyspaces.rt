@@ -1,0 +1,177 @@
+ghost use Rattle.std.specs.Prelude.{◌≡◌, ◌+◌, ◌<◌, ◌≤◌, ◌^◌, ◌&&◌, ◌∷◌, [], true, false, not, length, filter, find, map, is_some, is_none, if◌then◌else◌, slice_get, Some, None, IfNone, IfSome, OnOk};
+ghost use Rattle.std.specs.List.{list_any};
+ghost use Rattle.byte_text.specs.Names.{Bytes, same};
+ghost use Rattle.world_model.specs.Lists.{put_in, sorted_by};
+ghost use Rattle.world_model.specs.Worlds.{object_before, are_objects, is_at, has_key};
+ghost use Rattle.world_model.specs.Expiry.{is_due, due_before};
+ghost use Rattle.world_model.specs.Effects.{distinct};
+ghost use Rattle.world_model.specs.declared.objects.Object.{Object};
+ghost use Rattle.collection.specs.Objects.{least_due};
+ghost use Rattle.keyspace.specs.Entries.{Entry, objects_in, room_for, has_room, has_objects, is_entry_of};
+
+use byte_text::{Name, NoMemory};
+use collection::Collection;
+use std::alloc::Global;
+use std::marker::Model;
+use world_model::Object;
+
+/// A key and its objects. While a call is made there may be none.
+#[derive(Drop)]
+struct Shelf {
+    key: Name,
+    objects: Collection,
+}
+
+/// The objects of all keys, in byte order of key and id, with room for more that was taken beforehand.
+#[derive(Drop)]
+pub struct Keyspace {
+    alloc: Global,
+    shelves: Vec<Shelf>,
+    // How many objects there are.
+    count: usize,
+}
+
+impl Model for Keyspace {
+    ghost use Rattle.std.specs.Prelude.{List, map};
+    ghost use Rattle.keyspace.specs.Entries.{Entry};
+
+    ghost Value = { List Entry };
+
+    ghost view = { λ k. map (λ s. record { key = s.key; objects = s.objects.objects; spare = s.objects.spare }) k.shelves.items };
+
+    // to be written: keys ascend, each object is of its entry's key, by id, and `count` is their number
+}
+
+impl Keyspace {
+    /// No key. Room is taken from `alloc`.
+    pub fn new(alloc: Global) -> Keyspace
+        ensures { result ≡ [] }
+    {
+        Keyspace {
+            alloc,
+            shelves: Vec::new(alloc),
+            count: 0,
+        }
+    }
+
+    /// How many objects there are.
+    pub fn len(&self) -> usize
+        ensures count { result ≡ length (objects_in self.now) }
+        ensures sorted { are_objects (objects_in self.now) ≡ true }
+    {
+        self.count
+    }
+
+    /// The object of this key and this id, where there is one.
+    pub fn get(&self, key: &Name, id: &Name) -> Option<&Object>
+        ensures none { IfNone result (find (is_at key.now id.now) (objects_in self.now) ≡ None) }
+        ensures some { IfSome result (λ o. find (is_at key.now id.now) (objects_in self.now) ≡ Some o.now) }
+    {
+        unreachable!()
+    }
+
+    /// The objects of this key; none where the key is not there, and it may be there without an object.
+    pub fn collection(&self, key: &Name) -> Option<&Collection>
+        ensures none { IfNone result (filter (has_key key.now) (objects_in self.now) ≡ []) }
+        ensures some { IfSome result (λ c. c.now.objects ≡ filter (has_key key.now) (objects_in self.now)) }
+    {
+        unreachable!()
+    }
+
+    /// How many keys there are, those without an object too.
+    pub fn keys(&self) -> usize
+        ensures count { result ≡ length self.now }
+        ensures distinct { distinct (map (λ o. o.key) (objects_in self.now)) ≡ map (λ e. e.key) (filter has_objects self.now) }
+    {
+        self.shelves.len()
+    }
+
+    /// The key at a place, counted from 0 in byte order.
+    pub fn key(&self, i: usize) -> &Name
+        requires { i < length self.now }
+        ensures { IfSome (slice_get self.now i) (λ e. result.now ≡ e.key) }
+    {
+        unreachable!()
+    }
+
+    /// How many objects the key at a place has.
+    pub fn count(&self, i: usize) -> usize
+        requires { i < length self.now }
+        ensures { IfSome (slice_get self.now i) (λ e. result ≡ length e.objects) }
+    {
+        unreachable!()
+    }
+
+    /// The least deadline of all objects. Of keys where no object has one, no object is looked at.
+    pub fn least_due(&self) -> Option<u64>
+        ensures { result ≡ least_due (objects_in self.now) }
+    {
+        unreachable!()
+    }
+
+    /// Takes room for one more object of this key, where there is none. The objects stay, and no room is lost.
+    pub fn prepare(&mut self, key: &Name) -> Result<(), NoMemory>
+        ensures objects { objects_in self.new ≡ objects_in self.old }
+        ensures room { OnOk result (1 ≤ room_for self.new key.now) }
+        ensures kept { (k : Bytes) → room_for self.old k ≤ room_for self.new k }
+    {
+        unreachable!()
+    }
+
+    /// Puts an object at its place, and gives out the one of its key and id that stood there. A new one takes one place of the
+    /// room of its key.
+    pub fn put(&mut self, object: Object) -> Option<Object>
+        requires room { has_room self.old object ≡ true }
+        requires few { length (objects_in self.old) < 2 ^ 32 }
+        ensures objects { objects_in self.new ≡ put_in object_before object (objects_in self.old) }
+        ensures replaced { result ≡ find (is_at object.key object.id) (objects_in self.old) }
+        ensures len { length (objects_in self.new) ≤ length (objects_in self.old) + 1 }
+        ensures kept { (k : Bytes) → room_for self.old k ≤ room_for self.new k + (if same object.key k && is_none result then 1 else 0) }
+    {
+        unreachable!()
+    }
+
+    /// Takes out the object of this key and this id, where there is one. Its place is room for another of its key.
+    pub fn take_out(&mut self, key: &Name, id: &Name) -> Option<Object>
+        ensures objects { objects_in self.new ≡ filter (λ o. not (is_at key.now id.now o)) (objects_in self.old) }
+        ensures taken { result ≡ find (is_at key.now id.now) (objects_in self.old) }
+        ensures kept { (k : Bytes) → room_for self.old k + (if same key.now k && is_some result then 1 else 0) ≤ room_for self.new k }
+    {
+        unreachable!()
+    }
+
+    /// Takes out the object that expires first, where one is due: the one of the least deadline, then key, then id. Its place is
+    /// room for another of its key.
+    pub fn take_due(&mut self, now: u64) -> Option<Object>
+        ensures none { IfNone result (filter (is_due now) (objects_in self.old) ≡ []) }
+        ensures stays { IfNone result (self.new ≡ self.old) }
+        ensures first { IfSome result (λ o. sorted_by due_before (filter (is_due now) (objects_in self.old)) ≡ o ∷ sorted_by due_before (filter (is_due now) (objects_in self.new))) }
+        ensures taken { IfSome result (λ o. find (is_at o.key o.id) (objects_in self.old) ≡ Some o) }
+        ensures objects { IfSome result (λ o. objects_in self.new ≡ filter (λ p. not (is_at o.key o.id p)) (objects_in self.old)) }
+        ensures kept { IfSome result (λ o. (k : Bytes) → room_for self.old k + (if same o.key k then 1 else 0) ≤ room_for self.new k) }
+    {
+        unreachable!()
+    }
+
+    /// Takes out all objects of a key.
+    pub fn drop_key(&mut self, key: &Name)
+        ensures { objects_in self.new ≡ filter (λ o. not (has_key key.now o)) (objects_in self.old) }
+    {
+        unreachable!()
+    }
+
+    /// Takes out all objects.
+    pub fn clear(&mut self)
+        ensures { self.new ≡ [] }
+    {
+        unreachable!()
+    }
+
+    /// Gives up the key where it has no object.
+    pub fn give_up(&mut self, key: &Name)
+        ensures objects { objects_in self.new ≡ objects_in self.old }
+        ensures given_up { list_any (λ e. is_entry_of key.now e && not (has_objects e)) self.new ≡ false }
+    {
+        unreachable!()
+    }
+}
