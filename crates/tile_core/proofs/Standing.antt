@@ -12,14 +12,6 @@ use Rattle.world_model.specs.declared.objects.Object.{Object}
 -- what is found
 
 module _ {A : Type 0} (g : A → Bool) (x : A) where
-  pub found_is : (xs : List A) → find g xs ≡ Some x → g x ≡ true
-  found_is [] e = absurd (cc)
-  found_is (y ∷ ys) e = by (g y) refl (found_is ys)
-    where
-      by : (b : Bool) → g y ≡ b → (find g ys ≡ Some x → g x ≡ true) → g x ≡ true
-      by true t ih = let is : y ≡ x = cc (rw t at e) in subst (λ z. g z ≡ true) is t
-      by false t ih = ih (rw t at e)
-
   pub found_holds : (P : A → Type 0) (xs : List A) → find g xs ≡ Some x → AllByRecursion P xs → P x
   found_holds P [] e ps = absurd (cc)
   found_holds P (y ∷ ys) e ps = by (g y) refl (found_holds P ys)
