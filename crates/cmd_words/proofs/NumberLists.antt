@@ -1,5 +1,5 @@
 -- So many numbers behind one another.
-use Rattle.std.proofs.Common.{◌≡◌, ◌-◌, ◌<◌, ◌≤◌, ◌+◌, inl, inr, ℕ, zero, suc, refl, sym, ◌∙◌, ap, subst, List, [], ◌∷◌, ◌++◌, append_assoc, arith}
+use Rattle.std.proofs.Common.{◌≡◌, inl, inr, ℕ, zero, suc, refl, sym, ◌∙◌, ap, subst, List, [], ◌∷◌, ◌++◌, append_assoc, arith}
 use Rattle.std.specs.Prelude.{ℤ, Ok, Err}
 use Rattle.std.proofs.lemmas.List.{append-nil}
 use Rattle.byte_text.specs.Names.{Bytes}
@@ -23,7 +23,7 @@ one_first n values next words =
     bind_assoc integer (λ a. times n integer >>= λ rest. done (a ∷ rest)) (behind values next) words
     ∙ bind_same integer (λ a. (times n integer >>= λ rest. done (a ∷ rest)) >>= behind values next) (λ a. times n integer >>= behind (values ++ a ∷ []) next)
     (λ a more. done_behind (λ rest. a ∷ rest) (behind values next) (times n integer more)
-        ∙ bind_same (times n integer) (λ rest. behind values next (a ∷ rest)) (behind (values ++ a ∷ []) next) (λ rest ws. ap (λ l. next l ws) (sym (append_assoc values (a ∷ []) rest))) more)
+    ∙ bind_same (times n integer) (λ rest. behind values next (a ∷ rest)) (behind (values ++ a ∷ []) next) (λ rest ws. ap (λ l. next l ws) (sym (append_assoc values (a ∷ []) rest))) more)
     words
 
 -- what holds while numbers are read: so many are still due
@@ -51,8 +51,8 @@ module _ (count : ℕ) (first p : Place) (due less : ℕ) (values : List ℤ) (s
 
 pub all_read : (count : ℕ) (first p : Place) (due : ℕ) (values : List ℤ) → HasNumbers count first p due values → due ≡ zero → Reads (times count integer) first p (Ok values)
 all_read count first p due values s d = (
-    s.moved,
-    λ next h. follows_same p (done [] >>= behind values next) (next values)
-        (λ words. append-nil (next (values ++ []) words) ∙ ap (λ l. next l words) (append-nil values))
-        (subst (λ n. Follows p (times n integer >>= behind values next)) d (s.follows next h)),
+  s.moved,
+  λ next h. follows_same p (done [] >>= behind values next) (next values)
+      (λ words. append-nil (next (values ++ []) words) ∙ ap (λ l. next l words) (append-nil values))
+      (subst (λ n. Follows p (times n integer >>= behind values next)) d (s.follows next h)),
 )

@@ -1,15 +1,14 @@
 -- What stands behind SCAN's key: options in any order, and an output.
-use Rattle.std.proofs.Common.{◌≡◌, ◌<◌, ℕ, zero, suc, Bool, true, false, not, inl, inr, refl, sym, ◌∙◌, ap, subst, List, [], ◌∷◌, ◌++◌, length, arith}
-use Rattle.std.specs.Prelude.{codes, is_none, if◌then◌else◌, ◌&&◌, nat_lt, flat_map, Option, Some, None, Ok, Err, Result}
+use Rattle.std.proofs.Common.{◌≡◌, ℕ, zero, suc, Bool, true, false, not, inl, inr, refl, sym, ◌∙◌, ap, subst, List, [], ◌∷◌, ◌++◌, length, arith}
+use Rattle.std.specs.Prelude.{codes, is_none, if◌then◌else◌, ◌&&◌, nat_lt, flat_map, Some, None, Ok, Err}
 use Rattle.std.specs.List.{list_any}
 use Rattle.std.specs.Str.{str_to_ascii_lowercase}
 use Rattle.std.proofs.lemmas.List.{append-nil}
 use Rattle.byte_text.specs.Names.{Bytes, is_word}
 use Rattle.world_model.specs.Limits.{max_tests, max_limit}
-use Rattle.world_model.specs.Grammar.{Form, a_word, a_coordinate, a_geojson, Reading, spells, runs_out, go_on, ◌>>=◌, ◌>>◌, done, where_, word, maybe, times, live, goes_on, wants_coordinate, wants_geojson}
+use Rattle.world_model.specs.Grammar.{Form, a_word, a_coordinate, a_geojson, Reading, spells, runs_out, go_on, ◌>>=◌, ◌>>◌, done, word, maybe, times, live, wants_coordinate, wants_geojson}
 use Rattle.world_model.specs.Kinds.{name, glob, integer, between, bound}
-use Rattle.world_model.specs.Commands.{SearchOptions, no_search_options, search_option, output, test, where_test, wherein_test, reads, wrong_count, shown_of}
-use Rattle.world_model.specs.declared.filters.Test.{Test}
+use Rattle.world_model.specs.Commands.{SearchOptions, no_search_options, search_option, output, test, reads, wrong_count, shown_of}
 use Rattle.world_model.specs.declared.filters.Test.TheVariants.{Range, Among}
 use Rattle.world_model.specs.declared.queries.Shown.{Shown}
 use Rattle.world_model.specs.declared.queries.Shown.TheVariants as shown
@@ -95,7 +94,7 @@ module _ (o : SearchOptions) (make : SearchOptions → Shown → Command) (w : B
   option_goes option.Where e x = where_goes (lower_word w (codes "WHERE") e) x
   option_goes option.WhereIn e x = wherein_goes (lower_word w (codes "WHEREIN") e) x
 
--- a word that asks for an output
+  -- a word that asks for an output
 
   abbrev TakesOutput : Shown → Type 0
   TakesOutput how = live (options_and_output o make (w ∷ more)) ≡ live (done (make o how) more)

@@ -8,7 +8,9 @@ ghost use Rattle.world_model.specs.Commands.{field as a_field};
 ghost use Rattle.cmd_words.specs.Places.{Reads};
 
 use crate::readers::Reader;
-use crate::words::{read_between, read_bound, read_coordinate, read_geojson, read_glob, read_integer};
+use crate::words::{
+    read_between, read_bound, read_coordinate, read_geojson, read_glob, read_integer,
+};
 use byte_text::{Name, Text};
 use planar_geom::{BBox, MAX_COORD, Pt, Shape};
 use world_model::WordFault;

@@ -13,6 +13,7 @@ use world_model::{Command, Query, Rule, Shown, Test, Tests, WordFault};
 
 /// The greatest LIMIT, and the LIMIT where none is given.
 const MAX_LIMIT: u32 = 1_000_000;
+
 const USUAL_LIMIT: u32 = 100;
 
 /// The most tests of one query.
@@ -34,13 +35,13 @@ pub(crate) enum ScanWord {
 /// What the options said so far: the pattern of the ids, the tests on the fields, where the page begins and how many items it has,
 /// whether the fields are left out, and whether the ids go down.
 #[derive(Drop)]
-pub(crate) struct ScanOptions {
-    pub(crate) glob: Option<Name>,
-    pub(crate) tests: Tests,
-    pub(crate) cursor: Option<u32>,
-    pub(crate) limit: Option<u32>,
-    pub(crate) bare: bool,
-    pub(crate) down: Option<bool>,
+struct ScanOptions {
+    glob: Option<Name>,
+    tests: Tests,
+    cursor: Option<u32>,
+    limit: Option<u32>,
+    bare: bool,
+    down: Option<bool>,
 }
 
 impl Model for ScanOptions {

@@ -1,5 +1,5 @@
-use Rattle.std.proofs.Common.{true, refl, List, [], ◌∷◌, ◌++◌}
-use Rattle.std.specs.Prelude.{Some, Ok}
+use Rattle.std.proofs.Common.{refl}
+use Rattle.std.specs.Prelude.{Some}
 use Rattle.std.proofs.lemmas.Result.{err_from_is_err_and}
 use Rattle.world_model.specs.Limits.{max_limit}
 use Rattle.world_model.specs.Grammar.{done}

@@ -1,4 +1,4 @@
-use Rattle.std.proofs.Common.{◌≡◌, ◌-◌, ◌+◌, suc, arith, rules}
+use Rattle.std.proofs.Common.{◌-◌, ◌+◌, arith, rules}
 use Rattle.std.proofs.Math.Facts.{to_z-of_z}
 use Rattle.std.proofs.lemmas.Result.{err_from_is_err_and}
 use Rattle.cmd_words.proofs.NumberLists.{begun, number_refused, one_more, all_read}
