@@ -1,19 +1,19 @@
 -- Calls, in the words of the parts of a core.
-use Rattle.std.proofs.Common.{◌≡◌, ℕ, ◌+◌, ◌<◌, ◌≤◌, Bool, true, false, refl, sym, ap, ◌∙◌, subst, inl, inr, List, [], ◌∷◌, length, max, arith, add-zero}
-use Rattle.std.specs.Prelude.{Some, Result, Ok, Err, slice_get, slice_set, map, filter, nat_le, nat_lt, if◌then◌else◌}
+use Rattle.std.proofs.Common.{◌≡◌, ℕ, ◌+◌, ◌<◌, ◌≤◌, Bool, true, false, refl, sym, ap, ◌∙◌, subst, inl, inr, List, [], ◌∷◌, ◌++◌, length, max, arith, add-zero}
+use Rattle.std.specs.Prelude.{Some, Result, Ok, Err, slice_get, slice_set, map, nat_le, nat_lt, if◌then◌else◌}
 use Rattle.std.specs.List.{AllByRecursion}
 use Rattle.std.proofs.lemmas.Bool.Decides.{nat_tests}
 use Rattle.byte_text.specs.Names.{Bytes}
 use Rattle.byte_text.specs.Replies.{frame_text}
 use Rattle.world_model.specs.Limits.{most_logged, full_frames, full_bytes, cap_frames, cap_bytes, max_reply}
 use Rattle.world_model.specs.Lists.{sorted_by}
-use Rattle.world_model.specs.Expiry.{is_due, due_before}
+use Rattle.world_model.specs.Expiry.{expired, due_before}
 use Rattle.world_model.specs.Messages.{messages}
 use Rattle.world_model.specs.Records.{record_len}
 use Rattle.world_model.specs.Worlds.{after}
 use Rattle.world_model.specs.Served.{asks}
 use Rattle.world_model.specs.Refusals.{broken_reply}
-use Rattle.world_model.specs.Effects.{Effect, Deed, loud}
+use Rattle.world_model.specs.Effects.{Effect, Deed, dels}
 use Rattle.world_model.specs.Halls.{Hall, due, apply, apply_all, deliveries, deliveries_of, do_call, do_asked, do_words, do_effect, place, place_all, placed, change_session, close_session, closed_if, is_session, frame_bytes}
 use Rattle.world_model.specs.Halls as halls
 use Rattle.world_model.specs.Histories.{Step}
@@ -31,18 +31,15 @@ use Rattle.world_model.specs.declared.events.Event.TheVariants.{Call, Tick}
 use Rattle.world_model.specs.declared.events.Outcome.TheVariants.{Answered}
 use Rattle.tile_core.specs.declared.sessions.Session.{Session}
 use Rattle.tile_core.specs.declared.plans.Plan.{Plan}
-use Rattle.tile_core.specs.Objects.{world_of, moved, ArePlain}
+use Rattle.tile_core.specs.Moves.{world_of, moved}
+use Rattle.tile_core.specs.declared.dues.Gone.{Gone}
+use Rattle.tile_core.specs.Dues.{IsExpired}
 use Rattle.tile_core.specs.Sessions.{session_of, is_open, is_full, answered, Rises, AreOthers, IsServed}
 use Rattle.tile_core.specs.Kernels.{hall_of}
 use Rattle.tile_core.specs.Plans.{effect_of_read, effect_of_asked, after_all, records_len, IsOfObjects, IsPlan}
 use Rattle.tile_core.proofs.Present.{found, none_found, changed, rises_set, get_set, set_twice}
-use Rattle.tile_core.proofs.Steps.{call_spent, call_gone, call_closed, call_full, call_lacks, call_done, tick_spent, tick_done}
+use Rattle.tile_core.proofs.Steps.{call_spent, call_gone, call_closed, call_full, call_lacks, call_done, tick_spent, tick_lacks, tick_done}
 use Rattle.tile_core.proofs.Takes.{closing}
-
--- no object has a deadline
-none_due : (now : ℕ) (xs : List Object) → ArePlain xs → filter (is_due now) xs ≡ []
-none_due now [] p = refl
-none_due now (x ∷ xs) p = let t : is_due now x ≡ false = rw (p.0.deadline) refl in rw t (none_due now xs p.1)
 
 -- no channel, no message
 
@@ -107,23 +104,95 @@ closes_it s frame lives = rw lives refl
 
 -- the clock
 
-module _ (objects : List Object) (now logged drawn : ℕ) (sessions : List Session) (moment : ℕ) where
-  clock : ArePlain objects → due (hall_of objects now logged drawn sessions) moment ≡ hall_of objects (max now moment) logged drawn sessions
-  clock plain = ap (λ (os : List Object). apply_all (hall_of objects (max now moment) logged drawn sessions) (map (λ o. loud (change.Del o.key o.id)) (sorted_by due_before os))) (none_due (max now moment) objects plain)
+all_there : (os : List Object) → os ++ [] ≡ os
+all_there [] = refl
+all_there (o ∷ os) = ap (λ (ps : List Object). o ∷ ps) (all_there os)
 
+are_dels : (os : List Object) → AllByRecursion (λ d. IsOfObjects d.change) (dels os)
+are_dels [] = tt
+are_dels (o ∷ os) = (tt, are_dels os)
+
+-- what was taken out is what is due
+gone_are : (objects : List Object) (now total : ℕ) (rest : List Object) (g : Gone) → IsExpired objects now total rest g → expired (world_of objects) now ≡ g.held.items
+gone_are objects now total rest g e =
+    sym (sym (all_there g.held.items) ∙ ap (λ (os : List Object). g.held.items ++ sorted_by due_before os) (sym e.none) ∙ e.taken.order)
+
+module _ (objects : List Object) (now logged drawn : ℕ) (sessions : List Session) (moment total : ℕ) (rest : List Object) (g : Gone) (e : IsExpired objects (max now moment) total rest g) where
+  pub clock : due (hall_of objects now logged drawn sessions) moment ≡ hall_of rest (max now moment) (logged + g.length) drawn sessions
+  clock =
+      let m = max now moment in
+      let held = g.held.items in
+      ap (λ (os : List Object). apply_all (hall_of objects m logged drawn sessions) (dels os)) (gone_are objects m total rest g e)
+      ∙ apply_each (hall_of objects m logged drawn sessions) (dels held) (are_dels held) refl
+      ∙ ap (λ (w : World). record (hall_of objects m logged drawn sessions) { world = w; logged = logged + records_len (dels held) }) e.taken.world
+      ∙ ap (λ (n : ℕ). hall_of rest m (logged + n) drawn sessions) (sym e.taken.length_is)
+
+  pub ticked : logged < most_logged → Step (hall_of objects now logged drawn sessions) (Tick moment) (Answered called.Ok) (hall_of rest (max now moment) (logged + g.length) drawn sessions)
+  ticked unspent = subst (λ (h : Hall). Step (hall_of objects now logged drawn sessions) (Tick moment) (Answered called.Ok) h) clock (tick_done (hall_of objects now logged drawn sessions) moment refl unspent)
+
+module _ (objects : List Object) (now logged drawn : ℕ) (sessions : List Session) (moment : ℕ) where
   pub not_ticked : most_logged ≤ logged → Step (hall_of objects now logged drawn sessions) (Tick moment) (Answered called.Spent) (hall_of objects now logged drawn sessions)
   not_ticked le = tick_spent (hall_of objects now logged drawn sessions) moment refl le
 
-  pub ticked : logged < most_logged → ArePlain objects → Step (hall_of objects now logged drawn sessions) (Tick moment) (Answered called.Ok) (hall_of objects (max now moment) logged drawn sessions)
-  ticked unspent plain = subst (λ (h : Hall). Step (hall_of objects now logged drawn sessions) (Tick moment) (Answered called.Ok) h) (clock plain) (tick_done (hall_of objects now logged drawn sessions) moment refl unspent)
+  pub tick_refused : logged < most_logged → Step (hall_of objects now logged drawn sessions) (Tick moment) (Answered called.Memory) (hall_of objects now logged drawn sessions)
+  tick_refused unspent = tick_lacks (hall_of objects now logged drawn sessions) moment refl unspent
+
+-- a call that is made of a session that is served, in the hall after the objects that were due are taken out
+module _ (objects : List Object) (now logged drawn : ℕ) (sessions : List Session) (n : ℕ) (i : ℕ) (s : Session) (rises : Rises 0 drawn sessions) (at : slice_get sessions i ≡ Some s) (numbered : s.number ≡ n) (lives : is_open s ≡ true) (open_ : is_full s ≡ false) where
+  abbrev later : Hall
+  later = hall_of objects now logged drawn sessions
+
+  calls : (asked : Asked) → do_call later n asked ≡ do_asked later (session_of s) asked
+  unfolding do_call
+  calls asked = rw (found 0 drawn sessions i n s rises at numbered, lives) refl
+
+  same_subs : change_session (λ t. record t { subs = t.subs }) s.number later ≡ later
+  same_subs = ap (λ (ss : List halls.Session). record later { sessions = ss }) (all_same s.number (λ t. record t { subs = t.subs }) (map session_of sessions) (λ t. refl))
+
+  -- the effect is that of what is asked, for a session without subscriptions
+  effects : (a : Asked) → do_asked later (session_of s) a ≡ do_effect later s.number (effect_of_asked (world_of objects) now a)
+  effects (Words words) = of_read (asks words)
+    where
+      of_read : (r : Result Command WordFault) → do_words later (session_of s) r ≡ do_effect later s.number (effect_of_read (world_of objects) now r)
+      of_read (Ok c) = refl
+      of_read (Err f) = refl
+  effects (Broken f) = ap (λ (h : Hall). close_session s.number (place h (s.number, frame_text (broken_reply f)))) (sym same_subs)
+
+  -- the hall with the session answered
+  abbrev pub answered_hall : List Object → ℕ → Bytes → Bool → Hall
+  answered_hall next more frame closes = hall_of next now more drawn (slice_set sessions i (answered frame closes s))
+
+  put_frame : (frame : Bytes) → length frame ≤ max_reply → place later (s.number, frame) ≡ answered_hall objects logged frame false
+  put_frame frame short = ap (λ (ss : List halls.Session). record later { sessions = ss }) (changed (placed frame) 0 drawn sessions i s.number s (answered frame false s) rises at refl (fits s frame lives open_ short))
+
+  ends : (next : List Object) (more : ℕ) (frame : Bytes) (closes : Bool) → closed_if closes s.number (answered_hall next more frame false) ≡ answered_hall next more frame closes
+  ends next more frame false = refl
+  ends next more frame true =
+      let one = answered frame false s in
+      let two = answered frame true s in
+      let set = slice_set sessions i one in
+      ap (λ (ss : List halls.Session). record (answered_hall next more frame false) { sessions = ss })
+      (changed closing 0 drawn set i s.number one two (rises_set 0 drawn sessions i s one rises at refl) (get_set sessions i s one at) refl (closes_it s frame lives)
+      ∙ ap (map session_of) (set_twice sessions i one two))
+
+  finishes : (e : Effect) (p : Plan) → IsPlan objects e p → do_effect later s.number e ≡ answered_hall (moved objects p.action) (logged + p.length) p.frame p.closes
+  finishes e p is =
+      let deeds = is.deeds in
+      ap (do_effect later s.number) is.is
+      ∙ ap (λ (h : Hall). closed_if p.closes s.number (apply_all (place h (s.number, frame_text is.reply)) deeds)) same_subs
+      ∙ ap (λ (f : Bytes). closed_if p.closes s.number (apply_all (place later (s.number, f)) deeds)) (sym is.frame)
+      ∙ ap (λ (h : Hall). closed_if p.closes s.number (apply_all h deeds)) (put_frame p.frame is.short)
+      ∙ ap (closed_if p.closes s.number) (apply_each (answered_hall objects logged p.frame false) deeds is.does.objects_only refl)
+      ∙ ap (λ (w : World). closed_if p.closes s.number (record (answered_hall objects logged p.frame false) { world = w; logged = logged + records_len deeds })) is.does.world
+      ∙ ap (λ (m : ℕ). closed_if p.closes s.number (answered_hall (moved objects p.action) (logged + m) p.frame false)) (sym is.length_is)
+      ∙ ends (moved objects p.action) (logged + p.length) p.frame p.closes
+
+  made : (asked : Asked) (p : Plan) → IsPlan objects (effect_of_asked (world_of objects) now asked) p → do_call later n asked ≡ answered_hall (moved objects p.action) (logged + p.length) p.frame p.closes
+  made asked p is = calls asked ∙ effects asked ∙ finishes (effect_of_asked (world_of objects) now asked) p is
 
 module _ (objects : List Object) (now logged drawn : ℕ) (sessions : List Session) (n moment : ℕ) (asked : Asked) where
   abbrev hall : Hall
   hall = hall_of objects now logged drawn sessions
-
-  -- the clock has gone on
-  abbrev later : Hall
-  later = hall_of objects (max now moment) logged drawn sessions
 
   pub spent : most_logged ≤ logged → Step hall (Call n moment asked) (Answered called.Spent) hall
   spent le = call_spent hall n moment asked refl le
@@ -144,55 +213,10 @@ module _ (objects : List Object) (now logged drawn : ℕ) (sessions : List Sessi
           pub lacks : Step hall (Call n moment asked) (Answered called.Memory) hall
           lacks = call_lacks hall n moment asked refl unspent (session_of s) (found 0 drawn sessions i n s rises at numbered) lives open_
 
-          calls : do_call later n asked ≡ do_asked later (session_of s) asked
-          unfolding do_call
-          calls = rw (found 0 drawn sessions i n s rises at numbered, lives) refl
-
-          same_subs : change_session (λ t. record t { subs = t.subs }) s.number later ≡ later
-          same_subs = ap (λ (ss : List halls.Session). record later { sessions = ss }) (all_same s.number (λ t. record t { subs = t.subs }) (map session_of sessions) (λ t. refl))
-
-          -- the effect is that of what is asked, for a session without subscriptions
-          effects : (a : Asked) → do_asked later (session_of s) a ≡ do_effect later s.number (effect_of_asked (world_of objects) (max now moment) a)
-          effects (Words words) = of_read (asks words)
-            where
-              of_read : (r : Result Command WordFault) → do_words later (session_of s) r ≡ do_effect later s.number (effect_of_read (world_of objects) (max now moment) r)
-              of_read (Ok c) = refl
-              of_read (Err f) = refl
-          effects (Broken f) = ap (λ (h : Hall). close_session s.number (place h (s.number, frame_text (broken_reply f)))) (sym same_subs)
-
-          -- the hall with the session answered
-          abbrev answered_hall : List Object → ℕ → Bytes → Bool → Hall
-          answered_hall next more frame closes = hall_of next (max now moment) more drawn (slice_set sessions i (answered frame closes s))
-
-          put_frame : (frame : Bytes) → length frame ≤ max_reply → place later (s.number, frame) ≡ answered_hall objects logged frame false
-          put_frame frame short = ap (λ (ss : List halls.Session). record later { sessions = ss }) (changed (placed frame) 0 drawn sessions i s.number s (answered frame false s) rises at refl (fits s frame lives open_ short))
-
-          ends : (next : List Object) (more : ℕ) (frame : Bytes) (closes : Bool) → closed_if closes s.number (answered_hall next more frame false) ≡ answered_hall next more frame closes
-          ends next more frame false = refl
-          ends next more frame true =
-              let one = answered frame false s in
-              let two = answered frame true s in
-              let set = slice_set sessions i one in
-              ap (λ (ss : List halls.Session). record (answered_hall next more frame false) { sessions = ss })
-              (changed closing 0 drawn set i s.number one two (rises_set 0 drawn sessions i s one rises at refl) (get_set sessions i s one at) refl (closes_it s frame lives)
-              ∙ ap (map session_of) (set_twice sessions i one two))
-
-          finishes : (e : Effect) (p : Plan) → IsPlan objects e p → do_effect later s.number e ≡ answered_hall (moved objects p.action) (logged + p.length) p.frame p.closes
-          finishes e p is =
-              let deeds = is.deeds in
-              ap (do_effect later s.number) is.is
-              ∙ ap (λ (h : Hall). closed_if p.closes s.number (apply_all (place h (s.number, frame_text is.reply)) deeds)) same_subs
-              ∙ ap (λ (f : Bytes). closed_if p.closes s.number (apply_all (place later (s.number, f)) deeds)) (sym is.frame)
-              ∙ ap (λ (h : Hall). closed_if p.closes s.number (apply_all h deeds)) (put_frame p.frame is.short)
-              ∙ ap (closed_if p.closes s.number) (apply_each (answered_hall objects logged p.frame false) deeds is.does.objects_only refl)
-              ∙ ap (λ (w : World). closed_if p.closes s.number (record (answered_hall objects logged p.frame false) { world = w; logged = logged + records_len deeds })) is.does.world
-              ∙ ap (λ (m : ℕ). closed_if p.closes s.number (answered_hall (moved objects p.action) (logged + m) p.frame false)) (sym is.length_is)
-              ∙ ends (moved objects p.action) (logged + p.length) p.frame p.closes
-
-          pub done : ArePlain objects → (p : Plan) → IsPlan objects (effect_of_asked (world_of objects) (max now moment) asked) p
-              → Step hall (Call n moment asked) (Answered called.Ok) (answered_hall (moved objects p.action) (logged + p.length) p.frame p.closes)
-          done plain p is = subst (λ (h : Hall). Step hall (Call n moment asked) (Answered called.Ok) h)
-              (ap (λ (h : Hall). do_call h n asked) (clock objects now logged drawn sessions moment plain) ∙ calls ∙ effects asked ∙ finishes (effect_of_asked (world_of objects) (max now moment) asked) p is)
+          pub done : (total : ℕ) (rest : List Object) (g : Gone) (e : IsExpired objects (max now moment) total rest g) (p : Plan) → IsPlan rest (effect_of_asked (world_of rest) (max now moment) asked) p
+              → Step hall (Call n moment asked) (Answered called.Ok) (hall_of (moved rest p.action) (max now moment) ((logged + g.length) + p.length) drawn (slice_set sessions i (answered p.frame p.closes s)))
+          done total rest g e p is = subst (λ (h : Hall). Step hall (Call n moment asked) (Answered called.Ok) h)
+              (ap (λ (h : Hall). do_call h n asked) (clock objects now logged drawn sessions moment total rest g e) ∙ made rest (max now moment) (logged + g.length) drawn sessions n i s rises at numbered lives open_ asked p is)
               (call_done hall n moment asked refl unspent (session_of s) (found 0 drawn sessions i n s rises at numbered) lives open_)
 
 -- a call that is not served

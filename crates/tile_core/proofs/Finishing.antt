@@ -1,25 +1,23 @@
 -- What holds of the parts of a core after a call.
-use Rattle.std.proofs.Common.{◌≡◌, ℕ, zero, suc, ◌<◌, ◌≤◌, Bool, true, false, not, ◌∙◌, subst, List, [], ◌∷◌, length, get_or, arith}
-use Rattle.std.specs.Prelude.{Some, Ok, slice_get, slice_set, remove, filter, ◌&&◌, if◌then◌else◌}
-use Rattle.std.specs.List.{insert}
+use Rattle.std.proofs.Common.{◌≡◌, ℕ, zero, suc, ◌<◌, ◌≤◌, Bool, true, false, ◌∙◌, subst, List, [], ◌∷◌, length, get_or, arith}
+use Rattle.std.specs.Prelude.{Some, Ok, slice_get, slice_set, remove, ◌&&◌}
 use Rattle.std.proofs.lemmas.Bool.Decides.{nat_tests}
 use Rattle.std.proofs.Math.ListN.{length-set}
-use Rattle.world_model.specs.Limits.{full_frames, full_bytes}
+use Rattle.world_model.specs.Limits.{max_weight, full_frames, full_bytes}
 use Rattle.world_model.specs.Halls.{frame_bytes}
-use Rattle.world_model.specs.Worlds.{is_sorted_world, are_objects, has_key, after}
+use Rattle.world_model.specs.Worlds.{is_sorted_world, are_objects, after}
 use Rattle.world_model.specs.Effects.{Effect, Deed}
 use Rattle.world_model.specs.Laws.{ChangesKeepOrder}
 use Rattle.world_model.specs.declared.objects.Object.{Object}
 use Rattle.world_model.specs.declared.worlds.World.{World}
 use Rattle.tile_core.specs.declared.sessions.Session.{Session}
-use Rattle.tile_core.specs.declared.objects.Place.TheVariants.{Held, Free}
-use Rattle.tile_core.specs.declared.objects.Move.{Move}
-use Rattle.tile_core.specs.declared.objects.Move.TheVariants.{Stay, Put, Delete, Leave, Clear}
 use Rattle.tile_core.specs.declared.plans.Plan.{Plan}
-use Rattle.tile_core.specs.Objects.{world_of, moved, IsMove, IsPlain, ArePlain}
+use Rattle.tile_core.specs.Moves.{world_of, moved, HasFewFields}
 use Rattle.tile_core.specs.Sessions.{IsServed, is_full}
 use Rattle.tile_core.specs.Plans.{after_all, IsPlan}
 use Rattle.tile_core.specs.Kernels.{AreKept, ArePresent}
+use Rattle.tile_core.specs.Dues.{IsTaken}
+use Rattle.tile_core.proofs.Moving.{all_moved}
 use Rattle.tile_core.proofs.Present.{rises_set, rises_remove}
 
 -- what is read at a place where something stands
@@ -38,10 +36,10 @@ few_frames s e = grind (arith, nat_tests)
 pub few_bytes : (s : Session) → is_full s ≡ false → frame_bytes s.outbox < full_bytes
 few_bytes s e = grind (arith, nat_tests)
 
-left_of : (a b : Bool) → (a && b) ≡ true → a ≡ true
+pub left_of : (a b : Bool) → (a && b) ≡ true → a ≡ true
 left_of a b e = grind arith
 
-both : (a : Bool) → a ≡ true → (a && true) ≡ true
+pub both : (a : Bool) → a ≡ true → (a && true) ≡ true
 both a e = grind arith
 
 -- the order is kept
@@ -49,39 +47,9 @@ sorted_all : ChangesKeepOrder → (w : World) (deeds : List Deed) → is_sorted_
 sorted_all law w [] sorted = sorted
 sorted_all law w (d ∷ deeds) sorted = sorted_all law (after w d.change) deeds (law w d.change sorted)
 
--- objects stay plain
-
-plain_set : (xs : List Object) (i : ℕ) (o : Object) → IsPlain o → ArePlain xs → ArePlain (slice_set xs i o)
-plain_set [] i o p ps = ps
-plain_set (x ∷ xs) zero o p ps = (p, ps.1)
-plain_set (x ∷ xs) (suc i) o p ps = (ps.0, plain_set xs i o p ps.1)
-
-plain_insert : (xs : List Object) (i : ℕ) (o : Object) → IsPlain o → ArePlain xs → ArePlain (insert xs i o)
-plain_insert [] zero o p ps = (p, ps)
-plain_insert [] (suc i) o p ps = (p, ps)
-plain_insert (x ∷ xs) zero o p ps = (p, ps)
-plain_insert (x ∷ xs) (suc i) o p ps = (ps.0, plain_insert xs i o p ps.1)
-
-plain_remove : (xs : List Object) (i : ℕ) → i < length xs → ArePlain xs → ArePlain (remove xs i)
-plain_remove [] i lt ps = absurd (omega (arith, lt))
-plain_remove (x ∷ xs) zero lt ps = ps.1
-plain_remove (x ∷ xs) (suc i) lt ps = (ps.0, plain_remove xs i (omega (arith, lt)) ps.1)
-
-plain_filter : (f : Object → Bool) (xs : List Object) → ArePlain xs → ArePlain (filter f xs)
-plain_filter f [] ps = ps
-plain_filter f (x ∷ xs) ps = by (f x) (plain_filter f xs ps.1)
-  where
-    by : (b : Bool) → ArePlain (filter f xs) → ArePlain (if b then x ∷ filter f xs else filter f xs)
-    by true qs = (ps.0, qs)
-    by false qs = qs
-
-plain_moved : (xs : List Object) (action : Move) → IsMove xs action → ArePlain xs → ArePlain (moved xs action)
-plain_moved xs Stay m ps = ps
-plain_moved xs (Put (Held i) o) m ps = plain_set xs i o m.1 ps
-plain_moved xs (Put (Free i) o) m ps = plain_insert xs i o m.1 ps
-plain_moved xs (Delete i) m ps = plain_remove xs i m ps
-plain_moved xs (Leave key) m ps = plain_filter (λ o. not (has_key key o)) xs ps
-plain_moved xs Clear m ps = tt
+-- what is left when objects were taken out
+pub rest_kept : (old : List Object) (now total : ℕ) (xs held : List Object) (len rest : ℕ) → total ≤ max_weight → IsTaken old now total xs held len rest → AreKept xs rest
+rest_kept old now total xs held len rest light t = record { sorted = t.sorted; few = t.few; weighed = t.rest_is; light = omega (arith, light, t.small) }
 
 -- the objects after a plan
 pub kept_after : ChangesKeepOrder → (objects : List Object) (total : ℕ) → AreKept objects total → (e : Effect) (p : Plan) → IsPlan objects e p → AreKept (moved objects p.action) p.weight
@@ -89,7 +57,7 @@ kept_after law objects total kept e p is = record {
   sorted =
       let all = sorted_all law (world_of objects) is.deeds (both (are_objects objects) kept.sorted) in
       left_of (are_objects (moved objects p.action)) true (subst (λ (w : World). is_sorted_world w ≡ true) is.does.world all);
-  plain = plain_moved objects p.action is.does.valid kept.plain;
+  few = all_moved HasFewFields objects p.action is.does.few kept.few;
   weighed = is.weight_is;
   light = is.light;
 }

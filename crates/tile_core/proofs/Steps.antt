@@ -91,6 +91,9 @@ module _ (h : Hall) (moment : ℕ) (going : h.stopped ≡ false) where
   pub tick_spent : most_logged ≤ h.logged → Step h (Tick moment) (Answered called.Spent) h
   tick_spent le = let t : nat_le most_logged h.logged ≡ true = grind (arith, nat_tests) in rw (going, t) (refl, refl)
 
+  pub tick_lacks : h.logged < most_logged → Step h (Tick moment) (Answered called.Memory) h
+  tick_lacks lt = let t : nat_le most_logged h.logged ≡ false = grind (arith, nat_tests) in rw (going, t) (inr (inl (refl, (refl, refl))))
+
   pub tick_done : h.logged < most_logged → Step h (Tick moment) (Answered called.Ok) (due h moment)
   tick_done lt = let t : nat_le most_logged h.logged ≡ false = grind (arith, nat_tests) in rw (going, t) (inr (inr (refl, refl)))
 

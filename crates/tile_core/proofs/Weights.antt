@@ -8,7 +8,7 @@ use Rattle.world_model.specs.Worlds.{after}
 use Rattle.world_model.specs.Records.{weight}
 use Rattle.world_model.specs.declared.worlds.Change.TheVariants as change
 use Rattle.world_model.specs.declared.objects.Object.{Object}
-use Rattle.tile_core.specs.Objects.{world_of, len_of, order_of, AreBelow, IsPlain, ArePlain}
+use Rattle.tile_core.specs.Objects.{world_of, len_of, order_of, AreBelow, HasFewFields, HaveFewFields}
 use Rattle.tile_core.proofs.Places.{put_free, put_held}
 
 module _ {A : Type 0} (f : A → ℕ) where
@@ -51,11 +51,11 @@ weight_remove xs i s at = ap (λ n. n + len_of s) (weight_sum (remove xs i)) ∙
 pub weighs : (xs : List Object) (i : ℕ) (s : Object) → slice_get xs i ≡ Some s → len_of s ≤ weight (world_of xs)
 weighs xs i s at = subst (λ n. len_of s ≤ n) (sym (weight_sum xs)) (one_of len_of xs i s at)
 
--- an object of a list of plain ones is plain
-pub plain_at : (xs : List Object) (i : ℕ) (s : Object) → ArePlain xs → slice_get xs i ≡ Some s → IsPlain s
-plain_at [] i s ps at = absurd (cc)
-plain_at (y ∷ ys) zero s ps at = let is : y ≡ s = cc in subst IsPlain is ps.0
-plain_at (y ∷ ys) (suc i) s ps at = plain_at ys i s ps.1 at
+-- an object of a list whose objects have few fields has few
+pub few_at : (xs : List Object) (i : ℕ) (s : Object) → HaveFewFields xs → slice_get xs i ≡ Some s → HasFewFields s
+few_at [] i s ps at = absurd (cc)
+few_at (y ∷ ys) zero s ps at = let is : y ≡ s = cc in subst HasFewFields is ps.0
+few_at (y ∷ ys) (suc i) s ps at = few_at ys i s ps.1 at
 
 -- at each place of the list something stands
 pub there : {A : Type 0} (xs : List A) (i : ℕ) → i < length xs → (x : A) × (slice_get xs i ≡ Some x)

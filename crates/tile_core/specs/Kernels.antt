@@ -6,7 +6,8 @@ use Rattle.world_model.specs.Records.{weight}
 use Rattle.world_model.specs.Halls.{Hall}
 use Rattle.world_model.specs.declared.objects.Object.{Object}
 use Rattle.tile_core.specs.declared.sessions.Session.{Session}
-use Rattle.tile_core.specs.Objects.{world_of, ArePlain}
+use Rattle.tile_core.specs.Moves.{world_of, HaveFewFields}
+use Rattle.tile_core.specs.Dues.{AreCalm}
 use Rattle.tile_core.specs.Sessions.{session_of, Rises}
 
 -- what contracts see: the hall
@@ -20,7 +21,7 @@ hall_of objects now logged drawn sessions = record { world = world_of objects; n
 -- objects in order, their weight at hand and within its limit
 pub record AreKept (objects : List Object) (total : ℕ) : Type 0 where
   pub sorted : are_objects objects ≡ true
-  pub plain : ArePlain objects
+  pub few : HaveFewFields objects
   pub weighed : total ≡ weight (world_of objects)
   pub light : total ≤ max_weight
 
@@ -29,6 +30,8 @@ pub record ArePresent (drawn : ℕ) (sessions : List Session) : Type 0 where
   pub rises : Rises 0 drawn sessions
   pub few : length sessions ≤ max_sessions
 
-pub record IsSound (objects : List Object) (total drawn : ℕ) (sessions : List Session) : Type 0 where
+-- the parts of a core: no deadline comes before the moment `until`, so until then nothing is due
+pub record IsSound (objects : List Object) (total until drawn : ℕ) (sessions : List Session) : Type 0 where
   pub kept : AreKept objects total
+  pub calm : AreCalm until objects
   pub present : ArePresent drawn sessions

@@ -1,4 +1,8 @@
-pub mod Objects
+pub mod Records
+pub mod Moves
 pub mod Sessions
 pub mod Plans
+pub mod Sweeps
+pub mod Listings
+pub mod Dues
 pub mod Kernels

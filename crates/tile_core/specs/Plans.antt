@@ -1,5 +1,5 @@
 -- What a call will do, made ready before anything is changed.
-use Rattle.std.specs.Prelude.{◌≡◌, ℕ, ◌+◌, ◌≤◌, Bool, true, false, nat_le, List, [], ◌∷◌, length, flat_map, Option, Some, None, Result, Ok, Err}
+use Rattle.std.specs.Prelude.{◌≡◌, ℕ, ◌+◌, ◌≤◌, Bool, true, false, not, nat_le, codes, slice_get, is_some, if◌then◌else◌, List, [], ◌∷◌, length, flat_map, Option, Some, None, Result, Ok, Err}
 use Rattle.std.specs.List.{AllByRecursion}
 use Rattle.byte_text.specs.Names.{Bytes}
 use Rattle.byte_text.specs.Replies.{frame_text}
@@ -9,7 +9,8 @@ use Rattle.planar_geom.specs.Shapes.{all_vertices, box_of_points}
 use Rattle.world_model.specs.Limits.{max_reply, max_weight, max_objects}
 use Rattle.world_model.specs.Worlds.{after}
 use Rattle.world_model.specs.Records.{record_len, weight}
-use Rattle.world_model.specs.Effects.{Effect, Deed, says, effect}
+use Rattle.world_model.specs.Filters.{Field}
+use Rattle.world_model.specs.Effects.{Effect, Deed, says, effect, changes, refuses, unless, fits, within_reply, fields_of}
 use Rattle.world_model.specs.Refusals.{fault_reply, broken_reply}
 use Rattle.world_model.specs.Served.{asks}
 use Rattle.world_model.specs.declared.worlds.World.{World}
@@ -21,12 +22,10 @@ use Rattle.world_model.specs.declared.commands.Only.TheVariants.{Any, Absent, Pr
 use Rattle.world_model.specs.declared.faults.WordFault.{WordFault}
 use Rattle.world_model.specs.declared.events.Asked.{Asked}
 use Rattle.world_model.specs.declared.events.Asked.TheVariants.{Words, Broken}
-use Rattle.tile_core.specs.declared.objects.Place.{Place}
-use Rattle.tile_core.specs.declared.objects.Place.TheVariants.{Held, Free}
-use Rattle.tile_core.specs.declared.objects.Move.{Move}
-use Rattle.tile_core.specs.declared.objects.Move.TheVariants.{Stay}
+use Rattle.tile_core.specs.declared.moves.Move.{Move}
+use Rattle.tile_core.specs.declared.moves.Move.TheVariants.{Stay}
 use Rattle.world_model.specs.declared.objects.Object.{Object}
-use Rattle.tile_core.specs.Objects.{world_of, IsMove, moved}
+use Rattle.tile_core.specs.Moves.{world_of, HasFewFields, HoldsOfPut, moved}
 use Rattle.tile_core.specs.declared.plans.Plan.{Plan}
 
 -- what words do in a world at a moment, for a session without subscriptions, by how they are read
@@ -64,7 +63,7 @@ IsOfObjects (change.DelChan name) = ⊥
 
 -- what is done to the list of objects is what the changes do to the world
 pub record Does (objects : List Object) (action : Move) (deeds : List Deed) : Type 0 where
-  pub valid : IsMove objects action
+  pub few : HoldsOfPut HasFewFields action
   pub objects_only : AllByRecursion (λ d. IsOfObjects d.change) deeds
   pub world : after_all (world_of objects) deeds ≡ world_of (moved objects action)
 
@@ -93,20 +92,10 @@ pub record Says (e : Effect) (total : ℕ) (p : Plan) : Type 0 where
   pub replies : Replies e p.frame
   pub is : p ≡ record { frame = p.frame; action = Stay; length = 0; weight = total; closes = false }
 
--- NX with an object held there, or XX without one
-abbrev pub keeps_back : Only → Place → Bool
-keeps_back Any place = false
-keeps_back Absent (Held i) = true
-keeps_back Absent (Free i) = false
-keeps_back Present (Held i) = false
-keeps_back Present (Free i) = true
+-- the object is put and this is replied, or it is refused where the world would be too heavy
+abbrev pub put_or_full : World → Object → List Piece → Bool → Effect
+put_or_full w o reply is_loud = within_reply (unless ((not (fits w (change.Put o)), refuses (codes "database is full")) ∷ []) (changes reply (record { change = change.Put o; loud = is_loud } ∷ [])))
 
--- the object would be a new one beside the greatest number of objects
-abbrev pub lacks_room : List Object → Place → Bool
-lacks_room objects (Held i) = false
-lacks_room objects (Free i) = nat_le max_objects (length objects)
-
--- the least box round all points of objects, where there is an object
-abbrev pub box_of_objects : List Object → Option Bounds
-box_of_objects [] = None
-box_of_objects (o ∷ objects) = Some (box_of_points (flat_map (λ p. all_vertices p.shape) (o ∷ objects)))
+-- the object without its deadline, where it has one
+abbrev pub without_deadline : Object → Option Object
+without_deadline o = if is_some o.deadline then Some (record o { deadline = None }) else None

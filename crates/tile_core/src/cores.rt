@@ -1,6 +1,6 @@
 //! The core and its calls.
 
-ghost use Rattle.std.specs.Prelude.{◌≡◌, ◌≤◌, ◌+◌, [], length};
+ghost use Rattle.std.specs.Prelude.{◌≡◌, ◌≤◌, ◌+◌, ◌*◌, [], length};
 ghost use Rattle.world_model.specs.Limits.{take_frames, max_weight};
 ghost use Rattle.world_model.specs.Worlds.{empty_world};
 ghost use Rattle.world_model.specs.Histories.{Step, opening_hall};
@@ -9,14 +9,16 @@ ghost use Rattle.world_model.specs.declared.events.Event.TheVariants as event;
 ghost use Rattle.world_model.specs.declared.events.Outcome.TheVariants as outcome;
 ghost use Rattle.tile_core.specs.Kernels.{Kernel};
 
-use crate::objects::{make_move, make_room};
-use crate::plans::{Plan, plan_asked};
+use crate::dues::{expire, release};
+use crate::moves::make_move;
+use crate::ready::{Ready, calm_after, make_ready};
 use crate::sessions::{Session, Stage, position_of, served};
 use byte_text::NoMemory;
+use keyspace::Keyspace;
 use std::alloc::Global;
 use std::marker::Model;
 use subscriber_queue::Outbox;
-use world_model::{Asked, Called, EnterFault, Frames, Object, Taken, world_laws};
+use world_model::{Asked, Called, EnterFault, Frames, Taken, world_laws};
 
 /// The most sessions that are present at once.
 const MAX_SESSIONS: usize = 512;
@@ -28,9 +30,11 @@ const MOST_LOGGED: u64 = 1 << 60;
 #[derive(Drop)]
 pub struct Core {
     alloc: Global,
-    objects: Vec<Object>,
+    objects: Keyspace,
     /// The bytes of the records of all objects.
     weight: u64,
+    /// No deadline comes before this moment, so that until then nothing is due.
+    calm: u64,
     now: u64,
     logged: u64,
     drawn: u32,
@@ -38,13 +42,14 @@ pub struct Core {
 }
 
 impl Model for Core {
+    ghost use Rattle.keyspace.specs.Entries.{objects_in};
     ghost use Rattle.tile_core.specs.Kernels.{Kernel, hall_of, IsSound};
 
     ghost Value = { Kernel };
 
-    ghost view = { λ c. record { hall = hall_of c.objects.items c.now c.logged c.drawn c.sessions.items } };
+    ghost view = { λ c. record { hall = hall_of (objects_in c.objects) c.now c.logged c.drawn c.sessions.items } };
 
-    ghost invariant = { λ c. IsSound c.objects.items c.weight c.drawn c.sessions.items };
+    ghost invariant = { λ c. IsSound (objects_in c.objects) c.weight c.calm c.drawn c.sessions.items };
 }
 
 impl Core {
@@ -54,8 +59,9 @@ impl Core {
     {
         Core {
             alloc,
-            objects: Vec::new(alloc),
+            objects: Keyspace::new(alloc),
             weight: 0,
+            calm: u64::MAX,
             now: 0,
             logged: 0,
             drawn: 0,
@@ -111,11 +117,12 @@ impl Core {
         Taken::Ended
     }
 
-    /// Makes a call of a session at a moment: what is asked is done, and its reply is put last in the session's queue. A
-    /// broken protocol, as QUIT, lets the session end behind the reply. For want of memory the core is as before.
+    /// Makes a call of a session at a moment: the objects that are due then are deleted, what is asked is done, and its reply
+    /// is put last in the session's queue. A broken protocol, as QUIT, lets the session end behind the reply. For want of
+    /// memory the core is as before.
     pub fn call(&mut self, session: u32, moment: u64, asked: &Asked) -> Called
         ensures step { Step self.old.hall (event.Call session moment asked.now) (outcome.Answered result) self.new.hall }
-        ensures logged { self.new.hall.logged ≤ self.old.hall.logged + max_weight }
+        ensures logged { self.new.hall.logged ≤ self.old.hall.logged + 2 * max_weight }
     {
         if self.logged >= MOST_LOGGED {
             return Called::Spent;
@@ -124,29 +131,30 @@ impl Core {
             Ok(at) => at,
             Err(answer) => return answer,
         };
-        let Ok(plan) = plan_asked(self.alloc, self.objects.as_slice(), self.weight, asked) else {
+        let now = self.now.max(moment);
+        let ready = make_ready(
+            self.alloc,
+            &mut self.objects,
+            self.weight,
+            self.calm,
+            now,
+            asked,
+        );
+        let Ok(Ready { gone, plan }) = ready else {
             return Called::Memory;
         };
-        let Plan {
-            frame,
-            action,
-            length,
-            weight,
-            closes,
-        } = plan;
-        if make_room(&mut self.objects, &action).is_err() {
-            return Called::Memory;
-        }
         world_laws();
-        self.now = self.now.max(moment);
-        self.sessions[at].answer(frame, closes);
-        make_move(&mut self.objects, action);
-        self.weight = weight;
-        self.logged += length;
+        self.now = now;
+        self.sessions[at].answer(plan.frame, plan.closes);
+        self.calm = calm_after(gone.calm, &plan.action);
+        make_move(&mut self.objects, plan.action);
+        release(&mut self.objects, gone.held);
+        self.weight = plan.weight;
+        self.logged += gone.length + plan.length;
         Called::Ok
     }
 
-    /// Lets the clock go on to a moment.
+    /// Lets the clock go on to a moment, and deletes the objects that are due then. For want of memory the core is as before.
     pub fn tick(&mut self, moment: u64) -> Called
         ensures step { Step self.old.hall (event.Tick moment) (outcome.Answered result) self.new.hall }
         ensures logged { self.new.hall.logged ≤ self.old.hall.logged + max_weight }
@@ -154,7 +162,16 @@ impl Core {
         if self.logged >= MOST_LOGGED {
             return Called::Spent;
         }
-        self.now = self.now.max(moment);
+        let now = self.now.max(moment);
+        let expired = expire(self.alloc, &mut self.objects, self.weight, self.calm, now);
+        let Ok(gone) = expired else {
+            return Called::Memory;
+        };
+        release(&mut self.objects, gone.held);
+        self.now = now;
+        self.weight = gone.weight;
+        self.calm = gone.calm;
+        self.logged += gone.length;
         Called::Ok
     }
 

@@ -1,66 +1,140 @@
-//! DEL, DROP and FLUSHDB: objects are taken out.
+//! DEL, PDEL, DROP and FLUSHDB: objects are taken out.
 
-ghost use Rattle.std.specs.Prelude.{◌≡◌, ◌∷◌, ℕ, not, [], filter, sum_by, IfOk};
+ghost use Rattle.std.specs.Prelude.{◌≡◌, ◌+◌, ◌∷◌, ◌≤◌, ℕ, true, not, [], filter, map, length, sum_by, IfOk, OnOk};
+ghost use Rattle.byte_text.specs.Globs.{glob_meets, is_well_formed};
+ghost use Rattle.world_model.specs.Limits.{max_weight};
 ghost use Rattle.world_model.specs.Worlds.{has_key};
 ghost use Rattle.world_model.specs.Records.{weight};
-ghost use Rattle.world_model.specs.Effects.{effect};
+ghost use Rattle.world_model.specs.Effects.{dels, effect};
 ghost use Rattle.world_model.specs.declared.commands.Command.TheVariants as command;
+ghost use Rattle.keyspace.specs.Entries.{objects_in};
 ghost use Rattle.tile_core.specs.Kernels.{AreKept};
-ghost use Rattle.tile_core.specs.Objects.{world_of, IsPlain, len_of};
-ghost use Rattle.tile_core.specs.Plans.{IsPlan};
+ghost use Rattle.tile_core.specs.Moves.{world_in, world_of, HasFewFields, HaveFewFields, len_of};
+ghost use Rattle.tile_core.specs.Plans.{IsPlan, records_len};
+ghost use Rattle.tile_core.specs.Sweeps.{IsSwept, IsSweptOf};
 
 use crate::answers::{say, short_frame};
-use crate::objects::{Move, Place, is_key, place_of};
+use crate::moves::Move;
 use crate::plans::Plan;
 use crate::records::{del_len, drop_len, flush_len, put_len};
 use byte_text::{Name, NoMemory};
+use collection::Collection;
+use glob_match::glob_meets;
+use keyspace::Keyspace;
 use reply_text::{count_reply, fine_reply};
 use std::alloc::Global;
-use world_model::{Object, is_same};
+use world_model::{NameList, Object};
 
 /// What DEL will do.
 pub(crate) fn plan_del(
     alloc: Global,
-    objects: &[Object],
+    objects: &Keyspace,
     total: u64,
-    key: &Name,
-    id: &Name,
+    key: Name,
+    id: Name,
 ) -> Result<Plan, NoMemory>
-    requires { AreKept objects.now total }
-    ensures { IfOk result (λ p. (now : ℕ) → IsPlan objects.now (effect (world_of objects.now) now [] (command.Del key.now id.now)) p) }
+    requires { AreKept (objects_in objects.now) total }
+    ensures { IfOk result (λ p. (now : ℕ) → IsPlan (objects_in objects.now) (effect (world_in objects.now) now [] (command.Del key id)) p) }
 {
-    match place_of(objects, key, id) {
-        Place::Held(at) => Ok(Plan {
-            frame: short_frame(alloc, &count_reply(alloc, 1)?)?,
-            action: Move::Delete(at),
-            length: del_len(key, id),
-            weight: total - put_len(&objects[at]),
-            closes: false,
-        }),
-        Place::Free(_) => say(alloc, total, &count_reply(alloc, 0)?),
-    }
+    let Some(object) = objects.get(&key, &id) else {
+        return say(alloc, total, &count_reply(alloc, 0)?);
+    };
+    let weight = total - put_len(object);
+    Ok(Plan {
+        frame: short_frame(alloc, &count_reply(alloc, 1)?)?,
+        length: del_len(&key, &id),
+        action: Move::Delete(key, id),
+        weight,
+        closes: false,
+    })
 }
 
-// The length of the record of an object, where it is not of a key.
-fn len_without(object: &Object, key: &Name) -> u64
-    requires { IsPlain object.now }
-    ensures value { result ≡ sum_by len_of (filter (λ o. not (has_key key.now o)) (object.now ∷ [])) }
+/// What PDEL takes out: the ids, the bytes of the records of the dels, and the weight of what is left.
+#[derive(Drop)]
+struct Swept {
+    ids: NameList,
+    length: u64,
+    weight: u64,
+}
+
+// Takes note of an object where its id meets the pattern.
+fn sweep_one(
+    alloc: Global,
+    swept: &mut Swept,
+    object: &Object,
+    pattern: &Name,
+) -> Result<(), NoMemory>
+    requires pattern { is_well_formed pattern.now ≡ true }
+    requires few { HasFewFields object.now }
+    requires small { swept.old.length + swept.old.weight ≤ max_weight }
+    requires weighed { len_of object.now ≤ swept.old.weight }
+    ensures { OnOk result (IsSwept pattern.now object.now swept.old swept.new) }
 {
-    if is_same(&object.key, key) {
-        0
-    } else {
-        put_len(object)
+    if !glob_meets(pattern.bytes(), object.id.bytes()) {
+        return Ok(());
     }
+    if swept.ids.push(object.id.copy(alloc)?).is_err() {
+        return Err(NoMemory);
+    }
+    swept.length += del_len(&object.key, &object.id);
+    swept.weight -= put_len(object);
+    Ok(())
+}
+
+// The objects of a key whose ids meet the pattern, in a world of this weight.
+fn sweep(alloc: Global, objects: &Collection, total: u64, pattern: &Name) -> Result<Swept, NoMemory>
+    requires pattern { is_well_formed pattern.now ≡ true }
+    requires few { HaveFewFields objects.now.objects }
+    requires weighed { sum_by len_of objects.now.objects ≤ total }
+    requires light { total ≤ max_weight }
+    ensures { IfOk result (λ s. IsSweptOf pattern.now objects.now.objects total s) }
+{
+    let mut swept = Swept {
+        ids: NameList::new(alloc),
+        length: 0,
+        weight: total,
+    };
+    for i in 0..objects.len() {
+        sweep_one(alloc, &mut swept, objects.at(i), pattern)?;
+    }
+    Ok(swept)
+}
+
+/// What PDEL will do.
+pub(crate) fn plan_pdel(
+    alloc: Global,
+    objects: &Keyspace,
+    total: u64,
+    key: Name,
+    pattern: &Name,
+) -> Result<Plan, NoMemory>
+    requires kept { AreKept (objects_in objects.now) total }
+    requires pattern { is_well_formed pattern.now ≡ true }
+    ensures { IfOk result (λ p. (now : ℕ) → IsPlan (objects_in objects.now) (effect (world_in objects.now) now [] (command.Pdel key pattern.now)) p) }
+{
+    let Some(found) = objects.collection(&key) else {
+        return say(alloc, total, &count_reply(alloc, 0)?);
+    };
+    let swept = sweep(alloc, found, total, pattern)?;
+    let count = swept.ids.len() as u64;
+    Ok(Plan {
+        frame: short_frame(alloc, &count_reply(alloc, count)?)?,
+        action: Move::DeleteEach(key, swept.ids),
+        length: swept.length,
+        weight: swept.weight,
+        closes: false,
+    })
 }
 
 // The weight of the world without the objects of a key.
-fn weight_without(objects: &[Object], total: u64, key: &Name) -> u64
-    requires { AreKept objects.now total }
-    ensures { result ≡ weight (world_of (filter (λ o. not (has_key key.now o)) objects.now)) }
+fn weight_without(objects: &Collection, total: u64) -> u64
+    requires few { HaveFewFields objects.now.objects }
+    requires weighed { sum_by len_of objects.now.objects ≤ total }
+    ensures { result + sum_by len_of objects.now.objects ≡ total }
 {
-    let mut rest = 0;
-    for object in objects {
-        rest += len_without(object, key);
+    let mut rest = total;
+    for i in 0..objects.len() {
+        rest -= put_len(objects.at(i));
     }
     rest
 }
@@ -68,30 +142,32 @@ fn weight_without(objects: &[Object], total: u64, key: &Name) -> u64
 /// What DROP will do.
 pub(crate) fn plan_drop(
     alloc: Global,
-    objects: &[Object],
+    objects: &Keyspace,
     total: u64,
     key: Name,
 ) -> Result<Plan, NoMemory>
-    requires { AreKept objects.now total }
-    ensures { IfOk result (λ p. (now : ℕ) → IsPlan objects.now (effect (world_of objects.now) now [] (command.Drop key)) p) }
+    requires { AreKept (objects_in objects.now) total }
+    ensures { IfOk result (λ p. (now : ℕ) → IsPlan (objects_in objects.now) (effect (world_in objects.now) now [] (command.Drop key)) p) }
 {
-    if !is_key(objects, &key) {
+    let Some(found) = objects.collection(&key) else {
+        return say(alloc, total, &count_reply(alloc, 0)?);
+    };
+    if found.len() == 0 {
         return say(alloc, total, &count_reply(alloc, 0)?);
     }
-    let length = drop_len(&key);
-    let weight = weight_without(objects, total, &key);
+    let weight = weight_without(found, total);
     Ok(Plan {
         frame: short_frame(alloc, &count_reply(alloc, 1)?)?,
+        length: drop_len(&key),
         action: Move::Leave(key),
-        length,
         weight,
         closes: false,
     })
 }
 
 /// What FLUSHDB will do.
-pub(crate) fn plan_flush(alloc: Global, _objects: &[Object]) -> Result<Plan, NoMemory>
-    ensures { IfOk result (λ p. (now : ℕ) → IsPlan _objects.now (effect (world_of _objects.now) now [] command.Flush) p) }
+pub(crate) fn plan_flush(alloc: Global, _objects: &Keyspace) -> Result<Plan, NoMemory>
+    ensures { IfOk result (λ p. (now : ℕ) → IsPlan (objects_in _objects.now) (effect (world_in _objects.now) now [] command.Flush) p) }
 {
     Ok(Plan {
         frame: short_frame(alloc, &fine_reply(alloc)?)?,

@@ -2,13 +2,20 @@
 #![tactic(auto)]
 
 mod answers;
+mod changes;
 mod cores;
+mod deadlines;
 mod deletes;
-mod objects;
+mod dues;
+mod fields;
+mod moves;
 mod plans;
 mod puts;
 mod reads;
+mod ready;
 mod records;
+mod requests;
+mod scans;
 mod sessions;
 
 pub use cores::Core;

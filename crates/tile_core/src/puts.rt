@@ -1,22 +1,32 @@
-//! SET: an object is put.
+//! SET: an object is put, with fields and a deadline.
 
-ghost use Rattle.std.specs.Prelude.{◌≡◌, ◌≤◌, ◌+◌, ◌^◌, ℕ, [], None, IfOk};
-ghost use Rattle.world_model.specs.Records.{record_len, weight};
-ghost use Rattle.world_model.specs.Effects.{effect};
+ghost use Rattle.std.specs.Prelude.{◌≡◌, ◌≤◌, ◌+◌, ◌^◌, Bool, Option, Some, None, [], is_some, length, find, IfOk, IfSome, IfNone};
+ghost use Rattle.byte_text.specs.Replies.{IsFrame, frame_text};
+ghost use Rattle.world_model.specs.Limits.{max_reply};
+ghost use Rattle.world_model.specs.Lists.{put_in};
+ghost use Rattle.world_model.specs.Worlds.{object_before};
+ghost use Rattle.world_model.specs.Records.{weight};
+ghost use Rattle.world_model.specs.Effects.{effect, deadline_after, is_kept_back};
 ghost use Rattle.world_model.specs.declared.commands.Command.TheVariants as command;
-ghost use Rattle.world_model.specs.declared.worlds.Change.TheVariants as change;
+ghost use Rattle.world_model.specs.declared.objects.Object.{Object};
+ghost use Rattle.keyspace.specs.Entries.{objects_in};
 ghost use Rattle.tile_core.specs.Kernels.{AreKept};
-ghost use Rattle.tile_core.specs.Objects.{world_of, placed_at, IsWithin, IsPlain};
-ghost use Rattle.tile_core.specs.Plans.{IsPlan, lacks_room, keeps_back};
+ghost use Rattle.tile_core.specs.Moves.{world_in, world_of, HasFewFields, len_of};
+ghost use Rattle.tile_core.specs.Plans.{IsPlan, put_or_full};
 
 use crate::answers::{say, short_frame};
-use crate::objects::{Move, Place, place_of};
+use crate::fields::with_values;
+use crate::moves::Move;
 use crate::plans::Plan;
 use crate::records::put_len;
-use byte_text::NoMemory;
+use byte_text::{NoMemory, Reply};
+use keyspace::Keyspace;
 use reply_text::{error_reply, fine_reply, null_reply};
 use std::alloc::Global;
-use world_model::{Object, Only};
+use world_model::{Fields, NameList, Object, Only};
+
+/// The most fields of an object.
+pub(crate) const MAX_FIELDS: usize = 256;
 
 /// The most objects of a world.
 const MAX_OBJECTS: usize = 1_000_000;
@@ -24,70 +34,115 @@ const MAX_OBJECTS: usize = 1_000_000;
 /// The most bytes of the records of all objects together.
 const MAX_WEIGHT: u64 = 536_870_912;
 
-// Whether NX or XX keeps the object back.
-fn keeps_back(only: Only, place: Place) -> bool
-    ensures { result ≡ keeps_back only place }
+// Whether NX or XX keeps an object back, where one is there or not.
+fn keeps_back(only: Only, is_there: bool) -> bool
+    ensures { (old : Option Object) → is_there ≡ is_some old → result ≡ is_kept_back only old }
 {
     match only {
         Only::Any => false,
-        Only::Absent => place.is_held(),
-        Only::Present => !place.is_held(),
-    }
-}
-
-// Whether the object would be a new one beside the greatest number of objects.
-fn lacks_room(objects: &[Object], place: Place) -> bool
-    ensures { result ≡ lacks_room objects.now place }
-{
-    match place {
-        Place::Held(_) => false,
-        Place::Free(_) => objects.len() >= MAX_OBJECTS,
+        Only::Absent => is_there,
+        Only::Present => !is_there,
     }
 }
 
 // The weight of the world after a put of an object whose record has this length.
-fn weight_after(objects: &[Object], total: u64, place: Place, object: &Object, length: u64) -> u64
-    requires kept { AreKept objects.now total }
-    requires within { IsWithin objects.now place }
-    requires length { length ≡ record_len (change.Put object.now) }
-    requires short { length ≤ 2 ^ 63 + 1000 }
-    ensures { result ≡ weight (world_of (placed_at objects.now place object.now)) }
+fn weight_after(objects: &Keyspace, total: u64, object: &Object, length: u64) -> u64
+    requires kept { AreKept (objects_in objects.now) total }
+    requires length { length ≡ len_of object.now }
+    requires short { length ≤ 2 ^ 63 + 300000 }
+    ensures { result ≡ weight (world_of (put_in object_before object.now (objects_in objects.now))) }
 {
-    match place {
-        Place::Held(at) => total + length - put_len(&objects[at]),
-        Place::Free(_) => total + length,
+    match objects.get(&object.key, &object.id) {
+        Some(old) => total + length - put_len(old),
+        None => total + length,
     }
 }
 
-/// What a SET of this object will do.
-pub(crate) fn plan_set(
+/// An object is put in its place and this is replied, where the world will not be too heavy.
+pub(crate) fn plan_put(
     alloc: Global,
-    objects: &[Object],
+    objects: &Keyspace,
     total: u64,
-    only: Only,
     object: Object,
+    reply: &Reply,
 ) -> Result<Plan, NoMemory>
-    requires kept { AreKept objects.now total }
-    requires plain { IsPlain object }
-    ensures { IfOk result (λ p. (now : ℕ) → IsPlan objects.now (effect (world_of objects.now) now [] (command.Set object.key object.id [] [] None only object.text object.shape)) p) }
+    requires kept { AreKept (objects_in objects.now) total }
+    requires few { HasFewFields object }
+    requires frame { IsFrame reply.now }
+    requires short { length (frame_text reply.now) ≤ max_reply }
+    ensures { IfOk result (λ p. (is_loud : Bool) → IsPlan (objects_in objects.now) (put_or_full (world_in objects.now) object reply.now is_loud) p) }
 {
-    let place = place_of(objects, &object.key, &object.id);
-    if keeps_back(only, place) {
-        return say(alloc, total, &null_reply(alloc)?);
-    }
-    if lacks_room(objects, place) {
-        return say(alloc, total, &error_reply(alloc, b"too many objects")?);
-    }
     let length = put_len(&object);
-    let weight = weight_after(objects, total, place, &object, length);
+    let weight = weight_after(objects, total, &object, length);
     if weight > MAX_WEIGHT {
         return say(alloc, total, &error_reply(alloc, b"database is full")?);
     }
     Ok(Plan {
-        frame: short_frame(alloc, &fine_reply(alloc)?)?,
-        action: Move::Put(place, object),
+        frame: short_frame(alloc, reply)?,
+        action: Move::Put(object),
         length,
         weight,
         closes: false,
     })
+}
+
+/// The deadline that EX gives. One that no `u64` holds has room in no memory.
+pub(crate) fn deadline_after(now: u64, seconds: Option<u32>) -> Result<Option<u64>, NoMemory>
+    ensures { IfOk result (λ d. d ≡ deadline_after now seconds) }
+{
+    let Some(seconds) = seconds else {
+        return Ok(None);
+    };
+    match now.checked_add(1000 * u64::from(seconds)) {
+        Some(deadline) => Ok(Some(deadline)),
+        None => Err(NoMemory),
+    }
+}
+
+// The fields of the object that stands there, if one does.
+fn fields_of(alloc: Global, old: Option<&Object>) -> Result<Fields, NoMemory>
+    ensures some { IfSome old (λ o. IfOk result (λ fields. fields ≡ o.now.fields)) }
+    ensures none { IfNone old (IfOk result (λ fields. fields ≡ [])) }
+{
+    match old {
+        Some(object) => object.fields.copy(alloc),
+        None => Ok(Fields::new(alloc)),
+    }
+}
+
+/// What a SET of this object will do, whose fields are those that are given.
+pub(crate) fn plan_set(
+    alloc: Global,
+    objects: &Keyspace,
+    total: u64,
+    now: u64,
+    seconds: Option<u32>,
+    cleared: &NameList,
+    only: Only,
+    object: Object,
+) -> Result<Plan, NoMemory>
+    requires { AreKept (objects_in objects.now) total }
+    ensures { IfOk result (λ p. IsPlan (objects_in objects.now) (effect (world_in objects.now) now [] (command.Set object.key object.id object.fields cleared.now seconds only object.text object.shape)) p) }
+{
+    let old = objects.get(&object.key, &object.id);
+    let is_new = old.is_none();
+    if keeps_back(only, !is_new) {
+        return say(alloc, total, &null_reply(alloc)?);
+    }
+    let fields = fields_of(alloc, old)?;
+    let whole = Object {
+        fields: with_values(alloc, fields, &object.fields, cleared)?,
+        deadline: deadline_after(now, seconds)?,
+        key: object.key,
+        id: object.id,
+        text: object.text,
+        shape: object.shape,
+    };
+    if whole.fields.len() > MAX_FIELDS {
+        return say(alloc, total, &error_reply(alloc, b"too many fields")?);
+    }
+    if is_new && objects.len() >= MAX_OBJECTS {
+        return say(alloc, total, &error_reply(alloc, b"too many objects")?);
+    }
+    plan_put(alloc, objects, total, whole, &fine_reply(alloc)?)
 }

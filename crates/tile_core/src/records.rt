@@ -1,14 +1,16 @@
 //! The lengths that the records of changes have in the log.
 
-ghost use Rattle.std.specs.Prelude.{◌≡◌, ◌≤◌, ◌+◌, ◌^◌, length, decimal};
+ghost use Rattle.std.specs.Prelude.{◌≡◌, ◌≤◌, ◌+◌, ◌*◌, ◌^◌, length, decimal, flat_map};
 ghost use Rattle.byte_text.specs.Lines.{line, bulk_text};
-ghost use Rattle.world_model.specs.Records.{record_len};
+ghost use Rattle.world_model.specs.Limits.{max_fields};
+ghost use Rattle.world_model.specs.Records.{record_len, field_words, deadline_words};
 ghost use Rattle.world_model.specs.declared.worlds.Change.TheVariants as change;
-ghost use Rattle.tile_core.specs.Objects.{IsPlain};
+ghost use Rattle.tile_core.specs.Moves.{HasFewFields};
+ghost use Rattle.tile_core.specs.Records.{words_len};
 
 use byte_text::Name;
 use itoa::Buffer;
-use world_model::Object;
+use world_model::{Fields, Object};
 
 // The bytes of a line of a mark and a number.
 fn line_len(n: u64) -> u64
@@ -34,14 +36,60 @@ fn name_len(name: &Name) -> u64
     bulk_len(name.bytes())
 }
 
-/// The length of the record of a put of this object: the request `SET key id OBJECT text`.
-pub(crate) fn put_len(object: &Object) -> u64
-    requires { IsPlain object.now }
-    ensures value { result ≡ record_len (change.Put object.now) }
-    ensures short { result ≤ 2 ^ 63 + 1000 }
+// The bytes of the words of a field: `FIELD name value`.
+fn field_len(name: &Name, value: i64) -> u64
+    ensures value { result ≡ words_len (field_words (name.now, value)) }
+    ensures short { result ≤ 400 }
 {
+    bulk_len(b"FIELD") + name_len(name) + bulk_len(Buffer::new().format(value).as_bytes())
+}
+
+// The bytes of the words of all fields.
+fn fields_len(fields: &Fields) -> u64
+    requires { length fields.now ≤ max_fields }
+    ensures value { result ≡ words_len (flat_map field_words fields.now) }
+    ensures short { result ≤ 200000 }
+{
+    let mut sum = 0;
+    for i in 0..fields.len() {
+        sum += field_len(fields.name(i), fields.value(i));
+    }
+    sum
+}
+
+// How many words tell a deadline: `AT moment`, or none.
+fn deadline_count(deadline: Option<u64>) -> u64
+    ensures value { result ≡ length (deadline_words deadline) }
+    ensures short { result ≤ 2 }
+{
+    match deadline {
+        Some(_) => 2,
+        None => 0,
+    }
+}
+
+// The bytes of these words.
+fn deadline_len(deadline: Option<u64>) -> u64
+    ensures value { result ≡ words_len (deadline_words deadline) }
+    ensures short { result ≤ 100 }
+{
+    match deadline {
+        Some(moment) => bulk_len(b"AT") + bulk_len(Buffer::new().format(moment).as_bytes()),
+        None => 0,
+    }
+}
+
+/// The length of the record of a put of this object: the request `SET key id`, its fields and its deadline, and `OBJECT text`.
+pub(crate) fn put_len(object: &Object) -> u64
+    requires { HasFewFields object.now }
+    ensures value { result ≡ record_len (change.Put object.now) }
+    ensures short { result ≤ 2 ^ 63 + 300000 }
+{
+    let count = 5 + 3 * object.fields.len() as u64 + deadline_count(object.deadline);
     let names = name_len(&object.key) + name_len(&object.id);
-    line_len(5) + bulk_len(b"SET") + names + bulk_len(b"OBJECT") + bulk_len(object.text.bytes())
+    let extras = fields_len(&object.fields) + deadline_len(object.deadline);
+    let text = bulk_len(b"OBJECT") + bulk_len(object.text.bytes());
+    line_len(count) + bulk_len(b"SET") + names + extras + text
 }
 
 /// The length of the record of a del: the request `DEL key id`.

@@ -1,8 +1,8 @@
 use Rattle.std.proofs.Common.{◌≡◌, ◌+◌, ◌-◌, ℕ, subst, ap, ◌∙◌, sym, arith}
 use Rattle.world_model.specs.Records.{weight}
 use Rattle.tile_core.specs.declared.objects.Place.{Place}
-use Rattle.tile_core.specs.Objects.{world_of, len_of, placed_at, IsWithin, IsPlain}
-use Rattle.tile_core.proofs.Weights.{weight_insert, weight_set, weighs, plain_at, there}
+use Rattle.tile_core.specs.Objects.{world_of, len_of, placed_at, IsWithin, HasFewFields}
+use Rattle.tile_core.proofs.Weights.{weight_insert, weight_set, weighs, few_at, there}
 use Rattle.tile_core.proofs.Finishing.{read_at}
 use Rattle.tile_core.proofs.puts.weight_after.Goals as goal
 
@@ -15,7 +15,7 @@ put_len-requires c =
     let lt = subst (IsWithin xs) c.in-Held.is c.requires.within in
     let some = there xs c.in-Held.at lt in
     let is : c.index-objects-at.result ≡ some.0 = c.index-objects-at.is ∙ read_at xs c.in-Held.at some.0 c.index-objects-at.result some.1 in
-    subst IsPlain (sym is) (plain_at xs c.in-Held.at some.0 c.requires.kept.plain some.1)
+    subst HasFewFields (sym is) (few_at xs c.in-Held.at some.0 c.requires.kept.few some.1)
 
 pub overflow_sub-result : goal.overflow_sub-result
 overflow_sub-result c =

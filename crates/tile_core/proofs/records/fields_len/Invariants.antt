@@ -1,0 +1,11 @@
+use Rattle.std.proofs.Common.{◌≡◌, ◌≤◌, ◌*◌, take}
+use Rattle.std.specs.Prelude.{flat_map}
+use Rattle.world_model.specs.Records.{field_words}
+use Rattle.tile_core.specs.Records.{words_len}
+use Rattle.tile_core.proofs.records.fields_len.Given as goal
+
+abbrev pub invariant-loop-i : goal.invariant-loop-i
+invariant-loop-i l = record {
+  counted : l.sum ≡ words_len (flat_map field_words (take l.i l.fields));
+  short : l.sum ≤ 400 * l.i;
+}

@@ -1,0 +1,60 @@
+-- What is done to the objects of a world.
+use Rattle.std.specs.Prelude.{◌≡◌, ℕ, ◌≤◌, true, not, List, [], ◌∷◌, length, filter}
+use Rattle.std.specs.List.{AllByRecursion}
+use Rattle.byte_text.specs.Names.{Bytes}
+use Rattle.world_model.specs.Limits.{max_fields}
+use Rattle.world_model.specs.Lists.{put_in}
+use Rattle.world_model.specs.Worlds.{object_before, has_key, is_at}
+use Rattle.world_model.specs.Records.{record_len}
+use Rattle.world_model.specs.declared.worlds.Change.TheVariants as change
+use Rattle.world_model.specs.declared.objects.Object.{Object}
+use Rattle.world_model.specs.declared.worlds.World.{World}
+use Rattle.keyspace.specs.Entries.{Entry, objects_in, has_room}
+use Rattle.tile_core.specs.declared.moves.Move.{Move}
+use Rattle.tile_core.specs.declared.moves.Move.TheVariants.{Stay, Put, Delete, DeleteEach, Leave, Clear}
+
+-- the world of these objects; it has no channels so far
+abbrev pub world_of : List Object → World
+world_of objects = record { objects = objects; channels = [] }
+
+-- the world of the objects of all keys
+abbrev pub world_in : List Entry → World
+world_in entries = world_of (objects_in entries)
+
+-- the length of the record of an object
+abbrev pub len_of : Object → ℕ
+len_of o = record_len (change.Put o)
+
+-- an object has no more fields than it may have
+abbrev pub HasFewFields : Object → Type 0
+HasFewFields o = length o.fields ≤ max_fields
+
+abbrev pub HaveFewFields : List Object → Type 0
+HaveFewFields objects = AllByRecursion HasFewFields objects
+
+-- the objects without those of these ids of a key, which go one after another
+abbrev pub without_each : Bytes → List Bytes → List Object → List Object
+without_each key [] objects = objects
+without_each key (id ∷ ids) objects = without_each key ids (filter (λ o. not (is_at key id o)) objects)
+
+-- the objects after what is done to them: one is put in its place, the one of a key and an id is taken out, those of these ids of a key are, those of a key are, or all
+abbrev pub moved : List Object → Move → List Object
+moved objects Stay = objects
+moved objects (Put o) = put_in object_before o objects
+moved objects (Delete key id) = filter (λ o. not (is_at key id o)) objects
+moved objects (DeleteEach key ids) = without_each key ids objects
+moved objects (Leave key) = filter (λ o. not (has_key key o)) objects
+moved objects Clear = []
+
+-- it holds of the object that is put
+abbrev pub HoldsOfPut : (Object → Type 0) → Move → Type 0
+HoldsOfPut P (Put o) = P o
+HoldsOfPut P Stay = Unit {0}
+HoldsOfPut P (Delete key id) = Unit {0}
+HoldsOfPut P (DeleteEach key ids) = Unit {0}
+HoldsOfPut P (Leave key) = Unit {0}
+HoldsOfPut P Clear = Unit {0}
+
+-- there is room for what is put
+abbrev pub HasRoom : List Entry → Move → Type 0
+HasRoom entries action = HoldsOfPut (λ o. has_room entries o ≡ true) action

@@ -1,0 +1,122 @@
+//! FSET and FGET: fields of an object are set and told.
+
+ghost use Rattle.std.specs.Prelude.{◌≡◌, ◌+◌, ◌∷◌, [], ℕ, IfOk};
+ghost use Rattle.std.specs.List.{list_any};
+ghost use Rattle.world_model.specs.Worlds.{has_key};
+ghost use Rattle.world_model.specs.Effects.{effect, changed_count, given_and_cleared, missing};
+ghost use Rattle.world_model.specs.declared.commands.Command.TheVariants as command;
+ghost use Rattle.keyspace.specs.Entries.{objects_in};
+ghost use Rattle.tile_core.specs.Kernels.{AreKept};
+ghost use Rattle.tile_core.specs.Moves.{world_in};
+ghost use Rattle.tile_core.specs.Plans.{IsPlan, Says};
+
+use crate::answers::say;
+use crate::fields::with_values;
+use crate::plans::Plan;
+use crate::puts::{MAX_FIELDS, plan_put};
+use byte_text::{Name, NoMemory};
+use field_filter::value_of;
+use keyspace::Keyspace;
+use reply_text::{count_reply, error_reply, value_reply};
+use std::alloc::Global;
+use world_model::{Fields, NameList, Object};
+
+// Whether there is an object of the key.
+fn has_key(objects: &Keyspace, key: &Name) -> bool
+    ensures { result ≡ list_any (has_key key.now) (objects_in objects.now) }
+{
+    match objects.collection(key) {
+        Some(found) => found.len() > 0,
+        None => false,
+    }
+}
+
+// The refusal of a command on an object that is not there.
+fn plan_missing(alloc: Global, objects: &Keyspace, total: u64, key: &Name) -> Result<Plan, NoMemory>
+    requires { AreKept (objects_in objects.now) total }
+    ensures { IfOk result (λ p. IsPlan (objects_in objects.now) (missing (world_in objects.now) key.now) p) }
+{
+    if has_key(objects, key) {
+        say(alloc, total, &error_reply(alloc, b"id not found")?)
+    } else {
+        say(alloc, total, &error_reply(alloc, b"key not found")?)
+    }
+}
+
+// How many of these values the fields do not have. More of them than a `u64` counts have room in no memory.
+fn changed_given(fields: &Fields, given: &Fields) -> u64
+    ensures { result ≡ changed_count fields.now given.now }
+{
+    let mut count = 0;
+    for i in 0..given.len() {
+        count += u64::from(value_of(fields, given.name(i)) != given.value(i));
+    }
+    count
+}
+
+// How many of the fields of these names are there, each of which has another value than 0.
+fn changed_cleared(fields: &Fields, cleared: &NameList) -> u64
+    ensures { result ≡ changed_count fields.now (given_and_cleared [] cleared.now) }
+{
+    let mut count = 0;
+    for i in 0..cleared.len() {
+        count += u64::from(value_of(fields, cleared.at(i)) != 0);
+    }
+    count
+}
+
+/// What FSET will do. Where no value changes, nothing is changed.
+pub(crate) fn plan_fset(
+    alloc: Global,
+    objects: &Keyspace,
+    total: u64,
+    key: &Name,
+    id: &Name,
+    given: &Fields,
+    cleared: &NameList,
+) -> Result<Plan, NoMemory>
+    requires { AreKept (objects_in objects.now) total }
+    ensures { IfOk result (λ p. (now : ℕ) → IsPlan (objects_in objects.now) (effect (world_in objects.now) now [] (command.Fset key.now id.now given.now cleared.now)) p) }
+{
+    let Some(old) = objects.get(key, id) else {
+        return plan_missing(alloc, objects, total, key);
+    };
+    let Some(count) = changed_given(&old.fields, given).checked_add(changed_cleared(
+        &old.fields,
+        cleared,
+    )) else {
+        return Err(NoMemory);
+    };
+    let reply = count_reply(alloc, count)?;
+    if count == 0 {
+        return say(alloc, total, &reply);
+    }
+    let mut object = old.copy(alloc)?;
+    object.fields = with_values(alloc, old.fields.copy(alloc)?, given, cleared)?;
+    if object.fields.len() > MAX_FIELDS {
+        return say(alloc, total, &error_reply(alloc, b"too many fields")?);
+    }
+    plan_put(alloc, objects, total, object, &reply)
+}
+
+/// What FGET will do. A field that is missing reads 0.
+pub(crate) fn plan_fget(
+    alloc: Global,
+    objects: &Keyspace,
+    total: u64,
+    key: &Name,
+    id: &Name,
+    field: &Name,
+) -> Result<Plan, NoMemory>
+    requires { AreKept (objects_in objects.now) total }
+    ensures { IfOk result (λ p. (now : ℕ) → IsPlan (objects_in objects.now) (effect (world_in objects.now) now [] (command.Fget key.now id.now field.now)) p) }
+{
+    let Some(object) = objects.get(key, id) else {
+        return plan_missing(alloc, objects, total, key);
+    };
+    say(
+        alloc,
+        total,
+        &value_reply(alloc, value_of(&object.fields, field))?,
+    )
+}

@@ -1,0 +1,145 @@
+//! Expiry: the objects whose deadline has come are taken out before anything else is done, and put back where that cannot be.
+
+ghost use Rattle.std.specs.Prelude.{◌≡◌, ◌≢◌, ◌≤◌, ◌<◌, ◌+◌, ◌^◌, [], true, false, filter, length, IfOk, Ok, OnErr};
+ghost use Rattle.world_model.specs.Limits.{max_weight};
+ghost use Rattle.world_model.specs.Expiry.{is_due};
+ghost use Rattle.world_model.specs.Records.{weight};
+ghost use Rattle.keyspace.specs.Entries.{objects_in};
+ghost use Rattle.tile_core.specs.Kernels.{AreKept};
+ghost use Rattle.tile_core.specs.Moves.{world_of, HaveFewFields};
+ghost use Rattle.tile_core.specs.Dues.{IsCalm, AreCalm, HaveRoom, IsTaken, IsTakenOut, IsExpired, with_back};
+
+use crate::records::{del_len, put_len};
+use byte_text::NoMemory;
+use keyspace::Keyspace;
+use std::alloc::Global;
+use world_model::Object;
+
+/// The objects that were taken out, in the order in which they expire.
+#[derive(Drop)]
+pub(crate) struct Gone {
+    pub(crate) held: Vec<Object>,
+    /// The bytes of the records of their dels.
+    pub(crate) length: u64,
+    /// The weight of the world without them.
+    pub(crate) weight: u64,
+    /// No deadline of what is left comes before this moment.
+    pub(crate) calm: u64,
+}
+
+// Takes the object out that expires first, and says whether one is due. For want of memory all is as before.
+fn take_next(objects: &mut Keyspace, gone: &mut Gone, now: u64) -> Result<bool, NoMemory>
+    requires few { HaveFewFields (objects_in objects.old) }
+    requires rest { gone.old.weight ≡ weight (world_of (objects_in objects.old)) }
+    requires short { gone.old.length ≤ max_weight }
+    requires room { HaveRoom objects.old gone.old.held.items }
+    ensures taken { result ≡ Ok true → IsTakenOut (objects_in objects.old) now (objects_in objects.new) gone.old.held.items gone.new.held.items gone.old.length gone.new.length gone.old.weight gone.new.weight }
+    ensures none { result ≡ Ok false → filter (is_due now) (objects_in objects.new) ≡ [] }
+    ensures room { HaveRoom objects.new gone.new.held.items }
+    ensures stays { result ≢ Ok true → objects_in objects.new ≡ objects_in objects.old }
+    ensures held { result ≢ Ok true → gone.new.held.items ≡ gone.old.held.items }
+    ensures sums { result ≢ Ok true → gone.new ≡ record gone.old { held = gone.new.held } }
+{
+    if gone.held.reserve(1).is_err() {
+        return Err(NoMemory);
+    }
+    let Some(object) = objects.take_due(now) else {
+        return Ok(false);
+    };
+    gone.length += del_len(&object.key, &object.id);
+    gone.weight -= put_len(&object);
+    gone.held.push_reserved(object);
+    Ok(true)
+}
+
+/// Puts back what was taken out, for which there is room.
+pub(crate) fn put_back(objects: &mut Keyspace, held: Vec<Object>)
+    requires room { HaveRoom objects.old held.items }
+    requires few { length (objects_in objects.old) + length held.items < 2 ^ 32 }
+    ensures { objects_in objects.new ≡ with_back (objects_in objects.old) held.items }
+{
+    let mut held = held;
+    while let Some(last) = held.pop() {
+        objects.put(last);
+    }
+}
+
+/// Gives up the keys of what was taken out, where no object of them is left.
+pub(crate) fn release(objects: &mut Keyspace, held: Vec<Object>)
+    ensures { objects_in objects.new ≡ objects_in objects.old }
+{
+    for object in held {
+        objects.give_up(&object.key);
+    }
+}
+
+// Takes all objects out that are due. For want of memory the objects are as before.
+fn take_due(alloc: Global, objects: &mut Keyspace, total: u64, now: u64) -> Result<Gone, NoMemory>
+    requires { AreKept (objects_in objects.old) total }
+    ensures taken { IfOk result (λ g. IsTaken (objects_in objects.old) now total (objects_in objects.new) g.held.items g.length g.weight) }
+    ensures none { IfOk result (λ g. filter (is_due now) (objects_in objects.new) ≡ []) }
+    ensures room { IfOk result (λ g. HaveRoom objects.new g.held.items) }
+    ensures err { OnErr result (objects_in objects.new ≡ objects_in objects.old) }
+{
+    let mut gone = Gone {
+        held: Vec::new(alloc),
+        length: 0,
+        weight: total,
+        calm: 0,
+    };
+    loop {
+        match take_next(objects, &mut gone, now) {
+            Ok(true) => {}
+            Ok(false) => return Ok(gone),
+            Err(NoMemory) => {
+                put_back(objects, gone.held);
+                return Err(NoMemory);
+            }
+        }
+    }
+}
+
+/// The earlier of a moment and the deadline of an object.
+pub(crate) fn earlier(calm: u64, object: &Object) -> u64
+    ensures least { result ≤ calm }
+    ensures calm { IsCalm result object.now }
+{
+    match object.deadline {
+        Some(deadline) => calm.min(deadline),
+        None => calm,
+    }
+}
+
+// The least deadline of the objects, or the greatest moment where there is none.
+fn least_deadline(objects: &Keyspace) -> u64
+    ensures { AreCalm result (objects_in objects.now) }
+{
+    objects.least_due().unwrap_or(u64::MAX)
+}
+
+/// Takes the objects out that are due now, where no deadline comes before `calm`. For want of memory the objects are as before.
+pub(crate) fn expire(
+    alloc: Global,
+    objects: &mut Keyspace,
+    total: u64,
+    calm: u64,
+    now: u64,
+) -> Result<Gone, NoMemory>
+    requires kept { AreKept (objects_in objects.old) total }
+    requires calm { AreCalm calm (objects_in objects.old) }
+    ensures expired { IfOk result (λ g. IsExpired (objects_in objects.old) now total (objects_in objects.new) g) }
+    ensures room { IfOk result (λ g. HaveRoom objects.new g.held.items) }
+    ensures err { OnErr result (objects_in objects.new ≡ objects_in objects.old) }
+{
+    if now < calm {
+        return Ok(Gone {
+            held: Vec::new(alloc),
+            length: 0,
+            weight: total,
+            calm,
+        });
+    }
+    let mut gone = take_due(alloc, objects, total, now)?;
+    gone.calm = least_deadline(objects);
+    Ok(gone)
+}

@@ -1,0 +1,71 @@
+//! What is done to the objects of a world.
+
+ghost use Rattle.std.specs.Prelude.{◌≡◌, ◌<◌, ◌≤◌, ◌^◌, length, OnOk};
+ghost use Rattle.byte_text.specs.Names.{Bytes};
+ghost use Rattle.keyspace.specs.Entries.{objects_in, room_for};
+ghost use Rattle.tile_core.specs.Moves.{HasRoom, moved, without_each};
+
+use byte_text::{Name, NoMemory};
+use keyspace::Keyspace;
+use world_model::{NameList, Object};
+
+/// What is done to the objects.
+#[derive(Drop)]
+pub(crate) enum Move {
+    Stay,
+    /// The object is put in its place.
+    Put(Object),
+    /// The object of this key and this id is taken out.
+    Delete(Name, Name),
+    /// The objects of a key that have these ids are taken out.
+    DeleteEach(Name, NameList),
+    /// The objects of this key are taken out.
+    Leave(Name),
+    /// All objects are.
+    Clear,
+}
+
+/// Takes room for what is put. For want of memory the objects are as before.
+pub(crate) fn make_room(objects: &mut Keyspace, action: &Move) -> Result<(), NoMemory>
+    ensures objects { objects_in objects.new ≡ objects_in objects.old }
+    ensures kept { (key : Bytes) → room_for objects.old key ≤ room_for objects.new key }
+    ensures room { OnOk result (HasRoom objects.new action.now) }
+{
+    match action {
+        Move::Put(object) => objects.prepare(&object.key),
+        _ => Ok(()),
+    }
+}
+
+// Takes out the objects of a key that have these ids.
+fn delete_each(objects: &mut Keyspace, key: &Name, ids: &NameList)
+    ensures { objects_in objects.new ≡ without_each key.now ids.now (objects_in objects.old) }
+{
+    for i in 0..ids.len() {
+        objects.take_out(key, ids.at(i));
+    }
+}
+
+/// Does this to the objects, and gives up a key that has none left. It takes no memory.
+pub(crate) fn make_move(objects: &mut Keyspace, action: Move)
+    requires room { HasRoom objects.old action }
+    requires few { length (objects_in objects.old) < 2 ^ 32 }
+    ensures { objects_in objects.new ≡ moved (objects_in objects.old) action }
+{
+    match action {
+        Move::Stay => {}
+        Move::Put(object) => {
+            objects.put(object);
+        }
+        Move::Delete(key, id) => {
+            objects.take_out(&key, &id);
+            objects.give_up(&key);
+        }
+        Move::DeleteEach(key, ids) => {
+            delete_each(objects, &key, &ids);
+            objects.give_up(&key);
+        }
+        Move::Leave(key) => objects.drop_key(&key),
+        Move::Clear => objects.clear(),
+    }
+}
