@@ -13,6 +13,7 @@ mod FieldOrder
 mod Timing
 mod Weights
 mod Answering
+mod Listings
 mod Setting
 mod Removing
 mod Reading
