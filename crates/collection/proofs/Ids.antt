@@ -35,22 +35,22 @@ above : (id : Bytes) (x : Object) (xs : List Object) → ((o : Object) → befor
 above id x [] h all = refl
 above id x (y ∷ xs) h all = let ih = above id x xs h in let here = h y in grind arith
 
-none_behind : (id : Bytes) (xs : List Object) → list_all (λ o. before id o.id) xs ≡ true → find (has_id id) xs ≡ None
+pub none_behind : (id : Bytes) (xs : List Object) → list_all (λ o. before id o.id) xs ≡ true → find (has_id id) xs ≡ None
 none_behind id [] all = refl
 none_behind id (x ∷ xs) all =
     let p = both_of (before id x.id) (list_all (λ o. before id o.id) xs) all in
     rw (other_behind x.id id p.0) (none_behind id xs p.1)
 
-kept_behind : (id : Bytes) (xs : List Object) → list_all (λ o. before id o.id) xs ≡ true → filter (λ o. not (has_id id o)) xs ≡ xs
+pub kept_behind : (id : Bytes) (xs : List Object) → list_all (λ o. before id o.id) xs ≡ true → filter (λ o. not (has_id id o)) xs ≡ xs
 kept_behind id [] all = refl
 kept_behind id (x ∷ xs) all =
     let p = both_of (before id x.id) (list_all (λ o. before id o.id) xs) all in
     rw (other_behind x.id id p.0, kept_behind id xs p.1) refl
 
-behind_first : (id : Bytes) (x : Object) (xs : List Object) → (before id x.id ≡ true) → list_all (id_before x) xs ≡ true → list_all (λ o. before id o.id) xs ≡ true
+pub behind_first : (id : Bytes) (x : Object) (xs : List Object) → (before id x.id ≡ true) → list_all (id_before x) xs ≡ true → list_all (λ o. before id o.id) xs ≡ true
 behind_first id x xs h all = above id x xs (λ o q. before_trans id x.id o.id h q) all
 
-behind_tied : (id : Bytes) (x : Object) (xs : List Object) → (before id x.id ≡ false) × (before x.id id ≡ false) → list_all (id_before x) xs ≡ true → list_all (λ o. before id o.id) xs ≡ true
+pub behind_tied : (id : Bytes) (x : Object) (xs : List Object) → (before id x.id ≡ false) × (before x.id id ≡ false) → list_all (id_before x) xs ≡ true → list_all (λ o. before id o.id) xs ≡ true
 behind_tied id x xs t all = above id x xs (λ o q. subst (λ (n : Bytes). before n o.id ≡ true) (before_tie x.id id t.1 t.0) q) all
 
 module _ (id : Bytes) where
