@@ -1,8 +1,9 @@
 -- The least deadline, and where it is.
-use Rattle.std.proofs.Common.{◌≡◌, ◌<◌, ◌≤◌, ◌+◌, ℕ, zero, suc, min, Bool, true, false, not, refl, sym, ap, subst, ◌∙◌, List, [], ◌∷◌, ◌++◌, length, take, drop, append_assoc, append-nil, arith, length-append, eqb}
+use Rattle.std.proofs.Common.{◌≡◌, ◌<◌, ◌≤◌, ◌+◌, ℕ, zero, suc, min, Bool, true, false, not, refl, sym, ap, subst, ◌∙◌, List, [], ◌∷◌, ◌++◌, length, take, drop, append_assoc, append-nil, arith, length-append, eqb, get_or}
 use Rattle.std.specs.Prelude.{Option, Some, None, IfSome, filter, fold, nat_lt, nat_le, ◌&&◌, slice_get, if◌then◌else◌}
 use Rattle.std.specs.List.{list_all, remove}
 use Rattle.std.proofs.lemmas.Bool.Decides.{nat_tests}
+use Rattle.std.proofs.lemmas.List.{take_more, length-take-le}
 use Rattle.std.proofs.lemmas.List.Concat.{flat_map-append}
 use Rattle.world_model.specs.declared.objects.Object.{Object}
 use Rattle.world_model.specs.Expiry.{is_due}
@@ -34,11 +35,11 @@ module _ (test : Option ℕ → Bool) (least : Least test) where
   from_all found (x ∷ xs) = from_all (step found x) xs ∙ rw (least.both found x.deadline) (and_assoc (test found) (test x.deadline) (list_all (λ o. test o.deadline) xs))
 
   -- the least of all passes where all do
-  least_all : (xs : List Object) → test (least_due xs) ≡ list_all (λ o. test o.deadline) xs
+  pub least_all : (xs : List Object) → test (least_due xs) ≡ list_all (λ o. test o.deadline) xs
   least_all xs = from_all None xs ∙ rw least.none refl
 
   -- of all keys, where each key's least does
-  least_each : (xs : List Entry) → list_all (λ e. test (least_due e.objects)) xs ≡ true → list_all (λ o. test o.deadline) (objects_in xs) ≡ true
+  pub least_each : (xs : List Entry) → list_all (λ e. test (least_due e.objects)) xs ≡ true → list_all (λ o. test o.deadline) (objects_in xs) ≡ true
   least_each [] all = refl
   least_each (x ∷ xs) all =
       let p = both_of (test (least_due x.objects)) (list_all (λ e. test (least_due e.objects)) xs) all in
@@ -187,6 +188,16 @@ module _ (xs : List Entry) (x : Entry) where
 
   pub soonest_more : (found : Option (ℕ × ℕ)) → Soonest xs found → Soonest (xs ++ x ∷ []) (sooner found (length xs) (least_due x.objects))
   soonest_more found s = next_case found (least_due x.objects) refl s
+
+pub soonest_next : (xs : List Entry) (at : ℕ) (x : Entry) (found r : Option (ℕ × ℕ)) (d : Option ℕ) → at < length xs → x ≡ get_or xs at x → Soonest (take at xs) found → r ≡ sooner found at d → d ≡ least_due x.objects → Soonest (take (at + 1) xs) r
+soonest_next xs at x found r d within read s is least =
+    let more : take (at + 1) xs ≡ take at xs ++ x ∷ [] = take_more xs at x within ∙ ap (λ (y : Entry). take at xs ++ y ∷ []) (sym read) in
+    let long : length (take at xs) ≡ at = length-take-le at xs (lt_le at (length xs) within) in
+    let result : r ≡ sooner found (length (take at xs)) (least_due x.objects) = is ∙ rw (long, least) refl in
+    rw (more, result) (soonest_more (take at xs) x found s)
+  where
+    lt_le : (a b : ℕ) → a < b → a ≤ b
+    lt_le a b h = omega arith
 
 -- where the least deadline is `due`, all deadlines are no sooner, and one is that
 pub none_sooner : (due : ℕ) (xs : List Object) → least_due xs ≡ Some due → list_all (λ o. is_no_sooner due o.deadline) xs ≡ true

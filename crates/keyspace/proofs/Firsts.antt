@@ -1,23 +1,23 @@
 -- The object that expires first, and what there is without it.
-use Rattle.std.proofs.Common.{◌≡◌, ◌<◌, ◌≤◌, ◌+◌, ◌-◌, ℕ, zero, suc, Bool, true, false, not, refl, sym, ap, subst, ◌∙◌, List, [], ◌∷◌, ◌++◌, length, take, drop, append_assoc, arith, length-append}
+use Rattle.std.proofs.Common.{◌≡◌, get_or, ◌<◌, ◌≤◌, ◌+◌, ◌-◌, ℕ, zero, suc, Bool, true, false, not, refl, sym, ap, subst, ◌∙◌, List, [], ◌∷◌, ◌++◌, length, take, drop, append_assoc, arith, length-append}
 use Rattle.std.specs.Prelude.{Option, Some, None, IfSome, filter, find, nat_lt, nat_le, ◌&&◌, ◌||◌, ◌==◌, is_some, slice_get, if◌then◌else◌}
 use Rattle.std.specs.List.{list_all, slice_set, remove}
 use Rattle.std.proofs.lemmas.Bool.Decides.{nat_tests}
 use Rattle.std.proofs.lemmas.List.Concat.{flat_map-append}
 use Rattle.byte_text.specs.Names.{Bytes, before, same}
 use Rattle.world_model.specs.Lists.{ascends, insert_by, sorted_by}
-use Rattle.world_model.specs.Worlds.{object_before, are_objects, is_at}
+use Rattle.world_model.specs.Worlds.{object_before, are_objects, is_at, has_key}
 use Rattle.world_model.specs.Expiry.{is_due, due_before}
 use Rattle.world_model.specs.declared.objects.Object.{Object}
 use Rattle.world_model.proofs.PlaceLaws.{filter-all}
 use Rattle.world_model.proofs.Sorted.{object_asym}
-use Rattle.collection.specs.Objects.{least_due}
-use Rattle.collection.proofs.Lists.{both_of}
+use Rattle.collection.specs.Objects.{least_due, are_by_id}
+use Rattle.collection.proofs.Lists.{both_of, stands_at}
 use Rattle.collection.proofs.ByteOrder.{same_refl, same_equal, other_before, other_behind, before_self}
 use Rattle.keyspace.specs.Entries.{Entry, key_before, objects_in}
 use Rattle.keyspace.specs.Shelves.{is_shelf, are_shelves, has_deadline, is_later, is_no_sooner, IsSoonest, Took}
 use Rattle.keyspace.proofs.Parts.{all_both, filter_both, find_past}
-use Rattle.keyspace.proofs.Keys.{Stands, stands_here, split_at, set_at, all_take, all_drop, objects_around}
+use Rattle.keyspace.proofs.Keys.{Stands, stands_here, split_at, all_at, all_take, all_drop, objects_around}
 use Rattle.keyspace.proofs.Orders.{shelves_sorted}
 use Rattle.keyspace.proofs.Dues.{later, no_sooner, least_all, least_each, least_found, none_sooner, others_later}
 
@@ -171,6 +171,16 @@ soonest_at xs at due s = subst (λ (n : ℕ). slice_get xs n ≡ Some s.here) s.
 
 pub soonest_within : (xs : List Entry) (at due : ℕ) → IsSoonest xs at due → at < length xs
 soonest_within xs at due s = subst (λ (n : ℕ). n < length xs) s.place (subst (λ (l : List Entry). length s.front < length l) (sym s.whole) (middle_within s.front s.here s.back))
+
+-- the entry that is read there
+pub read_here : (xs : List Entry) (at due : ℕ) (s : IsSoonest xs at due) (e : Entry) → e ≡ get_or xs at e → e ≡ s.here
+read_here xs at due s e read = let a = stands_at xs at e (soonest_within xs at due s) read in let b = soonest_at xs at due s in cc
+
+pub stood : (xs : List Entry) (at due : ℕ) (s : IsSoonest xs at due) (e : Entry) → are_shelves xs ≡ true → e ≡ get_or xs at e → Stands e.key xs at e
+stood xs at due s e sh read = stands_here xs at e sh (soonest_within xs at due s) (stands_at xs at e (soonest_within xs at due s) read)
+
+pub of_its_key : (e : Entry) (due : ℕ) (new : List Object) (o : Object) → is_shelf e ≡ true → Took due e.objects new o → e.key ≡ o.key
+of_its_key e due new o sh t = sym (same_equal o.key e.key (all_at (has_key e.key) e.objects t.at o t.taken (both_of (list_all (has_key e.key) e.objects) (are_by_id e.objects) sh).0))
 
 -- all objects round the first that expires
 pub record Around (due : ℕ) (old new : List Object) (o : Object) : Type 0 where

@@ -141,7 +141,7 @@ all_before (x ∷ xs) (suc at) e asc is =
     let p = both_of (list_all (key_before x) xs) (ascends key_before xs) asc in
     rw (all_at (key_before x) xs at e is p.0, all_before xs at e p.1 is) refl
 
-got : {A : Type 0} (xs : List A) (at : ℕ) (x : A) → slice_get xs at ≡ Some x → x ≡ get_or xs at x
+pub got : {A : Type 0} (xs : List A) (at : ℕ) (x : A) → slice_get xs at ≡ Some x → x ≡ get_or xs at x
 got [] at x is = absurd (cc)
 got (y ∷ xs) zero x is = cc
 got (y ∷ xs) (suc at) x is = got xs at x is
