@@ -1,17 +1,16 @@
 -- The least deadline, and where it is.
-use Rattle.std.proofs.Common.{◌≡◌, ◌<◌, ◌≤◌, ◌+◌, ℕ, zero, suc, min, Bool, true, false, not, refl, sym, ap, subst, ◌∙◌, List, [], ◌∷◌, ◌++◌, length, take, drop, append_assoc, append-nil, arith, length-append, eqb, get_or}
-use Rattle.std.specs.Prelude.{Option, Some, None, IfSome, filter, fold, nat_lt, nat_le, ◌&&◌, slice_get, if◌then◌else◌}
-use Rattle.std.specs.List.{list_all, remove}
+use Rattle.std.proofs.Common.{◌≡◌, ◌<◌, ◌≤◌, ◌+◌, ℕ, min, Bool, true, false, not, refl, sym, ap, subst, ◌∙◌, List, [], ◌∷◌, ◌++◌, length, take, append_assoc, append-nil, arith, eqb, get_or}
+use Rattle.std.specs.Prelude.{Option, Some, None, fold, nat_lt, nat_le, ◌&&◌, if◌then◌else◌}
+use Rattle.std.specs.List.{list_all}
 use Rattle.std.proofs.lemmas.Bool.Decides.{nat_tests}
 use Rattle.std.proofs.lemmas.List.{take_more, length-take-le}
 use Rattle.std.proofs.lemmas.List.Concat.{flat_map-append}
 use Rattle.world_model.specs.declared.objects.Object.{Object}
-use Rattle.world_model.specs.Expiry.{is_due}
 use Rattle.collection.specs.Objects.{earlier, least_due}
 use Rattle.collection.proofs.Lists.{both_of}
 use Rattle.keyspace.specs.Entries.{Entry, objects_in}
 use Rattle.keyspace.specs.Shelves.{has_deadline, is_later, is_no_sooner, IsSoonest, Soonest, sooner}
-use Rattle.keyspace.proofs.Parts.{all_both, filter_none}
+use Rattle.keyspace.proofs.Parts.{all_both}
 
 abbrev step : Option ℕ → Object → Option ℕ
 step found o = earlier found o.deadline
@@ -53,6 +52,7 @@ module _ (test : Option ℕ → Bool) (least : Least test) where
       first_all : (ys zs : List Object) → list_all (λ o. test o.deadline) (ys ++ zs) ≡ true → list_all (λ o. test o.deadline) ys ≡ true
       first_all [] zs h = refl
       first_all (y ∷ ys) zs h = let p = both_of (test y.deadline) (list_all (λ o. test o.deadline) (ys ++ zs)) h in rw (p.0, first_all ys zs p.1) refl
+
       last_all : (ys zs : List Object) → list_all (λ o. test o.deadline) (ys ++ zs) ≡ true → list_all (λ o. test o.deadline) zs ≡ true
       last_all [] zs h = h
       last_all (y ∷ ys) zs h = last_all ys zs (both_of (test y.deadline) (list_all (λ o. test o.deadline) (ys ++ zs)) h).1
