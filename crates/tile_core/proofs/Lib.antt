@@ -13,6 +13,8 @@ mod Timing
 mod Weights
 mod Answering
 mod Setting
+mod Changing
 mod Removing
+mod Sweeping
 mod Reading
 mod Faults
