@@ -1,9 +1,9 @@
 -- What is asked for by words that are read, or that are not built yet.
 use Rattle.std.proofs.Common.{◌≡◌, ◌⊎◌, inl, inr, true, false, refl, sym, ◌∙◌, ap, subst, List, [], ◌∷◌, ◌++◌}
-use Rattle.std.specs.Prelude.{Ok, Err, Result, IfOk, IfErr, if◌then◌else◌}
+use Rattle.std.specs.Prelude.{Ok, Err, Result, IfOk, IfErr}
 use Rattle.std.specs.List.{list_any}
 use Rattle.byte_text.specs.Names.{Bytes, is_word}
-use Rattle.world_model.specs.Served.{asks, unbuilt, is_built, are_built}
+use Rattle.world_model.specs.Served.{asks, unbuilt}
 use Rattle.world_model.specs.Commands.{reads}
 use Rattle.world_model.specs.declared.commands.Command.{Command}
 use Rattle.world_model.specs.declared.faults.WordFault.{WordFault}
@@ -11,7 +11,7 @@ use Rattle.world_model.specs.declared.faults.WordFault.TheVariants as fault
 use Rattle.cmd_words.specs.Places.{Place, Answers, IsBehind, all_words, start}
 
 -- the answer to words whose first is no name that is not built yet
-built_asks : (called : Bytes) (rest : List Bytes) → list_any (is_word called) unbuilt ≡ false → asks (called ∷ rest) ≡ (if are_built (reads (called ∷ rest)) then reads (called ∷ rest) else Err fault.Unserved)
+built_asks : (called : Bytes) (rest : List Bytes) → list_any (is_word called) unbuilt ≡ false → asks (called ∷ rest) ≡ reads (called ∷ rest)
 built_asks called rest e = rw e refl
 
 pub unbuilt_asks : (called : Bytes) (rest words : List Bytes) → words ≡ called ∷ rest → list_any (is_word called) unbuilt ≡ true → asks words ≡ Err fault.Unserved
@@ -28,21 +28,15 @@ module _ (words : List Bytes) (p q : Place) (w : Bytes) (e : p ≡ start words) 
   all_are : all_words q ≡ words
   all_are = ap (λ (l : List Bytes). l ++ q.left) (one_read words p q w e b) ∙ sym (first_of words p q w e b)
 
-  asked : asks words ≡ (if are_built (reads words) then reads words else Err fault.Unserved)
-  asked = subst (λ (ws : List Bytes). asks ws ≡ (if are_built (reads ws) then reads ws else Err fault.Unserved)) (sym (first_of words p q w e b)) (built_asks w q.left u)
+  asked : asks words ≡ reads words
+  asked = subst (λ (ws : List Bytes). asks ws ≡ reads ws) (sym (first_of words p q w e b)) (built_asks w q.left u)
 
-  pub command_asked : (c : Command) → Answers (all_words q) (Ok c) → asks words ≡ (if is_built c then Ok c else Err fault.Unserved)
-  command_asked c a = let read : reads words ≡ Ok c = subst (λ (ws : List Bytes). reads ws ≡ Ok c) all_are a in asked ∙ rw read refl
+  -- the two clauses of the answer
+  pub ok_asked : (r : Result Command WordFault) → Answers (all_words q) r → IfOk r (λ c. asks words ≡ Ok c)
+  ok_asked (Ok c) a = asked ∙ subst (λ (ws : List Bytes). reads ws ≡ Ok c) all_are a
+  ok_asked (Err why) a = tt
 
-  pub refusal_asked : (why : WordFault) → Answers (all_words q) (Err why) → (why ≡ fault.Memory) ⊎ (asks words ≡ Err why)
-  refusal_asked why (inl m) = inl m
-  refusal_asked why (inr a) = let read : reads words ≡ Err why = subst (λ (ws : List Bytes). reads ws ≡ Err why) all_are a in inr (asked ∙ rw read refl)
-
--- the two clauses of the answer
-pub ok_of : (words : List Bytes) (r : Result Command WordFault) → asks words ≡ r → IfOk r (λ c. asks words ≡ Ok c)
-ok_of words (Ok c) a = a
-ok_of words (Err why) a = tt
-
-pub err_of : (words : List Bytes) (r : Result Command WordFault) → asks words ≡ r → IfErr r (λ why. (why ≡ fault.Memory) ⊎ (asks words ≡ Err why))
-err_of words (Ok c) a = tt
-err_of words (Err why) a = inr a
+  pub err_asked : (r : Result Command WordFault) → Answers (all_words q) r → IfErr r (λ why. (why ≡ fault.Memory) ⊎ (asks words ≡ Err why))
+  err_asked (Ok c) a = tt
+  err_asked (Err why) (inl m) = inl m
+  err_asked (Err why) (inr a) = inr (asked ∙ subst (λ (ws : List Bytes). reads ws ≡ Err why) all_are a)

@@ -13,6 +13,11 @@ use Rattle.world_model.proofs.Prefixes.{enough}
 use Rattle.cmd_words.specs.Places.{Place, Follows, Reads}
 use Rattle.cmd_words.proofs.Gets.{moves_on}
 
+-- each reading of one form or another
+pub each_both : {A : Type 0} (P : Reading A → Type 0) (xs ys : List (Reading A)) → Each P xs → Each P ys → Each P (xs ++ ys)
+each_both P [] ys p q = q
+each_both P (x ∷ xs) ys p q = (p.0, each_both P xs ys p.1 q)
+
 module _ {A B C : Type 0} (g : A → Form B) (h : B → Form C) where
   behind : (rs : List (Reading A)) → flat_map (go_on h) (flat_map (go_on g) rs) ≡ flat_map (go_on (λ a. g a >>= h)) rs
   behind [] = refl
@@ -22,6 +27,15 @@ module _ {A B C : Type 0} (g : A → Form B) (h : B → Form C) where
 -- three forms behind one another
 pub bind_assoc : {A B C : Type 0} (f : Form A) (g : A → Form B) (h : B → Form C) (words : List Bytes) → ((f >>= g) >>= h) words ≡ (f >>= λ a. g a >>= h) words
 bind_assoc f g h words = behind g h (f words)
+
+same_behind : {A B : Type 0} (g h : A → Form B) → ((a : A) (words : List Bytes) → g a words ≡ h a words) → (rs : List (Reading A)) → flat_map (go_on g) rs ≡ flat_map (go_on h) rs
+same_behind g h e [] = refl
+same_behind g h e (spells a rest ∷ rs) = rw (e a rest, same_behind g h e rs) refl
+same_behind g h e (runs_out due ∷ rs) = ap (λ l. runs_out due ∷ l) (same_behind g h e rs)
+
+-- forms that read alike behind another
+pub bind_same : {A B : Type 0} (f : Form A) (g h : A → Form B) → ((a : A) (words : List Bytes) → g a words ≡ h a words) → (words : List Bytes) → (f >>= g) words ≡ (f >>= h) words
+bind_same f g h e words = same_behind g h e (f words)
 
 -- a value made of what was read
 pub done_behind : {A B C : Type 0} (made : A → B) (h : B → Form C) (rs : List (Reading A)) → flat_map (go_on h) (flat_map (go_on (λ a. done (made a))) rs) ≡ flat_map (go_on (λ a. h (made a))) rs

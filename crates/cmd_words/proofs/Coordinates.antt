@@ -22,7 +22,7 @@ not_true : (b : Bool) → (b ≡ true → ⊥) → b ≡ false
 not_true true fails = absurd (fails refl)
 not_true false fails = refl
 
-both : (a b : Bool) → (a && b) ≡ true → (a ≡ true) × (b ≡ true)
+pub both : (a b : Bool) → (a && b) ≡ true → (a ≡ true) × (b ≡ true)
 both true true e = (refl, refl)
 both true false e = absurd cc
 both false b e = absurd cc

@@ -1,6 +1,6 @@
 -- Of each name the last value counts: the fields that are left, and the names that are written 0.
 use Rattle.std.proofs.Common.{◌≡◌, ℕ, zero, suc, ◌<◌, ◌+◌, Bool, true, false, not, refl, sym, ◌∙◌, ap, subst, List, [], ◌∷◌, ◌++◌, take, length, get_or, arith}
-use Rattle.std.specs.Prelude.{ℤ, pos, filter, map, ◌&&◌, Some, slice_get, IfSome}
+use Rattle.std.specs.Prelude.{ℤ, pos, filter, map, Some, slice_get, IfSome}
 use Rattle.std.specs.List.{list_all}
 use Rattle.std.proofs.lemmas.List.{take_more, map-append}
 use Rattle.std.proofs.lemmas.Option.{get_or_from_slice_get}
@@ -12,6 +12,7 @@ use Rattle.world_model.proofs.Order.{before_trans, before_tie}
 use Rattle.world_model.proofs.FieldLaws.{last_values-ascends}
 use Rattle.world_model.proofs.PlaceLaws.{filter-all, filter-passes}
 use Rattle.cmd_words.specs.Sets.{mark_of}
+use Rattle.cmd_words.proofs.Coordinates.{both}
 
 abbrev is_kept : Field → Bool
 is_kept f = not (is_zero f)
@@ -37,11 +38,6 @@ put_first f (y ∷ ys) all = let first : field_before f y ≡ true = grind arith
 
 kept_twice : (ys : List Field) → filter is_kept (filter is_kept ys) ≡ filter is_kept ys
 kept_twice ys = filter-all is_kept (filter is_kept ys) (filter-passes is_kept ys)
-
-both : (a b : Bool) → (a && b) ≡ true → (a ≡ true) × (b ≡ true)
-both true true e = (refl, refl)
-both true false e = absurd cc
-both false b e = absurd cc
 
 module _ (f y : Field) (ys : List Field) (all : list_all (field_before y) ys ≡ true)
     (ih : filter is_kept (put_in field_before f (filter is_kept ys)) ≡ filter is_kept (put_in field_before f ys)) where

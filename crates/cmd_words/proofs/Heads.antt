@@ -1,20 +1,25 @@
 -- What stands behind a command's name.
 use Rattle.std.proofs.Common.{◌≡◌, inl, inr, ◌<◌, true, false, refl, sym, ap, subst, ◌∙◌, List, [], ◌∷◌, ◌++◌, length, arith}
-use Rattle.std.specs.Prelude.{codes, Bool, Err, ◌||◌}
-use Rattle.std.specs.List.{list_any, AllByRecursion}
+use Rattle.std.specs.Prelude.{codes, Err}
+use Rattle.std.specs.List.{list_any}
 use Rattle.std.specs.Str.{str_to_ascii_lowercase}
 use Rattle.std.proofs.lemmas.List.{append-nil}
 use Rattle.byte_text.specs.Names.{Bytes, is_word}
-use Rattle.world_model.specs.Grammar.{Form, done, live}
+use Rattle.world_model.specs.Grammar.{Form, done, live, ◌>>=◌, once_or_more}
 use Rattle.world_model.specs.Commands.{readings, reads, is_open, shown_of}
+use Rattle.cmd_words.proofs.NoneOf.{NoneIs, none_is}
 use Rattle.world_model.specs.declared.faults.WordFault.{WordFault}
 use Rattle.world_model.specs.declared.faults.WordFault.TheVariants as fault
-use Rattle.world_model.specs.Served.{unbuilt}
 use Rattle.cmd_words.proofs.Follows.{stopped, shut_by}
 use Rattle.world_model.specs.declared.commands.Command.{Command}
 use Rattle.world_model.specs.declared.commands.Command.TheVariants as command
-use Rattle.cmd_words.specs.Places.{Place, Follows, Answers, IsFault, all_words, a_name, key_and_id, get_options, stats_names}
-use Rattle.cmd_words.specs.Sets.{behind_set}
+use Rattle.cmd_words.specs.Places.{Place, Follows, Answers, IsFault, all_words, a_name, key_and_id, get_options, stats_names, of_objects}
+use Rattle.cmd_words.specs.Sets.{behind_set, field_step, fields_first, fset_of}
+use Rattle.cmd_words.proofs.Binds.{bind_same}
+use Rattle.cmd_words.proofs.FieldLists.{first_field}
+use Rattle.world_model.specs.Kinds.{name, glob, seconds}
+use Rattle.world_model.specs.Served.{unbuilt}
+use Rattle.cmd_words.specs.Scans.{behind_scan}
 use Rattle.cmd_words.proofs.Gets.{lower_word}
 use Rattle.cmd_words.proofs.Stats.{first_name}
 
@@ -61,6 +66,65 @@ quit_goes called more e = rw e refl
 pub set_head : (called : Bytes) (p : Place) → p.read ≡ called ∷ [] → is_word called (codes "SET") ≡ true → Follows p (key_and_id behind_set)
 set_head called p r e = begins called p _ r (λ more. set_goes called more (lower_word called (codes "SET") e))
 
+fget_goes : (called : Bytes) (more : List Bytes) → str_to_ascii_lowercase called ≡ codes "fget" → readings (called ∷ more) ≡ live ((key_and_id (λ k. name >>= λ field. done (command.Fget k.0 k.1 field))) more)
+unfolding readings
+fget_goes called more e = rw e (simp append-nil)
+
+pub fget_head : (called : Bytes) (p : Place) → p.read ≡ called ∷ [] → is_word called (codes "FGET") ≡ true → Follows p (key_and_id (λ k. name >>= λ field. done (command.Fget k.0 k.1 field)))
+fget_head called p r e = begins called p _ r (λ more. fget_goes called more (lower_word called (codes "FGET") e))
+
+expire_goes : (called : Bytes) (more : List Bytes) → str_to_ascii_lowercase called ≡ codes "expire" → readings (called ∷ more) ≡ live ((key_and_id (λ k. seconds >>= λ s. done (command.Expire k.0 k.1 s))) more)
+unfolding readings
+expire_goes called more e = rw e (simp append-nil)
+
+pub expire_head : (called : Bytes) (p : Place) → p.read ≡ called ∷ [] → is_word called (codes "EXPIRE") ≡ true → Follows p (key_and_id (λ k. seconds >>= λ s. done (command.Expire k.0 k.1 s)))
+expire_head called p r e = begins called p _ r (λ more. expire_goes called more (lower_word called (codes "EXPIRE") e))
+
+persist_goes : (called : Bytes) (more : List Bytes) → str_to_ascii_lowercase called ≡ codes "persist" → readings (called ∷ more) ≡ live ((key_and_id (λ k. done (command.Persist k.0 k.1))) more)
+unfolding readings
+persist_goes called more e = rw e (simp append-nil)
+
+pub persist_head : (called : Bytes) (p : Place) → p.read ≡ called ∷ [] → is_word called (codes "PERSIST") ≡ true → Follows p (key_and_id (λ k. done (command.Persist k.0 k.1)))
+persist_head called p r e = begins called p _ r (λ more. persist_goes called more (lower_word called (codes "PERSIST") e))
+
+ttl_goes : (called : Bytes) (more : List Bytes) → str_to_ascii_lowercase called ≡ codes "ttl" → readings (called ∷ more) ≡ live ((key_and_id (λ k. done (command.Ttl k.0 k.1))) more)
+unfolding readings
+ttl_goes called more e = rw e (simp append-nil)
+
+pub ttl_head : (called : Bytes) (p : Place) → p.read ≡ called ∷ [] → is_word called (codes "TTL") ≡ true → Follows p (key_and_id (λ k. done (command.Ttl k.0 k.1)))
+ttl_head called p r e = begins called p _ r (λ more. ttl_goes called more (lower_word called (codes "TTL") e))
+
+pdel_goes : (called : Bytes) (more : List Bytes) → str_to_ascii_lowercase called ≡ codes "pdel" → readings (called ∷ more) ≡ live ((a_name (λ key. glob >>= λ pattern. done (command.Pdel key pattern))) more)
+unfolding readings
+pdel_goes called more e = rw e (simp append-nil)
+
+pub pdel_head : (called : Bytes) (p : Place) → p.read ≡ called ∷ [] → is_word called (codes "PDEL") ≡ true → Follows p (a_name (λ key. glob >>= λ pattern. done (command.Pdel key pattern)))
+pdel_head called p r e = begins called p _ r (λ more. pdel_goes called more (lower_word called (codes "PDEL") e))
+
+keys_goes : (called : Bytes) (more : List Bytes) → str_to_ascii_lowercase called ≡ codes "keys" → readings (called ∷ more) ≡ live ((glob >>= λ pattern. done (command.Keys pattern)) more)
+unfolding readings
+keys_goes called more e = rw e (simp append-nil)
+
+pub keys_head : (called : Bytes) (p : Place) → p.read ≡ called ∷ [] → is_word called (codes "KEYS") ≡ true → Follows p (glob >>= λ pattern. done (command.Keys pattern))
+keys_head called p r e = begins called p _ r (λ more. keys_goes called more (lower_word called (codes "KEYS") e))
+
+fset_goes : (called : Bytes) (more : List Bytes) → str_to_ascii_lowercase called ≡ codes "fset" → readings (called ∷ more) ≡ live (key_and_id (λ k. once_or_more field_step [] >>= λ given. done (fset_of k given)) more)
+unfolding readings
+fset_goes called more e = rw e (simp append-nil)
+
+fields_go : (more : List Bytes) → key_and_id (λ k. once_or_more field_step [] >>= λ given. done (fset_of k given)) more ≡ key_and_id (λ k. fields_first (fset_of k)) more
+fields_go more = bind_same name _ _ (λ key rest. bind_same name _ _ (λ id words. first_field (fset_of (key, id)) words) rest) more
+
+pub fset_head : (called : Bytes) (p : Place) → p.read ≡ called ∷ [] → is_word called (codes "FSET") ≡ true → Follows p (key_and_id (λ k. fields_first (fset_of k)))
+fset_head called p r e = begins called p _ r (λ more. fset_goes called more (lower_word called (codes "FSET") e) ∙ ap live (fields_go more))
+
+scan_goes : (called : Bytes) (more : List Bytes) → str_to_ascii_lowercase called ≡ codes "scan" → readings (called ∷ more) ≡ live (a_name behind_scan more)
+unfolding readings
+scan_goes called more e = rw e (simp append-nil)
+
+pub scan_head : (called : Bytes) (p : Place) → p.read ≡ called ∷ [] → is_word called (codes "SCAN") ≡ true → Follows p (a_name behind_scan)
+scan_head called p r e = begins called p _ r (λ more. scan_goes called more (lower_word called (codes "SCAN") e))
+
 pub get_head : (called : Bytes) (p : Place) → p.read ≡ called ∷ [] → is_word called (codes "GET") ≡ true → Follows p (key_and_id get_options)
 get_head called p r e = begins called p _ r (λ more. get_goes called more (lower_word called (codes "GET") e))
 
@@ -86,14 +150,6 @@ pub quit_head : (called : Bytes) (p : Place) → p.read ≡ called ∷ [] → is
 quit_head called p r e = begins called p _ r (λ more. quit_goes called more (lower_word called (codes "QUIT") e))
 
 -- no command has this name
-neither : (a b : Bool) → (a || b) ≡ false → (a ≡ false) × (b ≡ false)
-neither false b e = (refl, e)
-neither true b e = absurd cc
-
-none_is : (called : Bytes) (names : List Bytes) → list_any (is_word called) names ≡ false → AllByRecursion (λ n. is_word called n ≡ false) names
-none_is called [] e = tt
-none_is called (n ∷ names) e = let both = neither (is_word called n) (list_any (is_word called) names) e in (both.0, none_is called names both.1)
-
 nothing_starts : is_open [] ≡ true
 unfolding readings
 nothing_starts = refl
@@ -102,11 +158,13 @@ nothing_goes : (called : Bytes) → is_word called (codes "GET") ≡ false → i
 unfolding readings
 nothing_goes called w_get w_del w_drop w_bounds w_stats w_flushdb w_ping w_quit w_set w_pdel w_fset w_fget w_expire w_persist w_ttl w_keys w_aofshrink w_scan w_within w_intersects w_nearby w_setchan w_delchan w_pdelchan w_chans w_subscribe w_psubscribe = rw (w_get, w_del, w_drop, w_bounds, w_stats, w_flushdb, w_ping, w_quit, w_set, w_pdel, w_fset, w_fget, w_expire, w_persist, w_ttl, w_keys, w_aofshrink, w_scan, w_within, w_intersects, w_nearby, w_setchan, w_delchan, w_pdelchan, w_chans, w_subscribe, w_psubscribe) refl
 
-unknown : (called : Bytes) (rest : List Bytes) → is_word called (codes "GET") ≡ false → is_word called (codes "DEL") ≡ false → is_word called (codes "DROP") ≡ false → is_word called (codes "BOUNDS") ≡ false → is_word called (codes "STATS") ≡ false → is_word called (codes "FLUSHDB") ≡ false → is_word called (codes "PING") ≡ false → is_word called (codes "QUIT") ≡ false → is_word called (codes "SET") ≡ false → list_any (is_word called) unbuilt ≡ false → reads (called ∷ rest) ≡ Err (fault.Unknown (shown_of called))
-unknown called rest w_get w_del w_drop w_bounds w_stats w_flushdb w_ping w_quit w_set others =
-    let u = none_is called unbuilt others in
-    stopped [] called rest nothing_starts (shut_by (called ∷ []) (nothing_goes called w_get w_del w_drop w_bounds w_stats w_flushdb w_ping w_quit w_set u.0 u.1.0 u.1.1.0 u.1.1.1.0 u.1.1.1.1.0 u.1.1.1.1.1.0 u.1.1.1.1.1.1.0 u.1.1.1.1.1.1.1.0 u.1.1.1.1.1.1.1.1.0 u.1.1.1.1.1.1.1.1.1.0 u.1.1.1.1.1.1.1.1.1.1.0 u.1.1.1.1.1.1.1.1.1.1.1.0 u.1.1.1.1.1.1.1.1.1.1.1.1.0 u.1.1.1.1.1.1.1.1.1.1.1.1.1.0 u.1.1.1.1.1.1.1.1.1.1.1.1.1.1.0 u.1.1.1.1.1.1.1.1.1.1.1.1.1.1.1.0 u.1.1.1.1.1.1.1.1.1.1.1.1.1.1.1.1.0 u.1.1.1.1.1.1.1.1.1.1.1.1.1.1.1.1.1.0))
+-- the names of the commands that are read, and not about one object
+abbrev pub wider : List Bytes
+wider = codes "PDEL" ∷ codes "DROP" ∷ codes "KEYS" ∷ codes "BOUNDS" ∷ codes "STATS" ∷ codes "FLUSHDB" ∷ codes "PING" ∷ codes "QUIT" ∷ codes "SCAN" ∷ []
 
-pub not_known : (p : Place) (called : Bytes) (why : WordFault) → p.read ≡ called ∷ [] → is_word called (codes "GET") ≡ false → is_word called (codes "DEL") ≡ false → is_word called (codes "DROP") ≡ false → is_word called (codes "BOUNDS") ≡ false → is_word called (codes "STATS") ≡ false → is_word called (codes "FLUSHDB") ≡ false → is_word called (codes "PING") ≡ false → is_word called (codes "QUIT") ≡ false → is_word called (codes "SET") ≡ false → list_any (is_word called) unbuilt ≡ false → IsFault (fault.Unknown (shown_of called)) why → Answers (all_words p) (Err why)
-not_known p called why r w_get w_del w_drop w_bounds w_stats w_flushdb w_ping w_quit w_set others (inl m) = inl m
-not_known p called why r w_get w_del w_drop w_bounds w_stats w_flushdb w_ping w_quit w_set others (inr e) = inr (rw (e, r) (unknown called p.left w_get w_del w_drop w_bounds w_stats w_flushdb w_ping w_quit w_set others))
+unknown : (called : Bytes) (rest : List Bytes) → NoneIs called of_objects → NoneIs called wider → NoneIs called unbuilt → reads (called ∷ rest) ≡ Err (fault.Unknown (shown_of called))
+unknown called rest o w u = stopped [] called rest nothing_starts (shut_by (called ∷ []) (nothing_goes called o.1.0 o.1.1.0 w.1.0 w.1.1.1.0 w.1.1.1.1.0 w.1.1.1.1.1.0 w.1.1.1.1.1.1.0 w.1.1.1.1.1.1.1.0 o.0 w.0 o.1.1.1.0 o.1.1.1.1.0 o.1.1.1.1.1.0 o.1.1.1.1.1.1.0 o.1.1.1.1.1.1.1.0 w.1.1.0 u.0 w.1.1.1.1.1.1.1.1.0 u.1.0 u.1.1.0 u.1.1.1.0 u.1.1.1.1.0 u.1.1.1.1.1.0 u.1.1.1.1.1.1.0 u.1.1.1.1.1.1.1.0 u.1.1.1.1.1.1.1.1.0 u.1.1.1.1.1.1.1.1.1.0))
+
+pub not_known : (p : Place) (called : Bytes) (why : WordFault) → p.read ≡ called ∷ [] → list_any (is_word called) of_objects ≡ false → NoneIs called wider → list_any (is_word called) unbuilt ≡ false → IsFault (fault.Unknown (shown_of called)) why → Answers (all_words p) (Err why)
+not_known p called why r o w u (inl m) = inl m
+not_known p called why r o w u (inr e) = inr (rw (e, r) (unknown called p.left (none_is called of_objects o) w (none_is called unbuilt u)))

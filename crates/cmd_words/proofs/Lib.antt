@@ -12,3 +12,8 @@ pub mod ServedCommands
 pub mod SetWords
 pub mod FieldValues
 pub mod Coordinates
+pub mod NoneOf
+pub mod Seconds
+pub mod FieldLists
+pub mod NumberLists
+pub mod ScanWords

@@ -17,29 +17,25 @@ use Rattle.world_model.specs.declared.commands.Only.TheVariants.{Absent, Present
 use Rattle.world_model.specs.declared.commands.Command.{Command}
 use Rattle.world_model.specs.declared.faults.WordFault.{WordFault}
 use Rattle.world_model.specs.declared.faults.WordFault.TheVariants as fault
-use Rattle.world_model.proofs.Forms.{Each, Takes, Fair, fair_done, fair_word, fair_bind, takes_word, takes_bind}
+use Rattle.world_model.proofs.Forms.{Takes, Fair, fair_done, fair_word, fair_bind, takes_word, takes_bind}
 use Rattle.cmd_words.specs.Places.{Place, all_words, IsBehind, Moves, Follows, Reads, IsFault, IsRefusal}
 use Rattle.cmd_words.specs.declared.options.OptionWord.TheVariants as option
 use Rattle.cmd_words.specs.declared.places.PlaceWord.TheVariants as at
 use Rattle.cmd_words.specs.Sets.{options_and_place, IsOption, is_option, LacksOption, IsPlace, LacksPlace, ReadsPlace, Goes, Refuses}
 use Rattle.cmd_words.proofs.Gets.{lower_word, step, moves, moves_on}
 use Rattle.cmd_words.proofs.Follows.{stopped, now, no_more, some_more, open_by, shut_by, ran_out}
-use Rattle.cmd_words.proofs.Binds.{unrolled, done_behind}
+use Rattle.cmd_words.proofs.Binds.{unrolled, done_behind, each_both}
 
 -- every option takes a word
 
-each_both : {A : Type 0} (P : Reading A → Type 0) (xs ys : List (Reading A)) → Each P xs → Each P ys → Each P (xs ++ ys)
-each_both P [] ys p q = q
-each_both P (x ∷ xs) ys p q = (p.0, each_both P xs ys p.1 q)
-
-takes_where : {A : Type 0} (test : Bool) (f : Form A) → Takes f → Takes (where_ test f)
+pub takes_where : {A : Type 0} (test : Bool) (f : Form A) → Takes f → Takes (where_ test f)
 takes_where true f p = p
 takes_where false f p = λ words. tt
 
-takes_behind : {A B : Type 0} (called : Bytes) (f : Form A) (made : A → B) → Fair f → Takes (word called >> f >>= λ a. done (made a))
+pub takes_behind : {A B : Type 0} (called : Bytes) (f : Form A) (made : A → B) → Fair f → Takes (word called >> f >>= λ a. done (made a))
 takes_behind called f made fair = takes_bind (word called >> f) (λ a. done (made a)) (takes_bind (word called) (λ _. f) (takes_word a_word _) (λ _. fair)) (λ a. fair_done (made a))
 
-takes_alone : {A : Type 0} (called : Bytes) (a : A) → Takes (word called >> done a)
+pub takes_alone : {A : Type 0} (called : Bytes) (a : A) → Takes (word called >> done a)
 takes_alone called a = takes_bind (word called) (λ _. done a) (takes_word a_word _) (λ _. fair_done a)
 
 fair_field : Fair field
@@ -56,7 +52,7 @@ pub unroll : (o : SetOptions) (next : SetOptions → Bytes × Shape → Form Com
     → options_and_place o next words ≡ (place >>= next o) words ++ (set_option o >>= λ p. options_and_place p next) words
 unroll o next words = unrolled set_option takes_option (λ all. place >>= next all) o words
 
-nothing : {A : Type 0} (b : Bool) → if◌then◌else◌ {A = List A} b [] [] ≡ []
+pub nothing : {A : Type 0} (b : Bool) → if◌then◌else◌ {A = List A} b [] [] ≡ []
 nothing true = refl
 nothing false = refl
 
@@ -84,7 +80,7 @@ module _ (o : SetOptions) (next : SetOptions → Bytes × Shape → Form Command
 
 -- a word that begins neither an option that may still come nor a place
 
-absent_when : {A : Type 0} (b e : Bool) (xs : List A) → (b && e) ≡ false → (e ≡ false → xs ≡ []) → (if b then xs else []) ≡ []
+pub absent_when : {A : Type 0} (b e : Bool) (xs : List A) → (b && e) ≡ false → (e ≡ false → xs ≡ []) → (if b then xs else []) ≡ []
 absent_when false e xs h n = refl
 absent_when true e xs h n = n h
 

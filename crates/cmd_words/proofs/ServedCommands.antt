@@ -1,33 +1,34 @@
 -- What every command that is asked for keeps to.
-use Rattle.std.proofs.Common.{◌≡◌, ◌<◌, Bool, true, false, not, refl, ap, subst, List, [], ◌∷◌, ◌++◌, length, arith, ℕ, ◌==◌}
-use Rattle.std.specs.Prelude.{◌&&◌, ◌||◌, Option, Some, None, is_none, unwrap_or, Result, Ok, Err, if◌then◌else◌, codes}
+use Rattle.std.proofs.Common.{◌≡◌, ◌<◌, Bool, true, false, not, refl, ap, subst, List, [], ◌∷◌, ◌++◌, length, arith}
+use Rattle.std.specs.Prelude.{◌&&◌, Option, Some, None, is_none, unwrap_or, Result, Ok, Err, if◌then◌else◌, codes, IfSome, nat_lt}
 use Rattle.std.specs.List.{list_any, AllByRecursion}
 use Rattle.byte_text.specs.Names.{Bytes, is_word, is_name}
-use Rattle.geo_text.specs.Texts.{Shape}
-use Rattle.world_model.specs.Grammar.{Form, Reading, spells, runs_out, done, word, maybe, ◌>>=◌, repeated, once_or_more, live, spelled, a_word}
-use Rattle.world_model.specs.Kinds.{name, when}
+use Rattle.world_model.specs.Grammar.{Form, Reading, spells, runs_out, done, word, maybe, ◌>>=◌, ◌>>◌, ◌or◌, repeated, once_or_more, live, spelled, a_word}
+use Rattle.world_model.specs.Kinds.{name, glob, seconds, when}
+use Rattle.world_model.specs.Limits.{max_tests}
+use Rattle.byte_text.specs.Globs.{is_well_formed}
 use Rattle.world_model.specs.Commands as table
-use Rattle.world_model.specs.Filters.{Field}
-use Rattle.world_model.specs.Served.{asks, unbuilt, is_built, are_built}
+use Rattle.world_model.specs.Served.{asks, unbuilt}
 use Rattle.world_model.specs.Sound.{IsSoundCommand}
 use Rattle.world_model.specs.declared.queries.Shown.TheVariants as shown
-use Rattle.world_model.specs.declared.commands.Only.{Only}
 use Rattle.world_model.specs.declared.commands.Only.TheVariants.{Any}
 use Rattle.world_model.specs.declared.commands.Command.{Command}
 use Rattle.world_model.specs.declared.commands.Command.TheVariants as command
+use Rattle.cmd_words.proofs.Binds.{each_both}
+use Rattle.cmd_words.proofs.NoneOf.{none_is}
 use Rattle.world_model.specs.declared.faults.WordFault.{WordFault}
 use Rattle.world_model.specs.declared.faults.WordFault.TheVariants as fault
 use Rattle.world_model.proofs.Forms.{Each}
-use Rattle.world_model.proofs.Making.{Makes, Said, makes_done, makes_or, makes_none, makes_word, makes_bind, makes_behind, makes_then, makes_maybe, makes_repeated}
+use Rattle.world_model.proofs.Making.{Makes, Said, makes_done, makes_or, makes_none, makes_where, makes_word, makes_bind, makes_behind, makes_then, makes_maybe, makes_repeated}
 use Rattle.world_model.proofs.SoundCommands.{reads_sound}
-use Rattle.cmd_words.specs.Laws.{IsServed, IsOfObject}
+use Rattle.cmd_words.specs.Laws.{IsServed, IsOfObject, IsPattern, IsById}
 
 abbrev IsName : Bytes → Type 0
 IsName w = is_name w ≡ true
 
--- where the command is sound and built, it is one that is served
+-- where the command is sound, it is one that is served
 abbrev Keeps : Command → Type 0
-Keeps c = IsSoundCommand c → is_built c ≡ true → IsServed c
+Keeps c = IsSoundCommand c → IsServed c
 
 when_is : (test : Bool) (a b : Bytes) → when test a ≡ Some b → (test ≡ true) × (a ≡ b)
 when_is true a b e = (refl, cc)
@@ -39,28 +40,78 @@ name_is w n e = let h = when_is (is_name w) w n e in subst IsName h.1 h.0
 makes_name : Makes IsName name
 makes_name = makes_word IsName a_word (λ w. when (is_name w) w) name_is
 
+both_true : (a b : Bool) → (a && b) ≡ true → (a ≡ true) × (b ≡ true)
+both_true true true e = (refl, refl)
+both_true true false e = absurd cc
+both_true false b e = absurd cc
+
+glob_is : (w p : Bytes) → when (is_name w && is_well_formed w) w ≡ Some p → IsPattern p
+glob_is w p e = let h = when_is (is_name w && is_well_formed w) w p e in subst IsPattern h.1 (both_true (is_name w) (is_well_formed w) h.0)
+
+makes_glob : Makes IsPattern glob
+makes_glob = makes_word IsPattern a_word (λ w. when (is_name w && is_well_formed w) w) glob_is
+
+-- a command of a key and an id, whatever else there is
+behind_both : (called : Bytes) (f : Bytes → Bytes → Form Command) → ((key id : Bytes) → IsName key → IsName id → Makes Keeps (f key id)) → Makes Keeps (word called >> (name >>= λ key. name >>= λ id. f key id))
+behind_both called f goes = makes_then Keeps (word called) _ (makes_bind IsName Keeps name _ makes_name (λ key k. makes_bind IsName Keeps name _ makes_name (λ id i. goes key id k i)))
+
 -- SET
 
-empty : {A : Type 0} (xs : List A) → (length xs == 0) ≡ true → xs ≡ []
-empty [] e = refl
-empty (x ∷ xs) e = absurd (grind arith)
-
-absent : {A : Type 0} (o : Option A) → is_none o ≡ true → o ≡ None
-absent None e = refl
-absent (Some a) e = absurd cc
-
-all_three : (a b c : Bool) → (a && b && c) ≡ true → (a ≡ true) × (b ≡ true) × (c ≡ true)
-all_three a b c e = (grind arith, grind arith, grind arith)
-
-set_keeps : (key id : Bytes) (fields : List Field) (cleared : List Bytes) (seconds : Option ℕ) (only : Only) (text : Bytes) (shape : Shape) → IsName key → IsName id → Keeps (command.Set key id fields cleared seconds only text shape)
-set_keeps key id fields cleared seconds only text shape k i sound b =
-    let all = all_three (length fields == 0) (length cleared == 0) (is_none seconds) b in
-    (k, i, empty fields all.0, empty cleared all.1, absent seconds all.2, sound.1)
-
 makes_set : Makes Keeps table.set_command
-makes_set = makes_then Keeps (word (codes "SET")) _ (makes_bind IsName Keeps name _ makes_name (λ key k. makes_bind IsName Keeps name _ makes_name (λ id i. makes_behind Keeps (repeated table.set_option _) _ (λ o.
-    makes_behind Keeps table.place _ (λ at. makes_done Keeps (command.Set key id (table.nonzero_of o.given) (table.cleared_of o.given) o.after_ex (unwrap_or o.only Any) at.0 at.1)
-    (set_keeps key id (table.nonzero_of o.given) (table.cleared_of o.given) o.after_ex (unwrap_or o.only Any) at.0 at.1 k i))))))
+makes_set = behind_both (codes "SET") _ (λ key id k i. makes_behind Keeps (repeated table.set_option _) _ (λ o. makes_behind Keeps table.place _ (λ at.
+    makes_done Keeps (command.Set key id (table.nonzero_of o.given) (table.cleared_of o.given) o.after_ex (unwrap_or o.only Any) at.0 at.1) (λ sound. (k, i, sound.0, sound.1)))))
+
+-- fields and deadlines
+
+makes_fset : Makes Keeps table.fset_command
+makes_fset = behind_both (codes "FSET") _ (λ key id k i. makes_behind Keeps _ _ (λ given. makes_done Keeps (command.Fset key id (table.nonzero_of given) (table.cleared_of given)) (λ sound. (k, i, sound))))
+
+makes_fget : Makes Keeps table.fget_command
+makes_fget = behind_both (codes "FGET") _ (λ key id k i. makes_bind IsName Keeps name _ makes_name (λ field f. makes_done Keeps (command.Fget key id field) (λ sound. (k, i, f))))
+
+makes_expire : Makes Keeps table.expire_command
+makes_expire = behind_both (codes "EXPIRE") _ (λ key id k i. makes_behind Keeps seconds _ (λ s. makes_done Keeps (command.Expire key id s) (λ sound. (k, i))))
+
+makes_persist : Makes Keeps (table.of_key_and_id (codes "PERSIST") command.Persist)
+makes_persist = behind_both (codes "PERSIST") _ (λ key id k i. makes_done Keeps (command.Persist key id) (λ sound. (k, i)))
+
+makes_ttl : Makes Keeps (table.of_key_and_id (codes "TTL") command.Ttl)
+makes_ttl = behind_both (codes "TTL") _ (λ key id k i. makes_done Keeps (command.Ttl key id) (λ sound. (k, i)))
+
+-- patterns
+
+makes_pdel : Makes Keeps table.pdel_command
+makes_pdel = makes_then Keeps (word (codes "PDEL")) _ (makes_bind IsName Keeps name _ makes_name (λ key k. makes_bind IsPattern Keeps glob _ makes_glob (λ pattern p. makes_done Keeps (command.Pdel key pattern) (λ sound. (k, p)))))
+
+makes_keys : Makes Keeps (table.of_one (codes "KEYS") glob command.Keys)
+makes_keys = makes_then Keeps (word (codes "KEYS")) _ (makes_bind IsPattern Keeps glob _ makes_glob (λ pattern p. makes_done Keeps (command.Keys pattern) (λ sound. p)))
+
+-- SCAN
+
+abbrev NamedGlob : table.SearchOptions → Type 0
+NamedGlob o = IfSome o.glob IsName
+
+first : {A : Type 0} {P : A → Type 0} {f g : Form A} → Makes P f → Makes P g → Makes P (f or g)
+first {P = P} {f = f} {g = g} p q = makes_or P f g p q
+
+makes_option : (o : table.SearchOptions) → NamedGlob o → Makes NamedGlob (table.search_option true o)
+makes_option o h =
+    first (makes_where NamedGlob (is_none o.glob) _ (makes_bind IsPattern NamedGlob (word (codes "MATCH") >> glob) _ (makes_then IsPattern (word (codes "MATCH")) glob makes_glob) (λ p w. makes_done NamedGlob _ w.0))) (
+    first (makes_where NamedGlob (is_none o.cursor) _ (makes_behind NamedGlob (word (codes "CURSOR") >> _) _ (λ n. makes_done NamedGlob _ h))) (
+    first (makes_where NamedGlob (is_none o.limit) _ (makes_behind NamedGlob (word (codes "LIMIT") >> _) _ (λ n. makes_done NamedGlob _ h))) (
+    first (makes_where NamedGlob (not o.bare) _ (makes_then NamedGlob (word (codes "NOFIELDS")) _ (makes_done NamedGlob _ h))) (
+    first (makes_where NamedGlob (is_none o.down) _ (makes_then NamedGlob (word (codes "ASC")) _ (makes_done NamedGlob _ h))) (
+    first (makes_where NamedGlob (is_none o.down) _ (makes_then NamedGlob (word (codes "DESC")) _ (makes_done NamedGlob _ h))) (
+    first (makes_where NamedGlob (nat_lt (length o.tests) max_tests) _ (makes_behind NamedGlob table.test _ (λ t. makes_done NamedGlob _ h))) (makes_none NamedGlob)))))))
+
+by_id : (down : Option Bool) → IsById (table.scan_rule down)
+by_id None = tt
+by_id (Some true) = tt
+by_id (Some false) = tt
+
+makes_scan : Makes Keeps table.scan_command
+makes_scan = makes_then Keeps (word (codes "SCAN")) _ (makes_bind IsName Keeps name _ makes_name (λ key k. makes_bind NamedGlob Keeps _ _ (makes_repeated NamedGlob (table.search_option true) makes_option table.no_search_options tt) (λ o n.
+    makes_behind Keeps (maybe shown.Objects table.output) _ (λ how. makes_done Keeps (command.Scan key (table.query_of o how (table.scan_rule o.down))) (λ sound. (k, record { sound = sound; by_id = by_id o.down; named = n }))))))
 
 -- GET
 
@@ -72,7 +123,7 @@ makes_output = makes_maybe IsOfObject shown.Objects table.as_objects tt (
 
 makes_get : Makes Keeps table.get_command
 makes_get = makes_then Keeps (word (codes "GET")) _ (makes_bind IsName Keeps name _ makes_name (λ key k. makes_bind IsName Keeps name _ makes_name (λ id i. makes_behind Keeps (maybe false _) _ (λ with_fields.
-    makes_bind IsOfObject Keeps (maybe shown.Objects table.as_objects) _ makes_output (λ how h. makes_done Keeps (command.Get key id with_fields how) (λ sound b. (k, i, h)))))))
+    makes_bind IsOfObject Keeps (maybe shown.Objects table.as_objects) _ makes_output (λ how h. makes_done Keeps (command.Get key id with_fields how) (λ sound. (k, i, h)))))))
 
 -- STATS
 
@@ -96,41 +147,29 @@ makes_names = makes_bind SomeNames SomeNames _ _ (step [] tt) (λ keys all. repe
     repeats keys all = makes_repeated SomeNames (λ read. name >>= λ w. done (read ++ w ∷ [])) (λ read some. step read some.1) keys all
 
 makes_stats : Makes Keeps (table.of_some (codes "STATS") name command.Stats)
-makes_stats = makes_then Keeps (word (codes "STATS")) _ (makes_bind SomeNames Keeps _ _ makes_names (λ keys all. makes_done Keeps (command.Stats keys) (λ sound b. all)))
+makes_stats = makes_then Keeps (word (codes "STATS")) _ (makes_bind SomeNames Keeps _ _ makes_names (λ keys all. makes_done Keeps (command.Stats keys) (λ sound. all)))
 
 -- the others
 
 makes_del : Makes Keeps (table.of_key_and_id (codes "DEL") command.Del)
-makes_del = makes_then Keeps (word (codes "DEL")) _ (makes_bind IsName Keeps name _ makes_name (λ key k. makes_bind IsName Keeps name _ makes_name (λ id i. makes_done Keeps (command.Del key id) (λ sound b. (k, i)))))
+makes_del = makes_then Keeps (word (codes "DEL")) _ (makes_bind IsName Keeps name _ makes_name (λ key k. makes_bind IsName Keeps name _ makes_name (λ id i. makes_done Keeps (command.Del key id) (λ sound. (k, i)))))
 
 makes_drop : Makes Keeps (table.of_one (codes "DROP") name command.Drop)
-makes_drop = makes_then Keeps (word (codes "DROP")) _ (makes_bind IsName Keeps name _ makes_name (λ key k. makes_done Keeps (command.Drop key) (λ sound b. k)))
+makes_drop = makes_then Keeps (word (codes "DROP")) _ (makes_bind IsName Keeps name _ makes_name (λ key k. makes_done Keeps (command.Drop key) (λ sound. k)))
 
 makes_bounds : Makes Keeps (table.of_one (codes "BOUNDS") name command.Bounds)
-makes_bounds = makes_then Keeps (word (codes "BOUNDS")) _ (makes_bind IsName Keeps name _ makes_name (λ key k. makes_done Keeps (command.Bounds key) (λ sound b. k)))
+makes_bounds = makes_then Keeps (word (codes "BOUNDS")) _ (makes_bind IsName Keeps name _ makes_name (λ key k. makes_done Keeps (command.Bounds key) (λ sound. k)))
 
 makes_flush : Makes Keeps (table.of_none (codes "FLUSHDB") command.Flush)
-makes_flush = makes_then Keeps (word (codes "FLUSHDB")) _ (makes_done Keeps command.Flush (λ sound b. tt))
+makes_flush = makes_then Keeps (word (codes "FLUSHDB")) _ (makes_done Keeps command.Flush (λ sound. tt))
 
 makes_ping : Makes Keeps (table.of_none (codes "PING") command.Ping)
-makes_ping = makes_then Keeps (word (codes "PING")) _ (makes_done Keeps command.Ping (λ sound b. tt))
+makes_ping = makes_then Keeps (word (codes "PING")) _ (makes_done Keeps command.Ping (λ sound. tt))
 
 makes_quit : Makes Keeps (table.of_none (codes "QUIT") command.Quit)
-makes_quit = makes_then Keeps (word (codes "QUIT")) _ (makes_done Keeps command.Quit (λ sound b. tt))
+makes_quit = makes_then Keeps (word (codes "QUIT")) _ (makes_done Keeps command.Quit (λ sound. tt))
 
 -- every reading of words whose first is no name that is not built yet
-
-each_both : {A : Type 0} (P : Reading A → Type 0) (xs ys : List (Reading A)) → Each P xs → Each P ys → Each P (xs ++ ys)
-each_both P [] ys p q = q
-each_both P (x ∷ xs) ys p q = (p.0, each_both P xs ys p.1 q)
-
-neither : (a b : Bool) → (a || b) ≡ false → (a ≡ false) × (b ≡ false)
-neither false b e = (refl, e)
-neither true b e = absurd cc
-
-none_is : (called : Bytes) (names : List Bytes) → list_any (is_word called) names ≡ false → AllByRecursion (λ n. is_word called n ≡ false) names
-none_is called [] e = tt
-none_is called (n ∷ names) e = let both = neither (is_word called n) (list_any (is_word called) names) e in (both.0, none_is called names both.1)
 
 module _ (called : Bytes) (rest : List Bytes) where
   -- a form that begins with another word has no reading
@@ -142,30 +181,30 @@ module _ (called : Bytes) (rest : List Bytes) where
       each_both (Said Keeps) _ _ (makes_set.made (called ∷ rest)) (
       each_both (Said Keeps) _ _ (makes_get.made (called ∷ rest)) (
       each_both (Said Keeps) _ _ (makes_del.made (called ∷ rest)) (
-      each_both (Said Keeps) _ _ (other (Said Keeps) (codes "PDEL") _ u.0) (
+      each_both (Said Keeps) _ _ (makes_pdel.made (called ∷ rest)) (
       each_both (Said Keeps) _ _ (makes_drop.made (called ∷ rest)) (
-      each_both (Said Keeps) _ _ (other (Said Keeps) (codes "FSET") _ u.1.0) (
-      each_both (Said Keeps) _ _ (other (Said Keeps) (codes "FGET") _ u.1.1.0) (
-      each_both (Said Keeps) _ _ (other (Said Keeps) (codes "EXPIRE") _ u.1.1.1.0) (
-      each_both (Said Keeps) _ _ (other (Said Keeps) (codes "PERSIST") _ u.1.1.1.1.0) (
-      each_both (Said Keeps) _ _ (other (Said Keeps) (codes "TTL") _ u.1.1.1.1.1.0) (
-      each_both (Said Keeps) _ _ (other (Said Keeps) (codes "KEYS") _ u.1.1.1.1.1.1.0) (
+      each_both (Said Keeps) _ _ (makes_fset.made (called ∷ rest)) (
+      each_both (Said Keeps) _ _ (makes_fget.made (called ∷ rest)) (
+      each_both (Said Keeps) _ _ (makes_expire.made (called ∷ rest)) (
+      each_both (Said Keeps) _ _ (makes_persist.made (called ∷ rest)) (
+      each_both (Said Keeps) _ _ (makes_ttl.made (called ∷ rest)) (
+      each_both (Said Keeps) _ _ (makes_keys.made (called ∷ rest)) (
       each_both (Said Keeps) _ _ (makes_bounds.made (called ∷ rest)) (
       each_both (Said Keeps) _ _ (makes_stats.made (called ∷ rest)) (
       each_both (Said Keeps) _ _ (makes_flush.made (called ∷ rest)) (
-      each_both (Said Keeps) _ _ (other (Said Keeps) (codes "AOFSHRINK") _ u.1.1.1.1.1.1.1.0) (
+      each_both (Said Keeps) _ _ (other (Said Keeps) (codes "AOFSHRINK") _ u.0) (
       each_both (Said Keeps) _ _ (makes_ping.made (called ∷ rest)) (
       each_both (Said Keeps) _ _ (makes_quit.made (called ∷ rest)) (
-      each_both (Said Keeps) _ _ (other (Said Keeps) (codes "SCAN") _ u.1.1.1.1.1.1.1.1.0) (
-      each_both (Said Keeps) _ _ (other (Said Keeps) (codes "WITHIN") _ u.1.1.1.1.1.1.1.1.1.0) (
-      each_both (Said Keeps) _ _ (other (Said Keeps) (codes "INTERSECTS") _ u.1.1.1.1.1.1.1.1.1.1.0) (
-      each_both (Said Keeps) _ _ (other (Said Keeps) (codes "NEARBY") _ u.1.1.1.1.1.1.1.1.1.1.1.0) (
-      each_both (Said Keeps) _ _ (other (Said Keeps) (codes "SETCHAN") _ u.1.1.1.1.1.1.1.1.1.1.1.1.0) (
-      each_both (Said Keeps) _ _ (other (Said Keeps) (codes "DELCHAN") _ u.1.1.1.1.1.1.1.1.1.1.1.1.1.0) (
-      each_both (Said Keeps) _ _ (other (Said Keeps) (codes "PDELCHAN") _ u.1.1.1.1.1.1.1.1.1.1.1.1.1.1.0) (
-      each_both (Said Keeps) _ _ (other (Said Keeps) (codes "CHANS") _ u.1.1.1.1.1.1.1.1.1.1.1.1.1.1.1.0) (
-      each_both (Said Keeps) _ _ (other (Said Keeps) (codes "SUBSCRIBE") _ u.1.1.1.1.1.1.1.1.1.1.1.1.1.1.1.1.0) (
-      each_both (Said Keeps) _ _ (other (Said Keeps) (codes "PSUBSCRIBE") _ u.1.1.1.1.1.1.1.1.1.1.1.1.1.1.1.1.1.0) tt))))))))))))))))))))))))))
+      each_both (Said Keeps) _ _ (makes_scan.made (called ∷ rest)) (
+      each_both (Said Keeps) _ _ (other (Said Keeps) (codes "WITHIN") _ u.1.0) (
+      each_both (Said Keeps) _ _ (other (Said Keeps) (codes "INTERSECTS") _ u.1.1.0) (
+      each_both (Said Keeps) _ _ (other (Said Keeps) (codes "NEARBY") _ u.1.1.1.0) (
+      each_both (Said Keeps) _ _ (other (Said Keeps) (codes "SETCHAN") _ u.1.1.1.1.0) (
+      each_both (Said Keeps) _ _ (other (Said Keeps) (codes "DELCHAN") _ u.1.1.1.1.1.0) (
+      each_both (Said Keeps) _ _ (other (Said Keeps) (codes "PDELCHAN") _ u.1.1.1.1.1.1.0) (
+      each_both (Said Keeps) _ _ (other (Said Keeps) (codes "CHANS") _ u.1.1.1.1.1.1.1.0) (
+      each_both (Said Keeps) _ _ (other (Said Keeps) (codes "SUBSCRIBE") _ u.1.1.1.1.1.1.1.1.0) (
+      each_both (Said Keeps) _ _ (other (Said Keeps) (codes "PSUBSCRIBE") _ u.1.1.1.1.1.1.1.1.1.0) tt))))))))))))))))))))))))))
 
 said : (rs : List (Reading Command)) (c : Command) → Each (Said Keeps) rs → spelled (live rs) ≡ Some c → Keeps c
 said [] c all e = absurd cc
@@ -181,17 +220,12 @@ ok_of : (words : List Bytes) (o : Option Command) (c : Command) → table.ok_or_
 ok_of words (Some d) c e = ap Some (cc e)
 ok_of words None c e = absurd cc
 
-built_is : (b : Bool) (d c : Command) → (if b then Ok d else Err fault.Unserved) ≡ Ok c → (b ≡ true) × (d ≡ c)
-built_is true d c e = (refl, cc)
-built_is false d c e = absurd cc
-
-asked_is : (b : Bool) (r : Result Command WordFault) (c : Command) → (if not b && are_built r then r else Err fault.Unserved) ≡ Ok c → (b ≡ false) × (r ≡ Ok c) × (is_built c ≡ true)
+asked_is : (b : Bool) (r : Result Command WordFault) (c : Command) → (if not b then r else Err fault.Unserved) ≡ Ok c → (b ≡ false) × (r ≡ Ok c)
 asked_is true r c e = absurd cc
-asked_is false (Ok d) c e = let h = built_is (is_built d) d c e in (refl, ap Ok h.1, subst (λ x. is_built x ≡ true) h.1 h.0)
-asked_is false (Err f) c e = absurd cc
+asked_is false r c e = (refl, e)
 
 pub commands_are_served : (words : List Bytes) (c : Command) → asks words ≡ Ok c → IsServed c
 commands_are_served [] c e = absurd cc
 commands_are_served (called ∷ rest) c e =
     let h = asked_is (list_any (is_word called) unbuilt) (table.reads (called ∷ rest)) c e in
-    spelled_keeps called rest c h.0 (ok_of (called ∷ rest) (table.command_spelled (called ∷ rest)) c h.1) (reads_sound (called ∷ rest) c h.1) h.2
+    spelled_keeps called rest c h.0 (ok_of (called ∷ rest) (table.command_spelled (called ∷ rest)) c h.1) (reads_sound (called ∷ rest) c h.1)

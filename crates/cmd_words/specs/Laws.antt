@@ -1,11 +1,17 @@
 -- Which commands are asked for.
-use Rattle.std.specs.Prelude.{◌≡◌, ◌<◌, true, List, [], None, Ok, length}
+use Rattle.std.specs.Prelude.{◌≡◌, ◌<◌, true, List, Ok, length, IfSome}
 use Rattle.std.specs.List.{AllByRecursion}
 use Rattle.byte_text.specs.Names.{Bytes, is_name}
+use Rattle.byte_text.specs.Globs.{is_well_formed}
 use Rattle.geo_text.specs.Texts.{shape_of}
+use Rattle.world_model.specs.Filters.{are_fields}
 use Rattle.world_model.specs.Served.{asks}
+use Rattle.world_model.specs.Sound.{is_sound_query}
 use Rattle.world_model.specs.declared.commands.Command.{Command}
 use Rattle.world_model.specs.declared.commands.Command.TheVariants as command
+use Rattle.world_model.specs.declared.queries.Query.{Query}
+use Rattle.world_model.specs.declared.queries.Rule.{Rule}
+use Rattle.world_model.specs.declared.queries.Rule.TheVariants.{All, Down, Kept, Nearest}
 use Rattle.world_model.specs.declared.queries.Shown.{Shown}
 use Rattle.world_model.specs.declared.queries.Shown.TheVariants as shown
 
@@ -17,18 +23,42 @@ IsOfObject shown.Bounds = Unit {0}
 IsOfObject shown.Ids = ⊥
 IsOfObject shown.Count = ⊥
 
--- the command is served: its keys and ids are names; a SET has no field and no deadline, and a text that has the shape
+-- a pattern of names
+abbrev pub IsPattern : Bytes → Type 0
+IsPattern pattern = (is_name pattern ≡ true) × (is_well_formed pattern ≡ true)
+
+-- the objects of a key by id, up or down
+abbrev pub IsById : Rule → Type 0
+IsById All = Unit {0}
+IsById Down = Unit {0}
+IsById (Kept kind a) = ⊥
+IsById Nearest = ⊥
+
+-- the query is sound, its objects are sought by id, and a pattern is a name
+pub record IsScan (q : Query) : Type 0 where
+  pub sound : is_sound_query q ≡ true
+  pub by_id : IsById q.rule
+  pub named : IfSome q.glob (λ pattern. is_name pattern ≡ true)
+
+-- the command is served: its keys, ids, field names and patterns are names; fields are in order and none is 0; a text has the shape
 abbrev pub IsServed : Command → Type 0
-IsServed (command.Set key id fields cleared seconds only text shape) =
-    (is_name key ≡ true) × (is_name id ≡ true) × (fields ≡ []) × (cleared ≡ []) × (seconds ≡ None) × (shape_of text ≡ Ok shape)
+IsServed (command.Set key id fields cleared seconds only text shape) = (is_name key ≡ true) × (is_name id ≡ true) × (are_fields fields ≡ true) × (shape_of text ≡ Ok shape)
 IsServed (command.Get key id with_fields how) = (is_name key ≡ true) × (is_name id ≡ true) × IsOfObject how
 IsServed (command.Del key id) = (is_name key ≡ true) × (is_name id ≡ true)
+IsServed (command.Pdel key pattern) = (is_name key ≡ true) × IsPattern pattern
 IsServed (command.Drop key) = is_name key ≡ true
+IsServed (command.Fset key id fields cleared) = (is_name key ≡ true) × (is_name id ≡ true) × (are_fields fields ≡ true)
+IsServed (command.Fget key id field) = (is_name key ≡ true) × (is_name id ≡ true) × (is_name field ≡ true)
+IsServed (command.Expire key id seconds) = (is_name key ≡ true) × (is_name id ≡ true)
+IsServed (command.Persist key id) = (is_name key ≡ true) × (is_name id ≡ true)
+IsServed (command.Ttl key id) = (is_name key ≡ true) × (is_name id ≡ true)
+IsServed (command.Keys pattern) = IsPattern pattern
 IsServed (command.Bounds key) = is_name key ≡ true
 IsServed (command.Stats keys) = (0 < length keys) × AllByRecursion (λ key. is_name key ≡ true) keys
 IsServed command.Flush = Unit {0}
 IsServed command.Ping = Unit {0}
 IsServed command.Quit = Unit {0}
+IsServed (command.Scan key q) = (is_name key ≡ true) × IsScan q
 IsServed c = ⊥
 
 -- what words ask for is served

@@ -1,6 +1,7 @@
 -- How far the words of a request were read, and what may follow.
-use Rattle.std.specs.Prelude.{◌≡◌, ◌⊎◌, ◌<◌, ◌≤◌, Bool, true, false, List, [], ◌∷◌, ◌++◌, length, Option, Some, None, Result, Ok, Err, codes, ℕ, take, drop, if◌then◌else◌}
+use Rattle.std.specs.Prelude.{◌&&◌, ◌≡◌, ◌⊎◌, ◌<◌, ◌≤◌, Bool, true, false, List, [], ◌∷◌, ◌++◌, length, Option, Some, None, Result, Ok, Err, codes, ℕ, take, drop, if◌then◌else◌}
 use Rattle.byte_text.specs.Names.{Bytes, is_word, is_name}
+use Rattle.byte_text.specs.Globs.{is_well_formed}
 use Rattle.world_model.specs.Grammar.{Form, Due, a_word, a_coordinate, a_geojson, ◌>>=◌, ◌>>◌, done, maybe, repeated, word, live}
 use Rattle.world_model.specs.Kinds.{name, when}
 use Rattle.world_model.specs.Commands.{readings, reads, as_objects, shown_of, is_fraction, geo_fault_of, wrong_count}
@@ -40,9 +41,13 @@ abbrev pub Parses : {A : Type 0} → ((A → Form Command) → Form Command) →
 Parses {A = A} form old new (Ok a) = Moves old new × ((next : A → Form Command) → Follows old (form next) → Follows new (next a))
 Parses {A = A} form old new (Err why) = (why ≡ fault.Memory) ⊎ ((next : A → Form Command) → Follows old (form next) → reads (all_words old) ≡ Err why)
 
+-- a form, and what is to follow it
+abbrev pub a_form : {A : Type 0} → Form A → (A → Form Command) → Form Command
+a_form form next = form >>= next
+
 -- a form was read where it is due
 abbrev pub Reads : {A : Type 0} → Form A → Place → Place → Result A WordFault → Type 0
-Reads form = Parses (λ next. form >>= next)
+Reads form = Parses (a_form form)
 
 -- a name
 abbrev pub a_name : (Bytes → Form Command) → Form Command
@@ -142,3 +147,11 @@ stats_names = a_name (λ key. stats_more (key ∷ []))
 abbrev pub IsRefusal : List Bytes → List Bytes → WordFault → Type 0
 IsRefusal words [] why = IsFault (wrong_count words) why
 IsRefusal words (w ∷ left) why = IsFault (fault.Invalid (shown_of w)) why
+
+-- the pattern that a word is
+abbrev pub glob_of : Bytes → Option Bytes
+glob_of w = when (is_name w && is_well_formed w) w
+
+-- the names of the commands that are about one object
+abbrev pub of_objects : List Bytes
+of_objects = codes "SET" ∷ codes "GET" ∷ codes "DEL" ∷ codes "FSET" ∷ codes "FGET" ∷ codes "EXPIRE" ∷ codes "PERSIST" ∷ codes "TTL" ∷ []

@@ -1,13 +1,14 @@
 -- SET: its options and its place.
-use Rattle.std.specs.Prelude.{◌≡◌, ◌⊎◌, ◌<◌, length, ◌&&◌, ◌||◌, ℤ, pos, neg_ℤ, ◌^◌, ◌-◌, ℕ, Bool, true, false, List, [], ◌∷◌, Option, Some, None, is_none, unwrap_or, if◌then◌else◌, Result, Ok, Err, codes}
+use Rattle.std.specs.Prelude.{◌≡◌, ◌⊎◌, ◌<◌, length, ◌&&◌, ◌||◌, ℤ, pos, neg_ℤ, ◌^◌, ◌-◌, Bool, true, false, List, [], ◌∷◌, ◌++◌, Option, Some, None, is_none, unwrap_or, if◌then◌else◌, Result, Ok, Err, codes}
 use Rattle.planar_geom.specs.Points.{same_int}
 use Rattle.byte_text.specs.Names.{Bytes, is_word}
-use Rattle.byte_text.specs.Numbers.{whole_within, natural_within}
+use Rattle.byte_text.specs.Numbers.{whole_within}
 use Rattle.geo_text.specs.Texts.{Shape, shape_of}
-use Rattle.world_model.specs.Limits.{max_coord, max_seconds}
+use Rattle.world_model.specs.Limits.{max_coord}
 use Rattle.world_model.specs.Grammar.{Form, ◌>>=◌, done, repeated}
 use Rattle.world_model.specs.Kinds.{accepted}
-use Rattle.world_model.specs.Commands.{SetOptions, set_option, place, nonzero_of, cleared_of, reads}
+use Rattle.world_model.specs.Filters.{Field}
+use Rattle.world_model.specs.Commands.{SetOptions, set_option, field, place, nonzero_of, cleared_of, reads}
 use Rattle.world_model.specs.declared.commands.Only.TheVariants.{Any}
 use Rattle.world_model.specs.declared.commands.Command.{Command}
 use Rattle.world_model.specs.declared.commands.Command.TheVariants as command
@@ -28,10 +29,6 @@ integer_of = whole_within (neg_ℤ (pos (2 ^ 63))) (pos (2 ^ 63 - 1))
 -- the coordinate of at least this that a word is
 abbrev pub coordinate_of : ℤ → Bytes → Option ℤ
 coordinate_of low = whole_within low (pos max_coord)
-
--- the time to live that a word is
-abbrev pub seconds_of : Bytes → Option ℕ
-seconds_of = natural_within 1 max_seconds
 
 -- the object that a word is, with its shape
 abbrev pub object_of : Bytes → Option (Bytes × Shape)
@@ -122,3 +119,22 @@ IsAccepted text = (shape : Shape) × (shape_of text ≡ Ok shape)
 -- what marks a field of this value: 1 where it is 0, and else 0
 abbrev pub mark_of : ℤ → ℤ
 mark_of value = if same_int value (pos 0) then pos 1 else pos 0
+
+-- FSET: one more field, and the fields behind those that were read
+abbrev pub field_step : List Field → Form (List Field)
+field_step given = field >>= λ f. done (given ++ f ∷ [])
+
+abbrev pub fields_more : (List Field → Command) → List Field → Form Command
+fields_more make given = repeated field_step given >>= λ all. done (make all)
+
+abbrev pub fields_first : (List Field → Command) → Form Command
+fields_first make = field >>= λ f. fields_more make (f ∷ [])
+
+-- one field or more are all that is left, whatever they are for; or how all the words are refused; or memory ran out
+abbrev pub ReadsFields : Place → Result (List Field) WordFault → Type 0
+ReadsFields old (Ok given) = (make : List Field → Command) → Follows old (fields_first make) → reads (all_words old) ≡ Ok (make given)
+ReadsFields old (Err why) = (why ≡ fault.Memory) ⊎ ((make : List Field → Command) → Follows old (fields_first make) → reads (all_words old) ≡ Err why)
+
+-- the FSET of a key and an id, and these fields
+abbrev pub fset_of : Bytes × Bytes → List Field → Command
+fset_of k given = command.Fset k.0 k.1 (nonzero_of given) (cleared_of given)

@@ -1,17 +1,19 @@
 //! The commands, each read from the words behind its name.
 
-ghost use Rattle.std.specs.Prelude.{◌≡◌, ◌⊎◌, [], ◌∷◌, ◌++◌, false, not, if◌then◌else◌, OnOk, IfOk, IfErr, Ok, Err};
+ghost use Rattle.std.specs.Prelude.{◌≡◌, ◌⊎◌, [], ◌∷◌, ◌++◌, false, OnOk, IfOk, IfErr, Ok, Err};
 ghost use Rattle.std.specs.List.{list_any};
 ghost use Rattle.byte_text.specs.Names.{is_word};
 ghost use Rattle.world_model.specs.Grammar.{done};
 ghost use Rattle.world_model.specs.declared.commands.Command.TheVariants as command;
-ghost use Rattle.world_model.specs.declared.faults.WordFault.TheVariants as fault;
-ghost use Rattle.world_model.specs.Served.{asks, unbuilt, is_built};
-ghost use Rattle.cmd_words.specs.Places.{all_words, Follows, Answers, a_name, key_and_id, get_options, stats_names};
+ghost use Rattle.world_model.specs.Served.{asks, unbuilt};
+ghost use Rattle.cmd_words.specs.Places.{all_words, Follows, Answers, a_name, key_and_id, get_options, stats_names, of_objects};
 
 use crate::faults::unknown;
 use crate::fields::push_name;
+use crate::objects::{expire_command, fget_command, fset_command, persist_command, ttl_command};
+use crate::patterns::{keys_command, pdel_command};
 use crate::readers::Reader;
+use crate::scans::scan_command;
 use crate::sets::set_command;
 use crate::words::read_name;
 use byte_text::Request;
@@ -30,33 +32,7 @@ pub fn command_of(alloc: Global, words: &Request) -> Result<Command, WordFault>
     if is_unbuilt(called) {
         return Err(WordFault::Unserved);
     }
-    let command = read_command(&mut reader, called)?;
-    built(command)
-}
-
-// The command, where it has no option that is not built yet.
-fn built(command: Command) -> Result<Command, WordFault>
-    ensures { result ≡ (if is_built command then Ok command else Err fault.Unserved) }
-{
-    if has_unbuilt_option(&command) {
-        return Err(WordFault::Unserved);
-    }
-    Ok(command)
-}
-
-// Whether the command has an option that is not built yet: FIELD or EX.
-fn has_unbuilt_option(command: &Command) -> bool
-    ensures { result ≡ not (is_built command.now) }
-{
-    match command {
-        Command::Set {
-            fields,
-            cleared,
-            seconds,
-            ..
-        } => fields.len() > 0 || cleared.len() > 0 || seconds.is_some(),
-        _ => false,
-    }
+    read_command(&mut reader, called)
 }
 
 // Whether this is one of these names, in any case of its ASCII letters.
@@ -70,16 +46,8 @@ fn is_any(called: &[u8], names: &[&[u8]]) -> bool
 fn is_unbuilt(called: &[u8]) -> bool
     ensures { result ≡ list_any (is_word called.now) unbuilt }
 {
-    let names: [&[u8]; 18] = [
-        b"PDEL",
-        b"FSET",
-        b"FGET",
-        b"EXPIRE",
-        b"PERSIST",
-        b"TTL",
-        b"KEYS",
+    let names: [&[u8]; 10] = [
         b"AOFSHRINK",
-        b"SCAN",
         b"WITHIN",
         b"INTERSECTS",
         b"NEARBY",
@@ -107,8 +75,37 @@ fn read_command(reader: &mut Reader, called: &[u8]) -> Result<Command, WordFault
     if called.eq_ignore_ascii_case(b"DEL") {
         return del_command(reader);
     }
+    if called.eq_ignore_ascii_case(b"FSET") {
+        return fset_command(reader);
+    }
+    if called.eq_ignore_ascii_case(b"FGET") {
+        return fget_command(reader);
+    }
+    if called.eq_ignore_ascii_case(b"EXPIRE") {
+        return expire_command(reader);
+    }
+    if called.eq_ignore_ascii_case(b"PERSIST") {
+        return persist_command(reader);
+    }
+    if called.eq_ignore_ascii_case(b"TTL") {
+        return ttl_command(reader);
+    }
+    read_wider_command(reader, called)
+}
+
+// The command of this name that is about more than one object, or none has it.
+fn read_wider_command(reader: &mut Reader, called: &[u8]) -> Result<Command, WordFault>
+    requires { reader.old.read ≡ called.now ∷ [] }
+    ensures { list_any (is_word called.now) of_objects ≡ false → list_any (is_word called.now) unbuilt ≡ false → Answers (all_words reader.old) result }
+{
+    if called.eq_ignore_ascii_case(b"PDEL") {
+        return pdel_command(reader);
+    }
     if called.eq_ignore_ascii_case(b"DROP") {
         return drop_command(reader);
+    }
+    if called.eq_ignore_ascii_case(b"KEYS") {
+        return keys_command(reader);
     }
     if called.eq_ignore_ascii_case(b"BOUNDS") {
         return bounds_command(reader);
@@ -124,6 +121,9 @@ fn read_command(reader: &mut Reader, called: &[u8]) -> Result<Command, WordFault
     }
     if called.eq_ignore_ascii_case(b"QUIT") {
         return quit_command(reader);
+    }
+    if called.eq_ignore_ascii_case(b"SCAN") {
+        return scan_command(reader);
     }
     Err(unknown(reader.alloc(), called))
 }

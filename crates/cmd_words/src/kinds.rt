@@ -8,14 +8,19 @@ ghost use Rattle.world_model.specs.Commands.{field as a_field};
 ghost use Rattle.cmd_words.specs.Places.{Reads};
 
 use crate::readers::Reader;
-use crate::words::{read_coordinate, read_geojson, read_integer, read_seconds};
+use crate::words::{
+    read_between, read_bound, read_coordinate, read_geojson, read_glob, read_integer,
+};
 use byte_text::{Name, Text};
 use planar_geom::{BBox, MAX_COORD, Pt, Shape};
 use world_model::WordFault;
 
+/// The longest time to live, in seconds.
+const MAX_SECONDS: u32 = 1_000_000_000;
+
 impl<'a> Reader<'a> {
     /// Reads a number of 64 signed bits.
-    fn integer(&mut self) -> Result<i64, WordFault>
+    pub(crate) fn integer(&mut self) -> Result<i64, WordFault>
         ensures { Reads kinds.integer self.old self.new result }
     {
         match self.next() {
@@ -24,12 +29,39 @@ impl<'a> Reader<'a> {
         }
     }
 
+    /// Reads a pattern.
+    pub(crate) fn glob(&mut self) -> Result<Name, WordFault>
+        ensures { Reads kinds.glob self.old self.new result }
+    {
+        match self.next() {
+            Some(word) => read_glob(self.alloc(), word),
+            None => Err(self.wrong_count()),
+        }
+    }
+
+    /// Reads a number from `least` to `most`.
+    pub(crate) fn between(&mut self, least: u32, most: u32) -> Result<u32, WordFault>
+        ensures { Reads (kinds.between least most) self.old self.new result }
+    {
+        match self.next() {
+            Some(word) => read_between(self.alloc(), word, least, most),
+            None => Err(self.wrong_count()),
+        }
+    }
+
     /// Reads a time to live in seconds.
     pub(crate) fn seconds(&mut self) -> Result<u32, WordFault>
         ensures { Reads kinds.seconds self.old self.new result }
     {
+        self.between(1, MAX_SECONDS)
+    }
+
+    /// Reads a bound of a range; none where it is endless.
+    pub(crate) fn bound(&mut self) -> Result<Option<i64>, WordFault>
+        ensures { Reads kinds.bound self.old self.new result }
+    {
         match self.next() {
-            Some(word) => read_seconds(self.alloc(), word),
+            Some(word) => read_bound(self.alloc(), word),
             None => Err(self.wrong_count()),
         }
     }

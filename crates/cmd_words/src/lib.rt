@@ -2,13 +2,17 @@
 #![tactic(auto)]
 
 mod commands;
+mod conditions;
 mod faults;
 mod fields;
 mod kinds;
 mod laws;
+mod objects;
 mod options;
+mod patterns;
 mod places;
 mod readers;
+mod scans;
 mod sets;
 #[cfg(test)]
 mod tests;

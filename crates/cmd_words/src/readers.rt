@@ -4,6 +4,7 @@ ghost use Rattle.std.specs.Prelude.{◌≡◌, [], MatchOption};
 ghost use Rattle.world_model.specs.Commands.{wrong_count as count_fault, shown_of};
 ghost use Rattle.world_model.specs.declared.faults.WordFault.TheVariants as fault;
 ghost use Rattle.cmd_words.specs.Places.{start, all_words, IsBehind, IsFault, Parses, Took, a_name, key_and_id, ReadsShown, IsEnd, IsRefusal};
+ghost use Rattle.cmd_words.specs.Scans.{TookDue, ReadsOutput};
 
 use crate::faults::{invalid, wrong_count};
 use crate::words::read_name;
@@ -112,6 +113,32 @@ impl<'a> Reader<'a> {
         if self.takes(b"OBJECT") {
             Some(Shown::Objects)
         } else if self.takes(b"POINT") {
+            Some(Shown::Points)
+        } else if self.takes(b"BOUNDS") {
+            Some(Shown::Bounds)
+        } else {
+            None
+        }
+    }
+
+    /// Reads this word where it may come and is next, in any case of its ASCII letters.
+    pub(crate) fn takes_due(&mut self, may: bool, called: &[u8]) -> bool
+        ensures { TookDue may called.now self.old self.new result }
+    {
+        may && self.takes(called)
+    }
+
+    /// Reads how the objects of a search are shown, where that is next.
+    pub(crate) fn output(&mut self) -> Option<Shown>
+        ensures { ReadsOutput self.old self.new result }
+    {
+        if self.takes(b"COUNT") {
+            Some(Shown::Count)
+        } else if self.takes(b"IDS") {
+            Some(Shown::Ids)
+        } else if self.takes(b"OBJECTS") {
+            Some(Shown::Objects)
+        } else if self.takes(b"POINTS") {
             Some(Shown::Points)
         } else if self.takes(b"BOUNDS") {
             Some(Shown::Bounds)

@@ -1,11 +1,11 @@
 //! Lines of words, read.
 
 use crate::command_of;
-use byte_text::{Name, NoMemory, Request, Text};
+use byte_text::{Name, NoMemory, Request, Text, push_i64, push_u64};
 use geojson_model::GeoFault;
 use std::alloc::Global;
 use std::test::Fail;
-use world_model::{Command, Only, Shown, WordFault};
+use world_model::{Command, Fields, NameList, Numbers, Only, Query, Rule, Shown, Test, WordFault};
 
 // The request of a line's words, which are split at spaces.
 fn request(alloc: Global, line: &str) -> Result<Request, Fail> {
@@ -47,6 +47,125 @@ fn shown_text(shown: Shown) -> &'static str {
     }
 }
 
+// A word, and a number behind it.
+fn push_count(out: &mut Text, called: &str, count: u64) -> Result<(), NoMemory> {
+    out.push(called.as_bytes())?;
+    push_u64(out, count)
+}
+
+// How many fields are written, and how many are written 0.
+fn push_fields(out: &mut Text, fields: &Fields, cleared: &NameList) -> Result<(), NoMemory> {
+    push_count(out, " with ", fields.len() as u64)?;
+    push_count(out, " without ", cleared.len() as u64)
+}
+
+// A bound of a range.
+fn push_bound(out: &mut Text, bound: Option<i64>) -> Result<(), NoMemory> {
+    match bound {
+        Some(n) => {
+            out.push(b" ")?;
+            push_i64(out, n)
+        }
+        None => out.push(b" endless"),
+    }
+}
+
+fn push_values(out: &mut Text, values: &Numbers) -> Result<(), NoMemory> {
+    for at in 0..values.len() {
+        out.push(b" ")?;
+        push_i64(out, *values.at(at))?;
+    }
+    Ok(())
+}
+
+fn push_test(out: &mut Text, test: &Test) -> Result<(), NoMemory> {
+    match test {
+        Test::Range(name, low, high) => {
+            out.push(b" where ")?;
+            out.push(name.bytes())?;
+            push_bound(out, *low)?;
+            push_bound(out, *high)
+        }
+        Test::Among(name, values) => {
+            out.push(b" wherein ")?;
+            out.push(name.bytes())?;
+            push_values(out, values)
+        }
+    }
+}
+
+fn rule_text(rule: &Rule) -> &'static str {
+    match rule {
+        Rule::All => " up",
+        Rule::Down => " down",
+        _ => " another",
+    }
+}
+
+fn output_text(shown: Shown) -> &'static str {
+    match shown {
+        Shown::Count => " count",
+        Shown::Ids => " ids",
+        Shown::Objects => " objects",
+        Shown::Points => " points",
+        Shown::Bounds => " bounds",
+    }
+}
+
+fn push_query(out: &mut Text, query: &Query) -> Result<(), NoMemory> {
+    out.push(rule_text(&query.rule).as_bytes())?;
+    if let Some(glob) = &query.glob {
+        out.push(b" match ")?;
+        out.push(glob.bytes())?;
+    }
+    for at in 0..query.tests.len() {
+        push_test(out, query.tests.at(at))?;
+    }
+    push_count(out, " from ", query.cursor as u64)?;
+    push_count(out, " to ", query.limit as u64)?;
+    if query.bare {
+        out.push(b" bare")?;
+    }
+    out.push(output_text(query.shown).as_bytes())
+}
+
+// A command of an object's fields or deadline, or of a pattern or a query.
+fn push_wider(out: &mut Text, command: &Command) -> Result<(), NoMemory> {
+    match command {
+        Command::Fset {
+            key,
+            id,
+            fields,
+            cleared,
+        } => {
+            push_two(out, "fset ", key, id)?;
+            push_fields(out, fields, cleared)
+        }
+        Command::Fget { key, id, field } => {
+            push_two(out, "fget ", key, id)?;
+            out.push(b" ")?;
+            out.push(field.bytes())
+        }
+        Command::Expire { key, id, seconds } => {
+            push_two(out, "expire ", key, id)?;
+            push_count(out, " ", *seconds as u64)
+        }
+        Command::Persist { key, id } => push_two(out, "persist ", key, id),
+        Command::Ttl { key, id } => push_two(out, "ttl ", key, id),
+        Command::Pdel { key, glob } => push_two(out, "pdel ", key, glob),
+        Command::Keys { glob } => {
+            out.push(b"keys ")?;
+            out.push(glob.bytes())
+        }
+        Command::Scan { key, query } => {
+            out.push(b"scan ")?;
+            out.push(key.bytes())?;
+            push_query(out, query)
+        }
+        _ => out.push(b"another command"),
+    }
+}
+
 // The command, as a line of words.
 fn push_command(out: &mut Text, command: &Command) -> Result<(), NoMemory> {
     match command {
@@ -54,11 +173,18 @@ fn push_command(out: &mut Text, command: &Command) -> Result<(), NoMemory> {
         Command::Set {
             key,
             id,
+            fields,
+            cleared,
+            seconds,
             only,
             text,
             ..
         } => {
             push_two(out, only_text(*only), key, id)?;
+            if let Some(seconds) = seconds {
+                push_fields(out, fields, cleared)?;
+                push_count(out, " after ", *seconds as u64)?;
+            }
             out.push(b" ")?;
             out.push(text.bytes())
         }
@@ -69,7 +195,7 @@ fn push_command(out: &mut Text, command: &Command) -> Result<(), NoMemory> {
         Command::Flush => out.push(b"flush"),
         Command::Ping => out.push(b"ping"),
         Command::Quit => out.push(b"quit"),
-        _ => out.push(b"another command"),
+        _ => push_wider(out, command),
     }
 }
 
@@ -124,8 +250,10 @@ fn sets_are_read(rt: HostRuntime) -> Result<(), Fail> {
             "SET k a xx OBJECT {\"coordinates\":[1,2],\"type\":\"Point\"}",
             "old k a {\"coordinates\":[1,2],\"type\":\"Point\"}",
         ),
-        ("SET k a EX 5 POINT 1 2", "not served"),
-        ("SET k a NX FIELD f -1 POINT 1 2", "not served"),
+        (
+            "SET k a FIELD f -1 EX 5 FIELD g 0 FIELD f 1 POINT 1 2",
+            "set k a with 1 without 1 after 5 {\"type\":\"Point\",\"coordinates\":[2,1]}",
+        ),
         ("SET k a FIELD f x POINT 1 2", "invalid x"),
         ("SET k a EX 0 POINT 1 2", "invalid 0"),
         ("SET k a EX 5 EX 5 POINT 1 2", "invalid EX"),
@@ -168,12 +296,65 @@ fn others_are_read(rt: HostRuntime) -> Result<(), Fail> {
         ("STATS k l", "stats of two"),
         ("STATS", "wrong count stats"),
         ("flushdb", "flush"),
+        ("FLUSHDB k", "wrong count flushdb"),
         ("PING", "ping"),
         ("PING x", "wrong count ping"),
         ("quit", "quit"),
-        ("TTL k a", "not served"),
+        ("QUIT now", "wrong count quit"),
+        ("WITHIN k BOUNDS 1 2 3 4", "not served"),
         ("SETS k a POINT 1 2", "unknown SETS"),
         ("", "unknown "),
+    ];
+    lines_are_read(rt.alloc(), &table)
+}
+
+#[test]
+fn fields_and_patterns_are_read(rt: HostRuntime) -> Result<(), Fail> {
+    let table = [
+        ("fset k a f 1 g 0", "fset k a with 1 without 1"),
+        ("FSET k a f 1 g", "wrong count fset"),
+        ("FSET k a f 01", "invalid 01"),
+        ("FGET k a f", "fget k a f"),
+        ("FGET k a", "wrong count fget"),
+        ("EXPIRE k a 10", "expire k a 10"),
+        ("EXPIRE k a 0", "invalid 0"),
+        ("EXPIRE k a 1000000001", "invalid 1000000001"),
+        ("PERSIST k a", "persist k a"),
+        ("TTL k a", "ttl k a"),
+        ("TTL k", "wrong count ttl"),
+        ("PDEL k a*", "pdel k a*"),
+        ("KEYS *", "keys *"),
+        ("KEYS [", "invalid ["),
+    ];
+    lines_are_read(rt.alloc(), &table)
+}
+
+#[test]
+fn scans_are_read(rt: HostRuntime) -> Result<(), Fail> {
+    let table = [
+        ("SCAN k", "scan k up from 0 to 100 objects"),
+        (
+            "scan k match t* cursor 3 limit 7 nofields desc where v -inf 5 wherein w 2 -1 4 ids",
+            "scan k down match t* where v endless 5 wherein w -1 4 from 3 to 7 bare ids",
+        ),
+        (
+            "SCAN k WHERE v 1 +inf LIMIT 1000000 ASC CURSOR 4294967295 COUNT",
+            "scan k up where v 1 endless from 4294967295 to 1000000 count",
+        ),
+        ("SCAN k ASC DESC", "invalid DESC"),
+        ("SCAN k MATCH a MATCH b", "invalid MATCH"),
+        ("SCAN k MATCH [", "invalid ["),
+        ("SCAN k CURSOR 4294967296", "invalid 4294967296"),
+        ("SCAN k LIMIT 0", "invalid 0"),
+        ("SCAN k LIMIT 1000001", "invalid 1000001"),
+        ("SCAN k WHERE v 1 INF", "invalid INF"),
+        ("SCAN k WHEREIN w 0", "invalid 0"),
+        ("SCAN k WHEREIN w 257 1", "invalid 257"),
+        ("SCAN k WHEREIN w 2 1", "wrong count scan"),
+        ("SCAN k WHEREIN w 2 1 COUNT", "invalid COUNT"),
+        ("SCAN k POINT", "invalid POINT"),
+        ("SCAN k POINTS x", "wrong count scan"),
+        ("SCAN", "wrong count scan"),
     ];
     lines_are_read(rt.alloc(), &table)
 }

@@ -4,20 +4,19 @@ ghost use Rattle.std.specs.Prelude.{◌≡◌, ◌==◌, ◌≤◌, ◌≤ℤ◌
 ghost use Rattle.std.specs.List.{list_all, position_or_len};
 ghost use Rattle.world_model.specs.Grammar.{a_word, a_coordinate, a_geojson};
 ghost use Rattle.world_model.specs.Limits.{max_coord};
-ghost use Rattle.world_model.specs.Kinds.{is_digit as is_decimal_digit};
+ghost use Rattle.byte_text.specs.Numbers.{natural_within};
+ghost use Rattle.world_model.specs.Kinds.{is_digit as is_decimal_digit, is_endless as is_endless_bound, bound_of};
 ghost use Rattle.world_model.specs.Commands.{is_fraction as is_decimal_fraction, are_digits as are_decimal_digits, without_minus as without_sign};
-ghost use Rattle.cmd_words.specs.Places.{IsOne, IsFault, due_fault, name_of};
-ghost use Rattle.cmd_words.specs.Sets.{integer_of, coordinate_of, seconds_of, object_of};
+ghost use Rattle.cmd_words.specs.Places.{IsOne, IsFault, due_fault, name_of, glob_of};
+ghost use Rattle.cmd_words.specs.Sets.{integer_of, coordinate_of, object_of};
 
 use crate::faults::{fraction, invalid, text};
 use byte_text::{Name, Text, TextFault, read_i64, read_u64};
 use geojson_model::{GeoFault, shape_of};
+use glob_match::well_formed;
 use planar_geom::{MAX_COORD, Shape};
 use std::alloc::Global;
 use world_model::WordFault;
-
-/// The longest time to live, in seconds.
-const MAX_SECONDS: u64 = 1_000_000_000;
 
 /// The name that the word is.
 pub(crate) fn read_name(alloc: Global, word: &[u8]) -> Result<Name, WordFault>
@@ -27,6 +26,17 @@ pub(crate) fn read_name(alloc: Global, word: &[u8]) -> Result<Name, WordFault>
         Ok(name) => Ok(name),
         Err(TextFault::Memory) => Err(WordFault::Memory),
         Err(_) => Err(invalid(alloc, word)),
+    }
+}
+
+/// The pattern that the word is: a name that is well formed as one.
+pub(crate) fn read_glob(alloc: Global, word: &[u8]) -> Result<Name, WordFault>
+    ensures { IsOne a_word glob_of word.now result }
+{
+    if well_formed(word) {
+        read_name(alloc, word)
+    } else {
+        Err(invalid(alloc, word))
     }
 }
 
@@ -40,14 +50,47 @@ pub(crate) fn read_integer(alloc: Global, word: &[u8]) -> Result<i64, WordFault>
     }
 }
 
-/// The time to live in seconds that the word is.
-pub(crate) fn read_seconds(alloc: Global, word: &[u8]) -> Result<u32, WordFault>
-    ensures { IsOne a_word seconds_of word.now result }
+/// The number from `least` to `most` that the word is.
+pub(crate) fn read_between(
+    alloc: Global,
+    word: &[u8],
+    least: u32,
+    most: u32,
+) -> Result<u32, WordFault>
+    ensures { IsOne a_word (natural_within least most) word.now result }
 {
     match read_u64(word) {
-        Ok(n) if 1 <= n && n <= MAX_SECONDS => Ok(n as u32),
-        _ => Err(invalid(alloc, word)),
+        Ok(n) => {
+            if n < least as u64 {
+                Err(invalid(alloc, word))
+            } else if n > most as u64 {
+                Err(invalid(alloc, word))
+            } else {
+                Ok(n as u32)
+            }
+        }
+        Err(_) => Err(invalid(alloc, word)),
     }
+}
+
+/// The bound of a range that the word is: none where it is endless.
+pub(crate) fn read_bound(alloc: Global, word: &[u8]) -> Result<Option<i64>, WordFault>
+    ensures { IsOne a_word bound_of word.now result }
+{
+    if is_endless(word) {
+        return Ok(None);
+    }
+    match read_i64(word) {
+        Ok(n) => Ok(Some(n)),
+        Err(_) => Err(invalid(alloc, word)),
+    }
+}
+
+// Whether the word is the endless bound of a range.
+fn is_endless(word: &[u8]) -> bool
+    ensures { result ≡ is_endless_bound word.now }
+{
+    word == b"-inf".as_slice() || word == b"+inf".as_slice() || word == b"inf".as_slice()
 }
 
 /// The coordinate of at least `low` that the word is.

@@ -1,7 +1,11 @@
 -- Byte order is total.
-use Rattle.std.proofs.Common.{◌≡◌, true, false, refl, [], ◌∷◌, arith}
+use Rattle.std.proofs.Common.{◌≡◌, zero, suc, true, false, refl, List, [], ◌∷◌, get_or, arith}
+use Rattle.std.specs.List.{list_all}
+use Rattle.std.specs.List.Sorted.{IsPartitionedBy}
 use Rattle.std.proofs.lemmas.Bool.Decides.{nat_tests}
 use Rattle.byte_text.specs.Names.{Bytes, before, same}
+use Rattle.world_model.specs.Lists.{ascends}
+use Rattle.collection.proofs.Lists.{both_of, all_get}
 
 pub before_trans : (a b c : Bytes) → before a b ≡ true → before b c ≡ true → before a c ≡ true
 before_trans [] [] c p q = grind arith
@@ -56,3 +60,13 @@ behind [] [] p q = grind arith
 behind [] (y ∷ b) p q = grind arith
 behind (x ∷ a) [] p q = refl
 behind (x ∷ a) (y ∷ b) p q = let ih = behind a b in grind (arith, nat_tests)
+
+-- items that ascend by their names: those before a word stand in front of the others
+pub partitioned : {A : Type 0} (name : A → Bytes) (word : Bytes) (xs : List A) → ascends (λ a b. before (name a) (name b)) xs ≡ true → IsPartitionedBy (λ a. before (name a) word) xs
+partitioned name word [] asc i j d le lt h = absurd (omega arith)
+partitioned name word (x ∷ xs) asc zero zero d le lt h = h
+partitioned name word (x ∷ xs) asc zero (suc j) d le lt h =
+    let above = (both_of (list_all (λ a. before (name x) (name a)) xs) (ascends (λ a b. before (name a) (name b)) xs) asc).0 in
+    before_trans (name x) (name (get_or xs j d)) word (all_get (λ a. before (name x) (name a)) xs j d (omega arith) above) h
+partitioned name word (x ∷ xs) asc (suc i) zero d le lt h = absurd (omega arith)
+partitioned name word (x ∷ xs) asc (suc i) (suc j) d le lt h = partitioned name word xs (both_of (list_all (λ a. before (name x) (name a)) xs) (ascends (λ a b. before (name a) (name b)) xs) asc).1 i j d (omega arith) (omega arith) h

@@ -1,14 +1,13 @@
 -- Objects by id: where one stands, and what is found.
-use Rattle.std.proofs.Common.{◌≡◌, ℕ, zero, suc, true, false, not, refl, sym, ap, subst, List, [], ◌∷◌, take, get_or, arith}
+use Rattle.std.proofs.Common.{◌≡◌, ℕ, zero, suc, true, false, not, refl, sym, ap, subst, List, [], ◌∷◌, take, arith}
 use Rattle.std.specs.Prelude.{Some, None, filter, find, IfSome}
 use Rattle.std.specs.List.{list_all, slice_get, slice_set, insert, remove}
-use Rattle.std.specs.List.Sorted.{IsPartitionedBy}
 use Rattle.byte_text.specs.Names.{Bytes, before, same}
 use Rattle.world_model.specs.Lists.{put_in, IsHeld, IsFree}
 use Rattle.world_model.specs.declared.objects.Object.{Object}
 use Rattle.collection.specs.Objects.{id_before, has_id, are_by_id}
 use Rattle.collection.proofs.ByteOrder.{before_trans, before_tie, before_asym, before_self, same_refl, same_equal, other_before, other_behind, behind}
-use Rattle.collection.proofs.Lists.{both_of, all_get, put_in-insert, put_in-set, ascends-put_in, ascends-filter}
+use Rattle.collection.proofs.Lists.{both_of, put_in-insert, put_in-set, ascends-put_in, ascends-filter, ascends-remove}
 
 id_trans : (o p q : Object) → id_before o p ≡ true → id_before p q ≡ true → id_before o q ≡ true
 id_trans o p q = before_trans o.id p.id q.id
@@ -18,16 +17,6 @@ id_tie o p q a b c = subst (λ (n : Bytes). before n q.id ≡ true) (sym (before
 
 id_asym : (o p : Object) → id_before o p ≡ true → id_before p o ≡ false
 id_asym o p = before_asym o.id p.id
-
--- those before an id stand in front of the others
-pub partitioned : (id : Bytes) (xs : List Object) → are_by_id xs ≡ true → IsPartitionedBy (λ o. before o.id id) xs
-partitioned id [] asc i j d le lt h = absurd (omega arith)
-partitioned id (x ∷ xs) asc zero zero d le lt h = h
-partitioned id (x ∷ xs) asc zero (suc j) d le lt h =
-    let above = (both_of (list_all (id_before x) xs) (are_by_id xs) asc).0 in
-    before_trans x.id (get_or xs j d).id id (all_get (id_before x) xs j d (omega arith) above) h
-partitioned id (x ∷ xs) asc (suc i) zero d le lt h = absurd (omega arith)
-partitioned id (x ∷ xs) asc (suc i) (suc j) d le lt h = partitioned id xs (both_of (list_all (id_before x) xs) (are_by_id xs) asc).1 i j d (omega arith) (omega arith) h
 
 -- one of this id ties with it
 pub tied : (id : Bytes) (x : Object) → same x.id id ≡ true → (before id x.id ≡ false) × (before x.id id ≡ false)
@@ -46,22 +35,22 @@ above : (id : Bytes) (x : Object) (xs : List Object) → ((o : Object) → befor
 above id x [] h all = refl
 above id x (y ∷ xs) h all = let ih = above id x xs h in let here = h y in grind arith
 
-none_behind : (id : Bytes) (xs : List Object) → list_all (λ o. before id o.id) xs ≡ true → find (has_id id) xs ≡ None
+pub none_behind : (id : Bytes) (xs : List Object) → list_all (λ o. before id o.id) xs ≡ true → find (has_id id) xs ≡ None
 none_behind id [] all = refl
 none_behind id (x ∷ xs) all =
     let p = both_of (before id x.id) (list_all (λ o. before id o.id) xs) all in
     rw (other_behind x.id id p.0) (none_behind id xs p.1)
 
-kept_behind : (id : Bytes) (xs : List Object) → list_all (λ o. before id o.id) xs ≡ true → filter (λ o. not (has_id id o)) xs ≡ xs
+pub kept_behind : (id : Bytes) (xs : List Object) → list_all (λ o. before id o.id) xs ≡ true → filter (λ o. not (has_id id o)) xs ≡ xs
 kept_behind id [] all = refl
 kept_behind id (x ∷ xs) all =
     let p = both_of (before id x.id) (list_all (λ o. before id o.id) xs) all in
     rw (other_behind x.id id p.0, kept_behind id xs p.1) refl
 
-behind_first : (id : Bytes) (x : Object) (xs : List Object) → (before id x.id ≡ true) → list_all (id_before x) xs ≡ true → list_all (λ o. before id o.id) xs ≡ true
+pub behind_first : (id : Bytes) (x : Object) (xs : List Object) → (before id x.id ≡ true) → list_all (id_before x) xs ≡ true → list_all (λ o. before id o.id) xs ≡ true
 behind_first id x xs h all = above id x xs (λ o q. before_trans id x.id o.id h q) all
 
-behind_tied : (id : Bytes) (x : Object) (xs : List Object) → (before id x.id ≡ false) × (before x.id id ≡ false) → list_all (id_before x) xs ≡ true → list_all (λ o. before id o.id) xs ≡ true
+pub behind_tied : (id : Bytes) (x : Object) (xs : List Object) → (before id x.id ≡ false) × (before x.id id ≡ false) → list_all (id_before x) xs ≡ true → list_all (λ o. before id o.id) xs ≡ true
 behind_tied id x xs t all = above id x xs (λ o q. subst (λ (n : Bytes). before n o.id ≡ true) (before_tie x.id id t.1 t.0) q) all
 
 module _ (id : Bytes) where
@@ -119,3 +108,6 @@ put_by_id x xs asc = ascends-put_in id_before id_trans id_tie x xs asc
 
 pub left_by_id : (id : Bytes) (xs : List Object) → are_by_id xs ≡ true → are_by_id (filter (λ o. not (has_id id o)) xs) ≡ true
 left_by_id id xs asc = ascends-filter id_before (λ o. not (has_id id o)) xs asc
+
+pub removed_by_id : (xs : List Object) (at : ℕ) → are_by_id xs ≡ true → are_by_id (remove xs at) ≡ true
+removed_by_id xs at asc = ascends-remove id_before xs at asc

@@ -1,7 +1,7 @@
 -- Places in ascending lists.
 use Rattle.std.proofs.Common.{◌≡◌, ◌<◌, ◌≤◌, ℕ, zero, suc, Bool, true, false, refl, sym, ap, List, [], ◌∷◌, length, take, get_or, arith}
 use Rattle.std.specs.Prelude.{Some, filter, IfSome, ◌&&◌}
-use Rattle.std.specs.List.{list_all, slice_get, slice_set, insert}
+use Rattle.std.specs.List.{list_all, slice_get, slice_set, insert, remove}
 use Rattle.world_model.specs.Lists.{ascends, put_in}
 
 pub both_of : (a b : Bool) → (a && b) ≡ true → (a ≡ true) × (b ≡ true)
@@ -81,3 +81,18 @@ all_filter p q (x ∷ xs) all = let ih = all_filter p q xs in grind arith
 pub ascends-filter : {A : Type 0} (lt : A → A → Bool) (q : A → Bool) (xs : List A) → ascends lt xs ≡ true → ascends lt (filter q xs) ≡ true
 ascends-filter lt q [] asc = refl
 ascends-filter lt q (x ∷ xs) asc = let ih = ascends-filter lt q xs in let all = all_filter (lt x) q xs in grind arith
+
+pub all_remove : {A : Type 0} (p : A → Bool) (xs : List A) (at : ℕ) → list_all p xs ≡ true → list_all p (remove xs at) ≡ true
+all_remove p [] zero all = refl
+all_remove p [] (suc at) all = refl
+all_remove p (x ∷ xs) zero all = (both_of (p x) (list_all p xs) all).1
+all_remove p (x ∷ xs) (suc at) all = let ih : list_all p xs ≡ true → list_all p (remove xs at) ≡ true = all_remove p xs at in grind arith
+
+pub ascends-remove : {A : Type 0} (lt : A → A → Bool) (xs : List A) (at : ℕ) → ascends lt xs ≡ true → ascends lt (remove xs at) ≡ true
+ascends-remove lt [] zero asc = refl
+ascends-remove lt [] (suc at) asc = refl
+ascends-remove lt (x ∷ xs) zero asc = (both_of (list_all (lt x) xs) (ascends lt xs) asc).1
+ascends-remove lt (x ∷ xs) (suc at) asc =
+    let ih : ascends lt xs ≡ true → ascends lt (remove xs at) ≡ true = ascends-remove lt xs at in
+    let all = all_remove (lt x) xs at in
+    grind arith

@@ -1,4 +1,5 @@
 ghost use Rattle.std.specs.Prelude.{◌≡◌, ◌+◌, ◌<◌, ◌≤◌, ℕ, [], true, not, length, filter, find, is_some, if◌then◌else◌, slice_get, Some, None, IfNone, IfSome, MatchOption, OnOk};
+ghost use Rattle.std.specs.List.{remove};
 ghost use Rattle.world_model.specs.Lists.{put_in};
 ghost use Rattle.world_model.specs.declared.objects.Object.{Object};
 ghost use Rattle.collection.specs.Objects.{id_before, has_id, are_by_id, has_room, earlier, least_due, bounds_of};
@@ -91,13 +92,21 @@ impl Collection {
         ensures spare { self.new.spare ≡ self.old.spare + (if is_some result then 1 else 0) }
     {
         match place_of(self.objects.as_slice(), id) {
-            Ok(at) => {
-                let object = self.objects.remove(at);
-                self.due -= due_count(&object);
-                Some(object)
-            }
+            Ok(at) => Some(self.take_at(at)),
             Err(_) => None,
         }
+    }
+
+    /// Takes out the object at this place, counted from 0 by ascending id. Its place is room for another.
+    pub fn take_at(&mut self, i: usize) -> Object
+        requires { i < length self.old.objects }
+        ensures objects { self.new.objects ≡ remove self.old.objects i }
+        ensures taken { slice_get self.old.objects i ≡ Some result }
+        ensures spare { self.new.spare ≡ self.old.spare + 1 }
+    {
+        let object = self.objects.remove(i);
+        self.due -= due_count(&object);
+        object
     }
 
     /// The object of this id, where there is one.
@@ -166,8 +175,8 @@ fn least_deadline(objects: &[Object]) -> Option<u64>
     found
 }
 
-// The lesser of two moments, where there are two.
-fn lesser(first: Option<u64>, second: Option<u64>) -> Option<u64>
+/// The lesser of two moments, where there are two.
+pub fn lesser(first: Option<u64>, second: Option<u64>) -> Option<u64>
     ensures { result ≡ earlier first second }
 {
     match (first, second) {

@@ -5,7 +5,7 @@ mod bounds;
 mod collections;
 mod places;
 
-pub use collections::Collection;
+pub use collections::{Collection, lesser};
 
 #[cfg(test)]
 mod tests;

@@ -71,6 +71,9 @@ fn objects_are_put_and_taken(rt: HostRuntime) -> Result<(), Fail> {
     assert!(rt; matches!(trucks.get(&b), Some(object) if object.deadline == Some(9)));
     assert!(rt; trucks.take_out(&b).is_some());
     assert!(rt; trucks.take_out(&b).is_none());
+    assert_eq!(rt; put(alloc, &mut trucks, b"b", Some(8), (1, 2))?, None);
+    assert_eq!(rt; trucks.len(), 3);
+    assert_eq!(rt; trucks.take_at(1).deadline, Some(8));
     assert!(rt; trucks.get(&b).is_none());
     assert_eq!(rt; trucks.least_due(), None);
     assert_eq!(rt; corners(&trucks), Some((-3, 0, 0, 4)));

@@ -55,5 +55,6 @@ fn values(rt: HostRuntime) -> Result<(), Fail> {
     assert!(rt; among(alloc, b"width", 0)?);
     assert!(rt; !among(alloc, b"width", -55)?);
     assert!(rt; passes(&Tests::new(alloc), &fields(alloc)?));
+    assert_eq!(rt; value_of(&fields(alloc)?, &Name::of(alloc, b"speed")?), -55);
     Ok(())
 }

@@ -1,4 +1,4 @@
-ghost use Rattle.std.specs.Prelude.{◌≡◌, ◌+◌, ◌<◌, ◌≤◌, ◌^◌, ◌&&◌, ◌∷◌, [], true, false, not, length, filter, find, map, is_some, is_none, if◌then◌else◌, slice_get, Some, None, IfNone, IfSome, OnOk};
+ghost use Rattle.std.specs.Prelude.{◌≡◌, ◌+◌, ◌<◌, ◌≤◌, ◌^◌, ◌&&◌, ◌∷◌, [], true, false, not, length, filter, find, map, is_some, is_none, if◌then◌else◌, slice_get, Some, None, IfNone, IfSome, OnOk, OnErr};
 ghost use Rattle.std.specs.List.{list_any};
 ghost use Rattle.byte_text.specs.Names.{Bytes, same};
 ghost use Rattle.world_model.specs.Lists.{put_in, sorted_by};
@@ -7,20 +7,16 @@ ghost use Rattle.world_model.specs.Expiry.{is_due, due_before};
 ghost use Rattle.world_model.specs.Effects.{distinct};
 ghost use Rattle.world_model.specs.declared.objects.Object.{Object};
 ghost use Rattle.collection.specs.Objects.{least_due};
-ghost use Rattle.keyspace.specs.Entries.{Entry, objects_in, room_for, has_room, has_objects, is_entry_of};
+ghost use Rattle.keyspace.specs.Shelves.{IsAdded};
+ghost use Rattle.keyspace.specs.Entries.{objects_in, room_for, has_room, has_objects, is_entry_of};
 
+use crate::places::{place_of, soonest};
+use crate::shelves::Shelf;
 use byte_text::{Name, NoMemory};
 use collection::Collection;
 use std::alloc::Global;
 use std::marker::Model;
 use world_model::Object;
-
-/// A key and its objects. While a call is made there may be none.
-#[derive(Drop)]
-struct Shelf {
-    key: Name,
-    objects: Collection,
-}
 
 /// The objects of all keys, in byte order of key and id, with room for more that was taken beforehand.
 #[derive(Drop)]
@@ -32,14 +28,15 @@ pub struct Keyspace {
 }
 
 impl Model for Keyspace {
-    ghost use Rattle.std.specs.Prelude.{List, map};
-    ghost use Rattle.keyspace.specs.Entries.{Entry};
+    ghost use Rattle.std.specs.Prelude.{◌≡◌, List, true, length};
+    ghost use Rattle.keyspace.specs.Entries.{Entry, objects_in};
+    ghost use Rattle.keyspace.specs.Shelves.{are_shelves};
 
     ghost Value = { List Entry };
 
-    ghost view = { λ k. map (λ s. record { key = s.key; objects = s.objects.objects; spare = s.objects.spare }) k.shelves.items };
+    ghost view = { λ k. k.shelves.items };
 
-    // to be written: keys ascend, each object is of its entry's key, by id, and `count` is their number
+    ghost invariant = { λ k. (are_shelves k.shelves.items ≡ true) × (k.count ≡ length (objects_in k.shelves.items)) };
 }
 
 impl Keyspace {
@@ -67,7 +64,10 @@ impl Keyspace {
         ensures none { IfNone result (find (is_at key.now id.now) (objects_in self.now) ≡ None) }
         ensures some { IfSome result (λ o. find (is_at key.now id.now) (objects_in self.now) ≡ Some o.now) }
     {
-        unreachable!()
+        match place_of(self.shelves.as_slice(), key) {
+            Ok(at) => self.shelves[at].objects().get(id),
+            Err(_) => None,
+        }
     }
 
     /// The objects of this key; none where the key is not there, and it may be there without an object.
@@ -75,7 +75,10 @@ impl Keyspace {
         ensures none { IfNone result (filter (has_key key.now) (objects_in self.now) ≡ []) }
         ensures some { IfSome result (λ c. c.now.objects ≡ filter (has_key key.now) (objects_in self.now)) }
     {
-        unreachable!()
+        match place_of(self.shelves.as_slice(), key) {
+            Ok(at) => Some(self.shelves[at].objects()),
+            Err(_) => None,
+        }
     }
 
     /// How many keys there are, those without an object too.
@@ -91,7 +94,7 @@ impl Keyspace {
         requires { i < length self.now }
         ensures { IfSome (slice_get self.now i) (λ e. result.now ≡ e.key) }
     {
-        unreachable!()
+        self.shelves[i].key()
     }
 
     /// How many objects the key at a place has.
@@ -99,14 +102,17 @@ impl Keyspace {
         requires { i < length self.now }
         ensures { IfSome (slice_get self.now i) (λ e. result ≡ length e.objects) }
     {
-        unreachable!()
+        self.shelves[i].objects().len()
     }
 
     /// The least deadline of all objects. Of keys where no object has one, no object is looked at.
     pub fn least_due(&self) -> Option<u64>
         ensures { result ≡ least_due (objects_in self.now) }
     {
-        unreachable!()
+        match soonest(self.shelves.as_slice()) {
+            Some((_, due)) => Some(due),
+            None => None,
+        }
     }
 
     /// Takes room for one more object of this key, where there is none. The objects stay, and no room is lost.
@@ -115,7 +121,10 @@ impl Keyspace {
         ensures room { OnOk result (1 ≤ room_for self.new key.now) }
         ensures kept { (k : Bytes) → room_for self.old k ≤ room_for self.new k }
     {
-        unreachable!()
+        match place_of(self.shelves.as_slice(), key) {
+            Ok(at) => self.shelves[at].prepare(),
+            Err(at) => add(self.alloc, &mut self.shelves, at, key),
+        }
     }
 
     /// Puts an object at its place, and gives out the one of its key and id that stood there. A new one takes one place of the
@@ -128,7 +137,14 @@ impl Keyspace {
         ensures len { length (objects_in self.new) ≤ length (objects_in self.old) + 1 }
         ensures kept { (k : Bytes) → room_for self.old k ≤ room_for self.new k + (if same object.key k && is_none result then 1 else 0) }
     {
-        unreachable!()
+        match place_of(self.shelves.as_slice(), &object.key) {
+            Ok(at) => {
+                let old = self.shelves[at].put(object);
+                self.count += usize::from(old.is_none());
+                old
+            }
+            Err(_) => unreachable!(),
+        }
     }
 
     /// Takes out the object of this key and this id, where there is one. Its place is room for another of its key.
@@ -137,7 +153,14 @@ impl Keyspace {
         ensures taken { result ≡ find (is_at key.now id.now) (objects_in self.old) }
         ensures kept { (k : Bytes) → room_for self.old k + (if same key.now k && is_some result then 1 else 0) ≤ room_for self.new k }
     {
-        unreachable!()
+        match place_of(self.shelves.as_slice(), key) {
+            Ok(at) => {
+                let taken = self.shelves[at].take_out(id);
+                self.count -= usize::from(taken.is_some());
+                taken
+            }
+            Err(_) => None,
+        }
     }
 
     /// Takes out the object that expires first, where one is due: the one of the least deadline, then key, then id. Its place is
@@ -150,21 +173,38 @@ impl Keyspace {
         ensures objects { IfSome result (λ o. objects_in self.new ≡ filter (λ p. not (is_at o.key o.id p)) (objects_in self.old)) }
         ensures kept { IfSome result (λ o. (k : Bytes) → room_for self.old k + (if same o.key k then 1 else 0) ≤ room_for self.new k) }
     {
-        unreachable!()
+        match soonest(self.shelves.as_slice()) {
+            Some((at, due)) => {
+                if due > now {
+                    return None;
+                }
+                let object = self.shelves[at].take_first(due);
+                self.count -= 1;
+                Some(object)
+            }
+            None => None,
+        }
     }
 
     /// Takes out all objects of a key.
     pub fn drop_key(&mut self, key: &Name)
         ensures { objects_in self.new ≡ filter (λ o. not (has_key key.now o)) (objects_in self.old) }
     {
-        unreachable!()
+        match place_of(self.shelves.as_slice(), key) {
+            Ok(at) => {
+                let shelf = self.shelves.remove(at);
+                self.count -= shelf.objects().len();
+            }
+            Err(_) => {}
+        }
     }
 
     /// Takes out all objects.
     pub fn clear(&mut self)
         ensures { self.new ≡ [] }
     {
-        unreachable!()
+        self.shelves.clear();
+        self.count = 0;
     }
 
     /// Gives up the key where it has no object.
@@ -172,6 +212,26 @@ impl Keyspace {
         ensures objects { objects_in self.new ≡ objects_in self.old }
         ensures given_up { list_any (λ e. is_entry_of key.now e && not (has_objects e)) self.new ≡ false }
     {
-        unreachable!()
+        match place_of(self.shelves.as_slice(), key) {
+            Ok(at) => {
+                if self.shelves[at].objects().len() == 0 {
+                    self.shelves.remove(at);
+                }
+            }
+            Err(_) => {}
+        }
+    }
+}
+
+// Puts a key with room for one object at a place. For want of memory the keys are as before.
+fn add(alloc: Global, shelves: &mut Vec<Shelf>, at: usize, key: &Name) -> Result<(), NoMemory>
+    requires { at ≤ length shelves.old.items }
+    ensures ok { OnOk result (IsAdded key.now shelves.old.items at shelves.new.items) }
+    ensures err { OnErr result (shelves.new.items ≡ shelves.old.items) }
+{
+    let shelf = Shelf::of(alloc, key)?;
+    match shelves.insert(at, shelf) {
+        Ok(()) => Ok(()),
+        Err(_) => Err(NoMemory),
     }
 }

@@ -2,5 +2,7 @@
 #![tactic(auto)]
 
 mod keyspaces;
+mod places;
+mod shelves;
 
 pub use keyspaces::Keyspace;

@@ -2,3 +2,4 @@ pub mod Clean
 pub mod Counted
 pub mod Finishing
 pub mod Completions
+mod Histories

@@ -1,3 +1,4 @@
 pub mod Faults
 pub mod Openings
 pub mod Weights
+pub mod Outcomes

@@ -2,7 +2,10 @@
 
 ghost use Rattle.machine_laws.specs.Faults.{TextsNeverLackMemory, WordsNeverLackMemory};
 ghost use Rattle.machine_laws.specs.Openings.{OpenIsBegun};
+ghost use Rattle.machine_laws.specs.Outcomes.{EventsDetermineOutcomes};
 ghost use Rattle.machine_laws.specs.Weights.{WeightIsCounted};
+
+use world_model::step_laws;
 
 /// No text and no words are refused for want of memory.
 pub fn fault_laws()
@@ -19,3 +22,11 @@ pub fn weight_laws()
 pub fn opening_laws()
     ensures { OpenIsBegun }
 {}
+
+/// The outcomes of a history, and the hall that it reaches, follow from its opening and its events, where the log does not fail
+/// and no memory is wanted.
+pub fn outcome_laws()
+    ensures { EventsDetermineOutcomes }
+{
+    step_laws();
+}

@@ -1,3 +1,3 @@
 pub mod OneLine
 pub mod WholeReplies
-pub mod Items
+pub mod FieldParts

@@ -1,5 +1,6 @@
 -- Which replies are whole and clean.
-use Rattle.std.proofs.Common.{◌≡◌, ◌≢◌, ℕ, ◌+◌, suc, List, [], ◌∷◌, ◌++◌, length, flat_map, subst, arith, refl}
+use Rattle.std.proofs.Common.{◌≡◌, ◌≢◌, ℕ, ◌+◌, suc, Bool, true, false, List, [], ◌∷◌, ◌++◌, length, flat_map, subst, arith, refl}
+use Rattle.std.specs.Prelude.{if◌then◌else◌}
 use Rattle.std.specs.List.{AllByRecursion}
 use Rattle.std.specs.Fmt.{signed_decimal}
 use Rattle.byte_text.specs.Names.{Bytes}
@@ -7,8 +8,9 @@ use Rattle.byte_text.specs.Replies.{AreReplies, IsWhole, IsClean, IsFrame, array
 use Rattle.byte_text.specs.declared.replies.Piece.{Piece}
 use Rattle.byte_text.specs.declared.replies.Piece.TheVariants as piece
 use Rattle.world_model.specs.Filters.{Field}
-use Rattle.world_model.specs.Replies.{number_text, fields_reply, object_reply}
+use Rattle.world_model.specs.Replies.{number_text, fields_reply, fields_part, is_ids, item_reply, object_reply}
 use Rattle.world_model.specs.declared.objects.Object.{Object}
+use Rattle.world_model.specs.declared.queries.Query.{Query}
 use Rattle.world_model.specs.declared.queries.Shown.{Shown}
 use Rattle.world_model.specs.declared.queries.Shown.TheVariants as shown
 
@@ -54,3 +56,17 @@ object_frame shown.Count o h = absurd (h refl)
 
 pub with_fields_frame : Next → Listed → (s : Shown) (o : Object) → s ≢ shown.Count → IsFrame (array (object_reply s o ∷ fields_reply o.fields ∷ []))
 with_fields_frame next list s o h = array_frame next list (object_reply s o ∷ fields_reply o.fields ∷ []) (object_frame s o h, (fields_frame next list o.fields, tt))
+
+part_frames : Next → Listed → (bare : Bool) (fields : List Field) → AllByRecursion IsFrame (fields_part bare fields)
+part_frames next list bare [] = tt
+part_frames next list true (f ∷ fields) = tt
+part_frames next list false (f ∷ fields) = (fields_frame next list (f ∷ fields), tt)
+
+one_of : (b : Bool) (x y : List Piece) → IsFrame x → IsFrame y → IsFrame (if b then x else y)
+one_of true x y f g = f
+one_of false x y f g = g
+
+pub item_frame : Next → Listed → (q : Query) (o : Object) → q.shown ≢ shown.Count → IsFrame (item_reply q o)
+item_frame next list q o h =
+    one_of (is_ids q.shown) _ _ (bulk_frame o.id)
+    (array_frame next list (bulk o.id ∷ object_reply q.shown o ∷ fields_part q.bare o.fields) (bulk_frame o.id, (object_frame q.shown o h, part_frames next list q.bare o.fields)))

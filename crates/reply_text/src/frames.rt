@@ -7,7 +7,7 @@ ghost use Rattle.world_model.specs.Limits.{max_reply};
 use byte_text::{NoMemory, Reply, Text, push_frame};
 
 /// The most bytes of a reply's frame.
-const MAX_REPLY: usize = 4_194_304;
+pub(crate) const MAX_REPLY: usize = 4_194_304;
 
 /// Why a reply has no frame.
 #[derive(Clone, Copy, Debug, PartialEq, Eq)]
@@ -16,6 +16,17 @@ pub enum ReplyFault {
     TooLong,
     /// Want of memory.
     Memory,
+}
+
+impl From<NoMemory> for ReplyFault {
+    ghost use Rattle.std.specs.Prelude.{◌≡◌};
+    ghost use Rattle.reply_text.specs.declared.frames.ReplyFault.{ReplyFault};
+
+    ghost from_gives = { λ _ f. f ≡ ReplyFault.Memory };
+
+    fn from(_fault: NoMemory) -> ReplyFault {
+        ReplyFault::Memory
+    }
 }
 
 /// Appends the frame of a whole reply (RESP2). TooLong where the frame alone has more than 4,194,304 bytes. The text is as before
@@ -28,10 +39,7 @@ pub fn push_reply(into: &mut Text, reply: &Reply) -> Result<(), ReplyFault>
     ensures err { OnErr result (into.new ≡ into.old) }
 {
     let before = into.len();
-    match push_frame(into, reply) {
-        Ok(()) => {}
-        Err(NoMemory) => return Err(ReplyFault::Memory),
-    }
+    push_frame(into, reply)?;
     if into.len() - before > MAX_REPLY {
         into.truncate(before);
         return Err(ReplyFault::TooLong);

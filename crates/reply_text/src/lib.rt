@@ -3,12 +3,14 @@
 
 mod drafts;
 mod frames;
+mod items;
 mod lists;
 mod objects;
 mod refusals;
 mod replies;
 
 pub use frames::{ReplyFault, push_reply};
+pub use items::ItemFrames;
 pub use lists::ReplyList;
 pub use objects::{bounds_reply, get_reply, object_reply, stats_reply};
 pub use refusals::{broken_reply, error_reply, fault_reply};

@@ -1,16 +1,17 @@
 //! Objects and their keys, as replies show them.
 
 ghost use Rattle.std.specs.Prelude.{◌≡◌, ◌≢◌, ◌++◌, ◌∷◌, [], List, length, sum_by, if◌then◌else◌, IfOk, IfSome, IfNone, OnOk};
-ghost use Rattle.byte_text.specs.Replies.{array, IsFrame};
+ghost use Rattle.byte_text.specs.Replies.{array, bulk, IsFrame};
+ghost use Rattle.byte_text.specs.declared.replies.Piece.TheVariants as piece;
 ghost use Rattle.planar_geom.specs.Shapes.{positions};
-ghost use Rattle.world_model.specs.Replies.{no_list, bounds_reply as bounds_pieces, fields_reply, object_reply as object_pieces, stats_of_key};
+ghost use Rattle.world_model.specs.Replies.{no_list, bounds_reply as bounds_pieces, fields_reply, is_ids, item_reply as item_pieces, object_reply as object_pieces, stats_of_key};
 ghost use Rattle.world_model.specs.declared.objects.Object.{Object};
 
 use crate::drafts::Draft;
-use byte_text::{NoMemory, Piece, Reply, lists_are_whole};
+use byte_text::{Name, NoMemory, Piece, Reply, lists_are_whole};
 use planar_geom::{BBox, box_of, centre};
 use std::alloc::Global;
-use world_model::{Fields, Object, Shown};
+use world_model::{Fields, Object, Query, Shown};
 
 // Puts an object last, as it is shown.
 fn push_object(draft: &mut Draft, object: &Object, shown: Shown) -> Result<(), NoMemory>
@@ -38,7 +39,7 @@ fn push_fields(draft: &mut Draft, fields: &Fields) -> Result<(), NoMemory>
     draft.head(words)?;
     for i in 0..fields.len() {
         draft.bulk(fields.name(i).bytes())?;
-        draft.number(fields.value(i))?;
+        draft.value(fields, i)?;
     }
     Ok(())
 }
@@ -72,6 +73,58 @@ pub fn get_reply(
     draft.head(2)?;
     push_object(&mut draft, object, shown)?;
     push_fields(&mut draft, &object.fields)?;
+    Ok(draft.finish())
+}
+
+/// An object as an item of a search: its id alone, or its id, what is shown of it, and its fields where there are some and they are
+/// wanted.
+pub(crate) fn item_reply(alloc: Global, query: &Query, object: &Object) -> Result<Reply, NoMemory>
+    requires { query.now.shown ≢ Shown.Count }
+    ensures value { IfOk result (λ reply. reply ≡ item_pieces query.now object.now) }
+    ensures frame { IfOk result IsFrame }
+{
+    lists_are_whole();
+    let mut draft = Draft::new(alloc);
+    push_item(&mut draft, query, object)?;
+    Ok(draft.finish())
+}
+
+// Puts an item of a search last.
+fn push_item(draft: &mut Draft, query: &Query, object: &Object) -> Result<(), NoMemory>
+    ensures { OnOk result (draft.new ≡ draft.old ++ item_pieces query.now object.now) }
+{
+    if is_ids(query.shown) {
+        return draft.bulk(object.id.bytes());
+    }
+    if query.bare || object.fields.len() == 0 {
+        return push_shown(draft, 2, object, query.shown);
+    }
+    push_shown(draft, 3, object, query.shown)?;
+    push_fields(draft, &object.fields)
+}
+
+// Puts the head of an array of so many parts last, and its first two parts: the id of an object, and what is shown of it.
+fn push_shown(draft: &mut Draft, parts: u32, object: &Object, shown: Shown) -> Result<(), NoMemory>
+    ensures { OnOk result (draft.new ≡ draft.old ++ piece.List parts ∷ (bulk object.now.id ++ object_pieces shown object.now)) }
+{
+    draft.head(parts)?;
+    draft.bulk(object.id.bytes())?;
+    push_object(draft, object, shown)
+}
+
+fn is_ids(shown: Shown) -> bool
+    ensures { result ≡ is_ids shown }
+{
+    matches!(shown, Shown::Ids)
+}
+
+/// A name as a bulk string.
+pub(crate) fn name_reply(alloc: Global, name: &Name) -> Result<Reply, NoMemory>
+    ensures value { IfOk result (λ reply. reply ≡ bulk name.now) }
+    ensures frame { IfOk result IsFrame }
+{
+    let mut draft = Draft::new(alloc);
+    draft.bulk(name.bytes())?;
     Ok(draft.finish())
 }
 

@@ -9,7 +9,7 @@ use geo_text::GeoFault;
 use planar_geom::{BBox, Line, Part, Parts, Points, Pt, Shape};
 use std::alloc::Global;
 use std::test::Fail;
-use world_model::{Fields, Object, Shown, WordFault};
+use world_model::{Fields, Object, Query, Rule, Shown, Tests, WordFault};
 
 fn text_of(alloc: Global, bytes: &[u8]) -> Result<Text, NoMemory> {
     let mut text = Text::new(alloc);
@@ -92,6 +92,64 @@ fn objects(rt: HostRuntime) -> Result<(), Fail> {
     assert_eq!(rt;
         line(alloc, &fields)?.bytes(),
         b"*2\r\n$2\r\n{}\r\n*4\r\n$3\r\nage\r\n$2\r\n-7\r\n$5\r\nspeed\r\n$2\r\n55\r\n".as_slice()
+    );
+    Ok(())
+}
+
+// A segment of this id with the field `n`, which is none where it is 0.
+fn item(alloc: Global, id: &[u8], n: i64) -> Result<Object, Fail> {
+    let mut fields = Fields::new(alloc);
+    fields.set(Name::of(alloc, b"n")?, n)?;
+    Ok(Object {
+        key: Name::of(alloc, b"fleet")?,
+        id: Name::of(alloc, id)?,
+        text: text_of(alloc, b"{}")?,
+        shape: segment(alloc)?,
+        fields,
+        deadline: None,
+    })
+}
+
+// The frame of a page of the objects `a`, which has a field, and `b`, which has none; the next page begins at 2.
+fn page(alloc: Global, bare: bool, shown: Shown) -> Result<Text, Fail>
+    requires { shown ≢ Shown.Count }
+{
+    let query = Query {
+        rule: Rule::All,
+        glob: None,
+        tests: Tests::new(alloc),
+        cursor: 0,
+        limit: 2,
+        bare,
+        shown,
+    };
+    let mut items = ItemFrames::new(alloc);
+    items.push_object(&query, &item(alloc, b"a", 3)?)?;
+    items.push_object(&query, &item(alloc, b"b", 0)?)?;
+    Ok(items.page(alloc, 2)?)
+}
+
+#[test]
+fn items(rt: HostRuntime) -> Result<(), Fail> {
+    let alloc = rt.alloc();
+    assert_eq!(rt;
+        page(alloc, false, Shown::Objects)?.bytes(),
+        b"*2\r\n:2\r\n*2\r\n*3\r\n$1\r\na\r\n$2\r\n{}\r\n*2\r\n$1\r\nn\r\n$1\r\n3\r\n*2\r\n$1\r\nb\r\n$2\r\n{}\r\n".as_slice()
+    );
+    assert_eq!(rt;
+        page(alloc, true, Shown::Objects)?.bytes(),
+        b"*2\r\n:2\r\n*2\r\n*2\r\n$1\r\na\r\n$2\r\n{}\r\n*2\r\n$1\r\nb\r\n$2\r\n{}\r\n".as_slice()
+    );
+    assert_eq!(rt;
+        page(alloc, false, Shown::Ids)?.bytes(),
+        b"*2\r\n:2\r\n*2\r\n$1\r\na\r\n$1\r\nb\r\n".as_slice()
+    );
+    let mut names = ItemFrames::new(alloc);
+    names.push_name(&Name::of(alloc, b"a")?)?;
+    names.push_name(&Name::of(alloc, b"b")?)?;
+    assert_eq!(rt;
+        names.array(alloc)?.bytes(),
+        b"*2\r\n$1\r\na\r\n$1\r\nb\r\n".as_slice()
     );
     Ok(())
 }

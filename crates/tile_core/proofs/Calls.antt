@@ -31,16 +31,15 @@ use Rattle.world_model.specs.declared.events.Event.TheVariants.{Call, Tick}
 use Rattle.world_model.specs.declared.events.Outcome.TheVariants.{Answered}
 use Rattle.tile_core.specs.declared.sessions.Session.{Session}
 use Rattle.tile_core.specs.declared.plans.Plan.{Plan}
-use Rattle.tile_core.specs.Objects.{world_of, moved}
+use Rattle.tile_core.specs.Moves.{world_of, moved}
 use Rattle.tile_core.specs.declared.dues.Gone.{Gone}
-use Rattle.tile_core.specs.Dues.{IsExpired, held_objects}
+use Rattle.tile_core.specs.Dues.{IsExpired}
 use Rattle.tile_core.specs.Sessions.{session_of, is_open, is_full, answered, Rises, AreOthers, IsServed}
 use Rattle.tile_core.specs.Kernels.{hall_of}
 use Rattle.tile_core.specs.Plans.{effect_of_read, effect_of_asked, after_all, records_len, IsOfObjects, IsPlan}
 use Rattle.tile_core.proofs.Present.{found, none_found, changed, rises_set, get_set, set_twice}
 use Rattle.tile_core.proofs.Steps.{call_spent, call_gone, call_closed, call_full, call_lacks, call_done, tick_spent, tick_lacks, tick_done}
 use Rattle.tile_core.proofs.Takes.{closing}
-use Rattle.tile_core.proofs.DueOrder.{none_left}
 
 -- no channel, no message
 
@@ -114,15 +113,15 @@ are_dels [] = tt
 are_dels (o ∷ os) = (tt, are_dels os)
 
 -- what was taken out is what is due
-gone_are : (objects : List Object) (now total : ℕ) (rest : List Object) (g : Gone) → IsExpired objects now total rest g → expired (world_of objects) now ≡ held_objects g.held.items
+gone_are : (objects : List Object) (now total : ℕ) (rest : List Object) (g : Gone) → IsExpired objects now total rest g → expired (world_of objects) now ≡ g.held.items
 gone_are objects now total rest g e =
-    sym (sym (all_there (held_objects g.held.items)) ∙ ap (λ (os : List Object). held_objects g.held.items ++ sorted_by due_before os) (sym (none_left rest now e.none)) ∙ e.taken.order)
+    sym (sym (all_there g.held.items) ∙ ap (λ (os : List Object). g.held.items ++ sorted_by due_before os) (sym e.none) ∙ e.taken.order)
 
 module _ (objects : List Object) (now logged drawn : ℕ) (sessions : List Session) (moment total : ℕ) (rest : List Object) (g : Gone) (e : IsExpired objects (max now moment) total rest g) where
   pub clock : due (hall_of objects now logged drawn sessions) moment ≡ hall_of rest (max now moment) (logged + g.length) drawn sessions
   clock =
       let m = max now moment in
-      let held = held_objects g.held.items in
+      let held = g.held.items in
       ap (λ (os : List Object). apply_all (hall_of objects m logged drawn sessions) (dels os)) (gone_are objects m total rest g e)
       ∙ apply_each (hall_of objects m logged drawn sessions) (dels held) (are_dels held) refl
       ∙ ap (λ (w : World). record (hall_of objects m logged drawn sessions) { world = w; logged = logged + records_len (dels held) }) e.taken.world

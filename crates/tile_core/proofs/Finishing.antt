@@ -1,27 +1,23 @@
 -- What holds of the parts of a core after a call.
-use Rattle.std.proofs.Common.{◌≡◌, ℕ, zero, suc, ◌<◌, ◌≤◌, Bool, true, false, not, ◌∙◌, subst, List, [], ◌∷◌, length, get_or, arith}
-use Rattle.std.specs.Prelude.{Some, Ok, slice_get, slice_set, remove, filter, ◌&&◌, if◌then◌else◌}
-use Rattle.std.specs.List.{insert, AllByRecursion}
+use Rattle.std.proofs.Common.{◌≡◌, ℕ, zero, suc, ◌<◌, ◌≤◌, Bool, true, false, ◌∙◌, subst, List, [], ◌∷◌, length, get_or, arith}
+use Rattle.std.specs.Prelude.{Some, Ok, slice_get, slice_set, remove, ◌&&◌}
 use Rattle.std.proofs.lemmas.Bool.Decides.{nat_tests}
 use Rattle.std.proofs.Math.ListN.{length-set}
 use Rattle.world_model.specs.Limits.{max_weight, full_frames, full_bytes}
 use Rattle.world_model.specs.Halls.{frame_bytes}
-use Rattle.world_model.specs.Worlds.{is_sorted_world, are_objects, has_key, after}
+use Rattle.world_model.specs.Worlds.{is_sorted_world, are_objects, after}
 use Rattle.world_model.specs.Effects.{Effect, Deed}
 use Rattle.world_model.specs.Laws.{ChangesKeepOrder}
 use Rattle.world_model.specs.declared.objects.Object.{Object}
 use Rattle.world_model.specs.declared.worlds.World.{World}
 use Rattle.tile_core.specs.declared.sessions.Session.{Session}
-use Rattle.tile_core.specs.declared.objects.Place.TheVariants.{Held, Free}
-use Rattle.tile_core.specs.declared.objects.Move.{Move}
-use Rattle.tile_core.specs.declared.objects.Move.TheVariants.{Stay, Put, Delete, Leave, Clear}
 use Rattle.tile_core.specs.declared.plans.Plan.{Plan}
-use Rattle.tile_core.specs.Objects.{world_of, moved, IsMove, HasFewFields, HaveFewFields, HoldsOfPut}
+use Rattle.tile_core.specs.Moves.{world_of, moved, HasFewFields}
 use Rattle.tile_core.specs.Sessions.{IsServed, is_full}
 use Rattle.tile_core.specs.Plans.{after_all, IsPlan}
 use Rattle.tile_core.specs.Kernels.{AreKept, ArePresent}
-use Rattle.tile_core.specs.declared.dues.Held.{Held as HeldObject}
-use Rattle.tile_core.specs.Dues.{IsCalm, AreCalm, IsTaken}
+use Rattle.tile_core.specs.Dues.{IsTaken}
+use Rattle.tile_core.proofs.Moving.{all_moved}
 use Rattle.tile_core.proofs.Present.{rises_set, rises_remove}
 
 -- what is read at a place where something stands
@@ -51,60 +47,8 @@ sorted_all : ChangesKeepOrder → (w : World) (deeds : List Deed) → is_sorted_
 sorted_all law w [] sorted = sorted
 sorted_all law w (d ∷ deeds) sorted = sorted_all law (after w d.change) deeds (law w d.change sorted)
 
--- what holds of each object
-
-all_set : (P : Object → Type 0) (xs : List Object) (i : ℕ) (o : Object) → P o → AllByRecursion P xs → AllByRecursion P (slice_set xs i o)
-all_set P [] i o p ps = ps
-all_set P (x ∷ xs) zero o p ps = (p, ps.1)
-all_set P (x ∷ xs) (suc i) o p ps = (ps.0, all_set P xs i o p ps.1)
-
-all_inserted : (P : Object → Type 0) (xs : List Object) (i : ℕ) (o : Object) → P o → AllByRecursion P xs → AllByRecursion P (insert xs i o)
-all_inserted P [] zero o p ps = (p, ps)
-all_inserted P [] (suc i) o p ps = (p, ps)
-all_inserted P (x ∷ xs) zero o p ps = (p, ps)
-all_inserted P (x ∷ xs) (suc i) o p ps = (ps.0, all_inserted P xs i o p ps.1)
-
-all_removed : (P : Object → Type 0) (xs : List Object) (i : ℕ) → i < length xs → AllByRecursion P xs → AllByRecursion P (remove xs i)
-all_removed P [] i lt ps = absurd (omega (arith, lt))
-all_removed P (x ∷ xs) zero lt ps = ps.1
-all_removed P (x ∷ xs) (suc i) lt ps = (ps.0, all_removed P xs i (omega (arith, lt)) ps.1)
-
-all_filtered : (P : Object → Type 0) (f : Object → Bool) (xs : List Object) → AllByRecursion P xs → AllByRecursion P (filter f xs)
-all_filtered P f [] ps = ps
-all_filtered P f (x ∷ xs) ps = by (f x) (all_filtered P f xs ps.1)
-  where
-    by : (b : Bool) → AllByRecursion P (filter f xs) → AllByRecursion P (if b then x ∷ filter f xs else filter f xs)
-    by true qs = (ps.0, qs)
-    by false qs = qs
-
-pub all_moved : (P : Object → Type 0) (xs : List Object) (action : Move) → IsMove xs action → HoldsOfPut P action → AllByRecursion P xs → AllByRecursion P (moved xs action)
-all_moved P xs Stay m h ps = ps
-all_moved P xs (Put (Held i) o) m h ps = all_set P xs i o h ps
-all_moved P xs (Put (Free i) o) m h ps = all_inserted P xs i o h ps
-all_moved P xs (Delete i) m h ps = all_removed P xs i m ps
-all_moved P xs (Leave key) m h ps = all_filtered P (λ o. not (has_key key o)) xs ps
-all_moved P xs Clear m h ps = tt
-
-pub few_removed : (xs : List Object) (i : ℕ) → i < length xs → HaveFewFields xs → HaveFewFields (remove xs i)
-few_removed xs i lt ps = all_removed HasFewFields xs i lt ps
-
-few_put : (xs : List Object) (action : Move) → IsMove xs action → HoldsOfPut HasFewFields action
-few_put xs (Put place o) m = m.1
-few_put xs Stay m = tt
-few_put xs (Delete i) m = tt
-few_put xs (Leave key) m = tt
-few_put xs Clear m = tt
-
--- a moment before a calm one is calm
-calmer : (calm less : ℕ) → less ≤ calm → (xs : List Object) → AreCalm calm xs → AreCalm less xs
-calmer calm less le [] ps = tt
-calmer calm less le (x ∷ xs) ps = (λ d e. let far = ps.0 d e in omega (arith, le, far), calmer calm less le xs ps.1)
-
-pub calm_moved : (calm less : ℕ) (xs : List Object) (action : Move) → IsMove xs action → less ≤ calm → HoldsOfPut (IsCalm less) action → AreCalm calm xs → AreCalm less (moved xs action)
-calm_moved calm less xs action m le h ps = all_moved (IsCalm less) xs action m h (calmer calm less le xs ps)
-
 -- what is left when objects were taken out
-pub rest_kept : (old : List Object) (now total : ℕ) (xs : List Object) (held : List HeldObject) (len rest : ℕ) → total ≤ max_weight → IsTaken old now total xs held len rest → AreKept xs rest
+pub rest_kept : (old : List Object) (now total : ℕ) (xs held : List Object) (len rest : ℕ) → total ≤ max_weight → IsTaken old now total xs held len rest → AreKept xs rest
 rest_kept old now total xs held len rest light t = record { sorted = t.sorted; few = t.few; weighed = t.rest_is; light = omega (arith, light, t.small) }
 
 -- the objects after a plan
@@ -113,7 +57,7 @@ kept_after law objects total kept e p is = record {
   sorted =
       let all = sorted_all law (world_of objects) is.deeds (both (are_objects objects) kept.sorted) in
       left_of (are_objects (moved objects p.action)) true (subst (λ (w : World). is_sorted_world w ≡ true) is.does.world all);
-  few = all_moved HasFewFields objects p.action is.does.valid (few_put objects p.action is.does.valid) kept.few;
+  few = all_moved HasFewFields objects p.action is.does.few kept.few;
   weighed = is.weight_is;
   light = is.light;
 }

@@ -2,8 +2,9 @@ mod ByteOrder
 mod Present
 mod Steps
 mod Takes
-mod Expiring
-mod DueOrder
+mod Standing
+mod Moving
+mod Soonest
 mod Calls
 mod Finishing
 mod Taken
@@ -12,6 +13,7 @@ mod FieldOrder
 mod Timing
 mod Weights
 mod Answering
+mod Listings
 mod Setting
 mod Changing
 mod Removing

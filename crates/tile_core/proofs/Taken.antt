@@ -1,99 +1,160 @@
 -- The objects that are due are taken out one by one, and may be put back.
-use Rattle.std.proofs.Common.{◌≡◌, ℕ, zero, suc, ◌+◌, ◌<◌, ◌≤◌, true, refl, sym, ap, ◌∙◌, subst, List, [], ◌∷◌, ◌++◌, length, length-append, arith}
-use Rattle.std.specs.Prelude.{Some, slice_get, remove, filter}
-use Rattle.std.specs.List.{insert}
-use Rattle.world_model.specs.Lists.{sorted_by}
-use Rattle.world_model.specs.Worlds.{after, are_objects, is_sorted_world}
-use Rattle.world_model.specs.Records.{record_len}
+use Rattle.std.proofs.Common.{◌≡◌, ℕ, ◌+◌, ◌<◌, ◌≤◌, ◌^◌, Bool, true, false, not, refl, sym, ap, ◌∙◌, subst, List, [], ◌∷◌, ◌++◌, length, length-append, arith}
+use Rattle.std.specs.Prelude.{Option, Some, None, filter, find, sum_by, nat_le, ◌&&◌, if◌then◌else◌, is_none}
+use Rattle.std.proofs.lemmas.Bool.Decides.{nat_tests}
+use Rattle.std.proofs.lemmas.List.Sums.{sum_by-cons}
+use Rattle.byte_text.specs.Names.{Bytes, same}
+use Rattle.world_model.specs.Lists.{put_in, sorted_by}
+use Rattle.world_model.specs.Worlds.{after, object_before, has_key, is_at}
+use Rattle.world_model.specs.Records.{record_len, weight}
 use Rattle.world_model.specs.Expiry.{is_due, due_before}
 use Rattle.world_model.specs.Effects.{dels}
-use Rattle.world_model.specs.Laws.{ChangesKeepOrder}
+use Rattle.world_model.proofs.Order.{ascends-filter}
+use Rattle.world_model.proofs.Sorted.{same_refl}
 use Rattle.world_model.specs.declared.objects.Object.{Object}
 use Rattle.world_model.specs.declared.worlds.World.{World}
 use Rattle.world_model.specs.declared.worlds.Change.TheVariants as change
-use Rattle.tile_core.specs.declared.dues.Held.{Held}
+use Rattle.keyspace.specs.Entries.{Entry, objects_in, room_for, has_room}
 use Rattle.tile_core.specs.Kernels.{AreKept}
-use Rattle.tile_core.specs.Objects.{world_of}
+use Rattle.tile_core.specs.Moves.{world_of, len_of, HasFewFields}
 use Rattle.tile_core.specs.Plans.{after_all, records_len}
-use Rattle.tile_core.specs.Dues.{IsFirstDue, IsTaken, IsTakenOut, with_back, HavePlaces, held_objects}
-use Rattle.tile_core.proofs.Expiring.{some_is}
-use Rattle.tile_core.proofs.DueOrder.{first_out, all_below, is_itself}
+use Rattle.tile_core.specs.Dues.{AreCalm, IsTaken, IsTakenOut, HaveRoom, with_back}
+use Rattle.tile_core.proofs.Moving.{all_filtered}
 use Rattle.tile_core.proofs.RecordWords.{del_short}
-use Rattle.tile_core.proofs.Removing.{deleted}
-use Rattle.tile_core.proofs.Weights.{weight_remove, few_at}
-use Rattle.tile_core.proofs.Finishing.{few_removed, left_of, both}
+use Rattle.tile_core.proofs.Standing.{back_there, sum_left, found_holds, found_sum, shorter}
+use Rattle.tile_core.proofs.Weights.{weight_sum}
 
-pub back_last : (xs : List Object) (hs : List Held) (h : Held) → with_back xs (hs ++ h ∷ []) ≡ with_back (insert xs h.place h.object) hs
+-- each record has a byte at least
+pub as_heavy : (xs : List Object) → length xs ≤ weight (world_of xs)
+as_heavy xs = subst (λ (n : ℕ). length xs ≤ n) (sym (weight_sum xs)) (at_least xs)
+  where
+    one : (o : Object) → 1 ≤ len_of o
+    one o = omega arith
+
+    at_least : (ys : List Object) → length ys ≤ sum_by len_of ys
+    at_least [] = omega arith
+    at_least (y ∷ ys) = omega (arith, at_least ys, one y, sum_by-cons len_of y ys)
+
+-- no record of an object weighs more than all
+pub weighs : (xs : List Object) (o : Object) → find (is_at o.key o.id) xs ≡ Some o → len_of o ≤ weight (world_of xs)
+weighs xs o here = subst (λ (n : ℕ). len_of o ≤ n) (sym (weight_sum xs)) (found_sum (is_at o.key o.id) o len_of xs here)
+
+-- so there are not too many
+pub are_few : (xs : List Object) (total : ℕ) → AreKept xs total → length xs < 2 ^ 32
+are_few xs total kept = omega (arith, as_heavy xs, kept.weighed, kept.light)
+
+-- the last one that was taken out
+
+pub back_last : (xs hs : List Object) (h : Object) → with_back xs (hs ++ h ∷ []) ≡ with_back (put_in object_before h xs) hs
 back_last xs [] h = refl
-back_last xs (g ∷ hs) h = ap (λ (ys : List Object). insert ys g.place g.object) (back_last xs hs h)
+back_last xs (g ∷ hs) h = ap (put_in object_before g) (back_last xs hs h)
 
-pub places_last : (n : ℕ) (hs : List Held) (h : Held) → HavePlaces (suc n) hs → h.place ≤ n → HavePlaces n (hs ++ h ∷ [])
-places_last n [] h ps le = (omega (arith, le), tt)
-places_last n (g ∷ hs) h ps le = let here : g.place ≤ suc n + length hs = ps.0 in (omega (arith, here, length-append hs (h ∷ [])), places_last n hs h ps.1 le)
-
-pub last_place : (n : ℕ) (hs : List Held) (h : Held) → HavePlaces n (hs ++ h ∷ []) → h.place ≤ n
-last_place n [] h ps = let here : h.place ≤ n + 0 = ps.0 in omega (arith, here)
-last_place n (g ∷ hs) h ps = last_place n hs h ps.1
-
-pub other_places : (n : ℕ) (hs : List Held) (h : Held) → HavePlaces n (hs ++ h ∷ []) → HavePlaces (suc n) hs
-other_places n [] h ps = tt
-other_places n (g ∷ hs) h ps = let here : g.place ≤ n + length (hs ++ h ∷ []) = ps.0 in (omega (arith, here, length-append hs (h ∷ [])), other_places n hs h ps.1)
-
-order_last : (hs : List Held) (h : Held) (os : List Object) → held_objects (hs ++ h ∷ []) ++ os ≡ held_objects hs ++ h.object ∷ os
+order_last : (hs : List Object) (h : Object) (os : List Object) → (hs ++ h ∷ []) ++ os ≡ hs ++ h ∷ os
 order_last [] h os = refl
-order_last (g ∷ hs) h os = ap (λ (ps : List Object). g.object ∷ ps) (order_last hs h os)
+order_last (g ∷ hs) h os = ap (λ (ps : List Object). g ∷ ps) (order_last hs h os)
 
-world_last : (w : World) (hs : List Held) (h : Held) → after_all w (dels (held_objects (hs ++ h ∷ []))) ≡ after (after_all w (dels (held_objects hs))) (change.Del h.object.key h.object.id)
+world_last : (w : World) (hs : List Object) (h : Object) → after_all w (dels (hs ++ h ∷ [])) ≡ after (after_all w (dels hs)) (change.Del h.key h.id)
 world_last w [] h = refl
-world_last w (g ∷ hs) h = world_last (after w (change.Del g.object.key g.object.id)) hs h
+world_last w (g ∷ hs) h = world_last (after w (change.Del g.key g.id)) hs h
 
-length_last : (hs : List Held) (h : Held) → records_len (dels (held_objects (hs ++ h ∷ []))) ≡ records_len (dels (held_objects hs)) + record_len (change.Del h.object.key h.object.id)
+length_last : (hs : List Object) (h : Object) → records_len (dels (hs ++ h ∷ [])) ≡ records_len (dels hs) + record_len (change.Del h.key h.id)
 length_last [] h = omega arith
 length_last (g ∷ hs) h = let ih = length_last hs h in omega (arith, ih)
 
-put_again : (xs : List Object) (i : ℕ) (o : Object) → slice_get xs i ≡ Some o → insert (remove xs i) i o ≡ xs
-put_again [] i o at = absurd (cc)
-put_again (x ∷ xs) zero o at = let is : x ≡ o = cc in ap (λ (z : Object). z ∷ xs) (sym is)
-put_again (x ∷ xs) (suc i) o at = ap (λ (zs : List Object). x ∷ zs) (put_again xs i o at)
+-- room for what was taken out
 
-one_less : (xs : List Object) (i : ℕ) (o : Object) → slice_get xs i ≡ Some o → suc (length (remove xs i)) ≡ length xs
-one_less [] i o at = absurd (cc)
-one_less (x ∷ xs) zero o at = refl
-one_less (x ∷ xs) (suc i) o at = ap suc (one_less xs i o at)
+abbrev one_if : Bool → ℕ
+one_if b = if b then 1 else 0
 
-place_in : (xs : List Object) (i : ℕ) (o : Object) → slice_get xs i ≡ Some o → i < length xs
-place_in [] i o at = absurd (cc)
-place_in (x ∷ xs) zero o at = omega arith
-place_in (x ∷ xs) (suc i) o at = let ih = place_in xs i o at in omega (arith, ih)
+count_last : (key : Bytes) (hs : List Object) (h : Object) → length (filter (has_key key) (hs ++ h ∷ [])) ≡ length (filter (has_key key) hs) + one_if (same h.key key)
+count_last key [] h = by (same h.key key)
+  where
+    by : (b : Bool) → length (if b then h ∷ [] else []) ≡ 0 + one_if b
+    by true = refl
+    by false = refl
+count_last key (g ∷ hs) h = by (same g.key key) (count_last key hs h)
+  where
+    by : (b : Bool) → length (filter (has_key key) (hs ++ h ∷ [])) ≡ length (filter (has_key key) hs) + one_if (same h.key key)
+        → length (if b then g ∷ filter (has_key key) (hs ++ h ∷ []) else filter (has_key key) (hs ++ h ∷ [])) ≡ length (if b then g ∷ filter (has_key key) hs else filter (has_key key) hs) + one_if (same h.key key)
+    by true ih = omega (arith, ih)
+    by false ih = ih
+
+module _ (entries : List Entry) (held : List Object) (o : Object) where
+  pub room_more : (next : List Entry) → HaveRoom entries held → ((key : Bytes) → room_for entries key + one_if (same o.key key) ≤ room_for next key) → HaveRoom next (held ++ o ∷ [])
+  room_more next room more key = omega (arith, count_last key held o, room key, more key)
+
+  module _ (room : HaveRoom entries (held ++ o ∷ [])) where
+    pub room_here : has_room entries o ≡ true
+    room_here =
+        let s = same_refl o.key in
+        let one : one_if (same o.key o.key) ≡ 1 = rw s refl in
+        let le : 1 ≤ room_for entries o.key = omega (arith, count_last o.key held o, room o.key, one) in
+        let t : nat_le 1 (room_for entries o.key) ≡ true = grind (arith, nat_tests) in
+        rw t refl
+
+    pub room_less : (next : List Entry) (b : Bool) → ((key : Bytes) → room_for entries key ≤ room_for next key + one_if (same o.key key && b)) → HaveRoom next held
+    room_less next b kept key =
+        let most : one_if (same o.key key && b) ≤ one_if (same o.key key) = at_most (same o.key key) b in
+        omega (arith, count_last key held o, room key, kept key, most)
+      where
+        at_most : (a c : Bool) → one_if (a && c) ≤ one_if a
+        at_most true true = omega arith
+        at_most true false = omega arith
+        at_most false c = omega arith
+
+-- nothing is due before the first deadline
+pub none_due : (calm now : ℕ) (xs : List Object) → AreCalm calm xs → now < calm → filter (is_due now) xs ≡ []
+none_due calm now [] ps lt = refl
+none_due calm now (x ∷ xs) ps lt = rw (far x.deadline refl) (none_due calm now xs ps.1 lt)
+  where
+    far : (d : Option ℕ) → x.deadline ≡ d → is_due now x ≡ false
+    far None e = rw e refl
+    far (Some d) e = let le = ps.0 d e in let t : nat_le d now ≡ false = grind (arith, nat_tests) in rw e t
+
+-- the taking
 
 pub taken_none : (old : List Object) (now total : ℕ) → AreKept old total → IsTaken old now total old [] 0 total
-taken_none old now total kept = record { back = refl; places = tt; order = refl; world = refl; sorted = kept.sorted; few = kept.few; length_is = refl; rest_is = kept.weighed; small = omega arith }
+taken_none old now total kept = record { back = refl; order = refl; world = refl; sorted = kept.sorted; few = kept.few; length_is = refl; rest_is = kept.weighed; small = omega arith; count = omega arith }
 
-module _ (law : ChangesKeepOrder) (old : List Object) (now total : ℕ) (xs : List Object) (held : List Held) (len rest at least : ℕ) (t : IsTaken old now total xs held len rest) (f : IsFirstDue xs now (length xs) at least) where
-  one_more : (o : Object) (longer less : ℕ) → slice_get xs at ≡ Some o → longer ≡ len + record_len (change.Del o.key o.id) → less + record_len (change.Put o) ≡ rest
-      → IsTaken old now total (remove xs at) (held ++ record { place = at; object = o } ∷ []) longer less
-  one_more o longer less here long light =
-      let h : Held = record { place = at; object = o } in
-      let same : f.object ≡ o = some_is f.object o (sym f.here ∙ here) in
-      let gone = deleted xs o.key o.id at o t.sorted (all_below xs at o t.sorted here) here (is_itself o) in
-      let n = length (remove xs at) in
-      let fewer : suc n ≡ length xs = one_less xs at o here in
-      let within = place_in xs at o here in
+module _ (old : List Object) (now total : ℕ) (xs held : List Object) (len rest : ℕ) (t : IsTaken old now total xs held len rest) where
+  one_more : (o : Object) (longer less : ℕ) → find (is_at o.key o.id) xs ≡ Some o
+      → sorted_by due_before (filter (is_due now) xs) ≡ o ∷ sorted_by due_before (filter (is_due now) (filter (λ p. not (is_at o.key o.id p)) xs))
+      → longer ≡ len + record_len (change.Del o.key o.id) → less + record_len (change.Put o) ≡ rest
+      → IsTaken old now total (filter (λ p. not (is_at o.key o.id p)) xs) (held ++ o ∷ []) longer less
+  one_more o longer less here first long light =
+      let others : Object → Bool = λ p. not (is_at o.key o.id p) in
+      let left = filter others xs in
       record {
-        back = back_last (remove xs at) held h ∙ ap (λ (ys : List Object). with_back ys held) (put_again xs at o here) ∙ t.back;
-        places = places_last n held h (subst (λ (m : ℕ). HavePlaces m held) (sym fewer) t.places) (omega (arith, within, fewer));
-        order = order_last held h (sorted_by due_before (filter (is_due now) (remove xs at)))
-            ∙ ap (λ (p : Object). held_objects held ++ p ∷ sorted_by due_before (filter (is_due now) (remove xs at))) (sym same)
-            ∙ ap (λ (os : List Object). held_objects held ++ os) (sym (first_out xs now at least t.sorted f)) ∙ t.order;
-        world = world_last (world_of old) held h ∙ ap (λ (w : World). after w (change.Del o.key o.id)) t.world ∙ gone;
-        sorted = left_of (are_objects (remove xs at)) true (subst (λ (w : World). is_sorted_world w ≡ true) gone (law (world_of xs) (change.Del o.key o.id) (both (are_objects xs) t.sorted)));
-        few = few_removed xs at within t.few;
-        length_is = let all = length_last held h in omega (arith, all, long, t.length_is);
-        rest_is = let w = weight_remove xs at o here in omega (arith, w, light, t.rest_is);
-        small = let short = del_short o (few_at xs at o t.few here) in omega (arith, short, long, light, t.small);
+        back = back_last left held o ∙ ap (λ (ys : List Object). with_back ys held) (back_there o xs t.sorted here) ∙ t.back;
+        order = order_last held o (sorted_by due_before (filter (is_due now) left)) ∙ ap (λ (os : List Object). held ++ os) (sym first) ∙ t.order;
+        world = world_last (world_of old) held o ∙ ap (λ (w : World). after w (change.Del o.key o.id)) t.world;
+        sorted = ascends-filter object_before others xs t.sorted;
+        few = all_filtered HasFewFields others xs t.few;
+        length_is = let all = length_last held o in omega (arith, all, long, t.length_is);
+        rest_is = let w = sum_left o len_of xs t.sorted here in omega (arith, w, light, t.rest_is, weight_sum xs, weight_sum left);
+        small = let short = del_short o (found_holds (is_at o.key o.id) o HasFewFields xs here t.few) in omega (arith, short, long, light, t.small);
+        count = let less = shorter (is_at o.key o.id) o xs here in omega (arith, less, length-append held (o ∷ []), t.count);
       }
 
-  pub taken_more : (new : List Object) (more : List Held) (longer less : ℕ) → IsTakenOut xs at new held more len longer rest less → IsTaken old now total new more longer less
+  pub taken_more : (new more : List Object) (longer less : ℕ) → IsTakenOut xs now new held more len longer rest less → IsTaken old now total new more longer less
   taken_more new more longer less out =
+      let o = out.object in
+      let first = subst (λ (os : List Object). sorted_by due_before (filter (is_due now) xs) ≡ o ∷ sorted_by due_before (filter (is_due now) os)) out.left out.first in
       subst (λ (os : List Object). IsTaken old now total os more longer less) (sym out.left)
-      (subst (λ (hs : List Held). IsTaken old now total (remove xs at) hs longer less) (sym out.held_is) (one_more out.object longer less out.here out.length_is out.rest_is))
+      (subst (λ (hs : List Object). IsTaken old now total (filter (λ p. not (is_at o.key o.id p)) xs) hs longer less) (sym out.held_is) (one_more o longer less out.here first out.length_is out.rest_is))
+
+-- then there is one less
+pub fewer : (xs : List Object) (now : ℕ) (new held more : List Object) (len longer rest less : ℕ) → IsTakenOut xs now new held more len longer rest less → length new < length xs
+fewer xs now new held more len longer rest less out = let o = out.object in subst (λ (os : List Object). length os < length xs) (sym out.left) (shorter (is_at o.key o.id) o xs out.here)
+
+-- the putting back
+
+module _ (entries next : List Entry) (held whole more : List Object) (o : Object) (was : Option Object) (popped : more ≡ held ++ o ∷ []) where
+  pub whole_back : objects_in next ≡ put_in object_before o (objects_in entries) → with_back (objects_in entries) more ≡ whole → with_back (objects_in next) held ≡ whole
+  whole_back put back = ap (λ (os : List Object). with_back os held) put ∙ sym (back_last (objects_in entries) held o) ∙ ap (with_back (objects_in entries)) (sym popped) ∙ back
+
+  pub room_back : HaveRoom entries more → ((key : Bytes) → room_for entries key ≤ room_for next key + (if same o.key key && is_none was then 1 else 0)) → HaveRoom next held
+  room_back room kept = room_less entries held o (subst (HaveRoom entries) popped room) next (is_none was) kept
+
+  pub few_back : length (objects_in next) ≤ length (objects_in entries) + 1 → length (objects_in entries) + length more < 2 ^ 32 → length (objects_in next) + length held < 2 ^ 32
+  few_back one few = omega (arith, one, few, ap length popped, length-append held (o ∷ []))

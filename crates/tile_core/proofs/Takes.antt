@@ -11,7 +11,7 @@ use Rattle.world_model.specs.declared.objects.Object.{Object}
 use Rattle.tile_core.specs.declared.sessions.Stage.{Stage}
 use Rattle.tile_core.specs.declared.sessions.Stage.TheVariants.{Live, Closing}
 use Rattle.tile_core.specs.declared.sessions.Session.{Session}
-use Rattle.tile_core.specs.Objects.{world_of}
+use Rattle.tile_core.specs.Moves.{world_of}
 use Rattle.tile_core.specs.Sessions.{session_of, is_open, closed, Rises, AreOthers}
 use Rattle.tile_core.specs.Kernels.{hall_of}
 use Rattle.tile_core.proofs.Present.{found, none_found, none_removed, removed, changed, unchanged}

@@ -9,7 +9,7 @@ use Rattle.world_model.specs.Expiry.{is_due, due_before}
 use Rattle.world_model.specs.Effects.{dels}
 use Rattle.world_model.specs.declared.objects.Object.{Object}
 use Rattle.world_model.specs.declared.worlds.Change.TheVariants as change
-use Rattle.keyspace.specs.Entries.{Entry, objects_in, room_for}
+use Rattle.keyspace.specs.Entries.{Entry, room_for}
 use Rattle.tile_core.specs.declared.dues.Gone.{Gone}
 use Rattle.tile_core.specs.Moves.{world_of, HaveFewFields}
 use Rattle.tile_core.specs.Plans.{after_all, records_len}
@@ -40,6 +40,7 @@ pub record IsTaken (old : List Object) (now total : ℕ) (objects held : List Ob
   pub length_is : len ≡ records_len (dels held)
   pub rest_is : rest ≡ weight (world_of objects)
   pub small : len + rest ≤ total
+  pub count : length objects + length held ≤ length old
 
 -- the one that expires first was taken out
 pub record IsTakenOut (old : List Object) (now : ℕ) (objects held more : List Object) (len longer rest less : ℕ) : Type 0 where

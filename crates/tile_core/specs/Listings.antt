@@ -1,21 +1,29 @@
 -- Replies of many items.
-use Rattle.std.specs.Prelude.{◌≡◌, ◌<◌, List, filter, length, map, Result, Ok, Err}
+use Rattle.std.specs.Prelude.{◌≡◌, ◌<◌, List, filter, flat_map, length, map, Result, Ok, Err}
 use Rattle.byte_text.specs.Names.{Bytes}
 use Rattle.byte_text.specs.Globs.{glob_meets}
 use Rattle.byte_text.specs.Replies.{frame_text}
 use Rattle.byte_text.specs.declared.replies.Piece.{Piece}
+use Rattle.reply_text.specs.Items.{Items}
 use Rattle.reply_text.specs.declared.frames.ReplyFault.{ReplyFault}
 use Rattle.reply_text.specs.declared.frames.ReplyFault.TheVariants as fault
+use Rattle.keyspace.specs.Entries.{Entry, has_objects}
 use Rattle.world_model.specs.Limits.{max_reply}
-use Rattle.world_model.specs.Effects.{distinct}
-use Rattle.world_model.specs.declared.objects.Object.{Object}
 
--- the keys of the objects that meet a pattern, each once
-abbrev pub keys_met : Bytes → List Object → List Bytes
-keys_met pattern objects = filter (glob_meets pattern) (distinct (map (λ o. o.key) objects))
+-- the keys that have an object and meet a pattern
+abbrev pub keys_met : Bytes → List Entry → List Bytes
+keys_met pattern entries = filter (glob_meets pattern) (map (λ e. e.key) (filter has_objects entries))
 
--- a frame is too long where that of the reply is
-abbrev pub IsTooLong : List Piece → Result Bytes ReplyFault → Type 0
-IsTooLong reply (Err fault.TooLong) = max_reply < length (frame_text reply)
-IsTooLong reply (Err fault.Memory) = Unit {0}
-IsTooLong reply (Ok frame) = Unit {0}
+-- the replies, one behind another
+abbrev pub joined : List (List Piece) → List Piece
+joined replies = flat_map (λ r. r) replies
+
+-- the items are these replies
+pub record AreItems (replies : List (List Piece)) (items : Items) : Type 0 where
+  pub text : items.text ≡ frame_text (joined replies)
+  pub count : items.count ≡ length replies
+
+-- a frame that is too long is one of a reply that is
+abbrev pub IsTooLong : List Piece → ReplyFault → Type 0
+IsTooLong reply fault.TooLong = max_reply < length (frame_text reply)
+IsTooLong reply fault.Memory = Unit {0}

@@ -117,8 +117,9 @@ impl Core {
         Taken::Ended
     }
 
-    /// Makes a call of a session at a moment: the objects that are due then are deleted, what is asked is done, and its reply is put last in the session's queue. A
-    /// broken protocol, as QUIT, lets the session end behind the reply. For want of memory the core is as before.
+    /// Makes a call of a session at a moment: the objects that are due then are deleted, what is asked is done, and its reply
+    /// is put last in the session's queue. A broken protocol, as QUIT, lets the session end behind the reply. For want of
+    /// memory the core is as before.
     pub fn call(&mut self, session: u32, moment: u64, asked: &Asked) -> Called
         ensures step { Step self.old.hall (event.Call session moment asked.now) (outcome.Answered result) self.new.hall }
         ensures logged { self.new.hall.logged ≤ self.old.hall.logged + 2 * max_weight }

@@ -1,8 +1,7 @@
 //! Expiry: the objects whose deadline has come are taken out before anything else is done, and put back where that cannot be.
 
-ghost use Rattle.std.specs.Prelude.{◌≡◌, ◌≤◌, ◌<◌, ◌+◌, ◌^◌, [], true, false, filter, length, IfOk, IfErr, Ok, OnErr};
+ghost use Rattle.std.specs.Prelude.{◌≡◌, ◌≢◌, ◌≤◌, ◌<◌, ◌+◌, ◌^◌, [], true, false, filter, length, IfOk, Ok, OnErr};
 ghost use Rattle.world_model.specs.Limits.{max_weight};
-ghost use Rattle.world_model.specs.Worlds.{are_objects};
 ghost use Rattle.world_model.specs.Expiry.{is_due};
 ghost use Rattle.world_model.specs.Records.{weight};
 ghost use Rattle.keyspace.specs.Entries.{objects_in};
@@ -14,7 +13,7 @@ use crate::records::{del_len, put_len};
 use byte_text::NoMemory;
 use keyspace::Keyspace;
 use std::alloc::Global;
-use world_model::{Object, world_laws};
+use world_model::Object;
 
 /// The objects that were taken out, in the order in which they expire.
 #[derive(Drop)]
@@ -37,7 +36,9 @@ fn take_next(objects: &mut Keyspace, gone: &mut Gone, now: u64) -> Result<bool, 
     ensures taken { result ≡ Ok true → IsTakenOut (objects_in objects.old) now (objects_in objects.new) gone.old.held.items gone.new.held.items gone.old.length gone.new.length gone.old.weight gone.new.weight }
     ensures none { result ≡ Ok false → filter (is_due now) (objects_in objects.new) ≡ [] }
     ensures room { HaveRoom objects.new gone.new.held.items }
-    ensures stays { result ≢ Ok true → (objects_in objects.new ≡ objects_in objects.old) × (gone.new ≡ gone.old) }
+    ensures stays { result ≢ Ok true → objects_in objects.new ≡ objects_in objects.old }
+    ensures held { result ≢ Ok true → gone.new.held.items ≡ gone.old.held.items }
+    ensures sums { result ≢ Ok true → gone.new ≡ record gone.old { held = gone.new.held } }
 {
     if gone.held.reserve(1).is_err() {
         return Err(NoMemory);
@@ -80,7 +81,6 @@ fn take_due(alloc: Global, objects: &mut Keyspace, total: u64, now: u64) -> Resu
     ensures room { IfOk result (λ g. HaveRoom objects.new g.held.items) }
     ensures err { OnErr result (objects_in objects.new ≡ objects_in objects.old) }
 {
-    world_laws();
     let mut gone = Gone {
         held: Vec::new(alloc),
         length: 0,

@@ -4,7 +4,7 @@
 ghost use Rattle.std.specs.Prelude.{◌≡◌, ◌≤◌, IfOk, OnErr};
 ghost use Rattle.byte_text.specs.Names.{Bytes};
 ghost use Rattle.keyspace.specs.Entries.{objects_in, room_for};
-ghost use Rattle.tile_core.specs.Dues.{IsCalm, AreCalm, HaveRoom, IsExpired};
+ghost use Rattle.tile_core.specs.Dues.{IsCalm, AreCalm, IsExpired};
 ghost use Rattle.tile_core.specs.Kernels.{AreKept};
 ghost use Rattle.tile_core.specs.Moves.{world_in, HasRoom, HoldsOfPut};
 ghost use Rattle.tile_core.specs.Plans.{IsPlan, effect_of_asked};

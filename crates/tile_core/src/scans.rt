@@ -1,23 +1,20 @@
 //! KEYS and SCAN: replies of many items, which are not built on once they would be too long.
 
-ghost use Rattle.std.specs.Prelude.{◌≡◌, ◌≢◌, ◌≤◌, ◌<◌, ℕ, List, [], true, length, map, filter, IfOk, IfErr, OnOk};
-ghost use Rattle.byte_text.specs.Globs.{is_well_formed, glob_meets};
+ghost use Rattle.std.specs.Prelude.{◌≡◌, ◌≢◌, ◌≤◌, ◌<◌, ◌+◌, ℕ, List, [], true, length, map, take, IfOk, IfErr, OnOk};
+ghost use Rattle.byte_text.specs.Globs.{is_well_formed};
 ghost use Rattle.byte_text.specs.Replies.{frame_text, array, bulk};
 ghost use Rattle.byte_text.specs.declared.replies.Piece.{Piece};
 ghost use Rattle.world_model.specs.Limits.{max_reply};
-ghost use Rattle.world_model.specs.Sound.{is_sound_query};
-ghost use Rattle.world_model.specs.Worlds.{objects_of};
-ghost use Rattle.world_model.specs.Queries.{IsPageOf};
-ghost use Rattle.world_model.specs.Effects.{effect, says, within_reply, distinct};
-ghost use Rattle.world_model.specs.Replies.{page_reply};
+ghost use Rattle.world_model.specs.Queries.{IsPageOf, page_items};
+ghost use Rattle.world_model.specs.Effects.{effect, says, within_reply};
+ghost use Rattle.world_model.specs.Replies.{page_reply, item_reply};
 ghost use Rattle.world_model.specs.declared.commands.Command.TheVariants as command;
-ghost use Rattle.world_model.specs.declared.queries.Rule.TheVariants as rule;
 ghost use Rattle.search_query.specs.Found.{found, IsGlob};
 ghost use Rattle.keyspace.specs.Entries.{objects_in};
 ghost use Rattle.tile_core.specs.Kernels.{AreKept};
 ghost use Rattle.tile_core.specs.Moves.{world_in};
 ghost use Rattle.tile_core.specs.Plans.{IsPlan, Replies, Says};
-ghost use Rattle.tile_core.specs.Listings.{keys_met, IsTooLong};
+ghost use Rattle.tile_core.specs.Listings.{keys_met, joined, AreItems, IsTooLong};
 
 use crate::answers::{say, short_frame};
 use crate::plans::Plan;
@@ -28,11 +25,11 @@ use keyspace::Keyspace;
 use reply_text::{ItemFrames, ReplyFault, count_reply, error_reply};
 use search_query::page;
 use std::alloc::Global;
-use world_model::{Page, Query, Shown};
+use world_model::{Page, Query, Rule, Shown};
 
 // The frame of a reply, or of the refusal where it would be too long.
 fn or_refusal(alloc: Global, frame: Result<Text, ReplyFault>) -> Result<Text, NoMemory>
-    ensures { (reply : List Piece) → IfOk frame (λ t. (t ≡ frame_text reply) × (length t ≤ max_reply)) → IsTooLong reply frame → IfOk result (λ t. Replies (within_reply (says reply)) t) }
+    ensures { (reply : List Piece) → IfOk frame (λ t. (t ≡ frame_text reply) × (length t ≤ max_reply)) → IfErr frame (IsTooLong reply) → IfOk result (Replies (within_reply (says reply))) }
 {
     match frame {
         Ok(frame) => Ok(frame),
@@ -50,20 +47,23 @@ fn push_key(
 ) -> Result<(), ReplyFault>
     requires within { i < length objects.now }
     requires pattern { is_well_formed pattern.now ≡ true }
-// open: to be stated with the lists of Listings: what is put last, and where it is too long
+    requires items { AreItems (map bulk (keys_met pattern.now (take i objects.now))) keys.old }
+    ensures ok { OnOk result (AreItems (map bulk (keys_met pattern.now (take (i + 1) objects.now))) keys.new) }
+    ensures too_long { IfErr result (IsTooLong (joined (map bulk (keys_met pattern.now (take (i + 1) objects.now))))) }
 {
     let key = objects.key(i);
     if objects.count(i) > 0 && glob_meets(pattern.bytes(), key.bytes()) {
-        keys.push_name(key)?;
+        keys.push_name(key)
+    } else {
+        Ok(())
     }
-    Ok(())
 }
 
 // The frame of the keys that have an object and meet the pattern.
 fn keys_frame(alloc: Global, objects: &Keyspace, pattern: &Name) -> Result<Text, ReplyFault>
     requires { is_well_formed pattern.now ≡ true }
-    ensures ok { IfOk result (λ t. (t ≡ frame_text (array (map bulk (keys_met pattern.now (objects_in objects.now))))) × (length t ≤ max_reply)) }
-    ensures too_long { IsTooLong (array (map bulk (keys_met pattern.now (objects_in objects.now)))) result }
+    ensures ok { IfOk result (λ t. (t ≡ frame_text (array (map bulk (keys_met pattern.now objects.now)))) × (length t ≤ max_reply)) }
+    ensures too_long { IfErr result (IsTooLong (array (map bulk (keys_met pattern.now objects.now)))) }
 {
     let mut keys = ItemFrames::new(alloc);
     for i in 0..objects.keys() {
@@ -84,7 +84,32 @@ pub(crate) fn plan_keys(
     ensures { IfOk result (λ p. (now : ℕ) → IsPlan (objects_in objects.now) (effect (world_in objects.now) now [] (command.Keys pattern.now)) p) }
 {
     let frame = or_refusal(alloc, keys_frame(alloc, objects, pattern))?;
+    // What keys there are is known where they are counted.
+    let _count = objects.keys();
     Ok(Plan::reply(frame, total))
+}
+
+// Puts the object of an id last, which stands at a place of a page.
+fn push_found(
+    items: &mut ItemFrames,
+    objects: &Collection,
+    query: &Query,
+    page: &Page,
+    i: usize,
+) -> Result<(), ReplyFault>
+    requires shown { query.now.shown ≢ Shown.Count }
+    requires page { IsPageOf query.now (found query.now objects.now.objects) page.now }
+    requires within { i < length page.now.ids }
+    requires items { AreItems (map (item_reply query.now) (take i (page_items query.now (found query.now objects.now.objects)))) items.old }
+    ensures ok { OnOk result (AreItems (map (item_reply query.now) (take (i + 1) (page_items query.now (found query.now objects.now.objects)))) items.new) }
+    ensures too_long { IfErr result (IsTooLong (joined (map (item_reply query.now) (take (i + 1) (page_items query.now (found query.now objects.now.objects)))))) }
+{
+    // What stands by id is known where the objects are counted.
+    let _count = objects.len();
+    match objects.get(page.ids.at(i)) {
+        Some(object) => items.push_object(query, object),
+        None => unreachable!(),
+    }
 }
 
 // The frame of a page of the objects of a key.
@@ -97,14 +122,11 @@ fn page_frame(
     requires shown { query.now.shown ≢ Shown.Count }
     requires page { IsPageOf query.now (found query.now objects.now.objects) page.now }
     ensures ok { IfOk result (λ t. (t ≡ frame_text (page_reply query.now (found query.now objects.now.objects))) × (length t ≤ max_reply)) }
-    ensures too_long { IsTooLong (page_reply query.now (found query.now objects.now.objects)) result }
+    ensures too_long { IfErr result (IsTooLong (page_reply query.now (found query.now objects.now.objects))) }
 {
     let mut items = ItemFrames::new(alloc);
     for i in 0..page.ids.len() {
-        let Some(object) = objects.get(page.ids.at(i)) else {
-            unreachable!()
-        };
-        items.push_object(query, object)?;
+        push_found(&mut items, objects, query, page, i)?;
     }
     items.page(alloc, page.cursor)
 }
@@ -117,12 +139,12 @@ fn plan_page(
     query: &Query,
 ) -> Result<Plan, NoMemory>
     requires pattern { IsGlob query.now.glob }
-    requires by_id { query.now.rule ≢ rule.Nearest }
-    ensures { IfOk result (λ p. Says (within_reply (says (page_reply query.now (found query.now objects.now.objects)))) total p) }
+    requires by_id { query.now.rule ≢ Rule.Nearest }
+    ensures { IfOk result (Says (within_reply (says (page_reply query.now (found query.now objects.now.objects)))) total) }
 {
     let mut found = Page::new(alloc);
     page(alloc, objects, query, &mut found)?;
-    if matches!(query.shown, Shown::Count) {
+    if query.shown == Shown::Count {
         return say(alloc, total, &count_reply(alloc, found.count)?);
     }
     let frame = or_refusal(alloc, page_frame(alloc, objects, query, &found))?;
@@ -139,7 +161,7 @@ pub(crate) fn plan_scan(
 ) -> Result<Plan, NoMemory>
     requires kept { AreKept (objects_in objects.now) total }
     requires pattern { IsGlob query.now.glob }
-    requires by_id { query.now.rule ≢ rule.Nearest }
+    requires by_id { query.now.rule ≢ Rule.Nearest }
     ensures { IfOk result (λ p. (now : ℕ) → IsPlan (objects_in objects.now) (effect (world_in objects.now) now [] (command.Scan key.now query.now)) p) }
 {
     match objects.collection(key) {

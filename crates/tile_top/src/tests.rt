@@ -72,13 +72,20 @@ fn request(alloc: Global, words: &str) -> Result<Text, NoMemory> {
     Ok(text)
 }
 
-// A script whose session asks for each of these and takes the answer at once, and what it prints where these are the answers.
+// A script whose session asks for each of these and takes the answer at once, and what it prints where these are the answers. A
+// line `tick` stands in it as it is.
 fn exchanges(alloc: Global, table: &[(&str, &str)]) -> Result<(Text, Text), NoMemory> {
     let mut script = Text::new(alloc);
     let mut output = Text::new(alloc);
     script.push(b"open\n")?;
     output.push(b"session 1\n")?;
     for (words, answer) in table {
+        if words.starts_with("tick ") {
+            script.push(words.as_bytes())?;
+            script.push(b"\n")?;
+            output.push(answer.as_bytes())?;
+            continue;
+        }
         let text = request(alloc, words)?;
         script.push(feeds(alloc, text.bytes(), text.len())?.bytes())?;
         script.push(b"take 1\n")?;
@@ -105,7 +112,7 @@ fn scripts_and_their_output(rt: HostRuntime) -> Result<(), Fail> {
             "replay",
             b"# two sessions\n\nopen\nopen\n#\nfeed 3 0 x\ntake 3\nfeed 2 0 *1%0D%0A$4%0D%0AS\nfeed 1 0 *1%0D%0A$4%0D%0APING%0D%0A\nfeed 2 0 CAN%0D%0A\ntake 1\ntake 2",
             0,
-            b"session 1\nsession 2\ngone\nended\nok\nok\nframe +PONG%0D%0A\nframe -ERR%20not%20served%20yet%0D%0A\n",
+            b"session 1\nsession 2\ngone\nended\nok\nok\nframe +PONG%0D%0A\nframe -ERR%20wrong%20number%20of%20arguments%20for%20'scan'%20command%0D%0A\n",
         ),
         (
             "replay",
@@ -213,7 +220,7 @@ fn commands_and_their_answers(rt: HostRuntime) -> Result<(), Fail> {
             "*2\r\n*2\r\n$1\r\n0\r\n$1\r\n0\r\n*2\r\n$2\r\n10\r\n$2\r\n10\r\n",
         ),
         ("GET k h POINT", "*2\r\n$1\r\n5\r\n$1\r\n5\r\n"),
-        ("SCAN k", "-ERR not served yet\r\n"),
+        ("WITHIN k BOUNDS 0 0 1 1", "-ERR not served yet\r\n"),
         ("NOSUCH k", "-ERR unknown command 'NOSUCH'\r\n"),
         (
             "GET k",
@@ -226,6 +233,103 @@ fn commands_and_their_answers(rt: HostRuntime) -> Result<(), Fail> {
         ("GET far a", "$-1\r\n"),
         ("PING", "+PONG\r\n"),
         ("QUIT", "+OK\r\n"),
+    ];
+    let (script, output) = exchanges(alloc, &table)?;
+    let (ended, sink) = played(alloc, "replay", script.bytes(), &[], &[])?;
+    assert_eq!(rt; ended, 0);
+    assert_eq!(rt; sink.written(), output.bytes());
+    Ok(())
+}
+
+#[test]
+fn fields_and_their_answers(rt: HostRuntime) -> Result<(), Fail> {
+    let alloc = rt.alloc();
+    let table = [
+        ("SET k a FIELD speed 55 POINT 1 2", "+OK\r\n"),
+        (
+            "GET k a WITHFIELDS",
+            "*2\r\n$36\r\n{\"type\":\"Point\",\"coordinates\":[2,1]}\r\n*2\r\n$5\r\nspeed\r\n$2\r\n55\r\n",
+        ),
+        ("SCAN k WHERE speed 55 55 COUNT", ":1\r\n"),
+        ("FSET k a speed 55 load 7", ":1\r\n"),
+        ("FSET k a speed 0", ":1\r\n"),
+        ("FGET k a speed", "$1\r\n0\r\n"),
+        ("FGET k a load", "$1\r\n7\r\n"),
+        ("FSET k b speed 1", "-ERR id not found\r\n"),
+        ("FGET none a speed", "-ERR key not found\r\n"),
+        ("SCAN k WHERE speed 1 +inf COUNT", ":0\r\n"),
+        (
+            "SCAN k POINTS",
+            "*2\r\n:0\r\n*1\r\n*3\r\n$1\r\na\r\n*2\r\n$1\r\n1\r\n$1\r\n2\r\n*2\r\n$4\r\nload\r\n$1\r\n7\r\n",
+        ),
+        ("SET k a POINT 9 9", "+OK\r\n"),
+        ("FGET k a load", "$1\r\n7\r\n"),
+        ("QUIT", "+OK\r\n"),
+    ];
+    let (script, output) = exchanges(alloc, &table)?;
+    let (ended, sink) = played(alloc, "replay", script.bytes(), &[], &[])?;
+    assert_eq!(rt; ended, 0);
+    assert_eq!(rt; sink.written(), output.bytes());
+    Ok(())
+}
+
+#[test]
+fn deadlines_and_keys(rt: HostRuntime) -> Result<(), Fail> {
+    let alloc = rt.alloc();
+    let table = [
+        ("SET k b EX 1 POINT 1 1", "+OK\r\n"),
+        ("SET k a EX 1 POINT 2 2", "+OK\r\n"),
+        ("SET van c EX 5 POINT 2 2", "+OK\r\n"),
+        ("TTL k none", ":-2\r\n"),
+        ("tick 1", "ok\n"),
+        ("TTL k a", ":1\r\n"),
+        ("KEYS *", "*2\r\n$1\r\nk\r\n$3\r\nvan\r\n"),
+        ("SET k b POINT 1 1", "+OK\r\n"),
+        ("TTL k b", ":-1\r\n"),
+        ("tick 999", "ok\n"),
+        ("TTL k a", ":1\r\n"),
+        ("tick 1000", "ok\n"),
+        ("TTL k a", ":-2\r\n"),
+        ("GET k b POINT", "*2\r\n$1\r\n1\r\n$1\r\n1\r\n"),
+        ("EXPIRE k b 4", ":1\r\n"),
+        ("EXPIRE k a 4", ":0\r\n"),
+        ("PERSIST van c", ":1\r\n"),
+        ("PERSIST van c", ":0\r\n"),
+        ("tick 5000", "ok\n"),
+        ("KEYS *", "*1\r\n$3\r\nvan\r\n"),
+        ("PDEL van ?", ":1\r\n"),
+        ("KEYS *", "*0\r\n"),
+    ];
+    let (script, output) = exchanges(alloc, &table)?;
+    let (ended, sink) = played(alloc, "replay", script.bytes(), &[], &[])?;
+    assert_eq!(rt; ended, 0);
+    assert_eq!(rt; sink.written(), output.bytes());
+    Ok(())
+}
+
+#[test]
+fn pages_and_their_cursors(rt: HostRuntime) -> Result<(), Fail> {
+    let alloc = rt.alloc();
+    let table = [
+        ("SET s a POINT 0 0", "+OK\r\n"),
+        ("SET s b POINT 0 0", "+OK\r\n"),
+        ("SET s c POINT 0 0", "+OK\r\n"),
+        ("SET s d POINT 0 0", "+OK\r\n"),
+        ("SET s e POINT 0 0", "+OK\r\n"),
+        (
+            "SCAN s LIMIT 2 IDS",
+            "*2\r\n:2\r\n*2\r\n$1\r\na\r\n$1\r\nb\r\n",
+        ),
+        ("DEL s a", ":1\r\n"),
+        (
+            "SCAN s CURSOR 2 LIMIT 2 IDS",
+            "*2\r\n:0\r\n*2\r\n$1\r\nd\r\n$1\r\ne\r\n",
+        ),
+        (
+            "SCAN s DESC LIMIT 1 IDS",
+            "*2\r\n:1\r\n*1\r\n$1\r\ne\r\n",
+        ),
+        ("SCAN none IDS", "*2\r\n:0\r\n*0\r\n"),
     ];
     let (script, output) = exchanges(alloc, &table)?;
     let (ended, sink) = played(alloc, "replay", script.bytes(), &[], &[])?;
@@ -283,6 +387,7 @@ fn refused_objects(rt: HostRuntime) -> Result<(), Fail> {
     Ok(())
 }
 
+// 1024 PINGs fill a queue, and one more is refused; takes give their answers, 64 at a time.
 #[test]
 fn a_session_is_full(rt: HostRuntime) -> Result<(), Fail> {
     let alloc = rt.alloc();
@@ -290,12 +395,39 @@ fn a_session_is_full(rt: HostRuntime) -> Result<(), Fail> {
     let mut output = Text::new(alloc);
     script.push(b"open\nfeed 1 0 ")?;
     output.push(b"session 1\n")?;
-    for _ in 0..1024 {
+    for _ in 0..1025 {
         script.push(b"*1%0D%0A$4%0D%0APING%0D%0A")?;
+    }
+    script.push(b"\n")?;
+    for _ in 0..1024 {
         output.push(b"ok\n")?;
     }
-    script.push(b"*1%0D%0A$4%0D%0APING%0D%0A\n")?;
     output.push(b"full\n")?;
+    for _ in 0..16 {
+        script.push(b"take 1\n")?;
+    }
+    for _ in 0..1024 {
+        output.push(b"frame +PONG%0D%0A\n")?;
+    }
+    let (ended, sink) = played(alloc, "replay", script.bytes(), &[], &[])?;
+    assert_eq!(rt; ended, 0);
+    assert_eq!(rt; sink.written(), output.bytes());
+    Ok(())
+}
+
+#[test]
+fn five_hundred_and_twelve_sessions_are_let_in(rt: HostRuntime) -> Result<(), Fail> {
+    let alloc = rt.alloc();
+    let mut script = Text::new(alloc);
+    let mut output = Text::new(alloc);
+    for number in 1..513 {
+        script.push(b"open\n")?;
+        output.push(b"session ")?;
+        push_u64(&mut output, number)?;
+        output.push(b"\n")?;
+    }
+    script.push(b"open\nclose 9\ntake 9\nopen\n")?;
+    output.push(b"toomany\nok\nended\nsession 513\n")?;
     let (ended, sink) = played(alloc, "replay", script.bytes(), &[], &[])?;
     assert_eq!(rt; ended, 0);
     assert_eq!(rt; sink.written(), output.bytes());

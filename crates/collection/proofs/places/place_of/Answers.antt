@@ -4,7 +4,8 @@ use Rattle.std.proofs.lemmas.List.Sorted.{IsPartitionPoint-from_clause}
 use Rattle.byte_text.specs.Names.{before, same}
 use Rattle.world_model.specs.declared.objects.Object.{Object}
 use Rattle.collection.proofs.Lists.{front_all, stands_at, past_end}
-use Rattle.collection.proofs.Ids.{partitioned, tied, is_behind}
+use Rattle.collection.proofs.ByteOrder.{partitioned}
+use Rattle.collection.proofs.Ids.{tied, is_behind}
 use Rattle.collection.proofs.places.place_of.Goals as goal
 
 pub returns-then-at-list-clause-free : goal.returns-then-at-list-clause-free
@@ -12,7 +13,7 @@ returns-then-at-list-clause-free c =
     let id = c.args.id.now in
     let list = c.args.list.now in
     let at = c.partition_point-at.result in
-    let parts = IsPartitionPoint-from_clause (λ (o : Object). before o.id id) list at c.partition_point-at.ensures.partitioned (partitioned id list c.requires) (λ a r f' called. search rules) in
+    let parts = IsPartitionPoint-from_clause (λ (o : Object). before o.id id) list at c.partition_point-at.ensures.partitioned (partitioned (λ (o : Object). o.id) id list c.requires) (λ a r f' called. search rules) in
     let end : at ≡ length list = omega arith in
     record {
       front = front_all (λ (o : Object). before o.id id) list at c.partition_point-at.ensures.bound parts.0;
@@ -26,7 +27,7 @@ returns-then-is_same-clause-held c =
     let list = c.args.list.now in
     let at = c.partition_point-at.result in
     let x = c.index-list-at.result in
-    let parts = IsPartitionPoint-from_clause (λ (o : Object). before o.id id) list at c.partition_point-at.ensures.partitioned (partitioned id list c.requires) (λ a r f' called. search rules) in
+    let parts = IsPartitionPoint-from_clause (λ (o : Object). before o.id id) list at c.partition_point-at.ensures.partitioned (partitioned (λ (o : Object). o.id) id list c.requires) (λ a r f' called. search rules) in
     let bound = c.partition_point-at.ensures.bound in
     let within : at < length list = omega arith in
     let is : same x.id id ≡ true = subst (λ (o : Object). same o.id id ≡ true) (sym c.index-list-at.is) (sym c.is_same.ensures ∙ c.if-is_same.true) in
@@ -42,7 +43,7 @@ returns-else-is_same-clause-free c =
     let list = c.args.list.now in
     let at = c.partition_point-at.result in
     let x = c.index-list-at.result in
-    let parts = IsPartitionPoint-from_clause (λ (o : Object). before o.id id) list at c.partition_point-at.ensures.partitioned (partitioned id list c.requires) (λ a r f' called. search rules) in
+    let parts = IsPartitionPoint-from_clause (λ (o : Object). before o.id id) list at c.partition_point-at.ensures.partitioned (partitioned (λ (o : Object). o.id) id list c.requires) (λ a r f' called. search rules) in
     let bound = c.partition_point-at.ensures.bound in
     let within : at < length list = omega arith in
     let other : same x.id id ≡ false = subst (λ (o : Object). same o.id id ≡ false) (sym c.index-list-at.is) (sym c.is_same.ensures ∙ c.if-is_same.false) in

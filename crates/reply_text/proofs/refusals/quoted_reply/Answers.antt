@@ -1,4 +1,4 @@
-use Rattle.std.proofs.Common.{◌≡◌, ◌++◌, [], subst, sym, refl}
+use Rattle.std.proofs.Common.{◌≡◌, ◌++◌, subst, sym, refl}
 use Rattle.byte_text.specs.Lines.{IsOneLine}
 use Rattle.reply_text.proofs.OneLine.{quoted, in_quotes}
 use Rattle.reply_text.proofs.refusals.quoted_reply.Goals as goal

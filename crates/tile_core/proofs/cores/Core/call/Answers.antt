@@ -8,29 +8,32 @@ use Rattle.world_model.specs.declared.events.Outcome.TheVariants as outcome
 use Rattle.world_model.specs.declared.events.Called.TheVariants as called
 use Rattle.world_model.specs.declared.objects.Object.{Object}
 use Rattle.tile_core.specs.declared.sessions.Session.{Session}
+use Rattle.keyspace.specs.Entries.{objects_in}
 use Rattle.tile_core.specs.Kernels.{Kernel, hall_of, AreKept}
-use Rattle.tile_core.specs.Objects.{world_of, moved}
+use Rattle.tile_core.specs.Moves.{world_of, moved}
 use Rattle.tile_core.specs.Dues.{AreCalm, IsExpired}
 use Rattle.tile_core.specs.Plans.{IsPlan, effect_of_asked}
 use Rattle.tile_core.specs.Sessions.{IsServed, answered}
 use Rattle.tile_core.proofs.Calls.{refused, lacks, done}
-use Rattle.tile_core.proofs.Finishing.{few_frames, few_bytes, served_is, kept_after, rest_kept, calm_moved, present_set}
+use Rattle.tile_core.proofs.Finishing.{few_frames, few_bytes, served_is, kept_after, rest_kept, present_set}
+use Rattle.tile_core.proofs.Moving.{calm_moved}
+use Rattle.tile_core.proofs.Taken.{are_few}
 use Rattle.tile_core.proofs.cores.Core.call.Goals as goal
 
 pub returns-in-Err-clause-step : goal.returns-in-Err-clause-step
 returns-in-Err-clause-step c =
     let k = c.self.inside in
     let sv = subst (λ (ss : List Session). IsServed ss c.args.session (Err c.in-Err.answer)) c.as_slice.ensures.value c.in-Err.ensures in
-    let step = refused k.objects.items k.now k.logged k.drawn k.sessions.items c.args.session c.args.moment c.args.asked.now c.if-self-ge-MOST_LOGGED.false c.self.invariant.present.rises c.in-Err.answer sv in
+    let step = refused (objects_in k.objects) k.now k.logged k.drawn k.sessions.items c.args.session c.args.moment c.args.asked.now c.if-self-ge-MOST_LOGGED.false c.self.invariant.present.rises c.in-Err.answer sv in
     subst (λ (n : Kernel). Step n.hall (event.Call c.args.session c.args.moment c.args.asked.now) (outcome.Answered c.in-Err.answer) n.hall) c.self.view_is step
 
 pub returns-in_default-clause-step : goal.returns-in_default-clause-step
 returns-in_default-clause-step c =
     let k = c.self.inside in
     let sv = subst (λ (ss : List Session). IsServed ss c.args.session (Ok c.in-Ok.at)) c.as_slice.ensures.value c.in-Ok.ensures in
-    let step = lacks k.objects.items k.now k.logged k.drawn k.sessions.items c.args.session c.args.moment c.args.asked.now c.if-self-ge-MOST_LOGGED.false c.in-Ok.at sv.0.session c.self.invariant.present.rises sv.0.here sv.0.numbered sv.1 sv.2 in
+    let step = lacks (objects_in k.objects) k.now k.logged k.drawn k.sessions.items c.args.session c.args.moment c.args.asked.now c.if-self-ge-MOST_LOGGED.false c.in-Ok.at sv.0.session c.self.invariant.present.rises sv.0.here sv.0.numbered sv.1 sv.2 in
     subst (λ (os : List Object). Step c.args.self.now.hall (event.Call c.args.session c.args.moment c.args.asked.now) (outcome.Answered called.Memory) (hall_of os k.now k.logged k.drawn k.sessions.items)) (sym c.in_default.ensures.err)
-    (subst (λ (n : Kernel). Step n.hall (event.Call c.args.session c.args.moment c.args.asked.now) (outcome.Answered called.Memory) (hall_of k.objects.items k.now k.logged k.drawn k.sessions.items)) c.self.view_is step)
+    (subst (λ (n : Kernel). Step n.hall (event.Call c.args.session c.args.moment c.args.asked.now) (outcome.Answered called.Memory) (hall_of (objects_in k.objects) k.now k.logged k.drawn k.sessions.items)) c.self.view_is step)
 
 pub answer-requires-clause-frames : goal.answer-requires-clause-frames
 answer-requires-clause-frames c =
@@ -47,27 +50,30 @@ answer-requires-clause-bytes c =
 pub answer-requires-clause-short : goal.answer-requires-clause-short
 answer-requires-clause-short c = let plan = c.in-Ok-ready.ensures.plan in plan.short
 
-pub make_move-requires-clause-valid : goal.make_move-requires-clause-valid
-make_move-requires-clause-valid c = let plan = c.in-Ok-ready.ensures.plan in plan.does.valid
+pub make_move-requires-clause-few : goal.make_move-requires-clause-few
+make_move-requires-clause-few c =
+    let k = c.self.inside in
+    let e : IsExpired (objects_in k.objects) c.max-now.result k.weight (objects_in c.make_ready-ready.new.objects) c.in-Ok-ready.field-0.gone = c.in-Ok-ready.ensures.expired in
+    omega (arith, e.taken.count, are_few (objects_in k.objects) k.weight c.self.invariant.kept)
 
 pub invariant_of-self-2 : goal.invariant_of-self-2
 invariant_of-self-2 c =
     let k = c.self.inside in
     let g = c.in-Ok-ready.field-0.gone in
     let p = c.in-Ok-ready.field-0.plan in
-    let rest = c.make_ready-ready.new.objects.items in
+    let rest = objects_in c.make_ready-ready.new.objects in
     let now = c.max-now.result in
     let sv = subst (λ (ss : List Session). IsServed ss c.args.session (Ok c.in-Ok.at)) c.as_slice.ensures.value c.in-Ok.ensures in
     let is = served_is k.sessions.items c.args.session c.in-Ok.at sv c.index_mut.result.now c.index_mut.ensures.value in
-    let e : IsExpired k.objects.items now k.weight rest g = c.in-Ok-ready.ensures.expired in
+    let e : IsExpired (objects_in k.objects) now k.weight rest g = c.in-Ok-ready.ensures.expired in
     let plan : IsPlan rest (effect_of_asked (world_of rest) now c.args.asked.now) p = c.in-Ok-ready.ensures.plan in
-    let items : c.make_move.new.objects.items ≡ moved rest p.action = c.make_move.ensures in
+    let items : objects_in c.release.new.objects ≡ moved rest p.action = c.release.ensures ∙ c.make_move.ensures in
     let same : c.answer.new.self.number ≡ sv.0.session.number = ap (λ (s : Session). s.number) c.answer.ensures ∙ ap (λ (s : Session). s.number) is in
-    let left = rest_kept k.objects.items now k.weight rest g.held.items g.length g.weight c.self.invariant.kept.light e.taken in
+    let left = rest_kept (objects_in k.objects) now k.weight rest g.held.items g.length g.weight c.self.invariant.kept.light e.taken in
     let calm = c.calm_after-self-inside.result in
     record {
       kept = subst (λ (os : List Object). AreKept os p.weight) (sym items) (kept_after c.world_laws.ensures.sorted rest g.weight left (effect_of_asked (world_of rest) now c.args.asked.now) p plan);
-      calm = subst (λ (os : List Object). AreCalm calm os) (sym items) (calm_moved g.calm calm rest p.action plan.does.valid c.calm_after-self-inside.ensures.least c.calm_after-self-inside.ensures.put e.calm);
+      calm = subst (λ (os : List Object). AreCalm calm os) (sym items) (calm_moved g.calm calm rest p.action c.calm_after-self-inside.ensures.least c.calm_after-self-inside.ensures.put e.calm);
       present = present_set k.drawn k.sessions.items c.in-Ok.at sv.0.session c.answer.new.self c.self.invariant.present sv.0.here same;
     }
 
@@ -76,16 +82,16 @@ returns-clause-step c =
     let k = c.self.inside in
     let g = c.in-Ok-ready.field-0.gone in
     let p = c.in-Ok-ready.field-0.plan in
-    let rest = c.make_ready-ready.new.objects.items in
+    let rest = objects_in c.make_ready-ready.new.objects in
     let m = max k.now c.args.moment in
     let sv = subst (λ (ss : List Session). IsServed ss c.args.session (Ok c.in-Ok.at)) c.as_slice.ensures.value c.in-Ok.ensures in
     let is = served_is k.sessions.items c.args.session c.in-Ok.at sv c.index_mut.result.now c.index_mut.ensures.value in
-    let e : IsExpired k.objects.items m k.weight rest g = subst (λ (n : ℕ). IsExpired k.objects.items n k.weight rest g) c.max-now.ensures c.in-Ok-ready.ensures.expired in
+    let e : IsExpired (objects_in k.objects) m k.weight rest g = subst (λ (n : ℕ). IsExpired (objects_in k.objects) n k.weight rest g) c.max-now.ensures c.in-Ok-ready.ensures.expired in
     let plan : IsPlan rest (effect_of_asked (world_of rest) m c.args.asked.now) p = subst (λ (n : ℕ). IsPlan rest (effect_of_asked (world_of rest) n c.args.asked.now) p) c.max-now.ensures c.in-Ok-ready.ensures.plan in
-    let items : c.make_move.new.objects.items ≡ moved rest p.action = c.make_move.ensures in
+    let items : objects_in c.release.new.objects ≡ moved rest p.action = c.release.ensures ∙ c.make_move.ensures in
     let now_ : c.answer.new.self ≡ answered p.frame p.closes sv.0.session = c.answer.ensures ∙ ap (answered p.frame p.closes) is in
     let sum : (k.logged + g.length) + p.length ≡ k.logged + (g.length + p.length) = omega arith in
-    let step = done k.objects.items k.now k.logged k.drawn k.sessions.items c.args.session c.args.moment c.args.asked.now c.if-self-ge-MOST_LOGGED.false c.in-Ok.at sv.0.session c.self.invariant.present.rises sv.0.here sv.0.numbered sv.1 sv.2 k.weight rest g e p plan in
+    let step = done (objects_in k.objects) k.now k.logged k.drawn k.sessions.items c.args.session c.args.moment c.args.asked.now c.if-self-ge-MOST_LOGGED.false c.in-Ok.at sv.0.session c.self.invariant.present.rises sv.0.here sv.0.numbered sv.1 sv.2 k.weight rest g e p plan in
     let call = event.Call c.args.session c.args.moment c.args.asked.now in
     let ok = outcome.Answered called.Ok in
     let at = c.in-Ok.at in

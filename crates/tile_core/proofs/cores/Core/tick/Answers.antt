@@ -1,9 +1,11 @@
-use Rattle.std.proofs.Common.{ℕ, ◌+◌, max, sym, subst}
+use Rattle.std.proofs.Common.{ℕ, ◌+◌, List, max, sym, subst}
 use Rattle.world_model.specs.Histories.{Step}
 use Rattle.world_model.specs.declared.events.Event.TheVariants as event
 use Rattle.world_model.specs.declared.events.Outcome.TheVariants as outcome
 use Rattle.world_model.specs.declared.events.Called.TheVariants as called
+use Rattle.world_model.specs.declared.objects.Object.{Object}
 use Rattle.tile_core.specs.Dues.{IsExpired}
+use Rattle.keyspace.specs.Entries.{objects_in}
 use Rattle.tile_core.specs.Kernels.{Kernel, hall_of}
 use Rattle.tile_core.proofs.Calls.{ticked}
 use Rattle.tile_core.proofs.cores.Core.tick.Goals as goal
@@ -13,8 +15,9 @@ returns-clause-step c =
     let k = c.self.inside in
     let m = max k.now c.args.moment in
     let g = c.in-Ok.gone in
-    let rest = c.expire-expired.new.objects.items in
-    let e : IsExpired k.objects.items m k.weight rest g = subst (λ (n : ℕ). IsExpired k.objects.items n k.weight rest g) c.max-now.ensures c.in-Ok.ensures.expired in
-    let step = ticked k.objects.items k.now k.logged k.drawn k.sessions.items c.args.moment k.weight rest g e c.if-self-ge-MOST_LOGGED.false in
-    subst (λ (now : ℕ). Step c.args.self.now.hall (event.Tick c.args.moment) (outcome.Answered called.Ok) (hall_of rest now (k.logged + g.length) k.drawn k.sessions.items)) (sym c.max-now.ensures)
-    (subst (λ (n : Kernel). Step n.hall (event.Tick c.args.moment) (outcome.Answered called.Ok) (hall_of rest m (k.logged + g.length) k.drawn k.sessions.items)) c.self.view_is step)
+    let rest = objects_in c.expire-expired.new.objects in
+    let e : IsExpired (objects_in k.objects) m k.weight rest g = subst (λ (n : ℕ). IsExpired (objects_in k.objects) n k.weight rest g) c.max-now.ensures c.in-Ok.ensures.expired in
+    let step = ticked (objects_in k.objects) k.now k.logged k.drawn k.sessions.items c.args.moment k.weight rest g e c.if-self-ge-MOST_LOGGED.false in
+    subst (λ (os : List Object). Step c.args.self.now.hall (event.Tick c.args.moment) (outcome.Answered called.Ok) (hall_of os c.max-now.result (k.logged + g.length) k.drawn k.sessions.items)) (sym c.release.ensures)
+    (subst (λ (now : ℕ). Step c.args.self.now.hall (event.Tick c.args.moment) (outcome.Answered called.Ok) (hall_of rest now (k.logged + g.length) k.drawn k.sessions.items)) (sym c.max-now.ensures)
+    (subst (λ (n : Kernel). Step n.hall (event.Tick c.args.moment) (outcome.Answered called.Ok) (hall_of rest m (k.logged + g.length) k.drawn k.sessions.items)) c.self.view_is step))

@@ -1,0 +1,29 @@
+//! The commands of a pattern.
+
+ghost use Rattle.std.specs.Prelude.{◌≡◌};
+ghost use Rattle.world_model.specs.Grammar.{done};
+ghost use Rattle.world_model.specs.Kinds as kinds;
+ghost use Rattle.world_model.specs.declared.commands.Command.TheVariants as command;
+ghost use Rattle.cmd_words.specs.Places.{all_words, Follows, Answers, a_name, a_form};
+
+use crate::readers::Reader;
+use world_model::{Command, WordFault};
+
+/// `key pattern`
+pub(crate) fn pdel_command(reader: &mut Reader) -> Result<Command, WordFault>
+    ensures { Follows reader.old (a_name (λ key. a_form kinds.glob (λ pattern. done (command.Pdel key pattern)))) → Answers (all_words reader.old) result }
+{
+    let key = reader.name()?;
+    let glob = reader.glob()?;
+    reader.end()?;
+    Ok(Command::Pdel { key, glob })
+}
+
+/// `pattern`
+pub(crate) fn keys_command(reader: &mut Reader) -> Result<Command, WordFault>
+    ensures { Follows reader.old (a_form kinds.glob (λ pattern. done (command.Keys pattern))) → Answers (all_words reader.old) result }
+{
+    let glob = reader.glob()?;
+    reader.end()?;
+    Ok(Command::Keys { glob })
+}

@@ -1,0 +1,458 @@
+//! The machine as a plain program: a list of objects in order of key and id, which each command goes through from its start.
+
+use crate::frames::{
+    push_box, push_bulk, push_fields, push_head, push_number, push_point, push_value,
+};
+use byte_text::{Name, NoMemory, Request, Text};
+use cmd_words::command_of;
+use field_filter::{passes, value_of};
+use glob_match::{glob_meets, well_formed};
+use planar_geom::{BBox, box_of, centre};
+use std::alloc::Global;
+use std::cmp::Ordering;
+use world_model::{Command, Fields, NameList, Object, Only, Query, Rule, Shown};
+
+/// The objects, and the moment to which the clock has come.
+#[derive(Drop)]
+pub(crate) struct Plain {
+    alloc: Global,
+    objects: Vec<Object>,
+    now: u64,
+}
+
+// How an object stands to a key and an id.
+fn order(object: &Object, key: &Name, id: &Name) -> Ordering {
+    match object.key.cmp(key) {
+        Ordering::Equal => object.id.cmp(id),
+        other => other,
+    }
+}
+
+// Whether the id meets the pattern.
+fn meets(pattern: &Name, id: &Name) -> bool {
+    well_formed(pattern.bytes()) && glob_meets(pattern.bytes(), id.bytes())
+}
+
+// Whether the object is one that the query seeks.
+fn is_sought(query: &Query, object: &Object) -> bool {
+    let met = match &query.glob {
+        Some(pattern) => meets(pattern, &object.id),
+        None => true,
+    };
+    met && passes(&query.tests, &object.fields)
+}
+
+// The reply of a text alone.
+fn text_of(alloc: Global, bytes: &[u8]) -> Result<Text, NoMemory> {
+    let mut out = Text::new(alloc);
+    out.push(bytes)?;
+    Ok(out)
+}
+
+// The reply of a number.
+fn number(alloc: Global, n: i64) -> Result<Text, NoMemory> {
+    let mut out = Text::new(alloc);
+    push_number(&mut out, n)?;
+    Ok(out)
+}
+
+// The object as it is shown.
+fn push_shown(
+    alloc: Global,
+    out: &mut Text,
+    object: &Object,
+    shown: Shown,
+) -> Result<(), NoMemory> {
+    match shown {
+        Shown::Objects => push_bulk(out, object.text.bytes()),
+        Shown::Points => push_point(alloc, out, centre(box_of(&object.shape))),
+        Shown::Bounds => push_box(alloc, out, box_of(&object.shape)),
+        Shown::Ids => push_bulk(out, object.id.bytes()),
+        Shown::Count => Ok(()),
+    }
+}
+
+// An item of a search.
+fn push_item(
+    alloc: Global,
+    out: &mut Text,
+    object: &Object,
+    query: &Query,
+) -> Result<(), NoMemory> {
+    if query.shown == Shown::Ids {
+        return push_bulk(out, object.id.bytes());
+    }
+    let with_fields = !query.bare && object.fields.len() > 0;
+    push_head(out, if with_fields { 3 } else { 2 })?;
+    push_bulk(out, object.id.bytes())?;
+    push_shown(alloc, out, object, query.shown)?;
+    if with_fields {
+        push_fields(alloc, out, &object.fields)?;
+    }
+    Ok(())
+}
+
+impl Plain {
+    pub(crate) fn new(alloc: Global) -> Plain {
+        Plain {
+            alloc,
+            objects: Vec::new(alloc),
+            now: 0,
+        }
+    }
+
+    /// The frame that answers a request at a moment; nothing where its words are refused.
+    pub(crate) fn call(&mut self, moment: u64, words: &Request) -> Result<Text, NoMemory> {
+        let now = self.now.max(moment);
+        self.now = now;
+        self.objects.retain(|object: &Object| -> bool {
+            object.deadline.unwrap_or(u64::MAX) > now
+        });
+        match command_of(self.alloc, words) {
+            Ok(command) => self.done(command),
+            Err(_) => Ok(Text::new(self.alloc)),
+        }
+    }
+
+    fn place(&self, key: &Name, id: &Name) -> Option<usize> {
+        self.objects.iter().position(|object: &Object| -> bool {
+            order(object, key, id) == Ordering::Equal
+        })
+    }
+
+    fn has_key(&self, key: &Name) -> bool {
+        self.objects
+            .iter()
+            .any(|object: &Object| -> bool { object.key == *key })
+    }
+
+    fn done(&mut self, command: Command) -> Result<Text, NoMemory> {
+        let alloc = self.alloc;
+        match command {
+            Command::Set {
+                key,
+                id,
+                fields,
+                cleared,
+                seconds,
+                only,
+                text,
+                shape,
+            } => {
+                let object = Object {
+                    key,
+                    id,
+                    text,
+                    shape,
+                    fields,
+                    deadline: None,
+                };
+                self.set(object, &cleared, seconds, only)
+            }
+            Command::Get {
+                key,
+                id,
+                with_fields,
+                shown,
+            } => self.get(&key, &id, with_fields, shown),
+            Command::Del { key, id } => {
+                self.counted(|object: &Object| -> bool {
+                    order(object, &key, &id) != Ordering::Equal
+                })
+            }
+            Command::Pdel { key, glob } => self.counted(|object: &Object| -> bool {
+                object.key != key || !meets(&glob, &object.id)
+            }),
+            Command::Drop { key } => {
+                let had = self.has_key(&key);
+                self.objects
+                    .retain(|object: &Object| -> bool { object.key != key });
+                number(alloc, i64::from(had))
+            }
+            Command::Fset {
+                key,
+                id,
+                fields,
+                cleared,
+            } => self.fset(&key, &id, &fields, &cleared),
+            Command::Fget { key, id, field } => self.fget(&key, &id, &field),
+            Command::Expire { key, id, seconds } => self.expire(&key, &id, seconds),
+            Command::Persist { key, id } => self.persist(&key, &id),
+            Command::Ttl { key, id } => self.ttl(&key, &id),
+            Command::Keys { glob } => self.keys(&glob),
+            Command::Bounds { key } => self.bounds(&key),
+            Command::Stats { keys } => self.stats(&keys),
+            Command::Scan { key, query } => self.scan(&key, &query),
+            Command::Flush => {
+                self.objects.clear();
+                text_of(alloc, b"+OK\r\n")
+            }
+            Command::Ping => text_of(alloc, b"+PONG\r\n"),
+            _ => Ok(Text::new(alloc)),
+        }
+    }
+
+    // Keeps the objects of which this holds, and tells how many went.
+    fn counted<F: Fn(&Object) -> bool>(&mut self, kept: F) -> Result<Text, NoMemory> {
+        let before = self.objects.len();
+        self.objects.retain(kept);
+        number(self.alloc, before.saturating_sub(self.objects.len()) as i64)
+    }
+
+    fn set(
+        &mut self,
+        object: Object,
+        cleared: &NameList,
+        seconds: Option<u32>,
+        only: Only,
+    ) -> Result<Text, NoMemory> {
+        let alloc = self.alloc;
+        let mut object = object;
+        if let Some(seconds) = seconds {
+            object.deadline = Some(self.now.saturating_add(1000 * u64::from(seconds)));
+        }
+        let at = self.place(&object.key, &object.id);
+        let kept_back = match only {
+            Only::Any => false,
+            Only::Absent => at.is_some(),
+            Only::Present => at.is_none(),
+        };
+        if kept_back {
+            return text_of(alloc, b"$-1\r\n");
+        }
+        let old = match at {
+            Some(at) => self.objects.remove(at).fields,
+            None => Fields::new(alloc),
+        };
+        object.fields = with_values(alloc, old, &object.fields, cleared)?;
+        self.insert(object)?;
+        text_of(alloc, b"+OK\r\n")
+    }
+
+    // Puts an object that is not there into its place.
+    fn insert(&mut self, object: Object) -> Result<(), NoMemory> {
+        let behind = self.objects.iter().position(|other: &Object| -> bool {
+            order(other, &object.key, &object.id) == Ordering::Greater
+        });
+        let at = behind.unwrap_or(self.objects.len());
+        match self.objects.insert(at, object) {
+            Ok(()) => Ok(()),
+            Err(_) => Err(NoMemory),
+        }
+    }
+
+    fn get(
+        &self,
+        key: &Name,
+        id: &Name,
+        with_fields: bool,
+        shown: Shown,
+    ) -> Result<Text, NoMemory> {
+        let mut out = Text::new(self.alloc);
+        let Some(at) = self.place(key, id) else {
+            return text_of(self.alloc, b"$-1\r\n");
+        };
+        let object = &self.objects[at];
+        if with_fields {
+            push_head(&mut out, 2)?;
+        }
+        push_shown(self.alloc, &mut out, object, shown)?;
+        if with_fields {
+            push_fields(self.alloc, &mut out, &object.fields)?;
+        }
+        Ok(out)
+    }
+
+    // The refusal where no object of the id stands under the key.
+    fn missing(&self, key: &Name) -> Result<Text, NoMemory> {
+        if self.has_key(key) {
+            text_of(self.alloc, b"-ERR id not found\r\n")
+        } else {
+            text_of(self.alloc, b"-ERR key not found\r\n")
+        }
+    }
+
+    fn fset(
+        &mut self,
+        key: &Name,
+        id: &Name,
+        given: &Fields,
+        cleared: &NameList,
+    ) -> Result<Text, NoMemory> {
+        let Some(at) = self.place(key, id) else {
+            return self.missing(key);
+        };
+        let old = &self.objects[at].fields;
+        let mut count: i64 = 0;
+        for i in 0..given.len() {
+            if value_of(old, given.name(i)) != given.value(i) {
+                count = count.saturating_add(1);
+            }
+        }
+        for i in 0..cleared.len() {
+            if value_of(old, cleared.at(i)) != 0 {
+                count = count.saturating_add(1);
+            }
+        }
+        let fields = with_values(self.alloc, old.copy(self.alloc)?, given, cleared)?;
+        self.objects[at].fields = fields;
+        number(self.alloc, count)
+    }
+
+    fn fget(&self, key: &Name, id: &Name, field: &Name) -> Result<Text, NoMemory> {
+        let Some(at) = self.place(key, id) else {
+            return self.missing(key);
+        };
+        let mut out = Text::new(self.alloc);
+        push_value(
+            self.alloc,
+            &mut out,
+            value_of(&self.objects[at].fields, field),
+        )?;
+        Ok(out)
+    }
+
+    fn expire(&mut self, key: &Name, id: &Name, seconds: u32) -> Result<Text, NoMemory> {
+        let Some(at) = self.place(key, id) else {
+            return number(self.alloc, 0);
+        };
+        self.objects[at].deadline = Some(self.now.saturating_add(1000 * u64::from(seconds)));
+        number(self.alloc, 1)
+    }
+
+    fn persist(&mut self, key: &Name, id: &Name) -> Result<Text, NoMemory> {
+        let Some(at) = self.place(key, id) else {
+            return number(self.alloc, 0);
+        };
+        let had = self.objects[at].deadline.is_some();
+        self.objects[at].deadline = None;
+        number(self.alloc, i64::from(had))
+    }
+
+    fn ttl(&self, key: &Name, id: &Name) -> Result<Text, NoMemory> {
+        let Some(at) = self.place(key, id) else {
+            return number(self.alloc, -2);
+        };
+        match self.objects[at].deadline {
+            Some(deadline) => {
+                let left = deadline.saturating_sub(self.now).saturating_add(999) / 1000;
+                number(self.alloc, left as i64)
+            }
+            None => number(self.alloc, -1),
+        }
+    }
+
+    fn keys(&self, glob: &Name) -> Result<Text, NoMemory> {
+        let mut items = Text::new(self.alloc);
+        let mut count: usize = 0;
+        for (i, object) in self.objects.iter().enumerate() {
+            let is_first = i == 0 || self.objects[i - 1].key != object.key;
+            if is_first && meets(glob, &object.key) {
+                push_bulk(&mut items, object.key.bytes())?;
+                count = count.saturating_add(1);
+            }
+        }
+        let mut out = Text::new(self.alloc);
+        push_head(&mut out, count)?;
+        out.push(items.bytes())?;
+        Ok(out)
+    }
+
+    fn bounds(&self, key: &Name) -> Result<Text, NoMemory> {
+        let mut round: Option<BBox> = None;
+        for object in self.objects.iter() {
+            if object.key == *key {
+                let own = box_of(&object.shape);
+                round = Some(match round {
+                    Some(b) => b.with_point(own.min()).with_point(own.max()),
+                    None => own,
+                });
+            }
+        }
+        let Some(b) = round else {
+            return text_of(self.alloc, b"*-1\r\n");
+        };
+        let mut out = Text::new(self.alloc);
+        push_box(self.alloc, &mut out, b)?;
+        Ok(out)
+    }
+
+    fn push_stats(&self, out: &mut Text, key: &Name) -> Result<(), NoMemory> {
+        let mut count: i64 = 0;
+        let mut points: u64 = 0;
+        for object in self.objects.iter() {
+            if object.key == *key {
+                count = count.saturating_add(1);
+                points = points.saturating_add(object.shape.positions());
+            }
+        }
+        if count == 0 {
+            return out.push(b"*-1\r\n");
+        }
+        push_head(out, 4)?;
+        push_bulk(out, b"num_objects")?;
+        push_number(out, count)?;
+        push_bulk(out, b"num_points")?;
+        push_number(out, i64::try_from(points).unwrap_or(i64::MAX))
+    }
+
+    fn stats(&self, keys: &NameList) -> Result<Text, NoMemory> {
+        let mut out = Text::new(self.alloc);
+        push_head(&mut out, keys.len())?;
+        for i in 0..keys.len() {
+            self.push_stats(&mut out, keys.at(i))?;
+        }
+        Ok(out)
+    }
+
+    // The places of the objects that a query seeks, in the order of its rule.
+    fn sought(&self, key: &Name, query: &Query) -> Result<Vec<usize>, NoMemory> {
+        let mut places = Vec::new(self.alloc);
+        for (i, object) in self.objects.iter().enumerate() {
+            if object.key == *key && is_sought(query, object) && places.push(i).is_err() {
+                return Err(NoMemory);
+            }
+        }
+        if matches!(query.rule, Rule::Down) {
+            places.reverse();
+        }
+        Ok(places)
+    }
+
+    fn scan(&self, key: &Name, query: &Query) -> Result<Text, NoMemory> {
+        let places = self.sought(key, query)?;
+        let found = places.len();
+        if query.shown == Shown::Count {
+            return number(self.alloc, found as i64);
+        }
+        let first = found.min(query.cursor as usize);
+        let last = found.min(first.saturating_add(query.limit as usize));
+        let mut out = Text::new(self.alloc);
+        push_head(&mut out, 2)?;
+        push_number(&mut out, if last < found { last as i64 } else { 0 })?;
+        push_head(&mut out, last - first)?;
+        for place in places[first..last].iter() {
+            if let Some(object) = self.objects.get(*place) {
+                push_item(self.alloc, &mut out, object, query)?;
+            }
+        }
+        Ok(out)
+    }
+}
+
+// The fields with these values given, and those of the names in `cleared` taken away.
+fn with_values(
+    alloc: Global,
+    fields: Fields,
+    given: &Fields,
+    cleared: &NameList,
+) -> Result<Fields, NoMemory> {
+    let mut fields = fields;
+    for i in 0..given.len() {
+        fields.set(given.name(i).copy(alloc)?, given.value(i))?;
+    }
+    for i in 0..cleared.len() {
+        fields.set(cleared.at(i).copy(alloc)?, 0)?;
+    }
+    Ok(fields)
+}

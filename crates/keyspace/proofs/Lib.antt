@@ -1,0 +1,10 @@
+pub mod Parts
+pub mod Keys
+pub mod Lookups
+pub mod Orders
+pub mod Rooms
+pub mod Counts
+pub mod Dues
+pub mod Added
+pub mod Firsts
+pub mod Empties

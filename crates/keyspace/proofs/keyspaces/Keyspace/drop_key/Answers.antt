@@ -1,0 +1,51 @@
+use Rattle.std.proofs.Common.{◌≡◌, ◌+◌, ◌-◌, ◌≤◌, ℕ, true, ap, sym, subst, ◌∙◌, List, length, arith}
+use Rattle.std.specs.List.{remove}
+use Rattle.collection.specs.Objects.{Held}
+use Rattle.keyspace.specs.Entries.{Entry, objects_in}
+use Rattle.keyspace.specs.Shelves.{are_shelves}
+use Rattle.keyspace.proofs.Keys.{stands, lacks, left_shelves}
+use Rattle.keyspace.proofs.Lookups.{others_in, others_stay, length_taken, at_most_all}
+use Rattle.keyspace.proofs.keyspaces.Keyspace.drop_key.Goals as goal
+
+pub overflow_sub-self : goal.overflow_sub-self
+overflow_sub-self c =
+    let key = c.args.key.now in
+    let xs = c.self.inside.shelves.items in
+    let e = c.remove-shelf.result in
+    let held = rw c.as_slice.ensures.value at c.in-Ok.ensures.held in
+    let s = stands key xs c.in-Ok.at e c.self.invariant.0 held c.remove-shelf.ensures.value in
+    let most : length e.objects ≤ length (objects_in xs) = at_most_all key xs c.in-Ok.at e s in
+    let count : c.self.inside.count ≡ length (objects_in xs) = c.self.invariant.1 in
+    let own : c.len.result ≡ length e.objects = c.len.ensures.count ∙ ap (λ (h : Held). length h.objects) c.objects.ensures in
+    omega (arith, most, count, own)
+
+pub invariant_of-self : goal.invariant_of-self
+invariant_of-self c =
+    let key = c.args.key.now in
+    let xs = c.self.inside.shelves.items in
+    let e = c.remove-shelf.result in
+    let held = rw c.as_slice.ensures.value at c.in-Ok.ensures.held in
+    let s = stands key xs c.in-Ok.at e c.self.invariant.0 held c.remove-shelf.ensures.value in
+    let own : c.len.result ≡ length e.objects = c.len.ensures.count ∙ ap (λ (h : Held). length h.objects) c.objects.ensures in
+    let less = length_taken key xs c.in-Ok.at e s in
+    let count = left_count c.self.inside.count c.len.result (length (objects_in (remove xs c.in-Ok.at))) (length (objects_in xs)) (length e.objects) c.self.invariant.1 own less in
+    (subst (λ (l : List Entry). are_shelves l ≡ true) (sym c.remove-shelf.ensures.items) (left_shelves key xs c.in-Ok.at e s), count ∙ ap (λ (l : List Entry). length (objects_in l)) (sym c.remove-shelf.ensures.items))
+  where
+    left_count : (count r n m e : ℕ) → count ≡ m → r ≡ e → n + e ≡ m → count - r ≡ n
+    left_count count r n m e p q t = omega arith
+
+pub returns-in-Ok : goal.returns-in-Ok
+returns-in-Ok c =
+    let key = c.args.key.now in
+    let xs = c.self.inside.shelves.items in
+    let e = c.remove-shelf.result in
+    let held = rw c.as_slice.ensures.value at c.in-Ok.ensures.held in
+    let s = stands key xs c.in-Ok.at e c.self.invariant.0 held c.remove-shelf.ensures.value in
+    rw (← c.self.view_is) (ap objects_in c.remove-shelf.ensures.items ∙ others_in key xs c.in-Ok.at e s)
+
+pub returns-in-Err : goal.returns-in-Err
+returns-in-Err c =
+    let key = c.args.key.now in
+    let xs = c.self.inside.shelves.items in
+    let free = rw c.as_slice.ensures.value at c.in-Err.ensures.free in
+    rw (← c.self.view_is) (others_stay key xs c.in-Err.field-0 (lacks key xs c.in-Err.field-0 c.self.invariant.0 free))

@@ -1,0 +1,13 @@
+use Rattle.std.specs.List.{list_all}
+use Rattle.world_model.specs.Lists.{ascends}
+use Rattle.collection.proofs.Lists.{both_of}
+use Rattle.keyspace.specs.Entries.{key_before}
+use Rattle.keyspace.specs.Shelves.{is_shelf}
+use Rattle.keyspace.proofs.Orders.{distinct_keys}
+use Rattle.keyspace.proofs.keyspaces.Keyspace.keys.Goals as goal
+
+pub returns-clause-distinct : goal.returns-clause-distinct
+returns-clause-distinct c =
+    let xs = c.self.inside.shelves.items in
+    let p = both_of (ascends key_before xs) (list_all is_shelf xs) c.self.invariant.0 in
+    rw (← c.self.view_is) (distinct_keys xs p.0 p.1)

@@ -1,0 +1,53 @@
+-- Objects in the order of a rule.
+use Rattle.std.proofs.Common.{◌≡◌, ◌+◌, ◌≤◌, ℕ, zero, suc, Bool, refl, ap, add-one, List, [], ◌∷◌, ◌++◌, length, take, arith}
+use Rattle.std.specs.Prelude.{filter, reverse, slice_get, Some, if◌then◌else◌}
+use Rattle.std.proofs.lemmas.List.{length-reverse, take_all}
+use Rattle.std.proofs.lemmas.List.Elements.{filter-append}
+use Rattle.std.proofs.lemmas.Grind.{common_steps, reverse_onto}
+use Rattle.world_model.specs.Queries.{in_order}
+use Rattle.world_model.specs.declared.objects.Object.{Object}
+use Rattle.world_model.specs.declared.queries.Rule.{Rule}
+use Rattle.world_model.specs.declared.queries.Rule.TheVariants.{All, Down, Kept, Nearest}
+use Rattle.search_query.specs.Found.{is_down}
+
+-- the items that pass are the same, whichever way the list is read
+filter_reverse : {A : Type 0} (p : A → Bool) (xs : List A) → filter p (reverse xs) ≡ reverse (filter p xs)
+filter_reverse p [] = refl
+filter_reverse p (x ∷ xs) = let ih = filter_reverse p xs in grind (arith, common_steps, filter-append, reverse_onto)
+
+filter_in_order : (p : Object → Bool) (rule : Rule) (objects : List Object) → filter p (in_order rule objects) ≡ in_order rule (filter p objects)
+filter_in_order p All objects = refl
+filter_in_order p Down objects = filter_reverse p objects
+filter_in_order p (Kept kind a) objects = refl
+filter_in_order p Nearest objects = refl
+
+pub by_direction : (rule : Rule) (objects : List Object) → (if is_down rule then reverse objects else objects) ≡ in_order rule objects
+by_direction All objects = refl
+by_direction Down objects = refl
+by_direction (Kept kind a) objects = refl
+by_direction Nearest objects = refl
+
+length_in_order : (rule : Rule) (objects : List Object) → length (in_order rule objects) ≡ length objects
+length_in_order All objects = refl
+length_in_order Down objects = length-reverse objects
+length_in_order (Kept kind a) objects = refl
+length_in_order Nearest objects = refl
+
+take_suc : {A : Type 0} (xs : List A) (i : ℕ) (x : A) → slice_get xs i ≡ Some x → take (suc i) xs ≡ take i xs ++ x ∷ []
+take_suc [] i x is = absurd cc
+take_suc (y ∷ xs) zero x is = let same : y ≡ x = cc in cc
+take_suc (y ∷ xs) (suc i) x is = ap (λ l. y ∷ l) (take_suc xs i x is)
+
+-- one more item is read
+pub noted : {A : Type 0} (p : A → Bool) (xs : List A) (i : ℕ) (x : A) → slice_get xs i ≡ Some x → filter p (take (i + 1) xs) ≡ filter p (take i xs) ++ filter p (x ∷ [])
+noted p xs i x is = rw (add-one, take_suc xs i x is) (filter-append p (take i xs) (x ∷ []))
+
+pub no_more : {A : Type 0} (p : A → Bool) (xs : List A) → length (filter p xs) ≤ length xs
+no_more p [] = omega arith
+no_more p (x ∷ xs) = let ih = no_more p xs in grind (arith, common_steps)
+
+-- and all were read
+pub all_found : (p : Object → Bool) (rule : Rule) (objects : List Object) (i : ℕ) → length objects ≤ i → filter p (take i (in_order rule objects)) ≡ in_order rule (filter p objects)
+all_found p rule objects i past =
+    let long : length (in_order rule objects) ≤ i = rw (length_in_order rule objects) past in
+    rw (take_all i (in_order rule objects) long) (filter_in_order p rule objects)

@@ -1,0 +1,34 @@
+use Rattle.std.proofs.Common.{◌≡◌, ◌≤◌, length, take, arith}
+use Rattle.std.specs.Prelude.{filter, slice_get, Some}
+use Rattle.std.proofs.lemmas.List.{length-take}
+use Rattle.world_model.specs.Queries.{in_order, meets_query}
+use Rattle.search_query.proofs.InOrder.{all_found, by_direction, no_more, noted}
+use Rattle.search_query.proofs.pages.list_ids.Goals as goal
+
+pub note-requires-clause-room : goal.note-requires-clause-room
+note-requires-clause-room c =
+    let seen = take c.loop-i.i (in_order c.args.query.now.rule c.args.collection.now.objects) in
+    let few : length (filter (meets_query c.args.query.now) seen) ≤ length seen = no_more (meets_query c.args.query.now) seen in
+    let read : length seen ≤ c.loop-i.i = rw (length-take c.loop-i.i (in_order c.args.query.now.rule c.args.collection.now.objects)) (omega arith) in
+    omega (arith, few, read)
+
+pub loop-i-preserved : goal.loop-i-preserved
+loop-i-preserved c =
+    let ordered = in_order c.args.query.now.rule c.args.collection.now.objects in
+    let before = filter (meets_query c.args.query.now) (take c.loop-i.i ordered) in
+    let is : slice_get ordered c.loop-i.i ≡ Some c.in_turn-object.result.now = rw (← by_direction c.args.query.now.rule c.args.collection.now.objects, ← c.is_down.ensures) c.in_turn-object.ensures in
+    let more = noted (meets_query c.args.query.now) ordered c.loop-i.i c.in_turn-object.result.now is in
+    record {
+      count = rw more (c.in_ok-found.ensures.count before c.loop-i.invariant.count);
+      ids = rw more (c.in_ok-found.ensures.ids before c.loop-i.invariant.count c.loop-i.invariant.ids);
+    }
+
+pub returns-clause-count : goal.returns-clause-count
+returns-clause-count c =
+    let all = all_found (meets_query c.args.query.now) c.args.query.now.rule c.args.collection.now.objects c.loop-i.i (omega arith) in
+    rw (← all) c.loop-i.invariant.count
+
+pub returns-clause-ids : goal.returns-clause-ids
+returns-clause-ids c =
+    let all = all_found (meets_query c.args.query.now) c.args.query.now.rule c.args.collection.now.objects c.loop-i.i (omega arith) in
+    rw (← all) c.loop-i.invariant.ids

@@ -1,0 +1,123 @@
+//! Pages of what a query finds.
+
+ghost use Rattle.std.specs.Prelude.{◌≡◌, ◌≢◌, ◌<◌, ◌+◌, ◌^◌, ◌++◌, ◌∷◌, [], List, ◌&&◌, not, if◌then◌else◌, length, filter, reverse, slice_get, Some, nat_lt, nat_le, IfOk, OnOk};
+ghost use Rattle.world_model.specs.Queries.{IsPageOf, meets_query, page_ids, is_count};
+ghost use Rattle.world_model.specs.declared.objects.Object.{Object};
+ghost use Rattle.search_query.specs.Found.{found, is_down, IsGlob};
+
+use crate::matches::meets_query;
+use byte_text::{Name, NoMemory};
+use collection::Collection;
+use std::alloc::Global;
+use world_model::{NameList, Object, Page, Query, Rule, Shown};
+
+/// The page of what the query finds among the objects of a key: their ids from place `cursor` on, at most `limit`, and where the
+/// next page begins; of a count the number of all that is found. For want of memory the page may hold anything.
+pub fn page(
+    alloc: Global,
+    collection: &Collection,
+    query: &Query,
+    into: &mut Page,
+) -> Result<(), NoMemory>
+    requires pattern { IsGlob query.now.glob }
+    requires by_id { query.now.rule ≢ Rule.Nearest }
+    ensures { OnOk result (IsPageOf query.now (found query.now collection.now.objects) into.new) }
+{
+    into.ids.clear();
+    let found = list_ids(alloc, collection, query, &mut into.ids)?;
+    if is_count(query.shown) {
+        into.count = found;
+        into.cursor = 0;
+        return Ok(());
+    }
+    let next = u64::from(query.cursor) + into.ids.len() as u64;
+    into.count = 0;
+    into.cursor = if next < found { next } else { 0 };
+    Ok(())
+}
+
+// Lists the ids of a page, none of a count, and gives the number of all that is found.
+fn list_ids(
+    alloc: Global,
+    collection: &Collection,
+    query: &Query,
+    ids: &mut NameList,
+) -> Result<u64, NoMemory>
+    requires pattern { IsGlob query.now.glob }
+    requires by_id { query.now.rule ≢ Rule.Nearest }
+    requires empty { ids.old ≡ [] }
+    ensures count { IfOk result (λ n. n ≡ length (found query.now collection.now.objects)) }
+    ensures ids { OnOk result (ids.new ≡ page_ids query.now (found query.now collection.now.objects)) }
+{
+    let mut found = 0;
+    for i in 0..collection.len() {
+        let object = in_turn(collection, i, is_down(&query.rule));
+        found = note(alloc, query, object, found, ids)?;
+    }
+    Ok(found)
+}
+
+// The i-th object by ascending id, or by descending.
+fn in_turn(collection: &Collection, i: usize, down: bool) -> &Object
+    requires { i < length collection.now.objects }
+    ensures { slice_get (if down then reverse collection.now.objects else collection.now.objects) i ≡ Some result.now }
+{
+    if down {
+        collection.at(collection.len() - 1 - i)
+    } else {
+        collection.at(i)
+    }
+}
+
+fn is_down(rule: &Rule) -> bool
+    ensures { result ≡ is_down rule.now }
+{
+    matches!(rule, Rule::Down)
+}
+
+// Notes the next object behind those that were found: where it meets the query it is found too, and its id is listed where it is
+// on the page. Gives the number of all that is found.
+fn note(
+    alloc: Global,
+    query: &Query,
+    object: &Object,
+    found: u64,
+    ids: &mut NameList,
+) -> Result<u64, NoMemory>
+    requires pattern { IsGlob query.now.glob }
+    requires room { found + 1 < 2 ^ 64 }
+    ensures count { (seen : List Object) → found ≡ length seen → IfOk result (λ n. n ≡ length (seen ++ filter (meets_query query.now) (object.now ∷ []))) }
+    ensures ids { (seen : List Object) → found ≡ length seen → ids.old ≡ page_ids query.now seen → OnOk result (ids.new ≡ page_ids query.now (seen ++ filter (meets_query query.now) (object.now ∷ []))) }
+{
+    if !meets_query(query, object) {
+        return Ok(found);
+    }
+    if is_on_page(query, found) {
+        add_id(alloc, ids, &object.id)?;
+    }
+    Ok(found + 1)
+}
+
+// Whether what is found at this place is on the page.
+fn is_on_page(query: &Query, place: u64) -> bool
+    ensures { result ≡ (not (is_count query.now.shown) && nat_le query.now.cursor place && nat_lt place (query.now.cursor + query.now.limit)) }
+{
+    let first = u64::from(query.cursor);
+    !is_count(query.shown) && first <= place && place < first + u64::from(query.limit)
+}
+
+fn is_count(shown: Shown) -> bool
+    ensures { result ≡ is_count shown }
+{
+    matches!(shown, Shown::Count)
+}
+
+// Puts an id last.
+fn add_id(alloc: Global, ids: &mut NameList, id: &Name) -> Result<(), NoMemory>
+    ensures { OnOk result (ids.new ≡ ids.old ++ id.now ∷ []) }
+{
+    match ids.push(id.copy(alloc)?) {
+        Ok(()) => Ok(()),
+        Err(_) => Err(NoMemory),
+    }
+}

@@ -1,0 +1,32 @@
+use Rattle.std.proofs.Common.{◌≡◌, ◌∙◌, ap, length, arith}
+use Rattle.std.specs.Prelude.{Ok}
+use Rattle.keyspace.specs.Entries.{objects_in}
+use Rattle.tile_core.specs.Dues.{IsTaken}
+use Rattle.tile_core.proofs.Taken.{are_few, fewer, taken_more}
+use Rattle.tile_core.proofs.dues.take_due.Goals as goal
+
+pub loop-gone-smaller : goal.loop-gone-smaller
+loop-gone-smaller c =
+    let g = c.loop-gone.gone in
+    let new = c.take_next.new.gone in
+    let out = c.take_next.ensures.taken (c.in-Ok-true.is ∙ ap Ok c.in-Ok-true.field-0-test) in
+    fewer (objects_in c.loop-gone.objects) c.args.now (objects_in c.take_next.new.objects) g.held.items new.held.items g.length new.length g.weight new.weight out
+
+pub loop-gone-preserved : goal.loop-gone-preserved
+loop-gone-preserved c =
+    let old = objects_in c.args.objects.now in
+    let g = c.loop-gone.gone in
+    let new = c.take_next.new.gone in
+    let out = c.take_next.ensures.taken (c.in-Ok-true.is ∙ ap Ok c.in-Ok-true.field-0-test) in
+    record {
+      taken = taken_more old c.args.now c.args.total (objects_in c.loop-gone.objects) g.held.items g.length g.weight c.loop-gone.invariant.taken (objects_in c.take_next.new.objects) new.held.items new.length new.weight out;
+      room = c.take_next.ensures.room;
+    }
+
+pub put_back-requires-clause-few : goal.put_back-requires-clause-few
+put_back-requires-clause-few c =
+    let t : IsTaken (objects_in c.args.objects.now) c.args.now c.args.total (objects_in c.loop-gone.objects) c.loop-gone.gone.held.items c.loop-gone.gone.length c.loop-gone.gone.weight = c.loop-gone.invariant.taken in
+    let err = c.in-Err.is in
+    let objects : length (objects_in c.take_next.new.objects) ≡ length (objects_in c.loop-gone.objects) = ap length (c.take_next.ensures.stays (λ ok. absurd (cc))) in
+    let held : length c.take_next.new.gone.held.items ≡ length c.loop-gone.gone.held.items = ap length (c.take_next.ensures.held (λ ok. absurd (cc))) in
+    omega (arith, objects, held, t.count, are_few (objects_in c.args.objects.now) c.args.total c.requires)
