@@ -37,3 +37,16 @@ same_is [] [] e = refl
 same_is [] (y ∷ b) e = absurd (cc)
 same_is (x ∷ a) [] e = absurd (cc)
 same_is (x ∷ a) (y ∷ b) e = let ih = same_is a b in grind (arith, nat_tests)
+
+pub asymmetric : (a b : Bytes) → before a b ≡ true → before b a ≡ false
+asymmetric [] [] e = refl
+asymmetric [] (y ∷ b) e = refl
+asymmetric (x ∷ a) [] e = absurd (cc)
+asymmetric (x ∷ a) (y ∷ b) e = let ih = asymmetric a b in grind (arith, nat_tests)
+
+-- neither stands before the other only where they are equal
+pub ties : (a b : Bytes) → before a b ≡ false → before b a ≡ false → a ≡ b
+ties [] [] p q = refl
+ties [] (y ∷ b) p q = absurd (cc)
+ties (x ∷ a) [] p q = absurd (cc)
+ties (x ∷ a) (y ∷ b) p q = let ih = ties a b in grind (arith, nat_tests)

@@ -6,6 +6,7 @@ use Rattle.std.proofs.lemmas.Bool.Decides.{nat_tests}
 use Rattle.byte_text.specs.Names.{Bytes, before}
 use Rattle.world_model.specs.Lists.{ascends, put_in}
 use Rattle.world_model.specs.Filters.{Field, field_before, is_zero, are_fields, last_values, with_values}
+use Rattle.tile_core.proofs.ByteOrder.{ties}
 
 -- the order of names
 
@@ -16,12 +17,6 @@ follows [] (y ∷ b) (z ∷ c) p q = refl
 follows (x ∷ a) [] c p q = absurd (cc)
 follows (x ∷ a) (y ∷ b) [] p q = absurd (cc)
 follows (x ∷ a) (y ∷ b) (z ∷ c) p q = let ih = follows a b c in grind (arith, nat_tests)
-
-ties : (a b : Bytes) → before a b ≡ false → before b a ≡ false → a ≡ b
-ties [] [] p q = refl
-ties [] (y ∷ b) p q = absurd (cc)
-ties (x ∷ a) [] p q = absurd (cc)
-ties (x ∷ a) (y ∷ b) p q = let ih = ties a b in grind (arith, nat_tests)
 
 -- a field before all of a list
 
@@ -137,12 +132,12 @@ one_given fields given x are =
     let asc : ascends field_before fields ≡ true = grind arith in
     shown_put x (last_values fields given) (ascends_last fields given asc) ∙ ap (λ (ys : List Field). filter (λ f. not (is_zero f)) ys) (sym (last_one fields given x))
 
-take_more : {A : Type 0} (xs : List A) (i : ℕ) (x : A) → slice_get xs i ≡ Some x → take i xs ++ x ∷ [] ≡ take (suc i) xs
+pub take_more : {A : Type 0} (xs : List A) (i : ℕ) (x : A) → slice_get xs i ≡ Some x → take i xs ++ x ∷ [] ≡ take (suc i) xs
 take_more [] i x at = absurd (cc)
 take_more (y ∷ ys) zero x at = let is : y ≡ x = cc in ap (λ z. z ∷ []) (sym is)
 take_more {A = A} (y ∷ ys) (suc i) x at = ap (λ (zs : List A). y ∷ zs) (take_more ys i x at)
 
-there : {A : Type 0} (xs : List A) (i : ℕ) → i < length xs → (x : A) × (slice_get xs i ≡ Some x)
+pub there : {A : Type 0} (xs : List A) (i : ℕ) → i < length xs → (x : A) × (slice_get xs i ≡ Some x)
 there [] i lt = absurd (omega (arith, lt))
 there (y ∷ ys) zero lt = (y, refl)
 there (y ∷ ys) (suc i) lt = there ys i (omega (arith, lt))
@@ -158,7 +153,7 @@ given_at fields given i name value are lt named valued =
     ap (λ (m : Bytes). with_values (with_values fields (take i given)) ((m, value) ∷ [])) name_is ∙ ap (λ (v : ℤ). with_values (with_values fields (take i given)) ((s.0.0, v) ∷ [])) value_is
     ∙ one_given fields (take i given) s.0 are ∙ ap (with_values fields) (take_more given i s.0 s.1) ∙ ap (λ (n : ℕ). with_values fields (take n given)) one
 
-zero_more : (given : List Field) (names : List Bytes) (i : ℕ) (name : Bytes) → slice_get names i ≡ Some name
+pub zero_more : (given : List Field) (names : List Bytes) (i : ℕ) (name : Bytes) → slice_get names i ≡ Some name
     → (given ++ map (λ n. (n, pos 0)) (take i names)) ++ (name, pos 0) ∷ [] ≡ given ++ map (λ n. (n, pos 0)) (take (suc i) names)
 zero_more [] [] i name at = absurd (cc)
 zero_more [] (n ∷ names) zero name at = let is : n ≡ name = cc in ap (λ (m : Bytes). (m, pos 0) ∷ []) (sym is)

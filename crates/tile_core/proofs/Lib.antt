@@ -15,6 +15,8 @@ mod Weights
 mod Answering
 mod Listings
 mod Setting
+mod Changing
 mod Removing
+mod Sweeping
 mod Reading
 mod Faults

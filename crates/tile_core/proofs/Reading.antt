@@ -14,7 +14,8 @@ use Rattle.world_model.specs.declared.objects.Object.{Object}
 use Rattle.world_model.specs.declared.worlds.World.{World}
 use Rattle.world_model.specs.declared.commands.Command.TheVariants as command
 use Rattle.world_model.specs.declared.queries.Shown.{Shown}
-use Rattle.tile_core.specs.Plans.{ends_with, box_of_objects}
+use Rattle.collection.specs.Objects.{bounds_of}
+use Rattle.tile_core.specs.Plans.{ends_with}
 
 -- the reply to GET for an object that is there
 abbrev pub get_pieces : Bool → Shown → Object → List Piece
@@ -44,11 +45,6 @@ module _ (w : World) (now : ℕ) where
   pub left : effect w now [] command.Quit ≡ ends_with fine
   unfolding effect
   left = refl
-
--- the reply to BOUNDS, by the box that is found
-pub bounds_is : (os : List Object) (found : Option Bounds) (r : List Piece) → found ≡ box_of_objects os → IfSome found (λ b. r ≡ bounds_reply b) → IfNone found (r ≡ no_list) → r ≡ bounds_of_key os
-bounds_is [] found r e some none = subst (λ (f : Option Bounds). IfNone f (r ≡ no_list)) e none
-bounds_is (o ∷ os) found r e some none = subst (λ (f : Option Bounds). IfSome f (λ b. r ≡ bounds_reply b)) e some
 
 -- one key more
 next_of : {B : Type 0} (f : Bytes → B) (keys : List Bytes) (i : ℕ) (k : Bytes) → slice_get keys i ≡ Some k → map f (take i keys) ++ f k ∷ [] ≡ map f (take (suc i) keys)

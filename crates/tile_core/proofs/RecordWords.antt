@@ -8,7 +8,7 @@ use Rattle.world_model.specs.Filters.{Field}
 use Rattle.world_model.specs.Records.{record_len, record_words, field_words, deadline_words}
 use Rattle.world_model.specs.declared.objects.Object.{Object}
 use Rattle.world_model.specs.declared.worlds.Change.TheVariants as change
-use Rattle.tile_core.specs.Objects.{HasFewFields}
+use Rattle.tile_core.specs.Moves.{HasFewFields}
 use Rattle.tile_core.specs.Records.{words_len}
 
 words_cons : (w : Bytes) (ws : List Bytes) → words_len (w ∷ ws) ≡ length (bulk_text w) + words_len ws

@@ -1,27 +1,24 @@
 -- What EXPIRE, PERSIST and TTL do.
 use Rattle.std.proofs.Common.{◌≡◌, ℕ, ◌+◌, ◌*◌, ◌≤◌, arith, true, false, refl, sym, ap, ◌∙◌, subst, List, []}
-use Rattle.std.specs.Prelude.{Option, Some, None, nat_le, slice_get, slice_set}
+use Rattle.std.specs.Prelude.{Option, Some, None, nat_le}
 use Rattle.std.proofs.lemmas.Bool.Decides.{nat_tests}
-use Rattle.world_model.specs.Limits.{max_weight}
-use Rattle.world_model.specs.Records.{weight}
-use Rattle.std.specs.declared.cmp.Ordering.TheVariants.{Equal}
 use Rattle.byte_text.specs.Names.{Bytes}
 use Rattle.byte_text.specs.Replies.{number}
-use Rattle.world_model.specs.Worlds.{object_at}
+use Rattle.world_model.specs.Limits.{max_weight}
+use Rattle.world_model.specs.Lists.{put_in}
+use Rattle.world_model.specs.Worlds.{object_at, object_before, are_objects, is_at}
+use Rattle.world_model.specs.Records.{weight}
 use Rattle.world_model.specs.Effects.{effect, says, fits, within_reply}
-use Rattle.world_model.specs.declared.worlds.Change.TheVariants as change
 use Rattle.world_model.specs.Replies.{integer_reply, seconds_left, no_object}
+use Rattle.world_model.specs.declared.worlds.Change.TheVariants as change
 use Rattle.world_model.specs.declared.objects.Object.{Object}
 use Rattle.world_model.specs.declared.worlds.World.{World}
 use Rattle.world_model.specs.declared.commands.Command.TheVariants as command
-use Rattle.tile_core.specs.declared.objects.Place.TheVariants.{Held}
-use Rattle.tile_core.specs.Objects.{world_of, HasFewFields, IsPlace, order_of, AreBelow}
+use Rattle.tile_core.specs.Kernels.{AreKept}
+use Rattle.tile_core.specs.Moves.{world_of, len_of}
 use Rattle.tile_core.specs.Plans.{put_or_full, without_deadline}
-use Rattle.tile_core.proofs.Expiring.{some_is}
-use Rattle.tile_core.proofs.Removing.{keys_are}
 use Rattle.tile_core.proofs.RecordWords.{bare_short}
-use Rattle.tile_core.proofs.Setting.{put_world}
-use Rattle.tile_core.proofs.Weights.{weight_set}
+use Rattle.tile_core.proofs.Weights.{weight_sum, changed_sum, found_few, found_own}
 
 module _ (w : World) (now : ℕ) (key id : Bytes) where
   pub expired_none : (s : ℕ) → object_at w key id ≡ None → effect w now [] (command.Expire key id s) ≡ within_reply (says (number 0))
@@ -53,15 +50,10 @@ module _ (w : World) (now : ℕ) (key id : Bytes) where
   unfolding effect
   persisted_none e = rw e refl
 
--- the place is that of the object that stands there, and of what is put over it
-pub own_place : (xs : List Object) (key id : Bytes) (i : ℕ) (o x : Object) → AreBelow xs key id i → slice_get xs i ≡ Some o → order_of key id o ≡ Equal → x.key ≡ o.key → x.id ≡ o.id → IsPlace xs x.key x.id (Held i)
-own_place xs key id i o x b at e k j =
-    let own = keys_are o key id e in
-    let to_key : key ≡ x.key = sym own.0 ∙ sym k in
-    let to_id : id ≡ x.id = sym own.1 ∙ sym j in
-    subst (λ (m : Bytes). IsPlace xs m x.id (Held i)) to_key (subst (λ (m : Bytes). IsPlace xs key m (Held i)) to_id (b, (o, at, e)))
-
 -- an object without its deadline
+
+some_is : (o x : Object) → Some o ≡ Some x → o ≡ x
+some_is o x e = cc
 
 no_some : {A B : Type 0} (x : A) → None ≡ Some x → B
 no_some x e = absurd (cc)
@@ -81,12 +73,10 @@ bare_already o e = by o.deadline refl
     by (Some m) is = let t : without_deadline o ≡ Some (record o { deadline = None }) = rw is refl in no_some (record o { deadline = None }) (sym e ∙ t)
 
 -- the world is no heavier where an object loses its deadline
-pub bare_fits : (xs : List Object) (i : ℕ) (o : Object) (m : ℕ) → slice_get xs i ≡ Some o → o.deadline ≡ Some m → HasFewFields o → weight (world_of xs) ≤ max_weight → IsPlace xs o.key o.id (Held i)
-    → fits (world_of xs) (change.Put (record o { deadline = None })) ≡ true
-bare_fits xs i o m at is few light place =
+pub bare_fits : (xs : List Object) (total : ℕ) → AreKept xs total → (key id : Bytes) (o : Object) (m : ℕ) → object_at (world_of xs) key id ≡ Some o → o.deadline ≡ Some m → fits (world_of xs) (change.Put (record o { deadline = None })) ≡ true
+bare_fits xs total kept key id o m here is =
     let x : Object = record o { deadline = None } in
-    let short = bare_short o m is few in
-    let set = weight_set xs x i o at in
-    let less : weight (world_of (slice_set xs i x)) ≤ max_weight = omega (arith, set, short, light) in
-    let t : nat_le (weight (world_of (slice_set xs i x))) max_weight ≡ true = grind (arith, nat_tests) in
-    ap (λ (w : World). nat_le (weight w) max_weight) (put_world xs x (Held i) place) ∙ t
+    let short = bare_short o m is (found_few (is_at key id) xs o kept.few here) in
+    let sum = changed_sum len_of x xs o kept.sorted (found_own key id xs o here) in
+    let less : weight (world_of (put_in object_before x xs)) ≤ max_weight = omega (arith, sum, short, weight_sum xs, weight_sum (put_in object_before x xs), kept.weighed, kept.light) in
+    grind (arith, nat_tests)

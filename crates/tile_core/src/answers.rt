@@ -1,14 +1,15 @@
 //! Answers: the frames of replies, and plans that change nothing.
 
 ghost use Rattle.std.specs.Prelude.{◌≡◌, ◌≤◌, length, IfOk};
-ghost use Rattle.byte_text.specs.Replies.{IsFrame, frame_text};
+ghost use Rattle.byte_text.specs.Lines.{IsOneLine};
+ghost use Rattle.byte_text.specs.Replies.{IsFrame, frame_text, number};
 ghost use Rattle.world_model.specs.Limits.{max_reply};
-ghost use Rattle.world_model.specs.Effects.{says, within_reply};
+ghost use Rattle.world_model.specs.Effects.{says, refuses, within_reply};
 ghost use Rattle.tile_core.specs.Plans.{Replies, Says};
 
 use crate::plans::Plan;
 use byte_text::{NoMemory, Reply, Text};
-use reply_text::{ReplyFault, error_reply, push_reply};
+use reply_text::{ReplyFault, count_reply, error_reply, push_reply};
 use std::alloc::Global;
 
 /// The frame of a reply that is short enough for one.
@@ -44,4 +45,19 @@ pub(crate) fn say(alloc: Global, weight: u64, reply: &Reply) -> Result<Plan, NoM
     ensures { IfOk result (λ p. Says (within_reply (says reply.now)) weight p) }
 {
     Ok(Plan::reply(frame_of(alloc, reply)?, weight))
+}
+
+/// The plan that answers this number.
+pub(crate) fn say_count(alloc: Global, weight: u64, count: u64) -> Result<Plan, NoMemory>
+    ensures { IfOk result (λ p. Says (within_reply (says (number count))) weight p) }
+{
+    say(alloc, weight, &count_reply(alloc, count)?)
+}
+
+/// The plan that refuses with this text.
+pub(crate) fn say_error(alloc: Global, weight: u64, text: &[u8]) -> Result<Plan, NoMemory>
+    requires { IsOneLine text.now }
+    ensures { IfOk result (λ p. Says (within_reply (refuses text.now)) weight p) }
+{
+    say(alloc, weight, &error_reply(alloc, text)?)
 }

@@ -1,23 +1,24 @@
 //! FSET and FGET: fields of an object are set and told.
 
-ghost use Rattle.std.specs.Prelude.{◌≡◌, ◌+◌, ◌∷◌, [], ℕ, IfOk};
+ghost use Rattle.std.specs.Prelude.{◌≡◌, [], ℕ, not, if◌then◌else◌, IfOk};
 ghost use Rattle.std.specs.List.{list_any};
+ghost use Rattle.planar_geom.specs.Points.{same_int};
 ghost use Rattle.world_model.specs.Worlds.{has_key};
 ghost use Rattle.world_model.specs.Effects.{effect, changed_count, given_and_cleared, missing};
 ghost use Rattle.world_model.specs.declared.commands.Command.TheVariants as command;
 ghost use Rattle.keyspace.specs.Entries.{objects_in};
 ghost use Rattle.tile_core.specs.Kernels.{AreKept};
 ghost use Rattle.tile_core.specs.Moves.{world_in};
-ghost use Rattle.tile_core.specs.Plans.{IsPlan, Says};
+ghost use Rattle.tile_core.specs.Plans.{IsPlan};
 
-use crate::answers::say;
+use crate::answers::{say, say_count, say_error};
 use crate::fields::with_values;
 use crate::plans::Plan;
 use crate::puts::{MAX_FIELDS, plan_put};
 use byte_text::{Name, NoMemory};
 use field_filter::value_of;
 use keyspace::Keyspace;
-use reply_text::{count_reply, error_reply, value_reply};
+use reply_text::{count_reply, value_reply};
 use std::alloc::Global;
 use world_model::{Fields, NameList, Object};
 
@@ -37,32 +38,49 @@ fn plan_missing(alloc: Global, objects: &Keyspace, total: u64, key: &Name) -> Re
     ensures { IfOk result (λ p. IsPlan (objects_in objects.now) (missing (world_in objects.now) key.now) p) }
 {
     if has_key(objects, key) {
-        say(alloc, total, &error_reply(alloc, b"id not found")?)
+        say_error(alloc, total, b"id not found")
     } else {
-        say(alloc, total, &error_reply(alloc, b"key not found")?)
+        say_error(alloc, total, b"key not found")
     }
 }
 
-// How many of these values the fields do not have. More of them than a `u64` counts have room in no memory.
+// 1 where the values differ, else 0.
+fn difference(value: i64, other: i64) -> u64
+    ensures { result ≡ (if not (same_int value other) then 1 else 0) }
+{
+    u64::from(value != other)
+}
+
+// How many of these values the fields do not have.
 fn changed_given(fields: &Fields, given: &Fields) -> u64
     ensures { result ≡ changed_count fields.now given.now }
 {
     let mut count = 0;
     for i in 0..given.len() {
-        count += u64::from(value_of(fields, given.name(i)) != given.value(i));
+        count += difference(value_of(fields, given.name(i)), given.value(i));
     }
     count
 }
 
-// How many of the fields of these names are there, each of which has another value than 0.
+// How many of the fields of these names have a value.
 fn changed_cleared(fields: &Fields, cleared: &NameList) -> u64
     ensures { result ≡ changed_count fields.now (given_and_cleared [] cleared.now) }
 {
     let mut count = 0;
     for i in 0..cleared.len() {
-        count += u64::from(value_of(fields, cleared.at(i)) != 0);
+        count += difference(value_of(fields, cleared.at(i)), 0);
     }
     count
+}
+
+// How many fields get another value. More of them than a `u64` counts have room in no memory.
+fn changed_count(fields: &Fields, given: &Fields, cleared: &NameList) -> Result<u64, NoMemory>
+    ensures { IfOk result (λ n. n ≡ changed_count fields.now (given_and_cleared given.now cleared.now)) }
+{
+    match changed_given(fields, given).checked_add(changed_cleared(fields, cleared)) {
+        Some(count) => Ok(count),
+        None => Err(NoMemory),
+    }
 }
 
 /// What FSET will do. Where no value changes, nothing is changed.
@@ -81,22 +99,16 @@ pub(crate) fn plan_fset(
     let Some(old) = objects.get(key, id) else {
         return plan_missing(alloc, objects, total, key);
     };
-    let Some(count) = changed_given(&old.fields, given).checked_add(changed_cleared(
-        &old.fields,
-        cleared,
-    )) else {
-        return Err(NoMemory);
-    };
-    let reply = count_reply(alloc, count)?;
+    let count = changed_count(&old.fields, given, cleared)?;
     if count == 0 {
-        return say(alloc, total, &reply);
+        return say_count(alloc, total, 0);
     }
     let mut object = old.copy(alloc)?;
     object.fields = with_values(alloc, old.fields.copy(alloc)?, given, cleared)?;
     if object.fields.len() > MAX_FIELDS {
-        return say(alloc, total, &error_reply(alloc, b"too many fields")?);
+        return say_error(alloc, total, b"too many fields");
     }
-    plan_put(alloc, objects, total, object, &reply)
+    plan_put(alloc, objects, total, object, &count_reply(alloc, count)?)
 }
 
 /// What FGET will do. A field that is missing reads 0.
@@ -114,9 +126,6 @@ pub(crate) fn plan_fget(
     let Some(object) = objects.get(key, id) else {
         return plan_missing(alloc, objects, total, key);
     };
-    say(
-        alloc,
-        total,
-        &value_reply(alloc, value_of(&object.fields, field))?,
-    )
+    let value = value_of(&object.fields, field);
+    say(alloc, total, &value_reply(alloc, value)?)
 }

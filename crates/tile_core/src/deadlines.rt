@@ -9,7 +9,7 @@ ghost use Rattle.tile_core.specs.Kernels.{AreKept};
 ghost use Rattle.tile_core.specs.Moves.{world_in};
 ghost use Rattle.tile_core.specs.Plans.{IsPlan, without_deadline};
 
-use crate::answers::say;
+use crate::answers::{say, say_count};
 use crate::plans::Plan;
 use crate::puts::{deadline_after, plan_put};
 use byte_text::{Name, NoMemory};
@@ -32,7 +32,7 @@ pub(crate) fn plan_expire(
     ensures { IfOk result (λ p. IsPlan (objects_in objects.now) (effect (world_in objects.now) now [] (command.Expire key.now id.now seconds)) p) }
 {
     let Some(old) = objects.get(key, id) else {
-        return say(alloc, total, &count_reply(alloc, 0)?);
+        return say_count(alloc, total, 0);
     };
     let mut object = old.copy(alloc)?;
     object.deadline = deadline_after(now, Some(seconds))?;
@@ -97,10 +97,10 @@ pub(crate) fn plan_persist(
     ensures { IfOk result (λ p. (now : ℕ) → IsPlan (objects_in objects.now) (effect (world_in objects.now) now [] (command.Persist key.now id.now)) p) }
 {
     let Some(old) = objects.get(key, id) else {
-        return say(alloc, total, &count_reply(alloc, 0)?);
+        return say_count(alloc, total, 0);
     };
     match without_deadline(alloc, old)? {
         Some(object) => plan_put(alloc, objects, total, object, &count_reply(alloc, 1)?),
-        None => say(alloc, total, &count_reply(alloc, 0)?),
+        None => say_count(alloc, total, 0),
     }
 }

@@ -13,7 +13,7 @@ ghost use Rattle.tile_core.specs.Moves.{world_in, world_of, HasFewFields, HaveFe
 ghost use Rattle.tile_core.specs.Plans.{IsPlan, records_len};
 ghost use Rattle.tile_core.specs.Sweeps.{IsSwept, IsSweptOf};
 
-use crate::answers::{say, short_frame};
+use crate::answers::{say_count, short_frame};
 use crate::moves::Move;
 use crate::plans::Plan;
 use crate::records::{del_len, drop_len, flush_len, put_len};
@@ -36,17 +36,16 @@ pub(crate) fn plan_del(
     requires { AreKept (objects_in objects.now) total }
     ensures { IfOk result (λ p. (now : ℕ) → IsPlan (objects_in objects.now) (effect (world_in objects.now) now [] (command.Del key id)) p) }
 {
-    let Some(object) = objects.get(&key, &id) else {
-        return say(alloc, total, &count_reply(alloc, 0)?);
-    };
-    let weight = total - put_len(object);
-    Ok(Plan {
-        frame: short_frame(alloc, &count_reply(alloc, 1)?)?,
-        length: del_len(&key, &id),
-        action: Move::Delete(key, id),
-        weight,
-        closes: false,
-    })
+    match objects.get(&key, &id) {
+        Some(object) => Ok(Plan {
+            frame: short_frame(alloc, &count_reply(alloc, 1)?)?,
+            length: del_len(&key, &id),
+            weight: total - put_len(object),
+            action: Move::Delete(key, id),
+            closes: false,
+        }),
+        None => say_count(alloc, total, 0),
+    }
 }
 
 /// What PDEL takes out: the ids, the bytes of the records of the dels, and the weight of what is left.
@@ -113,7 +112,7 @@ pub(crate) fn plan_pdel(
     ensures { IfOk result (λ p. (now : ℕ) → IsPlan (objects_in objects.now) (effect (world_in objects.now) now [] (command.Pdel key pattern.now)) p) }
 {
     let Some(found) = objects.collection(&key) else {
-        return say(alloc, total, &count_reply(alloc, 0)?);
+        return say_count(alloc, total, 0);
     };
     let swept = sweep(alloc, found, total, pattern)?;
     let count = swept.ids.len() as u64;
@@ -150,10 +149,10 @@ pub(crate) fn plan_drop(
     ensures { IfOk result (λ p. (now : ℕ) → IsPlan (objects_in objects.now) (effect (world_in objects.now) now [] (command.Drop key)) p) }
 {
     let Some(found) = objects.collection(&key) else {
-        return say(alloc, total, &count_reply(alloc, 0)?);
+        return say_count(alloc, total, 0);
     };
     if found.len() == 0 {
-        return say(alloc, total, &count_reply(alloc, 0)?);
+        return say_count(alloc, total, 0);
     }
     let weight = weight_without(found, total);
     Ok(Plan {

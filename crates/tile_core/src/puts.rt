@@ -1,12 +1,12 @@
 //! SET: an object is put, with fields and a deadline.
 
-ghost use Rattle.std.specs.Prelude.{◌≡◌, ◌≤◌, ◌+◌, ◌^◌, Bool, Option, Some, None, [], is_some, length, find, IfOk, IfSome, IfNone};
+ghost use Rattle.std.specs.Prelude.{◌≡◌, ◌≤◌, ◌+◌, ◌^◌, Bool, Option, Some, None, [], is_some, option_map, length, IfOk};
 ghost use Rattle.byte_text.specs.Replies.{IsFrame, frame_text};
 ghost use Rattle.world_model.specs.Limits.{max_reply};
 ghost use Rattle.world_model.specs.Lists.{put_in};
 ghost use Rattle.world_model.specs.Worlds.{object_before};
 ghost use Rattle.world_model.specs.Records.{weight};
-ghost use Rattle.world_model.specs.Effects.{effect, deadline_after, is_kept_back};
+ghost use Rattle.world_model.specs.Effects.{effect, deadline_after, fields_of, is_kept_back};
 ghost use Rattle.world_model.specs.declared.commands.Command.TheVariants as command;
 ghost use Rattle.world_model.specs.declared.objects.Object.{Object};
 ghost use Rattle.keyspace.specs.Entries.{objects_in};
@@ -14,14 +14,14 @@ ghost use Rattle.tile_core.specs.Kernels.{AreKept};
 ghost use Rattle.tile_core.specs.Moves.{world_in, world_of, HasFewFields, len_of};
 ghost use Rattle.tile_core.specs.Plans.{IsPlan, put_or_full};
 
-use crate::answers::{say, short_frame};
+use crate::answers::{say, say_error, short_frame};
 use crate::fields::with_values;
 use crate::moves::Move;
 use crate::plans::Plan;
 use crate::records::put_len;
 use byte_text::{NoMemory, Reply};
 use keyspace::Keyspace;
-use reply_text::{error_reply, fine_reply, null_reply};
+use reply_text::{fine_reply, null_reply};
 use std::alloc::Global;
 use world_model::{Fields, NameList, Object, Only};
 
@@ -75,7 +75,7 @@ pub(crate) fn plan_put(
     let length = put_len(&object);
     let weight = weight_after(objects, total, &object, length);
     if weight > MAX_WEIGHT {
-        return say(alloc, total, &error_reply(alloc, b"database is full")?);
+        return say_error(alloc, total, b"database is full");
     }
     Ok(Plan {
         frame: short_frame(alloc, reply)?,
@@ -101,8 +101,7 @@ pub(crate) fn deadline_after(now: u64, seconds: Option<u32>) -> Result<Option<u6
 
 // The fields of the object that stands there, if one does.
 fn fields_of(alloc: Global, old: Option<&Object>) -> Result<Fields, NoMemory>
-    ensures some { IfSome old (λ o. IfOk result (λ fields. fields ≡ o.now.fields)) }
-    ensures none { IfNone old (IfOk result (λ fields. fields ≡ [])) }
+    ensures { IfOk result (λ fields. fields ≡ fields_of (option_map (λ o. o.now) old.entry)) }
 {
     match old {
         Some(object) => object.fields.copy(alloc),
@@ -139,10 +138,10 @@ pub(crate) fn plan_set(
         shape: object.shape,
     };
     if whole.fields.len() > MAX_FIELDS {
-        return say(alloc, total, &error_reply(alloc, b"too many fields")?);
+        return say_error(alloc, total, b"too many fields");
     }
     if is_new && objects.len() >= MAX_OBJECTS {
-        return say(alloc, total, &error_reply(alloc, b"too many objects")?);
+        return say_error(alloc, total, b"too many objects");
     }
     plan_put(alloc, objects, total, whole, &fine_reply(alloc)?)
 }

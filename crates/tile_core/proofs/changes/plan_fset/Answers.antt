@@ -1,0 +1,54 @@
+use Rattle.std.proofs.Common.{◌≡◌, ◌≤◌, ◌<◌, ℕ, false, length, subst, ap, ◌∙◌, sym, refl, List, rules, arith}
+use Rattle.std.specs.Prelude.{codes}
+use Rattle.std.proofs.lemmas.Result.{IfOk-weaker}
+use Rattle.byte_text.specs.Replies.{number, frame_text}
+use Rattle.byte_text.specs.declared.replies.Piece.{Piece}
+use Rattle.world_model.specs.Limits.{max_reply, max_fields}
+use Rattle.world_model.specs.Filters.{Field, with_values}
+use Rattle.world_model.specs.Replies.{error}
+use Rattle.world_model.specs.Effects.{Effect, given_and_cleared}
+use Rattle.world_model.specs.declared.objects.Object.{Object}
+use Rattle.keyspace.specs.Entries.{objects_in}
+use Rattle.tile_core.specs.Moves.{world_in}
+use Rattle.tile_core.specs.Plans.{IsPlan, put_or_full}
+use Rattle.tile_core.proofs.Answering.{answers_ever, count_fits}
+use Rattle.tile_core.proofs.Changing.{fset_none, fset_same, fset_many, fset_put}
+use Rattle.tile_core.proofs.changes.plan_fset.Goals as goal
+
+pub returns-in_default : goal.returns-in_default
+returns-in_default c =
+    IfOk-weaker c.plan_missing.result _ _ (λ p s. λ (now : ℕ). subst (λ (e : Effect). IsPlan (objects_in c.args.objects.now) e p) (sym (fset_none (world_in c.args.objects.now) now c.args.key.now c.args.id.now c.args.given.now c.args.cleared.now c.in_default.ensures.none)) s) c.plan_missing.ensures
+
+pub returns-then-count-eq0 : goal.returns-then-count-eq0
+returns-then-count-eq0 c =
+    let o = c.in-Some.old.now in
+    answers_ever (objects_in c.args.objects.now) c.args.total c.requires _ (number 0) _ refl c.say_count.ensures _
+    (λ (now : ℕ). fset_same (world_in c.args.objects.now) now c.args.key.now c.args.id.now o c.in-Some.ensures.some c.args.given.now c.args.cleared.now (sym c.in_ok-count.ensures ∙ c.if-count-eq0.true))
+
+pub returns-then-len-gt-MAX_FIELDS : goal.returns-then-len-gt-MAX_FIELDS
+returns-then-len-gt-MAX_FIELDS c =
+    let o = c.in-Some.old.now in
+    let all = given_and_cleared c.args.given.now c.args.cleared.now in
+    let fields_are : c.in_ok-object-2.field-0 ≡ with_values o.fields all = c.in_ok-object-2.ensures ∙ ap (λ (fs : List Field). with_values fs all) c.in_ok-copy.ensures in
+    let long : max_fields < length c.in_ok-object-2.field-0 = omega (arith, c.if-len-gt-MAX_FIELDS.true, c.len.ensures.count) in
+    let more : max_fields < length (with_values o.fields all) = subst (λ (fs : List Field). max_fields < length fs) fields_are long in
+    answers_ever (objects_in c.args.objects.now) c.args.total c.requires _ (error (codes "too many fields")) _ refl c.say_error.ensures _
+    (λ (now : ℕ). fset_many (world_in c.args.objects.now) now c.args.key.now c.args.id.now o c.in-Some.ensures.some c.args.given.now c.args.cleared.now c.in_ok-count.count c.in_ok-count.ensures c.if-count-eq0.false more)
+
+pub plan_put-requires-clause-short : goal.plan_put-requires-clause-short
+plan_put-requires-clause-short c = subst (λ (r : List Piece). length (frame_text r) ≤ max_reply) (sym c.in_ok-count_reply.ensures.value) (count_fits c.in_ok-count.count (search rules))
+
+pub returns : goal.returns
+returns c =
+    let w = world_in c.args.objects.now in
+    let o = c.in-Some.old.now in
+    let n = c.in_ok-count.count in
+    let all = given_and_cleared c.args.given.now c.args.cleared.now in
+    let fields_are : c.in_ok-object-2.field-0 ≡ with_values o.fields all = c.in_ok-object-2.ensures ∙ ap (λ (fs : List Field). with_values fs all) c.in_ok-copy.ensures in
+    let short : length c.in_ok-object-2.field-0 ≤ max_fields = omega (arith, c.if-len-gt-MAX_FIELDS.false, c.len.ensures.count) in
+    let less : length (with_values o.fields all) ≤ max_fields = subst (λ (fs : List Field). length fs ≤ max_fields) fields_are short in
+    let same = ap (λ (z : Object). put_or_full w (record z { fields = with_values o.fields all }) (number n) false) (sym c.in_ok-object.ensures)
+    ∙ ap (λ (fs : List Field). put_or_full w (record c.in_ok-object.object { fields = fs }) (number n) false) (sym fields_are)
+    ∙ ap (λ (r : List Piece). put_or_full w (record c.in_ok-object.object { fields = c.in_ok-object-2.field-0 }) r false) (sym c.in_ok-count_reply.ensures.value) in
+    IfOk-weaker c.plan_put-2.result _ _ (λ q s. λ (now : ℕ). subst (λ (e : Effect). IsPlan (objects_in c.args.objects.now) e q)
+    (sym (fset_put w now c.args.key.now c.args.id.now o c.in-Some.ensures.some c.args.given.now c.args.cleared.now n c.in_ok-count.ensures c.if-count-eq0.false less ∙ same)) (s false)) c.plan_put-2.ensures

@@ -1,0 +1,61 @@
+use Rattle.std.proofs.Common.{◌≡◌, ◌≤◌, ℕ, length, lit<, subst, ap, ◌∙◌, sym, refl, arith, [], ◌∷◌, List, add-zero, not}
+use Rattle.std.specs.Prelude.{filter}
+use Rattle.byte_text.specs.Names.{Bytes}
+use Rattle.byte_text.specs.Replies.{number, frame_text}
+use Rattle.byte_text.specs.declared.replies.Piece.{Piece}
+use Rattle.world_model.specs.Limits.{max_reply}
+use Rattle.world_model.specs.Worlds.{is_at}
+use Rattle.world_model.specs.Effects.{loud}
+use Rattle.world_model.specs.Records.{record_len}
+use Rattle.world_model.specs.declared.worlds.Change.TheVariants as change
+use Rattle.world_model.specs.declared.objects.Object.{Object}
+use Rattle.keyspace.specs.Entries.{objects_in}
+use Rattle.tile_core.specs.Moves.{world_in, world_of, len_of}
+use Rattle.tile_core.proofs.Answering.{answers_ever, count_fits, within_changes}
+use Rattle.tile_core.proofs.Weights.{weight_sum, found_few, found_sum, found_at, taken_sum}
+use Rattle.tile_core.proofs.Removing.{del_some, del_none}
+use Rattle.tile_core.proofs.deletes.plan_del.Goals as goal
+
+pub short_frame-requires-clause-short : goal.short_frame-requires-clause-short
+short_frame-requires-clause-short c = subst (λ (r : List Piece). length (frame_text r) ≤ max_reply) (sym c.in_ok-count_reply-in-Some.ensures.value) (count_fits 1 (lit< tt))
+
+pub put_len-requires : goal.put_len-requires
+put_len-requires c = found_few (is_at c.args.key c.args.id) (objects_in c.args.objects.now) c.in-Some.object.now c.requires.few c.in-Some.ensures.some
+
+pub overflow_sub-result : goal.overflow_sub-result
+overflow_sub-result c =
+    let xs = objects_in c.args.objects.now in
+    let part = found_sum len_of (is_at c.args.key c.args.id) xs c.in-Some.object.now c.in-Some.ensures.some in
+    omega (arith, part, weight_sum xs, c.put_len.ensures.value, c.requires.weighed)
+
+pub returns-in_ok-short_frame-in-Some : goal.returns-in_ok-short_frame-in-Some
+returns-in_ok-short_frame-in-Some c =
+    let xs = objects_in c.args.objects.now in
+    let key = c.args.key in
+    let id = c.args.id in
+    let o = c.in-Some.object.now in
+    let here = c.in-Some.ensures.some in
+    let own = found_at key id xs o here in
+    let named : record_len (change.Del key id) ≡ record_len (change.Del o.key o.id) = ap (λ (m : Bytes). record_len (change.Del m id)) (sym own.0) ∙ ap (λ (m : Bytes). record_len (change.Del o.key m)) (sym own.1) in
+    let left : filter (λ p. not (is_at o.key o.id p)) xs ≡ filter (λ p. not (is_at key id p)) xs =
+    ap (λ (m : Bytes). filter (λ p. not (is_at m o.id p)) xs) own.0 ∙ ap (λ (m : Bytes). filter (λ p. not (is_at key m p)) xs) own.1 in
+    let frame_is : c.in_ok-short_frame-in-Some.field-0 ≡ frame_text (number 1) = c.in_ok-short_frame-in-Some.ensures ∙ ap frame_text c.in_ok-count_reply-in-Some.ensures.value in
+    let sum = taken_sum len_of key id xs o c.requires.sorted here in
+    let one = count_fits 1 (lit< tt) in
+    λ (now : ℕ). record {
+      reply = number 1;
+      deeds = loud (change.Del o.key o.id) ∷ [];
+      is = del_some (world_in c.args.objects.now) now key id o here ∙ within_changes (number 1) (loud (change.Del o.key o.id) ∷ []) one;
+      frame = frame_is;
+      short = subst (λ (f : Bytes). length f ≤ max_reply) (sym frame_is) one;
+      does = record { few = tt; objects_only = (tt, tt); world = ap world_of left };
+      length_is = c.del_len.ensures.value ∙ named ∙ sym (add-zero (record_len (change.Del o.key o.id)));
+      small = omega (arith, c.del_len.ensures.short);
+      weight_is = omega (arith, sum, weight_sum xs, weight_sum (filter (λ p. not (is_at key id p)) xs), c.put_len.ensures.value, c.requires.weighed);
+      light = omega (arith, c.requires.light);
+    }
+
+pub returns-in-None : goal.returns-in-None
+returns-in-None c =
+    answers_ever (objects_in c.args.objects.now) c.args.total c.requires _ (number 0) _ refl c.say_count.ensures _
+    (λ (now : ℕ). del_none (world_in c.args.objects.now) now c.args.key c.args.id c.in-None.ensures.none)

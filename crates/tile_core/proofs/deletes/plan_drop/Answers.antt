@@ -1,0 +1,69 @@
+use Rattle.std.proofs.Common.{◌≡◌, ◌≤◌, ◌<◌, ℕ, true, false, not, length, lit<, subst, ap, ◌∙◌, sym, refl, arith, [], ◌∷◌, List, add-zero}
+use Rattle.std.specs.Prelude.{filter, nat_lt, sum_by}
+use Rattle.std.specs.List.{list_any}
+use Rattle.std.proofs.lemmas.Bool.Decides.{nat_tests}
+use Rattle.byte_text.specs.Names.{Bytes}
+use Rattle.byte_text.specs.Replies.{number, frame_text}
+use Rattle.byte_text.specs.declared.replies.Piece.{Piece}
+use Rattle.world_model.specs.Limits.{max_reply}
+use Rattle.world_model.specs.Worlds.{has_key}
+use Rattle.world_model.specs.Effects.{loud}
+use Rattle.world_model.specs.Records.{record_len}
+use Rattle.world_model.specs.declared.worlds.Change.TheVariants as change
+use Rattle.world_model.specs.declared.objects.Object.{Object}
+use Rattle.keyspace.specs.Entries.{objects_in}
+use Rattle.tile_core.specs.Moves.{world_in, len_of, HaveFewFields}
+use Rattle.tile_core.proofs.Answering.{answers_ever, count_fits, within_changes}
+use Rattle.tile_core.proofs.Weights.{weight_sum, parts_sum, some_few, some_sum}
+use Rattle.tile_core.proofs.Removing.{drop_some, drop_none, any_key}
+use Rattle.tile_core.proofs.deletes.plan_drop.Goals as goal
+
+pub returns-in_default : goal.returns-in_default
+returns-in_default c =
+    let xs = objects_in c.args.objects.now in
+    let none : false ≡ list_any (has_key c.args.key) xs = any_key c.args.key xs 0 (ap (λ (ys : List Object). length ys) (sym c.in_default.ensures.none)) in
+    answers_ever xs c.args.total c.requires _ (number 0) _ refl c.say_count.ensures _ (λ (now : ℕ). drop_none (world_in c.args.objects.now) now c.args.key (sym none))
+
+pub returns-then-len-eq0 : goal.returns-then-len-eq0
+returns-then-len-eq0 c =
+    let xs = objects_in c.args.objects.now in
+    let zero_is : 0 ≡ length (filter (has_key c.args.key) xs) = sym c.if-len-eq0.true ∙ c.len.ensures.count ∙ ap (λ (ys : List Object). length ys) c.in-Some.ensures.some in
+    let none : false ≡ list_any (has_key c.args.key) xs = any_key c.args.key xs 0 zero_is in
+    answers_ever xs c.args.total c.requires _ (number 0) _ refl c.say_count-then-len-eq0.ensures _ (λ (now : ℕ). drop_none (world_in c.args.objects.now) now c.args.key (sym none))
+
+pub weight_without-weight-requires-clause-few : goal.weight_without-weight-requires-clause-few
+weight_without-weight-requires-clause-few c = subst HaveFewFields (sym c.in-Some.ensures.some) (some_few (has_key c.args.key) (objects_in c.args.objects.now) c.requires.few)
+
+pub weight_without-weight-requires-clause-weighed : goal.weight_without-weight-requires-clause-weighed
+weight_without-weight-requires-clause-weighed c =
+    let xs = objects_in c.args.objects.now in
+    let same = ap (sum_by len_of) c.in-Some.ensures.some in
+    omega (arith, same, some_sum (has_key c.args.key) xs, weight_sum xs, c.requires.weighed)
+
+pub short_frame-requires-clause-short : goal.short_frame-requires-clause-short
+short_frame-requires-clause-short c = subst (λ (r : List Piece). length (frame_text r) ≤ max_reply) (sym c.in_ok-count_reply.ensures.value) (count_fits 1 (lit< tt))
+
+pub returns : goal.returns
+returns c =
+    let xs = objects_in c.args.objects.now in
+    let key = c.args.key in
+    let rest = filter (λ o. not (has_key key o)) xs in
+    let held : c.len.result ≡ length (filter (has_key key) xs) = c.len.ensures.count ∙ ap (λ (ys : List Object). length ys) c.in-Some.ensures.some in
+    let more : nat_lt 0 c.len.result ≡ true = let ne = c.if-len-eq0.false in let lt : 0 < c.len.result = omega (arith, ne) in grind (arith, nat_tests) in
+    let some : list_any (has_key key) xs ≡ true = sym (any_key key xs c.len.result held) ∙ more in
+    let same = ap (sum_by len_of) c.in-Some.ensures.some in
+    let parts = parts_sum len_of (has_key key) xs in
+    let frame_is : c.in_ok-short_frame.field-0 ≡ frame_text (number 1) = c.in_ok-short_frame.ensures ∙ ap frame_text c.in_ok-count_reply.ensures.value in
+    let one = count_fits 1 (lit< tt) in
+    λ (now : ℕ). record {
+      reply = number 1;
+      deeds = loud (change.Drop key) ∷ [];
+      is = drop_some (world_in c.args.objects.now) now key some ∙ within_changes (number 1) (loud (change.Drop key) ∷ []) one;
+      frame = frame_is;
+      short = subst (λ (f : Bytes). length f ≤ max_reply) (sym frame_is) one;
+      does = record { few = tt; objects_only = (tt, tt); world = refl };
+      length_is = c.drop_len.ensures.value ∙ sym (add-zero (record_len (change.Drop key)));
+      small = omega (arith, c.drop_len.ensures.short);
+      weight_is = omega (arith, c.weight_without-weight.ensures, same, parts, weight_sum rest, weight_sum xs, c.requires.weighed);
+      light = omega (arith, c.weight_without-weight.ensures, c.requires.light);
+    }
