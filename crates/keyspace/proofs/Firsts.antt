@@ -16,7 +16,7 @@ use Rattle.keyspace.specs.Entries.{Entry, objects_in}
 use Rattle.keyspace.specs.Shelves.{is_shelf, are_shelves, is_later, is_no_sooner, IsSoonest, Took}
 use Rattle.keyspace.proofs.Parts.{all_both, filter_both, find_past}
 use Rattle.keyspace.proofs.Keys.{Stands, stands_here, split_at, all_at, all_take, all_drop, objects_around}
-use Rattle.keyspace.proofs.Dues.{later, no_sooner, least_all, least_each, none_sooner, others_later}
+use Rattle.keyspace.proofs.Dues.{all_as, later, no_sooner, least_all, least_each, none_sooner, others_later}
 
 module _ {A : Type 0} (lt : A → A → Bool) where
   all_insert_by : (q : A → Bool) (x : A) (xs : List A) → q x ≡ true → list_all q xs ≡ true → list_all q (insert_by lt x xs) ≡ true
@@ -58,10 +58,6 @@ front_not p o h = let a = other_before p.key o.key in let b = other_before p.id 
 
 back_not : (p o : Object) → object_before o p ≡ true → is_at o.key o.id p ≡ false
 back_not p o h = let a = other_behind p.key o.key in let b = other_behind p.id o.id in let c = same_equal o.key p.key in let d = same_equal p.key o.key in grind arith
-
-all_as : {A : Type 0} (p q : A → Bool) (each : (x : A) → p x ≡ true → q x ≡ true) (xs : List A) → list_all p xs ≡ true → list_all q xs ≡ true
-all_as p q each [] all = refl
-all_as p q each (x ∷ xs) all = let a = both_of (p x) (list_all p xs) all in rw (each x a.0, all_as p q each xs a.1) refl
 
 module _ (xs : List Object) (o : Object) (ys : List Object) (sorted : are_objects (xs ++ o ∷ ys) ≡ true) where
   front_others : list_all (λ p. not (is_at o.key o.id p)) xs ≡ true
@@ -191,12 +187,6 @@ pub record Around (due : ℕ) (old new : List Object) (o : Object) : Type 0 wher
   pub here : o.deadline ≡ Some due
 
 module _ (xs : List Entry) (at due : ℕ) (e f : Entry) (o : Object) (s : IsSoonest xs at due) (is : e ≡ s.here) (t : Took due e.objects f.objects o) where
-  before_it : List Object
-  before_it = take t.at e.objects
-
-  behind_it : List Object
-  behind_it = drop (suc t.at) e.objects
-
   pub around : Around due (objects_in xs) (objects_in (slice_set xs at f)) o
   around =
       let no : list_all (λ p. is_no_sooner due p.deadline) e.objects ≡ true = none_sooner due e.objects (ap (λ (g : Entry). least_due g.objects) is ∙ s.due_here) in
