@@ -175,8 +175,8 @@ fn least_deadline(objects: &[Object]) -> Option<u64>
     found
 }
 
-/// The lesser of two moments, where there are two.
-pub fn lesser(first: Option<u64>, second: Option<u64>) -> Option<u64>
+// The lesser of two moments, where there are two.
+fn lesser(first: Option<u64>, second: Option<u64>) -> Option<u64>
     ensures { result ≡ earlier first second }
 {
     match (first, second) {

@@ -5,7 +5,7 @@ mod bounds;
 mod collections;
 mod places;
 
-pub use collections::{Collection, lesser};
+pub use collections::Collection;
 
 #[cfg(test)]
 mod tests;

@@ -1,11 +1,8 @@
 -- What there is after a key was added, or was not for want of memory.
-use Rattle.std.proofs.Common.{◌≡◌, ◌≤◌, ℕ, true, refl, sym, ap, subst, ◌∙◌, List, [], Ok, Err, arith}
-use Rattle.std.specs.Prelude.{Result, OnOk, OnErr, ◌&&◌}
-use Rattle.std.specs.List.{list_all}
+use Rattle.std.proofs.Common.{◌≡◌, ◌≤◌, ℕ, true, refl, sym, subst, ◌∙◌, List, [], Ok, Err, arith}
+use Rattle.std.specs.Prelude.{Result, OnOk, OnErr}
 use Rattle.byte_text.specs.Names.{Bytes}
 use Rattle.world_model.specs.declared.objects.Object.{Object}
-use Rattle.world_model.specs.Worlds.{has_key}
-use Rattle.collection.specs.Objects.{are_by_id}
 use Rattle.keyspace.specs.Entries.{Entry, objects_in, room_for}
 use Rattle.keyspace.specs.Shelves.{is_shelf, are_shelves, IsAdded}
 use Rattle.keyspace.proofs.Keys.{Lacks, added_shelves, added_objects}

@@ -1,6 +1,6 @@
 -- How many objects a change leaves, and that it leaves a key's objects by id.
 use Rattle.std.proofs.Common.{◌≡◌, ◌+◌, ◌-◌, ◌≤◌, ℕ, Bool, true, false, not, refl, sym, ap, subst, ◌∙◌, List, [], ◌∷◌, length, arith}
-use Rattle.std.specs.Prelude.{Option, Some, None, filter, find, is_some, if◌then◌else◌, ◌&&◌}
+use Rattle.std.specs.Prelude.{Option, Some, None, filter, find, is_some, if◌then◌else◌}
 use Rattle.std.specs.List.{list_all, remove}
 use mir.Val.{bool_byte}
 use Rattle.byte_text.specs.Names.{Bytes, before, same}
@@ -9,7 +9,7 @@ use Rattle.world_model.specs.Worlds.{has_key}
 use Rattle.world_model.specs.declared.objects.Object.{Object}
 use Rattle.collection.specs.Objects.{id_before, has_id, are_by_id}
 use Rattle.collection.proofs.Lists.{both_of, all_remove}
-use Rattle.collection.proofs.ByteOrder.{before_tie, same_refl, other_before, other_behind}
+use Rattle.collection.proofs.ByteOrder.{same_refl, other_before, other_behind}
 use Rattle.collection.proofs.Ids.{tied, ties, none_behind, kept_behind, behind_first, behind_tied, put_by_id, left_by_id, removed_by_id}
 use Rattle.keyspace.specs.Entries.{Entry}
 use Rattle.keyspace.specs.Shelves.{is_shelf}

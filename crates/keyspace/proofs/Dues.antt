@@ -1,17 +1,16 @@
 -- The least deadline, and where it is.
-use Rattle.std.proofs.Common.{◌≡◌, ◌<◌, ◌≤◌, ◌+◌, ℕ, zero, suc, min, Bool, true, false, not, refl, sym, ap, subst, ◌∙◌, List, [], ◌∷◌, ◌++◌, length, take, drop, append_assoc, append-nil, arith, length-append, eqb, get_or}
-use Rattle.std.specs.Prelude.{Option, Some, None, IfSome, filter, fold, nat_lt, nat_le, ◌&&◌, slice_get, if◌then◌else◌}
-use Rattle.std.specs.List.{list_all, remove}
+use Rattle.std.proofs.Common.{◌≡◌, ◌<◌, ◌≤◌, ◌+◌, ℕ, min, Bool, true, false, not, refl, sym, ap, subst, ◌∙◌, List, [], ◌∷◌, ◌++◌, length, take, append_assoc, append-nil, arith, eqb, get_or}
+use Rattle.std.specs.Prelude.{Option, Some, None, fold, nat_lt, nat_le, ◌&&◌, if◌then◌else◌}
+use Rattle.std.specs.List.{list_all}
 use Rattle.std.proofs.lemmas.Bool.Decides.{nat_tests}
 use Rattle.std.proofs.lemmas.List.{take_more, length-take-le}
 use Rattle.std.proofs.lemmas.List.Concat.{flat_map-append}
 use Rattle.world_model.specs.declared.objects.Object.{Object}
-use Rattle.world_model.specs.Expiry.{is_due}
 use Rattle.collection.specs.Objects.{earlier, least_due}
 use Rattle.collection.proofs.Lists.{both_of}
 use Rattle.keyspace.specs.Entries.{Entry, objects_in}
 use Rattle.keyspace.specs.Shelves.{has_deadline, is_later, is_no_sooner, IsSoonest, Soonest, sooner}
-use Rattle.keyspace.proofs.Parts.{all_both, filter_none}
+use Rattle.keyspace.proofs.Parts.{all_both}
 
 abbrev step : Option ℕ → Object → Option ℕ
 step found o = earlier found o.deadline
@@ -53,6 +52,7 @@ module _ (test : Option ℕ → Bool) (least : Least test) where
       first_all : (ys zs : List Object) → list_all (λ o. test o.deadline) (ys ++ zs) ≡ true → list_all (λ o. test o.deadline) ys ≡ true
       first_all [] zs h = refl
       first_all (y ∷ ys) zs h = let p = both_of (test y.deadline) (list_all (λ o. test o.deadline) (ys ++ zs)) h in rw (p.0, first_all ys zs p.1) refl
+
       last_all : (ys zs : List Object) → list_all (λ o. test o.deadline) (ys ++ zs) ≡ true → list_all (λ o. test o.deadline) zs ≡ true
       last_all [] zs h = h
       last_all (y ∷ ys) zs h = last_all ys zs (both_of (test y.deadline) (list_all (λ o. test o.deadline) (ys ++ zs)) h).1
@@ -106,6 +106,9 @@ pub least_pushed : (xs : List Entry) (x : Entry) → least_due (objects_in (xs +
 least_pushed xs x =
     ap least_due (flat_map-append (λ (e : Entry). e.objects) xs (x ∷ [])) ∙ least_both (objects_in xs) (x.objects ++ []) ∙ ap (λ (l : List Object). earlier (least_due (objects_in xs)) (least_due l)) (append-nil x.objects)
 
+le_itself : (n : ℕ) → nat_le n n ≡ true
+le_itself n = grind (arith, nat_tests)
+
 -- moments that are later than another
 earlier_first : (due : ℕ) (a : Option ℕ) → is_later due a ≡ true → earlier a (Some due) ≡ Some due
 earlier_first due None h = refl
@@ -129,7 +132,7 @@ later_no_sooner : (due : ℕ) (d : Option ℕ) → is_later due d ≡ true → i
 later_no_sooner due None h = refl
 later_no_sooner due (Some d) h = grind (arith, nat_tests)
 
-all_as : {A : Type 0} (p q : A → Bool) (each : (x : A) → p x ≡ true → q x ≡ true) (xs : List A) → list_all p xs ≡ true → list_all q xs ≡ true
+pub all_as : {A : Type 0} (p q : A → Bool) (each : (x : A) → p x ≡ true → q x ≡ true) (xs : List A) → list_all p xs ≡ true → list_all q xs ≡ true
 all_as p q each [] all = refl
 all_as p q each (x ∷ xs) all = let a = both_of (p x) (list_all p xs) all in rw (each x a.0, all_as p q each xs a.1) refl
 
@@ -165,9 +168,6 @@ module _ (xs : List Entry) (x : Entry) where
       let here : is_later due (least_due s.here.objects) ≡ true = still_later due found (least_due s.here.objects) lt (subst (λ (d : Option ℕ). is_no_sooner found d ≡ true) (sym s.due_here) (le_itself found)) in
       let back = all_as (λ e. is_no_sooner found (least_due e.objects)) (λ e. is_later due (least_due e.objects)) (λ e h. still_later due found (least_due e.objects) lt h) s.back s.no_sooner in
       subst (λ (l : List Entry). list_all (λ e. is_later due (least_due e.objects)) l ≡ true) (sym s.whole) (all_both (λ e. is_later due (least_due e.objects)) s.front (s.here ∷ s.back) front (rw (here, back) refl))
-    where
-      le_itself : (n : ℕ) → nat_le n n ≡ true
-      le_itself n = grind (arith, nat_tests)
 
   test_case : (found : ℕ × ℕ) (due : ℕ) → IsSoonest xs found.0 found.1 → least_due x.objects ≡ Some due → (b : Bool) → nat_lt due found.1 ≡ b → Soonest (xs ++ x ∷ []) (if b then Some (length xs, due) else Some found)
   test_case found due s is true lt = first_found due is (later_all found.0 found.1 due s (is_lt due found.1 lt))
@@ -202,9 +202,6 @@ soonest_next xs at x found r d within read s is least =
 -- where the least deadline is `due`, all deadlines are no sooner, and one is that
 pub none_sooner : (due : ℕ) (xs : List Object) → least_due xs ≡ Some due → list_all (λ o. is_no_sooner due o.deadline) xs ≡ true
 none_sooner due xs is = sym (least_all (is_no_sooner due) (no_sooner due) xs) ∙ subst (λ (d : Option ℕ). is_no_sooner due d ≡ true) (sym is) (le_itself due)
-  where
-    le_itself : (n : ℕ) → nat_le n n ≡ true
-    le_itself n = grind (arith, nat_tests)
 
 other_later : (due : ℕ) (o : Object) (d : Option ℕ) → o.deadline ≡ d → is_no_sooner due d ≡ true → has_deadline due o ≡ false → is_later due d ≡ true
 other_later due o None is h other = refl
@@ -229,10 +226,3 @@ one_has due xs is none =
   where
     not_before : (n : ℕ) → nat_lt n n ≡ true → ⊥
     not_before n h = absurd (grind (arith, nat_tests))
-
-pub has_this : (due : ℕ) (o : Object) → has_deadline due o ≡ true → o.deadline ≡ Some due
-has_this due o h = this o.deadline refl
-  where
-    this : (d : Option ℕ) → o.deadline ≡ d → d ≡ Some due
-    this None is = let e : false ≡ true = rw is at h in absurd (cc)
-    this (Some d) is = let e : eqb d due ≡ true = rw is at h in ap (λ (n : ℕ). Some n) (grind (arith, nat_tests))

@@ -1,10 +1,8 @@
 -- The object that expires first, and what there is without it.
-use Rattle.std.proofs.Common.{◌≡◌, get_or, ◌<◌, ◌≤◌, ◌+◌, ◌-◌, ℕ, zero, suc, Bool, true, false, not, refl, sym, ap, subst, ◌∙◌, List, [], ◌∷◌, ◌++◌, length, take, drop, append_assoc, arith, length-append}
-use Rattle.std.specs.Prelude.{Option, Some, None, IfSome, filter, find, nat_lt, nat_le, ◌&&◌, ◌||◌, ◌==◌, is_some, slice_get, if◌then◌else◌}
-use Rattle.std.specs.List.{list_all, slice_set, remove}
+use Rattle.std.proofs.Common.{◌≡◌, get_or, ◌<◌, ◌≤◌, ◌+◌, ℕ, suc, Bool, true, false, not, refl, sym, ap, subst, ◌∙◌, List, [], ◌∷◌, ◌++◌, length, take, drop, append_assoc, arith, length-append}
+use Rattle.std.specs.Prelude.{Option, Some, None, filter, find, nat_lt, nat_le, ◌&&◌, ◌==◌, slice_get, if◌then◌else◌}
+use Rattle.std.specs.List.{list_all, slice_set}
 use Rattle.std.proofs.lemmas.Bool.Decides.{nat_tests}
-use Rattle.std.proofs.lemmas.List.Concat.{flat_map-append}
-use Rattle.byte_text.specs.Names.{Bytes, before, same}
 use Rattle.world_model.specs.Lists.{ascends, insert_by, sorted_by}
 use Rattle.world_model.specs.Worlds.{object_before, are_objects, is_at, has_key}
 use Rattle.world_model.specs.Expiry.{is_due, due_before}
@@ -13,13 +11,12 @@ use Rattle.world_model.proofs.PlaceLaws.{filter-all}
 use Rattle.world_model.proofs.Sorted.{object_asym}
 use Rattle.collection.specs.Objects.{least_due, are_by_id}
 use Rattle.collection.proofs.Lists.{both_of, stands_at}
-use Rattle.collection.proofs.ByteOrder.{same_refl, same_equal, other_before, other_behind, before_self}
-use Rattle.keyspace.specs.Entries.{Entry, key_before, objects_in}
-use Rattle.keyspace.specs.Shelves.{is_shelf, are_shelves, has_deadline, is_later, is_no_sooner, IsSoonest, Took}
+use Rattle.collection.proofs.ByteOrder.{same_refl, same_equal, other_before, other_behind}
+use Rattle.keyspace.specs.Entries.{Entry, objects_in}
+use Rattle.keyspace.specs.Shelves.{is_shelf, are_shelves, is_later, is_no_sooner, IsSoonest, Took}
 use Rattle.keyspace.proofs.Parts.{all_both, filter_both, find_past}
 use Rattle.keyspace.proofs.Keys.{Stands, stands_here, split_at, all_at, all_take, all_drop, objects_around}
-use Rattle.keyspace.proofs.Orders.{shelves_sorted}
-use Rattle.keyspace.proofs.Dues.{later, no_sooner, least_all, least_each, least_found, none_sooner, others_later}
+use Rattle.keyspace.proofs.Dues.{all_as, later, no_sooner, least_all, least_each, none_sooner, others_later}
 
 module _ {A : Type 0} (lt : A → A → Bool) where
   all_insert_by : (q : A → Bool) (x : A) (xs : List A) → q x ≡ true → list_all q xs ≡ true → list_all q (insert_by lt x xs) ≡ true
@@ -62,10 +59,6 @@ front_not p o h = let a = other_before p.key o.key in let b = other_before p.id 
 back_not : (p o : Object) → object_before o p ≡ true → is_at o.key o.id p ≡ false
 back_not p o h = let a = other_behind p.key o.key in let b = other_behind p.id o.id in let c = same_equal o.key p.key in let d = same_equal p.key o.key in grind arith
 
-all_as : {A : Type 0} (p q : A → Bool) (each : (x : A) → p x ≡ true → q x ≡ true) (xs : List A) → list_all p xs ≡ true → list_all q xs ≡ true
-all_as p q each [] all = refl
-all_as p q each (x ∷ xs) all = let a = both_of (p x) (list_all p xs) all in rw (each x a.0, all_as p q each xs a.1) refl
-
 module _ (xs : List Object) (o : Object) (ys : List Object) (sorted : are_objects (xs ++ o ∷ ys) ≡ true) where
   front_others : list_all (λ p. not (is_at o.key o.id p)) xs ≡ true
   front_others = all_as (λ p. object_before p o) (λ p. not (is_at o.key o.id p)) (λ p h. rw (front_not p o h) refl) xs (ascends_front object_before xs o ys sorted)
@@ -100,6 +93,7 @@ module _ (now due : ℕ) (o : Object) (here : o.deadline ≡ Some due) where
     where
       not_less : (a b : ℕ) → nat_le a b ≡ true → nat_lt b a ≡ false
       not_less a b h = grind (arith, nat_tests)
+
       no_and : (b : Bool) → (b && false) ≡ false
       no_and true = refl
       no_and false = refl
@@ -193,12 +187,6 @@ pub record Around (due : ℕ) (old new : List Object) (o : Object) : Type 0 wher
   pub here : o.deadline ≡ Some due
 
 module _ (xs : List Entry) (at due : ℕ) (e f : Entry) (o : Object) (s : IsSoonest xs at due) (is : e ≡ s.here) (t : Took due e.objects f.objects o) where
-  before_it : List Object
-  before_it = take t.at e.objects
-
-  behind_it : List Object
-  behind_it = drop (suc t.at) e.objects
-
   pub around : Around due (objects_in xs) (objects_in (slice_set xs at f)) o
   around =
       let no : list_all (λ p. is_no_sooner due p.deadline) e.objects ≡ true = none_sooner due e.objects (ap (λ (g : Entry). least_due g.objects) is ∙ s.due_here) in
@@ -217,6 +205,7 @@ module _ (xs : List Entry) (at due : ℕ) (e f : Entry) (o : Object) (s : IsSoon
     where
       regroup : (a b : List Object) (o : Object) (c d : List Object) → a ++ ((b ++ o ∷ c) ++ d) ≡ (a ++ b) ++ o ∷ (c ++ d)
       regroup a b o c d = simp append_assoc
+
       regroup_left : (a b c d : List Object) → a ++ ((b ++ c) ++ d) ≡ (a ++ b) ++ (c ++ d)
       regroup_left a b c d = simp append_assoc
 

@@ -1,17 +1,17 @@
 -- Entries by key: the one of a key, or the place where it would go, between those before it and those behind it.
-use Rattle.std.proofs.Common.{◌≡◌, ◌<◌, ◌≤◌, ◌+◌, ℕ, zero, suc, Bool, true, false, not, refl, sym, ap, subst, ◌∙◌, List, [], ◌∷◌, ◌++◌, length, take, drop, get_or}
-use Rattle.std.specs.Prelude.{Option, Some, None, IfSome, slice_get, ◌&&◌}
-use Rattle.std.specs.List.{list_all, list_any, slice_set, insert, remove}
+use Rattle.std.proofs.Common.{◌≡◌, ◌<◌, ℕ, zero, suc, Bool, true, false, refl, sym, ap, subst, ◌∙◌, List, [], ◌∷◌, ◌++◌, length, take, drop, get_or}
+use Rattle.std.specs.Prelude.{Option, Some, IfSome, slice_get}
+use Rattle.std.specs.List.{list_all, slice_set, insert, remove}
 use Rattle.std.proofs.lemmas.List.Concat.{flat_map-append}
-use Rattle.byte_text.specs.Names.{Bytes, before, same}
-use Rattle.world_model.specs.Lists.{ascends, put_in, IsHeld, IsFree}
+use Rattle.byte_text.specs.Names.{Bytes, before}
+use Rattle.world_model.specs.Lists.{ascends, IsHeld, IsFree}
 use Rattle.world_model.specs.Worlds.{has_key}
 use Rattle.world_model.specs.declared.objects.Object.{Object}
 use Rattle.world_model.proofs.Order.{ascends-put_in}
 use Rattle.world_model.proofs.PlaceLaws.{put_in-insert, put_in-set, all-insert, all-set}
 use Rattle.collection.proofs.Lists.{both_of, stands_at, all_remove, ascends-remove}
-use Rattle.collection.proofs.ByteOrder.{before_trans, before_tie, before_asym, before_self, same_refl, same_equal, other_before, other_behind}
-use Rattle.keyspace.specs.Entries.{Entry, key_before, is_entry_of, objects_in}
+use Rattle.collection.proofs.ByteOrder.{before_trans, before_tie, before_asym, before_self, same_equal}
+use Rattle.keyspace.specs.Entries.{Entry, key_before, objects_in}
 use Rattle.keyspace.specs.Shelves.{is_shelf, are_shelves}
 use Rattle.keyspace.proofs.Parts.{Apart, all_both}
 

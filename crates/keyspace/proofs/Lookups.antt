@@ -1,7 +1,7 @@
 -- What is found of a key and an id, and what stands there after a change of one entry.
-use Rattle.std.proofs.Common.{◌≡◌, ◌+◌, ◌≤◌, ℕ, suc, true, false, not, refl, sym, ap, subst, ◌∙◌, List, [], ◌∷◌, ◌++◌, length, take, drop, arith, length-append}
+use Rattle.std.proofs.Common.{◌≡◌, ◌+◌, ◌≤◌, ℕ, suc, false, not, sym, ap, ◌∙◌, List, [], ◌++◌, length, take, drop, arith, length-append}
 use Rattle.std.specs.Prelude.{None, filter, find}
-use Rattle.std.specs.List.{list_all, list_any, slice_set, insert, remove}
+use Rattle.std.specs.List.{list_any, slice_set, remove}
 use Rattle.byte_text.specs.Names.{Bytes}
 use Rattle.world_model.specs.Lists.{put_in}
 use Rattle.world_model.specs.Worlds.{object_before, is_at, has_key}
@@ -43,6 +43,7 @@ module _ (key : Bytes) (xs : List Entry) (at : ℕ) (e : Entry) (s : Stands key 
     where
       long : (a b c : List Object) → length (a ++ (b ++ c)) ≡ length a + (length b + length c)
       long a b c = length-append a (b ++ c) ∙ ap (λ (n : ℕ). length a + n) (length-append b c)
+
       around : (n m a b e' f' : ℕ) → n ≡ a + (f' + b) → m ≡ a + (e' + b) → n + e' ≡ m + f'
       around n m a b e' f' p q = omega arith
 

@@ -1,13 +1,13 @@
 -- Objects of one key, between those of the keys before it and those of the keys behind it.
-use Rattle.std.proofs.Common.{◌≡◌, ◌+◌, ℕ, Bool, true, false, not, refl, sym, ap, subst, ◌∙◌, List, [], ◌∷◌, ◌++◌, append-nil, arith}
-use Rattle.std.specs.Prelude.{Some, None, filter, find, ◌&&◌, if◌then◌else◌}
+use Rattle.std.proofs.Common.{◌≡◌, Bool, true, false, not, refl, sym, ap, subst, ◌∙◌, List, [], ◌∷◌, ◌++◌, append-nil, arith}
+use Rattle.std.specs.Prelude.{None, filter, find, if◌then◌else◌}
 use Rattle.std.specs.List.{list_all, list_any}
-use Rattle.byte_text.specs.Names.{Bytes, before, same}
-use Rattle.world_model.specs.Lists.{ascends, put_in}
+use Rattle.byte_text.specs.Names.{Bytes, before}
+use Rattle.world_model.specs.Lists.{put_in}
 use Rattle.world_model.specs.Worlds.{object_before, is_at, has_key}
 use Rattle.world_model.specs.declared.objects.Object.{Object}
 use Rattle.world_model.proofs.PlaceLaws.{filter-all}
-use Rattle.collection.specs.Objects.{id_before, has_id, are_by_id}
+use Rattle.collection.specs.Objects.{id_before, has_id}
 use Rattle.collection.proofs.Lists.{both_of}
 use Rattle.collection.proofs.ByteOrder.{before_asym, before_self, same_refl, same_equal, other_before, other_behind}
 

@@ -1,16 +1,15 @@
 -- How much room there is for each key, after a change of one entry.
-use Rattle.std.proofs.Common.{◌≡◌, ◌<◌, ◌≤◌, ◌+◌, ℕ, zero, suc, Bool, true, false, not, refl, sym, ap, subst, ◌∙◌, List, [], ◌∷◌, ◌++◌, take, drop, arith}
+use Rattle.std.proofs.Common.{◌≡◌, ◌≤◌, ◌+◌, ℕ, zero, suc, Bool, true, false, refl, sym, ap, subst, ◌∙◌, List, [], ◌∷◌, ◌++◌, take, drop, arith}
 use Rattle.std.specs.Prelude.{Option, Some, None, nat_le, ◌&&◌, ◌||◌, is_some, is_none, slice_get, if◌then◌else◌}
 use Rattle.std.specs.List.{list_all, list_any, slice_set, insert}
 use Rattle.byte_text.specs.Names.{Bytes, before, same}
 use Rattle.world_model.specs.Lists.{ascends}
 use Rattle.world_model.specs.Worlds.{is_at}
 use Rattle.world_model.specs.declared.objects.Object.{Object}
-use Rattle.collection.specs.Objects.{has_id}
 use Rattle.collection.specs.Objects.{has_room as fits}
 use Rattle.collection.proofs.Lists.{both_of}
 use Rattle.collection.proofs.ByteOrder.{same_refl, same_equal, other_before, other_behind}
-use Rattle.keyspace.specs.Entries.{Entry, key_before, is_entry_of, objects_in, room_for, has_room}
+use Rattle.keyspace.specs.Entries.{Entry, key_before, objects_in, room_for, has_room}
 use Rattle.keyspace.specs.Shelves.{held_of}
 use Rattle.keyspace.proofs.Keys.{Stands, Lacks, all_at, halves}
 use Rattle.keyspace.proofs.Lookups.{any_in, any_not}
@@ -80,6 +79,7 @@ module _ (key : Bytes) (xs : List Entry) (at : ℕ) (e f : Entry) (s : Stands ke
     where
       put_le : (n m a b : ℕ) → m + a ≡ n → a ≡ b → n + 0 ≤ m + b
       put_le n m a b p q = omega arith
+
       without : (n m z d : ℕ) → n + z ≤ m + d → z ≡ 0 → n ≤ m + d
       without n m z d p q = omega arith
 
@@ -90,6 +90,7 @@ module _ (key : Bytes) (xs : List Entry) (at : ℕ) (e f : Entry) (s : Stands ke
     where
       taken_le : (n m a : ℕ) → m ≡ n + a → n + a ≤ m + 0
       taken_le n m a p = omega arith
+
       without : (n m a z : ℕ) → n + a ≤ m + z → z ≡ 0 → n + a ≤ m
       without n m a z p q = omega arith
 
@@ -100,6 +101,7 @@ module _ (key : Bytes) (xs : List Entry) (at : ℕ) (e f : Entry) (s : Stands ke
     where
       one_le : (n m : ℕ) → m ≡ n + 1 → n + 1 ≤ m + 0
       one_le n m p = omega arith
+
       without : (n m a z : ℕ) → n + a ≤ m + z → z ≡ 0 → n + a ≤ m
       without n m a z p q = omega arith
 

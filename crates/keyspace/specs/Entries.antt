@@ -1,5 +1,5 @@
 -- The objects of all keys, key by key.
-use Rattle.std.specs.Prelude.{ℕ, Bool, ◌&&◌, ◌||◌, not, nat_le, ◌==◌, List, [], ◌∷◌, length, flat_map, if◌then◌else◌}
+use Rattle.std.specs.Prelude.{ℕ, Bool, ◌||◌, not, nat_le, ◌==◌, List, [], ◌∷◌, length, flat_map, if◌then◌else◌}
 use Rattle.std.specs.List.{list_any}
 use Rattle.byte_text.specs.Names.{Bytes, same, before}
 use Rattle.world_model.specs.Worlds.{is_at}

@@ -6,3 +6,6 @@ mod places;
 mod shelves;
 
 pub use keyspaces::Keyspace;
+
+#[cfg(test)]
+mod tests;

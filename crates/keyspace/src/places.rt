@@ -1,10 +1,9 @@
 //! Places among keys that stand in byte order.
 
-ghost use Rattle.std.specs.Prelude.{◌≡◌, true, IfOk, IfErr, IfNone, IfSome, None};
+ghost use Rattle.std.specs.Prelude.{◌≡◌, true, IfOk, IfErr};
 ghost use Rattle.byte_text.specs.Names.{before};
 ghost use Rattle.world_model.specs.Lists.{ascends, IsHeld, IsFree};
-ghost use Rattle.collection.specs.Objects.{least_due};
-ghost use Rattle.keyspace.specs.Entries.{key_before, objects_in};
+ghost use Rattle.keyspace.specs.Entries.{key_before};
 ghost use Rattle.keyspace.specs.Shelves.{Soonest, sooner};
 
 use crate::shelves::Shelf;

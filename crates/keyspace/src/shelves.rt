@@ -1,6 +1,6 @@
 //! A key and its objects.
 
-ghost use Rattle.std.specs.Prelude.{◌≡◌, ◌+◌, ◌<◌, ◌≤◌, [], true, not, filter, find, is_some, if◌then◌else◌, IfOk, OnOk};
+ghost use Rattle.std.specs.Prelude.{◌≡◌, ◌+◌, ◌≤◌, [], true, not, filter, find, Some, is_some, if◌then◌else◌, IfOk, OnOk};
 ghost use Rattle.world_model.specs.Lists.{put_in};
 ghost use Rattle.collection.specs.Objects.{id_before, has_id, has_room, least_due};
 ghost use Rattle.keyspace.specs.Entries.{Entry};

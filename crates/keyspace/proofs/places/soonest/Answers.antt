@@ -1,4 +1,4 @@
-use Rattle.std.proofs.Common.{◌≡◌, ap, sym, ◌∙◌}
+use Rattle.std.proofs.Common.{ap, ◌∙◌}
 use Rattle.collection.specs.Objects.{Held, least_due}
 use Rattle.keyspace.proofs.Dues.{soonest_next}
 use Rattle.keyspace.proofs.places.soonest.Goals as goal

@@ -1,4 +1,4 @@
-use Rattle.std.proofs.Common.{◌≡◌, ap, sym, ◌∙◌}
+use Rattle.std.proofs.Common.{ap, sym, ◌∙◌}
 use Rattle.collection.specs.Objects.{Held}
 use Rattle.keyspace.proofs.Keys.{stands, lacks}
 use Rattle.keyspace.proofs.Lookups.{of_key_in, none_of_key}

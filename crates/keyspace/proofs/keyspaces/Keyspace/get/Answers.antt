@@ -3,7 +3,7 @@ use Rattle.std.specs.Prelude.{Option, Some, None, IfNone, IfSome, find}
 use Rattle.world_model.specs.Worlds.{is_at}
 use Rattle.world_model.specs.declared.objects.Object.{Object}
 use Rattle.collection.specs.Objects.{Held, has_id}
-use Rattle.keyspace.specs.Entries.{Entry, objects_in}
+use Rattle.keyspace.specs.Entries.{objects_in}
 use Rattle.keyspace.proofs.Keys.{stands, lacks}
 use Rattle.keyspace.proofs.Lookups.{found_in, found_not}
 use Rattle.keyspace.proofs.keyspaces.Keyspace.get.Goals as goal

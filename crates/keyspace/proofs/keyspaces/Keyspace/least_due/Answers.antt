@@ -1,8 +1,8 @@
-use Rattle.std.proofs.Common.{◌≡◌, sym, subst}
-use Rattle.std.specs.Prelude.{Option, Some}
-use Rattle.keyspace.specs.Shelves.{Soonest}
+use Rattle.std.proofs.Common.{sym}
 use Rattle.keyspace.proofs.Dues.{least_found}
 use Rattle.keyspace.proofs.keyspaces.Keyspace.least_due.Goals as goal
 
 pub returns-in-Some : goal.returns-in-Some
-returns-in-Some c = ?
+returns-in-Some c =
+    let found = rw c.as_slice.ensures.value at c.in-Some.ensures in
+    rw (← c.self.view_is) (sym (least_found c.self.inside.shelves.items c.in-Some.field-0-0 c.in-Some.due found))

@@ -1,9 +1,5 @@
-use Rattle.std.proofs.Common.{◌≡◌, ◌≤◌, ℕ, true, ap, refl, sym, subst, ◌∙◌, List, [], length}
-use Rattle.std.specs.Prelude.{Result, OnOk, OnErr}
-use Rattle.std.specs.List.{slice_set}
-use Rattle.byte_text.specs.Names.{Bytes}
-use Rattle.keyspace.specs.Entries.{Entry, objects_in, room_for}
-use Rattle.keyspace.specs.Shelves.{are_shelves, IsAdded}
+use Rattle.std.proofs.Common.{◌≤◌, ℕ, ap, sym, subst, ◌∙◌, length}
+use Rattle.std.specs.Prelude.{OnOk}
 use Rattle.keyspace.proofs.Keys.{stands, lacks, set_shelves, shelf_here}
 use Rattle.keyspace.proofs.Lookups.{same_objects}
 use Rattle.keyspace.proofs.Rooms.{room_new, kept_all}

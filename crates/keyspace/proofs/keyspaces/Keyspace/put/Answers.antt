@@ -1,10 +1,5 @@
-use Rattle.std.proofs.Common.{◌≡◌, ◌+◌, ◌≤◌, ℕ, true, ap, refl, sym, subst, ◌∙◌, List, length, arith}
-use Rattle.std.specs.Prelude.{Option, find, is_some, if◌then◌else◌}
+use Rattle.std.proofs.Common.{◌≡◌, ◌+◌, ◌≤◌, ℕ, true, refl, sym, subst, ◌∙◌, List, length, arith}
 use Rattle.std.specs.List.{slice_set}
-use Rattle.world_model.specs.Lists.{put_in}
-use Rattle.world_model.specs.Worlds.{is_at}
-use Rattle.world_model.specs.declared.objects.Object.{Object}
-use Rattle.collection.specs.Objects.{id_before, has_id, are_by_id}
 use Rattle.keyspace.specs.Entries.{Entry, objects_in, has_room}
 use Rattle.keyspace.proofs.Keys.{stands, lacks, set_shelves, shelf_here}
 use Rattle.keyspace.proofs.Lookups.{found_in, put_there, length_changed}

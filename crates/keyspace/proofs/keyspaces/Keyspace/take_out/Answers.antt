@@ -1,4 +1,4 @@
-use Rattle.std.proofs.Common.{◌≡◌, ◌+◌, ◌-◌, ◌≤◌, ℕ, ap, refl, sym, subst, ◌∙◌, List, length}
+use Rattle.std.proofs.Common.{sym, ◌∙◌, length}
 use Rattle.std.specs.Prelude.{is_some}
 use Rattle.std.specs.List.{slice_set}
 use Rattle.keyspace.specs.Entries.{objects_in}
