@@ -6,6 +6,7 @@ mod Standing
 mod Moving
 mod Soonest
 mod Calls
+mod Answered
 mod Finishing
 mod Taken
 mod RecordWords

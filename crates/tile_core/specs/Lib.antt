@@ -6,3 +6,4 @@ pub mod Sweeps
 pub mod Listings
 pub mod Dues
 pub mod Kernels
+pub mod Answered

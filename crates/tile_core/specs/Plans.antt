@@ -1,24 +1,19 @@
 -- What a call will do, made ready before anything is changed.
-use Rattle.std.specs.Prelude.{◌≡◌, ℕ, ◌+◌, ◌≤◌, Bool, true, false, not, nat_le, codes, slice_get, is_some, if◌then◌else◌, List, [], ◌∷◌, length, flat_map, Option, Some, None, Result, Ok, Err}
+use Rattle.std.specs.Prelude.{◌≡◌, ℕ, ◌+◌, ◌≤◌, Bool, true, false, not, codes, is_some, if◌then◌else◌, List, [], ◌∷◌, length, Option, Some, None, Result, Ok, Err}
 use Rattle.std.specs.List.{AllByRecursion}
 use Rattle.byte_text.specs.Names.{Bytes}
 use Rattle.byte_text.specs.Replies.{frame_text}
 use Rattle.byte_text.specs.declared.replies.Piece.{Piece}
-use Rattle.planar_geom.specs.Points.{Bounds}
-use Rattle.planar_geom.specs.Shapes.{all_vertices, box_of_points}
-use Rattle.world_model.specs.Limits.{max_reply, max_weight, max_objects}
+use Rattle.world_model.specs.Limits.{max_reply, max_weight}
 use Rattle.world_model.specs.Worlds.{after}
 use Rattle.world_model.specs.Records.{record_len, weight}
-use Rattle.world_model.specs.Filters.{Field}
-use Rattle.world_model.specs.Effects.{Effect, Deed, says, effect, changes, refuses, unless, fits, within_reply, fields_of}
+use Rattle.world_model.specs.Effects.{Effect, Deed, says, effect, changes, refuses, unless, fits, within_reply}
 use Rattle.world_model.specs.Refusals.{fault_reply, broken_reply}
 use Rattle.world_model.specs.Served.{asks}
 use Rattle.world_model.specs.declared.worlds.World.{World}
 use Rattle.world_model.specs.declared.worlds.Change.{Change}
 use Rattle.world_model.specs.declared.worlds.Change.TheVariants as change
 use Rattle.world_model.specs.declared.commands.Command.{Command}
-use Rattle.world_model.specs.declared.commands.Only.{Only}
-use Rattle.world_model.specs.declared.commands.Only.TheVariants.{Any, Absent, Present}
 use Rattle.world_model.specs.declared.faults.WordFault.{WordFault}
 use Rattle.world_model.specs.declared.events.Asked.{Asked}
 use Rattle.world_model.specs.declared.events.Asked.TheVariants.{Words, Broken}

@@ -20,7 +20,7 @@ use field_filter::value_of;
 use keyspace::Keyspace;
 use reply_text::{count_reply, value_reply};
 use std::alloc::Global;
-use world_model::{Fields, NameList, Object};
+use world_model::{Fields, NameList};
 
 // Whether there is an object of the key.
 fn has_key(objects: &Keyspace, key: &Name) -> bool

@@ -1,6 +1,6 @@
 //! The core and its calls.
 
-ghost use Rattle.std.specs.Prelude.{◌≡◌, ◌≤◌, ◌+◌, ◌*◌, [], length};
+ghost use Rattle.std.specs.Prelude.{◌≡◌, ◌⊎◌, ◌≤◌, ◌+◌, ◌*◌, [], length};
 ghost use Rattle.world_model.specs.Limits.{take_frames, max_weight};
 ghost use Rattle.world_model.specs.Worlds.{empty_world};
 ghost use Rattle.world_model.specs.Histories.{Step, opening_hall};
@@ -8,6 +8,7 @@ ghost use Rattle.world_model.specs.Seats.{enter_outcome, take_outcome, given_cou
 ghost use Rattle.world_model.specs.declared.events.Event.TheVariants as event;
 ghost use Rattle.world_model.specs.declared.events.Outcome.TheVariants as outcome;
 ghost use Rattle.tile_core.specs.Kernels.{Kernel};
+ghost use Rattle.tile_core.specs.Answered.{MayCall, IsAnswered};
 
 use crate::dues::{expire, release};
 use crate::moves::make_move;
@@ -35,7 +36,7 @@ pub struct Core {
     weight: u64,
     /// No deadline comes before this moment, so that until then nothing is due.
     calm: u64,
-    now: u64,
+    clock: u64,
     logged: u64,
     drawn: u32,
     sessions: Vec<Session>,
@@ -47,7 +48,7 @@ impl Model for Core {
 
     ghost Value = { Kernel };
 
-    ghost view = { λ c. record { hall = hall_of (objects_in c.objects) c.now c.logged c.drawn c.sessions.items } };
+    ghost view = { λ c. record { hall = hall_of (objects_in c.objects) c.clock c.logged c.drawn c.sessions.items } };
 
     ghost invariant = { λ c. IsSound (objects_in c.objects) c.weight c.calm c.drawn c.sessions.items };
 }
@@ -62,11 +63,25 @@ impl Core {
             objects: Keyspace::new(alloc),
             weight: 0,
             calm: u64::MAX,
-            now: 0,
+            clock: 0,
             logged: 0,
             drawn: 0,
             sessions: Vec::new(alloc),
         }
+    }
+
+    /// How many objects there are.
+    pub fn objects(&self) -> u64
+        ensures { result ≡ length self.now.hall.world.objects }
+    {
+        self.objects.len() as u64
+    }
+
+    /// How many channels there are. So far nothing makes one.
+    pub fn channels(&self) -> u64
+        ensures { result ≡ length self.now.hall.world.channels }
+    {
+        0
     }
 
     /// Lets a session in and answers its number. It is refused where 512 sessions are present or 4,294,967,295 numbers were
@@ -123,6 +138,8 @@ impl Core {
     pub fn call(&mut self, session: u32, moment: u64, asked: &Asked) -> Called
         ensures step { Step self.old.hall (event.Call session moment asked.now) (outcome.Answered result) self.new.hall }
         ensures logged { self.new.hall.logged ≤ self.old.hall.logged + 2 * max_weight }
+        ensures done { MayCall self.old.hall session → (result ≡ Called.Ok) ⊎ (result ≡ Called.Memory) }
+        ensures answered { result ≡ Called.Ok → IsAnswered self.old.hall self.new.hall session }
     {
         if self.logged >= MOST_LOGGED {
             return Called::Spent;
@@ -131,7 +148,7 @@ impl Core {
             Ok(at) => at,
             Err(answer) => return answer,
         };
-        let now = self.now.max(moment);
+        let now = self.clock.max(moment);
         let ready = make_ready(
             self.alloc,
             &mut self.objects,
@@ -144,7 +161,7 @@ impl Core {
             return Called::Memory;
         };
         world_laws();
-        self.now = now;
+        self.clock = now;
         self.sessions[at].answer(plan.frame, plan.closes);
         self.calm = calm_after(gone.calm, &plan.action);
         make_move(&mut self.objects, plan.action);
@@ -162,13 +179,13 @@ impl Core {
         if self.logged >= MOST_LOGGED {
             return Called::Spent;
         }
-        let now = self.now.max(moment);
+        let now = self.clock.max(moment);
         let expired = expire(self.alloc, &mut self.objects, self.weight, self.calm, now);
         let Ok(gone) = expired else {
             return Called::Memory;
         };
         release(&mut self.objects, gone.held);
-        self.now = now;
+        self.clock = now;
         self.weight = gone.weight;
         self.calm = gone.calm;
         self.logged += gone.length;

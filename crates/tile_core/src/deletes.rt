@@ -1,16 +1,14 @@
 //! DEL, PDEL, DROP and FLUSHDB: objects are taken out.
 
-ghost use Rattle.std.specs.Prelude.{◌≡◌, ◌+◌, ◌∷◌, ◌≤◌, ℕ, true, not, [], filter, map, length, sum_by, IfOk, OnOk};
+ghost use Rattle.std.specs.Prelude.{◌≡◌, ◌+◌, ◌≤◌, ℕ, true, [], sum_by, IfOk, OnOk};
 ghost use Rattle.byte_text.specs.Globs.{glob_meets, is_well_formed};
 ghost use Rattle.world_model.specs.Limits.{max_weight};
-ghost use Rattle.world_model.specs.Worlds.{has_key};
-ghost use Rattle.world_model.specs.Records.{weight};
-ghost use Rattle.world_model.specs.Effects.{dels, effect};
+ghost use Rattle.world_model.specs.Effects.{effect};
 ghost use Rattle.world_model.specs.declared.commands.Command.TheVariants as command;
 ghost use Rattle.keyspace.specs.Entries.{objects_in};
 ghost use Rattle.tile_core.specs.Kernels.{AreKept};
-ghost use Rattle.tile_core.specs.Moves.{world_in, world_of, HasFewFields, HaveFewFields, len_of};
-ghost use Rattle.tile_core.specs.Plans.{IsPlan, records_len};
+ghost use Rattle.tile_core.specs.Moves.{world_in, HasFewFields, HaveFewFields, len_of};
+ghost use Rattle.tile_core.specs.Plans.{IsPlan};
 ghost use Rattle.tile_core.specs.Sweeps.{IsSwept, IsSweptOf};
 
 use crate::answers::{say_count, short_frame};

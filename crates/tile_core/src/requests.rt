@@ -1,6 +1,6 @@
 //! What a request will do.
 
-ghost use Rattle.std.specs.Prelude.{◌≡◌, ◌≢◌, ◌≤◌, ℕ, [], length, IfOk};
+ghost use Rattle.std.specs.Prelude.{◌≢◌, ◌≤◌, ℕ, [], length, IfOk};
 ghost use Rattle.byte_text.specs.Replies.{frame_text};
 ghost use Rattle.world_model.specs.Limits.{max_reply};
 ghost use Rattle.world_model.specs.Effects.{effect, says};

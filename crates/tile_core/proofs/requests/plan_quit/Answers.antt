@@ -3,17 +3,18 @@ use Rattle.byte_text.specs.Names.{Bytes}
 use Rattle.byte_text.specs.Replies.{fine, frame_text}
 use Rattle.byte_text.specs.declared.replies.Piece.{Piece}
 use Rattle.world_model.specs.Limits.{max_reply}
-use Rattle.tile_core.specs.Objects.{world_of}
+use Rattle.keyspace.specs.Entries.{objects_in}
+use Rattle.tile_core.specs.Moves.{world_in}
 use Rattle.tile_core.specs.Plans.{IsPlan}
 use Rattle.tile_core.proofs.Answering.{replies_alone}
 use Rattle.tile_core.proofs.Reading.{left}
-use Rattle.tile_core.proofs.plans.plan_quit.Goals as goal
+use Rattle.tile_core.proofs.requests.plan_quit.Goals as goal
 
 pub short_frame-requires-clause-short : goal.short_frame-requires-clause-short
 short_frame-requires-clause-short c = subst (λ (r : List Piece). length (frame_text r) ≤ max_reply) (sym c.in_ok-fine_reply.ensures.value) (lit≤ tt)
 
 pub returns : goal.returns
 returns c =
-    let xs = c.args._objects.now in
+    let xs = objects_in c.args._objects.now in
     let frame_is : c.in_ok-frame.frame ≡ frame_text fine = c.in_ok-frame.ensures ∙ ap frame_text c.in_ok-fine_reply.ensures.value in
-    λ (now : ℕ). subst (IsPlan xs _) (sym c.last_reply.ensures) (replies_alone xs c.args.total c.requires _ fine c.in_ok-frame.frame true (left (world_of xs) now) frame_is (subst (λ (f : Bytes). length f ≤ max_reply) (sym frame_is) (lit≤ tt)))
+    λ (now : ℕ). subst (IsPlan xs _) (sym c.last_reply.ensures) (replies_alone xs c.args.total c.requires _ fine c.in_ok-frame.frame true (left (world_in c.args._objects.now) now) frame_is (subst (λ (f : Bytes). length f ≤ max_reply) (sym frame_is) (lit≤ tt)))

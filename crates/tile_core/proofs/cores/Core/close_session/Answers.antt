@@ -25,11 +25,11 @@ returns-in-Some-clause-step c =
     let at = subst (λ (ss : List Session). IsAt ss c.args.session c.in-Some.at) c.as_slice.ensures.value c.in-Some.ensures.found in
     let is : c.index_mut.result.now ≡ at.session = c.index_mut.ensures.value ∙ read_at k.sessions.items c.in-Some.at at.session c.index_mut.result.now at.here in
     let new : c.close.new.self ≡ closed at.session = c.close.ensures ∙ ap closed is in
-    let step = close_present (objects_in k.objects) k.now k.logged k.drawn k.sessions.items c.args.session c.in-Some.at at.session c.self.invariant.present.rises at.here at.numbered c.close.new.self new in
-    subst (λ (n : Kernel). Step n.hall (event.Close c.args.session) outcome.Done (hall_of (objects_in k.objects) k.now k.logged k.drawn (slice_set k.sessions.items c.in-Some.at c.close.new.self))) c.self.view_is step
+    let step = close_present (objects_in k.objects) k.clock k.logged k.drawn k.sessions.items c.args.session c.in-Some.at at.session c.self.invariant.present.rises at.here at.numbered c.close.new.self new in
+    subst (λ (n : Kernel). Step n.hall (event.Close c.args.session) outcome.Done (hall_of (objects_in k.objects) k.clock k.logged k.drawn (slice_set k.sessions.items c.in-Some.at c.close.new.self))) c.self.view_is step
 
 pub returns-in_default-clause-step : goal.returns-in_default-clause-step
 returns-in_default-clause-step c =
     let k = c.self.inside in
     let others = subst (λ (ss : List Session). AreOthers c.args.session ss) c.as_slice.ensures.value c.in_default.ensures.absent in
-    subst (λ (n : Kernel). Step n.hall (event.Close c.args.session) outcome.Done n.hall) c.self.view_is (close_absent (objects_in k.objects) k.now k.logged k.drawn k.sessions.items c.args.session others)
+    subst (λ (n : Kernel). Step n.hall (event.Close c.args.session) outcome.Done n.hall) c.self.view_is (close_absent (objects_in k.objects) k.clock k.logged k.drawn k.sessions.items c.args.session others)

@@ -25,12 +25,12 @@ pub returns-in-Some-clause-step : goal.returns-in-Some-clause-step
 returns-in-Some-clause-step c =
     let k = c.self.inside in
     let at = subst (λ (ss : List Session). IsAt ss c.args.session c.in-Some.at) c.as_slice.ensures.value c.in-Some.ensures.found in
-    let step = remove_present (objects_in k.objects) k.now k.logged k.drawn k.sessions.items c.args.session c.in-Some.at at.session c.self.invariant.present.rises at.here at.numbered in
-    subst (λ (ss : List Session). Step c.args.self.now.hall (event.Remove c.args.session) outcome.Done (hall_of (objects_in k.objects) k.now k.logged k.drawn ss)) (sym c.remove.ensures.items)
-    (subst (λ (n : Kernel). Step n.hall (event.Remove c.args.session) outcome.Done (hall_of (objects_in k.objects) k.now k.logged k.drawn (remove k.sessions.items c.in-Some.at))) c.self.view_is step)
+    let step = remove_present (objects_in k.objects) k.clock k.logged k.drawn k.sessions.items c.args.session c.in-Some.at at.session c.self.invariant.present.rises at.here at.numbered in
+    subst (λ (ss : List Session). Step c.args.self.now.hall (event.Remove c.args.session) outcome.Done (hall_of (objects_in k.objects) k.clock k.logged k.drawn ss)) (sym c.remove.ensures.items)
+    (subst (λ (n : Kernel). Step n.hall (event.Remove c.args.session) outcome.Done (hall_of (objects_in k.objects) k.clock k.logged k.drawn (remove k.sessions.items c.in-Some.at))) c.self.view_is step)
 
 pub returns-in_default-clause-step : goal.returns-in_default-clause-step
 returns-in_default-clause-step c =
     let k = c.self.inside in
     let others = subst (λ (ss : List Session). AreOthers c.args.session ss) c.as_slice.ensures.value c.in_default.ensures.absent in
-    subst (λ (n : Kernel). Step n.hall (event.Remove c.args.session) outcome.Done n.hall) c.self.view_is (remove_absent (objects_in k.objects) k.now k.logged k.drawn k.sessions.items c.args.session others)
+    subst (λ (n : Kernel). Step n.hall (event.Remove c.args.session) outcome.Done n.hall) c.self.view_is (remove_absent (objects_in k.objects) k.clock k.logged k.drawn k.sessions.items c.args.session others)

@@ -24,7 +24,7 @@ pub returns-in_default-clause-step : goal.returns-in_default-clause-step
 returns-in_default-clause-step c =
     let k = c.self.inside in
     let others = subst (λ (ss : List Session). AreOthers c.args.session ss) c.as_slice.ensures.value c.in_default.ensures.absent in
-    let step = absent (objects_in k.objects) k.now k.logged k.drawn k.sessions.items c.args.session others in
+    let step = absent (objects_in k.objects) k.clock k.logged k.drawn k.sessions.items c.args.session others in
     subst (λ (n : Kernel). Step n.hall (event.Take c.args.session) outcome.Ended n.hall) c.self.view_is step
 
 pub invariant_of-self : goal.invariant_of-self
@@ -45,9 +45,9 @@ returns-then-frames-gt0-clause-step c =
     let count : c.frames.result ≡ length at.session.outbox = c.frames.ensures ∙ ap (λ (s : Session). length s.outbox) read in
     let some : 0 < length at.session.outbox = some_of c.frames.result (length at.session.outbox) count c.if-frames-gt0.true in
     let shown : c.take_frames.new.into.list ≡ take take_frames at.session.outbox = ap (λ (f : FrameList). f.list) c.take_frames.ensures.given ∙ ap (λ (s : Session). take take_frames s.outbox) is in
-    let step = given (objects_in k.objects) k.now k.logged k.drawn k.sessions.items c.args.session c.in-Some.at at.session c.self.invariant.present.rises at.here at.numbered c.take_frames.new.self left some in
-    subst (λ (fs : List Bytes). Step c.args.self.now.hall (event.Take c.args.session) (outcome.Given fs) (hall_of (objects_in k.objects) k.now k.logged k.drawn (slice_set k.sessions.items c.in-Some.at c.take_frames.new.self))) (sym shown)
-    (subst (λ (n : Kernel). Step n.hall (event.Take c.args.session) (outcome.Given (take take_frames at.session.outbox)) (hall_of (objects_in k.objects) k.now k.logged k.drawn (slice_set k.sessions.items c.in-Some.at c.take_frames.new.self))) c.self.view_is step)
+    let step = given (objects_in k.objects) k.clock k.logged k.drawn k.sessions.items c.args.session c.in-Some.at at.session c.self.invariant.present.rises at.here at.numbered c.take_frames.new.self left some in
+    subst (λ (fs : List Bytes). Step c.args.self.now.hall (event.Take c.args.session) (outcome.Given fs) (hall_of (objects_in k.objects) k.clock k.logged k.drawn (slice_set k.sessions.items c.in-Some.at c.take_frames.new.self))) (sym shown)
+    (subst (λ (n : Kernel). Step n.hall (event.Take c.args.session) (outcome.Given (take take_frames at.session.outbox)) (hall_of (objects_in k.objects) k.clock k.logged k.drawn (slice_set k.sessions.items c.in-Some.at c.take_frames.new.self))) c.self.view_is step)
 
 pub returns-then-frames-gt0-clause-count : goal.returns-then-frames-gt0-clause-count
 returns-then-frames-gt0-clause-count c =
@@ -61,7 +61,7 @@ returns-then-is_open-clause-step c =
     let also : c.index-2.result.now ≡ at.session = c.index-2.ensures ∙ read_at k.sessions.items c.in-Some.at at.session c.index-2.result.now at.here in
     let none : length at.session.outbox ≡ 0 = none_of c.frames.result (length at.session.outbox) (c.frames.ensures ∙ ap (λ (s : Session). length s.outbox) is) c.if-frames-gt0.false in
     let lives = sym (ap is_open also) ∙ sym c.is_open.ensures ∙ c.if-is_open.true in
-    let step = empty (objects_in k.objects) k.now k.logged k.drawn k.sessions.items c.args.session c.in-Some.at at.session c.self.invariant.present.rises at.here at.numbered lives none in
+    let step = empty (objects_in k.objects) k.clock k.logged k.drawn k.sessions.items c.args.session c.in-Some.at at.session c.self.invariant.present.rises at.here at.numbered lives none in
     subst (λ (n : Kernel). Step n.hall (event.Take c.args.session) outcome.Empty n.hall) c.self.view_is step
 
 pub invariant_of-self-2 : goal.invariant_of-self-2
@@ -82,6 +82,6 @@ returns-clause-step c =
     let also : c.index-2.result.now ≡ at.session = c.index-2.ensures ∙ read_at k.sessions.items c.in-Some.at at.session c.index-2.result.now at.here in
     let none : length at.session.outbox ≡ 0 = none_of c.frames.result (length at.session.outbox) (c.frames.ensures ∙ ap (λ (s : Session). length s.outbox) is) c.if-frames-gt0.false in
     let closed_ = sym (ap is_open also) ∙ sym c.is_open.ensures ∙ c.if-is_open.false in
-    let step = ended (objects_in k.objects) k.now k.logged k.drawn k.sessions.items c.args.session c.in-Some.at at.session c.self.invariant.present.rises at.here at.numbered closed_ none in
-    subst (λ (ss : List Session). Step c.args.self.now.hall (event.Take c.args.session) outcome.Ended (hall_of (objects_in k.objects) k.now k.logged k.drawn ss)) (sym c.remove.ensures.items)
-    (subst (λ (n : Kernel). Step n.hall (event.Take c.args.session) outcome.Ended (hall_of (objects_in k.objects) k.now k.logged k.drawn (remove k.sessions.items c.in-Some.at))) c.self.view_is step)
+    let step = ended (objects_in k.objects) k.clock k.logged k.drawn k.sessions.items c.args.session c.in-Some.at at.session c.self.invariant.present.rises at.here at.numbered closed_ none in
+    subst (λ (ss : List Session). Step c.args.self.now.hall (event.Take c.args.session) outcome.Ended (hall_of (objects_in k.objects) k.clock k.logged k.drawn ss)) (sym c.remove.ensures.items)
+    (subst (λ (n : Kernel). Step n.hall (event.Take c.args.session) outcome.Ended (hall_of (objects_in k.objects) k.clock k.logged k.drawn (remove k.sessions.items c.in-Some.at))) c.self.view_is step)

@@ -13,11 +13,11 @@ use Rattle.tile_core.proofs.cores.Core.tick.Goals as goal
 pub returns-clause-step : goal.returns-clause-step
 returns-clause-step c =
     let k = c.self.inside in
-    let m = max k.now c.args.moment in
+    let m = max k.clock c.args.moment in
     let g = c.in-Ok.gone in
     let rest = objects_in c.expire-expired.new.objects in
     let e : IsExpired (objects_in k.objects) m k.weight rest g = subst (λ (n : ℕ). IsExpired (objects_in k.objects) n k.weight rest g) c.max-now.ensures c.in-Ok.ensures.expired in
-    let step = ticked (objects_in k.objects) k.now k.logged k.drawn k.sessions.items c.args.moment k.weight rest g e c.if-self-ge-MOST_LOGGED.false in
+    let step = ticked (objects_in k.objects) k.clock k.logged k.drawn k.sessions.items c.args.moment k.weight rest g e c.if-self-ge-MOST_LOGGED.false in
     subst (λ (os : List Object). Step c.args.self.now.hall (event.Tick c.args.moment) (outcome.Answered called.Ok) (hall_of os c.max-now.result (k.logged + g.length) k.drawn k.sessions.items)) (sym c.release.ensures)
     (subst (λ (now : ℕ). Step c.args.self.now.hall (event.Tick c.args.moment) (outcome.Answered called.Ok) (hall_of rest now (k.logged + g.length) k.drawn k.sessions.items)) (sym c.max-now.ensures)
     (subst (λ (n : Kernel). Step n.hall (event.Tick c.args.moment) (outcome.Answered called.Ok) (hall_of rest m (k.logged + g.length) k.drawn k.sessions.items)) c.self.view_is step))
