@@ -26,9 +26,9 @@ seen sessions n = find (halls.is_session n) (map session_of sessions)
 -- a call is not served for a session that may not make it
 pub may_not : (drawn : ℕ) (sessions : List Session) (n : ℕ) → Rises 0 drawn sessions → (answer : Called) → IsServed sessions n (Err answer) → gone (seen sessions n) ≡ false → full (seen sessions n) ≡ false → ⊥
 may_not drawn sessions n r called.Gone e here room = elim e [
-    inl o ↦ true≢false (sym (ap gone (none_found sessions n o)) ∙ here)
+  | inl o ↦ true≢false (sym (ap gone (none_found sessions n o)) ∙ here)
   | inr p ↦ true≢false (sym (gone_is p.1.session p.2) ∙ sym (ap gone (found 0 drawn sessions p.0 n p.1.session r p.1.here p.1.numbered)) ∙ here)
-  ]
+]
   where
     gone_is : (s : Session) → halls.is_live (session_of s) ≡ false → gone (Some (session_of s)) ≡ true
     gone_is s e = rw e refl

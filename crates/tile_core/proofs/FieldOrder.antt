@@ -6,7 +6,7 @@ use Rattle.std.proofs.lemmas.Bool.Decides.{nat_tests}
 use Rattle.byte_text.specs.Names.{Bytes, before}
 use Rattle.world_model.specs.Lists.{ascends, put_in}
 use Rattle.world_model.specs.Filters.{Field, field_before, is_zero, are_fields, last_values, with_values}
-use Rattle.tile_core.proofs.ByteOrder.{ties}
+use Rattle.collection.proofs.ByteOrder.{before_tie}
 
 -- the order of names
 
@@ -29,7 +29,7 @@ goes_on x y (z ∷ zs) lt all =
     rw one (goes_on x y zs lt rest)
 
 also_tied : (x y : Field) (ys : List Field) → field_before x y ≡ false → field_before y x ≡ false → list_all (field_before y) ys ≡ true → list_all (field_before x) ys ≡ true
-also_tied x y ys p q all = subst (λ (n : Bytes). list_all (λ (g : Field). before n g.0) ys ≡ true) (sym (ties x.0 y.0 p q)) all
+also_tied x y ys p q all = subst (λ (n : Bytes). list_all (λ (g : Field). before n g.0) ys ≡ true) (sym (before_tie x.0 y.0 p q)) all
 
 some_all : (f g : Field → Bool) (ys : List Field) → list_all f ys ≡ true → list_all f (filter g ys) ≡ true
 some_all f g [] all = refl

@@ -1,4 +1,3 @@
-mod ByteOrder
 mod Present
 mod Steps
 mod Takes

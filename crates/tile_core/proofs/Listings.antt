@@ -49,8 +49,9 @@ text_more replies reply = ap frame_text (joined_more replies reply) ∙ flat_map
 pub items_more : (replies : List (List Piece)) (reply : List Piece) (old new : Items) → AreItems replies old
     → new ≡ record { text = old.text ++ frame_text reply; count = old.count + 1 } → AreItems (replies ++ reply ∷ []) new
 items_more replies reply old new are e = record {
-    text = ap (λ i. i.text) e ∙ ap (λ t. t ++ frame_text reply) are.text ∙ sym (text_more replies reply);
-    count = ap (λ i. i.count) e ∙ ap (λ n. n + 1) are.count ∙ sym (length-append replies (reply ∷ [])) }
+  text = ap (λ i. i.text) e ∙ ap (λ t. t ++ frame_text reply) are.text ∙ sym (text_more replies reply);
+  count = ap (λ i. i.count) e ∙ ap (λ n. n + 1) are.count ∙ sym (length-append replies (reply ∷ []));
+}
 
 -- an item that would be too long
 pub items_long : (replies : List (List Piece)) (reply : List Piece) (old : Items) → AreItems replies old

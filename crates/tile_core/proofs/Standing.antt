@@ -5,9 +5,9 @@ use Rattle.std.specs.List.{list_all, AllByRecursion}
 use Rattle.std.proofs.lemmas.List.Sums.{sum_by-cons}
 use Rattle.world_model.specs.Lists.{put_in}
 use Rattle.world_model.specs.Worlds.{object_before, are_objects, is_at}
-use Rattle.world_model.proofs.PlaceLaws.{filter-all}
-use Rattle.world_model.proofs.Sorted.{object_asym, same_equal}
+use Rattle.world_model.proofs.Sorted.{object_asym}
 use Rattle.world_model.specs.declared.objects.Object.{Object}
+use Rattle.tile_core.proofs.Weights.{same_stay}
 
 -- what is found
 
@@ -58,23 +58,6 @@ module _ {A : Type 0} (g : A → Bool) (x : A) where
 
 -- objects in order
 
-self : (o : Object) → object_before o o ≡ false
-self o = let a = object_asym o o in grind arith
-
-apart : (o x y : Object) → is_at o.key o.id x ≡ true → object_before x y ≡ true → not (is_at o.key o.id y) ≡ true
-apart o x y =
-    let s = self x in
-    let a = same_equal x.key o.key in
-    let b = same_equal x.id o.id in
-    let c = same_equal y.key o.key in
-    let d = same_equal y.id o.id in
-    λ at before_. grind arith
-
--- behind it no other of its key and id stands
-alone : (o x : Object) (ys : List Object) → is_at o.key o.id x ≡ true → list_all (object_before x) ys ≡ true → list_all (λ p. not (is_at o.key o.id p)) ys ≡ true
-alone o x [] at all = refl
-alone o x (y ∷ ys) at all = let ih = alone o x ys at in let here = apart o x y at in grind arith
-
 module _ (o : Object) where
   -- what is left of the list without it
   abbrev left : List Object → List Object
@@ -98,31 +81,10 @@ module _ (o : Object) where
       by : (b : Bool) → is_at o.key o.id x ≡ b → (find (is_at o.key o.id) xs ≡ Some o → put_in object_before o (left xs) ≡ xs) → put_in object_before o (left (x ∷ xs)) ≡ x ∷ xs
       by true t ih =
           let is : x ≡ o = cc (rw t at here) in
-          let behind : left xs ≡ xs = filter-all (λ p. not (is_at o.key o.id p)) xs (alone o x xs t all) in
+          let behind : left xs ≡ xs = same_stay o.key o.id x xs t all in
           rw (t, behind) (goes_first xs (subst (λ (z : Object). list_all (object_before z) xs ≡ true) is all) ∙ ap (λ (z : Object). z ∷ xs) (sym is))
       by false t ih =
           let found = rw t at here in
           let before_ : object_before x o ≡ true = found_passes (is_at o.key o.id) o (object_before x) xs found all in
           let behind : object_before o x ≡ false = object_asym x o before_ in
           rw (t, behind, before_) (ap (λ (zs : List Object). x ∷ zs) (ih found))
-
-  -- a sum over the list
-  pub sum_left : (f : Object → ℕ) (xs : List Object) → are_objects xs ≡ true → find (is_at o.key o.id) xs ≡ Some o → sum_by f (left xs) + f o ≡ sum_by f xs
-  sum_left f [] asc here = absurd (cc)
-  sum_left f (x ∷ xs) asc here = by (is_at o.key o.id x) refl (sum_left f xs rest)
-    where
-      all : list_all (object_before x) xs ≡ true
-      all = grind arith
-
-      rest : are_objects xs ≡ true
-      rest = grind arith
-
-      by : (b : Bool) → is_at o.key o.id x ≡ b → (find (is_at o.key o.id) xs ≡ Some o → sum_by f (left xs) + f o ≡ sum_by f xs) → sum_by f (left (x ∷ xs)) + f o ≡ sum_by f (x ∷ xs)
-      by true t ih =
-          let is : x ≡ o = cc (rw t at here) in
-          let behind : left xs ≡ xs = filter-all (λ p. not (is_at o.key o.id p)) xs (alone o x xs t all) in
-          let same : f x ≡ f o = ap f is in
-          rw (t, behind) (omega (arith, same, sum_by-cons f x xs))
-      by false t ih =
-          let sum = ih (rw t at here) in
-          rw t (omega (arith, sum, sum_by-cons f x xs, sum_by-cons f x (left xs)))

@@ -13,11 +13,11 @@ use Rattle.world_model.specs.Effects.{Deed, dels}
 use Rattle.world_model.specs.declared.objects.Object.{Object}
 use Rattle.world_model.specs.declared.worlds.World.{World}
 use Rattle.world_model.specs.declared.worlds.Change.TheVariants as change
+use Rattle.collection.proofs.ByteOrder.{same_refl, same_equal}
 use Rattle.tile_core.specs.declared.deletes.Swept.{Swept}
 use Rattle.tile_core.specs.Moves.{world_of, len_of, HasFewFields, HaveFewFields, without_each}
 use Rattle.tile_core.specs.Plans.{after_all, records_len, IsOfObjects}
 use Rattle.tile_core.specs.Sweeps.{met, IsSwept, IsSweptOf}
-use Rattle.tile_core.proofs.ByteOrder.{same_is, same_self}
 use Rattle.tile_core.proofs.RecordWords.{del_short}
 use Rattle.tile_core.proofs.Weights.{next_take}
 
@@ -74,16 +74,8 @@ keyed key [] = tt
 keyed key (x ∷ xs) = by (has_key key x) refl (keyed key xs)
   where
     by : (t : Bool) → has_key key x ≡ t → HaveKey key (filter (has_key key) xs) → HaveKey key (if t then x ∷ filter (has_key key) xs else filter (has_key key) xs)
-    by true e ih = (same_is x.key key e, ih)
+    by true e ih = (same_equal x.key key e, ih)
     by false e ih = ih
-
-pub some_keyed : (key : Bytes) (p : Object → Bool) (xs : List Object) → HaveKey key xs → HaveKey key (filter p xs)
-some_keyed key p [] all = tt
-some_keyed key p (x ∷ xs) all = by (p x) (some_keyed key p xs all.1)
-  where
-    by : (t : Bool) → HaveKey key (filter p xs) → HaveKey key (if t then x ∷ filter p xs else filter p xs)
-    by true ih = (all.0, ih)
-    by false ih = ih
 
 pub dels_do : (key : Bytes) (gone xs : List Object) → HaveKey key gone → after_all (world_of xs) (dels gone) ≡ world_of (without_each key (map (λ o. o.id) gone) xs)
 dels_do key [] xs all = refl
@@ -129,7 +121,7 @@ meets pattern id [] e = absurd (cc)
 meets pattern id (x ∷ xs) e = by (glob_meets pattern x.id) refl (meets pattern id xs) e
   where
     split : (b c : Bool) → same id x.id ≡ b → list_any (same id) (ids_of (met pattern xs)) ≡ c → (b || c) ≡ true → glob_meets pattern x.id ≡ true → (list_any (same id) (ids_of (met pattern xs)) ≡ true → glob_meets pattern id ≡ true) → glob_meets pattern id ≡ true
-    split true c s l or m ih = subst (λ (n : Bytes). glob_meets pattern n ≡ true) (sym (same_is id x.id s)) m
+    split true c s l or m ih = subst (λ (n : Bytes). glob_meets pattern n ≡ true) (sym (same_equal id x.id s)) m
     split false c s l or m ih = ih (l ∙ or)
 
     by : (t : Bool) → glob_meets pattern x.id ≡ t → (list_any (same id) (ids_of (met pattern xs)) ≡ true → glob_meets pattern id ≡ true) → list_any (same id) (ids_of (if t then x ∷ met pattern xs else met pattern xs)) ≡ true → glob_meets pattern id ≡ true
@@ -155,7 +147,7 @@ more_met pattern key y (x ∷ xs) ys all = (λ k m. by (has_key key y) (glob_mee
 
 all_met : (pattern key : Bytes) (xs : List Object) → AreMet pattern key xs xs
 all_met pattern key [] = tt
-all_met pattern key (x ∷ xs) = (λ k m. rw (k, m, same_self x.id) refl, more_met pattern key x xs xs (all_met pattern key xs))
+all_met pattern key (x ∷ xs) = (λ k m. rw (k, m, same_refl x.id) refl, more_met pattern key x xs xs (all_met pattern key xs))
 
 same_left : (pattern key : Bytes) (ids : List Bytes) (xs : List Object) → ((id : Bytes) → list_any (same id) ids ≡ true → glob_meets pattern id ≡ true) → AllByRecursion (λ o. has_key key o ≡ true → glob_meets pattern o.id ≡ true → list_any (same o.id) ids ≡ true) xs
     → sum_by len_of (filter (λ o. not (among key ids o)) xs) + sum_by len_of (met pattern (filter (has_key key) xs)) ≡ sum_by len_of xs

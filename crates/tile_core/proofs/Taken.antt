@@ -21,8 +21,8 @@ use Rattle.tile_core.specs.Plans.{after_all, records_len}
 use Rattle.tile_core.specs.Dues.{AreCalm, IsTaken, IsTakenOut, HaveRoom, with_back}
 use Rattle.tile_core.proofs.Moving.{all_filtered}
 use Rattle.tile_core.proofs.RecordWords.{del_short}
-use Rattle.tile_core.proofs.Standing.{back_there, sum_left, found_holds, found_sum, shorter}
-use Rattle.tile_core.proofs.Weights.{weight_sum}
+use Rattle.tile_core.proofs.Standing.{back_there, found_holds, found_sum, shorter}
+use Rattle.tile_core.proofs.Weights.{weight_sum, taken_sum}
 
 -- each record has a byte at least
 pub as_heavy : (xs : List Object) → length xs ≤ weight (world_of xs)
@@ -131,7 +131,7 @@ module _ (old : List Object) (now total : ℕ) (xs held : List Object) (len rest
         sorted = ascends-filter object_before others xs t.sorted;
         few = all_filtered HasFewFields others xs t.few;
         length_is = let all = length_last held o in omega (arith, all, long, t.length_is);
-        rest_is = let w = sum_left o len_of xs t.sorted here in omega (arith, w, light, t.rest_is, weight_sum xs, weight_sum left);
+        rest_is = let w = taken_sum len_of o.key o.id xs o t.sorted here in omega (arith, w, light, t.rest_is, weight_sum xs, weight_sum left);
         small = let short = del_short o (found_holds (is_at o.key o.id) o HasFewFields xs here t.few) in omega (arith, short, long, light, t.small);
         count = let less = shorter (is_at o.key o.id) o xs here in omega (arith, less, length-append held (o ∷ []), t.count);
       }

@@ -8,31 +8,23 @@ use Rattle.world_model.specs.Lists.{put_in}
 use Rattle.world_model.specs.Worlds.{are_objects, object_before, is_at}
 use Rattle.world_model.specs.Records.{weight}
 use Rattle.world_model.specs.declared.objects.Object.{Object}
+use Rattle.world_model.proofs.Sorted.{object_asym}
+use Rattle.collection.proofs.ByteOrder.{before_tie, before_self, same_refl, same_equal}
 use Rattle.tile_core.specs.Moves.{world_of, len_of, HasFewFields, HaveFewFields}
-use Rattle.tile_core.proofs.ByteOrder.{asymmetric, ties, irreflexive, same_is, same_self}
 use Rattle.tile_core.proofs.FieldOrder.{take_more}
 
 -- the order of objects, and the one of a key and an id
 
 pub at_is : (key id : Bytes) (o : Object) → is_at key id o ≡ true → (o.key ≡ key) × (o.id ≡ id)
-at_is key id o e = (same_is o.key key (grind arith), same_is o.id id (grind arith))
-
-asym : (o p : Object) → object_before o p ≡ true → object_before p o ≡ false
-asym o p e =
-    let k = asymmetric o.key p.key in
-    let i = asymmetric o.id p.id in
-    let s = same_is o.key p.key in
-    let t = same_is p.key o.key in
-    let r = irreflexive o.key in
-    grind arith
+at_is key id o e = (same_equal o.key key (grind arith), same_equal o.id id (grind arith))
 
 -- neither stands before the other
 pub tied : (o p : Object) → object_before o p ≡ false → object_before p o ≡ false → is_at o.key o.id p ≡ true
 tied o p a b =
-    let k = ties o.key p.key in
-    let i = ties o.id p.id in
-    let r = same_self o.key in
-    let s = same_self o.id in
+    let k = before_tie o.key p.key in
+    let i = before_tie o.id p.id in
+    let r = same_refl o.key in
+    let s = same_refl o.id in
     grind arith
 
 -- one of the same key and id stands as it
@@ -45,10 +37,10 @@ like key id o p q a b =
     ap (λ (m : Bytes). before o.key m || (same o.key m && before o.id p.id)) k ∙ ap (λ (m : Bytes). before o.key q.key || (same o.key q.key && before o.id m)) i
 
 itself : (o : Object) → is_at o.key o.id o ≡ true
-itself o = rw (same_self o.key, same_self o.id) refl
+itself o = rw (same_refl o.key, same_refl o.id) refl
 
 before_none : (o : Object) → object_before o o ≡ false
-before_none o = let k = irreflexive o.key in let i = irreflexive o.id in grind arith
+before_none o = let k = before_self o.key in let i = before_self o.id in grind arith
 
 -- one at its place does not stand before it
 other_at : (o p : Object) → is_at o.key o.id p ≡ true → object_before p o ≡ false
@@ -72,7 +64,7 @@ others_all o p (q ∷ qs) a all =
     let t = other o p q a here in
     rw t (others_all o p qs a rest)
 
-same_stay : (key id : Bytes) (p : Object) (qs : List Object) → is_at key id p ≡ true → list_all (object_before p) qs ≡ true → filter (λ o. not (is_at key id o)) qs ≡ qs
+pub same_stay : (key id : Bytes) (p : Object) (qs : List Object) → is_at key id p ≡ true → list_all (object_before p) qs ≡ true → filter (λ o. not (is_at key id o)) qs ≡ qs
 same_stay key id p [] a all = refl
 same_stay key id p (q ∷ qs) a all =
     let here : object_before p q ≡ true = grind arith in
@@ -85,14 +77,6 @@ same_stay key id p (q ∷ qs) a all =
     by false e lt ih = rw e (ap (λ (zs : List Object). q ∷ zs) ih)
 
 -- what is found
-pub found_few : (p : Object → Bool) (xs : List Object) (o : Object) → HaveFewFields xs → find p xs ≡ Some o → HasFewFields o
-found_few p [] o few e = absurd (cc)
-found_few p (x ∷ xs) o few e = by (p x) (found_few p xs o few.1) e
-  where
-    by : (t : Bool) → (find p xs ≡ Some o → HasFewFields o) → (if t then Some x else find p xs) ≡ Some o → HasFewFields o
-    by true ih e = let is : x ≡ o = cc in subst HasFewFields is few.0
-    by false ih e = ih e
-
 pub found_at : (key id : Bytes) (xs : List Object) (o : Object) → find (is_at key id) xs ≡ Some o → (o.key ≡ key) × (o.id ≡ id)
 found_at key id [] o e = absurd (cc)
 found_at key id (x ∷ xs) o e = by (is_at key id x) refl (found_at key id xs o) e
@@ -108,14 +92,6 @@ found_own key id xs o e = let s = found_at key id xs o e in subst (λ (k : Bytes
 -- sums over objects
 
 module _ (f : Object → ℕ) where
-  pub found_sum : (p : Object → Bool) (xs : List Object) (o : Object) → find p xs ≡ Some o → f o ≤ sum_by f xs
-  found_sum p [] o e = absurd (cc)
-  found_sum p (x ∷ xs) o e = by (p x) (found_sum p xs o) e
-    where
-      by : (t : Bool) → (find p xs ≡ Some o → f o ≤ sum_by f xs) → (if t then Some x else find p xs) ≡ Some o → f o ≤ sum_by f (x ∷ xs)
-      by true ih e = let is : x ≡ o = cc in let same : f x ≡ f o = ap f is in omega (arith, same, sum_by-cons f x xs)
-      by false ih e = let part = ih e in omega (arith, part, sum_by-cons f x xs)
-
   -- those of a kind and the others make all
   pub parts_sum : (p : Object → Bool) (xs : List Object) → sum_by f (filter p xs) + sum_by f (filter (λ o. not (p o)) xs) ≡ sum_by f xs
   parts_sum p [] = refl
@@ -175,7 +151,7 @@ module _ (f : Object → ℕ) where
           let is : object_before x y ≡ object_before x x = like x.key x.id x y x s (itself x) in
           let self = before_none x in
           absurd (cc)
-      by true b p q behind ih false s e = let none = others_all x y ys (asym x y p) behind in no_none o (sym none ∙ e)
+      by true b p q behind ih false s e = let none = others_all x y ys (object_asym x y p) behind in no_none o (sym none ∙ e)
       by false true p q behind ih true s e = let t = other_at x y s in absurd (cc)
       by false true p q behind ih false s e = let part = ih e in omega (arith, part, sum_by-cons f y ys, sum_by-cons f y (put_in object_before x ys))
       by false false p q behind ih true s e = let is : y ≡ o = cc in let same : f y ≡ f o = ap f is in omega (arith, same, sum_by-cons f y ys, sum_by-cons f x ys)
@@ -215,13 +191,5 @@ few_at (x ∷ xs) zero o few at = let is : x ≡ o = cc in subst HasFewFields is
 few_at (x ∷ xs) (suc i) o few at = few_at xs i o few.1 at
 
 -- some of the objects
-pub some_few : (p : Object → Bool) (xs : List Object) → HaveFewFields xs → HaveFewFields (filter p xs)
-some_few p [] few = tt
-some_few p (x ∷ xs) few = by (p x) (some_few p xs few.1)
-  where
-    by : (t : Bool) → HaveFewFields (filter p xs) → HaveFewFields (if t then x ∷ filter p xs else filter p xs)
-    by true ih = (few.0, ih)
-    by false ih = ih
-
 pub some_sum : (p : Object → Bool) (xs : List Object) → sum_by len_of (filter p xs) ≤ sum_by len_of xs
 some_sum p xs = omega (arith, parts_sum len_of p xs)

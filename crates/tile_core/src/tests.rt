@@ -21,10 +21,16 @@ fn request(alloc: Global, line: &str) -> Result<Request, Fail> {
     Ok(words)
 }
 
-// How the call of a session with a line is answered.
-fn called(alloc: Global, core: &mut Core, session: u32, line: &str) -> Result<Called, Fail> {
+// How the call of a session with a line at a moment is answered.
+fn called(
+    alloc: Global,
+    core: &mut Core,
+    session: u32,
+    moment: u64,
+    line: &str,
+) -> Result<Called, Fail> {
     let words = request(alloc, line)?;
-    Ok(core.call(session, 0, &Asked::Words(words)))
+    Ok(core.call(session, moment, &Asked::Words(words)))
 }
 
 // The first of the frames that a take of a session gives, or nothing.
@@ -82,9 +88,9 @@ fn commands_are_answered(rt: HostRuntime) -> Result<(), Fail> {
             "-ERR wrong number of arguments for 'del' command\r\n",
         ),
         ("NOPE k", "-ERR unknown command 'NOPE'\r\n"),
-        ("KEYS k", "-ERR not served yet\r\n"),
+        ("CHANS *", "-ERR not served yet\r\n"),
     ] {
-        assert_eq!(rt; called(alloc, &mut core, 1, line)?, Called::Ok, "{line}");
+        assert_eq!(rt; called(alloc, &mut core, 1, 0, line)?, Called::Ok, "{line}");
         assert_eq!(rt;
             taken(alloc, &mut core, 1)?.bytes(),
             reply.as_bytes(),
@@ -95,14 +101,57 @@ fn commands_are_answered(rt: HostRuntime) -> Result<(), Fail> {
 }
 
 #[test]
+fn fields_and_deadlines_are_kept(rt: HostRuntime) -> Result<(), Fail> {
+    let alloc = rt.alloc();
+    let mut core = Core::new(alloc);
+    assert_eq!(rt; core.enter(), Ok(1));
+    for (moment, line, reply) in [
+        (0, "SET k a FIELD speed 5 EX 9 POINT 1 2", "+OK\r\n"),
+        (0, "FSET k a speed 5 load 7", ":1\r\n"),
+        (0, "FGET k a load", "$1\r\n7\r\n"),
+        (0, "FGET k b load", "-ERR id not found\r\n"),
+        (1500, "TTL k a", ":8\r\n"),
+        (1500, "PERSIST k a", ":1\r\n"),
+        (1500, "TTL k a", ":-1\r\n"),
+        (2000, "EXPIRE k a 3", ":1\r\n"),
+        (2000, "SET k b POINT 3 4", "+OK\r\n"),
+        (
+            4999,
+            "SCAN k IDS",
+            "*2\r\n:0\r\n*2\r\n$1\r\na\r\n$1\r\nb\r\n",
+        ),
+        (5000, "SCAN k COUNT", ":1\r\n"),
+        (5000, "TTL k a", ":-2\r\n"),
+        (5000, "KEYS *", "*1\r\n$1\r\nk\r\n"),
+        (5000, "PDEL k b*", ":1\r\n"),
+        (5000, "KEYS *", "*0\r\n"),
+        (5000, "SET m c POINT 0 0", "+OK\r\n"),
+    ] {
+        assert_eq!(rt;
+            called(alloc, &mut core, 1, moment, line)?,
+            Called::Ok,
+            "{line}"
+        );
+        assert_eq!(rt;
+            taken(alloc, &mut core, 1)?.bytes(),
+            reply.as_bytes(),
+            "{line}"
+        );
+    }
+    assert_eq!(rt; core.objects(), 1);
+    assert_eq!(rt; core.channels(), 0);
+    Ok(())
+}
+
+#[test]
 fn sessions_end_behind_their_frames(rt: HostRuntime) -> Result<(), Fail> {
     let alloc = rt.alloc();
     let mut core = Core::new(alloc);
     for session in 1..=4 {
         assert_eq!(rt; core.enter(), Ok(session));
     }
-    assert_eq!(rt; called(alloc, &mut core, 1, "QUIT")?, Called::Ok);
-    assert_eq!(rt; called(alloc, &mut core, 1, "PING")?, Called::Gone);
+    assert_eq!(rt; called(alloc, &mut core, 1, 0, "QUIT")?, Called::Ok);
+    assert_eq!(rt; called(alloc, &mut core, 1, 0, "PING")?, Called::Gone);
     assert_eq!(rt; taken(alloc, &mut core, 1)?.bytes(), "+OK\r\n".as_bytes());
     let broken = Asked::Broken(RespFault::BadType);
     assert_eq!(rt; core.call(2, 0, &broken), Called::Ok);

@@ -12,7 +12,7 @@ use Rattle.tile_core.specs.Moves.{world_in, HasFewFields}
 use Rattle.tile_core.specs.Plans.{IsPlan, put_or_full}
 use Rattle.tile_core.proofs.Answering.{answers, count_fits}
 use Rattle.tile_core.proofs.Timing.{expired_some, expired_none}
-use Rattle.tile_core.proofs.Weights.{found_few}
+use Rattle.tile_core.proofs.Standing.{found_holds}
 use Rattle.tile_core.proofs.deadlines.plan_expire.Goals as goal
 
 pub returns-in_default : goal.returns-in_default
@@ -23,7 +23,7 @@ returns-in_default c =
 pub plan_put-requires-clause-few : goal.plan_put-requires-clause-few
 plan_put-requires-clause-few c =
     let o = c.in-Some.old.now in
-    let few = found_few (is_at c.args.key.now c.args.id.now) (objects_in c.args.objects.now) o c.requires.few c.in-Some.ensures.some in
+    let few = found_holds (is_at c.args.key.now c.args.id.now) o HasFewFields (objects_in c.args.objects.now) c.in-Some.ensures.some c.requires.few in
     subst HasFewFields (sym c.in_ok-object.ensures) few
 
 pub plan_put-requires-clause-short : goal.plan_put-requires-clause-short

@@ -12,7 +12,7 @@ use Rattle.tile_core.specs.Moves.{world_in, HasFewFields}
 use Rattle.tile_core.specs.Plans.{IsPlan, put_or_full, without_deadline}
 use Rattle.tile_core.proofs.Answering.{answers_ever, count_fits}
 use Rattle.tile_core.proofs.Timing.{persisted_some, persisted_same, persisted_none, bare_is, bare_already, bare_fits}
-use Rattle.tile_core.proofs.Weights.{found_few}
+use Rattle.tile_core.proofs.Standing.{found_holds}
 use Rattle.tile_core.proofs.deadlines.plan_persist.Goals as goal
 
 pub returns-in_default : goal.returns-in_default
@@ -25,7 +25,7 @@ plan_put-requires-clause-few c =
     let o = c.in-Some.old.now in
     let x = c.in-Some-2.object in
     let b = bare_is o x (sym c.in_ok-object.ensures ∙ c.in-Some-2.is) in
-    let few = found_few (is_at c.args.key.now c.args.id.now) (objects_in c.args.objects.now) o c.requires.few c.in-Some.ensures.some in
+    let few = found_holds (is_at c.args.key.now c.args.id.now) o HasFewFields (objects_in c.args.objects.now) c.in-Some.ensures.some c.requires.few in
     subst HasFewFields b.2 few
 
 pub plan_put-requires-clause-short : goal.plan_put-requires-clause-short

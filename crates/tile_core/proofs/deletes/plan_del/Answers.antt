@@ -10,9 +10,10 @@ use Rattle.world_model.specs.Records.{record_len}
 use Rattle.world_model.specs.declared.worlds.Change.TheVariants as change
 use Rattle.world_model.specs.declared.objects.Object.{Object}
 use Rattle.keyspace.specs.Entries.{objects_in}
-use Rattle.tile_core.specs.Moves.{world_in, world_of, len_of}
+use Rattle.tile_core.specs.Moves.{world_in, world_of, len_of, HasFewFields}
 use Rattle.tile_core.proofs.Answering.{answers_ever, count_fits, within_changes}
-use Rattle.tile_core.proofs.Weights.{weight_sum, found_few, found_sum, found_at, taken_sum}
+use Rattle.tile_core.proofs.Weights.{weight_sum, found_at, taken_sum}
+use Rattle.tile_core.proofs.Standing.{found_holds, found_sum}
 use Rattle.tile_core.proofs.Removing.{del_some, del_none}
 use Rattle.tile_core.proofs.deletes.plan_del.Goals as goal
 
@@ -20,12 +21,12 @@ pub short_frame-requires-clause-short : goal.short_frame-requires-clause-short
 short_frame-requires-clause-short c = subst (λ (r : List Piece). length (frame_text r) ≤ max_reply) (sym c.in_ok-count_reply-in-Some.ensures.value) (count_fits 1 (lit< tt))
 
 pub put_len-requires : goal.put_len-requires
-put_len-requires c = found_few (is_at c.args.key c.args.id) (objects_in c.args.objects.now) c.in-Some.object.now c.requires.few c.in-Some.ensures.some
+put_len-requires c = found_holds (is_at c.args.key c.args.id) c.in-Some.object.now HasFewFields (objects_in c.args.objects.now) c.in-Some.ensures.some c.requires.few
 
 pub overflow_sub-result : goal.overflow_sub-result
 overflow_sub-result c =
     let xs = objects_in c.args.objects.now in
-    let part = found_sum len_of (is_at c.args.key c.args.id) xs c.in-Some.object.now c.in-Some.ensures.some in
+    let part = found_sum (is_at c.args.key c.args.id) c.in-Some.object.now len_of xs c.in-Some.ensures.some in
     omega (arith, part, weight_sum xs, c.put_len.ensures.value, c.requires.weighed)
 
 pub returns-in_ok-short_frame-in-Some : goal.returns-in_ok-short_frame-in-Some

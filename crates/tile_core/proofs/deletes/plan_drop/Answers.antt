@@ -12,9 +12,10 @@ use Rattle.world_model.specs.Records.{record_len}
 use Rattle.world_model.specs.declared.worlds.Change.TheVariants as change
 use Rattle.world_model.specs.declared.objects.Object.{Object}
 use Rattle.keyspace.specs.Entries.{objects_in}
-use Rattle.tile_core.specs.Moves.{world_in, len_of, HaveFewFields}
+use Rattle.tile_core.specs.Moves.{world_in, len_of, HasFewFields, HaveFewFields}
 use Rattle.tile_core.proofs.Answering.{answers_ever, count_fits, within_changes}
-use Rattle.tile_core.proofs.Weights.{weight_sum, parts_sum, some_few, some_sum}
+use Rattle.tile_core.proofs.Weights.{weight_sum, parts_sum, some_sum}
+use Rattle.tile_core.proofs.Moving.{all_filtered}
 use Rattle.tile_core.proofs.Removing.{drop_some, drop_none, any_key}
 use Rattle.tile_core.proofs.deletes.plan_drop.Goals as goal
 
@@ -32,7 +33,7 @@ returns-then-len-eq0 c =
     answers_ever xs c.args.total c.requires _ (number 0) _ refl c.say_count-then-len-eq0.ensures _ (λ (now : ℕ). drop_none (world_in c.args.objects.now) now c.args.key (sym none))
 
 pub weight_without-weight-requires-clause-few : goal.weight_without-weight-requires-clause-few
-weight_without-weight-requires-clause-few c = subst HaveFewFields (sym c.in-Some.ensures.some) (some_few (has_key c.args.key) (objects_in c.args.objects.now) c.requires.few)
+weight_without-weight-requires-clause-few c = subst HaveFewFields (sym c.in-Some.ensures.some) (all_filtered HasFewFields (has_key c.args.key) (objects_in c.args.objects.now) c.requires.few)
 
 pub weight_without-weight-requires-clause-weighed : goal.weight_without-weight-requires-clause-weighed
 weight_without-weight-requires-clause-weighed c =

@@ -10,12 +10,13 @@ use Rattle.world_model.specs.Worlds.{has_key}
 use Rattle.world_model.specs.Effects.{dels}
 use Rattle.world_model.specs.declared.objects.Object.{Object}
 use Rattle.keyspace.specs.Entries.{objects_in}
-use Rattle.tile_core.specs.Moves.{world_in, world_of, len_of, HaveFewFields, without_each}
+use Rattle.tile_core.specs.Moves.{world_in, world_of, len_of, HasFewFields, HaveFewFields, without_each}
 use Rattle.tile_core.specs.Sweeps.{met, IsSweptOf}
 use Rattle.tile_core.proofs.Answering.{answers_ever, count_fits, within_changes}
-use Rattle.tile_core.proofs.Weights.{weight_sum, some_few, some_sum}
+use Rattle.tile_core.proofs.Weights.{weight_sum, some_sum}
+use Rattle.tile_core.proofs.Moving.{all_filtered}
 use Rattle.tile_core.proofs.Removing.{swept, swept_none}
-use Rattle.tile_core.proofs.Sweeping.{dels_short, of_objects, keyed, some_keyed, dels_do, left_sum}
+use Rattle.tile_core.proofs.Sweeping.{dels_short, of_objects, keyed, dels_do, left_sum}
 use Rattle.tile_core.proofs.deletes.plan_pdel.Goals as goal
 
 pub returns-in_default : goal.returns-in_default
@@ -23,7 +24,7 @@ returns-in_default c =
     answers_ever (objects_in c.args.objects.now) c.args.total c.requires.kept _ (number 0) _ refl c.say_count.ensures _ (λ (now : ℕ). swept_none (world_in c.args.objects.now) now c.args.key c.args.pattern.now c.in_default.ensures.none)
 
 pub sweep-requires-clause-few : goal.sweep-requires-clause-few
-sweep-requires-clause-few c = subst HaveFewFields (sym c.in-Some.ensures.some) (some_few (has_key c.args.key) (objects_in c.args.objects.now) c.requires.kept.few)
+sweep-requires-clause-few c = subst HaveFewFields (sym c.in-Some.ensures.some) (all_filtered HasFewFields (has_key c.args.key) (objects_in c.args.objects.now) c.requires.kept.few)
 
 pub sweep-requires-clause-weighed : goal.sweep-requires-clause-weighed
 sweep-requires-clause-weighed c =
@@ -48,7 +49,7 @@ returns c =
     let frame_is : c.in_ok-short_frame.field-0 ≡ frame_text (number (length gone)) = c.in_ok-short_frame.ensures ∙ ap frame_text c.in_ok-count_reply.ensures.value ∙ ap (λ (n : ℕ). frame_text (number n)) count in
     let left : sum_by len_of (without_each key c.in_ok-swept.swept.ids xs) + sum_by len_of gone ≡ sum_by len_of xs =
     ap (λ (ids : List Bytes). sum_by len_of (without_each key ids xs) + sum_by len_of gone) s.ids ∙ left_sum pattern key xs in
-    let few = some_few (λ o. glob_meets pattern o.id) held (some_few (has_key key) xs c.requires.kept.few) in
+    let few = all_filtered HasFewFields (λ o. glob_meets pattern o.id) held (all_filtered HasFewFields (has_key key) xs c.requires.kept.few) in
     let short = dels_short gone few in
     λ (now : ℕ). record {
       reply = number (length gone);
@@ -59,7 +60,7 @@ returns c =
       does = record {
         few = tt;
         objects_only = of_objects gone;
-        world = dels_do key gone xs (some_keyed key (λ o. glob_meets pattern o.id) held (keyed key xs)) ∙ ap (λ (ids : List Bytes). world_of (without_each key ids xs)) (sym s.ids);
+        world = dels_do key gone xs (all_filtered (λ o. o.key ≡ key) (λ o. glob_meets pattern o.id) held (keyed key xs)) ∙ ap (λ (ids : List Bytes). world_of (without_each key ids xs)) (sym s.ids);
       };
       length_is = s.length_is;
       small = omega (arith, short, left, weight_sum xs, s.length_is, c.requires.kept.weighed, c.requires.kept.light);

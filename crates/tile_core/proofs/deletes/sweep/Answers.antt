@@ -2,9 +2,11 @@ use Rattle.std.proofs.Common.{◌≡◌, take, subst, List, arith}
 use Rattle.std.proofs.lemmas.List.{take_all}
 use Rattle.byte_text.specs.Globs.{glob_meets}
 use Rattle.world_model.specs.declared.objects.Object.{Object}
+use Rattle.tile_core.specs.Moves.{HasFewFields}
 use Rattle.tile_core.specs.Sweeps.{met, IsSweptOf}
 use Rattle.tile_core.proofs.Sweeping.{next_swept, few_take, dels_short}
-use Rattle.tile_core.proofs.Weights.{next_weighs, few_at, some_few, some_sum}
+use Rattle.tile_core.proofs.Weights.{next_weighs, few_at, some_sum}
+use Rattle.tile_core.proofs.Moving.{all_filtered}
 use Rattle.tile_core.proofs.deletes.sweep.Goals as goal
 
 pub sweep_one-requires-clause-few : goal.sweep_one-requires-clause-few
@@ -14,7 +16,7 @@ pub sweep_one-requires-clause-small : goal.sweep_one-requires-clause-small
 sweep_one-requires-clause-small c =
     let pattern = c.args.pattern.now in
     let front = take c.loop-i.i c.args.objects.now.objects in
-    let short = dels_short (met pattern front) (some_few (λ o. glob_meets pattern o.id) front (few_take c.args.objects.now.objects c.loop-i.i c.requires.few)) in
+    let short = dels_short (met pattern front) (all_filtered HasFewFields (λ o. glob_meets pattern o.id) front (few_take c.args.objects.now.objects c.loop-i.i c.requires.few)) in
     omega (arith, short, c.loop-i.invariant.length_is, c.loop-i.invariant.weight_is, c.requires.light)
 
 pub sweep_one-requires-clause-weighed : goal.sweep_one-requires-clause-weighed

@@ -2,20 +2,21 @@ use Rattle.std.proofs.Common.{arith}
 use Rattle.world_model.specs.Lists.{put_in}
 use Rattle.world_model.specs.Worlds.{object_before, is_at}
 use Rattle.keyspace.specs.Entries.{objects_in}
-use Rattle.tile_core.specs.Moves.{len_of}
-use Rattle.tile_core.proofs.Weights.{weight_sum, found_few, found_sum, changed_sum, new_sum}
+use Rattle.tile_core.specs.Moves.{len_of, HasFewFields}
+use Rattle.tile_core.proofs.Weights.{weight_sum, changed_sum, new_sum}
+use Rattle.tile_core.proofs.Standing.{found_holds, found_sum}
 use Rattle.tile_core.proofs.puts.weight_after.Goals as goal
 
 pub put_len-requires : goal.put_len-requires
 put_len-requires c =
     let x = c.args.object.now in
-    found_few (is_at x.key x.id) (objects_in c.args.objects.now) c.in-Some.old.now c.requires.kept.few c.in-Some.ensures.some
+    found_holds (is_at x.key x.id) c.in-Some.old.now HasFewFields (objects_in c.args.objects.now) c.in-Some.ensures.some c.requires.kept.few
 
 pub overflow_sub-result : goal.overflow_sub-result
 overflow_sub-result c =
     let xs = objects_in c.args.objects.now in
     let x = c.args.object.now in
-    let part = found_sum len_of (is_at x.key x.id) xs c.in-Some.old.now c.in-Some.ensures.some in
+    let part = found_sum (is_at x.key x.id) c.in-Some.old.now len_of xs c.in-Some.ensures.some in
     omega (arith, part, weight_sum xs, c.put_len.ensures.value, c.requires.kept.weighed)
 
 pub returns-in-Some : goal.returns-in-Some

@@ -25,8 +25,9 @@ returns-then-glob_meets-clause-too_long c =
 
 pub returns-else-count-gt0-clause-ok : goal.returns-else-count-gt0-clause-ok
 returns-else-count-gt0-clause-ok c = elim c.else-count-gt0.branch [
-    else-count-gt0-via-then-count-gt0+else-glob_meets w ↦
-        let meets : glob_meets c.args.pattern.now c.key-key.result.now ≡ false = rw (← w.bytes.ensures.same, ← w.bytes-then-count-gt0.ensures.same) (sym w.glob_meets.ensures ∙ w.if-glob_meets.false) in
-        rw (not_met c.args.pattern.now c.key-key.result.now c.args.objects.now c.args.i c.count.result c.requires.within c.key-key.ensures c.count.ensures (omega (arith, w.if-count-gt0.true)) meets) c.requires.items
-    | else-count-gt0-via-else-count-gt0 w ↦
-        rw (empty c.args.pattern.now c.key-key.result.now c.args.objects.now c.args.i c.count.result c.requires.within c.key-key.ensures c.count.ensures (omega (arith, w.if-count-gt0.false))) c.requires.items ]
+  | else-count-gt0-via-then-count-gt0+else-glob_meets w ↦
+      let meets : glob_meets c.args.pattern.now c.key-key.result.now ≡ false = rw (← w.bytes.ensures.same, ← w.bytes-then-count-gt0.ensures.same) (sym w.glob_meets.ensures ∙ w.if-glob_meets.false) in
+      rw (not_met c.args.pattern.now c.key-key.result.now c.args.objects.now c.args.i c.count.result c.requires.within c.key-key.ensures c.count.ensures (omega (arith, w.if-count-gt0.true)) meets) c.requires.items
+  | else-count-gt0-via-else-count-gt0 w ↦
+      rw (empty c.args.pattern.now c.key-key.result.now c.args.objects.now c.args.i c.count.result c.requires.within c.key-key.ensures c.count.ensures (omega (arith, w.if-count-gt0.false))) c.requires.items
+]
