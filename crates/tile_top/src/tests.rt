@@ -325,10 +325,7 @@ fn pages_and_their_cursors(rt: HostRuntime) -> Result<(), Fail> {
             "SCAN s CURSOR 2 LIMIT 2 IDS",
             "*2\r\n:0\r\n*2\r\n$1\r\nd\r\n$1\r\ne\r\n",
         ),
-        (
-            "SCAN s DESC LIMIT 1 IDS",
-            "*2\r\n:1\r\n*1\r\n$1\r\ne\r\n",
-        ),
+        ("SCAN s DESC LIMIT 1 IDS", "*2\r\n:1\r\n*1\r\n$1\r\ne\r\n"),
         ("SCAN none IDS", "*2\r\n:0\r\n*0\r\n"),
     ];
     let (script, output) = exchanges(alloc, &table)?;
