@@ -1,5 +1,6 @@
 #!/bin/sh
-# Measures how long scripts take: many points set, one large GeoJSON text, and one stream cut byte by byte.
+# Measures how long scripts take: many points set, many that expire at one moment, pages of them, one large GeoJSON text, and one
+# stream cut byte by byte.
 # Usage: bench/replay.sh [N]   N points, 2000 if left out. Each line tells what was played, the bytes of the script and the seconds.
 set -eu
 cd "$(dirname "$0")/.."
@@ -13,6 +14,29 @@ points() {
         print "open"
         for (i = 0; i < n; i++) {
             print "feed 1 0 *6%0D%0A" word("SET") word("fleet") word("truck" i) word("POINT") word(i "") word(i "")
+            print "take 1"
+        }
+    }'
+}
+
+expiring() {
+    awk -v n="$n" 'function word(w) { return "$" length(w) "%0D%0A" w "%0D%0A" }
+    BEGIN {
+        print "open"
+        for (i = 0; i < n; i++) {
+            print "feed 1 0 *8%0D%0A" word("SET") word("fleet") word("truck" i) word("EX") word("1") word("POINT") word(i "") word(i "")
+            print "take 1"
+        }
+        print "tick 1000"
+    }'
+}
+
+pages() {
+    points
+    awk -v n="$n" 'function word(w) { return "$" length(w) "%0D%0A" w "%0D%0A" }
+    BEGIN {
+        for (i = 0; i < n; i += 100) {
+            print "feed 1 0 *5%0D%0A" word("SCAN") word("fleet") word("CURSOR") word(i "") word("POINTS")
             print "take 1"
         }
     }'
@@ -52,5 +76,7 @@ measure() {
 
 ./fudrask replay < /dev/null > /dev/null
 measure "points set: $n" points
+measure "points that expire: $n" expiring
+measure "points set, and pages: $n" pages
 measure "a text of 9999 positions" large_text
 measure "requests cut apart: $n" cut_bytes
