@@ -6,7 +6,6 @@ use Rattle.byte_text.specs.Names.{Bytes}
 use Rattle.byte_text.specs.Replies.{array, fine, IsFrame}
 use Rattle.byte_text.specs.declared.replies.Piece.{Piece}
 use Rattle.byte_text.specs.declared.replies.Piece.TheVariants as piece
-use Rattle.planar_geom.specs.Points.{Bounds}
 use Rattle.world_model.specs.Worlds.{object_at, objects_of}
 use Rattle.world_model.specs.Replies.{null, object_reply, fields_reply, bounds_of_key, stats_of_key}
 use Rattle.world_model.specs.Effects.{effect, says, within_reply}
