@@ -54,7 +54,7 @@ const FORMS: [&str; 24] = [
     "SCAN k LIMIT l IDS",
     "SCAN k DESC CURSOR l LIMIT l MATCH p POINTS",
     "SCAN k WHERE n v inf WHEREIN n 2 v 0 NOFIELDS",
-    "SCAN k COUNT WHERE n -inf v",
+    "SCAN k WHERE n -inf v COUNT",
 ];
 
 fn push_choice(out: &mut Text, numbers: &mut Numbers, words: &[&[u8]]) -> Result<(), NoMemory> {
