@@ -1,5 +1,7 @@
 //! Lines of words that are made by a generator of numbers, so that a table of them is the same in each run.
 
+ghost use Rattle.std.specs.Prelude.{◌<◌};
+
 use byte_text::{NoMemory, Request, Text, push_u64};
 use std::alloc::Global;
 use std::test::Fail;
@@ -95,8 +97,11 @@ pub(crate) fn request(alloc: Global, numbers: &mut Numbers) -> Result<Request, F
     for word in form.split(' ') {
         let mut text = Text::new(alloc);
         push_word(&mut text, numbers, word)?;
-        if words.words() >= 64 || text.len() > 255 {
-            return Err(Fail::from("a line has few and short words"));
+        if words.words() >= 64 {
+            return Err(Fail::from("a line has few words"));
+        }
+        if text.len() > 255 {
+            return Err(Fail::from("a word is short"));
         }
         words.push(text.bytes())?;
     }

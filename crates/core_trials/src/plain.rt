@@ -1,5 +1,7 @@
 //! The machine as a plain program: a list of objects in order of key and id, which each command goes through from its start.
 
+ghost use Rattle.std.specs.Prelude.{◌<◌, length, IfSome};
+
 use crate::frames::{
     push_box, push_bulk, push_fields, push_head, push_number, push_point, push_value,
 };
@@ -17,7 +19,7 @@ use world_model::{Command, Fields, NameList, Object, Only, Query, Rule, Shown};
 pub(crate) struct Plain {
     alloc: Global,
     objects: Vec<Object>,
-    now: u64,
+    clock: u64,
 }
 
 // How an object stands to a key and an id.
@@ -97,14 +99,14 @@ impl Plain {
         Plain {
             alloc,
             objects: Vec::new(alloc),
-            now: 0,
+            clock: 0,
         }
     }
 
     /// The frame that answers a request at a moment; nothing where its words are refused.
     pub(crate) fn call(&mut self, moment: u64, words: &Request) -> Result<Text, NoMemory> {
-        let now = self.now.max(moment);
-        self.now = now;
+        let now = self.clock.max(moment);
+        self.clock = now;
         self.objects.retain(|object: &Object| -> bool {
             object.deadline.unwrap_or(u64::MAX) > now
         });
@@ -114,10 +116,16 @@ impl Plain {
         }
     }
 
-    fn place(&self, key: &Name, id: &Name) -> Option<usize> {
-        self.objects.iter().position(|object: &Object| -> bool {
-            order(object, key, id) == Ordering::Equal
-        })
+    // Where the object of this key and this id stands.
+    fn place(&self, key: &Name, id: &Name) -> Option<usize>
+        ensures { IfSome result (λ i. i < length self.now.objects.items) }
+    {
+        for (i, object) in self.objects.iter().enumerate() {
+            if order(object, key, id) == Ordering::Equal {
+                return Some(i);
+            }
+        }
+        None
     }
 
     fn has_key(&self, key: &Name) -> bool {
@@ -155,14 +163,8 @@ impl Plain {
                 with_fields,
                 shown,
             } => self.get(&key, &id, with_fields, shown),
-            Command::Del { key, id } => {
-                self.counted(|object: &Object| -> bool {
-                    order(object, &key, &id) != Ordering::Equal
-                })
-            }
-            Command::Pdel { key, glob } => self.counted(|object: &Object| -> bool {
-                object.key != key || !meets(&glob, &object.id)
-            }),
+            Command::Del { key, id } => self.delete(&key, &id),
+            Command::Pdel { key, glob } => self.delete_met(&key, &glob),
             Command::Drop { key } => {
                 let had = self.has_key(&key);
                 self.objects
@@ -192,11 +194,26 @@ impl Plain {
         }
     }
 
-    // Keeps the objects of which this holds, and tells how many went.
-    fn counted<F: Fn(&Object) -> bool>(&mut self, kept: F) -> Result<Text, NoMemory> {
+    fn delete(&mut self, key: &Name, id: &Name) -> Result<Text, NoMemory> {
         let before = self.objects.len();
-        self.objects.retain(kept);
-        number(self.alloc, before.saturating_sub(self.objects.len()) as i64)
+        self.objects.retain(|object: &Object| -> bool {
+            order(object, key, id) != Ordering::Equal
+        });
+        self.gone_since(before)
+    }
+
+    fn delete_met(&mut self, key: &Name, glob: &Name) -> Result<Text, NoMemory> {
+        let before = self.objects.len();
+        self.objects.retain(|object: &Object| -> bool {
+            object.key != *key || !meets(glob, &object.id)
+        });
+        self.gone_since(before)
+    }
+
+    // How many objects went since there were so many.
+    fn gone_since(&self, before: usize) -> Result<Text, NoMemory> {
+        let gone = before.saturating_sub(self.objects.len());
+        number(self.alloc, i64::try_from(gone).unwrap_or(i64::MAX))
     }
 
     fn set(
@@ -209,7 +226,7 @@ impl Plain {
         let alloc = self.alloc;
         let mut object = object;
         if let Some(seconds) = seconds {
-            object.deadline = Some(self.now.saturating_add(1000 * u64::from(seconds)));
+            object.deadline = Some(self.clock.saturating_add(1000 * u64::from(seconds)));
         }
         let at = self.place(&object.key, &object.id);
         let kept_back = match only {
@@ -316,7 +333,7 @@ impl Plain {
         let Some(at) = self.place(key, id) else {
             return number(self.alloc, 0);
         };
-        self.objects[at].deadline = Some(self.now.saturating_add(1000 * u64::from(seconds)));
+        self.objects[at].deadline = Some(self.clock.saturating_add(1000 * u64::from(seconds)));
         number(self.alloc, 1)
     }
 
@@ -335,7 +352,7 @@ impl Plain {
         };
         match self.objects[at].deadline {
             Some(deadline) => {
-                let left = deadline.saturating_sub(self.now).saturating_add(999) / 1000;
+                let left = deadline.saturating_sub(self.clock).saturating_add(999) / 1000;
                 number(self.alloc, left as i64)
             }
             None => number(self.alloc, -1),

@@ -1,0 +1,5 @@
+use Rattle.cmd_words.proofs.Requests.{AreShort}
+use Rattle.core_trials.proofs.lines.request.Given as goal
+
+abbrev pub invariant-loop-word : goal.invariant-loop-word
+invariant-loop-word l = AreShort l.words
