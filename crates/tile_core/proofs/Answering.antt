@@ -1,6 +1,6 @@
 -- Answers, and the plans that are answers alone.
-use Rattle.std.proofs.Common.{◌≡◌, ℕ, ◌<◌, ◌≤◌, ◌^◌, Bool, true, false, refl, sym, ap, ◌∙◌, subst, lit≤, lit<, List, [], ◌∷◌, ◌++◌, length, length-append, arith}
-use Rattle.std.specs.Prelude.{codes, nat_le, decimal, Result, IfOk}
+use Rattle.std.proofs.Common.{◌≡◌, ℕ, ◌<◌, ◌≤◌, ◌^◌, Bool, true, false, refl, sym, ap, ◌∙◌, subst, lit≤, List, [], ◌∷◌, ◌++◌, length, length-append, arith}
+use Rattle.std.specs.Prelude.{nat_le, decimal, Result, IfOk}
 use Rattle.std.proofs.lemmas.Result.{IfOk-weaker}
 use Rattle.std.proofs.lemmas.Fmt.{length-decimal-le}
 use Rattle.std.proofs.lemmas.Bool.Decides.{nat_tests}
@@ -10,14 +10,13 @@ use Rattle.byte_text.specs.declared.replies.Piece.{Piece}
 use Rattle.world_model.specs.Limits.{max_reply}
 use Rattle.byte_text.specs.declared.faults.RespFault.{RespFault}
 use Rattle.byte_text.specs.declared.faults.RespFault.TheVariants as resp
-use Rattle.world_model.specs.Replies.{error}
 use Rattle.world_model.specs.Refusals.{broken_reply}
-use Rattle.world_model.specs.Effects.{Effect, Deed, says, changes, refuses, within_reply}
+use Rattle.world_model.specs.Effects.{Effect, Deed, says, changes, within_reply}
 use Rattle.world_model.specs.declared.objects.Object.{Object}
 use Rattle.tile_core.specs.declared.moves.Move.TheVariants.{Stay}
 use Rattle.tile_core.specs.declared.plans.Plan.{Plan}
 use Rattle.tile_core.specs.Kernels.{AreKept}
-use Rattle.tile_core.specs.Plans.{Replies, Says, IsPlan}
+use Rattle.tile_core.specs.Plans.{Says, IsPlan}
 
 -- changes behind a reply that fits
 pub within_changes : (r : List Piece) (deeds : List Deed) → length (frame_text r) ≤ max_reply → within_reply (changes r deeds) ≡ changes r deeds

@@ -1,9 +1,9 @@
 -- What FSET and FGET do.
-use Rattle.std.proofs.Common.{◌≡◌, ◌≢◌, ℕ, ℤ, zero, suc, ◌+◌, ◌<◌, ◌≤◌, Bool, true, false, not, refl, sym, ap, ◌∙◌, subst, List, [], ◌∷◌, ◌++◌, length, take, map, arith}
-use Rattle.std.specs.Prelude.{Option, Some, None, IfSome, pos, codes, count_by, nat_lt, nat_le, ◌==◌, slice_get, if◌then◌else◌}
+use Rattle.std.proofs.Common.{◌≡◌, ◌≢◌, ℕ, ℤ, suc, ◌+◌, ◌<◌, ◌≤◌, Bool, true, false, not, refl, ap, ◌∙◌, subst, List, [], ◌∷◌, ◌++◌, length, take, arith}
+use Rattle.std.specs.Prelude.{Option, Some, None, IfSome, pos, codes, nat_lt, ◌==◌, slice_get, if◌then◌else◌}
 use Rattle.std.specs.List.{list_any}
 use Rattle.std.proofs.lemmas.Bool.Decides.{nat_tests}
-use Rattle.std.proofs.lemmas.List.Sums.{sum_by-cons, sum_by_push, sum_by-append, count_by-le-length}
+use Rattle.std.proofs.lemmas.List.Sums.{sum_by_push}
 use Rattle.byte_text.specs.Names.{Bytes}
 use Rattle.byte_text.specs.Replies.{number}
 use Rattle.planar_geom.specs.Points.{same_int}
@@ -11,7 +11,7 @@ use Rattle.world_model.specs.Limits.{max_fields}
 use Rattle.world_model.specs.Worlds.{object_at, has_key}
 use Rattle.world_model.specs.Filters.{Field, with_values, value_of}
 use Rattle.world_model.specs.Replies.{number_text}
-use Rattle.world_model.specs.Effects.{Effect, effect, says, refuses, missing, within_reply, given_and_cleared, changed_count}
+use Rattle.world_model.specs.Effects.{effect, says, refuses, missing, within_reply, given_and_cleared, changed_count}
 use Rattle.world_model.specs.declared.objects.Object.{Object}
 use Rattle.world_model.specs.declared.worlds.World.{World}
 use Rattle.world_model.specs.declared.commands.Command.TheVariants as command

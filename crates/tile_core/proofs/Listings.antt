@@ -1,6 +1,6 @@
 -- Items that are pushed one after another.
-use Rattle.std.proofs.Common.{◌≡◌, ◌≢◌, ◌+◌, ◌≤◌, ◌<◌, ℕ, zero, suc, Bool, true, false, refl, sym, ◌∙◌, ap, subst, List, [], ◌∷◌, ◌++◌, length, take, drop, map, length-append, arith}
-use Rattle.std.specs.Prelude.{filter, find, reverse, flat_map, slice_get, Some, IfSome}
+use Rattle.std.proofs.Common.{◌≡◌, ◌≢◌, ◌+◌, ◌≤◌, ◌<◌, ℕ, zero, suc, true, false, refl, sym, ◌∙◌, ap, subst, List, [], ◌∷◌, ◌++◌, length, take, drop, map, length-append, arith}
+use Rattle.std.specs.Prelude.{filter, find, reverse, slice_get, Some, IfSome}
 use Rattle.std.proofs.lemmas.List.{take_more, reverse-append, append-nil, map-append, take-append-drop}
 use Rattle.std.proofs.lemmas.List.Elements.{filter-append}
 use Rattle.std.proofs.lemmas.Grind.{flat_map-append}

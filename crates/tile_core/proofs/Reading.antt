@@ -1,20 +1,18 @@
 -- What GET, BOUNDS and STATS do.
-use Rattle.std.proofs.Common.{◌≡◌, ℕ, zero, suc, ◌+◌, Bool, refl, sym, ap, ◌∙◌, subst, List, [], ◌∷◌, ◌++◌, arith}
+use Rattle.std.proofs.Common.{◌≡◌, ℕ, zero, suc, ◌+◌, Bool, refl, sym, ap, ◌∙◌, List, [], ◌∷◌, ◌++◌, arith}
 use Rattle.std.specs.List.{AllByRecursion}
-use Rattle.std.specs.Prelude.{Option, Some, None, IfSome, IfNone, codes, map, take, slice_get, if◌then◌else◌}
+use Rattle.std.specs.Prelude.{Some, None, codes, map, take, slice_get, if◌then◌else◌}
 use Rattle.byte_text.specs.Names.{Bytes}
 use Rattle.byte_text.specs.Replies.{array, fine, IsFrame}
 use Rattle.byte_text.specs.declared.replies.Piece.{Piece}
 use Rattle.byte_text.specs.declared.replies.Piece.TheVariants as piece
-use Rattle.planar_geom.specs.Points.{Bounds}
 use Rattle.world_model.specs.Worlds.{object_at, objects_of}
-use Rattle.world_model.specs.Replies.{null, object_reply, fields_reply, no_list, bounds_reply, bounds_of_key, stats_of_key}
+use Rattle.world_model.specs.Replies.{null, object_reply, fields_reply, bounds_of_key, stats_of_key}
 use Rattle.world_model.specs.Effects.{effect, says, within_reply}
 use Rattle.world_model.specs.declared.objects.Object.{Object}
 use Rattle.world_model.specs.declared.worlds.World.{World}
 use Rattle.world_model.specs.declared.commands.Command.TheVariants as command
 use Rattle.world_model.specs.declared.queries.Shown.{Shown}
-use Rattle.collection.specs.Objects.{bounds_of}
 use Rattle.tile_core.specs.Plans.{ends_with}
 
 -- the reply to GET for an object that is there

@@ -4,7 +4,6 @@ use Rattle.std.specs.Prelude.{Some, None, filter, nat_lt, ◌||◌, if◌then◌
 use Rattle.std.specs.List.{list_any}
 use Rattle.std.proofs.lemmas.Bool.Decides.{nat_tests}
 use Rattle.byte_text.specs.Names.{Bytes}
-use Rattle.byte_text.specs.Globs.{glob_meets}
 use Rattle.byte_text.specs.Replies.{fine, number}
 use Rattle.world_model.specs.Worlds.{object_at, objects_of, has_key}
 use Rattle.world_model.specs.Effects.{effect, says, changes, loud, quiet, dels, within_reply}

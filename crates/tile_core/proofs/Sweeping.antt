@@ -1,5 +1,5 @@
 -- The objects of a key that meet a pattern, looked at one by one, and taken out by their ids.
-use Rattle.std.proofs.Common.{◌≡◌, ℕ, zero, suc, ◌+◌, ◌≤◌, Bool, true, false, not, refl, sym, ap, ◌∙◌, subst, List, [], ◌∷◌, ◌++◌, length, take, map, arith}
+use Rattle.std.proofs.Common.{◌≡◌, ℕ, zero, suc, ◌+◌, ◌≤◌, Bool, true, false, not, refl, sym, ap, ◌∙◌, subst, List, [], ◌∷◌, ◌++◌, take, map, arith}
 use Rattle.std.specs.Prelude.{filter, sum_by, slice_get, Some, if◌then◌else◌, ◌&&◌, ◌||◌}
 use Rattle.std.specs.List.{list_any, AllByRecursion}
 use Rattle.std.proofs.lemmas.List.{map-append}
@@ -8,14 +8,11 @@ use Rattle.std.proofs.lemmas.List.Sums.{sum_by-cons, sum_by-append}
 use Rattle.byte_text.specs.Names.{Bytes, same}
 use Rattle.byte_text.specs.Globs.{glob_meets}
 use Rattle.world_model.specs.Worlds.{is_at, has_key}
-use Rattle.world_model.specs.Records.{record_len}
 use Rattle.world_model.specs.Effects.{Deed, dels}
 use Rattle.world_model.specs.declared.objects.Object.{Object}
-use Rattle.world_model.specs.declared.worlds.World.{World}
-use Rattle.world_model.specs.declared.worlds.Change.TheVariants as change
 use Rattle.collection.proofs.ByteOrder.{same_refl, same_equal}
 use Rattle.tile_core.specs.declared.deletes.Swept.{Swept}
-use Rattle.tile_core.specs.Moves.{world_of, len_of, HasFewFields, HaveFewFields, without_each}
+use Rattle.tile_core.specs.Moves.{world_of, len_of, HaveFewFields, without_each}
 use Rattle.tile_core.specs.Plans.{after_all, records_len, IsOfObjects}
 use Rattle.tile_core.specs.Sweeps.{met, IsSwept, IsSweptOf}
 use Rattle.tile_core.proofs.RecordWords.{del_short}

@@ -1,12 +1,12 @@
 -- What EXPIRE, PERSIST and TTL do.
-use Rattle.std.proofs.Common.{◌≡◌, ℕ, ◌+◌, ◌*◌, ◌≤◌, arith, true, false, refl, sym, ap, ◌∙◌, subst, List, []}
-use Rattle.std.specs.Prelude.{Option, Some, None, nat_le}
+use Rattle.std.proofs.Common.{◌≡◌, ℕ, ◌+◌, ◌*◌, ◌≤◌, arith, true, false, refl, sym, ◌∙◌, List, []}
+use Rattle.std.specs.Prelude.{Option, Some, None}
 use Rattle.std.proofs.lemmas.Bool.Decides.{nat_tests}
 use Rattle.byte_text.specs.Names.{Bytes}
 use Rattle.byte_text.specs.Replies.{number}
 use Rattle.world_model.specs.Limits.{max_weight}
 use Rattle.world_model.specs.Lists.{put_in}
-use Rattle.world_model.specs.Worlds.{object_at, object_before, are_objects, is_at}
+use Rattle.world_model.specs.Worlds.{object_at, object_before, is_at}
 use Rattle.world_model.specs.Records.{weight}
 use Rattle.world_model.specs.Effects.{effect, says, fits, within_reply}
 use Rattle.world_model.specs.Replies.{integer_reply, seconds_left, no_object}

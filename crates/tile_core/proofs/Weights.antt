@@ -1,6 +1,6 @@
 -- The weight of the world, and what changes of the objects make of it.
 use Rattle.std.proofs.Common.{◌≡◌, ℕ, zero, suc, ◌+◌, ◌≤◌, Bool, true, false, not, refl, sym, ap, ◌∙◌, subst, List, [], ◌∷◌, ◌++◌, take, arith, add-zero}
-use Rattle.std.specs.Prelude.{Option, Some, None, sum_by, find, filter, slice_get, if◌then◌else◌, ◌&&◌, ◌||◌}
+use Rattle.std.specs.Prelude.{Some, None, sum_by, find, filter, slice_get, if◌then◌else◌, ◌&&◌, ◌||◌}
 use Rattle.std.specs.List.{list_all}
 use Rattle.std.proofs.lemmas.List.Sums.{sum_by-cons, sum_by_push}
 use Rattle.byte_text.specs.Names.{Bytes, before, same}

@@ -1,5 +1,5 @@
 -- Replies of many items.
-use Rattle.std.specs.Prelude.{◌≡◌, ◌<◌, List, filter, flat_map, length, map, Result, Ok, Err}
+use Rattle.std.specs.Prelude.{◌≡◌, ◌<◌, List, filter, flat_map, length, map}
 use Rattle.byte_text.specs.Names.{Bytes}
 use Rattle.byte_text.specs.Globs.{glob_meets}
 use Rattle.byte_text.specs.Replies.{frame_text}

@@ -1,4 +1,4 @@
-use Rattle.std.proofs.Common.{◌≡◌, ◌≤◌, ◌+◌, ◌*◌, length, lit<, subst, ap, ◌∙◌, sym, refl, false, List, ℕ}
+use Rattle.std.proofs.Common.{◌≤◌, ◌+◌, ◌*◌, length, lit<, subst, ap, ◌∙◌, sym, refl, false, List, ℕ}
 use Rattle.std.specs.Prelude.{Option, Some}
 use Rattle.std.proofs.lemmas.Result.{IfOk-weaker}
 use Rattle.byte_text.specs.Replies.{number, frame_text}

@@ -1,5 +1,4 @@
-use Rattle.std.proofs.Common.{◌≡◌, ◌≤◌, ℕ, length, lit<, subst, ap, ◌∙◌, sym, refl, false, List}
-use Rattle.std.specs.Prelude.{Some}
+use Rattle.std.proofs.Common.{◌≤◌, ℕ, length, lit<, subst, ap, ◌∙◌, sym, refl, false, List}
 use Rattle.std.proofs.lemmas.Result.{IfOk-weaker}
 use Rattle.byte_text.specs.Replies.{number, frame_text}
 use Rattle.byte_text.specs.declared.replies.Piece.{Piece}
@@ -9,7 +8,7 @@ use Rattle.world_model.specs.Effects.{Effect}
 use Rattle.world_model.specs.declared.objects.Object.{Object}
 use Rattle.keyspace.specs.Entries.{objects_in}
 use Rattle.tile_core.specs.Moves.{world_in, HasFewFields}
-use Rattle.tile_core.specs.Plans.{IsPlan, put_or_full, without_deadline}
+use Rattle.tile_core.specs.Plans.{IsPlan, put_or_full}
 use Rattle.tile_core.proofs.Answering.{answers_ever, count_fits}
 use Rattle.tile_core.proofs.Timing.{persisted_some, persisted_same, persisted_none, bare_is, bare_already, bare_fits}
 use Rattle.tile_core.proofs.Standing.{found_holds}

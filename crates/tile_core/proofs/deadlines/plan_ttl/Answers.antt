@@ -1,4 +1,4 @@
-use Rattle.std.proofs.Common.{◌≡◌, ap, ◌∙◌, refl, to_z-of_z, w64, rules}
+use Rattle.std.proofs.Common.{◌≡◌, ap, ◌∙◌, to_z-of_z, w64, rules}
 use mir.Val.{SFits}
 use Rattle.world_model.specs.Replies.{integer_reply, seconds_left, no_object}
 use Rattle.keyspace.specs.Entries.{objects_in}

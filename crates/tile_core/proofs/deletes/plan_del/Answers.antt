@@ -8,7 +8,6 @@ use Rattle.world_model.specs.Worlds.{is_at}
 use Rattle.world_model.specs.Effects.{loud}
 use Rattle.world_model.specs.Records.{record_len}
 use Rattle.world_model.specs.declared.worlds.Change.TheVariants as change
-use Rattle.world_model.specs.declared.objects.Object.{Object}
 use Rattle.keyspace.specs.Entries.{objects_in}
 use Rattle.tile_core.specs.Moves.{world_in, world_of, len_of, HasFewFields}
 use Rattle.tile_core.proofs.Answering.{answers_ever, count_fits, within_changes}

@@ -1,4 +1,4 @@
-use Rattle.std.proofs.Common.{◌≡◌, map, take, drop, ◌+◌}
+use Rattle.std.proofs.Common.{map, take, drop, ◌+◌}
 use Rattle.std.proofs.lemmas.Result.{err_from_is_err_and}
 use Rattle.byte_text.specs.Replies.{bulk}
 use Rattle.tile_core.specs.Listings.{keys_met}

@@ -1,4 +1,4 @@
-use Rattle.std.proofs.Common.{◌≡◌, ℕ, false, sym, ◌∙◌, subst, map}
+use Rattle.std.proofs.Common.{ℕ, false, ◌∙◌, map}
 use Rattle.byte_text.specs.Replies.{array, bulk}
 use Rattle.keyspace.specs.Entries.{objects_in}
 use Rattle.tile_core.specs.Moves.{world_in}

@@ -1,4 +1,4 @@
-use Rattle.std.proofs.Common.{◌≡◌, ℕ, ap, sym, ◌∙◌}
+use Rattle.std.proofs.Common.{ℕ, ap, sym, ◌∙◌}
 use Rattle.world_model.specs.Replies.{page_reply}
 use Rattle.search_query.specs.Found.{found}
 use Rattle.keyspace.specs.Entries.{objects_in}

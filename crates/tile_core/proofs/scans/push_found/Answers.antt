@@ -1,11 +1,10 @@
-use Rattle.std.proofs.Common.{◌≡◌, List, ◌++◌, ◌∷◌, [], ◌+◌, sym, ◌∙◌, ap, subst, map, take, arith}
+use Rattle.std.proofs.Common.{◌≡◌, List, ◌++◌, ◌∷◌, [], ◌+◌, sym, ◌∙◌, ap, map, take, arith}
 use Rattle.byte_text.specs.declared.replies.Piece.{Piece}
 use Rattle.std.proofs.lemmas.Result.{IfOk-weaker, IfErr-weaker}
 use Rattle.world_model.specs.Queries.{page_items}
 use Rattle.world_model.specs.Replies.{item_reply}
-use Rattle.collection.specs.Objects.{has_id}
 use Rattle.search_query.specs.Found.{found}
-use Rattle.tile_core.proofs.Listings.{items_more, items_long, fault_of, paged_object, paged_found, paged_more, same_object}
+use Rattle.tile_core.proofs.Listings.{items_more, items_long, fault_of, paged_found, paged_more, same_object}
 use Rattle.tile_core.proofs.scans.push_found.Goals as goal
 
 pub unreachable-requires : goal.unreachable-requires
