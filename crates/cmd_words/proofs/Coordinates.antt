@@ -5,7 +5,7 @@ use Rattle.byte_text.specs.Names.{Bytes}
 use Rattle.byte_text.specs.Numbers.{whole, read_whole, number_or_fault}
 use Rattle.byte_text.specs.declared.texts.TextFault.{TextFault}
 use Rattle.planar_geom.specs.Points.{pt, bounds, bounds_of}
-use Rattle.world_model.specs.Limits.{max_coord}
+use Rattle.world_data.specs.Limits.{max_coord}
 use Rattle.world_model.specs.Commands.{without_minus, are_digits}
 use Rattle.world_model.specs.Grammar.{Due}
 use Rattle.world_model.specs.declared.faults.WordFault.{WordFault}

@@ -6,8 +6,8 @@ use Rattle.world_model.specs.Grammar.{Form, Due, done, one_word, ◌>>=◌}
 use Rattle.world_model.specs.Commands.{reads, wrong_count, shown_of}
 use Rattle.world_model.specs.declared.commands.Command.{Command}
 use Rattle.world_model.specs.declared.commands.Command.TheVariants as command
-use Rattle.world_model.specs.declared.queries.Shown.{Shown}
-use Rattle.world_model.specs.declared.queries.Shown.TheVariants as shown
+use Rattle.world_data.specs.declared.queries.Shown.{Shown}
+use Rattle.world_data.specs.declared.queries.Shown.TheVariants as shown
 use Rattle.world_model.specs.declared.faults.WordFault.{WordFault}
 use Rattle.world_model.specs.declared.faults.WordFault.TheVariants as fault
 use Rattle.cmd_words.specs.Places.{Place, all_words, IsBehind, IsFault, IsOne, Follows, Parses, Answers, IsEnd, Took, ReadsShown, a_name, key_and_id, get_options}

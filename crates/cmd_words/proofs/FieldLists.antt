@@ -5,7 +5,7 @@ use Rattle.std.proofs.lemmas.List.{append-nil}
 use Rattle.byte_text.specs.Names.{Bytes}
 use Rattle.world_model.specs.Grammar.{a_word, spells, runs_out, go_on, ◌>>=◌, done, repeated, once_or_more, live}
 use Rattle.world_model.specs.Kinds.{name, integer}
-use Rattle.world_model.specs.Filters.{Field}
+use Rattle.world_data.specs.Filters.{Field}
 use Rattle.world_model.specs.Commands.{field, reads}
 use Rattle.world_model.specs.declared.commands.Command.{Command}
 use Rattle.world_model.specs.declared.faults.WordFault.{WordFault}

@@ -5,12 +5,12 @@ use Rattle.std.specs.List.{list_all}
 use Rattle.std.proofs.lemmas.List.{take_more, map-append}
 use Rattle.std.proofs.lemmas.Option.{get_or_from_slice_get}
 use Rattle.byte_text.specs.Names.{Bytes, before}
-use Rattle.world_model.specs.Lists.{ascends, put_in}
-use Rattle.world_model.specs.Filters.{Field, field_before, is_zero, last_values, with_values}
+use Rattle.ordered_lists.specs.Lists.{ascends, put_in}
+use Rattle.world_data.specs.Filters.{Field, field_before, is_zero, last_values, with_values}
 use Rattle.world_model.specs.Commands.{cleared_of}
-use Rattle.world_model.proofs.Order.{before_trans, before_tie}
-use Rattle.world_model.proofs.FieldLaws.{last_values-ascends}
-use Rattle.world_model.proofs.PlaceLaws.{filter-all, filter-passes}
+use Rattle.ordered_lists.proofs.ByteOrder.{before_trans, before_tie}
+use Rattle.ordered_lists.proofs.Reading.{filter-all, filter-passes}
+use Rattle.world_data.proofs.FieldLaws.{last_values-ascends}
 use Rattle.cmd_words.specs.Sets.{mark_of}
 use Rattle.cmd_words.proofs.Coordinates.{both}
 

@@ -10,8 +10,8 @@ use Rattle.world_model.specs.Grammar.{Form, a_word, Reading, spells, runs_out, d
 use Rattle.world_model.specs.Commands.{readings, reads, fault_at, shown_of, command_spelled}
 use Rattle.world_model.specs.declared.commands.Command.{Command}
 use Rattle.world_model.specs.declared.commands.Command.TheVariants as command
-use Rattle.world_model.specs.declared.queries.Shown.{Shown}
-use Rattle.world_model.specs.declared.queries.Shown.TheVariants as shown
+use Rattle.world_data.specs.declared.queries.Shown.{Shown}
+use Rattle.world_data.specs.declared.queries.Shown.TheVariants as shown
 use Rattle.world_model.specs.declared.faults.WordFault.TheVariants as fault
 use Rattle.world_model.specs.declared.faults.WordFault.{WordFault}
 use Rattle.cmd_words.specs.Places.{Place, all_words, IsBehind, Moves, Follows, Took, Answers, IsEnd, ReadsShown, IsNot, IsShown, IsNotShown, get_output, get_options}

@@ -10,7 +10,7 @@ use Rattle.planar_geom.specs.Points.{Point, Bounds}
 use Rattle.planar_geom.specs.declared.shapes.Part.TheVariants.{Spot, Face}
 use Rattle.world_model.specs.Grammar.{Form, a_word, Reading, runs_out, ◌>>=◌, ◌>>◌, done, where_, word, live, spelled, wants_coordinate, wants_geojson}
 use Rattle.world_model.specs.Kinds.{name, integer, seconds, lat_lon, four, geojson}
-use Rattle.world_model.specs.Filters.{Field}
+use Rattle.world_data.specs.Filters.{Field}
 use Rattle.world_model.specs.Commands.{SetOptions, set_option, field, place, reads, readings, shown_of, fault_at, command_spelled, wrong_count}
 use Rattle.world_model.specs.declared.commands.Only.{Only}
 use Rattle.world_model.specs.declared.commands.Only.TheVariants.{Absent, Present}

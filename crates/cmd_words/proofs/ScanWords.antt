@@ -5,13 +5,13 @@ use Rattle.std.specs.List.{list_any}
 use Rattle.std.specs.Str.{str_to_ascii_lowercase}
 use Rattle.std.proofs.lemmas.List.{append-nil}
 use Rattle.byte_text.specs.Names.{Bytes, is_word}
-use Rattle.world_model.specs.Limits.{max_tests, max_limit}
+use Rattle.world_data.specs.Limits.{max_tests, max_limit}
 use Rattle.world_model.specs.Grammar.{Form, a_word, a_coordinate, a_geojson, Reading, spells, runs_out, go_on, ◌>>=◌, ◌>>◌, done, word, maybe, times, live, wants_coordinate, wants_geojson}
 use Rattle.world_model.specs.Kinds.{name, glob, integer, between, bound}
 use Rattle.world_model.specs.Commands.{SearchOptions, no_search_options, search_option, output, test, reads, wrong_count, shown_of}
-use Rattle.world_model.specs.declared.filters.Test.TheVariants.{Range, Among}
-use Rattle.world_model.specs.declared.queries.Shown.{Shown}
-use Rattle.world_model.specs.declared.queries.Shown.TheVariants as shown
+use Rattle.world_data.specs.declared.filters.Test.TheVariants.{Range, Among}
+use Rattle.world_data.specs.declared.queries.Shown.{Shown}
+use Rattle.world_data.specs.declared.queries.Shown.TheVariants as shown
 use Rattle.world_model.specs.declared.commands.Command.{Command}
 use Rattle.world_model.specs.declared.faults.WordFault.{WordFault}
 use Rattle.world_model.specs.declared.faults.WordFault.TheVariants as fault

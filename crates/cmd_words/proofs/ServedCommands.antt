@@ -5,12 +5,12 @@ use Rattle.std.specs.List.{list_any, AllByRecursion}
 use Rattle.byte_text.specs.Names.{Bytes, is_word, is_name}
 use Rattle.world_model.specs.Grammar.{Form, Reading, spells, runs_out, done, word, maybe, ◌>>=◌, ◌>>◌, ◌or◌, repeated, once_or_more, live, spelled, a_word}
 use Rattle.world_model.specs.Kinds.{name, glob, seconds, when}
-use Rattle.world_model.specs.Limits.{max_tests}
+use Rattle.world_data.specs.Limits.{max_tests}
 use Rattle.byte_text.specs.Globs.{is_well_formed}
 use Rattle.world_model.specs.Commands as table
 use Rattle.world_model.specs.Served.{asks, unbuilt}
 use Rattle.world_model.specs.Sound.{IsSoundCommand}
-use Rattle.world_model.specs.declared.queries.Shown.TheVariants as shown
+use Rattle.world_data.specs.declared.queries.Shown.TheVariants as shown
 use Rattle.world_model.specs.declared.commands.Only.TheVariants.{Any}
 use Rattle.world_model.specs.declared.commands.Command.{Command}
 use Rattle.world_model.specs.declared.commands.Command.TheVariants as command

@@ -4,16 +4,16 @@ use Rattle.std.specs.List.{AllByRecursion}
 use Rattle.byte_text.specs.Names.{Bytes, is_name}
 use Rattle.byte_text.specs.Globs.{is_well_formed}
 use Rattle.geo_text.specs.Texts.{shape_of}
-use Rattle.world_model.specs.Filters.{are_fields}
+use Rattle.world_data.specs.Filters.{are_fields}
 use Rattle.world_model.specs.Served.{asks}
-use Rattle.world_model.specs.Sound.{is_sound_query}
+use Rattle.world_data.specs.Sound.{is_sound_query}
 use Rattle.world_model.specs.declared.commands.Command.{Command}
 use Rattle.world_model.specs.declared.commands.Command.TheVariants as command
-use Rattle.world_model.specs.declared.queries.Query.{Query}
-use Rattle.world_model.specs.declared.queries.Rule.{Rule}
-use Rattle.world_model.specs.declared.queries.Rule.TheVariants.{All, Down, Kept, Nearest}
-use Rattle.world_model.specs.declared.queries.Shown.{Shown}
-use Rattle.world_model.specs.declared.queries.Shown.TheVariants as shown
+use Rattle.world_data.specs.declared.queries.Query.{Query}
+use Rattle.world_data.specs.declared.queries.Rule.{Rule}
+use Rattle.world_data.specs.declared.queries.Rule.TheVariants.{All, Down, Kept, Nearest}
+use Rattle.world_data.specs.declared.queries.Shown.{Shown}
+use Rattle.world_data.specs.declared.queries.Shown.TheVariants as shown
 
 -- an output of one object
 abbrev pub IsOfObject : Shown → Type 0

@@ -1,14 +1,14 @@
 -- SCAN: its options in any order, and its output.
 use Rattle.std.specs.Prelude.{◌≡◌, ◌⊎◌, ◌&&◌, not, length, nat_lt, Bool, true, false, List, [], ◌∷◌, ◌++◌, Option, Some, None, is_none, Result, Ok, Err, codes}
 use Rattle.byte_text.specs.Names.{Bytes, is_word}
-use Rattle.world_model.specs.Limits.{max_limit, max_tests, max_values}
+use Rattle.world_data.specs.Limits.{max_limit, max_tests, max_values}
 use Rattle.world_model.specs.Grammar.{Form, ◌>>=◌, done, maybe, repeated, times}
 use Rattle.world_model.specs.Kinds.{name, glob, integer, between, bound}
 use Rattle.world_model.specs.Commands.{SearchOptions, no_search_options, search_option, output, query_of, scan_rule, reads}
-use Rattle.world_model.specs.declared.filters.Test.{Test}
-use Rattle.world_model.specs.declared.filters.Test.TheVariants.{Range, Among}
-use Rattle.world_model.specs.declared.queries.Shown.{Shown}
-use Rattle.world_model.specs.declared.queries.Shown.TheVariants as shown
+use Rattle.world_data.specs.declared.filters.Test.{Test}
+use Rattle.world_data.specs.declared.filters.Test.TheVariants.{Range, Among}
+use Rattle.world_data.specs.declared.queries.Shown.{Shown}
+use Rattle.world_data.specs.declared.queries.Shown.TheVariants as shown
 use Rattle.world_model.specs.declared.commands.Command.{Command}
 use Rattle.world_model.specs.declared.commands.Command.TheVariants as command
 use Rattle.world_model.specs.declared.faults.WordFault.{WordFault}

@@ -4,10 +4,10 @@ use Rattle.planar_geom.specs.Points.{same_int}
 use Rattle.byte_text.specs.Names.{Bytes, is_word}
 use Rattle.byte_text.specs.Numbers.{whole_within}
 use Rattle.geo_text.specs.Texts.{Shape, shape_of}
-use Rattle.world_model.specs.Limits.{max_coord}
+use Rattle.world_data.specs.Limits.{max_coord}
 use Rattle.world_model.specs.Grammar.{Form, ◌>>=◌, done, repeated}
 use Rattle.world_model.specs.Kinds.{accepted}
-use Rattle.world_model.specs.Filters.{Field}
+use Rattle.world_data.specs.Filters.{Field}
 use Rattle.world_model.specs.Commands.{SetOptions, set_option, field, place, nonzero_of, cleared_of, reads}
 use Rattle.world_model.specs.declared.commands.Only.TheVariants.{Any}
 use Rattle.world_model.specs.declared.commands.Command.{Command}

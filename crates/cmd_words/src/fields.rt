@@ -1,7 +1,7 @@
 //! The fields that a command gives: of each name the last value counts.
 
 ghost use Rattle.std.specs.Prelude.{◌≡◌, [], ◌∷◌, ◌++◌, map, IfOk, IfErr, OnOk};
-ghost use Rattle.world_model.specs.Filters.{with_values};
+ghost use Rattle.world_data.specs.Filters.{with_values};
 ghost use Rattle.world_model.specs.Commands.{nonzero_of, cleared_of};
 ghost use Rattle.cmd_words.specs.Sets.{mark_of};
 

@@ -2,7 +2,7 @@
 
 ghost use Rattle.std.specs.Prelude.{◌≡◌, ◌≤ℤ◌, pos, IfOk};
 ghost use Rattle.planar_geom.specs.Points.{pt, bounds, IsCoordinate};
-ghost use Rattle.world_model.specs.Limits.{max_coord};
+ghost use Rattle.world_data.specs.Limits.{max_coord};
 ghost use Rattle.world_model.specs.Kinds as kinds;
 ghost use Rattle.world_model.specs.Commands.{field as a_field};
 ghost use Rattle.cmd_words.specs.Places.{Reads};

@@ -3,7 +3,7 @@
 ghost use Rattle.std.specs.Prelude.{◌≡◌, ◌==◌, ◌≤◌, ◌≤ℤ◌, pos, length, IfOk};
 ghost use Rattle.std.specs.List.{list_all, position_or_len};
 ghost use Rattle.world_model.specs.Grammar.{a_word, a_coordinate, a_geojson};
-ghost use Rattle.world_model.specs.Limits.{max_coord};
+ghost use Rattle.world_data.specs.Limits.{max_coord};
 ghost use Rattle.byte_text.specs.Numbers.{natural_within};
 ghost use Rattle.world_model.specs.Kinds.{is_digit as is_decimal_digit, is_endless as is_endless_bound, bound_of};
 ghost use Rattle.world_model.specs.Commands.{is_fraction as is_decimal_fraction, are_digits as are_decimal_digits, without_minus as without_sign};

@@ -5,7 +5,7 @@ use Rattle.std.specs.Int.{int_min, int_max}
 use Rattle.std.proofs.lemmas.Int.{ints, int_min_is, int_max_is}
 use Rattle.planar_geom.specs.Points.{Point, Bounds, bounds, with_point, box_round_both, grown}
 use Rattle.planar_geom.specs.Shapes.{all_vertices, box_of_points, box_of}
-use Rattle.world_model.specs.declared.objects.Object.{Object}
+use Rattle.world_data.specs.declared.objects.Object.{Object}
 use Rattle.collection.specs.Objects.{bounds_of}
 
 least : (b l h p : ℤ) → l ≤ℤ h → int_min (int_min (int_min b l) h) p ≡ int_min (int_min b (int_min l p)) (int_max h p)

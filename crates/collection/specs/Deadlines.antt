@@ -1,6 +1,6 @@
 -- Objects with a deadline, counted.
 use Rattle.std.specs.Prelude.{ℕ, ◌+◌, List, [], ◌∷◌, is_some, if◌then◌else◌}
-use Rattle.world_model.specs.declared.objects.Object.{Object}
+use Rattle.world_data.specs.declared.objects.Object.{Object}
 
 -- 1 for an object with a deadline, else 0
 abbrev pub due_count : Object → ℕ

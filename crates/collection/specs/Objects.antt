@@ -4,8 +4,8 @@ use Rattle.std.specs.List.{list_any}
 use Rattle.byte_text.specs.Names.{Bytes, same, before}
 use Rattle.planar_geom.specs.Points.{Bounds}
 use Rattle.planar_geom.specs.Shapes.{all_vertices, box_of_points}
-use Rattle.world_model.specs.Lists.{ascends}
-use Rattle.world_model.specs.declared.objects.Object.{Object}
+use Rattle.ordered_lists.specs.Lists.{ascends}
+use Rattle.world_data.specs.declared.objects.Object.{Object}
 
 -- objects, and how many more there is room for
 pub record Held : Type 0 where

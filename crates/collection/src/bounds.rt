@@ -6,7 +6,7 @@ ghost use Rattle.planar_geom.specs.Shapes.{all_vertices};
 ghost use Rattle.collection.specs.Objects.{bounds_of};
 
 use planar_geom::{BBox, Shape, box_of};
-use world_model::Object;
+use world_data::Object;
 
 /// The least box round the objects; none where there is no object.
 pub(crate) fn bounds_of(objects: &[Object]) -> Option<BBox>

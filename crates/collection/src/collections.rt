@@ -1,7 +1,7 @@
 ghost use Rattle.std.specs.Prelude.{◌≡◌, ◌+◌, ◌<◌, ◌≤◌, ℕ, [], true, not, length, filter, find, is_some, if◌then◌else◌, slice_get, Some, None, IfNone, IfSome, MatchOption, OnOk};
 ghost use Rattle.std.specs.List.{remove};
-ghost use Rattle.world_model.specs.Lists.{put_in};
-ghost use Rattle.world_model.specs.declared.objects.Object.{Object};
+ghost use Rattle.ordered_lists.specs.Lists.{put_in};
+ghost use Rattle.world_data.specs.declared.objects.Object.{Object};
 ghost use Rattle.collection.specs.Objects.{id_before, has_id, are_by_id, has_room, earlier, least_due, bounds_of};
 ghost use Rattle.collection.specs.Deadlines.{due_count};
 
@@ -11,7 +11,7 @@ use byte_text::{Name, NoMemory};
 use planar_geom::BBox;
 use std::alloc::Global;
 use std::marker::Model;
-use world_model::Object;
+use world_data::Object;
 
 /// The most objects of one key.
 const MAX_OBJECTS: usize = 4_294_967_295;

@@ -3,12 +3,13 @@
 ghost use Rattle.std.specs.Prelude.{◌≡◌, ◌<◌, ◌≤◌, true, length, vec_len, vec_capacity, slice_get, Some, IfOk, IfErr};
 ghost use Rattle.std.specs.List.{insert, slice_set};
 ghost use Rattle.byte_text.specs.Names.{before};
-ghost use Rattle.world_model.specs.Lists.{IsHeld, IsFree};
+ghost use Rattle.ordered_lists.specs.Lists.{IsHeld, IsFree};
 ghost use Rattle.collection.specs.Objects.{are_by_id};
 
 use byte_text::Name;
 use std::mem;
-use world_model::{Object, is_before, is_same};
+use ordered_lists::{is_before, is_same};
+use world_data::Object;
 
 /// The place of the object of this id, or, where there is none, the place where it would go.
 pub(crate) fn place_of(list: &[Object], id: &Name) -> Result<usize, usize>

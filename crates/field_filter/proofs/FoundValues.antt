@@ -2,7 +2,7 @@
 use Rattle.std.proofs.Common.{◌≡◌, ℕ, ◌+◌, ◌<◌, true, false, List, ◌∷◌, length, drop, refl, ap, subst, sym, ◌∙◌}
 use Rattle.std.specs.Prelude.{ℤ, Option, IfSome, slice_get}
 use Rattle.byte_text.specs.Names.{Bytes, same}
-use Rattle.world_model.specs.Filters.{Field, value_of}
+use Rattle.world_data.specs.Filters.{Field, value_of}
 use Rattle.field_filter.proofs.Places.{opened, item}
 
 first_value : (f : Field) (fs : List Field) (name : Bytes) → same f.0 name ≡ true → value_of (f ∷ fs) name ≡ f.1

@@ -4,10 +4,11 @@
 ghost use Rattle.std.specs.Prelude.{◌≡◌};
 ghost use Rattle.std.specs.List.{list_any};
 ghost use Rattle.planar_geom.specs.Points.{same_int};
-ghost use Rattle.world_model.specs.Filters.{passes, passes_one, value_of, at_least, at_most};
+ghost use Rattle.world_data.specs.Filters.{passes, passes_one, value_of, at_least, at_most};
 
 use byte_text::Name;
-use world_model::{Fields, Numbers, Test, Tests, is_same};
+use ordered_lists::is_same;
+use world_data::{Fields, Numbers, Test, Tests};
 
 #[cfg(test)]
 mod tests;

@@ -2,7 +2,7 @@
 use Rattle.std.proofs.Common.{◌≡◌, ◌≤◌, ℕ, true, refl, sym, subst, ◌∙◌, List, [], Ok, Err, arith}
 use Rattle.std.specs.Prelude.{Result, OnOk, OnErr}
 use Rattle.byte_text.specs.Names.{Bytes}
-use Rattle.world_model.specs.declared.objects.Object.{Object}
+use Rattle.world_data.specs.declared.objects.Object.{Object}
 use Rattle.keyspace.specs.Entries.{Entry, objects_in, room_for}
 use Rattle.keyspace.specs.Shelves.{is_shelf, are_shelves, IsAdded}
 use Rattle.keyspace.proofs.Keys.{Lacks, added_shelves, added_objects}

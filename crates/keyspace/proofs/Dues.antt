@@ -5,9 +5,9 @@ use Rattle.std.specs.List.{list_all}
 use Rattle.std.proofs.lemmas.Bool.Decides.{nat_tests}
 use Rattle.std.proofs.lemmas.List.{take_more, length-take-le}
 use Rattle.std.proofs.lemmas.List.Concat.{flat_map-append}
-use Rattle.world_model.specs.declared.objects.Object.{Object}
+use Rattle.world_data.specs.declared.objects.Object.{Object}
 use Rattle.collection.specs.Objects.{earlier, least_due}
-use Rattle.collection.proofs.Lists.{both_of}
+use Rattle.ordered_lists.proofs.Reading.{both_of}
 use Rattle.keyspace.specs.Entries.{Entry, objects_in}
 use Rattle.keyspace.specs.Shelves.{has_deadline, is_later, is_no_sooner, IsSoonest, Soonest, sooner}
 use Rattle.keyspace.proofs.Parts.{all_both}

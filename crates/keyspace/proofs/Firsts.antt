@@ -3,15 +3,14 @@ use Rattle.std.proofs.Common.{◌≡◌, get_or, ◌<◌, ◌≤◌, ◌+◌, �
 use Rattle.std.specs.Prelude.{Option, Some, None, filter, find, nat_lt, nat_le, ◌&&◌, ◌==◌, slice_get, if◌then◌else◌}
 use Rattle.std.specs.List.{list_all, slice_set}
 use Rattle.std.proofs.lemmas.Bool.Decides.{nat_tests}
-use Rattle.world_model.specs.Lists.{ascends, insert_by, sorted_by}
-use Rattle.world_model.specs.Worlds.{object_before, are_objects, is_at, has_key}
-use Rattle.world_model.specs.Expiry.{is_due, due_before}
-use Rattle.world_model.specs.declared.objects.Object.{Object}
-use Rattle.world_model.proofs.PlaceLaws.{filter-all}
-use Rattle.world_model.proofs.Sorted.{object_asym}
+use Rattle.ordered_lists.specs.Lists.{ascends, insert_by, sorted_by}
+use Rattle.world_data.specs.Worlds.{object_before, are_objects, is_at, has_key}
+use Rattle.world_data.specs.Expiry.{is_due, due_before}
+use Rattle.world_data.specs.declared.objects.Object.{Object}
+use Rattle.ordered_lists.proofs.ByteOrder.{same_refl, same_equal, other_before, other_behind}
+use Rattle.ordered_lists.proofs.Reading.{filter-all, both_of, stands_at}
+use Rattle.ordered_lists.proofs.ByteOrder.{pair_asym}
 use Rattle.collection.specs.Objects.{least_due, are_by_id}
-use Rattle.collection.proofs.Lists.{both_of, stands_at}
-use Rattle.collection.proofs.ByteOrder.{same_refl, same_equal, other_before, other_behind}
 use Rattle.keyspace.specs.Entries.{Entry, objects_in}
 use Rattle.keyspace.specs.Shelves.{is_shelf, are_shelves, is_later, is_no_sooner, IsSoonest, Took}
 use Rattle.keyspace.proofs.Parts.{all_both, filter_both, find_past}
@@ -89,7 +88,7 @@ module _ (now due : ℕ) (o : Object) (here : o.deadline ≡ Some due) where
 
   not_sooner_one : (p : Object) (d : Option ℕ) → p.deadline ≡ d → is_no_sooner due d ≡ true → is_due now p ≡ true → object_before o p ≡ true → due_before p o ≡ false
   not_sooner_one p None is h now_due behind = let e : false ≡ true = rw is at now_due in absurd (cc)
-  not_sooner_one p (Some t) is h now_due behind = rw (here, is, not_less due t h, object_asym o p behind) (no_and (t == due))
+  not_sooner_one p (Some t) is h now_due behind = rw (here, is, not_less due t h, pair_asym (λ (o : Object). o.key) (λ o. o.id) o p behind) (no_and (t == due))
     where
       not_less : (a b : ℕ) → nat_le a b ≡ true → nat_lt b a ≡ false
       not_less a b h = grind (arith, nat_tests)

@@ -4,13 +4,12 @@ use Rattle.std.specs.Prelude.{Option, Some, IfSome, slice_get}
 use Rattle.std.specs.List.{list_all, slice_set, insert, remove}
 use Rattle.std.proofs.lemmas.List.Concat.{flat_map-append}
 use Rattle.byte_text.specs.Names.{Bytes, before}
-use Rattle.world_model.specs.Lists.{ascends, IsHeld, IsFree}
-use Rattle.world_model.specs.Worlds.{has_key}
-use Rattle.world_model.specs.declared.objects.Object.{Object}
-use Rattle.world_model.proofs.Order.{ascends-put_in}
-use Rattle.world_model.proofs.PlaceLaws.{put_in-insert, put_in-set, all-insert, all-set}
-use Rattle.collection.proofs.Lists.{both_of, stands_at, all_remove, ascends-remove}
-use Rattle.collection.proofs.ByteOrder.{before_trans, before_tie, before_asym, before_self, same_equal}
+use Rattle.ordered_lists.specs.Lists.{ascends, IsHeld, IsFree}
+use Rattle.world_data.specs.Worlds.{has_key}
+use Rattle.world_data.specs.declared.objects.Object.{Object}
+use Rattle.ordered_lists.proofs.Ascending.{ascends-put_in, put_in-insert, put_in-set, all_remove, ascends-remove}
+use Rattle.ordered_lists.proofs.ByteOrder.{before_trans, before_tie, before_asym, before_self, same_equal}
+use Rattle.ordered_lists.proofs.Reading.{all-insert, all-set, both_of, stands_at}
 use Rattle.keyspace.specs.Entries.{Entry, key_before, objects_in}
 use Rattle.keyspace.specs.Shelves.{is_shelf, are_shelves}
 use Rattle.keyspace.proofs.Parts.{Apart, all_both}

@@ -3,9 +3,9 @@ use Rattle.std.proofs.Common.{◌≡◌, ◌+◌, ◌≤◌, ℕ, suc, false, no
 use Rattle.std.specs.Prelude.{None, filter, find}
 use Rattle.std.specs.List.{list_any, slice_set, remove}
 use Rattle.byte_text.specs.Names.{Bytes}
-use Rattle.world_model.specs.Lists.{put_in}
-use Rattle.world_model.specs.Worlds.{object_before, is_at, has_key}
-use Rattle.world_model.specs.declared.objects.Object.{Object}
+use Rattle.ordered_lists.specs.Lists.{put_in}
+use Rattle.world_data.specs.Worlds.{object_before, is_at, has_key}
+use Rattle.world_data.specs.declared.objects.Object.{Object}
 use Rattle.collection.specs.Objects.{id_before, has_id}
 use Rattle.keyspace.specs.Entries.{Entry, objects_in}
 use Rattle.keyspace.proofs.Parts.{found, any_found, of_key, left_others, left, put}

@@ -4,13 +4,12 @@ use Rattle.std.specs.Prelude.{filter, ◌==◌, if◌then◌else◌}
 use Rattle.std.specs.List.{list_all, list_any}
 use Rattle.std.proofs.lemmas.Bool.Decides.{nat_tests}
 use Rattle.byte_text.specs.Names.{Bytes, before, same}
-use Rattle.world_model.specs.Lists.{ascends}
-use Rattle.world_model.specs.Worlds.{object_before, are_objects, has_key}
-use Rattle.world_model.specs.Effects.{distinct}
-use Rattle.world_model.specs.declared.objects.Object.{Object}
+use Rattle.ordered_lists.specs.Lists.{ascends, distinct}
+use Rattle.world_data.specs.Worlds.{object_before, are_objects, has_key}
+use Rattle.world_data.specs.declared.objects.Object.{Object}
 use Rattle.collection.specs.Objects.{id_before, are_by_id}
-use Rattle.collection.proofs.Lists.{both_of}
-use Rattle.collection.proofs.ByteOrder.{same_refl, same_equal, other_before}
+use Rattle.ordered_lists.proofs.ByteOrder.{same_refl, same_equal, other_before}
+use Rattle.ordered_lists.proofs.Reading.{both_of}
 use Rattle.keyspace.specs.Entries.{Entry, key_before, objects_in, has_objects}
 use Rattle.keyspace.specs.Shelves.{is_shelf, are_shelves}
 use Rattle.keyspace.proofs.Parts.{all_both, own_order}

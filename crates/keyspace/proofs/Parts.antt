@@ -3,13 +3,12 @@ use Rattle.std.proofs.Common.{◌≡◌, Bool, true, false, not, refl, sym, ap, 
 use Rattle.std.specs.Prelude.{None, filter, find, if◌then◌else◌}
 use Rattle.std.specs.List.{list_all, list_any}
 use Rattle.byte_text.specs.Names.{Bytes, before}
-use Rattle.world_model.specs.Lists.{put_in}
-use Rattle.world_model.specs.Worlds.{object_before, is_at, has_key}
-use Rattle.world_model.specs.declared.objects.Object.{Object}
-use Rattle.world_model.proofs.PlaceLaws.{filter-all}
+use Rattle.ordered_lists.specs.Lists.{put_in}
+use Rattle.world_data.specs.Worlds.{object_before, is_at, has_key}
+use Rattle.world_data.specs.declared.objects.Object.{Object}
+use Rattle.ordered_lists.proofs.ByteOrder.{before_asym, before_self, same_refl, same_equal, other_before, other_behind}
+use Rattle.ordered_lists.proofs.Reading.{filter-all, both_of}
 use Rattle.collection.specs.Objects.{id_before, has_id}
-use Rattle.collection.proofs.Lists.{both_of}
-use Rattle.collection.proofs.ByteOrder.{before_asym, before_self, same_refl, same_equal, other_before, other_behind}
 
 pub record Apart (key : Bytes) (front own back : List Object) : Type 0 where
   pub front_all : list_all (λ o. before o.key key) front ≡ true

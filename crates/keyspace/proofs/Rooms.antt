@@ -3,12 +3,12 @@ use Rattle.std.proofs.Common.{◌≡◌, ◌≤◌, ◌+◌, ℕ, zero, suc, Boo
 use Rattle.std.specs.Prelude.{Option, Some, None, nat_le, ◌&&◌, ◌||◌, is_some, is_none, slice_get, if◌then◌else◌}
 use Rattle.std.specs.List.{list_all, list_any, slice_set, insert}
 use Rattle.byte_text.specs.Names.{Bytes, before, same}
-use Rattle.world_model.specs.Lists.{ascends}
-use Rattle.world_model.specs.Worlds.{is_at}
-use Rattle.world_model.specs.declared.objects.Object.{Object}
+use Rattle.ordered_lists.specs.Lists.{ascends}
+use Rattle.world_data.specs.Worlds.{is_at}
+use Rattle.world_data.specs.declared.objects.Object.{Object}
 use Rattle.collection.specs.Objects.{has_room as fits}
-use Rattle.collection.proofs.Lists.{both_of}
-use Rattle.collection.proofs.ByteOrder.{same_refl, same_equal, other_before, other_behind}
+use Rattle.ordered_lists.proofs.ByteOrder.{same_refl, same_equal, other_before, other_behind}
+use Rattle.ordered_lists.proofs.Reading.{both_of}
 use Rattle.keyspace.specs.Entries.{Entry, key_before, objects_in, room_for, has_room}
 use Rattle.keyspace.specs.Shelves.{held_of}
 use Rattle.keyspace.proofs.Keys.{Stands, Lacks, all_at, halves}

@@ -2,8 +2,8 @@
 use Rattle.std.specs.Prelude.{ℕ, Bool, ◌||◌, not, nat_le, ◌==◌, List, [], ◌∷◌, length, flat_map, if◌then◌else◌}
 use Rattle.std.specs.List.{list_any}
 use Rattle.byte_text.specs.Names.{Bytes, same, before}
-use Rattle.world_model.specs.Worlds.{is_at}
-use Rattle.world_model.specs.declared.objects.Object.{Object}
+use Rattle.world_data.specs.Worlds.{is_at}
+use Rattle.world_data.specs.declared.objects.Object.{Object}
 
 -- a key with its objects by id, and how many more of them there is room for
 pub record Entry : Type 0 where

@@ -1,11 +1,10 @@
 ghost use Rattle.std.specs.Prelude.{◌≡◌, ◌+◌, ◌<◌, ◌≤◌, ◌^◌, ◌&&◌, ◌∷◌, [], true, false, not, length, filter, find, map, is_some, is_none, if◌then◌else◌, slice_get, Some, None, IfNone, IfSome, OnOk, OnErr};
 ghost use Rattle.std.specs.List.{list_any};
 ghost use Rattle.byte_text.specs.Names.{Bytes, same};
-ghost use Rattle.world_model.specs.Lists.{put_in, sorted_by};
-ghost use Rattle.world_model.specs.Worlds.{object_before, are_objects, is_at, has_key};
-ghost use Rattle.world_model.specs.Expiry.{is_due, due_before};
-ghost use Rattle.world_model.specs.Effects.{distinct};
-ghost use Rattle.world_model.specs.declared.objects.Object.{Object};
+ghost use Rattle.ordered_lists.specs.Lists.{put_in, sorted_by, distinct};
+ghost use Rattle.world_data.specs.Worlds.{object_before, are_objects, is_at, has_key};
+ghost use Rattle.world_data.specs.Expiry.{is_due, due_before};
+ghost use Rattle.world_data.specs.declared.objects.Object.{Object};
 ghost use Rattle.collection.specs.Objects.{least_due};
 ghost use Rattle.keyspace.specs.Shelves.{IsAdded};
 ghost use Rattle.keyspace.specs.Entries.{objects_in, room_for, has_room, has_objects, is_entry_of};
@@ -16,7 +15,7 @@ use byte_text::{Name, NoMemory};
 use collection::Collection;
 use std::alloc::Global;
 use std::marker::Model;
-use world_model::Object;
+use world_data::Object;
 
 /// The objects of all keys, in byte order of key and id, with room for more that was taken beforehand.
 #[derive(Drop)]

@@ -2,13 +2,13 @@
 
 ghost use Rattle.std.specs.Prelude.{◌≡◌, true, IfOk, IfErr};
 ghost use Rattle.byte_text.specs.Names.{before};
-ghost use Rattle.world_model.specs.Lists.{ascends, IsHeld, IsFree};
+ghost use Rattle.ordered_lists.specs.Lists.{ascends, IsHeld, IsFree};
 ghost use Rattle.keyspace.specs.Entries.{key_before};
 ghost use Rattle.keyspace.specs.Shelves.{Soonest, sooner};
 
 use crate::shelves::Shelf;
 use byte_text::Name;
-use world_model::{is_before, is_same};
+use ordered_lists::{is_before, is_same};
 
 /// The place of this key, or, where it is not there, the place where it would go.
 pub(crate) fn place_of(list: &[Shelf], key: &Name) -> Result<usize, usize>

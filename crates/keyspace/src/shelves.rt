@@ -1,7 +1,7 @@
 //! A key and its objects.
 
 ghost use Rattle.std.specs.Prelude.{◌≡◌, ◌+◌, ◌≤◌, [], true, not, filter, find, Some, is_some, if◌then◌else◌, IfOk, OnOk};
-ghost use Rattle.world_model.specs.Lists.{put_in};
+ghost use Rattle.ordered_lists.specs.Lists.{put_in};
 ghost use Rattle.collection.specs.Objects.{id_before, has_id, has_room, least_due};
 ghost use Rattle.keyspace.specs.Entries.{Entry};
 ghost use Rattle.keyspace.specs.Shelves.{held_of, has_deadline, IsFirst, Took};
@@ -10,7 +10,7 @@ use byte_text::{Name, NoMemory};
 use collection::Collection;
 use std::alloc::Global;
 use std::marker::Model;
-use world_model::Object;
+use world_data::Object;
 
 /// A key and its objects. While a call is made there may be none.
 #[derive(Drop)]

@@ -5,7 +5,7 @@ use byte_text::{Name, NoMemory, Text};
 use planar_geom::{Part, Parts, Pt, Shape};
 use std::alloc::Global;
 use std::test::Fail;
-use world_model::{Fields, Object};
+use world_data::{Fields, Object};
 
 fn spot(alloc: Global) -> Result<Shape, NoMemory> {
     let mut parts = Parts::new(alloc);

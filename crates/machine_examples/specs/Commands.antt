@@ -12,9 +12,9 @@ use Rattle.world_model.specs.declared.faults.WordFault.{WordFault}
 use Rattle.world_model.specs.declared.faults.WordFault.TheVariants as fault
 use Rattle.world_model.specs.declared.commands.Only.TheVariants.{Any}
 use Rattle.world_model.specs.declared.commands.AreaWords.TheVariants.{Given}
-use Rattle.world_model.specs.declared.queries.Shown.TheVariants as shown
-use Rattle.world_model.specs.declared.queries.Rule.TheVariants.{Kept}
-use Rattle.world_model.specs.declared.channels.Kind.TheVariants.{Within}
+use Rattle.world_data.specs.declared.queries.Shown.TheVariants as shown
+use Rattle.world_data.specs.declared.queries.Rule.TheVariants.{Kept}
+use Rattle.world_data.specs.declared.channels.Kind.TheVariants.{Within}
 
 abbrev pub split_spaces : Bytes → List Bytes
 split_spaces [] = [] ∷ []

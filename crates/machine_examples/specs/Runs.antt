@@ -3,7 +3,7 @@ use Rattle.std.specs.Prelude.{◌≡◌, ℕ, ◌+◌, List, [], ◌∷◌, ◌+
 use Prim.Native.String.{String}
 use Rattle.byte_text.specs.Names.{Bytes}
 use Rattle.byte_text.specs.Replies.{frame_text, array, bulk, number}
-use Rattle.world_model.specs.Worlds.{empty_world}
+use Rattle.world_data.specs.Worlds.{empty_world}
 use Rattle.machine_examples.specs.Commands.{line}
 use Rattle.world_model.specs.Commands.{reads}
 use Rattle.world_model.specs.Halls.{Hall, Session, session_of, is_live, due, do_words}

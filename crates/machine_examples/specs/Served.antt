@@ -2,7 +2,7 @@
 use Rattle.std.specs.Prelude.{◌≡◌, [], ◌∷◌, List, codes, map}
 use Prim.Native.String.{String}
 use Rattle.byte_text.specs.Names.{Bytes}
-use Rattle.world_model.specs.Worlds.{empty_world}
+use Rattle.world_data.specs.Worlds.{empty_world}
 use Rattle.world_model.specs.Halls.{Hall, session_of}
 use Rattle.world_model.specs.Histories.{doing, opening_hall}
 use Rattle.world_model.specs.declared.events.Event.{Event}

@@ -8,23 +8,23 @@ use Rattle.byte_text.specs.Numbers.{whole, whole_within}
 use Rattle.byte_text.specs.Globs.{is_well_formed}
 use Rattle.planar_geom.specs.Points.{pt}
 use Rattle.geo_text.specs.Texts.{shape_of}
-use Rattle.world_model.specs.Limits.{max_coord, max_tests}
+use Rattle.world_data.specs.Limits.{max_coord, max_tests}
 use Rattle.world_model.specs.Grammar.{a_word, a_coordinate, a_geojson, Reading, spells, runs_out, Form, ◌>>=◌, ◌>>◌, done, ◌or◌, one_of, where_, word, maybe, at_most_times, repeated, once_or_more, times, live, spelled}
 use Rattle.world_model.specs.Kinds.{name, glob, integer, between, meters, seconds, coordinate_from, coordinate, lat_lon, four, geojson, bound, list_of}
 use Rattle.world_model.specs.Commands as table
-use Rattle.world_model.specs.declared.channels.Kind.{Kind}
-use Rattle.world_model.specs.declared.channels.Kind.TheVariants.{Within, Intersects, Near}
+use Rattle.world_data.specs.declared.channels.Kind.{Kind}
+use Rattle.world_data.specs.declared.channels.Kind.TheVariants.{Within, Intersects, Near}
 use Rattle.planar_geom.specs.declared.shapes.Area.TheVariants.{Disc}
-use Rattle.world_model.specs.declared.queries.Shown.TheVariants as shown
-use Rattle.world_model.specs.declared.channels.Watch.TheVariants as watch
+use Rattle.world_data.specs.declared.queries.Shown.TheVariants as shown
+use Rattle.world_data.specs.declared.channels.Watch.TheVariants as watch
 use Rattle.world_model.specs.declared.commands.Command.{Command}
 use Rattle.world_model.specs.declared.commands.Command.TheVariants as command
 use Rattle.std.proofs.lemmas.Bool.Decides.{nat_tests}
 use Rattle.std.proofs.lemmas.List.{append-nil}
-use Rattle.world_model.proofs.Sorted.{same_refl}
+use Rattle.ordered_lists.proofs.ByteOrder.{same_refl}
 use Rattle.world_model.proofs.Forms.{Each, Left, Out, Spells, Takes, Fair, fair_done, fair_bind, fair_word, takes_word, takes_bind}
 use Rattle.world_model.proofs.Prefixes.{Taking}
-use Rattle.world_model.specs.declared.queries.Rule.TheVariants.{Kept, Nearest}
+use Rattle.world_data.specs.declared.queries.Rule.TheVariants.{Kept, Nearest}
 use Rattle.world_model.proofs.Making.{Makes, makes_done, makes_or, makes_none, makes_behind, makes_then, makes_any, makes_word}
 use Rattle.machine_laws.proofs.Finishing.{Finished, Weak, Good, good_done, good_or, good_or_weak, weak_or, weak_none, weak_where, good_word, good_any, weak_any, good_bind, good_repeated, good_loop, spells_left, spells_right, through}
 

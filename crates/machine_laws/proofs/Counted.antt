@@ -4,17 +4,16 @@ use Rattle.std.proofs.Common.{◌≡◌, ◌∙◌, ℕ, ◌+◌, Bool, true, fa
 use Rattle.std.specs.Prelude.{filter, sum_by, ◌&&◌}
 use Rattle.std.specs.List.{list_all}
 use Rattle.byte_text.specs.Names.{Bytes, before, same}
-use Rattle.world_model.specs.Lists.{ascends, put_in}
-use Rattle.world_model.specs.Worlds.{after, is_sorted_world, is_at, has_key, is_named, object_before, channel_before}
-use Rattle.world_model.specs.Records.{weight}
-use Rattle.world_model.specs.declared.objects.Object.{Object}
-use Rattle.world_model.specs.declared.channels.Channel.{Channel}
-use Rattle.world_model.specs.declared.worlds.World.{World}
-use Rattle.world_model.specs.declared.worlds.Change.{Change}
-use Rattle.world_model.specs.declared.worlds.Change.TheVariants.{Put, Del, Drop, Flush, SetChan, DelChan}
-use Rattle.world_model.proofs.Order.{before_tie}
-use Rattle.world_model.proofs.FieldLaws.{before_asym}
-use Rattle.world_model.proofs.Sorted.{same_refl, same_equal, object_trans, object_tie, channel_trans, channel_tie}
+use Rattle.ordered_lists.specs.Lists.{ascends, put_in}
+use Rattle.world_data.specs.Worlds.{after, is_sorted_world, is_at, has_key, is_named, object_before, channel_before}
+use Rattle.world_data.specs.Records.{weight}
+use Rattle.world_data.specs.declared.objects.Object.{Object}
+use Rattle.world_data.specs.declared.channels.Channel.{Channel}
+use Rattle.world_data.specs.declared.worlds.World.{World}
+use Rattle.world_data.specs.declared.worlds.Change.{Change}
+use Rattle.world_data.specs.declared.worlds.Change.TheVariants.{Put, Del, Drop, Flush, SetChan, DelChan}
+use Rattle.ordered_lists.proofs.ByteOrder.{before_tie, before_asym, same_refl, same_equal}
+use Rattle.ordered_lists.proofs.ByteOrder.{pair_trans, pair_tie, name_trans, name_tie}
 use Rattle.machine_laws.specs.Weights.{object_len, channel_len, gained, lost}
 
 abbrev total : {A : Type 0} → (A → ℕ) → List A → ℕ
@@ -137,9 +136,9 @@ channels_sorted : (w : World) → is_sorted_world w ≡ true → ascends channel
 channels_sorted w e = grind arith
 
 pub weight_is_counted : (w : World) (c : Change) → is_sorted_world w ≡ true → weight (after w c) + lost w c ≡ weight w + gained c
-weight_is_counted w (Put o) sorted = let h = put_counted object_len object_before object_ties object_no object_no_back object_tied object_trans object_tie o w.objects (objects_sorted w sorted) in omega (arith, h)
+weight_is_counted w (Put o) sorted = let h = put_counted object_len object_before object_ties object_no object_no_back object_tied (pair_trans (λ (p : Object). p.key) (λ p. p.id)) (pair_tie (λ (p : Object). p.key) (λ p. p.id)) o w.objects (objects_sorted w sorted) in omega (arith, h)
 weight_is_counted w (Del key id) sorted = let h = parted object_len (is_at key id) w.objects in omega (arith, h)
 weight_is_counted w (Drop key) sorted = let h = parted object_len (has_key key) w.objects in omega (arith, h)
 weight_is_counted w Flush sorted = omega arith
-weight_is_counted w (SetChan c) sorted = let h = put_counted channel_len channel_before channel_ties (λ d e. other_name d.name e.name) (λ d e. other_name_back d.name e.name) (λ d e. tied_name d.name e.name) channel_trans channel_tie c w.channels (channels_sorted w sorted) in omega (arith, h)
+weight_is_counted w (SetChan c) sorted = let h = put_counted channel_len channel_before channel_ties (λ d e. other_name d.name e.name) (λ d e. other_name_back d.name e.name) (λ d e. tied_name d.name e.name) (name_trans (λ (d : Channel). d.name)) (name_tie (λ (d : Channel). d.name)) c w.channels (channels_sorted w sorted) in omega (arith, h)
 weight_is_counted w (DelChan name) sorted = let h = parted channel_len (is_named name) w.channels in omega (arith, h)

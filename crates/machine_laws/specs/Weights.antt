@@ -1,12 +1,12 @@
 -- How a change moves the weight of a world.
 use Rattle.std.specs.Prelude.{◌≡◌, ℕ, ◌+◌, true, filter, sum_by}
-use Rattle.world_model.specs.Worlds.{after, is_sorted_world, is_at, has_key, is_named}
-use Rattle.world_model.specs.Records.{record_len, weight}
-use Rattle.world_model.specs.declared.objects.Object.{Object}
-use Rattle.world_model.specs.declared.channels.Channel.{Channel}
-use Rattle.world_model.specs.declared.worlds.World.{World}
-use Rattle.world_model.specs.declared.worlds.Change.{Change}
-use Rattle.world_model.specs.declared.worlds.Change.TheVariants.{Put, Del, Drop, Flush, SetChan, DelChan}
+use Rattle.world_data.specs.Worlds.{after, is_sorted_world, is_at, has_key, is_named}
+use Rattle.world_data.specs.Records.{record_len, weight}
+use Rattle.world_data.specs.declared.objects.Object.{Object}
+use Rattle.world_data.specs.declared.channels.Channel.{Channel}
+use Rattle.world_data.specs.declared.worlds.World.{World}
+use Rattle.world_data.specs.declared.worlds.Change.{Change}
+use Rattle.world_data.specs.declared.worlds.Change.TheVariants.{Put, Del, Drop, Flush, SetChan, DelChan}
 
 -- the bytes of the record of an object, and of a channel
 abbrev pub object_len : Object → ℕ

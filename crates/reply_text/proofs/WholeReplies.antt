@@ -7,12 +7,12 @@ use Rattle.byte_text.specs.Names.{Bytes}
 use Rattle.byte_text.specs.Replies.{AreReplies, IsWhole, IsClean, IsFrame, array, bulk}
 use Rattle.byte_text.specs.declared.replies.Piece.{Piece}
 use Rattle.byte_text.specs.declared.replies.Piece.TheVariants as piece
-use Rattle.world_model.specs.Filters.{Field}
+use Rattle.world_data.specs.Filters.{Field}
 use Rattle.world_model.specs.Replies.{number_text, fields_reply, fields_part, is_ids, item_reply, object_reply}
-use Rattle.world_model.specs.declared.objects.Object.{Object}
-use Rattle.world_model.specs.declared.queries.Query.{Query}
-use Rattle.world_model.specs.declared.queries.Shown.{Shown}
-use Rattle.world_model.specs.declared.queries.Shown.TheVariants as shown
+use Rattle.world_data.specs.declared.objects.Object.{Object}
+use Rattle.world_data.specs.declared.queries.Query.{Query}
+use Rattle.world_data.specs.declared.queries.Shown.{Shown}
+use Rattle.world_data.specs.declared.queries.Shown.TheVariants as shown
 
 abbrev pub Next : Type 0
 Next = (m n : ℕ) (a b : List Piece) → AreReplies m a → AreReplies n b → AreReplies (m + n) (a ++ b)

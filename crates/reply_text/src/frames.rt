@@ -2,7 +2,7 @@
 
 ghost use Rattle.std.specs.Prelude.{◌≡◌, ◌<◌, ◌≤◌, ◌++◌, length, IfErr, OnOk, OnErr};
 ghost use Rattle.byte_text.specs.Replies.{IsFrame, frame_text};
-ghost use Rattle.world_model.specs.Limits.{max_reply};
+ghost use Rattle.world_data.specs.Limits.{max_reply};
 
 use byte_text::{NoMemory, Reply, Text, push_frame};
 

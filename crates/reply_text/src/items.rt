@@ -4,7 +4,7 @@ ghost use Rattle.std.specs.Prelude.{◌≡◌, ◌≢◌, ◌<◌, ◌≤◌, �
 ghost use Rattle.byte_text.specs.Replies.{array, bulk, number, frame_text, piece_text, IsFrame};
 ghost use Rattle.byte_text.specs.declared.replies.Piece.{Piece};
 ghost use Rattle.byte_text.specs.declared.replies.Piece.TheVariants as piece;
-ghost use Rattle.world_model.specs.Limits.{max_reply};
+ghost use Rattle.world_data.specs.Limits.{max_reply};
 ghost use Rattle.world_model.specs.Replies.{item_reply};
 
 use crate::frames::{MAX_REPLY, ReplyFault};

@@ -5,7 +5,7 @@ ghost use Rattle.byte_text.specs.Replies.{array, bulk, IsFrame};
 ghost use Rattle.byte_text.specs.declared.replies.Piece.TheVariants as piece;
 ghost use Rattle.planar_geom.specs.Shapes.{positions};
 ghost use Rattle.world_model.specs.Replies.{no_list, bounds_reply as bounds_pieces, fields_reply, is_ids, item_reply as item_pieces, object_reply as object_pieces, stats_of_key};
-ghost use Rattle.world_model.specs.declared.objects.Object.{Object};
+ghost use Rattle.world_data.specs.declared.objects.Object.{Object};
 
 use crate::drafts::Draft;
 use byte_text::{Name, NoMemory, Piece, Reply, lists_are_whole};

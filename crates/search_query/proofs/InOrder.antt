@@ -4,10 +4,10 @@ use Rattle.std.specs.Prelude.{filter, reverse, slice_get, Some, if◌then◌else
 use Rattle.std.proofs.lemmas.List.{length-reverse, take_all}
 use Rattle.std.proofs.lemmas.List.Elements.{filter-append}
 use Rattle.std.proofs.lemmas.Grind.{common_steps, reverse_onto}
-use Rattle.world_model.specs.Queries.{in_order}
-use Rattle.world_model.specs.declared.objects.Object.{Object}
-use Rattle.world_model.specs.declared.queries.Rule.{Rule}
-use Rattle.world_model.specs.declared.queries.Rule.TheVariants.{All, Down, Kept, Nearest}
+use Rattle.fence_model.specs.Queries.{in_order}
+use Rattle.world_data.specs.declared.objects.Object.{Object}
+use Rattle.world_data.specs.declared.queries.Rule.{Rule}
+use Rattle.world_data.specs.declared.queries.Rule.TheVariants.{All, Down, Kept, Nearest}
 use Rattle.search_query.specs.Found.{is_down}
 
 -- the items that pass are the same, whichever way the list is read

@@ -2,11 +2,11 @@
 use Rattle.std.specs.Prelude.{◌≡◌, Bool, true, false, List, filter, Option, Some, None}
 use Rattle.byte_text.specs.Names.{Bytes}
 use Rattle.byte_text.specs.Globs.{is_well_formed}
-use Rattle.world_model.specs.Queries.{in_order, meets_query}
-use Rattle.world_model.specs.declared.objects.Object.{Object}
-use Rattle.world_model.specs.declared.queries.Query.{Query}
-use Rattle.world_model.specs.declared.queries.Rule.{Rule}
-use Rattle.world_model.specs.declared.queries.Rule.TheVariants.{Down}
+use Rattle.fence_model.specs.Queries.{in_order, meets_query}
+use Rattle.world_data.specs.declared.objects.Object.{Object}
+use Rattle.world_data.specs.declared.queries.Query.{Query}
+use Rattle.world_data.specs.declared.queries.Rule.{Rule}
+use Rattle.world_data.specs.declared.queries.Rule.TheVariants.{Down}
 
 -- the objects that meet the query, in the order of its rule
 abbrev pub found : Query → List Object → List Object

@@ -1,16 +1,16 @@
 //! Whether an object meets a query.
 
 ghost use Rattle.std.specs.Prelude.{◌≡◌};
-ghost use Rattle.world_model.specs.Filters.{meets_glob};
-ghost use Rattle.world_model.specs.Queries.{meets_area, meets_query, meets_rule, near_disc};
+ghost use Rattle.world_data.specs.Filters.{meets_glob};
+ghost use Rattle.fence_model.specs.Queries.{meets_area, meets_query, meets_rule, near_disc};
 ghost use Rattle.search_query.specs.Found.{IsGlob};
-ghost use Rattle.world_model.specs.declared.objects.Object.{Object};
+ghost use Rattle.world_data.specs.declared.objects.Object.{Object};
 
 use byte_text::Name;
 use field_filter::passes;
 use glob_match::glob_meets;
 use planar_geom::{Area, Shape, box_dist2, box_of, intersects, within};
-use world_model::{Kind, Object, Query, Rule};
+use world_data::{Kind, Object, Query, Rule};
 
 /// Whether the object meets MATCH, the tests and the area of the query.
 pub(crate) fn meets_query(query: &Query, object: &Object) -> bool

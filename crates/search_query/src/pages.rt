@@ -1,15 +1,15 @@
 //! Pages of what a query finds.
 
 ghost use Rattle.std.specs.Prelude.{◌≡◌, ◌≢◌, ◌<◌, ◌+◌, ◌^◌, ◌++◌, ◌∷◌, [], List, ◌&&◌, not, if◌then◌else◌, length, filter, reverse, slice_get, Some, nat_lt, nat_le, IfOk, OnOk};
-ghost use Rattle.world_model.specs.Queries.{IsPageOf, meets_query, page_ids, is_count};
-ghost use Rattle.world_model.specs.declared.objects.Object.{Object};
+ghost use Rattle.fence_model.specs.Queries.{IsPageOf, meets_query, page_ids, is_count};
+ghost use Rattle.world_data.specs.declared.objects.Object.{Object};
 ghost use Rattle.search_query.specs.Found.{found, is_down, IsGlob};
 
 use crate::matches::meets_query;
 use byte_text::{Name, NoMemory};
 use collection::Collection;
 use std::alloc::Global;
-use world_model::{NameList, Object, Page, Query, Rule, Shown};
+use world_data::{NameList, Object, Page, Query, Rule, Shown};
 
 /// The page of what the query finds among the objects of a key: their ids from place `cursor` on, at most `limit`, and where the
 /// next page begins; of a count the number of all that is found. For want of memory the page may hold anything.

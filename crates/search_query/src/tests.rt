@@ -8,7 +8,7 @@ use collection::Collection;
 use planar_geom::{Part, Parts, Pt, Shape};
 use std::alloc::Global;
 use std::test::Fail;
-use world_model::{Fields, Object, Page, Query, Rule, Shown, Tests};
+use world_data::{Fields, Object, Page, Query, Rule, Shown, Tests};
 
 fn spot(alloc: Global) -> Result<Shape, NoMemory> {
     let mut parts = Parts::new(alloc);

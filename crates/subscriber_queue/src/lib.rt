@@ -3,15 +3,14 @@
 #![tactic(auto)]
 
 ghost use Rattle.std.specs.Prelude.{◌≡◌, ◌≤◌, ◌<◌, ◌+◌, ◌↔◌, ◌++◌, [], ◌∷◌, length, take, drop, min, IfOk, IfErr, IsOk, OnOk};
-ghost use Rattle.world_model.specs.Limits.{cap_frames, cap_bytes, take_frames};
-ghost use Rattle.world_model.specs.Halls.{frame_bytes};
-ghost use Rattle.world_model.specs.Frames.{FrameList};
+ghost use Rattle.world_data.specs.Limits.{cap_frames, cap_bytes, take_frames};
+ghost use Rattle.world_data.specs.Frames.{frame_bytes, FrameList};
 
 use byte_text::{NoMemory, Text};
 use circular_buffer::HeapCircularBuffer;
 use std::alloc::Global;
 use std::marker::Model;
-use world_model::{Frames, TAKE};
+use world_data::{Frames, TAKE};
 
 /// The most frames of a queue.
 const CAP_FRAMES: usize = 16384;
@@ -28,8 +27,8 @@ pub struct Outbox {
 
 impl Model for Outbox {
     ghost use Rattle.std.specs.Prelude.{◌≡◌, ◌≤◌, List, ℕ};
-    ghost use Rattle.world_model.specs.Limits.{cap_frames, cap_bytes};
-    ghost use Rattle.world_model.specs.Halls.{frame_bytes};
+    ghost use Rattle.world_data.specs.Limits.{cap_frames, cap_bytes};
+    ghost use Rattle.world_data.specs.Frames.{frame_bytes};
 
     ghost Value = { List (List ℕ) };
 

@@ -6,7 +6,7 @@ use Rattle.world_model.specs.Halls as halls
 use Rattle.world_model.specs.Histories.{gone, full}
 use Rattle.world_model.specs.declared.events.Called.{Called}
 use Rattle.world_model.specs.declared.events.Called.TheVariants as called
-use Rattle.world_model.specs.declared.objects.Object.{Object}
+use Rattle.world_data.specs.declared.objects.Object.{Object}
 use Rattle.tile_core.specs.declared.sessions.Session.{Session}
 use Rattle.tile_core.specs.declared.sessions.Stage.{Stage}
 use Rattle.tile_core.specs.declared.sessions.Stage.TheVariants.{Live, Closing}

@@ -5,24 +5,25 @@ use Rattle.std.specs.List.{AllByRecursion}
 use Rattle.std.proofs.lemmas.Bool.Decides.{nat_tests}
 use Rattle.byte_text.specs.Names.{Bytes}
 use Rattle.byte_text.specs.Replies.{frame_text}
-use Rattle.world_model.specs.Limits.{most_logged, full_frames, full_bytes, cap_frames, cap_bytes, max_reply}
-use Rattle.world_model.specs.Lists.{sorted_by}
-use Rattle.world_model.specs.Expiry.{expired, due_before}
-use Rattle.world_model.specs.Messages.{messages}
-use Rattle.world_model.specs.Records.{record_len}
-use Rattle.world_model.specs.Worlds.{after}
+use Rattle.world_data.specs.Limits.{most_logged, full_frames, full_bytes, cap_frames, cap_bytes, max_reply}
+use Rattle.ordered_lists.specs.Lists.{sorted_by}
+use Rattle.world_data.specs.Expiry.{expired, due_before}
+use Rattle.fence_model.specs.Messages.{messages}
+use Rattle.world_data.specs.Records.{record_len}
+use Rattle.world_data.specs.Worlds.{after}
 use Rattle.world_model.specs.Served.{asks}
 use Rattle.world_model.specs.Refusals.{broken_reply}
 use Rattle.world_model.specs.Effects.{Effect, Deed, dels}
-use Rattle.world_model.specs.Halls.{Hall, due, apply, apply_all, deliveries, deliveries_of, do_call, do_asked, do_words, do_effect, place, place_all, placed, change_session, close_session, closed_if, is_session, frame_bytes}
+use Rattle.world_model.specs.Halls.{Hall, due, apply, apply_all, deliveries, deliveries_of, do_call, do_asked, do_words, do_effect, place, place_all, placed, change_session, close_session, closed_if, is_session}
+use Rattle.world_data.specs.Frames.{frame_bytes}
 use Rattle.world_model.specs.Halls as halls
 use Rattle.world_model.specs.Histories.{Step}
 use Rattle.world_model.specs.declared.commands.Command.{Command}
 use Rattle.world_model.specs.declared.faults.WordFault.{WordFault}
-use Rattle.world_model.specs.declared.objects.Object.{Object}
-use Rattle.world_model.specs.declared.worlds.World.{World}
-use Rattle.world_model.specs.declared.worlds.Change.{Change}
-use Rattle.world_model.specs.declared.worlds.Change.TheVariants as change
+use Rattle.world_data.specs.declared.objects.Object.{Object}
+use Rattle.world_data.specs.declared.worlds.World.{World}
+use Rattle.world_data.specs.declared.worlds.Change.{Change}
+use Rattle.world_data.specs.declared.worlds.Change.TheVariants as change
 use Rattle.world_model.specs.declared.events.Asked.{Asked}
 use Rattle.world_model.specs.declared.events.Asked.TheVariants.{Words, Broken}
 use Rattle.world_model.specs.declared.events.Called.{Called}

@@ -7,13 +7,13 @@ use Rattle.std.proofs.lemmas.List.Sums.{sum_by_push}
 use Rattle.byte_text.specs.Names.{Bytes}
 use Rattle.byte_text.specs.Replies.{number}
 use Rattle.planar_geom.specs.Points.{same_int}
-use Rattle.world_model.specs.Limits.{max_fields}
-use Rattle.world_model.specs.Worlds.{object_at, has_key}
-use Rattle.world_model.specs.Filters.{Field, with_values, value_of}
+use Rattle.world_data.specs.Limits.{max_fields}
+use Rattle.world_data.specs.Worlds.{object_at, has_key}
+use Rattle.world_data.specs.Filters.{Field, with_values, value_of}
 use Rattle.world_model.specs.Replies.{number_text}
 use Rattle.world_model.specs.Effects.{effect, says, refuses, missing, within_reply, given_and_cleared, changed_count}
-use Rattle.world_model.specs.declared.objects.Object.{Object}
-use Rattle.world_model.specs.declared.worlds.World.{World}
+use Rattle.world_data.specs.declared.objects.Object.{Object}
+use Rattle.world_data.specs.declared.worlds.World.{World}
 use Rattle.world_model.specs.declared.commands.Command.TheVariants as command
 use Rattle.tile_core.specs.Plans.{put_or_full}
 use Rattle.tile_core.proofs.FieldOrder.{there, take_more, zero_more}

@@ -11,7 +11,7 @@ use Rattle.geo_text.specs.Texts.{shape_of, Shape}
 use Rattle.geo_text.specs.declared.faults.GeoFault.{GeoFault}
 use Rattle.geo_text.specs.declared.faults.GeoFault.TheVariants as geo
 use Rattle.world_model.specs.Grammar.{Reading, spelled, goes_on, wants_coordinate, wants_geojson}
-use Rattle.world_model.specs.Limits.{max_reply}
+use Rattle.world_data.specs.Limits.{max_reply}
 use Rattle.world_model.specs.Replies.{error}
 use Rattle.world_model.specs.Refusals.{fault_reply}
 use Rattle.world_model.specs.Served.{asks, is_served}

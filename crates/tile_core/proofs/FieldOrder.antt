@@ -4,9 +4,9 @@ use Rattle.std.specs.Prelude.{Option, Some, IfSome, pos, filter, map, slice_get,
 use Rattle.std.specs.List.{list_all}
 use Rattle.std.proofs.lemmas.Bool.Decides.{nat_tests}
 use Rattle.byte_text.specs.Names.{Bytes, before}
-use Rattle.world_model.specs.Lists.{ascends, put_in}
-use Rattle.world_model.specs.Filters.{Field, field_before, is_zero, are_fields, last_values, with_values}
-use Rattle.collection.proofs.ByteOrder.{before_tie}
+use Rattle.ordered_lists.specs.Lists.{ascends, put_in}
+use Rattle.world_data.specs.Filters.{Field, field_before, is_zero, are_fields, last_values, with_values}
+use Rattle.ordered_lists.proofs.ByteOrder.{before_tie}
 
 -- the order of names
 

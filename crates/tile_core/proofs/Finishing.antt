@@ -3,13 +3,13 @@ use Rattle.std.proofs.Common.{◌≡◌, ℕ, zero, suc, ◌<◌, ◌≤◌, Boo
 use Rattle.std.specs.Prelude.{Some, Ok, slice_get, slice_set, remove, ◌&&◌}
 use Rattle.std.proofs.lemmas.Bool.Decides.{nat_tests}
 use Rattle.std.proofs.Math.ListN.{length-set}
-use Rattle.world_model.specs.Limits.{max_weight, full_frames, full_bytes}
-use Rattle.world_model.specs.Halls.{frame_bytes}
-use Rattle.world_model.specs.Worlds.{is_sorted_world, are_objects, after}
+use Rattle.world_data.specs.Limits.{max_weight, full_frames, full_bytes}
+use Rattle.world_data.specs.Frames.{frame_bytes}
+use Rattle.world_data.specs.Worlds.{is_sorted_world, are_objects, after}
 use Rattle.world_model.specs.Effects.{Effect, Deed}
 use Rattle.world_model.specs.Laws.{ChangesKeepOrder}
-use Rattle.world_model.specs.declared.objects.Object.{Object}
-use Rattle.world_model.specs.declared.worlds.World.{World}
+use Rattle.world_data.specs.declared.objects.Object.{Object}
+use Rattle.world_data.specs.declared.worlds.World.{World}
 use Rattle.tile_core.specs.declared.sessions.Session.{Session}
 use Rattle.tile_core.specs.declared.plans.Plan.{Plan}
 use Rattle.tile_core.specs.Moves.{world_of, moved, HasFewFields}

@@ -10,29 +10,30 @@ use Rattle.byte_text.specs.Globs.{glob_meets}
 use Rattle.byte_text.specs.Replies.{piece_text, frame_text, array, bulk, number}
 use Rattle.byte_text.specs.declared.replies.Piece.{Piece}
 use Rattle.byte_text.specs.declared.replies.Piece.TheVariants as piece
-use Rattle.world_model.specs.Limits.{max_reply}
+use Rattle.world_data.specs.Limits.{max_reply}
 use Rattle.reply_text.specs.Items.{Items}
 use Rattle.keyspace.specs.Entries.{Entry, has_objects}
 use Rattle.reply_text.specs.declared.frames.ReplyFault.{ReplyFault}
 use Rattle.reply_text.specs.declared.frames.ReplyFault.TheVariants as fault
 use Rattle.std.specs.List.{All, AllByRecursion, list_all}
 use Rattle.std.proofs.lemmas.List.Elements.{All-take, All-drop, All-filter, All-append, All-cons, All-nil, All-from_recursion, recursion_from_All}
-use Rattle.world_model.specs.Queries.{in_order, meets_query, page_items, page_cursor, is_count, IsPageOf}
-use Rattle.world_model.specs.Worlds.{objects_of}
-use Rattle.world_model.specs.Effects.{effect, says, within_reply, distinct}
+use Rattle.fence_model.specs.Queries.{in_order, meets_query, page_items, page_cursor, is_count, IsPageOf}
+use Rattle.world_data.specs.Worlds.{objects_of}
+use Rattle.world_model.specs.Effects.{effect, says, within_reply}
+use Rattle.ordered_lists.specs.Lists.{distinct}
 use Rattle.world_model.specs.Replies.{item_reply, page_reply}
-use Rattle.world_model.specs.declared.worlds.World.{World}
+use Rattle.world_data.specs.declared.worlds.World.{World}
 use Rattle.world_model.specs.declared.commands.Command.TheVariants as command
-use Rattle.world_model.specs.declared.queries.Page.{Page}
-use Rattle.world_model.specs.declared.queries.Shown.{Shown}
-use Rattle.world_model.specs.declared.queries.Shown.TheVariants as shown
-use Rattle.world_model.specs.declared.objects.Object.{Object}
-use Rattle.world_model.specs.declared.queries.Query.{Query}
-use Rattle.world_model.specs.declared.queries.Rule.{Rule}
-use Rattle.world_model.specs.declared.queries.Rule.TheVariants as rule
+use Rattle.world_data.specs.declared.queries.Page.{Page}
+use Rattle.world_data.specs.declared.queries.Shown.{Shown}
+use Rattle.world_data.specs.declared.queries.Shown.TheVariants as shown
+use Rattle.world_data.specs.declared.objects.Object.{Object}
+use Rattle.world_data.specs.declared.queries.Query.{Query}
+use Rattle.world_data.specs.declared.queries.Rule.{Rule}
+use Rattle.world_data.specs.declared.queries.Rule.TheVariants as rule
 use Rattle.collection.specs.Objects.{id_before, has_id, are_by_id}
-use Rattle.collection.proofs.ByteOrder.{other_before, same_refl}
-use Rattle.collection.proofs.Lists.{both_of}
+use Rattle.ordered_lists.proofs.ByteOrder.{other_before, same_refl}
+use Rattle.ordered_lists.proofs.Reading.{both_of}
 use Rattle.search_query.specs.Found.{found}
 use Rattle.tile_core.specs.Listings.{keys_met, joined, AreItems, IsTooLong}
 

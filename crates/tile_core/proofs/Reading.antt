@@ -6,13 +6,13 @@ use Rattle.byte_text.specs.Names.{Bytes}
 use Rattle.byte_text.specs.Replies.{array, fine, IsFrame}
 use Rattle.byte_text.specs.declared.replies.Piece.{Piece}
 use Rattle.byte_text.specs.declared.replies.Piece.TheVariants as piece
-use Rattle.world_model.specs.Worlds.{object_at, objects_of}
+use Rattle.world_data.specs.Worlds.{object_at, objects_of}
 use Rattle.world_model.specs.Replies.{null, object_reply, fields_reply, bounds_of_key, stats_of_key}
 use Rattle.world_model.specs.Effects.{effect, says, within_reply}
-use Rattle.world_model.specs.declared.objects.Object.{Object}
-use Rattle.world_model.specs.declared.worlds.World.{World}
+use Rattle.world_data.specs.declared.objects.Object.{Object}
+use Rattle.world_data.specs.declared.worlds.World.{World}
 use Rattle.world_model.specs.declared.commands.Command.TheVariants as command
-use Rattle.world_model.specs.declared.queries.Shown.{Shown}
+use Rattle.world_data.specs.declared.queries.Shown.{Shown}
 use Rattle.tile_core.specs.Plans.{ends_with}
 
 -- the reply to GET for an object that is there

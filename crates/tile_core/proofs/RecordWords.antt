@@ -4,10 +4,10 @@ use Rattle.std.specs.Prelude.{Option, Some, None, IfSome, codes, decimal, flat_m
 use Rattle.std.proofs.lemmas.Fmt.{length-decimal-le, decimal_nonempty}
 use Rattle.byte_text.specs.Names.{Bytes}
 use Rattle.byte_text.specs.Lines.{line, bulk_text}
-use Rattle.world_model.specs.Filters.{Field}
-use Rattle.world_model.specs.Records.{record_len, record_words, field_words, deadline_words}
-use Rattle.world_model.specs.declared.objects.Object.{Object}
-use Rattle.world_model.specs.declared.worlds.Change.TheVariants as change
+use Rattle.world_data.specs.Filters.{Field}
+use Rattle.world_data.specs.Records.{record_len, record_words, field_words, deadline_words}
+use Rattle.world_data.specs.declared.objects.Object.{Object}
+use Rattle.world_data.specs.declared.worlds.Change.TheVariants as change
 use Rattle.tile_core.specs.Moves.{HasFewFields}
 use Rattle.tile_core.specs.Records.{words_len}
 

@@ -5,11 +5,11 @@ use Rattle.std.specs.List.{list_any}
 use Rattle.std.proofs.lemmas.Bool.Decides.{nat_tests}
 use Rattle.byte_text.specs.Names.{Bytes}
 use Rattle.byte_text.specs.Replies.{fine, number}
-use Rattle.world_model.specs.Worlds.{object_at, objects_of, has_key}
+use Rattle.world_data.specs.Worlds.{object_at, objects_of, has_key}
 use Rattle.world_model.specs.Effects.{effect, says, changes, loud, quiet, dels, within_reply}
-use Rattle.world_model.specs.declared.objects.Object.{Object}
-use Rattle.world_model.specs.declared.worlds.World.{World}
-use Rattle.world_model.specs.declared.worlds.Change.TheVariants as change
+use Rattle.world_data.specs.declared.objects.Object.{Object}
+use Rattle.world_data.specs.declared.worlds.World.{World}
+use Rattle.world_data.specs.declared.worlds.Change.TheVariants as change
 use Rattle.world_model.specs.declared.commands.Command.TheVariants as command
 use Rattle.tile_core.specs.Sweeps.{met}
 

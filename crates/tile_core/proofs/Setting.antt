@@ -5,16 +5,16 @@ use Rattle.std.proofs.lemmas.Bool.Decides.{nat_tests}
 use Rattle.byte_text.specs.Names.{Bytes}
 use Rattle.byte_text.specs.Replies.{fine, frame_text}
 use Rattle.byte_text.specs.declared.replies.Piece.{Piece}
-use Rattle.world_model.specs.Limits.{max_weight, max_objects, max_fields, max_reply}
-use Rattle.world_model.specs.Lists.{put_in}
-use Rattle.world_model.specs.Worlds.{object_before, is_at}
-use Rattle.world_model.specs.Records.{weight}
-use Rattle.world_model.specs.Filters.{Field, with_values}
+use Rattle.world_data.specs.Limits.{max_weight, max_objects, max_fields, max_reply}
+use Rattle.ordered_lists.specs.Lists.{put_in}
+use Rattle.world_data.specs.Worlds.{object_before, is_at}
+use Rattle.world_data.specs.Records.{weight}
+use Rattle.world_data.specs.Filters.{Field, with_values}
 use Rattle.world_model.specs.Replies.{null}
 use Rattle.world_model.specs.Effects.{Effect, effect, says, changes, refuses, within_reply, put_effect, is_kept_back, fields_of, given_and_cleared, deadline_after}
-use Rattle.world_model.specs.declared.objects.Object.{Object}
-use Rattle.world_model.specs.declared.worlds.World.{World}
-use Rattle.world_model.specs.declared.worlds.Change.TheVariants as change
+use Rattle.world_data.specs.declared.objects.Object.{Object}
+use Rattle.world_data.specs.declared.worlds.World.{World}
+use Rattle.world_data.specs.declared.worlds.Change.TheVariants as change
 use Rattle.world_model.specs.declared.commands.Command.TheVariants as command
 use Rattle.world_model.specs.declared.commands.Only.{Only}
 use Rattle.tile_core.specs.Moves.{world_of, len_of}

@@ -1,7 +1,7 @@
 -- The least deadline of objects: none comes before it.
 use Rattle.std.proofs.Common.{◌≡◌, ℕ, ◌≤◌, min, refl, List, [], ◌∷◌, arith}
 use Rattle.std.specs.Prelude.{Option, Some, None, fold}
-use Rattle.world_model.specs.declared.objects.Object.{Object}
+use Rattle.world_data.specs.declared.objects.Object.{Object}
 use Rattle.collection.specs.Objects.{earlier, least_due}
 use Rattle.tile_core.specs.Dues.{AreCalm}
 

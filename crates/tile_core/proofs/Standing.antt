@@ -3,10 +3,10 @@ use Rattle.std.proofs.Common.{◌≡◌, ℕ, suc, ◌<◌, ◌≤◌, Bool, tru
 use Rattle.std.specs.Prelude.{Some, find, filter, sum_by}
 use Rattle.std.specs.List.{list_all, AllByRecursion}
 use Rattle.std.proofs.lemmas.List.Sums.{sum_by-cons}
-use Rattle.world_model.specs.Lists.{put_in}
-use Rattle.world_model.specs.Worlds.{object_before, are_objects, is_at}
-use Rattle.world_model.proofs.Sorted.{object_asym}
-use Rattle.world_model.specs.declared.objects.Object.{Object}
+use Rattle.ordered_lists.specs.Lists.{put_in}
+use Rattle.world_data.specs.Worlds.{object_before, are_objects, is_at}
+use Rattle.ordered_lists.proofs.ByteOrder.{pair_asym}
+use Rattle.world_data.specs.declared.objects.Object.{Object}
 use Rattle.tile_core.proofs.Weights.{same_stay}
 
 -- what is found
@@ -86,5 +86,5 @@ module _ (o : Object) where
       by false t ih =
           let found = rw t at here in
           let before_ : object_before x o ≡ true = found_passes (is_at o.key o.id) o (object_before x) xs found all in
-          let behind : object_before o x ≡ false = object_asym x o before_ in
+          let behind : object_before o x ≡ false = pair_asym (λ (o : Object). o.key) (λ o. o.id) x o before_ in
           rw (t, behind, before_) (ap (λ (zs : List Object). x ∷ zs) (ih found))

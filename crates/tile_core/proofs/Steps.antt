@@ -3,8 +3,9 @@ use Rattle.std.proofs.Common.{◌≡◌, ℕ, ◌+◌, ◌<◌, ◌≤◌, Bool,
 use Rattle.std.specs.Prelude.{Some, None, Option, nat_le, ◌||◌, ◌==◌, take, drop}
 use Rattle.std.proofs.lemmas.Bool.Decides.{nat_tests}
 use Rattle.byte_text.specs.Names.{Bytes}
-use Rattle.world_model.specs.Limits.{most_logged, full_frames, full_bytes, max_sessions, most_drawn, take_frames}
-use Rattle.world_model.specs.Halls.{Hall, Session, live, is_live, session_of, frame_bytes, change_session, close_session, due, do_call, without_session}
+use Rattle.world_data.specs.Limits.{most_logged, full_frames, full_bytes, max_sessions, most_drawn, take_frames}
+use Rattle.world_model.specs.Halls.{Hall, Session, live, is_live, session_of, change_session, close_session, due, do_call, without_session}
+use Rattle.world_data.specs.Frames.{frame_bytes}
 use Rattle.world_model.specs.Histories.{Step}
 use Rattle.world_model.specs.declared.events.Asked.{Asked}
 use Rattle.world_model.specs.declared.events.Called.TheVariants as called

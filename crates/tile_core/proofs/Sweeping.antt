@@ -7,10 +7,10 @@ use Rattle.std.proofs.lemmas.List.Elements.{filter-append}
 use Rattle.std.proofs.lemmas.List.Sums.{sum_by-cons, sum_by-append}
 use Rattle.byte_text.specs.Names.{Bytes, same}
 use Rattle.byte_text.specs.Globs.{glob_meets}
-use Rattle.world_model.specs.Worlds.{is_at, has_key}
+use Rattle.world_data.specs.Worlds.{is_at, has_key}
 use Rattle.world_model.specs.Effects.{Deed, dels}
-use Rattle.world_model.specs.declared.objects.Object.{Object}
-use Rattle.collection.proofs.ByteOrder.{same_refl, same_equal}
+use Rattle.world_data.specs.declared.objects.Object.{Object}
+use Rattle.ordered_lists.proofs.ByteOrder.{same_refl, same_equal}
 use Rattle.tile_core.specs.declared.deletes.Swept.{Swept}
 use Rattle.tile_core.specs.Moves.{world_of, len_of, HaveFewFields, without_each}
 use Rattle.tile_core.specs.Plans.{after_all, records_len, IsOfObjects}

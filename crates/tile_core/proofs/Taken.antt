@@ -4,16 +4,16 @@ use Rattle.std.specs.Prelude.{Option, Some, None, filter, find, sum_by, nat_le, 
 use Rattle.std.proofs.lemmas.Bool.Decides.{nat_tests}
 use Rattle.std.proofs.lemmas.List.Sums.{sum_by-cons}
 use Rattle.byte_text.specs.Names.{Bytes, same}
-use Rattle.world_model.specs.Lists.{put_in, sorted_by}
-use Rattle.world_model.specs.Worlds.{after, object_before, has_key, is_at}
-use Rattle.world_model.specs.Records.{record_len, weight}
-use Rattle.world_model.specs.Expiry.{is_due, due_before}
+use Rattle.ordered_lists.specs.Lists.{put_in, sorted_by}
+use Rattle.world_data.specs.Worlds.{after, object_before, has_key, is_at}
+use Rattle.world_data.specs.Records.{record_len, weight}
+use Rattle.world_data.specs.Expiry.{is_due, due_before}
 use Rattle.world_model.specs.Effects.{dels}
-use Rattle.world_model.proofs.Order.{ascends-filter}
-use Rattle.world_model.proofs.Sorted.{same_refl}
-use Rattle.world_model.specs.declared.objects.Object.{Object}
-use Rattle.world_model.specs.declared.worlds.World.{World}
-use Rattle.world_model.specs.declared.worlds.Change.TheVariants as change
+use Rattle.ordered_lists.proofs.Ascending.{ascends-filter}
+use Rattle.ordered_lists.proofs.ByteOrder.{same_refl}
+use Rattle.world_data.specs.declared.objects.Object.{Object}
+use Rattle.world_data.specs.declared.worlds.World.{World}
+use Rattle.world_data.specs.declared.worlds.Change.TheVariants as change
 use Rattle.keyspace.specs.Entries.{Entry, objects_in, room_for, has_room}
 use Rattle.tile_core.specs.Kernels.{AreKept}
 use Rattle.tile_core.specs.Moves.{world_of, len_of, HasFewFields}

@@ -1,13 +1,13 @@
 -- Taking, closing and removing, in the words of the parts of a core.
 use Rattle.std.proofs.Common.{◌≡◌, ℕ, ◌<◌, refl, sym, ap, ◌∙◌, subst, true, false, List, [], length, take, drop}
 use Rattle.std.specs.Prelude.{Some, slice_get, slice_set, remove, if◌then◌else◌}
-use Rattle.world_model.specs.Limits.{take_frames}
+use Rattle.world_data.specs.Limits.{take_frames}
 use Rattle.world_model.specs.Halls.{Hall}
 use Rattle.world_model.specs.Halls as halls
 use Rattle.world_model.specs.Histories.{Step}
 use Rattle.world_model.specs.declared.events.Event.TheVariants.{Take, Close, Remove}
 use Rattle.world_model.specs.declared.events.Outcome.TheVariants.{Done, Given, Empty, Ended}
-use Rattle.world_model.specs.declared.objects.Object.{Object}
+use Rattle.world_data.specs.declared.objects.Object.{Object}
 use Rattle.tile_core.specs.declared.sessions.Stage.{Stage}
 use Rattle.tile_core.specs.declared.sessions.Stage.TheVariants.{Live, Closing}
 use Rattle.tile_core.specs.declared.sessions.Session.{Session}

@@ -4,15 +4,15 @@ use Rattle.std.specs.Prelude.{Option, Some, None}
 use Rattle.std.proofs.lemmas.Bool.Decides.{nat_tests}
 use Rattle.byte_text.specs.Names.{Bytes}
 use Rattle.byte_text.specs.Replies.{number}
-use Rattle.world_model.specs.Limits.{max_weight}
-use Rattle.world_model.specs.Lists.{put_in}
-use Rattle.world_model.specs.Worlds.{object_at, object_before, is_at}
-use Rattle.world_model.specs.Records.{weight}
+use Rattle.world_data.specs.Limits.{max_weight}
+use Rattle.ordered_lists.specs.Lists.{put_in}
+use Rattle.world_data.specs.Worlds.{object_at, object_before, is_at}
+use Rattle.world_data.specs.Records.{weight}
 use Rattle.world_model.specs.Effects.{effect, says, fits, within_reply}
 use Rattle.world_model.specs.Replies.{integer_reply, seconds_left, no_object}
-use Rattle.world_model.specs.declared.worlds.Change.TheVariants as change
-use Rattle.world_model.specs.declared.objects.Object.{Object}
-use Rattle.world_model.specs.declared.worlds.World.{World}
+use Rattle.world_data.specs.declared.worlds.Change.TheVariants as change
+use Rattle.world_data.specs.declared.objects.Object.{Object}
+use Rattle.world_data.specs.declared.worlds.World.{World}
 use Rattle.world_model.specs.declared.commands.Command.TheVariants as command
 use Rattle.tile_core.specs.Kernels.{AreKept}
 use Rattle.tile_core.specs.Moves.{world_of, len_of, HasFewFields}

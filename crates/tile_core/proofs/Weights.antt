@@ -4,12 +4,12 @@ use Rattle.std.specs.Prelude.{Some, None, sum_by, find, filter, slice_get, if◌
 use Rattle.std.specs.List.{list_all}
 use Rattle.std.proofs.lemmas.List.Sums.{sum_by-cons, sum_by_push}
 use Rattle.byte_text.specs.Names.{Bytes, before, same}
-use Rattle.world_model.specs.Lists.{put_in}
-use Rattle.world_model.specs.Worlds.{are_objects, object_before, is_at}
-use Rattle.world_model.specs.Records.{weight}
-use Rattle.world_model.specs.declared.objects.Object.{Object}
-use Rattle.world_model.proofs.Sorted.{object_asym}
-use Rattle.collection.proofs.ByteOrder.{before_tie, before_self, same_refl, same_equal}
+use Rattle.ordered_lists.specs.Lists.{put_in}
+use Rattle.world_data.specs.Worlds.{are_objects, object_before, is_at}
+use Rattle.world_data.specs.Records.{weight}
+use Rattle.world_data.specs.declared.objects.Object.{Object}
+use Rattle.ordered_lists.proofs.ByteOrder.{before_tie, before_self, same_refl, same_equal}
+use Rattle.ordered_lists.proofs.ByteOrder.{pair_asym}
 use Rattle.tile_core.specs.Moves.{world_of, len_of, HasFewFields, HaveFewFields}
 use Rattle.tile_core.proofs.FieldOrder.{take_more}
 
@@ -151,7 +151,7 @@ module _ (f : Object → ℕ) where
           let is : object_before x y ≡ object_before x x = like x.key x.id x y x s (itself x) in
           let self = before_none x in
           absurd (cc)
-      by true b p q behind ih false s e = let none = others_all x y ys (object_asym x y p) behind in no_none o (sym none ∙ e)
+      by true b p q behind ih false s e = let none = others_all x y ys (pair_asym (λ (o : Object). o.key) (λ o. o.id) x y p) behind in no_none o (sym none ∙ e)
       by false true p q behind ih true s e = let t = other_at x y s in absurd (cc)
       by false true p q behind ih false s e = let part = ih e in omega (arith, part, sum_by-cons f y ys, sum_by-cons f y (put_in object_before x ys))
       by false false p q behind ih true s e = let is : y ≡ o = cc in let same : f y ≡ f o = ap f is in omega (arith, same, sum_by-cons f y ys, sum_by-cons f x ys)

@@ -2,13 +2,13 @@
 use Rattle.std.specs.Prelude.{◌≡◌, ℕ, ◌+◌, ◌≤◌, true, not, List, [], ◌∷◌, ◌++◌, filter, find, length, Some}
 use Rattle.std.specs.List.{AllByRecursion}
 use Rattle.byte_text.specs.Names.{Bytes}
-use Rattle.world_model.specs.Lists.{sorted_by, put_in}
-use Rattle.world_model.specs.Worlds.{object_before, are_objects, has_key, is_at}
-use Rattle.world_model.specs.Records.{weight, record_len}
-use Rattle.world_model.specs.Expiry.{is_due, due_before}
+use Rattle.ordered_lists.specs.Lists.{sorted_by, put_in}
+use Rattle.world_data.specs.Worlds.{object_before, are_objects, has_key, is_at}
+use Rattle.world_data.specs.Records.{weight, record_len}
+use Rattle.world_data.specs.Expiry.{is_due, due_before}
 use Rattle.world_model.specs.Effects.{dels}
-use Rattle.world_model.specs.declared.objects.Object.{Object}
-use Rattle.world_model.specs.declared.worlds.Change.TheVariants as change
+use Rattle.world_data.specs.declared.objects.Object.{Object}
+use Rattle.world_data.specs.declared.worlds.Change.TheVariants as change
 use Rattle.keyspace.specs.Entries.{Entry, room_for}
 use Rattle.tile_core.specs.declared.dues.Gone.{Gone}
 use Rattle.tile_core.specs.Moves.{world_of, HaveFewFields}

@@ -1,10 +1,10 @@
 -- What contracts see of a core, and what holds of its parts.
 use Rattle.std.specs.Prelude.{◌≡◌, ℕ, ◌≤◌, true, false, List, length, map}
-use Rattle.world_model.specs.Limits.{max_weight, max_sessions}
-use Rattle.world_model.specs.Worlds.{are_objects}
-use Rattle.world_model.specs.Records.{weight}
+use Rattle.world_data.specs.Limits.{max_weight, max_sessions}
+use Rattle.world_data.specs.Worlds.{are_objects}
+use Rattle.world_data.specs.Records.{weight}
 use Rattle.world_model.specs.Halls.{Hall}
-use Rattle.world_model.specs.declared.objects.Object.{Object}
+use Rattle.world_data.specs.declared.objects.Object.{Object}
 use Rattle.tile_core.specs.declared.sessions.Session.{Session}
 use Rattle.tile_core.specs.Moves.{world_of, HaveFewFields}
 use Rattle.tile_core.specs.Dues.{AreCalm}

@@ -8,7 +8,7 @@ use Rattle.reply_text.specs.Items.{Items}
 use Rattle.reply_text.specs.declared.frames.ReplyFault.{ReplyFault}
 use Rattle.reply_text.specs.declared.frames.ReplyFault.TheVariants as fault
 use Rattle.keyspace.specs.Entries.{Entry, has_objects}
-use Rattle.world_model.specs.Limits.{max_reply}
+use Rattle.world_data.specs.Limits.{max_reply}
 
 -- the keys that have an object and meet a pattern
 abbrev pub keys_met : Bytes → List Entry → List Bytes

@@ -2,13 +2,13 @@
 use Rattle.std.specs.Prelude.{◌≡◌, ℕ, ◌≤◌, true, not, List, [], ◌∷◌, length, filter}
 use Rattle.std.specs.List.{AllByRecursion}
 use Rattle.byte_text.specs.Names.{Bytes}
-use Rattle.world_model.specs.Limits.{max_fields}
-use Rattle.world_model.specs.Lists.{put_in}
-use Rattle.world_model.specs.Worlds.{object_before, has_key, is_at}
-use Rattle.world_model.specs.Records.{record_len}
-use Rattle.world_model.specs.declared.worlds.Change.TheVariants as change
-use Rattle.world_model.specs.declared.objects.Object.{Object}
-use Rattle.world_model.specs.declared.worlds.World.{World}
+use Rattle.world_data.specs.Limits.{max_fields}
+use Rattle.ordered_lists.specs.Lists.{put_in}
+use Rattle.world_data.specs.Worlds.{object_before, has_key, is_at}
+use Rattle.world_data.specs.Records.{record_len}
+use Rattle.world_data.specs.declared.worlds.Change.TheVariants as change
+use Rattle.world_data.specs.declared.objects.Object.{Object}
+use Rattle.world_data.specs.declared.worlds.World.{World}
 use Rattle.keyspace.specs.Entries.{Entry, objects_in, has_room}
 use Rattle.tile_core.specs.declared.moves.Move.{Move}
 use Rattle.tile_core.specs.declared.moves.Move.TheVariants.{Stay, Put, Delete, DeleteEach, Leave, Clear}

@@ -4,22 +4,22 @@ use Rattle.std.specs.List.{AllByRecursion}
 use Rattle.byte_text.specs.Names.{Bytes}
 use Rattle.byte_text.specs.Replies.{frame_text}
 use Rattle.byte_text.specs.declared.replies.Piece.{Piece}
-use Rattle.world_model.specs.Limits.{max_reply, max_weight}
-use Rattle.world_model.specs.Worlds.{after}
-use Rattle.world_model.specs.Records.{record_len, weight}
+use Rattle.world_data.specs.Limits.{max_reply, max_weight}
+use Rattle.world_data.specs.Worlds.{after}
+use Rattle.world_data.specs.Records.{record_len, weight}
 use Rattle.world_model.specs.Effects.{Effect, Deed, says, effect, changes, refuses, unless, fits, within_reply}
 use Rattle.world_model.specs.Refusals.{fault_reply, broken_reply}
 use Rattle.world_model.specs.Served.{asks}
-use Rattle.world_model.specs.declared.worlds.World.{World}
-use Rattle.world_model.specs.declared.worlds.Change.{Change}
-use Rattle.world_model.specs.declared.worlds.Change.TheVariants as change
+use Rattle.world_data.specs.declared.worlds.World.{World}
+use Rattle.world_data.specs.declared.worlds.Change.{Change}
+use Rattle.world_data.specs.declared.worlds.Change.TheVariants as change
 use Rattle.world_model.specs.declared.commands.Command.{Command}
 use Rattle.world_model.specs.declared.faults.WordFault.{WordFault}
 use Rattle.world_model.specs.declared.events.Asked.{Asked}
 use Rattle.world_model.specs.declared.events.Asked.TheVariants.{Words, Broken}
 use Rattle.tile_core.specs.declared.moves.Move.{Move}
 use Rattle.tile_core.specs.declared.moves.Move.TheVariants.{Stay}
-use Rattle.world_model.specs.declared.objects.Object.{Object}
+use Rattle.world_data.specs.declared.objects.Object.{Object}
 use Rattle.tile_core.specs.Moves.{world_of, HasFewFields, HoldsOfPut, moved}
 use Rattle.tile_core.specs.declared.plans.Plan.{Plan}
 

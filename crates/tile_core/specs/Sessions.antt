@@ -1,7 +1,7 @@
 -- The sessions that a core keeps.
 use Rattle.std.specs.Prelude.{◌≡◌, ◌≢◌, ◌⊎◌, ℕ, Bool, ◌||◌, nat_le, ◌<◌, ◌≤◌, List, [], ◌∷◌, ◌++◌, length, slice_get, Some, Result, Ok, Err, true, false, if◌then◌else◌}
 use Rattle.byte_text.specs.Names.{Bytes}
-use Rattle.world_model.specs.Limits.{full_frames, full_bytes}
+use Rattle.world_data.specs.Limits.{full_frames, full_bytes}
 use Rattle.world_model.specs.Halls as halls
 use Rattle.world_model.specs.declared.events.Called.{Called}
 use Rattle.world_model.specs.declared.events.Called.TheVariants as called

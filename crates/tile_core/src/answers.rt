@@ -3,7 +3,7 @@
 ghost use Rattle.std.specs.Prelude.{◌≡◌, ◌≤◌, length, IfOk};
 ghost use Rattle.byte_text.specs.Lines.{IsOneLine};
 ghost use Rattle.byte_text.specs.Replies.{IsFrame, frame_text, number};
-ghost use Rattle.world_model.specs.Limits.{max_reply};
+ghost use Rattle.world_data.specs.Limits.{max_reply};
 ghost use Rattle.world_model.specs.Effects.{says, refuses, within_reply};
 ghost use Rattle.tile_core.specs.Plans.{Replies, Says};
 

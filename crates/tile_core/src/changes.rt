@@ -3,7 +3,7 @@
 ghost use Rattle.std.specs.Prelude.{◌≡◌, [], ℕ, not, if◌then◌else◌, IfOk};
 ghost use Rattle.std.specs.List.{list_any};
 ghost use Rattle.planar_geom.specs.Points.{same_int};
-ghost use Rattle.world_model.specs.Worlds.{has_key};
+ghost use Rattle.world_data.specs.Worlds.{has_key};
 ghost use Rattle.world_model.specs.Effects.{effect, changed_count, given_and_cleared, missing};
 ghost use Rattle.world_model.specs.declared.commands.Command.TheVariants as command;
 ghost use Rattle.keyspace.specs.Entries.{objects_in};

@@ -1,8 +1,8 @@
 //! The core and its calls.
 
 ghost use Rattle.std.specs.Prelude.{◌≡◌, ◌⊎◌, ◌≤◌, ◌+◌, ◌*◌, [], length};
-ghost use Rattle.world_model.specs.Limits.{take_frames, max_weight};
-ghost use Rattle.world_model.specs.Worlds.{empty_world};
+ghost use Rattle.world_data.specs.Limits.{take_frames, max_weight};
+ghost use Rattle.world_data.specs.Worlds.{empty_world};
 ghost use Rattle.world_model.specs.Histories.{Step, opening_hall};
 ghost use Rattle.world_model.specs.Seats.{enter_outcome, take_outcome, given_count};
 ghost use Rattle.world_model.specs.declared.events.Event.TheVariants as event;

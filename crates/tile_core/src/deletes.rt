@@ -2,7 +2,7 @@
 
 ghost use Rattle.std.specs.Prelude.{◌≡◌, ◌+◌, ◌≤◌, ℕ, true, [], sum_by, IfOk, OnOk};
 ghost use Rattle.byte_text.specs.Globs.{glob_meets, is_well_formed};
-ghost use Rattle.world_model.specs.Limits.{max_weight};
+ghost use Rattle.world_data.specs.Limits.{max_weight};
 ghost use Rattle.world_model.specs.Effects.{effect};
 ghost use Rattle.world_model.specs.declared.commands.Command.TheVariants as command;
 ghost use Rattle.keyspace.specs.Entries.{objects_in};

@@ -1,9 +1,9 @@
 //! Expiry: the objects whose deadline has come are taken out before anything else is done, and put back where that cannot be.
 
 ghost use Rattle.std.specs.Prelude.{◌≡◌, ◌≢◌, ◌≤◌, ◌<◌, ◌+◌, ◌^◌, [], true, false, filter, length, IfOk, Ok, OnErr};
-ghost use Rattle.world_model.specs.Limits.{max_weight};
-ghost use Rattle.world_model.specs.Expiry.{is_due};
-ghost use Rattle.world_model.specs.Records.{weight};
+ghost use Rattle.world_data.specs.Limits.{max_weight};
+ghost use Rattle.world_data.specs.Expiry.{is_due};
+ghost use Rattle.world_data.specs.Records.{weight};
 ghost use Rattle.keyspace.specs.Entries.{objects_in};
 ghost use Rattle.tile_core.specs.Kernels.{AreKept};
 ghost use Rattle.tile_core.specs.Moves.{world_of, HaveFewFields};

@@ -1,7 +1,7 @@
 //! Fields of an object, and values that are given to them.
 
 ghost use Rattle.std.specs.Prelude.{◌≡◌, IfOk};
-ghost use Rattle.world_model.specs.Filters.{with_values};
+ghost use Rattle.world_data.specs.Filters.{with_values};
 ghost use Rattle.world_model.specs.Effects.{given_and_cleared};
 
 use byte_text::NoMemory;

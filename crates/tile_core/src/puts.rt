@@ -2,13 +2,13 @@
 
 ghost use Rattle.std.specs.Prelude.{◌≡◌, ◌≤◌, ◌+◌, ◌^◌, Bool, Option, Some, None, [], is_some, option_map, length, IfOk};
 ghost use Rattle.byte_text.specs.Replies.{IsFrame, frame_text};
-ghost use Rattle.world_model.specs.Limits.{max_reply};
-ghost use Rattle.world_model.specs.Lists.{put_in};
-ghost use Rattle.world_model.specs.Worlds.{object_before};
-ghost use Rattle.world_model.specs.Records.{weight};
+ghost use Rattle.world_data.specs.Limits.{max_reply};
+ghost use Rattle.ordered_lists.specs.Lists.{put_in};
+ghost use Rattle.world_data.specs.Worlds.{object_before};
+ghost use Rattle.world_data.specs.Records.{weight};
 ghost use Rattle.world_model.specs.Effects.{effect, deadline_after, fields_of, is_kept_back};
 ghost use Rattle.world_model.specs.declared.commands.Command.TheVariants as command;
-ghost use Rattle.world_model.specs.declared.objects.Object.{Object};
+ghost use Rattle.world_data.specs.declared.objects.Object.{Object};
 ghost use Rattle.keyspace.specs.Entries.{objects_in};
 ghost use Rattle.tile_core.specs.Kernels.{AreKept};
 ghost use Rattle.tile_core.specs.Moves.{world_in, world_of, HasFewFields, len_of};

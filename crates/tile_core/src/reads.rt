@@ -4,7 +4,7 @@ ghost use Rattle.std.specs.Prelude.{◌≡◌, ◌≢◌, ℕ, [], map, sum_by, 
 ghost use Rattle.std.specs.List.{AllByRecursion};
 ghost use Rattle.byte_text.specs.Replies.{IsFrame};
 ghost use Rattle.planar_geom.specs.Shapes.{positions};
-ghost use Rattle.world_model.specs.Worlds.{objects_of};
+ghost use Rattle.world_data.specs.Worlds.{objects_of};
 ghost use Rattle.world_model.specs.Effects.{effect};
 ghost use Rattle.world_model.specs.Replies.{stats_of_key, bounds_of_key};
 ghost use Rattle.world_model.specs.declared.commands.Command.TheVariants as command;

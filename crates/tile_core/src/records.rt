@@ -2,9 +2,9 @@
 
 ghost use Rattle.std.specs.Prelude.{◌≡◌, ◌≤◌, ◌+◌, ◌*◌, ◌^◌, length, decimal, flat_map};
 ghost use Rattle.byte_text.specs.Lines.{line, bulk_text};
-ghost use Rattle.world_model.specs.Limits.{max_fields};
-ghost use Rattle.world_model.specs.Records.{record_len, field_words, deadline_words};
-ghost use Rattle.world_model.specs.declared.worlds.Change.TheVariants as change;
+ghost use Rattle.world_data.specs.Limits.{max_fields};
+ghost use Rattle.world_data.specs.Records.{record_len, field_words, deadline_words};
+ghost use Rattle.world_data.specs.declared.worlds.Change.TheVariants as change;
 ghost use Rattle.tile_core.specs.Moves.{HasFewFields};
 ghost use Rattle.tile_core.specs.Records.{words_len};
 

@@ -2,7 +2,7 @@
 
 ghost use Rattle.std.specs.Prelude.{◌≢◌, ◌≤◌, ℕ, [], length, IfOk};
 ghost use Rattle.byte_text.specs.Replies.{frame_text};
-ghost use Rattle.world_model.specs.Limits.{max_reply};
+ghost use Rattle.world_data.specs.Limits.{max_reply};
 ghost use Rattle.world_model.specs.Effects.{effect, says};
 ghost use Rattle.world_model.specs.Refusals.{fault_reply as fault_pieces, broken_reply as broken_pieces};
 ghost use Rattle.world_model.specs.Served.{asks};

@@ -4,8 +4,8 @@ ghost use Rattle.std.specs.Prelude.{◌≡◌, ◌≢◌, ◌≤◌, ◌<◌, �
 ghost use Rattle.byte_text.specs.Globs.{is_well_formed};
 ghost use Rattle.byte_text.specs.Replies.{frame_text, array, bulk};
 ghost use Rattle.byte_text.specs.declared.replies.Piece.{Piece};
-ghost use Rattle.world_model.specs.Limits.{max_reply};
-ghost use Rattle.world_model.specs.Queries.{IsPageOf, page_items};
+ghost use Rattle.world_data.specs.Limits.{max_reply};
+ghost use Rattle.fence_model.specs.Queries.{IsPageOf, page_items};
 ghost use Rattle.world_model.specs.Effects.{effect, says, within_reply};
 ghost use Rattle.world_model.specs.Replies.{page_reply, item_reply};
 ghost use Rattle.world_model.specs.declared.commands.Command.TheVariants as command;

@@ -1,8 +1,8 @@
 //! The sessions that are present, in the order of their numbers.
 
 ghost use Rattle.std.specs.Prelude.{◌≡◌, ◌≢◌, ◌<◌, ◌≤◌, [], ℕ, length, drop, take, min, Some, IfSome, IfNone, slice_get};
-ghost use Rattle.world_model.specs.Limits.{full_frames, full_bytes, max_reply, take_frames};
-ghost use Rattle.world_model.specs.Halls.{frame_bytes};
+ghost use Rattle.world_data.specs.Limits.{full_frames, full_bytes, max_reply, take_frames};
+ghost use Rattle.world_data.specs.Frames.{frame_bytes};
 ghost use Rattle.tile_core.specs.declared.sessions.Session.{Session};
 ghost use Rattle.tile_core.specs.Sessions.{IsAt, IsServed, is_full, is_open, answered, closed};
 

@@ -7,7 +7,7 @@ use Rattle.script_text.specs.declared.lines.ScriptLine.{ScriptLine}
 use Rattle.script_text.specs.declared.lines.ScriptLine.TheVariants as says
 use Rattle.world_model.specs.Halls.{Hall}
 use Rattle.world_model.specs.Histories.{Step, opening_hall}
-use Rattle.world_model.specs.Worlds.{empty_world}
+use Rattle.world_data.specs.Worlds.{empty_world}
 use Rattle.world_model.specs.declared.events.Event.{Event}
 use Rattle.world_model.specs.declared.events.Event.TheVariants as event
 use Rattle.world_model.specs.declared.events.Outcome.{Outcome}

@@ -1,7 +1,7 @@
 //! What one line of a script does.
 
 ghost use Rattle.std.specs.Prelude.{◌≡◌, [], IfOk};
-ghost use Rattle.world_model.specs.Limits.{take_frames};
+ghost use Rattle.world_data.specs.Limits.{take_frames};
 ghost use Rattle.world_model.specs.declared.events.Event.TheVariants as event;
 ghost use Rattle.tile_top.specs.Readers.{reader_of};
 ghost use Rattle.tile_top.specs.Scripts.{opening, Makes, MakesOne, Enters, Closes, Feeds, ActsOn};
@@ -28,7 +28,7 @@ pub(crate) struct Player {
 
 impl Model for Player {
     ghost use Rattle.std.specs.Prelude.{◌≡◌, []};
-    ghost use Rattle.world_model.specs.Limits.{take_frames};
+    ghost use Rattle.world_data.specs.Limits.{take_frames};
     ghost use Rattle.tile_top.specs.Played.{Played};
 
     ghost Value = { Played };

@@ -4,17 +4,18 @@ use Rattle.std.specs.Prelude.{Option, Some, None, find, map, filter, if◌then�
 use Rattle.std.proofs.lemmas.Bool.Decides.{nat_tests}
 use Rattle.byte_text.specs.Names.{Bytes}
 use Rattle.world_model.specs.Halls.{Hall, Session, closing, effect_of, is_live, is_session, session_of, change_session, without_session, has_room, placed, placed_each, place, place_all, apply, apply_all, due, closed_if, close_session, do_effect, do_asked, do_live, do_call, deliveries}
-use Rattle.world_model.specs.Effects.{Deed, Effect, dels}
-use Rattle.world_model.specs.Expiry.{expired}
+use Rattle.world_model.specs.Effects.{Effect}
+use Rattle.fence_model.specs.Writes.{Write, dels}
+use Rattle.world_data.specs.Expiry.{expired}
 use Rattle.world_model.specs.Laws.{OnlyPlaced, is_about}
-use Rattle.world_model.specs.Worlds.{after}
-use Rattle.world_model.specs.Records.{record_len}
+use Rattle.world_data.specs.Worlds.{after}
+use Rattle.world_data.specs.Records.{record_len}
 use Rattle.world_model.specs.Subscriptions.{with_subs}
 use Rattle.world_model.specs.Served.{asks}
 use Rattle.world_model.specs.Refusals.{broken_reply}
 use Rattle.byte_text.specs.Replies.{frame_text}
 use Rattle.std.specs.List.{AllByRecursion}
-use Rattle.world_model.specs.Limits.{take_frames}
+use Rattle.world_data.specs.Limits.{take_frames}
 use Rattle.world_model.specs.Histories.{Ending, Step, StepBy, refusal, refusal_going, when_stopped, first_of, enter_tests, call_tests, take_tests, tick_tests, doing}
 use Rattle.world_model.specs.declared.events.Event.{Event}
 use Rattle.world_model.specs.declared.events.Event.TheVariants.{Enter, Call, Take, Tick, Close, Remove, Rewrite, Retire}
@@ -108,11 +109,11 @@ place_all_only : (h : Hall) (ds : List (ℕ × Bytes)) (n : ℕ) → OnlyPlaced 
 place_all_only h [] n = only_refl (session_of h n)
 place_all_only h (d ∷ ds) n = only_trans (session_of h n) (session_of (place h d) n) (session_of (place_all (place h d) ds) n) (place_only h d n) (place_all_only (place h d) ds n)
 
-apply_only : (h : Hall) (d : Deed) (n : ℕ) → OnlyPlaced (session_of h n) (session_of (apply h d) n)
+apply_only : (h : Hall) (d : Write) (n : ℕ) → OnlyPlaced (session_of h n) (session_of (apply h d) n)
 unfolding apply
 apply_only h d n = place_all_only (record h { world = after h.world d.change; logged = h.logged + record_len d.change }) (deliveries h.world h.sessions d) n
 
-apply_all_only : (h : Hall) (ds : List Deed) (n : ℕ) → OnlyPlaced (session_of h n) (session_of (apply_all h ds) n)
+apply_all_only : (h : Hall) (ds : List Write) (n : ℕ) → OnlyPlaced (session_of h n) (session_of (apply_all h ds) n)
 apply_all_only h [] n = only_refl (session_of h n)
 apply_all_only h (d ∷ ds) n = only_trans (session_of h n) (session_of (apply h d) n) (session_of (apply_all (apply h d) ds) n) (apply_only h d n) (apply_all_only (apply h d) ds n)
 
@@ -130,13 +131,13 @@ effect_only : (h : Hall) (m : ℕ) (e : Effect) (n : ℕ) → (n == m) ≡ false
 effect_only h m e n other =
     let subscribed : Hall = change_session (λ s. record s { subs = with_subs s.subs e.subs }) m h in
     let replied : Hall = place_all subscribed (map (λ r. (m, frame_text r)) e.replies) in
-    let changed : Hall = apply_all replied e.deeds in
+    let changed : Hall = apply_all replied e.writes in
     only_trans (session_of h n) (session_of subscribed n) (session_of (do_effect h m e) n)
     (only_same (session_of h n) (session_of subscribed n) (unnamed (λ s. record s { subs = with_subs s.subs e.subs }) n m h (λ s. refl) other))
     (only_trans (session_of subscribed n) (session_of replied n) (session_of (do_effect h m e) n)
     (place_all_only subscribed (map (λ r. (m, frame_text r)) e.replies) n)
     (only_trans (session_of replied n) (session_of changed n) (session_of (do_effect h m e) n)
-    (apply_all_only replied e.deeds n)
+    (apply_all_only replied e.writes n)
     (only_same (session_of changed n) (session_of (do_effect h m e) n) (closed_same e.closes n m changed other))))
 
 asked_only : (h : Hall) (s : Session) (asked : Asked) (n : ℕ) → (n == s.number) ≡ false → OnlyPlaced (session_of h n) (session_of (do_asked h s asked) n)

@@ -12,22 +12,23 @@ use Rattle.planar_geom.specs.declared.shapes.Part.TheVariants.{Spot, Face}
 use Rattle.geo_text.specs.Texts.{Shape, shape_of, stored_or, walked, point_text, bounds_text, corners}
 use Rattle.geo_text.specs.declared.faults.GeoFault.{GeoFault}
 use Rattle.geo_text.proofs.StoredLaws.{point_back, bounds_back}
-use Rattle.world_model.specs.Limits.{max_coord, max_meters, max_tests}
+use Rattle.world_data.specs.Limits.{max_coord, max_meters, max_tests}
 use Rattle.world_model.specs.Grammar.{Form, Reading, spells, runs_out, done, word, maybe, ◌>>=◌, ◌>>◌, ◌or◌, one_of, repeated, live, spelled, a_word, a_coordinate, a_geojson}
 use Rattle.world_model.specs.Kinds.{when, name, glob, meters, between, coordinate_from, coordinate, lat_lon, four, geojson, accepted}
 use Rattle.world_model.specs.Commands as table
-use Rattle.world_model.specs.Sound.{IsSoundCommand, is_sound_area, is_sound_from, is_sound_glob, is_sound_rule, is_sound_watch, is_sound_reach}
-use Rattle.world_model.specs.Filters.{Field, are_fields}
-use Rattle.world_model.specs.declared.channels.Kind.{Kind}
-use Rattle.world_model.specs.declared.channels.Kind.TheVariants.{Within, Intersects}
-use Rattle.world_model.specs.declared.channels.Watch.TheVariants as watch
-use Rattle.world_model.specs.declared.queries.Rule.TheVariants.{Kept, Nearest}
-use Rattle.world_model.specs.declared.queries.Shown.TheVariants as shown
+use Rattle.world_model.specs.Sound.{IsSoundCommand, is_sound_from, is_sound_reach, takes_areas}
+use Rattle.world_data.specs.Sound.{is_sound_rule, is_sound_watch, is_sound_glob, is_sound_area}
+use Rattle.world_data.specs.Filters.{Field, are_fields}
+use Rattle.world_data.specs.declared.channels.Kind.{Kind}
+use Rattle.world_data.specs.declared.channels.Kind.TheVariants.{Within, Intersects}
+use Rattle.world_data.specs.declared.channels.Watch.TheVariants as watch
+use Rattle.world_data.specs.declared.queries.Rule.TheVariants.{Kept, Nearest}
+use Rattle.world_data.specs.declared.queries.Shown.TheVariants as shown
 use Rattle.world_model.specs.declared.commands.Command.{Command}
 use Rattle.world_model.specs.declared.commands.Command.TheVariants as command
 use Rattle.world_model.proofs.Forms.{Each}
 use Rattle.world_model.proofs.Making.{Makes, Said, makes_done, makes_or, makes_none, makes_where, makes_word, makes_bind, makes_behind, makes_then, makes_maybe, makes_any, makes_repeated, makes_once}
-use Rattle.world_model.proofs.FieldLaws.{with_values-are_fields}
+use Rattle.world_data.proofs.FieldLaws.{with_values-are_fields}
 
 -- kinds of word
 
@@ -204,9 +205,9 @@ makes_fence_option near o h =
 makes_fence_options : (near : Bool) → Makes SoundFence (repeated (table.fence_option near) table.no_fence_options)
 makes_fence_options near = makes_repeated SoundFence (table.fence_option near) (makes_fence_option near) table.no_fence_options refl
 
-makes_setchan_area : (called : Bytes) (kind : Kind) (channel : Bytes) → ((a : Area) → is_sound_area a ≡ true → is_sound_watch (watch.Spot kind a) ≡ true) → Makes IsSoundCommand (table.setchan_area called kind channel)
+makes_setchan_area : (called : Bytes) (kind : Kind) (channel : Bytes) → ((a : Area) → is_sound_area a ≡ true → (is_sound_watch (watch.Spot kind a) ≡ true) × (takes_areas (watch.Spot kind a) ≡ true)) → Makes IsSoundCommand (table.setchan_area called kind channel)
 makes_setchan_area called kind channel sound = makes_then IsSoundCommand (word called) _ (makes_behind IsSoundCommand name _ (λ key. makes_bind SoundFence IsSoundCommand _ _ (makes_fence_options false) (λ o h.
-    makes_bind SoundArea IsSoundCommand _ _ (makes_where SoundArea o.fence table.area makes_area) (λ a s. makes_done IsSoundCommand _ (and_true _ _ h (sound a.area s.0))))))
+    makes_bind SoundArea IsSoundCommand _ _ (makes_where SoundArea o.fence table.area makes_area) (λ a s. let t = sound a.area s.0 in makes_done IsSoundCommand _ (and_true _ _ (and_true _ _ h t.0) (and_true _ _ s.1 t.1))))))
 
 makes_near_area : (channel key : Bytes) (o : table.FenceOptions) → SoundFence o → Makes IsSoundCommand (table.near_area channel key o)
 makes_near_area channel key o h =
@@ -221,8 +222,8 @@ makes_setchan_near channel = makes_then IsSoundCommand (word (codes "NEARBY")) _
 
 makes_setchan : Makes IsSoundCommand table.setchan_command
 makes_setchan = makes_then IsSoundCommand (word (codes "SETCHAN")) _ (makes_behind IsSoundCommand name _ (λ channel.
-    first (makes_setchan_area (codes "WITHIN") Within channel (λ a s. s)) (
-    first (makes_setchan_area (codes "INTERSECTS") Intersects channel (λ a s. s)) (
+    first (makes_setchan_area (codes "WITHIN") Within channel (λ a s. (s, refl))) (
+    first (makes_setchan_area (codes "INTERSECTS") Intersects channel (λ a s. (s, refl))) (
     first (makes_setchan_near channel) (makes_none IsSoundCommand)))))
 
 -- the others

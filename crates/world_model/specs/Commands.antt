@@ -10,22 +10,22 @@ use Rattle.planar_geom.specs.declared.shapes.Area.TheVariants.{Rect, Disc, Figur
 use Rattle.planar_geom.specs.declared.shapes.Part.TheVariants.{Spot, Face}
 use Rattle.geo_text.specs.Texts.{Shape, shape_of, point_text, bounds_text, corners, joined}
 use Rattle.geo_text.specs.declared.faults.GeoFault.{GeoFault}
-use Rattle.world_model.specs.Limits.{max_limit, max_tests, max_values}
-use Rattle.world_model.specs.Filters.{Field, last_values, is_zero}
+use Rattle.world_data.specs.Limits.{max_limit, max_tests, max_values}
+use Rattle.world_data.specs.Filters.{Field, last_values, is_zero}
 use Rattle.world_model.specs.Grammar.{Form, Reading, ◌>>=◌, ◌>>◌, ◌or◌, done, one_of, where_, word, maybe, repeated, once_or_more, times, live, spelled, goes_on, wants_coordinate, wants_geojson}
 use Rattle.world_model.specs.Kinds.{name, glob, integer, between, meters, seconds, lat_lon, four, geojson, bound, list_of, is_in, is_digit}
-use Rattle.world_model.specs.declared.filters.Test.{Test}
-use Rattle.world_model.specs.declared.filters.Test.TheVariants.{Range, Among}
-use Rattle.world_model.specs.declared.channels.Kind.{Kind}
-use Rattle.world_model.specs.declared.channels.Kind.TheVariants.{Within, Intersects, Near}
-use Rattle.world_model.specs.declared.channels.Watch.{Watch}
-use Rattle.world_model.specs.declared.channels.Watch.TheVariants as watch
-use Rattle.world_model.specs.declared.channels.Wanted.{Wanted}
-use Rattle.world_model.specs.declared.queries.Shown.{Shown}
-use Rattle.world_model.specs.declared.queries.Shown.TheVariants as shown
-use Rattle.world_model.specs.declared.queries.Rule.{Rule}
-use Rattle.world_model.specs.declared.queries.Rule.TheVariants.{All, Down, Kept, Nearest}
-use Rattle.world_model.specs.declared.queries.Query.{Query}
+use Rattle.world_data.specs.declared.filters.Test.{Test}
+use Rattle.world_data.specs.declared.filters.Test.TheVariants.{Range, Among}
+use Rattle.world_data.specs.declared.channels.Kind.{Kind}
+use Rattle.world_data.specs.declared.channels.Kind.TheVariants.{Within, Intersects, Near}
+use Rattle.world_data.specs.declared.channels.Watch.{Watch}
+use Rattle.world_data.specs.declared.channels.Watch.TheVariants as watch
+use Rattle.world_data.specs.declared.channels.Wanted.{Wanted}
+use Rattle.world_data.specs.declared.queries.Shown.{Shown}
+use Rattle.world_data.specs.declared.queries.Shown.TheVariants as shown
+use Rattle.world_data.specs.declared.queries.Rule.{Rule}
+use Rattle.world_data.specs.declared.queries.Rule.TheVariants.{All, Down, Kept, Nearest}
+use Rattle.world_data.specs.declared.queries.Query.{Query}
 use Rattle.world_model.specs.declared.commands.Only.{Only}
 use Rattle.world_model.specs.declared.commands.Only.TheVariants.{Any, Absent, Present}
 use Rattle.world_model.specs.declared.commands.AreaWords.{AreaWords}

@@ -9,22 +9,27 @@ use Rattle.byte_text.specs.declared.replies.Piece.TheVariants as piece
 use Rattle.planar_geom.specs.Points.{same_int}
 use Rattle.planar_geom.specs.declared.shapes.Area.{Area}
 use Rattle.planar_geom.specs.declared.shapes.Area.TheVariants.{Figure}
-use Rattle.world_model.specs.Limits.{max_fields, max_objects, max_channels, max_weight, max_subs, max_reply}
-use Rattle.world_model.specs.Worlds.{after, object_at, channel_of, objects_of, has_key}
-use Rattle.world_model.specs.Records.{weight}
-use Rattle.world_model.specs.Filters.{Field, with_values, value_of}
-use Rattle.world_model.specs.Queries.{matches, near_matches}
+use Rattle.ordered_lists.specs.Lists.{distinct}
+use Rattle.world_data.specs.Limits.{max_fields, max_objects, max_channels, max_weight, max_subs, max_reply}
+use Rattle.world_data.specs.Worlds.{after, object_at, channel_of, objects_of, has_key}
+use Rattle.world_data.specs.Records.{weight}
+use Rattle.world_data.specs.Filters.{Field, with_values, value_of}
+use Rattle.fence_model.specs.Queries.{matches, near_matches}
+use Rattle.fence_model.specs.Writes.{Write, loud, quiet, dels}
+use Rattle.world_model.specs.Refusals.{refusal_reply}
+use Rattle.world_model.specs.declared.faults.Refusal.{Refusal}
+use Rattle.world_model.specs.declared.faults.Refusal.TheVariants as refusal
 use Rattle.world_model.specs.Subscriptions.{Sub, with_subs, has_subs}
-use Rattle.world_model.specs.Replies.{error, null, number_text, integer_reply, object_reply, fields_reply, page_reply, bounds_of_key, stats_of_key, seconds_left, no_object, channel_reply, confirmations}
-use Rattle.world_model.specs.declared.objects.Object.{Object}
-use Rattle.world_model.specs.declared.worlds.World.{World}
-use Rattle.world_model.specs.declared.worlds.Change.{Change}
-use Rattle.world_model.specs.declared.worlds.Change.TheVariants as change
-use Rattle.world_model.specs.declared.channels.Channel.{Channel}
-use Rattle.world_model.specs.declared.channels.Watch.{Watch}
-use Rattle.world_model.specs.declared.channels.Watch.TheVariants.{Spot, Roam}
-use Rattle.world_model.specs.declared.queries.Rule.{Rule}
-use Rattle.world_model.specs.declared.queries.Rule.TheVariants.{All, Down, Kept, Nearest}
+use Rattle.world_model.specs.Replies.{null, number_text, integer_reply, object_reply, fields_reply, page_reply, bounds_of_key, stats_of_key, seconds_left, no_object, channel_reply, confirmations}
+use Rattle.world_data.specs.declared.objects.Object.{Object}
+use Rattle.world_data.specs.declared.worlds.World.{World}
+use Rattle.world_data.specs.declared.worlds.Change.{Change}
+use Rattle.world_data.specs.declared.worlds.Change.TheVariants as change
+use Rattle.world_data.specs.declared.channels.Channel.{Channel}
+use Rattle.world_data.specs.declared.channels.Watch.{Watch}
+use Rattle.world_data.specs.declared.channels.Watch.TheVariants.{Spot, Roam}
+use Rattle.world_data.specs.declared.queries.Rule.{Rule}
+use Rattle.world_data.specs.declared.queries.Rule.TheVariants.{All, Down, Kept, Nearest}
 use Rattle.world_model.specs.declared.commands.Only.{Only}
 use Rattle.world_model.specs.declared.commands.Only.TheVariants.{Any, Absent, Present}
 use Rattle.world_model.specs.declared.commands.AreaWords.{AreaWords}
@@ -32,37 +37,24 @@ use Rattle.world_model.specs.declared.commands.AreaWords.TheVariants.{Given, Of}
 use Rattle.world_model.specs.declared.commands.Command.{Command}
 use Rattle.world_model.specs.declared.commands.Command.TheVariants as command
 
--- a change, and whether it raises messages
-pub record Deed : Type 0 where
-  pub change : Change
-  pub loud : Bool
-
--- a change that raises messages: the put of SET, every del, every drop
-abbrev pub loud : Change → Deed
-loud c = record { change = c; loud = true }
-
--- a change that raises none: the puts of FSET, EXPIRE and PERSIST, the flush, and changes of channels
-abbrev pub quiet : Change → Deed
-quiet c = record { change = c; loud = false }
-
 -- what a command does: replies, subscriptions to add, changes in order, and whether the session closes
 pub record Effect : Type 0 where
   pub replies : List (List Piece)
   pub subs : List Sub
-  pub deeds : List Deed
+  pub writes : List Write
   pub closes : Bool
 
 -- one reply and nothing else
 abbrev pub says : List Piece → Effect
-says reply = record { replies = reply ∷ []; subs = []; deeds = []; closes = false }
+says reply = record { replies = reply ∷ []; subs = []; writes = []; closes = false }
 
 -- one reply and these changes
-abbrev pub changes : List Piece → List Deed → Effect
-changes reply deeds = record { replies = reply ∷ []; subs = []; deeds = deeds; closes = false }
+abbrev pub changes : List Piece → List Write → Effect
+changes reply writes = record { replies = reply ∷ []; subs = []; writes = writes; closes = false }
 
--- an error and nothing else
-abbrev pub refuses : Bytes → Effect
-refuses t = says (error t)
+-- a refusal and nothing else
+abbrev pub refuses : Refusal → Effect
+refuses r = says (refusal_reply r)
 
 -- the first refusal whose test holds, else the effect
 abbrev pub unless : List (Bool × Effect) → Effect → Effect
@@ -96,14 +88,14 @@ deadline_after now after_ex = option_map (λ s. now + 1000 * s) after_ex
 abbrev pub put_effect : World → Only → Option Object → Object → Effect
 put_effect w only old o = unless (
     (is_kept_back only old, says null) ∷
-    (nat_lt max_fields (length o.fields), refuses (codes "too many fields")) ∷
-    (is_none old && nat_le max_objects (length w.objects), refuses (codes "too many objects")) ∷
-    (not (fits w (change.Put o)), refuses (codes "database is full")) ∷ [])
+    (nat_lt max_fields (length o.fields), refuses refusal.TooManyFields) ∷
+    (is_none old && nat_le max_objects (length w.objects), refuses refusal.TooManyObjects) ∷
+    (not (fits w (change.Put o)), refuses refusal.DatabaseFull) ∷ [])
     (changes fine (loud (change.Put o) ∷ []))
 
 -- why an object is not found
 abbrev pub missing : World → Bytes → Effect
-missing w key = refuses (if list_any (has_key key) w.objects then codes "id not found" else codes "key not found")
+missing w key = refuses (if list_any (has_key key) w.objects then refusal.IdNotFound else refusal.KeyNotFound)
 
 -- a command on an object that must be there
 abbrev pub with_object : World → Bytes → Bytes → (Object → Effect) → Effect
@@ -127,27 +119,18 @@ abbrev pub fset_effect : World → Object → List Field → Effect
 fset_effect w old given = let o : Object = record old { fields = with_values old.fields given } in
     if changed_count old.fields given == 0 then says (number 0) else
     unless (
-    (nat_lt max_fields (length o.fields), refuses (codes "too many fields")) ∷
-    (not (fits w (change.Put o)), refuses (codes "database is full")) ∷ [])
+    (nat_lt max_fields (length o.fields), refuses refusal.TooManyFields) ∷
+    (not (fits w (change.Put o)), refuses refusal.DatabaseFull) ∷ [])
     (changes (number (changed_count old.fields given)) (quiet (change.Put o) ∷ []))
 
 -- EXPIRE
 abbrev pub deadline_effect : World → Object → ℕ → Effect
 deadline_effect w old d = let o : Object = record old { deadline = Some d } in
-    unless ((not (fits w (change.Put o)), refuses (codes "database is full")) ∷ []) (changes (number 1) (quiet (change.Put o) ∷ []))
+    unless ((not (fits w (change.Put o)), refuses refusal.DatabaseFull) ∷ []) (changes (number 1) (quiet (change.Put o) ∷ []))
 
 -- PERSIST
 abbrev pub persist_effect : Object → Effect
 persist_effect o = if is_some o.deadline then changes (number 1) (quiet (change.Put (record o { deadline = None })) ∷ []) else says (number 0)
-
--- these objects deleted, one change each
-abbrev pub dels : List Object → List Deed
-dels objects = map (λ o. loud (change.Del o.key o.id)) objects
-
--- each once, where equal ones stand together
-abbrev pub distinct : List Bytes → List Bytes
-distinct [] = []
-distinct (k ∷ ks) = if list_any (same k) ks then distinct ks else k ∷ distinct ks
 
 -- searches and channels: an area that is an object's shape is put in its place
 
@@ -169,8 +152,8 @@ watch_over (Roam key pattern meters nodwell) a = Roam key pattern meters nodwell
 
 abbrev pub setchan_effect : World → Channel → Effect
 setchan_effect w c = unless (
-    (is_none (channel_of w c.name) && nat_le max_channels (length w.channels), refuses (codes "too many channels")) ∷
-    (not (fits w (change.SetChan c)), refuses (codes "database is full")) ∷ [])
+    (is_none (channel_of w c.name) && nat_le max_channels (length w.channels), refuses refusal.TooManyChannels) ∷
+    (not (fits w (change.SetChan c)), refuses refusal.DatabaseFull) ∷ [])
     (changes (number 1) (quiet (change.SetChan c) ∷ []))
 
 -- the channel with the area and the area's words in their places
@@ -186,8 +169,8 @@ set_area w c (Some from) = resolved w from (λ a words. setchan_effect w (settle
 
 -- SUBSCRIBE and PSUBSCRIBE: all words are taken or none
 abbrev pub subscribe_effect : Bytes → List Sub → List Sub → Effect
-subscribe_effect called held subs = unless ((nat_lt max_subs (length (with_subs held subs)), refuses (codes "too many subscriptions")) ∷ [])
-    (record { replies = confirmations called held subs; subs = subs; deeds = []; closes = false })
+subscribe_effect called held subs = unless ((nat_lt max_subs (length (with_subs held subs)), refuses refusal.TooManySubscriptions) ∷ [])
+    (record { replies = confirmations called held subs; subs = subs; writes = []; closes = false })
 
 -- what a command does in a world at a moment, for a session with these subscriptions
 abbrev pub command_effect : World → ℕ → List Sub → Command → Effect
@@ -209,10 +192,10 @@ command_effect w now held (command.Stats keys) = says (array (map (λ key. stats
 command_effect w now held command.Flush = changes fine (quiet change.Flush ∷ [])
 command_effect w now held command.Shrink = says fine
 command_effect w now held command.Ping = says (piece.Status (codes "PONG") ∷ [])
-command_effect w now held command.Quit = record { replies = fine ∷ []; subs = []; deeds = []; closes = true }
-command_effect w now held (command.Scan key q) = says (page_reply q (matches w key q))
-command_effect w now held (command.Search key q from) = resolved w from (λ a words. says (page_reply q (matches w key (record q { rule = rule_over q.rule a }))))
-command_effect w now held (command.Nearby key q p reach) = says (page_reply q (near_matches w key q p reach))
+command_effect w now held command.Quit = record { replies = fine ∷ []; subs = []; writes = []; closes = true }
+command_effect w now held (command.Scan key q) = says (page_reply q (matches q (objects_of w key)))
+command_effect w now held (command.Search key q from) = resolved w from (λ a words. says (page_reply q (matches (record q { rule = rule_over q.rule a }) (objects_of w key))))
+command_effect w now held (command.Nearby key q p reach) = says (page_reply q (near_matches q p reach (objects_of w key)))
 command_effect w now held (command.Setchan c from) = set_area w c from
 command_effect w now held (command.Delchan name) = if is_some (channel_of w name) then changes (number 1) (quiet (change.DelChan name) ∷ []) else says (number 0)
 command_effect w now held (command.Pdelchan glob) = let gone = filter (λ c. glob_meets glob c.name) w.channels in changes (number (length gone)) (map (λ c. quiet (change.DelChan c.name)) gone)
@@ -222,7 +205,7 @@ command_effect w now held (command.Psubscribe globs) = subscribe_effect (codes "
 
 -- refused where a reply's frame would be too long
 abbrev pub within_reply : Effect → Effect
-within_reply e = if list_all (λ r. nat_le (length (frame_text r)) max_reply) e.replies then e else refuses (codes "reply too long")
+within_reply e = if list_all (λ r. nat_le (length (frame_text r)) max_reply) e.replies then e else refuses refusal.ReplyTooLong
 
 -- the four commands that a session with subscriptions is served
 abbrev pub is_served_subscribed : Command → Bool
@@ -236,5 +219,5 @@ is_served_subscribed c = false
 unfoldable pub effect : World → ℕ → List Sub → Command → Effect
 effect w now held c =
     if has_subs held && not (is_served_subscribed c)
-    then refuses (codes "only SUBSCRIBE, PSUBSCRIBE, PING and QUIT are served while subscribed")
+    then refuses refusal.Subscribed
     else within_reply (command_effect w now held c)

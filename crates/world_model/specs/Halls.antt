@@ -1,20 +1,22 @@
 -- Halls: a world, a clock and sessions with their frames; placing frames, applying changes, doing commands.
-use Rattle.std.specs.Prelude.{ℕ, ◌+◌, max, Bool, true, false, not, ◌&&◌, ◌==◌, nat_lt, nat_le, List, [], ◌∷◌, ◌++◌, length, filter, find, map, flat_map, sum_by, Option, Some, None, if◌then◌else◌, Result, Ok, Err}
+use Rattle.std.specs.Prelude.{◌≡◌, ◌≢◌, ℕ, ◌+◌, max, Bool, true, false, not, ◌&&◌, ◌==◌, nat_lt, nat_le, List, [], ◌∷◌, ◌++◌, length, filter, find, map, flat_map, sum_by, Option, Some, None, if◌then◌else◌, Result, Ok, Err}
 use Rattle.std.specs.List.{list_any}
 use Rattle.byte_text.specs.Names.{Bytes, same}
 use Rattle.byte_text.specs.Globs.{glob_meets}
 use Rattle.byte_text.specs.Replies.{frame_text, array, bulk}
 use Rattle.std.specs.Prelude.{codes}
-use Rattle.world_model.specs.Worlds.{after}
-use Rattle.world_model.specs.Records.{record_len}
+use Rattle.world_data.specs.Worlds.{after}
+use Rattle.world_data.specs.Records.{record_len}
 use Rattle.world_model.specs.Served.{asks}
-use Rattle.world_model.specs.Limits.{cap_frames, cap_bytes}
+use Rattle.world_data.specs.Frames.{frame_bytes}
+use Rattle.world_data.specs.Limits.{cap_frames, cap_bytes}
 use Rattle.world_model.specs.Subscriptions.{Sub, with_subs}
-use Rattle.world_model.specs.Effects.{Deed, Effect, says, dels, effect}
-use Rattle.world_model.specs.Expiry.{expired}
+use Rattle.world_model.specs.Effects.{Effect, says, effect}
+use Rattle.fence_model.specs.Writes.{Write, dels}
+use Rattle.world_data.specs.Expiry.{expired}
 use Rattle.world_model.specs.Refusals.{fault_reply, broken_reply}
-use Rattle.world_model.specs.Messages.{Message, messages}
-use Rattle.world_model.specs.declared.worlds.World.{World}
+use Rattle.fence_model.specs.Messages.{Message, messages}
+use Rattle.world_data.specs.declared.worlds.World.{World}
 use Rattle.world_model.specs.declared.commands.Command.{Command}
 use Rattle.world_model.specs.declared.faults.WordFault.{WordFault}
 use Rattle.world_model.specs.declared.events.Asked.{Asked}
@@ -49,9 +51,6 @@ is_session n s = s.number == n
 
 abbrev pub session_of : Hall → ℕ → Option Session
 session_of h n = find (is_session n) h.sessions
-
-abbrev pub frame_bytes : List Bytes → ℕ
-frame_bytes frames = sum_by length frames
 
 -- the hall with a session changed
 abbrev pub change_session : (Session → Session) → ℕ → Hall → Hall
@@ -107,17 +106,17 @@ sent_to m s = if is_live s then map (λ f. (s.number, f)) (frames_for m s.subs) 
 abbrev pub deliveries_of : List Message → List Session → List (ℕ × Bytes)
 deliveries_of ms sessions = flat_map (λ m. flat_map (sent_to m) sessions) ms
 
--- the deliveries of a change, from the world before it
-abbrev pub deliveries : World → List Session → Deed → List (ℕ × Bytes)
-deliveries w sessions d = if d.loud then deliveries_of (messages w d.change) sessions else []
+-- the deliveries of a write, from the world before it
+abbrev pub deliveries : World → List Session → Write → List (ℕ × Bytes)
+deliveries w sessions d = deliveries_of (messages w d) sessions
 
 -- the world becomes the one after the change, its record is logged, and its messages are placed
-unfoldable pub apply : Hall → Deed → Hall
+unfoldable pub apply : Hall → Write → Hall
 apply h d = place_all (record h { world = after h.world d.change; logged = h.logged + record_len d.change }) (deliveries h.world h.sessions d)
 
-abbrev pub apply_all : Hall → List Deed → Hall
+abbrev pub apply_all : Hall → List Write → Hall
 apply_all h [] = h
-apply_all h (d ∷ deeds) = apply_all (apply h d) deeds
+apply_all h (d ∷ writes) = apply_all (apply h d) writes
 
 -- the clock goes on, and each object that is due then is deleted
 abbrev pub due : Hall → ℕ → Hall
@@ -134,7 +133,7 @@ closed_if closes n h = if closes then close_session n h else h
 -- the subscriptions are added, the replies placed, the changes applied
 abbrev pub do_effect : Hall → ℕ → Effect → Hall
 do_effect h n e = closed_if e.closes n
-    (apply_all (place_all (change_session (λ s. record s { subs = with_subs s.subs e.subs }) n h) (map (λ r. (n, frame_text r)) e.replies)) e.deeds)
+    (apply_all (place_all (change_session (λ s. record s { subs = with_subs s.subs e.subs }) n h) (map (λ r. (n, frame_text r)) e.replies)) e.writes)
 
 -- the effect of what the words are: a command, or a refusal
 abbrev pub effect_of : Hall → Session → Result Command WordFault → Effect
@@ -157,3 +156,9 @@ do_live h (Some s) asked = if is_live s then do_asked h s asked else h
 -- what is asked is done for a session, where it is live
 unfoldable pub do_call : Hall → ℕ → Asked → Hall
 do_call h n asked = do_live h (session_of h n) asked
+
+-- who is to be told
+
+-- every session that is another in the second hall is named
+abbrev pub NamesChanged : List ℕ → Hall → Hall → Type 0
+NamesChanged named old new = (n : ℕ) → session_of new n ≢ session_of old n → list_any (λ m. m == n) named ≡ true

@@ -7,17 +7,19 @@ use Rattle.geo_text.specs.declared.faults.GeoFault.TheVariants as geo
 use Rattle.world_model.specs.Replies.{error}
 use Rattle.world_model.specs.declared.faults.WordFault.{WordFault}
 use Rattle.world_model.specs.declared.faults.WordFault.TheVariants as fault
+use Rattle.world_model.specs.declared.faults.Refusal.{Refusal}
+use Rattle.world_model.specs.declared.faults.Refusal.TheVariants as refusal
 use Rattle.byte_text.specs.declared.faults.RespFault.{RespFault}
 use Rattle.byte_text.specs.declared.faults.RespFault.TheVariants as resp
 
 -- the bytes from a space to `~` as they are, others as `?`
-abbrev shown_byte : ℕ → ℕ
+abbrev pub shown_byte : ℕ → ℕ
 shown_byte b = if nat_le 32 b && nat_le b 126 then b else 63
 
-abbrev in_quotes : Bytes → Bytes
+abbrev pub in_quotes : Bytes → Bytes
 in_quotes w = codes "'" ++ map shown_byte w ++ codes "'"
 
-abbrev geo_text : GeoFault → Bytes
+abbrev pub geo_text : GeoFault → Bytes
 geo_text geo.NotJson = codes "not json"
 geo_text geo.NotSpatial = codes "not spatial"
 geo_text geo.BadType = codes "bad type"
@@ -29,16 +31,15 @@ geo_text geo.TooMany = codes "too many positions"
 geo_text geo.BadPosition = codes "bad position"
 geo_text geo.Memory = []
 
-abbrev fault_text : WordFault → Bytes
+abbrev pub fault_text : WordFault → Bytes
 fault_text (fault.Unknown w) = codes "unknown command " ++ in_quotes w
 fault_text (fault.WrongCount c) = codes "wrong number of arguments for " ++ in_quotes c ++ codes " command"
 fault_text (fault.Invalid w) = codes "invalid argument " ++ in_quotes w
 fault_text (fault.Fraction w) = codes "coordinate is not a whole number " ++ in_quotes w
 fault_text (fault.Geo f) = codes "invalid object: " ++ geo_text f
 fault_text fault.Unserved = codes "not served yet"
-fault_text fault.Memory = []
 
-abbrev resp_text : RespFault → Bytes
+abbrev pub resp_text : RespFault → Bytes
 resp_text resp.BadType = codes "bad type"
 resp_text resp.BadLength = codes "bad length"
 resp_text resp.BadEnd = codes "bad end"
@@ -46,6 +47,21 @@ resp_text resp.TooMany = codes "too many words"
 resp_text resp.TooLong = codes "too long"
 resp_text resp.Dead = []
 resp_text resp.Memory = []
+
+-- of a command that was read and is not done
+abbrev pub refusal_text : Refusal → Bytes
+refusal_text refusal.KeyNotFound = codes "key not found"
+refusal_text refusal.IdNotFound = codes "id not found"
+refusal_text refusal.TooManyFields = codes "too many fields"
+refusal_text refusal.TooManyObjects = codes "too many objects"
+refusal_text refusal.TooManyChannels = codes "too many channels"
+refusal_text refusal.TooManySubscriptions = codes "too many subscriptions"
+refusal_text refusal.DatabaseFull = codes "database is full"
+refusal_text refusal.ReplyTooLong = codes "reply too long"
+refusal_text refusal.Subscribed = codes "only SUBSCRIBE, PSUBSCRIBE, PING and QUIT are served while subscribed"
+
+abbrev pub refusal_reply : Refusal → List Piece
+refusal_reply r = error (refusal_text r)
 
 abbrev pub fault_reply : WordFault → List Piece
 fault_reply f = error (fault_text f)

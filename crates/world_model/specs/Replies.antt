@@ -7,14 +7,14 @@ use Rattle.byte_text.specs.declared.replies.Piece.{Piece}
 use Rattle.byte_text.specs.declared.replies.Piece.TheVariants as piece
 use Rattle.planar_geom.specs.Points.{Point, Bounds, centre}
 use Rattle.planar_geom.specs.Shapes.{all_vertices, positions, box_of, box_of_points}
-use Rattle.world_model.specs.Filters.{Field}
-use Rattle.world_model.specs.Queries.{page_items, page_cursor}
+use Rattle.world_data.specs.Filters.{Field}
+use Rattle.fence_model.specs.Queries.{page_items, page_cursor}
 use Rattle.world_model.specs.Subscriptions.{Sub, counts_with}
-use Rattle.world_model.specs.declared.objects.Object.{Object}
-use Rattle.world_model.specs.declared.channels.Channel.{Channel}
-use Rattle.world_model.specs.declared.queries.Shown.{Shown}
-use Rattle.world_model.specs.declared.queries.Shown.TheVariants as shown
-use Rattle.world_model.specs.declared.queries.Query.{Query}
+use Rattle.world_data.specs.declared.objects.Object.{Object}
+use Rattle.world_data.specs.declared.channels.Channel.{Channel}
+use Rattle.world_data.specs.declared.queries.Shown.{Shown}
+use Rattle.world_data.specs.declared.queries.Shown.TheVariants as shown
+use Rattle.world_data.specs.declared.queries.Query.{Query}
 
 -- an error, which begins with ERR
 abbrev pub error : Bytes → List Piece

@@ -1,9 +1,9 @@
 //! Commands.
 
-use crate::channels::Channel;
-use crate::fields::Fields;
-use crate::lists::NameList;
-use crate::queries::{Query, Shown};
+use world_data::Channel;
+use world_data::Fields;
+use world_data::NameList;
+use world_data::{Query, Shown};
 use byte_text::{Name, Text};
 use planar_geom::{Area, Pt, Shape};
 

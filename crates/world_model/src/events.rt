@@ -1,4 +1,6 @@
-use crate::worlds::World;
+//! What may happen to a hall, and how each call answers.
+
+use world_data::World;
 use byte_text::{Request, RespFault, Text};
 use std::collections::LinkedList;
 
@@ -21,7 +23,7 @@ pub enum Called {
     LogFault,
     /// The hall had stopped before.
     Stopped,
-    /// The log, or the turns of the lock, have come to their greatest number.
+    /// The log has come to its greatest length.
     Spent,
     /// Memory ran out; nothing has changed.
     Memory,
@@ -36,18 +38,30 @@ pub enum Taken {
     Empty,
     /// There is no session of this number any more, and no frame of it.
     Ended,
+    /// The log could not be written; the hall has stopped.
     LogFault,
+    /// The hall had stopped before.
     Stopped,
-    Spent,
 }
 
 /// Why no session was entered.
 #[derive(Clone, Copy, Debug, PartialEq, Eq)]
 pub enum EnterFault {
+    /// As many sessions are present as may be, or all numbers were given out.
     TooMany,
+    /// The hall had stopped before.
     Stopped,
-    Spent,
+    /// Memory ran out; nothing has changed.
     Memory,
+}
+
+/// How the calls of one turn ended.
+#[derive(Clone, Copy, Debug, PartialEq, Eq)]
+pub struct Answers {
+    /// How many of them were answered Ok, from the first on.
+    pub served: usize,
+    /// Ok where that is all of them, else the answer to the next one, behind which none was made.
+    pub end: Called,
 }
 
 /// What may happen to a hall. No value of it is ever made.

@@ -1,3 +1,5 @@
+//! Why words are refused, and why a command that was read is not done.
+
 use byte_text::Text;
 use geo_text::GeoFault;
 
@@ -16,6 +18,27 @@ pub enum WordFault {
     Geo(GeoFault),
     /// The command is not served yet.
     Unserved,
-    /// Memory ran out; no words are refused so by the definitions.
-    Memory,
+}
+
+/// Why a command that was read is not done.
+#[derive(Clone, Copy, Debug, PartialEq, Eq)]
+pub enum Refusal {
+    /// No object has the key.
+    KeyNotFound,
+    /// The key has no object of this id.
+    IdNotFound,
+    /// The object would have more fields than [`world_data::MAX_FIELDS`].
+    TooManyFields,
+    /// The world has as many objects as it may have.
+    TooManyObjects,
+    /// The world has as many channels as it may have.
+    TooManyChannels,
+    /// The session would have more subscriptions than [`world_data::MAX_SUBS`].
+    TooManySubscriptions,
+    /// The records of the world would pass [`world_data::MAX_WEIGHT`].
+    DatabaseFull,
+    /// A reply would pass [`world_data::MAX_REPLY`].
+    ReplyTooLong,
+    /// A session with subscriptions is served four commands alone.
+    Subscribed,
 }

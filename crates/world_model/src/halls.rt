@@ -1,23 +1,24 @@
-//! What the sessions and the server ask of a hall.
+//! What the sessions and the server ask of a shared hall.
 
-use crate::events::{Asked, Called, EnterFault, Taken};
-use crate::frames::Frames;
+use crate::asked_lists::AskedList;
+use crate::events::{Answers, Called, EnterFault, Taken};
+use crate::touched::Touched;
 use std::sync::Wait;
+use world_data::Frames;
 
-/// A hall that many callers share. Each call makes one entry in the hall's history by the seat that it is lent, or none where the
-/// turns are spent for that seat, and leaves the seat the first exactly where it was. A call may wait for its turn.
+/// A hall that many callers share. Each call but `calls` makes one entry in the hall's history by the seat that it is lent, and
+/// leaves the seat the first exactly where it was. A call may wait for its turn.
 pub trait HallApi {
     /// What a caller has seen of the history.
     type Seat;
 
-    ghost use Rattle.std.specs.Prelude.{◌≡◌, ◌≢◌, ◌≤◌, ◌⊎◌, Err, [], length, true, false};
-    ghost use Rattle.world_model.specs.Limits.{max_moment, take_frames};
-    ghost use Rattle.world_model.specs.Seats.{Knows, Adds, Dries, is_proper, enter_outcome, take_outcome, given_count};
+    ghost use Rattle.std.specs.Prelude.{◌≡◌, ◌<◌, ◌≤◌, ◌∷◌, [], length, true};
+    ghost use Rattle.std.specs.List.{list_all};
+    ghost use Rattle.world_data.specs.Limits.{max_moment, take_frames};
+    ghost use Rattle.world_model.specs.Seats.{Knows, Adds, AddsNamed};
+    ghost use Rattle.world_model.specs.Outcomes.{is_proper, enter_outcome, take_outcome, given_count, call_acts, IsCount};
     ghost use Rattle.world_model.specs.declared.events.Event.TheVariants as event;
     ghost use Rattle.world_model.specs.declared.events.Outcome.TheVariants as outcome;
-    ghost use Rattle.world_model.specs.declared.events.Called.TheVariants as called;
-    ghost use Rattle.world_model.specs.declared.events.Taken.TheVariants as taken;
-    ghost use Rattle.world_model.specs.declared.events.EnterFault.TheVariants as refused;
 
     /// The seat is one of this hall.
     ghost is_of: { Self → Self.Seat → Type 0 };
@@ -29,24 +30,27 @@ pub trait HallApi {
     fn enter<R: Wait>(&self, rt: &R, seat: &mut Self::Seat) -> Result<u32, EnterFault>
         requires { is_of self.now seat.old }
         ensures seat { is_of self.now seat.new }
-        ensures entry { result ≢ Err refused.Spent → Adds event.Enter (enter_outcome result) (knows seat.old) (knows seat.new) }
-        ensures spent { result ≡ Err refused.Spent → Dries (knows seat.old) (knows seat.new) };
+        ensures entry { Adds event.Enter (enter_outcome result) (knows seat.old) (knows seat.new) };
 
-    /// Does what a session asks for at a moment.
-    fn call<R: Wait>(
+    /// Does what a session asks for at a moment: a call for each request, in order and in one turn, up to the first that is not
+    /// answered Ok. Hands out the sessions that it changed.
+    fn calls<R: Wait>(
         &self,
         rt: &R,
         seat: &mut Self::Seat,
         session: u32,
         moment: u64,
-        asked: &Asked,
-    ) -> Called
+        asked: &AskedList,
+        touched: &mut Touched,
+    ) -> Answers
         requires seat { is_of self.now seat.old }
         requires moment { moment ≤ max_moment }
-        requires asked { is_proper asked.now ≡ true }
+        requires some { 0 < length asked.now }
+        requires few { length asked.now ≤ 64 }
+        requires proper { list_all is_proper asked.now ≡ true }
         ensures seat { is_of self.now seat.new }
-        ensures entry { result ≢ called.Spent → Adds (event.Call session moment asked.now) (outcome.Answered result) (knows seat.old) (knows seat.new) }
-        ensures spent { result ≡ called.Spent → Adds (event.Call session moment asked.now) (outcome.Answered result) (knows seat.old) (knows seat.new) ⊎ Dries (knows seat.old) (knows seat.new) };
+        ensures count { IsCount result.served result.end (length asked.now) }
+        ensures entries { AddsNamed (call_acts session moment asked.now result.served result.end) touched.new (knows seat.old) (knows seat.new) };
 
     /// Takes the first frames of a session, as many as there are places.
     fn take<R: Wait>(&self, rt: &R, seat: &mut Self::Seat, session: u32, into: &mut Frames) -> Taken
@@ -56,44 +60,45 @@ pub trait HallApi {
         ensures seat { is_of self.now seat.new }
         ensures places { into.new.places ≡ take_frames }
         ensures count { length into.new.list ≡ given_count result }
-        ensures entry { result ≢ taken.Spent → Adds (event.Take session) (take_outcome result into.new.list) (knows seat.old) (knows seat.new) }
-        ensures spent { result ≡ taken.Spent → Dries (knows seat.old) (knows seat.new) };
+        ensures entry { Adds (event.Take session) (take_outcome result into.new.list) (knows seat.old) (knows seat.new) };
 
-    /// Moves the clock to a moment; what is due then expires.
-    fn tick<R: Wait>(&self, rt: &R, seat: &mut Self::Seat, moment: u64) -> Called
+    /// Moves the clock to a moment; what is due then expires. Hands out the sessions that it changed.
+    fn tick<R: Wait>(
+        &self,
+        rt: &R,
+        seat: &mut Self::Seat,
+        moment: u64,
+        touched: &mut Touched,
+    ) -> Called
         requires seat { is_of self.now seat.old }
         requires moment { moment ≤ max_moment }
         ensures seat { is_of self.now seat.new }
-        ensures entry { result ≢ called.Spent → Adds (event.Tick moment) (outcome.Answered result) (knows seat.old) (knows seat.new) }
-        ensures spent { result ≡ called.Spent → Adds (event.Tick moment) (outcome.Answered result) (knows seat.old) (knows seat.new) ⊎ Dries (knows seat.old) (knows seat.new) };
+        ensures entry { AddsNamed ((event.Tick moment, outcome.Answered result) ∷ []) touched.new (knows seat.old) (knows seat.new) };
 
-    /// Closes a session: it is given its frames, and served no more. `false` where no entry was made.
-    fn close<R: Wait>(&self, rt: &R, seat: &mut Self::Seat, session: u32) -> bool
+    /// Closes a session: it is given its frames, and served no more.
+    fn close<R: Wait>(&self, rt: &R, seat: &mut Self::Seat, session: u32)
         requires { is_of self.now seat.old }
         ensures seat { is_of self.now seat.new }
-        ensures entry { result ≡ true → Adds (event.Close session) outcome.Done (knows seat.old) (knows seat.new) }
-        ensures spent { result ≡ false → Dries (knows seat.old) (knows seat.new) };
+        ensures entry { Adds (event.Close session) outcome.Done (knows seat.old) (knows seat.new) };
 
-    /// Removes a session with its frames. `false` where no entry was made.
-    fn remove<R: Wait>(&self, rt: &R, seat: &mut Self::Seat, session: u32) -> bool
+    /// Removes a session with its frames.
+    fn remove<R: Wait>(&self, rt: &R, seat: &mut Self::Seat, session: u32)
         requires { is_of self.now seat.old }
         ensures seat { is_of self.now seat.new }
-        ensures entry { result ≡ true → Adds (event.Remove session) outcome.Done (knows seat.old) (knows seat.new) }
-        ensures spent { result ≡ false → Dries (knows seat.old) (knows seat.new) };
+        ensures entry { Adds (event.Remove session) outcome.Done (knows seat.old) (knows seat.new) };
 
     /// Makes one step of rewriting the log, where that was asked for.
     fn step_rewrite<R: Wait>(&self, rt: &R, seat: &mut Self::Seat) -> Called
         requires { is_of self.now seat.old }
         ensures seat { is_of self.now seat.new }
-        ensures entry { result ≢ called.Spent → Adds event.Rewrite (outcome.Answered result) (knows seat.old) (knows seat.new) }
-        ensures spent { result ≡ called.Spent → Dries (knows seat.old) (knows seat.new) };
+        ensures entry { Adds event.Rewrite (outcome.Answered result) (knows seat.old) (knows seat.new) };
 }
 
-/// A hall that gives out further seats. It is a trait of its own, so that code over `HallApi` makes entries by the seat that it was
-/// lent and by no other.
+/// A hall that gives out further seats and compares them. It is a trait of its own, so that code over `HallApi` makes entries by the
+/// seat that it was lent and by no other.
 pub trait HallSplit: HallApi {
     ghost use Rattle.std.specs.Prelude.{◌≡◌};
-    ghost use Rattle.world_model.specs.Seats.{IsSplit};
+    ghost use Rattle.world_model.specs.Seats.{AreOfOne, IsSplit};
 
     /// A further seat, which has seen what this one has.
     fn split(&self, seat: &mut Self::Seat) -> Self::Seat
@@ -102,4 +107,15 @@ pub trait HallSplit: HallApi {
         ensures same { Self.knows seat.new ≡ Self.knows seat.old }
         ensures made { Self.is_of self.now result }
         ensures split { IsSplit (Self.knows seat.old) (Self.knows result) };
+
+    /// Compares two seats of the hall: they have seen beginnings of one history, and no entry is an own one of both. It changes
+    /// nothing.
+    fn compare(&self, seat: &mut Self::Seat, other: &mut Self::Seat)
+        requires seat { Self.is_of self.now seat.old }
+        requires other { Self.is_of self.now other.old }
+        ensures lent { Self.is_of self.now seat.new }
+        ensures lent_too { Self.is_of self.now other.new }
+        ensures same { Self.knows seat.new ≡ Self.knows seat.old }
+        ensures same_too { Self.knows other.new ≡ Self.knows other.old }
+        ensures one { AreOfOne (Self.knows seat.new) (Self.knows other.new) };
 }

@@ -1,6 +1,6 @@
 //! Laws of the definitions. Each is the contract of a function that does nothing.
 
-ghost use Rattle.world_model.specs.Laws.{BeginningsAreOpen, SpellingsAreOpen, SpellingsAreSound, StopsThere, WordsHaveOneAnswer, StoppedStays, StepsLeadToOne, StepsAreDetermined, OthersArePlacedOn, ChangesKeepOrder};
+ghost use Rattle.world_model.specs.Laws.{BeginningsAreOpen, SpellingsAreOpen, SpellingsAreSound, StopsThere, WordsHaveOneAnswer, StoppedStays, StepsLeadToOne, StepsAreDetermined, OthersArePlacedOn};
 
 /// A stopped hall changes in nothing; an event and its outcome leave at most one hall behind; outcomes that are not free are
 /// determined; and no event changes a session that it is not about but by placing frames on it.
@@ -9,11 +9,6 @@ pub fn step_laws()
     ensures one { StepsLeadToOne }
     ensures determined { StepsAreDetermined }
     ensures others { OthersArePlacedOn }
-{}
-
-/// A change keeps a world in order and without doubles.
-pub fn world_laws()
-    ensures sorted { ChangesKeepOrder }
 {}
 
 /// A list of words spells one command or is refused with one fault; what is open, where a list stops to be; and what

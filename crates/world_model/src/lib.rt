@@ -1,37 +1,23 @@
-//! The plain types and the definitions of the machine.
+//! The definitions of the machine: commands, effects, replies, halls, steps and histories. The data that it works on is
+//! `world_data`'s, and is given out again here.
 #![tactic(auto)]
 
-mod channels;
+mod asked_lists;
 mod commands;
-mod copies;
 mod events;
 mod faults;
-mod fields;
-mod filters;
-mod frames;
 mod halls;
 mod laws;
-mod lists;
-mod objects;
-mod orders;
-mod places;
-mod queries;
-mod worlds;
+mod touched;
 
-pub use channels::{Channel, Channels, Detect, Fence, Kind, Raised, Wanted, Watch};
+pub use asked_lists::{AskedList, MOST_ASKED};
 pub use commands::{AreaWords, Command, Only};
-pub use events::{Asked, Called, EnterFault, Entry, Event, Opening, Outcome, Taken};
-pub use faults::WordFault;
-pub use fields::Fields;
-pub use filters::{Test, Tests};
-pub use frames::{Frames, TAKE};
+pub use events::{Answers, Asked, Called, EnterFault, Entry, Event, Opening, Outcome, Taken};
+pub use faults::{Refusal, WordFault};
 pub use halls::{HallApi, HallSplit};
-pub use laws::{command_laws, step_laws, world_laws};
-pub use lists::{NameList, Numbers};
-pub use objects::{Object, Objects};
-pub use orders::{is_before, is_same};
-pub use queries::{Page, Query, Rule, Shown};
-pub use worlds::{Change, World};
-
-#[cfg(test)]
-mod tests;
+pub use laws::{command_laws, step_laws};
+pub use touched::Touched;
+pub use world_data::{
+    Change, Channel, Channels, Detect, Fence, Fields, Frames, Kind, NameList, Numbers, Object,
+    Objects, Page, Query, Raised, Rule, Shown, TAKE, Test, Tests, Wanted, Watch, World, world_laws,
+};

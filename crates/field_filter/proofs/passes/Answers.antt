@@ -1,5 +1,5 @@
 use Rattle.std.proofs.Common.{◌≡◌, true, false, sym, ◌∙◌}
-use Rattle.world_model.specs.Filters.{passes, passes_one}
+use Rattle.world_data.specs.Filters.{passes, passes_one}
 use Rattle.field_filter.proofs.Places.{all_fails, all_goes}
 use Rattle.field_filter.proofs.passes.Goals as goal
 

@@ -1,5 +1,5 @@
 use Rattle.std.proofs.Common.{◌≡◌, drop}
-use Rattle.world_model.specs.Filters.{passes}
+use Rattle.world_data.specs.Filters.{passes}
 use Rattle.field_filter.proofs.passes.Given as goal
 
 -- the tests that are left decide

@@ -1,7 +1,7 @@
 use Rattle.std.proofs.Common.{◌≡◌, ◌<◌, true, false, length, w64, to_z, of_z, arith, sym, ◌∙◌}
 use Rattle.std.proofs.lemmas.Int.{ints}
 use Rattle.byte_text.specs.Names.{same}
-use Rattle.world_model.specs.Filters.{value_of}
+use Rattle.world_data.specs.Filters.{value_of}
 use Rattle.field_filter.proofs.FoundValues.{found, passed}
 use Rattle.field_filter.proofs.value_of.Goals as goal
 

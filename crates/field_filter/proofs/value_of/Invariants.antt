@@ -1,5 +1,5 @@
 use Rattle.std.proofs.Common.{◌≡◌, drop}
-use Rattle.world_model.specs.Filters.{value_of}
+use Rattle.world_data.specs.Filters.{value_of}
 use Rattle.field_filter.proofs.value_of.Given as goal
 
 -- the fields that are left decide

@@ -7,7 +7,7 @@ use Rattle.planar_geom.specs.Relations.{intersects, within}
 use Rattle.geo_text.specs.Texts.{shape_of}
 use Rattle.world_model.specs.Commands.{readings}
 use Rattle.world_model.specs.Effects.{effect}
-use Rattle.world_model.specs.Messages.{messages}
+use Rattle.fence_model.specs.Messages.{messages}
 use Rattle.world_model.specs.Halls.{apply}
 use Rattle.std.specs.Float.Numeral.{scan_numeral}
 use Rattle.std.specs.Float.{float_is_finite}

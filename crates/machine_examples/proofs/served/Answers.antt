@@ -7,7 +7,7 @@ use Rattle.planar_geom.specs.Relations.{intersects, within}
 use Rattle.geo_text.specs.Texts.{shape_of}
 use Rattle.world_model.specs.Commands.{readings}
 use Rattle.world_model.specs.Effects.{effect}
-use Rattle.world_model.specs.Messages.{messages}
+use Rattle.fence_model.specs.Messages.{messages}
 use Rattle.world_model.specs.Halls.{apply, do_call}
 use Rattle.machine_examples.proofs.served.Goals as goal
 

@@ -1,6 +1,6 @@
 use Rattle.std.proofs.Common.{◌≡◌, [], take}
 use Rattle.std.specs.Prelude.{map}
-use Rattle.world_model.specs.Filters.{with_values}
+use Rattle.world_data.specs.Filters.{with_values}
 use Rattle.cmd_words.proofs.FieldValues.{marked}
 use Rattle.cmd_words.proofs.fields.fields_of.Given as goal
 

@@ -1,7 +1,7 @@
 use Rattle.std.proofs.Common.{◌∙◌, ap, List, [], ◌∷◌, ◌++◌, rules}
 use Rattle.std.proofs.Math.Facts.{to_z-of_z}
 use Rattle.std.proofs.lemmas.Result.{err_from_is_err_and}
-use Rattle.world_model.specs.Filters.{Field}
+use Rattle.world_data.specs.Filters.{Field}
 use Rattle.cmd_words.proofs.FieldLists.{begun, one_more, first_refused, name_refused, value_refused, all_read}
 use Rattle.cmd_words.proofs.objects.read_fields.Goals as goal
 use mir.Syntax.{w64}

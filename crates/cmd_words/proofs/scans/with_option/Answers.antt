@@ -1,7 +1,7 @@
 use Rattle.std.proofs.Common.{refl}
 use Rattle.std.specs.Prelude.{Some}
 use Rattle.std.proofs.lemmas.Result.{err_from_is_err_and}
-use Rattle.world_model.specs.Limits.{max_limit}
+use Rattle.world_data.specs.Limits.{max_limit}
 use Rattle.world_model.specs.Grammar.{done}
 use Rattle.world_model.specs.Kinds.{glob, between}
 use Rattle.cmd_words.specs.Scans.{range_test, among_test, with_test}

@@ -2,9 +2,9 @@ use Rattle.std.proofs.Common.{◌≡◌, ◌<◌, ℕ, true, false, rules, lengt
 use Rattle.std.specs.Prelude.{Option, IfSome, slice_get}
 use Rattle.std.proofs.lemmas.List.Sorted.{IsPartitionPoint-from_clause}
 use Rattle.byte_text.specs.Names.{before, same}
-use Rattle.world_model.specs.declared.objects.Object.{Object}
-use Rattle.collection.proofs.Lists.{front_all, stands_at, past_end}
-use Rattle.collection.proofs.ByteOrder.{partitioned}
+use Rattle.world_data.specs.declared.objects.Object.{Object}
+use Rattle.ordered_lists.proofs.ByteOrder.{partitioned}
+use Rattle.ordered_lists.proofs.Reading.{front_all, stands_at, past_end}
 use Rattle.collection.proofs.Ids.{tied, is_behind}
 use Rattle.collection.proofs.places.place_of.Goals as goal
 

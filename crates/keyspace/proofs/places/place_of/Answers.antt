@@ -2,8 +2,8 @@ use Rattle.std.proofs.Common.{◌≡◌, ◌<◌, ℕ, true, false, rules, lengt
 use Rattle.std.proofs.lemmas.List.Sorted.{IsPartitionPoint-from_clause}
 use Rattle.std.specs.Prelude.{Option, IfSome, slice_get}
 use Rattle.byte_text.specs.Names.{Bytes, before, same}
-use Rattle.collection.proofs.Lists.{front_all, stands_at, past_end}
-use Rattle.collection.proofs.ByteOrder.{partitioned, behind, same_equal, before_self}
+use Rattle.ordered_lists.proofs.ByteOrder.{partitioned, behind, same_equal, before_self}
+use Rattle.ordered_lists.proofs.Reading.{front_all, stands_at, past_end}
 use Rattle.keyspace.specs.Entries.{Entry}
 use Rattle.keyspace.proofs.places.place_of.Goals as goal
 

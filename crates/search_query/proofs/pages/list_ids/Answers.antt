@@ -1,7 +1,7 @@
 use Rattle.std.proofs.Common.{◌≡◌, ◌≤◌, length, take, arith}
 use Rattle.std.specs.Prelude.{filter, slice_get, Some}
 use Rattle.std.proofs.lemmas.List.{length-take}
-use Rattle.world_model.specs.Queries.{in_order, meets_query}
+use Rattle.fence_model.specs.Queries.{in_order, meets_query}
 use Rattle.search_query.proofs.InOrder.{all_found, by_direction, no_more, noted}
 use Rattle.search_query.proofs.pages.list_ids.Goals as goal
 

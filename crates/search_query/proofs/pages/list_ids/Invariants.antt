@@ -1,6 +1,6 @@
 use Rattle.std.proofs.Common.{◌≡◌, length, take}
 use Rattle.std.specs.Prelude.{filter}
-use Rattle.world_model.specs.Queries.{in_order, meets_query, page_ids}
+use Rattle.fence_model.specs.Queries.{in_order, meets_query, page_ids}
 use Rattle.search_query.proofs.pages.list_ids.Given as goal
 
 -- what is found among the first objects in the order of the rule

@@ -1,8 +1,8 @@
 use Rattle.std.proofs.Common.{◌≡◌, ℕ, ◌+◌, ◌++◌, List, length, take, drop, min, sym, ap, ◌∙◌, arith}
 use Rattle.std.proofs.Math.Seq.{take-add}
 use Rattle.std.proofs.lemmas.List.{drop-drop}
-use Rattle.world_model.specs.Limits.{take_frames}
-use Rattle.world_model.specs.Frames.{FrameList}
+use Rattle.world_data.specs.Limits.{take_frames}
+use Rattle.world_data.specs.Frames.{FrameList}
 use Rattle.subscriber_queue.proofs.Cuts.{take_least, drop_least}
 use Rattle.subscriber_queue.proofs.Outbox.take.Goals as goal
 

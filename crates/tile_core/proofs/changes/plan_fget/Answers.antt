@@ -2,7 +2,7 @@ use Rattle.std.proofs.Common.{◌≡◌, ℕ, sym, subst, ap, ◌∙◌, to_z-of
 use mir.Val.{SFits}
 use Rattle.std.proofs.lemmas.Result.{IfOk-weaker}
 use Rattle.world_model.specs.Effects.{Effect}
-use Rattle.world_model.specs.Filters.{value_of}
+use Rattle.world_data.specs.Filters.{value_of}
 use Rattle.world_model.specs.Replies.{number_text}
 use Rattle.keyspace.specs.Entries.{objects_in}
 use Rattle.tile_core.specs.Moves.{world_in}

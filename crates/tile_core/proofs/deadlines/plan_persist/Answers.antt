@@ -2,10 +2,10 @@ use Rattle.std.proofs.Common.{◌≤◌, ℕ, length, lit<, subst, ap, ◌∙◌
 use Rattle.std.proofs.lemmas.Result.{IfOk-weaker}
 use Rattle.byte_text.specs.Replies.{number, frame_text}
 use Rattle.byte_text.specs.declared.replies.Piece.{Piece}
-use Rattle.world_model.specs.Limits.{max_reply}
-use Rattle.world_model.specs.Worlds.{is_at}
+use Rattle.world_data.specs.Limits.{max_reply}
+use Rattle.world_data.specs.Worlds.{is_at}
 use Rattle.world_model.specs.Effects.{Effect}
-use Rattle.world_model.specs.declared.objects.Object.{Object}
+use Rattle.world_data.specs.declared.objects.Object.{Object}
 use Rattle.keyspace.specs.Entries.{objects_in}
 use Rattle.tile_core.specs.Moves.{world_in, HasFewFields}
 use Rattle.tile_core.specs.Plans.{IsPlan, put_or_full}

@@ -1,10 +1,10 @@
 use Rattle.std.proofs.Common.{◌≡◌, ◌≤◌, ℕ, lit≤, length, subst, ap, ◌∙◌, sym, refl, arith, [], ◌∷◌, add-zero}
 use Rattle.byte_text.specs.Names.{Bytes}
 use Rattle.byte_text.specs.Replies.{fine, frame_text}
-use Rattle.world_model.specs.Limits.{max_reply}
+use Rattle.world_data.specs.Limits.{max_reply}
 use Rattle.world_model.specs.Effects.{quiet}
-use Rattle.world_model.specs.Records.{record_len}
-use Rattle.world_model.specs.declared.worlds.Change.TheVariants as change
+use Rattle.world_data.specs.Records.{record_len}
+use Rattle.world_data.specs.declared.worlds.Change.TheVariants as change
 use Rattle.tile_core.specs.Moves.{world_in}
 use Rattle.tile_core.proofs.Removing.{flushed}
 use Rattle.tile_core.proofs.deletes.plan_flush.Goals as goal

@@ -5,10 +5,10 @@ use Rattle.byte_text.specs.Names.{Bytes}
 use Rattle.byte_text.specs.Globs.{glob_meets}
 use Rattle.byte_text.specs.Replies.{number, frame_text}
 use Rattle.byte_text.specs.declared.replies.Piece.{Piece}
-use Rattle.world_model.specs.Limits.{max_reply}
-use Rattle.world_model.specs.Worlds.{has_key}
+use Rattle.world_data.specs.Limits.{max_reply}
+use Rattle.world_data.specs.Worlds.{has_key}
 use Rattle.world_model.specs.Effects.{dels}
-use Rattle.world_model.specs.declared.objects.Object.{Object}
+use Rattle.world_data.specs.declared.objects.Object.{Object}
 use Rattle.keyspace.specs.Entries.{objects_in}
 use Rattle.tile_core.specs.Moves.{world_in, world_of, len_of, HasFewFields, HaveFewFields, without_each}
 use Rattle.tile_core.specs.Sweeps.{met, IsSweptOf}

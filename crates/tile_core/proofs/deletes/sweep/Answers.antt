@@ -1,7 +1,7 @@
 use Rattle.std.proofs.Common.{◌≡◌, take, subst, List, arith}
 use Rattle.std.proofs.lemmas.List.{take_all}
 use Rattle.byte_text.specs.Globs.{glob_meets}
-use Rattle.world_model.specs.declared.objects.Object.{Object}
+use Rattle.world_data.specs.declared.objects.Object.{Object}
 use Rattle.tile_core.specs.Moves.{HasFewFields}
 use Rattle.tile_core.specs.Sweeps.{met, IsSweptOf}
 use Rattle.tile_core.proofs.Sweeping.{next_swept, few_take, dels_short}

@@ -1,7 +1,7 @@
 use Rattle.std.proofs.Common.{◌≡◌, ◌+◌, take, ap, sym, ◌∙◌, List, arith}
 use Rattle.std.specs.Prelude.{sum_by}
 use Rattle.std.proofs.lemmas.List.{take_all}
-use Rattle.world_model.specs.declared.objects.Object.{Object}
+use Rattle.world_data.specs.declared.objects.Object.{Object}
 use Rattle.tile_core.specs.Moves.{len_of}
 use Rattle.tile_core.proofs.Weights.{next_weighs, next_sum, few_at}
 use Rattle.tile_core.proofs.deletes.weight_without.Goals as goal

@@ -1,6 +1,6 @@
 use Rattle.std.proofs.Common.{◌+◌, ◌∙◌, ap, sym, List, [], ◌∷◌, ◌++◌, subst, arith}
-use Rattle.world_model.specs.Worlds.{is_at}
-use Rattle.world_model.specs.declared.objects.Object.{Object}
+use Rattle.world_data.specs.Worlds.{is_at}
+use Rattle.world_data.specs.declared.objects.Object.{Object}
 use Rattle.keyspace.specs.Entries.{objects_in}
 use Rattle.tile_core.specs.Dues.{HaveRoom}
 use Rattle.tile_core.specs.Moves.{HasFewFields}

@@ -1,6 +1,6 @@
 use Rattle.std.proofs.Common.{◌≡◌, ap, ◌∙◌, [], ◌∷◌, List, to_z-of_z, w64, arith, rules}
 use mir.Val.{SFits}
-use Rattle.world_model.specs.Filters.{Field, with_values}
+use Rattle.world_data.specs.Filters.{Field, with_values}
 use Rattle.tile_core.proofs.FieldOrder.{none_given, given_at}
 use Rattle.tile_core.proofs.fields.with_given.Goals as goal
 

@@ -1,5 +1,5 @@
 use Rattle.std.proofs.Common.{◌≡◌, take}
-use Rattle.world_model.specs.Filters.{with_values}
+use Rattle.world_data.specs.Filters.{with_values}
 use Rattle.tile_core.proofs.fields.with_given.Given as goal
 
 abbrev pub invariant-loop-i : goal.invariant-loop-i

@@ -1,6 +1,6 @@
 use Rattle.std.proofs.Common.{◌≡◌, ap, ◌∙◌, [], ◌∷◌, List}
 use Rattle.std.specs.Prelude.{pos}
-use Rattle.world_model.specs.Filters.{Field, with_values}
+use Rattle.world_data.specs.Filters.{Field, with_values}
 use Rattle.tile_core.proofs.FieldOrder.{cleared_at}
 use Rattle.tile_core.proofs.fields.with_values.Goals as goal
 

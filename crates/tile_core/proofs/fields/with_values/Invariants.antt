@@ -1,6 +1,6 @@
 use Rattle.std.proofs.Common.{◌≡◌, ◌++◌, take}
 use Rattle.std.specs.Prelude.{map, pos}
-use Rattle.world_model.specs.Filters.{with_values}
+use Rattle.world_data.specs.Filters.{with_values}
 use Rattle.tile_core.proofs.fields.with_values.Given as goal
 
 abbrev pub invariant-loop-i : goal.invariant-loop-i

@@ -3,12 +3,12 @@ use Rattle.std.specs.Prelude.{codes}
 use Rattle.std.proofs.lemmas.Result.{IfOk-weaker}
 use Rattle.byte_text.specs.Names.{Bytes}
 use Rattle.byte_text.specs.Replies.{frame_text}
-use Rattle.world_model.specs.Limits.{max_weight, max_reply}
-use Rattle.world_model.specs.Lists.{put_in}
-use Rattle.world_model.specs.Worlds.{object_before}
+use Rattle.world_data.specs.Limits.{max_weight, max_reply}
+use Rattle.ordered_lists.specs.Lists.{put_in}
+use Rattle.world_data.specs.Worlds.{object_before}
 use Rattle.world_model.specs.Replies.{error}
-use Rattle.world_model.specs.Records.{weight}
-use Rattle.world_model.specs.declared.worlds.Change.TheVariants as change
+use Rattle.world_data.specs.Records.{weight}
+use Rattle.world_data.specs.declared.worlds.Change.TheVariants as change
 use Rattle.keyspace.specs.Entries.{objects_in}
 use Rattle.tile_core.specs.Moves.{world_of, len_of}
 use Rattle.tile_core.proofs.Answering.{said}

@@ -3,11 +3,11 @@ use Rattle.std.specs.Prelude.{codes, is_none, option_map}
 use Rattle.std.proofs.lemmas.Result.{IfOk-weaker}
 use Rattle.byte_text.specs.Replies.{fine}
 use Rattle.byte_text.specs.declared.replies.Piece.{Piece}
-use Rattle.world_model.specs.Limits.{max_fields, max_objects}
-use Rattle.world_model.specs.Filters.{Field, with_values}
+use Rattle.world_data.specs.Limits.{max_fields, max_objects}
+use Rattle.world_data.specs.Filters.{Field, with_values}
 use Rattle.world_model.specs.Replies.{null, error}
 use Rattle.world_model.specs.Effects.{Effect, given_and_cleared, is_kept_back}
-use Rattle.world_model.specs.declared.objects.Object.{Object}
+use Rattle.world_data.specs.declared.objects.Object.{Object}
 use Rattle.keyspace.specs.Entries.{objects_in}
 use Rattle.tile_core.specs.Moves.{world_in}
 use Rattle.tile_core.specs.Plans.{IsPlan, put_or_full}

@@ -1,5 +1,5 @@
 use Rattle.std.proofs.Common.{ℕ}
-use Rattle.world_model.specs.Worlds.{objects_of}
+use Rattle.world_data.specs.Worlds.{objects_of}
 use Rattle.world_model.specs.Replies.{bounds_of_key}
 use Rattle.keyspace.specs.Entries.{objects_in}
 use Rattle.tile_core.specs.Moves.{world_in}

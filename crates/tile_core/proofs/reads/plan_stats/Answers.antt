@@ -1,6 +1,6 @@
 use Rattle.std.proofs.Common.{ℕ, ap, ◌∙◌, map}
 use Rattle.byte_text.specs.Replies.{array}
-use Rattle.world_model.specs.Worlds.{objects_of}
+use Rattle.world_data.specs.Worlds.{objects_of}
 use Rattle.world_model.specs.Replies.{stats_of_key}
 use Rattle.keyspace.specs.Entries.{objects_in}
 use Rattle.tile_core.specs.Moves.{world_in}

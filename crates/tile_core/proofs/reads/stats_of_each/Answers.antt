@@ -4,7 +4,7 @@ use Rattle.std.specs.List.{AllByRecursion}
 use Rattle.byte_text.specs.Names.{Bytes}
 use Rattle.byte_text.specs.Replies.{IsFrame}
 use Rattle.byte_text.specs.declared.replies.Piece.{Piece}
-use Rattle.world_model.specs.Worlds.{objects_of}
+use Rattle.world_data.specs.Worlds.{objects_of}
 use Rattle.world_model.specs.Replies.{stats_of_key}
 use Rattle.tile_core.specs.Moves.{world_in}
 use Rattle.tile_core.proofs.Reading.{next_key, more_frames}

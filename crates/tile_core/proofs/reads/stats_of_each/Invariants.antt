@@ -2,7 +2,7 @@ use Rattle.std.proofs.Common.{◌≡◌, take}
 use Rattle.std.specs.Prelude.{map}
 use Rattle.std.specs.List.{AllByRecursion}
 use Rattle.byte_text.specs.Replies.{IsFrame}
-use Rattle.world_model.specs.Worlds.{objects_of}
+use Rattle.world_data.specs.Worlds.{objects_of}
 use Rattle.world_model.specs.Replies.{stats_of_key}
 use Rattle.tile_core.specs.Moves.{world_in}
 use Rattle.tile_core.proofs.reads.stats_of_each.Given as goal

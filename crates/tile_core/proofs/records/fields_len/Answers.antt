@@ -1,6 +1,6 @@
 use Rattle.std.proofs.Common.{◌≡◌, to_z-of_z, w64, arith, rules}
 use mir.Val.{SFits}
-use Rattle.world_model.specs.Records.{field_words}
+use Rattle.world_data.specs.Records.{field_words}
 use Rattle.tile_core.specs.Records.{words_len}
 use Rattle.tile_core.proofs.RecordWords.{field_step}
 use Rattle.tile_core.proofs.records.fields_len.Goals as goal

@@ -1,6 +1,6 @@
 use Rattle.std.proofs.Common.{◌≡◌, ◌≤◌, ◌*◌, take}
 use Rattle.std.specs.Prelude.{flat_map}
-use Rattle.world_model.specs.Records.{field_words}
+use Rattle.world_data.specs.Records.{field_words}
 use Rattle.tile_core.specs.Records.{words_len}
 use Rattle.tile_core.proofs.records.fields_len.Given as goal
 

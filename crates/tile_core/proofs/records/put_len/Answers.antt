@@ -1,8 +1,8 @@
 use Rattle.std.proofs.Common.{◌≡◌, ◌+◌, ◌*◌, length, ap, ◌∙◌, arith}
 use Rattle.byte_text.specs.Names.{Bytes}
 use Rattle.byte_text.specs.Lines.{bulk_text}
-use Rattle.world_model.specs.Records.{record_words}
-use Rattle.world_model.specs.declared.worlds.Change.TheVariants as change
+use Rattle.world_data.specs.Records.{record_words}
+use Rattle.world_data.specs.declared.worlds.Change.TheVariants as change
 use Rattle.tile_core.proofs.RecordWords.{put_count, put_sum}
 use Rattle.tile_core.proofs.records.put_len.Goals as goal
 

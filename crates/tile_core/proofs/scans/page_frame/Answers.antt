@@ -2,7 +2,7 @@ use Rattle.std.proofs.Common.{◌≡◌, ◌++◌, ◌+◌, sym, ◌∙◌, ap, 
 use Rattle.std.proofs.lemmas.List.{map-append, take-append-drop}
 use Rattle.std.proofs.lemmas.Result.{err_from_is_err_and}
 use Rattle.byte_text.specs.Replies.{number}
-use Rattle.world_model.specs.Queries.{page_items, page_cursor}
+use Rattle.fence_model.specs.Queries.{page_items, page_cursor}
 use Rattle.world_model.specs.Replies.{item_reply}
 use Rattle.search_query.specs.Found.{found}
 use Rattle.tile_core.proofs.Listings.{long_page, page_is}

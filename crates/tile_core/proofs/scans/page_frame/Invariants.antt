@@ -1,5 +1,5 @@
 use Rattle.std.proofs.Common.{map, take}
-use Rattle.world_model.specs.Queries.{page_items}
+use Rattle.fence_model.specs.Queries.{page_items}
 use Rattle.world_model.specs.Replies.{item_reply}
 use Rattle.search_query.specs.Found.{found}
 use Rattle.tile_core.specs.Listings.{AreItems}

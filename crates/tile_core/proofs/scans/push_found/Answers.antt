@@ -1,7 +1,7 @@
 use Rattle.std.proofs.Common.{◌≡◌, List, ◌++◌, ◌∷◌, [], ◌+◌, sym, ◌∙◌, ap, map, take, arith}
 use Rattle.byte_text.specs.declared.replies.Piece.{Piece}
 use Rattle.std.proofs.lemmas.Result.{IfOk-weaker, IfErr-weaker}
-use Rattle.world_model.specs.Queries.{page_items}
+use Rattle.fence_model.specs.Queries.{page_items}
 use Rattle.world_model.specs.Replies.{item_reply}
 use Rattle.search_query.specs.Found.{found}
 use Rattle.tile_core.proofs.Listings.{items_more, items_long, fault_of, paged_found, paged_more, same_object}

@@ -2,11 +2,11 @@ use Rattle.std.proofs.Common.{refl}
 use Rattle.std.specs.Prelude.{ℕ, Ok, Err}
 use Rattle.std.proofs.lemmas.Result.{err_from_is_err_and}
 use Rattle.byte_text.specs.Names.{Bytes}
-use Rattle.world_model.specs.Limits.{max_values}
+use Rattle.world_data.specs.Limits.{max_values}
 use Rattle.world_model.specs.Grammar.{Form, ◌>>=◌, done, times}
 use Rattle.world_model.specs.Kinds.{name, between, integer}
-use Rattle.world_model.specs.declared.filters.Test.{Test}
-use Rattle.world_model.specs.declared.filters.Test.TheVariants.{Among}
+use Rattle.world_data.specs.declared.filters.Test.{Test}
+use Rattle.world_data.specs.declared.filters.Test.TheVariants.{Among}
 use Rattle.cmd_words.proofs.Binds.{bind_fails, bind_then, bind_done}
 use Rattle.cmd_words.proofs.readers.Reader.among_test.Goals as goal
 

@@ -4,8 +4,8 @@ use Rattle.std.proofs.lemmas.Result.{err_from_is_err_and}
 use Rattle.byte_text.specs.Names.{Bytes}
 use Rattle.world_model.specs.Grammar.{Form, ◌>>=◌, done}
 use Rattle.world_model.specs.Kinds.{name, bound}
-use Rattle.world_model.specs.declared.filters.Test.{Test}
-use Rattle.world_model.specs.declared.filters.Test.TheVariants.{Range}
+use Rattle.world_data.specs.declared.filters.Test.{Test}
+use Rattle.world_data.specs.declared.filters.Test.TheVariants.{Range}
 use Rattle.cmd_words.proofs.Binds.{bind_fails, bind_then, bind_done}
 use Rattle.cmd_words.proofs.readers.Reader.range_test.Goals as goal
 

@@ -2,7 +2,7 @@ use Rattle.std.proofs.Common.{◌≡◌, ◌≤◌, ◌+◌, ◌-◌, ℕ, true,
 use Rattle.std.specs.Prelude.{Option, IfSome, vec_len, vec_capacity}
 use Rattle.std.specs.List.{list_any, slice_set}
 use Rattle.byte_text.specs.Names.{before}
-use Rattle.world_model.specs.declared.objects.Object.{Object}
+use Rattle.world_data.specs.declared.objects.Object.{Object}
 use Rattle.collection.specs.Objects.{Held, are_by_id, has_id, has_room}
 use Rattle.collection.specs.Deadlines.{due_count, due_counts}
 use Rattle.collection.proofs.Ids.{found_held, found_free, put_held, put_free, put_by_id, ties}

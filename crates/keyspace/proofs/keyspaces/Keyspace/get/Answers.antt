@@ -1,7 +1,7 @@
 use Rattle.std.proofs.Common.{◌≡◌, ap, sym, subst, ◌∙◌}
 use Rattle.std.specs.Prelude.{Option, Some, None, IfNone, IfSome, find}
-use Rattle.world_model.specs.Worlds.{is_at}
-use Rattle.world_model.specs.declared.objects.Object.{Object}
+use Rattle.world_data.specs.Worlds.{is_at}
+use Rattle.world_data.specs.declared.objects.Object.{Object}
 use Rattle.collection.specs.Objects.{Held, has_id}
 use Rattle.keyspace.specs.Entries.{objects_in}
 use Rattle.keyspace.proofs.Keys.{stands, lacks}

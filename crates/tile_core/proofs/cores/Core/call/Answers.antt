@@ -1,12 +1,12 @@
 use Rattle.std.proofs.Common.{◌≡◌, ℕ, ◌<◌, ◌+◌, List, length, max, sym, ap, ◌∙◌, subst, arith}
 use Rattle.std.specs.Prelude.{Ok, Err, slice_set}
-use Rattle.world_model.specs.Limits.{full_frames, full_bytes}
-use Rattle.world_model.specs.Halls.{frame_bytes}
+use Rattle.world_data.specs.Limits.{full_frames, full_bytes}
+use Rattle.world_data.specs.Frames.{frame_bytes}
 use Rattle.world_model.specs.Histories.{Step}
 use Rattle.world_model.specs.declared.events.Event.TheVariants as event
 use Rattle.world_model.specs.declared.events.Outcome.TheVariants as outcome
 use Rattle.world_model.specs.declared.events.Called.TheVariants as called
-use Rattle.world_model.specs.declared.objects.Object.{Object}
+use Rattle.world_data.specs.declared.objects.Object.{Object}
 use Rattle.tile_core.specs.declared.sessions.Session.{Session}
 use Rattle.keyspace.specs.Entries.{objects_in}
 use Rattle.tile_core.specs.Kernels.{Kernel, hall_of, AreKept}

@@ -1,7 +1,7 @@
 use Rattle.std.proofs.Common.{◌≡◌, ℕ, ◌<◌, ◌≤◌, List, length, length-take, take, drop, sym, ap, ◌∙◌, subst, arith}
 use Rattle.std.specs.Prelude.{slice_set, remove}
-use Rattle.world_model.specs.Limits.{take_frames}
-use Rattle.world_model.specs.Frames.{FrameList}
+use Rattle.world_data.specs.Limits.{take_frames}
+use Rattle.world_data.specs.Frames.{FrameList}
 use Rattle.byte_text.specs.Names.{Bytes}
 use Rattle.world_model.specs.Histories.{Step}
 use Rattle.world_model.specs.declared.events.Event.TheVariants as event

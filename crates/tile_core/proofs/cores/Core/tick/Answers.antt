@@ -3,7 +3,7 @@ use Rattle.world_model.specs.Histories.{Step}
 use Rattle.world_model.specs.declared.events.Event.TheVariants as event
 use Rattle.world_model.specs.declared.events.Outcome.TheVariants as outcome
 use Rattle.world_model.specs.declared.events.Called.TheVariants as called
-use Rattle.world_model.specs.declared.objects.Object.{Object}
+use Rattle.world_data.specs.declared.objects.Object.{Object}
 use Rattle.tile_core.specs.Dues.{IsExpired}
 use Rattle.keyspace.specs.Entries.{objects_in}
 use Rattle.tile_core.specs.Kernels.{Kernel, hall_of}

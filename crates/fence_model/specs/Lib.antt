@@ -1,0 +1,4 @@
+pub mod Queries
+pub mod Fences
+pub mod Writes
+pub mod Messages

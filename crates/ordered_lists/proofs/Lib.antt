@@ -1,0 +1,3 @@
+pub mod ByteOrder
+pub mod Reading
+pub mod Ascending

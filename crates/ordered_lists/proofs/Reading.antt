@@ -1,0 +1,90 @@
+-- Reading lists at places, and tests of all their items.
+use Rattle.std.proofs.Common.{◌≡◌, ◌<◌, ◌≤◌, ◌+◌, ℕ, zero, suc, Bool, true, false, refl, sym, ◌∙◌, ap, subst, List, [], ◌∷◌, ◌++◌, length, take, get_or, add-one, arith}
+use Rattle.std.specs.Prelude.{Some, Result, Ok, Err, filter, IfSome, OnOk, OnErr, ◌&&◌}
+use Rattle.std.specs.List.{list_all, slice_get, slice_set, insert, remove}
+
+pub both_of : (a b : Bool) → (a && b) ≡ true → (a ≡ true) × (b ≡ true)
+both_of a b e = (grind arith, grind arith)
+
+pub all_get : {A : Type 0} (q : A → Bool) (xs : List A) (j : ℕ) (d : A) → j < length xs → list_all q xs ≡ true → q (get_or xs j d) ≡ true
+all_get q [] j d lt all = absurd (omega arith)
+all_get q (x ∷ xs) zero d lt all = (both_of (q x) (list_all q xs) all).0
+all_get q (x ∷ xs) (suc j) d lt all = all_get q xs j d (omega arith) (both_of (q x) (list_all q xs) all).1
+
+pub front_all : {A : Type 0} (q : A → Bool) (xs : List A) (at : ℕ) → at ≤ length xs → ((k : ℕ) (d : A) → 0 ≤ k → k < at → q (get_or xs k d) ≡ true) → list_all q (take at xs) ≡ true
+front_all q [] zero le f = refl
+front_all q [] (suc at) le f = refl
+front_all q (x ∷ xs) zero le f = refl
+front_all q (x ∷ xs) (suc at) le f =
+    let here : q x ≡ true = f zero x (omega arith) (omega arith) in
+    let rest : list_all q (take at xs) ≡ true = front_all q xs at (omega arith) (λ k d lo hi. f (suc k) d (omega arith) (omega arith)) in
+    rw (here, rest) refl
+
+-- the item that is read at a place stands there
+pub stands_at : {A : Type 0} (xs : List A) (i : ℕ) (x : A) → i < length xs → x ≡ get_or xs i x → slice_get xs i ≡ Some x
+stands_at [] i x within is = absurd (omega arith)
+stands_at (y ∷ xs) zero x within is = ap Some (sym is)
+stands_at (y ∷ xs) (suc i) x within is = stands_at xs i x (omega arith) is
+
+pub got_at : {A : Type 0} (xs : List A) (i : ℕ) (x d : A) → slice_get xs i ≡ Some x → get_or xs i d ≡ x
+got_at [] i x d e = absurd (cc)
+got_at (y ∷ xs) zero x d e = cc
+got_at (y ∷ xs) (suc i) x d e = got_at xs i x d e
+
+pub past_end : {A : Type 0} (xs : List A) (P : A → Type 0) → IfSome (slice_get xs (length xs)) P
+past_end [] P = tt
+past_end (x ∷ xs) P = past_end xs P
+
+all_more : {A : Type 0} (p : A → Bool) (xs : List A) (i : ℕ) (x : A) → i < length xs → x ≡ get_or xs i x → list_all p (take i xs) ≡ true → p x ≡ true → list_all p (take (suc i) xs) ≡ true
+all_more p [] i x within is all here = absurd (omega arith)
+all_more p (y ∷ xs) zero x within is all here = let e : p y ≡ true = subst (λ z. p z ≡ true) is here in grind arith
+all_more p (y ∷ xs) (suc i) x within is all here = let ih : list_all p (take i xs) ≡ true → list_all p (take (suc i) xs) ≡ true = λ more. all_more p xs i x (omega arith) is more here in grind arith
+
+-- what is tested of each item so far, and of the next, is true of one more
+pub all_next : {A : Type 0} (p : A → Bool) (xs : List A) (i : ℕ) (x : A) → i < length xs → x ≡ get_or xs i x → list_all p (take i xs) ≡ true → p x ≡ true → list_all p (take (i + 1) xs) ≡ true
+all_next p xs i x within is all here = rw add-one (all_more p xs i x within is all here)
+
+pub if_stands : {A : Type 0} (xs : List A) (i : ℕ) (x : A) (P : A → Type 0) → i < length xs → x ≡ get_or xs i x → P x → IfSome (slice_get xs i) P
+if_stands xs i x P within is here = subst (λ o. IfSome o P) (sym (stands_at xs i x within is)) here
+
+pub filter-all : {A : Type 0} (q : A → Bool) (xs : List A) → list_all q xs ≡ true → filter q xs ≡ xs
+filter-all q [] all = refl
+filter-all q (x ∷ xs) all = let ih = filter-all q xs in grind arith
+
+pub filter-passes : {A : Type 0} (q : A → Bool) (xs : List A) → list_all q (filter q xs) ≡ true
+filter-passes q [] = refl
+filter-passes q (x ∷ xs) = let ih = filter-passes q xs in grind arith
+
+-- an item that fails the test is not put in
+pub filter-insert : {A : Type 0} (q : A → Bool) (xs : List A) (p : ℕ) (x : A) → list_all q xs ≡ true → q x ≡ false → filter q (insert xs p x) ≡ xs
+filter-insert q [] zero x all fails = rw fails refl
+filter-insert q [] (suc p) x all fails = rw fails refl
+filter-insert q (y ∷ ys) zero x all fails = let e = filter-all q ys in grind arith
+filter-insert q (y ∷ ys) (suc p) x all fails = let ih : list_all q ys ≡ true → filter q (insert ys p x) ≡ ys = λ more. filter-insert q ys p x more fails in grind arith
+
+-- one that takes the place of another takes it away
+pub filter-set : {A : Type 0} (q : A → Bool) (xs : List A) (p : ℕ) (x : A) → list_all q xs ≡ true → q x ≡ false → p < length xs → filter q (slice_set xs p x) ≡ remove xs p
+filter-set q [] p x all fails within = absurd (omega arith)
+filter-set q (y ∷ ys) zero x all fails within = let e = filter-all q ys in grind arith
+filter-set q (y ∷ ys) (suc p) x all fails within = let ih : list_all q ys ≡ true → filter q (slice_set ys p x) ≡ remove ys p = λ more. filter-set q ys p x more fails (omega arith) in grind arith
+
+pub all-insert : {A : Type 0} (q : A → Bool) (xs : List A) (p : ℕ) (x : A) → list_all q xs ≡ true → q x ≡ true → list_all q (insert xs p x) ≡ true
+all-insert q [] zero x all holds = rw holds refl
+all-insert q [] (suc p) x all holds = rw holds refl
+all-insert q (y ∷ ys) zero x all holds = grind arith
+all-insert q (y ∷ ys) (suc p) x all holds = let ih : list_all q ys ≡ true → list_all q (insert ys p x) ≡ true = λ more. all-insert q ys p x more holds in grind arith
+
+pub all-set : {A : Type 0} (q : A → Bool) (xs : List A) (p : ℕ) (x : A) → list_all q xs ≡ true → q x ≡ true → list_all q (slice_set xs p x) ≡ true
+all-set q [] p x all holds = refl
+all-set q (y ∷ ys) zero x all holds = grind arith
+all-set q (y ∷ ys) (suc p) x all holds = let ih : list_all q ys ≡ true → list_all q (slice_set ys p x) ≡ true = λ more. all-set q ys p x more holds in grind arith
+
+-- what holds of the list with the change and of the list before it holds after a call that does one or the other
+pub either_way : {A T E : Type 0} (r : Result T E) (xs changed kept : List A) (Q : List A → Type 0) → OnOk r (xs ≡ changed) → OnErr r (xs ≡ kept) → Q changed → Q kept → Q xs
+either_way (Ok v) xs changed kept Q ok err a b = subst Q (sym ok) a
+either_way (Err e) xs changed kept Q ok err a b = subst Q (sym err) b
+
+-- a clause on success, in other words
+pub on_ok_as : {A T E : Type 0} (r : Result T E) (xs changed other : List A) → OnOk r (xs ≡ changed) → changed ≡ other → OnOk r (xs ≡ other)
+on_ok_as (Ok v) xs changed other ok e = ok ∙ e
+on_ok_as (Err e) xs changed other ok same = tt

@@ -1,0 +1,6 @@
+use Rattle.std.proofs.Common.{◌∙◌}
+use Rattle.ordered_lists.proofs.ByteOrder.{less_is_before}
+use Rattle.ordered_lists.proofs.orders.is_before.Goals as goal
+
+pub returns : goal.returns
+returns c = c.lt.ensures ∙ less_is_before c.args.first.now c.args.second.now

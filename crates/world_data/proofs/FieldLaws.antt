@@ -1,0 +1,57 @@
+-- Fields stay in order, without doubles and without zeros.
+use Rattle.std.proofs.Common.{◌≡◌, ℕ, true, false, not, refl, sym, ap, subst, List, [], ◌∷◌, arith}
+use Rattle.std.specs.Prelude.{ℤ}
+use Rattle.std.specs.List.{list_all, slice_set, insert, remove}
+use Rattle.std.proofs.lemmas.Bool.Decides.{nat_tests}
+use Rattle.byte_text.specs.Names.{Bytes, before}
+use Rattle.ordered_lists.proofs.Ascending.{ascends-put_in, ascends-filter, put_in-set, put_in-insert}
+use Rattle.ordered_lists.proofs.ByteOrder.{name_trans, name_tie, name_asym}
+use Rattle.ordered_lists.proofs.Reading.{filter-all, filter-passes, filter-set, filter-insert, all-set, all-insert}
+use Rattle.ordered_lists.specs.Lists.{ascends, put_in, IsHeld, IsFree}
+use Rattle.world_data.specs.Filters.{Field, field_before, is_zero, last_values, with_values, are_fields}
+
+field_trans : (f g h : Field) → field_before f g ≡ true → field_before g h ≡ true → field_before f h ≡ true
+field_trans = name_trans (λ (f : Field). f.0)
+
+field_tie : (f g h : Field) → field_before f g ≡ false → field_before g f ≡ false → field_before g h ≡ true → field_before f h ≡ true
+field_tie = name_tie (λ (f : Field). f.0)
+
+pub field_asym : (f g : Field) → field_before f g ≡ true → field_before g f ≡ false
+field_asym = name_asym (λ (f : Field). f.0)
+
+pub last_values-ascends : (found given : List Field) → ascends field_before found ≡ true → ascends field_before (last_values found given) ≡ true
+last_values-ascends found [] asc = asc
+last_values-ascends found (f ∷ fs) asc = last_values-ascends (put_in field_before f found) fs (ascends-put_in field_before field_trans field_tie f found asc)
+
+-- giving values leaves fields
+pub with_values-are_fields : (fields given : List Field) → are_fields fields ≡ true → are_fields (with_values fields given) ≡ true
+with_values-are_fields fields given are =
+    let asc : ascends field_before fields ≡ true → ascends field_before (with_values fields given) ≡ true = λ a. ascends-filter field_before (λ f. not (is_zero f)) (last_values fields given) (last_values-ascends fields given a) in
+    let all = filter-passes (λ f. not (is_zero f)) (last_values fields given) in
+    grind arith
+
+module _ (fields : List Field) (n : Bytes) (v : ℤ) (at : ℕ) (are : are_fields fields ≡ true) where
+  nonzero : list_all (λ f. not (is_zero f)) fields ≡ true
+  nonzero = let asc = are in grind arith
+
+  put_held : IsHeld (λ f. before f.0 n) (λ f. before n f.0) fields at → put_in field_before (n, v) fields ≡ slice_set fields at (n, v)
+  put_held h = put_in-set field_before field_asym (n, v) fields at h.front h.within h.tie
+
+  put_free : IsFree (λ f. before f.0 n) (λ f. before n f.0) fields at → put_in field_before (n, v) fields ≡ insert fields at (n, v)
+  put_free h = put_in-insert field_before field_asym (n, v) fields at h.front h.behind
+
+  pub set_writes : IsHeld (λ f. before f.0 n) (λ f. before n f.0) fields at → is_zero (n, v) ≡ false → slice_set fields at (n, v) ≡ with_values fields ((n, v) ∷ [])
+  set_writes h fails =
+      let all = all-set (λ (f : Field). not (is_zero f)) fields at (n, v) nonzero (ap not fails) in
+      rw (put_held h) (sym (filter-all (λ (f : Field). not (is_zero f)) (slice_set fields at (n, v)) all))
+
+  pub set_inserts : IsFree (λ f. before f.0 n) (λ f. before n f.0) fields at → is_zero (n, v) ≡ false → insert fields at (n, v) ≡ with_values fields ((n, v) ∷ [])
+  set_inserts h fails =
+      let all = all-insert (λ (f : Field). not (is_zero f)) fields at (n, v) nonzero (ap not fails) in
+      rw (put_free h) (sym (filter-all (λ (f : Field). not (is_zero f)) (insert fields at (n, v)) all))
+
+  pub set_removes : IsHeld (λ f. before f.0 n) (λ f. before n f.0) fields at → is_zero (n, v) ≡ true → remove fields at ≡ with_values fields ((n, v) ∷ [])
+  set_removes h holds = rw (put_held h) (sym (filter-set (λ (f : Field). not (is_zero f)) fields at (n, v) nonzero (ap not holds) h.within))
+
+  pub set_keeps : IsFree (λ f. before f.0 n) (λ f. before n f.0) fields at → is_zero (n, v) ≡ true → fields ≡ with_values fields ((n, v) ∷ [])
+  set_keeps h holds = rw (put_free h) (sym (filter-insert (λ (f : Field). not (is_zero f)) fields at (n, v) nonzero (ap not holds)))

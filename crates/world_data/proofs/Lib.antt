@@ -1,0 +1,4 @@
+pub mod Sorted
+pub mod FieldLaws
+pub mod RequestLaws
+pub mod Soundness

@@ -1,6 +1,0 @@
-use Rattle.std.proofs.Common.{◌≡◌, take}
-use Rattle.world_model.proofs.fields.Fields.copy.Given as goal
-
--- the list has copies of what was passed
-abbrev pub invariant-loop-field : goal.invariant-loop-field
-invariant-loop-field l = l.list.items ≡ take l.field-index l.field-items

@@ -1,6 +1,0 @@
-use Rattle.std.proofs.Common.{◌≡◌, take}
-use Rattle.world_model.proofs.lists.NameList.copy.Given as goal
-
--- the list has copies of what was passed
-abbrev pub invariant-loop-name : goal.invariant-loop-name
-invariant-loop-name l = l.list.items ≡ take l.name-index l.name-items

@@ -1,7 +1,0 @@
-use Rattle.std.proofs.Common.{◌≡◌, true, take}
-use Rattle.std.specs.List.{list_all}
-use Rattle.world_model.specs.Worlds.{object_before}
-use Rattle.world_model.proofs.objects.place_of.Given as goal
-
-abbrev pub invariant-loop-at : goal.invariant-loop-at
-invariant-loop-at l = list_all (λ o. object_before o l.object) (take l.at l.list) ≡ true

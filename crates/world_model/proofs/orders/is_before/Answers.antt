@@ -1,6 +1,0 @@
-use Rattle.std.proofs.Common.{◌∙◌}
-use Rattle.world_model.proofs.Bytes.{less_is_before}
-use Rattle.world_model.proofs.orders.is_before.Goals as goal
-
-pub returns : goal.returns
-returns c = c.lt.ensures ∙ less_is_before c.args.first.now c.args.second.now
