@@ -11,7 +11,7 @@ use Rattle.planar_geom.specs.Figures.{last_of, is_ring, poly_of}
 use Rattle.planar_geom.proofs.ChainLemmas.{get_or-last}
 use Rattle.geo_text.specs.declared.faults.GeoFault.{GeoFault}
 use Rattle.geo_text.specs.declared.faults.GeoFault.TheVariants.{TooFew, BadRing, BadPosition}
-use Rattle.geojson_model.proofs.Faults.{ok_is, not_ok}
+use Rattle.geojson_model.proofs.FaultLaws.{ok_is, not_ok}
 use Rattle.geo_text.specs.Walks.{◌>>=◌, each, numbers, array_of, positions_of, ring, rings, polygon, is_closed}
 
 -- ---- lists of values by their length
