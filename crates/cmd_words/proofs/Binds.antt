@@ -8,8 +8,8 @@ use Rattle.world_model.specs.Grammar.{Form, Reading, spells, runs_out, go_on, â—
 use Rattle.world_model.specs.Commands.{reads}
 use Rattle.world_model.specs.declared.commands.Command.{Command}
 use Rattle.world_model.specs.declared.faults.WordFault.{WordFault}
-use Rattle.world_model.proofs.Forms.{Each, Left, Takes}
-use Rattle.world_model.proofs.Prefixes.{enough}
+use Rattle.world_model.specs.FormLaws.{Each, Left, Takes}
+use Rattle.world_model.specs.PrefixLaws.{enough}
 use Rattle.cmd_words.specs.Places.{Place, Follows, Reads}
 use Rattle.cmd_words.proofs.Gets.{moves_on}
 

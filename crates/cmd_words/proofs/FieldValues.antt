@@ -8,9 +8,9 @@ use Rattle.byte_text.specs.Names.{Bytes, before}
 use Rattle.ordered_lists.specs.Lists.{ascends, put_in}
 use Rattle.world_data.specs.Filters.{Field, field_before, is_zero, last_values, with_values}
 use Rattle.world_model.specs.Commands.{cleared_of}
-use Rattle.ordered_lists.proofs.ByteOrder.{before_trans, before_tie}
-use Rattle.ordered_lists.proofs.Reading.{filter-all, filter-passes}
-use Rattle.world_data.proofs.FieldLaws.{last_values-ascends}
+use Rattle.byte_text.specs.ByteOrder.{before_trans, before_tie}
+use Rattle.ordered_lists.specs.Reading.{filter-all, filter-passes}
+use Rattle.world_data.specs.FieldLaws.{last_values-ascends}
 use Rattle.cmd_words.specs.Sets.{mark_of}
 use Rattle.cmd_words.proofs.Coordinates.{both}
 

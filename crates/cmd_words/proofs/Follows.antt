@@ -7,7 +7,7 @@ use Rattle.byte_text.specs.Names.{Bytes}
 use Rattle.world_model.specs.Grammar.{Form, Due, a_word, a_coordinate, a_geojson, Reading, spells, runs_out, go_on, ◌>>=◌, done, one_word, read_as, live}
 use Rattle.world_model.specs.Commands.{readings, reads, is_open, command_spelled, stop_behind, fault_at, wrong_count}
 use Rattle.world_model.specs.declared.commands.Command.{Command}
-use Rattle.world_model.proofs.Prefixes.{beginnings, spelling_open, stops_there}
+use Rattle.world_model.specs.PrefixLaws.{beginnings, spelling_open, stops_there}
 use Rattle.cmd_words.specs.Places.{Place, all_words, IsBehind, Follows, due_fault}
 
 pub open_by : (words : List Bytes) (r : Reading Command) (rs : List (Reading Command)) → readings words ≡ r ∷ rs → is_open words ≡ true

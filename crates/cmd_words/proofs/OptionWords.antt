@@ -17,7 +17,7 @@ use Rattle.world_model.specs.declared.commands.Only.TheVariants.{Absent, Present
 use Rattle.world_model.specs.declared.commands.Command.{Command}
 use Rattle.world_model.specs.declared.faults.WordFault.{WordFault}
 use Rattle.world_model.specs.declared.faults.WordFault.TheVariants as fault
-use Rattle.world_model.proofs.Forms.{Takes, Fair, fair_done, fair_word, fair_bind, takes_word, takes_bind}
+use Rattle.world_model.specs.FormLaws.{Takes, Fair, fair_done, fair_word, fair_bind, takes_word, takes_bind}
 use Rattle.cmd_words.specs.Places.{Place, all_words, IsBehind, Moves, Follows, Reads, IsFault, IsRefusal}
 use Rattle.cmd_words.specs.declared.options.OptionWord.TheVariants as option
 use Rattle.cmd_words.specs.declared.places.PlaceWord.TheVariants as at

@@ -15,7 +15,7 @@ use Rattle.world_data.specs.declared.queries.Shown.TheVariants as shown
 use Rattle.world_model.specs.declared.commands.Command.{Command}
 use Rattle.world_model.specs.declared.faults.WordFault.{WordFault}
 use Rattle.world_model.specs.declared.faults.WordFault.TheVariants as fault
-use Rattle.world_model.proofs.Forms.{Each, Takes, Fair, fair_done, fair_word, fair_bind, takes_word, takes_bind}
+use Rattle.world_model.specs.FormLaws.{Each, Takes, Fair, fair_done, fair_word, fair_bind, takes_word, takes_bind}
 use Rattle.cmd_words.specs.Places.{Place, all_words, IsBehind, Moves, Follows, Parses, Reads, Answers, IsEnd, IsNot, a_name}
 use Rattle.cmd_words.specs.Scans.{range_test, among_test, with_test, behind_word, option_name, may_come, LacksOption, options_and_output, scan_of, behind_scan, Goes, ReadsOptions, output_name, ReadsOutput}
 use Rattle.cmd_words.specs.declared.scans.ScanWord.{ScanWord}

@@ -18,9 +18,9 @@ use Rattle.cmd_words.proofs.Binds.{each_both}
 use Rattle.cmd_words.proofs.NoneOf.{none_is}
 use Rattle.world_model.specs.declared.faults.WordFault.{WordFault}
 use Rattle.world_model.specs.declared.faults.WordFault.TheVariants as fault
-use Rattle.world_model.proofs.Forms.{Each}
-use Rattle.world_model.proofs.Making.{Makes, Said, makes_done, makes_or, makes_none, makes_where, makes_word, makes_bind, makes_behind, makes_then, makes_maybe, makes_repeated}
-use Rattle.world_model.proofs.SoundCommands.{reads_sound}
+use Rattle.world_model.specs.FormLaws.{Each}
+use Rattle.world_model.specs.MadeForms.{Makes, Said, makes_done, makes_or, makes_none, makes_where, makes_word, makes_bind, makes_behind, makes_then, makes_maybe, makes_repeated}
+use Rattle.world_model.specs.SoundLaws.{reads_sound}
 use Rattle.cmd_words.specs.Laws.{IsServed, IsOfObject, IsPattern, IsById}
 
 abbrev IsName : Bytes → Type 0

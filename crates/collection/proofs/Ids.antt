@@ -6,9 +6,9 @@ use Rattle.byte_text.specs.Names.{Bytes, before, same}
 use Rattle.ordered_lists.specs.Lists.{put_in, IsHeld, IsFree}
 use Rattle.world_data.specs.declared.objects.Object.{Object}
 use Rattle.collection.specs.Objects.{id_before, has_id, are_by_id}
-use Rattle.ordered_lists.proofs.Ascending.{put_in-insert, put_in-set, ascends-put_in, ascends-filter, ascends-remove}
-use Rattle.ordered_lists.proofs.ByteOrder.{before_trans, before_tie, before_asym, before_self, same_refl, same_equal, other_before, other_behind, behind}
-use Rattle.ordered_lists.proofs.Reading.{both_of}
+use Rattle.ordered_lists.specs.Ascending.{put_in-insert, put_in-set, ascends-put_in, ascends-filter, ascends-remove}
+use Rattle.byte_text.specs.ByteOrder.{before_trans, before_tie, before_asym, before_self, same_refl, same_equal, other_before, other_behind, behind_others as behind}
+use Rattle.ordered_lists.specs.Reading.{both_of}
 
 id_trans : (o p q : Object) → id_before o p ≡ true → id_before p q ≡ true → id_before o q ≡ true
 id_trans o p q = before_trans o.id p.id q.id

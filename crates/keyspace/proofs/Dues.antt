@@ -7,7 +7,7 @@ use Rattle.std.proofs.lemmas.List.{take_more, length-take-le}
 use Rattle.std.proofs.lemmas.List.Concat.{flat_map-append}
 use Rattle.world_data.specs.declared.objects.Object.{Object}
 use Rattle.collection.specs.Objects.{earlier, least_due}
-use Rattle.ordered_lists.proofs.Reading.{both_of}
+use Rattle.ordered_lists.specs.Reading.{both_of}
 use Rattle.keyspace.specs.Entries.{Entry, objects_in}
 use Rattle.keyspace.specs.Shelves.{has_deadline, is_later, is_no_sooner, IsSoonest, Soonest, sooner}
 use Rattle.keyspace.proofs.Parts.{all_both}

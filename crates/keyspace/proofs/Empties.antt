@@ -5,8 +5,8 @@ use Rattle.std.specs.List.{list_all, list_any, remove}
 use Rattle.std.proofs.lemmas.Bool.Decides.{nat_tests}
 use Rattle.byte_text.specs.Names.{Bytes, before, same}
 use Rattle.world_data.specs.declared.objects.Object.{Object}
-use Rattle.ordered_lists.proofs.ByteOrder.{other_before, other_behind}
-use Rattle.ordered_lists.proofs.Reading.{both_of}
+use Rattle.byte_text.specs.ByteOrder.{other_before, other_behind}
+use Rattle.ordered_lists.specs.Reading.{both_of}
 use Rattle.keyspace.specs.Entries.{Entry, is_entry_of, has_objects, objects_in}
 use Rattle.keyspace.proofs.Parts.{any_both}
 use Rattle.keyspace.proofs.Keys.{Stands, Lacks, split_at, halves, taken_away}

@@ -7,9 +7,9 @@ use Rattle.ordered_lists.specs.Lists.{ascends, insert_by, sorted_by}
 use Rattle.world_data.specs.Worlds.{object_before, are_objects, is_at, has_key}
 use Rattle.world_data.specs.Expiry.{is_due, due_before}
 use Rattle.world_data.specs.declared.objects.Object.{Object}
-use Rattle.ordered_lists.proofs.ByteOrder.{same_refl, same_equal, other_before, other_behind}
-use Rattle.ordered_lists.proofs.Reading.{filter-all, both_of, stands_at}
-use Rattle.ordered_lists.proofs.ByteOrder.{pair_asym}
+use Rattle.byte_text.specs.ByteOrder.{same_refl, same_equal, other_before, other_behind}
+use Rattle.ordered_lists.specs.Reading.{filter-all, both_of, stands_at}
+use Rattle.ordered_lists.specs.NameOrder.{pair_asym}
 use Rattle.collection.specs.Objects.{least_due, are_by_id}
 use Rattle.keyspace.specs.Entries.{Entry, objects_in}
 use Rattle.keyspace.specs.Shelves.{is_shelf, are_shelves, is_later, is_no_sooner, IsSoonest, Took}

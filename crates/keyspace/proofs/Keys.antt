@@ -7,9 +7,9 @@ use Rattle.byte_text.specs.Names.{Bytes, before}
 use Rattle.ordered_lists.specs.Lists.{ascends, IsHeld, IsFree}
 use Rattle.world_data.specs.Worlds.{has_key}
 use Rattle.world_data.specs.declared.objects.Object.{Object}
-use Rattle.ordered_lists.proofs.Ascending.{ascends-put_in, put_in-insert, put_in-set, all_remove, ascends-remove}
-use Rattle.ordered_lists.proofs.ByteOrder.{before_trans, before_tie, before_asym, before_self, same_equal}
-use Rattle.ordered_lists.proofs.Reading.{all-insert, all-set, both_of, stands_at}
+use Rattle.ordered_lists.specs.Ascending.{ascends-put_in, put_in-insert, put_in-set, all_remove, ascends-remove}
+use Rattle.byte_text.specs.ByteOrder.{before_trans, before_tie, before_asym, before_self, same_equal}
+use Rattle.ordered_lists.specs.Reading.{all-insert, all-set, both_of, stands_at}
 use Rattle.keyspace.specs.Entries.{Entry, key_before, objects_in}
 use Rattle.keyspace.specs.Shelves.{is_shelf, are_shelves}
 use Rattle.keyspace.proofs.Parts.{Apart, all_both}

@@ -8,8 +8,8 @@ use Rattle.ordered_lists.specs.Lists.{ascends, distinct}
 use Rattle.world_data.specs.Worlds.{object_before, are_objects, has_key}
 use Rattle.world_data.specs.declared.objects.Object.{Object}
 use Rattle.collection.specs.Objects.{id_before, are_by_id}
-use Rattle.ordered_lists.proofs.ByteOrder.{same_refl, same_equal, other_before}
-use Rattle.ordered_lists.proofs.Reading.{both_of}
+use Rattle.byte_text.specs.ByteOrder.{same_refl, same_equal, other_before}
+use Rattle.ordered_lists.specs.Reading.{both_of}
 use Rattle.keyspace.specs.Entries.{Entry, key_before, objects_in, has_objects}
 use Rattle.keyspace.specs.Shelves.{is_shelf, are_shelves}
 use Rattle.keyspace.proofs.Parts.{all_both, own_order}

@@ -6,8 +6,8 @@ use Rattle.byte_text.specs.Names.{Bytes, before}
 use Rattle.ordered_lists.specs.Lists.{put_in}
 use Rattle.world_data.specs.Worlds.{object_before, is_at, has_key}
 use Rattle.world_data.specs.declared.objects.Object.{Object}
-use Rattle.ordered_lists.proofs.ByteOrder.{before_asym, before_self, same_refl, same_equal, other_before, other_behind}
-use Rattle.ordered_lists.proofs.Reading.{filter-all, both_of}
+use Rattle.byte_text.specs.ByteOrder.{before_asym, before_self, same_refl, same_equal, other_before, other_behind}
+use Rattle.ordered_lists.specs.Reading.{filter-all, both_of}
 use Rattle.collection.specs.Objects.{id_before, has_id}
 
 pub record Apart (key : Bytes) (front own back : List Object) : Type 0 where

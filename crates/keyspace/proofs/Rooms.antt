@@ -7,8 +7,8 @@ use Rattle.ordered_lists.specs.Lists.{ascends}
 use Rattle.world_data.specs.Worlds.{is_at}
 use Rattle.world_data.specs.declared.objects.Object.{Object}
 use Rattle.collection.specs.Objects.{has_room as fits}
-use Rattle.ordered_lists.proofs.ByteOrder.{same_refl, same_equal, other_before, other_behind}
-use Rattle.ordered_lists.proofs.Reading.{both_of}
+use Rattle.byte_text.specs.ByteOrder.{same_refl, same_equal, other_before, other_behind}
+use Rattle.ordered_lists.specs.Reading.{both_of}
 use Rattle.keyspace.specs.Entries.{Entry, key_before, objects_in, room_for, has_room}
 use Rattle.keyspace.specs.Shelves.{held_of}
 use Rattle.keyspace.proofs.Keys.{Stands, Lacks, all_at, halves}

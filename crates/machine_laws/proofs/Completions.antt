@@ -21,11 +21,11 @@ use Rattle.world_model.specs.declared.commands.Command.{Command}
 use Rattle.world_model.specs.declared.commands.Command.TheVariants as command
 use Rattle.std.proofs.lemmas.Bool.Decides.{nat_tests}
 use Rattle.std.proofs.lemmas.List.{append-nil}
-use Rattle.ordered_lists.proofs.ByteOrder.{same_refl}
-use Rattle.world_model.proofs.Forms.{Each, Left, Out, Spells, Takes, Fair, fair_done, fair_bind, fair_word, takes_word, takes_bind}
-use Rattle.world_model.proofs.Prefixes.{Taking}
+use Rattle.byte_text.specs.ByteOrder.{same_refl}
+use Rattle.world_model.specs.FormLaws.{Each, Left, Out, Spells, Takes, Fair, fair_done, fair_bind, fair_word, takes_word, takes_bind}
+use Rattle.world_model.specs.PrefixLaws.{Taking}
 use Rattle.world_data.specs.declared.queries.Rule.TheVariants.{Kept, Nearest}
-use Rattle.world_model.proofs.Making.{Makes, makes_done, makes_or, makes_none, makes_behind, makes_then, makes_any, makes_word}
+use Rattle.world_model.specs.MadeForms.{Makes, makes_done, makes_or, makes_none, makes_behind, makes_then, makes_any, makes_word}
 use Rattle.machine_laws.proofs.Finishing.{Finished, Weak, Good, good_done, good_or, good_or_weak, weak_or, weak_none, weak_where, good_word, good_any, weak_any, good_bind, good_repeated, good_loop, spells_left, spells_right, through}
 
 -- kinds of word

@@ -12,8 +12,8 @@ use Rattle.world_data.specs.declared.channels.Channel.{Channel}
 use Rattle.world_data.specs.declared.worlds.World.{World}
 use Rattle.world_data.specs.declared.worlds.Change.{Change}
 use Rattle.world_data.specs.declared.worlds.Change.TheVariants.{Put, Del, Drop, Flush, SetChan, DelChan}
-use Rattle.ordered_lists.proofs.ByteOrder.{before_tie, before_asym, same_refl, same_equal}
-use Rattle.ordered_lists.proofs.ByteOrder.{pair_trans, pair_tie, name_trans, name_tie}
+use Rattle.byte_text.specs.ByteOrder.{before_tie, before_asym, same_refl, same_equal}
+use Rattle.ordered_lists.specs.NameOrder.{pair_trans, pair_tie, name_trans, name_tie}
 use Rattle.machine_laws.specs.Weights.{object_len, channel_len, gained, lost}
 
 abbrev total : {A : Type 0} → (A → ℕ) → List A → ℕ

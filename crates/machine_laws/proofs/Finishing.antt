@@ -4,9 +4,9 @@ use Rattle.std.specs.Prelude.{flat_map, Option, Some, None}
 use Rattle.std.proofs.lemmas.List.{append_assoc}
 use Rattle.byte_text.specs.Names.{Bytes}
 use Rattle.world_model.specs.Grammar.{Due, Reading, spells, runs_out, Form, go_on, ◌>>=◌, done, ◌or◌, one_of, where_, read_as, one_word, at_most_times, repeated}
-use Rattle.world_model.proofs.Forms.{Each, Out, Spells, Takes}
-use Rattle.world_model.proofs.Prefixes.{enough}
-use Rattle.world_model.proofs.Making.{Makes, Said, makes_any, makes_repeated}
+use Rattle.world_model.specs.FormLaws.{Each, Out, Spells, Takes}
+use Rattle.world_model.specs.PrefixLaws.{enough}
+use Rattle.world_model.specs.MadeForms.{Makes, Said, makes_any, makes_repeated}
 
 -- readings stay when words are added
 abbrev pub Extends : {A : Type 0} → Form A → Type 0

@@ -1,2 +1,4 @@
 pub mod Lists
-pub mod Laws
+pub mod Reading
+pub mod Ascending
+pub mod NameOrder

@@ -2,9 +2,7 @@
 #![tactic(auto)]
 
 mod insertions;
-mod laws;
 mod orders;
 
 pub use insertions::insert_at;
-pub use laws::byte_order_laws;
 pub use orders::{is_before, is_same};

@@ -6,7 +6,7 @@ use Rattle.std.proofs.lemmas.Bool.Decides.{nat_tests}
 use Rattle.byte_text.specs.Names.{Bytes, before}
 use Rattle.ordered_lists.specs.Lists.{ascends, put_in}
 use Rattle.world_data.specs.Filters.{Field, field_before, is_zero, are_fields, last_values, with_values}
-use Rattle.ordered_lists.proofs.ByteOrder.{before_tie}
+use Rattle.byte_text.specs.ByteOrder.{before_tie}
 
 -- the order of names
 

@@ -32,8 +32,8 @@ use Rattle.world_data.specs.declared.queries.Query.{Query}
 use Rattle.world_data.specs.declared.queries.Rule.{Rule}
 use Rattle.world_data.specs.declared.queries.Rule.TheVariants as rule
 use Rattle.collection.specs.Objects.{id_before, has_id, are_by_id}
-use Rattle.ordered_lists.proofs.ByteOrder.{other_before, same_refl}
-use Rattle.ordered_lists.proofs.Reading.{both_of}
+use Rattle.byte_text.specs.ByteOrder.{other_before, same_refl}
+use Rattle.ordered_lists.specs.Reading.{both_of}
 use Rattle.search_query.specs.Found.{found}
 use Rattle.tile_core.specs.Listings.{keys_met, joined, AreItems, IsTooLong}
 

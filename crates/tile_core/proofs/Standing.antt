@@ -5,7 +5,7 @@ use Rattle.std.specs.List.{list_all, AllByRecursion}
 use Rattle.std.proofs.lemmas.List.Sums.{sum_by-cons}
 use Rattle.ordered_lists.specs.Lists.{put_in}
 use Rattle.world_data.specs.Worlds.{object_before, are_objects, is_at}
-use Rattle.ordered_lists.proofs.ByteOrder.{pair_asym}
+use Rattle.ordered_lists.specs.NameOrder.{pair_asym}
 use Rattle.world_data.specs.declared.objects.Object.{Object}
 use Rattle.tile_core.proofs.Weights.{same_stay}
 

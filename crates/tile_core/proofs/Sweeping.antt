@@ -10,7 +10,7 @@ use Rattle.byte_text.specs.Globs.{glob_meets}
 use Rattle.world_data.specs.Worlds.{is_at, has_key}
 use Rattle.world_model.specs.Effects.{Deed, dels}
 use Rattle.world_data.specs.declared.objects.Object.{Object}
-use Rattle.ordered_lists.proofs.ByteOrder.{same_refl, same_equal}
+use Rattle.byte_text.specs.ByteOrder.{same_refl, same_equal}
 use Rattle.tile_core.specs.declared.deletes.Swept.{Swept}
 use Rattle.tile_core.specs.Moves.{world_of, len_of, HaveFewFields, without_each}
 use Rattle.tile_core.specs.Plans.{after_all, records_len, IsOfObjects}

@@ -9,8 +9,8 @@ use Rattle.world_data.specs.Worlds.{after, object_before, has_key, is_at}
 use Rattle.world_data.specs.Records.{record_len, weight}
 use Rattle.world_data.specs.Expiry.{is_due, due_before}
 use Rattle.world_model.specs.Effects.{dels}
-use Rattle.ordered_lists.proofs.Ascending.{ascends-filter}
-use Rattle.ordered_lists.proofs.ByteOrder.{same_refl}
+use Rattle.ordered_lists.specs.Ascending.{ascends-filter}
+use Rattle.byte_text.specs.ByteOrder.{same_refl}
 use Rattle.world_data.specs.declared.objects.Object.{Object}
 use Rattle.world_data.specs.declared.worlds.World.{World}
 use Rattle.world_data.specs.declared.worlds.Change.TheVariants as change

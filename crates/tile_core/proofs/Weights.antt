@@ -8,8 +8,8 @@ use Rattle.ordered_lists.specs.Lists.{put_in}
 use Rattle.world_data.specs.Worlds.{are_objects, object_before, is_at}
 use Rattle.world_data.specs.Records.{weight}
 use Rattle.world_data.specs.declared.objects.Object.{Object}
-use Rattle.ordered_lists.proofs.ByteOrder.{before_tie, before_self, same_refl, same_equal}
-use Rattle.ordered_lists.proofs.ByteOrder.{pair_asym}
+use Rattle.byte_text.specs.ByteOrder.{before_tie, before_self, same_refl, same_equal}
+use Rattle.ordered_lists.specs.NameOrder.{pair_asym}
 use Rattle.tile_core.specs.Moves.{world_of, len_of, HasFewFields, HaveFewFields}
 use Rattle.tile_core.proofs.FieldOrder.{take_more}
 

@@ -1,4 +1,2 @@
-pub mod Sorted
-pub mod FieldLaws
 pub mod RequestLaws
 pub mod Soundness

@@ -8,7 +8,7 @@ use Rattle.world_data.specs.Sound.{IsSoundWorld, IsSoundChange, IsSoundObject, i
 use Rattle.world_data.specs.declared.worlds.World.{World}
 use Rattle.world_data.specs.declared.worlds.Change.{Change}
 use Rattle.world_data.specs.declared.worlds.Change.TheVariants.{Put, Del, Drop, Flush, SetChan, DelChan}
-use Rattle.world_data.proofs.Sorted.{keeps_order}
+use Rattle.world_data.specs.WorldLaws.{keeps_order}
 
 -- what holds of all items and of the one that is put in holds of all afterwards
 

@@ -6,3 +6,5 @@ pub mod Expiry
 pub mod Frames
 pub mod Sound
 pub mod Laws
+pub mod FieldLaws
+pub mod WorldLaws

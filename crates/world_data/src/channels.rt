@@ -6,9 +6,8 @@ ghost use Rattle.world_data.specs.Worlds.{are_channels, channel_before, is_named
 
 use crate::copies::{copy_area, copy_pattern, copy_request};
 use crate::filters::Tests;
-use ordered_lists::{is_before, is_same};
-use ordered_lists::insert_at;
 use byte_text::{Name, NoMemory, Request};
+use ordered_lists::{insert_at, is_before, is_same};
 use planar_geom::Area;
 use std::alloc::Global;
 use std::marker::Model;

@@ -6,9 +6,8 @@ ghost use Rattle.byte_text.specs.Names.{before};
 ghost use Rattle.ordered_lists.specs.Lists.{IsHeld, IsFree};
 ghost use Rattle.world_data.specs.Filters.{are_fields, is_zero, with_values};
 
-use ordered_lists::is_before;
-use ordered_lists::insert_at;
 use byte_text::{Name, NoMemory, Text, push_i64};
+use ordered_lists::{insert_at, is_before};
 use std::alloc::Global;
 use std::marker::Model;
 

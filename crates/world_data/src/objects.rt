@@ -6,9 +6,8 @@ ghost use Rattle.world_data.specs.Worlds.{are_objects, object_before, is_at, has
 
 use crate::copies::copy_shape;
 use crate::fields::Fields;
-use ordered_lists::{is_before, is_same};
-use ordered_lists::insert_at;
 use byte_text::{Name, NoMemory, Text};
+use ordered_lists::{insert_at, is_before, is_same};
 use planar_geom::Shape;
 use std::alloc::Global;
 use std::marker::Model;

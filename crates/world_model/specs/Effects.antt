@@ -1,7 +1,7 @@
 -- Effects: what a command replies, changes and subscribes to, and its refusals in their order.
 use Rattle.std.specs.Prelude.{ℕ, pos, ◌+◌, ◌*◌, Bool, true, false, not, ◌&&◌, ◌==◌, nat_lt, nat_le, List, [], ◌∷◌, ◌++◌, length, filter, map, count_by, Option, Some, None, is_some, is_none, option_map, if◌then◌else◌, codes}
 use Rattle.std.specs.List.{list_any, list_all}
-use Rattle.byte_text.specs.Names.{Bytes, same}
+use Rattle.byte_text.specs.Names.{Bytes}
 use Rattle.byte_text.specs.Globs.{glob_meets}
 use Rattle.byte_text.specs.Replies.{frame_text, array, bulk, number, fine}
 use Rattle.byte_text.specs.declared.replies.Piece.{Piece}

@@ -12,3 +12,7 @@ pub mod Histories
 pub mod Seats
 pub mod Laws
 pub mod Outcomes
+pub mod FormLaws
+pub mod MadeForms
+pub mod PrefixLaws
+pub mod SoundLaws

@@ -1,5 +1,5 @@
 -- The texts of refusals.
-use Rattle.std.specs.Prelude.{ℕ, ◌&&◌, nat_le, List, [], ◌++◌, map, if◌then◌else◌, codes}
+use Rattle.std.specs.Prelude.{ℕ, ◌&&◌, nat_le, List, ◌++◌, map, if◌then◌else◌, codes}
 use Rattle.byte_text.specs.Names.{Bytes}
 use Rattle.byte_text.specs.declared.replies.Piece.{Piece}
 use Rattle.geo_text.specs.declared.faults.GeoFault.{GeoFault}
@@ -29,7 +29,6 @@ geo_text geo.BadRing = codes "ring is not closed"
 geo_text geo.TooFew = codes "too few positions"
 geo_text geo.TooMany = codes "too many positions"
 geo_text geo.BadPosition = codes "bad position"
-geo_text geo.Memory = []
 
 abbrev pub fault_text : WordFault → Bytes
 fault_text (fault.Unknown w) = codes "unknown command " ++ in_quotes w
@@ -45,8 +44,6 @@ resp_text resp.BadLength = codes "bad length"
 resp_text resp.BadEnd = codes "bad end"
 resp_text resp.TooMany = codes "too many words"
 resp_text resp.TooLong = codes "too long"
-resp_text resp.Dead = []
-resp_text resp.Memory = []
 
 -- of a command that was read and is not done
 abbrev pub refusal_text : Refusal → Bytes

@@ -2,9 +2,9 @@
 
 ghost use Rattle.std.specs.Prelude.{◌≡◌, ◌<◌, ◌≤◌, ◌↔◌, [], ◌∷◌, ◌++◌, length, drop, slice_get, Some, IfErr, OnOk, OnErr, IsTrue};
 
+use crate::events::Asked;
 use std::alloc::Global;
 use std::marker::Model;
-use crate::events::Asked;
 
 /// The most requests of one turn.
 pub const MOST_ASKED: usize = 64;

@@ -1,11 +1,8 @@
 //! Commands.
 
-use world_data::Channel;
-use world_data::Fields;
-use world_data::NameList;
-use world_data::{Query, Shown};
 use byte_text::{Name, Text};
 use planar_geom::{Area, Pt, Shape};
+use world_data::{Channel, Fields, NameList, Query, Shown};
 
 /// Whether a SET is done for an object of any kind, for an absent one alone (NX), or for one that is there alone (XX).
 #[derive(Clone, Copy, Debug, PartialEq, Eq)]

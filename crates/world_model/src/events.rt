@@ -1,8 +1,8 @@
 //! What may happen to a hall, and how each call answers.
 
-use world_data::World;
 use byte_text::{Request, RespFault, Text};
 use std::collections::LinkedList;
+use world_data::World;
 
 /// What a session asks for: the words of a request, or the end that its broken protocol brings.
 #[derive(Drop)]

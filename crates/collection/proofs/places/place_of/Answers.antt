@@ -3,8 +3,8 @@ use Rattle.std.specs.Prelude.{Option, IfSome, slice_get}
 use Rattle.std.proofs.lemmas.List.Sorted.{IsPartitionPoint-from_clause}
 use Rattle.byte_text.specs.Names.{before, same}
 use Rattle.world_data.specs.declared.objects.Object.{Object}
-use Rattle.ordered_lists.proofs.ByteOrder.{partitioned}
-use Rattle.ordered_lists.proofs.Reading.{front_all, stands_at, past_end}
+use Rattle.ordered_lists.specs.NameOrder.{partitioned}
+use Rattle.ordered_lists.specs.Reading.{front_all, stands_at, past_end}
 use Rattle.collection.proofs.Ids.{tied, is_behind}
 use Rattle.collection.proofs.places.place_of.Goals as goal
 

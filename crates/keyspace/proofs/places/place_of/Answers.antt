@@ -2,8 +2,9 @@ use Rattle.std.proofs.Common.{◌≡◌, ◌<◌, ℕ, true, false, rules, lengt
 use Rattle.std.proofs.lemmas.List.Sorted.{IsPartitionPoint-from_clause}
 use Rattle.std.specs.Prelude.{Option, IfSome, slice_get}
 use Rattle.byte_text.specs.Names.{Bytes, before, same}
-use Rattle.ordered_lists.proofs.ByteOrder.{partitioned, behind, same_equal, before_self}
-use Rattle.ordered_lists.proofs.Reading.{front_all, stands_at, past_end}
+use Rattle.byte_text.specs.ByteOrder.{behind_others as behind, same_equal, before_self}
+use Rattle.ordered_lists.specs.NameOrder.{partitioned}
+use Rattle.ordered_lists.specs.Reading.{front_all, stands_at, past_end}
 use Rattle.keyspace.specs.Entries.{Entry}
 use Rattle.keyspace.proofs.places.place_of.Goals as goal
 

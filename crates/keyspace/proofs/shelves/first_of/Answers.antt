@@ -2,7 +2,7 @@ use Rattle.std.proofs.Common.{◌≡◌, ◌<◌, ◌≤◌, true, not, length, 
 use Rattle.std.specs.List.{list_all}
 use Rattle.std.proofs.lemmas.List.{take_all}
 use Rattle.world_data.specs.declared.objects.Object.{Object}
-use Rattle.ordered_lists.proofs.Reading.{all_next}
+use Rattle.ordered_lists.specs.Reading.{all_next}
 use Rattle.keyspace.specs.Shelves.{has_deadline}
 use Rattle.keyspace.proofs.Keys.{got}
 use Rattle.keyspace.proofs.Dues.{one_has}

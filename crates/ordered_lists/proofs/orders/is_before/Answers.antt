@@ -1,5 +1,5 @@
 use Rattle.std.proofs.Common.{◌∙◌}
-use Rattle.ordered_lists.proofs.ByteOrder.{less_is_before}
+use Rattle.byte_text.specs.ByteOrder.{less_is_before}
 use Rattle.ordered_lists.proofs.orders.is_before.Goals as goal
 
 pub returns : goal.returns

@@ -1,4 +1,4 @@
-use Rattle.world_data.proofs.Sorted.{keeps_order}
+use Rattle.world_data.specs.WorldLaws.{keeps_order}
 use Rattle.world_data.proofs.Soundness.{keeps_soundness}
 use Rattle.world_data.proofs.laws.world_laws.Goals as goal
 

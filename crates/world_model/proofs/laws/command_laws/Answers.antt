@@ -1,7 +1,7 @@
 use Rattle.geo_text.proofs.Answered.{one_answer}
 use Rattle.world_model.specs.Commands.{reads}
-use Rattle.world_model.proofs.Prefixes.{beginnings, spelling_open, stops_there}
-use Rattle.world_model.proofs.SoundCommands.{reads_sound}
+use Rattle.world_model.specs.PrefixLaws.{beginnings, spelling_open, stops_there}
+use Rattle.world_model.specs.SoundLaws.{reads_sound}
 use Rattle.world_model.proofs.laws.command_laws.Goals as goal
 
 pub returns : goal.returns

@@ -1,6 +1,6 @@
 use Rattle.std.specs.List.{list_all}
 use Rattle.ordered_lists.specs.Lists.{ascends}
-use Rattle.ordered_lists.proofs.Reading.{both_of}
+use Rattle.ordered_lists.specs.Reading.{both_of}
 use Rattle.keyspace.specs.Entries.{key_before}
 use Rattle.keyspace.specs.Shelves.{is_shelf}
 use Rattle.keyspace.proofs.Orders.{distinct_keys}

@@ -1,6 +1,6 @@
 use Rattle.std.proofs.Common.{◌≡◌, true, subst}
 use Rattle.world_data.specs.Worlds.{are_channels, channel_before}
-use Rattle.ordered_lists.proofs.Ascending.{ascends-left}
+use Rattle.ordered_lists.specs.Ascending.{ascends-left}
 use Rattle.world_data.proofs.channels.Channels.pop.Goals as goal
 
 pub invariant_of-self : goal.invariant_of-self

@@ -1,9 +1,9 @@
 use Rattle.std.proofs.Common.{◌≡◌, true, sym, subst}
 use Rattle.ordered_lists.specs.Lists.{put_in}
 use Rattle.world_data.specs.Worlds.{are_channels, channel_before}
-use Rattle.ordered_lists.proofs.Ascending.{put_in-set, put_in-insert, ascends-put_in}
-use Rattle.ordered_lists.proofs.Reading.{either_way, on_ok_as}
-use Rattle.world_data.proofs.Sorted.{channel_asym, channel_trans, channel_tie}
+use Rattle.ordered_lists.specs.Ascending.{put_in-set, put_in-insert, ascends-put_in}
+use Rattle.ordered_lists.specs.Reading.{either_way, on_ok_as}
+use Rattle.world_data.specs.WorldLaws.{channel_asym, channel_trans, channel_tie}
 use Rattle.world_data.proofs.channels.Channels.put.Goals as goal
 
 pub returns-in-Ok-clause-ok : goal.returns-in-Ok-clause-ok

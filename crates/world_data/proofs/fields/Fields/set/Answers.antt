@@ -1,8 +1,8 @@
 use Rattle.std.proofs.Common.{◌≡◌, true, false, [], ◌∷◌, sym, ◌∙◌}
 use Rattle.std.proofs.Math.Facts.{to_z-of_z}
 use Rattle.world_data.specs.Filters.{are_fields, with_values, is_zero}
-use Rattle.ordered_lists.proofs.Reading.{either_way, on_ok_as}
-use Rattle.world_data.proofs.FieldLaws.{set_writes, set_inserts, set_removes, set_keeps, with_values-are_fields}
+use Rattle.ordered_lists.specs.Reading.{either_way, on_ok_as}
+use Rattle.world_data.specs.FieldLaws.{set_writes, set_inserts, set_removes, set_keeps, with_values-are_fields}
 use Rattle.world_data.proofs.fields.Fields.set.Goals as goal
 
 pub returns-then-is_nothing-clause-ok : goal.returns-then-is_nothing-clause-ok

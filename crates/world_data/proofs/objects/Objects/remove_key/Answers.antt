@@ -1,7 +1,7 @@
 use Rattle.std.proofs.Common.{◌≡◌, true, not, rules, sym, subst}
 use Rattle.std.proofs.lemmas.Fn.{filter_same}
 use Rattle.world_data.specs.Worlds.{are_objects, object_before, has_key}
-use Rattle.ordered_lists.proofs.Ascending.{ascends-filter}
+use Rattle.ordered_lists.specs.Ascending.{ascends-filter}
 use Rattle.world_data.proofs.objects.Objects.remove_key.Goals as goal
 
 pub returns : goal.returns

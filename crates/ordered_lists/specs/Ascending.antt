@@ -3,7 +3,7 @@ use Rattle.std.proofs.Common.{◌≡◌, ◌<◌, ℕ, zero, suc, Bool, true, fa
 use Rattle.std.specs.Prelude.{filter, IfSome}
 use Rattle.std.specs.List.{list_all, slice_get, slice_set, insert, remove}
 use Rattle.ordered_lists.specs.Lists.{ascends, put_in}
-use Rattle.ordered_lists.proofs.Reading.{both_of}
+use Rattle.ordered_lists.specs.Reading.{both_of}
 
 module _ {A : Type 0} (lt : A → A → Bool) (asym : (x y : A) → lt x y ≡ true → lt y x ≡ false) where
   -- an item goes behind all that stand before it

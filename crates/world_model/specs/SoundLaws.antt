@@ -1,20 +1,19 @@
 -- Every command that words spell is sound.
-use Rattle.std.proofs.Common.{◌≡◌, ℕ, ℤ, pos, negsuc, Bool, true, false, refl, sym, ◌∙◌, ap, subst, List, [], ◌∷◌, ◌++◌, arith, ◌≤ℤ◌, rules}
-use Rattle.std.specs.Prelude.{Option, Some, None, Result, Ok, Err, ◌&&◌, int_le, nat_le, neg_ℤ, codes, option_and_then, if◌then◌else◌, is_none, not, length, nat_lt, unwrap_or}
+use Rattle.std.proofs.Common.{◌≡◌, ℕ, ℤ, pos, Bool, true, false, refl, sym, ◌∙◌, ap, subst, List, [], ◌∷◌, ◌++◌, arith, ◌≤ℤ◌, rules}
+use Rattle.std.specs.Prelude.{Option, Some, None, Result, Ok, Err, ◌&&◌, int_le, nat_le, neg_ℤ, codes, option_and_then, if◌then◌else◌, is_none, not, length, nat_lt}
 use Rattle.std.specs.List.{list_all}
 use Rattle.byte_text.specs.Names.{Bytes, is_name}
 use Rattle.byte_text.specs.Numbers.{whole, natural, whole_within, natural_within}
 use Rattle.byte_text.specs.Globs.{is_well_formed}
-use Rattle.planar_geom.specs.Points.{Point, Bounds, pt, bounds, InPlane, IsCoordinate, IsBox}
+use Rattle.planar_geom.specs.Points.{Point, Bounds, pt, InPlane, IsCoordinate, IsBox}
 use Rattle.planar_geom.specs.declared.shapes.Area.{Area}
-use Rattle.planar_geom.specs.declared.shapes.Area.TheVariants.{Rect, Disc, Figure}
 use Rattle.planar_geom.specs.declared.shapes.Part.TheVariants.{Spot, Face}
 use Rattle.geo_text.specs.Texts.{Shape, shape_of, stored_or, walked, point_text, bounds_text, corners}
 use Rattle.geo_text.specs.declared.faults.GeoFault.{GeoFault}
 use Rattle.geo_text.proofs.StoredLaws.{point_back, bounds_back}
 use Rattle.world_data.specs.Limits.{max_coord, max_meters, max_tests}
-use Rattle.world_model.specs.Grammar.{Form, Reading, spells, runs_out, done, word, maybe, ◌>>=◌, ◌>>◌, ◌or◌, one_of, repeated, live, spelled, a_word, a_coordinate, a_geojson}
-use Rattle.world_model.specs.Kinds.{when, name, glob, meters, between, coordinate_from, coordinate, lat_lon, four, geojson, accepted}
+use Rattle.world_model.specs.Grammar.{Form, Reading, spells, runs_out, done, word, maybe, ◌>>=◌, ◌>>◌, ◌or◌, repeated, live, spelled, a_word, a_coordinate, a_geojson}
+use Rattle.world_model.specs.Kinds.{when, name, glob, meters, coordinate_from, coordinate, lat_lon, four, geojson, accepted}
 use Rattle.world_model.specs.Commands as table
 use Rattle.world_model.specs.Sound.{IsSoundCommand, is_sound_from, is_sound_reach, takes_areas}
 use Rattle.world_data.specs.Sound.{is_sound_rule, is_sound_watch, is_sound_glob, is_sound_area}
@@ -26,9 +25,9 @@ use Rattle.world_data.specs.declared.queries.Rule.TheVariants.{Kept, Nearest}
 use Rattle.world_data.specs.declared.queries.Shown.TheVariants as shown
 use Rattle.world_model.specs.declared.commands.Command.{Command}
 use Rattle.world_model.specs.declared.commands.Command.TheVariants as command
-use Rattle.world_model.proofs.Forms.{Each}
-use Rattle.world_model.proofs.Making.{Makes, Said, makes_done, makes_or, makes_none, makes_where, makes_word, makes_bind, makes_behind, makes_then, makes_maybe, makes_any, makes_repeated, makes_once}
-use Rattle.world_data.proofs.FieldLaws.{with_values-are_fields}
+use Rattle.world_model.specs.FormLaws.{Each}
+use Rattle.world_model.specs.MadeForms.{Makes, Said, makes_done, makes_or, makes_none, makes_where, makes_word, makes_bind, makes_behind, makes_then, makes_maybe, makes_any, makes_repeated, makes_once}
+use Rattle.world_data.specs.FieldLaws.{with_values-are_fields}
 
 -- kinds of word
 

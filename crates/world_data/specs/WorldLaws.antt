@@ -1,7 +1,7 @@
 -- A change keeps a world sorted.
 use Rattle.std.proofs.Common.{◌≡◌, true, false, not, refl, arith}
-use Rattle.ordered_lists.proofs.Ascending.{ascends-put_in, ascends-filter}
-use Rattle.ordered_lists.proofs.ByteOrder.{pair_trans, pair_tie, pair_asym, name_trans, name_tie, name_asym}
+use Rattle.ordered_lists.specs.Ascending.{ascends-put_in, ascends-filter}
+use Rattle.ordered_lists.specs.NameOrder.{pair_trans, pair_tie, pair_asym, name_trans, name_tie, name_asym}
 use Rattle.world_data.specs.Worlds.{object_before, channel_before, is_at, has_key, is_named, is_sorted_world, after}
 use Rattle.world_data.specs.declared.objects.Object.{Object}
 use Rattle.world_data.specs.declared.channels.Channel.{Channel}

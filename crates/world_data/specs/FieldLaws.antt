@@ -1,12 +1,11 @@
 -- Fields stay in order, without doubles and without zeros.
-use Rattle.std.proofs.Common.{◌≡◌, ℕ, true, false, not, refl, sym, ap, subst, List, [], ◌∷◌, arith}
+use Rattle.std.proofs.Common.{◌≡◌, ℕ, true, false, not, sym, ap, List, [], ◌∷◌, arith}
 use Rattle.std.specs.Prelude.{ℤ}
 use Rattle.std.specs.List.{list_all, slice_set, insert, remove}
-use Rattle.std.proofs.lemmas.Bool.Decides.{nat_tests}
 use Rattle.byte_text.specs.Names.{Bytes, before}
-use Rattle.ordered_lists.proofs.Ascending.{ascends-put_in, ascends-filter, put_in-set, put_in-insert}
-use Rattle.ordered_lists.proofs.ByteOrder.{name_trans, name_tie, name_asym}
-use Rattle.ordered_lists.proofs.Reading.{filter-all, filter-passes, filter-set, filter-insert, all-set, all-insert}
+use Rattle.ordered_lists.specs.Ascending.{ascends-put_in, ascends-filter, put_in-set, put_in-insert}
+use Rattle.ordered_lists.specs.NameOrder.{name_trans, name_tie, name_asym}
+use Rattle.ordered_lists.specs.Reading.{filter-all, filter-passes, filter-set, filter-insert, all-set, all-insert}
 use Rattle.ordered_lists.specs.Lists.{ascends, put_in, IsHeld, IsFree}
 use Rattle.world_data.specs.Filters.{Field, field_before, is_zero, last_values, with_values, are_fields}
 

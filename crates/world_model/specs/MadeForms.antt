@@ -2,8 +2,8 @@
 use Rattle.std.proofs.Common.{◌≡◌, ℕ, zero, suc, Bool, true, false, refl, List, [], ◌∷◌, ◌++◌, length, ◌+◌}
 use Rattle.std.specs.Prelude.{flat_map, Option, Some, None}
 use Rattle.byte_text.specs.Names.{Bytes}
-use Rattle.world_model.specs.Grammar.{Due, Reading, spells, runs_out, Form, go_on, ◌>>=◌, ◌>>◌, done, ◌or◌, one_of, where_, read_as, one_word, maybe, at_most_times, repeated, once_or_more, times}
-use Rattle.world_model.proofs.Forms.{Each}
+use Rattle.world_model.specs.Grammar.{Due, Reading, spells, runs_out, Form, go_on, ◌>>=◌, ◌>>◌, done, ◌or◌, one_of, where_, read_as, one_word, maybe, at_most_times, repeated, once_or_more}
+use Rattle.world_model.specs.FormLaws.{Each}
 
 -- a reading that spells a value spells one with the property
 abbrev pub Said : {A : Type 0} → (A → Type 0) → Reading A → Type 0

@@ -1,5 +1,5 @@
 -- Reading lists at places, and tests of all their items.
-use Rattle.std.proofs.Common.{◌≡◌, ◌<◌, ◌≤◌, ◌+◌, ℕ, zero, suc, Bool, true, false, refl, sym, ◌∙◌, ap, subst, List, [], ◌∷◌, ◌++◌, length, take, get_or, add-one, arith}
+use Rattle.std.proofs.Common.{◌≡◌, ◌<◌, ◌≤◌, ◌+◌, ℕ, zero, suc, Bool, true, false, refl, sym, ◌∙◌, ap, subst, List, [], ◌∷◌, length, take, get_or, add-one, arith}
 use Rattle.std.specs.Prelude.{Some, Result, Ok, Err, filter, IfSome, OnOk, OnErr, ◌&&◌}
 use Rattle.std.specs.List.{list_all, slice_get, slice_set, insert, remove}
 

@@ -1,3 +1,0 @@
-pub mod ByteOrder
-pub mod Reading
-pub mod Ascending
