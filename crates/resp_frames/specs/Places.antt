@@ -1,7 +1,7 @@
 -- What is left to read of a request from a place on, and the numbers that a place holds.
 use Rattle.std.specs.Prelude.{ℕ, zero, suc, ◌-◌, ◌<◌, ◌≤◌, length, drop, Option, None, IfSome, if◌then◌else◌, nat_le}
 use Rattle.byte_text.specs.Requests.{max_words, max_word, max_request}
-use Rattle.byte_text.specs.Streams.{found, begun, Grammar, ◌>>=◌, ◌>>◌, done, byte, number, count_limit, word_limit}
+use Rattle.byte_text.specs.Streams.{found, begun, Grammar, ◌>>=◌, ◌>>◌, done, byte, number_line, count_limit, word_limit}
 use Rattle.byte_text.specs.declared.faults.RespFault.TheVariants.{BadType, BadEnd}
 use Rattle.resp_frames.specs.declared.places.Ahead.{Ahead}
 use Rattle.resp_frames.specs.declared.places.Place.{Place}
@@ -16,7 +16,7 @@ abbrev pub words_skipped : ℕ → ℕ → Grammar (Unit {0})
 words_skipped zero allowed = done tt
 words_skipped (suc n) allowed = do
   byte 36 BadType
-  len ← number (word_limit allowed) None
+  len ← number_line (word_limit allowed) None
   byte 10 BadEnd
   skipped len
   byte 13 BadEnd
@@ -40,7 +40,7 @@ behind_length ahead len = do
   behind_bytes ahead len
 
 abbrev pub behind_dollar : Ahead → Option ℕ → Grammar (Unit {0})
-behind_dollar ahead digits = number (word_limit ahead.bytes) digits >>= behind_length ahead
+behind_dollar ahead digits = number_line (word_limit ahead.bytes) digits >>= behind_length ahead
 
 -- what stands behind the number of words
 abbrev pub behind_count : ℕ → Grammar (Unit {0})
@@ -48,8 +48,8 @@ behind_count n = byte 10 BadEnd >> words_skipped n max_request
 
 -- the rest of a request from a place on
 abbrev pub from : Place → Grammar (Unit {0})
-from Star = byte 42 BadType >> (number count_limit None >>= behind_count)
-from (Count digits) = number count_limit digits >>= behind_count
+from Star = byte 42 BadType >> (number_line count_limit None >>= behind_count)
+from (Count digits) = number_line count_limit digits >>= behind_count
 from (CountEnd n) = behind_count n
 from (Dollar ahead) = byte 36 BadType >> behind_dollar ahead None
 from (Length ahead digits) = behind_dollar ahead digits

@@ -2,7 +2,7 @@
 use Rattle.std.specs.Prelude.{◌≡◌, ℕ, ◌≤◌, List, [], ◌∷◌, ◌++◌, length, drop, Option, Some, None}
 use Rattle.byte_text.specs.Names.{Bytes}
 use Rattle.byte_text.specs.Requests.{IsRequest}
-use Rattle.byte_text.specs.Streams.{Front, found, begun, broken, go_on, request}
+use Rattle.byte_text.specs.Streams.{Front, found, begun, broken, read_then, request}
 use Rattle.byte_text.specs.declared.faults.RespFault.{RespFault}
 use Rattle.resp_frames.specs.declared.faults.FeedFault.{FeedFault}
 use Rattle.resp_frames.specs.declared.faults.FeedFault.TheVariants.{Broken, Dead, Memory}
@@ -40,7 +40,7 @@ IsNotFed (Some held) new piece fault = IsRefused held new piece fault
 
 -- whether a thing was read, without the thing
 abbrev pub blind : {A : Type 0} → Front A → Front (Unit {0})
-blind front = go_on (λ a rest. found tt rest) front
+blind front = read_then (λ a rest. found tt rest) front
 
 -- the reader's own fields: a place, unless it is dead, and the bytes before it
 abbrev pub held_of : Option Place → Bytes → Held
