@@ -1,8 +1,11 @@
-ghost use Rattle.std.specs.Prelude.{◌≡◌, ◌≤◌, ◌<◌, IfSome};
-ghost use Rattle.byte_text.specs.Streams.{with_byte};
-ghost use Rattle.resp_frames.specs.Steps as steps;
+//! Where the next byte of a request stands, and what each byte there makes of it.
 
-use byte_text::RespFault;
+ghost use Rattle.std.specs.Prelude.{◌≡◌, ◌≤◌, ◌<◌, IfSome};
+ghost use Rattle.byte_text.specs.Requests.{max_word};
+ghost use Rattle.byte_text.specs.Streams.{with_byte};
+ghost use Rattle.resp_frames.specs.PlaceSteps as steps;
+
+use byte_text::{MAX_REQUEST, MAX_WORD, MAX_WORDS, RespFault};
 
 /// What may still come of a request, before one of its words.
 #[derive(Clone, Copy, Debug, PartialEq, Eq)]
@@ -43,9 +46,10 @@ pub(crate) enum Next {
     /// The byte is none of any request.
     Fails(RespFault),
 }
+
 // The number that one more digit makes, where it stays canonical.
 fn digit_after(digits: Option<u32>, byte: u8) -> Option<u32>
-    requires { IfSome digits (λ n. n ≤ 1048576) }
+    requires { IfSome digits (λ n. n ≤ max_word) }
     ensures { result ≡ with_byte digits byte }
 {
     if !byte.is_ascii_digit() {
@@ -66,7 +70,7 @@ fn count_digit(digits: Option<u32>) -> Next
         None => Next::Fails(RespFault::BadLength),
         Some(0) => Next::Fails(RespFault::BadLength),
         Some(n) => {
-            if n <= 4096 {
+            if n <= MAX_WORDS as u32 {
                 Next::Goes(Place::Count(Some(n)))
             } else {
                 Next::Fails(RespFault::TooMany)
@@ -81,7 +85,7 @@ fn length_digit(ahead: Ahead, digits: Option<u32>) -> Next
     match digits {
         None => Next::Fails(RespFault::BadLength),
         Some(n) => {
-            if n <= 1_048_576 && n <= ahead.bytes {
+            if n <= MAX_WORD as u32 && n <= ahead.bytes {
                 Next::Goes(Place::Length(ahead, Some(n)))
             } else {
                 Next::Fails(RespFault::TooLong)
@@ -91,7 +95,7 @@ fn length_digit(ahead: Ahead, digits: Option<u32>) -> Next
 }
 
 fn count_step(digits: Option<u32>, byte: u8) -> Next
-    requires { IfSome digits (λ n. n ≤ 1048576) }
+    requires { IfSome digits (λ n. n ≤ max_word) }
     ensures { result ≡ steps.count_step digits byte }
 {
     if byte == b'\r' {
@@ -105,7 +109,7 @@ fn count_step(digits: Option<u32>, byte: u8) -> Next
 }
 
 fn length_step(ahead: Ahead, digits: Option<u32>, byte: u8) -> Next
-    requires { IfSome digits (λ n. n ≤ 1048576) }
+    requires { IfSome digits (λ n. n ≤ max_word) }
     ensures { result ≡ steps.length_step ahead digits byte }
 {
     if byte == b'\r' {
@@ -162,7 +166,7 @@ pub(crate) fn step(place: Place, byte: u8) -> Next
             if byte == b'\n' {
                 Next::Goes(Place::Dollar(Ahead {
                     words: n,
-                    bytes: 2_097_152,
+                    bytes: MAX_REQUEST as u32,
                 }))
             } else {
                 Next::Fails(RespFault::BadEnd)

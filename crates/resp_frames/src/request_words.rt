@@ -1,3 +1,5 @@
+//! The words of a request's text, which was gone over before.
+
 ghost use Rattle.std.specs.Prelude.{◌≡◌, ◌≢◌, ℕ, List, ◌++◌, ◌∷◌, ◌<◌, ◌≤◌, ◌^◌, length, decimal, IfOk, Ok};
 ghost use Rattle.byte_text.specs.Lines.{line, bulk_text};
 ghost use Rattle.byte_text.specs.Requests.{IsRequest, IsRequestText, request_text, max_word};
@@ -74,7 +76,7 @@ pub(crate) fn words_of(alloc: Global, text: &[u8]) -> Result<Request, NoMemory>
     ensures { IfOk result (λ r. IsRequest r × (text.now ≡ request_text r)) }
 {
     let (count, rest) = number_at(text);
-    let mut request = Request::new(alloc);
+    let mut request = Request::with_room(alloc, count as usize, text.len())?;
     let mut rest = rest;
     for _ in 0..count {
         let (word, behind) = word_at(rest);

@@ -3,9 +3,9 @@ use Rattle.std.specs.Prelude.{ℕ, zero, suc, ◌-◌, ◌<◌, ◌≤◌, lengt
 use Rattle.byte_text.specs.Requests.{max_words, max_word, max_request}
 use Rattle.byte_text.specs.Streams.{found, begun, Grammar, ◌>>=◌, ◌>>◌, done, byte, number_line, count_limit, word_limit}
 use Rattle.byte_text.specs.declared.faults.RespFault.TheVariants.{BadType, BadEnd}
-use Rattle.resp_frames.specs.declared.places.Ahead.{Ahead}
-use Rattle.resp_frames.specs.declared.places.Place.{Place}
-use Rattle.resp_frames.specs.declared.places.Place.TheVariants.{Star, Count, CountEnd, Dollar, Length, LengthEnd, Word, WordEnd}
+use Rattle.resp_frames.specs.declared.request_places.Ahead.{Ahead}
+use Rattle.resp_frames.specs.declared.request_places.Place.{Place}
+use Rattle.resp_frames.specs.declared.request_places.Place.TheVariants.{Star, Count, CountEnd, Dollar, Length, LengthEnd, Word, WordEnd}
 
 -- this many bytes, whatever they are
 abbrev pub skipped : ℕ → Grammar (Unit {0})

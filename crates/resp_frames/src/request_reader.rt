@@ -1,13 +1,14 @@
-ghost use Rattle.std.specs.Prelude.{◌≡◌, ◌++◌, [], IfOk, IfErr, OnOk, OnErr, Some, MatchOption};
+//! A reader of the requests of a stream, fed with pieces.
+
+ghost use Rattle.std.specs.Prelude.{◌≡◌, ◌++◌, [], IfOk, IfErr, OnOk, OnErr, Some};
 ghost use Rattle.byte_text.specs.Requests.{IsRequest, IsRequestText, request_text};
-ghost use Rattle.byte_text.specs.Streams.{request};
-ghost use Rattle.resp_frames.specs.Readers.{IsFed, IsNotFed, whole_request};
+ghost use Rattle.resp_frames.specs.RequestReader.{IsFed, IsNotFed};
 
 use crate::faults::FeedFault;
-use crate::places::Place;
-use crate::scans::{Scan, read_piece};
-use crate::words::words_of;
-use byte_text::{NoMemory, Request};
+use crate::pieces::{Scan, read_piece};
+use crate::request_places::Place;
+use crate::request_words::words_of;
+use byte_text::{NoMemory, Request, requests_are_read};
 use std::alloc::Global;
 use std::marker::Model;
 
@@ -31,7 +32,7 @@ pub struct Requests {
 
 impl Model for Requests {
     ghost use Rattle.std.specs.Prelude.{List, ℕ, Option};
-    ghost use Rattle.resp_frames.specs.Readers.{held_of, IsReader};
+    ghost use Rattle.resp_frames.specs.RequestReader.{held_of, IsReader};
 
     ghost Value = { Option (List ℕ) };
 
@@ -59,6 +60,8 @@ impl Requests {
         ensures fed { IfOk result (λ f. IsFed self.old self.new piece.now f.taken f.request) }
         ensures fault { IfErr result (λ f. IsNotFed self.old self.new piece.now f) }
     {
+        // The laws that this function's proof stands on.
+        requests_are_read();
         let Some(place) = self.place else {
             return Err(FeedFault::Dead);
         };
@@ -91,6 +94,20 @@ impl Requests {
     }
 }
 
+// The most bytes of room that a reader keeps for the beginning of a request.
+const KEPT_ROOM: usize = 65_536;
+
+// No bytes; much room is given back.
+fn clear(alloc: Global, held: &mut Vec<u8>)
+    ensures { held.new.items ≡ [] }
+{
+    if held.capacity() > KEPT_ROOM {
+        *held = Vec::new(alloc);
+    } else {
+        held.clear();
+    }
+}
+
 // The request that these bytes end behind those held, of which none is held then. At want of memory they are as before.
 fn finish(alloc: Global, held: &mut Vec<u8>, end: &[u8]) -> Result<Request, NoMemory>
     requires { IsRequestText (held.old.items ++ end.now) }
@@ -99,36 +116,20 @@ fn finish(alloc: Global, held: &mut Vec<u8>, end: &[u8]) -> Result<Request, NoMe
     ensures err { OnErr result (held.new.items ≡ held.old.items) }
 {
     let before = held.len();
+    if before == 0 {
+        return words_of(alloc, end);
+    }
     if held.extend_from_slice(end).is_err() {
         return Err(NoMemory);
     }
     match words_of(alloc, held.as_slice()) {
         Ok(request) => {
-            held.clear();
+            clear(alloc, held);
             Ok(request)
         }
         Err(NoMemory) => {
             held.truncate(before);
             Err(NoMemory)
         }
-    }
-}
-
-/// The request whose text the bytes are; None where they are not the text of one request.
-pub fn request_of(alloc: Global, bytes: &[u8]) -> Result<Option<Request>, NoMemory>
-    ensures reads { IfOk result (λ o. o ≡ whole_request (request bytes.now)) }
-    ensures text { IfOk result (λ o. MatchOption o (IsRequestText bytes.now → ⊥)
-        (λ r. IsRequest r × (bytes.now ≡ request_text r))) }
-{
-    match read_piece(Place::Star, bytes) {
-        Scan::Whole(taken) => {
-            if taken == bytes.len() {
-                Ok(Some(words_of(alloc, bytes)?))
-            } else {
-                Ok(None)
-            }
-        }
-        Scan::Goes(_) => Ok(None),
-        Scan::Fails(_) => Ok(None),
     }
 }

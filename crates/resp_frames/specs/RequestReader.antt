@@ -1,13 +1,13 @@
 -- A reader of requests: what it holds between two pieces, and what it answers to one.
-use Rattle.std.specs.Prelude.{◌≡◌, ℕ, ◌≤◌, List, [], ◌∷◌, ◌++◌, length, drop, Option, Some, None}
+use Rattle.std.specs.Prelude.{◌≡◌, ℕ, ◌≤◌, List, [], ◌++◌, length, drop, Option, Some, None}
 use Rattle.byte_text.specs.Names.{Bytes}
-use Rattle.byte_text.specs.Requests.{IsRequest}
+use Rattle.byte_text.specs.Requests.{IsRequest, request_text}
 use Rattle.byte_text.specs.Streams.{Front, found, begun, broken, read_then, request}
 use Rattle.byte_text.specs.declared.faults.RespFault.{RespFault}
 use Rattle.resp_frames.specs.declared.faults.FeedFault.{FeedFault}
 use Rattle.resp_frames.specs.declared.faults.FeedFault.TheVariants.{Broken, Dead, Memory}
-use Rattle.resp_frames.specs.declared.places.Place.{Place}
-use Rattle.resp_frames.specs.Places.{from, IsPlace}
+use Rattle.resp_frames.specs.declared.request_places.Place.{Place}
+use Rattle.resp_frames.specs.RequestPlaces.{from, IsPlace}
 
 -- the bytes since the last request, which begin one; or nothing, once a fault was met
 abbrev pub Held : Type 0
@@ -20,8 +20,8 @@ IsTaken held new piece taken (Some words) = (request (held ++ piece) ≡ found w
 
 -- what was fed: never by a reader that has met a fault
 abbrev pub IsFed : Held → Held → Bytes → ℕ → Option (List Bytes) → Type 0
-IsFed None new piece taken request = ⊥
-IsFed (Some held) new piece taken request = IsTaken held new piece taken request
+IsFed None new piece taken read = ⊥
+IsFed (Some held) new piece taken read = IsTaken held new piece taken read
 
 abbrev pub IsBroken : Bytes → Held → Bytes → RespFault → Type 0
 IsBroken held new piece fault = (request (held ++ piece) ≡ broken fault) × (new ≡ None)
@@ -51,9 +51,9 @@ abbrev pub IsReader : Option Place → Bytes → Type 0
 IsReader None bytes = Unit {0}
 IsReader (Some place) bytes = IsPlace place × ((more : Bytes) → blind (request (bytes ++ more)) ≡ from place more)
 
--- the request that some bytes are, where they are one and nothing more
-abbrev pub whole_request : Front (List Bytes) → Option (List Bytes)
-whole_request (found words []) = Some words
-whole_request (found words (b ∷ bytes)) = None
-whole_request begun = None
-whole_request (broken fault) = None
+-- what is read as a request is a request's text, and the other way round
+abbrev pub TextsAreRead : Type 0
+TextsAreRead = (words : List Bytes) (behind : Bytes) → IsRequest words → request (request_text words ++ behind) ≡ found words behind
+
+abbrev pub ReadTexts : Type 0
+ReadTexts = (bytes behind : Bytes) (words : List Bytes) → request bytes ≡ found words behind → IsRequest words × (bytes ≡ request_text words ++ behind)

@@ -3,11 +3,11 @@ use Rattle.std.specs.Prelude.{ℕ, zero, suc, ◌-◌, ◌<◌, ◌≤◌, Optio
 use Rattle.byte_text.specs.declared.faults.RespFault.TheVariants.{BadType, BadLength, BadEnd, TooMany, TooLong}
 use Rattle.byte_text.specs.Requests.{max_words, max_word, max_request}
 use Rattle.byte_text.specs.Streams.{with_byte}
-use Rattle.resp_frames.specs.declared.places.Ahead.{Ahead}
-use Rattle.resp_frames.specs.declared.places.Place.{Place}
-use Rattle.resp_frames.specs.declared.places.Place.TheVariants.{Star, Count, CountEnd, Dollar, Length, LengthEnd, Word, WordEnd}
-use Rattle.resp_frames.specs.declared.places.Next.{Next}
-use Rattle.resp_frames.specs.declared.places.Next.TheVariants.{Goes, Whole, Fails}
+use Rattle.resp_frames.specs.declared.request_places.Ahead.{Ahead}
+use Rattle.resp_frames.specs.declared.request_places.Place.{Place}
+use Rattle.resp_frames.specs.declared.request_places.Place.TheVariants.{Star, Count, CountEnd, Dollar, Length, LengthEnd, Word, WordEnd}
+use Rattle.resp_frames.specs.declared.request_places.Next.{Next}
+use Rattle.resp_frames.specs.declared.request_places.Next.TheVariants.{Goes, Whole, Fails}
 
 -- a request has a word
 abbrev pub count_digit : Option ℕ → Next
@@ -53,10 +53,10 @@ step (WordEnd ahead len) byte = if byte == 10 then word_end ahead len else Fails
 -- the numbers of a place
 abbrev pub HasNumbers : Place → Type 0
 HasNumbers Star = Unit {0}
-HasNumbers (Count digits) = IfSome digits (λ n. n ≤ 1048576)
+HasNumbers (Count digits) = IfSome digits (λ n. n ≤ max_word)
 HasNumbers (CountEnd n) = Unit {0}
 HasNumbers (Dollar ahead) = Unit {0}
-HasNumbers (Length ahead digits) = IfSome digits (λ n. n ≤ 1048576)
+HasNumbers (Length ahead digits) = IfSome digits (λ n. n ≤ max_word)
 HasNumbers (LengthEnd ahead n) = Unit {0}
 HasNumbers (Word ahead len left) = Unit {0}
 HasNumbers (WordEnd ahead len) = (0 < ahead.words) × (len ≤ ahead.bytes)

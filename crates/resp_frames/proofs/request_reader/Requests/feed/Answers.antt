@@ -1,12 +1,12 @@
 use Rattle.std.proofs.Common.{◌≡◌, ◌++◌, Some, rules, sym, subst}
-use Rattle.resp_frames.specs.declared.places.Place.TheVariants.{Star}
-use Rattle.resp_frames.specs.Readers.{IsReader, IsFed}
+use Rattle.resp_frames.specs.declared.request_places.Place.TheVariants.{Star}
+use Rattle.resp_frames.specs.RequestReader.{IsReader, IsFed}
 use Rattle.resp_frames.proofs.ReaderLaws.{reader_begins, ended_text, fed_on, fed_whole}
-use Rattle.resp_frames.proofs.readers.Requests.feed.Goals as goal
+use Rattle.resp_frames.proofs.request_reader.Requests.feed.Goals as goal
 
 pub finish-requires : goal.finish-requires
 finish-requires c =
-    ended_text c.self.inside.place c.self.inside.held.items c.args.piece.now c.args.self.now c.in-Some.place c.in-Whole.taken
+    ended_text c.requests_are_read.ensures.found c.self.inside.place c.self.inside.held.items c.args.piece.now c.args.self.now c.in-Some.place c.in-Whole.taken
     (record { is = c.in-Some.is; value_is = c.self.view_is; reader = c.self.invariant }) c.in-Whole.ensures
 
 pub invariant_of-self-in-Ok : goal.invariant_of-self-in-Ok
@@ -21,5 +21,5 @@ returns-else-is_err-clause-fed c =
 pub returns-in-Ok-clause-fed : goal.returns-in-Ok-clause-fed
 returns-in-Ok-clause-fed c =
     subst (λ held. IsFed c.args.self.now (Some held) c.args.piece.now c.in-Whole.taken (Some c.in-Ok.request)) (sym c.in-Ok.ensures.ok)
-    (fed_whole c.self.inside.place c.self.inside.held.items c.args.piece.now c.args.self.now c.in-Some.place c.in-Whole.taken c.in-Ok.request
+    (fed_whole c.requests_are_read.ensures.text c.self.inside.place c.self.inside.held.items c.args.piece.now c.args.self.now c.in-Some.place c.in-Whole.taken c.in-Ok.request
     (record { is = c.in-Some.is; value_is = c.self.view_is; reader = c.self.invariant }) c.in-Whole.ensures c.in-Ok.ensures.read.0 c.in-Ok.ensures.read.1)
