@@ -1,3 +1,5 @@
+//! The words of a line, which spaces part.
+
 ghost use Rattle.std.specs.Prelude.{◌≡◌, ◌==◌, position};
 ghost use Rattle.script_text.specs.Words.{words, word_and_rest};
 

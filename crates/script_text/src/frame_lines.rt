@@ -1,3 +1,5 @@
+//! The lines of frames that a run writes.
+
 ghost use Rattle.std.specs.Prelude.{◌≡◌, ◌++◌, OnOk, OnErr, length, take};
 ghost use Rattle.percent_encoding.specs.Percent.{percent_decode};
 ghost use Rattle.script_text.specs.Escaped.{escaped_byte, escaped, frame_line};

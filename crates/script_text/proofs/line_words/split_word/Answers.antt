@@ -1,5 +1,5 @@
 use Rattle.script_text.proofs.WordLaws.{none_found, one_found}
-use Rattle.script_text.proofs.words.split_word.Goals as goal
+use Rattle.script_text.proofs.line_words.split_word.Goals as goal
 
 pub returns-in-None : goal.returns-in-None
 returns-in-None c = none_found c.args.bytes.now c.in-None.ensures
