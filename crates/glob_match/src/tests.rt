@@ -1,3 +1,5 @@
+//! Patterns and names from outside.
+
 use super::*;
 use byte_text::{Name, NameFault};
 use std::alloc::Global;

@@ -7,9 +7,9 @@ use Rattle.byte_text.specs.Requests.{max_request}
 use Rattle.byte_text.specs.Streams.{Front, found, begun, broken, Grammar, read_then, ◌>>=◌, ◌>>◌, done, byte, bytes_of, number_line, count_limit, word_limit, words, request}
 use Rattle.byte_text.specs.declared.faults.RespFault.{RespFault}
 use Rattle.byte_text.specs.declared.faults.RespFault.TheVariants.{BadType, BadEnd}
-use Rattle.resp_frames.specs.declared.places.Place.TheVariants.{Star}
-use Rattle.resp_frames.specs.Places.{skipped, words_skipped, behind_count, from}
-use Rattle.resp_frames.specs.Readers.{blind}
+use Rattle.resp_frames.specs.declared.request_places.Place.TheVariants.{Star}
+use Rattle.resp_frames.specs.RequestPlaces.{skipped, words_skipped, behind_count, from}
+use Rattle.resp_frames.specs.RequestReader.{blind}
 
 -- one part behind another
 blind_behind : {A B : Type 0} (k : A → Grammar B) (l : A → Grammar (Unit {0})) (x : Front A) → ((a : A) (rest : Bytes) → blind (k a rest) ≡ l a rest) → blind (read_then k x) ≡ read_then l x

@@ -1,5 +1,5 @@
 -- One byte at a place: what is left to read goes on as the step says.
-use Rattle.std.proofs.Common.{◌≡◌, ℕ, zero, suc, ◌-◌, ◌<◌, Bool, true, false, nat_le, ◌&&◌, ◌==◌, [], ◌∷◌, length, drop, Option, Some, None, refl, sym, ap, ◌∙◌, arith, if◌then◌else◌, true≢false}
+use Rattle.std.proofs.Common.{◌≡◌, ℕ, zero, suc, ◌-◌, ◌≤◌, ◌++◌, ◌<◌, Bool, true, false, nat_le, ◌&&◌, ◌==◌, [], ◌∷◌, length, drop, Option, Some, None, refl, sym, ap, ◌∙◌, arith, if◌then◌else◌, true≢false}
 use Rattle.std.proofs.lemmas.Bool.{leb-true, lt-leb, le-leb, eqb-true, eq-eqb}
 use Rattle.std.proofs.Math.Dec.{leb-suc-suc}
 use Rattle.byte_text.specs.Names.{Bytes}
@@ -7,13 +7,13 @@ use Rattle.byte_text.specs.Requests.{max_words, max_word, max_request}
 use Rattle.byte_text.specs.Streams.{Front, found, begun, broken, Grammar, read_then, ◌>>=◌, ◌>>◌, byte, with_byte, one_more, unless_fault, number_end, number_line, count_limit, word_limit}
 use Rattle.byte_text.specs.declared.faults.RespFault.{RespFault}
 use Rattle.byte_text.specs.declared.faults.RespFault.TheVariants.{BadType, BadLength, BadEnd, TooMany, TooLong}
-use Rattle.resp_frames.specs.declared.places.Ahead.{Ahead}
-use Rattle.resp_frames.specs.declared.places.Place.{Place}
-use Rattle.resp_frames.specs.declared.places.Place.TheVariants.{Star, Count, CountEnd, Dollar, Length, LengthEnd, Word, WordEnd}
-use Rattle.resp_frames.specs.declared.places.Next.{Next}
-use Rattle.resp_frames.specs.declared.places.Next.TheVariants.{Goes, Whole, Fails}
-use Rattle.resp_frames.specs.Steps.{step, count_digit, count_end, length_digit, length_end, word_end, HasNumbers}
-use Rattle.resp_frames.specs.Places.{skipped, words_skipped, behind_word, behind_return, behind_bytes, behind_length, behind_dollar, behind_count, from, IsPlace}
+use Rattle.resp_frames.specs.declared.request_places.Ahead.{Ahead}
+use Rattle.resp_frames.specs.declared.request_places.Place.{Place}
+use Rattle.resp_frames.specs.declared.request_places.Place.TheVariants.{Star, Count, CountEnd, Dollar, Length, LengthEnd, Word, WordEnd}
+use Rattle.resp_frames.specs.declared.request_places.Next.{Next}
+use Rattle.resp_frames.specs.declared.request_places.Next.TheVariants.{Goes, Whole, Fails}
+use Rattle.resp_frames.specs.PlaceSteps.{step, count_digit, count_end, length_digit, length_end, word_end, HasNumbers}
+use Rattle.resp_frames.specs.RequestPlaces.{skipped, words_skipped, behind_word, behind_return, behind_bytes, behind_length, behind_dollar, behind_count, from, IsPlace}
 
 -- what is left behind a step
 abbrev pub after : Next → Grammar (Unit {0})
@@ -120,6 +120,23 @@ skip_none bytes = let e : nat_le 0 (length bytes) ≡ true = le-leb 0 (length by
 
 skip_one : (n b : ℕ) (bytes : Bytes) → skipped (suc n) (b ∷ bytes) ≡ skipped n bytes
 skip_one n b bytes = ap (λ t. if t then found (tt {0}) (drop n bytes) else begun) (leb-suc-suc n (length bytes))
+
+run_skipped : (run : Bytes) (left : ℕ) (more : Bytes) → length run ≤ left → skipped left (run ++ more) ≡ skipped (left - length run) more
+run_skipped [] left more l = ap (λ n. skipped n more) (omega arith)
+run_skipped (b ∷ run) zero more l = absurd (omega (arith, l))
+run_skipped (b ∷ run) (suc left) more l = skip_one left b (run ++ more) ∙ run_skipped run left more (omega (arith, l)) ∙ ap (λ n. skipped n more) (omega arith)
+
+-- the bytes of a word, passed over together
+pub run_reads : (ahead : Ahead) (len left n : ℕ) (run more : Bytes) → n ≤ left → length run ≡ n → from (Word ahead len left) (run ++ more) ≡ from (Word ahead len (left - n)) more
+run_reads ahead len left n run more l e =
+    ap (go_on_word ahead len) (run_skipped run left more (omega (arith, l, e))) ∙ ap (λ k. go_on_word ahead len (skipped (left - k) more)) e
+  where
+    go_on_word : Ahead → ℕ → Front (Unit {0}) → Front (Unit {0})
+    go_on_word ahead len front = read_then (λ u. behind_bytes ahead len) front
+
+pub no_run : (place : Place) (run more : Bytes) → length run ≡ 0 → from place (run ++ more) ≡ from place more
+no_run place [] more e = refl
+no_run place (b ∷ run) more e = absurd (omega (arith, e))
 
 word_reads : (ahead : Ahead) (len left b : ℕ) (bytes : Bytes) → IsPlace (Word ahead len left) → Reads (from (Word ahead len left) (b ∷ bytes)) (step (Word ahead len left) b) bytes
 word_reads ahead len zero b bytes p =
