@@ -11,7 +11,7 @@ use Rattle.collection.specs.Objects.{id_before, has_id, are_by_id}
 use Rattle.ordered_lists.specs.Ascending.{all_remove}
 use Rattle.byte_text.specs.ByteOrder.{same_refl, other_before, other_behind}
 use Rattle.ordered_lists.specs.Reading.{both_of}
-use Rattle.collection.proofs.Ids.{tied, ties, none_behind, kept_behind, behind_first, behind_tied, put_by_id, left_by_id, removed_by_id}
+use Rattle.collection.specs.IdOrder.{tied, ties, none_behind, kept_behind, behind_first, behind_tied, put_by_id, left_by_id, removed_by_id}
 use Rattle.keyspace.specs.Entries.{Entry}
 use Rattle.keyspace.specs.Shelves.{is_shelf}
 
