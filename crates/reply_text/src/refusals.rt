@@ -160,35 +160,7 @@ fn broken_words(fault: RespFault) -> &'static [u8]
     }
 }
 
-/// Why a command that was read is not done.
-fn refusal_words(refusal: Refusal) -> &'static [u8]
-    ensures value { error result.now ≡ refusal_pieces refusal }
-    ensures line { IsOneLine result.now }
-{
-    match refusal {
-        Refusal::KeyNotFound => b"key not found",
-        Refusal::IdNotFound => b"id not found",
-        Refusal::TooManyFields => b"too many fields",
-        Refusal::TooManyObjects => b"too many objects",
-        Refusal::TooManyChannels => b"too many channels",
-        Refusal::TooManySubscriptions => b"too many subscriptions",
-        Refusal::DatabaseFull => b"database is full",
-        Refusal::ReplyTooLong => b"reply too long",
-        Refusal::Subscribed => {
-            b"only SUBSCRIBE, PSUBSCRIBE, PING and QUIT are served while subscribed"
-        }
-    }
-}
-
-/// How a command is refused that was read and is not done.
-pub fn refusal_reply(alloc: Global, refusal: Refusal) -> Result<Reply, NoMemory>
-    ensures value { IfOk result (λ reply. reply ≡ refusal_pieces refusal) }
-    ensures frame { IfOk result IsFrame }
-{
-    error_reply(alloc, refusal_words(refusal))
-}
-
-// How bytes that are no request are refused, before the session is closed.
+/// How bytes that are no request are refused, before the session is closed.
 pub fn broken_reply(alloc: Global, fault: RespFault) -> Result<Reply, NoMemory>
     ensures value { IfOk result (λ reply. reply ≡ broken_pieces fault) }
     ensures frame { IfOk result IsFrame }
