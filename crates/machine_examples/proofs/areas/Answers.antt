@@ -17,7 +17,7 @@ use Rattle.json.specs.Text.{code_unit, short_escape, content}
 use Rattle.json.specs.Word.{after_number, word}
 use Rattle.serde_json.specs.Read.{number_of}
 use Rattle.geo_text.specs.Walks.{point, position, each, positions_of, line, ring, polygon}
-use Rattle.geo_text.specs.Geometries.{part, single, many, coordinates, single_at, many_at, geometry, inner, walk_of, geometries, feature, only_feature, feature_item, joined, features, shape}
+use Rattle.geo_text.specs.Geometries.{part, single, many, coordinates, single_at, many_at, geometry, inner, walk_of, geometries, feature, only_feature, feature_item, parts_of_each, features, shape}
 use Rattle.machine_examples.proofs.areas.Goals as goal
 
 pub returns : goal.returns
