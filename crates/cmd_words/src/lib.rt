@@ -1,6 +1,7 @@
 //! The words of requests, read as commands.
 #![tactic(auto)]
 
+mod command_names;
 mod commands;
 mod conditions;
 mod faults;
@@ -10,7 +11,7 @@ mod laws;
 mod objects;
 mod options;
 mod patterns;
-mod places;
+mod object_places;
 mod readers;
 mod scans;
 mod sets;
