@@ -1,6 +1,7 @@
 //! The words of requests, read as commands.
 #![tactic(auto)]
 
+mod command_names;
 mod commands;
 mod conditions;
 mod faults;

@@ -1,0 +1,5 @@
+use Rattle.cmd_words.specs.CommandNames.{AreOthers}
+use Rattle.cmd_words.proofs.command_names.command_named.Given as goal
+
+abbrev pub invariant-loop-command : goal.invariant-loop-command
+invariant-loop-command l = AreOthers l.called l.yielded
