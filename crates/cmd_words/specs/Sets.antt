@@ -17,8 +17,8 @@ use Rattle.world_model.specs.declared.faults.WordFault.TheVariants as fault
 use Rattle.cmd_words.specs.Places.{Place, all_words, answers, IsBehind, Moves, Follows}
 use Rattle.cmd_words.specs.declared.options.OptionWord.{OptionWord}
 use Rattle.cmd_words.specs.declared.options.OptionWord.TheVariants as option
-use Rattle.cmd_words.specs.declared.places.PlaceWord.{PlaceWord}
-use Rattle.cmd_words.specs.declared.places.PlaceWord.TheVariants as at
+use Rattle.cmd_words.specs.declared.object_places.PlaceWord.{PlaceWord}
+use Rattle.cmd_words.specs.declared.object_places.PlaceWord.TheVariants as at
 use Rattle.cmd_words.specs.declared.faults.CommandFault.{CommandFault}
 use Rattle.cmd_words.specs.declared.faults.CommandFault.TheVariants.{Memory}
 
