@@ -114,10 +114,6 @@ abbrev pub ReadsPlace : SetOptions → Place → Place → Result (Bytes × Shap
 ReadsPlace o old new (Ok at) = Moves old new × ((next : SetOptions → Bytes × Shape → Form Command) → Follows old (options_and_place o next) → Follows new (next o at))
 ReadsPlace o old new (Err why) = Refuses o old why
 
--- the text has a shape
-abbrev pub IsAccepted : Bytes → Type 0
-IsAccepted text = (shape : Shape) × (shape_of text ≡ Ok shape)
-
 -- what marks a field of this value: 1 where it is 0, and else 0
 abbrev pub mark_of : ℤ → ℤ
 mark_of value = if same_int value (pos 0) then pos 1 else pos 0

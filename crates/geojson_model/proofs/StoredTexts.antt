@@ -6,10 +6,9 @@ use Rattle.std.proofs.lemmas.Int.{ints, to_z-of_z}
 use mir.Val.{SFits}
 use mir.Syntax.{w64}
 use Rattle.planar_geom.specs.Points.{Point, Bounds, pt, bounds, same_int, same_point, is_coordinate, is_low_of, point_at, bounds_of, IsCoordinate, InPlane, IsBox}
-use Rattle.planar_geom.proofs.PlaceLemmas.{pt_is}
 use Rattle.planar_geom.specs.declared.shapes.Part.TheVariants.{Spot, Face}
-use Rattle.geo_text.specs.Texts.{joined, position_text, point_text, corners, bounds_text, stored_shape}
-use Rattle.geo_text.proofs.StoredLaws.{point_back, bounds_back, others_none}
+use Rattle.geo_text.specs.Texts.{with_commas, position_text, point_text, corners, bounds_text, stored_shape}
+use Rattle.geo_text.specs.StoredLaws.{point_back, bounds_back, others_none}
 use Rattle.geojson_model.specs.Stored.{position_then, point_head, bounds_head, point_form, five_form, bounds_form}
 
 -- ---- tests and what they test
@@ -34,6 +33,9 @@ y_fits p h = fits p.y h.y_in
 some_if : {A : Type 0} (b : Bool) (x y : A) → ◌≡◌ {A = Option A} (Some x) (if b then Some y else None) → x ≡ y
 some_if true x y e = cc (e)
 some_if false x y e = absurd (cc (e))
+
+pt_is : (a b c d : ℤ) → a ≡ c → b ≡ d → pt a b ≡ pt c d
+pt_is a b c d p q = cc
 
 -- the point that was made has these coordinates
 point_made : (p : Point) (x y : ℤ) → Some p ≡ point_at x y → p ≡ pt x y
@@ -86,7 +88,7 @@ next_is p others tail whole_rest e = append_assoc (position_text p) (44 ∷ othe
 pub point_text_is : (p : Point) → point_text p ≡ point_form p
 point_text_is p = append_assoc point_head (position_text p) (125 ∷ []) ∙ ap (λ (t : List ℕ). point_head ++ t) (position_is p (125 ∷ []))
 
-ring_is : (p q r s t : Point) → joined (map position_text (p ∷ q ∷ r ∷ s ∷ t ∷ [])) ++ (93 ∷ 93 ∷ 125 ∷ []) ≡ five_form p q r s t
+ring_is : (p q r s t : Point) → with_commas (map position_text (p ∷ q ∷ r ∷ s ∷ t ∷ [])) ++ (93 ∷ 93 ∷ 125 ∷ []) ≡ five_form p q r s t
 ring_is p q r s t =
     let tail : List ℕ = 93 ∷ 93 ∷ 125 ∷ [] in
     let four : List ℕ = position_text s ++ 44 ∷ position_text t in
@@ -96,7 +98,7 @@ ring_is p q r s t =
 
 pub bounds_text_is : (b : Bounds) → bounds_text b ≡ bounds_form b
 bounds_text_is b =
-    append_assoc bounds_head (joined (map position_text (corners b))) (93 ∷ 93 ∷ 125 ∷ [])
+    append_assoc bounds_head (with_commas (map position_text (corners b))) (93 ∷ 93 ∷ 125 ∷ [])
     ∙ ap (λ (t : List ℕ). bounds_head ++ t) (ring_is b.min (pt b.max.x b.min.y) b.max (pt b.min.x b.max.y) b.min)
 
 -- ---- the shapes of stored texts

@@ -1,14 +1,15 @@
-// The texts that are stored for points and boxes, written.
+//! The texts that are stored for points and boxes, written.
+
 ghost use Rattle.std.specs.Prelude.{◌≡◌, ◌++◌, ◌∷◌, [], map, OnOk, OnErr, Ok, length, take};
 ghost use Rattle.planar_geom.specs.Points.{InPlane, IsBox};
 ghost use Rattle.planar_geom.specs.declared.shapes.Part.TheVariants.{Spot, Face};
-ghost use Rattle.geo_text.specs.Texts.{position_text, point_text, bounds_text, joined, shape_of, corners as box_corners};
+ghost use Rattle.geo_text.specs.Texts.{position_text, point_text, bounds_text, with_commas, shape_of, corners as box_corners};
 
 use crate::stored::{BOUNDS_HEAD, BOUNDS_TAIL, POINT_HEAD, corners};
 use byte_text::{NoMemory, Text, push_i64};
 use planar_geom::{BBox, Pt};
 
-#[tactic(auto, using(byte_text::proofs::Kept::kept))]
+#[tactic(auto, using(byte_text::specs::TextLaws::kept))]
 fn push_position(into: &mut Text, p: Pt) -> Result<(), NoMemory>
     ensures ok { OnOk result (into.new ≡ into.old ++ position_text p) }
     ensures in_plane { OnOk result (InPlane p) }
@@ -21,7 +22,7 @@ fn push_position(into: &mut Text, p: Pt) -> Result<(), NoMemory>
     into.push(b"]")
 }
 
-#[tactic(auto, using(byte_text::proofs::Kept::kept))]
+#[tactic(auto, using(byte_text::specs::TextLaws::kept))]
 fn push_point_text(into: &mut Text, p: Pt) -> Result<(), NoMemory>
     ensures ok { OnOk result (into.new ≡ into.old ++ point_text p) }
     ensures in_plane { OnOk result (InPlane p) }
@@ -49,9 +50,9 @@ pub fn push_point(into: &mut Text, p: Pt) -> Result<(), NoMemory>
     }
 }
 
-#[tactic(auto, using(byte_text::proofs::Kept::kept))]
+#[tactic(auto, using(byte_text::specs::TextLaws::kept))]
 fn push_corners(into: &mut Text, corners: [Pt; 5]) -> Result<(), NoMemory>
-    ensures ok { OnOk result (into.new ≡ into.old ++ joined (map position_text corners)) }
+    ensures ok { OnOk result (into.new ≡ into.old ++ with_commas (map position_text corners)) }
     ensures kept { take (length into.old) into.new ≡ into.old }
 {
     let [p, q, r, s, t] = corners;
@@ -62,7 +63,7 @@ fn push_corners(into: &mut Text, corners: [Pt; 5]) -> Result<(), NoMemory>
     push_next(into, t)
 }
 
-#[tactic(auto, using(byte_text::proofs::Kept::kept))]
+#[tactic(auto, using(byte_text::specs::TextLaws::kept))]
 fn push_next(into: &mut Text, p: Pt) -> Result<(), NoMemory>
     ensures ok { OnOk result (into.new ≡ into.old ++ 44 ∷ position_text p) }
     ensures kept { take (length into.old) into.new ≡ into.old }
@@ -71,7 +72,7 @@ fn push_next(into: &mut Text, p: Pt) -> Result<(), NoMemory>
     push_position(into, p)
 }
 
-#[tactic(auto, using(byte_text::proofs::Kept::kept))]
+#[tactic(auto, using(byte_text::specs::TextLaws::kept))]
 fn push_bounds_text(into: &mut Text, b: BBox) -> Result<(), NoMemory>
     ensures ok { OnOk result (into.new ≡ into.old ++ bounds_text b) }
     ensures is_box { OnOk result (IsBox b) }

@@ -3,7 +3,7 @@ use Rattle.std.specs.Prelude.{Option, IfSome}
 use Rattle.byte_text.specs.Names.{before}
 use Rattle.world_data.specs.declared.objects.Object.{Object}
 use Rattle.ordered_lists.specs.Reading.{stands_at}
-use Rattle.collection.proofs.Ids.{found_held, found_free, ties}
+use Rattle.collection.specs.IdOrder.{found_held, found_free, ties}
 use Rattle.collection.proofs.collections.Collection.get.Goals as goal
 
 pub returns-in-Ok-clause-some : goal.returns-in-Ok-clause-some

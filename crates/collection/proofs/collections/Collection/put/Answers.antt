@@ -5,7 +5,7 @@ use Rattle.byte_text.specs.Names.{before}
 use Rattle.world_data.specs.declared.objects.Object.{Object}
 use Rattle.collection.specs.Objects.{Held, are_by_id, has_id, has_room}
 use Rattle.collection.specs.Deadlines.{due_count, due_counts}
-use Rattle.collection.proofs.Ids.{found_held, found_free, put_held, put_free, put_by_id, ties}
+use Rattle.collection.specs.IdOrder.{found_held, found_free, put_held, put_free, put_by_id, ties}
 use Rattle.collection.proofs.Counts.{one_of, exchanged, inserted, after_exchange, at_most_all, counts_as, none_any, room_left}
 use Rattle.collection.proofs.collections.Collection.put.Goals as goal
 

@@ -3,7 +3,7 @@ use Rattle.world_data.specs.declared.objects.Object.{Object}
 use Rattle.collection.specs.Objects.{Held, are_by_id}
 use Rattle.collection.specs.Deadlines.{due_count, due_counts}
 use Rattle.ordered_lists.specs.Reading.{stands_at}
-use Rattle.collection.proofs.Ids.{removed_by_id}
+use Rattle.collection.specs.IdOrder.{removed_by_id}
 use Rattle.collection.proofs.Counts.{one_of, removed, after_removal}
 use Rattle.collection.proofs.collections.Collection.take_at.Goals as goal
 

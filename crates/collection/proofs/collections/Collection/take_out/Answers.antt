@@ -3,7 +3,7 @@ use Rattle.std.specs.Prelude.{Option, Some, IfSome, slice_get}
 use Rattle.byte_text.specs.Names.{before}
 use Rattle.world_data.specs.declared.objects.Object.{Object}
 use Rattle.collection.specs.Objects.{Held}
-use Rattle.collection.proofs.Ids.{found_held, found_free, left_held, left_free, ties}
+use Rattle.collection.specs.IdOrder.{found_held, found_free, left_held, left_free, ties}
 use Rattle.collection.proofs.collections.Collection.take_out.Goals as goal
 
 pub take_at-requires : goal.take_at-requires

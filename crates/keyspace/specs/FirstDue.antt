@@ -1,0 +1,63 @@
+-- Where the first object that expires is found.
+use Rattle.std.specs.Prelude.{◌≡◌, ◌<◌, ◌≤◌, ℕ, Bool, true, false, not, ◌&&◌, ◌==◌, nat_lt, nat_le, List, [], ◌∷◌, ◌++◌, length, take, slice_get, Option, Some, None, IfSome, if◌then◌else◌}
+use Rattle.std.specs.List.{list_all, insert, remove}
+use Rattle.byte_text.specs.Names.{Bytes}
+use Rattle.ordered_lists.specs.Lists.{ascends}
+use Rattle.world_data.specs.Worlds.{has_key}
+use Rattle.world_data.specs.declared.objects.Object.{Object}
+use Rattle.collection.specs.Objects.{Held, are_by_id, least_due}
+use Rattle.keyspace.specs.Entries.{Entry, key_before, objects_in}
+
+-- this is the object's deadline
+abbrev pub has_deadline : ℕ → Object → Bool
+has_deadline due o = is_deadline o.deadline
+  where
+    is_deadline : Option ℕ → Bool
+    is_deadline None = false
+    is_deadline (Some d) = d == due
+
+-- there is no deadline, or a later one
+abbrev pub is_later : ℕ → Option ℕ → Bool
+is_later due None = true
+is_later due (Some d) = nat_lt due d
+
+-- there is no deadline, or one that is not sooner
+abbrev pub is_no_sooner : ℕ → Option ℕ → Bool
+is_no_sooner due None = true
+is_no_sooner due (Some d) = nat_le due d
+
+-- the place is the first where the test holds
+pub record IsFirst {A : Type 0} (test : A → Bool) (xs : List A) (at : ℕ) : Type 0 where
+  pub within : at < length xs
+  pub front : list_all (λ x. not (test x)) (take at xs) ≡ true
+  pub here : IfSome (slice_get xs at) (λ x. test x ≡ true)
+
+-- the objects without the first of this deadline
+pub record Took (due : ℕ) (old new : List Object) (o : Object) : Type 0 where
+  pub at : ℕ
+  pub taken : slice_get old at ≡ Some o
+  pub left : new ≡ remove old at
+  pub front : list_all (λ p. not (has_deadline due p)) (take at old) ≡ true
+  pub here : o.deadline ≡ Some due
+
+-- the entry at a place is the first with the least deadline
+pub record IsSoonest (entries : List Entry) (at due : ℕ) : Type 0 where
+  pub front : List Entry
+  pub here : Entry
+  pub back : List Entry
+  pub whole : entries ≡ front ++ here ∷ back
+  pub place : length front ≡ at
+  pub due_here : least_due here.objects ≡ Some due
+  pub later : list_all (λ e. is_later due (least_due e.objects)) front ≡ true
+  pub no_sooner : list_all (λ e. is_no_sooner due (least_due e.objects)) back ≡ true
+
+-- the first entry with the least deadline, where there is a deadline
+abbrev pub Soonest : List Entry → Option (ℕ × ℕ) → Type 0
+Soonest entries None = least_due (objects_in entries) ≡ None
+Soonest entries (Some found) = IsSoonest entries found.0 found.1
+
+-- what is found so far, or the next place where its deadline is sooner
+abbrev pub sooner : Option (ℕ × ℕ) → ℕ → Option ℕ → Option (ℕ × ℕ)
+sooner found at None = found
+sooner None at (Some due) = Some (at, due)
+sooner (Some found) at (Some due) = if nat_lt due found.1 then Some (at, due) else Some found

@@ -1,0 +1,9 @@
+-- Which way a query goes over the objects of a key.
+use Rattle.std.specs.Prelude.{Bool, true, false}
+use Rattle.world_data.specs.declared.queries.Rule.{Rule}
+use Rattle.world_data.specs.declared.queries.Rule.TheVariants.{Down}
+
+-- whether it begins with the greatest id
+abbrev pub is_down : Rule → Bool
+is_down Down = true
+is_down rule = false
