@@ -1,6 +1,6 @@
 -- What is asked for by words that are read, or that are not built yet.
-use Rattle.std.proofs.Common.{◌≡◌, ◌⊎◌, inl, inr, true, false, refl, sym, ◌∙◌, ap, subst, List, [], ◌∷◌, ◌++◌}
-use Rattle.std.specs.Prelude.{Ok, Err, Result, IfOk, IfErr}
+use Rattle.std.proofs.Common.{◌≡◌, ◌⊎◌, inl, inr, Bool, true, false, refl, sym, ◌∙◌, ap, subst, List, [], ◌∷◌, ◌++◌}
+use Rattle.std.specs.Prelude.{Ok, Err, Result, IfOk, IfErr, if◌then◌else◌}
 use Rattle.std.specs.List.{list_any}
 use Rattle.byte_text.specs.Names.{Bytes, is_word}
 use Rattle.world_model.specs.Served.{asks, unbuilt}
@@ -8,7 +8,10 @@ use Rattle.world_model.specs.Commands.{reads}
 use Rattle.world_model.specs.declared.commands.Command.{Command}
 use Rattle.world_model.specs.declared.faults.WordFault.{WordFault}
 use Rattle.world_model.specs.declared.faults.WordFault.TheVariants as fault
-use Rattle.cmd_words.specs.Places.{Place, Answers, IsBehind, all_words, start, answers, answered, IfRefused}
+use Rattle.world_model.specs.Commands.{shown_of}
+use Rattle.cmd_words.specs.CommandNames.{IsNoName}
+use Rattle.cmd_words.proofs.Heads.{not_known}
+use Rattle.cmd_words.specs.Places.{IsFault, fault_of_no_name, Place, Answers, IsBehind, all_words, start, answers, answered, IfRefused}
 use Rattle.cmd_words.specs.declared.faults.CommandFault.{CommandFault}
 use Rattle.cmd_words.specs.declared.faults.CommandFault.TheVariants.{Refused, Memory}
 
@@ -47,3 +50,13 @@ module _ (words : List Bytes) (p q : Place) (w : Bytes) (e : p ≡ start words) 
   err_asked (Err Memory) a = tt
   err_asked (Err (Refused f)) (inl m) = absurd cc
   err_asked (Err (Refused f)) (inr a) = asked ∙ refusal (reads words) f (subst (λ (ws : List Bytes). answers ws ≡ Err (Refused f)) all_are a)
+
+-- the first word is no name of a command that is served
+pub no_name_asked : (words : List Bytes) (p q : Place) (w : Bytes) (why : CommandFault) → p ≡ start words → IsBehind w p q → IsNoName w → IsFault (fault_of_no_name w) why → IfRefused why (λ f. asks words ≡ Err f)
+no_name_asked words p q w why e b n f = by (list_any (is_word w) unbuilt) refl why f
+  where
+    by : (u : Bool) → list_any (is_word w) unbuilt ≡ u → (why : CommandFault) → IsFault (if u then fault.Unserved else fault.Unknown (shown_of w)) why → IfRefused why (λ f. asks words ≡ Err f)
+    by u t Memory f = tt
+    by u t (Refused g) (inl m) = absurd cc
+    by true t (Refused g) (inr s) = let same : g ≡ fault.Unserved = cc in rw same (unbuilt_asks w q.left words (first_of words p q w e b) t)
+    by false t (Refused g) (inr s) = err_asked words p q w e b t (Err (Refused g)) (not_known q w (Refused g) (one_read words p q w e b) n t (inr s))

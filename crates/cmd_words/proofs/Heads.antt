@@ -13,7 +13,8 @@ use Rattle.world_model.specs.declared.faults.WordFault.TheVariants as fault
 use Rattle.cmd_words.proofs.Follows.{stopped, shut_by}
 use Rattle.world_model.specs.declared.commands.Command.{Command}
 use Rattle.world_model.specs.declared.commands.Command.TheVariants as command
-use Rattle.cmd_words.specs.Places.{Place, Follows, Answers, IsFault, all_words, a_name, key_and_id, get_options, stats_names, of_objects, answered}
+use Rattle.cmd_words.specs.CommandNames.{IsNoName}
+use Rattle.cmd_words.specs.Places.{Place, Follows, Answers, IsFault, all_words, a_name, key_and_id, get_options, stats_names, answered}
 use Rattle.cmd_words.specs.Sets.{behind_set, field_step, fields_first, fset_of}
 use Rattle.cmd_words.proofs.Binds.{bind_same}
 use Rattle.cmd_words.proofs.FieldLists.{first_field}
@@ -159,13 +160,9 @@ nothing_goes : (called : Bytes) → is_word called (codes "GET") ≡ false → i
 unfolding readings
 nothing_goes called w_get w_del w_drop w_bounds w_stats w_flushdb w_ping w_quit w_set w_pdel w_fset w_fget w_expire w_persist w_ttl w_keys w_aofshrink w_scan w_within w_intersects w_nearby w_setchan w_delchan w_pdelchan w_chans w_subscribe w_psubscribe = rw (w_get, w_del, w_drop, w_bounds, w_stats, w_flushdb, w_ping, w_quit, w_set, w_pdel, w_fset, w_fget, w_expire, w_persist, w_ttl, w_keys, w_aofshrink, w_scan, w_within, w_intersects, w_nearby, w_setchan, w_delchan, w_pdelchan, w_chans, w_subscribe, w_psubscribe) refl
 
--- the names of the commands that are read, and not about one object
-abbrev pub wider : List Bytes
-wider = codes "PDEL" ∷ codes "DROP" ∷ codes "KEYS" ∷ codes "BOUNDS" ∷ codes "STATS" ∷ codes "FLUSHDB" ∷ codes "PING" ∷ codes "QUIT" ∷ codes "SCAN" ∷ []
+unknown : (called : Bytes) (rest : List Bytes) → IsNoName called → NoneIs called unbuilt → reads (called ∷ rest) ≡ Err (fault.Unknown (shown_of called))
+unknown called rest n u = stopped [] called rest nothing_starts (shut_by (called ∷ []) (nothing_goes called n.1.0 n.1.1.0 n.1.1.1.1.1.1.1.1.1.0 n.1.1.1.1.1.1.1.1.1.1.1.0 n.1.1.1.1.1.1.1.1.1.1.1.1.0 n.1.1.1.1.1.1.1.1.1.1.1.1.1.0 n.1.1.1.1.1.1.1.1.1.1.1.1.1.1.0 n.1.1.1.1.1.1.1.1.1.1.1.1.1.1.1.0 n.0 n.1.1.1.1.1.1.1.1.0 n.1.1.1.0 n.1.1.1.1.0 n.1.1.1.1.1.0 n.1.1.1.1.1.1.0 n.1.1.1.1.1.1.1.0 n.1.1.1.1.1.1.1.1.1.1.0 u.0 n.1.1.1.1.1.1.1.1.1.1.1.1.1.1.1.1.0 u.1.0 u.1.1.0 u.1.1.1.0 u.1.1.1.1.0 u.1.1.1.1.1.0 u.1.1.1.1.1.1.0 u.1.1.1.1.1.1.1.0 u.1.1.1.1.1.1.1.1.0 u.1.1.1.1.1.1.1.1.1.0))
 
-unknown : (called : Bytes) (rest : List Bytes) → NoneIs called of_objects → NoneIs called wider → NoneIs called unbuilt → reads (called ∷ rest) ≡ Err (fault.Unknown (shown_of called))
-unknown called rest o w u = stopped [] called rest nothing_starts (shut_by (called ∷ []) (nothing_goes called o.1.0 o.1.1.0 w.1.0 w.1.1.1.0 w.1.1.1.1.0 w.1.1.1.1.1.0 w.1.1.1.1.1.1.0 w.1.1.1.1.1.1.1.0 o.0 w.0 o.1.1.1.0 o.1.1.1.1.0 o.1.1.1.1.1.0 o.1.1.1.1.1.1.0 o.1.1.1.1.1.1.1.0 w.1.1.0 u.0 w.1.1.1.1.1.1.1.1.0 u.1.0 u.1.1.0 u.1.1.1.0 u.1.1.1.1.0 u.1.1.1.1.1.0 u.1.1.1.1.1.1.0 u.1.1.1.1.1.1.1.0 u.1.1.1.1.1.1.1.1.0 u.1.1.1.1.1.1.1.1.1.0))
-
-pub not_known : (p : Place) (called : Bytes) (why : CommandFault) → p.read ≡ called ∷ [] → list_any (is_word called) of_objects ≡ false → NoneIs called wider → list_any (is_word called) unbuilt ≡ false → IsFault (fault.Unknown (shown_of called)) why → Answers (all_words p) (Err why)
-not_known p called why r o w u (inl m) = inl m
-not_known p called why r o w u (inr e) = inr (rw (e, r) (ap answered (unknown called p.left (none_is called of_objects o) w (none_is called unbuilt u))))
+pub not_known : (p : Place) (called : Bytes) (why : CommandFault) → p.read ≡ called ∷ [] → IsNoName called → list_any (is_word called) unbuilt ≡ false → IsFault (fault.Unknown (shown_of called)) why → Answers (all_words p) (Err why)
+not_known p called why r n u (inl m) = inl m
+not_known p called why r n u (inr e) = inr (rw (e, r) (ap answered (unknown called p.left n (none_is called unbuilt u))))

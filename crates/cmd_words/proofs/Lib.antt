@@ -16,3 +16,4 @@ pub mod Seconds
 pub mod FieldLists
 pub mod NumberLists
 pub mod ScanWords
+pub mod Called

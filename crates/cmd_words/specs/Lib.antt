@@ -3,3 +3,4 @@ pub mod Sets
 pub mod Scans
 pub mod Laws
 pub mod ShortRequests
+pub mod CommandNames

@@ -1,7 +1,9 @@
 -- How far the words of a request were read, and what may follow.
 use Rattle.std.specs.Prelude.{◌&&◌, ◌≡◌, ◌⊎◌, ◌<◌, ◌≤◌, Bool, true, false, List, [], ◌∷◌, ◌++◌, length, Option, Some, None, Result, Ok, Err, codes, ℕ, take, drop, if◌then◌else◌}
 use Rattle.byte_text.specs.Names.{Bytes, is_word, is_name}
+use Rattle.std.specs.List.{list_any}
 use Rattle.byte_text.specs.Globs.{is_well_formed}
+use Rattle.world_model.specs.Served.{unbuilt}
 use Rattle.world_model.specs.Grammar.{Form, Due, a_word, a_coordinate, a_geojson, ◌>>=◌, ◌>>◌, done, maybe, repeated, word, live}
 use Rattle.world_model.specs.Kinds.{name, when}
 use Rattle.world_model.specs.Commands.{readings, reads, as_objects, shown_of, is_fraction, geo_fault_of, wrong_count}
@@ -168,6 +170,6 @@ IsRefusal words (w ∷ left) why = IsFault (fault.Invalid (shown_of w)) why
 abbrev pub glob_of : Bytes → Option Bytes
 glob_of w = when (is_name w && is_well_formed w) w
 
--- the names of the commands that are about one object
-abbrev pub of_objects : List Bytes
-of_objects = codes "SET" ∷ codes "GET" ∷ codes "DEL" ∷ codes "FSET" ∷ codes "FGET" ∷ codes "EXPIRE" ∷ codes "PERSIST" ∷ codes "TTL" ∷ []
+-- how a word is refused that is the name of no command that is served
+abbrev pub fault_of_no_name : Bytes → WordFault
+fault_of_no_name called = if list_any (is_word called) unbuilt then fault.Unserved else fault.Unknown (shown_of called)

@@ -17,8 +17,8 @@ use Rattle.world_model.specs.declared.faults.WordFault.TheVariants as fault
 use Rattle.cmd_words.specs.Places.{Place, all_words, answers, IsBehind, Moves, Follows}
 use Rattle.cmd_words.specs.declared.options.OptionWord.{OptionWord}
 use Rattle.cmd_words.specs.declared.options.OptionWord.TheVariants as option
-use Rattle.cmd_words.specs.declared.places.PlaceWord.{PlaceWord}
-use Rattle.cmd_words.specs.declared.places.PlaceWord.TheVariants as at
+use Rattle.cmd_words.specs.declared.object_places.PlaceWord.{PlaceWord}
+use Rattle.cmd_words.specs.declared.object_places.PlaceWord.TheVariants as at
 use Rattle.cmd_words.specs.declared.faults.CommandFault.{CommandFault}
 use Rattle.cmd_words.specs.declared.faults.CommandFault.TheVariants.{Memory}
 
@@ -113,10 +113,6 @@ TakesPlace old new None = (new ≡ old) × LacksPlace old.left
 abbrev pub ReadsPlace : SetOptions → Place → Place → Result (Bytes × Shape) CommandFault → Type 0
 ReadsPlace o old new (Ok at) = Moves old new × ((next : SetOptions → Bytes × Shape → Form Command) → Follows old (options_and_place o next) → Follows new (next o at))
 ReadsPlace o old new (Err why) = Refuses o old why
-
--- the text has a shape
-abbrev pub IsAccepted : Bytes → Type 0
-IsAccepted text = (shape : Shape) × (shape_of text ≡ Ok shape)
 
 -- what marks a field of this value: 1 where it is 0, and else 0
 abbrev pub mark_of : ℤ → ℤ

@@ -1,13 +1,15 @@
 //! The commands, each read from the words behind its name.
 
-ghost use Rattle.std.specs.Prelude.{◌≡◌, [], ◌∷◌, ◌++◌, false, OnOk, IfOk, IfErr, Ok, Err};
+ghost use Rattle.std.specs.Prelude.{◌≡◌, [], ◌∷◌, ◌++◌, true, OnOk, IfOk, IfErr, Ok, Err};
 ghost use Rattle.std.specs.List.{list_any};
-ghost use Rattle.byte_text.specs.Names.{is_word};
+ghost use Rattle.byte_text.specs.Names.{Bytes, is_word};
 ghost use Rattle.world_model.specs.Grammar.{done};
 ghost use Rattle.world_model.specs.declared.commands.Command.TheVariants as command;
 ghost use Rattle.world_model.specs.Served.{asks, unbuilt};
-ghost use Rattle.cmd_words.specs.Places.{IfRefused, all_words, Follows, Answers, a_name, key_and_id, get_options, stats_names, of_objects};
+ghost use Rattle.cmd_words.specs.CommandNames.{name_of};
+ghost use Rattle.cmd_words.specs.Places.{IfRefused, all_words, Follows, Answers, a_name, key_and_id, get_options, stats_names, IsFault, fault_of_no_name};
 
+use crate::command_names::{CommandName, command_named};
 use crate::faults::{CommandFault, unknown};
 use crate::fields::push_name;
 use crate::objects::{expire_command, fget_command, fset_command, persist_command, ttl_command};
@@ -29,10 +31,10 @@ pub fn command_of(alloc: Global, words: &Request) -> Result<Command, CommandFaul
     let Some(called) = reader.next() else {
         return Err(CommandFault::Refused(WordFault::Unserved));
     };
-    if is_unbuilt(called) {
-        return Err(CommandFault::Refused(WordFault::Unserved));
+    match command_named(called) {
+        Some(name) => read_named(&mut reader, name),
+        None => Err(unnamed(alloc, called)),
     }
-    read_command(&mut reader, called)
 }
 
 // Whether this is one of these names, in any case of its ASCII letters.
@@ -61,71 +63,40 @@ fn is_unbuilt(called: &[u8]) -> bool
     is_any(called, &names)
 }
 
-// The command of this name, or none has it.
-fn read_command(reader: &mut Reader, called: &[u8]) -> Result<Command, CommandFault>
-    requires { reader.old.read ≡ called.now ∷ [] }
-    ensures { list_any (is_word called.now) unbuilt ≡ false → Answers (all_words reader.old) result }
+// How a word is refused that calls no command that is served.
+fn unnamed(alloc: Global, called: &[u8]) -> CommandFault
+    ensures { IsFault (fault_of_no_name called.now) result }
 {
-    if called.eq_ignore_ascii_case(b"SET") {
-        return set_command(reader);
+    if is_unbuilt(called) {
+        CommandFault::Refused(WordFault::Unserved)
+    } else {
+        unknown(alloc, called)
     }
-    if called.eq_ignore_ascii_case(b"GET") {
-        return get_command(reader);
-    }
-    if called.eq_ignore_ascii_case(b"DEL") {
-        return del_command(reader);
-    }
-    if called.eq_ignore_ascii_case(b"FSET") {
-        return fset_command(reader);
-    }
-    if called.eq_ignore_ascii_case(b"FGET") {
-        return fget_command(reader);
-    }
-    if called.eq_ignore_ascii_case(b"EXPIRE") {
-        return expire_command(reader);
-    }
-    if called.eq_ignore_ascii_case(b"PERSIST") {
-        return persist_command(reader);
-    }
-    if called.eq_ignore_ascii_case(b"TTL") {
-        return ttl_command(reader);
-    }
-    read_wider_command(reader, called)
 }
 
-// The command of this name that is about more than one object, or none has it.
-fn read_wider_command(reader: &mut Reader, called: &[u8]) -> Result<Command, CommandFault>
-    requires { reader.old.read ≡ called.now ∷ [] }
-    ensures { list_any (is_word called.now) of_objects ≡ false → list_any (is_word called.now) unbuilt ≡ false → Answers (all_words reader.old) result }
+// Reads the words behind the name of this command.
+fn read_named(reader: &mut Reader, name: CommandName) -> Result<Command, CommandFault>
+    ensures { (called : Bytes) → reader.old.read ≡ called ∷ [] → is_word called (name_of name) ≡ true → Answers (all_words reader.old) result }
 {
-    if called.eq_ignore_ascii_case(b"PDEL") {
-        return pdel_command(reader);
+    match name {
+        CommandName::Set => set_command(reader),
+        CommandName::Get => get_command(reader),
+        CommandName::Del => del_command(reader),
+        CommandName::Fset => fset_command(reader),
+        CommandName::Fget => fget_command(reader),
+        CommandName::Expire => expire_command(reader),
+        CommandName::Persist => persist_command(reader),
+        CommandName::Ttl => ttl_command(reader),
+        CommandName::Pdel => pdel_command(reader),
+        CommandName::Drop => drop_command(reader),
+        CommandName::Keys => keys_command(reader),
+        CommandName::Bounds => bounds_command(reader),
+        CommandName::Stats => stats_command(reader),
+        CommandName::Flush => flush_command(reader),
+        CommandName::Ping => ping_command(reader),
+        CommandName::Quit => quit_command(reader),
+        CommandName::Scan => scan_command(reader),
     }
-    if called.eq_ignore_ascii_case(b"DROP") {
-        return drop_command(reader);
-    }
-    if called.eq_ignore_ascii_case(b"KEYS") {
-        return keys_command(reader);
-    }
-    if called.eq_ignore_ascii_case(b"BOUNDS") {
-        return bounds_command(reader);
-    }
-    if called.eq_ignore_ascii_case(b"STATS") {
-        return stats_command(reader);
-    }
-    if called.eq_ignore_ascii_case(b"FLUSHDB") {
-        return flush_command(reader);
-    }
-    if called.eq_ignore_ascii_case(b"PING") {
-        return ping_command(reader);
-    }
-    if called.eq_ignore_ascii_case(b"QUIT") {
-        return quit_command(reader);
-    }
-    if called.eq_ignore_ascii_case(b"SCAN") {
-        return scan_command(reader);
-    }
-    Err(unknown(reader.alloc(), called))
 }
 
 // `key id [WITHFIELDS] [OBJECT | POINT | BOUNDS]`

@@ -1,16 +1,17 @@
 //! The words of requests, read as commands.
 #![tactic(auto)]
 
+mod command_names;
 mod commands;
 mod conditions;
 mod faults;
 mod fields;
 mod kinds;
 mod laws;
+mod object_places;
 mod objects;
 mod options;
 mod patterns;
-mod places;
 mod readers;
 mod scans;
 mod sets;

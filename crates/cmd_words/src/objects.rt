@@ -58,7 +58,8 @@ fn push_field(given: &mut Vec<(Name, i64)>, field: (Name, i64)) -> Result<(), Co
 
 /// `key id field`
 pub(crate) fn fget_command(reader: &mut Reader) -> Result<Command, CommandFault>
-    ensures { Follows reader.old (key_and_id (λ k. a_form kinds.name (λ field. done (command.Fget k.0 k.1 field)))) → Answers (all_words reader.old) result }
+    ensures { Follows reader.old (key_and_id (λ k. a_form kinds.name (λ field. done (command.Fget k.0 k.1 field))))
+        → Answers (all_words reader.old) result }
 {
     let (key, id) = reader.key_and_id()?;
     let field = reader.name()?;
@@ -68,7 +69,8 @@ pub(crate) fn fget_command(reader: &mut Reader) -> Result<Command, CommandFault>
 
 /// `key id seconds`
 pub(crate) fn expire_command(reader: &mut Reader) -> Result<Command, CommandFault>
-    ensures { Follows reader.old (key_and_id (λ k. a_form kinds.seconds (λ s. done (command.Expire k.0 k.1 s)))) → Answers (all_words reader.old) result }
+    ensures { Follows reader.old (key_and_id (λ k. a_form kinds.seconds (λ s. done (command.Expire k.0 k.1 s))))
+        → Answers (all_words reader.old) result }
 {
     let (key, id) = reader.key_and_id()?;
     let seconds = reader.seconds()?;

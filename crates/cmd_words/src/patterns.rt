@@ -12,7 +12,8 @@ use world_model::Command;
 
 /// `key pattern`
 pub(crate) fn pdel_command(reader: &mut Reader) -> Result<Command, CommandFault>
-    ensures { Follows reader.old (a_name (λ key. a_form kinds.glob (λ pattern. done (command.Pdel key pattern)))) → Answers (all_words reader.old) result }
+    ensures { Follows reader.old (a_name (λ key. a_form kinds.glob (λ pattern. done (command.Pdel key pattern))))
+        → Answers (all_words reader.old) result }
 {
     let key = reader.name()?;
     let glob = reader.glob()?;

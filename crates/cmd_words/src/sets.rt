@@ -6,8 +6,8 @@ ghost use Rattle.cmd_words.specs.Sets.{behind_set, set_of};
 
 use crate::faults::CommandFault;
 use crate::fields::fields_of;
+use crate::object_places::read_place;
 use crate::options::{SetOptions, read_options};
-use crate::places::read_place;
 use crate::readers::Reader;
 use byte_text::{Name, Text};
 use planar_geom::Shape;

@@ -11,7 +11,7 @@ ghost use Rattle.cmd_words.specs.Places.{IsOne, IsFault, due_fault, name_of, glo
 ghost use Rattle.cmd_words.specs.Sets.{integer_of, coordinate_of, object_of};
 
 use crate::faults::{CommandFault, fraction, invalid, text};
-use byte_text::{Name, Text, TextFault, read_i64, read_u64};
+use byte_text::{Name, NameFault, Text, read_i64, read_u64};
 use geojson_model::{ShapeFault, shape_of};
 use glob_match::well_formed;
 use planar_geom::{MAX_COORD, Shape};
@@ -24,8 +24,8 @@ pub(crate) fn read_name(alloc: Global, word: &[u8]) -> Result<Name, CommandFault
 {
     match Name::of(alloc, word) {
         Ok(name) => Ok(name),
-        Err(TextFault::Memory) => Err(CommandFault::Memory),
-        Err(_) => Err(invalid(alloc, word)),
+        Err(NameFault::Refused(_)) => Err(invalid(alloc, word)),
+        Err(NameFault::Memory) => Err(CommandFault::Memory),
     }
 }
 

@@ -53,9 +53,13 @@ impl ItemFrames {
     /// before then, and for want of memory.
     pub fn push_object(&mut self, query: &Query, object: &Object) -> Result<(), ReplyFault>
         requires shown { query.now.shown ≢ Shown.Count }
-        ensures ok { OnOk result (self.new ≡ record { text = self.old.text ++ frame_text (item_reply query.now object.now); count = self.old.count + 1 }) }
+        ensures ok { OnOk result (self.new ≡ record {
+          text = self.old.text ++ frame_text (item_reply query.now object.now);
+          count = self.old.count + 1;
+        }) }
         ensures short { OnOk result (length self.new.text ≤ max_reply) }
-        ensures too_long { IfErr result (λ f. f ≡ ReplyFault.TooLong → max_reply < length (self.old.text ++ frame_text (item_reply query.now object.now))) }
+        ensures too_long { IfErr result (λ f. f ≡ ReplyFault.TooLong
+            → max_reply < length (self.old.text ++ frame_text (item_reply query.now object.now))) }
         ensures err { OnErr result (self.new ≡ self.old) }
     {
         let item = item_reply(self.alloc, query, object)?;
@@ -89,9 +93,11 @@ impl ItemFrames {
 
     /// The frame of the array of the items (RESP2). TooLong where it has more than [`MAX_REPLY`] bytes.
     pub fn array(self, alloc: Global) -> Result<Text, ReplyFault>
-        ensures ok { IfOk result (λ frame. (items : List (List Piece)) → self.text ≡ frame_text (flat_map (λ r. r) items) → self.count ≡ length items → frame ≡ frame_text (array items)) }
+        ensures ok { IfOk result (λ frame. (items : List (List Piece)) → self.text ≡ frame_text (flat_map (λ r. r) items)
+            → self.count ≡ length items → frame ≡ frame_text (array items)) }
         ensures short { IfOk result (λ frame. length frame ≤ max_reply) }
-        ensures too_long { IfErr result (λ f. f ≡ ReplyFault.TooLong → (items : List (List Piece)) → self.text ≡ frame_text (flat_map (λ r. r) items) → self.count ≡ length items → max_reply < length (frame_text (array items))) }
+        ensures too_long { IfErr result (λ f. f ≡ ReplyFault.TooLong → (items : List (List Piece))
+            → self.text ≡ frame_text (flat_map (λ r. r) items) → self.count ≡ length items → max_reply < length (frame_text (array items))) }
     {
         let mut head = Text::new(alloc);
         push_head(&mut head, self.count)?;
@@ -101,9 +107,12 @@ impl ItemFrames {
     /// The frame of a page (RESP2): an array of where the next page begins, and of the array of the items. TooLong where it has
     /// more than [`MAX_REPLY`] bytes.
     pub fn page(self, alloc: Global, cursor: u64) -> Result<Text, ReplyFault>
-        ensures ok { IfOk result (λ frame. (items : List (List Piece)) → self.text ≡ frame_text (flat_map (λ r. r) items) → self.count ≡ length items → frame ≡ frame_text (array (number cursor ∷ array items ∷ []))) }
+        ensures ok { IfOk result (λ frame. (items : List (List Piece)) → self.text ≡ frame_text (flat_map (λ r. r) items)
+            → self.count ≡ length items → frame ≡ frame_text (array (number cursor ∷ array items ∷ []))) }
         ensures short { IfOk result (λ frame. length frame ≤ max_reply) }
-        ensures too_long { IfErr result (λ f. f ≡ ReplyFault.TooLong → (items : List (List Piece)) → self.text ≡ frame_text (flat_map (λ r. r) items) → self.count ≡ length items → max_reply < length (frame_text (array (number cursor ∷ array items ∷ [])))) }
+        ensures too_long { IfErr result (λ f. f ≡ ReplyFault.TooLong → (items : List (List Piece))
+            → self.text ≡ frame_text (flat_map (λ r. r) items) → self.count ≡ length items
+            → max_reply < length (frame_text (array (number cursor ∷ array items ∷ [])))) }
     {
         let mut head = Text::new(alloc);
         push_head(&mut head, 2)?;

@@ -62,7 +62,9 @@ pub fn get_reply(
     with_fields: bool,
     shown: Shown,
 ) -> Result<Reply, NoMemory>
-    ensures value { IfOk result (λ reply. reply ≡ (if with_fields then array (object_pieces shown object.now ∷ fields_reply object.now.fields ∷ []) else object_pieces shown object.now)) }
+    ensures value { IfOk result (λ reply. reply ≡ (if with_fields
+        then array (object_pieces shown object.now ∷ fields_reply object.now.fields ∷ [])
+        else object_pieces shown object.now)) }
     ensures frame { shown ≢ Shown.Count → IfOk result IsFrame }
 {
     lists_are_whole();
@@ -145,7 +147,8 @@ pub fn bounds_reply(alloc: Global, bounds: Option<BBox>) -> Result<Reply, NoMemo
 /// How many objects a key has, and how many positions these have; the null array where it has no object. Counts beyond the
 /// integers of RESP2 have room in no memory.
 pub fn stats_reply(alloc: Global, objects: u64, points: u64) -> Result<Reply, NoMemory>
-    ensures value { (list : List Object) → objects ≡ length list → points ≡ sum_by (λ o. positions o.shape) list → IfOk result (λ reply. reply ≡ stats_of_key list) }
+    ensures value { (list : List Object) → objects ≡ length list → points ≡ sum_by (λ o. positions o.shape) list
+        → IfOk result (λ reply. reply ≡ stats_of_key list) }
     ensures frame { IfOk result IsFrame }
 {
     let mut draft = Draft::new(alloc);

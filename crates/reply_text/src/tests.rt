@@ -217,10 +217,7 @@ fn plain_replies(rt: HostRuntime) -> Result<(), Fail> {
         b"-ERR database is full\r\n".as_slice()
     );
     let other = error_reply(alloc, b"other")?;
-    assert_eq!(rt;
-        line(alloc, &other)?.bytes(),
-        b"-ERR other\r\n".as_slice()
-    );
+    assert_eq!(rt; line(alloc, &other)?.bytes(), b"-ERR other\r\n".as_slice());
     let broken = broken_reply(alloc, RespFault::BadLength)?;
     assert_eq!(rt;
         line(alloc, &broken)?.bytes(),

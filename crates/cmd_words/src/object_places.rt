@@ -1,16 +1,16 @@
 //! The place that SET puts an object at.
 
-ghost use Rattle.std.specs.Prelude.{◌≡◌, [], ◌∷◌, Ok, IfOk, IfErr};
-ghost use Rattle.geo_text.specs.Texts.{point_text, bounds_text, shape_of as accepted_shape, corners as box_corners};
+ghost use Rattle.std.specs.Prelude.{◌≡◌, [], ◌∷◌, IfOk, IfErr};
+ghost use Rattle.geo_text.specs.Texts.{point_text, bounds_text, corners as box_corners};
 ghost use Rattle.planar_geom.specs.declared.shapes.Part.TheVariants.{Spot, Face};
 ghost use Rattle.world_model.specs.Commands.{SetOptions};
-ghost use Rattle.cmd_words.specs.Sets.{LacksOption, TakesPlace, ReadsPlace, IsAccepted};
+ghost use Rattle.cmd_words.specs.Sets.{LacksOption, TakesPlace, ReadsPlace};
 
 use crate::faults::CommandFault;
 use crate::readers::Reader;
-use byte_text::{NoMemory, Text};
-use geojson_model::{ShapeFault, push_bounds, push_point, shape_of};
-use planar_geom::{BBox, Part, Parts, Pt, Shape};
+use byte_text::Text;
+use geojson_model::{push_bounds, push_point};
+use planar_geom::{BBox, Pt, Shape};
 use std::alloc::Global;
 
 /// The word that a place begins with.
@@ -61,9 +61,12 @@ fn point_object(alloc: Global, at: Pt) -> Result<(Text, Shape), CommandFault>
     ensures err { IfErr result (λ why. why ≡ CommandFault.Memory) }
 {
     let mut text = Text::new(alloc);
-    match push_point(&mut text, at) {
-        Ok(()) => stored(alloc, text),
-        Err(NoMemory) => Err(CommandFault::Memory),
+    let Ok(()) = push_point(&mut text, at) else {
+        return Err(CommandFault::Memory);
+    };
+    match Shape::point(alloc, at) {
+        Ok(shape) => Ok((text, shape)),
+        Err(_) => Err(CommandFault::Memory),
     }
 }
 
@@ -73,21 +76,11 @@ fn bounds_object(alloc: Global, bounds: BBox) -> Result<(Text, Shape), CommandFa
     ensures err { IfErr result (λ why. why ≡ CommandFault.Memory) }
 {
     let mut text = Text::new(alloc);
-    match push_bounds(&mut text, bounds) {
-        Ok(()) => stored(alloc, text),
-        Err(NoMemory) => Err(CommandFault::Memory),
-    }
-}
-
-// The text that is stored for a place, which is accepted, and its shape.
-fn stored(alloc: Global, text: Text) -> Result<(Text, Shape), CommandFault>
-    requires { IsAccepted text }
-    ensures ok { IfOk result (λ t. (t.0 ≡ text) × (accepted_shape text ≡ Ok t.1)) }
-    ensures err { IfErr result (λ why. why ≡ CommandFault.Memory) }
-{
-    match shape_of(alloc, text.bytes()) {
+    let Ok(()) = push_bounds(&mut text, bounds) else {
+        return Err(CommandFault::Memory);
+    };
+    match Shape::rect(alloc, bounds) {
         Ok(shape) => Ok((text, shape)),
-        Err(ShapeFault::Memory) => Err(CommandFault::Memory),
-        Err(_) => unreachable!(),
+        Err(_) => Err(CommandFault::Memory),
     }
 }

@@ -1,6 +1,6 @@
 use Rattle.std.proofs.lemmas.Result.{err_from_is_err_and}
 use Rattle.cmd_words.proofs.OptionWords.{point_read, point_refused, bounds_read, bounds_refused, object_read, made_read, nothing_next}
-use Rattle.cmd_words.proofs.places.read_place.Goals as goal
+use Rattle.cmd_words.proofs.object_places.read_place.Goals as goal
 
 pub returns-in_err-at-in-Some-Point : goal.returns-in_err-at-in-Some-Point
 returns-in_err-at-in-Some-Point c =

@@ -1,0 +1,53 @@
+use Rattle.cmd_words.proofs.Heads.{set_head, get_head, del_head, fset_head, fget_head, expire_head, persist_head, ttl_head, pdel_head, drop_head, keys_head, bounds_head, stats_head, flush_head, ping_head, quit_head, scan_head}
+use Rattle.cmd_words.proofs.commands.read_named.Goals as goal
+
+pub returns-in-Set : goal.returns-in-Set
+returns-in-Set c = λ called read named. c.set_command.ensures (set_head called c.args.reader.now read (rw c.in-Set.is at named))
+
+pub returns-in-Get : goal.returns-in-Get
+returns-in-Get c = λ called read named. c.get_command.ensures (get_head called c.args.reader.now read (rw c.in-Get.is at named))
+
+pub returns-in-Del : goal.returns-in-Del
+returns-in-Del c = λ called read named. c.del_command.ensures (del_head called c.args.reader.now read (rw c.in-Del.is at named))
+
+pub returns-in-Fset : goal.returns-in-Fset
+returns-in-Fset c = λ called read named. c.fset_command.ensures (fset_head called c.args.reader.now read (rw c.in-Fset.is at named))
+
+pub returns-in-Fget : goal.returns-in-Fget
+returns-in-Fget c = λ called read named. c.fget_command.ensures (fget_head called c.args.reader.now read (rw c.in-Fget.is at named))
+
+pub returns-in-Expire : goal.returns-in-Expire
+returns-in-Expire c = λ called read named. c.expire_command.ensures (expire_head called c.args.reader.now read (rw c.in-Expire.is at named))
+
+pub returns-in-Persist : goal.returns-in-Persist
+returns-in-Persist c = λ called read named. c.persist_command.ensures (persist_head called c.args.reader.now read (rw c.in-Persist.is at named))
+
+pub returns-in-Ttl : goal.returns-in-Ttl
+returns-in-Ttl c = λ called read named. c.ttl_command.ensures (ttl_head called c.args.reader.now read (rw c.in-Ttl.is at named))
+
+pub returns-in-Pdel : goal.returns-in-Pdel
+returns-in-Pdel c = λ called read named. c.pdel_command.ensures (pdel_head called c.args.reader.now read (rw c.in-Pdel.is at named))
+
+pub returns-in-Drop : goal.returns-in-Drop
+returns-in-Drop c = λ called read named. c.drop_command.ensures (drop_head called c.args.reader.now read (rw c.in-Drop.is at named))
+
+pub returns-in-Keys : goal.returns-in-Keys
+returns-in-Keys c = λ called read named. c.keys_command.ensures (keys_head called c.args.reader.now read (rw c.in-Keys.is at named))
+
+pub returns-in-Bounds : goal.returns-in-Bounds
+returns-in-Bounds c = λ called read named. c.bounds_command.ensures (bounds_head called c.args.reader.now read (rw c.in-Bounds.is at named))
+
+pub returns-in-Stats : goal.returns-in-Stats
+returns-in-Stats c = λ called read named. c.stats_command.ensures (stats_head called c.args.reader.now read (rw c.in-Stats.is at named))
+
+pub returns-in-Flush : goal.returns-in-Flush
+returns-in-Flush c = λ called read named. c.flush_command.ensures (flush_head called c.args.reader.now read (rw c.in-Flush.is at named))
+
+pub returns-in-Ping : goal.returns-in-Ping
+returns-in-Ping c = λ called read named. c.ping_command.ensures (ping_head called c.args.reader.now read (rw c.in-Ping.is at named))
+
+pub returns-in-Quit : goal.returns-in-Quit
+returns-in-Quit c = λ called read named. c.quit_command.ensures (quit_head called c.args.reader.now read (rw c.in-Quit.is at named))
+
+pub returns-in-Scan : goal.returns-in-Scan
+returns-in-Scan c = λ called read named. c.scan_command.ensures (scan_head called c.args.reader.now read (rw c.in-Scan.is at named))

@@ -1,0 +1,35 @@
+-- The names of the commands that are served.
+use Rattle.std.specs.Prelude.{◌≡◌, false, List, [], ◌∷◌, codes}
+use Rattle.std.specs.List.{AllByRecursion}
+use Rattle.byte_text.specs.Names.{Bytes, is_word}
+use Rattle.cmd_words.specs.declared.command_names.CommandName.{CommandName}
+use Rattle.cmd_words.specs.declared.command_names.CommandName.TheVariants as command
+
+abbrev pub name_of : CommandName → Bytes
+name_of command.Set = codes "SET"
+name_of command.Get = codes "GET"
+name_of command.Del = codes "DEL"
+name_of command.Fset = codes "FSET"
+name_of command.Fget = codes "FGET"
+name_of command.Expire = codes "EXPIRE"
+name_of command.Persist = codes "PERSIST"
+name_of command.Ttl = codes "TTL"
+name_of command.Pdel = codes "PDEL"
+name_of command.Drop = codes "DROP"
+name_of command.Keys = codes "KEYS"
+name_of command.Bounds = codes "BOUNDS"
+name_of command.Stats = codes "STATS"
+name_of command.Flush = codes "FLUSHDB"
+name_of command.Ping = codes "PING"
+name_of command.Quit = codes "QUIT"
+name_of command.Scan = codes "SCAN"
+
+abbrev pub all_names : List CommandName
+all_names = command.Set ∷ command.Get ∷ command.Del ∷ command.Fset ∷ command.Fget ∷ command.Expire ∷ command.Persist ∷ command.Ttl ∷ command.Pdel ∷ command.Drop ∷ command.Keys ∷ command.Bounds ∷ command.Stats ∷ command.Flush ∷ command.Ping ∷ command.Quit ∷ command.Scan ∷ []
+
+-- the word is the name of none of these commands
+abbrev pub AreOthers : Bytes → List CommandName → Type 0
+AreOthers called commands = AllByRecursion (λ c. is_word called (name_of c) ≡ false) commands
+
+abbrev pub IsNoName : Bytes → Type 0
+IsNoName called = AreOthers called all_names
