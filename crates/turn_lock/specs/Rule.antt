@@ -1,7 +1,7 @@
 -- The rule of the lock, which holds between any two atomic steps.
 -- Word 0 is 1 while the lock is free and 0 while a seat has it, and slot 0 is the value's.
 -- Each other word is that of a place, whose slot has the same number: 0 empty, 1 claimed, 2 to 5 posted, 6 done.
-use Rattle.std.specs.Prelude.{◌≡◌, ℕ, ◌<◌, ◌≤◌, ◌⊎◌, Bool, true, false, List, [], ◌∷◌, ◌++◌, length, slice_index, slice_get, Option, None, Some}
+use Rattle.std.specs.Prelude.{◌≡◌, ℕ, ◌<◌, ◌≤◌, ◌⊎◌, Bool, true, false, List, [], ◌++◌, length, slice_index, slice_get, Option, None, Some}
 use mathlib.Core.Option.{Option as Maybe, none, some}
 use mathlib.Core.List.{IsPrefix}
 use lib.ListN.{get_elem?}

@@ -1,7 +1,12 @@
 //! The lock and its seats go from thread to thread.
 
+ghost use Rattle.std.specs.Prelude.{IfOk};
+ghost use Rattle.turn_lock.specs.Lock.{IsSeatOf};
+
 use crate::{Seat, TurnLock, Turned, Work};
+use std::alloc::{AllocError, Global};
 use std::collections::{BTreeMap, VecDeque};
+use std::test::Fail;
 
 // Rings, vectors and a tree.
 #[derive(Drop)]
@@ -60,18 +65,25 @@ fn crosses<T: Turned + Send>(lock: &TurnLock<T>, seat: &Seat<T>) {
     is_sent(seat);
 }
 
+fn lock_over(alloc: Global, store: Store) -> Result<(TurnLock<Store>, Seat<Store>), Fail>
+    ensures { IfOk result (λ r. IsSeatOf (λ _. tt) r.0 r.1) }
+{
+    match TurnLock::new(alloc, store) {
+        Ok(made) => Ok(made),
+        Err(_store) => Err(Fail::from(AllocError)),
+    }
+}
+
 #[test]
-fn a_store_crosses_threads(rt: HostRuntime) {
+fn a_store_crosses_threads(rt: HostRuntime) -> Result<(), Fail> {
     let alloc = rt.alloc();
     let store = Store {
         rings: Vec::new(alloc),
         rows: Vec::new(alloc),
         tree: BTreeMap::new(alloc),
     };
-    let made = TurnLock::new(alloc, store);
-    assert!(rt; made.is_ok());
-    if let Ok((lock, mut seat)) = made {
-        crosses(&lock, &seat);
-        assert_eq!(rt; lock.turn(&rt, &mut seat, Count), (0, 0, 0));
-    }
+    let (lock, mut seat) = lock_over(alloc, store)?;
+    crosses(&lock, &seat);
+    assert_eq!(rt; lock.turn(&rt, &mut seat, Count), (0, 0, 0));
+    Ok(())
 }
