@@ -1,7 +1,8 @@
 #!/bin/sh
 # Measures how many turns a second the lock takes, beside one whose waiters all sleep on one word: with 1, 4, 50 and 200 threads,
 # which make so many turns together, each of about a microsecond of work.
-# Usage: bench/lock.sh [N]   N turns in all, 40000 if left out. Each line tells the threads, and the turns a second of both.
+# Usage: bench/lock.sh [N]   N turns in all, 40000 if left out. Each line tells the threads, and the turns a second of both. The
+# program is proved before it is built, which takes some minutes.
 set -eu
 cd "$(dirname "$0")/.."
 turns=${1:-40000}
@@ -20,12 +21,16 @@ cat > "$work/crates/lock_bench/src/main.rt" <<'PROGRAM'
 //! Turns a second of the lock, and of one whose waiters all sleep on one word.
 #![tactic(auto)]
 
+ghost use Rattle.std.specs.Prelude.{IfOk};
+ghost use Rattle.std.specs.Arc.{arc_value};
+ghost use Rattle.turn_lock.specs.Lock.{IsSeatOf};
+
 use anyhow::Result;
-use std::alloc::Global;
+use std::alloc::{AllocError, Global};
 use std::hint::spin_loop;
 use std::sync::atomic::{AtomicU64, Ordering};
 use std::sync::{Arc, Mutex, Wait};
-use std::thread::{self, Threads};
+use std::thread::{self, JoinHandle, Threads};
 use std::time::Instant;
 use turn_lock::{Seat, TurnLock, Turned, Work};
 
@@ -90,6 +95,14 @@ struct OneWord {
 }
 
 impl OneWord {
+    fn new() -> OneWord {
+        OneWord {
+            drawn: AtomicU64::new(0),
+            served: AtomicU64::new(0),
+            value: Mutex::new(1),
+        }
+    }
+
     fn turn<R: Wait>(&self, rt: &R) {
         let ticket = self.drawn.fetch_add(1, Ordering::SeqCst);
         let mut spins = 0;
@@ -113,20 +126,56 @@ impl OneWord {
     }
 }
 
-fn places<R: Wait + Threads + Copy + Send + 'static>(rt: R, alloc: Global, threads: u64, each: u64) -> Result<()> {
-    let Ok((lock, mut seat)) = TurnLock::new(alloc, Sum { value: 1 }) else {
-        return Ok(());
-    };
+// Makes so many turns.
+fn take_turns<R: Wait>(rt: &R, lock: &TurnLock<Sum>, seat: &mut Seat<Sum>, each: u64)
+    requires { IsSeatOf (λ _. tt) lock.now seat.old }
+    ensures { IsSeatOf (λ _. tt) lock.now seat.new }
+{
+    for _ in 0..each {
+        lock.turn(rt, seat, Mix);
+    }
+}
+
+fn start<R: Wait + Threads + Copy + Send + 'static>(
+    rt: R,
+    lock: &Arc<TurnLock<Sum>>,
+    seat: &mut Seat<Sum>,
+    each: u64,
+) -> Result<JoinHandle<()>>
+    requires { IsSeatOf (λ _. tt) (arc_value lock.now) seat.old }
+    ensures { IsSeatOf (λ _. tt) (arc_value lock.now) seat.new }
+{
+    let mut own = lock.split(seat);
+    let theirs = Arc::try_clone(lock)?;
+    let child = thread::spawn(
+        &rt,
+        move || -> ()
+            requires { IsSeatOf (λ _. tt) (arc_value theirs) own }
+        { take_turns(&rt, &theirs, &mut own, each) },
+    )?;
+    Ok(child)
+}
+
+fn lock_over(alloc: Global, value: u64) -> Result<(TurnLock<Sum>, Seat<Sum>), AllocError>
+    ensures { IfOk result (λ r. IsSeatOf (λ _. tt) r.0 r.1) }
+{
+    match TurnLock::new(alloc, Sum { value }) {
+        Ok(made) => Ok(made),
+        Err(_sum) => Err(AllocError),
+    }
+}
+
+fn places<R: Wait + Threads + Copy + Send + 'static>(
+    rt: R,
+    alloc: Global,
+    threads: u64,
+    each: u64,
+) -> Result<()> {
+    let (lock, mut seat) = lock_over(alloc, 1)?;
     let lock = Arc::new(alloc, lock)?;
     let mut children = Vec::new(alloc);
     for _ in 0..threads {
-        let theirs = Arc::try_clone(&lock)?;
-        let mut own = lock.split(&mut seat);
-        children.push(thread::spawn(&rt, move || {
-            for _ in 0..each {
-                theirs.turn(&rt, &mut own, Mix);
-            }
-        })?)?;
+        children.push(start(rt, &lock, &mut seat, each)?)?;
     }
     while let Some(child) = children.pop() {
         child.join(&rt);
@@ -134,21 +183,23 @@ fn places<R: Wait + Threads + Copy + Send + 'static>(rt: R, alloc: Global, threa
     Ok(())
 }
 
-fn one_word<R: Wait + Threads + Copy + Send + 'static>(rt: R, alloc: Global, threads: u64, each: u64) -> Result<()> {
-    let lock = OneWord {
-        drawn: AtomicU64::new(0),
-        served: AtomicU64::new(0),
-        value: Mutex::new(1),
-    };
-    let lock = Arc::new(alloc, lock)?;
+fn take_tickets<R: Wait>(rt: &R, lock: &OneWord, each: u64) {
+    for _ in 0..each {
+        lock.turn(rt);
+    }
+}
+
+fn one_word<R: Wait + Threads + Copy + Send + 'static>(
+    rt: R,
+    alloc: Global,
+    threads: u64,
+    each: u64,
+) -> Result<()> {
+    let lock = Arc::new(alloc, OneWord::new())?;
     let mut children = Vec::new(alloc);
     for _ in 0..threads {
         let theirs = Arc::try_clone(&lock)?;
-        children.push(thread::spawn(&rt, move || {
-            for _ in 0..each {
-                theirs.turn(&rt);
-            }
-        })?)?;
+        children.push(thread::spawn(&rt, move || take_tickets(&rt, &theirs, each))?)?;
     }
     while let Some(child) = children.pop() {
         child.join(&rt);
@@ -173,6 +224,34 @@ fn main(rt: HostRuntime) -> Result<()> {
     Ok(())
 }
 PROGRAM
+proofs=$work/crates/lock_bench/proofs
+mkdir -p "$proofs/take_turns" "$proofs/places" "$proofs/one_word"
+cat > "$proofs/take_turns/Invariants.antt" <<'PROOF'
+use Rattle.turn_lock.specs.Lock.{IsSeatOf}
+use Rattle.lock_bench.proofs.take_turns.Given as goal
+
+abbrev pub invariant-loop : goal.invariant-loop
+invariant-loop g l = IsSeatOf (λ _. tt) l.lock l.seat
+PROOF
+cat > "$proofs/places/Invariants.antt" <<'PROOF'
+use Rattle.std.proofs.Common.{length}
+use Rattle.turn_lock.specs.Lock.{IsSeatOf}
+use Rattle.lock_bench.proofs.places.Given as goal
+
+abbrev pub invariant-loop : goal.invariant-loop
+invariant-loop g l = IsSeatOf (λ _. tt) l.lock.value l.seat
+
+abbrev pub decreases-loop-child : goal.decreases-loop-child
+decreases-loop-child g l = length l.children.items
+PROOF
+cat > "$proofs/one_word/Invariants.antt" <<'PROOF'
+use Rattle.std.proofs.Common.{length}
+use Rattle.lock_bench.proofs.one_word.Given as goal
+
+abbrev pub decreases-loop-child : goal.decreases-loop-child
+decreases-loop-child g l = length l.children.items
+PROOF
 sed -i "s/TURNS/${turns}u64/" "$work/crates/lock_bench/src/main.rt"
+(cd "$work/crates/turn_lock" && rt lib) > "$work/log" 2>&1 || { cat "$work/log" >&2; exit 1; }
 cd "$work/crates/lock_bench"
-rt try 2> "$work/errors" || { cat "$work/errors" >&2; exit 1; }
+rt run 2> "$work/log" || { cat "$work/log" >&2; exit 1; }
