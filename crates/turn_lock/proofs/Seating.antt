@@ -1,118 +1,213 @@
 -- The first seat, a split and a join keep the rule.
-use Rattle.std.proofs.Common.{◌≡◌, ◌≢◌, ◌⊎◌, ℕ, zero, suc, Bool, true, List, [], ◌∷◌, ◌++◌, length, set, get_or, refl, sym, ap, ◌∙◌, subst, inl, inr, ⊎_elim, arith}
-use Rattle.std.specs.Prelude.{Option, Some}
-use mathlib.Core.Option.{some, none, some-injective, some-ne-none}
+use Rattle.std.proofs.Common.{◌≡◌, ◌≢◌, ℕ, zero, suc, ◌<◌, Bool, true, List, [], ◌∷◌, ◌++◌, length, map, set, get_or, refl, sym, ap, ◌∙◌, subst, inl, inr, ⊎_elim, arith}
+use Rattle.std.specs.Prelude.{Some, None, replicate}
+use mathlib.Core.Option.{some, some-injective, some-ne-none}
+use mathlib.Core.Logic.{dite}
+use native.Mathlib.Decide.{ℕ_discrete}
 use mathlib.Core.List.{IsPrefix}
 use lib.ListN.{get_elem?}
-use Rattle.atomic_table.specs.Table.{Me, step, keeps, Allows, Splits, Joins, opening}
-use Rattle.atomic_table.proofs.Lists.{set_else, set_again, at_longer}
+use Rattle.atomic_table.specs.Table.{Splits, Joins, opening}
+use Rattle.atomic_table.proofs.Lists.{set_here, set_else, set_again, at_longer}
 use Rattle.turn_lock.specs.declared.seat.View.{View}
-use Rattle.turn_lock.specs.declared.seat.Stage.TheVariants.{Idle, Works}
+use Rattle.turn_lock.specs.declared.seat.Held.TheVariants.{Asked}
+use Rattle.turn_lock.specs.declared.seat.Stage.TheVariants.{Opens, Idle, Works}
+use Rattle.turn_lock.specs.declared.seat.Hand.TheVariants.{Empty, Holds}
+use Rattle.turn_lock.specs.declared.seat.Post.TheVariants.{Nowhere, Claims, Posts}
 use Rattle.turn_lock.specs.Places.{IsAmong}
-use Rattle.turn_lock.specs.Seats.{at_rest, first_known, split_view, joined_view, spent_view}
-use Rattle.turn_lock.specs.Rule.{Somewhere, ticket, Apart, Fits, OneHistory}
-use Rattle.turn_lock.specs.Tells.{compared}
-use Rattle.turn_lock.proofs.Cases.{off, or_true, or_left, or_right, none_some}
-use Rattle.turn_lock.proofs.Views.{snoc_case, set_each, set_pairs, somewhere_join}
-use Rattle.turn_lock.proofs.Beginnings.{prefix_shorter, longer_is, shorter_is, longer_most}
+use Rattle.turn_lock.specs.Seats.{at_first, split_view, joined_view, spent_view}
+use Rattle.turn_lock.specs.Rule.{Story, Fits, HasLock, OneHistory}
+use Rattle.turn_lock.proofs.Cases.{off, or_true, instead, instead_other, instead_else}
+use Rattle.turn_lock.proofs.Views.{there, one_there, snoc_case, set_each_at}
+use Rattle.turn_lock.proofs.Beginnings.{longer_is, shorter_is, longer_most}
 use Rattle.turn_lock.proofs.Ordered.{among_merge, merge_left, merge_right, ascends_merge}
-use Rattle.turn_lock.proofs.Keeping.{flip, build, stays, owns}
 
-module _ {T O E : Type 0} (stands : T → List E → Type 0) (kept : E → Bool) where
-  pub compares : (slots id : ℕ) (me : Me (Option T) (View O E)) → Allows (OneHistory stands kept) slots id me 1 (λ n. n) (compared kept (step slots 1 0 0 none) me)
-  compares slots id me s r wide at fits =
-      let f = r.each id me.0 at in
-      (record { known = me.0.known; merged = []; stage = me.0.stage }, keeps, tt, stays stands kept s r 1 id me.1 me.0 me.0.known.dry [] at f.dry (r.log, refl), (refl, (λ le. prefix_shorter me.0.merged me.0.known.seen r.log f.merged f.seen le), owns stands kept s r id me.0 at))
+abbrev row : ℕ → List ℕ
+row n = replicate n 0
 
-  pub splits : (id : ℕ) (v : View O E) → Splits (OneHistory stands kept) id v v (split_view v)
+zeros : (n p : ℕ) → get_or (row n) p 0 ≡ 0
+zeros zero p = refl
+zeros (suc n) zero = refl
+zeros (suc n) (suc p) = zeros n p
+
+nones : {S : Type 0} (n p : ℕ) (x : S) → p < n → get_elem? (map some (replicate n x)) p ≡ some (some x)
+nones zero p x lt = absurd (omega arith)
+nones (suc n) zero x lt = refl
+nones (suc n) (suc p) x lt = nones n p x (omega arith)
+
+none_long : {S : Type 0} (n : ℕ) (x : S) → length (map some (replicate n x)) ≡ n
+none_long zero x = refl
+none_long (suc n) x = ap suc (none_long n x)
+
+zeros_long : (n : ℕ) → length (row n) ≡ n
+zeros_long zero = refl
+zeros_long (suc n) = ap suc (zeros_long n)
+
+module _ {T O E W A : Type 0} (stands : T → List E → Type 0) (kept : E → Bool) (entries : W → A → T → List E) (gives : W → T → A → T → Type 0) where
+  pub splits : (id : ℕ) (v : View O E W) → Splits (OneHistory stands kept entries gives) id v v (split_view v)
   splits id v s r at =
-      let n : ℕ = get_or s.words 0 0 in
+      let g = r.story in
       let f = r.each id v at in
-      let w : View O E = split_view v in
-      let near : (i : ℕ) (u : View O E) → get_elem? (s.views ++ w ∷ []) i ≡ some u → (get_elem? s.views i ≡ some u) ⊎ ((i ≡ length s.views) × (w ≡ u)) = λ i u e. snoc_case s.views w u i e in
-      let far : (Q : View O E → Type 0) → Somewhere Q s.views → Somewhere Q (s.views ++ w ∷ []) = λ Q h. (h.0, h.1, at_longer s.views (w ∷ []) h.0 h.1 h.2, h.3) in
-      subst (λ (vs : List (View O E)). OneHistory stands kept record { words = s.words; homes = s.homes; views = vs ++ w ∷ [] }) (sym (set_again s.views id v at))
-      (build stands kept s.words s.homes (s.views ++ w ∷ []) r.log n r.wide refl r.serving r.behind r.most
-      (λ j u e. ⊎_elim (λ (q : get_elem? s.views j ≡ some u). r.each j u q)
-      (λ (q : (j ≡ length s.views) × (w ≡ u)). subst (Fits r.log n s.homes) q.1 record { seen = f.seen; merged = (r.log, refl); mine = λ k m. absurd m; ascends = tt; ticket = λ t z. absurd (none_some t z); works = λ H z. absurd (cc (z)); dry = f.dry }) (near j u e))
-      (λ i j u x ne e q. ⊎_elim
-      (λ (a : get_elem? s.views i ≡ some u). ⊎_elim
-      (λ (b : get_elem? s.views j ≡ some x). r.apart i j u x ne a b)
-      (λ (b : (j ≡ length s.views) × (w ≡ x)). subst (λ (z : View O E). Apart u z) b.1 (flip stands kept w u (fresh v u)))
-      (near j x q))
-      (λ (a : (i ≡ length s.views) × (w ≡ u)). ⊎_elim
-      (λ (b : get_elem? s.views j ≡ some x). subst (λ (z : View O E). Apart z x) a.1 (fresh v x))
-      (λ (b : (j ≡ length s.views) × (w ≡ x)). absurd (ne (a.0 ∙ sym b.0)))
-      (near j x q))
-      (near i u e))
-      (λ m lo hi. far (λ (u : View O E). ticket u.stage ≡ Some m) (r.holder m lo hi))
-      (⊎_elim (λ (h : (x : T) × (s.homes ≡ some (Some x) ∷ []) × stands x r.log). inl h)
-      (λ (h : (s.homes ≡ none ∷ []) × Somewhere (λ (u : View O E). u.stage ≡ Works r.log) s.views). inr (h.0, far (λ (u : View O E). u.stage ≡ Works r.log) h.1)) r.value)
-      (λ k e at' ke. far (λ (u : View O E). (u.known.first ≡ true) × IsAmong k u.known.mine) (r.first k e at' ke)))
-    where
-      fresh : (v u : View O E) → Apart (split_view v) u
-      fresh v u = record { tickets = λ t a b. none_some t a; mine = λ k a b. a; first = λ a b. off a }
+      let w : View O E W = split_view v in
+      let far : (j : ℕ) (u : View O E W) → get_elem? s.views j ≡ some u → get_elem? (s.views ++ w ∷ []) j ≡ some u = λ j u e. at_longer s.views (w ∷ []) j u e in
+      subst (λ (vs : List (View O E W)). OneHistory stands kept entries gives record { words = s.words; homes = s.homes; views = vs ++ w ∷ [] }) (sym (set_again s.views id v at))
+      record {
+        story = g;
+        wide = r.wide;
+        deep = r.deep;
+        each = λ j u e. ⊎_elim (λ (q : get_elem? s.views j ≡ some u). r.each j u q)
+            (λ (q : (j ≡ length s.views) × (w ≡ u)). subst (Fits kept entries gives g (λ p. get_or s.words p 0) (λ p. get_elem? s.homes p) j) q.1
+            record { seen = f.seen; merged = (g.log, refl); mine = λ k m. absurd m; ascends = tt; first = λ z. absurd (off z); opens = λ z. absurd (cc (z)); works = λ H z. absurd (cc (z)); hand = λ p x z. absurd (cc (z)); claims = λ p z. absurd (cc (z)); posts = λ p x z. absurd (cc (z)) })
+            (snoc_case s.views w u j e);
+        place = λ p is. let h = r.place p is in record {
+          empty = h.empty;
+          claimed = λ z. let d = h.claimed z in (d.0, far (g.poster p) d.0 d.1, d.2);
+          posted = λ z. let d = h.posted z in (
+            d.0,
+            d.1,
+            far (g.poster p) d.0 d.2,
+            d.3,
+            ⊎_elim (λ (a : get_elem? s.homes p ≡ some (some (Some (Asked d.1)))). inl a)
+                (λ (a : (u : View O E W) × (get_elem? s.views g.holder ≡ some u) × (u.hand ≡ Holds p d.1)). inr (a.0, far g.holder a.0 a.1, a.2)) d.4,
+          );
+          done = λ z. let d = h.done z in (d.0, d.1, d.2, far (g.poster p) d.0 d.3, d.4, d.5, d.6, d.7);
+        };
+        value = r.value;
+        held = λ z. let h = r.held z in (h.0, far g.holder h.0 h.1, h.2);
+        first = λ k e there_is ke. let h = r.first k e there_is ke in (h.0, far g.chief h.0 h.1, h.2);
+      }
 
-  pub joins : (id : ℕ) (v : View O E) (other : ℕ) (w : View O E) → v.stage ≡ Idle → w.stage ≡ Idle → Joins (OneHistory stands kept) id v other w (joined_view v w) spent_view
-  joins id v other w idle idle' s r at apart there' =
-      let n : ℕ = get_or s.words 0 0 in
-      let both : View O E = joined_view v w in
+  pub joins : (id : ℕ) (v : View O E W) (other : ℕ) (w : View O E W) → v.stage ≡ Idle → v.hand ≡ Empty → v.post ≡ Nowhere → w.stage ≡ Idle → w.hand ≡ Empty → w.post ≡ Nowhere → Joins (OneHistory stands kept entries gives) id v other w (joined_view v w) spent_view
+  joins id v other w idle empty nowhere idle' empty' nowhere' s r at apart there' =
+      let g = r.story in
+      let both : View O E W = joined_view v w in
       let at' : get_elem? s.views other ≡ some w = sym (set_else s.views id other both apart) ∙ there' in
       let f = r.each id v at in
-      let g = r.each other w at' in
+      let h = r.each other w at' in
       let most = longer_most v.known.seen w.known.seen in
-      let vs : List (View O E) = set s.views id both in
-      let go : (Q : View O E → Type 0) → (Q v → Q both) → (Q w → Q both) → Somewhere Q s.views → Somewhere Q (set vs other spent_view) = λ Q a b h. somewhere_join Q s.views id other v w both spent_view at at' apart a b h in
-      subst (λ (ws : List ℕ). OneHistory stands kept record { words = ws; homes = s.homes; views = set vs other spent_view }) refl
-      (build stands kept s.words s.homes (set vs other spent_view) r.log n r.wide refl r.serving r.behind r.most
-      (set_each (Fits r.log n s.homes) vs other spent_view
-      record { seen = (r.log, refl); merged = (r.log, refl); mine = λ k m. absurd m; ascends = tt; ticket = λ t z. absurd (none_some t z); works = λ H z. absurd (cc (z)); dry = λ d. absurd (off d) }
-      (λ j u _ e. set_each (Fits r.log n s.homes) s.views id both
+      let vs : List (View O E W) = set s.views id both in
+      let g' : Story E = record { size = g.size; log = g.log; owner = λ k. instead id other (g.owner k); poster = g.poster; numbers = g.numbers; holder = g.holder; chief = instead id other g.chief } in
+      let ends : get_elem? (set vs other spent_view) id ≡ some both = set_else vs other id spent_view (λ z. apart (sym z)) ∙ set_here s.views id both (there s.views id v at) in
+      let id_stays : instead id other id ≡ id = instead_else id other id (λ z. apart (sym z)) in
+      let far : (j : ℕ) (u : View O E W) → j ≢ id → j ≢ other → get_elem? s.views j ≡ some u → get_elem? (set vs other spent_view) j ≡ some u =
+      λ j u ne ne' e. set_else vs other j spent_view ne' ∙ (set_else s.views id j both ne ∙ e) in
+      let waits : (p : ℕ) (u : View O E W) (x : W) → get_elem? s.views (g.poster p) ≡ some u → u.post ≡ Posts p x → get_elem? (set vs other spent_view) (g.poster p) ≡ some u =
+      λ p u x e posts. far (g.poster p) u
+      (λ z. let is : u ≡ v = one_there s.views (g.poster p) id u v z e at in let q : v.post ≡ Posts p x = subst (λ (y : View O E W). y.post ≡ Posts p x) is posts in absurd (cc (nowhere, q)))
+      (λ z. let is : u ≡ w = one_there s.views (g.poster p) other u w z e at' in let q : w.post ≡ Posts p x = subst (λ (y : View O E W). y.post ≡ Posts p x) is posts in absurd (cc (nowhere', q)))
+      e in
       record {
-        seen = longer_is (λ (l : List E). IsPrefix l r.log) v.known.seen w.known.seen f.seen g.seen;
-        merged = shorter_is (λ (l : List E). IsPrefix l r.log) v.known.seen w.known.seen f.seen g.seen;
-        mine = λ k m. ⊎_elim (λ (a : IsAmong k v.known.mine). let b = f.mine k a in omega (arith, b, most.0)) (λ (a : IsAmong k w.known.mine). let b = g.mine k a in omega (arith, b, most.1)) (among_merge k v.known.mine w.known.mine m);
-        ascends = ascends_merge v.known.mine w.known.mine f.ascends g.ascends (λ k m n. (r.apart id other v w (λ z. apart (sym z)) at at').mine k m n);
-        ticket = f.ticket;
-        works = f.works;
-        dry = λ d. ⊎_elim f.dry g.dry (or_true v.known.dry w.known.dry d);
+        story = g';
+        wide = r.wide;
+        deep = r.deep;
+        each = set_each_at (Fits kept entries gives g' (λ p. get_or s.words p 0) (λ p. get_elem? s.homes p)) vs other spent_view
+            record { seen = (g.log, refl); merged = (g.log, refl); mine = λ k m. absurd m; ascends = tt; first = λ z. absurd (off z); opens = λ z. absurd (cc (z)); works = λ H z. absurd (cc (z)); hand = λ p x z. absurd (cc (z)); claims = λ p z. absurd (cc (z)); posts = λ p x z. absurd (cc (z)) }
+            (λ j u no e. set_each_at (λ i y. i ≢ other → Fits kept entries gives g' (λ p. get_or s.words p 0) (λ p. get_elem? s.homes p) i y) s.views id both
+            (λ _. record {
+              seen = longer_is (λ (l : List E). IsPrefix l g.log) v.known.seen w.known.seen f.seen h.seen;
+              merged = shorter_is (λ (l : List E). IsPrefix l g.log) v.known.seen w.known.seen f.seen h.seen;
+              mine = λ k m. ⊎_elim (λ (a : IsAmong k v.known.mine). let b = f.mine k a in let lt : k < length v.known.seen = b.0 in (omega (arith, lt, most.0), ap (instead id other) b.1 ∙ id_stays))
+                  (λ (a : IsAmong k w.known.mine). let b = h.mine k a in let lt : k < length w.known.seen = b.0 in (omega (arith, lt, most.1), instead_other id other (g.owner k) b.1)) (among_merge k v.known.mine w.known.mine m);
+              ascends = ascends_merge v.known.mine w.known.mine f.ascends h.ascends (λ k m n. apart (sym (h.mine k n).1 ∙ (f.mine k m).1));
+              first = λ z. ⊎_elim (λ (a : v.known.first ≡ true). sym id_stays ∙ ap (instead id other) (f.first a)) (λ (a : w.known.first ≡ true). sym (instead_other id other g.chief (sym (h.first a)))) (or_true v.known.first w.known.first z);
+              opens = λ z. absurd (cc (idle, z));
+              works = λ H z. absurd (cc (idle, z));
+              hand = λ p x z. absurd (cc (empty, z));
+              claims = λ p z. absurd (cc (nowhere, z));
+              posts = λ p x z. absurd (cc (nowhere, z));
+            })
+            (λ i y ne z no. let q = r.each i y z in record {
+              seen = q.seen;
+              merged = q.merged;
+              mine = λ k m. let b = q.mine k m in (b.0, instead_else id other (g.owner k) (λ a. no (sym b.1 ∙ a)) ∙ b.1);
+              ascends = q.ascends;
+              first = λ a. let is : i ≡ g.chief = q.first a in is ∙ sym (instead_else id other g.chief (λ c. no (is ∙ c)));
+              opens = q.opens;
+              works = q.works;
+              hand = q.hand;
+              claims = q.claims;
+              posts = q.posts;
+            }) j u e no);
+        place = λ p is. let d = r.place p is in record {
+          empty = d.empty;
+          claimed = λ z. let c = d.claimed z in (
+            c.0,
+            far (g.poster p) c.0
+                (λ y. let is : c.0 ≡ v = one_there s.views (g.poster p) id c.0 v y c.1 at in let q : v.post ≡ Claims p = subst (λ (t : View O E W). t.post ≡ Claims p) is c.2 in absurd (cc (nowhere, q)))
+                (λ y. let is : c.0 ≡ w = one_there s.views (g.poster p) other c.0 w y c.1 at' in let q : w.post ≡ Claims p = subst (λ (t : View O E W). t.post ≡ Claims p) is c.2 in absurd (cc (nowhere', q)))
+                c.1,
+            c.2,
+          );
+          posted = λ z. let c = d.posted z in (
+            c.0,
+            c.1,
+            waits p c.0 c.1 c.2 c.3,
+            c.3,
+            ⊎_elim (λ (a : get_elem? s.homes p ≡ some (some (Some (Asked c.1)))). inl a)
+                (λ (a : (u : View O E W) × (get_elem? s.views g.holder ≡ some u) × (u.hand ≡ Holds p c.1)). inr (
+                  a.0,
+                  far g.holder a.0
+                      (λ y. let is : a.0 ≡ v = one_there s.views g.holder id a.0 v y a.1 at in let q : v.hand ≡ Holds p c.1 = subst (λ (t : View O E W). t.hand ≡ Holds p c.1) is a.2 in absurd (cc (empty, q)))
+                      (λ y. let is : a.0 ≡ w = one_there s.views g.holder other a.0 w y a.1 at' in let q : w.hand ≡ Holds p c.1 = subst (λ (t : View O E W). t.hand ≡ Holds p c.1) is a.2 in absurd (cc (empty', q)))
+                      a.1,
+                  a.2,
+                )) c.4,
+          );
+          done = λ z. let c = d.done z in (
+            c.0,
+            c.1,
+            c.2,
+            waits p c.0 c.1 c.3 c.4,
+            c.4,
+            c.5,
+            c.6,
+            λ k among. ap (instead id other) (c.7 k among) ∙ instead_else id other (g.poster p)
+                (λ y. let is : c.0 ≡ w = one_there s.views (g.poster p) other c.0 w y c.3 at' in let q : w.post ≡ Posts p c.1 = subst (λ (t : View O E W). t.post ≡ Posts p c.1) is c.4 in absurd (cc (nowhere', q))),
+          );
+        };
+        value = r.value;
+        held = λ z. let c = r.held z in (
+          c.0,
+          far g.holder c.0
+              (λ y. rests v idle (subst (λ (t : View O E W). HasLock g.log t) (one_there s.views g.holder id c.0 v y c.1 at) c.2))
+              (λ y. rests w idle' (subst (λ (t : View O E W). HasLock g.log t) (one_there s.views g.holder other c.0 w y c.1 at') c.2))
+              c.1,
+          c.2,
+        );
+        first = λ k e there_is ke. let q = r.first k e there_is ke in
+            dite (ℕ_discrete g.chief other)
+            (λ is. let same : q.0 ≡ w = one_there s.views g.chief other q.0 w is q.1 at' in (
+              both,
+              subst (λ (z : ℕ). get_elem? (set vs other spent_view) z ≡ some both) (sym (instead_other id other g.chief is)) ends,
+              ⊎_elim (λ (a : IsAmong k q.0.known.mine). inl (merge_right k v.known.mine w.known.mine (subst (λ (z : View O E W). IsAmong k z.known.mine) same a)))
+                  (λ (a : (p : ℕ) × (x : W) × (q.0.post ≡ Posts p x) × (get_or s.words p 0 ≡ 6) × IsAmong k (g.numbers p)). let c : w.post ≡ Posts a.0 a.1 = subst (λ (z : View O E W). z.post ≡ Posts a.0 a.1) same a.2 in absurd (cc (nowhere', c))) q.2,
+            ))
+            (λ no. let stays : instead id other g.chief ≡ g.chief = instead_else id other g.chief no in
+            dite (ℕ_discrete g.chief id)
+            (λ is. let same : q.0 ≡ v = one_there s.views g.chief id q.0 v is q.1 at in (
+              both,
+              subst (λ (z : ℕ). get_elem? (set vs other spent_view) z ≡ some both) (sym (stays ∙ is)) ends,
+              ⊎_elim (λ (a : IsAmong k q.0.known.mine). inl (merge_left k v.known.mine w.known.mine (subst (λ (z : View O E W). IsAmong k z.known.mine) same a)))
+                  (λ (a : (p : ℕ) × (x : W) × (q.0.post ≡ Posts p x) × (get_or s.words p 0 ≡ 6) × IsAmong k (g.numbers p)). let c : v.post ≡ Posts a.0 a.1 = subst (λ (z : View O E W). z.post ≡ Posts a.0 a.1) same a.2 in absurd (cc (nowhere, c))) q.2,
+            ))
+            (λ not_id. (q.0, subst (λ (z : ℕ). get_elem? (set vs other spent_view) z ≡ some q.0) (sym stays) (far g.chief q.0 not_id no q.1), q.2)));
       }
-      (λ j u _ e. r.each j u e) j u e))
-      (λ i j u x ne a b. set_pairs (λ (y z : View O E). Apart y z) (flip stands kept) (λ _. Unit {0}) vs other spent_view
-      (λ i j u x _ _ io jo ne a b. set_pairs (λ (y z : View O E). Apart y z) (flip stands kept) (λ k. k ≢ other) s.views id both
-      (λ i j u x _ _ _ _ ne a b. r.apart i j u x ne a b)
-      (λ j u jo ji e. let p = r.apart id j v u (λ z. ji (sym z)) at e in let q = r.apart other j w u (λ z. jo (sym z)) at' e in record {
-        tickets = p.tickets;
-        mine = λ k m l. ⊎_elim (λ (c : IsAmong k v.known.mine). p.mine k c l) (λ (c : IsAmong k w.known.mine). q.mine k c l) (among_merge k v.known.mine w.known.mine m);
-        first = λ c l. ⊎_elim (λ (d : v.known.first ≡ true). p.first d l) (λ (d : w.known.first ≡ true). q.first d l) (or_true v.known.first w.known.first c);
-      })
-      i j u x io jo ne a b)
-      (λ j u _ _ e. record { tickets = λ t a b. none_some t a; mine = λ k a b. a; first = λ a b. off a })
-      i j u x tt tt ne a b)
-      (λ m lo hi. go (λ (u : View O E). ticket u.stage ≡ Some m) (λ q. q) (λ q. absurd (none_some m (ap ticket (sym idle') ∙ q))) (r.holder m lo hi))
-      (⊎_elim (λ (h : (x : T) × (s.homes ≡ some (Some x) ∷ []) × stands x r.log). inl h)
-      (λ (h : (s.homes ≡ none ∷ []) × Somewhere (λ (u : View O E). u.stage ≡ Works r.log) s.views). inr (h.0, go (λ (u : View O E). u.stage ≡ Works r.log) (λ q. q) (λ q. absurd (cc (idle', q))) h.1)) r.value)
-      (λ k e at'' ke. go (λ (u : View O E). (u.known.first ≡ true) × IsAmong k u.known.mine) (λ q. (or_left v.known.first w.known.first q.0, merge_left k v.known.mine w.known.mine q.1)) (λ q. (or_right v.known.first w.known.first q.0, merge_right k v.known.mine w.known.mine q.1)) (r.first k e at'' ke)))
-
-  begins_with : (x : T) (o : O) → stands x [] → OneHistory stands kept (opening (0 ∷ 0 ∷ []) (Some x ∷ []) (at_rest (first_known o)))
-  begins_with x o is = build stands kept (0 ∷ 0 ∷ []) (some (Some x) ∷ []) (at_rest (first_known o) ∷ []) [] 0 refl refl refl (omega arith) (omega arith)
-      (λ j v e. one (Fits [] 0 (some (Some x) ∷ [])) record { seen = ([], refl); merged = ([], refl); mine = λ k m. absurd m; ascends = tt; ticket = λ t z. absurd (none_some t z); works = λ H z. absurd (cc (z)); dry = λ d. absurd (off d) } j v e)
-      (λ i j v w ne e q. absurd (ne (only i v e ∙ sym (only j w q))))
-      (λ m lo hi. absurd (omega (arith, hi)))
-      (inl (x, refl, is))
-      (λ k e at ke. absurd (cc (at)))
     where
-      one : (P : View O E → Type 0) → P (at_rest (first_known o)) → (j : ℕ) (v : View O E) → get_elem? (at_rest (first_known o) ∷ []) j ≡ some v → P v
-      one P p zero v e = subst P (some-injective _ _ e) p
+      rests : {log : List E} (v : View O E W) → v.stage ≡ Idle → HasLock log v → ⊥
+      rests {log} v idle h = ⊎_elim (λ (a : v.stage ≡ Opens). cc (idle, a)) (λ (a : v.stage ≡ Works log). cc (idle, a)) h
+
+  pub begins : (o : O) (n : ℕ) → 0 < n → OneHistory stands kept entries gives (opening (row n) (replicate n None) (at_first o))
+  begins o n some_words = record {
+    story = record { size = n; log = []; owner = λ k. 0; poster = λ p. 0; numbers = λ p. []; holder = 0; chief = 0 };
+    wide = zeros_long n;
+    deep = none_long n None;
+    each = λ j v e. one (λ i u. Fits kept entries gives record { size = n; log = []; owner = λ k. 0; poster = λ p. 0; numbers = λ p. []; holder = 0; chief = 0 } (λ p. get_or (row n) p 0) (λ p. get_elem? (map some (replicate n None)) p) i u)
+        record { seen = ([], refl); merged = ([], refl); mine = λ k m. absurd m; ascends = tt; first = λ z. refl; opens = λ z. (refl, refl, zeros n 0, nones n 0 None some_words); works = λ H z. absurd (cc (z)); hand = λ p x z. absurd (cc (z)); claims = λ p z. absurd (cc (z)); posts = λ p x z. absurd (cc (z)) } j v e;
+    place = λ p is. let z = zeros n p in record { empty = λ e. nones n p None is.1; claimed = λ e. absurd (omega (arith, e, z)); posted = λ e. let two = e.0 in absurd (omega (arith, two, z)); done = λ e. absurd (omega (arith, e, z)) };
+    value = λ e. let z = zeros n 0 in absurd (omega (arith, e, z));
+    held = λ e. (at_first o, refl, inl refl);
+    first = λ k e there_is ke. absurd (cc (there_is));
+  }
+    where
+      one : (P : ℕ → View O E W → Type 0) → P 0 (at_first o) → (j : ℕ) (v : View O E W) → get_elem? (at_first o ∷ []) j ≡ some v → P j v
+      one P p zero v e = subst (P 0) (some-injective _ _ e) p
       one P p (suc j) v e = absurd (some-ne-none v (sym e))
-
-      only : (j : ℕ) (v : View O E) → get_elem? (at_rest (first_known o) ∷ []) j ≡ some v → j ≡ 0
-      only zero v e = refl
-      only (suc j) v e = absurd (some-ne-none v (sym e))
-
--- the same, where the opening is that of a copy of the value
-pub begins : {T O E : Type 0} (about : T → O → List E → Type 0) (kept : E → Bool) (open_of : T → O) (x y : T) (items : List (Option T)) → y ≡ x → items ≡ Some x ∷ [] → about x (open_of x) []
-    → OneHistory (λ z l. about z (open_of y) l) kept (opening (0 ∷ 0 ∷ []) items (at_rest (first_known (open_of y))))
-begins {T} {O} {E} about kept open_of x y items same is h =
-    let P : T → List (Option T) → Type 0 = λ z xs. OneHistory (λ q l. about q (open_of z) l) kept (opening (0 ∷ 0 ∷ []) xs (at_rest (first_known (open_of z)))) in
-    subst (λ (z : T). P z items) (sym same) (subst (P x) (sym is) (begins_with (λ q l. about q (open_of x) l) kept x (open_of x) h))

@@ -1,4 +1,5 @@
-// What a lock holds, and what is done with it in a turn.
+//! What a lock holds, and what is done with it in a turn.
+
 ghost use Rattle.std.specs.Prelude.{List, Bool};
 ghost use Rattle.turn_lock.specs.Turned.{IsReached, Adds};
 
@@ -8,8 +9,11 @@ pub trait Turned {
     /// What the value was when the lock was made.
     type Opening;
 
-    /// What one turn did.
+    /// One thing that was done. A turn may do several, or none.
     type Entry;
+
+    /// What is done in one turn, by whichever thread has the value.
+    type Work: Work<Self> + Send + 'static;
 
     /// The opening of a value that has no entry yet.
     ghost opening: { Self → Self.Opening };
@@ -24,17 +28,23 @@ pub trait Turned {
 /// What is done with the value in one turn.
 pub trait Work<T: Turned> {
     /// What the turn answers.
-    type Out;
+    type Out: Send + 'static;
 
-    /// The entry of the turn, by the work, its answer and the value afterwards.
-    ghost entry: { Self → Self.Out → T → T.Entry };
+    /// The entries of the turn, by the work, its answer and the value afterwards. They are neighbours in the history.
+    ghost entries: { Self → Self.Out → T → List T.Entry };
 
     /// What holds of the value before, the answer and the value afterwards.
     ghost gives: { Self → T → Self.Out → T → Type 0 };
 
-    /// Does the work on a value that stands for some history. The value then stands for one entry more.
+    /// Whether the work is better done after those that are not late, as one that makes their changes last.
+    fn is_late(&self) -> bool;
+
+    /// Does the work on a value that stands for some history. The value then stands for the work's entries behind it, too.
     fn run(self, value: &mut T) -> Self::Out
         requires { IsReached T.stands value.old }
         ensures gives { gives self value.old result value.new }
-        ensures adds { Adds T.stands value.old value.new (entry self result value.new) };
+        ensures adds { Adds T.stands value.old value.new (entries self result value.new) };
 }
+
+/// What a turn answers.
+pub type Out<T> = <<T as Turned>::Work as Work<T>>::Out;
