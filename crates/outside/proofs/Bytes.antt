@@ -1,7 +1,12 @@
--- Bytes that are written over.
-use Rattle.std.proofs.Common.{◌≡◌, ℕ, zero, suc, ◌+◌, ◌-◌, List, [], ◌∷◌, ◌++◌, length, take, drop, replicate, ap, ◌∙◌, arith, length-drop, length-take, length-append, append-nil}
+-- Bytes that are there, and bytes that are written over.
+use Rattle.std.proofs.Common.{◌≡◌, ◌<◌, ℕ, zero, suc, ◌+◌, ◌-◌, get_or, List, [], ◌∷◌, ◌++◌, length, take, drop, replicate, ap, ◌∙◌, arith, length-drop, length-take, length-append, append-nil}
 use Rattle.std.proofs.lemmas.List.{length-replicate, drop_all, take_all, take-replicate, drop-replicate}
 use Rattle.outside.specs.Disks.{write_over}
+use Rattle.outside.specs.Sides.{AreBytes}
+
+pub are_bytes : (xs : List ℕ) → ((i : ℕ) → get_or xs i 0 < 256) → AreBytes xs
+are_bytes [] small = tt
+are_bytes (x ∷ xs) small = (small 0, are_bytes xs (λ i. small (suc i)))
 
 pub take-append : (n : ℕ) (xs ys : List ℕ) → take n (xs ++ ys) ≡ take n xs ++ take (n - length xs) ys
 take-append zero xs ys = let none : 0 - length xs ≡ 0 = omega arith in rw none

@@ -4,13 +4,13 @@ use Rattle.std.specs.List.{list_any}
 use Rattle.std.proofs.lemmas.List.{reverse-append, reverse-reverse, length-reverse, length-replicate, drop_at, append-nil}
 use Rattle.outside.specs.declared.sides.Side.{Side}
 use Rattle.outside.specs.declared.sides.Side.TheVariants.{A, B}
-use Rattle.outside.specs.declared.calls.Call.{Call}
-use Rattle.outside.specs.declared.calls.Call.TheVariants.{Look, Write, Cut, Sync}
+use Rattle.outside.specs.declared.disk_calls.Call.{Call}
+use Rattle.outside.specs.declared.disk_calls.Call.TheVariants.{Look, Write, Cut, Sync}
 use Rattle.outside.specs.Sides.{Sides}
 use Rattle.outside.specs.Disks.{write_over, Torn, CutOrNot}
-use Rattle.outside.specs.Calls.{done, read_after, IsImage, calls_until, syncs, is_open, with_ones, done_by, chosen}
+use Rattle.outside.specs.DiskCalls.{done, read_after, IsImage, calls_until, syncs, is_open, with_ones, done_by, chosen}
 use Rattle.outside.specs.SideLaws.{on_with, on_self}
-use Rattle.outside.specs.Writes.{torn_done, torn_self, cut_done, cut_not}
+use Rattle.outside.specs.WriteLaws.{torn_done, torn_self, cut_done, cut_not}
 
 -- an image, of which each side that is synced later reads as the disk does
 pub record Leads (start : Sides) (earlier later : List Call) (c : Sides) : Type 0 where

@@ -5,15 +5,15 @@ use Rattle.std.proofs.Math.Nat.{eq-or-lt_of_le}
 use Rattle.std.proofs.lemmas.Result.{on_ok_weaker, on_err_weaker}
 use Rattle.outside.specs.declared.sides.Side.{Side}
 use Rattle.outside.specs.declared.sides.Side.TheVariants.{A, B}
-use Rattle.outside.specs.declared.calls.Call.{Call}
-use Rattle.outside.specs.declared.calls.Call.TheVariants.{Look, Write, Cut, Sync}
+use Rattle.outside.specs.declared.disk_calls.Call.{Call}
+use Rattle.outside.specs.declared.disk_calls.Call.TheVariants.{Look, Write, Cut, Sync}
 use Rattle.outside.specs.Sides.{Sides, side_of, On}
 use Rattle.outside.specs.Crashes.{IsSettled}
 use Rattle.outside.specs.Disks.{Elapses, GoesOn, BeginsAnew, Follows, Torn}
-use Rattle.outside.specs.Calls.{Remembered, read_after, IsImage, LeftSince, longest_after, remembers, refuses, reads_as}
-use Rattle.outside.specs.Writes.{torn_self}
+use Rattle.outside.specs.DiskCalls.{Remembered, read_after, IsImage, LeftSince, longest_after, remembers, refuses, reads_as}
+use Rattle.outside.specs.WriteLaws.{torn_self}
 use Rattle.outside.specs.SideLaws.{on_self, on_same}
-use Rattle.outside.specs.CallLaws.{calls_until-now, calls_until-more}
+use Rattle.outside.specs.DiskCallLaws.{calls_until-now, calls_until-more}
 
 -- time between two states of such a disk
 abbrev pub Passes : Remembered → Remembered → Type 0

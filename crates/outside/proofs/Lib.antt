@@ -1,6 +1,5 @@
 pub mod Bytes
 pub mod Choosing
-pub mod Crashes
+pub mod Durable
 pub mod Elapsing
 pub mod Reading
-pub mod Torn

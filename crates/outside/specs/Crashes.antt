@@ -19,3 +19,7 @@ EachSince left_since disk t P = (c : Sides) → left_since disk t c → P c
 pub record LeavesOnly {D : Type 0} (moment : D → ℕ) (left_since : D → ℕ → Sides → Type 0) (old new : D) (P : Sides → Type 0) : Type 0 where
   pub later : moment old ≤ moment new
   pub either : (t : ℕ) (c : Sides) → t ≤ moment old → left_since new t c → left_since old t c ⊎ P c
+
+-- a step leads there from what a crash might have left before
+abbrev pub After : (Sides → Sides → Type 0) → (Sides → Type 0) → Sides → Type 0
+After step images c = (d : Sides) × images d × step d c

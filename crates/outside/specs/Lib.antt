@@ -1,8 +1,9 @@
-pub mod CallLaws
-pub mod Calls
 pub mod Causes
 pub mod Clocks
+pub mod CrashLaws
 pub mod Crashes
+pub mod DiskCallLaws
+pub mod DiskCalls
 pub mod Disks
 pub mod Links
 pub mod Listed
@@ -10,4 +11,4 @@ pub mod Memory
 pub mod SideLaws
 pub mod Sides
 pub mod Spawners
-pub mod Writes
+pub mod WriteLaws

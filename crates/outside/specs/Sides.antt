@@ -1,5 +1,6 @@
 -- What a disk holds: the bytes of two sides. What is told of it, and what happens to one side.
-use Rattle.std.specs.Prelude.{◌≡◌, List, ℕ, Option, None, Some}
+use Rattle.std.specs.Prelude.{◌≡◌, ◌<◌, List, ℕ, Option, None, Some}
+use Rattle.std.specs.List.{AllByRecursion}
 use Rattle.outside.specs.declared.sides.Side.{Side}
 use Rattle.outside.specs.declared.sides.Side.TheVariants.{A, B}
 
@@ -20,6 +21,10 @@ with_side s B bytes = record { a = s.a; b = bytes }
 abbrev pub other_side : Side → Side
 other_side A = B
 other_side B = A
+
+-- each is a byte
+abbrev pub AreBytes : List ℕ → Type 0
+AreBytes bytes = AllByRecursion (λ b. b < 256) bytes
 
 -- what is told before is told after, and P holds of the two; what is not told is not told after
 abbrev pub Told : Option Sides → Option Sides → (Sides → Sides → Type 0) → Type 0

@@ -1,3 +1,5 @@
+//! Moments, and where they come from.
+
 ghost use Rattle.std.specs.Prelude.{◌≡◌, ◌≤◌, ℕ, Option, Some, MatchOption};
 ghost use Rattle.outside.specs.Clocks.{max_moment};
 

@@ -1,8 +1,10 @@
-ghost use Rattle.std.specs.Prelude.{◌≡◌, ◌∷◌, IfOk, OnOk};
-ghost use Rattle.outside.specs.Calls.{chosen, done_by};
+//! What a crash makes of the contents of a disk in memory.
 
-use crate::calls::Call;
-use crate::contents::Contents;
+ghost use Rattle.std.specs.Prelude.{◌≡◌, ◌∷◌, IfOk, OnOk};
+ghost use Rattle.outside.specs.DiskCalls.{chosen, done_by};
+
+use crate::disk_calls::Call;
+use crate::disk_contents::Contents;
 use std::alloc::{AllocError, Global};
 
 /// What a crash makes of the contents and the calls behind them, the oldest first, by the choice.

@@ -1,8 +1,10 @@
+//! Disks of two sides that may crash.
+
 ghost use Rattle.std.specs.Prelude.{◌≡◌, ◌+◌, ◌-◌, ◌<◌, ◌≤◌, ◌^◌, ℕ, Bool, true, Option, length, take, drop, min, IfOk, OnOk, OnErr, MatchResult};
 ghost use Rattle.std.specs.Io.{ReadsAtMost};
 ghost use Rattle.outside.specs.Causes.{HasCause};
 ghost use Rattle.outside.specs.declared.sides.Side.{Side};
-ghost use Rattle.outside.specs.Sides.{Sides, side_of, with_side, Told, IfTold, On};
+ghost use Rattle.outside.specs.Sides.{Sides, side_of, with_side, AreBytes, Told, IfTold, On};
 ghost use Rattle.outside.specs.Crashes.{IsSettled};
 ghost use Rattle.outside.specs.Disks.{write_over, Torn, CutOrNot, Follows, Elapses, GoesOn, BeginsAnew};
 
@@ -38,6 +40,7 @@ pub trait Disk {
     /// How many bytes a side has.
     fn len(&mut self, side: Side) -> Result<u64, Failed>
         ensures length { IfOk result (λ n. IfTold (seen self.old) (λ s. n ≡ length (side_of s side))) }
+        ensures sound { OnOk result (IfTold (seen self.old) (λ s. AreBytes (side_of s side))) }
         ensures same { Told (seen self.old) (seen self.new) (λ s t. t ≡ s) }
         ensures crash { (c : Sides) → images self.new c → images self.old c }
         ensures longest { crashes self.old ≡ true → IfTold (seen self.new) (GoesOn (longest self.old) (longest self.new)) }
@@ -50,6 +53,7 @@ pub trait Disk {
         ensures bound { ReadsAtMost result into.new }
         ensures count { IfOk result (λ n. IfTold (seen self.old) (λ s. n ≡ min (length into.old) (length (side_of s side) - at))) }
         ensures bytes { IfOk result (λ n. IfTold (seen self.old) (λ s. take n into.new ≡ take n (drop at (side_of s side)))) }
+        ensures sound { OnOk result (IfTold (seen self.old) (λ s. AreBytes (side_of s side))) }
         ensures same { Told (seen self.old) (seen self.new) (λ s t. t ≡ s) }
         ensures crash { (c : Sides) → images self.new c → images self.old c }
         ensures longest { crashes self.old ≡ true → IfTold (seen self.new) (GoesOn (longest self.old) (longest self.new)) }

@@ -1,3 +1,5 @@
+//! Where callers come from.
+
 ghost use Rattle.std.specs.Prelude.{◌≡◌, ℕ, MatchResult};
 ghost use Rattle.outside.specs.Causes.{HasCause};
 

@@ -1,3 +1,5 @@
+//! Places where a test may hold a session up.
+
 use std::sync::Wait;
 
 /// A place that the sessions pass, where a test may hold them up. It promises nothing.

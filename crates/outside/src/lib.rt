@@ -3,12 +3,13 @@
 #![tactic(auto)]
 
 mod bells;
-mod calls;
 mod clocks;
-mod contents;
 mod crash_images;
+mod disk_calls;
+mod disk_contents;
 mod disks;
 mod doors;
+mod durable_writes;
 mod failures;
 mod gates;
 mod jobs;
@@ -24,6 +25,7 @@ pub use bells::{Bell, PlainBell};
 pub use clocks::{Clock, HandClock, MAX_MOMENT};
 pub use disks::Disk;
 pub use doors::{Accepted, Door, Link};
+pub use durable_writes::write_durably;
 pub use failures::{Failed, NoMemory};
 pub use gates::{Gate, NoGate};
 pub use jobs::{Ender, Job, Spawner, Tally};

@@ -1,4 +1,6 @@
-ghost use Rattle.std.specs.Prelude.{◌≡◌, ◌<◌, ◌≤◌, ◌↔◌, None, length, map, reverse, if◌then◌else◌, IsErr, IsTrue, OnOk, OnErr, IfOk, MatchResult};
+//! A door in memory, with a list of callers.
+
+ghost use Rattle.std.specs.Prelude.{◌≡◌, ◌<◌, ◌≤◌, ◌↔◌, None, length, map, reverse, ◌++◌, if◌then◌else◌, IsErr, IsTrue, OnOk, OnErr, IfOk, MatchResult};
 ghost use Rattle.outside.specs.Causes.{HasCause, next_count};
 ghost use Rattle.outside.specs.Memory.{fails_at};
 ghost use Rattle.outside.specs.Listed.{Listed};
@@ -42,9 +44,8 @@ impl Sink for ListSink {
 /// A door in memory, with a list of callers.
 #[derive(Drop)]
 pub struct ListDoor {
-    alloc: Global,
-    // The callers to come, the last one first.
-    waiting: Vec<Vec<u8>>,
+    // The links to come, the last one first. They are made beforehand, so that no caller is lost for want of memory.
+    waiting: Vec<Link<BytesSource, ListSink>>,
     // What was written to each of all the callers.
     written: Vec<Written>,
     failing: Vec<u64>,
@@ -57,9 +58,7 @@ pub struct ListDoor {
 impl Model for ListDoor {
     ghost Value = { Listed };
 
-    ghost view = { λ d. record { waiting = map (λ bytes. bytes.items) (reverse d.waiting.items); all = length d.written.items; failing = d.failing.items; calls = d.calls; faults = d.faults; links = d.links; ends = d.ends } };
-
-    ghost invariant = { λ d. length d.waiting.items ≤ length d.written.items };
+    ghost view = { λ d. record { waiting = map (λ link. link.incoming.left) (reverse d.waiting.items); all = length d.written.items; failing = d.failing.items; calls = d.calls; faults = d.faults; links = d.links; ends = d.ends } };
 }
 
 impl ListDoor {
@@ -70,10 +69,10 @@ impl ListDoor {
         let Ok(written) = sheets(alloc, links.len()) else {
             return Err(NoMemory);
         };
-        let mut waiting = links;
-        waiting.reverse();
+        let Ok(waiting) = links_over(alloc, links, &written) else {
+            return Err(NoMemory);
+        };
         Ok(ListDoor {
-            alloc,
             waiting,
             written,
             failing,
@@ -135,38 +134,28 @@ impl Door for ListDoor {
         Ok(())
     }
 
-    /// It is never idle, and fails also where no memory is left.
+    /// It is never idle, takes no memory, and fails at the calls that are listed alone.
     fn accept(&mut self) -> Result<Accepted<BytesSource, ListSink>, Failed>
         ensures links { MatchResult result (λ a. self.new.links ≡ links_after a self.old.links) (λ _. self.new.links ≡ self.old.links) }
         ensures ends { MatchResult result (λ a. self.new.ends ≡ ends_after a self.old.ends) (λ _. self.new.ends ≡ self.old.ends) }
         ensures cause { HasCause self.old.faults self.new.faults result }
-        ensures fails { IsTrue (fails_at (next_count self.old.calls) self.old.failing) → IsErr result }
+        ensures fails { IsErr result ↔ IsTrue (fails_at (next_count self.old.calls) self.old.failing) }
         ensures comes { IfOk result (λ a. Comes a self.old.waiting self.new.waiting) }
-        ensures err { OnErr result (self.new.waiting ≡ self.old.waiting) }
+        ensures ok { OnOk result (self.new.faults ≡ self.old.faults) }
+        ensures err { OnErr result (self.new ≡ record self.old { calls = next_count self.old.calls; faults = next_count self.old.faults }) }
         ensures same { (self.new.calls ≡ next_count self.old.calls) × (self.new.failing ≡ self.old.failing) × (self.new.all ≡ self.old.all) }
     {
         if self.fails() {
             return Err(Failed);
         }
-        if self.waiting.is_empty() {
-            self.ends = self.ends.saturating_add(1);
-            return Ok(Accepted::Over);
-        }
-        let place = self.written.len() - self.waiting.len();
-        match Arc::try_clone(&self.written[place]) {
-            Ok(written) => {
-                let incoming = BytesSource::new(
-                    self.waiting.pop().unwrap(),
-                    usize::MAX,
-                    Vec::new(self.alloc),
-                );
+        match self.waiting.pop() {
+            Some(link) => {
                 self.links = self.links.saturating_add(1);
-                let outgoing = ListSink { written, faults: 0 };
-                Ok(Accepted::Joined(Link { incoming, outgoing }))
+                Ok(Accepted::Joined(link))
             }
-            Err(_) => {
-                self.faults = self.faults.saturating_add(1);
-                Err(Failed)
+            None => {
+                self.ends = self.ends.saturating_add(1);
+                Ok(Accepted::Over)
             }
         }
     }
@@ -181,6 +170,28 @@ fn sheets(alloc: Global, count: usize) -> Result<Vec<Written>, AllocError>
         all.push(Arc::new(alloc, Mutex::new(Vec::new(alloc)))?)?;
     }
     Ok(all)
+}
+
+// The links of callers who send these texts, the last one first. What is written to each is kept in its place.
+fn links_over(
+    alloc: Global,
+    texts: Vec<Vec<u8>>,
+    written: &[Written],
+) -> Result<Vec<Link<BytesSource, ListSink>>, AllocError>
+    requires { length texts.items ≤ length written.now }
+    ensures { IfOk result (λ links. map (λ link. link.incoming.left) (reverse links.items) ≡ map (λ bytes. bytes.items) texts.items) }
+{
+    let mut texts = texts;
+    let mut links = Vec::with_capacity(alloc, texts.len())?;
+    while let Some(text) = texts.pop() {
+        let incoming = BytesSource::new(text, usize::MAX, Vec::new(alloc));
+        let outgoing = ListSink {
+            written: Arc::try_clone(&written[texts.len()])?,
+            faults: 0,
+        };
+        links.push(Link { incoming, outgoing })?;
+    }
+    Ok(links)
 }
 
 #[cfg(test)]

@@ -1,7 +1,8 @@
-ghost use Rattle.std.specs.Prelude.{◌≡◌, ◌≤◌, IsErr, IsTrue, OnOk};
+//! A spawner that starts threads, and refuses the starts that are listed.
+
+ghost use Rattle.std.specs.Prelude.{◌≡◌, ◌+◌, ◌≤◌, ◌↔◌, ℕ, IsErr, OnOk};
 ghost use Rattle.outside.specs.Causes.{HasCause, Stood, next_count};
-ghost use Rattle.outside.specs.Memory.{fails_at};
-ghost use Rattle.outside.specs.Spawners.{Starting};
+ghost use Rattle.outside.specs.Spawners.{Starting, IsRefused};
 
 use crate::failures::Failed;
 use crate::jobs::{Ender, Job, Spawner, Tally};
@@ -80,11 +81,14 @@ impl Tally for ListedSpawner {
 
     ghost jobs = { λ s. s.jobs };
 
+    ghost refuses = { λ s n. IsRefused s n };
+
     fn admit<R: Wait>(&mut self, rt: &R) -> Result<RunningJob, Failed>
         ensures cause { HasCause self.old.faults self.new.faults result }
         ensures stood { OnOk result (Stood self.old.faults self.new.faults) }
         ensures jobs { self.new.jobs ≡ self.old.jobs }
-        ensures listed { IsTrue (fails_at (next_count self.old.starts) self.old.refused) → IsErr result }
+        ensures refused { IsRefused self.old 0 → IsErr result }
+        ensures next { (n : ℕ) → IsRefused self.new n ↔ IsRefused self.old (n + 1) }
         ensures counted { (self.new.refused ≡ self.old.refused) × (self.new.starts ≡ next_count self.old.starts) }
     {
         self.starts = self.starts.saturating_add(1);

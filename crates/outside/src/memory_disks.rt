@@ -1,13 +1,15 @@
+//! A disk in memory that remembers its calls, and so tells what a crash may leave.
+
 ghost use Rattle.std.specs.Prelude.{◌≡◌, ◌+◌, ◌-◌, ◌≤◌, ◌^◌, ◌++◌, [], ◌∷◌, Some, true, length, take, drop, min, reverse, unwrap_or, IsErr, IsTrue, IfOk, OnOk, OnErr};
 ghost use Rattle.outside.specs.Causes.{HasCause, next_count};
-ghost use Rattle.outside.specs.Sides.{side_of};
+ghost use Rattle.outside.specs.Sides.{side_of, AreBytes};
 ghost use Rattle.outside.specs.Memory.{fails_at};
-ghost use Rattle.outside.specs.Calls.{Remembered, done, read_after, reads_as, remembers, refuses, IsImage, LeftSince, calls_until, chosen};
-ghost use Rattle.outside.specs.declared.calls.Call.TheVariants.{Look, Write, Cut, Sync};
+ghost use Rattle.outside.specs.DiskCalls.{Remembered, done, read_after, reads_as, remembers, refuses, IsImage, LeftSince, calls_until, chosen};
+ghost use Rattle.outside.specs.declared.disk_calls.Call.TheVariants.{Look, Write, Cut, Sync};
 
-use crate::calls::{Call, Piece};
-use crate::contents::Contents;
 use crate::crash_images;
+use crate::disk_calls::{Call, Piece};
+use crate::disk_contents::Contents;
 use crate::disks::Disk;
 use crate::failures::{Failed, NoMemory};
 use crate::sides::Side;
@@ -135,8 +137,8 @@ impl MemoryDisk {
 }
 
 impl Disk for MemoryDisk {
-    ghost use Rattle.outside.specs.Calls.{longest_after};
-    ghost use Rattle.outside.specs.CallLaws.{read_is_image, image_within, left_now, only_left_now, left_from_earlier};
+    ghost use Rattle.outside.specs.DiskCalls.{longest_after};
+    ghost use Rattle.outside.specs.DiskCallLaws.{read_is_image, image_within, left_now, only_left_now, left_from_earlier};
 
     ghost seen = { λ d. Some (reads_as d) };
 
@@ -154,13 +156,14 @@ impl Disk for MemoryDisk {
 
     fn len(&mut self, side: Side) -> Result<u64, Failed>
         ensures value { IfOk result (λ n. n ≡ length (side_of (reads_as self.old) side)) }
+        ensures sound { OnOk result (AreBytes (side_of (reads_as self.old) side)) }
         ensures fails { IsTrue (fails_at (next_count self.old.made) self.old.failing) → IsErr result }
         ensures ok { OnOk result (self.new ≡ remembers Look self.old) }
         ensures err { OnErr result (self.new ≡ refuses self.old) }
         ensures cause { HasCause self.old.faults self.new.faults result }
     {
         match self.make(Call::Look) {
-            Ok(()) => Ok(self.contents().side(side).len() as u64),
+            Ok(()) => Ok(self.contents().len(side) as u64),
             Err(Failed) => Err(Failed),
         }
     }
@@ -168,6 +171,7 @@ impl Disk for MemoryDisk {
     fn read(&mut self, side: Side, at: u64, into: &mut [u8]) -> Result<usize, Failed>
         ensures count { IfOk result (λ n. n ≡ min (length into.old) (length (side_of (reads_as self.old) side) - at)) }
         ensures bytes { IfOk result (λ n. into.new ≡ take n (drop at (side_of (reads_as self.old) side)) ++ drop n into.old) }
+        ensures sound { OnOk result (AreBytes (side_of (reads_as self.old) side)) }
         ensures into_err { OnErr result (into.new ≡ into.old) }
         ensures fails { IsTrue (fails_at (next_count self.old.made) self.old.failing) → IsErr result }
         ensures ok { OnOk result (self.new ≡ remembers Look self.old) }

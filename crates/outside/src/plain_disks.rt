@@ -1,10 +1,12 @@
+//! A disk in memory that never crashes.
+
 ghost use Rattle.std.specs.Prelude.{◌≡◌, ◌+◌, ◌-◌, ◌≤◌, ◌^◌, ◌++◌, Some, false, [], length, take, drop, min, Ok, IsOk, IfOk, OnOk, OnErr};
 ghost use Rattle.outside.specs.Causes.{HasCause, next_count};
-ghost use Rattle.outside.specs.Sides.{side_of, with_side};
+ghost use Rattle.outside.specs.Sides.{side_of, with_side, AreBytes};
 ghost use Rattle.outside.specs.Disks.{write_over};
 ghost use Rattle.outside.specs.Memory.{Plain};
 
-use crate::contents::Contents;
+use crate::disk_contents::Contents;
 use crate::disks::Disk;
 use crate::failures::Failed;
 use crate::sides::Side;
@@ -55,15 +57,17 @@ impl Disk for PlainDisk {
 
     fn len(&mut self, side: Side) -> Result<u64, Failed>
         ensures value { result ≡ Ok (length (side_of self.old.sides side)) }
+        ensures sound { AreBytes (side_of self.old.sides side) }
         ensures unchanged { self.new ≡ self.old }
     {
-        Ok(self.contents.side(side).len() as u64)
+        Ok(self.contents.len(side) as u64)
     }
 
     fn read(&mut self, side: Side, at: u64, into: &mut [u8]) -> Result<usize, Failed>
         ensures ok { IsOk result }
         ensures count { IfOk result (λ n. n ≡ min (length into.old) (length (side_of self.old.sides side) - at)) }
         ensures bytes { IfOk result (λ n. into.new ≡ take n (drop at (side_of self.old.sides side)) ++ drop n into.old) }
+        ensures sound { AreBytes (side_of self.old.sides side) }
         ensures unchanged { self.new ≡ self.old }
     {
         Ok(self.contents.read(side, at as usize, into))

@@ -1,3 +1,5 @@
+//! Images after crashes, and calls that fail.
+
 use super::*;
 use std::process::Abort;
 use std::test::Fail;

@@ -1,5 +1,5 @@
 use Rattle.std.proofs.Common.{◌≡◌, length}
-use Rattle.outside.specs.Calls.{chosen}
+use Rattle.outside.specs.DiskCalls.{chosen}
 use Rattle.outside.proofs.crash_images.crashed.Given as goal
 
 abbrev pub invariant-loop-rest : goal.invariant-loop-rest

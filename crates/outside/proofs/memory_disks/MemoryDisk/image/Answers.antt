@@ -1,8 +1,8 @@
 use Rattle.std.proofs.Common.{◌≡◌, ◌≤◌, ◌∙◌, ℕ, List, [], length, take, reverse, sym, ap, subst, arith}
 use Rattle.std.proofs.lemmas.List.{reverse-reverse, length-reverse}
-use Rattle.outside.specs.declared.calls.Call.{Call}
+use Rattle.outside.specs.declared.disk_calls.Call.{Call}
 use Rattle.outside.specs.Sides.{Sides}
-use Rattle.outside.specs.Calls.{Remembered, IsImage, calls_until, chosen}
+use Rattle.outside.specs.DiskCalls.{Remembered, IsImage, calls_until, chosen}
 use Rattle.outside.proofs.Choosing.{chosen_after, calls_until-reverse}
 use Rattle.outside.proofs.memory_disks.MemoryDisk.image.Goals as goal
 

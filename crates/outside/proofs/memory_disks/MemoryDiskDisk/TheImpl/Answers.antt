@@ -1,8 +1,8 @@
 use Rattle.std.proofs.Common.{◌≡◌, ◌∙◌, ℕ, length, drop, min, sym, ap, IfOk, length-drop, rules}
 use Rattle.std.proofs.lemmas.Result.{IfOk-weaker}
-use Rattle.outside.specs.declared.calls.Call.TheVariants.{Look, Write, Cut, Sync}
+use Rattle.outside.specs.declared.disk_calls.Call.TheVariants.{Look, Write, Cut, Sync}
 use Rattle.outside.specs.Sides.{side_of}
-use Rattle.outside.specs.Calls.{reads_as}
+use Rattle.outside.specs.DiskCalls.{reads_as}
 use Rattle.outside.proofs.Reading.{read_bound, read_bytes}
 use Rattle.outside.proofs.Elapsing.{passes, lengthens, look_lengthens, write_lengthens, cut_lengthens, begins_anew, write_follows, refused_write, settles}
 use Rattle.outside.proofs.memory_disks.MemoryDiskDisk.TheImpl.Goals as goal
@@ -10,6 +10,7 @@ use Rattle.outside.proofs.memory_disks.MemoryDiskDisk.TheImpl.Goals as goal
 pub len-tells : goal.len-tells
 len-tells c = record {
   length = search rules;
+  sound = search rules;
   same = search rules;
   crash = search rules;
   longest = λ _. lengthens c.result Look look_lengthens c.args.self.now c.new.self.now c.ensures.ok c.ensures.err;
@@ -27,6 +28,7 @@ read-tells c =
       bound = read_bound c.result bytes c.args.into.now c.new.into.now count c.ensures.bytes;
       count = search rules;
       bytes = read_bytes c.result bytes c.args.into.now c.new.into.now count c.ensures.bytes;
+      sound = search rules;
       same = search rules;
       crash = search rules;
       longest = λ _. lengthens c.result Look look_lengthens c.args.self.now c.new.self.now c.ensures.ok c.ensures.err;

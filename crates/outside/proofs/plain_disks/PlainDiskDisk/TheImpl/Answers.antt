@@ -2,7 +2,7 @@ use Rattle.std.proofs.Common.{rules, ap, length}
 use Rattle.std.proofs.lemmas.Result.{on_err_weaker}
 use Rattle.outside.specs.Memory.{Plain}
 use Rattle.outside.specs.Disks.{Torn, CutOrNot}
-use Rattle.outside.specs.Writes.{torn_self, cut_not}
+use Rattle.outside.specs.WriteLaws.{torn_self, cut_not}
 use Rattle.outside.specs.SideLaws.{on_self, on_same}
 use Rattle.outside.proofs.plain_disks.PlainDiskDisk.TheImpl.Goals as goal
 

@@ -4,8 +4,8 @@ use Rattle.std.specs.Prelude.{◌≡◌, ◌-◌, ◌/◌, ◌%◌, ◌≤◌, �
 use Rattle.std.specs.List.{list_any}
 use Rattle.outside.specs.declared.sides.Side.{Side}
 use Rattle.outside.specs.declared.sides.Side.TheVariants.{A, B}
-use Rattle.outside.specs.declared.calls.Call.{Call}
-use Rattle.outside.specs.declared.calls.Call.TheVariants.{Look, Write, Cut, Sync}
+use Rattle.outside.specs.declared.disk_calls.Call.{Call}
+use Rattle.outside.specs.declared.disk_calls.Call.TheVariants.{Look, Write, Cut, Sync}
 use Rattle.outside.specs.Causes.{next_count}
 use Rattle.outside.specs.Sides.{Sides, side_of, with_side, On}
 use Rattle.outside.specs.Disks.{write_over, Torn, CutOrNot}

@@ -1,6 +1,6 @@
 use Rattle.std.proofs.Common.{◌+◌, ◌-◌, ◌∙◌, ap, sym, List, ℕ, take, drop, length, replicate, ◌++◌}
 use Rattle.outside.proofs.Bytes.{put_over}
-use Rattle.outside.proofs.contents.write_into.Goals as goal
+use Rattle.outside.proofs.disk_contents.write_into.Goals as goal
 
 pub returns-clause-ok : goal.returns-clause-ok
 returns-clause-ok c =

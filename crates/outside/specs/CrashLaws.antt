@@ -1,4 +1,4 @@
--- How a call of a disk carries on what holds of whatever a crash may leave.
+-- Laws of what a crash may leave: how a call of a disk carries on what holds of whatever a crash may leave.
 use Rattle.std.proofs.Common.{◌≡◌, ◌≤◌, ℕ, Bool, List, ◌∙◌, inl, inr, ⊎_elim, subst, arith, Option, Some, None, refl}
 use Rattle.outside.specs.declared.sides.Side.{Side}
 use Rattle.outside.specs.Sides.{Sides, side_of, other_side, On, Told, IfTold}

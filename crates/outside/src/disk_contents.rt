@@ -1,5 +1,7 @@
+//! The bytes of a disk in memory.
+
 ghost use Rattle.std.specs.Prelude.{◌≡◌, ◌+◌, ◌-◌, ◌≤◌, ◌^◌, ◌++◌, length, take, drop, min, replicate, IfOk, OnOk, OnErr};
-ghost use Rattle.outside.specs.Sides.{Sides, side_of, with_side};
+ghost use Rattle.outside.specs.Sides.{Sides, side_of, with_side, AreBytes};
 ghost use Rattle.outside.specs.Disks.{write_over};
 
 use crate::sides::Side;
@@ -47,12 +49,17 @@ impl Contents {
     pub(crate) fn read(&self, side: Side, at: usize, into: &mut [u8]) -> usize
         ensures count { result ≡ min (length into.old) (length (side_of self.now side) - at) }
         ensures bytes { into.new ≡ take result (drop at (side_of self.now side)) ++ drop result into.old }
+        ensures sound { AreBytes (side_of self.now side) }
     {
-        let bytes = self.side(side);
-        let from = at.min(bytes.len());
-        let count = into.len().min(bytes.len() - from);
-        into[..count].copy_from_slice(&bytes[from..from + count]);
-        count
+        copy_front(self.side(side), at, into)
+    }
+
+    /// How many bytes a side has.
+    pub(crate) fn len(&self, side: Side) -> usize
+        ensures count { result ≡ length (side_of self.now side) }
+        ensures sound { AreBytes (side_of self.now side) }
+    {
+        count(self.side(side))
     }
 
     pub(crate) fn write_at(&mut self, side: Side, at: usize, piece: &[u8]) -> Result<(), AllocError>
@@ -73,6 +80,25 @@ impl Contents {
             Side::B => self.b.truncate(len),
         }
     }
+}
+
+fn count(bytes: &[u8]) -> usize
+    ensures count { result ≡ length bytes.now }
+    ensures sound { AreBytes bytes.now }
+{
+    bytes.len()
+}
+
+// Puts the bytes from `at` on into the front of `into`, as far as they fit and exist.
+fn copy_front(bytes: &[u8], at: usize, into: &mut [u8]) -> usize
+    ensures count { result ≡ min (length into.old) (length bytes.now - at) }
+    ensures copied { into.new ≡ take result (drop at bytes.now) ++ drop result into.old }
+    ensures sound { AreBytes bytes.now }
+{
+    let from = at.min(bytes.len());
+    let count = into.len().min(bytes.len() - from);
+    into[..count].copy_from_slice(&bytes[from..from + count]);
+    count
 }
 
 // There is no memory for an end that no number of 64 bits tells.

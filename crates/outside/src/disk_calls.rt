@@ -1,7 +1,9 @@
+//! The calls that a disk in memory remembers.
+
 ghost use Rattle.std.specs.Prelude.{◌≡◌, ℕ, List, IfOk, OnOk, OnErr};
 ghost use Rattle.std.specs.List.{list_any};
 
-use crate::contents::Contents;
+use crate::disk_contents::Contents;
 use crate::sides::Side;
 use std::alloc::{AllocError, Global};
 use std::marker::Model;
@@ -44,7 +46,7 @@ pub(crate) enum Call {
 }
 
 impl Call {
-    ghost use Rattle.outside.specs.Calls.{done, with_ones, syncs, is_open};
+    ghost use Rattle.outside.specs.DiskCalls.{done, with_ones, syncs, is_open};
     /// Does to the contents what the call does.
     pub(crate) fn apply(&self, contents: &mut Contents) -> Result<(), AllocError>
         ensures ok { OnOk result (contents.new ≡ done self.now contents.old) }
