@@ -1,0 +1,12 @@
+pub mod Folding
+pub mod Words
+pub mod Batches
+pub mod Readings
+pub mod Recovery
+pub mod Standing
+pub mod Safety
+pub mod EventWrites
+pub mod Journals
+pub mod Laws
+pub mod Runs
+pub mod Copying
