@@ -10,7 +10,7 @@ use Rattle.outside.specs.SideLaws.{on_keeps, on_with}
 use Rattle.outside.specs.WriteLaws.{torn_done}
 use Rattle.outside.specs.CrashLaws.{begins, then, weaker, told_next, if_told, call_carries}
 use Rattle.byte_text.specs.Names.{Bytes}
-use Rattle.append_log.specs.States.{HasNow, IsHeld, IsSafe, IsLeft, Leads}
+use Rattle.append_log.specs.States.{HasNow, IsHeld, SideIsSafe, IsLeft, SideLeads}
 use Rattle.outside.specs.Crashes.{After}
 
 -- the bytes that a side was given
@@ -21,16 +21,6 @@ given s B bytes = refl
 -- what a disk tells is the one thing that it tells
 told_settled : (o : Option Sides) (s : Sides) (side : Side) → o ≡ Some s → IsSettled (λ t. o ≡ Some t) side (side_of s side)
 told_settled o s side told t e = let same : t ≡ s = cc in ap (λ (u : Sides). side_of u side) same
-
--- a write that was done, and a look
-pub torn_written : (side : Side) (at : ℕ) (piece : List ℕ) (o p q : Option Sides)
-    → Told o p (λ s t. t ≡ with_side s side (write_over at piece (side_of s side))) → Told p q (λ s t. t ≡ s) → Told o q (On side (Torn at (length piece)))
-torn_written side at piece None None None one two = tt
-torn_written side at piece (Some s) (Some t) (Some u) one two = subst (λ (v : Sides). On side (Torn at (length piece)) s v) (let e : with_side s side (write_over at piece (side_of s side)) ≡ u = cc in e) (on_with side (Torn at (length piece)) s (write_over at piece (side_of s side)) (torn_done at piece (side_of s side)))
-torn_written side at piece None None (Some u) one two = absurd two
-torn_written side at piece None (Some t) q one two = absurd one
-torn_written side at piece (Some s) None q one two = absurd one
-torn_written side at piece (Some s) (Some t) None one two = absurd two
 
 -- a step on a side that had P
 stepped : (side : Side) (step : Bytes → Bytes → Type 0) (before : Sides → Type 0) (P Q : Bytes → Type 0) → EachImage before (λ c. P (side_of c side)) → ((x y : Bytes) → P x → step x y → Q y)
@@ -43,21 +33,21 @@ stepped side step before P Q each has c after = record {
 }
 
 -- a side that is safe
-pub safe_now : (crashes : Bool) (seen : Option Sides) (images : Sides → Type 0) (side : Side) (P : Bytes → Type 0) → IsSafe crashes seen images side P → HasNow seen side P
+pub safe_now : (crashes : Bool) (seen : Option Sides) (images : Sides → Type 0) (side : Side) (P : Bytes → Type 0) → SideIsSafe crashes seen images side P → HasNow seen side P
 safe_now crashes seen images side P safe = record { contents = safe.contents; told = safe.told; has = safe.has }
 
-pub safe_held : (crashes : Bool) (seen : Option Sides) (images : Sides → Type 0) (side : Side) (P : Bytes → Type 0) → IsSafe crashes seen images side P → IsHeld crashes seen images side P
+pub safe_held : (crashes : Bool) (seen : Option Sides) (images : Sides → Type 0) (side : Side) (P : Bytes → Type 0) → SideIsSafe crashes seen images side P → IsHeld crashes seen images side P
 safe_held crashes seen images side P safe = record {
   now = record { contents = safe.contents; told = safe.told; has = safe.has };
   each = λ yes c image. subst P (sym (safe.settled yes c image)) safe.has;
 }
 
-pub safe_weaker : (crashes : Bool) (seen : Option Sides) (images : Sides → Type 0) (side : Side) (P Q : Bytes → Type 0) → ((x : Bytes) → P x → Q x) → IsSafe crashes seen images side P → IsSafe crashes seen images side Q
+pub safe_weaker : (crashes : Bool) (seen : Option Sides) (images : Sides → Type 0) (side : Side) (P Q : Bytes → Type 0) → ((x : Bytes) → P x → Q x) → SideIsSafe crashes seen images side P → SideIsSafe crashes seen images side Q
 safe_weaker crashes seen images side P Q f safe = record { contents = safe.contents; told = safe.told; has = f (side_of safe.contents side) safe.has; settled = safe.settled }
 
 -- what is held at the end of calls
 pub leads_held : {D : Type 0} (crashes : D → Bool) (seen : D → Option Sides) (images : D → Sides → Type 0) (moment : D → ℕ) (left_since : D → ℕ → Sides → Type 0) (side : Side) (P : Bytes → Type 0) (old new : D)
-    → crashes new ≡ crashes old → Leads crashes seen images moment left_since side P old new → IsHeld (crashes new) (seen new) (images new) side P
+    → crashes new ≡ crashes old → SideLeads crashes seen images moment left_since side P old new → IsHeld (crashes new) (seen new) (images new) side P
 leads_held crashes seen images moment left_since side P old new same leads = record {
   now = record { contents = leads.contents.0; told = leads.contents.1; has = leads.contents.2.here };
   each = λ yes c image. (leads.images_now (sym same ∙ yes) c image).here;
@@ -65,7 +55,7 @@ leads_held crashes seen images moment left_since side P old new same leads = rec
 
 -- the other side stays safe
 pub leads_other : {D : Type 0} (crashes : D → Bool) (seen : D → Option Sides) (images : D → Sides → Type 0) (moment : D → ℕ) (left_since : D → ℕ → Sides → Type 0) (side : Side) (P Q : Bytes → Type 0) (old new : D)
-    → crashes new ≡ crashes old → Leads crashes seen images moment left_since side P old new → IsSafe (crashes old) (seen old) (images old) (other_side side) Q → IsSafe (crashes new) (seen new) (images new) (other_side side) Q
+    → crashes new ≡ crashes old → SideLeads crashes seen images moment left_since side P old new → SideIsSafe (crashes old) (seen old) (images old) (other_side side) Q → SideIsSafe (crashes new) (seen new) (images new) (other_side side) Q
 leads_other crashes seen images moment left_since side P Q old new same leads safe =
     let left = leads.contents.2 in
     let bytes : side_of leads.contents.0 (other_side side) ≡ side_of safe.contents (other_side side) = left.there ∙ told_settled (seen old) safe.contents (other_side side) safe.told left.earlier left.could in
@@ -86,7 +76,7 @@ left_then before mid side P Q one c left =
 
 -- a fact that follows
 pub leads_weaker : {D : Type 0} (crashes : D → Bool) (seen : D → Option Sides) (images : D → Sides → Type 0) (moment : D → ℕ) (left_since : D → ℕ → Sides → Type 0) (side : Side) (P Q : Bytes → Type 0) (old new : D)
-    → ((x : Bytes) → P x → Q x) → Leads crashes seen images moment left_since side P old new → Leads crashes seen images moment left_since side Q old new
+    → ((x : Bytes) → P x → Q x) → SideLeads crashes seen images moment left_since side P old new → SideLeads crashes seen images moment left_since side Q old new
 leads_weaker crashes seen images moment left_since side P Q old new f leads = record {
   contents = (leads.contents.0, leads.contents.1, left_weaker (λ s. seen old ≡ Some s) side P Q f leads.contents.0 leads.contents.2);
   images_now = λ told c image. left_weaker (images old) side P Q f c (leads.images_now told c image);
@@ -95,7 +85,7 @@ leads_weaker crashes seen images moment left_since side P Q old new f leads = re
 
 -- one run of calls and then another
 pub leads_then : {D : Type 0} (crashes : D → Bool) (seen : D → Option Sides) (images : D → Sides → Type 0) (moment : D → ℕ) (left_since : D → ℕ → Sides → Type 0) (side : Side) (P : Bytes → Type 0) (old mid new : D)
-    → crashes mid ≡ crashes old → Leads crashes seen images moment left_since side P old mid → Leads crashes seen images moment left_since side P mid new → Leads crashes seen images moment left_since side P old new
+    → crashes mid ≡ crashes old → SideLeads crashes seen images moment left_since side P old mid → SideLeads crashes seen images moment left_since side P mid new → SideLeads crashes seen images moment left_since side P old new
 leads_then crashes seen images moment left_since side P old mid new same one two = record {
   contents = (
     two.contents.0,
@@ -112,7 +102,7 @@ leads_then crashes seen images moment left_since side P old mid new same one two
 pub leads_step : {D : Type 0} (crashes : D → Bool) (seen : D → Option Sides) (images : D → Sides → Type 0) (moment : D → ℕ) (left_since : D → ℕ → Sides → Type 0) (side : Side) (P Q : Bytes → Type 0) (step : Bytes → Bytes → Type 0) (old new : D)
     → IsHeld (crashes old) (seen old) (images old) side P → ((x y : Bytes) → P x → step x y → Q y)
     → Told (seen old) (seen new) (On side step) → Follows (On side step) (images old) (images new) → LeavesOnly moment left_since old new (After (On side step) (images old))
-    → Leads crashes seen images moment left_since side Q old new
+    → SideLeads crashes seen images moment left_since side Q old new
 leads_step crashes seen images moment left_since side P Q step old new held has told crash moments =
     let s = held.now.contents in
     let after = told_next (seen old) (seen new) s (On side step) held.now.told told in
@@ -127,7 +117,7 @@ pub safe_write : (crashes crashes' : Bool) (seen seen' : Option Sides) (images' 
     → HasNow seen side P → ((x : Bytes) → P x → Q (write_over at piece x)) → crashes' ≡ crashes
     → Told seen seen' (λ s t. t ≡ with_side s side (write_over at piece (side_of s side)))
     → (crashes ≡ true → IfTold seen (λ s. IsSettled images' side (write_over at piece (side_of s side))))
-    → IsSafe crashes' seen' images' side Q
+    → SideIsSafe crashes' seen' images' side Q
 safe_write crashes crashes' seen seen' images' side at piece P Q safe has same written durable =
     let s = safe.contents in
     let new = write_over at piece (side_of s side) in
@@ -145,14 +135,14 @@ pub safe_written : {T E : Type 0} (r : Result T E) (crashes crashes' : Bool) (se
     → HasNow seen side P → ((x : Bytes) → P x → Q (write_over at piece x)) → crashes' ≡ crashes
     → OnOk r (Told seen seen' (λ s t. t ≡ with_side s side (write_over at piece (side_of s side))))
     → (crashes ≡ true → OnOk r (IfTold seen (λ s. IsSettled images' side (write_over at piece (side_of s side)))))
-    → OnOk r (IsSafe crashes' seen' images' side Q)
+    → OnOk r (SideIsSafe crashes' seen' images' side Q)
 safe_written (Err x) crashes crashes' seen seen' images' side at piece P Q safe has same written durable = tt
 safe_written (Ok x) crashes crashes' seen seen' images' side at piece P Q safe has same written durable = safe_write crashes crashes' seen seen' images' side at piece P Q safe has same written durable
 
 -- a look at the disk
 pub leads_look : {D : Type 0} (crashes : D → Bool) (seen : D → Option Sides) (images : D → Sides → Type 0) (moment : D → ℕ) (left_since : D → ℕ → Sides → Type 0) (side : Side) (P : Bytes → Type 0) (old new : D)
-    → IsSafe (crashes old) (seen old) (images old) side P → Told (seen old) (seen new) (λ s t. t ≡ s) → ((c : Sides) → images new c → images old c) → Elapses crashes images moment left_since old new
-    → Leads crashes seen images moment left_since side P old new
+    → SideIsSafe (crashes old) (seen old) (images old) side P → Told (seen old) (seen new) (λ s t. t ≡ s) → ((c : Sides) → images new c → images old c) → Elapses crashes images moment left_since old new
+    → SideLeads crashes seen images moment left_since side P old new
 leads_look crashes seen images moment left_since side P old new safe told crash time =
     let s = safe.contents in
     let after = told_next (seen old) (seen new) s (λ s t. t ≡ s) safe.told told in
@@ -164,7 +154,7 @@ leads_look crashes seen images moment left_since side P old new safe told crash 
     }
 
 pub safe_look : (crashes crashes' : Bool) (seen seen' : Option Sides) (images images' : Sides → Type 0) (side : Side) (P : Bytes → Type 0)
-    → IsSafe crashes seen images side P → crashes' ≡ crashes → Told seen seen' (λ s t. t ≡ s) → ((c : Sides) → images' c → images c) → IsSafe crashes' seen' images' side P
+    → SideIsSafe crashes seen images side P → crashes' ≡ crashes → Told seen seen' (λ s t. t ≡ s) → ((c : Sides) → images' c → images c) → SideIsSafe crashes' seen' images' side P
 safe_look crashes crashes' seen seen' images images' side P safe same told crash =
     let s = safe.contents in
     let after = told_next seen seen' s (λ s t. t ≡ s) safe.told told in
@@ -177,13 +167,13 @@ safe_look crashes crashes' seen seen' images images' side P safe same told crash
 
 -- the same disk under another name
 pub leads_from : {D : Type 0} (crashes : D → Bool) (seen : D → Option Sides) (images : D → Sides → Type 0) (moment : D → ℕ) (left_since : D → ℕ → Sides → Type 0) (side : Side) (P : Bytes → Type 0) (old other new : D)
-    → other ≡ old → Leads crashes seen images moment left_since side P other new → Leads crashes seen images moment left_since side P old new
-leads_from {D} crashes seen images moment left_since side P old other new same leads = subst (λ (d : D). Leads crashes seen images moment left_since side P d new) same leads
+    → other ≡ old → SideLeads crashes seen images moment left_since side P other new → SideLeads crashes seen images moment left_since side P old new
+leads_from {D} crashes seen images moment left_since side P old other new same leads = subst (λ (d : D). SideLeads crashes seen images moment left_since side P d new) same leads
 
 pub leads_to : {D : Type 0} (crashes : D → Bool) (seen : D → Option Sides) (images : D → Sides → Type 0) (moment : D → ℕ) (left_since : D → ℕ → Sides → Type 0) (side : Side) (P : Bytes → Type 0) (old other new : D)
-    → other ≡ new → Leads crashes seen images moment left_since side P old other → Leads crashes seen images moment left_since side P old new
-leads_to {D} crashes seen images moment left_since side P old other new same leads = subst (λ (d : D). Leads crashes seen images moment left_since side P old d) same leads
+    → other ≡ new → SideLeads crashes seen images moment left_since side P old other → SideLeads crashes seen images moment left_since side P old new
+leads_to {D} crashes seen images moment left_since side P old other new same leads = subst (λ (d : D). SideLeads crashes seen images moment left_since side P old d) same leads
 
 pub safe_under : {D : Type 0} (crashes : D → Bool) (seen : D → Option Sides) (images : D → Sides → Type 0) (side : Side) (P : Bytes → Type 0) (other disk : D)
-    → other ≡ disk → IsSafe (crashes other) (seen other) (images other) side P → IsSafe (crashes disk) (seen disk) (images disk) side P
-safe_under {D} crashes seen images side P other disk same safe = subst (λ (d : D). IsSafe (crashes d) (seen d) (images d) side P) same safe
+    → other ≡ disk → SideIsSafe (crashes other) (seen other) (images other) side P → SideIsSafe (crashes disk) (seen disk) (images disk) side P
+safe_under {D} crashes seen images side P other disk same safe = subst (λ (d : D). SideIsSafe (crashes d) (seen d) (images d) side P) same safe

@@ -1,4 +1,4 @@
-use Rattle.log_record.proofs.Doing.{steps_make_their_writes}
+use Rattle.log_record.specs.EventWriteLaws.{steps_make_their_writes}
 use Rattle.log_record.proofs.laws.steps_make_their_writes.Goals as goal
 
 pub returns : goal.returns
