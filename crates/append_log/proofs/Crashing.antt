@@ -1,13 +1,12 @@
 -- How the calls of a disk carry on what holds of a side.
-use Rattle.std.specs.Prelude.{Result, Ok, Err, OnOk, Bool, true, Option, Some, None}
-use Rattle.std.proofs.Common.{◌≡◌, ◌∙◌, ℕ, List, length, refl, sym, ap, subst}
+use Rattle.std.specs.Prelude.{Result, Ok, Err, OnOk, Bool, true, Option, Some}
+use Rattle.std.proofs.Common.{◌≡◌, ◌∙◌, ℕ, refl, sym, ap, subst}
 use Rattle.outside.specs.declared.sides.Side.{Side}
 use Rattle.outside.specs.declared.sides.Side.TheVariants.{A, B}
 use Rattle.outside.specs.Sides.{Sides, side_of, with_side, On, other_side, Told, IfTold}
-use Rattle.outside.specs.Disks.{write_over, Torn, Follows, Elapses}
+use Rattle.outside.specs.Disks.{write_over, Follows, Elapses}
 use Rattle.outside.specs.Crashes.{IsSettled, EachImage, LeavesOnly}
-use Rattle.outside.specs.SideLaws.{on_keeps, on_with}
-use Rattle.outside.specs.WriteLaws.{torn_done}
+use Rattle.outside.specs.SideLaws.{on_keeps}
 use Rattle.outside.specs.CrashLaws.{begins, then, weaker, told_next, if_told, call_carries}
 use Rattle.byte_text.specs.Names.{Bytes}
 use Rattle.append_log.specs.States.{HasNow, IsHeld, SideIsSafe, IsLeft, SideLeads}

@@ -7,8 +7,8 @@ ghost use Rattle.append_log.specs.Texts.{StandsRound, IsGeneration, committed, w
 ghost use Rattle.append_log.specs.Making.{WhileMade};
 ghost use Rattle.append_log.specs.States.{SideIsSafe, IsLog, SideLeads};
 
-use crate::pending_batches::Batch;
 use crate::commits::append_batch;
+use crate::pending_batches::Batch;
 use crate::side_making::make_side;
 use byte_text::NoMemory;
 use outside::{Disk, Failed, Side};
