@@ -117,4 +117,3 @@ record_read words c e = let found = recorded words (could_be words) c e in
 pub fits_of : (z : ℤ) → (int_le (negsuc 9223372036854775807) z && int_le z (pos 9223372036854775807)) ≡ true → FitsSigned w64 z
 fits_of (pos n) e = let l : n ≤ 9223372036854775807 = leb-true n 9223372036854775807 (second (int_le (negsuc 9223372036854775807) (pos n)) _ e) in record { sfits = omega (arith, l) }
 fits_of (negsuc n) e = let l : n ≤ 9223372036854775807 = leb-true n 9223372036854775807 (first (int_le (negsuc 9223372036854775807) (negsuc n)) _ e) in record { sfits = omega (arith, l) }
-

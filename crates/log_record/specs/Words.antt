@@ -6,13 +6,17 @@ use Rattle.byte_text.specs.Numbers.{digits_value, signed_value}
 use Rattle.byte_text.specs.Requests.{IsRequest}
 use Rattle.geo_text.specs.Texts.{Shape, shape_of}
 use Rattle.geo_text.specs.declared.faults.GeoFault.{GeoFault}
+use Rattle.planar_geom.specs.declared.shapes.Area.{Area}
+use Rattle.planar_geom.specs.declared.shapes.Area.TheVariants.{Figure}
+use Rattle.world_model.specs.Effects.{settled_channel}
+use Rattle.world_data.specs.declared.channels.Channel.{Channel}
 use Rattle.world_data.specs.Filters.{Field, are_fields}
 use Rattle.world_model.specs.Commands.{command_spelled}
 use Rattle.world_data.specs.Sound.{is_sound_channel}
 use Rattle.world_data.specs.Records.{record_words}
 use Rattle.world_data.specs.declared.worlds.Change.{Change}
 use Rattle.world_data.specs.declared.worlds.Change.TheVariants.{Put, Del, Drop, Flush, SetChan, DelChan}
-use Rattle.world_model.specs.declared.commands.AreaWords.TheVariants.{Given}
+use Rattle.world_model.specs.declared.commands.AreaWords.TheVariants.{Given, Of}
 use Rattle.world_model.specs.declared.commands.Command.{Command}
 use Rattle.world_model.specs.declared.commands.Command.TheVariants as command
 
@@ -124,3 +128,10 @@ change_of_words words = if_recorded words (could_be words)
 pub record IsRecorded (c : Change) : Type 0 where
   pub read_back : change_of_words (record_words c) ≡ Some c
   pub fits : IsRequest (record_words c)
+
+-- a setting's normal words spell the setting itself
+pub record SettingsAreNormal : Type 0 where
+  pub given : (words : List Bytes) (c : Channel) (a : Area) → command_spelled words ≡ Some (command.Setchan c (Some (Given a))) → command_spelled (record_words (SetChan c)) ≡ Some (command.Setchan c (Some (Given a)))
+  pub near : (words : List Bytes) (c : Channel) → command_spelled words ≡ Some (command.Setchan c None) → command_spelled (record_words (SetChan c)) ≡ Some (command.Setchan c None)
+  pub stored : (words : List Bytes) (c : Channel) (key id text : Bytes) (shape : Shape) → command_spelled words ≡ Some (command.Setchan c (Some (Of key id))) → shape_of text ≡ Ok shape
+      → let d = settled_channel c (Figure shape) (codes "OBJECT" ∷ text ∷ []) in command_spelled (record_words (SetChan d)) ≡ Some (command.Setchan d (Some (Given (Figure shape))))

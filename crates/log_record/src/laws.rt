@@ -9,7 +9,7 @@ ghost use Rattle.world_data.specs.Records.{record_words};
 ghost use Rattle.world_data.specs.declared.objects.Object.{Object};
 ghost use Rattle.world_data.specs.declared.worlds.Change.{Change};
 ghost use Rattle.world_data.specs.declared.worlds.Change.TheVariants.{Put, Del, Drop, Flush, DelChan};
-ghost use Rattle.log_record.specs.Words.{HasShape, change_of_words, is_kept};
+ghost use Rattle.log_record.specs.Words.{HasShape, SettingsAreNormal, change_of_words, is_kept};
 ghost use Rattle.log_record.specs.Recovery.{Recovers};
 ghost use Rattle.log_record.specs.Copying.{PartsGrow};
 ghost use Rattle.log_record.specs.Runs.{OpeningsKeepRunsSafe, TurnsKeepRunsSafe};
@@ -57,12 +57,14 @@ pub fn runs_stay_safe<D: Disk>()
     ensures openings { OpeningsKeepRunsSafe D.images D.moment D.left_since }
 {}
 
-/// What is kept, and has its shape, is read back from its record. Of channels that is asked for each.
+/// What is kept, and has its shape, is read back from its record. The normal words of a channel's setting spell it again, and where
+/// its area was an object's, they do with the object's text in its place.
 pub fn records_are_read_back()
     ensures objects { (o : Object) → is_kept (Put o) ≡ true → shape_of o.text ≡ Ok o.shape → change_of_words (record_words (Put o)) ≡ Some (Put o) }
     ensures dels { (key id : Bytes) → is_kept (Del key id) ≡ true → change_of_words (record_words (Del key id)) ≡ Some (Del key id) }
     ensures drops { (key : Bytes) → is_kept (Drop key) ≡ true → change_of_words (record_words (Drop key)) ≡ Some (Drop key) }
     ensures flush { change_of_words (record_words Flush) ≡ Some Flush }
+    ensures settings { SettingsAreNormal }
     ensures channels { (name : Bytes) → is_kept (DelChan name) ≡ true → change_of_words (record_words (DelChan name)) ≡ Some (DelChan name) }
 {}
 
