@@ -1,0 +1,52 @@
+-- How a side is passed over.
+use Rattle.std.specs.Prelude.{Bool, Option}
+use Rattle.std.proofs.Common.{◌≡◌, ◌≤◌, ℕ, List, [], refl, sym, subst, arith}
+use Rattle.outside.specs.declared.sides.Side.{Side}
+use Rattle.outside.specs.Sides.{Sides}
+use Rattle.outside.specs.CrashLaws.{begins}
+use Rattle.byte_text.specs.Names.{Bytes}
+use Rattle.append_log.specs.States.{SideIsSafe, IsLeft, SideLeads}
+use Rattle.append_log.specs.Reading.{IsAtGate}
+use Rattle.append_log.proofs.Crashing.{leads_then}
+
+-- from an old disk, and a place, to what is read now
+pub record Passes {D : Type 0} (crashes : D → Bool) (seen : D → Option Sides) (images : D → Sides → Type 0) (moment : D → ℕ) (left_since : D → ℕ → Sides → Type 0) (faults : D → ℕ) (side : Side) (len from : ℕ) (old now : D) (at : ℕ) : Type 0 where
+  pub told : crashes now ≡ crashes old
+  pub later : faults old ≤ faults now
+  pub safe : (bytes : Bytes) → SideIsSafe (crashes old) (seen old) (images old) side (λ x. x ≡ bytes) → SideIsSafe (crashes now) (seen now) (images now) side (λ x. x ≡ bytes)
+  pub same : (bytes : Bytes) → SideIsSafe (crashes old) (seen old) (images old) side (λ x. x ≡ bytes) → SideLeads crashes seen images moment left_since side (λ x. x ≡ bytes) old now
+  pub gate : (g : ℕ) (bytes : Bytes) → SideIsSafe (crashes old) (seen old) (images old) side (λ x. x ≡ bytes) → IsAtGate g [] len from bytes → (bs : List Bytes) × IsAtGate g bs len at bytes
+
+-- no call was made
+pub leads_self : {D : Type 0} (crashes : D → Bool) (seen : D → Option Sides) (images : D → Sides → Type 0) (moment : D → ℕ) (left_since : D → ℕ → Sides → Type 0) (side : Side) (P : Bytes → Type 0) (disk : D)
+    → SideIsSafe (crashes disk) (seen disk) (images disk) side P → SideLeads crashes seen images moment left_since side P disk disk
+leads_self crashes seen images moment left_since side P disk safe = record {
+  contents = (safe.contents, safe.told, record { here = safe.has; earlier = safe.contents; could = safe.told; there = refl });
+  images_now = λ told c image. record { here = subst P (sym (safe.settled told c image)) safe.has; earlier = c; could = image; there = refl };
+  moments = λ told. begins moment left_since disk (IsLeft (images disk) side P);
+}
+
+pub passes_none : {D : Type 0} (crashes : D → Bool) (seen : D → Option Sides) (images : D → Sides → Type 0) (moment : D → ℕ) (left_since : D → ℕ → Sides → Type 0) (faults : D → ℕ) (side : Side) (len from : ℕ) (disk : D)
+    → Passes crashes seen images moment left_since faults side len from disk disk from
+passes_none crashes seen images moment left_since faults side len from disk = record {
+  told = refl;
+  later = omega arith;
+  safe = λ bytes safe. safe;
+  same = λ bytes safe. leads_self crashes seen images moment left_since side (λ x. x ≡ bytes) disk safe;
+  gate = λ g bytes safe gate. ([], gate);
+}
+
+-- one more call, on the side of a reader that is this one
+pub safe_next : {D : Type 0} (crashes : D → Bool) (seen : D → Option Sides) (images : D → Sides → Type 0) (side other : Side) (now new : D) → other ≡ side
+    → ((bytes : Bytes) → SideIsSafe (crashes now) (seen now) (images now) other (λ x. x ≡ bytes) → SideIsSafe (crashes new) (seen new) (images new) other (λ x. x ≡ bytes))
+    → (bytes : Bytes) → SideIsSafe (crashes now) (seen now) (images now) side (λ x. x ≡ bytes) → SideIsSafe (crashes new) (seen new) (images new) side (λ x. x ≡ bytes)
+safe_next crashes seen images side other now new e step =
+    subst (λ (x : Side). (bytes : Bytes) → SideIsSafe (crashes now) (seen now) (images now) x (λ x. x ≡ bytes) → SideIsSafe (crashes new) (seen new) (images new) x (λ x. x ≡ bytes)) e step
+
+pub same_next : {D : Type 0} (crashes : D → Bool) (seen : D → Option Sides) (images : D → Sides → Type 0) (moment : D → ℕ) (left_since : D → ℕ → Sides → Type 0) (faults : D → ℕ) (side other : Side) (len from at : ℕ) (old now new : D)
+    → Passes crashes seen images moment left_since faults side len from old now at → other ≡ side
+    → ((bytes : Bytes) → SideIsSafe (crashes now) (seen now) (images now) other (λ x. x ≡ bytes) → SideLeads crashes seen images moment left_since other (λ x. x ≡ bytes) now new)
+    → (bytes : Bytes) → SideIsSafe (crashes old) (seen old) (images old) side (λ x. x ≡ bytes) → SideLeads crashes seen images moment left_since side (λ x. x ≡ bytes) old new
+same_next {D} crashes seen images moment left_since faults side other len from at old now new passes e step bytes safe =
+    leads_then crashes seen images moment left_since side (λ x. x ≡ bytes) old now new passes.told (passes.same bytes safe)
+    (subst (λ (x : Side). (bytes : Bytes) → SideIsSafe (crashes now) (seen now) (images now) x (λ x. x ≡ bytes) → SideLeads crashes seen images moment left_since x (λ x. x ≡ bytes) now new) e step bytes (passes.safe bytes safe))

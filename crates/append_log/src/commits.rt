@@ -1,0 +1,29 @@
+//! A batch is made to stand behind the closed gate of a side.
+
+ghost use Rattle.std.specs.Prelude.{◌≡◌, ◌+◌, ◌≤◌, ◌^◌, ℕ, List, length, OnOk};
+ghost use Rattle.byte_text.specs.Names.{Bytes};
+ghost use Rattle.outside.specs.Causes.{HasCause};
+ghost use Rattle.append_log.specs.Texts.{StandsFor, StandsWithin, with_batch, sealed};
+ghost use Rattle.append_log.specs.States.{SideIsSafe, IsLog, SideLeads};
+
+use outside::{Disk, Failed, Side, write_durably};
+
+/// Makes a batch stand behind the closed gate of a side.
+pub(crate) fn append_batch<D: Disk>(
+    disk: &mut D,
+    side: Side,
+    gate: u64,
+    batch: &[u8],
+) -> Result<(), Failed>
+    requires room { gate + length batch.now ≤ 2 ^ 62 }
+    requires sealed { 10 ≤ length batch.now }
+    ensures stands { (g : ℕ) (bs : List Bytes) (b : Bytes) → batch.now ≡ sealed b → IsLog (D.crashes disk.old) (D.seen disk.old) (D.images disk.old) side g gate bs → OnOk result (SideIsSafe (D.crashes disk.new) (D.seen disk.new) (D.images disk.new) side (StandsFor g (with_batch bs b))) }
+    ensures either { (g : ℕ) (bs : List Bytes) (b : Bytes) → batch.now ≡ sealed b → IsLog (D.crashes disk.old) (D.seen disk.old) (D.images disk.old) side g gate bs → SideLeads D.crashes D.seen D.images D.moment D.left_since side (StandsWithin g bs b) disk.old disk.new }
+    ensures told { D.crashes disk.new ≡ D.crashes disk.old }
+    ensures cause { HasCause (D.faults disk.old) (D.faults disk.new) result }
+{
+    match write_durably(disk, side, gate + 1, &batch[1..]) {
+        Ok(()) => write_durably(disk, side, gate, &[1]),
+        Err(Failed) => Err(Failed),
+    }
+}

@@ -1,0 +1,147 @@
+-- The writes that a step does.
+use Rattle.std.proofs.Common.{◌≡◌, ℕ, ◌+◌, max, Bool, true, false, List, [], ◌∷◌, ◌++◌, map, Option, Some, None, refl, sym, ap, subst, ◌∙◌, arith}
+use Rattle.std.specs.Prelude.{IfSome, if◌then◌else◌}
+use Rattle.byte_text.specs.Names.{Bytes}
+use Rattle.byte_text.specs.Replies.{frame_text}
+use Rattle.world_model.specs.Subscriptions.{with_subs}
+use Rattle.fence_model.specs.Writes.{Write}
+use Rattle.world_model.specs.Effects.{Effect}
+use Rattle.world_model.specs.Served.{asks}
+use Rattle.world_data.specs.Records.{record_len}
+use Rattle.world_data.specs.Worlds.{after}
+use Rattle.world_model.specs.Halls.{Hall, Session, is_live, session_of, place, place_all, deliveries, apply, apply_all, change_session, due, close_session, closed_if, do_effect, effect_of, do_asked, do_live, do_call}
+use Rattle.world_model.specs.Histories.{Ending, first_of, refusal, refusal_going, when_stopped, doing, stopped, enter_tests, call_tests, take_tests, tick_tests}
+use Rattle.world_data.specs.declared.worlds.World.{World}
+use Rattle.world_data.specs.declared.worlds.Change.{Change}
+use Rattle.world_model.specs.declared.events.Asked.{Asked}
+use Rattle.world_model.specs.declared.events.Asked.TheVariants.{Words, Broken}
+use Rattle.world_model.specs.declared.events.Event.{Event}
+use Rattle.world_model.specs.declared.events.Event.TheVariants.{Enter, Call, Take, Tick, Close, Remove, Rewrite, Retire}
+use Rattle.log_record.specs.Folding.{folded}
+use Rattle.log_record.specs.EventWrites.{changes_of, logged_by, due_writes, asked_writes, live_writes, call_writes, writes_of, writes_by, is_fine, Does}
+use Rattle.log_record.specs.Laws.{StepsMakeTheirWrites}
+use Rattle.log_record.specs.StepCases.{step_by_cases}
+
+pub folded-append : (w : World) (one other : List Change) → folded w (one ++ other) ≡ folded (folded w one) other
+folded-append w [] other = refl
+folded-append w (c ∷ one) other = folded-append (after w c) one other
+
+changes-append : (one other : List Write) → changes_of (one ++ other) ≡ changes_of one ++ changes_of other
+changes-append [] other = refl
+changes-append (d ∷ one) other = ap (λ l. d.change ∷ l) (changes-append one other)
+
+logged-append : (one other : List Write) → logged_by (one ++ other) ≡ logged_by one + logged_by other
+logged-append [] other = omega arith
+logged-append (d ∷ one) other = omega (arith, logged-append one other)
+
+-- nothing, and one thing behind another
+does_none : (old new : Hall) → new.world ≡ old.world → new.logged ≡ old.logged → Does old new []
+does_none old new world logged = record { world = world; logged = omega (arith, logged) }
+
+does_then : (old mid new : Hall) (one other : List Write) → Does old mid one → Does mid new other → Does old new (one ++ other)
+does_then old mid new one other first second = record {
+  world = second.world ∙ ap (λ w. folded w (changes_of other)) first.world ∙ sym (folded-append old.world (changes_of one) (changes_of other)) ∙ ap (folded old.world) (sym (changes-append one other));
+  logged = omega (arith, second.logged, first.logged, logged-append one other);
+}
+
+-- placing frames changes neither
+place_all_keeps : (h : Hall) (ds : List (ℕ × Bytes)) → ((place_all h ds).world ≡ h.world) × ((place_all h ds).logged ≡ h.logged)
+place_all_keeps h [] = (refl, refl)
+place_all_keeps h (d ∷ ds) = place_all_keeps (place h d) ds
+
+apply_does : (h : Hall) (d : Write) → Does h (apply h d) (d ∷ [])
+unfolding apply
+apply_does h d = let kept = place_all_keeps (record h { world = after h.world d.change; logged = h.logged + record_len d.change }) (deliveries h.world h.sessions d) in
+    record { world = kept.0; logged = omega (arith, kept.1) }
+
+apply_all_does : (h : Hall) (writes : List Write) → Does h (apply_all h writes) writes
+apply_all_does h [] = does_none h h refl refl
+apply_all_does h (d ∷ writes) = does_then h (apply h d) (apply_all (apply h d) writes) (d ∷ []) writes (apply_does h d) (apply_all_does (apply h d) writes)
+
+-- before and behind writes a hall may be changed otherwise
+does_from : (old mid new : Hall) (writes : List Write) → mid.world ≡ old.world → mid.logged ≡ old.logged → Does mid new writes → Does old new writes
+does_from old mid new writes world logged does = record { world = does.world ∙ ap (λ w. folded w (changes_of writes)) world; logged = omega (arith, does.logged, logged) }
+
+does_to : (old mid new : Hall) (writes : List Write) → new.world ≡ mid.world → new.logged ≡ mid.logged → Does old mid writes → Does old new writes
+does_to old mid new writes world logged does = record { world = world ∙ does.world; logged = logged ∙ does.logged }
+
+due_does : (h : Hall) (moment : ℕ) → Does h (due h moment) (due_writes h moment)
+due_does h moment = let later = record h { now = max h.now moment } in does_from h later (due h moment) (due_writes h moment) refl refl (apply_all_does later (due_writes h moment))
+
+closed_does : (closes : Bool) (n : ℕ) (old h : Hall) (writes : List Write) → Does old h writes → Does old (closed_if closes n h) writes
+closed_does true n old h writes does = does_to old h (close_session n h) writes refl refl does
+closed_does false n old h writes does = does
+
+effect_does : (h : Hall) (n : ℕ) (e : Effect) → Does h (do_effect h n e) e.writes
+effect_does h n e =
+    let subscribed : Hall = change_session (λ s. record s { subs = with_subs s.subs e.subs }) n h in
+    let frames : List (ℕ × Bytes) = map (λ r. (n, frame_text r)) e.replies in
+    let placed : Hall = place_all subscribed frames in
+    let kept = place_all_keeps subscribed frames in
+    closed_does e.closes n h (apply_all placed e.writes) e.writes (does_from h placed (apply_all placed e.writes) e.writes kept.0 kept.1 (apply_all_does placed e.writes))
+
+asked_does : (h : Hall) (s : Session) (asked : Asked) → Does h (do_asked h s asked) (asked_writes h s asked)
+asked_does h s (Words words) = effect_does h s.number (effect_of h s (asks words))
+asked_does h s (Broken fault) = does_none h (do_asked h s (Broken fault)) refl refl
+
+live_does : (h : Hall) (s : Option Session) (asked : Asked) → Does h (do_live h s asked) (live_writes h s asked)
+live_does h None asked = does_none h h refl refl
+live_does h (Some s) asked = elim (is_live s) as (λ b. Does h (if b then do_asked h s asked else h) (if b then asked_writes h s asked else [])) [ true ↦ asked_does h s asked | false ↦ does_none h h refl refl ]
+
+call_does : (h : Hall) (n : ℕ) (asked : Asked) → Does h (do_call h n asked) (call_writes h n asked)
+unfolding do_call
+call_does h n asked = live_does h (session_of h n) asked
+
+done_does : (h : Hall) (event : Event) → Does h (doing h event).1 (writes_by h event (doing h event).0)
+done_does h Enter = does_none h (doing h Enter).1 refl refl
+done_does h (Call n moment asked) = does_then h (due h moment) (do_call (due h moment) n asked) (due_writes h moment) (call_writes (due h moment) n asked) (due_does h moment) (call_does (due h moment) n asked)
+done_does h (Take n) = does_none h (doing h (Take n)).1 refl refl
+done_does h (Tick moment) = due_does h moment
+done_does h (Close n) = does_none h (doing h (Close n)).1 refl refl
+done_does h (Remove n) = does_none h (doing h (Remove n)).1 refl refl
+done_does h Rewrite = does_none h h refl refl
+done_does h Retire = does_none h (stopped h) refl refl
+
+-- a refusal does nothing
+abbrev Idle : Hall → Ending → Type 0
+Idle h e = (is_fine e.0 ≡ false) × (e.1.world ≡ h.world) × (e.1.logged ≡ h.logged)
+
+abbrev AllIdle : Hall → List (Bool × Ending) → Type 0
+AllIdle h [] = Unit {0}
+AllIdle h (e ∷ endings) = Idle h e.1 × AllIdle h endings
+
+first_idle : (h : Hall) (endings : List (Bool × Ending)) → AllIdle h endings → IfSome (first_of endings) (Idle h)
+first_idle h [] all = tt
+first_idle h (e ∷ endings) all = elim (e.0) as (λ b. IfSome (if b then Some e.1 else first_of endings) (Idle h)) [ true ↦ all.0 | false ↦ first_idle h endings all.1 ]
+
+going_idle : (h : Hall) (event : Event) → IfSome (refusal_going h event) (Idle h)
+going_idle h Enter = first_idle h (enter_tests h) ((refl, refl, refl), tt)
+going_idle h (Call n moment asked) = first_idle h (call_tests h n) ((refl, refl, refl), ((refl, refl, refl), ((refl, refl, refl), tt)))
+going_idle h (Take n) = first_idle h (take_tests h n) ((refl, refl, refl), ((refl, refl, refl), tt))
+going_idle h (Tick moment) = first_idle h (tick_tests h) ((refl, refl, refl), tt)
+going_idle h (Close n) = tt
+going_idle h (Remove n) = tt
+going_idle h Rewrite = tt
+going_idle h Retire = tt
+
+stopped_idle : (event : Event) → is_fine (when_stopped event) ≡ false
+stopped_idle Enter = refl
+stopped_idle (Call n moment asked) = refl
+stopped_idle (Take n) = refl
+stopped_idle (Tick moment) = refl
+stopped_idle (Close n) = refl
+stopped_idle (Remove n) = refl
+stopped_idle Rewrite = refl
+stopped_idle Retire = refl
+
+refusal_idle : (h : Hall) (event : Event) → IfSome (refusal h event) (Idle h)
+refusal_idle h event = elim (h.stopped) as (λ b. IfSome (if b then Some (when_stopped event, h) else refusal_going h event) (Idle h)) [ true ↦ (stopped_idle event, refl, refl) | false ↦ going_idle h event ]
+
+idle_does : (h : Hall) (event : Event) (x : Option Ending) → IfSome x (Idle h) → IfSome x (λ e. Does h e.1 (writes_by h event e.0))
+idle_does h event None idle = tt
+idle_does h event (Some e) idle = subst (λ b. Does h e.1 (if b then writes_of h event else [])) (sym idle.0) (does_none h e.1 idle.1 idle.2)
+
+pub steps_make_their_writes : StepsMakeTheirWrites
+steps_make_their_writes old new event outcome step = step_by_cases (λ outcome n. Does old n (writes_by old event outcome)) (refusal old event) old event outcome new
+    (idle_does old event (refusal old event) (refusal_idle old event))
+    (does_none old (stopped old) refl refl) (does_none old old refl refl) (done_does old event) step

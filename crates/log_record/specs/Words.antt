@@ -1,0 +1,137 @@
+-- The record of a change read back: the change that some words are the record of.
+use Rattle.std.specs.Prelude.{◌≡◌, ℕ, pos, neg_ℤ, ◌-◌, ◌^◌, Bool, true, false, ◌&&◌, nat_le, int_le, List, [], ◌∷◌, Option, Some, None, if◌then◌else◌, codes, Result, Ok, Err}
+use Rattle.std.specs.List.{list_all}
+use Rattle.byte_text.specs.Names.{Bytes, same, is_name}
+use Rattle.byte_text.specs.Numbers.{digits_value, signed_value}
+use Rattle.byte_text.specs.Requests.{IsRequest}
+use Rattle.geo_text.specs.Texts.{Shape, shape_of}
+use Rattle.geo_text.specs.declared.faults.GeoFault.{GeoFault}
+use Rattle.planar_geom.specs.declared.shapes.Area.{Area}
+use Rattle.planar_geom.specs.declared.shapes.Area.TheVariants.{Figure}
+use Rattle.world_model.specs.Effects.{settled_channel}
+use Rattle.world_data.specs.declared.channels.Channel.{Channel}
+use Rattle.world_data.specs.Filters.{Field, are_fields}
+use Rattle.world_model.specs.Commands.{command_spelled}
+use Rattle.world_data.specs.Sound.{is_sound_channel}
+use Rattle.world_data.specs.Records.{record_words}
+use Rattle.world_data.specs.declared.worlds.Change.{Change}
+use Rattle.world_data.specs.declared.worlds.Change.TheVariants.{Put, Del, Drop, Flush, SetChan, DelChan}
+use Rattle.world_model.specs.declared.commands.AreaWords.TheVariants.{Given, Of}
+use Rattle.world_model.specs.declared.commands.Command.{Command}
+use Rattle.world_model.specs.declared.commands.Command.TheVariants as command
+
+-- the words at their places say which change they could be the record of; its record is then compared with them
+
+-- the fields at the front of some words, and the words behind them
+abbrev pub fields_front : List Bytes → List Field × List Bytes
+fields_front (called ∷ name ∷ value ∷ words) =
+    if same called (codes "FIELD") then (let behind = fields_front words in ((name, signed_value value) ∷ behind.0, behind.1)) else ([], called ∷ name ∷ value ∷ words)
+fields_front words = ([], words)
+
+-- the deadline at the front, if there is one, and the words behind it
+abbrev pub deadline_front : List Bytes → Option ℕ × List Bytes
+deadline_front (called ∷ value ∷ words) = if same called (codes "AT") then (Some (digits_value value), words) else (None, called ∷ value ∷ words)
+deadline_front words = (None, words)
+
+abbrev pub put_with : Bytes → Bytes → List Field → Option ℕ → Bytes → Result Shape GeoFault → Option Change
+put_with key id fields deadline text (Ok shape) = Some (Put (record { key = key; id = id; text = text; shape = shape; fields = fields; deadline = deadline }))
+put_with key id fields deadline text (Err fault) = None
+
+-- the last two words: `OBJECT` and the text
+abbrev pub put_text : Bytes → Bytes → List Field → Option ℕ → List Bytes → Option Change
+put_text key id fields deadline (called ∷ text ∷ []) = put_with key id fields deadline text (shape_of text)
+put_text key id fields deadline words = None
+
+abbrev pub put_of : List Bytes → Option Change
+put_of (key ∷ id ∷ words) = let fields = fields_front words in let deadline = deadline_front fields.1 in put_text key id fields.0 deadline.0 deadline.1
+put_of words = None
+
+abbrev pub del_of : List Bytes → Option Change
+del_of (key ∷ id ∷ []) = Some (Del key id)
+del_of words = None
+
+abbrev pub drop_of : List Bytes → Option Change
+drop_of (key ∷ []) = Some (Drop key)
+drop_of words = None
+
+abbrev pub flush_of : List Bytes → Option Change
+flush_of [] = Some Flush
+flush_of words = None
+
+abbrev pub delchan_of : List Bytes → Option Change
+delchan_of (name ∷ []) = Some (DelChan name)
+delchan_of words = None
+
+-- a setting whose area stands in its words
+abbrev pub settled : Option Command → Option Change
+settled (Some (command.Setchan c None)) = Some (SetChan c)
+settled (Some (command.Setchan c (Some (Given a)))) = Some (SetChan c)
+settled o = None
+
+abbrev pub setchan_of : List Bytes → Option Change
+setchan_of words = settled (command_spelled (codes "SETCHAN" ∷ words))
+
+-- the change that the words could be the record of
+abbrev pub could_be : List Bytes → Option Change
+could_be [] = None
+could_be (called ∷ words) =
+    if same called (codes "SET") then put_of words else
+    if same called (codes "DEL") then del_of words else
+    if same called (codes "DROP") then drop_of words else
+    if same called (codes "FLUSHDB") then flush_of words else
+    if same called (codes "SETCHAN") then setchan_of words else
+    if same called (codes "DELCHAN") then delchan_of words else None
+
+-- a field's name is a name, and its value has 64 bits
+abbrev pub is_kept_field : Field → Bool
+is_kept_field f = is_name f.0 && int_le (neg_ℤ (pos (2 ^ 63))) f.1 && int_le f.1 (pos (2 ^ 63 - 1))
+
+-- a deadline has 64 bits
+abbrev pub is_kept_deadline : Option ℕ → Bool
+is_kept_deadline None = true
+is_kept_deadline (Some d) = nat_le d (2 ^ 64 - 1)
+
+-- names are names, fields stand in order and are not 0, numbers have 64 bits
+abbrev pub is_kept : Change → Bool
+is_kept (Put o) = is_name o.key && is_name o.id && are_fields o.fields && list_all is_kept_field o.fields && is_kept_deadline o.deadline
+is_kept (Del key id) = is_name key && is_name id
+is_kept (Drop key) = is_name key
+is_kept Flush = true
+is_kept (SetChan c) = is_name c.name
+is_kept (DelChan name) = is_name name
+
+-- an object's text has its shape, and a channel is sound
+abbrev pub HasShape : Change → Type 0
+HasShape (Put o) = shape_of o.text ≡ Ok o.shape
+HasShape (SetChan c) = is_sound_channel c ≡ true
+HasShape (Del key id) = Unit {0}
+HasShape (Drop key) = Unit {0}
+HasShape Flush = Unit {0}
+HasShape (DelChan name) = Unit {0}
+
+-- the same words
+abbrev pub same_words : List Bytes → List Bytes → Bool
+same_words [] [] = true
+same_words [] (w ∷ ws) = false
+same_words (v ∷ vs) [] = false
+same_words (v ∷ vs) (w ∷ ws) = same v w && same_words vs ws
+
+abbrev pub if_recorded : List Bytes → Option Change → Option Change
+if_recorded words None = None
+if_recorded words (Some c) = if same_words (record_words c) words && is_kept c then Some c else None
+
+-- the change that these words are the record of
+unfoldable pub change_of_words : List Bytes → Option Change
+change_of_words words = if_recorded words (could_be words)
+
+-- the change has a record, which fits a request
+pub record IsRecorded (c : Change) : Type 0 where
+  pub read_back : change_of_words (record_words c) ≡ Some c
+  pub fits : IsRequest (record_words c)
+
+-- a setting's normal words spell the setting itself
+pub record SettingsAreNormal : Type 0 where
+  pub given : (words : List Bytes) (c : Channel) (a : Area) → command_spelled words ≡ Some (command.Setchan c (Some (Given a))) → command_spelled (record_words (SetChan c)) ≡ Some (command.Setchan c (Some (Given a)))
+  pub near : (words : List Bytes) (c : Channel) → command_spelled words ≡ Some (command.Setchan c None) → command_spelled (record_words (SetChan c)) ≡ Some (command.Setchan c None)
+  pub stored : (words : List Bytes) (c : Channel) (key id text : Bytes) (shape : Shape) → command_spelled words ≡ Some (command.Setchan c (Some (Of key id))) → shape_of text ≡ Ok shape
+      → let d = settled_channel c (Figure shape) (codes "OBJECT" ∷ text ∷ []) in command_spelled (record_words (SetChan d)) ≡ Some (command.Setchan d (Some (Given (Figure shape))))
