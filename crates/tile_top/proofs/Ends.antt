@@ -9,71 +9,62 @@ use Rattle.byte_text.specs.Names.{Bytes}
 use Rattle.tile_top.specs.Played.{Played}
 use Rattle.tile_top.specs.TextLines.{TextLine, lines}
 use Rattle.tile_top.specs.Scripts.{opening}
-use Rattle.tile_top.specs.Plays.{IsDone, IsFaulty, IsPart, IsCut}
-use Rattle.tile_top.specs.Tops.{IsLast, IsStopped, IsEnd, Replays, script_line, read_line, memory_line}
+use Rattle.tile_top.specs.Plays.{IsDone, IsFaulty, IsBefore}
+use Rattle.tile_top.specs.Tops.{IsStopped, IsEnd, Replays, script_line, read_line, memory_line}
 use Rattle.tile_top.proofs.Writing.{appends_more, appends_nothing}
 
-no_part : (before : ℕ) (h : Played) (ls : List TextLine) → IsPart before h ls []
-no_part before h [] = refl
-no_part before h (l ∷ ls) = inl refl
+-- nothing was read, and nothing done
+pub before_none : (left0 held0 : Option Bytes) → IsBefore left0 left0 held0 held0 []
+before_none left0 held0 text is = ([], text, [], opening, refl, (refl, refl), ([], text, refl, is, omega arith), appends_nothing held0)
 
--- nothing was done
-pub cut_none : (left0 held0 : Option Bytes) → IsCut left0 held0 held0 []
-cut_none left0 held0 text is = ([], lines text, [], opening, [], refl, (refl, refl), no_part 0 opening (lines text), appends_nothing held0)
-
--- more was written behind what was cut
-cut_more : (left0 held0 mid held : Option Bytes) (tail : Bytes) → IsCut left0 held0 mid [] → Appends mid held tail → IsCut left0 held0 held tail
-cut_more left0 held0 mid held tail c a text is =
+-- more was written behind what was done
+before_more : (left0 left held0 mid held : Option Bytes) (tail : Bytes) → IsBefore left0 left held0 mid [] → Appends mid held tail → IsBefore left0 left held0 held tail
+before_more left0 left held0 mid held tail c a text is =
     let p = c text is in
-    let same : (p.2 ++ (p.4 ++ [])) ++ tail ≡ p.2 ++ (p.4 ++ tail) = ap (λ (z : Bytes). (p.2 ++ z) ++ tail) (append-nil p.4) ∙ append_assoc p.2 p.4 tail in
-    (p.0, p.1, p.2, p.3, p.4, p.5, p.6, p.7, subst (λ (z : Bytes). Appends held0 held z) same (appends_more held0 mid held (p.2 ++ (p.4 ++ [])) tail p.8 a))
+    let same : (p.2 ++ []) ++ tail ≡ p.2 ++ tail = ap (λ (z : Bytes). z ++ tail) (append-nil p.2) in
+    (p.0, p.1, p.2, p.3, p.4, p.5, p.6, subst (λ (z : Bytes). Appends held0 held z) same (appends_more held0 mid held (p.2 ++ []) tail p.7 a))
 
-faulty_more : (left0 held0 mid held : Option Bytes) (number : ℕ) (tail : Bytes) → IsFaulty left0 held0 mid number [] → Appends mid held tail → IsFaulty left0 held0 held number tail
-faulty_more left0 held0 mid held number tail f a text is =
+faulty_more : (left0 left held0 mid held : Option Bytes) (number : ℕ) (tail : Bytes) → IsFaulty left0 left held0 mid number [] → Appends mid held tail → IsFaulty left0 left held0 held number tail
+faulty_more left0 left held0 mid held number tail f a text is =
     let p = f text is in
-    let same : (p.3 ++ []) ++ tail ≡ p.3 ++ tail = ap (λ (z : Bytes). z ++ tail) (append-nil p.3) in
-    (p.0, p.1, p.2, p.3, p.4, p.5, p.6, p.7, p.8, subst (λ (z : Bytes). Appends held0 held z) same (appends_more held0 mid held (p.3 ++ []) tail p.9 a))
+    let same : (p.4 ++ []) ++ tail ≡ p.4 ++ tail = ap (λ (z : Bytes). z ++ tail) (append-nil p.4) in
+    (p.0, p.1, p.2, p.3, p.4, p.5, p.6, p.7, p.8, p.9, p.10, p.11, subst (λ (z : Bytes). Appends held0 held z) same (appends_more held0 mid held (p.4 ++ []) tail p.12 a))
 
 -- the lines before a faulty one were done
-pub faulty_cut : (left0 held0 mid : Option Bytes) (number : ℕ) → IsFaulty left0 held0 mid number [] → IsCut left0 held0 mid []
-faulty_cut left0 held0 mid number f text is =
+pub faulty_before : (left0 left held0 mid : Option Bytes) (number : ℕ) → IsFaulty left0 left held0 mid number [] → IsBefore left0 left held0 mid []
+faulty_before left0 left held0 mid number f text is =
     let p = f text is in
-    (p.0, p.1 ∷ p.2, p.3, p.4, [], p.5, p.7, inl refl, p.9)
-
-stopped_part : (left0 held0 mid held : Option Bytes) (last part : Bytes) → IsCut left0 held0 mid [] → IsLast last → IsPrefix part last → Appends mid held part → IsStopped left0 held0 held
-stopped_part left0 held0 mid held last part c l p a = (part, (last, p, l), cut_more left0 held0 mid held part c a)
-
-pub stopped_none : (left0 held0 mid : Option Bytes) → IsCut left0 held0 mid [] → IsStopped left0 held0 mid
-stopped_none left0 held0 mid c = ([], (memory_line, (memory_line, refl), inr (inr (inr refl))), c)
+    (p.0, p.1, p.4, p.5, p.6, p.10, p.8, p.12)
 
 -- the status of a play that was done, or stopped by a write
 pub replays_done : (left0 left held0 held : Option Bytes) → IsDone left0 left held0 held → Replays left0 left held0 held 0
 replays_done left0 left held0 held d = record { done = λ _. d; script = λ e. absurd (omega (arith, e)); read = λ e. absurd (omega (arith, e)); write = λ e. absurd (omega (arith, e)); memory = λ e. absurd (omega (arith, e)); few = inl refl }
 
-pub replays_stopped : (left0 left held0 held : Option Bytes) (status : ℕ) → status ≡ 4 → IsStopped left0 held0 held → Replays left0 left held0 held status
+pub replays_stopped : (left0 left held0 held : Option Bytes) (status : ℕ) → status ≡ 4 → IsStopped left0 left held0 held → Replays left0 left held0 held status
 replays_stopped left0 left held0 held status is s = record { done = λ e. absurd (omega (arith, e, is)); script = λ e. absurd (omega (arith, e, is)); read = λ e. absurd (omega (arith, e, is)); write = λ _. s; memory = λ e. absurd (omega (arith, e, is)); few = inr (inr (inr (inl is))) }
 
-replays_script : (left0 left held0 held : Option Bytes) (status number : ℕ) → status ≡ 2 → IsFaulty left0 held0 held number (script_line number) → Replays left0 left held0 held status
+replays_script : (left0 left held0 held : Option Bytes) (status number : ℕ) → status ≡ 2 → IsFaulty left0 left held0 held number (script_line number) → Replays left0 left held0 held status
 replays_script left0 left held0 held status number is f = record { done = λ e. absurd (omega (arith, e, is)); script = λ _. (number, f); read = λ e. absurd (omega (arith, e, is)); write = λ e. absurd (omega (arith, e, is)); memory = λ e. absurd (omega (arith, e, is)); few = inr (inl is) }
 
-replays_read : (left0 left held0 held : Option Bytes) (status : ℕ) → status ≡ 3 → IsCut left0 held0 held read_line → Replays left0 left held0 held status
+replays_read : (left0 left held0 held : Option Bytes) (status : ℕ) → status ≡ 3 → IsBefore left0 left held0 held read_line → Replays left0 left held0 held status
 replays_read left0 left held0 held status is c = record { done = λ e. absurd (omega (arith, e, is)); script = λ e. absurd (omega (arith, e, is)); read = λ _. c; write = λ e. absurd (omega (arith, e, is)); memory = λ e. absurd (omega (arith, e, is)); few = inr (inr (inl is)) }
 
-replays_memory : (left0 left held0 held : Option Bytes) (status : ℕ) → status ≡ 7 → IsCut left0 held0 held memory_line → Replays left0 left held0 held status
+replays_memory : (left0 left held0 held : Option Bytes) (status : ℕ) → status ≡ 7 → IsBefore left0 left held0 held memory_line → Replays left0 left held0 held status
 replays_memory left0 left held0 held status is c = record { done = λ e. absurd (omega (arith, e, is)); script = λ e. absurd (omega (arith, e, is)); read = λ e. absurd (omega (arith, e, is)); write = λ e. absurd (omega (arith, e, is)); memory = λ _. c; few = inr (inr (inr (inr is))) }
 
 -- the last line was written, or in part
-pub ends_script : (left0 left held0 mid held : Option Bytes) (number ended : ℕ) (last : Bytes) → IsFaulty left0 held0 mid number [] → last ≡ script_line number → IsEnd mid held 2 last ended → Replays left0 left held0 held ended
-ends_script left0 left held0 mid held number ended last f is (inl w) = replays_script left0 left held0 held ended number w.0 (subst (λ (z : Bytes). IsFaulty left0 held0 held number z) is (faulty_more left0 held0 mid held number last f w.1))
-ends_script left0 left held0 mid held number ended last f is (inr w) = replays_stopped left0 left held0 held ended w.0 (stopped_part left0 held0 mid held last w.1.0 (faulty_cut left0 held0 mid number f) (inr (inl (number, is))) w.1.1 w.1.2)
+pub ends_script : (left0 left held0 mid held : Option Bytes) (number ended : ℕ) (last : Bytes) → IsFaulty left0 left held0 mid number [] → last ≡ script_line number → IsEnd mid held 2 last ended → Replays left0 left held0 held ended
+ends_script left0 left held0 mid held number ended last f is (inl w) = replays_script left0 left held0 held ended number w.0 (subst (λ (z : Bytes). IsFaulty left0 left held0 held number z) is (faulty_more left0 left held0 mid held number last f w.1))
+ends_script left0 left held0 mid held number ended last f is (inr w) = replays_stopped left0 left held0 held ended w.0
+    (inr (inl (number, w.1.0, subst (λ (z : Bytes). IsPrefix w.1.0 z) is w.1.1, faulty_more left0 left held0 mid held number w.1.0 f w.1.2)))
 
-pub ends_read : (left0 left held0 mid held : Option Bytes) (ended : ℕ) → IsCut left0 held0 mid [] → IsEnd mid held 3 read_line ended → Replays left0 left held0 held ended
-ends_read left0 left held0 mid held ended c (inl w) = replays_read left0 left held0 held ended w.0 (cut_more left0 held0 mid held read_line c w.1)
-ends_read left0 left held0 mid held ended c (inr w) = replays_stopped left0 left held0 held ended w.0 (stopped_part left0 held0 mid held read_line w.1.0 c (inr (inr (inl refl))) w.1.1 w.1.2)
+pub ends_read : (left0 left held0 mid held : Option Bytes) (ended : ℕ) → IsBefore left0 left held0 mid [] → IsEnd mid held 3 read_line ended → Replays left0 left held0 held ended
+ends_read left0 left held0 mid held ended c (inl w) = replays_read left0 left held0 held ended w.0 (before_more left0 left held0 mid held read_line c w.1)
+ends_read left0 left held0 mid held ended c (inr w) = replays_stopped left0 left held0 held ended w.0 (inr (inr (w.1.0, inl w.1.1, before_more left0 left held0 mid held w.1.0 c w.1.2)))
 
-pub ends_memory : (left0 left held0 mid held : Option Bytes) (ended : ℕ) → IsCut left0 held0 mid [] → IsEnd mid held 7 memory_line ended → Replays left0 left held0 held ended
-ends_memory left0 left held0 mid held ended c (inl w) = replays_memory left0 left held0 held ended w.0 (cut_more left0 held0 mid held memory_line c w.1)
-ends_memory left0 left held0 mid held ended c (inr w) = replays_stopped left0 left held0 held ended w.0 (stopped_part left0 held0 mid held memory_line w.1.0 c (inr (inr (inr refl))) w.1.1 w.1.2)
+pub ends_memory : (left0 left held0 mid held : Option Bytes) (ended : ℕ) → IsBefore left0 left held0 mid [] → IsEnd mid held 7 memory_line ended → Replays left0 left held0 held ended
+ends_memory left0 left held0 mid held ended c (inl w) = replays_memory left0 left held0 held ended w.0 (before_more left0 left held0 mid held memory_line c w.1)
+ends_memory left0 left held0 mid held ended c (inr w) = replays_stopped left0 left held0 held ended w.0 (inr (inr (w.1.0, inr w.1.1, before_more left0 left held0 mid held w.1.0 c w.1.2)))
 
 -- a list of one item
 pub single : {A : Type 0} (f : A → Bytes) (xs : List A) (w : A) → 1 ≤ length xs → length xs < 2 → w ≡ get_or xs 0 w → f w ∷ [] ≡ map f xs

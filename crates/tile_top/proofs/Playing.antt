@@ -11,9 +11,9 @@ use Rattle.tile_top.specs.declared.streams.LineEnd.TheVariants as read
 use Rattle.tile_top.specs.declared.plays.Turn.{Turn}
 use Rattle.tile_top.specs.declared.plays.Turn.TheVariants.{Next, End, Script, ReadFault, WriteFault, Memory}
 use Rattle.tile_top.specs.TextLines.{TextLine, lines, size, size_of_all}
-use Rattle.tile_top.specs.Reads.{OnLine}
+use Rattle.tile_top.specs.Reads.{OnLine, IsOneLine}
 use Rattle.tile_top.specs.Scripts.{opening, IsLine, Does, Runs}
-use Rattle.tile_top.specs.Plays.{IsPart, IsCut, OnTurn, OnPlay, OnLineDone}
+use Rattle.tile_top.specs.Plays.{IsReadOf, IsBefore, IsWithinLine, OnTurn, OnPlay, OnLineDone}
 use Rattle.tile_top.proofs.Writing.{appends_more, appends_nothing}
 
 -- a line was read, and then done
@@ -30,12 +30,12 @@ line_done Next left left' held held' h h' used used' bytes r d = (d.0, d.2, told
 line_done WriteFault left left' held held' h h' used used' bytes r d = (d.1, d.4, told left left' r)
   where
     told : (left left' : Option Bytes) → OnLine read.Line left left' used used' bytes → (text : Bytes) → left ≡ Some text →
-        (l : TextLine) × (behind : List TextLine) × (out : Bytes) × (next : Played) × (lines text ≡ l ∷ behind) × Does used h l out next × IsPrefix d.1 out
+        (l : TextLine) × (rest : Bytes) × (out : Bytes) × (next : Played) × (lines text ≡ l ∷ lines rest) × (left' ≡ Some rest) × Does used h l out next × IsPrefix d.1 out
     told None left' r text e = absurd (cc)
     told (Some xs) None r text e = absurd r
     told (Some xs) (Some ys) r text e =
         let is : xs ≡ text = cc in
-        (r.0, lines ys, d.0, h', subst (λ (z : Bytes). lines z ≡ r.0 ∷ lines ys) is r.1, record { short = r.4; said = d.2.0; says_it = subst (λ (b : Bytes). line b ≡ Some d.2.0) (sym r.2) d.2.1; acts = d.2.2 }, d.3)
+        (r.0, ys, d.0, h', subst (λ (z : Bytes). lines z ≡ r.0 ∷ lines ys) is r.1, refl, record { short = r.4; said = d.2.0; says_it = subst (λ (b : Bytes). line b ≡ Some d.2.0) (sym r.2) d.2.1; acts = d.2.2 }, d.3)
 line_done Script left left' held held' h h' used used' bytes r d = (d.0, told left left' r)
   where
     told : (left left' : Option Bytes) → OnLine read.Line left left' used used' bytes → (text : Bytes) → left ≡ Some text →
@@ -122,24 +122,25 @@ plays_end left0 left left' held0 held held' number used used' m h h' g t xs is =
     let all : lines xs ≡ p.0 = p.3 ∙ ap (λ (ls : List TextLine). p.0 ++ ls) e.0 ∙ append-nil p.0 in
     (e.1, (g.done, h, subst (λ (ls : List TextLine). Runs 0 opening ls g.done h) (sym all) p.6, kept_held held0 held held' g.done t.0 g.written))
 
-pub plays_fault : (left0 left left' held0 held held' : Option Bytes) (number used used' : ℕ) (h h' : Played) → Going left0 left held0 held number used h → OnTurn Script left left' held held' h h' used used' → OnPlay Script left0 left' held0 held' number
-plays_fault left0 left left' held0 held held' number used used' h h' g t xs is =
+piece_of : (left left' : Option Bytes) (behind : Bytes) → left ≡ Some behind → IsOneLine left left' → IsReadOf behind left'
+piece_of None left' behind e p = absurd cc
+piece_of (Some xs) None behind e p = absurd p
+piece_of (Some xs) (Some ys) behind e p = let is : xs ≡ behind = cc in (p.0, ys, sym is ∙ p.1, refl, p.2)
+
+pub plays_fault : (left0 left left' held0 held held' : Option Bytes) (number used used' : ℕ) (h h' : Played) → Going left0 left held0 held number used h → OnTurn Script left left' held held' h h' used used' → IsOneLine left left' → OnPlay Script left0 left' held0 held' number
+plays_fault left0 left left' held0 held held' number used used' h h' g t piece xs is =
     let p = g.text xs is in
     let e = t.1 p.1 p.2 in
-    (p.0, e.0, e.1, g.done, h, p.3 ∙ ap (λ (ls : List TextLine). p.0 ++ ls) e.2, p.4, p.6, subst (λ (n : ℕ). IsLine n e.0 → ⊥) p.5 e.3, subst (λ (o : Bytes). Appends held0 held' o) (sym (append-nil g.done)) (kept_held held0 held held' g.done t.0 g.written))
+    (p.0, p.1, e.0, e.1, g.done, h, p.3, e.2, piece_of left left' p.1 p.2 piece, p.4, p.6, subst (λ (n : ℕ). IsLine n e.0 → ⊥) p.5 e.3, subst (λ (o : Bytes). Appends held0 held' o) (sym (append-nil g.done)) (kept_held held0 held held' g.done t.0 g.written))
 
-no_part : (before : ℕ) (h : Played) (ls : List TextLine) → IsPart before h ls []
-no_part before h [] = refl
-no_part before h (l ∷ ls) = inl refl
-
-pub plays_cut : (left0 left held0 held held' : Option Bytes) (number used : ℕ) (h : Played) → Going left0 left held0 held number used h → held' ≡ held → IsCut left0 held0 held' []
-plays_cut left0 left held0 held held' number used h g t xs is =
+pub plays_before : (left0 left left' held0 held held' : Option Bytes) (number used : ℕ) (h : Played) → Going left0 left held0 held number used h → held' ≡ held → IsOneLine left left' → IsBefore left0 left' held0 held' []
+plays_before left0 left left' held0 held held' number used h g t piece xs is =
     let p = g.text xs is in
-    (p.0, lines p.1, g.done, h, [], p.3, p.6, no_part (size_of_all p.0) h (lines p.1), subst (λ (o : Bytes). Appends held0 held' o) (sym (append-nil g.done)) (kept_held held0 held held' g.done t g.written))
+    (p.0, p.1, g.done, h, p.3, p.6, piece_of left left' p.1 p.2 piece, subst (λ (o : Bytes). Appends held0 held' o) (sym (append-nil g.done)) (kept_held held0 held held' g.done t g.written))
 
-pub plays_part : (left0 left left' held0 held held' : Option Bytes) (number used used' : ℕ) (h h' : Played) → Going left0 left held0 held number used h → OnTurn WriteFault left left' held held' h h' used used' → IsCut left0 held0 held' []
+pub plays_part : (left0 left left' held0 held held' : Option Bytes) (number used used' : ℕ) (h h' : Played) → Going left0 left held0 held number used h → OnTurn WriteFault left left' held held' h h' used used' → IsWithinLine left0 left' held0 held'
 plays_part left0 left left' held0 held held' number used used' h h' g t xs is =
     let p = g.text xs is in
     let e = t.2 p.1 p.2 in
-    let d : Does (size_of_all p.0) h e.0 e.2 e.3 = subst (λ (n : ℕ). Does n h e.0 e.2 e.3) p.5 e.5 in
-    (p.0, e.0 ∷ e.1, g.done, h, t.0, p.3 ∙ ap (λ (ls : List TextLine). p.0 ++ ls) e.4, p.6, inr (e.2, e.3, d, e.6), subst (λ (o : Bytes). Appends held0 held' (g.done ++ o)) (sym (append-nil t.0)) (appends_more held0 held held' g.done t.0 g.written t.1))
+    let d : Does (size_of_all p.0) h e.0 e.2 e.3 = subst (λ (n : ℕ). Does n h e.0 e.2 e.3) p.5 e.6 in
+    (p.0, e.0, e.1, g.done, h, e.2, e.3, t.0, p.3 ∙ ap (λ (ls : List TextLine). p.0 ++ ls) e.4, e.5, p.6, d, e.7, appends_more held0 held held' g.done t.0 g.written t.1)

@@ -1,11 +1,13 @@
 -- The reading of a line byte by byte, where the source tells what it has left.
-use Rattle.std.proofs.Common.{◌≡◌, ◌≢◌, ℕ, ◌+◌, ◌<◌, ◌≤◌, Bool, true, false, List, [], ◌∷◌, ◌++◌, length, Some, None, refl, sym, ap, ◌∙◌, subst, arith, length-append}
+use Rattle.std.proofs.Common.{◌≡◌, ◌≢◌, ℕ, ◌+◌, ◌<◌, ◌≤◌, Bool, true, false, List, [], ◌∷◌, ◌++◌, length, Some, None, refl, sym, ap, ◌∙◌, subst, arith, length-append, append_assoc, not}
+use Rattle.std.specs.List.{list_all}
+use Rattle.std.proofs.lemmas.List.{append-nil}
 use Rattle.std.specs.Prelude.{Option, if◌then◌else◌, ◌==◌}
 use Rattle.std.proofs.lemmas.Bool.Decides.{nat_tests}
 use Rattle.std.specs.Io.KnownBytes.{Consumes, Keeps, IsAtEnd}
 use Rattle.tile_top.specs.declared.streams.LineEnd.TheVariants.{Line, End, TooLong, ReadFault, Memory}
 use Rattle.tile_top.specs.TextLines.{TextLine, in_front, lines, size, max_line, max_script}
-use Rattle.tile_top.specs.Reads.{OnLine}
+use Rattle.tile_top.specs.Reads.{OnLine, IsOneLine}
 
 -- the lines with these bytes in front of the first
 abbrev pub all_in_front : List ℕ → List TextLine → List TextLine
@@ -136,6 +138,71 @@ reads_past (Some text) (Some rest) (Some left) used now line x h r c =
       r ∙ ap (λ (z : List ℕ). all_in_front line (lines z)) c ∙ f.2,
       λ s. let short : used + size f.0 ≤ max_script = s.in_script in absurd (omega (arith, l, h, short)),
     )
+
+-- the bytes that were read have no line feed, and what is left stands behind them
+abbrev pub Plain : Option (List ℕ) → Option (List ℕ) → List ℕ → Type 0
+Plain None left line = Unit {0}
+Plain (Some text) None line = ⊥
+Plain (Some text) (Some rest) line = (text ≡ line ++ rest) × (list_all (λ b. not (b == 10)) line ≡ true)
+
+pub plain_start : (old : Option (List ℕ)) → Plain old old []
+plain_start None = tt
+plain_start (Some text) = (refl, refl)
+
+all_behind : (p : ℕ → Bool) (line : List ℕ) (x : ℕ) → list_all p line ≡ true → p x ≡ true → list_all p (line ++ x ∷ []) ≡ true
+all_behind p [] x all here = rw here refl
+all_behind p (b ∷ line) x all here = let ih = all_behind p line x in grind arith
+
+pub plain_more : (old mid new : Option (List ℕ)) (line : List ℕ) (x : ℕ) → x ≢ 10 → Plain old mid line → Consumes mid new (x ∷ []) → Plain old new (line ++ x ∷ [])
+plain_more None mid new line x ne p c = tt
+plain_more (Some text) None new line x ne p c = absurd p
+plain_more (Some text) (Some rest) None line x ne p c = absurd c
+plain_more (Some text) (Some rest) (Some left) line x ne p c =
+    let no : not (x == 10) ≡ true = grind (arith, nat_tests) in
+    (p.0 ∙ ap (λ (z : List ℕ). line ++ z) c ∙ sym (append_assoc line (x ∷ []) left), all_behind (λ b. not (b == 10)) line x p.1 no)
+
+-- bytes without a line feed stand in front of the first line
+front_lines : (line more : List ℕ) → list_all (λ b. not (b == 10)) line ≡ true → lines (line ++ more) ≡ all_in_front line (lines more)
+front_lines [] more all = refl
+front_lines (b ∷ line) more all =
+    let ih = front_lines line more in
+    let both : ((b == 10) ≡ false) × (list_all (λ b. not (b == 10)) line ≡ true) = (grind arith, grind arith) in
+    ap (λ (t : Bool). if t then record { bytes = []; is_ended = true } ∷ lines (line ++ more) else in_front b (lines (line ++ more))) both.0 ∙ ap (in_front b) (ih both.1)
+
+few_in_front : (b : ℕ) (ls : List TextLine) → length ls ≤ 1 → length (in_front b ls) ≤ 1
+few_in_front b [] h = omega arith
+few_in_front b (l ∷ ls) h = h
+
+few_lines : (line : List ℕ) (ls : List TextLine) → length ls ≤ 1 → length (all_in_front line ls) ≤ 1
+few_lines [] ls h = h
+few_lines (b ∷ line) ls h = few_in_front b (all_in_front line ls) (few_lines line ls h)
+
+one_byte : (x : ℕ) → length (lines (x ∷ [])) ≤ 1
+one_byte x = by (x == 10)
+  where
+    by : (b : Bool) → length (if b then record { bytes = []; is_ended = true } ∷ [] else in_front x []) ≤ 1
+    by true = omega arith
+    by false = omega arith
+
+-- no byte more was read
+pub one_line_kept : (old mid new : Option (List ℕ)) (line : List ℕ) → Plain old mid line → Keeps mid new → IsOneLine old new
+one_line_kept None mid new line p k = tt
+one_line_kept (Some text) None new line p k = absurd p
+one_line_kept (Some text) (Some rest) None line p k = absurd k
+one_line_kept (Some text) (Some rest) (Some left) line p k =
+    let none : lines line ≡ all_in_front line [] = ap lines (sym (append-nil line)) ∙ front_lines line [] p.1 in
+    (line, p.0 ∙ ap (λ (z : List ℕ). line ++ z) (sym k), subst (λ (ls : List TextLine). length ls ≤ 1) (sym none) (few_lines line [] (omega arith)))
+
+-- one byte more was read, which may end the line
+pub one_line_more : (old mid new : Option (List ℕ)) (line : List ℕ) (x : ℕ) → Plain old mid line → Consumes mid new (x ∷ []) → IsOneLine old new
+one_line_more None mid new line x p c = tt
+one_line_more (Some text) None new line x p c = absurd p
+one_line_more (Some text) (Some rest) None line x p c = absurd c
+one_line_more (Some text) (Some rest) (Some left) line x p c = (
+  line ++ x ∷ [],
+  p.0 ∙ ap (λ (z : List ℕ). line ++ z) c ∙ sym (append_assoc line (x ∷ []) left),
+  subst (λ (ls : List TextLine). length ls ≤ 1) (sym (front_lines line (x ∷ []) p.1)) (few_lines line (lines (x ∷ [])) (one_byte x)),
+)
 
 -- nothing is said of these
 pub told_fault : (old mid new : Option (List ℕ)) (used now : ℕ) (line more : List ℕ) → Reads old mid line → Keeps mid new → OnLine ReadFault old new used now more

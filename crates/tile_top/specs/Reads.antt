@@ -1,8 +1,14 @@
 -- What the reading of one line gives.
-use Rattle.std.specs.Prelude.{◌≡◌, ℕ, ◌+◌, List, [], ◌∷◌, Option, None, Some}
+use Rattle.std.specs.Prelude.{◌≡◌, ◌≤◌, ℕ, ◌+◌, List, [], ◌∷◌, ◌++◌, length, Option, None, Some}
 use Rattle.tile_top.specs.declared.streams.LineEnd.{LineEnd}
 use Rattle.tile_top.specs.declared.streams.LineEnd.TheVariants.{Line, End, TooLong, ReadFault, Memory}
 use Rattle.tile_top.specs.TextLines.{TextLine, lines, size, IsShort}
+
+-- of what a source had left, where it tells, at most one line was read
+abbrev pub IsOneLine : Option (List ℕ) → Option (List ℕ) → Type 0
+IsOneLine None left = Unit {0}
+IsOneLine (Some text) None = ⊥
+IsOneLine (Some text) (Some rest) = (read : List ℕ) × (text ≡ read ++ rest) × (length (lines read) ≤ 1)
 
 -- the text's first line keeps the limits and was read, or it does not, or there is none; this of what a source had left and
 -- has left, where it tells, and of the bytes of the script that were read before and are read now

@@ -3,6 +3,7 @@
 ghost use Rattle.std.specs.Prelude.{◌≡◌, ◌≤◌, ◌<◌, ◌+◌, []};
 ghost use Rattle.outside.specs.Causes.{Rose};
 ghost use Rattle.tile_top.specs.TextLines.{max_script};
+ghost use Rattle.tile_top.specs.Reads.{IsOneLine};
 ghost use Rattle.tile_top.specs.Scripts.{opening};
 ghost use Rattle.tile_top.specs.Plays.{OnTurn, OnPlay, OnLineDone};
 
@@ -52,6 +53,7 @@ fn next_line<S: Source, K: Sink>(
 ) -> Turn
     requires { used.old ≤ max_script }
     ensures told { OnTurn result (S.left source.old) (S.left source.new) (K.held sink.old) (K.held sink.new) player.old player.new used.old used.new }
+    ensures piece { IsOneLine (S.left source.old) (S.left source.new) }
     ensures most { used.new ≤ max_script }
     ensures some { result ≡ Turn.Next → used.old + 1 ≤ used.new }
     ensures source { S.faults source.old ≤ S.faults source.new }

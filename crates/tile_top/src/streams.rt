@@ -1,9 +1,11 @@
+//! Reading lines from a source, and writing whole pieces to a sink.
+
 ghost use Rattle.std.specs.Prelude.{◌≡◌, ◌+◌, ◌≤◌, ◌<◌, ℕ, List, [], ◌∷◌, length, Some, None, MatchResult, MatchOption, IfErr, OnOk};
 ghost use Rattle.std.specs.Io.KnownBytes.{Consumes, Keeps, IsAtEnd, Appends};
 ghost use Rattle.outside.specs.Causes.{HasCause, Rose};
 ghost use mathlib.Core.List.{IsPrefix};
 ghost use Rattle.tile_top.specs.TextLines.{max_script};
-ghost use Rattle.tile_top.specs.Reads.{OnLine};
+ghost use Rattle.tile_top.specs.Reads.{IsOneLine, OnLine};
 
 use outside::{Failed, Sink, Source};
 
@@ -45,6 +47,7 @@ fn read_byte<S: Source>(source: &mut S) -> Result<Option<u8>, Failed>
 pub(crate) fn read_line<S: Source>(source: &mut S, line: &mut Vec<u8>, used: &mut u64) -> LineEnd
     requires { used.old ≤ max_script }
     ensures told { OnLine result (S.left source.old) (S.left source.new) used.old used.new line.new.items }
+    ensures piece { IsOneLine (S.left source.old) (S.left source.new) }
     ensures most { used.new ≤ max_script }
     ensures grows { used.old ≤ used.new }
     ensures some { result ≡ LineEnd.Line → used.old + 1 ≤ used.new }

@@ -1,6 +1,6 @@
 use Rattle.std.proofs.Common.{◌≤◌, ◌+◌, arith, refl, sym, subst}
 use Rattle.tile_top.specs.Played.{Played}
-use Rattle.tile_top.proofs.Playing.{Going, going_start, going_next, plays_part}
+use Rattle.tile_top.proofs.Playing.{Going, going_start, going_next, plays_fault, plays_before, plays_part}
 use Rattle.tile_top.proofs.plays.play.Goals as goal
 
 pub loop-number-init : goal.loop-number-init
@@ -32,3 +32,12 @@ loop-number-preserved g c =
 
 pub returns-in-WriteFault-clause-told : goal.returns-in-WriteFault-clause-told
 returns-in-WriteFault-clause-told g c = plays_part _ _ (g.S.Source.left c.next_line.new.source) _ _ _ c.loop-number.number c.loop-number.used c.next_line.new.used c.loop-number.player c.next_line.new.player c.loop-number.invariant.going c.in-WriteFault.ensures.told
+
+pub returns-in-Script-clause-told : goal.returns-in-Script-clause-told
+returns-in-Script-clause-told g c = plays_fault _ _ (g.S.Source.left c.next_line.new.source) _ _ _ c.loop-number.number c.loop-number.used c.next_line.new.used c.loop-number.player c.next_line.new.player c.loop-number.invariant.going c.in-Script.ensures.told c.in-Script.ensures.piece
+
+pub returns-in-ReadFault-clause-told : goal.returns-in-ReadFault-clause-told
+returns-in-ReadFault-clause-told g c = plays_before _ _ (g.S.Source.left c.next_line.new.source) _ _ _ c.loop-number.number c.loop-number.used c.loop-number.player c.loop-number.invariant.going c.in-ReadFault.ensures.told c.in-ReadFault.ensures.piece
+
+pub returns-in-Memory-clause-told : goal.returns-in-Memory-clause-told
+returns-in-Memory-clause-told g c = plays_before _ _ (g.S.Source.left c.next_line.new.source) _ _ _ c.loop-number.number c.loop-number.used c.loop-number.player c.loop-number.invariant.going c.in-Memory.ensures.told c.in-Memory.ensures.piece

@@ -4,7 +4,7 @@ use Rattle.std.specs.Io.KnownBytes.{Consumes, Keeps, IsAtEnd}
 use Rattle.tile_top.specs.TextLines.{max_line, max_script}
 use Rattle.tile_top.specs.declared.streams.LineEnd.TheVariants.{Line}
 use Rattle.tile_top.specs.Reads.{OnLine}
-use Rattle.tile_top.proofs.Reading.{Reads, reads_more, reads_line, reads_last, reads_long, reads_past}
+use Rattle.tile_top.proofs.Reading.{Reads, Plain, plain_more, reads_more, reads_line, reads_last, reads_long, reads_past}
 use Rattle.tile_top.proofs.streams.read_line.Goals as goal
 
 pub returns-in-Ok-None-2-clause-told : goal.returns-in-Ok-None-2-clause-told
@@ -61,6 +61,7 @@ loop-byte-preserved g c =
     let below : length line < max_line = search rules in
     record {
       reads = subst (λ (l : List ℕ). Reads (g.S.Source.left c.args.source.now) new l) (sym pushed) (reads_more _ _ _ line c.in-Ok-Some.byte c.if-byte-eq10.false i.reads took);
+      plain = subst (λ (l : List ℕ). Plain (g.S.Source.left c.args.source.now) new l) (sym pushed) (plain_more _ _ _ line c.in-Ok-Some.byte c.if-byte-eq10.false i.plain took);
       short = omega arith;
       used = omega arith;
       most = omega arith;

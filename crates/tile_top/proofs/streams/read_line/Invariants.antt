@@ -1,11 +1,12 @@
 use Rattle.std.proofs.Common.{◌≡◌, ◌≤◌, ◌+◌, ◌-◌, length}
 use Rattle.tile_top.specs.TextLines.{max_line, max_script}
-use Rattle.tile_top.proofs.Reading.{Reads}
+use Rattle.tile_top.proofs.Reading.{Reads, Plain}
 use Rattle.tile_top.proofs.streams.read_line.Given as goal
 
 abbrev pub invariant-loop-byte : goal.invariant-loop-byte
 invariant-loop-byte g l = record {
   reads : Reads (g.S.Source.left l.initial.source) (g.S.Source.left l.source) l.line.items;
+  plain : Plain (g.S.Source.left l.initial.source) (g.S.Source.left l.source) l.line.items;
   short : length l.line.items ≤ max_line;
   used : l.used ≡ l.initial.used + length l.line.items;
   most : l.used ≤ max_script;

@@ -1,11 +1,11 @@
-use Rattle.std.proofs.Common.{◌∙◌, refl, subst}
+use Rattle.std.proofs.Common.{◌∙◌, refl, subst, inl}
 use Rattle.tile_top.specs.declared.plays.Turn.{Turn}
 use Rattle.tile_top.specs.Plays.{OnPlay}
-use Rattle.tile_top.proofs.Ends.{cut_none, faulty_cut, stopped_none, replays_stopped, ends_script, ends_read, ends_memory}
+use Rattle.tile_top.proofs.Ends.{before_none, faulty_before, replays_stopped, ends_script, ends_read, ends_memory}
 use Rattle.tile_top.proofs.tops.replay.Goals as goal
 
 pub returns-in_default-clause-told : goal.returns-in_default-clause-told
-returns-in_default-clause-told g c = ends_memory _ _ _ _ _ c.end.result.status (cut_none (g.S.Source.left c.args.source.now) (g.K.Sink.held c.args.sink.now)) c.end.ensures.told
+returns-in_default-clause-told g c = ends_memory _ _ _ _ _ c.end.result.status (before_none (g.S.Source.left c.args.source.now) (g.K.Sink.held c.args.sink.now)) c.end.ensures.told
 
 pub returns-in-Ok-script_fault-clause-told : goal.returns-in-Ok-script_fault-clause-told
 returns-in-Ok-script_fault-clause-told g c =
@@ -15,7 +15,7 @@ returns-in-Ok-script_fault-clause-told g c =
 pub returns-in-Script-clause-told : goal.returns-in-Script-clause-told
 returns-in-Script-clause-told g c =
     let played = subst (λ (t : Turn). OnPlay t (g.S.Source.left c.args.source.now) (g.S.Source.left c.play-turn.new.source) (g.K.Sink.held c.args.sink.now) (g.K.Sink.held c.play-turn.new.sink) c.play-turn.result.1) c.in-Script.is c.play-turn.ensures.told in
-    ends_memory _ (g.S.Source.left c.play-turn.new.source) _ _ _ c.end-in-Err.result.status (faulty_cut _ _ _ c.play-turn.result.1 played) c.end-in-Err.ensures.told
+    ends_memory _ (g.S.Source.left c.play-turn.new.source) _ _ _ c.end-in-Err.result.status (faulty_before _ _ _ _ c.play-turn.result.1 played) c.end-in-Err.ensures.told
 
 pub returns-in-ReadFault-clause-told : goal.returns-in-ReadFault-clause-told
 returns-in-ReadFault-clause-told g c =
@@ -25,7 +25,7 @@ returns-in-ReadFault-clause-told g c =
 pub returns-in-WriteFault-clause-told : goal.returns-in-WriteFault-clause-told
 returns-in-WriteFault-clause-told g c =
     let played = subst (λ (t : Turn). OnPlay t (g.S.Source.left c.args.source.now) (g.S.Source.left c.play-turn.new.source) (g.K.Sink.held c.args.sink.now) (g.K.Sink.held c.play-turn.new.sink) c.play-turn.result.1) c.in-WriteFault.is c.play-turn.ensures.told in
-    replays_stopped _ (g.S.Source.left c.play-turn.new.source) _ _ 4 refl (stopped_none _ _ _ played)
+    replays_stopped _ (g.S.Source.left c.play-turn.new.source) _ _ 4 refl (inl played)
 
 pub returns-in-Memory-clause-told : goal.returns-in-Memory-clause-told
 returns-in-Memory-clause-told g c =
