@@ -1,3 +1,5 @@
+mod Halving
+mod Naming
 mod Present
 mod Steps
 mod Takes

@@ -1,6 +1,8 @@
 -- The sessions that a core keeps.
-use Rattle.std.specs.Prelude.{◌≡◌, ◌≢◌, ◌⊎◌, ℕ, Bool, ◌||◌, nat_le, ◌<◌, ◌≤◌, List, [], ◌∷◌, ◌++◌, length, slice_get, Some, Result, Ok, Err, true, false, if◌then◌else◌}
+use Rattle.std.specs.Prelude.{◌≡◌, ◌≢◌, ◌⊎◌, ℕ, Bool, ◌||◌, nat_le, nat_lt, ◌<◌, ◌≤◌, List, [], ◌∷◌, ◌++◌, length, slice_get, Some, Result, Ok, Err, true, false, if◌then◌else◌}
 use Rattle.byte_text.specs.Names.{Bytes}
+use Rattle.ordered_lists.specs.Lists.{ascends}
+use Rattle.world_data.specs.Frames.{frame_bytes}
 use Rattle.world_data.specs.Limits.{full_frames, full_bytes}
 use Rattle.world_model.specs.Halls as halls
 use Rattle.world_model.specs.declared.events.Called.{Called}
@@ -24,7 +26,7 @@ is_open s = halls.is_live (session_of s)
 
 -- it has too many frames, or too many bytes of frames, for a call to be made
 abbrev pub is_full : Session → Bool
-is_full s = nat_le full_frames (length s.outbox) || nat_le full_bytes (halls.frame_bytes s.outbox)
+is_full s = nat_le full_frames (length s.outbox) || nat_le full_bytes (frame_bytes s.outbox)
 
 -- it is to end behind its frames
 abbrev pub closed : Session → Session
@@ -39,6 +41,13 @@ pub record IsAt (sessions : List Session) (number i : ℕ) : Type 0 where
   pub session : Session
   pub here : slice_get sessions i ≡ Some session
   pub numbered : session.number ≡ number
+
+-- numbers rise along the list
+abbrev pub number_before : Session → Session → Bool
+number_before s t = nat_lt s.number t.number
+
+abbrev pub are_rising : List Session → Bool
+are_rising sessions = ascends number_before sessions
 
 -- numbers rise along the list from above `low` on, and none is over the last one drawn
 abbrev pub Rises : ℕ → ℕ → List Session → Type 0

@@ -22,10 +22,10 @@ use byte_text::{Name, NoMemory, Text};
 use collection::Collection;
 use glob_match::glob_meets;
 use keyspace::Keyspace;
-use reply_text::{ItemFrames, ReplyFault, count_reply, error_reply};
+use reply_text::{ItemFrames, ReplyFault, count_reply, refusal_reply};
 use search_query::page;
 use std::alloc::Global;
-use world_model::{Page, Query, Rule, Shown};
+use world_model::{Page, Query, Refusal, Rule, Shown};
 
 // The frame of a reply, or of the refusal where it would be too long.
 fn or_refusal(alloc: Global, frame: Result<Text, ReplyFault>) -> Result<Text, NoMemory>
@@ -33,7 +33,7 @@ fn or_refusal(alloc: Global, frame: Result<Text, ReplyFault>) -> Result<Text, No
 {
     match frame {
         Ok(frame) => Ok(frame),
-        Err(ReplyFault::TooLong) => short_frame(alloc, &error_reply(alloc, b"reply too long")?),
+        Err(ReplyFault::TooLong) => short_frame(alloc, &refusal_reply(alloc, Refusal::ReplyTooLong)?),
         Err(ReplyFault::Memory) => Err(NoMemory),
     }
 }

@@ -1,20 +1,14 @@
 //! The sessions that are present, in the order of their numbers.
 
-ghost use Rattle.std.specs.Prelude.{◌≡◌, ◌≢◌, ◌<◌, ◌≤◌, [], ℕ, length, drop, take, min, Some, IfSome, IfNone, slice_get};
+ghost use Rattle.std.specs.Prelude.{◌≡◌, ◌<◌, ◌≤◌, [], true, length, drop, take, min, nat_lt, IfSome, IfNone};
 ghost use Rattle.world_data.specs.Limits.{full_frames, full_bytes, max_reply, take_frames};
 ghost use Rattle.world_data.specs.Frames.{frame_bytes};
-ghost use Rattle.tile_core.specs.declared.sessions.Session.{Session};
-ghost use Rattle.tile_core.specs.Sessions.{IsAt, IsServed, is_full, is_open, answered, closed};
+ghost use Rattle.tile_core.specs.Sessions.{IsAt, IsServed, AreOthers, are_rising, is_full, is_open, answered, closed};
 
 use byte_text::Text;
 use subscriber_queue::Outbox;
+use world_data::{FULL_BYTES, FULL_FRAMES};
 use world_model::{Called, Frames};
-
-/// From this many frames on a session is full.
-const FULL_FRAMES: usize = 1024;
-
-/// From this many bytes of frames on a session is full.
-const FULL_BYTES: u64 = 2_097_152;
 
 /// Whether a session is served, or is to end behind the frames that it has.
 #[derive(Clone, Copy, Debug, PartialEq, Eq)]
@@ -84,22 +78,31 @@ impl Session {
     }
 }
 
-/// Where the session of this number stands.
+/// Where the session of this number stands, found by halving, as their numbers rise.
 pub(crate) fn position_of(sessions: &[Session], number: u32) -> Option<usize>
+    requires { are_rising sessions.now ≡ true }
     ensures found { IfSome result (λ i. IsAt sessions.now number i) }
     ensures within { IfSome result (λ i. i < length sessions.now) }
-    ensures absent { IfNone result ((k : ℕ) (s : Session) → slice_get sessions.now k ≡ Some s → s.number ≢ number) }
+    ensures absent { IfNone result (AreOthers number sessions.now) }
 {
-    for (i, session) in sessions.iter().enumerate() {
-        if session.number == number {
-            return Some(i);
-        }
+    let at = sessions.partition_point(
+        |session: &Session| -> bool
+            ensures { result ≡ nat_lt session.now.number number.entry }
+        { session.number < number },
+    );
+    if at == sessions.len() {
+        return None;
     }
-    None
+    if sessions[at].number == number {
+        Some(at)
+    } else {
+        None
+    }
 }
 
 /// Where the session stands that may make a call now; else how the call is answered: it is gone, or full.
 pub(crate) fn served(sessions: &[Session], number: u32) -> Result<usize, Called>
+    requires { are_rising sessions.now ≡ true }
     ensures { IsServed sessions.now number result }
 {
     let Some(at) = position_of(sessions, number) else {

@@ -74,7 +74,7 @@ invariant_of-self-2 c =
     let left = rest_kept (objects_in k.objects) now k.weight rest g.held.items g.length g.weight c.self.invariant.kept.light e.taken in
     let calm = c.calm_after-self-inside.result in
     record {
-      kept = subst (λ (os : List Object). AreKept os p.weight) (sym items) (kept_after c.world_laws.ensures.sorted rest g.weight left (effect_of_asked (world_of rest) now c.args.asked.now) p plan);
+      kept = subst (λ (os : List Object). AreKept os p.weight) (sym items) (kept_after rest g.weight left (effect_of_asked (world_of rest) now c.args.asked.now) p plan);
       calm = subst (λ (os : List Object). AreCalm calm os) (sym items) (calm_moved g.calm calm rest p.action c.calm_after-self-inside.ensures.least c.calm_after-self-inside.ensures.put e.calm);
       present = present_set k.drawn k.sessions.items c.in-Ok.at sv.0.session c.answer.new.self c.self.invariant.present sv.0.here same;
     }

@@ -17,7 +17,7 @@ invariant_of-self c =
     let at = subst (λ (ss : List Session). IsAt ss c.args.session c.in-Some.at) c.as_slice.ensures.value c.in-Some.ensures.found in
     let is : c.index_mut.result.now ≡ at.session = c.index_mut.ensures.value ∙ read_at k.sessions.items c.in-Some.at at.session c.index_mut.result.now at.here in
     let same : c.close.new.self.number ≡ at.session.number = ap (λ (s : Session). s.number) c.close.ensures ∙ ap (λ (s : Session). s.number) is in
-    record { kept = c.self.invariant.kept; calm = c.self.invariant.calm; present = present_set k.drawn k.sessions.items c.in-Some.at at.session c.close.new.self c.self.invariant.present at.here same }
+    record { kept = c.self.invariant.kept; calm = c.self.invariant.calm; early = c.self.invariant.early; present = present_set k.drawn k.sessions.items c.in-Some.at at.session c.close.new.self c.self.invariant.present at.here same }
 
 pub returns-in-Some-clause-step : goal.returns-in-Some-clause-step
 returns-in-Some-clause-step c =

@@ -14,6 +14,7 @@ invariant_of-self-2 c =
     record {
       kept = i.kept;
       calm = i.calm;
+      early = i.early;
       present = record {
         rises = subst (λ (xs : List Session). Rises 0 (c.self.inside.drawn + 1) xs) (sym pushed) (rises_more 0 c.self.inside.drawn items v i.present.rises refl);
         few = let long = ap length pushed ∙ length-append items (v ∷ []) in omega (arith, long);

@@ -33,7 +33,7 @@ invariant_of-self c =
     let at = subst (λ (ss : List Session). IsAt ss c.args.session c.in-Some.at) c.as_slice.ensures.value c.in-Some.ensures.found in
     let is : c.index_mut.result.now ≡ at.session = c.index_mut.ensures.value ∙ read_at k.sessions.items c.in-Some.at at.session c.index_mut.result.now at.here in
     let same : c.take_frames.new.self.number ≡ at.session.number = ap (λ (s : Session). s.number) c.take_frames.ensures.left ∙ ap (λ (s : Session). s.number) is in
-    record { kept = c.self.invariant.kept; calm = c.self.invariant.calm; present = present_set k.drawn k.sessions.items c.in-Some.at at.session c.take_frames.new.self c.self.invariant.present at.here same }
+    record { kept = c.self.invariant.kept; calm = c.self.invariant.calm; early = c.self.invariant.early; present = present_set k.drawn k.sessions.items c.in-Some.at at.session c.take_frames.new.self c.self.invariant.present at.here same }
 
 pub returns-then-frames-gt0-clause-step : goal.returns-then-frames-gt0-clause-step
 returns-then-frames-gt0-clause-step c =
@@ -70,7 +70,7 @@ invariant_of-self-2 c =
     let at = subst (λ (ss : List Session). IsAt ss c.args.session c.in-Some.at) c.as_slice.ensures.value c.in-Some.ensures.found in
     record {
       kept = c.self.invariant.kept;
-      calm = c.self.invariant.calm;
+      calm = c.self.invariant.calm; early = c.self.invariant.early;
       present = subst (ArePresent k.drawn) (sym c.remove.ensures.items) (present_remove k.drawn k.sessions.items c.in-Some.at (within k.sessions.items c.in-Some.at at.session at.here) c.self.invariant.present);
     }
 
