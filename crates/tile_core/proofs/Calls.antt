@@ -89,10 +89,10 @@ all_same n f (s ∷ ss) e = ap (λ (z : halls.Session). z ∷ map (λ s. if is_s
 -- the frame is placed on a session that is served and not full
 fits : (s : Session) (frame : Bytes) → is_open s ≡ true → is_full s ≡ false → length frame ≤ max_reply → placed frame (session_of s) ≡ session_of (answered frame false s)
 fits s frame lives room_ short =
-    let few : length s.outbox < full_frames = grind (arith, nat_tests) in
-    let light : frame_bytes s.outbox < full_bytes = grind (arith, nat_tests) in
-    let t : nat_lt (length s.outbox) cap_frames ≡ true = room (length s.outbox) few in
-    let u : nat_le (frame_bytes s.outbox + length frame) cap_bytes ≡ true = bytes (frame_bytes s.outbox) (length frame) light short in
+    let few : length s.outbox.frames < full_frames = grind (arith, nat_tests) in
+    let light : frame_bytes s.outbox.frames < full_bytes = grind (arith, nat_tests) in
+    let t : nat_lt (length s.outbox.frames) cap_frames ≡ true = room (length s.outbox.frames) few in
+    let u : nat_le (frame_bytes s.outbox.frames + length frame) cap_bytes ≡ true = bytes (frame_bytes s.outbox.frames) (length frame) light short in
     rw (lives, t, u) refl
   where
     room : (a : ℕ) → a < full_frames → nat_lt a cap_frames ≡ true

@@ -30,10 +30,10 @@ read_at (y ∷ ys) (suc i) s d at = read_at ys i s d at
 pub served_is : (sessions : List Session) (n i : ℕ) (sv : IsServed sessions n (Ok i)) (r : Session) → r ≡ get_or sessions i r → r ≡ sv.0.session
 served_is sessions n i sv r e = e ∙ read_at sessions i sv.0.session r sv.0.here
 
-pub few_frames : (s : Session) → is_full s ≡ false → length s.outbox < full_frames
+pub few_frames : (s : Session) → is_full s ≡ false → length s.outbox.frames < full_frames
 few_frames s e = grind (arith, nat_tests)
 
-pub few_bytes : (s : Session) → is_full s ≡ false → frame_bytes s.outbox < full_bytes
+pub few_bytes : (s : Session) → is_full s ≡ false → frame_bytes s.outbox.frames < full_bytes
 few_bytes s e = grind (arith, nat_tests)
 
 pub left_of : (a b : Bool) → (a && b) ≡ true → a ≡ true

@@ -15,7 +15,6 @@ use crate::dues::{expire, release};
 use crate::moves::make_move;
 use crate::ready::{Ready, calm_after, make_ready};
 use crate::sessions::{Session, Stage, position_of, served};
-use byte_text::NoMemory;
 use keyspace::Keyspace;
 use std::alloc::Global;
 use std::marker::Model;
@@ -92,14 +91,10 @@ impl Core {
         if self.sessions.len() >= MAX_SESSIONS || self.drawn == MOST_DRAWN {
             return Err(EnterFault::TooMany);
         }
-        let outbox = match Outbox::new(self.alloc) {
-            Ok(outbox) => outbox,
-            Err(NoMemory) => return Err(EnterFault::Memory),
-        };
         let number = self.drawn + 1;
         let session = Session {
             number,
-            outbox,
+            outbox: Outbox::new(self.alloc),
             stage: Stage::Live,
         };
         if self.sessions.push(session).is_err() {
@@ -157,7 +152,7 @@ impl Core {
         if self.logged >= MOST_LOGGED {
             return Called::Spent;
         }
-        let at = match served(self.sessions.as_slice(), session) {
+        let at = match served(self.sessions.as_mut_slice(), session) {
             Ok(at) => at,
             Err(answer) => return answer,
         };

@@ -1,11 +1,11 @@
 //! The sessions that are present, in the order of their numbers.
 
-ghost use Rattle.std.specs.Prelude.{◌≡◌, ◌<◌, ◌≤◌, [], true, length, drop, take, min, nat_lt, IfSome, IfNone};
+ghost use Rattle.std.specs.Prelude.{◌≡◌, ◌<◌, ◌≤◌, [], true, length, drop, take, min, nat_lt, map, IfSome, IfNone, IfOk, OnOk};
 ghost use Rattle.world_data.specs.Limits.{full_frames, full_bytes, max_reply, take_frames};
 ghost use Rattle.world_data.specs.Frames.{frame_bytes};
-ghost use Rattle.tile_core.specs.Sessions.{IsAt, IsServed, AreOthers, are_rising, is_full, is_open, answered, closed};
+ghost use Rattle.tile_core.specs.Sessions.{IsAt, IsServed, AreOthers, HasPlace, are_rising, session_of, is_full, is_open, answered, closed, taken_from};
 
-use byte_text::Text;
+use byte_text::{NoMemory, Text};
 use subscriber_queue::Outbox;
 use world_data::{FULL_BYTES, FULL_FRAMES};
 use world_model::{Called, Frames};
@@ -43,11 +43,20 @@ impl Session {
         }
     }
 
-    /// Puts the frame of an answer last in its queue, for which a session that is not full has room, and where the answer
-    /// closes it lets it end behind its frames.
+    /// Takes room for one more frame in its queue. The frames stay, also for want of memory.
+    pub(crate) fn make_place(&mut self) -> Result<(), NoMemory>
+        ensures same { session_of self.new ≡ session_of self.old }
+        ensures room { OnOk result (1 ≤ self.new.outbox.spare) }
+    {
+        self.outbox.reserve(1)
+    }
+
+    /// Puts the frame of an answer last in its queue, in a place of the room, and where the answer closes it lets it end behind
+    /// its frames. A session that is not full keeps the limits of its queue then.
     pub(crate) fn answer(&mut self, frame: Text, closes: bool)
-        requires frames { length self.old.outbox < full_frames }
-        requires bytes { frame_bytes self.old.outbox < full_bytes }
+        requires frames { length self.old.outbox.frames < full_frames }
+        requires bytes { frame_bytes self.old.outbox.frames < full_bytes }
+        requires room { 1 ≤ self.old.outbox.spare }
         requires short { length frame ≤ max_reply }
         ensures { self.new ≡ answered frame closes self.old }
     {
@@ -70,9 +79,9 @@ impl Session {
     /// Moves the first frames of its queue into `into`, and answers their number.
     pub(crate) fn take_frames(&mut self, into: &mut Frames) -> usize
         requires { into.old ≡ record { list = []; places = take_frames } }
-        ensures given { into.new ≡ record { list = take take_frames self.old.outbox; places = take_frames } }
-        ensures left { self.new ≡ record self.old { outbox = drop take_frames self.old.outbox } }
-        ensures count { result ≡ min take_frames (length self.old.outbox) }
+        ensures given { into.new ≡ record { list = take take_frames self.old.outbox.frames; places = take_frames } }
+        ensures left { self.new ≡ taken_from self.old }
+        ensures count { result ≡ min take_frames (length self.old.outbox.frames) }
     {
         self.outbox.take(into)
     }
@@ -100,10 +109,13 @@ pub(crate) fn position_of(sessions: &[Session], number: u32) -> Option<usize>
     }
 }
 
-/// Where the session stands that may make a call now; else how the call is answered: it is gone, or full.
-pub(crate) fn served(sessions: &[Session], number: u32) -> Result<usize, Called>
-    requires { are_rising sessions.now ≡ true }
-    ensures { IsServed sessions.now number result }
+/// Where the session stands that may make a call now, with room for one more frame in its queue; else how the call is answered:
+/// it is gone, or full, or memory ran out. What the sessions are stays the same.
+pub(crate) fn served(sessions: &mut [Session], number: u32) -> Result<usize, Called>
+    requires { are_rising sessions.old ≡ true }
+    ensures same { map session_of sessions.new ≡ map session_of sessions.old }
+    ensures served { IsServed sessions.new number result }
+    ensures room { IfOk result (λ i. HasPlace sessions.new i) }
 {
     let Some(at) = position_of(sessions, number) else {
         return Err(Called::Gone);
@@ -114,5 +126,8 @@ pub(crate) fn served(sessions: &[Session], number: u32) -> Result<usize, Called>
     if sessions[at].is_full() {
         return Err(Called::Full);
     }
-    Ok(at)
+    match sessions[at].make_place() {
+        Ok(()) => Ok(at),
+        Err(NoMemory) => Err(Called::Memory),
+    }
 }

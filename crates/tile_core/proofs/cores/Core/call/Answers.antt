@@ -41,13 +41,13 @@ pub answer-requires-clause-frames : goal.answer-requires-clause-frames
 answer-requires-clause-frames c =
     let sv = subst (λ (ss : List Session). IsServed ss c.args.session (Ok c.in-Ok.at)) c.as_slice.ensures.value c.in-Ok.ensures in
     let is = served_is c.self.inside.sessions.items c.args.session c.in-Ok.at sv c.index_mut.result.now c.index_mut.ensures.value in
-    subst (λ (s : Session). length s.outbox < full_frames) (sym is) (few_frames sv.0.session sv.2)
+    subst (λ (s : Session). length s.outbox.frames < full_frames) (sym is) (few_frames sv.0.session sv.2)
 
 pub answer-requires-clause-bytes : goal.answer-requires-clause-bytes
 answer-requires-clause-bytes c =
     let sv = subst (λ (ss : List Session). IsServed ss c.args.session (Ok c.in-Ok.at)) c.as_slice.ensures.value c.in-Ok.ensures in
     let is = served_is c.self.inside.sessions.items c.args.session c.in-Ok.at sv c.index_mut.result.now c.index_mut.ensures.value in
-    subst (λ (s : Session). frame_bytes s.outbox < full_bytes) (sym is) (few_bytes sv.0.session sv.2)
+    subst (λ (s : Session). frame_bytes s.outbox.frames < full_bytes) (sym is) (few_bytes sv.0.session sv.2)
 
 pub answer-requires-clause-short : goal.answer-requires-clause-short
 answer-requires-clause-short c = let plan = c.in-Ok-ready.ensures.plan in plan.short

@@ -9,7 +9,7 @@ pub invariant_of-self-2 : goal.invariant_of-self-2
 invariant_of-self-2 c =
     let i = c.self.invariant in
     let items = c.self.inside.sessions.items in
-    let v : Session = record { number = c.self.inside.drawn + 1; outbox = c.in-Ok.outbox; stage = Live } in
+    let v : Session = record { number = c.self.inside.drawn + 1; outbox = c.new.result; stage = Live } in
     let pushed : c.push.new.self.items ≡ items ++ v ∷ [] = search rules in
     record {
       kept = i.kept;
