@@ -1,4 +1,3 @@
-pub mod Clean
 pub mod Counted
 pub mod Finishing
 pub mod Completions

@@ -1,4 +1,3 @@
-pub mod Faults
 pub mod Openings
 pub mod Weights
 pub mod Outcomes

@@ -1,17 +1,10 @@
-//! Each law is the contract of a function that does nothing.
+//! Laws of the machine that no code makes use of. Each is the contract of a function that does nothing.
 
-ghost use Rattle.machine_laws.specs.Faults.{TextsNeverLackMemory, WordsNeverLackMemory};
 ghost use Rattle.machine_laws.specs.Openings.{OpenIsBegun};
 ghost use Rattle.machine_laws.specs.Outcomes.{EventsDetermineOutcomes};
 ghost use Rattle.machine_laws.specs.Weights.{WeightIsCounted};
 
 use world_model::step_laws;
-
-/// No text and no words are refused for want of memory.
-pub fn fault_laws()
-    ensures texts { TextsNeverLackMemory }
-    ensures words { WordsNeverLackMemory }
-{}
 
 /// A change adds the record that it puts or sets, and takes away the records of what it replaces or deletes.
 pub fn weight_laws()

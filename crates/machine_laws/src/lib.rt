@@ -3,4 +3,4 @@
 
 mod laws;
 
-pub use laws::{fault_laws, opening_laws, outcome_laws, weight_laws};
+pub use laws::{opening_laws, outcome_laws, weight_laws};

@@ -5,7 +5,7 @@ use Rattle.std.specs.List.{list_all}
 use Rattle.std.specs.Int.{int_div_euclid}
 use Rattle.std.proofs.lemmas.Int.{ints, clamps}
 use Rattle.planar_geom.specs.Points.{Point, Bounds, in_range, in_box, boxes_meet, with_point, bounds, ranges_meet, centre, box_round_both, IsBox}
-use Rattle.planar_geom.specs.Figures.{Stretch, stretch, box_of_stretch}
+use Rattle.planar_geom.specs.Figures.{Segment, segment, box_of_segment}
 use Rattle.planar_geom.specs.Shapes.{box_of_points}
 use Rattle.planar_geom.proofs.BoolLemmas.{and-left, and-right, and-both}
 
@@ -69,8 +69,8 @@ meet-at b c p h k =
     rw (to_le x₁, to_le x₂, to_le y₁, to_le y₂) refl
 
 -- what the box round a segment holds, each box that holds its ends does
-pub stretch_box-inside : (b : Bounds) (s : Stretch) (p : Point) → Inside b s.a → Inside b s.b → Inside (box_of_stretch s) p → Inside b p
-stretch_box-inside b s p h k i = record { left = omega (arith, ints, clamps, i.left); right = omega (arith, ints, clamps, i.right); bottom = omega (arith, ints, clamps, i.bottom); top = omega (arith, ints, clamps, i.top) }
+pub segment_box-inside : (b : Bounds) (s : Segment) (p : Point) → Inside b s.a → Inside b s.b → Inside (box_of_segment s) p → Inside b p
+segment_box-inside b s p h k i = record { left = omega (arith, ints, clamps, i.left); right = omega (arith, ints, clamps, i.right); bottom = omega (arith, ints, clamps, i.bottom); top = omega (arith, ints, clamps, i.top) }
 
 half-between : (z low high : ℤ) → (low +ℤ low) ≤ℤ z → z ≤ℤ (high +ℤ high) → (low ≤ℤ int_div_euclid z (pos 2)) × (int_div_euclid z (pos 2) ≤ℤ high)
 half-between (pos n) low high h k = (omega (arith, ints), omega (arith, ints))
@@ -86,9 +86,9 @@ centre-inside b is_box =
     record { left = x_half.0; right = x_half.1; bottom = y_half.0; top = y_half.1 }
 
 -- what meets the box of a way from one box to another meets the least box round both
-pub both-meet : (b c d : Bounds) (p q : Point) → Inside b p → Inside c q → IsBox c → boxes_meet (box_of_stretch (stretch p q)) d ≡ true → boxes_meet (box_round_both b c) d ≡ true
+pub both-meet : (b c d : Bounds) (p q : Point) → Inside b p → Inside c q → IsBox c → boxes_meet (box_of_segment (segment p q)) d ≡ true → boxes_meet (box_round_both b c) d ≡ true
 both-meet b c d p q in_b in_c is_box met =
-    let way = box_of_stretch (stretch p q) in
+    let way = box_of_segment (segment p q) in
     let x_met = and-left (ranges_meet way.min.x way.max.x d.min.x d.max.x) (ranges_meet way.min.y way.max.y d.min.y d.max.y) met in
     let y_met = and-right (ranges_meet way.min.x way.max.x d.min.x d.max.x) (ranges_meet way.min.y way.max.y d.min.y d.max.y) met in
     let x₁ : way.min.x ≤ℤ d.max.x = from_le (and-left (int_le way.min.x d.max.x) (int_le d.min.x way.max.x) x_met) in

@@ -5,7 +5,7 @@ use Rattle.std.specs.Prelude.{nat_abs}
 use Rattle.std.proofs.lemmas.Bool.Decides.{leb_tells}
 use Rattle.std.proofs.lemmas.Int.{ints, unsigned_abs-mul}
 use Rattle.planar_geom.specs.Points.{square}
-use Rattle.planar_geom.proofs.PlaceLemmas.{square_is}
+use Rattle.planar_geom.proofs.PointLemmas.{square_is}
 use Rattle.planar_geom.proofs.ProductLaws.{mul-neg, mul-sub, mul-comm, add-mul, sub-mul, mul-differences, mul-right-comm}
 use Rattle.planar_geom.proofs.SideLaws.{product-not_negative}
 

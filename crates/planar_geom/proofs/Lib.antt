@@ -1,3 +1,4 @@
+pub mod AreaLaws
 pub mod BoolLemmas
 pub mod BoxLaws
 pub mod ChainLemmas
@@ -7,13 +8,15 @@ pub mod DistanceLaws
 pub mod FaceLaws
 pub mod ParityLaws
 pub mod ParityLemmas
-pub mod PlaceLemmas
+pub mod PointLemmas
 pub mod ProductLaws
 pub mod RelationLemmas
 pub mod RootLemmas
+pub mod RoundLaws
 pub mod SegmentLaws
 pub mod SideLaws
 pub mod SideLemmas
+pub mod SizeLaws
 pub mod TouchLaws
 pub mod WayLaws
 pub mod WithinLaws

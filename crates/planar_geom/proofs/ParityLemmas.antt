@@ -5,13 +5,13 @@ use Rattle.std.specs.Prelude.{Some, None, not, ◌||◌, ◌&&◌, ◌==◌, fol
 use Rattle.std.specs.List.{list_any}
 use Rattle.std.proofs.lemmas.Bool.Decides.{nat_tests}
 use Rattle.planar_geom.specs.Points.{Point}
-use Rattle.planar_geom.specs.Figures.{Stretch, stretches, edges, differ, on_stretch, passes_right, in_poly, strictly_in, on_edge, is_odd}
+use Rattle.planar_geom.specs.Figures.{Segment, chain_segments, edges, differ, on_segment, passes_right, in_poly, strictly_in, on_edge, is_odd}
 use Rattle.planar_geom.proofs.BoolLemmas.{and-true, and-false}
 use Rattle.planar_geom.specs.Standings.{on_grid, with_edge, parity}
 use Rattle.planar_geom.specs.declared.polygons.Grid.TheVariants.{Whole}
 
 -- once a point is on an edge, no further edge matters
-fold-with_edge-none : (p : Point) (es : List Stretch) → fold (with_edge p) None es ≡ None
+fold-with_edge-none : (p : Point) (es : List Segment) → fold (with_edge p) None es ≡ None
 fold-with_edge-none p [] = refl
 fold-with_edge-none p (e ∷ es) = fold-with_edge-none p es
 
@@ -34,19 +34,19 @@ differ-count false true n = sym (odd-suc n)
 differ-count false false n = refl
 
 -- the edges met one after another give their parity, from the one before on
-fold-with_edge : (p : Point) (odd : Bool) (es : List Stretch) → fold (with_edge p) (Some odd) es ≡ (if list_any (on_stretch p) es then None else Some (differ odd (count_by (passes_right p) es % 2 == 1)))
+fold-with_edge : (p : Point) (odd : Bool) (es : List Segment) → fold (with_edge p) (Some odd) es ≡ (if list_any (on_segment p) es then None else Some (differ odd (count_by (passes_right p) es % 2 == 1)))
 fold-with_edge p true [] = refl
 fold-with_edge p false [] = refl
 fold-with_edge p odd (e ∷ es) =
     let right = passes_right p e in
     let more : differ (differ odd right) (count_by (passes_right p) es % 2 == 1) ≡ differ odd (count_by (passes_right p) (e ∷ es) % 2 == 1) = differ-count odd right (count_by (passes_right p) es) ∙ ap (λ n. differ odd (n % 2 == 1)) (sym (count_by-cons (passes_right p) e es)) in
-    elim (on_stretch p e) as (λ hit. fold (with_edge p) (if hit then None else Some (differ odd right)) es ≡ (if hit || list_any (on_stretch p) es then None else Some (differ odd (count_by (passes_right p) (e ∷ es) % 2 == 1)))) [
+    elim (on_segment p e) as (λ hit. fold (with_edge p) (if hit then None else Some (differ odd right)) es ≡ (if hit || list_any (on_segment p) es then None else Some (differ odd (count_by (passes_right p) (e ∷ es) % 2 == 1)))) [
       | true ↦ fold-with_edge-none p es
-      | false ↦ fold-with_edge p (differ odd right) es ∙ ap (λ b. if list_any (on_stretch p) es then None else Some b) more
+      | false ↦ fold-with_edge p (differ odd right) es ∙ ap (λ b. if list_any (on_segment p) es then None else Some b) more
     ]
 
 -- from no edge on, they give their parity
-pub fold-parity : (p : Point) (es : List Stretch) → fold (with_edge p) (Some false) es ≡ parity es p
+pub fold-parity : (p : Point) (es : List Segment) → fold (with_edge p) (Some false) es ≡ parity es p
 fold-parity p es = fold-with_edge p false es
 
 -- on the whole grid each point stands where it does
@@ -63,9 +63,9 @@ pub unwrap_or-parity : (rings : List (List Point)) (p : Point) → unwrap_or (pa
 unwrap_or-parity rings p = elim (on_edge rings p) as (λ b. unwrap_or (if b then None else Some (is_odd rings p)) true ≡ (b || is_odd rings p)) [ true ↦ refl | false ↦ refl ]
 
 -- the edges of one ring of the whole grid give the parity of its polygon
-pub fold-ring : (p : Point) (ring : List Point) → fold (with_edge p) (Some false) (stretches (map (on_grid Whole) ring)) ≡ parity (edges (ring ∷ [])) p
+pub fold-ring : (p : Point) (ring : List Point) → fold (with_edge p) (Some false) (chain_segments (map (on_grid Whole) ring)) ≡ parity (edges (ring ∷ [])) p
 fold-ring p ring =
-    ap (λ points. fold (with_edge p) (Some false) (stretches points)) (map-whole ring) ∙ fold-parity p (stretches ring) ∙ ap (λ es. parity es p) (sym (append-nil (stretches ring)))
+    ap (λ points. fold (with_edge p) (Some false) (chain_segments points)) (map-whole ring) ∙ fold-parity p (chain_segments ring) ∙ ap (λ es. parity es p) (sym (append-nil (chain_segments ring)))
 
 -- a point is strictly in a polygon where it is on no edge and the parity is odd
 pub unwrap_or-parity_strictly : (rings : List (List Point)) (p : Point) → unwrap_or (parity (edges rings) p) false ≡ strictly_in rings p

@@ -5,11 +5,11 @@ use Rattle.std.specs.List.{list_any, list_all}
 use Rattle.std.proofs.lemmas.List.Folds.{list_any-append}
 use Rattle.std.proofs.lemmas.Int.{ints, clamps}
 use Rattle.planar_geom.specs.Points.{Point, Bounds, boxes_meet, IsBox}
-use Rattle.planar_geom.specs.Figures.{Stretch, edges, in_poly, crosses, doubled, doubled_middle}
+use Rattle.planar_geom.specs.Figures.{Segment, edges, in_poly, crosses, doubled, doubled_middle}
 use Rattle.planar_geom.specs.Shapes.{vertices, segments, all_vertices, all_segments, box_of}
-use Rattle.planar_geom.specs.Relations.{in_part, in_disc, stretch_near, reaches_disc, face_of}
+use Rattle.planar_geom.specs.Relations.{in_part, in_disc, segment_near, reaches_disc, face_of}
 use Rattle.planar_geom.specs.declared.shapes.Part.{Part}
-use Rattle.planar_geom.proofs.PlaceLemmas.{bounds_are}
+use Rattle.planar_geom.proofs.PointLemmas.{bounds_are}
 
 -- a search that has one item
 pub or-false : (p : Bool) → (p || false) ≡ p
@@ -43,11 +43,11 @@ list_any-same test other [] same = refl
 list_any-same test other (x ∷ xs) same = rw (same x, list_any-same test other xs same) refl
 
 -- no segment leaves a face where the middles of all are in it and none crosses an edge
-pub no_segment_leaves : (rings : List (List Point)) (ss : List Stretch) → not (list_any (λ s. not (in_poly (map (map doubled) rings) (doubled_middle s)) || list_any (crosses s) (edges rings)) ss) ≡ (list_all (λ s. in_poly (map (map doubled) rings) (doubled_middle s)) ss && list_all (λ s. list_all (λ t. not (crosses s t)) (edges rings)) ss)
+pub no_segment_leaves : (rings : List (List Point)) (ss : List Segment) → not (list_any (λ s. not (in_poly (map (map doubled) rings) (doubled_middle s)) || list_any (crosses s) (edges rings)) ss) ≡ (list_all (λ s. in_poly (map (map doubled) rings) (doubled_middle s)) ss && list_all (λ s. list_all (λ t. not (crosses s t)) (edges rings)) ss)
 no_segment_leaves rings ss =
-    let holds = λ (s : Stretch). in_poly (map (map doubled) rings) (doubled_middle s) in
-    let clear = λ (s : Stretch). list_all (λ t. not (crosses s t)) (edges rings) in
-    let leaves = λ (s : Stretch). not (holds s) || list_any (crosses s) (edges rings) in
+    let holds = λ (s : Segment). in_poly (map (map doubled) rings) (doubled_middle s) in
+    let clear = λ (s : Segment). list_all (λ t. not (crosses s t)) (edges rings) in
+    let leaves = λ (s : Segment). not (holds s) || list_any (crosses s) (edges rings) in
     ap not (list_any-same leaves (λ s. not (holds s && clear s)) ss (λ s. each (holds s) (list_any (crosses s) (edges rings)) (clear s) (not-any-not (crosses s) (edges rings))))
     ∙ not-any (λ s. holds s && clear s) ss
     ∙ all-both holds clear ss
@@ -79,13 +79,13 @@ or_triples false false true false false z = refl
 or_triples false false false x y z = refl
 
 -- a part reaches a disc where one of the three tests of the whole shape passes
-pub any-reaches : (c : Point) (r : ℕ) (parts : List Part) → list_any (λ part. reaches_disc part c r) parts ≡ (list_any (λ part. in_part part c) parts || list_any (in_disc c r) (all_vertices parts) || list_any (stretch_near c r) (all_segments parts))
+pub any-reaches : (c : Point) (r : ℕ) (parts : List Part) → list_any (λ part. reaches_disc part c r) parts ≡ (list_any (λ part. in_part part c) parts || list_any (in_disc c r) (all_vertices parts) || list_any (segment_near c r) (all_segments parts))
 any-reaches c r [] = refl
 any-reaches c r (part ∷ parts) =
     ap (λ b. reaches_disc part c r || b) (any-reaches c r parts)
-    ∙ or_triples (in_part part c) (list_any (in_disc c r) (vertices part)) (list_any (stretch_near c r) (segments part)) (list_any (λ p. in_part p c) parts) (list_any (in_disc c r) (all_vertices parts)) (list_any (stretch_near c r) (all_segments parts))
-    ∙ ap (λ b. (in_part part c || list_any (λ p. in_part p c) parts) || b || (list_any (stretch_near c r) (segments part) || list_any (stretch_near c r) (all_segments parts))) (sym (list_any-append (in_disc c r) (vertices part) (all_vertices parts)))
-    ∙ ap (λ b. (in_part part c || list_any (λ p. in_part p c) parts) || list_any (in_disc c r) (all_vertices (part ∷ parts)) || b) (sym (list_any-append (stretch_near c r) (segments part) (all_segments parts)))
+    ∙ or_triples (in_part part c) (list_any (in_disc c r) (vertices part)) (list_any (segment_near c r) (segments part)) (list_any (λ p. in_part p c) parts) (list_any (in_disc c r) (all_vertices parts)) (list_any (segment_near c r) (all_segments parts))
+    ∙ ap (λ b. (in_part part c || list_any (λ p. in_part p c) parts) || b || (list_any (segment_near c r) (segments part) || list_any (segment_near c r) (all_segments parts))) (sym (list_any-append (in_disc c r) (vertices part) (all_vertices parts)))
+    ∙ ap (λ b. (in_part part c || list_any (λ p. in_part p c) parts) || list_any (in_disc c r) (all_vertices (part ∷ parts)) || b) (sym (list_any-append (segment_near c r) (segments part) (all_segments parts)))
 
 -- the boxes of a shape and of a box's face meet where the shape's box meets the box
 pub face_met : (box b : Bounds) (met : Bool) → IsBox b → met ≡ boxes_meet box b → boxes_meet box (box_of (face_of b ∷ [])) ≡ met

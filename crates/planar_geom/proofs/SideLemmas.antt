@@ -8,7 +8,7 @@ use Rattle.std.proofs.lemmas.Int.{ints}
 use lib.Signed.{mag}
 use mir.Syntax.{w128}
 use Rattle.planar_geom.specs.Points.{Point, bounds, boxes_meet, in_box, Bounds}
-use Rattle.planar_geom.specs.Figures.{Stretch, stretch, cross, orient, sides, box_of_stretch, on_stretch}
+use Rattle.planar_geom.specs.Figures.{Segment, segment, cross, orient, sides, box_of_segment, on_segment}
 use Rattle.planar_geom.proofs.BoolLemmas.{and-swap, and-true}
 
 cond-same : {A : Type 0} (b : Bool) (x : A) → cond b x x ≡ x
@@ -19,7 +19,7 @@ int_min-same : (a : ℤ) → int_min a a ≡ a
 int_min-same a = cond-same (int_lt a a) a
 
 -- the box round the segment from a point to itself
-point_box : (p : Point) → box_of_stretch (stretch p p) ≡ bounds p p
+point_box : (p : Point) → box_of_segment (segment p p) ≡ bounds p p
 point_box p = rw (int_min-same p.x, int_min-same p.y) refl
 
 -- it meets a box where the point is in it
@@ -33,7 +33,7 @@ no_line p c =
     let y_none : p.y -ℤ p.y ≡ pos 0 = omega (arith, ints) in
     rw (x_none, y_none) (omega (arith, ints))
 
-no_sides : (p : Point) (s : Stretch) → sides (stretch p p) s ≡ pos 0
+no_sides : (p : Point) (s : Segment) → sides (segment p p) s ≡ pos 0
 no_sides p s = rw (no_line p s.a, no_line p s.b) refl
 
 -- what the code's test for 0 tells
@@ -43,10 +43,10 @@ zero_test (pos (suc n)) h = let one : min (suc n) 1 ≡ 1 = omega arith in rw on
 zero_test (negsuc n) h = grind (arith, nat_tests)
 
 -- a point is on a segment where it is in its box and on its line
-pub on_stretch-is : (p : Point) (s : Stretch) → on_stretch p s ≡ (in_box (box_of_stretch s) p && int_le (orient s.a s.b p *ℤ orient s.a s.b p) (pos 0))
-on_stretch-is p s =
-    let other = stretch p p in
-    ap (λ b. boxes_meet b (box_of_stretch s) && int_le (sides other s) (pos 0) && int_le (sides s other) (pos 0)) (point_box p)
-    ∙ ap (λ m. m && int_le (sides other s) (pos 0) && int_le (sides s other) (pos 0)) (point_box-meets p (box_of_stretch s))
-    ∙ ap (λ z. in_box (box_of_stretch s) p && int_le z (pos 0) && int_le (sides s other) (pos 0)) (no_sides p s)
-    ∙ ap (λ m. m && int_le (sides s other) (pos 0)) (and-true (in_box (box_of_stretch s) p))
+pub on_segment-is : (p : Point) (s : Segment) → on_segment p s ≡ (in_box (box_of_segment s) p && int_le (orient s.a s.b p *ℤ orient s.a s.b p) (pos 0))
+on_segment-is p s =
+    let other = segment p p in
+    ap (λ b. boxes_meet b (box_of_segment s) && int_le (sides other s) (pos 0) && int_le (sides s other) (pos 0)) (point_box p)
+    ∙ ap (λ m. m && int_le (sides other s) (pos 0) && int_le (sides s other) (pos 0)) (point_box-meets p (box_of_segment s))
+    ∙ ap (λ z. in_box (box_of_segment s) p && int_le z (pos 0) && int_le (sides s other) (pos 0)) (no_sides p s)
+    ∙ ap (λ m. m && int_le (sides s other) (pos 0)) (and-true (in_box (box_of_segment s) p))

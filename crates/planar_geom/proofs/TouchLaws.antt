@@ -5,7 +5,7 @@ use Rattle.std.specs.List.{list_any, list_all}
 use Rattle.std.proofs.lemmas.Int.{ints, clamps}
 use Rattle.std.proofs.lemmas.List.Folds.{list_all-append}
 use Rattle.planar_geom.specs.Points.{Point, Bounds, bounds, in_box, boxes_meet, ranges_meet, same_int, with_point}
-use Rattle.planar_geom.specs.Figures.{Stretch, stretch, stretches_from, edges, ring_points, meets, sides, box_of_stretch, is_poly, in_poly}
+use Rattle.planar_geom.specs.Figures.{Segment, segment, segments_from, edges, ring_points, meets, sides, box_of_segment, is_poly, in_poly}
 use Rattle.planar_geom.specs.Shapes.{vertices, segments, is_part, box_of_points}
 use Rattle.planar_geom.specs.Relations.{in_part, face_of, touch, lies_in}
 use Rattle.planar_geom.specs.declared.shapes.Part.{Part}
@@ -20,34 +20,34 @@ no : {P : Type 0} → false ≡ true → P
 no h = absurd (let no' : false ≡ true = h in cc)
 
 -- both ends of a segment are in a box
-abbrev ends_in : Bounds → Stretch → Bool
+abbrev pub ends_in : Bounds → Segment → Bool
 ends_in b s = in_box b s.a && in_box b s.b
 
-chain-ends : (b : Bounds) (q : Point) (qs : List Point) → list_all (in_box b) (q ∷ qs) ≡ true → list_all (ends_in b) (stretches_from q qs) ≡ true
+chain-ends : (b : Bounds) (q : Point) (qs : List Point) → list_all (in_box b) (q ∷ qs) ≡ true → list_all (ends_in b) (segments_from q qs) ≡ true
 chain-ends b q [] held = refl
 chain-ends b q (r ∷ rs) held =
     let rest = and-right (in_box b q) (list_all (in_box b) (r ∷ rs)) held in
-    and-both (ends_in b (stretch q r)) (list_all (ends_in b) (stretches_from r rs)) (and-both (in_box b q) (in_box b r) (and-left (in_box b q) (list_all (in_box b) (r ∷ rs)) held) (and-left (in_box b r) (list_all (in_box b) rs) rest)) (chain-ends b r rs rest)
+    and-both (ends_in b (segment q r)) (list_all (ends_in b) (segments_from r rs)) (and-both (in_box b q) (in_box b r) (and-left (in_box b q) (list_all (in_box b) (r ∷ rs)) held) (and-left (in_box b r) (list_all (in_box b) rs) rest)) (chain-ends b r rs rest)
 
 ring-ends : (b : Bounds) (rings : List (List Point)) → list_all (in_box b) (ring_points rings) ≡ true → list_all (ends_in b) (edges rings) ≡ true
 ring-ends b [] held = refl
 ring-ends b ([] ∷ rings) held = ring-ends b rings held
 ring-ends b ((q ∷ qs) ∷ rings) held =
     let both = sym (list_all-append (in_box b) (q ∷ qs) (ring_points rings)) ∙ held in
-    list_all-append (ends_in b) (stretches_from q qs) (edges rings)
-    ∙ and-both (list_all (ends_in b) (stretches_from q qs)) (list_all (ends_in b) (edges rings)) (chain-ends b q qs (and-left (list_all (in_box b) (q ∷ qs)) (list_all (in_box b) (ring_points rings)) both)) (ring-ends b rings (and-right (list_all (in_box b) (q ∷ qs)) (list_all (in_box b) (ring_points rings)) both))
+    list_all-append (ends_in b) (segments_from q qs) (edges rings)
+    ∙ and-both (list_all (ends_in b) (segments_from q qs)) (list_all (ends_in b) (edges rings)) (chain-ends b q qs (and-left (list_all (in_box b) (q ∷ qs)) (list_all (in_box b) (ring_points rings)) both)) (ring-ends b rings (and-right (list_all (in_box b) (q ∷ qs)) (list_all (in_box b) (ring_points rings)) both))
 
-part-ends : (b : Bounds) (part : Part) → list_all (in_box b) (vertices part) ≡ true → list_all (ends_in b) (segments part) ≡ true
+pub part-ends : (b : Bounds) (part : Part) → list_all (in_box b) (vertices part) ≡ true → list_all (ends_in b) (segments part) ≡ true
 part-ends b (Spot p) held = refl
 part-ends b (Chain []) held = refl
 part-ends b (Chain (q ∷ qs)) held = chain-ends b q qs held
 part-ends b (Face rings) held = ring-ends b rings held
 
 -- boxes that hold two segments meet where the segments do
-held-meet : (b c : Bounds) (s t : Stretch) → ends_in b s ≡ true → ends_in c t ≡ true → meets s t ≡ true → boxes_meet b c ≡ true
+held-meet : (b c : Bounds) (s t : Segment) → ends_in b s ≡ true → ends_in c t ≡ true → meets s t ≡ true → boxes_meet b c ≡ true
 held-meet b c s t in_b in_c met =
-    let box = box_of_stretch s in
-    let other = box_of_stretch t in
+    let box = box_of_segment s in
+    let other = box_of_segment t in
     let boxes = and-left (boxes_meet box other) (int_le (sides s t) (pos 0)) (and-left (boxes_meet box other && int_le (sides s t) (pos 0)) (int_le (sides t s) (pos 0)) met) in
     let x_met = and-left (ranges_meet box.min.x box.max.x other.min.x other.max.x) (ranges_meet box.min.y box.max.y other.min.y other.max.y) boxes in
     let y_met = and-right (ranges_meet box.min.x box.max.x other.min.x other.max.x) (ranges_meet box.min.y box.max.y other.min.y other.max.y) boxes in
@@ -65,34 +65,37 @@ held-meet b c s t in_b in_c met =
     let v₂ : c.min.y ≤ℤ b.max.y = omega (arith, ints, clamps, y₂, a.top, a'.top, d.bottom, d'.bottom) in
     rw (to_le u₁, to_le u₂, to_le v₁, to_le v₂) refl
 
-one-meets : (b c : Bounds) (s : Stretch) (ts : List Stretch) → ends_in b s ≡ true → list_all (ends_in c) ts ≡ true → list_any (meets s) ts ≡ true → boxes_meet b c ≡ true
+one-meets : (b c : Bounds) (s : Segment) (ts : List Segment) → ends_in b s ≡ true → list_all (ends_in c) ts ≡ true → list_any (meets s) ts ≡ true → boxes_meet b c ≡ true
 one-meets b c s [] in_b in_c met = no met
 one-meets b c s (t ∷ ts) in_b in_c met =
     or-elim (meets s t) (list_any (meets s) ts) met
     (λ h. held-meet b c s t in_b (and-left (ends_in c t) (list_all (ends_in c) ts) in_c) h)
     (λ h. one-meets b c s ts in_b (and-right (ends_in c t) (list_all (ends_in c) ts) in_c) h)
 
-some-meet : (b c : Bounds) (ss ts : List Stretch) → list_all (ends_in b) ss ≡ true → list_all (ends_in c) ts ≡ true → list_any (λ s. list_any (meets s) ts) ss ≡ true → boxes_meet b c ≡ true
+some-meet : (b c : Bounds) (ss ts : List Segment) → list_all (ends_in b) ss ≡ true → list_all (ends_in c) ts ≡ true → list_any (λ s. list_any (meets s) ts) ss ≡ true → boxes_meet b c ≡ true
 some-meet b c [] ts in_b in_c met = no met
 some-meet b c (s ∷ ss) ts in_b in_c met =
     or-elim (list_any (meets s) ts) (list_any (λ s. list_any (meets s) ts) ss) met
     (λ h. one-meets b c s ts (and-left (ends_in b s) (list_all (ends_in b) ss) in_b) in_c h)
     (λ h. some-meet b c ss ts (and-right (ends_in b s) (list_all (ends_in b) ss) in_b) in_c h)
 
--- a point of a part is in the box round the part
-in_part-inside : (part : Part) (p : Point) → is_part part ≡ true → in_part part p ≡ true → Inside (box_of_points (vertices part)) p
-in_part-inside (Spot q) p whole is_in =
+-- a point of a part is in each box that holds the part's points
+pub in_part-held : (part : Part) (p : Point) (b : Bounds) → is_part part ≡ true → list_all (in_box b) (vertices part) ≡ true → in_part part p ≡ true → Inside b p
+in_part-held (Spot q) p b whole held is_in =
+    let at_q = inside b q (and-left (in_box b q) true held) in
     let x_same = and-left (same_int q.x p.x) (same_int q.y p.y) is_in in
     let y_same = and-right (same_int q.x p.x) (same_int q.y p.y) is_in in
-    record {
-      left = from_le (and-left (int_le q.x p.x) (int_le p.x q.x) x_same);
-      right = from_le (and-right (int_le q.x p.x) (int_le p.x q.x) x_same);
-      bottom = from_le (and-left (int_le q.y p.y) (int_le p.y q.y) y_same);
-      top = from_le (and-right (int_le q.y p.y) (int_le p.y q.y) y_same);
-    }
-in_part-inside (Chain []) p whole is_in = no whole
-in_part-inside (Chain (q ∷ qs)) p whole is_in = on_chain-inside p q qs (box_of_points (q ∷ qs)) (box_of_points-all (q ∷ qs)) is_in
-in_part-inside (Face rings) p whole is_in = in_poly-inside p rings (box_of_points (ring_points rings)) whole (box_of_points-all (ring_points rings)) is_in
+    let x₁ : q.x ≤ℤ p.x = from_le (and-left (int_le q.x p.x) (int_le p.x q.x) x_same) in
+    let x₂ : p.x ≤ℤ q.x = from_le (and-right (int_le q.x p.x) (int_le p.x q.x) x_same) in
+    let y₁ : q.y ≤ℤ p.y = from_le (and-left (int_le q.y p.y) (int_le p.y q.y) y_same) in
+    let y₂ : p.y ≤ℤ q.y = from_le (and-right (int_le q.y p.y) (int_le p.y q.y) y_same) in
+    record { left = omega (arith, ints, at_q.left, x₁); right = omega (arith, ints, at_q.right, x₂); bottom = omega (arith, ints, at_q.bottom, y₁); top = omega (arith, ints, at_q.top, y₂) }
+in_part-held (Chain []) p b whole held is_in = no whole
+in_part-held (Chain (q ∷ qs)) p b whole held is_in = on_chain-inside p q qs b held is_in
+in_part-held (Face rings) p b whole held is_in = in_poly-inside p rings b whole held is_in
+
+in_part-inside : (part : Part) (p : Point) → is_part part ≡ true → in_part part p ≡ true → Inside (box_of_points (vertices part)) p
+in_part-inside part p whole is_in = in_part-held part p (box_of_points (vertices part)) whole (box_of_points-all (vertices part)) is_in
 
 some-in : (b : Bounds) (part : Part) (ps : List Point) → is_part part ≡ true → list_all (in_box b) ps ≡ true → list_any (in_part part) ps ≡ true → boxes_meet b (box_of_points (vertices part)) ≡ true
 some-in b part [] whole held is_in = no is_in

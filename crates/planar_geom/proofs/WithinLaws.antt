@@ -5,8 +5,8 @@ use Rattle.std.specs.List.{list_any, list_all}
 use Rattle.std.proofs.lemmas.List.Folds.{list_all-append}
 use Rattle.planar_geom.specs.Points.{Point, Bounds, in_box, boxes_meet}
 use Rattle.planar_geom.specs.Figures.{edges, ring_points, crosses, doubled, doubled_middle, in_poly, is_poly, is_ring}
-use Rattle.planar_geom.specs.Shapes.{vertices, segments, all_vertices, all_segments, box_of, is_part, is_shape}
-use Rattle.planar_geom.specs.Relations.{in_part, in_disc, stretch_near, face_of, touch, intersects, within, lies_in, lies_in_part, no_hole_inside, IsArea}
+use Rattle.planar_geom.specs.Shapes.{vertices, segments, all_vertices, all_segments, box_of, is_part, has_allowed_size, is_shape}
+use Rattle.planar_geom.specs.Relations.{in_part, in_disc, segment_near, face_of, touch, intersects, within, lies_in, lies_in_part, no_hole_inside, IsArea}
 use Rattle.planar_geom.specs.Figures.{meets}
 use Rattle.planar_geom.specs.declared.shapes.Part.{Part}
 use Rattle.planar_geom.specs.declared.shapes.Part.TheVariants.{Spot, Chain, Face}
@@ -85,7 +85,7 @@ pub within-intersects : (shape : List Part) (area : Area) → is_shape shape ≡
 unfolding within intersects
 within-intersects [] area whole area_whole lies = absurd (clash whole)
 within-intersects (part ∷ parts) (Rect b) whole area_whole lies =
-    with_vertex part (and-left (is_part part) (list_all is_part parts) (and-right (nat_lt 0 (suc (length parts))) (list_all is_part (part ∷ parts)) whole))
+    with_vertex part (and-left (is_part part) (list_all is_part parts) (and-right (has_allowed_size (part ∷ parts)) (list_all is_part (part ∷ parts)) whole))
     (λ v vs e.
     let shape = part ∷ parts in
     let face = face_of b in
@@ -95,17 +95,17 @@ within-intersects (part ∷ parts) (Rect b) whole area_whole lies =
     (ap (boxes_meet (box_of shape)) (box_of-face b area_whole) ∙ meet-at (box_of shape) b v in_own in_b)
     (or-left (list_any (touch part) (face ∷ [])) (list_any (λ p. list_any (touch p) (face ∷ [])) parts) (or-left (touch part face) false (touch-at part face v vs e (face-holds b v in_b)))))
 within-intersects (part ∷ parts) (Disc c r) whole area_whole lies =
-    with_vertex part (and-left (is_part part) (list_all is_part parts) (and-right (nat_lt 0 (suc (length parts))) (list_all is_part (part ∷ parts)) whole))
+    with_vertex part (and-left (is_part part) (list_all is_part parts) (and-right (has_allowed_size (part ∷ parts)) (list_all is_part (part ∷ parts)) whole))
     (λ v vs e.
     let shape = part ∷ parts in
-    or-left (list_any (λ p. in_part p c) shape || list_any (in_disc c r) (all_vertices shape)) (list_any (stretch_near c r) (all_segments shape))
+    or-left (list_any (λ p. in_part p c) shape || list_any (in_disc c r) (all_vertices shape)) (list_any (segment_near c r) (all_segments shape))
     (or-right (list_any (λ p. in_part p c) shape) (list_any (in_disc c r) (all_vertices shape)) (one-passes (in_disc c r) (all_vertices shape) v (vs ++ all_vertices parts) (ap (λ points. points ++ all_vertices parts) e) (first-passes (in_disc c r) (vertices part) v vs e (part-passes (in_disc c r) part parts lies)))))
 within-intersects (part ∷ parts) (Figure other) whole area_whole lies =
-    with_vertex part (and-left (is_part part) (list_all is_part parts) (and-right (nat_lt 0 (suc (length parts))) (list_all is_part (part ∷ parts)) whole))
+    with_vertex part (and-left (is_part part) (list_all is_part parts) (and-right (has_allowed_size (part ∷ parts)) (list_all is_part (part ∷ parts)) whole))
     (λ v vs e.
     let shape = part ∷ parts in
     let one = and-left (list_any (lies_in_part part) other) (list_all (λ p. list_any (lies_in_part p) other) parts) lies in
-    let in_other = lies-inside part v vs e other (box_of other) (and-right (nat_lt 0 (length other)) (list_all is_part other) area_whole) (box_of_points-all (all_vertices other)) one in
+    let in_other = lies-inside part v vs e other (box_of other) (and-right (has_allowed_size other) (list_all is_part other) area_whole) (box_of_points-all (all_vertices other)) one in
     let in_own = inside (box_of shape) v (first-passes (in_box (box_of shape)) (vertices part) v vs e (part-passes (in_box (box_of shape)) part parts (box_of_points-all (all_vertices shape)))) in
     and-both (boxes_meet (box_of shape) (box_of other)) (list_any (λ p. list_any (touch p) other) shape)
     (meet-at (box_of shape) (box_of other) v in_own in_other)

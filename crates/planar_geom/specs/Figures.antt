@@ -5,13 +5,13 @@ use Rattle.std.specs.Int.{int_signum}
 use Rattle.planar_geom.specs.Points.{Point, Bounds, pt, same_point, box_round, boxes_meet}
 
 -- a segment, from a to b
-pub record Stretch : Type 0 where
+pub record Segment : Type 0 where
   pub a : Point
   pub b : Point
 
 -- the segment from p to q
-abbrev pub stretch : Point → Point → Stretch
-stretch p q = record { a = p; b = q }
+abbrev pub segment : Point → Point → Segment
+segment p q = record { a = p; b = q }
 
 -- twice the area of the triangle a, b, c, positive where they go round against the clock
 abbrev pub cross : Point → Point → Point → ℤ
@@ -22,24 +22,24 @@ abbrev pub orient : Point → Point → Point → ℤ
 orient a b c = int_signum (cross a b c)
 
 -- the sides of s on which the ends of t stand, multiplied
-abbrev pub sides : Stretch → Stretch → ℤ
+abbrev pub sides : Segment → Segment → ℤ
 sides s t = orient s.a s.b t.a *ℤ orient s.a s.b t.b
 
 -- the least box round a segment
-abbrev pub box_of_stretch : Stretch → Bounds
-box_of_stretch s = box_round s.a (s.b ∷ [])
+abbrev pub box_of_segment : Segment → Bounds
+box_of_segment s = box_round s.a (s.b ∷ [])
 
 -- their boxes meet, and neither has both ends strictly on one side of the other
-abbrev pub meets : Stretch → Stretch → Bool
-meets s t = boxes_meet (box_of_stretch s) (box_of_stretch t) && int_le (sides s t) (pos 0) && int_le (sides t s) (pos 0)
+abbrev pub meets : Segment → Segment → Bool
+meets s t = boxes_meet (box_of_segment s) (box_of_segment t) && int_le (sides s t) (pos 0) && int_le (sides t s) (pos 0)
 
 -- each has its ends strictly on both sides of the other
-abbrev pub crosses : Stretch → Stretch → Bool
+abbrev pub crosses : Segment → Segment → Bool
 crosses s t = int_lt (sides s t) (pos 0) && int_lt (sides t s) (pos 0)
 
 -- p is on the segment: the segment from p to p meets it
-abbrev pub on_stretch : Point → Stretch → Bool
-on_stretch p s = meets (stretch p p) s
+abbrev pub on_segment : Point → Segment → Bool
+on_segment p s = meets (segment p p) s
 
 -- the scalar product of two vectors
 abbrev pub dot : Point → Point → ℤ
@@ -54,26 +54,26 @@ abbrev pub doubled : Point → Point
 doubled p = pt (pos 2 *ℤ p.x) (pos 2 *ℤ p.y)
 
 -- the middle of a segment, in doubled coordinates
-abbrev pub doubled_middle : Stretch → Point
+abbrev pub doubled_middle : Segment → Point
 doubled_middle s = pt (s.a.x +ℤ s.b.x) (s.a.y +ℤ s.b.y)
 
 -- the segments of a chain, from each point to the next
-abbrev pub stretches_from : Point → List Point → List Stretch
-stretches_from p [] = []
-stretches_from p (q ∷ qs) = stretch p q ∷ stretches_from q qs
+abbrev pub segments_from : Point → List Point → List Segment
+segments_from p [] = []
+segments_from p (q ∷ qs) = segment p q ∷ segments_from q qs
 
 -- the segments of a chain of points
-abbrev pub stretches : List Point → List Stretch
-stretches [] = []
-stretches (p ∷ ps) = stretches_from p ps
+abbrev pub chain_segments : List Point → List Segment
+chain_segments [] = []
+chain_segments (p ∷ ps) = segments_from p ps
 
 -- the points of all rings, each ring's last beside its first
 abbrev pub ring_points : List (List Point) → List Point
 ring_points rings = flat_map (λ ring. ring) rings
 
 -- the segments of all rings of a polygon
-abbrev pub edges : List (List Point) → List Stretch
-edges rings = flat_map stretches rings
+abbrev pub edges : List (List Point) → List Segment
+edges rings = flat_map chain_segments rings
 
 -- the end a stands above p
 abbrev pub above : Point → Point → Bool
@@ -84,7 +84,7 @@ abbrev pub differ : Bool → Bool → Bool
 differ a b = if a then not b else b
 
 -- the segment passes p's height strictly to the right of p, half-open in y
-abbrev pub passes_right : Point → Stretch → Bool
+abbrev pub passes_right : Point → Segment → Bool
 passes_right p s = differ (above p s.a) (above p s.b) && (if above p s.b then int_lt (pos 0) (cross s.a s.b p) else int_lt (cross s.a s.b p) (pos 0))
 
 -- an odd number of edges pass to the right
@@ -93,7 +93,7 @@ is_odd rings p = count_by (passes_right p) (edges rings) % 2 == 1
 
 -- p is on a segment of one of the rings
 abbrev pub on_edge : List (List Point) → Point → Bool
-on_edge rings p = list_any (on_stretch p) (edges rings)
+on_edge rings p = list_any (on_segment p) (edges rings)
 
 -- on an edge, or inside by parity
 abbrev pub in_poly : List (List Point) → Point → Bool
@@ -111,6 +111,11 @@ is_line points = nat_lt 1 (length points)
 abbrev pub last_of : Point → List Point → Point
 last_of p [] = p
 last_of p (q ∷ qs) = last_of q qs
+
+-- the first of the points is the last of them too
+abbrev pub is_closed : List Point → Bool
+is_closed [] = false
+is_closed (p ∷ ps) = same_point p (last_of p ps)
 
 -- a linear ring (RFC 7946, section 3.1.6): at least four points, the first equal to the last
 abbrev pub is_ring : List Point → Bool

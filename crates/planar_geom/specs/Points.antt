@@ -1,6 +1,7 @@
 -- Points and boxes as contracts see them, and squared distances.
-use Rattle.std.specs.Prelude.{ℕ, zero, suc, ◌^◌, nat_le, ℤ, pos, negsuc, ◌+◌, ◌*◌, ◌<◌, Bool, ◌&&◌, ◌-ℤ◌, ◌+ℤ◌, ◌≤ℤ◌, int_le, int_lt, nat_abs, if◌then◌else◌, List, [], ◌∷◌, fold, Option, Some, None}
+use Rattle.std.specs.Prelude.{ℕ, zero, suc, ◌^◌, nat_le, ℤ, pos, ◌+◌, ◌*◌, ◌<◌, ◌≤◌, ◌≡◌, ◌↔◌, neg_ℤ, Bool, ◌&&◌, ◌-ℤ◌, ◌+ℤ◌, ◌≤ℤ◌, int_le, int_lt, nat_abs, if◌then◌else◌, List, [], ◌∷◌, fold, Option, Some, None}
 use Rattle.std.specs.Int.{int_min, int_max, int_div_euclid}
+use Rattle.planar_geom.specs.declared.points.TheConstants.{MAX_COORD}
 
 -- a point of whole coordinates
 pub record Point : Type 0 where
@@ -22,10 +23,10 @@ bounds low high = record { min = low; max = high }
 
 -- the least and the greatest coordinate of the plane
 abbrev pub least_coordinate : ℤ
-least_coordinate = negsuc 999999999
+least_coordinate = neg_ℤ MAX_COORD
 
 abbrev pub greatest_coordinate : ℤ
-greatest_coordinate = pos 1000000000
+greatest_coordinate = MAX_COORD
 
 -- the number is in a range, ends included
 abbrev pub in_range : ℤ → ℤ → ℤ → Bool
@@ -120,10 +121,20 @@ box_round_both b c = with_point (with_point b c.min) c.max
 abbrev pub box_round : Point → List Point → Bounds
 box_round p ps = fold with_point (bounds p p) ps
 
+-- the least box round points
+abbrev pub box_of_points : List Point → Bounds
+box_of_points [] = bounds (pt (pos 0) (pos 0)) (pt (pos 0) (pos 0))
+box_of_points (p ∷ ps) = box_round p ps
+
 -- the least box round what is held by the box found so far, if there is one, and a point
 abbrev pub grown : Option Bounds → Point → Option Bounds
 grown None p = Some (bounds p p)
 grown (Some b) p = Some (with_point b p)
+
+-- the least box round the box found so far, if there is one, and another
+abbrev pub joined : Option Bounds → Bounds → Bounds
+joined None c = c
+joined (Some b) c = box_round_both b c
 
 -- the least box round a disc, cut at the ends of the plane
 abbrev pub box_of_disc : Point → ℕ → Bounds
@@ -145,11 +156,15 @@ abbrev pub root_above : ℕ → ℕ → ℕ → ℕ
 root_above zero n m = m
 root_above (suc k) n m = root_above k n (if nat_le ((m + 2 ^ k) * (m + 2 ^ k)) n then m + 2 ^ k else m)
 
--- the greatest m with m * m at most n, for n below 2 ^ 66
+-- the root of n rounded down, for n below 2 ^ 66, so that it can be computed
 unfoldable pub floor_root : ℕ → ℕ
 floor_root n = root_above 33 n 0
 
--- what a floor root is
+-- what the root of n rounded down is: the greatest number whose square is at most n
 pub record IsFloorRoot (n m : ℕ) : Type 0 where
-  pub below : m * m < n + 1
-  pub above : n < (m + 1) * (m + 1)
+  pub fits : m * m ≤ n
+  pub greatest : (k : ℕ) → k * k ≤ n → k ≤ m
+
+-- each number below 2 ^ 66 has one such root, the computed one
+abbrev pub HasOneFloorRoot : Type 0
+HasOneFloorRoot = (n m : ℕ) → n < 2 ^ 66 → (IsFloorRoot n m ↔ (m ≡ floor_root n))

@@ -2,8 +2,8 @@
 use Rattle.std.specs.Prelude.{IsTrue, ℕ, pos, ◌*◌, Bool, true, false, not, ◌&&◌, ◌||◌, ◌-ℤ◌, ◌*ℤ◌, int_lt, int_le, nat_le, List, [], ◌∷◌, map}
 use Rattle.std.specs.List.{list_any, list_all}
 use Rattle.planar_geom.specs.Points.{Point, Bounds, corners_of, box_of_disc, InPlane, IsBox, same_point, dist2, in_box, boxes_meet, square}
-use Rattle.planar_geom.specs.Figures.{Stretch, stretches, edges, ring_points, meets, crosses, on_stretch, in_poly, strictly_in, doubled, doubled_middle, dot, minus}
-pub use Rattle.planar_geom.specs.Shapes.{vertices, segments, all_vertices, all_segments, positions, box_of_points, box_of, is_shape}
+use Rattle.planar_geom.specs.Figures.{Segment, chain_segments, edges, ring_points, meets, crosses, on_segment, in_poly, strictly_in, doubled, doubled_middle, dot, minus}
+pub use Rattle.planar_geom.specs.Shapes.{vertices, segments, all_vertices, all_segments, positions, box_of_points, box_of, has_allowed_size, is_shape}
 use Rattle.planar_geom.specs.declared.shapes.Part.{Part}
 use Rattle.planar_geom.specs.declared.shapes.Part.TheVariants.{Spot, Chain, Face}
 use Rattle.planar_geom.specs.declared.shapes.Area.{Area}
@@ -12,7 +12,7 @@ use Rattle.planar_geom.specs.declared.shapes.Area.TheVariants.{Rect, Disc, Figur
 -- a point is in a part
 abbrev pub in_part : Part → Point → Bool
 in_part (Spot q) p = same_point q p
-in_part (Chain line) p = list_any (on_stretch p) (stretches line)
+in_part (Chain line) p = list_any (on_segment p) (chain_segments line)
 in_part (Face rings) p = in_poly rings p
 
 -- the least box round an area
@@ -49,19 +49,19 @@ comes_near e r d = int_lt (pos 0) (dot d d) && int_le (pos 0) (dot e d) && int_l
     && int_le (pos (square (e.x *ℤ d.y -ℤ e.y *ℤ d.x))) (pos (r * r) *ℤ dot d d)
 
 -- the segment comes within r of c, at the foot of c on it
-abbrev pub stretch_near : Point → ℕ → Stretch → Bool
-stretch_near c r s = comes_near (minus c s.a) r (minus s.b s.a)
+abbrev pub segment_near : Point → ℕ → Segment → Bool
+segment_near c r s = comes_near (minus c s.a) r (minus s.b s.a)
 
 -- a part and a disc have a point in common: the centre is in the part, or a vertex is in the disc, or a
 -- segment comes near the centre
 abbrev pub reaches_disc : Part → Point → ℕ → Bool
-reaches_disc part c r = in_part part c || list_any (in_disc c r) (vertices part) || list_any (stretch_near c r) (segments part)
+reaches_disc part c r = in_part part c || list_any (in_disc c r) (vertices part) || list_any (segment_near c r) (segments part)
 
 -- the shape and the area have a point in common
 unfoldable pub intersects : List Part → Area → Bool
 intersects shape (Rect b) = figures_touch shape (face_of b ∷ [])
 intersects shape (Figure other) = figures_touch shape other
-intersects shape (Disc c r) = list_any (λ p. in_part p c) shape || list_any (in_disc c r) (all_vertices shape) || list_any (stretch_near c r) (all_segments shape)
+intersects shape (Disc c r) = list_any (λ p. in_part p c) shape || list_any (in_disc c r) (all_vertices shape) || list_any (segment_near c r) (all_segments shape)
 
 -- where the part is a face, none of the rings' points is strictly inside it
 abbrev pub no_hole_inside : List (List Point) → Part → Bool

@@ -2,7 +2,7 @@
 use Rattle.std.specs.Prelude.{Bool, ◌==◌, ◌%◌, if◌then◌else◌, Option, Some, None, List, count_by}
 use Rattle.std.specs.List.{list_any}
 use Rattle.planar_geom.specs.Points.{Point}
-use Rattle.planar_geom.specs.Figures.{Stretch, doubled, differ, on_stretch, passes_right}
+use Rattle.planar_geom.specs.Figures.{Segment, doubled, differ, on_segment, passes_right}
 use Rattle.planar_geom.specs.declared.polygons.Grid.{Grid}
 use Rattle.planar_geom.specs.declared.polygons.Grid.TheVariants.{Whole, Doubled}
 
@@ -12,10 +12,10 @@ on_grid Whole p = p
 on_grid Doubled p = doubled p
 
 -- the parity of the edges that pass to the right of p once s is one more of them; nothing where p is on an edge
-abbrev pub with_edge : Point → Option Bool → Stretch → Option Bool
+abbrev pub with_edge : Point → Option Bool → Segment → Option Bool
 with_edge p None s = None
-with_edge p (Some odd) s = if on_stretch p s then None else Some (differ odd (passes_right p s))
+with_edge p (Some odd) s = if on_segment p s then None else Some (differ odd (passes_right p s))
 
 -- the parity of the edges that pass to the right of p; nothing where p is on one of them
-abbrev pub parity : List Stretch → Point → Option Bool
-parity edges p = if list_any (on_stretch p) edges then None else Some (count_by (passes_right p) edges % 2 == 1)
+abbrev pub parity : List Segment → Point → Option Bool
+parity edges p = if list_any (on_segment p) edges then None else Some (count_by (passes_right p) edges % 2 == 1)

@@ -1,9 +1,9 @@
 //! How near points and segments come to the centre of a disc.
 
 use crate::distances::dist2;
-use crate::places::{Place, dot, turn};
 use crate::points::{Pt, Seg};
 use crate::searches::{PointTest, SegmentTest};
+use crate::wide_points::{WidePoint, dot, turn};
 
 /// The points at most `radius` away from `centre`.
 #[derive(Clone, Copy)]
@@ -35,7 +35,7 @@ impl Disc {
 ghost use Rattle.std.specs.Prelude.{◌≡◌, ◌*◌, ◌&&◌, ◌≤ℤ◌, ◌*ℤ◌, ◌-ℤ◌, pos, int_le, int_lt};
 ghost use Rattle.planar_geom.specs.Points.{square as square_of};
 ghost use Rattle.planar_geom.specs.Figures.{dot as scalar_product};
-ghost use Rattle.planar_geom.specs.Relations.{stretch_near};
+ghost use Rattle.planar_geom.specs.Relations.{segment_near};
 
 fn square(side: u32) -> u64
     ensures { result ≡ side * side }
@@ -45,15 +45,15 @@ fn square(side: u32) -> u64
 
 /// Whether a segment comes within the disc at the foot of the centre on it.
 pub(crate) fn comes_near(s: Seg, disc: &Disc) -> bool
-    ensures { result ≡ stretch_near disc.now.centre disc.now.radius s }
+    ensures { result ≡ segment_near disc.now.centre disc.now.radius s }
 {
-    let to_centre = Place::between(s.a, disc.centre);
-    let along = Place::between(s.a, s.b);
+    let to_centre = WidePoint::between(s.a, disc.centre);
+    let along = WidePoint::between(s.a, s.b);
     has_foot(to_centre, along) && has_near_foot(to_centre, along, disc.radius)
 }
 
 // Whether the foot of the way `e` is on the way `d`, which has a length.
-fn has_foot(e: Place, d: Place) -> bool
+fn has_foot(e: WidePoint, d: WidePoint) -> bool
     ensures { result ≡ (int_lt (pos 0) (scalar_product d d) && int_le (pos 0) (scalar_product e d) && int_le (scalar_product e d) (scalar_product d d)) }
 {
     is_part_of_square(dot(e, d), dot(d, d))
@@ -67,7 +67,7 @@ fn is_part_of_square(product: i64, length2: i64) -> bool
 }
 
 // Whether the foot of the way `e` on the line along `d` is at most `radius` from its end.
-fn has_near_foot(e: Place, d: Place, radius: u32) -> bool
+fn has_near_foot(e: WidePoint, d: WidePoint, radius: u32) -> bool
     ensures { result ≡ int_le (pos (square_of (e.x *ℤ d.y -ℤ e.y *ℤ d.x))) (pos (radius * radius) *ℤ scalar_product d d) }
 {
     is_low(turn(e, d), radius, dot(d, d))

@@ -1,7 +1,7 @@
 //! Squared distances and their roots.
 
 ghost use Rattle.std.specs.Prelude.{◌≡◌, ◌*◌, ◌^◌, ◌≤◌, nat_abs};
-ghost use Rattle.planar_geom.specs.Points.{IsCoordinate, dist2 as squared_distance, box_dist2 as squared_box_distance, outside_by as distance_outside, floor_root as root_below};
+ghost use Rattle.planar_geom.specs.Points.{IsCoordinate, dist2 as squared_distance, box_dist2 as squared_box_distance, outside_by as distance_outside, floor_root as root_below, IsFloorRoot};
 
 use crate::points::{BBox, Pt};
 
@@ -48,7 +48,8 @@ fn outside_by(low: i32, high: i32, a: i32) -> u32
 
 /// The greatest number whose square is at most `n`.
 pub fn floor_root(n: u64) -> u64
-    ensures { result ≡ root_below n }
+    ensures root { IsFloorRoot n result }
+    ensures value { result ≡ root_below n }
 {
     n.isqrt()
 }

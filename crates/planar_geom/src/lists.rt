@@ -1,6 +1,7 @@
 //! Lists of points, rings and parts, and the figures made of them.
 
-use crate::points::Pt;
+use crate::boxes::{box_of_points, box_of_rings, with_part};
+use crate::points::{BBox, Pt};
 use crate::shapes::Part;
 use std::alloc::Global;
 use std::marker::Model;
@@ -8,6 +9,18 @@ use std::marker::Model;
 /// No memory was left.
 #[derive(Clone, Copy, PartialEq, Eq, Debug, Drop)]
 pub struct NoMemory;
+
+ghost use Rattle.std.specs.Prelude.{[], IfOk};
+
+// An empty list with room for so many items.
+fn with_room<T: Drop>(alloc: Global, count: usize) -> Result<Vec<T>, NoMemory>
+    ensures { IfOk result (λ list. list.items ≡ []) }
+{
+    match Vec::with_capacity(alloc, count) {
+        Ok(list) => Ok(list),
+        Err(_) => Err(NoMemory),
+    }
+}
 
 /// A list of points.
 #[derive(Drop)]
@@ -26,6 +39,8 @@ impl Model for Points {
 
 impl Points {
     ghost use Rattle.std.specs.Prelude.{◌≡◌, [], ◌∷◌, ◌++◌, length, OnOk, OnErr, IfOk};
+    ghost use Rattle.planar_geom.specs.Points.{corners_of as corner_list};
+    ghost use Rattle.planar_geom.specs.Figures.{is_closed as ends_where_it_began};
 
     /// No point yet. What is pushed takes its memory from `alloc`.
     pub fn new(alloc: Global) -> Points
@@ -54,6 +69,23 @@ impl Points {
         self.list.as_slice()
     }
 
+    /// Whether there is a point, and the first of them is the last of them too.
+    pub fn is_closed(&self) -> bool
+        ensures { result ≡ ends_where_it_began self.now }
+    {
+        is_closed(self.list.as_slice())
+    }
+
+    /// The corners of a box against the clock, the first also last.
+    pub(crate) fn corners_of(alloc: Global, b: BBox) -> Result<Points, NoMemory>
+        ensures { IfOk result (λ points. points ≡ corner_list b) }
+    {
+        match Vec::from_slice(alloc, &b.corners()) {
+            Ok(list) => Ok(Points { list }),
+            Err(_) => Err(NoMemory),
+        }
+    }
+
     /// The same points in memory of their own.
     pub(crate) fn copy(&self, alloc: Global) -> Result<Points, NoMemory>
         ensures { IfOk result (λ points. points ≡ self.now) }
@@ -69,24 +101,19 @@ impl Points {
 #[derive(Drop)]
 pub struct Rings {
     list: Vec<Points>,
-    count: u64,
 }
 
 impl Model for Rings {
-    ghost use Rattle.std.specs.Prelude.{◌≡◌, List, length};
+    ghost use Rattle.std.specs.Prelude.{List};
     ghost use Rattle.planar_geom.specs.Points.{Point};
-    ghost use Rattle.planar_geom.specs.Figures.{ring_points};
 
     ghost Value = { List (List Point) };
 
     ghost view = { λ r. r.list.items };
-
-    ghost invariant = { λ r. r.count ≡ length (ring_points r.list.items) };
 }
 
 impl Rings {
-    ghost use Rattle.std.specs.Prelude.{◌≡◌, [], ◌∷◌, ◌++◌, length, OnOk, OnErr, IfErr, IfOk};
-    ghost use Rattle.planar_geom.specs.Figures.{ring_points};
+    ghost use Rattle.std.specs.Prelude.{◌≡◌, [], ◌∷◌, ◌++◌, OnOk, OnErr, IfErr, IfOk};
 
     /// No ring yet. What is pushed takes its memory from `alloc`.
     pub fn new(alloc: Global) -> Rings
@@ -94,7 +121,6 @@ impl Rings {
     {
         Rings {
             list: Vec::new(alloc),
-            count: 0,
         }
     }
 
@@ -104,15 +130,8 @@ impl Rings {
         ensures err { OnErr result (self.new ≡ self.old) }
         ensures handed_back { IfErr result (λ back. back ≡ ring) }
     {
-        // More points than a u64 counts have room in no memory.
-        let Some(count) = self.count.checked_add(ring.as_slice().len() as u64) else {
-            return Err(ring);
-        };
         match self.list.push(ring) {
-            Ok(()) => {
-                self.count = count;
-                Ok(())
-            }
+            Ok(()) => Ok(()),
             Err(full) => Err(full.value),
         }
     }
@@ -121,23 +140,13 @@ impl Rings {
     pub(crate) fn copy(&self, alloc: Global) -> Result<Rings, NoMemory>
         ensures { IfOk result (λ rings. rings ≡ self.now) }
     {
-        let mut list = Vec::new(alloc);
+        let mut list = with_room(alloc, self.list.len())?;
         for ring in self.list.as_slice() {
             if list.push(ring.copy(alloc)?).is_err() {
                 return Err(NoMemory);
             }
         }
-        Ok(Rings {
-            list,
-            count: self.count,
-        })
-    }
-
-    /// The number of points in all rings.
-    pub(crate) fn positions(&self) -> u64
-        ensures { result ≡ length (ring_points self.now) }
-    {
-        self.count
+        Ok(Rings { list })
     }
 
     /// The rings, in order.
@@ -148,34 +157,37 @@ impl Rings {
     }
 }
 
-/// A chain of segments: at least two points.
+/// A chain of segments: at least two points. It keeps the least box round them.
 #[derive(Drop)]
 pub struct Line {
     points: Points,
+    bounds: BBox,
 }
 
 impl Model for Line {
-    ghost use Rattle.std.specs.Prelude.{List, IsTrue};
-    ghost use Rattle.planar_geom.specs.Points.{Point};
+    ghost use Rattle.std.specs.Prelude.{◌≡◌, List, IsTrue};
+    ghost use Rattle.planar_geom.specs.Points.{Point, box_of_points};
     ghost use Rattle.planar_geom.specs.Figures.{is_line};
 
     ghost Value = { List Point };
 
     ghost view = { λ l. l.points };
 
-    ghost invariant = { λ l. IsTrue (is_line l.points) };
+    ghost invariant = { λ l. IsTrue (is_line l.points) × (l.bounds ≡ box_of_points l.points) };
 }
 
 impl Line {
     ghost use Rattle.std.specs.Prelude.{◌≡◌, IsTrue, IfOk};
     ghost use Rattle.planar_geom.specs.Figures.{is_line, line_of};
+    ghost use Rattle.planar_geom.specs.Points.{box_of_points as box_round_them};
 
     /// The line through these points; `Err`, which hands them back, exactly under two points.
     pub fn of(points: Points) -> Result<Line, Points>
         ensures { result ≡ line_of points }
     {
         if points.as_slice().len() > 1 {
-            Ok(Line { points })
+            let bounds = box_of_points(points.as_slice());
+            Ok(Line { points, bounds })
         } else {
             Err(points)
         }
@@ -187,7 +199,16 @@ impl Line {
     {
         Ok(Line {
             points: self.points.copy(alloc)?,
+            bounds: self.bounds,
         })
+    }
+
+    /// The least box round the line.
+    pub(crate) fn bounds(&self) -> BBox
+        ensures value { result ≡ box_round_them self.now }
+        ensures is_line { IsTrue (is_line self.now) }
+    {
+        self.bounds
     }
 
     /// The points of the line.
@@ -200,38 +221,54 @@ impl Line {
 }
 
 /// A polygon: at least one ring, each of at least four points, the first equal to the last. The
-/// first ring is the border and the others are holes, though no call looks at that.
+/// first ring is the border and the others are holes, though no call looks at that. It keeps the least
+/// box round its points.
 #[derive(Drop)]
 pub struct Poly {
     rings: Rings,
+    bounds: BBox,
 }
 
 impl Model for Poly {
-    ghost use Rattle.std.specs.Prelude.{List, IsTrue};
-    ghost use Rattle.planar_geom.specs.Points.{Point};
-    ghost use Rattle.planar_geom.specs.Figures.{is_poly};
+    ghost use Rattle.std.specs.Prelude.{◌≡◌, List, IsTrue};
+    ghost use Rattle.planar_geom.specs.Points.{Point, box_of_points};
+    ghost use Rattle.planar_geom.specs.Figures.{is_poly, ring_points};
 
     ghost Value = { List (List Point) };
 
     ghost view = { λ p. p.rings };
 
-    ghost invariant = { λ p. IsTrue (is_poly p.rings) };
+    ghost invariant = { λ p. IsTrue (is_poly p.rings) × (p.bounds ≡ box_of_points (ring_points p.rings)) };
 }
 
 impl Poly {
-    ghost use Rattle.std.specs.Prelude.{◌≡◌, IsTrue, IfOk};
-    ghost use Rattle.planar_geom.specs.Figures.{is_poly, poly_of};
+    ghost use Rattle.std.specs.Prelude.{◌≡◌, [], ◌∷◌, IsTrue, IfOk};
+    ghost use Rattle.planar_geom.specs.Points.{corners_of, box_of_points};
+    ghost use Rattle.planar_geom.specs.Figures.{is_poly, poly_of, ring_points};
 
     /// The polygon of these rings; `Err`, which hands them back, exactly where there is no ring, a
     /// ring has under four points, or a ring's first point is not its last.
     pub fn of(rings: Rings) -> Result<Poly, Rings>
         ensures { result ≡ poly_of rings }
     {
-        if !rings.as_slice().is_empty() && all_closed(rings.as_slice()) {
-            Ok(Poly { rings })
+        if !rings.as_slice().is_empty() && are_rings(rings.as_slice()) {
+            let bounds = box_of_rings(rings.as_slice());
+            Ok(Poly { rings, bounds })
         } else {
             Err(rings)
         }
+    }
+
+    /// The polygon of a box's four corners.
+    pub(crate) fn of_box(alloc: Global, b: BBox) -> Result<Poly, NoMemory>
+        ensures { IfOk result (λ poly. poly ≡ corners_of b ∷ []) }
+    {
+        let _low = b.min();
+        let mut rings = Rings::new(alloc);
+        if rings.push(Points::corners_of(alloc, b)?).is_err() {
+            return Err(NoMemory);
+        }
+        Ok(Poly { rings, bounds: b })
     }
 
     /// The same polygon in memory of its own.
@@ -240,7 +277,16 @@ impl Poly {
     {
         Ok(Poly {
             rings: self.rings.copy(alloc)?,
+            bounds: self.bounds,
         })
+    }
+
+    /// The least box round the polygon.
+    pub(crate) fn bounds(&self) -> BBox
+        ensures value { result ≡ box_of_points (ring_points self.now) }
+        ensures is_poly { IsTrue (is_poly self.now) }
+    {
+        self.bounds
     }
 
     /// The rings of the polygon.
@@ -254,44 +300,52 @@ impl Poly {
 
 ghost use Rattle.std.specs.Prelude.{◌≡◌};
 ghost use Rattle.std.specs.List.{list_all};
-ghost use Rattle.planar_geom.specs.Figures.{is_ring};
+ghost use Rattle.planar_geom.specs.Figures.{is_ring as is_linear_ring, is_closed as ends_where_it_began};
 
-fn all_closed(rings: &[Points]) -> bool
-    ensures { result ≡ list_all is_ring rings.now }
+fn are_rings(rings: &[Points]) -> bool
+    ensures { result ≡ list_all is_linear_ring rings.now }
 {
-    rings.iter().all(|ring| is_closed(ring.as_slice()))
+    rings.iter().all(|ring| is_ring(ring.as_slice()))
 }
 
-fn is_closed(ring: &[Pt]) -> bool
-    ensures { result ≡ is_ring ring.now }
+fn is_ring(points: &[Pt]) -> bool
+    ensures { result ≡ is_linear_ring points.now }
 {
-    ring.len() > 3 && ring[0].is_at(ring[ring.len() - 1])
+    points.len() > 3 && is_closed(points)
 }
 
-/// A list of parts.
+fn is_closed(points: &[Pt]) -> bool
+    ensures { result ≡ ends_where_it_began points.now }
+{
+    !points.is_empty() && points[0].is_at(points[points.len() - 1])
+}
+
+/// A list of parts. It keeps the least box round them, where there is one.
 #[derive(Drop)]
 pub struct Parts {
     list: Vec<Part>,
-    count: u64,
+    bounds: Option<BBox>,
 }
 
 impl Model for Parts {
-    ghost use Rattle.std.specs.Prelude.{◌≡◌, List, IsTrue};
+    ghost use Rattle.std.specs.Prelude.{◌≡◌, List, IsTrue, None, fold};
     ghost use Rattle.std.specs.List.{list_all};
     ghost use Rattle.planar_geom.specs.declared.shapes.Part.{Part};
-    ghost use Rattle.planar_geom.specs.Shapes.{positions, is_part};
+    ghost use Rattle.planar_geom.specs.Points.{grown};
+    ghost use Rattle.planar_geom.specs.Shapes.{all_vertices, is_part};
 
     ghost Value = { List Part };
 
     ghost view = { λ p. p.list.items };
 
-    ghost invariant = { λ p. (p.count ≡ positions p.list.items) × IsTrue (list_all is_part p.list.items) };
+    ghost invariant = { λ p. IsTrue (list_all is_part p.list.items) × (p.bounds ≡ fold grown None (all_vertices p.list.items)) };
 }
 
 impl Parts {
-    ghost use Rattle.std.specs.Prelude.{◌≡◌, [], ◌∷◌, ◌++◌, IsTrue, OnOk, OnErr, IfErr, IfOk};
+    ghost use Rattle.std.specs.Prelude.{◌≡◌, [], ◌∷◌, ◌++◌, IsTrue, OnOk, OnErr, IfErr, IfOk, None, fold};
     ghost use Rattle.std.specs.List.{list_all};
-    ghost use Rattle.planar_geom.specs.Shapes.{positions as position_count, is_part};
+    ghost use Rattle.planar_geom.specs.Points.{grown};
+    ghost use Rattle.planar_geom.specs.Shapes.{all_vertices, is_part};
 
     /// No part yet. What is pushed takes its memory from `alloc`.
     pub fn new(alloc: Global) -> Parts
@@ -299,7 +353,21 @@ impl Parts {
     {
         Parts {
             list: Vec::new(alloc),
-            count: 0,
+            bounds: None,
+        }
+    }
+
+    /// One part alone.
+    pub(crate) fn single(alloc: Global, part: Part) -> Result<Parts, NoMemory>
+        ensures { IfOk result (λ parts. parts ≡ part ∷ []) }
+    {
+        let mut parts = Parts {
+            list: with_room(alloc, 1)?,
+            bounds: None,
+        };
+        match parts.push(part) {
+            Ok(()) => Ok(parts),
+            Err(_) => Err(NoMemory),
         }
     }
 
@@ -309,13 +377,10 @@ impl Parts {
         ensures err { OnErr result (self.new ≡ self.old) }
         ensures handed_back { IfErr result (λ back. back ≡ part) }
     {
-        // More points than a u64 counts have room in no memory.
-        let Some(count) = self.count.checked_add(part.positions()) else {
-            return Err(part);
-        };
+        let bounds = with_part(self.bounds, &part);
         match self.list.push(part) {
             Ok(()) => {
-                self.count = count;
+                self.bounds = Some(bounds);
                 Ok(())
             }
             Err(full) => Err(full.value),
@@ -326,7 +391,7 @@ impl Parts {
     pub(crate) fn copy(&self, alloc: Global) -> Result<Parts, NoMemory>
         ensures { IfOk result (λ parts. parts ≡ self.now) }
     {
-        let mut list = Vec::new(alloc);
+        let mut list = with_room(alloc, self.list.len())?;
         for part in self.list.as_slice() {
             if list.push(part.copy(alloc)?).is_err() {
                 return Err(NoMemory);
@@ -334,15 +399,15 @@ impl Parts {
         }
         Ok(Parts {
             list,
-            count: self.count,
+            bounds: self.bounds,
         })
     }
 
-    /// The number of points in all parts.
-    pub(crate) fn positions(&self) -> u64
-        ensures { result ≡ position_count self.now }
+    /// The least box round all parts, where there is one.
+    pub(crate) fn bounds(&self) -> Option<BBox>
+        ensures { result ≡ fold grown None (all_vertices self.now) }
     {
-        self.count
+        self.bounds
     }
 
     /// The parts, in order.

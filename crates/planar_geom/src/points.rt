@@ -97,7 +97,7 @@ impl Model for BBox {
 
 impl BBox {
     ghost use Rattle.std.specs.Prelude.{◌≡◌, ◌&&◌, pos};
-    ghost use Rattle.planar_geom.specs.Points.{pt, bounds, bounds_of, box_of_disc, corners_of, boxes_meet, in_box, with_point, IsBox};
+    ghost use Rattle.planar_geom.specs.Points.{pt, bounds, bounds_of, box_of_disc, corners_of, boxes_meet, in_box, with_point, box_round_both, IsBox};
 
     /// The box between two corners; `None` exactly where `min` exceeds `max` in x or in y.
     pub fn of(min: Pt, max: Pt) -> Option<BBox>
@@ -210,6 +210,13 @@ impl BBox {
             },
         }
     }
+
+    /// The least box round two boxes.
+    pub fn with_box(self, other: BBox) -> BBox
+        ensures { result ≡ box_round_both self other }
+    {
+        self.with_point(other.min).with_point(other.max)
+    }
 }
 
 // A coordinate less a distance, or the least coordinate.
@@ -258,22 +265,22 @@ pub struct Seg {
 }
 
 impl Model for Seg {
-    ghost use Rattle.planar_geom.specs.Figures.{Stretch, stretch};
+    ghost use Rattle.planar_geom.specs.Figures.{Segment, segment};
 
-    ghost Value = { Stretch };
+    ghost Value = { Segment };
 
-    ghost view = { λ s. stretch s.a s.b };
+    ghost view = { λ s. segment s.a s.b };
 
     ghost inverse = { λ s. record { a = s.a; b = s.b } };
 }
 
 impl Seg {
     ghost use Rattle.std.specs.Prelude.{◌≡◌};
-    ghost use Rattle.planar_geom.specs.Figures.{box_of_stretch};
+    ghost use Rattle.planar_geom.specs.Figures.{box_of_segment};
 
     /// The least box round the segment.
     pub(crate) fn bounds(self) -> BBox
-        ensures { result ≡ box_of_stretch self }
+        ensures { result ≡ box_of_segment self }
     {
         BBox::of_point(self.a).with_point(self.b)
     }

@@ -1,8 +1,8 @@
 //! Where a point stands to a polygon.
 
 use crate::lists::{Points, Poly};
-use crate::places::{Place, cross};
 use crate::points::{Pt, Seg};
+use crate::wide_points::{WidePoint, cross};
 
 /// The whole coordinates of the plane, or the doubled ones in which the middle of a segment is whole.
 #[derive(Clone, Copy)]
@@ -15,18 +15,18 @@ impl Grid {
     ghost use Rattle.std.specs.Prelude.{◌≡◌};
     ghost use Rattle.planar_geom.specs.Standings.{on_grid};
 
-    fn place(self, p: Pt) -> Place
+    fn place(self, p: Pt) -> WidePoint
         ensures { result ≡ on_grid self p }
     {
         match self {
-            Grid::Whole => Place::of(p),
-            Grid::Doubled => Place::doubled(p),
+            Grid::Whole => WidePoint::of(p),
+            Grid::Doubled => WidePoint::doubled(p),
         }
     }
 }
 
 ghost use Rattle.std.specs.Prelude.{◌≡◌, [], ◌∷◌, map, fold};
-ghost use Rattle.planar_geom.specs.Figures.{in_poly as is_in_poly, strictly_in as is_strictly_in, doubled, doubled_middle, edges, stretches, stretches_from, stretch, on_stretch, passes_right as passes_right_of};
+ghost use Rattle.planar_geom.specs.Figures.{in_poly as is_in_poly, strictly_in as is_strictly_in, doubled, doubled_middle, edges, chain_segments, segments_from, segment, on_segment, passes_right as passes_right_of};
 ghost use Rattle.planar_geom.specs.Standings.{on_grid, parity as parity_of, with_edge};
 
 /// Whether a point is on an edge of a polygon, or inside it by parity: an odd number of edges passes its
@@ -41,32 +41,32 @@ pub fn in_poly(p: Pt, poly: &Poly) -> bool
 pub(crate) fn in_rings(p: Pt, rings: &[Points]) -> bool
     ensures { result ≡ is_in_poly rings.now p }
 {
-    parity(rings, Grid::Whole, Place::of(p)).unwrap_or(true)
+    parity(rings, Grid::Whole, WidePoint::of(p)).unwrap_or(true)
 }
 
 /// Whether a point is inside the rings by parity, and on no edge.
 pub(crate) fn strictly_in(p: Pt, rings: &[Points]) -> bool
     ensures { result ≡ is_strictly_in rings.now p }
 {
-    parity(rings, Grid::Whole, Place::of(p)).unwrap_or(false)
+    parity(rings, Grid::Whole, WidePoint::of(p)).unwrap_or(false)
 }
 
 /// Whether the middle of a segment is in the rings, in doubled coordinates.
 pub(crate) fn hold_middle(rings: &[Points], s: Seg) -> bool
     ensures { result ≡ is_in_poly (map (map doubled) rings.now) (doubled_middle s) }
 {
-    parity(rings, Grid::Doubled, Place::middle(s)).unwrap_or(true)
+    parity(rings, Grid::Doubled, WidePoint::middle(s)).unwrap_or(true)
 }
 
 /// Whether a point is on an edge of the polygon of one ring, or inside it by parity.
 pub(crate) fn in_ring(p: Pt, ring: &[Pt]) -> bool
     ensures { result ≡ is_in_poly (ring.now ∷ []) p }
 {
-    past_ring(ring, Grid::Whole, Place::of(p), Some(false)).unwrap_or(true)
+    past_ring(ring, Grid::Whole, WidePoint::of(p), Some(false)).unwrap_or(true)
 }
 
 // Whether an odd number of the rings' edges passes to the right of a place; `None` where it is on one.
-fn parity(rings: &[Points], grid: Grid, p: Place) -> Option<bool>
+fn parity(rings: &[Points], grid: Grid, p: WidePoint) -> Option<bool>
     ensures { result ≡ parity_of (edges (map (map (on_grid grid)) rings.now)) p }
 {
     let mut odd = Some(false);
@@ -76,8 +76,8 @@ fn parity(rings: &[Points], grid: Grid, p: Place) -> Option<bool>
     odd
 }
 
-fn past_ring(ring: &[Pt], grid: Grid, p: Place, odd: Option<bool>) -> Option<bool>
-    ensures { result ≡ fold (with_edge p) odd (stretches (map (on_grid grid) ring.now)) }
+fn past_ring(ring: &[Pt], grid: Grid, p: WidePoint, odd: Option<bool>) -> Option<bool>
+    ensures { result ≡ fold (with_edge p) odd (chain_segments (map (on_grid grid) ring.now)) }
 {
     match ring {
         [] => odd,
@@ -85,8 +85,14 @@ fn past_ring(ring: &[Pt], grid: Grid, p: Place, odd: Option<bool>) -> Option<boo
     }
 }
 
-fn past_chain(first: Place, rest: &[Pt], grid: Grid, p: Place, before: Option<bool>) -> Option<bool>
-    ensures { result ≡ fold (with_edge p) before (stretches_from first (map (on_grid grid) rest.now)) }
+fn past_chain(
+    first: WidePoint,
+    rest: &[Pt],
+    grid: Grid,
+    p: WidePoint,
+    before: Option<bool>,
+) -> Option<bool>
+    ensures { result ≡ fold (with_edge p) before (segments_from first (map (on_grid grid) rest.now)) }
 {
     let mut odd = before;
     let mut last = first;
@@ -98,8 +104,8 @@ fn past_chain(first: Place, rest: &[Pt], grid: Grid, p: Place, before: Option<bo
     odd
 }
 
-fn past_edge(a: Place, b: Place, p: Place, odd: Option<bool>) -> Option<bool>
-    ensures { result ≡ with_edge p odd (stretch a b) }
+fn past_edge(a: WidePoint, b: WidePoint, p: WidePoint, odd: Option<bool>) -> Option<bool>
+    ensures { result ≡ with_edge p odd (segment a b) }
 {
     let odd = odd?;
     if is_on_edge(a, b, p) {
@@ -109,15 +115,15 @@ fn past_edge(a: Place, b: Place, p: Place, odd: Option<bool>) -> Option<bool>
 }
 
 // Whether the place is on the segment from `a` to `b`.
-fn is_on_edge(a: Place, b: Place, p: Place) -> bool
-    ensures { result ≡ on_stretch p (stretch a b) }
+fn is_on_edge(a: WidePoint, b: WidePoint, p: WidePoint) -> bool
+    ensures { result ≡ on_segment p (segment a b) }
 {
     p.is_between(a, b) && cross(a, b, p) == 0
 }
 
 // Whether the segment from `a` to `b` passes the place's height strictly to its right.
-fn passes_right(a: Place, b: Place, p: Place) -> bool
-    ensures { result ≡ passes_right_of p (stretch a b) }
+fn passes_right(a: WidePoint, b: WidePoint, p: WidePoint) -> bool
+    ensures { result ≡ passes_right_of p (segment a b) }
 {
     let rises = p.is_under(b);
     if p.is_under(a) == rises {

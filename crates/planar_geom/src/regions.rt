@@ -165,9 +165,9 @@ impl<'a> PointTest for Near<'a> {
 }
 
 impl<'a> SegmentTest for Near<'a> {
-    ghost use Rattle.planar_geom.specs.Relations.{stretch_near};
+    ghost use Rattle.planar_geom.specs.Relations.{segment_near};
 
-    ghost passes = { λ t s. stretch_near t.0.now.centre t.0.now.radius s };
+    ghost passes = { λ t s. segment_near t.0.now.centre t.0.now.radius s };
 
     fn test(&self, s: Seg) -> bool {
         comes_near(s, self.0)

@@ -5,7 +5,7 @@ ghost use Rattle.std.specs.List.{list_any, list_all};
 ghost use Rattle.planar_geom.specs.Shapes.{all_vertices};
 ghost use Rattle.planar_geom.specs.Relations.{intersects as is_met, within as is_inside, way_meets as is_on_way, figures_touch, face_of, touch, reaches_disc, in_disc, lies_in as lies_in_face, lies_in_part, no_hole_inside};
 
-use crate::boxes::{box_of, box_of_part, box_of_poly};
+use crate::boxes::{box_of, box_of_part};
 use crate::discs::Disc;
 use crate::lists::{Points, Poly};
 use crate::points::{BBox, Pt, Seg};
@@ -122,7 +122,7 @@ fn lies_in_any(part: &Part, others: &[Part]) -> bool
 fn lies_in(part: &Part, poly: &Poly) -> bool
     ensures { result ≡ lies_in_face part.now poly.now }
 {
-    if !box_of_poly(poly).holds_box(box_of_part(part)) {
+    if !poly.bounds().holds_box(box_of_part(part)) {
         return false;
     }
     lies_in_rings(part, poly.rings().as_slice())

@@ -7,9 +7,9 @@ use crate::shapes::Part;
 /// A question about a segment.
 pub(crate) trait SegmentTest {
     ghost use Rattle.std.specs.Prelude.{Bool};
-    ghost use Rattle.planar_geom.specs.Figures.{Stretch};
+    ghost use Rattle.planar_geom.specs.Figures.{Segment};
 
-    ghost passes: { Self → Stretch → Bool };
+    ghost passes: { Self → Segment → Bool };
 
     /// Whether the segment passes the test.
     fn test(&self, s: Seg) -> bool
@@ -30,7 +30,7 @@ pub(crate) trait PointTest {
 
 ghost use Rattle.std.specs.Prelude.{◌≡◌};
 ghost use Rattle.std.specs.List.{list_any};
-ghost use Rattle.planar_geom.specs.Figures.{edges, stretches, stretches_from, ring_points};
+ghost use Rattle.planar_geom.specs.Figures.{edges, chain_segments, segments_from, ring_points};
 ghost use Rattle.planar_geom.specs.Shapes.{segments, vertices, all_vertices};
 
 /// Whether a segment of the part passes the test.
@@ -58,7 +58,7 @@ pub(crate) fn any_in_rings<T: SegmentTest>(rings: &[Points], test: &T) -> bool
 
 /// Whether a segment of the chain passes the test.
 pub(crate) fn any_in_chain<T: SegmentTest>(points: &[Pt], test: &T) -> bool
-    ensures { result ≡ list_any (T.passes test.now) (stretches points.now) }
+    ensures { result ≡ list_any (T.passes test.now) (chain_segments points.now) }
 {
     match points {
         [] => false,
@@ -67,7 +67,7 @@ pub(crate) fn any_in_chain<T: SegmentTest>(points: &[Pt], test: &T) -> bool
 }
 
 fn any_from<T: SegmentTest>(first: Pt, rest: &[Pt], test: &T) -> bool
-    ensures { result ≡ list_any (T.passes test.now) (stretches_from first rest.now) }
+    ensures { result ≡ list_any (T.passes test.now) (segments_from first rest.now) }
 {
     let mut last = first;
     for next in rest {

@@ -1,10 +1,10 @@
 //! Segments: the side of a line on which a point stands, and where two segments meet.
 
 ghost use Rattle.std.specs.Prelude.{◌≡◌, pos, negsuc, ◌≤ℤ◌, int_le, int_lt};
-ghost use Rattle.planar_geom.specs.Figures.{orient as turn, meets as stretches_meet, crosses as stretches_cross, sides as sides_of};
+ghost use Rattle.planar_geom.specs.Figures.{orient as turn, meets as segments_meet, crosses as segments_cross, sides as sides_of};
 
-use crate::places::{Place, cross};
 use crate::points::{Pt, Seg};
+use crate::wide_points::{WidePoint, cross};
 
 /// The side of the line from `a` to `b` on which `c` stands: 1 on the left, -1 on the right, 0 on it.
 pub fn orient(a: Pt, b: Pt, c: Pt) -> i8
@@ -12,13 +12,13 @@ pub fn orient(a: Pt, b: Pt, c: Pt) -> i8
     ensures least { negsuc 0 ≤ℤ result }
     ensures greatest { result ≤ℤ pos 1 }
 {
-    cross(Place::of(a), Place::of(b), Place::of(c)).signum() as i8
+    cross(WidePoint::of(a), WidePoint::of(b), WidePoint::of(c)).signum() as i8
 }
 
 /// Whether two segments have a point in common: their boxes meet, and neither has both ends strictly on
 /// one side of the other.
 pub fn meets(s: Seg, t: Seg) -> bool
-    ensures { result ≡ stretches_meet s t }
+    ensures { result ≡ segments_meet s t }
 {
     if !s.bounds().meets(t.bounds()) {
         return false;
@@ -28,7 +28,7 @@ pub fn meets(s: Seg, t: Seg) -> bool
 
 /// Whether each of two segments has its ends strictly on both sides of the other.
 pub(crate) fn crosses(s: Seg, t: Seg) -> bool
-    ensures { result ≡ stretches_cross s t }
+    ensures { result ≡ segments_cross s t }
 {
     parts(s, t) && parts(t, s)
 }

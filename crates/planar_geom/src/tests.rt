@@ -3,7 +3,8 @@
 
 use crate::{
     Area, BBox, Line, Part, Parts, Points, Poly, Pt, Rings, Seg, Shape, area_box, box_dist2,
-    box_of, centre, dist2, floor_root, in_poly, intersects, meets, orient, way_meets, within,
+    box_of, centre, dist2, floor_root, in_poly, intersects, meets, orient, way_meets, with_shape,
+    within,
 };
 use std::alloc::Global;
 use std::process::Abort;
@@ -128,6 +129,29 @@ fn figures_are_refused_exactly(rt: HostRuntime) {
     assert!(rt; !is_poly(&rt, alloc, &[&[(0, 0), (1, 0), (1, 1), (0, 1)]]));
     assert!(rt; is_poly(&rt, alloc, &[&BORDER]));
     assert!(rt; Shape::of(Parts::new(alloc)).is_err());
+    assert!(rt; Shape::of(spots(&rt, alloc, 10_000)).is_ok());
+    assert!(rt; Shape::of(spots(&rt, alloc, 10_001)).is_err());
+}
+
+fn spots(rt: &impl Abort, alloc: Global, count: i64) -> Parts {
+    let mut parts = Parts::new(alloc);
+    for x in 0..count {
+        assert!(rt; parts.push(Part::Spot(at(rt, (x, 0)))).is_ok());
+    }
+    parts
+}
+
+fn is_closed(rt: &impl Abort, alloc: Global, places: &[Place]) -> bool {
+    points(rt, alloc, places).is_closed()
+}
+
+#[test]
+fn closed_chains(rt: HostRuntime) {
+    let alloc = rt.alloc();
+    assert!(rt; !is_closed(&rt, alloc, &[]));
+    assert!(rt; is_closed(&rt, alloc, &[(1, 2)]));
+    assert!(rt; is_closed(&rt, alloc, &BORDER));
+    assert!(rt; !is_closed(&rt, alloc, &[(0, 0), (1, 0), (0, 1)]));
 }
 
 fn copied_positions(rt: &impl Abort, alloc: Global, shape: &Shape) -> u64 {
@@ -143,6 +167,34 @@ fn copies(rt: HostRuntime) {
     let alloc = rt.alloc();
     let whole = face(&rt, alloc, &[&BORDER, &HOLE]);
     assert_eq!(rt; copied_positions(&rt, alloc, &whole), 10);
+}
+
+fn point(rt: &impl Abort, alloc: Global, place: Place) -> Shape {
+    Shape::point(alloc, at(rt, place))
+        .ok()
+        .expect(rt, "ample memory")
+}
+
+fn rectangle(rt: &impl Abort, alloc: Global, min: Place, max: Place) -> Shape {
+    Shape::rect(alloc, bounds(rt, min, max))
+        .ok()
+        .expect(rt, "ample memory")
+}
+
+fn around(found: Option<BBox>, shape: &Shape) -> (Place, Place) {
+    let b = with_shape(found, shape);
+    (place_of(b.min()), place_of(b.max()))
+}
+
+#[test]
+fn shapes_of_points_and_boxes(rt: HostRuntime) {
+    let alloc = rt.alloc();
+    let spot = point(&rt, alloc, (3, -4));
+    assert_eq!(rt; spot.positions(), 1);
+    assert_eq!(rt; around(None, &spot), ((3, -4), (3, -4)));
+    let square = rectangle(&rt, alloc, (0, 0), (10, 5));
+    assert_eq!(rt; square.positions(), 5);
+    assert_eq!(rt; around(Some(box_of(&spot)), &square), ((0, -4), (10, 5)));
 }
 
 fn box_centre(shape: &Shape) -> Place {

@@ -8,7 +8,7 @@ use Rattle.fence_model.specs.Queries.{in_order}
 use Rattle.world_data.specs.declared.objects.Object.{Object}
 use Rattle.world_data.specs.declared.queries.Rule.{Rule}
 use Rattle.world_data.specs.declared.queries.Rule.TheVariants.{All, Down, Kept, Nearest}
-use Rattle.search_query.specs.Found.{is_down}
+use Rattle.search_query.specs.Directions.{is_down}
 
 -- the items that pass are the same, whichever way the list is read
 filter_reverse : {A : Type 0} (p : A → Bool) (xs : List A) → filter p (reverse xs) ≡ reverse (filter p xs)

@@ -1,9 +1,9 @@
 //! Whether an object meets a query.
 
-ghost use Rattle.std.specs.Prelude.{◌≡◌};
+ghost use Rattle.std.specs.Prelude.{◌≡◌, true};
 ghost use Rattle.world_data.specs.Filters.{meets_glob};
 ghost use Rattle.fence_model.specs.Queries.{meets_area, meets_query, meets_rule, near_disc};
-ghost use Rattle.search_query.specs.Found.{IsGlob};
+ghost use Rattle.world_data.specs.Sound.{is_sound_glob};
 ghost use Rattle.world_data.specs.declared.objects.Object.{Object};
 
 use byte_text::Name;
@@ -14,7 +14,7 @@ use world_data::{Kind, Object, Query, Rule};
 
 /// Whether the object meets MATCH, the tests and the area of the query.
 pub(crate) fn meets_query(query: &Query, object: &Object) -> bool
-    requires { IsGlob query.now.glob }
+    requires { is_sound_glob query.now.glob ≡ true }
     ensures { result ≡ meets_query query.now object.now }
 {
     meets_glob(&query.glob, &object.id)
@@ -24,7 +24,7 @@ pub(crate) fn meets_query(query: &Query, object: &Object) -> bool
 
 // Whether the name meets the pattern, where there is one.
 fn meets_glob(glob: &Option<Name>, name: &Name) -> bool
-    requires { IsGlob glob.now }
+    requires { is_sound_glob glob.now ≡ true }
     ensures { result ≡ meets_glob glob.now name.now }
 {
     match glob {

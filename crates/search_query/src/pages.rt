@@ -1,9 +1,10 @@
 //! Pages of what a query finds.
 
-ghost use Rattle.std.specs.Prelude.{◌≡◌, ◌≢◌, ◌<◌, ◌+◌, ◌^◌, ◌++◌, ◌∷◌, [], List, ◌&&◌, not, if◌then◌else◌, length, filter, reverse, slice_get, Some, nat_lt, nat_le, IfOk, OnOk};
-ghost use Rattle.fence_model.specs.Queries.{IsPageOf, meets_query, page_ids, is_count};
+ghost use Rattle.std.specs.Prelude.{◌≡◌, ◌≢◌, ◌<◌, ◌+◌, ◌^◌, ◌++◌, ◌∷◌, [], List, ◌&&◌, true, not, if◌then◌else◌, length, filter, reverse, slice_get, Some, nat_lt, nat_le, IfOk, OnOk};
+ghost use Rattle.fence_model.specs.Queries.{IsPageOf, matches, meets_query, page_ids, is_count};
 ghost use Rattle.world_data.specs.declared.objects.Object.{Object};
-ghost use Rattle.search_query.specs.Found.{found, is_down, IsGlob};
+ghost use Rattle.world_data.specs.Sound.{is_sound_glob};
+ghost use Rattle.search_query.specs.Directions.{is_down};
 
 use crate::matches::meets_query;
 use byte_text::{Name, NoMemory};
@@ -19,9 +20,9 @@ pub fn page(
     query: &Query,
     into: &mut Page,
 ) -> Result<(), NoMemory>
-    requires pattern { IsGlob query.now.glob }
+    requires pattern { is_sound_glob query.now.glob ≡ true }
     requires by_id { query.now.rule ≢ Rule.Nearest }
-    ensures { OnOk result (IsPageOf query.now (found query.now collection.now.objects) into.new) }
+    ensures { OnOk result (IsPageOf query.now (matches query.now collection.now.objects) into.new) }
 {
     into.ids.clear();
     let found = list_ids(alloc, collection, query, &mut into.ids)?;
@@ -43,11 +44,11 @@ fn list_ids(
     query: &Query,
     ids: &mut NameList,
 ) -> Result<u64, NoMemory>
-    requires pattern { IsGlob query.now.glob }
+    requires pattern { is_sound_glob query.now.glob ≡ true }
     requires by_id { query.now.rule ≢ Rule.Nearest }
     requires empty { ids.old ≡ [] }
-    ensures count { IfOk result (λ n. n ≡ length (found query.now collection.now.objects)) }
-    ensures ids { OnOk result (ids.new ≡ page_ids query.now (found query.now collection.now.objects)) }
+    ensures count { IfOk result (λ n. n ≡ length (matches query.now collection.now.objects)) }
+    ensures ids { OnOk result (ids.new ≡ page_ids query.now (matches query.now collection.now.objects)) }
 {
     let mut found = 0;
     for i in 0..collection.len() {
@@ -84,7 +85,7 @@ fn note(
     found: u64,
     ids: &mut NameList,
 ) -> Result<u64, NoMemory>
-    requires pattern { IsGlob query.now.glob }
+    requires pattern { is_sound_glob query.now.glob ≡ true }
     requires room { found + 1 < 2 ^ 64 }
     ensures count { (seen : List Object) → found ≡ length seen → IfOk result (λ n. n ≡ length (seen ++ filter (meets_query query.now) (object.now ∷ []))) }
     ensures ids { (seen : List Object) → found ≡ length seen → ids.old ≡ page_ids query.now seen → OnOk result (ids.new ≡ page_ids query.now (seen ++ filter (meets_query query.now) (object.now ∷ []))) }

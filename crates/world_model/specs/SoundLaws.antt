@@ -10,7 +10,7 @@ use Rattle.planar_geom.specs.declared.shapes.Area.{Area}
 use Rattle.planar_geom.specs.declared.shapes.Part.TheVariants.{Spot, Face}
 use Rattle.geo_text.specs.Texts.{Shape, shape_of, stored_or, walked, point_text, bounds_text, corners}
 use Rattle.geo_text.specs.declared.faults.GeoFault.{GeoFault}
-use Rattle.geo_text.proofs.StoredLaws.{point_back, bounds_back}
+use Rattle.geo_text.specs.StoredLaws.{point_back, bounds_back}
 use Rattle.world_data.specs.Limits.{max_coord, max_meters, max_tests}
 use Rattle.world_model.specs.Grammar.{Form, Reading, spells, runs_out, done, word, maybe, ◌>>=◌, ◌>>◌, ◌or◌, repeated, live, spelled, a_word, a_coordinate, a_geojson}
 use Rattle.world_model.specs.Kinds.{when, name, glob, meters, coordinate_from, coordinate, lat_lon, four, geojson, accepted}

@@ -1,7 +1,7 @@
 use Rattle.std.proofs.Common.{◌≡◌, ◌∙◌, refl, w64, to_z, of_z, ◌*ℤ◌, ◌-ℤ◌}
 use Rattle.std.proofs.lemmas.Int.{to_z-of_z}
 use Rattle.planar_geom.specs.Figures.{dot}
-use Rattle.planar_geom.proofs.PlaceLemmas.{dot-self-not_negative}
+use Rattle.planar_geom.proofs.PointLemmas.{dot-self-not_negative}
 use Rattle.planar_geom.proofs.discs.has_near_foot.Goals as goal
 
 pub is_low-requires : goal.is_low-requires

@@ -1,7 +1,8 @@
-use Rattle.std.proofs.Common.{◌∙◌}
-use Rattle.planar_geom.proofs.ChainLemmas.{is_ring-ends}
+use Rattle.std.proofs.Common.{rules, ◌<◌, length, ◌∙◌}
+use Rattle.planar_geom.proofs.ChainLemmas.{closed-ends}
 use Rattle.planar_geom.proofs.lists.is_closed.Goals as goal
 
-pub returns-then-ring-gt3 : goal.returns-then-ring-gt3
-returns-then-ring-gt3 c =
-    c.is_at.ensures ∙ is_ring-ends c.args.ring.now c.index-ring-0.result c.index-ring-ring.result c.if-ring-gt3.true c.index-ring-0.is c.index-ring-ring.is
+pub returns-then-not-is_empty : goal.returns-then-not-is_empty
+returns-then-not-is_empty c =
+    let some : 0 < length c.args.points.now = search rules in
+    c.is_at.ensures ∙ closed-ends c.args.points.now c.index-points-0.result c.index-points-points.result some c.index-points-0.is c.index-points-points.is

@@ -1,7 +1,7 @@
 use Rattle.std.proofs.Common.{arith, sym, subst}
 use Rattle.std.proofs.lemmas.Int.{to_z-of_z}
 use Rattle.planar_geom.specs.Points.{IsCoordinate}
-use Rattle.planar_geom.proofs.PlaceLemmas.{middle_in}
+use Rattle.planar_geom.proofs.PointLemmas.{middle_in}
 use Rattle.planar_geom.proofs.points.middle.Goals as goal
 
 pub returns-clause-value : goal.returns-clause-value

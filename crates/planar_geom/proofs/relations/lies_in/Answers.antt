@@ -13,8 +13,8 @@ returns-then-not-holds_box c =
     let rings = c.args.poly.now in
     let box = box_of_points (vertices part) in
     let around = box_of_points (ring_points rings) in
-    let outside : (in_box around box.min && in_box around box.max) ≡ false = sym (c.holds_box.ensures ∙ rw (c.box_of_poly.ensures.value, c.box_of_part.ensures.value) refl) ∙ c.if-not-holds_box.true in
-    sym (outside-lies part rings c.box_of_part.ensures.is_part c.box_of_poly.ensures.is_poly outside)
+    let outside : (in_box around box.min && in_box around box.max) ≡ false = sym (c.holds_box.ensures ∙ rw (c.bounds.ensures.value, c.box_of_part.ensures.value) refl) ∙ c.if-not-holds_box.true in
+    sym (outside-lies part rings c.box_of_part.ensures.is_part c.bounds.ensures.is_poly outside)
 
 pub returns : goal.returns
 returns c = c.lies_in_rings.ensures ∙ ap (lies_in c.args.part.now) (c.as_slice.ensures ∙ c.rings.ensures.value)

@@ -2,7 +2,7 @@ use Rattle.std.proofs.Common.{◌≡◌, ◌∙◌, arith, to_z, of_z, lit<, ◌
 use Rattle.std.proofs.lemmas.Int.{ints, to_z-of_z, fits_signed_mul}
 use mir.Syntax.{w8}
 use Rattle.planar_geom.specs.Figures.{orient}
-use Rattle.planar_geom.proofs.PlaceLemmas.{product_from}
+use Rattle.planar_geom.proofs.PointLemmas.{product_from}
 use Rattle.planar_geom.proofs.segments.sides.Goals as goal
 
 pub overflow_mul-result : goal.overflow_mul-result

@@ -1,4 +1,4 @@
-use Rattle.geo_text.proofs.Answered.{one_answer}
+use Rattle.geo_text.specs.Laws.{one_answer}
 use Rattle.world_model.specs.Commands.{reads}
 use Rattle.world_model.specs.PrefixLaws.{beginnings, spelling_open, stops_there}
 use Rattle.world_model.specs.SoundLaws.{reads_sound}

@@ -1,6 +1,6 @@
 use Rattle.std.proofs.Common.{arith}
 use Rattle.std.proofs.lemmas.Int.{ints, clamps, to_z-of_z}
-use Rattle.planar_geom.proofs.PlaceLemmas.{bounds_are}
+use Rattle.planar_geom.proofs.PointLemmas.{bounds_are}
 use Rattle.planar_geom.proofs.points.BBox.with_point.Goals as goal
 
 pub invariant_of-result : goal.invariant_of-result
