@@ -68,7 +68,7 @@ module _ (xs : List Session) (n at : ℕ) (k : ℕ) (s : Session) (here : slice_
   other r front x there fails ne = by (nat_lt k at) refl (nat_lt at k) refl
     where
       by : (a : Bool) → nat_lt k at ≡ a → (b : Bool) → nat_lt at k ≡ b → s.number ≢ n
-      by true p b q = lesser front (grind (arith, nat_tests))
+      by true p b q e = lesser front (grind (arith, nat_tests)) e
       by false p true q e =
           let lt : at < k = grind (arith, nat_tests) in
           let less = later xs at k x s r there here lt in

@@ -1,5 +1,6 @@
 mod Halving
 mod Naming
+mod Places
 mod Present
 mod Steps
 mod Takes

@@ -14,7 +14,7 @@ ghost use Rattle.tile_core.specs.Answered.{MayCall, IsAnswered, AreSessions, Sta
 use crate::dues::{expire, release};
 use crate::moves::make_move;
 use crate::ready::{Ready, calm_after, make_ready};
-use crate::sessions::{Session, Stage, position_of, served};
+use crate::sessions::{Session, Stage, position_of, ready_session};
 use keyspace::Keyspace;
 use std::alloc::Global;
 use std::marker::Model;
@@ -152,7 +152,7 @@ impl Core {
         if self.logged >= MOST_LOGGED {
             return Called::Spent;
         }
-        let at = match served(self.sessions.as_mut_slice(), session) {
+        let at = match ready_session(self.sessions.as_mut_slice(), session) {
             Ok(at) => at,
             Err(answer) => return answer,
         };

@@ -96,7 +96,7 @@ pub(crate) fn position_of(sessions: &[Session], number: u32) -> Option<usize>
 {
     let at = sessions.partition_point(
         |session: &Session| -> bool
-            ensures { result ≡ nat_lt session.now.number number.entry }
+            ensures { result ≡ nat_lt session.now.number number }
         { session.number < number },
     );
     if at == sessions.len() {
@@ -109,13 +109,10 @@ pub(crate) fn position_of(sessions: &[Session], number: u32) -> Option<usize>
     }
 }
 
-/// Where the session stands that may make a call now, with room for one more frame in its queue; else how the call is answered:
-/// it is gone, or full, or memory ran out. What the sessions are stays the same.
-pub(crate) fn served(sessions: &mut [Session], number: u32) -> Result<usize, Called>
-    requires { are_rising sessions.old ≡ true }
-    ensures same { map session_of sessions.new ≡ map session_of sessions.old }
-    ensures served { IsServed sessions.new number result }
-    ensures room { IfOk result (λ i. HasPlace sessions.new i) }
+// Where the session stands that may make a call now; else how the call is answered: it is gone, or full.
+fn served(sessions: &[Session], number: u32) -> Result<usize, Called>
+    requires { are_rising sessions.now ≡ true }
+    ensures { IsServed sessions.now number result }
 {
     let Some(at) = position_of(sessions, number) else {
         return Err(Called::Gone);
@@ -126,6 +123,21 @@ pub(crate) fn served(sessions: &mut [Session], number: u32) -> Result<usize, Cal
     if sessions[at].is_full() {
         return Err(Called::Full);
     }
+    Ok(at)
+}
+
+/// Where the session stands that may make a call now, with room for one more frame in its queue; else how the call is answered:
+/// it is gone, or full, or memory ran out. What the sessions are stays the same.
+pub(crate) fn ready_session(sessions: &mut [Session], number: u32) -> Result<usize, Called>
+    requires { are_rising sessions.old ≡ true }
+    ensures same { map session_of sessions.new ≡ map session_of sessions.old }
+    ensures served { IsServed sessions.new number result }
+    ensures room { IfOk result (λ i. HasPlace sessions.new i) }
+{
+    let at = match served(sessions, number) {
+        Ok(at) => at,
+        Err(answer) => return Err(answer),
+    };
     match sessions[at].make_place() {
         Ok(()) => Ok(at),
         Err(NoMemory) => Err(Called::Memory),
