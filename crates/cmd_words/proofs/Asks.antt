@@ -8,7 +8,9 @@ use Rattle.world_model.specs.Commands.{reads}
 use Rattle.world_model.specs.declared.commands.Command.{Command}
 use Rattle.world_model.specs.declared.faults.WordFault.{WordFault}
 use Rattle.world_model.specs.declared.faults.WordFault.TheVariants as fault
-use Rattle.cmd_words.specs.Places.{Place, Answers, IsBehind, all_words, start}
+use Rattle.cmd_words.specs.Places.{Place, Answers, IsBehind, all_words, start, answers, answered, IfRefused}
+use Rattle.cmd_words.specs.declared.faults.CommandFault.{CommandFault}
+use Rattle.cmd_words.specs.declared.faults.CommandFault.TheVariants.{Refused, Memory}
 
 -- the answer to words whose first is no name that is not built yet
 built_asks : (called : Bytes) (rest : List Bytes) → list_any (is_word called) unbuilt ≡ false → asks (called ∷ rest) ≡ reads (called ∷ rest)
@@ -16,6 +18,10 @@ built_asks called rest e = rw e refl
 
 pub unbuilt_asks : (called : Bytes) (rest words : List Bytes) → words ≡ called ∷ rest → list_any (is_word called) unbuilt ≡ true → asks words ≡ Err fault.Unserved
 unbuilt_asks called rest words l e = rw (l, e) refl
+
+refusal : (r : Result Command WordFault) (f : WordFault) → answered r ≡ Err (Refused f) → r ≡ Err f
+refusal (Ok c) f e = absurd cc
+refusal (Err g) f e = cc
 
 -- the first word of a request, and those behind it
 pub first_of : (words : List Bytes) (p q : Place) (w : Bytes) → p ≡ start words → IsBehind w p q → words ≡ w ∷ q.left
@@ -32,11 +38,12 @@ module _ (words : List Bytes) (p q : Place) (w : Bytes) (e : p ≡ start words) 
   asked = subst (λ (ws : List Bytes). asks ws ≡ reads ws) (sym (first_of words p q w e b)) (built_asks w q.left u)
 
   -- the two clauses of the answer
-  pub ok_asked : (r : Result Command WordFault) → Answers (all_words q) r → IfOk r (λ c. asks words ≡ Ok c)
+  pub ok_asked : (r : Result Command CommandFault) → Answers (all_words q) r → IfOk r (λ c. asks words ≡ Ok c)
   ok_asked (Ok c) a = asked ∙ subst (λ (ws : List Bytes). reads ws ≡ Ok c) all_are a
   ok_asked (Err why) a = tt
 
-  pub err_asked : (r : Result Command WordFault) → Answers (all_words q) r → IfErr r (λ why. (why ≡ fault.Memory) ⊎ (asks words ≡ Err why))
+  pub err_asked : (r : Result Command CommandFault) → Answers (all_words q) r → IfErr r (λ why. IfRefused why (λ f. asks words ≡ Err f))
   err_asked (Ok c) a = tt
-  err_asked (Err why) (inl m) = inl m
-  err_asked (Err why) (inr a) = inr (asked ∙ subst (λ (ws : List Bytes). reads ws ≡ Err why) all_are a)
+  err_asked (Err Memory) a = tt
+  err_asked (Err (Refused f)) (inl m) = absurd cc
+  err_asked (Err (Refused f)) (inr a) = asked ∙ refusal (reads words) f (subst (λ (ws : List Bytes). answers ws ≡ Err (Refused f)) all_are a)

@@ -10,8 +10,9 @@ use Rattle.world_model.specs.declared.commands.Command.{Command}
 use Rattle.world_model.specs.declared.faults.WordFault.{WordFault}
 use Rattle.world_model.specs.FormLaws.{Each, Left, Takes}
 use Rattle.world_model.specs.PrefixLaws.{enough}
-use Rattle.cmd_words.specs.Places.{Place, Follows, Reads}
+use Rattle.cmd_words.specs.Places.{Place, Follows, Reads, answers}
 use Rattle.cmd_words.proofs.Gets.{moves_on}
+use Rattle.cmd_words.specs.declared.faults.CommandFault.{CommandFault}
 
 -- each reading of one form or another
 pub each_both : {A : Type 0} (P : Reading A → Type 0) (xs ys : List (Reading A)) → Each P xs → Each P ys → Each P (xs ++ ys)
@@ -51,14 +52,14 @@ module _ {A B : Type 0} (f : Form A) (g : A → Form B) where
   regroup : (p : Place) (next : B → Form Command) → Follows p ((f >>= g) >>= next) → Follows p (f >>= λ a. g a >>= next)
   regroup p next h = follows_same p ((f >>= g) >>= next) (f >>= λ a. g a >>= next) (bind_assoc f g next) h
 
-  pub bind_fails : (old mid new : Place) (why : WordFault) → Reads f old mid (Err why) → Reads (f >>= g) old new (Err why)
+  pub bind_fails : (old mid new : Place) (why : CommandFault) → Reads f old mid (Err why) → Reads (f >>= g) old new (Err why)
   bind_fails old mid new why (inl m) = inl m
   bind_fails old mid new why (inr r) = inr (λ next h. r (λ a. g a >>= next) (regroup old next h))
 
-  pub bind_then : (old mid new : Place) (a : A) (r : Result B WordFault) → Reads f old mid (Ok a) → Reads (g a) mid new r → Reads (f >>= g) old new r
+  pub bind_then : (old mid new : Place) (a : A) (r : Result B CommandFault) → Reads f old mid (Ok a) → Reads (g a) mid new r → Reads (f >>= g) old new r
   bind_then old mid new a (Ok b) k i = (moves_on old mid new k.0 i.0, λ next h. i.1 next (k.1 (λ x. g x >>= next) (regroup old next h)))
   bind_then old mid new a (Err why) k (inl m) = inl m
-  bind_then old mid new a (Err why) k (inr i) = inr (λ next h. subst (λ ws. reads ws ≡ Err why) k.0.words (i next (k.1 (λ x. g x >>= next) (regroup old next h))))
+  bind_then old mid new a (Err why) k (inr i) = inr (λ next h. subst (λ ws. answers ws ≡ Err why) k.0.words (i next (k.1 (λ x. g x >>= next) (regroup old next h))))
 
   pub bind_done : (old mid : Place) (a : A) (b : B) (made : g a ≡ done b) → Reads f old mid (Ok a) → Reads (f >>= g) old mid (Ok b)
   bind_done old mid a b made k = (

@@ -11,6 +11,7 @@ use Rattle.world_model.specs.Grammar.{Due}
 use Rattle.world_model.specs.declared.faults.WordFault.{WordFault}
 use Rattle.cmd_words.specs.Places.{IsFault, IsOne, due_fault}
 use Rattle.cmd_words.specs.Sets.{coordinate_of}
+use Rattle.cmd_words.specs.declared.faults.CommandFault.{CommandFault}
 
 abbrev least : ℤ
 least = negsuc 9223372036854775807
@@ -105,6 +106,6 @@ no_point true n = rw (past n (length n + 1) (omega arith)) refl
 no_point false n = refl
 
 -- a word that is refused
-pub not_one : {A : Type 0} (due : Due) (kind : Bytes → Option A) (w : Bytes) (why : WordFault) → kind w ≡ None → IsFault (due_fault due w) why → IsOne due kind w (Err why)
+pub not_one : {A : Type 0} (due : Due) (kind : Bytes → Option A) (w : Bytes) (why : CommandFault) → kind w ≡ None → IsFault (due_fault due w) why → IsOne due kind w (Err why)
 not_one due kind w why n (inl m) = inl m
 not_one due kind w why n (inr f) = inr (n, f)

@@ -10,10 +10,11 @@ use Rattle.world_model.specs.Commands.{field, reads}
 use Rattle.world_model.specs.declared.commands.Command.{Command}
 use Rattle.world_model.specs.declared.faults.WordFault.{WordFault}
 use Rattle.world_model.specs.FormLaws.{Takes, fair_done, fair_word, fair_bind, takes_word, takes_bind}
-use Rattle.cmd_words.specs.Places.{Place, all_words, IsBehind, Moves, Follows, Parses, Reads, Answers, IsOne, name_of, key_and_id}
+use Rattle.cmd_words.specs.Places.{Place, all_words, IsBehind, Moves, Follows, Parses, Reads, Answers, IsOne, name_of, key_and_id, answers, answered}
 use Rattle.cmd_words.specs.Sets.{field_step, fields_more, fields_first, fset_of, ReadsFields}
 use Rattle.cmd_words.proofs.Gets.{step, ends, stops, moves, moves_on}
 use Rattle.cmd_words.proofs.Binds.{unrolled, done_behind, bind_assoc}
+use Rattle.cmd_words.specs.declared.faults.CommandFault.{CommandFault}
 
 takes_step : (given : List Field) → Takes (field_step given)
 takes_step given = takes_bind field (λ f. done (given ++ f ∷ [])) (takes_bind name _ (takes_word a_word _) (λ n. fair_bind integer _ (fair_word a_word _) (λ v. fair_done (n, v)))) (λ f. fair_done (given ++ f ∷ []))
@@ -56,16 +57,16 @@ module _ (all p q : Place) (given : List Field) (w n : Bytes) (s : HasFields all
   pub one_more : (r : Place) (v : ℤ) (more : List Field) → Reads integer q r (Ok v) → more ≡ given ++ (n, v) ∷ [] → HasFields all r more
   one_more r v more k m = rw m (record { follows = λ make h. k.1 (λ x. fields_more make (given ++ (n, x) ∷ [])) (value_follows make h); moved = moves_on all q r (moves_on all p q s.moved (moves w p q b)) k.0 })
 
-  pub value_refused : (r : Place) (why : WordFault) → Reads integer q r (Err why) → ReadsFields all (Err why)
+  pub value_refused : (r : Place) (why : CommandFault) → Reads integer q r (Err why) → ReadsFields all (Err why)
   value_refused r why (inl m) = inl m
-  value_refused r why (inr k) = inr (λ make h. subst (λ ws. reads ws ≡ Err why) (moves_on all p q s.moved (moves w p q b)).words (k (λ x. fields_more make (given ++ (n, x) ∷ [])) (value_follows make h)))
+  value_refused r why (inr k) = inr (λ make h. subst (λ ws. answers ws ≡ Err why) (moves_on all p q s.moved (moves w p q b)).words (k (λ x. fields_more make (given ++ (n, x) ∷ [])) (value_follows make h)))
 
-pub name_refused : (all p q : Place) (given : List Field) (w : Bytes) (why : WordFault) → HasFields all p given → IsBehind w p q → IsOne a_word name_of w (Err why) → ReadsFields all (Err why)
+pub name_refused : (all p q : Place) (given : List Field) (w : Bytes) (why : CommandFault) → HasFields all p given → IsBehind w p q → IsOne a_word name_of w (Err why) → ReadsFields all (Err why)
 name_refused all p q given w why s b (inl m) = inl m
-name_refused all p q given w why s b (inr f) = inr (λ make h. subst (λ ws. reads ws ≡ Err why) s.moved.words
-    (rw f.1 (stops p (fields_more make given) (make given) (runs_out a_word ∷ []) w q.left (fields_end make given) refl refl refl b.left (fields_stop make given w f.0) (s.follows make h))))
+name_refused all p q given w why s b (inr f) = inr (λ make h. subst (λ ws. answers ws ≡ Err why) s.moved.words
+    (rw f.1 (ap answered (stops p (fields_more make given) (make given) (runs_out a_word ∷ []) w q.left (fields_end make given) refl refl refl b.left (fields_stop make given w f.0) (s.follows make h)))))
 
-pub first_refused : (all p : Place) (why : WordFault) → Reads field all p (Err why) → ReadsFields all (Err why)
+pub first_refused : (all p : Place) (why : CommandFault) → Reads field all p (Err why) → ReadsFields all (Err why)
 first_refused all p why (inl m) = inl m
 first_refused all p why (inr k) = inr (λ make h. k (λ f. fields_more make (f ∷ [])) h)
 
@@ -75,9 +76,9 @@ all_read all p given s l = λ make h. subst (λ ws. reads ws ≡ Ok (make given)
 -- FSET
 
 module _ (old mid : Place) (k : Bytes × Bytes) (a : Parses key_and_id old mid (Ok k)) (h : Follows old (key_and_id (λ x. fields_first (fset_of x)))) where
-  pub fields_refused : (why : WordFault) → ReadsFields mid (Err why) → Answers (all_words old) (Err why)
+  pub fields_refused : (why : CommandFault) → ReadsFields mid (Err why) → Answers (all_words old) (Err why)
   fields_refused why (inl m) = inl m
-  fields_refused why (inr r) = inr (subst (λ ws. reads ws ≡ Err why) a.0.words (r (fset_of k) (a.1 (λ x. fields_first (fset_of x)) h)))
+  fields_refused why (inr r) = inr (subst (λ ws. answers ws ≡ Err why) a.0.words (r (fset_of k) (a.1 (λ x. fields_first (fset_of x)) h)))
 
   pub fields_set : (given : List Field) → ReadsFields mid (Ok given) → reads (all_words old) ≡ Ok (fset_of k given)
   fields_set given r = subst (λ ws. reads ws ≡ Ok (fset_of k given)) a.0.words (r (fset_of k) (a.1 (λ x. fields_first (fset_of x)) h))

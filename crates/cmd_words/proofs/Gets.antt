@@ -14,8 +14,9 @@ use Rattle.world_data.specs.declared.queries.Shown.{Shown}
 use Rattle.world_data.specs.declared.queries.Shown.TheVariants as shown
 use Rattle.world_model.specs.declared.faults.WordFault.TheVariants as fault
 use Rattle.world_model.specs.declared.faults.WordFault.{WordFault}
-use Rattle.cmd_words.specs.Places.{Place, all_words, IsBehind, Moves, Follows, Took, Answers, IsEnd, ReadsShown, IsNot, IsShown, IsNotShown, get_output, get_options}
+use Rattle.cmd_words.specs.Places.{Place, all_words, IsBehind, Moves, Follows, Took, Answers, IsEnd, ReadsShown, IsNot, IsShown, IsNotShown, get_output, get_options, answered}
 use Rattle.cmd_words.proofs.Follows.{stopped, spelt, now, no_more, some_more, open_by, shut_by}
+use Rattle.cmd_words.specs.declared.faults.CommandFault.{CommandFault}
 
 pub lower_word : (w n : Bytes) → is_word w n ≡ true → str_to_ascii_lowercase w ≡ str_to_ascii_lowercase n
 lower_word w n e = (bytes_eq-Decides (str_to_ascii_lowercase w) (str_to_ascii_lowercase n)).0 e
@@ -137,7 +138,7 @@ refused_here false k p q w rest t n l h =
     let not_fields : is_word w (codes "WITHFIELDS") ≡ false = subst (λ ws. IsNot (codes "WITHFIELDS") ws) here t.1 in
     option_refused k p w rest here not_fields (subst IsNotShown l n) h
 
-pub option_faults : (b : Bool) (k : Bytes × Bytes) (p q r : Place) (why : WordFault) → Took (codes "WITHFIELDS") p q b → ReadsShown q r None → IsEnd (λ w. fault.Invalid (shown_of w)) r (Err why) → Follows p (get_options k)
+pub option_faults : (b : Bool) (k : Bytes × Bytes) (p q r : Place) (why : CommandFault) → Took (codes "WITHFIELDS") p q b → ReadsShown q r None → IsEnd (λ w. fault.Invalid (shown_of w)) r (Err why) → Follows p (get_options k)
     → Answers (all_words p) (Err why)
 option_faults b k p q r why t s (w, rest, l, inl m) h = inl m
-option_faults b k p q r why t s (w, rest, l, inr e) h = inr (rw e (refused_here b k p q w rest t s.1 (subst (λ x. x.left ≡ w ∷ rest) s.0 l) h))
+option_faults b k p q r why t s (w, rest, l, inr e) h = inr (rw e (ap answered (refused_here b k p q w rest t s.1 (subst (λ x. x.left ≡ w ∷ rest) s.0 l) h)))

@@ -13,7 +13,7 @@ use Rattle.world_model.specs.declared.faults.WordFault.TheVariants as fault
 use Rattle.cmd_words.proofs.Follows.{stopped, shut_by}
 use Rattle.world_model.specs.declared.commands.Command.{Command}
 use Rattle.world_model.specs.declared.commands.Command.TheVariants as command
-use Rattle.cmd_words.specs.Places.{Place, Follows, Answers, IsFault, all_words, a_name, key_and_id, get_options, stats_names, of_objects}
+use Rattle.cmd_words.specs.Places.{Place, Follows, Answers, IsFault, all_words, a_name, key_and_id, get_options, stats_names, of_objects, answered}
 use Rattle.cmd_words.specs.Sets.{behind_set, field_step, fields_first, fset_of}
 use Rattle.cmd_words.proofs.Binds.{bind_same}
 use Rattle.cmd_words.proofs.FieldLists.{first_field}
@@ -22,6 +22,7 @@ use Rattle.world_model.specs.Served.{unbuilt}
 use Rattle.cmd_words.specs.Scans.{behind_scan}
 use Rattle.cmd_words.proofs.Gets.{lower_word}
 use Rattle.cmd_words.proofs.Stats.{first_name}
+use Rattle.cmd_words.specs.declared.faults.CommandFault.{CommandFault}
 
 -- the name of a command, and the words behind it
 begins : (called : Bytes) (p : Place) (f : Form Command) → p.read ≡ called ∷ [] → ((more : List Bytes) → readings (called ∷ more) ≡ live (f more)) → Follows p f
@@ -165,6 +166,6 @@ wider = codes "PDEL" ∷ codes "DROP" ∷ codes "KEYS" ∷ codes "BOUNDS" ∷ co
 unknown : (called : Bytes) (rest : List Bytes) → NoneIs called of_objects → NoneIs called wider → NoneIs called unbuilt → reads (called ∷ rest) ≡ Err (fault.Unknown (shown_of called))
 unknown called rest o w u = stopped [] called rest nothing_starts (shut_by (called ∷ []) (nothing_goes called o.1.0 o.1.1.0 w.1.0 w.1.1.1.0 w.1.1.1.1.0 w.1.1.1.1.1.0 w.1.1.1.1.1.1.0 w.1.1.1.1.1.1.1.0 o.0 w.0 o.1.1.1.0 o.1.1.1.1.0 o.1.1.1.1.1.0 o.1.1.1.1.1.1.0 o.1.1.1.1.1.1.1.0 w.1.1.0 u.0 w.1.1.1.1.1.1.1.1.0 u.1.0 u.1.1.0 u.1.1.1.0 u.1.1.1.1.0 u.1.1.1.1.1.0 u.1.1.1.1.1.1.0 u.1.1.1.1.1.1.1.0 u.1.1.1.1.1.1.1.1.0 u.1.1.1.1.1.1.1.1.1.0))
 
-pub not_known : (p : Place) (called : Bytes) (why : WordFault) → p.read ≡ called ∷ [] → list_any (is_word called) of_objects ≡ false → NoneIs called wider → list_any (is_word called) unbuilt ≡ false → IsFault (fault.Unknown (shown_of called)) why → Answers (all_words p) (Err why)
+pub not_known : (p : Place) (called : Bytes) (why : CommandFault) → p.read ≡ called ∷ [] → list_any (is_word called) of_objects ≡ false → NoneIs called wider → list_any (is_word called) unbuilt ≡ false → IsFault (fault.Unknown (shown_of called)) why → Answers (all_words p) (Err why)
 not_known p called why r o w u (inl m) = inl m
-not_known p called why r o w u (inr e) = inr (rw (e, r) (unknown called p.left (none_is called of_objects o) w (none_is called unbuilt u)))
+not_known p called why r o w u (inr e) = inr (rw (e, r) (ap answered (unknown called p.left (none_is called of_objects o) w (none_is called unbuilt u))))

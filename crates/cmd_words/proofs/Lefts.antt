@@ -8,6 +8,7 @@ use Rattle.world_model.specs.Commands.{shown_of}
 use Rattle.world_model.specs.declared.faults.WordFault.{WordFault}
 use Rattle.world_model.specs.declared.faults.WordFault.TheVariants as fault
 use Rattle.cmd_words.specs.Places.{Place, place_at, IsBehind, IsNot, IsFault, IsRefusal}
+use Rattle.cmd_words.specs.declared.faults.CommandFault.{CommandFault}
 
 pub one_less : (words : List Bytes) (read : ℕ) (w : Bytes) → read < length words → slice_get words read ≡ Some w → drop read words ≡ w ∷ drop (read + 1) words
 one_less words read w lt e = rw add-one (drop-cons words read w lt ∙ ap (λ v. v ∷ drop (suc read) words) (get_or_from_slice_get words read w w e))
@@ -33,7 +34,7 @@ one_left words read w p e lt g = subst (λ (q : Place). q.left ≡ w ∷ drop (r
 pub not_next : (called w : Bytes) (rest : List Bytes) (p : Place) → p.left ≡ w ∷ rest → is_word w called ≡ false → IsNot called p.left
 not_next called w rest p l e = subst (IsNot called) (sym l) e
 
-pub refused_next : (words : List Bytes) (p : Place) (w : Bytes) (rest : List Bytes) (why : WordFault) → p.left ≡ w ∷ rest → IsFault (fault.Invalid (shown_of w)) why → IsRefusal words p.left why
+pub refused_next : (words : List Bytes) (p : Place) (w : Bytes) (rest : List Bytes) (why : CommandFault) → p.left ≡ w ∷ rest → IsFault (fault.Invalid (shown_of w)) why → IsRefusal words p.left why
 refused_next words p w rest why l f = subst (λ (left : List Bytes). IsRefusal words left why) (sym l) f
 
 pub nothing_next : (called : Bytes) (p : Place) → p.left ≡ [] → IsNot called p.left

@@ -6,7 +6,6 @@ pub mod Binds
 pub mod OptionWords
 pub mod Heads
 pub mod Ends
-pub mod Requests
 pub mod Asks
 pub mod ServedCommands
 pub mod SetWords

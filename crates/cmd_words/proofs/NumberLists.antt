@@ -8,9 +8,10 @@ use Rattle.world_model.specs.Kinds.{integer}
 use Rattle.world_model.specs.Commands.{reads}
 use Rattle.world_model.specs.declared.commands.Command.{Command}
 use Rattle.world_model.specs.declared.faults.WordFault.{WordFault}
-use Rattle.cmd_words.specs.Places.{Place, Moves, Follows, Reads}
+use Rattle.cmd_words.specs.Places.{Place, Moves, Follows, Reads, answers}
 use Rattle.cmd_words.proofs.Gets.{moves_on}
 use Rattle.cmd_words.proofs.Binds.{bind_assoc, bind_same, done_behind, follows_same}
+use Rattle.cmd_words.specs.declared.faults.CommandFault.{CommandFault}
 
 -- what is to follow where these were read
 abbrev behind : {B : Type 0} → List ℤ → (List ℤ → Form B) → List ℤ → Form B
@@ -39,9 +40,9 @@ module _ (count : ℕ) (first p : Place) (due less : ℕ) (values : List ℤ) (s
   number_due next h = follows_same p (times (suc less) integer >>= behind values next) (integer >>= λ a. times less integer >>= behind (values ++ a ∷ []) next) (one_first less values next)
       (subst (λ n. Follows p (times n integer >>= behind values next)) d (s.follows next h))
 
-  pub number_refused : (q : Place) (why : WordFault) → Reads integer p q (Err why) → Reads (times count integer) first q (Err why)
+  pub number_refused : (q : Place) (why : CommandFault) → Reads integer p q (Err why) → Reads (times count integer) first q (Err why)
   number_refused q why (inl m) = inl m
-  number_refused q why (inr r) = inr (λ next h. subst (λ ws. reads ws ≡ Err why) s.moved.words (r (λ a. times less integer >>= behind (values ++ a ∷ []) next) (number_due next h)))
+  number_refused q why (inr r) = inr (λ next h. subst (λ ws. answers ws ≡ Err why) s.moved.words (r (λ a. times less integer >>= behind (values ++ a ∷ []) next) (number_due next h)))
 
   pub one_more : (q : Place) (a : ℤ) (more : List ℤ) → Reads integer p q (Ok a) → more ≡ values ++ a ∷ [] → HasNumbers count first q less more
   one_more q a more r m = rw m (record {

@@ -18,13 +18,15 @@ use Rattle.world_model.specs.declared.commands.Command.{Command}
 use Rattle.world_model.specs.declared.faults.WordFault.{WordFault}
 use Rattle.world_model.specs.declared.faults.WordFault.TheVariants as fault
 use Rattle.world_model.specs.FormLaws.{Takes, Fair, fair_done, fair_word, fair_bind, takes_word, takes_bind}
-use Rattle.cmd_words.specs.Places.{Place, all_words, IsBehind, Moves, Follows, Reads, IsFault, IsRefusal}
+use Rattle.cmd_words.specs.Places.{Place, all_words, IsBehind, Moves, Follows, Reads, IsFault, IsRefusal, answers, answered}
 use Rattle.cmd_words.specs.declared.options.OptionWord.TheVariants as option
 use Rattle.cmd_words.specs.declared.places.PlaceWord.TheVariants as at
 use Rattle.cmd_words.specs.Sets.{options_and_place, IsOption, is_option, LacksOption, IsPlace, LacksPlace, ReadsPlace, Goes, Refuses}
 use Rattle.cmd_words.proofs.Gets.{lower_word, step, moves, moves_on}
 use Rattle.cmd_words.proofs.Follows.{stopped, now, no_more, some_more, open_by, shut_by, ran_out}
 use Rattle.cmd_words.proofs.Binds.{unrolled, done_behind, each_both}
+use Rattle.cmd_words.specs.declared.faults.CommandFault.{CommandFault}
+use Rattle.cmd_words.specs.declared.faults.CommandFault.TheVariants.{Memory}
 
 -- every option takes a word
 
@@ -143,29 +145,29 @@ invalid_there [] w n b = absurd (omega arith)
 invalid_there (first ∷ read) w n b = let c = no_command n in let x = no_coordinate n in let g = no_geojson n in rw (c, x, g) refl
 
 module _ (o : SetOptions) (p : Place) where
-  pub words_run_out : (why : WordFault) → p.left ≡ [] → IsFault (wrong_count (all_words p)) why → Refuses o p why
+  pub words_run_out : (why : CommandFault) → p.left ≡ [] → IsFault (wrong_count (all_words p)) why → Refuses o p why
   words_run_out why l (inl m) = inl m
   words_run_out why l (inr e) = inr (λ next h.
       let due = due_there o next in
       let there = now p (options_and_place o next) h ∙ due.1 in
       let none : command_spelled p.read ≡ None = ap spelled there ∙ no_command due.0 in
-      rw (no_more p l) (ran_out p.read (open_by p.read (runs_out a_word) (due_words due.0) there) none) ∙ ap Err (sym e))
+      rw (no_more p l) (ap answered (ran_out p.read (open_by p.read (runs_out a_word) (due_words due.0) there) none)) ∙ ap Err (sym e))
 
-  pub word_refused : (w : Bytes) (rest : List Bytes) (why : WordFault) → p.left ≡ w ∷ rest → is_option o w ≡ false → LacksPlace (w ∷ []) → IsFault (fault.Invalid (shown_of w)) why → Refuses o p why
+  pub word_refused : (w : Bytes) (rest : List Bytes) (why : CommandFault) → p.left ≡ w ∷ rest → is_option o w ≡ false → LacksPlace (w ∷ []) → IsFault (fault.Invalid (shown_of w)) why → Refuses o p why
   word_refused w rest why l n q (inl m) = inl m
   word_refused w rest why l n q (inr e) = inr (λ next h.
       let due = due_there o next in
       let there = now p (options_and_place o next) h ∙ due.1 in
       let shut : readings (p.read ++ w ∷ []) ≡ [] = h.goes (w ∷ []) ∙ ap live (none_goes o w [] n next q) in
       let at = stopped p.read w rest (open_by p.read (runs_out a_word) (due_words due.0) there) (shut_by (p.read ++ w ∷ []) shut) in
-      rw (some_more p w rest l) (at ∙ ap Err (ap (fault_at p.read w) there ∙ invalid_there p.read w due.0 h.begun)) ∙ ap Err (sym e))
+      rw (some_more p w rest l) (ap answered (at ∙ ap Err (ap (fault_at p.read w) there ∙ invalid_there p.read w due.0 h.begun))) ∙ ap Err (sym e))
 
-refused_at : (o : SetOptions) (p : Place) (left : List Bytes) (why : WordFault) → p.left ≡ left → LacksOption o left → LacksPlace left → IsRefusal (all_words p) left why → Refuses o p why
+refused_at : (o : SetOptions) (p : Place) (left : List Bytes) (why : CommandFault) → p.left ≡ left → LacksOption o left → LacksPlace left → IsRefusal (all_words p) left why → Refuses o p why
 refused_at o p [] why l n q f = words_run_out o p why l f
 refused_at o p (w ∷ rest) why l n q f = word_refused o p w rest why l n q f
 
 -- neither an option nor a place is next
-pub nothing_next : (o : SetOptions) (p q : Place) (why : WordFault) → (q ≡ p) × LacksPlace p.left → LacksOption o p.left → IsRefusal (all_words q) q.left why → Refuses o p why
+pub nothing_next : (o : SetOptions) (p q : Place) (why : CommandFault) → (q ≡ p) × LacksPlace p.left → LacksOption o p.left → IsRefusal (all_words q) q.left why → Refuses o p why
 nothing_next o p q why t n f = refused_at o p p.left why refl n t.1 (subst (λ (x : Place). IsRefusal (all_words x) x.left why) t.0 f)
 
 -- what is read behind a word that begins an option or a place
@@ -177,9 +179,9 @@ module _ {A : Type 0} (o : SetOptions) (f : Form A) (behind : (SetOptions → By
   value_read : (a : A) → Reads f mid new (Ok a) → Moves old new × (length new.left < length old.left) × ((next : SetOptions → Bytes × Shape → Form Command) → Follows old (options_and_place o next) → Follows new (behind next a))
   value_read a k = (moves_on old mid new (moves w old mid b) k.0, (let n = ap length b.left in let m = k.0.fewer in omega (arith, n, m)), λ next h. k.1 (behind next) (begun next h))
 
-  value_refused : (why : WordFault) → Reads f mid new (Err why) → Refuses o old why
+  value_refused : (why : CommandFault) → Reads f mid new (Err why) → Refuses o old why
   value_refused why (inl m) = inl m
-  value_refused why (inr r) = inr (λ next h. subst (λ ws. reads ws ≡ Err why) (moves w old mid b).words (r (behind next) (begun next h)))
+  value_refused why (inr r) = inr (λ next h. subst (λ ws. answers ws ≡ Err why) (moves w old mid b).words (r (behind next) (begun next h)))
 
 module _ (o : SetOptions) (old mid new : Place) (w : Bytes) (b : IsBehind w old mid) where
   pub field_read : (f : Field) → IsOption o w option.Field → Reads field mid new (Ok f) → Goes o (record o { given = o.given ++ f ∷ [] }) old new × (length new.left < length old.left)
@@ -187,7 +189,7 @@ module _ (o : SetOptions) (old mid new : Place) (w : Bytes) (b : IsBehind w old 
       let r = value_read o field (λ next x. options_and_place (record o { given = o.given ++ x ∷ [] }) next) old mid new w b (λ next more. field_goes o next w more (lower_word w (codes "FIELD") e)) f k in
       (record { moves = r.0; follows = r.2 }, r.1)
 
-  pub field_refused : (why : WordFault) → IsOption o w option.Field → Reads field mid new (Err why) → Refuses o old why
+  pub field_refused : (why : CommandFault) → IsOption o w option.Field → Reads field mid new (Err why) → Refuses o old why
   field_refused why e k = value_refused o field (λ next x. options_and_place (record o { given = o.given ++ x ∷ [] }) next) old mid new w b (λ next more. field_goes o next w more (lower_word w (codes "FIELD") e)) why k
 
   pub seconds_read : (s : ℕ) → IsOption o w option.Seconds → Reads seconds mid new (Ok s) → Goes o (record o { after_ex = Some s }) old new × (length new.left < length old.left)
@@ -195,7 +197,7 @@ module _ (o : SetOptions) (old mid new : Place) (w : Bytes) (b : IsBehind w old 
       let r = value_read o seconds (λ next x. options_and_place (record o { after_ex = Some x }) next) old mid new w b (λ next more. seconds_goes o next w more (lower_word w (codes "EX") e.0) e.1) s k in
       (record { moves = r.0; follows = r.2 }, r.1)
 
-  pub seconds_refused : (why : WordFault) → IsOption o w option.Seconds → Reads seconds mid new (Err why) → Refuses o old why
+  pub seconds_refused : (why : CommandFault) → IsOption o w option.Seconds → Reads seconds mid new (Err why) → Refuses o old why
   seconds_refused why e k = value_refused o seconds (λ next x. options_and_place (record o { after_ex = Some x }) next) old mid new w b (λ next more. seconds_goes o next w more (lower_word w (codes "EX") e.0) e.1) why k
 
   alone : (p : SetOptions) → ((next : SetOptions → Bytes × Shape → Form Command) (more : List Bytes) → options_and_place o next (w ∷ more) ≡ options_and_place p next more) → Goes o p old mid × (length mid.left < length old.left)
@@ -212,7 +214,7 @@ module _ (o : SetOptions) (old mid new : Place) (w : Bytes) (b : IsBehind w old 
       let r = value_read o lat_lon (λ next x. next o (point_text x, Spot x ∷ [])) old mid new w b (λ next more. point_goes o next w more (lower_word w (codes "POINT") e)) p k in
       (r.0, r.2)
 
-  pub point_refused : (why : WordFault) → IsPlace w at.Point → Reads lat_lon mid new (Err why) → Refuses o old why
+  pub point_refused : (why : CommandFault) → IsPlace w at.Point → Reads lat_lon mid new (Err why) → Refuses o old why
   point_refused why e k = value_refused o lat_lon (λ next x. next o (point_text x, Spot x ∷ [])) old mid new w b (λ next more. point_goes o next w more (lower_word w (codes "POINT") e)) why k
 
   pub bounds_read : (x : Bounds) → IsPlace w at.Bounds → Reads four mid new (Ok x) → ReadsPlace o old new (Ok (bounds_text x, Face (corners x ∷ []) ∷ []))
@@ -220,17 +222,17 @@ module _ (o : SetOptions) (old mid new : Place) (w : Bytes) (b : IsBehind w old 
       let r = value_read o four (λ next y. next o (bounds_text y, Face (corners y ∷ []) ∷ [])) old mid new w b (λ next more. bounds_goes o next w more (lower_word w (codes "BOUNDS") e)) x k in
       (r.0, r.2)
 
-  pub bounds_refused : (why : WordFault) → IsPlace w at.Bounds → Reads four mid new (Err why) → Refuses o old why
+  pub bounds_refused : (why : CommandFault) → IsPlace w at.Bounds → Reads four mid new (Err why) → Refuses o old why
   bounds_refused why e k = value_refused o four (λ next y. next o (bounds_text y, Face (corners y ∷ []) ∷ [])) old mid new w b (λ next more. bounds_goes o next w more (lower_word w (codes "BOUNDS") e)) why k
 
-  pub object_read : (r : Result (Bytes × Shape) WordFault) → IsPlace w at.Object → Reads geojson mid new r → ReadsPlace o old new r
+  pub object_read : (r : Result (Bytes × Shape) CommandFault) → IsPlace w at.Object → Reads geojson mid new r → ReadsPlace o old new r
   object_read (Ok t) e k =
       let r = value_read o geojson (λ next. next o) old mid new w b (λ next more. object_goes o next w more (lower_word w (codes "OBJECT") e)) t k in
       (r.0, r.2)
   object_read (Err why) e k = value_refused o geojson (λ next. next o) old mid new w b (λ next more. object_goes o next w more (lower_word w (codes "OBJECT") e)) why k
 
 -- a place whose text and shape are made of what was read, or memory ran out
-pub made_read : (o : SetOptions) (old new : Place) (t : Bytes × Shape) (r : Result (Bytes × Shape) WordFault) → IfOk r (λ x. x ≡ t) → IfErr r (λ why. why ≡ fault.Memory) → ReadsPlace o old new (Ok t) → ReadsPlace o old new r
+pub made_read : (o : SetOptions) (old new : Place) (t : Bytes × Shape) (r : Result (Bytes × Shape) CommandFault) → IfOk r (λ x. x ≡ t) → IfErr r (λ why. why ≡ Memory) → ReadsPlace o old new (Ok t) → ReadsPlace o old new r
 made_read o old new t (Ok x) ok err k = subst (λ y. ReadsPlace o old new (Ok y)) (sym ok) k
 made_read o old new t (Err why) ok err k = inl err
 
@@ -241,6 +243,6 @@ goes_on_from o p = record { moves = record { words = refl; fewer = omega arith }
 pub goes_further : (o p q : SetOptions) (first old new : Place) → Goes o p first old → Goes p q old new → Goes o q first new
 goes_further o p q first old new g h = record { moves = moves_on first old new g.moves h.moves; follows = λ next f. h.follows next (g.follows next f) }
 
-pub refused_further : (o p : SetOptions) (first old : Place) (why : WordFault) → Goes o p first old → Refuses p old why → Refuses o first why
+pub refused_further : (o p : SetOptions) (first old : Place) (why : CommandFault) → Goes o p first old → Refuses p old why → Refuses o first why
 refused_further o p first old why g (inl m) = inl m
-refused_further o p first old why g (inr r) = inr (λ next h. subst (λ ws. reads ws ≡ Err why) g.moves.words (r next (g.follows next h)))
+refused_further o p first old why g (inr r) = inr (λ next h. subst (λ ws. answers ws ≡ Err why) g.moves.words (r next (g.follows next h)))

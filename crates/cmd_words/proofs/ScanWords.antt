@@ -16,7 +16,7 @@ use Rattle.world_model.specs.declared.commands.Command.{Command}
 use Rattle.world_model.specs.declared.faults.WordFault.{WordFault}
 use Rattle.world_model.specs.declared.faults.WordFault.TheVariants as fault
 use Rattle.world_model.specs.FormLaws.{Each, Takes, Fair, fair_done, fair_word, fair_bind, takes_word, takes_bind}
-use Rattle.cmd_words.specs.Places.{Place, all_words, IsBehind, Moves, Follows, Parses, Reads, Answers, IsEnd, IsNot, a_name}
+use Rattle.cmd_words.specs.Places.{Place, all_words, IsBehind, Moves, Follows, Parses, Reads, Answers, IsEnd, IsNot, a_name, answers, answered}
 use Rattle.cmd_words.specs.Scans.{range_test, among_test, with_test, behind_word, option_name, may_come, LacksOption, options_and_output, scan_of, behind_scan, Goes, ReadsOptions, output_name, ReadsOutput}
 use Rattle.cmd_words.specs.declared.scans.ScanWord.{ScanWord}
 use Rattle.cmd_words.specs.declared.scans.ScanWord.TheVariants as option
@@ -25,6 +25,7 @@ use Rattle.cmd_words.proofs.Follows.{finished}
 use Rattle.cmd_words.proofs.Ends.{end_refused}
 use Rattle.cmd_words.proofs.Binds.{unrolled, each_both, follows_same, bind_done}
 use Rattle.cmd_words.proofs.OptionWords.{takes_where, takes_behind, takes_alone, nothing, absent_when}
+use Rattle.cmd_words.specs.declared.faults.CommandFault.{CommandFault}
 
 -- every option takes a word
 
@@ -228,9 +229,9 @@ module _ (first_options o : SearchOptions) (first old mid new : Place) (g : Goes
   pub goes_further : (p : SearchOptions) → Reads (behind_word o kind) mid new (Ok p) → Goes first_options p first new
   goes_further p k = record { moves = moves_on first mid new moved k.0; follows = λ make h. k.1 (λ q. options_and_output q make) (begun make h) }
 
-  pub refused_further : (why : WordFault) → Reads (behind_word o kind) mid new (Err why) → ReadsOptions first_options first new (Err why)
+  pub refused_further : (why : CommandFault) → Reads (behind_word o kind) mid new (Err why) → ReadsOptions first_options first new (Err why)
   refused_further why (inl m) = inl m
-  refused_further why (inr r) = inr (λ make h. subst (λ ws. reads ws ≡ Err why) moved.words (r (λ q. options_and_output q make) (begun make h)))
+  refused_further why (inr r) = inr (λ make h. subst (λ ws. answers ws ≡ Err why) moved.words (r (λ q. options_and_output q make) (begun make h)))
 
 -- an option with a value: the options with it, whose words say the same
 pub value_read : {A : Type 0} (f : Form A) (made : SearchOptions → A → SearchOptions) (o p : SearchOptions) → p ≡ o → (old new : Place) (a : A) → Reads f old new (Ok a) → Reads (f >>= λ x. done (made o x)) old new (Ok (made p a))
@@ -246,9 +247,9 @@ module _ (old behind_key : Place) (key : Bytes) (a : Parses a_name old behind_ke
   options_follow : Follows behind_key (options_and_output no_search_options (scan_of key))
   options_follow = a.1 behind_scan h
 
-  pub options_refused : (new : Place) (why : WordFault) → ReadsOptions no_search_options behind_key new (Err why) → Answers (all_words old) (Err why)
+  pub options_refused : (new : Place) (why : CommandFault) → ReadsOptions no_search_options behind_key new (Err why) → Answers (all_words old) (Err why)
   options_refused new why (inl m) = inl m
-  options_refused new why (inr r) = inr (subst (λ ws. reads ws ≡ Err why) a.0.words (r (scan_of key) options_follow))
+  options_refused new why (inr r) = inr (subst (λ ws. answers ws ≡ Err why) a.0.words (r (scan_of key) options_follow))
 
   module _ (mid new : Place) (o : SearchOptions) (g : ReadsOptions no_search_options behind_key mid (Ok o)) where
     output_follows : Follows mid (options_and_output o (scan_of key))
@@ -267,9 +268,9 @@ module _ (old behind_key : Place) (key : Bytes) (a : Parses a_name old behind_ke
         refl (no_coordinate (behind_options o (scan_of key)) (all_due o (scan_of key))) (no_geojson (behind_options o (scan_of key)) (all_due o (scan_of key)))
         l (none_goes o w rest (subst (LacksOption o) l g.1) (scan_of key) (λ how. subst (IsNot (output_name how)) l (n how))) output_follows
 
-    pub more_refused : (why : WordFault) → ReadsOutput mid new None → IsEnd (λ w. fault.Invalid (shown_of w)) new (Err why) → Answers (all_words old) (Err why)
+    pub more_refused : (why : CommandFault) → ReadsOutput mid new None → IsEnd (λ w. fault.Invalid (shown_of w)) new (Err why) → Answers (all_words old) (Err why)
     more_refused why s (w, rest, l, inl m) = inl m
-    more_refused why s (w, rest, l, inr e) = inr (subst (λ ws. reads ws ≡ Err why) same (stopped_at w rest (subst (λ p. p.left ≡ w ∷ rest) s.0 l) s.1 ∙ ap Err (sym e)))
+    more_refused why s (w, rest, l, inr e) = inr (subst (λ ws. answers ws ≡ Err why) same (ap answered (stopped_at w rest (subst (λ p. p.left ≡ w ∷ rest) s.0 l) s.1) ∙ ap Err (sym e)))
 
     module _ (how : Shown) (s : ReadsOutput mid new (Some how)) where
       end_follows : Follows new (done (scan_of key o how))
@@ -278,7 +279,7 @@ module _ (old behind_key : Place) (key : Bytes) (a : Parses a_name old behind_ke
       same_words : all_words new ≡ all_words old
       same_words = (moves s.0 mid new s.2).words ∙ same
 
-      pub output_refused : (why : WordFault) → IsEnd (λ _. wrong_count (all_words new)) new (Err why) → Answers (all_words old) (Err why)
+      pub output_refused : (why : CommandFault) → IsEnd (λ _. wrong_count (all_words new)) new (Err why) → Answers (all_words old) (Err why)
       output_refused why e = subst (λ ws. Answers ws (Err why)) same_words (end_refused new (scan_of key o how) why e end_follows)
 
       pub output_read : new.left ≡ [] → reads (all_words old) ≡ Ok (scan_of key o how)

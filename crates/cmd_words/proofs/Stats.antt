@@ -8,8 +8,9 @@ use Rattle.world_model.specs.Kinds.{when}
 use Rattle.world_model.specs.Commands.{reads}
 use Rattle.world_model.specs.declared.commands.Command.TheVariants as command
 use Rattle.world_model.specs.declared.faults.WordFault.{WordFault}
-use Rattle.cmd_words.specs.Places.{Place, all_words, IsBehind, Follows, Parses, Answers, IsOne, name_of, a_name, key_step, stats_more, stats_names}
+use Rattle.cmd_words.specs.Places.{Place, all_words, IsBehind, Follows, Parses, Answers, IsOne, name_of, a_name, key_step, stats_more, stats_names, answered}
 use Rattle.cmd_words.proofs.Gets.{step, ends, stops, moved}
+use Rattle.cmd_words.specs.declared.faults.CommandFault.{CommandFault}
 
 takes : (keys : List Bytes) (w : Bytes) (more : List Bytes) → is_name w ≡ true → live (stats_more keys (w ∷ more)) ≡ live (stats_more (keys ++ w ∷ []) more)
 takes keys w more e = rw (add-one (suc (length more)), add-one (length more), e)
@@ -45,10 +46,10 @@ stats_next keys p q w key b e h =
 pub stats_done : (keys : List Bytes) (p : Place) → p.left ≡ [] → Follows p (stats_more keys) → reads (all_words p) ≡ Ok (command.Stats keys)
 stats_done keys p l h = ends p (stats_more keys) (command.Stats keys) (runs_out a_word ∷ []) refl l h
 
-pub stats_refused : (keys : List Bytes) (p q : Place) (w : Bytes) (why : WordFault) → IsBehind w p q → IsOne a_word name_of w (Err why) → Follows p (stats_more keys) → Answers (all_words p) (Err why)
+pub stats_refused : (keys : List Bytes) (p q : Place) (w : Bytes) (why : CommandFault) → IsBehind w p q → IsOne a_word name_of w (Err why) → Follows p (stats_more keys) → Answers (all_words p) (Err why)
 stats_refused keys p q w why b (inl m) h = inl m
 stats_refused keys p q w why b (inr f) h =
-    inr (rw f.1 (stops p (stats_more keys) (command.Stats keys) (runs_out a_word ∷ []) w q.left refl refl refl refl b.left (not_taken keys w (unnamed (is_name w) w f.0)) h))
+    inr (rw f.1 (ap answered (stops p (stats_more keys) (command.Stats keys) (runs_out a_word ∷ []) w q.left refl refl refl refl b.left (not_taken keys w (unnamed (is_name w) w f.0)) h)))
 
 -- what holds while keys are read
 pub record HasKeys (all : Place) (p : Place) (keys : List Bytes) : Type 0 where
@@ -64,5 +65,5 @@ one_more all p q keys more w key r b e m = rw m (record { follows = λ h. stats_
 pub read_all : (all p q : Place) (keys : List Bytes) → HasKeys all p keys → (q ≡ p) × (p.left ≡ []) → Follows all stats_names → reads (all_words all) ≡ Ok (command.Stats keys)
 read_all all p q keys r e h = subst (λ ws. reads ws ≡ Ok (command.Stats keys)) r.same (stats_done keys p e.1 (r.follows h))
 
-pub refused : (all p q : Place) (keys : List Bytes) (w : Bytes) (why : WordFault) → HasKeys all p keys → IsBehind w p q → IsOne a_word name_of w (Err why) → Follows all stats_names → Answers (all_words all) (Err why)
+pub refused : (all p q : Place) (keys : List Bytes) (w : Bytes) (why : CommandFault) → HasKeys all p keys → IsBehind w p q → IsOne a_word name_of w (Err why) → Follows all stats_names → Answers (all_words all) (Err why)
 refused all p q keys w why r b f h = subst (λ ws. Answers ws (Err why)) r.same (stats_refused keys p q w why b f (r.follows h))

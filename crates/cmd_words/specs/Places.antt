@@ -12,6 +12,22 @@ use Rattle.world_data.specs.declared.queries.Shown.{Shown}
 use Rattle.world_data.specs.declared.queries.Shown.TheVariants as shown
 use Rattle.world_model.specs.declared.faults.WordFault.{WordFault}
 use Rattle.world_model.specs.declared.faults.WordFault.TheVariants as fault
+use Rattle.cmd_words.specs.declared.faults.CommandFault.{CommandFault}
+use Rattle.cmd_words.specs.declared.faults.CommandFault.TheVariants.{Refused, Memory}
+
+-- what holds of a refusal; nothing is said of want of memory
+abbrev pub IfRefused : CommandFault → (WordFault → Type 0) → Type 0
+IfRefused (Refused f) holds = holds f
+IfRefused Memory holds = Unit {0}
+
+-- the command, or the refusal as it is answered
+abbrev pub answered : Result Command WordFault → Result Command CommandFault
+answered (Ok c) = Ok c
+answered (Err f) = Err (Refused f)
+
+-- what is answered to words where memory is not wanting
+abbrev pub answers : List Bytes → Result Command CommandFault
+answers words = answered (reads words)
 
 -- the words that were read, and those that are left
 pub record Place : Type 0 where
@@ -37,16 +53,16 @@ pub record Moves (old new : Place) : Type 0 where
   pub fewer : length new.left ≤ length old.left
 
 -- what was read where the form is due, whatever is to follow it; or how all the words are refused; or memory ran out
-abbrev pub Parses : {A : Type 0} → ((A → Form Command) → Form Command) → Place → Place → Result A WordFault → Type 0
+abbrev pub Parses : {A : Type 0} → ((A → Form Command) → Form Command) → Place → Place → Result A CommandFault → Type 0
 Parses {A = A} form old new (Ok a) = Moves old new × ((next : A → Form Command) → Follows old (form next) → Follows new (next a))
-Parses {A = A} form old new (Err why) = (why ≡ fault.Memory) ⊎ ((next : A → Form Command) → Follows old (form next) → reads (all_words old) ≡ Err why)
+Parses {A = A} form old new (Err why) = (why ≡ Memory) ⊎ ((next : A → Form Command) → Follows old (form next) → answers (all_words old) ≡ Err why)
 
 -- a form, and what is to follow it
 abbrev pub a_form : {A : Type 0} → Form A → (A → Form Command) → Form Command
 a_form form next = form >>= next
 
 -- a form was read where it is due
-abbrev pub Reads : {A : Type 0} → Form A → Place → Place → Result A WordFault → Type 0
+abbrev pub Reads : {A : Type 0} → Form A → Place → Place → Result A CommandFault → Type 0
 Reads form = Parses (a_form form)
 
 -- a name
@@ -58,9 +74,9 @@ abbrev pub key_and_id : (Bytes × Bytes → Form Command) → Form Command
 key_and_id next = name >>= λ key. name >>= λ id. next (key, id)
 
 -- the command that the words spell, or how they are refused; or memory ran out
-abbrev pub Answers : List Bytes → Result Command WordFault → Type 0
+abbrev pub Answers : List Bytes → Result Command CommandFault → Type 0
 Answers words (Ok c) = reads words ≡ Ok c
-Answers words (Err why) = (why ≡ fault.Memory) ⊎ (reads words ≡ Err why)
+Answers words (Err why) = (why ≡ Memory) ⊎ (answers words ≡ Err why)
 
 -- how a word is refused where another is due
 abbrev pub due_fault : Due → Bytes → WordFault
@@ -82,13 +98,13 @@ abbrev pub start : List Bytes → Place
 start words = record { read = []; left = words }
 
 -- this fault, or want of memory
-abbrev pub IsFault : WordFault → WordFault → Type 0
-IsFault wanted why = (why ≡ fault.Memory) ⊎ (why ≡ wanted)
+abbrev pub IsFault : WordFault → CommandFault → Type 0
+IsFault wanted why = (why ≡ Memory) ⊎ (why ≡ Refused wanted)
 
 -- a text of these bytes, or want of memory
-abbrev pub IsText : Bytes → Result Bytes WordFault → Type 0
+abbrev pub IsText : Bytes → Result Bytes CommandFault → Type 0
 IsText bytes (Ok text) = text ≡ bytes
-IsText bytes (Err why) = why ≡ fault.Memory
+IsText bytes (Err why) = why ≡ Memory
 
 -- what may stand behind GET's key and id, and behind WITHFIELDS or its absence
 abbrev pub get_output : Bool → Bytes × Bytes → Form Command
@@ -116,14 +132,14 @@ ReadsShown old new (Some how) = (w : Bytes) × IsShown w how × IsBehind w old n
 ReadsShown old new None = (new ≡ old) × IsNotShown old.left
 
 -- no word is left; or the next one is refused
-abbrev pub IsEnd : (Bytes → WordFault) → Place → Result (Unit {0}) WordFault → Type 0
+abbrev pub IsEnd : (Bytes → WordFault) → Place → Result (Unit {0}) CommandFault → Type 0
 IsEnd fault_of p (Ok _) = p.left ≡ []
 IsEnd fault_of p (Err why) = (w : Bytes) × (rest : List Bytes) × (p.left ≡ w ∷ rest) × IsFault (fault_of w) why
 
 -- the word is of the kind that is due, or is refused; or memory ran out
-abbrev pub IsOne : {A : Type 0} → Due → (Bytes → Option A) → Bytes → Result A WordFault → Type 0
+abbrev pub IsOne : {A : Type 0} → Due → (Bytes → Option A) → Bytes → Result A CommandFault → Type 0
 IsOne due kind w (Ok a) = kind w ≡ Some a
-IsOne due kind w (Err why) = (why ≡ fault.Memory) ⊎ ((kind w ≡ None) × (why ≡ due_fault due w))
+IsOne due kind w (Err why) = (why ≡ Memory) ⊎ ((kind w ≡ None) × (why ≡ Refused (due_fault due w)))
 
 -- the name that a word is
 abbrev pub name_of : Bytes → Option Bytes
@@ -144,7 +160,7 @@ abbrev pub stats_names : Form Command
 stats_names = a_name (λ key. stats_more (key ∷ []))
 
 -- the next word is refused where another is due; or the words ran out
-abbrev pub IsRefusal : List Bytes → List Bytes → WordFault → Type 0
+abbrev pub IsRefusal : List Bytes → List Bytes → CommandFault → Type 0
 IsRefusal words [] why = IsFault (wrong_count words) why
 IsRefusal words (w ∷ left) why = IsFault (fault.Invalid (shown_of w)) why
 

@@ -13,9 +13,11 @@ use Rattle.world_model.specs.declared.commands.Command.{Command}
 use Rattle.world_model.specs.declared.commands.Command.TheVariants as command
 use Rattle.world_model.specs.declared.faults.WordFault.{WordFault}
 use Rattle.world_model.specs.declared.faults.WordFault.TheVariants as fault
-use Rattle.cmd_words.specs.Places.{Place, all_words, IsBehind, Moves, Follows, Took, IsNot}
+use Rattle.cmd_words.specs.Places.{Place, all_words, answers, IsBehind, Moves, Follows, Took, IsNot}
 use Rattle.cmd_words.specs.declared.scans.ScanWord.{ScanWord}
 use Rattle.cmd_words.specs.declared.scans.ScanWord.TheVariants as option
+use Rattle.cmd_words.specs.declared.faults.CommandFault.{CommandFault}
+use Rattle.cmd_words.specs.declared.faults.CommandFault.TheVariants.{Memory}
 
 -- the tests behind WHERE and WHEREIN
 
@@ -107,9 +109,9 @@ pub record Goes (o p : SearchOptions) (old new : Place) : Type 0 where
   pub follows : (make : SearchOptions → Shown → Command) → Follows old (options_and_output o make) → Follows new (options_and_output p make)
 
 -- all options were read; or how all the words are refused, whatever is asked for; or memory ran out
-abbrev pub ReadsOptions : SearchOptions → Place → Place → Result SearchOptions WordFault → Type 0
+abbrev pub ReadsOptions : SearchOptions → Place → Place → Result SearchOptions CommandFault → Type 0
 ReadsOptions o old new (Ok p) = Goes o p old new × LacksOption p new.left
-ReadsOptions o old new (Err why) = (why ≡ fault.Memory) ⊎ ((make : SearchOptions → Shown → Command) → Follows old (options_and_output o make) → reads (all_words old) ≡ Err why)
+ReadsOptions o old new (Err why) = (why ≡ Memory) ⊎ ((make : SearchOptions → Shown → Command) → Follows old (options_and_output o make) → answers (all_words old) ≡ Err why)
 
 -- the word that asks for an output
 abbrev pub output_name : Shown → Bytes

@@ -14,11 +14,13 @@ use Rattle.world_model.specs.declared.commands.Command.{Command}
 use Rattle.world_model.specs.declared.commands.Command.TheVariants as command
 use Rattle.world_model.specs.declared.faults.WordFault.{WordFault}
 use Rattle.world_model.specs.declared.faults.WordFault.TheVariants as fault
-use Rattle.cmd_words.specs.Places.{Place, all_words, IsBehind, Moves, Follows}
+use Rattle.cmd_words.specs.Places.{Place, all_words, answers, IsBehind, Moves, Follows}
 use Rattle.cmd_words.specs.declared.options.OptionWord.{OptionWord}
 use Rattle.cmd_words.specs.declared.options.OptionWord.TheVariants as option
 use Rattle.cmd_words.specs.declared.places.PlaceWord.{PlaceWord}
 use Rattle.cmd_words.specs.declared.places.PlaceWord.TheVariants as at
+use Rattle.cmd_words.specs.declared.faults.CommandFault.{CommandFault}
+use Rattle.cmd_words.specs.declared.faults.CommandFault.TheVariants.{Memory}
 
 -- kinds of word
 
@@ -77,17 +79,17 @@ pub record Goes (o p : SetOptions) (old new : Place) : Type 0 where
   pub follows : (next : SetOptions → Bytes × Shape → Form Command) → Follows old (options_and_place o next) → Follows new (options_and_place p next)
 
 -- how all the words are refused, whatever is to follow the place; or memory ran out
-abbrev pub Refuses : SetOptions → Place → WordFault → Type 0
-Refuses o old why = (why ≡ fault.Memory) ⊎ ((next : SetOptions → Bytes × Shape → Form Command) → Follows old (options_and_place o next) → reads (all_words old) ≡ Err why)
+abbrev pub Refuses : SetOptions → Place → CommandFault → Type 0
+Refuses o old why = (why ≡ Memory) ⊎ ((next : SetOptions → Bytes × Shape → Form Command) → Follows old (options_and_place o next) → answers (all_words old) ≡ Err why)
 
 -- an option was read; or none was, and none is next
-abbrev pub ReadsOption : SetOptions → SetOptions → Place → Place → Result Bool WordFault → Type 0
+abbrev pub ReadsOption : SetOptions → SetOptions → Place → Place → Result Bool CommandFault → Type 0
 ReadsOption o p old new (Ok true) = Goes o p old new × (length new.left < length old.left)
 ReadsOption o p old new (Ok false) = (new ≡ old) × (p ≡ o) × LacksOption o old.left
 ReadsOption o p old new (Err why) = Refuses o old why
 
 -- all options were read
-abbrev pub ReadsOptions : SetOptions → Place → Place → Result SetOptions WordFault → Type 0
+abbrev pub ReadsOptions : SetOptions → Place → Place → Result SetOptions CommandFault → Type 0
 ReadsOptions o old new (Ok p) = Goes o p old new × LacksOption p new.left
 ReadsOptions o old new (Err why) = Refuses o old why
 
@@ -108,7 +110,7 @@ TakesPlace old new (Some kind) = (w : Bytes) × IsPlace w kind × IsBehind w old
 TakesPlace old new None = (new ≡ old) × LacksPlace old.left
 
 -- the place behind these options was read
-abbrev pub ReadsPlace : SetOptions → Place → Place → Result (Bytes × Shape) WordFault → Type 0
+abbrev pub ReadsPlace : SetOptions → Place → Place → Result (Bytes × Shape) CommandFault → Type 0
 ReadsPlace o old new (Ok at) = Moves old new × ((next : SetOptions → Bytes × Shape → Form Command) → Follows old (options_and_place o next) → Follows new (next o at))
 ReadsPlace o old new (Err why) = Refuses o old why
 
@@ -131,9 +133,9 @@ abbrev pub fields_first : (List Field → Command) → Form Command
 fields_first make = field >>= λ f. fields_more make (f ∷ [])
 
 -- one field or more are all that is left, whatever they are for; or how all the words are refused; or memory ran out
-abbrev pub ReadsFields : Place → Result (List Field) WordFault → Type 0
+abbrev pub ReadsFields : Place → Result (List Field) CommandFault → Type 0
 ReadsFields old (Ok given) = (make : List Field → Command) → Follows old (fields_first make) → reads (all_words old) ≡ Ok (make given)
-ReadsFields old (Err why) = (why ≡ fault.Memory) ⊎ ((make : List Field → Command) → Follows old (fields_first make) → reads (all_words old) ≡ Err why)
+ReadsFields old (Err why) = (why ≡ Memory) ⊎ ((make : List Field → Command) → Follows old (fields_first make) → answers (all_words old) ≡ Err why)
 
 -- the FSET of a key and an id, and these fields
 abbrev pub fset_of : Bytes × Bytes → List Field → Command

@@ -1,14 +1,14 @@
 //! The commands, each read from the words behind its name.
 
-ghost use Rattle.std.specs.Prelude.{◌≡◌, ◌⊎◌, [], ◌∷◌, ◌++◌, false, OnOk, IfOk, IfErr, Ok, Err};
+ghost use Rattle.std.specs.Prelude.{◌≡◌, [], ◌∷◌, ◌++◌, false, OnOk, IfOk, IfErr, Ok, Err};
 ghost use Rattle.std.specs.List.{list_any};
 ghost use Rattle.byte_text.specs.Names.{is_word};
 ghost use Rattle.world_model.specs.Grammar.{done};
 ghost use Rattle.world_model.specs.declared.commands.Command.TheVariants as command;
 ghost use Rattle.world_model.specs.Served.{asks, unbuilt};
-ghost use Rattle.cmd_words.specs.Places.{all_words, Follows, Answers, a_name, key_and_id, get_options, stats_names, of_objects};
+ghost use Rattle.cmd_words.specs.Places.{IfRefused, all_words, Follows, Answers, a_name, key_and_id, get_options, stats_names, of_objects};
 
-use crate::faults::unknown;
+use crate::faults::{CommandFault, unknown};
 use crate::fields::push_name;
 use crate::objects::{expire_command, fget_command, fset_command, persist_command, ttl_command};
 use crate::patterns::{keys_command, pdel_command};
@@ -21,16 +21,16 @@ use std::alloc::Global;
 use world_model::{Command, NameList, Shown, WordFault};
 
 /// The command that the words of a request spell, or how they are refused.
-pub fn command_of(alloc: Global, words: &Request) -> Result<Command, WordFault>
+pub fn command_of(alloc: Global, words: &Request) -> Result<Command, CommandFault>
     ensures ok { IfOk result (λ c. asks words.now ≡ Ok c) }
-    ensures err { IfErr result (λ f. (f ≡ WordFault.Memory) ⊎ (asks words.now ≡ Err f)) }
+    ensures err { IfErr result (λ why. IfRefused why (λ fault. asks words.now ≡ Err fault)) }
 {
     let mut reader = Reader::new(alloc, words);
     let Some(called) = reader.next() else {
-        return Err(WordFault::Unserved);
+        return Err(CommandFault::Refused(WordFault::Unserved));
     };
     if is_unbuilt(called) {
-        return Err(WordFault::Unserved);
+        return Err(CommandFault::Refused(WordFault::Unserved));
     }
     read_command(&mut reader, called)
 }
@@ -62,7 +62,7 @@ fn is_unbuilt(called: &[u8]) -> bool
 }
 
 // The command of this name, or none has it.
-fn read_command(reader: &mut Reader, called: &[u8]) -> Result<Command, WordFault>
+fn read_command(reader: &mut Reader, called: &[u8]) -> Result<Command, CommandFault>
     requires { reader.old.read ≡ called.now ∷ [] }
     ensures { list_any (is_word called.now) unbuilt ≡ false → Answers (all_words reader.old) result }
 {
@@ -94,7 +94,7 @@ fn read_command(reader: &mut Reader, called: &[u8]) -> Result<Command, WordFault
 }
 
 // The command of this name that is about more than one object, or none has it.
-fn read_wider_command(reader: &mut Reader, called: &[u8]) -> Result<Command, WordFault>
+fn read_wider_command(reader: &mut Reader, called: &[u8]) -> Result<Command, CommandFault>
     requires { reader.old.read ≡ called.now ∷ [] }
     ensures { list_any (is_word called.now) of_objects ≡ false → list_any (is_word called.now) unbuilt ≡ false → Answers (all_words reader.old) result }
 {
@@ -129,7 +129,7 @@ fn read_wider_command(reader: &mut Reader, called: &[u8]) -> Result<Command, Wor
 }
 
 // `key id [WITHFIELDS] [OBJECT | POINT | BOUNDS]`
-fn get_command(reader: &mut Reader) -> Result<Command, WordFault>
+fn get_command(reader: &mut Reader) -> Result<Command, CommandFault>
     ensures { Follows reader.old (key_and_id get_options) → Answers (all_words reader.old) result }
 {
     let (key, id) = reader.key_and_id()?;
@@ -153,7 +153,7 @@ fn get_command(reader: &mut Reader) -> Result<Command, WordFault>
 }
 
 // `key id`
-fn del_command(reader: &mut Reader) -> Result<Command, WordFault>
+fn del_command(reader: &mut Reader) -> Result<Command, CommandFault>
     ensures { Follows reader.old (key_and_id (λ k. done (command.Del k.0 k.1))) → Answers (all_words reader.old) result }
 {
     let (key, id) = reader.key_and_id()?;
@@ -162,7 +162,7 @@ fn del_command(reader: &mut Reader) -> Result<Command, WordFault>
 }
 
 // `key`
-fn drop_command(reader: &mut Reader) -> Result<Command, WordFault>
+fn drop_command(reader: &mut Reader) -> Result<Command, CommandFault>
     ensures { Follows reader.old (a_name (λ key. done (command.Drop key))) → Answers (all_words reader.old) result }
 {
     let key = reader.name()?;
@@ -171,7 +171,7 @@ fn drop_command(reader: &mut Reader) -> Result<Command, WordFault>
 }
 
 // `key`
-fn bounds_command(reader: &mut Reader) -> Result<Command, WordFault>
+fn bounds_command(reader: &mut Reader) -> Result<Command, CommandFault>
     ensures { Follows reader.old (a_name (λ key. done (command.Bounds key))) → Answers (all_words reader.old) result }
 {
     let key = reader.name()?;
@@ -180,7 +180,7 @@ fn bounds_command(reader: &mut Reader) -> Result<Command, WordFault>
 }
 
 // `key+`
-fn stats_command(reader: &mut Reader) -> Result<Command, WordFault>
+fn stats_command(reader: &mut Reader) -> Result<Command, CommandFault>
     ensures { Follows reader.old stats_names → Answers (all_words reader.old) result }
 {
     let mut keys = NameList::new(reader.alloc());
@@ -194,7 +194,7 @@ fn stats_command(reader: &mut Reader) -> Result<Command, WordFault>
 }
 
 // no word
-fn flush_command(reader: &Reader) -> Result<Command, WordFault>
+fn flush_command(reader: &Reader) -> Result<Command, CommandFault>
     ensures { Follows reader.now (done command.Flush) → Answers (all_words reader.now) result }
 {
     reader.end()?;
@@ -202,7 +202,7 @@ fn flush_command(reader: &Reader) -> Result<Command, WordFault>
 }
 
 // no word
-fn ping_command(reader: &Reader) -> Result<Command, WordFault>
+fn ping_command(reader: &Reader) -> Result<Command, CommandFault>
     ensures { Follows reader.now (done command.Ping) → Answers (all_words reader.now) result }
 {
     reader.end()?;
@@ -210,7 +210,7 @@ fn ping_command(reader: &Reader) -> Result<Command, WordFault>
 }
 
 // no word
-fn quit_command(reader: &Reader) -> Result<Command, WordFault>
+fn quit_command(reader: &Reader) -> Result<Command, CommandFault>
     ensures { Follows reader.now (done command.Quit) → Answers (all_words reader.now) result }
 {
     reader.end()?;

@@ -6,15 +6,14 @@ ghost use Rattle.world_model.specs.Kinds as kinds;
 ghost use Rattle.cmd_words.specs.Places.{Reads};
 ghost use Rattle.cmd_words.specs.Scans.{range_test as a_range_test, among_test as an_among_test};
 
+use crate::faults::CommandFault;
 use crate::readers::Reader;
-use world_model::{Numbers, Test, WordFault};
-
-/// The most values of one WHEREIN.
-const MAX_VALUES: u32 = 256;
+use world_data::MAX_VALUES;
+use world_model::{Numbers, Test};
 
 impl<'a> Reader<'a> {
     /// Reads the test behind WHERE: a field's name, and the least and greatest value.
-    pub(crate) fn range_test(&mut self) -> Result<Test, WordFault>
+    pub(crate) fn range_test(&mut self) -> Result<Test, CommandFault>
         ensures { Reads a_range_test self.old self.new result }
     {
         let name = self.name()?;
@@ -24,7 +23,7 @@ impl<'a> Reader<'a> {
     }
 
     /// Reads the test behind WHEREIN: a field's name, how many values there are, and the values.
-    pub(crate) fn among_test(&mut self) -> Result<Test, WordFault>
+    pub(crate) fn among_test(&mut self) -> Result<Test, CommandFault>
         ensures { Reads an_among_test self.old self.new result }
     {
         let name = self.name()?;
@@ -34,7 +33,7 @@ impl<'a> Reader<'a> {
     }
 
     /// Reads this many numbers of 64 signed bits.
-    fn integers(&mut self, count: u32) -> Result<Numbers, WordFault>
+    fn integers(&mut self, count: u32) -> Result<Numbers, CommandFault>
         ensures { Reads (times count kinds.integer) self.old self.new result }
     {
         let mut values = Numbers::new(self.alloc());
@@ -47,12 +46,12 @@ impl<'a> Reader<'a> {
 }
 
 // Puts a number last.
-fn push_number(numbers: &mut Numbers, number: i64) -> Result<(), WordFault>
+fn push_number(numbers: &mut Numbers, number: i64) -> Result<(), CommandFault>
     ensures ok { OnOk result (numbers.new ≡ numbers.old ++ number ∷ []) }
-    ensures err { IfErr result (λ why. why ≡ WordFault.Memory) }
+    ensures err { IfErr result (λ why. why ≡ CommandFault.Memory) }
 {
     match numbers.push(number) {
         Ok(()) => Ok(()),
-        Err(_) => Err(WordFault::Memory),
+        Err(_) => Err(CommandFault::Memory),
     }
 }

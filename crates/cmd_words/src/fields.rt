@@ -5,17 +5,18 @@ ghost use Rattle.world_data.specs.Filters.{with_values};
 ghost use Rattle.world_model.specs.Commands.{nonzero_of, cleared_of};
 ghost use Rattle.cmd_words.specs.Sets.{mark_of};
 
+use crate::faults::CommandFault;
 use byte_text::Name;
 use std::alloc::Global;
-use world_model::{Fields, NameList, WordFault};
+use world_model::{Fields, NameList};
 
 /// The fields whose value is not 0, and the names of those whose value is 0, both in byte order of the names.
 pub(crate) fn fields_of(
     alloc: Global,
     given: &[(Name, i64)],
-) -> Result<(Fields, NameList), WordFault>
+) -> Result<(Fields, NameList), CommandFault>
     ensures ok { IfOk result (λ r. (r.0 ≡ nonzero_of given.now) × (r.1 ≡ cleared_of given.now)) }
-    ensures err { IfErr result (λ why. why ≡ WordFault.Memory) }
+    ensures err { IfErr result (λ why. why ≡ CommandFault.Memory) }
 {
     let mut fields = Fields::new(alloc);
     // The names that are written 0, each with the value 1: a later value of another kind takes the name out again.
@@ -36,28 +37,28 @@ fn mark(value: i64) -> i64
 }
 
 // Gives the field of this name the value.
-fn set(alloc: Global, fields: &mut Fields, name: &Name, value: i64) -> Result<(), WordFault>
+fn set(alloc: Global, fields: &mut Fields, name: &Name, value: i64) -> Result<(), CommandFault>
     ensures ok { OnOk result (fields.new ≡ with_values fields.old ((name.now, value) ∷ [])) }
-    ensures err { IfErr result (λ why. why ≡ WordFault.Memory) }
+    ensures err { IfErr result (λ why. why ≡ CommandFault.Memory) }
 {
     let Ok(name) = name.copy(alloc) else {
-        return Err(WordFault::Memory);
+        return Err(CommandFault::Memory);
     };
     match fields.set(name, value) {
         Ok(()) => Ok(()),
-        Err(_) => Err(WordFault::Memory),
+        Err(_) => Err(CommandFault::Memory),
     }
 }
 
 // The names of the fields, in order.
-fn names_of(alloc: Global, fields: &Fields) -> Result<NameList, WordFault>
+fn names_of(alloc: Global, fields: &Fields) -> Result<NameList, CommandFault>
     ensures ok { IfOk result (λ names. names ≡ map (λ f. f.0) fields.now) }
-    ensures err { IfErr result (λ why. why ≡ WordFault.Memory) }
+    ensures err { IfErr result (λ why. why ≡ CommandFault.Memory) }
 {
     let mut names = NameList::new(alloc);
     for at in 0..fields.len() {
         let Ok(name) = fields.name(at).copy(alloc) else {
-            return Err(WordFault::Memory);
+            return Err(CommandFault::Memory);
         };
         push_name(&mut names, name)?;
     }
@@ -65,12 +66,12 @@ fn names_of(alloc: Global, fields: &Fields) -> Result<NameList, WordFault>
 }
 
 /// Puts a name last.
-pub(crate) fn push_name(names: &mut NameList, name: Name) -> Result<(), WordFault>
+pub(crate) fn push_name(names: &mut NameList, name: Name) -> Result<(), CommandFault>
     ensures ok { OnOk result (names.new ≡ names.old ++ name ∷ []) }
-    ensures err { IfErr result (λ why. why ≡ WordFault.Memory) }
+    ensures err { IfErr result (λ why. why ≡ CommandFault.Memory) }
 {
     match names.push(name) {
         Ok(()) => Ok(()),
-        Err(_) => Err(WordFault::Memory),
+        Err(_) => Err(CommandFault::Memory),
     }
 }

@@ -7,20 +7,18 @@ ghost use Rattle.world_model.specs.Kinds as kinds;
 ghost use Rattle.world_model.specs.Commands.{field as a_field};
 ghost use Rattle.cmd_words.specs.Places.{Reads};
 
+use crate::faults::CommandFault;
 use crate::readers::Reader;
 use crate::words::{
     read_between, read_bound, read_coordinate, read_geojson, read_glob, read_integer,
 };
 use byte_text::{Name, Text};
 use planar_geom::{BBox, MAX_COORD, Pt, Shape};
-use world_model::WordFault;
-
-/// The longest time to live, in seconds.
-const MAX_SECONDS: u32 = 1_000_000_000;
+use world_data::MAX_SECONDS;
 
 impl<'a> Reader<'a> {
     /// Reads a number of 64 signed bits.
-    pub(crate) fn integer(&mut self) -> Result<i64, WordFault>
+    pub(crate) fn integer(&mut self) -> Result<i64, CommandFault>
         ensures { Reads kinds.integer self.old self.new result }
     {
         match self.next() {
@@ -30,7 +28,7 @@ impl<'a> Reader<'a> {
     }
 
     /// Reads a pattern.
-    pub(crate) fn glob(&mut self) -> Result<Name, WordFault>
+    pub(crate) fn glob(&mut self) -> Result<Name, CommandFault>
         ensures { Reads kinds.glob self.old self.new result }
     {
         match self.next() {
@@ -40,7 +38,7 @@ impl<'a> Reader<'a> {
     }
 
     /// Reads a number from `least` to `most`.
-    pub(crate) fn between(&mut self, least: u32, most: u32) -> Result<u32, WordFault>
+    pub(crate) fn between(&mut self, least: u32, most: u32) -> Result<u32, CommandFault>
         ensures { Reads (kinds.between least most) self.old self.new result }
     {
         match self.next() {
@@ -50,14 +48,14 @@ impl<'a> Reader<'a> {
     }
 
     /// Reads a time to live in seconds.
-    pub(crate) fn seconds(&mut self) -> Result<u32, WordFault>
+    pub(crate) fn seconds(&mut self) -> Result<u32, CommandFault>
         ensures { Reads kinds.seconds self.old self.new result }
     {
         self.between(1, MAX_SECONDS)
     }
 
     /// Reads a bound of a range; none where it is endless.
-    pub(crate) fn bound(&mut self) -> Result<Option<i64>, WordFault>
+    pub(crate) fn bound(&mut self) -> Result<Option<i64>, CommandFault>
         ensures { Reads kinds.bound self.old self.new result }
     {
         match self.next() {
@@ -67,7 +65,7 @@ impl<'a> Reader<'a> {
     }
 
     /// Reads a coordinate of at least `low`.
-    fn coordinate_from(&mut self, low: i64) -> Result<i64, WordFault>
+    fn coordinate_from(&mut self, low: i64) -> Result<i64, CommandFault>
         ensures reads { Reads (kinds.coordinate_from low) self.old self.new result }
         ensures least { IfOk result (λ z. low ≤ℤ z) }
         ensures greatest { IfOk result (λ z. z ≤ℤ pos max_coord) }
@@ -79,7 +77,7 @@ impl<'a> Reader<'a> {
     }
 
     /// Reads a coordinate.
-    fn coordinate(&mut self) -> Result<i64, WordFault>
+    fn coordinate(&mut self) -> Result<i64, CommandFault>
         ensures reads { Reads kinds.coordinate self.old self.new result }
         ensures coordinate { IfOk result (λ z. IsCoordinate z) }
     {
@@ -87,7 +85,7 @@ impl<'a> Reader<'a> {
     }
 
     /// Reads a latitude and a longitude, the point's y and x.
-    pub(crate) fn point(&mut self) -> Result<Pt, WordFault>
+    pub(crate) fn point(&mut self) -> Result<Pt, CommandFault>
         ensures { Reads kinds.lat_lon self.old self.new result }
     {
         let lat = self.coordinate()?;
@@ -96,7 +94,7 @@ impl<'a> Reader<'a> {
     }
 
     /// Reads the least latitude and longitude of a box, and then the greatest.
-    pub(crate) fn bounds(&mut self) -> Result<BBox, WordFault>
+    pub(crate) fn bounds(&mut self) -> Result<BBox, CommandFault>
         ensures { Reads kinds.four self.old self.new result }
     {
         let min_lat = self.coordinate()?;
@@ -107,7 +105,7 @@ impl<'a> Reader<'a> {
     }
 
     /// Reads a field's name and value.
-    pub(crate) fn field(&mut self) -> Result<(Name, i64), WordFault>
+    pub(crate) fn field(&mut self) -> Result<(Name, i64), CommandFault>
         ensures { Reads a_field self.old self.new result }
     {
         let name = self.name()?;
@@ -116,7 +114,7 @@ impl<'a> Reader<'a> {
     }
 
     /// Reads a GeoJSON text, and its shape.
-    pub(crate) fn geojson(&mut self) -> Result<(Text, Shape), WordFault>
+    pub(crate) fn geojson(&mut self) -> Result<(Text, Shape), CommandFault>
         ensures { Reads kinds.geojson self.old self.new result }
     {
         match self.next() {

@@ -19,4 +19,5 @@ mod tests;
 mod words;
 
 pub use commands::command_of;
+pub use faults::CommandFault;
 pub use laws::served_commands;

@@ -7,14 +7,15 @@ ghost use Rattle.world_model.specs.declared.commands.Command.TheVariants as comm
 ghost use Rattle.cmd_words.specs.Places.{all_words, Follows, Answers, key_and_id, a_form};
 ghost use Rattle.cmd_words.specs.Sets.{fields_first, fset_of, ReadsFields};
 
+use crate::faults::CommandFault;
 use crate::fields::fields_of;
 use crate::readers::Reader;
 use crate::words::read_name;
 use byte_text::Name;
-use world_model::{Command, WordFault};
+use world_model::Command;
 
 /// `key id (field value)+`
-pub(crate) fn fset_command(reader: &mut Reader) -> Result<Command, WordFault>
+pub(crate) fn fset_command(reader: &mut Reader) -> Result<Command, CommandFault>
     ensures { Follows reader.old (key_and_id (λ k. fields_first (fset_of k))) → Answers (all_words reader.old) result }
 {
     let (key, id) = reader.key_and_id()?;
@@ -29,7 +30,7 @@ pub(crate) fn fset_command(reader: &mut Reader) -> Result<Command, WordFault>
 }
 
 // `(field value)+` to the end of the words, as they are given.
-fn read_fields(reader: &mut Reader) -> Result<Vec<(Name, i64)>, WordFault>
+fn read_fields(reader: &mut Reader) -> Result<Vec<(Name, i64)>, CommandFault>
     ensures ok { IfOk result (λ given. ReadsFields reader.old (Ok given.items)) }
     ensures err { IfErr result (λ why. ReadsFields reader.old (Err why)) }
 {
@@ -45,18 +46,18 @@ fn read_fields(reader: &mut Reader) -> Result<Vec<(Name, i64)>, WordFault>
 }
 
 // Puts a field last.
-fn push_field(given: &mut Vec<(Name, i64)>, field: (Name, i64)) -> Result<(), WordFault>
+fn push_field(given: &mut Vec<(Name, i64)>, field: (Name, i64)) -> Result<(), CommandFault>
     ensures ok { OnOk result (given.new.items ≡ given.old.items ++ field ∷ []) }
-    ensures err { IfErr result (λ why. why ≡ WordFault.Memory) }
+    ensures err { IfErr result (λ why. why ≡ CommandFault.Memory) }
 {
     match given.push(field) {
         Ok(()) => Ok(()),
-        Err(_) => Err(WordFault::Memory),
+        Err(_) => Err(CommandFault::Memory),
     }
 }
 
 /// `key id field`
-pub(crate) fn fget_command(reader: &mut Reader) -> Result<Command, WordFault>
+pub(crate) fn fget_command(reader: &mut Reader) -> Result<Command, CommandFault>
     ensures { Follows reader.old (key_and_id (λ k. a_form kinds.name (λ field. done (command.Fget k.0 k.1 field)))) → Answers (all_words reader.old) result }
 {
     let (key, id) = reader.key_and_id()?;
@@ -66,7 +67,7 @@ pub(crate) fn fget_command(reader: &mut Reader) -> Result<Command, WordFault>
 }
 
 /// `key id seconds`
-pub(crate) fn expire_command(reader: &mut Reader) -> Result<Command, WordFault>
+pub(crate) fn expire_command(reader: &mut Reader) -> Result<Command, CommandFault>
     ensures { Follows reader.old (key_and_id (λ k. a_form kinds.seconds (λ s. done (command.Expire k.0 k.1 s)))) → Answers (all_words reader.old) result }
 {
     let (key, id) = reader.key_and_id()?;
@@ -76,7 +77,7 @@ pub(crate) fn expire_command(reader: &mut Reader) -> Result<Command, WordFault>
 }
 
 /// `key id`
-pub(crate) fn persist_command(reader: &mut Reader) -> Result<Command, WordFault>
+pub(crate) fn persist_command(reader: &mut Reader) -> Result<Command, CommandFault>
     ensures { Follows reader.old (key_and_id (λ k. done (command.Persist k.0 k.1))) → Answers (all_words reader.old) result }
 {
     let (key, id) = reader.key_and_id()?;
@@ -85,7 +86,7 @@ pub(crate) fn persist_command(reader: &mut Reader) -> Result<Command, WordFault>
 }
 
 /// `key id`
-pub(crate) fn ttl_command(reader: &mut Reader) -> Result<Command, WordFault>
+pub(crate) fn ttl_command(reader: &mut Reader) -> Result<Command, CommandFault>
     ensures { Follows reader.old (key_and_id (λ k. done (command.Ttl k.0 k.1))) → Answers (all_words reader.old) result }
 {
     let (key, id) = reader.key_and_id()?;

@@ -4,11 +4,12 @@ ghost use Rattle.std.specs.Prelude.{◌≡◌, ◌∷◌, [], ◌++◌, Some, If
 ghost use Rattle.world_model.specs.Commands.{SetOptions as Options};
 ghost use Rattle.cmd_words.specs.Sets.{no_options, TakesOption, ReadsOption, ReadsOptions};
 
+use crate::faults::CommandFault;
 use crate::readers::Reader;
 use byte_text::Name;
 use std::alloc::Global;
 use std::marker::Model;
-use world_model::{Only, WordFault};
+use world_model::Only;
 
 /// The word that an option begins with: FIELD, EX, NX or XX.
 #[derive(Clone, Copy)]
@@ -48,13 +49,13 @@ impl SetOptions {
     }
 
     // One more field.
-    fn push(&mut self, field: (Name, i64)) -> Result<(), WordFault>
+    fn push(&mut self, field: (Name, i64)) -> Result<(), CommandFault>
         ensures ok { OnOk result (self.new ≡ record self.old { given = self.old.given ++ field ∷ [] }) }
-        ensures err { IfErr result (λ why. why ≡ WordFault.Memory) }
+        ensures err { IfErr result (λ why. why ≡ CommandFault.Memory) }
     {
         match self.fields.push(field) {
             Ok(()) => Ok(()),
-            Err(_) => Err(WordFault::Memory),
+            Err(_) => Err(CommandFault::Memory),
         }
     }
 }
@@ -81,7 +82,7 @@ fn option_word(reader: &mut Reader, options: &SetOptions) -> Option<OptionWord>
 }
 
 // Reads one option, where one is next: FIELD with a name and a value, EX with seconds, NX or XX.
-fn read_option(reader: &mut Reader, options: &mut SetOptions) -> Result<bool, WordFault>
+fn read_option(reader: &mut Reader, options: &mut SetOptions) -> Result<bool, CommandFault>
     ensures { ReadsOption options.old options.new reader.old reader.new result }
 {
     match option_word(reader, options) {
@@ -108,7 +109,7 @@ fn read_option(reader: &mut Reader, options: &mut SetOptions) -> Result<bool, Wo
 }
 
 /// Reads all options.
-pub(crate) fn read_options(reader: &mut Reader) -> Result<SetOptions, WordFault>
+pub(crate) fn read_options(reader: &mut Reader) -> Result<SetOptions, CommandFault>
     ensures { ReadsOptions no_options reader.old reader.new result }
 {
     let mut options = SetOptions::new(reader.alloc());

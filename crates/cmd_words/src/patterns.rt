@@ -6,11 +6,12 @@ ghost use Rattle.world_model.specs.Kinds as kinds;
 ghost use Rattle.world_model.specs.declared.commands.Command.TheVariants as command;
 ghost use Rattle.cmd_words.specs.Places.{all_words, Follows, Answers, a_name, a_form};
 
+use crate::faults::CommandFault;
 use crate::readers::Reader;
-use world_model::{Command, WordFault};
+use world_model::Command;
 
 /// `key pattern`
-pub(crate) fn pdel_command(reader: &mut Reader) -> Result<Command, WordFault>
+pub(crate) fn pdel_command(reader: &mut Reader) -> Result<Command, CommandFault>
     ensures { Follows reader.old (a_name (λ key. a_form kinds.glob (λ pattern. done (command.Pdel key pattern)))) → Answers (all_words reader.old) result }
 {
     let key = reader.name()?;
@@ -20,7 +21,7 @@ pub(crate) fn pdel_command(reader: &mut Reader) -> Result<Command, WordFault>
 }
 
 /// `pattern`
-pub(crate) fn keys_command(reader: &mut Reader) -> Result<Command, WordFault>
+pub(crate) fn keys_command(reader: &mut Reader) -> Result<Command, CommandFault>
     ensures { Follows reader.old (a_form kinds.glob (λ pattern. done (command.Keys pattern))) → Answers (all_words reader.old) result }
 {
     let glob = reader.glob()?;

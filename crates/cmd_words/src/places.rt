@@ -6,12 +6,12 @@ ghost use Rattle.planar_geom.specs.declared.shapes.Part.TheVariants.{Spot, Face}
 ghost use Rattle.world_model.specs.Commands.{SetOptions};
 ghost use Rattle.cmd_words.specs.Sets.{LacksOption, TakesPlace, ReadsPlace, IsAccepted};
 
+use crate::faults::CommandFault;
 use crate::readers::Reader;
 use byte_text::{NoMemory, Text};
-use geojson_model::{GeoFault, push_bounds, push_point, shape_of};
+use geojson_model::{ShapeFault, push_bounds, push_point, shape_of};
 use planar_geom::{BBox, Part, Parts, Pt, Shape};
 use std::alloc::Global;
-use world_model::WordFault;
 
 /// The word that a place begins with.
 #[derive(Clone, Copy)]
@@ -38,7 +38,7 @@ fn place_word(reader: &mut Reader) -> Option<PlaceWord>
 
 /// Reads a place behind these options, of which no further one is next: `POINT lat lon`,
 /// `BOUNDS minlat minlon maxlat maxlon`, or `OBJECT` and a GeoJSON text. The text that is stored, and its shape.
-pub(crate) fn read_place(reader: &mut Reader) -> Result<(Text, Shape), WordFault>
+pub(crate) fn read_place(reader: &mut Reader) -> Result<(Text, Shape), CommandFault>
     ensures { (o : SetOptions) → LacksOption o reader.old.left → ReadsPlace o reader.old reader.new result }
 {
     match place_word(reader) {
@@ -56,38 +56,38 @@ pub(crate) fn read_place(reader: &mut Reader) -> Result<(Text, Shape), WordFault
 }
 
 // The text and shape of a point.
-fn point_object(alloc: Global, at: Pt) -> Result<(Text, Shape), WordFault>
+fn point_object(alloc: Global, at: Pt) -> Result<(Text, Shape), CommandFault>
     ensures ok { IfOk result (λ t. t ≡ (point_text at, Spot at ∷ [])) }
-    ensures err { IfErr result (λ why. why ≡ WordFault.Memory) }
+    ensures err { IfErr result (λ why. why ≡ CommandFault.Memory) }
 {
     let mut text = Text::new(alloc);
     match push_point(&mut text, at) {
         Ok(()) => stored(alloc, text),
-        Err(NoMemory) => Err(WordFault::Memory),
+        Err(NoMemory) => Err(CommandFault::Memory),
     }
 }
 
 // The text and shape of a box.
-fn bounds_object(alloc: Global, bounds: BBox) -> Result<(Text, Shape), WordFault>
+fn bounds_object(alloc: Global, bounds: BBox) -> Result<(Text, Shape), CommandFault>
     ensures ok { IfOk result (λ t. t ≡ (bounds_text bounds, Face (box_corners bounds ∷ []) ∷ [])) }
-    ensures err { IfErr result (λ why. why ≡ WordFault.Memory) }
+    ensures err { IfErr result (λ why. why ≡ CommandFault.Memory) }
 {
     let mut text = Text::new(alloc);
     match push_bounds(&mut text, bounds) {
         Ok(()) => stored(alloc, text),
-        Err(NoMemory) => Err(WordFault::Memory),
+        Err(NoMemory) => Err(CommandFault::Memory),
     }
 }
 
 // The text that is stored for a place, which is accepted, and its shape.
-fn stored(alloc: Global, text: Text) -> Result<(Text, Shape), WordFault>
+fn stored(alloc: Global, text: Text) -> Result<(Text, Shape), CommandFault>
     requires { IsAccepted text }
     ensures ok { IfOk result (λ t. (t.0 ≡ text) × (accepted_shape text ≡ Ok t.1)) }
-    ensures err { IfErr result (λ why. why ≡ WordFault.Memory) }
+    ensures err { IfErr result (λ why. why ≡ CommandFault.Memory) }
 {
     match shape_of(alloc, text.bytes()) {
         Ok(shape) => Ok((text, shape)),
-        Err(GeoFault::Memory) => Err(WordFault::Memory),
+        Err(ShapeFault::Memory) => Err(CommandFault::Memory),
         Err(_) => unreachable!(),
     }
 }

@@ -6,12 +6,12 @@ ghost use Rattle.world_model.specs.declared.faults.WordFault.TheVariants as faul
 ghost use Rattle.cmd_words.specs.Places.{start, all_words, IsBehind, IsFault, Parses, Took, a_name, key_and_id, ReadsShown, IsEnd, IsRefusal};
 ghost use Rattle.cmd_words.specs.Scans.{TookDue, ReadsOutput};
 
-use crate::faults::{invalid, wrong_count};
+use crate::faults::{CommandFault, invalid, wrong_count};
 use crate::words::read_name;
 use byte_text::{Name, Request};
 use std::alloc::Global;
 use std::marker::Model;
-use world_model::{Shown, WordFault};
+use world_model::Shown;
 
 /// The words of a request, and how many of them were read.
 #[derive(Drop)]
@@ -63,7 +63,7 @@ impl<'a> Reader<'a> {
     }
 
     /// The command takes another number of words.
-    pub(crate) fn wrong_count(&self) -> WordFault
+    pub(crate) fn wrong_count(&self) -> CommandFault
         ensures { IsFault (count_fault (all_words self.now)) result }
     {
         if self.words.words() > 0 {
@@ -74,7 +74,7 @@ impl<'a> Reader<'a> {
     }
 
     /// Reads a name.
-    pub(crate) fn name(&mut self) -> Result<Name, WordFault>
+    pub(crate) fn name(&mut self) -> Result<Name, CommandFault>
         ensures { Parses a_name self.old self.new result }
     {
         match self.next() {
@@ -84,7 +84,7 @@ impl<'a> Reader<'a> {
     }
 
     /// Reads a key and an id.
-    pub(crate) fn key_and_id(&mut self) -> Result<(Name, Name), WordFault>
+    pub(crate) fn key_and_id(&mut self) -> Result<(Name, Name), CommandFault>
         ensures { Parses key_and_id self.old self.new result }
     {
         let key = self.name()?;
@@ -148,7 +148,7 @@ impl<'a> Reader<'a> {
     }
 
     /// Why all words are refused where a word of another kind is due.
-    pub(crate) fn refusal(&self) -> WordFault
+    pub(crate) fn refusal(&self) -> CommandFault
         ensures { IsRefusal (all_words self.now) self.now.left result }
     {
         if self.read == self.words.words() {
@@ -159,7 +159,7 @@ impl<'a> Reader<'a> {
     }
 
     /// Finds that no word is left, behind a command that could take more words.
-    pub(crate) fn stop(&self) -> Result<(), WordFault>
+    pub(crate) fn stop(&self) -> Result<(), CommandFault>
         ensures { IsEnd (λ w. fault.Invalid (shown_of w)) self.now result }
     {
         if self.read == self.words.words() {
@@ -170,7 +170,7 @@ impl<'a> Reader<'a> {
     }
 
     /// Finds that no word is left, behind a command that takes no more words.
-    pub(crate) fn end(&self) -> Result<(), WordFault>
+    pub(crate) fn end(&self) -> Result<(), CommandFault>
         ensures { IsEnd (λ _. count_fault (all_words self.now)) self.now result }
     {
         if self.read == self.words.words() {

@@ -5,19 +5,16 @@ ghost use Rattle.world_model.specs.Commands.{no_search_options, scan_rule};
 ghost use Rattle.cmd_words.specs.Places.{all_words, Follows, Answers, Reads, a_name};
 ghost use Rattle.cmd_words.specs.Scans.{behind_scan, behind_word, with_test, scan_of as the_scan, TakesOption, ReadsOptions};
 
+use crate::faults::CommandFault;
 use crate::readers::Reader;
 use byte_text::Name;
 use std::alloc::Global;
 use std::marker::Model;
-use world_model::{Command, Query, Rule, Shown, Test, Tests, WordFault};
+use world_data::{MAX_LIMIT, MAX_TESTS};
+use world_model::{Command, Query, Rule, Shown, Test, Tests};
 
-/// The greatest LIMIT, and the LIMIT where none is given.
-const MAX_LIMIT: u32 = 1_000_000;
-
+/// The LIMIT where none is given.
 const USUAL_LIMIT: u32 = 100;
-
-/// The most tests of one query.
-const MAX_TESTS: usize = 64;
 
 /// The word that an option begins with: MATCH, CURSOR, LIMIT, NOFIELDS, ASC, DESC, WHERE or WHEREIN.
 #[derive(Clone, Copy)]
@@ -68,19 +65,19 @@ impl ScanOptions {
     }
 
     // One more test.
-    fn push(&mut self, test: Test) -> Result<(), WordFault>
+    fn push(&mut self, test: Test) -> Result<(), CommandFault>
         ensures ok { OnOk result (self.new ≡ with_test self.old test) }
-        ensures err { IfErr result (λ why. why ≡ WordFault.Memory) }
+        ensures err { IfErr result (λ why. why ≡ CommandFault.Memory) }
     {
         match self.tests.push(test) {
             Ok(()) => Ok(()),
-            Err(_) => Err(WordFault::Memory),
+            Err(_) => Err(CommandFault::Memory),
         }
     }
 }
 
 /// `key`, the options, and an output.
-pub(crate) fn scan_command(reader: &mut Reader) -> Result<Command, WordFault>
+pub(crate) fn scan_command(reader: &mut Reader) -> Result<Command, CommandFault>
     ensures { Follows reader.old (a_name behind_scan) → Answers (all_words reader.old) result }
 {
     let key = reader.name()?;
@@ -130,7 +127,7 @@ fn rule_of(down: Option<bool>) -> Rule
 }
 
 // Reads all options.
-fn read_options(reader: &mut Reader) -> Result<ScanOptions, WordFault>
+fn read_options(reader: &mut Reader) -> Result<ScanOptions, CommandFault>
     ensures { ReadsOptions no_search_options reader.old reader.new result }
 {
     let mut options = ScanOptions::new(reader.alloc());
@@ -171,7 +168,7 @@ fn with_option(
     reader: &mut Reader,
     options: ScanOptions,
     option: ScanWord,
-) -> Result<ScanOptions, WordFault>
+) -> Result<ScanOptions, CommandFault>
     ensures { Reads (behind_word options option) reader.old reader.new result }
 {
     let mut options = options;

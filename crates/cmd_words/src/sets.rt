@@ -4,6 +4,7 @@ ghost use Rattle.std.specs.Prelude.{◌≡◌, IfOk, IfErr};
 ghost use Rattle.cmd_words.specs.Places.{all_words, Follows, Answers, key_and_id};
 ghost use Rattle.cmd_words.specs.Sets.{behind_set, set_of};
 
+use crate::faults::CommandFault;
 use crate::fields::fields_of;
 use crate::options::{SetOptions, read_options};
 use crate::places::read_place;
@@ -11,10 +12,10 @@ use crate::readers::Reader;
 use byte_text::{Name, Text};
 use planar_geom::Shape;
 use std::alloc::Global;
-use world_model::{Command, Only, WordFault};
+use world_model::{Command, Only};
 
 /// `key id`, the options, and a place.
-pub(crate) fn set_command(reader: &mut Reader) -> Result<Command, WordFault>
+pub(crate) fn set_command(reader: &mut Reader) -> Result<Command, CommandFault>
     ensures { Follows reader.old (key_and_id behind_set) → Answers (all_words reader.old) result }
 {
     let (key, id) = reader.key_and_id()?;
@@ -32,9 +33,9 @@ fn put_command(
     options: SetOptions,
     text: Text,
     shape: Shape,
-) -> Result<Command, WordFault>
+) -> Result<Command, CommandFault>
     ensures ok { IfOk result (λ c. c ≡ set_of (key, id) options (text, shape)) }
-    ensures err { IfErr result (λ why. why ≡ WordFault.Memory) }
+    ensures err { IfErr result (λ why. why ≡ CommandFault.Memory) }
 {
     let SetOptions {
         fields,

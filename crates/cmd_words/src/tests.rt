@@ -1,6 +1,6 @@
 //! Lines of words, read.
 
-use crate::command_of;
+use crate::{CommandFault, command_of};
 use byte_text::{Name, NoMemory, Request, Text, push_i64, push_u64};
 use geojson_model::GeoFault;
 use std::alloc::Global;
@@ -217,7 +217,6 @@ fn push_fault(out: &mut Text, fault: &WordFault) -> Result<(), NoMemory> {
         WordFault::Invalid(word) => ("invalid ", Some(word)),
         WordFault::Fraction(word) => ("fraction ", Some(word)),
         WordFault::Geo(fault) => (geo_text(*fault), None),
-        WordFault::Memory => ("memory", None),
     };
     out.push(cause.as_bytes())?;
     match word {
@@ -230,7 +229,8 @@ fn answer(alloc: Global, words: &Request) -> Result<Text, NoMemory> {
     let mut out = Text::new(alloc);
     match command_of(alloc, words) {
         Ok(command) => push_command(&mut out, &command)?,
-        Err(fault) => push_fault(&mut out, &fault)?,
+        Err(CommandFault::Refused(fault)) => push_fault(&mut out, &fault)?,
+        Err(CommandFault::Memory) => return Err(NoMemory),
     }
     Ok(out)
 }

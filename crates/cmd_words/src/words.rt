@@ -10,27 +10,27 @@ ghost use Rattle.world_model.specs.Commands.{is_fraction as is_decimal_fraction,
 ghost use Rattle.cmd_words.specs.Places.{IsOne, IsFault, due_fault, name_of, glob_of};
 ghost use Rattle.cmd_words.specs.Sets.{integer_of, coordinate_of, object_of};
 
-use crate::faults::{fraction, invalid, text};
+use crate::faults::{CommandFault, fraction, invalid, text};
 use byte_text::{Name, Text, TextFault, read_i64, read_u64};
-use geojson_model::{GeoFault, shape_of};
+use geojson_model::{ShapeFault, shape_of};
 use glob_match::well_formed;
 use planar_geom::{MAX_COORD, Shape};
 use std::alloc::Global;
 use world_model::WordFault;
 
 /// The name that the word is.
-pub(crate) fn read_name(alloc: Global, word: &[u8]) -> Result<Name, WordFault>
+pub(crate) fn read_name(alloc: Global, word: &[u8]) -> Result<Name, CommandFault>
     ensures { IsOne a_word name_of word.now result }
 {
     match Name::of(alloc, word) {
         Ok(name) => Ok(name),
-        Err(TextFault::Memory) => Err(WordFault::Memory),
+        Err(TextFault::Memory) => Err(CommandFault::Memory),
         Err(_) => Err(invalid(alloc, word)),
     }
 }
 
 /// The pattern that the word is: a name that is well formed as one.
-pub(crate) fn read_glob(alloc: Global, word: &[u8]) -> Result<Name, WordFault>
+pub(crate) fn read_glob(alloc: Global, word: &[u8]) -> Result<Name, CommandFault>
     ensures { IsOne a_word glob_of word.now result }
 {
     if well_formed(word) {
@@ -41,7 +41,7 @@ pub(crate) fn read_glob(alloc: Global, word: &[u8]) -> Result<Name, WordFault>
 }
 
 /// The number of 64 signed bits that the word is.
-pub(crate) fn read_integer(alloc: Global, word: &[u8]) -> Result<i64, WordFault>
+pub(crate) fn read_integer(alloc: Global, word: &[u8]) -> Result<i64, CommandFault>
     ensures { IsOne a_word integer_of word.now result }
 {
     match read_i64(word) {
@@ -56,7 +56,7 @@ pub(crate) fn read_between(
     word: &[u8],
     least: u32,
     most: u32,
-) -> Result<u32, WordFault>
+) -> Result<u32, CommandFault>
     ensures { IsOne a_word (natural_within least most) word.now result }
 {
     match read_u64(word) {
@@ -74,7 +74,7 @@ pub(crate) fn read_between(
 }
 
 /// The bound of a range that the word is: none where it is endless.
-pub(crate) fn read_bound(alloc: Global, word: &[u8]) -> Result<Option<i64>, WordFault>
+pub(crate) fn read_bound(alloc: Global, word: &[u8]) -> Result<Option<i64>, CommandFault>
     ensures { IsOne a_word bound_of word.now result }
 {
     if is_endless(word) {
@@ -94,7 +94,7 @@ fn is_endless(word: &[u8]) -> bool
 }
 
 /// The coordinate of at least `low` that the word is.
-pub(crate) fn read_coordinate(alloc: Global, word: &[u8], low: i64) -> Result<i64, WordFault>
+pub(crate) fn read_coordinate(alloc: Global, word: &[u8], low: i64) -> Result<i64, CommandFault>
     ensures one { IsOne a_coordinate (coordinate_of low) word.now result }
     ensures least { IfOk result (λ z. low ≤ℤ z) }
     ensures greatest { IfOk result (λ z. z ≤ℤ pos max_coord) }
@@ -114,7 +114,7 @@ pub(crate) fn read_coordinate(alloc: Global, word: &[u8], low: i64) -> Result<i6
 }
 
 // The word is no coordinate that may stand here.
-fn no_coordinate(alloc: Global, word: &[u8]) -> WordFault
+fn no_coordinate(alloc: Global, word: &[u8]) -> CommandFault
     ensures { IsFault (due_fault a_coordinate word.now) result }
 {
     if is_fraction(word) {
@@ -178,7 +178,7 @@ fn is_digit(byte: u8) -> bool
 }
 
 /// The GeoJSON text that the word is, and its shape.
-pub(crate) fn read_geojson(alloc: Global, word: &[u8]) -> Result<(Text, Shape), WordFault>
+pub(crate) fn read_geojson(alloc: Global, word: &[u8]) -> Result<(Text, Shape), CommandFault>
     ensures { IsOne a_geojson object_of word.now result }
 {
     match shape_of(alloc, word) {
@@ -186,7 +186,7 @@ pub(crate) fn read_geojson(alloc: Global, word: &[u8]) -> Result<(Text, Shape), 
             Ok(text) => Ok((text, shape)),
             Err(want) => Err(want),
         },
-        Err(GeoFault::Memory) => Err(WordFault::Memory),
-        Err(fault) => Err(WordFault::Geo(fault)),
+        Err(ShapeFault::Memory) => Err(CommandFault::Memory),
+        Err(ShapeFault::Refused(fault)) => Err(CommandFault::Refused(WordFault::Geo(fault))),
     }
 }

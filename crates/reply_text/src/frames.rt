@@ -5,14 +5,12 @@ ghost use Rattle.byte_text.specs.Replies.{IsFrame, frame_text};
 ghost use Rattle.world_data.specs.Limits.{max_reply};
 
 use byte_text::{NoMemory, Reply, Text, push_frame};
-
-/// The most bytes of a reply's frame.
-pub(crate) const MAX_REPLY: usize = 4_194_304;
+use world_data::MAX_REPLY;
 
 /// Why a reply has no frame.
 #[derive(Clone, Copy, Debug, PartialEq, Eq)]
 pub enum ReplyFault {
-    /// The frame would have more than 4,194,304 bytes.
+    /// The frame would have more than [`world_data::MAX_REPLY`] bytes.
     TooLong,
     /// Want of memory.
     Memory,
@@ -29,7 +27,7 @@ impl From<NoMemory> for ReplyFault {
     }
 }
 
-/// Appends the frame of a whole reply (RESP2). TooLong where the frame alone has more than 4,194,304 bytes. The text is as before
+/// Appends the frame of a whole reply (RESP2). TooLong where the frame alone has more than [`MAX_REPLY`] bytes. The text is as before
 /// then, and for want of memory.
 pub fn push_reply(into: &mut Text, reply: &Reply) -> Result<(), ReplyFault>
     requires { IsFrame reply.now }

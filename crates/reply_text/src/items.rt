@@ -7,12 +7,13 @@ ghost use Rattle.byte_text.specs.declared.replies.Piece.TheVariants as piece;
 ghost use Rattle.world_data.specs.Limits.{max_reply};
 ghost use Rattle.world_model.specs.Replies.{item_reply};
 
-use crate::frames::{MAX_REPLY, ReplyFault};
+use crate::frames::ReplyFault;
 use crate::objects::{item_reply, name_reply};
 use crate::replies::count_reply;
 use byte_text::{Name, NoMemory, Reply, Text, push_frame, push_u64};
 use std::alloc::Global;
 use std::marker::Model;
+use world_data::MAX_REPLY;
 use world_model::{Object, Query, Shown};
 
 /// The frames of items, one behind another, while the array of them is made. As texts they take no more memory than the reply, and
@@ -85,7 +86,7 @@ impl ItemFrames {
         Ok(())
     }
 
-    /// The frame of the array of the items (RESP2). TooLong where it has more than 4,194,304 bytes.
+    /// The frame of the array of the items (RESP2). TooLong where it has more than [`MAX_REPLY`] bytes.
     pub fn array(self, alloc: Global) -> Result<Text, ReplyFault>
         ensures ok { IfOk result (λ frame. (items : List (List Piece)) → self.text ≡ frame_text (flat_map (λ r. r) items) → self.count ≡ length items → frame ≡ frame_text (array items)) }
         ensures short { IfOk result (λ frame. length frame ≤ max_reply) }
@@ -97,7 +98,7 @@ impl ItemFrames {
     }
 
     /// The frame of a page (RESP2): an array of where the next page begins, and of the array of the items. TooLong where it has
-    /// more than 4,194,304 bytes. A place beyond the integers of RESP2 has room in no memory.
+    /// more than [`MAX_REPLY`] bytes. A place beyond the integers of RESP2 has room in no memory.
     pub fn page(self, alloc: Global, cursor: u64) -> Result<Text, ReplyFault>
         ensures ok { IfOk result (λ frame. (items : List (List Piece)) → self.text ≡ frame_text (flat_map (λ r. r) items) → self.count ≡ length items → frame ≡ frame_text (array (number cursor ∷ array items ∷ []))) }
         ensures short { IfOk result (λ frame. length frame ≤ max_reply) }

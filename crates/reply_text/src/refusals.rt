@@ -1,16 +1,16 @@
 //! The replies that refuse.
 
-ghost use Rattle.std.specs.Prelude.{◌≡◌, ◌≢◌, ◌&&◌, ◌++◌, ◌∷◌, [], nat_le, if◌then◌else◌, map, codes, IfOk, OnOk};
+ghost use Rattle.std.specs.Prelude.{◌≡◌, ◌++◌, ◌∷◌, [], codes, IfOk, OnOk};
 ghost use Rattle.byte_text.specs.Lines.{IsOneLine};
 ghost use Rattle.byte_text.specs.Replies.{IsFrame};
 ghost use Rattle.world_model.specs.Replies.{error};
-ghost use Rattle.world_model.specs.Refusals.{fault_reply as fault_pieces, broken_reply as broken_pieces};
+ghost use Rattle.world_model.specs.Refusals.{shown_byte, in_quotes, fault_reply as fault_pieces, broken_reply as broken_pieces, refusal_reply as refusal_pieces};
 
 use crate::drafts::Draft;
 use byte_text::{NoMemory, Piece, Reply, RespFault, Text};
 use geo_text::GeoFault;
 use std::alloc::Global;
-use world_model::WordFault;
+use world_model::{Refusal, WordFault};
 
 /// The error of a text, which is of one line: `ERR` and the text.
 pub fn error_reply(alloc: Global, text: &[u8]) -> Result<Reply, NoMemory>
@@ -28,7 +28,7 @@ pub fn error_reply(alloc: Global, text: &[u8]) -> Result<Reply, NoMemory>
 
 // A byte as a refusal shows it: those from a space to `~` as they are, others as `?`.
 fn shown(byte: u8) -> u8
-    ensures { result ≡ (if nat_le 32 byte && nat_le byte 126 then byte else 63) }
+    ensures { result ≡ shown_byte byte }
 {
     if b' ' <= byte && byte <= b'~' {
         byte
@@ -39,7 +39,7 @@ fn shown(byte: u8) -> u8
 
 // Appends a word as a refusal shows it, in quotes.
 fn push_quoted(text: &mut Text, word: &[u8]) -> Result<(), NoMemory>
-    ensures { OnOk result (text.new ≡ text.old ++ (codes "'" ++ map (λ b. if nat_le 32 b && nat_le b 126 then b else 63) word.now ++ codes "'")) }
+    ensures { OnOk result (text.new ≡ text.old ++ in_quotes word.now) }
 {
     text.push(b"'")?;
     for byte in word {
@@ -52,7 +52,7 @@ fn push_quoted(text: &mut Text, word: &[u8]) -> Result<(), NoMemory>
 fn quoted_reply(alloc: Global, before: &[u8], word: &[u8], after: &[u8]) -> Result<Reply, NoMemory>
     requires before { IsOneLine before.now }
     requires after { IsOneLine after.now }
-    ensures value { IfOk result (λ reply. reply ≡ error (before.now ++ (codes "'" ++ map (λ b. if nat_le 32 b && nat_le b 126 then b else 63) word.now ++ codes "'") ++ after.now)) }
+    ensures value { IfOk result (λ reply. reply ≡ error (before.now ++ in_quotes word.now ++ after.now)) }
     ensures frame { IfOk result IsFrame }
 {
     let mut text = Text::new(alloc);
@@ -77,7 +77,6 @@ fn geo_words(fault: GeoFault) -> &'static [u8]
         GeoFault::TooFew => b"too few positions",
         GeoFault::TooMany => b"too many positions",
         GeoFault::BadPosition => b"bad position",
-        GeoFault::Memory => b"",
     }
 }
 
@@ -96,7 +95,6 @@ fn joined_reply(alloc: Global, before: &[u8], after: &[u8]) -> Result<Reply, NoM
 
 /// How a list of words is refused. Of a word its bytes from a space to `~` are shown as they are, others as `?`.
 pub fn fault_reply(alloc: Global, fault: &WordFault) -> Result<Reply, NoMemory>
-    requires { fault.now ≢ WordFault.Memory }
     ensures value { IfOk result (λ reply. reply ≡ fault_pieces fault.now) }
     ensures frame { IfOk result IsFrame }
 {
@@ -117,11 +115,38 @@ pub fn fault_reply(alloc: Global, fault: &WordFault) -> Result<Reply, NoMemory>
         ),
         WordFault::Geo(fault) => joined_reply(alloc, b"invalid object: ", geo_words(*fault)),
         WordFault::Unserved => error_reply(alloc, b"not served yet"),
-        WordFault::Memory => unreachable!(),
     }
 }
 
-// How bytes that are no request are refused; a reader that is dead, or wants memory, has no text of its own.
+// Why a command that was read is not done.
+fn refusal_words(refusal: Refusal) -> &'static [u8]
+    ensures value { error result.now ≡ refusal_pieces refusal }
+    ensures line { IsOneLine result.now }
+{
+    match refusal {
+        Refusal::KeyNotFound => b"key not found",
+        Refusal::IdNotFound => b"id not found",
+        Refusal::TooManyFields => b"too many fields",
+        Refusal::TooManyObjects => b"too many objects",
+        Refusal::TooManyChannels => b"too many channels",
+        Refusal::TooManySubscriptions => b"too many subscriptions",
+        Refusal::DatabaseFull => b"database is full",
+        Refusal::ReplyTooLong => b"reply too long",
+        Refusal::Subscribed => {
+            b"only SUBSCRIBE, PSUBSCRIBE, PING and QUIT are served while subscribed"
+        }
+    }
+}
+
+/// How a command is refused that was read and is not done.
+pub fn refusal_reply(alloc: Global, refusal: Refusal) -> Result<Reply, NoMemory>
+    ensures value { IfOk result (λ reply. reply ≡ refusal_pieces refusal) }
+    ensures frame { IfOk result IsFrame }
+{
+    error_reply(alloc, refusal_words(refusal))
+}
+
+// How bytes that are no request are refused.
 fn broken_words(fault: RespFault) -> &'static [u8]
     ensures value { error (codes "protocol error: " ++ result.now) ≡ broken_pieces fault }
     ensures line { IsOneLine result.now }
@@ -132,7 +157,6 @@ fn broken_words(fault: RespFault) -> &'static [u8]
         RespFault::BadEnd => b"bad end",
         RespFault::TooMany => b"too many words",
         RespFault::TooLong => b"too long",
-        RespFault::Dead | RespFault::Memory => b"",
     }
 }
 

@@ -9,7 +9,7 @@ use geo_text::GeoFault;
 use planar_geom::{BBox, Line, Part, Parts, Points, Pt, Shape};
 use std::alloc::Global;
 use std::test::Fail;
-use world_model::{Fields, Object, Query, Rule, Shown, Tests, WordFault};
+use world_model::{Fields, Object, Query, Refusal, Rule, Shown, Tests, WordFault};
 
 fn text_of(alloc: Global, bytes: &[u8]) -> Result<Text, NoMemory> {
     let mut text = Text::new(alloc);
@@ -206,10 +206,20 @@ fn plain_replies(rt: HostRuntime) -> Result<(), Fail> {
         line(alloc, &value_reply(alloc, -55)?)?.bytes(),
         b"$3\r\n-55\r\n".as_slice()
     );
-    let missing = error_reply(alloc, b"key not found")?;
+    let missing = refusal_reply(alloc, Refusal::KeyNotFound)?;
     assert_eq!(rt;
         line(alloc, &missing)?.bytes(),
         b"-ERR key not found\r\n".as_slice()
+    );
+    let full = refusal_reply(alloc, Refusal::DatabaseFull)?;
+    assert_eq!(rt;
+        line(alloc, &full)?.bytes(),
+        b"-ERR database is full\r\n".as_slice()
+    );
+    let other = error_reply(alloc, b"other")?;
+    assert_eq!(rt;
+        line(alloc, &other)?.bytes(),
+        b"-ERR other\r\n".as_slice()
     );
     let broken = broken_reply(alloc, RespFault::BadLength)?;
     assert_eq!(rt;
@@ -220,9 +230,7 @@ fn plain_replies(rt: HostRuntime) -> Result<(), Fail> {
 }
 
 // The frame of a refusal.
-fn refusal(alloc: Global, fault: &WordFault) -> Result<Text, Fail>
-    requires { fault.now ≢ WordFault.Memory }
-{
+fn refusal(alloc: Global, fault: &WordFault) -> Result<Text, Fail> {
     line(alloc, &fault_reply(alloc, fault)?)
 }
 

@@ -1,4 +1,4 @@
-use Rattle.std.proofs.Common.{◌≡◌, inr, true, false, rules}
+use Rattle.std.proofs.Common.{◌≡◌, true, false, rules}
 use Rattle.std.specs.List.{list_any}
 use Rattle.byte_text.specs.Names.{is_word}
 use Rattle.world_model.specs.Served.{unbuilt}
@@ -8,7 +8,7 @@ use Rattle.cmd_words.proofs.commands.command_of.Goals as goal
 pub returns-then-is_unbuilt-clause-err : goal.returns-then-is_unbuilt-clause-err
 returns-then-is_unbuilt-clause-err c =
     let later : list_any (is_word c.in-Some.called.now) unbuilt ≡ true = search rules in
-    inr (unbuilt_asks c.in-Some.called.now c.next.new.self.left c.args.words.now (first_of c.args.words.now c.new-reader.result c.next.new.self c.in-Some.called.now c.new-reader.ensures c.in-Some.ensures) later)
+    unbuilt_asks c.in-Some.called.now c.next.new.self.left c.args.words.now (first_of c.args.words.now c.new-reader.result c.next.new.self c.in-Some.called.now c.new-reader.ensures c.in-Some.ensures) later
 
 pub read_command-requires : goal.read_command-requires
 read_command-requires c = one_read c.args.words.now c.new-reader.result c.next.new.self c.in-Some.called.now c.new-reader.ensures c.in-Some.ensures

@@ -1,4 +1,4 @@
-use Rattle.cmd_words.proofs.Requests.{AreShort}
+use Rattle.cmd_words.specs.ShortRequests.{AreShort}
 use Rattle.core_trials.proofs.lines.request.Given as goal
 
 abbrev pub invariant-loop-word : goal.invariant-loop-word

@@ -1,6 +1,7 @@
 use Rattle.std.proofs.Common.{◌≡◌, ◌++◌, subst, sym, refl}
 use Rattle.byte_text.specs.Lines.{IsOneLine}
-use Rattle.reply_text.proofs.OneLine.{quoted, in_quotes}
+use Rattle.world_model.specs.Refusals.{in_quotes}
+use Rattle.reply_text.proofs.OneLine.{quoted}
 use Rattle.reply_text.proofs.refusals.quoted_reply.Goals as goal
 
 pub error_reply-requires : goal.error_reply-requires

@@ -1,5 +1,5 @@
 use Rattle.std.proofs.Common.{arith}
-use Rattle.cmd_words.proofs.Requests.{short_fit}
+use Rattle.cmd_words.specs.ShortRequests.{short_fit}
 use Rattle.tile_core.proofs.tests.request.Goals as goal
 
 pub loop-word-init : goal.loop-word-init

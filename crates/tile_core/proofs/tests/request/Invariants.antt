@@ -1,4 +1,4 @@
-use Rattle.cmd_words.proofs.Requests.{AreShort}
+use Rattle.cmd_words.specs.ShortRequests.{AreShort}
 use Rattle.tile_core.proofs.tests.request.Given as goal
 
 abbrev pub invariant-loop-word : goal.invariant-loop-word
