@@ -1,10 +1,10 @@
 -- The box round a box and points.
-use Rattle.std.proofs.Common.{◌≡◌, ◌≢◌, ℤ, refl, sym, ◌∙◌, ap, subst, List, [], ◌∷◌, ◌++◌, length, flat_map, arith, ◌≤ℤ◌}
-use Rattle.std.specs.Prelude.{Option, Some, None, fold, unwrap_or, slice_get}
+use Rattle.std.proofs.Common.{◌≡◌, ◌≢◌, ◌<◌, ℤ, refl, sym, ◌∙◌, ap, subst, List, [], ◌∷◌, length, flat_map, arith, ◌≤ℤ◌}
+use Rattle.std.specs.Prelude.{Option, Some, None, fold}
 use Rattle.std.specs.Int.{int_min, int_max}
 use Rattle.std.proofs.lemmas.Int.{ints, int_min_is, int_max_is}
 use Rattle.planar_geom.specs.Points.{Point, Bounds, bounds, with_point, box_round_both, grown}
-use Rattle.planar_geom.specs.Shapes.{all_vertices, box_of_points, box_of}
+use Rattle.planar_geom.specs.Shapes.{all_vertices, box_of_points}
 use Rattle.world_data.specs.declared.objects.Object.{Object}
 use Rattle.collection.specs.Objects.{bounds_of}
 
@@ -60,17 +60,11 @@ pub round_none : (ps : List Point) → length ps ≢ 0 → Some (box_of_points p
 round_none [] h = absurd (h refl)
 round_none (p ∷ ps) h = sym (grown_some (bounds p p) ps)
 
-no_more : (ps qs : List Point) → ps ++ qs ≡ [] → ps ≡ []
-no_more [] qs e = refl
-no_more (p ∷ ps) qs e = absurd (cc)
+all_of : (vs : List Point) (round : Option Bounds) → fold grown None vs ≡ round → round ≢ None → round ≡ Some (box_of_points vs)
+all_of [] round e some = absurd (some (sym e))
+all_of (v ∷ vs) round e some = sym e ∙ grown_some (bounds v v) vs
 
-all_of : (o : Object) (ps vs : List Point) → all_vertices o.shape ++ ps ≡ vs → Some (unwrap_or (fold grown None vs) (box_of o.shape)) ≡ Some (box_of_points vs)
-all_of o ps [] e = ap (λ (l : List Point). Some (box_of_points l)) (no_more (all_vertices o.shape) ps e)
-all_of o ps (v ∷ vs) e = ap (λ (c : Option Bounds). Some (unwrap_or c (box_of o.shape))) (grown_some (bounds v v) vs)
-
-all_bounds : (o : Object) (objects : List Object) → Some (unwrap_or (fold grown None (flat_map (λ p. all_vertices p.shape) (o ∷ objects))) (box_of o.shape)) ≡ bounds_of (o ∷ objects)
-all_bounds o objects = all_of o (flat_map (λ p. all_vertices p.shape) objects) (flat_map (λ p. all_vertices p.shape) (o ∷ objects)) refl
-
-pub bounds_from : (objects : List Object) (o : Object) → slice_get objects 0 ≡ Some o → Some (unwrap_or (fold grown None (flat_map (λ p. all_vertices p.shape) objects)) (box_of o.shape)) ≡ bounds_of objects
-bounds_from [] o e = absurd (cc)
-bounds_from (p ∷ objects) o e = let s : p ≡ o = cc in subst (λ (q : Object). Some (unwrap_or (fold grown None (flat_map (λ p. all_vertices p.shape) (p ∷ objects))) (box_of q.shape)) ≡ bounds_of (p ∷ objects)) s (all_bounds p objects)
+-- all objects were taken in
+pub bounds_at : (objects : List Object) (round : Option Bounds) → fold grown None (flat_map (λ o. all_vertices o.shape) objects) ≡ round → (0 < length objects → round ≢ None) → round ≡ bounds_of objects
+bounds_at [] round e some = sym e
+bounds_at (o ∷ objects) round e some = all_of (flat_map (λ p. all_vertices p.shape) (o ∷ objects)) round e (some (omega arith))

@@ -1,3 +1,5 @@
+//! The objects of one key, with how many of them have a deadline.
+
 ghost use Rattle.std.specs.Prelude.{◌≡◌, ◌+◌, ◌<◌, ◌≤◌, ℕ, [], true, not, length, filter, find, is_some, if◌then◌else◌, slice_get, Some, None, IfNone, IfSome, MatchOption, OnOk};
 ghost use Rattle.std.specs.List.{remove};
 ghost use Rattle.ordered_lists.specs.Lists.{put_in};
@@ -6,15 +8,12 @@ ghost use Rattle.collection.specs.Objects.{id_before, has_id, are_by_id, has_roo
 ghost use Rattle.collection.specs.Deadlines.{due_count};
 
 use crate::bounds;
-use crate::places::{exchange, insert_reserved, place_of};
+use crate::id_order::{exchange, insert_reserved, place_of};
 use byte_text::{Name, NoMemory};
 use planar_geom::BBox;
 use std::alloc::Global;
 use std::marker::Model;
 use world_data::Object;
-
-/// The most objects of one key.
-const MAX_OBJECTS: usize = 4_294_967_295;
 
 /// The objects of one key, in byte order of their ids, with room for more that was taken beforehand.
 #[derive(Drop)]
@@ -47,16 +46,12 @@ impl Collection {
         }
     }
 
-    /// Takes room for one more object, where there is none. The objects stay, and no room is lost. NoMemory also beside
-    /// 4,294,967,295 objects.
+    /// Takes room for one more object, where there is none. The objects stay, and no room is lost.
     pub fn prepare(&mut self) -> Result<(), NoMemory>
         ensures objects { self.new.objects ≡ self.old.objects }
         ensures room { OnOk result (1 ≤ self.new.spare) }
         ensures kept { self.old.spare ≤ self.new.spare }
     {
-        if self.objects.len() >= MAX_OBJECTS {
-            return Err(NoMemory);
-        }
         match self.objects.reserve(1) {
             Ok(()) => Ok(()),
             Err(_) => Err(NoMemory),

@@ -3,7 +3,7 @@
 
 mod bounds;
 mod collections;
-mod places;
+mod id_order;
 
 pub use collections::Collection;
 

@@ -4,17 +4,17 @@ use Rattle.std.specs.Prelude.{Result, OnOk, OnErr}
 use Rattle.byte_text.specs.Names.{Bytes}
 use Rattle.world_data.specs.declared.objects.Object.{Object}
 use Rattle.keyspace.specs.Entries.{Entry, objects_in, room_for}
-use Rattle.keyspace.specs.Shelves.{is_shelf, are_shelves, IsAdded}
-use Rattle.keyspace.proofs.Keys.{Lacks, added_shelves, added_objects}
+use Rattle.keyspace.specs.KeyOrder.{is_entry, are_entries, IsAdded}
+use Rattle.keyspace.proofs.Keys.{Lacks, added_entries, added_objects}
 use Rattle.keyspace.proofs.Rooms.{room_added, kept_added}
 
 -- an entry with no object
-empty_shelf : (e : Entry) (os : List Object) → e.objects ≡ os → os ≡ [] → is_shelf e ≡ true
-empty_shelf e os is none = rw (is ∙ none) refl
+empty_entry : (e : Entry) (os : List Object) → e.objects ≡ os → os ≡ [] → is_entry e ≡ true
+empty_entry e os is none = rw (is ∙ none) refl
 
 module _ {A E : Type 0} (key : Bytes) (xs ys : List Entry) (at : ℕ) (s : Lacks key xs at) where
-  pub after_adding : (r : Result A E) → are_shelves xs ≡ true → OnOk r (IsAdded key xs at ys) → OnErr r (ys ≡ xs) → are_shelves ys ≡ true
-  after_adding (Ok v) sh ok err = rw ok.made (added_shelves key xs at s ok.one ok.key_is (empty_shelf ok.one _ refl ok.none))
+  pub after_adding : (r : Result A E) → are_entries xs ≡ true → OnOk r (IsAdded key xs at ys) → OnErr r (ys ≡ xs) → are_entries ys ≡ true
+  after_adding (Ok v) sh ok err = rw ok.made (added_entries key xs at s ok.one ok.key_is (empty_entry ok.one _ refl ok.none))
   after_adding (Err e) sh ok err = rw err sh
 
   pub added_objects_too : (r : Result A E) → OnOk r (IsAdded key xs at ys) → OnErr r (ys ≡ xs) → objects_in ys ≡ objects_in xs

@@ -13,7 +13,7 @@ use Rattle.byte_text.specs.ByteOrder.{same_refl, other_before, other_behind}
 use Rattle.ordered_lists.specs.Reading.{both_of}
 use Rattle.collection.specs.IdOrder.{tied, ties, none_behind, kept_behind, behind_first, behind_tied, put_by_id, left_by_id, removed_by_id}
 use Rattle.keyspace.specs.Entries.{Entry}
-use Rattle.keyspace.specs.Shelves.{is_shelf}
+use Rattle.keyspace.specs.KeyOrder.{is_entry}
 
 length_put_case : (o x : Object) (xs : List Object) → are_by_id (x ∷ xs) ≡ true → (a b : Bool) → before o.id x.id ≡ a → before x.id o.id ≡ b
     → length (put_in id_before o xs) + (if is_some (find (has_id o.id) xs) then 1 else 0) ≡ length xs + 1
@@ -48,25 +48,25 @@ all_left : {A : Type 0} (p q : A → Bool) (xs : List A) → list_all p xs ≡ t
 all_left p q [] all = refl
 all_left p q (x ∷ xs) all = let ih = all_left p q xs in grind arith
 
-module _ (e f : Entry) (h : is_shelf e ≡ true) (k : f.key ≡ e.key) where
-  pub put_shelf : (o : Object) → o.key ≡ e.key → f.objects ≡ put_in id_before o e.objects → is_shelf f ≡ true
-  put_shelf o t is =
+module _ (e f : Entry) (h : is_entry e ≡ true) (k : f.key ≡ e.key) where
+  pub put_entry : (o : Object) → o.key ≡ e.key → f.objects ≡ put_in id_before o e.objects → is_entry f ≡ true
+  put_entry o t is =
       let p = both_of (list_all (has_key e.key) e.objects) (are_by_id e.objects) h in
       let own : has_key e.key o ≡ true = subst (λ (n : Bytes). same n e.key ≡ true) (sym t) (same_refl e.key) in
       rw (is, k, all_put id_before (has_key e.key) o e.objects own p.0, put_by_id o e.objects p.1) refl
 
-  pub left_shelf : (id : Bytes) → f.objects ≡ filter (λ o. not (has_id id o)) e.objects → is_shelf f ≡ true
-  left_shelf id is =
+  pub left_entry : (id : Bytes) → f.objects ≡ filter (λ o. not (has_id id o)) e.objects → is_entry f ≡ true
+  left_entry id is =
       let p = both_of (list_all (has_key e.key) e.objects) (are_by_id e.objects) h in
       rw (is, k, all_left (has_key e.key) (λ o. not (has_id id o)) e.objects p.0, left_by_id id e.objects p.1) refl
 
-  pub removed_shelf : (at : ℕ) → f.objects ≡ remove e.objects at → is_shelf f ≡ true
-  removed_shelf at is =
+  pub removed_entry : (at : ℕ) → f.objects ≡ remove e.objects at → is_entry f ≡ true
+  removed_entry at is =
       let p = both_of (list_all (has_key e.key) e.objects) (are_by_id e.objects) h in
       rw (is, k, all_remove (has_key e.key) e.objects at p.0, removed_by_id e.objects at p.1) refl
 
-  pub same_shelf : f.objects ≡ e.objects → is_shelf f ≡ true
-  same_shelf is = rw (is, k) h
+  pub same_entry : f.objects ≡ e.objects → is_entry f ≡ true
+  same_entry is = rw (is, k) h
 
 -- the count after a change
 pub count_put : (count r n m e f : ℕ) (t : Option Object) (b : Bool) → count ≡ m → r ≡ bool_byte b → is_some t ≡ not b → n + e ≡ m + f → f + (if is_some t then 1 else 0) ≡ e + 1 → count + r ≡ n
@@ -80,11 +80,11 @@ count_left count r n m e f None a b p q = rw b (omega (arith, a, p, q))
 count_left count r n m e f (Some o) a b p q = rw b (omega (arith, a, p, q))
 
 -- how many objects a put or a taking leaves a key
-pub length_put_shelf : (e f : Entry) → is_shelf e ≡ true → (o : Object) (t : Option Object) → f.objects ≡ put_in id_before o e.objects → t ≡ find (has_id o.id) e.objects → length f.objects + (if is_some t then 1 else 0) ≡ length e.objects + 1
-length_put_shelf e f h o t is found = rw (is, found) (length_put o e.objects (both_of (list_all (has_key e.key) e.objects) (are_by_id e.objects) h).1)
+pub length_put_entry : (e f : Entry) → is_entry e ≡ true → (o : Object) (t : Option Object) → f.objects ≡ put_in id_before o e.objects → t ≡ find (has_id o.id) e.objects → length f.objects + (if is_some t then 1 else 0) ≡ length e.objects + 1
+length_put_entry e f h o t is found = rw (is, found) (length_put o e.objects (both_of (list_all (has_key e.key) e.objects) (are_by_id e.objects) h).1)
 
-pub length_left_shelf : (e f : Entry) → is_shelf e ≡ true → (id : Bytes) (t : Option Object) → f.objects ≡ filter (λ o. not (has_id id o)) e.objects → t ≡ find (has_id id) e.objects → length f.objects + (if is_some t then 1 else 0) ≡ length e.objects
-length_left_shelf e f h id t is found = rw (is, found) (length_left id e.objects (both_of (list_all (has_key e.key) e.objects) (are_by_id e.objects) h).1)
+pub length_left_entry : (e f : Entry) → is_entry e ≡ true → (id : Bytes) (t : Option Object) → f.objects ≡ filter (λ o. not (has_id id o)) e.objects → t ≡ find (has_id id) e.objects → length f.objects + (if is_some t then 1 else 0) ≡ length e.objects
+length_left_entry e f h id t is found = rw (is, found) (length_left id e.objects (both_of (list_all (has_key e.key) e.objects) (are_by_id e.objects) h).1)
 
 pub from_some : (r : ℕ) (b : Bool) (t : Option Object) → r ≡ bool_byte b → b ≡ is_some t → r ≡ bool_byte (is_some t)
 from_some r b t p q = p ∙ ap bool_byte q

@@ -9,7 +9,7 @@ use Rattle.world_data.specs.declared.objects.Object.{Object}
 use Rattle.collection.specs.Objects.{earlier, least_due}
 use Rattle.ordered_lists.specs.Reading.{both_of}
 use Rattle.keyspace.specs.Entries.{Entry, objects_in}
-use Rattle.keyspace.specs.Shelves.{has_deadline, is_later, is_no_sooner, IsSoonest, Soonest, sooner}
+use Rattle.keyspace.specs.FirstDue.{has_deadline, is_later, is_no_sooner, IsSoonest, Soonest, sooner}
 use Rattle.keyspace.proofs.Parts.{all_both}
 
 abbrev step : Option ℕ → Object → Option ℕ

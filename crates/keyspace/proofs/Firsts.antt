@@ -12,7 +12,8 @@ use Rattle.ordered_lists.specs.Reading.{filter-all, both_of, stands_at}
 use Rattle.ordered_lists.specs.NameOrder.{pair_asym}
 use Rattle.collection.specs.Objects.{least_due, are_by_id}
 use Rattle.keyspace.specs.Entries.{Entry, objects_in}
-use Rattle.keyspace.specs.Shelves.{is_shelf, are_shelves, is_later, is_no_sooner, IsSoonest, Took}
+use Rattle.keyspace.specs.KeyOrder.{is_entry, are_entries}
+use Rattle.keyspace.specs.FirstDue.{is_later, is_no_sooner, IsSoonest, Took}
 use Rattle.keyspace.proofs.Parts.{all_both, filter_both, find_past}
 use Rattle.keyspace.proofs.Keys.{Stands, stands_here, split_at, all_at, all_take, all_drop, objects_around}
 use Rattle.keyspace.proofs.Dues.{all_as, later, no_sooner, least_all, least_each, none_sooner, others_later}
@@ -169,10 +170,10 @@ soonest_within xs at due s = subst (λ (n : ℕ). n < length xs) s.place (subst 
 pub read_here : (xs : List Entry) (at due : ℕ) (s : IsSoonest xs at due) (e : Entry) → e ≡ get_or xs at e → e ≡ s.here
 read_here xs at due s e read = let a = stands_at xs at e (soonest_within xs at due s) read in let b = soonest_at xs at due s in cc
 
-pub stood : (xs : List Entry) (at due : ℕ) (s : IsSoonest xs at due) (e : Entry) → are_shelves xs ≡ true → e ≡ get_or xs at e → Stands e.key xs at e
+pub stood : (xs : List Entry) (at due : ℕ) (s : IsSoonest xs at due) (e : Entry) → are_entries xs ≡ true → e ≡ get_or xs at e → Stands e.key xs at e
 stood xs at due s e sh read = stands_here xs at e sh (soonest_within xs at due s) (stands_at xs at e (soonest_within xs at due s) read)
 
-pub of_its_key : (e : Entry) (due : ℕ) (new : List Object) (o : Object) → is_shelf e ≡ true → Took due e.objects new o → e.key ≡ o.key
+pub of_its_key : (e : Entry) (due : ℕ) (new : List Object) (o : Object) → is_entry e ≡ true → Took due e.objects new o → e.key ≡ o.key
 of_its_key e due new o sh t = sym (same_equal o.key e.key (all_at (has_key e.key) e.objects t.at o t.taken (both_of (list_all (has_key e.key) e.objects) (are_by_id e.objects) sh).0))
 
 -- all objects round the first that expires
@@ -189,13 +190,13 @@ module _ (xs : List Entry) (at due : ℕ) (e f : Entry) (o : Object) (s : IsSoon
   pub around : Around due (objects_in xs) (objects_in (slice_set xs at f)) o
   around =
       let no : list_all (λ p. is_no_sooner due p.deadline) e.objects ≡ true = none_sooner due e.objects (ap (λ (g : Entry). least_due g.objects) is ∙ s.due_here) in
-      let shelf : e.objects ≡ take t.at e.objects ++ o ∷ drop (suc t.at) e.objects = split_at e.objects t.at o t.taken in
+      let parts : e.objects ≡ take t.at e.objects ++ o ∷ drop (suc t.at) e.objects = split_at e.objects t.at o t.taken in
       let whole_is : xs ≡ s.front ++ e ∷ s.back = s.whole ∙ ap (λ (g : Entry). s.front ++ g ∷ s.back) (sym is) in
       let set_is : slice_set xs at f ≡ s.front ++ f ∷ s.back = ap (λ (n : ℕ). slice_set xs n f) (sym s.place) ∙ ap (λ (l : List Entry). slice_set l (length s.front) f) s.whole ∙ set_middle s.front s.here f s.back in
       record {
         front = objects_in s.front ++ take t.at e.objects;
         back = drop (suc t.at) e.objects ++ objects_in s.back;
-        whole = ap objects_in whole_is ∙ objects_around s.front e s.back ∙ ap (λ (l : List Object). objects_in s.front ++ (l ++ objects_in s.back)) shelf ∙ regroup (objects_in s.front) (take t.at e.objects) o (drop (suc t.at) e.objects) (objects_in s.back);
+        whole = ap objects_in whole_is ∙ objects_around s.front e s.back ∙ ap (λ (l : List Object). objects_in s.front ++ (l ++ objects_in s.back)) parts ∙ regroup (objects_in s.front) (take t.at e.objects) o (drop (suc t.at) e.objects) (objects_in s.back);
         left = ap objects_in set_is ∙ objects_around s.front f s.back ∙ ap (λ (l : List Object). objects_in s.front ++ (l ++ objects_in s.back)) t.left ∙ regroup_left (objects_in s.front) (take t.at e.objects) (drop (suc t.at) e.objects) (objects_in s.back);
         front_later = all_both (λ p. is_later due p.deadline) (objects_in s.front) (take t.at e.objects) (least_each (is_later due) (later due) s.front s.later) (others_later due (take t.at e.objects) (all_take (λ p. is_no_sooner due p.deadline) e.objects t.at no) t.front);
         back_no_sooner = all_both (λ p. is_no_sooner due p.deadline) (drop (suc t.at) e.objects) (objects_in s.back) (all_drop (λ p. is_no_sooner due p.deadline) e.objects (suc t.at) no) (least_each (is_no_sooner due) (no_sooner due) s.back s.no_sooner);

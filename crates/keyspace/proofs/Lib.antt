@@ -7,4 +7,4 @@ pub mod Counts
 pub mod Dues
 pub mod Added
 pub mod Firsts
-pub mod Empties
+pub mod KeyLists

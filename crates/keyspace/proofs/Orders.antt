@@ -11,7 +11,7 @@ use Rattle.collection.specs.Objects.{id_before, are_by_id}
 use Rattle.byte_text.specs.ByteOrder.{same_refl, same_equal, other_before}
 use Rattle.ordered_lists.specs.Reading.{both_of}
 use Rattle.keyspace.specs.Entries.{Entry, key_before, objects_in, has_objects}
-use Rattle.keyspace.specs.Shelves.{is_shelf, are_shelves}
+use Rattle.keyspace.specs.KeyOrder.{is_entry, are_entries}
 use Rattle.keyspace.proofs.Parts.{all_both, own_order}
 use Rattle.keyspace.proofs.Keys.{objects_back}
 
@@ -38,16 +38,16 @@ ascends_own key (x ∷ xs) ys own asc back sorted =
     let behind = subst (λ (n : Bytes). list_all (λ p. before n p.key) ys ≡ true) (sym k) back in
     rw (all_both (object_before x) xs ys (before_own x xs mine q.0) (before_back x ys behind), ascends_own key xs ys p.1 q.1 back sorted) refl
 
-pub all_sorted : (xs : List Entry) → ascends key_before xs ≡ true → list_all is_shelf xs ≡ true → are_objects (objects_in xs) ≡ true
+pub all_sorted : (xs : List Entry) → ascends key_before xs ≡ true → list_all is_entry xs ≡ true → are_objects (objects_in xs) ≡ true
 all_sorted [] asc sh = refl
 all_sorted (x ∷ xs) asc sh =
     let p = both_of (list_all (key_before x) xs) (ascends key_before xs) asc in
-    let q = both_of (is_shelf x) (list_all is_shelf xs) sh in
+    let q = both_of (is_entry x) (list_all is_entry xs) sh in
     let own = both_of (list_all (has_key x.key) x.objects) (are_by_id x.objects) q.0 in
     ascends_own x.key x.objects (objects_in xs) own.0 own.1 (objects_back x.key xs p.0 q.1) (all_sorted xs p.1 q.1)
 
-pub shelves_sorted : (xs : List Entry) → are_shelves xs ≡ true → are_objects (objects_in xs) ≡ true
-shelves_sorted xs sh = let p = both_of (ascends key_before xs) (list_all is_shelf xs) sh in all_sorted xs p.0 p.1
+pub entries_sorted : (xs : List Entry) → are_entries xs ≡ true → are_objects (objects_in xs) ≡ true
+entries_sorted xs sh = let p = both_of (ascends key_before xs) (list_all is_entry xs) sh in all_sorted xs p.0 p.1
 
 -- the key of the first object of some, of which the others have other keys
 no_key : (key : Bytes) (ys : List Object) → list_all (λ p. before key p.key) ys ≡ true → list_any (same key) (map (λ o. o.key) ys) ≡ false
@@ -83,10 +83,10 @@ if_kept : (b : Bool) (k : Bytes) (e : Entry) (xs : List Entry) → e.key ≡ k �
 if_kept true k e xs is h = rw (h, is) refl
 if_kept false k e xs is h = rw h refl
 
-pub distinct_keys : (xs : List Entry) → ascends key_before xs ≡ true → list_all is_shelf xs ≡ true → distinct (map (λ o. o.key) (objects_in xs)) ≡ map (λ e. e.key) (filter has_objects xs)
+pub distinct_keys : (xs : List Entry) → ascends key_before xs ≡ true → list_all is_entry xs ≡ true → distinct (map (λ o. o.key) (objects_in xs)) ≡ map (λ e. e.key) (filter has_objects xs)
 distinct_keys [] asc sh = refl
 distinct_keys (x ∷ xs) asc sh =
     let p = both_of (list_all (key_before x) xs) (ascends key_before xs) asc in
-    let q = both_of (is_shelf x) (list_all is_shelf xs) sh in
+    let q = both_of (is_entry x) (list_all is_entry xs) sh in
     let own = both_of (list_all (has_key x.key) x.objects) (are_by_id x.objects) q.0 in
     distinct_own x x.objects (objects_in xs) refl own.0 (objects_back x.key xs p.0 q.1) ∙ rw (distinct_keys xs p.1 q.1) (if_kept (has_objects x) x.key x xs refl refl)

@@ -10,7 +10,7 @@ use Rattle.collection.specs.Objects.{has_room as fits}
 use Rattle.byte_text.specs.ByteOrder.{same_refl, same_equal, other_before, other_behind}
 use Rattle.ordered_lists.specs.Reading.{both_of}
 use Rattle.keyspace.specs.Entries.{Entry, key_before, objects_in, room_for, has_room}
-use Rattle.keyspace.specs.Shelves.{held_of}
+use Rattle.keyspace.specs.KeyOrder.{held_of}
 use Rattle.keyspace.proofs.Keys.{Stands, Lacks, all_at, halves}
 use Rattle.keyspace.proofs.Lookups.{any_in, any_not}
 

@@ -1,5 +1,5 @@
 -- The objects of all keys, key by key.
-use Rattle.std.specs.Prelude.{ℕ, Bool, ◌||◌, not, nat_le, ◌==◌, List, [], ◌∷◌, length, flat_map, if◌then◌else◌}
+use Rattle.std.specs.Prelude.{ℕ, Bool, ◌||◌, not, nat_le, ◌==◌, List, [], ◌∷◌, length, map, flat_map, if◌then◌else◌}
 use Rattle.std.specs.List.{list_any}
 use Rattle.byte_text.specs.Names.{Bytes, same, before}
 use Rattle.world_data.specs.Worlds.{is_at}
@@ -23,6 +23,10 @@ has_objects e = not (length e.objects == 0)
 -- all objects, in order of key and id
 abbrev pub objects_in : List Entry → List Object
 objects_in entries = flat_map (λ e. e.objects) entries
+
+-- the keys, in byte order
+abbrev pub keys_of : List Entry → List Bytes
+keys_of entries = map (λ e. e.key) entries
 
 -- how many more objects of a key there is room for
 abbrev pub room_for : List Entry → Bytes → ℕ

@@ -1,2 +1,3 @@
 pub mod Entries
-pub mod Shelves
+pub mod KeyOrder
+pub mod FirstDue

@@ -1,16 +1,18 @@
+//! All keys with their objects.
+
 ghost use Rattle.std.specs.Prelude.{◌≡◌, ◌+◌, ◌<◌, ◌≤◌, ◌^◌, ◌&&◌, ◌∷◌, [], true, false, not, length, filter, find, map, is_some, is_none, if◌then◌else◌, slice_get, Some, None, IfNone, IfSome, OnOk, OnErr};
-ghost use Rattle.std.specs.List.{list_any};
-ghost use Rattle.byte_text.specs.Names.{Bytes, same};
+ghost use Rattle.byte_text.specs.Names.{Bytes, before, same};
 ghost use Rattle.ordered_lists.specs.Lists.{put_in, sorted_by, distinct};
 ghost use Rattle.world_data.specs.Worlds.{object_before, are_objects, is_at, has_key};
 ghost use Rattle.world_data.specs.Expiry.{is_due, due_before};
 ghost use Rattle.world_data.specs.declared.objects.Object.{Object};
 ghost use Rattle.collection.specs.Objects.{least_due};
-ghost use Rattle.keyspace.specs.Shelves.{IsAdded};
-ghost use Rattle.keyspace.specs.Entries.{objects_in, room_for, has_room, has_objects, is_entry_of};
+ghost use Rattle.keyspace.specs.KeyOrder.{IsAdded};
+ghost use Rattle.keyspace.specs.Entries.{objects_in, keys_of, room_for, has_room, has_objects, is_entry_of};
 
-use crate::places::{place_of, soonest};
-use crate::shelves::Shelf;
+use crate::deadlines::soonest;
+use crate::key_order::place_of;
+use crate::keyed_collections::KeyedCollection;
 use byte_text::{Name, NoMemory};
 use collection::Collection;
 use std::alloc::Global;
@@ -21,7 +23,7 @@ use world_data::Object;
 #[derive(Drop)]
 pub struct Keyspace {
     alloc: Global,
-    shelves: Vec<Shelf>,
+    collections: Vec<KeyedCollection>,
     // How many objects there are.
     count: usize,
 }
@@ -29,13 +31,13 @@ pub struct Keyspace {
 impl Model for Keyspace {
     ghost use Rattle.std.specs.Prelude.{◌≡◌, List, true, length};
     ghost use Rattle.keyspace.specs.Entries.{Entry, objects_in};
-    ghost use Rattle.keyspace.specs.Shelves.{are_shelves};
+    ghost use Rattle.keyspace.specs.KeyOrder.{are_entries};
 
     ghost Value = { List Entry };
 
-    ghost view = { λ k. k.shelves.items };
+    ghost view = { λ k. k.collections.items };
 
-    ghost invariant = { λ k. (are_shelves k.shelves.items ≡ true) × (k.count ≡ length (objects_in k.shelves.items)) };
+    ghost invariant = { λ k. (are_entries k.collections.items ≡ true) × (k.count ≡ length (objects_in k.collections.items)) };
 }
 
 impl Keyspace {
@@ -45,7 +47,7 @@ impl Keyspace {
     {
         Keyspace {
             alloc,
-            shelves: Vec::new(alloc),
+            collections: Vec::new(alloc),
             count: 0,
         }
     }
@@ -63,8 +65,8 @@ impl Keyspace {
         ensures none { IfNone result (find (is_at key.now id.now) (objects_in self.now) ≡ None) }
         ensures some { IfSome result (λ o. find (is_at key.now id.now) (objects_in self.now) ≡ Some o.now) }
     {
-        match place_of(self.shelves.as_slice(), key) {
-            Ok(at) => self.shelves[at].objects().get(id),
+        match place_of(self.collections.as_slice(), key) {
+            Ok(at) => self.collections[at].objects().get(id),
             Err(_) => None,
         }
     }
@@ -74,8 +76,8 @@ impl Keyspace {
         ensures none { IfNone result (filter (has_key key.now) (objects_in self.now) ≡ []) }
         ensures some { IfSome result (λ c. c.now.objects ≡ filter (has_key key.now) (objects_in self.now)) }
     {
-        match place_of(self.shelves.as_slice(), key) {
-            Ok(at) => Some(self.shelves[at].objects()),
+        match place_of(self.collections.as_slice(), key) {
+            Ok(at) => Some(self.collections[at].objects()),
             Err(_) => None,
         }
     }
@@ -85,7 +87,7 @@ impl Keyspace {
         ensures count { result ≡ length self.now }
         ensures distinct { distinct (map (λ o. o.key) (objects_in self.now)) ≡ map (λ e. e.key) (filter has_objects self.now) }
     {
-        self.shelves.len()
+        self.collections.len()
     }
 
     /// The key at a place, counted from 0 in byte order.
@@ -93,7 +95,7 @@ impl Keyspace {
         requires { i < length self.now }
         ensures { IfSome (slice_get self.now i) (λ e. result.now ≡ e.key) }
     {
-        self.shelves[i].key()
+        self.collections[i].key()
     }
 
     /// How many objects the key at a place has.
@@ -101,28 +103,31 @@ impl Keyspace {
         requires { i < length self.now }
         ensures { IfSome (slice_get self.now i) (λ e. result ≡ length e.objects) }
     {
-        self.shelves[i].objects().len()
+        self.collections[i].objects().len()
     }
 
     /// The least deadline of all objects. Of keys where no object has one, no object is looked at.
     pub fn least_due(&self) -> Option<u64>
         ensures { result ≡ least_due (objects_in self.now) }
     {
-        match soonest(self.shelves.as_slice()) {
+        match soonest(self.collections.as_slice()) {
             Some((_, due)) => Some(due),
             None => None,
         }
     }
 
-    /// Takes room for one more object of this key, where there is none. The objects stay, and no room is lost.
+    /// Takes room for one more object of this key, where there is none: then the key is there, maybe without an object. The
+    /// objects stay, and no room is lost. For want of memory the keys are as before.
     pub fn prepare(&mut self, key: &Name) -> Result<(), NoMemory>
         ensures objects { objects_in self.new ≡ objects_in self.old }
+        ensures keys { OnOk result (keys_of self.new ≡ put_in before key.now (keys_of self.old)) }
+        ensures keys_stay { OnErr result (keys_of self.new ≡ keys_of self.old) }
         ensures room { OnOk result (1 ≤ room_for self.new key.now) }
         ensures kept { (k : Bytes) → room_for self.old k ≤ room_for self.new k }
     {
-        match place_of(self.shelves.as_slice(), key) {
-            Ok(at) => self.shelves[at].prepare(),
-            Err(at) => add(self.alloc, &mut self.shelves, at, key),
+        match place_of(self.collections.as_slice(), key) {
+            Ok(at) => self.collections[at].prepare(),
+            Err(at) => add(self.alloc, &mut self.collections, at, key),
         }
     }
 
@@ -132,13 +137,14 @@ impl Keyspace {
         requires room { has_room self.old object ≡ true }
         requires few { length (objects_in self.old) < 2 ^ 32 }
         ensures objects { objects_in self.new ≡ put_in object_before object (objects_in self.old) }
+        ensures keys { keys_of self.new ≡ keys_of self.old }
         ensures replaced { result ≡ find (is_at object.key object.id) (objects_in self.old) }
         ensures len { length (objects_in self.new) ≤ length (objects_in self.old) + 1 }
         ensures kept { (k : Bytes) → room_for self.old k ≤ room_for self.new k + (if same object.key k && is_none result then 1 else 0) }
     {
-        match place_of(self.shelves.as_slice(), &object.key) {
+        match place_of(self.collections.as_slice(), &object.key) {
             Ok(at) => {
-                let old = self.shelves[at].put(object);
+                let old = self.collections[at].put(object);
                 self.count += usize::from(old.is_none());
                 old
             }
@@ -146,15 +152,17 @@ impl Keyspace {
         }
     }
 
-    /// Takes out the object of this key and this id, where there is one. Its place is room for another of its key.
+    /// Takes out the object of this key and this id, where there is one. Its place is room for another of its key, which stays
+    /// also without an object.
     pub fn take_out(&mut self, key: &Name, id: &Name) -> Option<Object>
         ensures objects { objects_in self.new ≡ filter (λ o. not (is_at key.now id.now o)) (objects_in self.old) }
+        ensures keys { keys_of self.new ≡ keys_of self.old }
         ensures taken { result ≡ find (is_at key.now id.now) (objects_in self.old) }
         ensures kept { (k : Bytes) → room_for self.old k + (if same key.now k && is_some result then 1 else 0) ≤ room_for self.new k }
     {
-        match place_of(self.shelves.as_slice(), key) {
+        match place_of(self.collections.as_slice(), key) {
             Ok(at) => {
-                let taken = self.shelves[at].take_out(id);
+                let taken = self.collections[at].take_out(id);
                 self.count -= usize::from(taken.is_some());
                 taken
             }
@@ -163,21 +171,22 @@ impl Keyspace {
     }
 
     /// Takes out the object that expires first, where one is due: the one of the least deadline, then key, then id. Its place is
-    /// room for another of its key.
+    /// room for another of its key, which stays also without an object.
     pub fn take_due(&mut self, now: u64) -> Option<Object>
         ensures none { IfNone result (filter (is_due now) (objects_in self.old) ≡ []) }
         ensures stays { IfNone result (self.new ≡ self.old) }
         ensures first { IfSome result (λ o. sorted_by due_before (filter (is_due now) (objects_in self.old)) ≡ o ∷ sorted_by due_before (filter (is_due now) (objects_in self.new))) }
         ensures taken { IfSome result (λ o. find (is_at o.key o.id) (objects_in self.old) ≡ Some o) }
         ensures objects { IfSome result (λ o. objects_in self.new ≡ filter (λ p. not (is_at o.key o.id p)) (objects_in self.old)) }
+        ensures keys { keys_of self.new ≡ keys_of self.old }
         ensures kept { IfSome result (λ o. (k : Bytes) → room_for self.old k + (if same o.key k then 1 else 0) ≤ room_for self.new k) }
     {
-        match soonest(self.shelves.as_slice()) {
+        match soonest(self.collections.as_slice()) {
             Some((at, due)) => {
                 if due > now {
                     return None;
                 }
-                let object = self.shelves[at].take_first(due);
+                let object = self.collections[at].take_first(due);
                 self.count -= 1;
                 Some(object)
             }
@@ -185,14 +194,15 @@ impl Keyspace {
         }
     }
 
-    /// Takes out all objects of a key.
+    /// Takes out a key with all its objects. The other keys stay as they are.
     pub fn drop_key(&mut self, key: &Name)
-        ensures { objects_in self.new ≡ filter (λ o. not (has_key key.now o)) (objects_in self.old) }
+        ensures objects { objects_in self.new ≡ filter (λ o. not (has_key key.now o)) (objects_in self.old) }
+        ensures others { self.new ≡ filter (λ e. not (is_entry_of key.now e)) self.old }
     {
-        match place_of(self.shelves.as_slice(), key) {
+        match place_of(self.collections.as_slice(), key) {
             Ok(at) => {
-                let shelf = self.shelves.remove(at);
-                self.count -= shelf.objects().len();
+                let keyed = self.collections.remove(at);
+                self.count -= keyed.objects().len();
             }
             Err(_) => {}
         }
@@ -202,19 +212,19 @@ impl Keyspace {
     pub fn clear(&mut self)
         ensures { self.new ≡ [] }
     {
-        self.shelves.clear();
+        self.collections.clear();
         self.count = 0;
     }
 
-    /// Gives up the key where it has no object.
+    /// Gives up the key where it has no object. All else stays as it is.
     pub fn give_up(&mut self, key: &Name)
         ensures objects { objects_in self.new ≡ objects_in self.old }
-        ensures given_up { list_any (λ e. is_entry_of key.now e && not (has_objects e)) self.new ≡ false }
+        ensures given_up { self.new ≡ filter (λ e. not (is_entry_of key.now e && not (has_objects e))) self.old }
     {
-        match place_of(self.shelves.as_slice(), key) {
+        match place_of(self.collections.as_slice(), key) {
             Ok(at) => {
-                if self.shelves[at].objects().len() == 0 {
-                    self.shelves.remove(at);
+                if self.collections[at].objects().len() == 0 {
+                    self.collections.remove(at);
                 }
             }
             Err(_) => {}
@@ -223,13 +233,13 @@ impl Keyspace {
 }
 
 // Puts a key with room for one object at a place. For want of memory the keys are as before.
-fn add(alloc: Global, shelves: &mut Vec<Shelf>, at: usize, key: &Name) -> Result<(), NoMemory>
-    requires { at ≤ length shelves.old.items }
-    ensures ok { OnOk result (IsAdded key.now shelves.old.items at shelves.new.items) }
-    ensures err { OnErr result (shelves.new.items ≡ shelves.old.items) }
+fn add(alloc: Global, collections: &mut Vec<KeyedCollection>, at: usize, key: &Name) -> Result<(), NoMemory>
+    requires { at ≤ length collections.old.items }
+    ensures ok { OnOk result (IsAdded key.now collections.old.items at collections.new.items) }
+    ensures err { OnErr result (collections.new.items ≡ collections.old.items) }
 {
-    let shelf = Shelf::of(alloc, key)?;
-    match shelves.insert(at, shelf) {
+    let keyed = KeyedCollection::of(alloc, key)?;
+    match collections.insert(at, keyed) {
         Ok(()) => Ok(()),
         Err(_) => Err(NoMemory),
     }

@@ -1,9 +1,10 @@
 //! The objects of a world, key by key.
 #![tactic(auto)]
 
+mod deadlines;
+mod key_order;
+mod keyed_collections;
 mod keyspaces;
-mod places;
-mod shelves;
 
 pub use keyspaces::Keyspace;
 

@@ -6,7 +6,7 @@ use Rattle.keyspace.proofs.keyspaces.Keyspace.collection.Goals as goal
 
 pub returns-in-Ok-clause-some : goal.returns-in-Ok-clause-some
 returns-in-Ok-clause-some c =
-    let xs = c.self.inside.shelves.items in
+    let xs = c.self.inside.collections.items in
     let at = c.in-Ok.at in
     let e = c.index.result.now in
     let held = rw c.as_slice.ensures.value at c.in-Ok.ensures.held in
@@ -15,6 +15,6 @@ returns-in-Ok-clause-some c =
 
 pub returns-in-Err-clause-none : goal.returns-in-Err-clause-none
 returns-in-Err-clause-none c =
-    let xs = c.self.inside.shelves.items in
+    let xs = c.self.inside.collections.items in
     let free = rw c.as_slice.ensures.value at c.in-Err.ensures.free in
     rw (← c.self.view_is) (none_of_key c.args.key.now xs c.in-Err.field-0 (lacks c.args.key.now xs c.in-Err.field-0 c.self.invariant.0 free))

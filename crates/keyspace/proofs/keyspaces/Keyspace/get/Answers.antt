@@ -10,7 +10,7 @@ use Rattle.keyspace.proofs.keyspaces.Keyspace.get.Goals as goal
 
 pub returns-in-Ok-clause-none : goal.returns-in-Ok-clause-none
 returns-in-Ok-clause-none c =
-    let xs = c.self.inside.shelves.items in
+    let xs = c.self.inside.collections.items in
     let at = c.in-Ok.at in
     let e = c.index.result.now in
     let held = rw c.as_slice.ensures.value at c.in-Ok.ensures.held in
@@ -20,7 +20,7 @@ returns-in-Ok-clause-none c =
 
 pub returns-in-Ok-clause-some : goal.returns-in-Ok-clause-some
 returns-in-Ok-clause-some c =
-    let xs = c.self.inside.shelves.items in
+    let xs = c.self.inside.collections.items in
     let at = c.in-Ok.at in
     let e = c.index.result.now in
     let held = rw c.as_slice.ensures.value at c.in-Ok.ensures.held in
@@ -30,6 +30,6 @@ returns-in-Ok-clause-some c =
 
 pub returns-in-Err-clause-none : goal.returns-in-Err-clause-none
 returns-in-Err-clause-none c =
-    let xs = c.self.inside.shelves.items in
+    let xs = c.self.inside.collections.items in
     let free = rw c.as_slice.ensures.value at c.in-Err.ensures.free in
     rw (← c.self.view_is) (found_not c.args.key.now xs c.in-Err.field-0 (lacks c.args.key.now xs c.in-Err.field-0 c.self.invariant.0 free) c.args.id.now)

@@ -2,25 +2,25 @@ use Rattle.std.proofs.Common.{◌≡◌, true, ap, sym, subst, ◌∙◌, List, 
 use Rattle.std.specs.List.{list_any}
 use Rattle.collection.specs.Objects.{Held}
 use Rattle.keyspace.specs.Entries.{Entry, objects_in}
-use Rattle.keyspace.specs.Shelves.{are_shelves}
-use Rattle.keyspace.proofs.Keys.{stands, lacks, left_shelves}
-use Rattle.keyspace.proofs.Empties.{is_empty, gone_up, gone_objects, has_some, has_none}
+use Rattle.keyspace.specs.KeyOrder.{are_entries}
+use Rattle.keyspace.proofs.Keys.{stands, lacks, left_entries}
+use Rattle.keyspace.proofs.KeyLists.{is_needed, other_needed, gone_objects, given_up, needed, none_left_out}
 use Rattle.keyspace.proofs.keyspaces.Keyspace.give_up.Goals as goal
 
 pub invariant_of-self : goal.invariant_of-self
 invariant_of-self c =
     let key = c.args.key.now in
-    let xs = c.self.inside.shelves.items in
+    let xs = c.self.inside.collections.items in
     let e = c.index.result.now in
     let held = rw c.as_slice.ensures.value at c.in-Ok.ensures.held in
     let s = stands key xs c.in-Ok.at e c.self.invariant.0 held c.index.ensures in
     let own : length e.objects ≡ 0 = sym (c.len.ensures.count ∙ ap (λ (h : Held). length h.objects) c.objects.ensures) ∙ c.if-len-eq0.true in
-    (subst (λ (l : List Entry). are_shelves l ≡ true) (sym c.remove.ensures.items) (left_shelves key xs c.in-Ok.at e s), c.self.invariant.1 ∙ ap length (sym (gone_objects key xs c.in-Ok.at e s own)) ∙ ap (λ (l : List Entry). length (objects_in l)) (sym c.remove.ensures.items))
+    (subst (λ (l : List Entry). are_entries l ≡ true) (sym c.remove.ensures.items) (left_entries key xs c.in-Ok.at e s), c.self.invariant.1 ∙ ap length (sym (gone_objects key xs c.in-Ok.at e s own)) ∙ ap (λ (l : List Entry). length (objects_in l)) (sym c.remove.ensures.items))
 
 pub returns-then-len-eq0-clause-objects : goal.returns-then-len-eq0-clause-objects
 returns-then-len-eq0-clause-objects c =
     let key = c.args.key.now in
-    let xs = c.self.inside.shelves.items in
+    let xs = c.self.inside.collections.items in
     let e = c.index.result.now in
     let held = rw c.as_slice.ensures.value at c.in-Ok.ensures.held in
     let s = stands key xs c.in-Ok.at e c.self.invariant.0 held c.index.ensures in
@@ -30,24 +30,26 @@ returns-then-len-eq0-clause-objects c =
 pub returns-then-len-eq0-clause-given_up : goal.returns-then-len-eq0-clause-given_up
 returns-then-len-eq0-clause-given_up c =
     let key = c.args.key.now in
-    let xs = c.self.inside.shelves.items in
+    let xs = c.self.inside.collections.items in
     let e = c.index.result.now in
     let held = rw c.as_slice.ensures.value at c.in-Ok.ensures.held in
     let s = stands key xs c.in-Ok.at e c.self.invariant.0 held c.index.ensures in
-    ap (list_any (is_empty key)) c.remove.ensures.items ∙ gone_up key xs c.in-Ok.at e s
+    let own : length e.objects ≡ 0 = sym (c.len.ensures.count ∙ ap (λ (h : Held). length h.objects) c.objects.ensures) ∙ c.if-len-eq0.true in
+    rw (← c.self.view_is) (c.remove.ensures.items ∙ sym (given_up key xs c.in-Ok.at e s own))
 
 pub returns-else-len-eq0-clause-given_up : goal.returns-else-len-eq0-clause-given_up
 returns-else-len-eq0-clause-given_up c =
     let key = c.args.key.now in
-    let xs = c.self.inside.shelves.items in
+    let xs = c.self.inside.collections.items in
     let e = c.index.result.now in
     let held = rw c.as_slice.ensures.value at c.in-Ok.ensures.held in
     let s = stands key xs c.in-Ok.at e c.self.invariant.0 held c.index.ensures in
-    rw (← c.self.view_is) (has_some key xs c.in-Ok.at e s (λ (z : length e.objects ≡ 0). c.if-len-eq0.false (c.len.ensures.count ∙ ap (λ (h : Held). length h.objects) c.objects.ensures ∙ z)))
+    rw (← c.self.view_is) (sym (needed key xs c.in-Ok.at e s (λ (z : length e.objects ≡ 0). c.if-len-eq0.false (c.len.ensures.count ∙ ap (λ (h : Held). length h.objects) c.objects.ensures ∙ z))))
 
 pub returns-in-Err-clause-given_up : goal.returns-in-Err-clause-given_up
 returns-in-Err-clause-given_up c =
     let key = c.args.key.now in
-    let xs = c.self.inside.shelves.items in
+    let xs = c.self.inside.collections.items in
     let free = rw c.as_slice.ensures.value at c.in-Err.ensures.free in
-    rw (← c.self.view_is) (has_none key xs c.in-Err.field-0 (lacks key xs c.in-Err.field-0 c.self.invariant.0 free))
+    let s = lacks key xs c.in-Err.field-0 c.self.invariant.0 free in
+    rw (← c.self.view_is) (sym (none_left_out key (is_needed key) (other_needed key) xs c.in-Err.field-0 s))

@@ -5,4 +5,4 @@ use Rattle.keyspace.proofs.keyspaces.Keyspace.least_due.Goals as goal
 pub returns-in-Some : goal.returns-in-Some
 returns-in-Some c =
     let found = rw c.as_slice.ensures.value at c.in-Some.ensures in
-    rw (← c.self.view_is) (sym (least_found c.self.inside.shelves.items c.in-Some.field-0-0 c.in-Some.due found))
+    rw (← c.self.view_is) (sym (least_found c.self.inside.collections.items c.in-Some.field-0-0 c.in-Some.due found))

@@ -6,7 +6,7 @@ use Rattle.byte_text.specs.ByteOrder.{behind_others as behind, same_equal, befor
 use Rattle.ordered_lists.specs.NameOrder.{partitioned}
 use Rattle.ordered_lists.specs.Reading.{front_all, stands_at, past_end}
 use Rattle.keyspace.specs.Entries.{Entry}
-use Rattle.keyspace.proofs.places.place_of.Goals as goal
+use Rattle.keyspace.proofs.key_order.place_of.Goals as goal
 
 tied : (e : Entry) (key : Bytes) → e.key ≡ key → (before key e.key ≡ false) × (before e.key key ≡ false)
 tied e key is = (subst (λ (n : Bytes). before key n ≡ false) (sym is) (before_self key), subst (λ (n : Bytes). before n key ≡ false) (sym is) (before_self key))

@@ -1,7 +1,7 @@
 use Rattle.std.proofs.Common.{◌≡◌, true, not, take}
 use Rattle.std.specs.List.{list_all}
-use Rattle.keyspace.specs.Shelves.{has_deadline}
-use Rattle.keyspace.proofs.shelves.first_of.Given as goal
+use Rattle.keyspace.specs.FirstDue.{has_deadline}
+use Rattle.keyspace.proofs.keyed_collections.first_of.Given as goal
 
 -- none of the objects so far has the deadline
 abbrev pub invariant-loop-i : goal.invariant-loop-i

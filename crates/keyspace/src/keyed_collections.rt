@@ -4,7 +4,8 @@ ghost use Rattle.std.specs.Prelude.{◌≡◌, ◌+◌, ◌≤◌, [], true, not
 ghost use Rattle.ordered_lists.specs.Lists.{put_in};
 ghost use Rattle.collection.specs.Objects.{id_before, has_id, has_room, least_due};
 ghost use Rattle.keyspace.specs.Entries.{Entry};
-ghost use Rattle.keyspace.specs.Shelves.{held_of, has_deadline, IsFirst, Took};
+ghost use Rattle.keyspace.specs.KeyOrder.{held_of};
+ghost use Rattle.keyspace.specs.FirstDue.{has_deadline, IsFirst, Took};
 
 use byte_text::{Name, NoMemory};
 use collection::Collection;
@@ -12,14 +13,14 @@ use std::alloc::Global;
 use std::marker::Model;
 use world_data::Object;
 
-/// A key and its objects. While a call is made there may be none.
+/// A key and its objects. There may be none, as beside room that was taken for the first.
 #[derive(Drop)]
-pub(crate) struct Shelf {
+pub(crate) struct KeyedCollection {
     key: Name,
     objects: Collection,
 }
 
-impl Model for Shelf {
+impl Model for KeyedCollection {
     ghost use Rattle.keyspace.specs.Entries.{Entry};
 
     ghost Value = { Entry };
@@ -27,9 +28,9 @@ impl Model for Shelf {
     ghost view = { λ s. record { key = s.key; objects = s.objects.objects; spare = s.objects.spare } };
 }
 
-impl Shelf {
+impl KeyedCollection {
     /// A key with no object, and room for one.
-    pub(crate) fn of(alloc: Global, key: &Name) -> Result<Shelf, NoMemory>
+    pub(crate) fn of(alloc: Global, key: &Name) -> Result<KeyedCollection, NoMemory>
         ensures key { IfOk result (λ s. s.key ≡ key.now) }
         ensures objects { IfOk result (λ s. s.objects ≡ []) }
         ensures room { IfOk result (λ s. 1 ≤ s.spare) }
@@ -37,7 +38,7 @@ impl Shelf {
         let key = key.copy(alloc)?;
         let mut objects = Collection::new(alloc);
         objects.prepare()?;
-        Ok(Shelf { key, objects })
+        Ok(KeyedCollection { key, objects })
     }
 
     /// The key.

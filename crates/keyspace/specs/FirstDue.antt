@@ -1,4 +1,4 @@
--- The keys of a keyspace: how they stand, and where the first object that expires is found.
+-- Where the first object that expires is found.
 use Rattle.std.specs.Prelude.{◌≡◌, ◌<◌, ◌≤◌, ℕ, Bool, true, false, not, ◌&&◌, ◌==◌, nat_lt, nat_le, List, [], ◌∷◌, ◌++◌, length, take, slice_get, Option, Some, None, IfSome, if◌then◌else◌}
 use Rattle.std.specs.List.{list_all, insert, remove}
 use Rattle.byte_text.specs.Names.{Bytes}
@@ -7,18 +7,6 @@ use Rattle.world_data.specs.Worlds.{has_key}
 use Rattle.world_data.specs.declared.objects.Object.{Object}
 use Rattle.collection.specs.Objects.{Held, are_by_id, least_due}
 use Rattle.keyspace.specs.Entries.{Entry, key_before, objects_in}
-
--- the objects of an entry are of its key, and stand by id
-abbrev pub is_shelf : Entry → Bool
-is_shelf e = list_all (has_key e.key) e.objects && are_by_id e.objects
-
--- entries stand in byte order of their keys, no key twice
-abbrev pub are_shelves : List Entry → Bool
-are_shelves entries = ascends key_before entries && list_all is_shelf entries
-
--- an entry without its key
-abbrev pub held_of : Entry → Held
-held_of e = record { objects = e.objects; spare = e.spare }
 
 -- this is the object's deadline
 abbrev pub has_deadline : ℕ → Object → Bool
@@ -73,11 +61,3 @@ abbrev pub sooner : Option (ℕ × ℕ) → ℕ → Option ℕ → Option (ℕ �
 sooner found at None = found
 sooner None at (Some due) = Some (at, due)
 sooner (Some found) at (Some due) = if nat_lt due found.1 then Some (at, due) else Some found
-
--- the entries with one more at a place, of this key, with no object and with room
-pub record IsAdded (key : Bytes) (old : List Entry) (at : ℕ) (new : List Entry) : Type 0 where
-  pub one : Entry
-  pub key_is : one.key ≡ key
-  pub none : one.objects ≡ []
-  pub room : 1 ≤ one.spare
-  pub made : new ≡ insert old at one

@@ -6,7 +6,7 @@ use Rattle.world_data.specs.declared.objects.Object.{Object}
 use Rattle.ordered_lists.specs.NameOrder.{partitioned}
 use Rattle.ordered_lists.specs.Reading.{front_all, stands_at, past_end}
 use Rattle.collection.specs.IdOrder.{tied, is_behind}
-use Rattle.collection.proofs.places.place_of.Goals as goal
+use Rattle.collection.proofs.id_order.place_of.Goals as goal
 
 pub returns-then-at-list-clause-free : goal.returns-then-at-list-clause-free
 returns-then-at-list-clause-free c =

@@ -3,10 +3,10 @@ use Rattle.std.specs.List.{list_all}
 use Rattle.std.proofs.lemmas.List.{take_all}
 use Rattle.world_data.specs.declared.objects.Object.{Object}
 use Rattle.ordered_lists.specs.Reading.{all_next}
-use Rattle.keyspace.specs.Shelves.{has_deadline}
+use Rattle.keyspace.specs.FirstDue.{has_deadline}
 use Rattle.keyspace.proofs.Keys.{got}
 use Rattle.keyspace.proofs.Dues.{one_has}
-use Rattle.keyspace.proofs.shelves.first_of.Goals as goal
+use Rattle.keyspace.proofs.keyed_collections.first_of.Goals as goal
 
 pub loop-i-preserved : goal.loop-i-preserved
 loop-i-preserved c =

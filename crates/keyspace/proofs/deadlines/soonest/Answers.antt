@@ -1,7 +1,7 @@
 use Rattle.std.proofs.Common.{ap, ◌∙◌}
 use Rattle.collection.specs.Objects.{Held, least_due}
 use Rattle.keyspace.proofs.Dues.{soonest_next}
-use Rattle.keyspace.proofs.places.soonest.Goals as goal
+use Rattle.keyspace.proofs.deadlines.soonest.Goals as goal
 
 pub loop-at-preserved : goal.loop-at-preserved
 loop-at-preserved c =

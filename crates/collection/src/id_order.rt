@@ -1,4 +1,4 @@
-//! Places in a list of objects that stand by id.
+//! Where objects stand in a list in byte order of their ids.
 
 ghost use Rattle.std.specs.Prelude.{◌≡◌, ◌<◌, ◌≤◌, true, length, vec_len, vec_capacity, slice_get, Some, IfOk, IfErr};
 ghost use Rattle.std.specs.List.{insert, slice_set};

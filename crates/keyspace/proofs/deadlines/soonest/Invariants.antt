@@ -1,6 +1,6 @@
 use Rattle.std.proofs.Common.{take}
-use Rattle.keyspace.specs.Shelves.{Soonest}
-use Rattle.keyspace.proofs.places.soonest.Given as goal
+use Rattle.keyspace.specs.FirstDue.{Soonest}
+use Rattle.keyspace.proofs.deadlines.soonest.Given as goal
 
 -- what is found among the entries so far
 abbrev pub invariant-loop-at : goal.invariant-loop-at

@@ -1,9 +1,0 @@
-use Rattle.std.proofs.Common.{◌≡◌, drop, flat_map}
-use Rattle.std.specs.Prelude.{fold, None}
-use Rattle.planar_geom.specs.Points.{grown}
-use Rattle.planar_geom.specs.Shapes.{all_vertices}
-use Rattle.collection.proofs.bounds.round_all.Given as goal
-
--- the box so far, and the objects that are left
-abbrev pub invariant-loop-object : goal.invariant-loop-object
-invariant-loop-object l = fold grown l.round (flat_map (λ o. all_vertices o.shape) (drop l.object-index l.objects)) ≡ fold grown None (flat_map (λ o. all_vertices o.shape) l.objects)
