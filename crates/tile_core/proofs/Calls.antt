@@ -231,4 +231,4 @@ refused objects now logged drawn sessions n moment asked u r called.Ok e = absur
 refused objects now logged drawn sessions n moment asked u r called.LogFault e = absurd e
 refused objects now logged drawn sessions n moment asked u r called.Stopped e = absurd e
 refused objects now logged drawn sessions n moment asked u r called.Spent e = absurd e
-refused objects now logged drawn sessions n moment asked u r called.Memory e = absurd e
+refused objects now logged drawn sessions n moment asked u r called.Memory e = lacks objects now logged drawn sessions n moment asked u e.0 e.1.session r e.1.here e.1.numbered e.2 e.3

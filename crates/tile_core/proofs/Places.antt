@@ -1,6 +1,6 @@
 -- Room for a frame is taken in the queue of a session, and nothing else changes.
 use Rattle.std.proofs.Common.{◌≡◌, ℕ, zero, suc, ◌<◌, ◌≤◌, Bool, true, false, refl, sym, ap, ◌∙◌, subst, List, [], ◌∷◌, length, arith}
-use Rattle.std.specs.Prelude.{Some, Ok, Err, IfSome, map, slice_get, slice_set, nat_le, ◌||◌}
+use Rattle.std.specs.Prelude.{Option, Some, Ok, Err, IfSome, map, slice_get, slice_set, nat_le, ◌||◌}
 use Rattle.std.proofs.Math.ListN.{length-set}
 use Rattle.world_data.specs.Limits.{full_frames, full_bytes}
 use Rattle.world_data.specs.Frames.{frame_bytes}
@@ -56,3 +56,7 @@ module _ (xs : List Session) (n i : ℕ) (sv : IsServed xs n (Ok i)) (v : Sessio
 
   pub as_before : map session_of (slice_set xs i v) ≡ map session_of xs
   as_before = same_map xs i sv.0.session v sv.0.here same
+
+-- the place that is read at
+pub placed_there : (xs : List Session) (i : ℕ) (s : Session) → slice_get xs i ≡ Some s → HasPlace xs i → 1 ≤ s.outbox.spare
+placed_there xs i s at place = subst (λ (o : Option Session). IfSome o (λ t. 1 ≤ t.outbox.spare)) at place
