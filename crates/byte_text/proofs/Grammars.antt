@@ -3,7 +3,7 @@ use Rattle.std.proofs.Common.{◌≡◌, ℕ, zero, suc, ◌+◌, ◌-◌, ◌<�
 use Rattle.std.proofs.lemmas.Bool.{le-leb, lt-leb, leb-true, leb-false}
 use Rattle.std.proofs.lemmas.List.{take-append-le, length-replicate}
 use Rattle.byte_text.specs.Names.{Bytes}
-use Rattle.byte_text.specs.Streams.{Front, found, begun, broken, Grammar, go_on, ◌>>=◌, ◌>>◌, done, byte, bytes_of, with_byte, one_more, unless, number_end, number, count_limit, word_limit, word, words, request}
+use Rattle.byte_text.specs.Streams.{Front, found, begun, broken, Grammar, read_then, ◌>>=◌, ◌>>◌, done, byte, bytes_of, with_byte, one_more, unless_fault, number_end, number_line, count_limit, word_limit, word, words, request}
 use Rattle.byte_text.specs.declared.faults.RespFault.{RespFault}
 use Rattle.byte_text.specs.declared.faults.RespFault.TheVariants.{BadType, BadEnd}
 use Rattle.byte_text.specs.Requests.{max_request}
@@ -21,10 +21,10 @@ pub record Stable {A : Type 0} (g : Grammar A) : Type 0 where
 pub stable_done : {A : Type 0} (a : A) → Stable (done a)
 stable_done a = record { more = λ bytes more. refl }
 
-go_more : {A B : Type 0} (k : A → Grammar B) → ((a : A) → Stable (k a)) → (more : Bytes) (x y : Front A) → IsMore more x y → IsMore more (go_on k x) (go_on k y)
-go_more k s more (found a rest) y e = subst (λ z. IsMore more (k a rest) (go_on k z)) (sym e) ((s a).more rest more)
+go_more : {A B : Type 0} (k : A → Grammar B) → ((a : A) → Stable (k a)) → (more : Bytes) (x y : Front A) → IsMore more x y → IsMore more (read_then k x) (read_then k y)
+go_more k s more (found a rest) y e = subst (λ z. IsMore more (k a rest) (read_then k z)) (sym e) ((s a).more rest more)
 go_more k s more begun y e = tt
-go_more k s more (broken fault) y e = ap (go_on k) e
+go_more k s more (broken fault) y e = ap (read_then k) e
 
 pub stable_bind : {A B : Type 0} (g : Grammar A) (k : A → Grammar B) → Stable g → ((a : A) → Stable (k a)) → Stable (g >>= k)
 stable_bind g k s t = record { more = λ bytes more. go_more k t more (g bytes) (g (bytes ++ more)) (s.more bytes more) }
@@ -56,7 +56,7 @@ bytes_more n bytes more false e = tt
 pub stable_bytes_of : (n : ℕ) → Stable (bytes_of n)
 stable_bytes_of n = record { more = λ bytes more. bytes_more n bytes more (nat_le n (length bytes)) refl }
 
-unless_more : (more : Bytes) (fault : Option RespFault) (x y : Front ℕ) → IsMore more x y → IsMore more (unless fault x) (unless fault y)
+unless_more : (more : Bytes) (fault : Option RespFault) (x y : Front ℕ) → IsMore more x y → IsMore more (unless_fault fault x) (unless_fault fault y)
 unless_more more None x y e = e
 unless_more more (Some fault) x y e = refl
 
@@ -68,15 +68,15 @@ end_more : (so_far : Option ℕ) (bytes more : Bytes) → IsMore more (number_en
 end_more None bytes more = refl
 end_more (Some n) bytes more = refl
 
-number_more : (limit : ℕ → Option RespFault) (bytes more : Bytes) (so_far : Option ℕ) → IsMore more (number limit so_far bytes) (number limit so_far (bytes ++ more))
+number_more : (limit : ℕ → Option RespFault) (bytes more : Bytes) (so_far : Option ℕ) → IsMore more (number_line limit so_far bytes) (number_line limit so_far (bytes ++ more))
 number_more limit [] more so_far = tt
 number_more limit (b ∷ bytes) more so_far = choice_more more (b == 13)
     (number_end so_far bytes) (number_end so_far (bytes ++ more))
-    (one_more limit (with_byte so_far b) (λ n. number limit n bytes)) (one_more limit (with_byte so_far b) (λ n. number limit n (bytes ++ more)))
+    (one_more limit (with_byte so_far b) (λ n. number_line limit n bytes)) (one_more limit (with_byte so_far b) (λ n. number_line limit n (bytes ++ more)))
     (end_more so_far bytes more)
-    (one_more_more limit (with_byte so_far b) more (λ n. number limit n bytes) (λ n. number limit n (bytes ++ more)) (λ m. number_more limit bytes more m))
+    (one_more_more limit (with_byte so_far b) more (λ n. number_line limit n bytes) (λ n. number_line limit n (bytes ++ more)) (λ m. number_more limit bytes more m))
 
-pub stable_number : (limit : ℕ → Option RespFault) (so_far : Option ℕ) → Stable (number limit so_far)
+pub stable_number : (limit : ℕ → Option RespFault) (so_far : Option ℕ) → Stable (number_line limit so_far)
 stable_number limit so_far = record { more = λ bytes more. number_more limit bytes more so_far }
 
 -- ---- what has begun can be ended
@@ -102,7 +102,7 @@ pub record Open {A : Type 0} (g : Grammar A) : Type 0 where
 pub open_done : {A : Type 0} (a : A) → Open (done a)
 open_done a = record { stable = stable_done a; quiet = refl; ends = λ bytes e. absurd (cc e) }
 
-quiet_bind : {A B : Type 0} (k : A → Grammar B) → ((a : A) → Open (k a)) → (x : Front A) → IsQuiet x → IsQuiet (go_on k x)
+quiet_bind : {A B : Type 0} (k : A → Grammar B) → ((a : A) → Open (k a)) → (x : Front A) → IsQuiet x → IsQuiet (read_then k x)
 quiet_bind k o (found a rest) e = subst (λ r. IsQuiet (k a r)) (sym e) (o a).quiet
 quiet_bind k o begun e = tt
 quiet_bind k o (broken fault) e = absurd e
@@ -117,14 +117,14 @@ second_ends g k s bytes a rest e d = record {
   byte = d.byte;
   more = d.more;
   value = d.value;
-  reads = ap (go_on k) (more_read g s bytes (d.byte ∷ d.more) a rest e) ∙ d.reads;
+  reads = ap (read_then k) (more_read g s bytes (d.byte ∷ d.more) a rest e) ∙ d.reads;
 }
 
 -- the first part was ended; the second begins at its end
 then_second : {A B : Type 0} (g : Grammar A) (k : A → Grammar B) → Stable g → (bytes : Bytes) (d : Ended g bytes) → Open (k d.value) → (x : Front B) → k d.value [] ≡ x → Ended (g >>= k) bytes
 then_second g k s bytes d o (found b rest) e =
     let none : rest ≡ [] = subst IsQuiet e o.quiet in
-    record { byte = d.byte; more = d.more; value = b; reads = ap (go_on k) d.reads ∙ e ∙ ap (found b) none }
+    record { byte = d.byte; more = d.more; value = b; reads = ap (read_then k) d.reads ∙ e ∙ ap (found b) none }
 then_second g k s bytes d o begun e =
     let c = o.ends [] e in
     let text : bytes ++ d.byte ∷ (d.more ++ c.byte ∷ c.more) ≡ bytes ++ d.byte ∷ d.more ++ c.byte ∷ c.more = sym (append_assoc bytes (d.byte ∷ d.more) (c.byte ∷ c.more)) in
@@ -132,11 +132,11 @@ then_second g k s bytes d o begun e =
       byte = d.byte;
       more = d.more ++ c.byte ∷ c.more;
       value = c.value;
-      reads = ap (λ t. go_on k (g t)) text ∙ ap (go_on k) (more_read g s (bytes ++ d.byte ∷ d.more) (c.byte ∷ c.more) d.value [] d.reads) ∙ c.reads;
+      reads = ap (λ t. read_then k (g t)) text ∙ ap (read_then k) (more_read g s (bytes ++ d.byte ∷ d.more) (c.byte ∷ c.more) d.value [] d.reads) ∙ c.reads;
     }
 then_second g k s bytes d o (broken fault) e = absurd (subst IsQuiet e o.quiet)
 
-bind_ends : {A B : Type 0} (g : Grammar A) (k : A → Grammar B) → Open g → ((a : A) → Open (k a)) → (bytes : Bytes) (x : Front A) → g bytes ≡ x → go_on k x ≡ begun → Ended (g >>= k) bytes
+bind_ends : {A B : Type 0} (g : Grammar A) (k : A → Grammar B) → Open g → ((a : A) → Open (k a)) → (bytes : Bytes) (x : Front A) → g bytes ≡ x → read_then k x ≡ begun → Ended (g >>= k) bytes
 bind_ends g k o p bytes (found a rest) e h = second_ends g k o.stable bytes a rest e ((p a).ends rest h)
 bind_ends g k o p bytes begun e h = let d = o.ends bytes e in then_second g k o.stable bytes d (p d.value) (k d.value []) refl
 bind_ends g k o p bytes (broken fault) e h = absurd (cc h)
@@ -192,36 +192,36 @@ pub record LetsDigit (limit : ℕ → Option RespFault) : Type 0 where
 
 -- a number goes on behind a byte as it does from the number that this byte makes
 number_behind : (limit : ℕ → Option RespFault) (so_far : Option ℕ) (b m : ℕ) (bytes : Bytes) → (b == 13) ≡ false → with_byte so_far b ≡ Some m → limit m ≡ None
-    → number limit so_far (b ∷ bytes) ≡ number limit (Some m) bytes
+    → number_line limit so_far (b ∷ bytes) ≡ number_line limit (Some m) bytes
 number_behind limit so_far b m bytes t o l = rw (t, o, l) refl
 
-end_ends : (limit : ℕ → Option RespFault) (so_far : Option ℕ) (bytes all : Bytes) → number_end so_far bytes ≡ begun → Ended (number limit so_far) all
+end_ends : (limit : ℕ → Option RespFault) (so_far : Option ℕ) (bytes all : Bytes) → number_end so_far bytes ≡ begun → Ended (number_line limit so_far) all
 end_ends limit None bytes all e = absurd (cc e)
 end_ends limit (Some n) bytes all e = absurd (cc e)
 
-one_ends : (limit : ℕ → Option RespFault) (so_far : Option ℕ) (b : ℕ) (bytes : Bytes) → ((m : ℕ) → number limit (Some m) bytes ≡ begun → Ended (number limit (Some m)) bytes)
-    → (b == 13) ≡ false → (m : ℕ) → with_byte so_far b ≡ Some m → (l : Option RespFault) → limit m ≡ l → unless l (number limit (Some m) bytes) ≡ begun → Ended (number limit so_far) (b ∷ bytes)
+one_ends : (limit : ℕ → Option RespFault) (so_far : Option ℕ) (b : ℕ) (bytes : Bytes) → ((m : ℕ) → number_line limit (Some m) bytes ≡ begun → Ended (number_line limit (Some m)) bytes)
+    → (b == 13) ≡ false → (m : ℕ) → with_byte so_far b ≡ Some m → (l : Option RespFault) → limit m ≡ l → unless_fault l (number_line limit (Some m) bytes) ≡ begun → Ended (number_line limit so_far) (b ∷ bytes)
 one_ends limit so_far b bytes go t m o None l e =
     let d = go m e in
     record { byte = d.byte; more = d.more; value = d.value; reads = number_behind limit so_far b m (bytes ++ d.byte ∷ d.more) t o l ∙ d.reads }
 one_ends limit so_far b bytes go t m o (Some fault) l e = absurd (cc e)
 
-digit_ends : (limit : ℕ → Option RespFault) (so_far : Option ℕ) (b : ℕ) (bytes : Bytes) → ((m : ℕ) → number limit (Some m) bytes ≡ begun → Ended (number limit (Some m)) bytes)
-    → (b == 13) ≡ false → (o : Option ℕ) → with_byte so_far b ≡ o → one_more limit o (λ n. number limit n bytes) ≡ begun → Ended (number limit so_far) (b ∷ bytes)
+digit_ends : (limit : ℕ → Option RespFault) (so_far : Option ℕ) (b : ℕ) (bytes : Bytes) → ((m : ℕ) → number_line limit (Some m) bytes ≡ begun → Ended (number_line limit (Some m)) bytes)
+    → (b == 13) ≡ false → (o : Option ℕ) → with_byte so_far b ≡ o → one_more limit o (λ n. number_line limit n bytes) ≡ begun → Ended (number_line limit so_far) (b ∷ bytes)
 digit_ends limit so_far b bytes go t None o e = absurd (cc e)
 digit_ends limit so_far b bytes go t (Some m) o e = one_ends limit so_far b bytes go t m o (limit m) refl e
 
-test_ends : (limit : ℕ → Option RespFault) (so_far : Option ℕ) (b : ℕ) (bytes : Bytes) → ((m : ℕ) → number limit (Some m) bytes ≡ begun → Ended (number limit (Some m)) bytes)
-    → (t : Bool) → (b == 13) ≡ t → (if t then number_end so_far bytes else one_more limit (with_byte so_far b) (λ n. number limit n bytes)) ≡ begun → Ended (number limit so_far) (b ∷ bytes)
+test_ends : (limit : ℕ → Option RespFault) (so_far : Option ℕ) (b : ℕ) (bytes : Bytes) → ((m : ℕ) → number_line limit (Some m) bytes ≡ begun → Ended (number_line limit (Some m)) bytes)
+    → (t : Bool) → (b == 13) ≡ t → (if t then number_end so_far bytes else one_more limit (with_byte so_far b) (λ n. number_line limit n bytes)) ≡ begun → Ended (number_line limit so_far) (b ∷ bytes)
 test_ends limit so_far b bytes go true t e = end_ends limit so_far bytes (b ∷ bytes) e
 test_ends limit so_far b bytes go false t e = digit_ends limit so_far b bytes go t (with_byte so_far b) refl e
 
-number_ends : (limit : ℕ → Option RespFault) → LetsDigit limit → (bytes : Bytes) (so_far : Option ℕ) → number limit so_far bytes ≡ begun → Ended (number limit so_far) bytes
+number_ends : (limit : ℕ → Option RespFault) → LetsDigit limit → (bytes : Bytes) (so_far : Option ℕ) → number_line limit so_far bytes ≡ begun → Ended (number_line limit so_far) bytes
 number_ends limit h [] None e = record { byte = 48 + h.digit; more = 13 ∷ []; value = h.digit; reads = one_digit limit None h.digit h.digit (13 ∷ []) h.small refl h.fine }
 number_ends limit h [] (Some n) e = record { byte = 13; more = []; value = n; reads = refl }
 number_ends limit h (b ∷ bytes) so_far e = test_ends limit so_far b bytes (λ m e. number_ends limit h bytes (Some m) e) (b == 13) refl e
 
-pub open_number : (limit : ℕ → Option RespFault) → LetsDigit limit → (so_far : Option ℕ) → Open (number limit so_far)
+pub open_number : (limit : ℕ → Option RespFault) → LetsDigit limit → (so_far : Option ℕ) → Open (number_line limit so_far)
 open_number limit h so_far = record { stable = stable_number limit so_far; quiet = tt; ends = λ bytes e. number_ends limit h bytes so_far e }
 
 -- ---- requests
@@ -241,8 +241,8 @@ open_behind_length : (n : ℕ) → Open (behind_length n)
 open_behind_length n = open_bind (byte 10 BadEnd) (λ u. bytes_of n >>= word_end) (open_byte 10 BadEnd) (λ u. open_bind (bytes_of n) word_end (open_bytes_of n) open_word_end)
 
 pub open_word : (allowed : ℕ) → Open (word allowed)
-open_word allowed = open_bind (byte 36 BadType) (λ u. number (word_limit allowed) None >>= behind_length) (open_byte 36 BadType)
-    (λ u. open_bind (number (word_limit allowed) None) behind_length (open_number (word_limit allowed) (word_zero allowed) None) open_behind_length)
+open_word allowed = open_bind (byte 36 BadType) (λ u. number_line (word_limit allowed) None >>= behind_length) (open_byte 36 BadType)
+    (λ u. open_bind (number_line (word_limit allowed) None) behind_length (open_number (word_limit allowed) (word_zero allowed) None) open_behind_length)
 
 pub open_words : (n allowed : ℕ) → Open (words n allowed)
 open_words zero allowed = open_done []
@@ -254,5 +254,5 @@ open_behind_count n = open_bind (byte 10 BadEnd) (λ u. words n max_request) (op
 
 pub open_request : Open request
 unfolding request
-open_request = open_bind (byte 42 BadType) (λ u. number count_limit None >>= behind_count) (open_byte 42 BadType)
-    (λ u. open_bind (number count_limit None) behind_count (open_number count_limit count_one None) open_behind_count)
+open_request = open_bind (byte 42 BadType) (λ u. number_line count_limit None >>= behind_count) (open_byte 42 BadType)
+    (λ u. open_bind (number_line count_limit None) behind_count (open_number count_limit count_one None) open_behind_count)

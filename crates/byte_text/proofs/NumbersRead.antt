@@ -1,7 +1,6 @@
 -- The readers of canonical numbers answer what their definitions say.
-use Rattle.std.proofs.Common.{arith, ◌≡◌, ℕ, suc, ◌+◌, ◌-◌, ◌*◌, ◌%◌, ℤ, pos, negsuc, ◌^◌, ◌<◌, ◌≤◌, int_le, [], ◌∷◌, ◌++◌, decimal, Ok, Err, Result, Option, Some, None, ◌∙◌, sym, ap, refl, subst, w64, Bool, true, false, fold, true≢false, nat_le, ◌&&◌, ne_eqb, if◌then◌else◌, MatchResult}
+use Rattle.std.proofs.Common.{arith, ◌≡◌, ℕ, ℤ, pos, negsuc, ◌^◌, ◌<◌, ◌≤◌, int_le, decimal, Ok, Err, Result, Option, Some, None, ◌∙◌, sym, ap, refl, subst, w64, Bool, true, false, true≢false, nat_le, ◌&&◌, if◌then◌else◌, MatchResult}
 use Rattle.std.specs.Fmt.{signed_decimal}
-use Rattle.std.proofs.lemmas.Fmt.{decimal_by_steps}
 use Rattle.byte_text.specs.ByteOrder.{same_refl, same_equal}
 use Rattle.std.proofs.lemmas.Bool.{le-leb, leb-true}
 use mir.Val.{SFits as FitsSigned}

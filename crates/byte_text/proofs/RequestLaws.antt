@@ -1,6 +1,5 @@
 -- No request's text begins another's.
-use Rattle.std.proofs.Common.{◌≡◌, ℕ, ◌<◌, ◌≤◌, ◌^◌, List, [], ◌∷◌, ◌++◌, length, decimal, refl, sym, ◌∙◌, append_assoc, arith, flat_map}
-use Rattle.std.specs.List.{AllByRecursion}
+use Rattle.std.proofs.Common.{◌≡◌, ℕ, ◌<◌, ◌^◌, List, [], ◌∷◌, ◌++◌, length, decimal, refl, sym, ◌∙◌, append_assoc, arith, flat_map}
 use Rattle.std.proofs.lemmas.Fmt.{decimal_injective}
 use Rattle.byte_text.specs.Lines.{line, bulk_text}
 use Rattle.byte_text.specs.Requests.{request_text, IsRequest, AreShort}

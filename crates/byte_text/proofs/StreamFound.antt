@@ -6,7 +6,7 @@ use Rattle.std.proofs.lemmas.Fmt.{decimal_step, decimal_digit}
 use Rattle.byte_text.specs.Names.{Bytes}
 use Rattle.byte_text.specs.Lines.{line, bulk_text}
 use Rattle.byte_text.specs.Requests.{AreShort, request_text, IsRequest, max_word, max_words, max_request, total}
-use Rattle.byte_text.specs.Streams.{Front, Grammar, ◌>>=◌, ◌>>◌, done, found, begun, broken, go_on, byte, bytes_of, is_digit, with_digit, with_byte, one_more, unless, number_end, number, count_limit, word_limit, word, words, request}
+use Rattle.byte_text.specs.Streams.{Front, Grammar, ◌>>=◌, ◌>>◌, done, found, begun, broken, read_then, byte, bytes_of, is_digit, with_digit, with_byte, one_more, unless_fault, number_end, number_line, count_limit, word_limit, word, words, request}
 use Rattle.byte_text.specs.declared.faults.RespFault.{RespFault}
 use Rattle.byte_text.specs.declared.faults.RespFault.TheVariants.{BadType, BadEnd, TooMany, TooLong}
 use Rattle.byte_text.specs.LineLaws.{line-append, bulk_text-append}
@@ -19,7 +19,7 @@ record Parts {A B : Type 0} (k : A → Grammar B) (x : Front A) (value : B) (beh
   pub is : x ≡ found first rest
   pub second : k first rest ≡ found value behind
 
-parts : {A B : Type 0} (k : A → Grammar B) (x : Front A) (v : B) (r : Bytes) → go_on k x ≡ found v r → Parts k x v r
+parts : {A B : Type 0} (k : A → Grammar B) (x : Front A) (v : B) (r : Bytes) → read_then k x ≡ found v r → Parts k x v r
 parts k (found a rest) v r e = record { first = a; rest = rest; is = refl; second = e }
 parts k begun v r e = absurd (cc e)
 parts k (broken fault) v r e = absurd (cc e)
@@ -89,7 +89,7 @@ IsLimit limit = (n : ℕ) → limit n ≡ None → n < 2 ^ 64
 record IsNumber (limit : ℕ → Option RespFault) (so_far : Option ℕ) (bytes : Bytes) (n : ℕ) (r : Bytes) : Type 0 where
   pub digits : Bytes
   pub text : bytes ≡ digits ++ 13 ∷ r
-  pub number : digits_text so_far ++ digits ≡ decimal n
+  pub number_line : digits_text so_far ++ digits ≡ decimal n
   pub fine : limit n ≡ None
 
 end_found : (limit : ℕ → Option RespFault) (so_far : Option ℕ) (b : ℕ) (bytes : Bytes) (n : ℕ) (r : Bytes) → IfSome so_far (λ m. limit m ≡ None) → b ≡ 13 → number_end so_far bytes ≡ found n r → IsNumber limit so_far (b ∷ bytes) n r
@@ -97,9 +97,9 @@ end_found limit None b bytes n r f t e = absurd (cc e)
 end_found limit (Some m) b bytes n r f t e =
     let is : m ≡ n = cc e in
     let rest : bytes ≡ r = cc e in
-    record { digits = []; text = cc (t, rest); number = append-nil (decimal m) ∙ ap decimal is; fine = ap limit (sym is) ∙ f }
+    record { digits = []; text = cc (t, rest); number_line = append-nil (decimal m) ∙ ap decimal is; fine = ap limit (sym is) ∙ f }
 
-unless_found : (l : Option RespFault) (x : Front ℕ) (n : ℕ) (r : Bytes) → unless l x ≡ found n r → (l ≡ None) × (x ≡ found n r)
+unless_found : (l : Option RespFault) (x : Front ℕ) (n : ℕ) (r : Bytes) → unless_fault l x ≡ found n r → (l ≡ None) × (x ≡ found n r)
 unless_found None x n r e = (refl, e)
 unless_found (Some fault) x n r e = absurd (cc e)
 
@@ -108,22 +108,22 @@ one_more_found limit None next n r e = absurd (cc e)
 one_more_found limit (Some m) next n r e = let h = unless_found (limit m) (next (Some m)) n r e in (m, refl, h.0, h.1)
 
 number_test : (limit : ℕ → Option RespFault) → IsLimit limit → (so_far : Option ℕ) (b : ℕ) (bytes : Bytes) (n : ℕ) (r : Bytes) → IfSome so_far (λ m. limit m ≡ None)
-    → ((m : ℕ) → limit m ≡ None → number limit (Some m) bytes ≡ found n r → IsNumber limit (Some m) bytes n r)
-    → (t : Bool) → (b == 13) ≡ t → (if t then number_end so_far bytes else one_more limit (with_byte so_far b) (λ n. number limit n bytes)) ≡ found n r → IsNumber limit so_far (b ∷ bytes) n r
+    → ((m : ℕ) → limit m ≡ None → number_line limit (Some m) bytes ≡ found n r → IsNumber limit (Some m) bytes n r)
+    → (t : Bool) → (b == 13) ≡ t → (if t then number_end so_far bytes else one_more limit (with_byte so_far b) (λ n. number_line limit n bytes)) ≡ found n r → IsNumber limit so_far (b ∷ bytes) n r
 number_test limit i so_far b bytes n r f go true t e = end_found limit so_far b bytes n r f (eq_test b 13 t) e
 number_test limit i so_far b bytes n r f go false t e =
-    let h = one_more_found limit (with_byte so_far b) (λ n. number limit n bytes) n r e in
+    let h = one_more_found limit (with_byte so_far b) (λ n. number_line limit n bytes) n r e in
     let m = h.0 in
     let others = go m h.2 h.3 in
     let one : decimal m ≡ digits_text so_far ++ b ∷ [] = byte_text so_far b m (is_digit b) refl (i m h.2) h.1 in
     record {
       digits = b ∷ others.digits;
       text = ap (λ x. b ∷ x) others.text;
-      number = sym (append_assoc (digits_text so_far) (b ∷ []) others.digits) ∙ ap (λ x. x ++ others.digits) (sym one) ∙ others.number;
+      number_line = sym (append_assoc (digits_text so_far) (b ∷ []) others.digits) ∙ ap (λ x. x ++ others.digits) (sym one) ∙ others.number_line;
       fine = others.fine;
     }
 
-number_found : (limit : ℕ → Option RespFault) → IsLimit limit → (bytes : Bytes) (so_far : Option ℕ) (n : ℕ) (r : Bytes) → IfSome so_far (λ m. limit m ≡ None) → number limit so_far bytes ≡ found n r → IsNumber limit so_far bytes n r
+number_found : (limit : ℕ → Option RespFault) → IsLimit limit → (bytes : Bytes) (so_far : Option ℕ) (n : ℕ) (r : Bytes) → IfSome so_far (λ m. limit m ≡ None) → number_line limit so_far bytes ≡ found n r → IsNumber limit so_far bytes n r
 number_found limit i [] so_far n r f e = absurd (cc e)
 number_found limit i (b ∷ bytes) so_far n r f e = number_test limit i so_far b bytes n r f (λ m l e. number_found limit i bytes (Some m) n r l e) (b == 13) refl e
 
@@ -141,8 +141,8 @@ word_is_limit allowed n e = omega (arith, (within allowed n e).0)
 
 word_found : (allowed : ℕ) (bytes w r : Bytes) → word allowed bytes ≡ found w r → (bytes ≡ bulk_text w ++ r) × (length w ≤ max_word) × (length w ≤ allowed)
 word_found allowed bytes w r e =
-    let p = parts (λ u. number (word_limit allowed) None >>= behind_length) (byte 36 BadType bytes) w r e in
-    let q = parts behind_length (number (word_limit allowed) None p.rest) w r p.second in
+    let p = parts (λ u. number_line (word_limit allowed) None >>= behind_length) (byte 36 BadType bytes) w r e in
+    let q = parts behind_length (number_line (word_limit allowed) None p.rest) w r p.second in
     let s = parts (λ u. bytes_of q.first >>= word_end) (byte 10 BadEnd q.rest) w r q.second in
     let t = parts word_end (bytes_of q.first s.rest) w r s.second in
     let u = parts (λ u. byte 10 BadEnd >> done t.first) (byte 13 BadEnd t.rest) w r t.second in
@@ -155,7 +155,7 @@ word_found allowed bytes w r e =
     let n : length w ≡ q.first = sym (ap length is) ∙ text.1 in
     let behind : t.rest ≡ 13 ∷ 10 ∷ r = byte_found 13 BadEnd t.rest u.first u.rest u.is ∙ ap (λ x. 13 ∷ x) (byte_found 10 BadEnd u.rest v.first v.rest v.is ∙ ap (λ x. 10 ∷ x) end) in
     let body : q.rest ≡ 10 ∷ (w ++ 13 ∷ 10 ∷ r) = byte_found 10 BadEnd q.rest s.first s.rest s.is ∙ ap (λ x. 10 ∷ x) (text.0 ∙ ap (λ x. x ++ t.rest) is ∙ ap (λ x. w ++ x) behind) in
-    let head : p.rest ≡ decimal (length w) ++ 13 ∷ 10 ∷ (w ++ 13 ∷ 10 ∷ r) = size.text ∙ ap (λ x. x ++ 13 ∷ q.rest) (size.number ∙ ap decimal (sym n)) ∙ ap (λ x. decimal (length w) ++ 13 ∷ x) body in
+    let head : p.rest ≡ decimal (length w) ++ 13 ∷ 10 ∷ (w ++ 13 ∷ 10 ∷ r) = size.text ∙ ap (λ x. x ++ 13 ∷ q.rest) (size.number_line ∙ ap decimal (sym n)) ∙ ap (λ x. decimal (length w) ++ 13 ∷ x) body in
     let whole : bytes ≡ 36 ∷ (decimal (length w) ++ 13 ∷ 10 ∷ (w ++ 13 ∷ 10 ∷ r)) = byte_found 36 BadType bytes p.first p.rest p.is ∙ ap (λ x. 36 ∷ x) head in
     (whole ∙ sym (bulk_text-append w r ∙ line-append 36 (decimal (length w)) (w ++ 13 ∷ 10 ∷ r)), omega (arith, n, limits.0), omega (arith, n, limits.1))
 
@@ -197,14 +197,14 @@ count_is_limit n e = omega (arith, (count_within n e).1)
 pub request_found : (bytes : Bytes) (ws : List Bytes) (r : Bytes) → request bytes ≡ found ws r → IsRequest ws × (bytes ≡ request_text ws ++ r)
 unfolding request
 request_found bytes ws r e =
-    let p = parts (λ u. number count_limit None >>= behind_count) (byte 42 BadType bytes) ws r e in
-    let q = parts behind_count (number count_limit None p.rest) ws r p.second in
+    let p = parts (λ u. number_line count_limit None >>= behind_count) (byte 42 BadType bytes) ws r e in
+    let q = parts behind_count (number_line count_limit None p.rest) ws r p.second in
     let s = parts (λ u. words q.first max_request) (byte 10 BadEnd q.rest) ws r q.second in
     let size = number_found count_limit count_is_limit p.rest None q.first q.rest tt q.is in
     let limits = count_within q.first size.fine in
     let w = words_found q.first max_request s.rest ws r s.second in
     let body : q.rest ≡ 10 ∷ (flat_map bulk_text ws ++ r) = byte_found 10 BadEnd q.rest s.first s.rest s.is ∙ ap (λ x. 10 ∷ x) w.text in
-    let head : p.rest ≡ decimal (length ws) ++ 13 ∷ 10 ∷ (flat_map bulk_text ws ++ r) = size.text ∙ ap (λ x. x ++ 13 ∷ q.rest) (size.number ∙ ap decimal (sym w.count)) ∙ ap (λ x. decimal (length ws) ++ 13 ∷ x) body in
+    let head : p.rest ≡ decimal (length ws) ++ 13 ∷ 10 ∷ (flat_map bulk_text ws ++ r) = size.text ∙ ap (λ x. x ++ 13 ∷ q.rest) (size.number_line ∙ ap decimal (sym w.count)) ∙ ap (λ x. decimal (length ws) ++ 13 ∷ x) body in
     let whole : bytes ≡ 42 ∷ (decimal (length ws) ++ 13 ∷ 10 ∷ (flat_map bulk_text ws ++ r)) = byte_found 42 BadType bytes p.first p.rest p.is ∙ ap (λ x. 42 ∷ x) head in (
       record {
         some = omega (arith, limits.0, w.count);

@@ -4,7 +4,7 @@ use Rattle.std.proofs.lemmas.List.{nil_from_length}
 use Rattle.byte_text.specs.Names.{Bytes}
 use Rattle.byte_text.specs.Lines.{line_end, bulk_text}
 use Rattle.byte_text.specs.Requests.{request_text, IsRequestText}
-use Rattle.byte_text.specs.Streams.{Front, found, begun, broken, request, Stream, holds, fails, Ending, with_first, only_rest, only_fault, stream_behind, first_requests, stream_of, fed, fed_ending}
+use Rattle.byte_text.specs.Streams.{Front, found, begun, broken, request, holds, fails, StreamEnd, with_first, only_rest, only_fault, stream_behind, first_requests, stream_of, fed, fed_ending}
 use Rattle.byte_text.specs.declared.faults.RespFault.{RespFault}
 use Rattle.byte_text.proofs.StreamTexts.{request_read}
 use Rattle.byte_text.proofs.StreamFound.{request_found}
@@ -72,7 +72,7 @@ opened : (bytes : Bytes) → stream_of bytes ≡ stream_behind bytes (request by
 unfolding stream_of
 opened bytes = enough (length bytes) (suc (length bytes)) bytes (omega arith) (omega arith)
 
-fed_behind : (first : List Bytes) (requests : List (List Bytes)) (ending : Ending) (more : Bytes)
+fed_behind : (first : List Bytes) (requests : List (List Bytes)) (ending : StreamEnd) (more : Bytes)
     → (record { requests = first ∷ (fed_ending requests ending more).requests; ending = (fed_ending requests ending more).ending }) ≡ fed_ending (first ∷ requests) ending more
 fed_behind first requests (holds rest) more = refl
 fed_behind first requests (fails fault) more = refl

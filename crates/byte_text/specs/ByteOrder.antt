@@ -1,5 +1,5 @@
 -- Laws of the order of lists of bytes, and of their equality.
-use Rattle.std.proofs.Common.{◌≡◌, zero, suc, ℕ, true, false, refl, List, [], ◌∷◌, arith}
+use Rattle.std.proofs.Common.{◌≡◌, ℕ, true, false, refl, List, [], ◌∷◌, arith}
 use Rattle.std.proofs.lemmas.Bool.Decides.{nat_tests}
 use Rattle.std.proofs.lemmas.Cmp.{same_from_slice_cmp}
 use Rattle.std.specs.Ordering.{nat_cmp, is_lt, MatchOrdering}

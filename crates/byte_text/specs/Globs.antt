@@ -102,6 +102,11 @@ tokens pattern = tokens_from (signs (chars pattern)) outside
 unfoldable pub is_well_formed : Bytes → Bool
 is_well_formed pattern = is_some (tokens pattern)
 
+-- a pattern, where there is one, is well formed
+abbrev pub is_sound_glob : Option Bytes → Bool
+is_sound_glob None = true
+is_sound_glob (Some pattern) = is_well_formed pattern
+
 abbrev pub in_item : ℕ → Item → Bool
 in_item c i = nat_le i.0 c && nat_le c i.1
 

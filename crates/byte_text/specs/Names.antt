@@ -1,8 +1,11 @@
 -- Lists of bytes: their order, words without regard to case, names.
 use Rattle.std.specs.Prelude.{ℕ, Bool, true, false, ◌&&◌, ◌||◌, ◌==◌, nat_eq, nat_lt, nat_le, List, [], ◌∷◌, length, bytes_eq, Option, Some, None, if◌then◌else◌, Result, Err, MatchResult, ◌≡◌}
 use Rattle.std.specs.Str.{is_utf8, str_eq_ignore_ascii_case}
+use Rattle.byte_text.specs.declared.limits.TheConstants.{MAX_NAME}
 use Rattle.byte_text.specs.declared.texts.TextFault.{TextFault}
-use Rattle.byte_text.specs.declared.texts.TextFault.TheVariants.{Empty, TooLong, NotUtf8, Memory}
+use Rattle.byte_text.specs.declared.texts.TextFault.TheVariants.{Empty, TooLong, NotUtf8}
+use Rattle.byte_text.specs.declared.texts.NameFault.{NameFault}
+use Rattle.byte_text.specs.declared.texts.NameFault.TheVariants.{Refused, Memory}
 
 abbrev pub Bytes : Type 0
 Bytes = List ℕ
@@ -24,7 +27,7 @@ is_word = str_eq_ignore_ascii_case
 
 -- the most bytes of a name
 abbrev pub max_name : ℕ
-max_name = 255
+max_name = MAX_NAME
 
 -- a name: 1 to 255 bytes of UTF-8
 abbrev pub is_name : Bytes → Bool
@@ -35,6 +38,6 @@ abbrev pub name_fault : Bytes → Option TextFault
 name_fault w = if nat_eq (length w) 0 then Some Empty else if nat_lt max_name (length w) then Some TooLong else if is_utf8 w then None else Some NotUtf8
 
 -- an answer to bytes with this fault, if any: the fault; and for a name its bytes, or want of memory
-abbrev pub IsNameOf : Option TextFault → Bytes → Result Bytes TextFault → Type 0
-IsNameOf (Some fault) w answer = answer ≡ Err fault
+abbrev pub IsNameOf : Option TextFault → Bytes → Result Bytes NameFault → Type 0
+IsNameOf (Some fault) w answer = answer ≡ Err (Refused fault)
 IsNameOf None w answer = MatchResult answer (λ name. name ≡ w) (λ fault. fault ≡ Memory)

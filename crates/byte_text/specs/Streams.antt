@@ -16,15 +16,15 @@ pub data Front (A : Type 0) : Type 0 where
 abbrev pub Grammar : Type 0 → Type 0
 Grammar A = Bytes → Front A
 
-abbrev pub go_on : {A B : Type 0} → (A → Grammar B) → Front A → Front B
-go_on next (found value behind) = next value behind
-go_on next begun = begun
-go_on next (broken fault) = broken fault
+abbrev pub read_then : {A B : Type 0} → (A → Grammar B) → Front A → Front B
+read_then next (found value behind) = next value behind
+read_then next begun = begun
+read_then next (broken fault) = broken fault
 
 -- one thing, and then another, which may depend on it
 infixl 1 ◌>>=◌
 abbrev pub ◌>>=◌ : {A B : Type 0} → Grammar A → (A → Grammar B) → Grammar B
-◌>>=◌ first next bytes = go_on next (first bytes)
+◌>>=◌ first next bytes = read_then next (first bytes)
 
 infixl 1 ◌>>◌
 abbrev pub ◌>>◌ : {A B : Type 0} → Grammar A → Grammar B → Grammar B
@@ -56,14 +56,14 @@ with_digit (Some (suc n)) digit = Some (suc n * 10 + digit)
 abbrev pub with_byte : Option ℕ → ℕ → Option ℕ
 with_byte so_far b = if is_digit b then with_digit so_far (b - 48) else None
 
-abbrev pub unless : {A : Type 0} → Option RespFault → Front A → Front A
-unless None front = front
-unless (Some fault) front = broken fault
+abbrev pub unless_fault : {A : Type 0} → Option RespFault → Front A → Front A
+unless_fault None front = front
+unless_fault (Some fault) front = broken fault
 
 -- a digit that makes the number pass its limit has the limit's fault
 abbrev pub one_more : (ℕ → Option RespFault) → Option ℕ → (Option ℕ → Front ℕ) → Front ℕ
 one_more limit None next = broken BadLength
-one_more limit (Some n) next = unless (limit n) (next (Some n))
+one_more limit (Some n) next = unless_fault (limit n) (next (Some n))
 
 -- a CR ends a number of at least one digit
 abbrev pub number_end : Option ℕ → Grammar ℕ
@@ -71,9 +71,9 @@ number_end None bytes = broken BadLength
 number_end (Some n) bytes = found n bytes
 
 -- a canonical number behind the digits of `so_far`, and its CR
-abbrev pub number : (ℕ → Option RespFault) → Option ℕ → Grammar ℕ
-number limit so_far [] = begun
-number limit so_far (b ∷ bytes) = if b == 13 then number_end so_far bytes else one_more limit (with_byte so_far b) (λ n. number limit n bytes)
+abbrev pub number_line : (ℕ → Option RespFault) → Option ℕ → Grammar ℕ
+number_line limit so_far [] = begun
+number_line limit so_far (b ∷ bytes) = if b == 13 then number_end so_far bytes else one_more limit (with_byte so_far b) (λ n. number_line limit n bytes)
 
 -- a request has a word
 abbrev pub count_limit : ℕ → Option RespFault
@@ -88,7 +88,7 @@ word_limit allowed n = if nat_le n max_word && nat_le n allowed then None else S
 abbrev pub word : ℕ → Grammar Bytes
 word allowed = do
   byte 36 BadType
-  n ← number (word_limit allowed) None
+  n ← number_line (word_limit allowed) None
   byte 10 BadEnd
   text ← bytes_of n
   byte 13 BadEnd
@@ -107,18 +107,18 @@ words (suc n) allowed = do
 unfoldable pub request : Grammar (List Bytes)
 request = do
   byte 42 BadType
-  n ← number count_limit None
+  n ← number_line count_limit None
   byte 10 BadEnd
   words n max_request
 
 -- a stream: its whole requests, and either the bytes behind the last one, which begin another, or the fault behind it
-pub data Ending : Type 0 where
-  holds : (rest : Bytes) → Ending
-  fails : (fault : RespFault) → Ending
+pub data StreamEnd : Type 0 where
+  holds : (rest : Bytes) → StreamEnd
+  fails : (fault : RespFault) → StreamEnd
 
 pub record Stream : Type 0 where
   pub requests : List (List Bytes)
-  pub ending : Ending
+  pub ending : StreamEnd
 
 -- a request, and then a stream
 abbrev pub with_first : List Bytes → Stream → Stream
@@ -147,7 +147,7 @@ unfoldable pub stream_of : Bytes → Stream
 stream_of bytes = first_requests (length bytes) bytes
 
 -- the stream with more bytes behind it: its rest goes on, and nothing comes behind a fault
-abbrev pub fed_ending : List (List Bytes) → Ending → Bytes → Stream
+abbrev pub fed_ending : List (List Bytes) → StreamEnd → Bytes → Stream
 fed_ending requests (holds rest) more = let others = stream_of (rest ++ more) in record { requests = requests ++ others.requests; ending = others.ending }
 fed_ending requests (fails fault) more = record { requests = requests; ending = fails fault }
 

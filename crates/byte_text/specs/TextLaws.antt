@@ -14,4 +14,11 @@ kept_more [] x c e = refl
 kept_more (b ∷ a) x [] e = grind arith
 kept_more (b ∷ a) x (d ∷ c) e = let rest = kept_more a x c in grind arith
 
+-- what keeps a front that keeps another keeps that one
+pub kept_through : (a b c : Bytes) → take (length a) b ≡ a → take (length b) c ≡ b → take (length a) c ≡ a
+kept_through [] b c p q = refl
+kept_through (x ∷ a) [] c p q = grind arith
+kept_through (x ∷ a) (y ∷ b) [] p q = grind arith
+kept_through (x ∷ a) (y ∷ b) (z ∷ c) p q = let rest = kept_through a b c in grind arith
+
 pub ruleset kept = (kept_same, kept_append, kept_more)

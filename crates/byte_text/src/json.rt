@@ -1,3 +1,5 @@
+//! JSON strings (RFC 8259, section 7), written.
+
 ghost use Rattle.std.specs.Prelude.{◌≡◌, ◌<◌, ◌++◌, OnOk, OnErr, length, take, flat_map};
 ghost use Rattle.byte_text.specs.JsonText.{hex_digit, json_byte, quoted};
 

@@ -3,6 +3,7 @@
 
 mod faults;
 mod json;
+mod limits;
 mod names;
 mod numbers;
 mod replies;
@@ -12,12 +13,13 @@ mod texts;
 
 pub use faults::RespFault;
 pub use json::push_json;
+pub use limits::{MAX_NAME, MAX_REQUEST, MAX_WORD, MAX_WORDS};
 pub use names::Name;
 pub use numbers::{push_i64, push_u64, read_i64, read_u64};
 pub use replies::{Piece, Reply, frame_texts_differ, lists_are_whole, push_frame};
 pub use requests::{Request, push_request, request_texts_differ};
 pub use streams::{requests_are_read, streams_read_once};
-pub use texts::{NoMemory, Text, TextFault};
+pub use texts::{NameFault, NoMemory, Text, TextFault};
 
 #[cfg(test)]
 mod tests;

@@ -1,3 +1,5 @@
+//! Names: keys, ids and the like, in byte order.
+
 ghost use Rattle.std.specs.Prelude.{◌≡◌, ◌==◌, IfOk, true};
 ghost use Rattle.std.proofs.Common.{rules};
 ghost use Rattle.std.specs.Hash as fed;
@@ -7,7 +9,8 @@ ghost use Rattle.std.specs.Cmp.Lexicographic.{pointwise, slice_cmp};
 ghost use Rattle.std.specs.Ordering.{nat_cmp, as_partial_cmp};
 ghost use Rattle.byte_text.specs.Names.{is_name, name_fault, IsNameOf};
 
-use crate::texts::{NoMemory, TextFault};
+use crate::limits::MAX_NAME;
+use crate::texts::{NameFault, NoMemory, TextFault};
 use std::alloc::Global;
 use std::cmp::Ordering;
 use std::hash::{Hash, Hasher};
@@ -37,7 +40,7 @@ fn fault_of(bytes: &[u8]) -> Option<TextFault>
     if bytes.is_empty() {
         return Some(TextFault::Empty);
     }
-    if bytes.len() > 255 {
+    if bytes.len() > MAX_NAME {
         return Some(TextFault::TooLong);
     }
     match std::str::from_utf8(bytes) {
@@ -47,17 +50,17 @@ fn fault_of(bytes: &[u8]) -> Option<TextFault>
 }
 
 impl Name {
-    /// The name of these bytes. Empty where there is none, else TooLong over 255 bytes, else NotUtf8 where they are not
-    /// UTF-8; Memory for want of memory.
-    pub fn of(alloc: Global, bytes: &[u8]) -> Result<Name, TextFault>
+    /// The name of these bytes. Refused is Empty where there is none, else TooLong over 255 bytes, else NotUtf8 where they
+    /// are not UTF-8; Memory for want of memory.
+    pub fn of(alloc: Global, bytes: &[u8]) -> Result<Name, NameFault>
         ensures { IsNameOf (name_fault bytes.now) bytes.now result }
     {
         if let Some(fault) = fault_of(bytes) {
-            return Err(fault);
+            return Err(NameFault::Refused(fault));
         }
         match bytes.to_vec(alloc) {
             Ok(bytes) => Ok(Name { bytes }),
-            Err(_) => Err(TextFault::Memory),
+            Err(_) => Err(NameFault::Memory),
         }
     }
 

@@ -1,3 +1,5 @@
+//! Replies (RESP2): pieces, whole replies, and the texts of their frames.
+
 ghost use Rattle.std.specs.Prelude.{◌≡◌, ℕ, List, ◌++◌, ◌∷◌, [], OnOk, OnErr, IfErr, length, take, slice_get, Some, ◌<◌, ◌+◌};
 ghost use Rattle.std.specs.Fmt.{signed_decimal};
 ghost use Rattle.std.specs.List.{AllByRecursion};

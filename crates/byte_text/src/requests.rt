@@ -1,7 +1,9 @@
+//! Requests (RESP2): words within limits, and their texts.
+
 ghost use Rattle.byte_text.specs.Names.{Bytes};
-ghost use Rattle.std.specs.Prelude.{◌≡◌, ℕ, List, ◌++◌, ◌∷◌, [], ◌<◌, length, take, slice_get, Some, OnOk, OnErr, decimal};
+ghost use Rattle.std.specs.Prelude.{◌≡◌, ℕ, List, ◌++◌, ◌∷◌, [], ◌<◌, ◌≤◌, ◌-◌, length, take, drop, slice_get, Some, OnOk, OnErr, IfOk, decimal};
 ghost use Rattle.byte_text.specs.Lines.{line, bulk_text};
-ghost use Rattle.byte_text.specs.Requests.{FitsRequest, IsRequest, request_text};
+ghost use Rattle.byte_text.specs.Requests.{FitsRequest, IsRequest, request_text, start_of};
 
 use crate::numbers::push_u64;
 use crate::texts::{NoMemory, Text};
@@ -9,21 +11,23 @@ use std::alloc::Global;
 use std::marker::Model;
 
 /// A list of words, each a list of bytes: at most 4,096 words, each of at most 1,048,576 bytes, together of at most 2,097,152.
+/// The words lie in one buffer, one behind another.
 #[derive(Drop)]
 pub struct Request {
-    alloc: Global,
-    words: Vec<Text>,
+    bytes: Vec<u8>,
+    // Where each word ends.
+    ends: Vec<u32>,
 }
 
 impl Model for Request {
-    ghost use Rattle.std.specs.Prelude.{List, ℕ};
-    ghost use Rattle.byte_text.specs.Requests.{FitsRequest};
+    ghost use Rattle.std.specs.Prelude.{List, ℕ, length};
+    ghost use Rattle.byte_text.specs.Requests.{FitsRequest, Ascend, cut};
 
     ghost Value = { List (List ℕ) };
 
-    ghost view = { λ r. r.words.items };
+    ghost view = { λ r. cut 0 r.ends.items r.bytes.items };
 
-    ghost invariant = { λ r. FitsRequest r.words.items };
+    ghost invariant = { λ r. FitsRequest (cut 0 r.ends.items r.bytes.items) × Ascend 0 r.ends.items (length r.bytes.items) };
 }
 
 impl Request {
@@ -32,8 +36,21 @@ impl Request {
         ensures { result ≡ [] }
     {
         Request {
-            alloc,
-            words: Vec::new(alloc),
+            bytes: Vec::new(alloc),
+            ends: Vec::new(alloc),
+        }
+    }
+
+    /// No word, with room for so many words of so many bytes together.
+    pub fn with_room(alloc: Global, words: usize, bytes: usize) -> Result<Request, NoMemory>
+        ensures { IfOk result (λ r. r ≡ []) }
+    {
+        let Ok(bytes) = Vec::with_capacity(alloc, bytes) else {
+            return Err(NoMemory);
+        };
+        match Vec::with_capacity(alloc, words) {
+            Ok(ends) => Ok(Request { bytes, ends }),
+            Err(_) => Err(NoMemory),
         }
     }
 
@@ -43,11 +60,16 @@ impl Request {
         ensures ok { OnOk result (self.new ≡ self.old ++ word.now ∷ []) }
         ensures err { OnErr result (self.new ≡ self.old) }
     {
-        let mut text = Text::new(self.alloc);
-        text.push(word)?;
-        match self.words.push(text) {
+        let before = self.bytes.len();
+        if self.bytes.extend_from_slice(word).is_err() {
+            return Err(NoMemory);
+        }
+        match self.ends.push(self.bytes.len() as u32) {
             Ok(()) => Ok(()),
-            Err(_) => Err(NoMemory),
+            Err(_) => {
+                self.bytes.truncate(before);
+                Err(NoMemory)
+            }
         }
     }
 
@@ -56,7 +78,7 @@ impl Request {
         ensures count { result ≡ length self.now }
         ensures fits { FitsRequest self.now }
     {
-        self.words.len()
+        self.ends.len()
     }
 
     /// The word at this place, counted from 0.
@@ -64,8 +86,26 @@ impl Request {
         requires { at < length self.now }
         ensures { slice_get self.now at ≡ Some result.now }
     {
-        self.words[at].bytes()
+        let ends = self.ends.as_slice();
+        let (start, end) = (start_of(ends, at), start_of(ends, at + 1));
+        part(self.bytes.as_slice(), start, end)
     }
+}
+
+// The bytes from one place to another.
+fn part(bytes: &[u8], start: usize, end: usize) -> &[u8]
+    requires { (start ≤ end) × (end ≤ length bytes.now) }
+    ensures { result.now ≡ take (end - start) (drop start bytes.now) }
+{
+    &bytes[start..end]
+}
+
+// Where the word at a place begins, and the one before it ends.
+fn start_of(ends: &[u32], at: usize) -> usize
+    requires { at ≤ length ends.now }
+    ensures { result ≡ start_of 0 ends.now at }
+{
+    if at == 0 { 0 } else { ends[at - 1] as usize }
 }
 
 // Appends a line: a mark, a number, CR LF.
@@ -96,9 +136,9 @@ fn push_words(into: &mut Text, request: &Request) -> Result<(), NoMemory>
     ensures ok { OnOk result (into.new ≡ into.old ++ request_text request.now) }
     ensures kept { take (length into.old) into.new ≡ into.old }
 {
-    push_header(into, b'*', request.words.len() as u64)?;
-    for word in &request.words {
-        push_bulk(into, word.bytes())?;
+    push_header(into, b'*', request.words() as u64)?;
+    for at in 0..request.words() {
+        push_bulk(into, request.word(at))?;
     }
     Ok(())
 }

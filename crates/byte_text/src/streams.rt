@@ -1,3 +1,5 @@
+//! Laws of streams of requests. Each is the contract of a function that does nothing.
+
 ghost use Rattle.std.specs.Prelude.{◌≡◌, ℕ, List, ◌++◌, ◌∷◌};
 ghost use Rattle.byte_text.specs.Names.{Bytes};
 ghost use Rattle.byte_text.specs.Requests.{IsRequest, IsRequestText, request_text};

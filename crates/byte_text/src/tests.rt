@@ -1,3 +1,5 @@
+//! Texts, numbers and frames from outside, and each call with ample memory.
+
 ghost use Rattle.std.specs.Prelude.{◌≡◌, ◌++◌, ◌∷◌, [], IfOk, OnOk};
 ghost use Rattle.byte_text.specs.Replies.{IsFrame};
 
@@ -6,21 +8,28 @@ use std::alloc::Global;
 use std::collections::HashMap;
 use std::test::Fail;
 
-fn text_of(alloc: Global, bytes: &[u8]) -> Result<Text, NoMemory>
-    ensures { IfOk result (λ t. t ≡ bytes.now) }
-{
-    let mut text = Text::new(alloc);
-    text.push(bytes)?;
-    Ok(text)
-}
-
 #[test]
 fn names(rt: HostRuntime) -> Result<(), Fail> {
     let alloc = rt.alloc();
     let long = [b'a'; 256];
-    assert!(rt; matches!(Name::of(alloc, b""), Err(TextFault::Empty)));
-    assert!(rt; matches!(Name::of(alloc, &long), Err(TextFault::TooLong)));
-    assert!(rt; matches!(Name::of(alloc, b"\xFF"), Err(TextFault::NotUtf8)));
+    assert!(rt;
+        matches!(
+            Name::of(alloc, b""),
+            Err(NameFault::Refused(TextFault::Empty))
+        )
+    );
+    assert!(rt;
+        matches!(
+            Name::of(alloc, &long),
+            Err(NameFault::Refused(TextFault::TooLong))
+        )
+    );
+    assert!(rt;
+        matches!(
+            Name::of(alloc, b"\xFF"),
+            Err(NameFault::Refused(TextFault::NotUtf8))
+        )
+    );
     assert_eq!(rt; Name::of(alloc, &long[1..])?.bytes().len(), 255);
     let one = Name::of(alloc, b"v1")?;
     let two = one.copy(alloc)?;
@@ -36,10 +45,12 @@ fn names(rt: HostRuntime) -> Result<(), Fail> {
 
 #[test]
 fn texts(rt: HostRuntime) -> Result<(), Fail> {
-    let mut text = text_of(rt.alloc(), b"a")?;
+    let mut text = Text::with_room(rt.alloc(), 2)?;
+    text.push(b"a")?;
     let before = text.copy()?;
     text.push(b"b")?;
     assert_eq!(rt; text.bytes(), b"ab".as_slice());
+    assert_eq!(rt; Text::of(rt.alloc(), b"ab")?.bytes(), text.bytes());
     assert_eq!(rt; before.bytes(), b"a".as_slice());
     Ok(())
 }
@@ -103,6 +114,12 @@ fn requests(rt: HostRuntime) -> Result<(), Fail> {
     let mut text = Text::new(rt.alloc());
     push_request(&mut text, &request)?;
     assert_eq!(rt; text.bytes(), b"*1\r\n$4\r\nPING\r\n".as_slice());
+    let mut request = Request::with_room(rt.alloc(), 2, 1)?;
+    request.push(b"")?;
+    request.push(b"key")?;
+    assert_eq!(rt; request.words(), 2);
+    assert_eq!(rt; request.word(0), b"".as_slice());
+    assert_eq!(rt; request.word(1), b"key".as_slice());
     Ok(())
 }
 
@@ -121,10 +138,10 @@ fn every_piece(alloc: Global) -> Result<Reply, NoMemory>
 {
     let mut reply = Reply::new(alloc);
     put(&mut reply, Piece::List(6))?;
-    put(&mut reply, Piece::Status(text_of(alloc, b"OK")?))?;
-    put(&mut reply, Piece::Fault(text_of(alloc, b"ERR x")?))?;
+    put(&mut reply, Piece::Status(Text::of(alloc, b"OK")?))?;
+    put(&mut reply, Piece::Fault(Text::of(alloc, b"ERR x")?))?;
     put(&mut reply, Piece::Number(-12))?;
-    put(&mut reply, Piece::Bulk(text_of(alloc, b"a\r\nb")?))?;
+    put(&mut reply, Piece::Bulk(Text::of(alloc, b"a\r\nb")?))?;
     put(&mut reply, Piece::NoBulk)?;
     put(&mut reply, Piece::NoList)?;
     Ok(reply)

@@ -1,3 +1,5 @@
+//! Lists of bytes, and why bytes are no name or no number.
+
 ghost use Rattle.std.specs.Prelude.{◌≡◌, ◌++◌, [], IfOk, OnOk, OnErr, length, take};
 
 use std::alloc::Global;
@@ -18,6 +20,13 @@ pub enum TextFault {
     NotUtf8,
     /// The bytes are not the canonical text of a number of the type.
     NotNumber,
+}
+
+/// Why no name was made of bytes.
+#[derive(Clone, Copy, Debug, PartialEq, Eq)]
+pub enum NameFault {
+    /// The bytes are no name.
+    Refused(TextFault),
     /// Want of memory.
     Memory,
 }
@@ -45,6 +54,26 @@ impl Text {
         Text {
             alloc,
             bytes: Vec::new(alloc),
+        }
+    }
+
+    /// The empty text, with room for so many bytes.
+    pub fn with_room(alloc: Global, room: usize) -> Result<Text, NoMemory>
+        ensures { IfOk result (λ t. t ≡ []) }
+    {
+        match Vec::with_capacity(alloc, room) {
+            Ok(bytes) => Ok(Text { alloc, bytes }),
+            Err(_) => Err(NoMemory),
+        }
+    }
+
+    /// The text of these bytes.
+    pub fn of(alloc: Global, bytes: &[u8]) -> Result<Text, NoMemory>
+        ensures { IfOk result (λ t. t ≡ bytes.now) }
+    {
+        match bytes.to_vec(alloc) {
+            Ok(bytes) => Ok(Text { alloc, bytes }),
+            Err(_) => Err(NoMemory),
         }
     }
 

@@ -1,5 +1,5 @@
 -- The box round a box and points.
-use Rattle.std.proofs.Common.{◌≡◌, ◌≢◌, ◌<◌, ℤ, refl, sym, ◌∙◌, ap, subst, List, [], ◌∷◌, length, flat_map, arith, ◌≤ℤ◌}
+use Rattle.std.proofs.Common.{◌≡◌, ◌≢◌, ◌<◌, ℤ, refl, sym, ◌∙◌, ap, List, [], ◌∷◌, length, flat_map, arith, ◌≤ℤ◌}
 use Rattle.std.specs.Prelude.{Option, Some, None, fold}
 use Rattle.std.specs.Int.{int_min, int_max}
 use Rattle.std.proofs.lemmas.Int.{ints, int_min_is, int_max_is}

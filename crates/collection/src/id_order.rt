@@ -7,8 +7,8 @@ ghost use Rattle.ordered_lists.specs.Lists.{IsHeld, IsFree};
 ghost use Rattle.collection.specs.Objects.{are_by_id};
 
 use byte_text::Name;
-use std::mem;
 use ordered_lists::{is_before, is_same};
+use std::mem;
 use world_data::Object;
 
 /// The place of the object of this id, or, where there is none, the place where it would go.

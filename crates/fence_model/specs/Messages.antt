@@ -4,7 +4,7 @@ use Rattle.std.specs.Fmt.{signed_decimal}
 use Rattle.byte_text.specs.Names.{Bytes, same}
 use Rattle.byte_text.specs.JsonText.{quoted}
 use Rattle.planar_geom.specs.Points.{dist2, floor_root}
-use Rattle.geo_text.specs.Texts.{joined}
+use Rattle.geo_text.specs.Texts.{with_commas}
 use Rattle.world_data.specs.Worlds.{object_at, objects_of}
 use Rattle.world_data.specs.Filters.{Field}
 use Rattle.fence_model.specs.Fences.{raised_by_put, raised_by_del, raised_by_drop, near_pairs, roams_over, place_of}
@@ -26,7 +26,7 @@ abbrev text_member : Bytes → Bytes → Bytes
 text_member called text = member called (quoted text)
 
 abbrev braced : List Bytes → Bytes
-braced members = 123 ∷ joined members ++ 125 ∷ []
+braced members = 123 ∷ with_commas members ++ 125 ∷ []
 
 abbrev pub detect_name : Detect → Bytes
 detect_name Inside = codes "inside"

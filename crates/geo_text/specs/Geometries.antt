@@ -1,5 +1,5 @@
 -- RFC 7946, sections 1.4 and 3: the nine types of objects and their members, walked in order.
-use Rattle.std.specs.Prelude.{ℕ, ◌==◌, List, [], ◌∷◌, ◌++◌, Option, Some, None, Result, Ok, Err, if◌then◌else◌, codes, option_and_then, Bool, true, false, bytes_eq}
+use Rattle.std.specs.Prelude.{ℕ, ◌==◌, List, [], ◌∷◌, ◌++◌, Option, Some, None, Result, Ok, Err, if◌then◌else◌, codes, option_and_then, bytes_eq}
 use Rattle.std.specs.Ordering.{match_ordering, nat_cmp}
 use Rattle.std.specs.Cmp.Lexicographic.{slice_cmp}
 use Rattle.serde_json.specs.Data.{Data, null, boolean, number, string, array, object, Items, no_items, item, Members, no_members, member}
@@ -182,18 +182,18 @@ feature_item d count = do
   only_feature type_ d count
 
 -- one item after another, their parts one behind another
-unfoldable pub joined : (Data → ℕ → Result (Shape × ℕ) GeoFault) → Items → ℕ → Result (Shape × ℕ) GeoFault
-joined walk no_items count = Ok ([], count)
-joined walk (item d ds) count = do
+unfoldable pub parts_of_each : (Data → ℕ → Result (Shape × ℕ) GeoFault) → Items → ℕ → Result (Shape × ℕ) GeoFault
+parts_of_each walk no_items count = Ok ([], count)
+parts_of_each walk (item d ds) count = do
   first ← walk d count
-  others ← joined walk ds first.1
+  others ← parts_of_each walk ds first.1
   Ok (first.0 ++ others.0, others.1)
 
 -- section 3.3, FeatureCollection Object
 unfoldable pub features : Data → ℕ → Result (Shape × ℕ) GeoFault
 features d count = do
   ds ← array_at (codes "features") d
-  joined feature_item ds count
+  parts_of_each feature_item ds count
 
 abbrev pub top_of : GeoType → Data → Result (Shape × ℕ) GeoFault
 top_of Point d = geometry d 0

@@ -1,6 +1,6 @@
 -- The stored texts are read back.
-use Rattle.std.proofs.Common.{◌≡◌, ◌≢◌, ◌<◌, ◌≤◌, ◌^◌, ◌+◌, ◌%◌, length-append, ℕ, suc, ℤ, pos, negsuc, Bool, true, false, refl, sym, ◌∙◌, ap, subst, List, [], ◌∷◌, ◌++◌, length, decimal, nat_lt, arith, rules, append_assoc, ◌≤ℤ◌}
-use Rattle.std.specs.Prelude.{codes, filter, map, int_le, Option, Some, None, Result, Ok, Err, ◌&&◌, if◌then◌else◌}
+use Rattle.std.proofs.Common.{◌≡◌, ◌≢◌, ◌<◌, ◌≤◌, ◌^◌, ◌+◌, ◌%◌, length-append, ℕ, suc, ℤ, pos, negsuc, Bool, true, false, refl, sym, ◌∙◌, ap, List, [], ◌∷◌, ◌++◌, length, decimal, nat_lt, arith, rules, append_assoc, ◌≤ℤ◌}
+use Rattle.std.specs.Prelude.{filter, map, int_le, Some, None, ◌&&◌, if◌then◌else◌}
 use Rattle.std.specs.List.{list_all, AllByRecursion}
 use Rattle.std.specs.Fmt.{signed_decimal}
 use Rattle.std.proofs.lemmas.Bool.Decides.{nat_tests}
@@ -13,7 +13,7 @@ use Rattle.byte_text.specs.ByteOrder.{same_refl, same_equal}
 use Rattle.byte_text.specs.NumberLaws.{AreDigits, AreDigits-decimal, signed_back}
 use Rattle.planar_geom.specs.Points.{Point, Bounds, pt, bounds, InPlane, IsCoordinate, IsBox, is_coordinate, is_low_of}
 use Rattle.planar_geom.specs.declared.shapes.Part.TheVariants.{Spot, Face}
-use Rattle.geo_text.specs.Texts.{Shape, is_of_number, joins_first, stretches, numbers_in, in_plane, is_box, position_text, point_text, bounds_text, corners, joined, stored_by, stored_shape}
+use Rattle.geo_text.specs.Texts.{Shape, is_of_number, joins_first, digit_runs, numbers_in, in_plane, is_box, position_text, point_text, bounds_text, corners, with_commas, stored_by, stored_shape}
 
 le_is : (a b : ℤ) → a ≤ℤ b → int_le a b ≡ true
 le_is a b le = search rules
@@ -42,11 +42,11 @@ some_byte : (z : ℤ) → SFits w64 z → nat_lt 0 (length (signed_decimal z)) �
 some_byte (pos n) fits = let limit = fits.sfits in let h = some_digit n (grind arith) in grind (arith, nat_tests)
 some_byte (negsuc n) fits = grind (arith, nat_tests)
 
--- a stretch of a number's bytes, with another byte behind it
-stretch : (w : Bytes) (b : ℕ) (rest : Bytes) → list_all is_of_number w ≡ true → is_of_number b ≡ false → stretches (w ++ b ∷ rest) ≡ w ∷ stretches rest
-stretch [] b rest all other = grind arith
-stretch (a ∷ w) b rest all other =
-    let ih : list_all is_of_number w ≡ true → stretches (w ++ b ∷ rest) ≡ w ∷ stretches rest = λ more. stretch w b rest more other in
+-- a run of a number's bytes, with another byte behind it
+one_run : (w : Bytes) (b : ℕ) (rest : Bytes) → list_all is_of_number w ≡ true → is_of_number b ≡ false → digit_runs (w ++ b ∷ rest) ≡ w ∷ digit_runs rest
+one_run [] b rest all other = grind arith
+one_run (a ∷ w) b rest all other =
+    let ih : list_all is_of_number w ≡ true → digit_runs (w ++ b ∷ rest) ≡ w ∷ digit_runs rest = λ more. one_run w b rest more other in
     grind arith
 
 abbrev is_some_byte : Bytes → Bool
@@ -55,8 +55,8 @@ is_some_byte w = nat_lt 0 (length w)
 -- a number in front
 number_first : (z : ℤ) (b : ℕ) (rest : Bytes) → SFits w64 z → is_of_number b ≡ false → numbers_in (signed_decimal z ++ b ∷ rest) ≡ z ∷ numbers_in rest
 number_first z b rest fits other =
-    let ws = stretches rest in
-    ap (λ (stretched : List Bytes). map signed_value (filter is_some_byte stretched)) (stretch (signed_decimal z) b rest (signed_all z fits) other)
+    let ws = digit_runs rest in
+    ap (λ (stretched : List Bytes). map signed_value (filter is_some_byte stretched)) (one_run (signed_decimal z) b rest (signed_all z fits) other)
     ∙ ap (λ (t : Bool). map signed_value (if t then signed_decimal z ∷ filter is_some_byte ws else filter is_some_byte ws)) (some_byte z fits)
     ∙ ap (λ (y : ℤ). y ∷ numbers_in rest) (signed_back z fits)
 
@@ -69,7 +69,7 @@ unfolded p b rest =
     ap (λ (t : Bytes). 91 ∷ t) one
 
 other_byte : (b : ℕ) (rest : Bytes) → is_of_number b ≡ false → numbers_in (b ∷ rest) ≡ numbers_in rest
-other_byte b rest other = ap (λ (t : Bool). map signed_value (filter is_some_byte (if t then joins_first b (stretches rest) else [] ∷ stretches rest))) other
+other_byte b rest other = ap (λ (t : Bool). map signed_value (filter is_some_byte (if t then joins_first b (digit_runs rest) else [] ∷ digit_runs rest))) other
 
 -- a position in front
 position_first : (p : Point) (b : ℕ) (rest : Bytes) → InPlane p → is_of_number b ≡ false → numbers_in (position_text p ++ b ∷ rest) ≡ p.x ∷ p.y ∷ numbers_in rest
@@ -127,11 +127,11 @@ coordinates_of (p ∷ ps) = p.x ∷ p.y ∷ coordinates_of ps
 abbrev AllInPlane : List Point → Type 0
 AllInPlane ps = AllByRecursion InPlane ps
 
-positions_first : (p : Point) (ps : List Point) (rest : Bytes) → AllInPlane (p ∷ ps) → numbers_in (joined (map position_text (p ∷ ps)) ++ 93 ∷ rest) ≡ coordinates_of (p ∷ ps) ++ numbers_in rest
+positions_first : (p : Point) (ps : List Point) (rest : Bytes) → AllInPlane (p ∷ ps) → numbers_in (with_commas (map position_text (p ∷ ps)) ++ 93 ∷ rest) ≡ coordinates_of (p ∷ ps) ++ numbers_in rest
 positions_first p [] rest all = position_first p 93 rest all.0 refl
 positions_first p (q ∷ ps) rest all =
-    ap numbers_in (append_assoc (position_text p) (44 ∷ joined (map position_text (q ∷ ps))) (93 ∷ rest))
-    ∙ position_first p 44 (joined (map position_text (q ∷ ps)) ++ 93 ∷ rest) all.0 refl
+    ap numbers_in (append_assoc (position_text p) (44 ∷ with_commas (map position_text (q ∷ ps))) (93 ∷ rest))
+    ∙ position_first p 44 (with_commas (map position_text (q ∷ ps)) ++ 93 ∷ rest) all.0 refl
     ∙ ap (λ ns. p.x ∷ p.y ∷ ns) (positions_first q ps rest all.1)
 
 corners_in : (b : Bounds) → IsBox b → AllInPlane (corners b)

@@ -1,5 +1,5 @@
 -- Texts of objects: what is stored for a point and a box, and the shape of every text or why it has none.
-use Rattle.std.specs.Prelude.{ℕ, ℤ, Bool, true, false, ◌&&◌, ◌||◌, ◌==◌, nat_le, nat_lt, List, [], ◌∷◌, ◌++◌, length, filter, map, codes, Option, Some, None, Result, Ok, Err, if◌then◌else◌}
+use Rattle.std.specs.Prelude.{ℕ, ℤ, Bool, ◌&&◌, ◌||◌, ◌==◌, nat_le, nat_lt, List, [], ◌∷◌, ◌++◌, length, filter, map, codes, Option, Some, None, Result, Ok, Err, if◌then◌else◌}
 use Rattle.std.specs.Fmt.{signed_decimal}
 use Rattle.std.specs.Str.{is_utf8}
 use Rattle.serde_json.specs.Data.{Data}
@@ -17,10 +17,10 @@ abbrev pub Shape : Type 0
 Shape = geometries.Shape
 
 -- texts with commas between them
-abbrev pub joined : List Bytes → Bytes
-joined [] = []
-joined (t ∷ []) = t
-joined (t ∷ u ∷ ts) = t ++ 44 ∷ joined (u ∷ ts)
+abbrev pub with_commas : List Bytes → Bytes
+with_commas [] = []
+with_commas (t ∷ []) = t
+with_commas (t ∷ u ∷ ts) = t ++ 44 ∷ with_commas (u ∷ ts)
 
 -- a position, x first
 abbrev pub position_text : Point → Bytes
@@ -36,7 +36,7 @@ corners b = b.min ∷ pt b.max.x b.min.y ∷ b.max ∷ pt b.min.x b.max.y ∷ b.
 
 -- the text that is stored for a box
 abbrev pub bounds_text : Bounds → Bytes
-bounds_text b = codes "{\"type\":\"Polygon\",\"coordinates\":[[" ++ joined (map position_text (corners b)) ++ codes "]]}"
+bounds_text b = codes "{\"type\":\"Polygon\",\"coordinates\":[[" ++ with_commas (map position_text (corners b)) ++ codes "]]}"
 
 -- reading a stored text back: its numbers say which point or box it could be of, and it is then compared with that one's text
 
@@ -44,19 +44,19 @@ bounds_text b = codes "{\"type\":\"Polygon\",\"coordinates\":[[" ++ joined (map 
 abbrev pub is_of_number : ℕ → Bool
 is_of_number b = b == 45 || (nat_le 48 b && nat_le b 57)
 
--- a byte more in front of the first of these stretches
+-- a byte more in front of the first of these runs
 abbrev pub joins_first : ℕ → List Bytes → List Bytes
 joins_first b [] = (b ∷ []) ∷ []
 joins_first b (w ∷ ws) = (b ∷ w) ∷ ws
 
--- the stretches of digits and minus signs between all other bytes
-abbrev pub stretches : Bytes → List Bytes
-stretches [] = [] ∷ []
-stretches (b ∷ bs) = if is_of_number b then joins_first b (stretches bs) else [] ∷ stretches bs
+-- the runs of digits and minus signs between all other bytes
+abbrev pub digit_runs : Bytes → List Bytes
+digit_runs [] = [] ∷ []
+digit_runs (b ∷ bs) = if is_of_number b then joins_first b (digit_runs bs) else [] ∷ digit_runs bs
 
 -- the numbers that stand in a text, in order
 abbrev pub numbers_in : Bytes → List ℤ
-numbers_in text = map signed_value (filter (λ w. nat_lt 0 (length w)) (stretches text))
+numbers_in text = map signed_value (filter (λ w. nat_lt 0 (length w)) (digit_runs text))
 
 -- the corners stand on the plane, the least first
 abbrev pub in_plane : Point → Bool

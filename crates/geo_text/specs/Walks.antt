@@ -4,6 +4,7 @@ use Rattle.serde_json.specs.Data.{Num, unsigned, negative, float, Data, null, bo
 use Rattle.serde_json.specs.Find.{as_i64}
 use Rattle.planar_geom.specs.Points.{Point, pt, same_point, is_coordinate}
 use Rattle.planar_geom.specs.Figures.{last_of}
+use Rattle.geo_text.specs.declared.limits.TheConstants.{MAX_POSITIONS}
 use Rattle.geo_text.specs.declared.faults.GeoFault.{GeoFault}
 use Rattle.geo_text.specs.declared.faults.GeoFault.TheVariants.{NotWhole, OutOfRange, BadRing, TooFew, TooMany, BadPosition}
 
@@ -15,7 +16,7 @@ abbrev pub ◌>>=◌ : {A B : Type 0} → Result A GeoFault → (A → Result B 
 
 -- the most positions of one object
 abbrev pub max_positions : ℕ
-max_positions = 10000
+max_positions = MAX_POSITIONS
 
 -- a number as a coordinate of the plane
 abbrev pub within : Option ℤ → Result ℤ GeoFault

@@ -1,3 +1,5 @@
+//! The types of GeoJSON objects, and the kinds of their parts.
+
 /// The nine types of GeoJSON objects (RFC 7946, section 1.4).
 #[derive(Clone, Copy, Debug, PartialEq, Eq)]
 pub enum GeoType {

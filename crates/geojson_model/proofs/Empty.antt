@@ -11,7 +11,7 @@ use Rattle.geo_text.specs.declared.types.GeoType.{GeoType}
 use Rattle.geo_text.specs.declared.types.GeoType.TheVariants.{Point, MultiPoint, LineString, MultiLineString, Polygon, MultiPolygon, GeometryCollection, Feature, FeatureCollection}
 use Rattle.geo_text.specs.declared.types.Base.TheVariants.{Spot, Chain, Face}
 use Rattle.geo_text.specs.Walks.{◌>>=◌, array_of, each}
-use Rattle.geo_text.specs.Geometries.{part, single, many, Walk, go, there, object_only, array_at, coordinates, single_at, many_at, type_of, of_type, geometry, inner, walk_of, geometries, feature, only_feature, feature_item, joined, features, top_of}
+use Rattle.geo_text.specs.Geometries.{part, single, many, Walk, go, there, object_only, array_at, coordinates, single_at, many_at, type_of, of_type, geometry, inner, walk_of, geometries, feature, only_feature, feature_item, parts_of_each, features, top_of}
 use Rattle.geojson_model.specs.Behind.{behind}
 use Rattle.geojson_model.proofs.FaultLaws.{ok_is, not_ok}
 use Rattle.geojson_model.proofs.Loops.{behind_nothing}
@@ -149,15 +149,15 @@ feature_item_idle d count n e =
     let o = opened (type_of d) (λ t. only_feature t d count) ([], n) e in
     only_feature_idle o.0 d count n o.2
 
-joined_idle : (ds : Items) → Idle (joined feature_item ds)
-unfolding joined
+joined_idle : (ds : Items) → Idle (parts_of_each feature_item ds)
+unfolding parts_of_each
 joined_idle no_items count n e = sym (ap (λ p. p.1) (ok_is e))
-joined_idle (item d ds) count n e = two_idle (feature_item d) (joined feature_item ds) (feature_item_idle d) (joined_idle ds) count n e
+joined_idle (item d ds) count n e = two_idle (feature_item d) (parts_of_each feature_item ds) (feature_item_idle d) (joined_idle ds) count n e
 
 features_idle : (d : Data) → Idle (features d)
 unfolding features
 features_idle d count n e =
-    let o = opened (array_at (codes "features") d) (λ ds. joined feature_item ds count) ([], n) e in
+    let o = opened (array_at (codes "features") d) (λ ds. parts_of_each feature_item ds count) ([], n) e in
     joined_idle o.0 count n o.2
 
 top_idle : (t : GeoType) (d : Data) (n : ℕ) → top_of t d ≡ Ok ([], n) → n ≡ 0

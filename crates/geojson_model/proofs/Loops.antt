@@ -6,7 +6,7 @@ use Rattle.serde_json.specs.declared.value.Value.{Value}
 use Rattle.planar_geom.specs.declared.shapes.Part.{Part}
 use Rattle.geo_text.specs.declared.faults.GeoFault.{GeoFault}
 use Rattle.geo_text.specs.Walks.{◌>>=◌, each}
-use Rattle.geo_text.specs.Geometries.{joined}
+use Rattle.geo_text.specs.Geometries.{parts_of_each}
 use Rattle.geojson_model.specs.declared.faults.ShapeFault.{ShapeFault}
 use Rattle.geojson_model.specs.Answers.{Fails}
 use Rattle.geojson_model.specs.Behind.{behind}
@@ -77,25 +77,25 @@ faulty front (Ok x) f rest h = absurd (not_err h)
 faulty front (Err e) f rest h = h
 
 pub goes_on_joined : (walk : Data → ℕ → Result (List Part × ℕ) GeoFault) (front new : List Part) (vs : List Value) (i count : ℕ) (v : Value) (after : ℕ) (total : Result (List Part × ℕ) GeoFault) → i < length vs → v ≡ get_or vs i v
-    → behind front (walk (view v) count) ≡ Ok (new, after) → behind front (joined walk (from vs i) count) ≡ total → behind new (joined walk (from vs (i + 1)) after) ≡ total
-unfolding joined
+    → behind front (walk (view v) count) ≡ Ok (new, after) → behind front (parts_of_each walk (from vs i) count) ≡ total → behind new (parts_of_each walk (from vs (i + 1)) after) ≡ total
+unfolding parts_of_each
 goes_on_joined walk front new vs i count v after total l e h so_far =
-    let one : behind front (joined walk (from vs i) count) ≡ behind new (joined walk (from vs (i + 1)) after) = rw (from_next vs i v l e) (step front new (walk (view v) count) after (joined walk (from vs (i + 1))) h) in
+    let one : behind front (parts_of_each walk (from vs i) count) ≡ behind new (parts_of_each walk (from vs (i + 1)) after) = rw (from_next vs i v l e) (step front new (walk (view v) count) after (parts_of_each walk (from vs (i + 1))) h) in
     sym one ∙ so_far
 
 pub ends_joined : (walk : Data → ℕ → Result (List Part × ℕ) GeoFault) (error : ShapeFault) (front : List Part) (vs : List Value) (i count : ℕ) (v : Value) (total : Result (List Part × ℕ) GeoFault) → i < length vs → v ≡ get_or vs i v
-    → Fails error (behind front (walk (view v) count)) → behind front (joined walk (from vs i) count) ≡ total → Fails error total
-unfolding joined
+    → Fails error (behind front (walk (view v) count)) → behind front (parts_of_each walk (from vs i) count) ≡ total → Fails error total
+unfolding parts_of_each
 ends_joined walk error front vs i count v total l e h so_far =
     carried error (behind front (walk (view v) count)) total
     (λ f is.
-    let one : behind front (joined walk (from vs i) count) ≡ Err f = rw (from_next vs i v l e) (faulty front (walk (view v) count) f (joined walk (from vs (i + 1))) is) in
+    let one : behind front (parts_of_each walk (from vs i) count) ≡ Err f = rw (from_next vs i v l e) (faulty front (walk (view v) count) f (parts_of_each walk (from vs (i + 1))) is) in
     sym so_far ∙ one)
     h
 
-pub is_done_joined : (walk : Data → ℕ → Result (List Part × ℕ) GeoFault) (front : List Part) (vs : List Value) (i count : ℕ) (total : Result (List Part × ℕ) GeoFault) → length vs ≤ i → behind front (joined walk (from vs i) count) ≡ total → total ≡ Ok (front, count)
-unfolding joined
+pub is_done_joined : (walk : Data → ℕ → Result (List Part × ℕ) GeoFault) (front : List Part) (vs : List Value) (i count : ℕ) (total : Result (List Part × ℕ) GeoFault) → length vs ≤ i → behind front (parts_of_each walk (from vs i) count) ≡ total → total ≡ Ok (front, count)
+unfolding parts_of_each
 is_done_joined walk front vs i count total l so_far =
     let none : drop i vs ≡ [] = drop_of_length-le vs l in
-    let one : behind front (joined walk (from vs i) count) ≡ Ok (front, count) = rw none (ap (λ xs. Ok (xs, count)) (append-nil front)) in
+    let one : behind front (parts_of_each walk (from vs i) count) ≡ Ok (front, count) = rw none (ap (λ xs. Ok (xs, count)) (append-nil front)) in
     sym so_far ∙ one

@@ -11,7 +11,7 @@ use Rattle.geo_text.specs.declared.faults.GeoFault.{GeoFault}
 use Rattle.geo_text.specs.declared.types.GeoType.{GeoType}
 use Rattle.geo_text.specs.declared.types.GeoType.TheVariants.{Point, MultiPoint, LineString, MultiLineString, Polygon, MultiPolygon, GeometryCollection, Feature, FeatureCollection}
 use Rattle.geo_text.specs.Walks.{◌>>=◌}
-use Rattle.geo_text.specs.Geometries.{type_of, items_or, array_at, Walk, go, of_type, geometry, inner, walk_of, geometries, joined}
+use Rattle.geo_text.specs.Geometries.{type_of, items_or, array_at, Walk, go, of_type, geometry, inner, walk_of, geometries, parts_of_each}
 use Rattle.geojson_model.specs.declared.faults.ShapeFault.{ShapeFault}
 use Rattle.geojson_model.specs.Answers.{Fails}
 use Rattle.geojson_model.specs.Behind.{behind, is_collection}
@@ -82,26 +82,26 @@ same_rest : (first : Result (List Part × ℕ) GeoFault) (r s : Walk) → ((n : 
 same_rest (Err f) r s same = refl
 same_rest (Ok x) r s same = ap (λ (found : Result (List Part × ℕ) GeoFault). ◌>>=◌ {B = List Part × ℕ} found (λ y. Ok (x.0 ++ y.0, y.1))) (same x.1)
 
-geometries_are : (ds : Items) (count : ℕ) → geometries ds count ≡ joined geometry ds count
-unfolding geometries joined
+geometries_are : (ds : Items) (count : ℕ) → geometries ds count ≡ parts_of_each geometry ds count
+unfolding geometries parts_of_each
 geometries_are no_items count = refl
-geometries_are (item d ds) count = same_rest (geometry d count) (geometries ds) (joined geometry ds) (λ n. geometries_are ds n)
+geometries_are (item d ds) count = same_rest (geometry d count) (geometries ds) (parts_of_each geometry ds) (λ n. geometries_are ds n)
 
-gone : (o : Option Items) (count : ℕ) → go (walk_or o) count ≡ (items_or o >>= λ ds. joined geometry ds count)
+gone : (o : Option Items) (count : ℕ) → go (walk_or o) count ≡ (items_or o >>= λ ds. parts_of_each geometry ds count)
 gone None count = refl
 gone (Some ds) count = geometries_are ds count
 
-collection_is : (d : Data) (t : GeoType) (count : ℕ) → type_of d ≡ Ok t → is_collection t ≡ true → geometry d count ≡ (array_at (codes "geometries") d >>= λ ds. joined geometry ds count)
+collection_is : (d : Data) (t : GeoType) (count : ℕ) → type_of d ≡ Ok t → is_collection t ≡ true → geometry d count ≡ (array_at (codes "geometries") d >>= λ ds. parts_of_each geometry ds count)
 collection_is d t count e f = geometry_is d count ∙ ap (λ (r : Result GeoType GeoFault). r >>= λ type_. of_type type_ d (inner_at d) count) e ∙ collection_type t d (inner_at d) count f ∙ gone (option_and_then as_array (get (codes "geometries") d)) count
 
 pub no_type : (e : ShapeFault) (front : List Part) (d : Data) (count : ℕ) → Fails e (type_of d) → Fails e (behind front (geometry d count))
 no_type e front d count h = carried e (type_of d) (behind front (geometry d count)) (λ f is. ap (behind front) (geometry_is d count ∙ ap (λ (r : Result GeoType GeoFault). r >>= λ type_. of_type type_ d (inner_at d) count) is)) h
 
 pub no_array : (e : ShapeFault) (front : List Part) (d : Data) (t : GeoType) (count : ℕ) → type_of d ≡ Ok t → is_collection t ≡ true → Fails e (array_at (codes "geometries") d) → Fails e (behind front (geometry d count))
-no_array e front d t count a b h = carried e (array_at (codes "geometries") d) (behind front (geometry d count)) (λ f is. ap (behind front) (collection_is d t count a b ∙ ap (λ (r : Result Items GeoFault). r >>= λ ds. joined geometry ds count) is)) h
+no_array e front d t count a b h = carried e (array_at (codes "geometries") d) (behind front (geometry d count)) (λ f is. ap (behind front) (collection_is d t count a b ∙ ap (λ (r : Result Items GeoFault). r >>= λ ds. parts_of_each geometry ds count) is)) h
 
-pub starts : (front : List Part) (d : Data) (t : GeoType) (ds : Items) (count : ℕ) → type_of d ≡ Ok t → is_collection t ≡ true → array_at (codes "geometries") d ≡ Ok ds → behind front (joined geometry ds count) ≡ behind front (geometry d count)
-starts front d t ds count a b e = ap (behind front) (sym (collection_is d t count a b ∙ ap (λ (r : Result Items GeoFault). r >>= λ es. joined geometry es count) e))
+pub starts : (front : List Part) (d : Data) (t : GeoType) (ds : Items) (count : ℕ) → type_of d ≡ Ok t → is_collection t ≡ true → array_at (codes "geometries") d ≡ Ok ds → behind front (parts_of_each geometry ds count) ≡ behind front (geometry d count)
+starts front d t ds count a b e = ap (behind front) (sym (collection_is d t count a b ∙ ap (λ (r : Result Items GeoFault). r >>= λ es. parts_of_each geometry es count) e))
 
 -- ---- what is inside is less deep
 

@@ -16,7 +16,7 @@ use Rattle.geo_text.specs.Geometries as geo
 use Rattle.geo_text.specs.Texts.{Shape, stored_shape, shape_of_json, walked, shape_of}
 
 -- parts that are no shape are none
-pub no_shape : (parts back : List Part) → ◌≡◌ {A = Result (List Part) (List Part)} (Err back) (shapes.shape_of parts) → parts ≡ []
+pub no_shape : (parts back : List Part) → ◌≡◌ {A = Result (List Part) (List Part)} (Err back) (shapes.shape_of_parts parts) → parts ≡ []
 no_shape [] back e = refl
 no_shape (p ∷ ps) back e =
     let some : nat_lt 0 (length (p ∷ ps)) ≡ true = le-leb 1 (length (p ∷ ps)) (omega arith) in

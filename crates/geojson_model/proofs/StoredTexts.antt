@@ -7,7 +7,7 @@ use mir.Val.{SFits}
 use mir.Syntax.{w64}
 use Rattle.planar_geom.specs.Points.{Point, Bounds, pt, bounds, same_int, same_point, is_coordinate, is_low_of, point_at, bounds_of, IsCoordinate, InPlane, IsBox}
 use Rattle.planar_geom.specs.declared.shapes.Part.TheVariants.{Spot, Face}
-use Rattle.geo_text.specs.Texts.{joined, position_text, point_text, corners, bounds_text, stored_shape}
+use Rattle.geo_text.specs.Texts.{with_commas, position_text, point_text, corners, bounds_text, stored_shape}
 use Rattle.geo_text.specs.StoredLaws.{point_back, bounds_back, others_none}
 use Rattle.geojson_model.specs.Stored.{position_then, point_head, bounds_head, point_form, five_form, bounds_form}
 
@@ -88,7 +88,7 @@ next_is p others tail whole_rest e = append_assoc (position_text p) (44 ∷ othe
 pub point_text_is : (p : Point) → point_text p ≡ point_form p
 point_text_is p = append_assoc point_head (position_text p) (125 ∷ []) ∙ ap (λ (t : List ℕ). point_head ++ t) (position_is p (125 ∷ []))
 
-ring_is : (p q r s t : Point) → joined (map position_text (p ∷ q ∷ r ∷ s ∷ t ∷ [])) ++ (93 ∷ 93 ∷ 125 ∷ []) ≡ five_form p q r s t
+ring_is : (p q r s t : Point) → with_commas (map position_text (p ∷ q ∷ r ∷ s ∷ t ∷ [])) ++ (93 ∷ 93 ∷ 125 ∷ []) ≡ five_form p q r s t
 ring_is p q r s t =
     let tail : List ℕ = 93 ∷ 93 ∷ 125 ∷ [] in
     let four : List ℕ = position_text s ++ 44 ∷ position_text t in
@@ -98,7 +98,7 @@ ring_is p q r s t =
 
 pub bounds_text_is : (b : Bounds) → bounds_text b ≡ bounds_form b
 bounds_text_is b =
-    append_assoc bounds_head (joined (map position_text (corners b))) (93 ∷ 93 ∷ 125 ∷ [])
+    append_assoc bounds_head (with_commas (map position_text (corners b))) (93 ∷ 93 ∷ 125 ∷ [])
     ∙ ap (λ (t : List ℕ). bounds_head ++ t) (ring_is b.min (pt b.max.x b.min.y) b.max (pt b.min.x b.max.y) b.min)
 
 -- ---- the shapes of stored texts

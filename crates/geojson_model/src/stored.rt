@@ -1,4 +1,5 @@
-// The texts that are stored for points and boxes, read back without JSON.
+//! The texts that are stored for points and boxes, read back without JSON.
+
 ghost use Rattle.std.specs.Prelude.{◌≡◌, ℕ, ℤ, List, ◌++◌, ◌∷◌, [], ◌<◌, length, get_or, IfSome, IsSome, IsTrue, ◌↔◌, FitsSigned, Some, ◌⊎◌};
 ghost use Rattle.std.specs.Int.{w64};
 ghost use Rattle.planar_geom.specs.Points.{Point, Bounds, InPlane, IsBox, pt, same_point};

@@ -1,5 +1,8 @@
-// Texts from outside, each with its shape's size or its fault.
-use crate::{GeoFault, ShapeFault, push_bounds, push_point, shape_of};
+//! Texts from outside, each with its shape's size or its fault.
+
+use crate::{
+    GeoFault, ShapeFault, push_bounds, push_point, shape_of, shape_of_box, shape_of_point,
+};
 use byte_text::{NoMemory, Text};
 use planar_geom::{BBox, Pt, box_of};
 use std::alloc::Global;
@@ -178,6 +181,8 @@ fn stored_texts_are_read_back(rt: HostRuntime) -> Result<(), Fail> {
     let point = "{\"type\":\"Point\",\"coordinates\":[-1000000000,2]}";
     assert!(rt; text.bytes() == point.as_bytes());
     assert_eq!(rt; positions(rt.alloc(), text.bytes()), Ok(1));
+    let made = shape_of_point(rt.alloc(), low).ok().ok_or("a shape")?;
+    assert_eq!(rt; made.positions(), 1);
     let mut text = Text::new(rt.alloc());
     let bounds = BBox::of(low, high).ok_or("a box")?;
     assert_eq!(rt; push_bounds(&mut text, bounds), Ok(()));
@@ -189,6 +194,8 @@ fn stored_texts_are_read_back(rt: HostRuntime) -> Result<(), Fail> {
     assert_eq!(rt; (round.min().x(), round.min().y()), (-1_000_000_000, 2));
     assert_eq!(rt; (round.max().x(), round.max().y()), (3, 1_000_000_000));
     assert_eq!(rt; shape.positions(), 5);
+    let made = shape_of_box(rt.alloc(), bounds).ok().ok_or("a shape")?;
+    assert_eq!(rt; made.positions(), 5);
     Ok(())
 }
 
@@ -207,7 +214,10 @@ fn limits_are_kept(rt: HostRuntime) -> Result<(), Fail> {
     let more = repeated(alloc, front, ",[1,2]", 9_999, ",0.5]}")
         .ok()
         .ok_or("memory")?;
-    assert_eq!(rt; positions(alloc, more.bytes()), Err(ShapeFault::Refused(GeoFault::TooMany)));
+    assert_eq!(rt;
+        positions(alloc, more.bytes()),
+        Err(ShapeFault::Refused(GeoFault::TooMany))
+    );
     let mut deep = repeated(alloc, "{\"type\":\"Feature\",\"properties\":", "[", 200, "")
         .ok()
         .ok_or("memory")?;
@@ -221,6 +231,9 @@ fn limits_are_kept(rt: HostRuntime) -> Result<(), Fail> {
     .ok()
     .ok_or("memory")?;
     assert_eq!(rt; deep.push(back.bytes()), Ok(()));
-    assert_eq!(rt; positions(alloc, deep.bytes()), Err(ShapeFault::Refused(GeoFault::NotJson)));
+    assert_eq!(rt;
+        positions(alloc, deep.bytes()),
+        Err(ShapeFault::Refused(GeoFault::NotJson))
+    );
     Ok(())
 }

@@ -1,8 +1,9 @@
-// The texts that are stored for points and boxes, written.
+//! The texts that are stored for points and boxes, written.
+
 ghost use Rattle.std.specs.Prelude.{◌≡◌, ◌++◌, ◌∷◌, [], map, OnOk, OnErr, Ok, length, take};
 ghost use Rattle.planar_geom.specs.Points.{InPlane, IsBox};
 ghost use Rattle.planar_geom.specs.declared.shapes.Part.TheVariants.{Spot, Face};
-ghost use Rattle.geo_text.specs.Texts.{position_text, point_text, bounds_text, joined, shape_of, corners as box_corners};
+ghost use Rattle.geo_text.specs.Texts.{position_text, point_text, bounds_text, with_commas, shape_of, corners as box_corners};
 
 use crate::stored::{BOUNDS_HEAD, BOUNDS_TAIL, POINT_HEAD, corners};
 use byte_text::{NoMemory, Text, push_i64};
@@ -51,7 +52,7 @@ pub fn push_point(into: &mut Text, p: Pt) -> Result<(), NoMemory>
 
 #[tactic(auto, using(byte_text::specs::TextLaws::kept))]
 fn push_corners(into: &mut Text, corners: [Pt; 5]) -> Result<(), NoMemory>
-    ensures ok { OnOk result (into.new ≡ into.old ++ joined (map position_text corners)) }
+    ensures ok { OnOk result (into.new ≡ into.old ++ with_commas (map position_text corners)) }
     ensures kept { take (length into.old) into.new ≡ into.old }
 {
     let [p, q, r, s, t] = corners;

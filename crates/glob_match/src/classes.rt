@@ -1,3 +1,5 @@
+//! Classes of a pattern, gone over for one character.
+
 ghost use Rattle.std.specs.Prelude.{◌≡◌, Bool, List, ℕ, ◌<◌, ◌∷◌, [], MatchOption, IfSome, length, ◌||◌, ◌&&◌, nat_le, not, if◌then◌else◌};
 ghost use Rattle.byte_text.specs.Globs.{Item, outside, opened, behind_item, behind_char};
 ghost use Rattle.glob_match.specs.Tokens.{left, Begins};

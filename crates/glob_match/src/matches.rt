@@ -1,3 +1,5 @@
+//! Whether a name meets a pattern: what stands between two stars is sought once.
+
 ghost use Rattle.std.specs.Prelude.{◌≡◌, List, length, chars, Some, is_some, true, ◌&&◌};
 ghost use Rattle.std.specs.Str.{is_utf8};
 ghost use Rattle.byte_text.specs.Globs as globs;

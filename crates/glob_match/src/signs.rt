@@ -1,3 +1,5 @@
+//! The signs of a pattern: characters, by themselves or behind a backslash.
+
 ghost use Rattle.std.specs.Prelude.{◌≡◌, ◌<◌, ◌∷◌, [], MatchOption, IfSome, length, chars};
 ghost use Rattle.byte_text.specs.Globs.{signs};
 ghost use Rattle.glob_match.specs.Signs.{OnSign, IsShorter};

@@ -1,10 +1,12 @@
+//! Patterns and names from outside.
+
 use super::*;
-use byte_text::{Name, TextFault};
+use byte_text::{Name, NameFault};
 use std::alloc::Global;
 use std::test::Fail;
 
 // None where the pattern is not well formed.
-fn meets(alloc: Global, pattern: &str, name: &str) -> Result<Option<bool>, TextFault> {
+fn meets(alloc: Global, pattern: &str, name: &str) -> Result<Option<bool>, NameFault> {
     let pattern = Name::of(alloc, pattern.as_bytes())?;
     let name = Name::of(alloc, name.as_bytes())?;
     if well_formed(pattern.bytes()) {

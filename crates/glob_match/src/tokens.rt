@@ -1,3 +1,5 @@
+//! The tokens of a pattern, one for each place.
+
 ghost use Rattle.std.specs.Prelude.{◌≡◌, ◌==◌, length};
 ghost use Rattle.byte_text.specs.Globs.{outside};
 ghost use Rattle.glob_match.specs.Tokens.{left, OnToken, IsShorter};

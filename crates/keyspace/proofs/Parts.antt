@@ -36,10 +36,6 @@ module _ {A : Type 0} (q : A → Bool) where
   find_none [] all = refl
   find_none (x ∷ xs) all = let ih = find_none xs in grind arith
 
-  pub any_both : (xs ys : List A) → list_any q xs ≡ false → list_any q ys ≡ false → list_any q (xs ++ ys) ≡ false
-  any_both [] ys a b = b
-  any_both (x ∷ xs) ys a b = let ih = any_both xs ys in grind arith
-
   pub any_none : (xs : List A) → list_all (λ x. not (q x)) xs ≡ true → list_any q xs ≡ false
   any_none [] all = refl
   any_none (x ∷ xs) all = let ih = any_none xs in grind arith

@@ -1,12 +1,9 @@
 -- Where the first object that expires is found.
-use Rattle.std.specs.Prelude.{◌≡◌, ◌<◌, ◌≤◌, ℕ, Bool, true, false, not, ◌&&◌, ◌==◌, nat_lt, nat_le, List, [], ◌∷◌, ◌++◌, length, take, slice_get, Option, Some, None, IfSome, if◌then◌else◌}
-use Rattle.std.specs.List.{list_all, insert, remove}
-use Rattle.byte_text.specs.Names.{Bytes}
-use Rattle.ordered_lists.specs.Lists.{ascends}
-use Rattle.world_data.specs.Worlds.{has_key}
+use Rattle.std.specs.Prelude.{◌≡◌, ◌<◌, ℕ, Bool, true, false, not, ◌==◌, nat_lt, nat_le, List, ◌∷◌, ◌++◌, length, take, slice_get, Option, Some, None, IfSome, if◌then◌else◌}
+use Rattle.std.specs.List.{list_all, remove}
 use Rattle.world_data.specs.declared.objects.Object.{Object}
-use Rattle.collection.specs.Objects.{Held, are_by_id, least_due}
-use Rattle.keyspace.specs.Entries.{Entry, key_before, objects_in}
+use Rattle.collection.specs.Objects.{least_due}
+use Rattle.keyspace.specs.Entries.{Entry, objects_in}
 
 -- this is the object's deadline
 abbrev pub has_deadline : ℕ → Object → Bool

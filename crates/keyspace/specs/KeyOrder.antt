@@ -1,12 +1,11 @@
 -- How keys and their objects stand in a keyspace.
-use Rattle.std.specs.Prelude.{◌≡◌, ◌<◌, ◌≤◌, ℕ, Bool, true, false, not, ◌&&◌, ◌==◌, nat_lt, nat_le, List, [], ◌∷◌, ◌++◌, length, take, slice_get, Option, Some, None, IfSome, if◌then◌else◌}
-use Rattle.std.specs.List.{list_all, insert, remove}
+use Rattle.std.specs.Prelude.{◌≡◌, ◌≤◌, ℕ, Bool, ◌&&◌, List, []}
+use Rattle.std.specs.List.{list_all, insert}
 use Rattle.byte_text.specs.Names.{Bytes}
 use Rattle.ordered_lists.specs.Lists.{ascends}
 use Rattle.world_data.specs.Worlds.{has_key}
-use Rattle.world_data.specs.declared.objects.Object.{Object}
-use Rattle.collection.specs.Objects.{Held, are_by_id, least_due}
-use Rattle.keyspace.specs.Entries.{Entry, key_before, objects_in}
+use Rattle.collection.specs.Objects.{Held, are_by_id}
+use Rattle.keyspace.specs.Entries.{Entry, key_before}
 
 -- the objects of an entry are of its key, and stand by id
 abbrev pub is_entry : Entry → Bool

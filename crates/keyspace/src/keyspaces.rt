@@ -1,6 +1,6 @@
 //! All keys with their objects.
 
-ghost use Rattle.std.specs.Prelude.{◌≡◌, ◌+◌, ◌<◌, ◌≤◌, ◌^◌, ◌&&◌, ◌∷◌, [], true, false, not, length, filter, find, map, is_some, is_none, if◌then◌else◌, slice_get, Some, None, IfNone, IfSome, OnOk, OnErr};
+ghost use Rattle.std.specs.Prelude.{◌≡◌, ◌+◌, ◌<◌, ◌≤◌, ◌^◌, ◌&&◌, ◌∷◌, [], true, not, length, filter, find, map, is_some, is_none, if◌then◌else◌, slice_get, Some, None, IfNone, IfSome, OnOk, OnErr};
 ghost use Rattle.byte_text.specs.Names.{Bytes, before, same};
 ghost use Rattle.ordered_lists.specs.Lists.{put_in, sorted_by, distinct};
 ghost use Rattle.world_data.specs.Worlds.{object_before, are_objects, is_at, has_key};
@@ -233,7 +233,12 @@ impl Keyspace {
 }
 
 // Puts a key with room for one object at a place. For want of memory the keys are as before.
-fn add(alloc: Global, collections: &mut Vec<KeyedCollection>, at: usize, key: &Name) -> Result<(), NoMemory>
+fn add(
+    alloc: Global,
+    collections: &mut Vec<KeyedCollection>,
+    at: usize,
+    key: &Name,
+) -> Result<(), NoMemory>
     requires { at ≤ length collections.old.items }
     ensures ok { OnOk result (IsAdded key.now collections.old.items at collections.new.items) }
     ensures err { OnErr result (collections.new.items ≡ collections.old.items) }

@@ -1,10 +1,11 @@
 -- Which replies are whole and clean.
-use Rattle.std.proofs.Common.{◌≡◌, ◌≢◌, ℕ, ◌+◌, suc, Bool, true, false, List, [], ◌∷◌, ◌++◌, length, flat_map, subst, arith, refl}
-use Rattle.std.specs.Prelude.{if◌then◌else◌}
+use Rattle.std.proofs.Common.{◌≡◌, ◌≢◌, ℕ, ◌+◌, suc, Bool, true, false, List, [], ◌∷◌, ◌++◌, length, flat_map, subst, arith, refl, ap, ◌<◌, length-append}
+use Rattle.std.specs.Prelude.{if◌then◌else◌, decimal}
 use Rattle.std.specs.List.{AllByRecursion}
 use Rattle.std.specs.Fmt.{signed_decimal}
 use Rattle.byte_text.specs.Names.{Bytes}
-use Rattle.byte_text.specs.Replies.{AreReplies, IsWhole, IsClean, IsFrame, array, bulk}
+use Rattle.byte_text.specs.Lines.{line_end}
+use Rattle.byte_text.specs.Replies.{piece_text, frame_text, AreReplies, IsWhole, IsClean, IsFrame, array, bulk}
 use Rattle.byte_text.specs.declared.replies.Piece.{Piece}
 use Rattle.byte_text.specs.declared.replies.Piece.TheVariants as piece
 use Rattle.world_data.specs.Filters.{Field}
@@ -70,3 +71,21 @@ pub item_frame : Next → Listed → (q : Query) (o : Object) → q.shown ≢ sh
 item_frame next list q o h =
     one_of (is_ids q.shown) _ _ (bulk_frame o.id)
     (array_frame next list (bulk o.id ∷ object_reply q.shown o ∷ fields_part q.bare o.fields) (bulk_frame o.id, (object_frame q.shown o h, part_frames next list q.bare o.fields)))
+
+-- a frame has a byte at least
+
+marked : (p : Piece) → (b : ℕ) × (rest : Bytes) × (piece_text p ≡ b ∷ rest)
+marked (piece.Status text) = (43, text ++ line_end, refl)
+marked (piece.Fault text) = (45, text ++ line_end, refl)
+marked (piece.Number n) = (58, signed_decimal n ++ line_end, refl)
+marked (piece.Bulk bytes) = (36, (decimal (length bytes) ++ line_end) ++ (bytes ++ line_end), refl)
+marked piece.NoBulk = (36, (45 ∷ 49 ∷ []) ++ line_end, refl)
+marked piece.NoList = (42, (45 ∷ 49 ∷ []) ++ line_end, refl)
+marked (piece.List n) = (42, decimal n ++ line_end, refl)
+
+some_text : (r : List Piece) → IsFrame r → 0 < length (frame_text r)
+some_text [] f = absurd f.whole
+some_text (p ∷ ps) f = let m = marked p in let n = ap length m.2 in let l = length-append (piece_text p) (frame_text ps) in omega (arith, n, l)
+
+pub longer : (before : Bytes) (r : List Piece) → IsFrame r → length before < length (before ++ frame_text r)
+longer before r f = let s = some_text r f in let l = length-append before (frame_text r) in omega (arith, s, l)

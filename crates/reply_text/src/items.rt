@@ -1,6 +1,6 @@
 //! Items that become one array, each as the text of its frame from the first on.
 
-ghost use Rattle.std.specs.Prelude.{◌≡◌, ◌≢◌, ◌<◌, ◌≤◌, ◌+◌, ◌++◌, ◌∷◌, [], List, length, flat_map, IfOk, IfErr, OnOk, OnErr};
+ghost use Rattle.std.specs.Prelude.{◌≡◌, ◌≢◌, ◌<◌, ◌≤◌, ◌+◌, ◌++◌, ◌∷◌, [], List, length, flat_map, pos, IfOk, IfErr, OnOk, OnErr};
 ghost use Rattle.byte_text.specs.Replies.{array, bulk, number, frame_text, piece_text, IsFrame};
 ghost use Rattle.byte_text.specs.declared.replies.Piece.{Piece};
 ghost use Rattle.byte_text.specs.declared.replies.Piece.TheVariants as piece;
@@ -9,7 +9,6 @@ ghost use Rattle.world_model.specs.Replies.{item_reply};
 
 use crate::frames::ReplyFault;
 use crate::objects::{item_reply, name_reply};
-use crate::replies::count_reply;
 use byte_text::{Name, NoMemory, Reply, Text, push_frame, push_u64};
 use std::alloc::Global;
 use std::marker::Model;
@@ -26,11 +25,16 @@ pub struct ItemFrames {
 }
 
 impl Model for ItemFrames {
+    ghost use Rattle.std.specs.Prelude.{◌≤◌, length};
+    ghost use Rattle.world_data.specs.Limits.{max_reply};
     ghost use Rattle.reply_text.specs.Items.{Items};
 
     ghost Value = { Items };
 
     ghost view = { λ i. record { text = i.text; count = i.count } };
+
+    // Each item has a byte at least, so there are no more items than a reply has bytes.
+    ghost invariant = { λ i. (i.count ≤ length i.text) × (length i.text ≤ max_reply) };
 }
 
 impl ItemFrames {
@@ -70,7 +74,7 @@ impl ItemFrames {
         self.push(&item)
     }
 
-    // Puts an item last. More of them than a `u32` counts have room in no memory.
+    // Puts an item last.
     fn push(&mut self, item: &Reply) -> Result<(), ReplyFault>
         requires { IsFrame item.now }
         ensures ok { OnOk result (self.new ≡ record { text = self.old.text ++ frame_text item.now; count = self.old.count + 1 }) }
@@ -78,11 +82,8 @@ impl ItemFrames {
         ensures too_long { IfErr result (λ f. f ≡ ReplyFault.TooLong → max_reply < length (self.old.text ++ frame_text item.now)) }
         ensures err { OnErr result (self.new ≡ self.old) }
     {
-        let Some(count) = self.count.checked_add(1) else {
-            return Err(ReplyFault::Memory);
-        };
         push_within(&mut self.text, item)?;
-        self.count = count;
+        self.count += 1;
         Ok(())
     }
 
@@ -98,7 +99,7 @@ impl ItemFrames {
     }
 
     /// The frame of a page (RESP2): an array of where the next page begins, and of the array of the items. TooLong where it has
-    /// more than [`MAX_REPLY`] bytes. A place beyond the integers of RESP2 has room in no memory.
+    /// more than [`MAX_REPLY`] bytes.
     pub fn page(self, alloc: Global, cursor: u64) -> Result<Text, ReplyFault>
         ensures ok { IfOk result (λ frame. (items : List (List Piece)) → self.text ≡ frame_text (flat_map (λ r. r) items) → self.count ≡ length items → frame ≡ frame_text (array (number cursor ∷ array items ∷ []))) }
         ensures short { IfOk result (λ frame. length frame ≤ max_reply) }
@@ -106,16 +107,27 @@ impl ItemFrames {
     {
         let mut head = Text::new(alloc);
         push_head(&mut head, 2)?;
-        push_frame(&mut head, &count_reply(alloc, cursor)?)?;
+        push_count(&mut head, cursor)?;
         push_head(&mut head, self.count)?;
         joined(head, &self.text)
     }
 }
 
+// Puts a count last, as an integer.
+fn push_count(into: &mut Text, count: u64) -> Result<(), NoMemory>
+    ensures { OnOk result (into.new ≡ into.old ++ piece_text (piece.Number (pos count))) }
+{
+    into.push(b":")?;
+    push_u64(into, count)?;
+    into.push(b"\r\n")
+}
+
 // Puts the frame of an item last, where the text is no longer then than a reply may be. Else the text is as before.
+#[tactic(auto, using(crate::proofs::WholeReplies::longer))]
 fn push_within(into: &mut Text, item: &Reply) -> Result<(), ReplyFault>
     requires { IsFrame item.now }
     ensures ok { OnOk result (into.new ≡ into.old ++ frame_text item.now) }
+    ensures longer { OnOk result (length into.old < length into.new) }
     ensures short { OnOk result (length into.new ≤ max_reply) }
     ensures too_long { IfErr result (λ f. f ≡ ReplyFault.TooLong → max_reply < length (into.old ++ frame_text item.now)) }
     ensures err { OnErr result (into.new ≡ into.old) }

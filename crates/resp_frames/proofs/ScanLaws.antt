@@ -1,14 +1,14 @@
 -- One more byte of a piece.
-use Rattle.std.proofs.Common.{◌≡◌, ℕ, zero, suc, ◌+◌, ◌<◌, ◌≤◌, [], ◌∷◌, ◌++◌, length, get_or, take, drop, refl, sym, ap, subst, ◌∙◌, append_assoc, arith, take_all, take-append-drop}
+use Rattle.std.proofs.Common.{◌≡◌, ℕ, zero, suc, ◌+◌, ◌-◌, ◌<◌, ◌≤◌, [], ◌∷◌, ◌++◌, length, get_or, take, drop, refl, sym, ap, subst, ◌∙◌, append_assoc, arith, take_all, take-append-drop, length-take, length-drop}
 use Rattle.byte_text.specs.Names.{Bytes}
 use Rattle.byte_text.specs.declared.faults.RespFault.{RespFault}
-use Rattle.resp_frames.specs.declared.places.Place.{Place}
-use Rattle.resp_frames.specs.declared.places.Next.{Next}
-use Rattle.resp_frames.specs.declared.places.Next.TheVariants.{Goes, Whole, Fails}
-use Rattle.resp_frames.specs.declared.scans.Scan.TheVariants as scans
-use Rattle.resp_frames.specs.Steps.{step}
-use Rattle.resp_frames.specs.Places.{from, IsPlace}
-use Rattle.resp_frames.specs.Scans.{Says}
+use Rattle.resp_frames.specs.declared.request_places.Place.{Place}
+use Rattle.resp_frames.specs.declared.request_places.Next.{Next}
+use Rattle.resp_frames.specs.declared.request_places.Next.TheVariants.{Goes, Whole, Fails}
+use Rattle.resp_frames.specs.declared.pieces.Scan.TheVariants as scans
+use Rattle.resp_frames.specs.PlaceSteps.{step}
+use Rattle.resp_frames.specs.RequestPlaces.{from, IsPlace}
+use Rattle.resp_frames.specs.Pieces.{Says}
 use Rattle.resp_frames.proofs.StepLaws.{after, IsNext, step_reads, step_stands}
 
 one_more : (piece : Bytes) (i : ℕ) → i < length piece → take (i + 1) piece ≡ take i piece ++ get_or piece i 0 ∷ []
@@ -47,6 +47,28 @@ whole origin place piece i r l e =
 pub fails : (origin place : Place) (piece : Bytes) (i : ℕ) (fault : RespFault) → Reached origin piece i place → i < length piece → Fails fault ≡ step place (get_or piece i 0) → Says origin piece (scans.Fails fault)
 fails origin place piece i fault r l e =
     ap (from origin) (sym (take-append-drop (i + 1) piece)) ∙ behind origin place piece i (Fails fault) r l e (drop (i + 1) piece)
+
+-- a run of a word's bytes behind these
+take_nothing : (n : ℕ) → ◌≡◌ {A = Bytes} (take n []) []
+take_nothing zero = refl
+take_nothing (suc n) = refl
+
+more_taken : (piece : Bytes) (i run : ℕ) → take (i + run) piece ≡ take i piece ++ take run (drop i piece)
+more_taken piece zero run = ap (λ n. take n piece) (omega arith)
+more_taken [] (suc i) run = take_nothing (suc i + run) ∙ sym (take_nothing run)
+more_taken (x ∷ piece) (suc i) run =
+    let e : suc i + run ≡ suc (i + run) = omega arith in
+    rw e (ap (λ (t : Bytes). x ∷ t) (more_taken piece i run))
+
+pub run_on : (origin place behind : Place) (piece : Bytes) (i run : ℕ) → Reached origin piece i place → run ≤ length piece - i → IsPlace behind
+    → ((bytes more : Bytes) → length bytes ≡ run → from place (bytes ++ more) ≡ from behind more) → Reached origin piece (i + run) behind
+run_on origin place behind piece i run r fits p reads =
+    let size : length (take run (drop i piece)) ≡ run = omega (arith, length-take run (drop i piece), length-drop i piece, fits) in
+    record {
+      stands = p;
+      reads = λ more. ap (λ (x : Bytes). from origin (x ++ more)) (more_taken piece i run) ∙ ap (from origin) (append_assoc (take i piece) (take run (drop i piece)) more)
+          ∙ r.reads (take run (drop i piece) ++ more) ∙ reads (take run (drop i piece)) more size;
+    }
 
 pub ends : (origin place : Place) (piece : Bytes) (i : ℕ) → Reached origin piece i place → length piece ≤ i → Says origin piece (scans.Goes place)
 ends origin place piece i r l = (r.stands, λ more. ap (λ (x : Bytes). from origin (x ++ more)) (sym (take_all i piece l)) ∙ r.reads more)

@@ -1,4 +1,4 @@
-pub mod Steps
-pub mod Places
-pub mod Scans
-pub mod Readers
+pub mod PlaceSteps
+pub mod RequestPlaces
+pub mod Pieces
+pub mod RequestReader

@@ -1,3 +1,5 @@
+//! Faults of streams, and requests from pieces in any cutting.
+
 use super::*;
 use byte_text::Text;
 use std::alloc::Global;
@@ -86,32 +88,6 @@ fn requests_in_any_cutting(rt: HostRuntime) -> Result<(), Fail> {
             text.bytes(),
             &stream[..stream.len() - 1],
             "in pieces of {size}"
-        );
-    }
-    Ok(())
-}
-
-#[test]
-fn whole_texts(rt: HostRuntime) -> Result<(), Fail> {
-    let Some(request) = request_of(rt.alloc(), b"*2\r\n$3\r\nDEL\r\n$1\r\nk\r\n")? else {
-        return Err(Fail::from("no request"));
-    };
-    assert_eq!(rt; request.words(), 2);
-    if request.words() == 2 {
-        assert_eq!(rt; request.word(0), b"DEL".as_slice());
-        assert_eq!(rt; request.word(1), b"k".as_slice());
-    }
-    for text in [
-        "",
-        "*1\r\n$4\r\nPING",
-        "*1\r\n$5\r\nPING\r\n",
-        "*1\r\n$4\r\nPING\r\n\n",
-        "*0\r\n",
-        "PING\r\n",
-    ] {
-        assert!(rt;
-            request_of(rt.alloc(), text.as_bytes())?.is_none(),
-            "at {text}"
         );
     }
     Ok(())

@@ -1,4 +1,5 @@
 pub mod Order
+pub mod LedgerLaws
 pub mod Lists
 pub mod Slots
 pub mod Insides

@@ -1,7 +1,6 @@
 //! A tree of boxes for searches by box and by distance, each node visited counted.
 #![tactic(auto)]
 
-mod boxes;
 mod entries;
 mod ids;
 mod moves;

@@ -4,9 +4,9 @@
 ghost use Rattle.std.specs.Prelude.{◌≡◌, ℕ, ◌≢◌, ◌≤◌, ◌<◌, ◌+◌, ◌-◌, ◌⊎◌, ◌*◌, ◌^◌, ◌++◌, [], ◌∷◌, Some, None, true, false, min, take, drop, length, All, IfSome, MatchOption, OnOk, OnErr, vec_capacity, vec_len};
 ghost use Rattle.planar_geom.specs.Points.{IsBox};
 ghost use Rattle.rtree.specs.Pairs.{IsInside, IsOrdered, IsWith, IsPut, IsPart, ids_meeting};
+ghost use Rattle.rtree.specs.Ledgers.{IsRead};
 ghost use Rattle.rtree.specs.Subtrees.{entries_of, nodes_of, IsFull, IsRoot, IsHalved, IsRemoved};
 
-use crate::boxes::round_both;
 use crate::entries::Entry;
 use crate::ids::Ids;
 use crate::moves::{move_all, move_tail, put};
@@ -164,7 +164,7 @@ impl Node {
         let first = &self.slots[0];
         let mut bounds = first.bounds;
         for slot in &self.slots {
-            bounds = round_both(bounds, slot.bounds);
+            bounds = bounds.with_box(slot.bounds);
         }
         (first.first, bounds)
     }
@@ -357,8 +357,12 @@ impl Node {
         into: &mut Ids,
         steps: &mut Steps<L>,
     ) -> Result<(), NoMemory>
+        requires most { self.now.width ≤ 16 }
         ensures ok { OnOk result (into.new ≡ into.old ++ ids_meeting b.now self.now.entries) }
         ensures err { OnErr result (IsPart into.old into.new (ids_meeting b.now self.now.entries)) }
+        ensures one { min (steps.old.count + 1) (2 ^ 64 - 1) ≤ steps.new.count }
+        ensures later { steps.old.count ≤ steps.new.count }
+        ensures enough { IsRead (length into.old) (length into.new) steps.old.count steps.new.count }
     {
         steps.tick();
         for slot in &self.slots {

@@ -1,11 +1,19 @@
 //! The count of nodes that are visited, and what keeps it at run time.
 
-ghost use Rattle.std.specs.Prelude.{◌≡◌, ◌+◌, ◌-◌, ◌^◌, min};
+ghost use Rattle.std.specs.Prelude.{◌≡◌, ◌+◌, ◌-◌, ◌^◌, min, Some, None};
+ghost use Rattle.rtree.specs.Ledgers.{Tells};
 
 /// What is told of each node that is visited.
 pub trait Ledger {
+    ghost use Rattle.std.specs.Prelude.{ℕ, Option};
+    ghost use Rattle.rtree.specs.Ledgers.{told_more};
+
+    // Of how many visits it was told, up to the greatest u64, where it keeps that.
+    ghost told: { Self → Option ℕ };
+
     /// A node is visited.
-    fn visit(&mut self);
+    fn visit(&mut self)
+        ensures { told self.new ≡ told_more (told self.old) };
 }
 
 /// Keeps nothing.
@@ -13,6 +21,8 @@ pub trait Ledger {
 pub struct NoLedger;
 
 impl Ledger for NoLedger {
+    ghost told = { λ l. None };
+
     fn visit(&mut self) {}
 }
 
@@ -39,23 +49,26 @@ impl Visits {
 }
 
 impl Ledger for Visits {
-    fn visit(&mut self)
-        ensures { self.new.count ≡ min (self.old.count + 1) (2 ^ 64 - 1) }
-    {
+    ghost told = { λ v. Some v.count };
+
+    fn visit(&mut self) {
         self.count = self.count.saturating_add(1);
     }
 }
 
-/// The number of nodes visited, up to the greatest u64, and a ledger that is told of each of them.
+/// The number of nodes visited, up to the greatest u64, and a ledger that is told of each of them and of
+/// nothing else: where it tells how many there were, it tells that number.
 #[derive(Drop)]
-pub struct Steps<L> {
+pub struct Steps<L: Ledger> {
     count: u64,
     ledger: L,
+    ghost told: { Tells (L.told ledger) count },
 }
 
 impl<L: Ledger> Steps<L> {
-    /// No node visited yet.
+    /// No node visited yet, by a ledger that was told of none.
     pub fn new(ledger: L) -> Steps<L>
+        requires fresh { Tells (L.told ledger) 0 }
         ensures count { result.count ≡ 0 }
         ensures ledger { result.ledger ≡ ledger }
     {
@@ -64,7 +77,8 @@ impl<L: Ledger> Steps<L> {
 
     /// The ledger.
     pub fn ledger(&self) -> &L
-        ensures { result.now ≡ self.now.ledger }
+        ensures ledger { result.now ≡ self.now.ledger }
+        ensures told { Tells (L.told result.now) self.now.count }
     {
         &self.ledger
     }

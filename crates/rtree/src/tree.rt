@@ -1,7 +1,8 @@
 //! A tree of boxes: a balanced tree in one order, with the least box of each subtree on the way up.
 
-ghost use Rattle.std.specs.Prelude.{◌≡◌, ◌≤◌, ◌<◌, ◌+◌, ◌*◌, ◌^◌, ◌++◌, [], true, false, length, OnOk, OnErr, IfSome, MatchOption, None, Some, if◌then◌else◌};
+ghost use Rattle.std.specs.Prelude.{◌≡◌, ◌≤◌, ◌<◌, ◌+◌, ◌-◌, ◌*◌, ◌^◌, ◌++◌, ◌⊎◌, min, [], true, false, length, OnOk, OnErr, IfSome, MatchOption, None, Some, if◌then◌else◌};
 ghost use Rattle.rtree.specs.Pairs.{pair, IsWith, IsTaken, IsPart, ids_meeting};
+ghost use Rattle.rtree.specs.Ledgers.{IsRead};
 ghost use Rattle.rtree.specs.Subtrees.{entries_of, nodes_of, IsRoot};
 
 use crate::entries::Entry;
@@ -108,7 +109,8 @@ impl Tree {
     }
 
     /// Appends the numbers of exactly the pairs whose box meets `b`. Where memory wants, some of them
-    /// stand behind the old ones.
+    /// stand behind the old ones. It visits the node over all others, and enough nodes to hold what it
+    /// appends, at most 16 pairs each.
     pub fn search<L: Ledger>(
         &self,
         b: &BBox,
@@ -117,6 +119,8 @@ impl Tree {
     ) -> Result<(), NoMemory>
         ensures ok { OnOk result (into.new ≡ into.old ++ ids_meeting b.now self.now.pairs) }
         ensures err { OnErr result (IsPart into.old into.new (ids_meeting b.now self.now.pairs)) }
+        ensures root { self.now.pairs ≡ [] ⊎ min (steps.old.count + 1) (2 ^ 64 - 1) ≤ steps.new.count }
+        ensures enough { IsRead (length into.old) (length into.new) steps.old.count steps.new.count }
     {
         match &self.root {
             None => Ok(()),

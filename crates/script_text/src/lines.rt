@@ -1,3 +1,5 @@
+//! The lines of a script, read.
+
 ghost use Rattle.std.specs.Prelude.{◌≡◌, IfOk};
 ghost use Rattle.std.specs.List.{list_all};
 ghost use Rattle.std.specs.Char.{is_ascii_graphic};
@@ -6,7 +8,7 @@ ghost use Rattle.script_text.specs.Words.{words};
 ghost use Rattle.script_text.specs.Lines as says;
 ghost use Rattle.script_text.specs.Lines.{IsAnswer};
 
-use crate::words::split_word;
+use crate::line_words::split_word;
 use byte_text::{NoMemory, Text, read_u64};
 use percent_encoding::percent_decode;
 use std::alloc::Global;

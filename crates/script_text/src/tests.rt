@@ -1,3 +1,5 @@
+//! Lines from outside, and each call with ample memory.
+
 use super::*;
 use byte_text::Text;
 use std::test::Fail;

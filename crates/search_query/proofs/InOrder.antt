@@ -15,7 +15,7 @@ filter_reverse : {A : Type 0} (p : A → Bool) (xs : List A) → filter p (rever
 filter_reverse p [] = refl
 filter_reverse p (x ∷ xs) = let ih = filter_reverse p xs in grind (arith, common_steps, filter-append, reverse_onto)
 
-filter_in_order : (p : Object → Bool) (rule : Rule) (objects : List Object) → filter p (in_order rule objects) ≡ in_order rule (filter p objects)
+pub filter_in_order : (p : Object → Bool) (rule : Rule) (objects : List Object) → filter p (in_order rule objects) ≡ in_order rule (filter p objects)
 filter_in_order p All objects = refl
 filter_in_order p Down objects = filter_reverse p objects
 filter_in_order p (Kept kind a) objects = refl

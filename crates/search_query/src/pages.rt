@@ -5,6 +5,7 @@ ghost use Rattle.fence_model.specs.Queries.{IsPageOf, matches, meets_query, page
 ghost use Rattle.world_data.specs.declared.objects.Object.{Object};
 ghost use Rattle.world_data.specs.Sound.{is_sound_glob};
 ghost use Rattle.search_query.specs.Directions.{is_down};
+ghost use Rattle.search_query.specs.Pages.{is_past, IsEnough};
 
 use crate::matches::meets_query;
 use byte_text::{Name, NoMemory};
@@ -37,7 +38,8 @@ pub fn page(
     Ok(())
 }
 
-// Lists the ids of a page, none of a count, and gives the number of all that is found.
+// Lists the ids of a page, none of a count, and gives the number of all that is found; once one is found behind the page, the
+// rest is not looked at.
 fn list_ids(
     alloc: Global,
     collection: &Collection,
@@ -47,15 +49,25 @@ fn list_ids(
     requires pattern { is_sound_glob query.now.glob ≡ true }
     requires by_id { query.now.rule ≢ Rule.Nearest }
     requires empty { ids.old ≡ [] }
-    ensures count { IfOk result (λ n. n ≡ length (matches query.now collection.now.objects)) }
+    ensures count { IfOk result (λ n. IsEnough query.now (matches query.now collection.now.objects) n) }
     ensures ids { OnOk result (ids.new ≡ page_ids query.now (matches query.now collection.now.objects)) }
 {
     let mut found = 0;
     for i in 0..collection.len() {
         let object = in_turn(collection, i, is_down(&query.rule));
         found = note(alloc, query, object, found, ids)?;
+        if is_past(query, found) {
+            return Ok(found);
+        }
     }
     Ok(found)
+}
+
+// Whether a page is asked for, and of so many that were found one is behind it.
+fn is_past(query: &Query, found: u64) -> bool
+    ensures { result ≡ is_past query.now found }
+{
+    !is_count(query.shown) && u64::from(query.cursor) + u64::from(query.limit) < found
 }
 
 // The i-th object by ascending id, or by descending.

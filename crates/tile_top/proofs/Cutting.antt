@@ -3,7 +3,7 @@ use Rattle.std.proofs.Common.{◌≡◌, ℕ, Bool, true, false, refl, sym, ap, 
 use Rattle.std.specs.Prelude.{Option, Some, None, map}
 use Rattle.std.proofs.lemmas.List.{append-nil}
 use Rattle.byte_text.specs.Names.{Bytes}
-use Rattle.byte_text.specs.Streams.{Stream, Ending, holds, fails, stream_of, fed, fed_ending}
+use Rattle.byte_text.specs.Streams.{Stream, StreamEnd, holds, fails, stream_of, fed, fed_ending}
 use Rattle.world_model.specs.Halls.{Hall}
 use Rattle.world_model.specs.declared.events.Asked.{Asked}
 use Rattle.world_model.specs.declared.events.Asked.TheVariants.{Words}
@@ -52,7 +52,7 @@ module _ (cut : (bytes more : Bytes) → stream_of (bytes ++ more) ≡ fed (stre
   call_of asked = event.Call n m asked
 
   -- behind a stream that goes on, what it asks for and what the stream of its rest and more bytes does
-  calls_more : (requests : List (List Bytes)) (ending : Ending) (rest second : Bytes) (h mid next : Hall) (out more : Bytes) (v : Unread) → unread_of ending ≡ Some rest
+  calls_more : (requests : List (List Bytes)) (ending : StreamEnd) (rest second : Bytes) (h mid next : Hall) (out more : Bytes) (v : Unread) → unread_of ending ≡ Some rest
       → Calls h n m (record { requests = requests; ending = ending }) out mid → Calls mid n m (stream_of (rest ++ second)) more next → v ≡ unread_of (stream_of (rest ++ second)).ending
       → Calls h n m (fed_ending requests ending second) (out ++ more) next × (v ≡ unread_of (fed_ending requests ending second).ending)
   calls_more requests (fails fault) rest second h mid next out more v e a b w = absurd (cc)

@@ -7,7 +7,7 @@ use Rattle.byte_text.specs.Requests.{IsRequest, request_text}
 use Rattle.byte_text.specs.Streams.{Stream, found, begun, broken, request, stream_of, with_first, only_rest, only_fault}
 use Rattle.byte_text.specs.declared.faults.RespFault.{RespFault}
 use Rattle.byte_text.specs.declared.faults.RespFault.TheVariants as resp
-use Rattle.resp_frames.specs.Readers.{Held, IsFed, IsNotFed}
+use Rattle.resp_frames.specs.RequestReader.{Held, IsFed, IsNotFed}
 use Rattle.world_model.specs.Halls.{Hall}
 use Rattle.world_model.specs.declared.events.Asked.TheVariants.{Words, Broken}
 use Rattle.world_model.specs.declared.events.Event.TheVariants as event

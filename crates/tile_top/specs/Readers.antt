@@ -1,7 +1,7 @@
 -- The sessions' readers: what of each session's stream of requests is unread, and the calls that more bytes bring.
 use Rattle.std.specs.Prelude.{ℕ, ◌==◌, Bool, List, [], ◌∷◌, ◌++◌, Option, Some, None, find, map, if◌then◌else◌}
 use Rattle.byte_text.specs.Names.{Bytes}
-use Rattle.byte_text.specs.Streams.{Stream, Ending, holds, fails}
+use Rattle.byte_text.specs.Streams.{Stream, StreamEnd, holds, fails}
 use Rattle.world_model.specs.declared.events.Asked.{Asked}
 use Rattle.world_model.specs.declared.events.Asked.TheVariants.{Words, Broken}
 use Rattle.world_model.specs.declared.events.Outcome.{Outcome}
@@ -12,12 +12,12 @@ use Rattle.tile_top.specs.declared.readers.Reader.{Reader}
 abbrev pub Unread : Type 0
 Unread = Option Bytes
 
-abbrev pub unread_of : Ending → Unread
+abbrev pub unread_of : StreamEnd → Unread
 unread_of (holds rest) = Some rest
 unread_of (fails fault) = None
 
 -- what a stream asks for: each of its requests, and at last the end that its fault brings
-abbrev pub last_asked : Ending → List Asked
+abbrev pub last_asked : StreamEnd → List Asked
 last_asked (holds rest) = []
 last_asked (fails fault) = Broken fault ∷ []
 

@@ -2,7 +2,7 @@
 use Rattle.std.specs.Prelude.{◌≡◌, Bool, true, false, ◌&&◌, nat_le, Option, Some, None, Ok}
 use Rattle.std.specs.List.{list_all, AllByRecursion}
 use Rattle.byte_text.specs.Names.{Bytes, is_name}
-use Rattle.byte_text.specs.Globs.{is_well_formed}
+use Rattle.byte_text.specs.Globs.{is_well_formed, is_sound_glob}
 use Rattle.planar_geom.specs.declared.shapes.Area.{Area}
 use Rattle.planar_geom.specs.declared.shapes.Area.TheVariants.{Rect, Disc, Figure}
 use Rattle.geo_text.specs.Texts.{shape_of}
@@ -31,11 +31,6 @@ abbrev pub is_disc : Area → Bool
 is_disc (Disc c r) = true
 is_disc (Rect b) = false
 is_disc (Figure f) = false
-
--- a pattern is well formed
-abbrev pub is_sound_glob : Option Bytes → Bool
-is_sound_glob None = true
-is_sound_glob (Some pattern) = is_well_formed pattern
 
 -- near is a disc alone
 abbrev pub is_sound_watch : Watch → Bool

@@ -8,7 +8,7 @@ use Rattle.planar_geom.specs.Points.{pt}
 use Rattle.planar_geom.specs.declared.shapes.Area.{Area}
 use Rattle.planar_geom.specs.declared.shapes.Area.TheVariants.{Rect, Disc, Figure}
 use Rattle.planar_geom.specs.declared.shapes.Part.TheVariants.{Spot, Face}
-use Rattle.geo_text.specs.Texts.{Shape, shape_of, point_text, bounds_text, corners, joined}
+use Rattle.geo_text.specs.Texts.{Shape, shape_of, point_text, bounds_text, corners, with_commas}
 use Rattle.geo_text.specs.declared.faults.GeoFault.{GeoFault}
 use Rattle.world_data.specs.Limits.{max_limit, max_tests, max_values}
 use Rattle.world_data.specs.Filters.{Field, last_values, is_zero}
@@ -316,7 +316,7 @@ glob_words (Some pattern) = codes "MATCH" ∷ pattern ∷ []
 
 -- a list of names where not all are wanted
 abbrev pub list_words : Bytes → List Bytes → Option (List Bytes) → List Bytes
-list_words called names found = if list_all (wants found) names then [] else called ∷ joined (filter (wants found) names) ∷ []
+list_words called names found = if list_all (wants found) names then [] else called ∷ with_commas (filter (wants found) names) ∷ []
 
 abbrev pub option_words : FenceOptions → List Bytes
 option_words o = glob_words o.glob ++ flat_map test_words o.tests ++ codes "FENCE" ∷ (if o.nodwell then codes "NODWELL" ∷ [] else [])

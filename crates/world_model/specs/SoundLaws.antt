@@ -4,7 +4,7 @@ use Rattle.std.specs.Prelude.{Option, Some, None, Result, Ok, Err, ◌&&◌, int
 use Rattle.std.specs.List.{list_all}
 use Rattle.byte_text.specs.Names.{Bytes, is_name}
 use Rattle.byte_text.specs.Numbers.{whole, natural, whole_within, natural_within}
-use Rattle.byte_text.specs.Globs.{is_well_formed}
+use Rattle.byte_text.specs.Globs.{is_well_formed, is_sound_glob}
 use Rattle.planar_geom.specs.Points.{Point, Bounds, pt, InPlane, IsCoordinate, IsBox}
 use Rattle.planar_geom.specs.declared.shapes.Area.{Area}
 use Rattle.planar_geom.specs.declared.shapes.Part.TheVariants.{Spot, Face}
@@ -16,7 +16,7 @@ use Rattle.world_model.specs.Grammar.{Form, Reading, spells, runs_out, done, wor
 use Rattle.world_model.specs.Kinds.{when, name, glob, meters, coordinate_from, coordinate, lat_lon, four, geojson, accepted}
 use Rattle.world_model.specs.Commands as table
 use Rattle.world_model.specs.Sound.{IsSoundCommand, is_sound_from, is_sound_reach, takes_areas}
-use Rattle.world_data.specs.Sound.{is_sound_rule, is_sound_watch, is_sound_glob, is_sound_area}
+use Rattle.world_data.specs.Sound.{is_sound_rule, is_sound_watch, is_sound_area}
 use Rattle.world_data.specs.Filters.{Field, are_fields}
 use Rattle.world_data.specs.declared.channels.Kind.{Kind}
 use Rattle.world_data.specs.declared.channels.Kind.TheVariants.{Within, Intersects}

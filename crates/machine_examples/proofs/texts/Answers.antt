@@ -10,12 +10,12 @@ use Rattle.json.specs.Word.{after_number, word}
 use Rattle.serde_json.specs.Read.{number_of}
 use Rattle.geo_text.specs.Texts.{shape_of}
 use Rattle.geo_text.specs.Walks.{point, position, each, positions_of, line, ring, polygon}
-use Rattle.geo_text.specs.Geometries.{part, single, many, coordinates, single_at, many_at, geometry, inner, walk_of, geometries, feature, only_feature, feature_item, joined, features, shape}
+use Rattle.geo_text.specs.Geometries.{part, single, many, coordinates, single_at, many_at, geometry, inner, walk_of, geometries, feature, only_feature, feature_item, parts_of_each, features, shape}
 use Rattle.machine_examples.proofs.texts.Goals as goal
 
 pub returns : goal.returns
 unfolding chars is_utf8 digits lib.Utf8.encode value items members lex punctuate code_unit short_escape content after_number word number_of scan_numeral float_is_finite lib.Ieee.round
-    shape_of point position each positions_of line ring polygon part single many coordinates single_at many_at geometry inner walk_of geometries feature only_feature feature_item joined features shape
+    shape_of point position each positions_of line ring polygon part single many coordinates single_at many_at geometry inner walk_of geometries feature only_feature feature_item parts_of_each features shape
 returns c = record {
   stored_point = refl;
   stored_bounds = refl;

@@ -1,6 +1,6 @@
 use Rattle.std.proofs.Common.{List, Option, subst}
 use Rattle.byte_text.specs.Names.{Bytes}
-use Rattle.resp_frames.specs.Readers.{IsFed}
+use Rattle.resp_frames.specs.RequestReader.{IsFed}
 use Rattle.tile_top.proofs.Feeding.{Laws, first_step, last_step}
 use Rattle.tile_top.proofs.feeds.feed_next.Goals as goal
 

@@ -1,5 +1,4 @@
 use Rattle.std.proofs.Common.{◌≡◌, true, ap, sym, subst, ◌∙◌, List, length}
-use Rattle.std.specs.List.{list_any}
 use Rattle.collection.specs.Objects.{Held}
 use Rattle.keyspace.specs.Entries.{Entry, objects_in}
 use Rattle.keyspace.specs.KeyOrder.{are_entries}

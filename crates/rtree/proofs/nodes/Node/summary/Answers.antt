@@ -13,7 +13,7 @@ pub loop-slot-preserved : goal.loop-slot-preserved
 loop-slot-preserved g c =
     let items = c.deref-slot-items.result.now in
     let each = subst (All (IsSlot c.self.inside.height)) (sym c.deref-slot-items.ensures.value) c.self.invariant.each in
-    rw (c.round_both-bounds.ensures) (covers_more c.self.inside.height items c.loop-slot.slot-index c.slot-item.result c.loop-slot.bounds each c.loop-slot-test.true c.slot-item.is c.loop-slot.invariant)
+    rw (c.with_box-bounds.ensures) (covers_more c.self.inside.height items c.loop-slot.slot-index c.slot-item.result c.loop-slot.bounds each c.loop-slot-test.true c.slot-item.is c.loop-slot.invariant)
 
 pub returns : goal.returns
 returns g c =

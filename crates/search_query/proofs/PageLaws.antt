@@ -1,0 +1,52 @@
+-- A page, told from the first objects that match.
+use Rattle.std.proofs.Common.{◌≡◌, ◌+◌, ◌<◌, ◌≤◌, ℕ, Bool, true, false, not, sym, ap, ◌∙◌, List, [], ◌++◌, length, map, take, drop, arith, length-append}
+use Rattle.std.specs.Prelude.{filter, nat_lt, if◌then◌else◌}
+use Rattle.std.proofs.lemmas.Bool.Decides.{nat_tests}
+use Rattle.std.proofs.lemmas.List.{length-drop, take-append-drop, take-append-le, drop-append-le}
+use Rattle.std.proofs.lemmas.List.Elements.{filter-append}
+use Rattle.ordered_lists.specs.Reading.{both_of}
+use Rattle.fence_model.specs.Queries.{in_order, matches, meets_query, page_items, page_ids, is_count}
+use Rattle.world_data.specs.declared.objects.Object.{Object}
+use Rattle.world_data.specs.declared.queries.Query.{Query}
+use Rattle.search_query.specs.Pages.{is_past, IsEnough}
+use Rattle.search_query.proofs.InOrder.{filter_in_order}
+
+past_end : (q : Query) (n : ℕ) → is_past q n ≡ true → q.cursor + q.limit < n
+past_end q n past = let t = (both_of (not (is_count q.shown)) (nat_lt (q.cursor + q.limit) n) past).1 in grind (arith, nat_tests)
+
+items_seen : {A : Type 0} (q : Query) (xs ys : List A) → q.cursor + q.limit ≤ length xs → page_items q (xs ++ ys) ≡ page_items q xs
+items_seen q xs ys long =
+    let c : q.cursor ≤ length xs = omega (arith, long) in
+    let rest : q.limit ≤ length (drop q.cursor xs) = rw (length-drop q.cursor xs) (omega (arith, long)) in
+    ap (take q.limit) (drop-append-le q.cursor xs ys c) ∙ take-append-le q.limit (drop q.cursor xs) ys rest
+
+ids_seen : (q : Query) (xs ys : List Object) → is_past q (length xs) ≡ true → page_ids q (xs ++ ys) ≡ page_ids q xs
+ids_seen q xs ys past =
+    let far = past_end q (length xs) past in
+    ap (λ (l : List Object). if is_count q.shown then [] else map (λ o. o.id) l) (items_seen q xs ys (omega (arith, far)))
+
+module _ (q : Query) (objects : List Object) (i : ℕ) where
+  seen_first : matches q objects ≡ filter (meets_query q) (take i (in_order q.rule objects)) ++ filter (meets_query q) (drop i (in_order q.rule objects))
+  seen_first = sym (filter_in_order (meets_query q) q.rule objects) ∙ ap (filter (meets_query q)) (sym (take-append-drop i (in_order q.rule objects))) ∙ filter-append (meets_query q) (take i (in_order q.rule objects)) (drop i (in_order q.rule objects))
+
+  -- once one is found behind the page
+  pub ids_enough : is_past q (length (filter (meets_query q) (take i (in_order q.rule objects)))) ≡ true → page_ids q (filter (meets_query q) (take i (in_order q.rule objects))) ≡ page_ids q (matches q objects)
+  ids_enough past = sym (ap (page_ids q) seen_first ∙ ids_seen q (filter (meets_query q) (take i (in_order q.rule objects))) (filter (meets_query q) (drop i (in_order q.rule objects))) past)
+
+  pub count_enough : (n : ℕ) → n ≡ length (filter (meets_query q) (take i (in_order q.rule objects))) → is_past q n ≡ true → IsEnough q (matches q objects) n
+  count_enough n is past = record {
+    within = at_most n _ _ _ is (ap length seen_first ∙ length-append (filter (meets_query q) (take i (in_order q.rule objects))) (filter (meets_query q) (drop i (in_order q.rule objects))));
+    exact = λ other. absurd (not_both (is_past q n) past other);
+  }
+    where
+      at_most : (n a b m : ℕ) → n ≡ a → m ≡ a + b → n ≤ m
+      at_most n a b m p q = omega arith
+
+      not_both : (b : Bool) → b ≡ true → b ≡ false → ⊥
+      not_both b p q = absurd (cc)
+
+pub count_all : (q : Query) (all : List Object) (n : ℕ) → n ≡ length all → IsEnough q all n
+count_all q all n is = record {
+  within = omega arith;
+  exact = λ other. is;
+}
