@@ -6,7 +6,8 @@ use byte_text::{Request, Text};
 use std::alloc::Global;
 use std::test::Fail;
 use tile_core::Core;
-use world_model::{Asked, Called, Frames};
+use world_data::MAX_MOMENT;
+use world_model::{Asked, Called, Frames, Touched};
 
 // The frame that the core answers a request of session 1 with at a moment.
 fn answer(alloc: Global, core: &mut Core, moment: u64, words: Request) -> Result<Text, Fail> {
