@@ -180,15 +180,15 @@ impl Core {
     }
 
     /// Lets the clock go on to a moment, and deletes the objects that are due then. For want of memory the core is as before.
-    /// Each session that it changes is named in `touched`, beside those that are named there; so far it changes none.
-    pub fn tick(&mut self, moment: u64, touched: &mut Touched) -> Called
+    /// Each session that it changes is named, beside those that are named there; so far it changes none.
+    pub fn tick(&mut self, moment: u64, _touched: &mut Touched) -> Called
         requires moment { moment ≤ max_moment }
-        requires room { AreSessions touched.old self.old.hall }
+        requires room { AreSessions _touched.old self.old.hall }
         ensures step { Step self.old.hall (event.Tick moment) (outcome.Answered result) self.new.hall }
         ensures stopped { self.new.hall.stopped ≡ self.old.hall.stopped }
-        ensures named { NamesChanged touched.new self.old.hall self.new.hall }
-        ensures kept { StayNamed touched.old touched.new }
-        ensures room { AreSessions touched.new self.new.hall }
+        ensures named { NamesChanged _touched.new self.old.hall self.new.hall }
+        ensures kept { StayNamed _touched.old _touched.new }
+        ensures room { AreSessions _touched.new self.new.hall }
         ensures logged { self.new.hall.logged ≤ self.old.hall.logged + max_weight }
     {
         if self.logged >= MOST_LOGGED {
