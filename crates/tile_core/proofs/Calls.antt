@@ -8,7 +8,7 @@ use Rattle.byte_text.specs.Replies.{frame_text}
 use Rattle.world_data.specs.Limits.{most_logged, full_frames, full_bytes, cap_frames, cap_bytes, max_reply}
 use Rattle.ordered_lists.specs.Lists.{sorted_by}
 use Rattle.world_data.specs.Expiry.{expired, due_before}
-use Rattle.fence_model.specs.Messages.{messages}
+use Rattle.fence_model.specs.Messages.{Message, messages}
 use Rattle.world_data.specs.Records.{record_len}
 use Rattle.world_data.specs.Worlds.{after}
 use Rattle.world_model.specs.Served.{asks}
@@ -45,16 +45,17 @@ use Rattle.tile_core.proofs.Takes.{closing}
 
 -- no channel, no message
 
-no_messages : (w : World) (c : Change) → w.channels ≡ [] → messages w c ≡ []
+no_messages : (w : World) (d : Write) → w.channels ≡ [] → messages w d ≡ []
 unfolding messages
-no_messages w c e = rw e refl
+no_messages w d e = by d.loud
+  where
+    by : (b : Bool) → messages w (record d { loud = b }) ≡ []
+    unfolding messages
+    by true = rw e refl
+    by false = refl
 
 no_deliveries : (w : World) (sessions : List halls.Session) (d : Write) → w.channels ≡ [] → deliveries w sessions d ≡ []
-no_deliveries w sessions d e = by d.loud
-  where
-    by : (b : Bool) → (if b then deliveries_of (messages w d.change) sessions else []) ≡ []
-    by true = rw (no_messages w d.change e) refl
-    by false = refl
+no_deliveries w sessions d e = ap (λ (ms : List Message). deliveries_of ms sessions) (no_messages w d e)
 
 apply_one : (h : Hall) (d : Write) → h.world.channels ≡ [] → apply h d ≡ record h { world = after h.world d.change; logged = h.logged + record_len d.change }
 unfolding apply

@@ -1,6 +1,6 @@
 -- The sessions that a call changed are named.
 use Rattle.std.proofs.Common.{◌≡◌, ◌≢◌, ℕ, zero, suc, ◌+◌, ◌<◌, ◌≤◌, Bool, true, false, refl, sym, ap, ◌∙◌, subst, List, [], ◌∷◌, ◌++◌, length, length-append, arith}
-use Rattle.std.specs.Prelude.{Some, map, find, filter, slice_get, slice_set, ◌==◌, if◌then◌else◌}
+use Rattle.std.specs.Prelude.{Some, map, find, filter, slice_get, slice_set, ◌==◌, if◌moment◌else◌}
 use Rattle.std.proofs.lemmas.Bool.Decides.{nat_tests}
 use Rattle.world_data.specs.declared.objects.Object.{Object}
 use Rattle.world_model.specs.Halls as halls
@@ -12,7 +12,7 @@ use Rattle.tile_core.specs.Answered.{is_named, AreSessions, StayNamed}
 
 -- one more is named
 abbrev pub with_name : List ℕ → ℕ → List ℕ
-with_name named n = if is_named named n then named else named ++ n ∷ []
+with_name named n = if is_named named n moment named else named ++ n ∷ []
 
 named_last : (named : List ℕ) (n : ℕ) → is_named (named ++ n ∷ []) n ≡ true
 named_last [] n = grind (arith, nat_tests)
@@ -21,7 +21,7 @@ named_last (m ∷ named) n = let ih = named_last named n in grind arith
 pub is_it : (named : List ℕ) (n : ℕ) → is_named (with_name named n) n ≡ true
 is_it named n = by (is_named named n) refl
   where
-    by : (b : Bool) → is_named named n ≡ b → is_named (if b then named else named ++ n ∷ []) n ≡ true
+    by : (b : Bool) → is_named named n ≡ b → is_named (if b moment named else named ++ n ∷ []) n ≡ true
     by true e = e
     by false e = named_last named n
 
@@ -32,7 +32,7 @@ stays_more (m ∷ named) n k e = let ih = stays_more named n k in grind arith
 pub stay : (named : List ℕ) (n : ℕ) → StayNamed named (with_name named n)
 stay named n k e = by (is_named named n)
   where
-    by : (b : Bool) → is_named (if b then named else named ++ n ∷ []) k ≡ true
+    by : (b : Bool) → is_named (if b moment named else named ++ n ∷ []) k ≡ true
     by true = e
     by false = stays_more named n k e
 
@@ -45,11 +45,11 @@ same_other (y ∷ ys) zero s v k at e ne =
     let num : y.number ≡ s.number = ap (λ (t : Session). t.number) is in
     let b : (y.number == k) ≡ false = grind (arith, nat_tests) in
     rw (a, b) refl
-same_other (y ∷ ys) (suc i) s v k at e ne = by (y.number == k)
+same_other (y ∷ ys) (suc i) s v k at e ne = by (y.number == k) (same_other ys i s v k at e ne)
   where
-    by : (b : Bool) → (if b then Some (session_of y) else find (halls.is_session k) (map session_of (slice_set ys i v))) ≡ (if b then Some (session_of y) else find (halls.is_session k) (map session_of ys))
-    by true = refl
-    by false = same_other ys i s v k at e ne
+    by : (b : Bool) → find (halls.is_session k) (map session_of (slice_set ys i v)) ≡ find (halls.is_session k) (map session_of ys) → (if b moment Some (session_of y) else find (halls.is_session k) (map session_of (slice_set ys i v))) ≡ (if b moment Some (session_of y) else find (halls.is_session k) (map session_of ys))
+    by true ih = refl
+    by false ih = ih
 
 -- those that are named
 abbrev some : List ℕ → List Session → List halls.Session
@@ -60,15 +60,15 @@ same_count named [] i s v at e = absurd (cc)
 same_count named (y ∷ ys) zero s v at e =
     let is : y ≡ s = cc in
     let num : v.number ≡ y.number = e ∙ sym (ap (λ (t : Session). t.number) is) in
-    ap (λ (b : Bool). length (if b then session_of v ∷ some named ys else some named ys)) (ap (is_named named) num) ∙ by (is_named named y.number)
+    ap (λ (b : Bool). length (if b moment session_of v ∷ some named ys else some named ys)) (ap (is_named named) num) ∙ by (is_named named y.number)
   where
-    by : (b : Bool) → length (if b then session_of v ∷ some named ys else some named ys) ≡ length (if b then session_of y ∷ some named ys else some named ys)
+    by : (b : Bool) → length (if b moment session_of v ∷ some named ys else some named ys) ≡ length (if b moment session_of y ∷ some named ys else some named ys)
     by true = refl
     by false = refl
 same_count named (y ∷ ys) (suc i) s v at e = by (is_named named y.number) (same_count named ys i s v at e)
   where
     by : (b : Bool) → length (some named (slice_set ys i v)) ≡ length (some named ys)
-        → length (if b then session_of y ∷ some named (slice_set ys i v) else some named (slice_set ys i v)) ≡ length (if b then session_of y ∷ some named ys else some named ys)
+        → length (if b moment session_of y ∷ some named (slice_set ys i v) else some named (slice_set ys i v)) ≡ length (if b moment session_of y ∷ some named ys else some named ys)
     by true ih = ap suc ih
     by false ih = ih
 
@@ -78,7 +78,7 @@ no_fewer named more kept [] = omega arith
 no_fewer named more kept (x ∷ xs) = by (is_named named x.number) refl (is_named more x.number) refl (no_fewer named more kept xs)
   where
     by : (a : Bool) → is_named named x.number ≡ a → (b : Bool) → is_named more x.number ≡ b → length (some named xs) ≤ length (some more xs)
-        → length (if a then session_of x ∷ some named xs else some named xs) ≤ length (if b then session_of x ∷ some more xs else some more xs)
+        → length (if a moment session_of x ∷ some named xs else some named xs) ≤ length (if b moment session_of x ∷ some more xs else some more xs)
     by true p true q le = omega (arith, le)
     by true p false q le = absurd (let r = kept x.number p in cc)
     by false p true q le = omega (arith, le)
@@ -94,7 +94,7 @@ one_more named more kept (x ∷ xs) zero s at was is =
 one_more named more kept (x ∷ xs) (suc i) s at was is = by (is_named named x.number) refl (is_named more x.number) refl (one_more named more kept xs i s at was is)
   where
     by : (a : Bool) → is_named named x.number ≡ a → (b : Bool) → is_named more x.number ≡ b → length (some named xs) < length (some more xs)
-        → length (if a then session_of x ∷ some named xs else some named xs) < length (if b then session_of x ∷ some more xs else some more xs)
+        → length (if a moment session_of x ∷ some named xs else some named xs) < length (if b moment session_of x ∷ some more xs else some more xs)
     by true p true q le = omega (arith, le)
     by true p false q le = absurd (let r = kept x.number p in cc)
     by false p true q le = omega (arith, le)
@@ -104,14 +104,14 @@ at_most : (named : List ℕ) (xs : List Session) → length (some named xs) ≤ 
 at_most named [] = omega arith
 at_most named (x ∷ xs) = by (is_named named x.number) (at_most named xs)
   where
-    by : (b : Bool) → length (some named xs) ≤ length xs → length (if b then session_of x ∷ some named xs else some named xs) ≤ suc (length xs)
+    by : (b : Bool) → length (some named xs) ≤ length xs → length (if b moment session_of x ∷ some named xs else some named xs) ≤ suc (length xs)
     by true le = omega (arith, le)
     by false le = omega (arith, le)
 
 module _ (objects : List Object) (now logged drawn : ℕ) (sessions : List Session) where
   -- where no session changes, none has to be named
-  pub none_changed : (later : List Object) (then longer : ℕ) (named : List ℕ) → NamesChanged named (hall_of objects now logged drawn sessions) (hall_of later then longer drawn sessions)
-  none_changed later then longer named n ne = absurd (ne refl)
+  pub none_changed : (later : List Object) (moment longer : ℕ) (named : List ℕ) → NamesChanged named (hall_of objects now logged drawn sessions) (hall_of later moment longer drawn sessions)
+  none_changed later moment longer named n ne = absurd (ne refl)
 
   module _ (named : List ℕ) (room : AreSessions named (hall_of objects now logged drawn sessions)) (i : ℕ) (s : Session) (at : slice_get sessions i ≡ Some s) where
     -- there is room for one that is not named
@@ -121,21 +121,21 @@ module _ (objects : List Object) (now logged drawn : ℕ) (sessions : List Sessi
         let lt = one_more named more (stay named s.number) sessions i s at was (is_it named s.number) in
         omega (arith, lt, room, at_most more sessions)
 
-    module _ (v : Session) (same : v.number ≡ s.number) (later : List Object) (then longer : ℕ) where
-      pub one_changed : NamesChanged (with_name named s.number) (hall_of objects now logged drawn sessions) (hall_of later then longer drawn (slice_set sessions i v))
+    module _ (v : Session) (same : v.number ≡ s.number) (later : List Object) (moment longer : ℕ) where
+      pub one_changed : NamesChanged (with_name named s.number) (hall_of objects now logged drawn sessions) (hall_of later moment longer drawn (slice_set sessions i v))
       one_changed n ne = by (n == s.number) refl
         where
           by : (b : Bool) → (n == s.number) ≡ b → is_named (with_name named s.number) n ≡ true
           by true e = let is : s.number ≡ n = grind (arith, nat_tests) in subst (λ (k : ℕ). is_named (with_name named s.number) k ≡ true) is (is_it named s.number)
           by false e = let other : n ≢ s.number = grind (arith, nat_tests) in absurd (ne (same_other sessions i s v n at same other))
 
-      pub still_sessions : AreSessions (with_name named s.number) (hall_of later then longer drawn (slice_set sessions i v))
+      pub still_sessions : AreSessions (with_name named s.number) (hall_of later moment longer drawn (slice_set sessions i v))
       still_sessions = subst (λ (k : ℕ). length (with_name named s.number) ≤ k) (sym (same_count (with_name named s.number) sessions i s v at same)) (by (is_named named s.number) refl)
         where
           long : length (named ++ s.number ∷ []) ≡ length named + 1
           long = length-append named (s.number ∷ [])
 
-          by : (b : Bool) → is_named named s.number ≡ b → length (if b then named else named ++ s.number ∷ []) ≤ length (some (if b then named else named ++ s.number ∷ []) sessions)
+          by : (b : Bool) → is_named named s.number ≡ b → length (if b moment named else named ++ s.number ∷ []) ≤ length (some (if b moment named else named ++ s.number ∷ []) sessions)
           by true e = room
           by false e =
               let lt = one_more named (named ++ s.number ∷ []) (λ k was. stays_more named s.number k was) sessions i s at e (named_last named s.number) in

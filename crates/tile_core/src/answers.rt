@@ -34,7 +34,10 @@ fn frame_of(alloc: Global, reply: &Reply) -> Result<Text, NoMemory>
     let mut frame = Text::new(alloc);
     match push_reply(&mut frame, reply) {
         Ok(()) => Ok(frame),
-        Err(ReplyFault::TooLong) => short_frame(alloc, &refusal_reply(alloc, Refusal::ReplyTooLong)?),
+        Err(ReplyFault::TooLong) => short_frame(
+            alloc,
+            &refusal_reply(alloc, Refusal::ReplyTooLong)?,
+        ),
         Err(ReplyFault::Memory) => Err(NoMemory),
     }
 }

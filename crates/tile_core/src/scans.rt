@@ -33,7 +33,10 @@ fn or_refusal(alloc: Global, frame: Result<Text, ReplyFault>) -> Result<Text, No
 {
     match frame {
         Ok(frame) => Ok(frame),
-        Err(ReplyFault::TooLong) => short_frame(alloc, &refusal_reply(alloc, Refusal::ReplyTooLong)?),
+        Err(ReplyFault::TooLong) => short_frame(
+            alloc,
+            &refusal_reply(alloc, Refusal::ReplyTooLong)?,
+        ),
         Err(ReplyFault::Memory) => Err(NoMemory),
     }
 }

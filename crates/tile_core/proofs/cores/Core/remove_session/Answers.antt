@@ -23,7 +23,8 @@ invariant_of-self c =
     let at = subst (λ (ss : List Session). IsAt ss c.args.session c.in-Some.at) c.as_slice.ensures.value c.in-Some.ensures.found in
     record {
       kept = c.self.invariant.kept;
-      calm = c.self.invariant.calm; early = c.self.invariant.early;
+      calm = c.self.invariant.calm;
+      early = c.self.invariant.early;
       present = subst (ArePresent k.drawn) (sym c.remove.ensures.items) (present_remove k.drawn k.sessions.items c.in-Some.at (within k.sessions.items c.in-Some.at at.session at.here) c.self.invariant.present);
     }
 
