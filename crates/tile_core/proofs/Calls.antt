@@ -8,7 +8,7 @@ use Rattle.byte_text.specs.Replies.{frame_text}
 use Rattle.world_data.specs.Limits.{most_logged, full_frames, full_bytes, cap_frames, cap_bytes, max_reply}
 use Rattle.ordered_lists.specs.Lists.{sorted_by}
 use Rattle.world_data.specs.Expiry.{expired, due_before}
-use Rattle.fence_model.specs.Messages.{Message, messages}
+use Rattle.fence_model.specs.Messages.{Message, messages, loud_messages}
 use Rattle.world_data.specs.Records.{record_len}
 use Rattle.world_data.specs.Worlds.{after}
 use Rattle.world_model.specs.Served.{asks}
@@ -49,8 +49,7 @@ no_messages : (w : World) (d : Write) → w.channels ≡ [] → messages w d ≡
 unfolding messages
 no_messages w d e = by d.loud
   where
-    by : (b : Bool) → messages w (record d { loud = b }) ≡ []
-    unfolding messages
+    by : (b : Bool) → (if b then loud_messages w d.change else []) ≡ []
     by true = rw e refl
     by false = refl
 

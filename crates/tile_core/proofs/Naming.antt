@@ -1,6 +1,6 @@
 -- The sessions that a call changed are named.
 use Rattle.std.proofs.Common.{◌≡◌, ◌≢◌, ℕ, zero, suc, ◌+◌, ◌<◌, ◌≤◌, Bool, true, false, refl, sym, ap, ◌∙◌, subst, List, [], ◌∷◌, ◌++◌, length, length-append, arith}
-use Rattle.std.specs.Prelude.{Some, map, find, filter, slice_get, slice_set, ◌==◌, if◌moment◌else◌}
+use Rattle.std.specs.Prelude.{Some, map, find, filter, slice_get, slice_set, ◌==◌, if◌then◌else◌}
 use Rattle.std.proofs.lemmas.Bool.Decides.{nat_tests}
 use Rattle.world_data.specs.declared.objects.Object.{Object}
 use Rattle.world_model.specs.Halls as halls
@@ -12,7 +12,7 @@ use Rattle.tile_core.specs.Answered.{is_named, AreSessions, StayNamed}
 
 -- one more is named
 abbrev pub with_name : List ℕ → ℕ → List ℕ
-with_name named n = if is_named named n moment named else named ++ n ∷ []
+with_name named n = if is_named named n then named else named ++ n ∷ []
 
 named_last : (named : List ℕ) (n : ℕ) → is_named (named ++ n ∷ []) n ≡ true
 named_last [] n = grind (arith, nat_tests)
@@ -21,7 +21,7 @@ named_last (m ∷ named) n = let ih = named_last named n in grind arith
 pub is_it : (named : List ℕ) (n : ℕ) → is_named (with_name named n) n ≡ true
 is_it named n = by (is_named named n) refl
   where
-    by : (b : Bool) → is_named named n ≡ b → is_named (if b moment named else named ++ n ∷ []) n ≡ true
+    by : (b : Bool) → is_named named n ≡ b → is_named (if b then named else named ++ n ∷ []) n ≡ true
     by true e = e
     by false e = named_last named n
 
@@ -32,7 +32,7 @@ stays_more (m ∷ named) n k e = let ih = stays_more named n k in grind arith
 pub stay : (named : List ℕ) (n : ℕ) → StayNamed named (with_name named n)
 stay named n k e = by (is_named named n)
   where
-    by : (b : Bool) → is_named (if b moment named else named ++ n ∷ []) k ≡ true
+    by : (b : Bool) → is_named (if b then named else named ++ n ∷ []) k ≡ true
     by true = e
     by false = stays_more named n k e
 
@@ -47,7 +47,7 @@ same_other (y ∷ ys) zero s v k at e ne =
     rw (a, b) refl
 same_other (y ∷ ys) (suc i) s v k at e ne = by (y.number == k) (same_other ys i s v k at e ne)
   where
-    by : (b : Bool) → find (halls.is_session k) (map session_of (slice_set ys i v)) ≡ find (halls.is_session k) (map session_of ys) → (if b moment Some (session_of y) else find (halls.is_session k) (map session_of (slice_set ys i v))) ≡ (if b moment Some (session_of y) else find (halls.is_session k) (map session_of ys))
+    by : (b : Bool) → find (halls.is_session k) (map session_of (slice_set ys i v)) ≡ find (halls.is_session k) (map session_of ys) → (if b then Some (session_of y) else find (halls.is_session k) (map session_of (slice_set ys i v))) ≡ (if b then Some (session_of y) else find (halls.is_session k) (map session_of ys))
     by true ih = refl
     by false ih = ih
 
@@ -60,15 +60,15 @@ same_count named [] i s v at e = absurd (cc)
 same_count named (y ∷ ys) zero s v at e =
     let is : y ≡ s = cc in
     let num : v.number ≡ y.number = e ∙ sym (ap (λ (t : Session). t.number) is) in
-    ap (λ (b : Bool). length (if b moment session_of v ∷ some named ys else some named ys)) (ap (is_named named) num) ∙ by (is_named named y.number)
+    ap (λ (b : Bool). length (if b then session_of v ∷ some named ys else some named ys)) (ap (is_named named) num) ∙ by (is_named named y.number)
   where
-    by : (b : Bool) → length (if b moment session_of v ∷ some named ys else some named ys) ≡ length (if b moment session_of y ∷ some named ys else some named ys)
+    by : (b : Bool) → length (if b then session_of v ∷ some named ys else some named ys) ≡ length (if b then session_of y ∷ some named ys else some named ys)
     by true = refl
     by false = refl
 same_count named (y ∷ ys) (suc i) s v at e = by (is_named named y.number) (same_count named ys i s v at e)
   where
     by : (b : Bool) → length (some named (slice_set ys i v)) ≡ length (some named ys)
-        → length (if b moment session_of y ∷ some named (slice_set ys i v) else some named (slice_set ys i v)) ≡ length (if b moment session_of y ∷ some named ys else some named ys)
+        → length (if b then session_of y ∷ some named (slice_set ys i v) else some named (slice_set ys i v)) ≡ length (if b then session_of y ∷ some named ys else some named ys)
     by true ih = ap suc ih
     by false ih = ih
 
@@ -78,7 +78,7 @@ no_fewer named more kept [] = omega arith
 no_fewer named more kept (x ∷ xs) = by (is_named named x.number) refl (is_named more x.number) refl (no_fewer named more kept xs)
   where
     by : (a : Bool) → is_named named x.number ≡ a → (b : Bool) → is_named more x.number ≡ b → length (some named xs) ≤ length (some more xs)
-        → length (if a moment session_of x ∷ some named xs else some named xs) ≤ length (if b moment session_of x ∷ some more xs else some more xs)
+        → length (if a then session_of x ∷ some named xs else some named xs) ≤ length (if b then session_of x ∷ some more xs else some more xs)
     by true p true q le = omega (arith, le)
     by true p false q le = absurd (let r = kept x.number p in cc)
     by false p true q le = omega (arith, le)
@@ -94,7 +94,7 @@ one_more named more kept (x ∷ xs) zero s at was is =
 one_more named more kept (x ∷ xs) (suc i) s at was is = by (is_named named x.number) refl (is_named more x.number) refl (one_more named more kept xs i s at was is)
   where
     by : (a : Bool) → is_named named x.number ≡ a → (b : Bool) → is_named more x.number ≡ b → length (some named xs) < length (some more xs)
-        → length (if a moment session_of x ∷ some named xs else some named xs) < length (if b moment session_of x ∷ some more xs else some more xs)
+        → length (if a then session_of x ∷ some named xs else some named xs) < length (if b then session_of x ∷ some more xs else some more xs)
     by true p true q le = omega (arith, le)
     by true p false q le = absurd (let r = kept x.number p in cc)
     by false p true q le = omega (arith, le)
@@ -104,7 +104,7 @@ at_most : (named : List ℕ) (xs : List Session) → length (some named xs) ≤ 
 at_most named [] = omega arith
 at_most named (x ∷ xs) = by (is_named named x.number) (at_most named xs)
   where
-    by : (b : Bool) → length (some named xs) ≤ length xs → length (if b moment session_of x ∷ some named xs else some named xs) ≤ suc (length xs)
+    by : (b : Bool) → length (some named xs) ≤ length xs → length (if b then session_of x ∷ some named xs else some named xs) ≤ suc (length xs)
     by true le = omega (arith, le)
     by false le = omega (arith, le)
 
@@ -135,7 +135,7 @@ module _ (objects : List Object) (now logged drawn : ℕ) (sessions : List Sessi
           long : length (named ++ s.number ∷ []) ≡ length named + 1
           long = length-append named (s.number ∷ [])
 
-          by : (b : Bool) → is_named named s.number ≡ b → length (if b moment named else named ++ s.number ∷ []) ≤ length (some (if b moment named else named ++ s.number ∷ []) sessions)
+          by : (b : Bool) → is_named named s.number ≡ b → length (if b then named else named ++ s.number ∷ []) ≤ length (some (if b then named else named ++ s.number ∷ []) sessions)
           by true e = room
           by false e =
               let lt = one_more named (named ++ s.number ∷ []) (λ k was. stays_more named s.number k was) sessions i s at e (named_last named s.number) in

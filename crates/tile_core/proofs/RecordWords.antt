@@ -113,4 +113,4 @@ bare_short o m is few =
     let head = length-decimal-le 10 count (omega arith) below (omega (arith, below)) in
     let size : length (bulk_text (codes "AT")) ≡ length (line 36 (decimal 2)) + 4 = bulk_size (codes "AT") in
     let words : words_len (deadline_words o.deadline) ≡ words_len (codes "AT" ∷ decimal m ∷ []) = ap (λ (d : Option ℕ). words_len (deadline_words d)) is in
-    omega (arith, put_record x count refl, put_record o more refl, head, bulk_size (decimal m), length-append (decimal count) (13 ∷ 10 ∷ []), length-append (decimal more) (13 ∷ 10 ∷ []), size, words, words_cons (codes "AT") (decimal m ∷ []))
+    omega (arith, put_record x count refl, put_record o more refl, head, bulk_size (decimal m), words_cons (decimal m) [], length-append (decimal 2) (13 ∷ 10 ∷ []), length-append (decimal (length (decimal m))) (13 ∷ 10 ∷ []), length-append (decimal count) (13 ∷ 10 ∷ []), length-append (decimal more) (13 ∷ 10 ∷ []), size, words, words_cons (codes "AT") (decimal m ∷ []))
