@@ -207,7 +207,8 @@ returns-clause-named c =
     let same : c.answer.new.self.number ≡ sv.0.session.number = ap (λ (s : Session). s.number) c.answer.ensures ∙ ap (λ (s : Session). s.number) is in
     let named = one_changed (objects_in k.objects) k.clock k.logged k.drawn ss c.args.touched.now room c.in-Ok.at sv.0.session sv.0.here c.answer.new.self same (objects_in c.release.new.objects) c.max-now.result (k.logged + (c.in-Ok-ready.field-0.gone.length + c.in-Ok-ready.field-0.plan.length)) in
     let with_it : c.name_session.new.touched ≡ with_name c.args.touched.now sv.0.session.number = c.name_session.ensures ∙ ap (with_name c.args.touched.now) (sym sv.0.numbered) in
-    subst (λ (h : Hall). NamesChanged c.name_session.new.touched h _) hall (subst (λ (t : List ℕ). NamesChanged t _ _) (sym with_it) named)
+    subst (λ (h : Hall). NamesChanged c.name_session.new.touched h (hall_of (objects_in c.release.new.objects) c.max-now.result (k.logged + (c.in-Ok-ready.field-0.gone.length + c.in-Ok-ready.field-0.plan.length)) k.drawn (slice_set ss c.in-Ok.at c.answer.new.self))) hall
+    (subst (λ (t : List ℕ). NamesChanged t (hall_of (objects_in k.objects) k.clock k.logged k.drawn ss) (hall_of (objects_in c.release.new.objects) c.max-now.result (k.logged + (c.in-Ok-ready.field-0.gone.length + c.in-Ok-ready.field-0.plan.length)) k.drawn (slice_set ss c.in-Ok.at c.answer.new.self))) (sym with_it) named)
 
 pub returns-clause-room : goal.returns-clause-room
 returns-clause-room c =
@@ -222,7 +223,7 @@ returns-clause-room c =
     let same : c.answer.new.self.number ≡ sv.0.session.number = ap (λ (s : Session). s.number) c.answer.ensures ∙ ap (λ (s : Session). s.number) is in
     let still = still_sessions (objects_in k.objects) k.clock k.logged k.drawn ss c.args.touched.now room c.in-Ok.at sv.0.session sv.0.here c.answer.new.self same (objects_in c.release.new.objects) c.max-now.result (k.logged + (c.in-Ok-ready.field-0.gone.length + c.in-Ok-ready.field-0.plan.length)) in
     let with_it : c.name_session.new.touched ≡ with_name c.args.touched.now sv.0.session.number = c.name_session.ensures ∙ ap (with_name c.args.touched.now) (sym sv.0.numbered) in
-    subst (λ (t : List ℕ). AreSessions t _) (sym with_it) still
+    subst (λ (t : List ℕ). AreSessions t (hall_of (objects_in c.release.new.objects) c.max-now.result (k.logged + (c.in-Ok-ready.field-0.gone.length + c.in-Ok-ready.field-0.plan.length)) k.drawn (slice_set ss c.in-Ok.at c.answer.new.self))) (sym with_it) still
 
 pub returns-clause-kept : goal.returns-clause-kept
 returns-clause-kept c = subst (StayNamed c.args.touched.now) (sym c.name_session.ensures) (stay c.args.touched.now c.args.session)

@@ -28,7 +28,7 @@ returns-clause-step c =
 pub returns-clause-named : goal.returns-clause-named
 returns-clause-named c =
     let k = c.self.inside in
-    subst (λ (n : Kernel). NamesChanged c.args._touched.now n.hall _) c.self.view_is
+    subst (λ (n : Kernel). NamesChanged c.args._touched.now n.hall (hall_of (objects_in c.release.new.objects) c.max-now.result (k.logged + c.in-Ok.gone.length) k.drawn k.sessions.items)) c.self.view_is
     (none_changed (objects_in k.objects) k.clock k.logged k.drawn k.sessions.items (objects_in c.release.new.objects) c.max-now.result (k.logged + c.in-Ok.gone.length) c.args._touched.now)
 
 pub returns-clause-room : goal.returns-clause-room
