@@ -7,7 +7,8 @@ use Rattle.byte_text.specs.Lines.{line}
 use Rattle.byte_text.specs.Replies.{piece_text, frame_text, inside, AreReplies, IsClean, IsInRange}
 use Rattle.byte_text.specs.declared.replies.Piece.{Piece}
 use Rattle.byte_text.specs.declared.replies.Piece.TheVariants as piece
-use Rattle.byte_text.proofs.LineLaws.{NoReturn, NoReturn-one_line, NoReturn-decimal, NoReturn-signed, same_line, same_length, bulk_text-append, signed_is, no_sign}
+use Rattle.byte_text.specs.LineLaws.{NoReturn, NoReturn-decimal, bulk_text-append}
+use Rattle.byte_text.proofs.LineFronts.{NoReturn-one_line, NoReturn-signed, same_line, same_length, signed_is, no_sign}
 
 abbrev mark : Piece → ℕ
 mark (piece.Status text) = 43

@@ -3,11 +3,9 @@ use Rattle.std.proofs.Common.{◌≡◌, ℕ, ◌<◌, ◌≤◌, ◌^◌, List,
 use Rattle.std.specs.List.{AllByRecursion}
 use Rattle.std.proofs.lemmas.Fmt.{decimal_injective}
 use Rattle.byte_text.specs.Lines.{line, bulk_text}
-use Rattle.byte_text.specs.Requests.{request_text, IsRequest, max_word}
-use Rattle.byte_text.proofs.LineLaws.{same_line, same_bulk, NoReturn-decimal}
-
-abbrev pub AreShort : List (List ℕ) → Type 0
-AreShort ws = AllByRecursion (λ w. length w ≤ max_word) ws
+use Rattle.byte_text.specs.Requests.{request_text, IsRequest, AreShort}
+use Rattle.byte_text.specs.LineLaws.{NoReturn-decimal}
+use Rattle.byte_text.proofs.LineFronts.{same_line, same_bulk}
 
 pub same_words : (v w : List (List ℕ)) (x y : List ℕ) → length v ≡ length w → AreShort v → AreShort w → flat_map bulk_text v ++ x ≡ flat_map bulk_text w ++ y → (v ≡ w) × (x ≡ y)
 same_words [] [] x y l p q e = (refl, e)

@@ -5,12 +5,11 @@ use Rattle.std.proofs.lemmas.List.{take-append-drop, length-take}
 use Rattle.std.proofs.lemmas.Fmt.{decimal_step, decimal_digit}
 use Rattle.byte_text.specs.Names.{Bytes}
 use Rattle.byte_text.specs.Lines.{line, bulk_text}
-use Rattle.byte_text.specs.Requests.{request_text, IsRequest, max_word, max_words, max_request, total}
+use Rattle.byte_text.specs.Requests.{AreShort, request_text, IsRequest, max_word, max_words, max_request, total}
 use Rattle.byte_text.specs.Streams.{Front, Grammar, ◌>>=◌, ◌>>◌, done, found, begun, broken, go_on, byte, bytes_of, is_digit, with_digit, with_byte, one_more, unless, number_end, number, count_limit, word_limit, word, words, request}
 use Rattle.byte_text.specs.declared.faults.RespFault.{RespFault}
 use Rattle.byte_text.specs.declared.faults.RespFault.TheVariants.{BadType, BadEnd, TooMany, TooLong}
-use Rattle.byte_text.proofs.LineLaws.{line-append, bulk_text-append}
-use Rattle.byte_text.proofs.RequestLaws.{AreShort}
+use Rattle.byte_text.specs.LineLaws.{line-append, bulk_text-append}
 use Rattle.byte_text.proofs.StreamTexts.{word_end, behind_length, others, with_word, behind_count}
 
 -- the second part is read behind the first

@@ -5,12 +5,11 @@ use Rattle.std.proofs.lemmas.List.{drop_at}
 use Rattle.std.proofs.lemmas.Fmt.{decimal_by_steps}
 use Rattle.byte_text.specs.Names.{Bytes}
 use Rattle.byte_text.specs.Lines.{line, bulk_text}
-use Rattle.byte_text.specs.Requests.{request_text, IsRequest, max_word, max_words, max_request, total}
+use Rattle.byte_text.specs.Requests.{AreShort, request_text, IsRequest, max_word, max_words, max_request, total}
 use Rattle.byte_text.specs.Streams.{Grammar, ◌>>=◌, ◌>>◌, done, found, go_on, byte, bytes_of, with_digit, number, count_limit, word_limit, word, words, request}
 use Rattle.byte_text.specs.declared.faults.RespFault.{RespFault}
 use Rattle.byte_text.specs.declared.faults.RespFault.TheVariants.{BadEnd}
-use Rattle.byte_text.proofs.LineLaws.{line-append, bulk_text-append}
-use Rattle.byte_text.proofs.RequestLaws.{AreShort}
+use Rattle.byte_text.specs.LineLaws.{line-append, bulk_text-append}
 
 pub with_digit_pos : (q d : ℕ) → 0 < q → with_digit (Some q) d ≡ Some (q * 10 + d)
 with_digit_pos zero d p = absurd (omega (arith, p))

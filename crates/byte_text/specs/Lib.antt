@@ -6,3 +6,7 @@ pub mod Lines
 pub mod Requests
 pub mod Replies
 pub mod Streams
+pub mod ByteOrder
+pub mod NumberLaws
+pub mod LineLaws
+pub mod TextLaws

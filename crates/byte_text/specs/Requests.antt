@@ -21,10 +21,14 @@ abbrev pub total : List Bytes → ℕ
 total [] = 0
 total (w ∷ ws) = length w + total ws
 
+-- no word is too long
+abbrev pub AreShort : List Bytes → Type 0
+AreShort words = AllByRecursion (λ w. length w ≤ max_word) words
+
 -- the limits of a request
 pub record FitsRequest (words : List Bytes) : Type 0 where
   pub few : length words ≤ max_words
-  pub short : AllByRecursion (λ w. length w ≤ max_word) words
+  pub short : AreShort words
   pub small : total words ≤ max_request
 
 -- the words of a request: at least one, within the limits

@@ -1,4 +1,6 @@
-/// Why bytes go on as no request, or why a reader of requests gave none.
+//! What is wrong with bytes that go on as no request.
+
+/// Why bytes go on as no request.
 #[derive(Clone, Copy, Debug, PartialEq, Eq)]
 pub enum RespFault {
     /// A byte stands in the place of `*` or `$`.
@@ -11,8 +13,4 @@ pub enum RespFault {
     TooMany,
     /// A digit makes the length of a word, or of all words, pass its limit.
     TooLong,
-    /// The reader has met one of the faults above before.
-    Dead,
-    /// Want of memory; no byte was taken.
-    Memory,
 }

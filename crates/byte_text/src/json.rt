@@ -10,7 +10,7 @@ fn hex_digit(n: u8) -> u8
     if n < 10 { b'0' + n } else { b'a' - 10 + n }
 }
 
-#[tactic(auto, using(crate::proofs::Kept::kept))]
+#[tactic(auto, using(crate::specs::TextLaws::kept))]
 fn push_byte(into: &mut Text, byte: u8) -> Result<(), NoMemory>
     ensures ok { OnOk result (into.new ≡ into.old ++ json_byte byte) }
     ensures kept { take (length into.old) into.new ≡ into.old }
@@ -34,7 +34,7 @@ fn push_byte(into: &mut Text, byte: u8) -> Result<(), NoMemory>
     }
 }
 
-#[tactic(auto, using(crate::proofs::Kept::kept))]
+#[tactic(auto, using(crate::specs::TextLaws::kept))]
 fn push_quoted(into: &mut Text, bytes: &[u8]) -> Result<(), NoMemory>
     ensures ok { OnOk result (into.new ≡ into.old ++ quoted bytes.now) }
     ensures kept { take (length into.old) into.new ≡ into.old }

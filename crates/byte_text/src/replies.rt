@@ -97,7 +97,7 @@ impl Reply {
     }
 }
 
-#[tactic(auto, using(crate::proofs::Kept::kept))]
+#[tactic(auto, using(crate::specs::TextLaws::kept))]
 fn push_text_line(into: &mut Text, mark: u8, text: &[u8]) -> Result<(), NoMemory>
     ensures ok { OnOk result (into.new ≡ into.old ++ line mark text.now) }
     ensures kept { take (length into.old) into.new ≡ into.old }
@@ -107,7 +107,7 @@ fn push_text_line(into: &mut Text, mark: u8, text: &[u8]) -> Result<(), NoMemory
     into.push(b"\r\n")
 }
 
-#[tactic(auto, using(crate::proofs::Kept::kept))]
+#[tactic(auto, using(crate::specs::TextLaws::kept))]
 fn push_number_line(into: &mut Text, n: i64) -> Result<(), NoMemory>
     ensures ok { OnOk result (into.new ≡ into.old ++ line 58 (signed_decimal n)) }
     ensures kept { take (length into.old) into.new ≡ into.old }
@@ -117,7 +117,7 @@ fn push_number_line(into: &mut Text, n: i64) -> Result<(), NoMemory>
     into.push(b"\r\n")
 }
 
-#[tactic(auto, using(crate::proofs::Kept::kept))]
+#[tactic(auto, using(crate::specs::TextLaws::kept))]
 fn push_piece(into: &mut Text, piece: &Piece) -> Result<(), NoMemory>
     ensures ok { OnOk result (into.new ≡ into.old ++ piece_text piece.now) }
     ensures kept { take (length into.old) into.new ≡ into.old }
@@ -133,7 +133,7 @@ fn push_piece(into: &mut Text, piece: &Piece) -> Result<(), NoMemory>
     }
 }
 
-#[tactic(auto, using(crate::proofs::Kept::kept))]
+#[tactic(auto, using(crate::specs::TextLaws::kept))]
 fn push_pieces(into: &mut Text, pieces: &[Piece]) -> Result<(), NoMemory>
     ensures ok { OnOk result (into.new ≡ into.old ++ frame_text pieces.now) }
     ensures kept { take (length into.old) into.new ≡ into.old }

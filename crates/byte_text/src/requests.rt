@@ -69,7 +69,7 @@ impl Request {
 }
 
 // Appends a line: a mark, a number, CR LF.
-#[tactic(auto, using(crate::proofs::Kept::kept))]
+#[tactic(auto, using(crate::specs::TextLaws::kept))]
 pub(crate) fn push_header(into: &mut Text, mark: u8, n: u64) -> Result<(), NoMemory>
     ensures ok { OnOk result (into.new ≡ into.old ++ line mark (decimal n)) }
     ensures kept { take (length into.old) into.new ≡ into.old }
@@ -80,7 +80,7 @@ pub(crate) fn push_header(into: &mut Text, mark: u8, n: u64) -> Result<(), NoMem
 }
 
 // Appends a bulk string.
-#[tactic(auto, using(crate::proofs::Kept::kept))]
+#[tactic(auto, using(crate::specs::TextLaws::kept))]
 pub(crate) fn push_bulk(into: &mut Text, bytes: &[u8]) -> Result<(), NoMemory>
     ensures ok { OnOk result (into.new ≡ into.old ++ bulk_text bytes.now) }
     ensures kept { take (length into.old) into.new ≡ into.old }
@@ -90,7 +90,7 @@ pub(crate) fn push_bulk(into: &mut Text, bytes: &[u8]) -> Result<(), NoMemory>
     into.push(b"\r\n")
 }
 
-#[tactic(auto, using(crate::proofs::Kept::kept))]
+#[tactic(auto, using(crate::specs::TextLaws::kept))]
 fn push_words(into: &mut Text, request: &Request) -> Result<(), NoMemory>
     ensures fits { FitsRequest request.now }
     ensures ok { OnOk result (into.new ≡ into.old ++ request_text request.now) }

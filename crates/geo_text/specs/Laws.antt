@@ -1,4 +1,5 @@
 -- Laws of the acceptance of texts.
+use Rattle.std.proofs.Common.{refl, inl, inr, arith}
 use Rattle.std.specs.Prelude.{◌≡◌, ◌≢◌, ◌⊎◌, [], ◌∷◌, Result, Ok, Err}
 use Rattle.byte_text.specs.Names.{Bytes}
 use Rattle.planar_geom.specs.Points.{Point, Bounds, InPlane, IsBox}
@@ -23,6 +24,11 @@ pub record HasOneAnswer {A E : Type 0} (answer : Result A E) : Type 0 where
   pub one_value : (a b : A) → answer ≡ Ok a → answer ≡ Ok b → a ≡ b
   pub one_fault : (e f : E) → answer ≡ Err e → answer ≡ Err f → e ≡ f
   pub not_both : (a : A) (e : E) → answer ≡ Ok a → answer ≡ Err e → ⊥
+
+-- a result is one value or one fault
+pub one_answer : {A E : Type 0} (answer : Result A E) → HasOneAnswer answer
+one_answer (Ok a) = record { some = inl (a, refl); one_value = λ b c e f. grind arith; one_fault = λ g h e f. grind arith; not_both = λ b h e f. grind arith }
+one_answer (Err x) = record { some = inr (x, refl); one_value = λ b c e f. grind arith; one_fault = λ g h e f. grind arith; not_both = λ b h e f. grind arith }
 
 -- a text is accepted with one shape, or refused with one fault
 abbrev pub TextsHaveOneAnswer : Type 0

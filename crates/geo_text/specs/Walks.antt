@@ -1,34 +1,17 @@
 -- RFC 7946, section 3.1: positions, lines and rings, read from left to right; the first fault met counts.
-use Rattle.std.specs.Prelude.{◌≡◌, ℕ, ◌+◌, ℤ, nat_lt, Bool, false, List, [], ◌∷◌, length, Option, Some, None, Result, Ok, Err, if◌then◌else◌}
+use Rattle.std.specs.Prelude.{ℕ, ◌+◌, ℤ, nat_lt, Bool, false, List, [], ◌∷◌, length, Option, Some, None, Result, Ok, Err, if◌then◌else◌}
 use Rattle.serde_json.specs.Data.{Num, unsigned, negative, float, Data, null, boolean, number, string, array, object, Items, no_items, item}
 use Rattle.serde_json.specs.Find.{as_i64}
 use Rattle.planar_geom.specs.Points.{Point, pt, same_point, is_coordinate}
 use Rattle.planar_geom.specs.Figures.{last_of}
 use Rattle.geo_text.specs.declared.faults.GeoFault.{GeoFault}
-use Rattle.geo_text.specs.declared.faults.GeoFault.TheVariants.{NotJson, NotSpatial, BadType, NotWhole, OutOfRange, BadRing, TooFew, TooMany, BadPosition, Memory}
+use Rattle.geo_text.specs.declared.faults.GeoFault.TheVariants.{NotWhole, OutOfRange, BadRing, TooFew, TooMany, BadPosition}
 
 -- the first fault met is the one that comes out
 infixl 10 ◌>>=◌
 abbrev pub ◌>>=◌ : {A B : Type 0} → Result A GeoFault → (A → Result B GeoFault) → Result B GeoFault
 (Ok x) >>= f = f x
 (Err e) >>= f = Err e
-
--- an answer in code, seen by `view`, is what the text gives, unless memory ran out
-abbrev pub Fails : {Y : Type 0} → GeoFault → Result Y GeoFault → Type 0
-Fails NotJson read = read ≡ Err NotJson
-Fails NotSpatial read = read ≡ Err NotSpatial
-Fails BadType read = read ≡ Err BadType
-Fails NotWhole read = read ≡ Err NotWhole
-Fails OutOfRange read = read ≡ Err OutOfRange
-Fails BadRing read = read ≡ Err BadRing
-Fails TooFew read = read ≡ Err TooFew
-Fails TooMany read = read ≡ Err TooMany
-Fails BadPosition read = read ≡ Err BadPosition
-Fails Memory read = Unit {0}
-
-abbrev pub Gives : {X Y : Type 0} → (X → Y) → Result X GeoFault → Result Y GeoFault → Type 0
-Gives view (Ok x) read = read ≡ Ok (view x)
-Gives view (Err e) read = Fails e read
 
 -- the most positions of one object
 abbrev pub max_positions : ℕ

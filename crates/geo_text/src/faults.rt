@@ -1,3 +1,5 @@
+//! What is wrong with a text that is no shape.
+
 /// Why a text is no shape.
 #[derive(Clone, Copy, Debug, PartialEq, Eq)]
 pub enum GeoFault {
@@ -19,6 +21,4 @@ pub enum GeoFault {
     TooMany,
     /// What stands in the place of a position is no array of two or three numbers.
     BadPosition,
-    /// Memory ran out; no text is refused so by the definitions.
-    Memory,
 }

@@ -13,7 +13,7 @@ use Rattle.geo_text.specs.declared.types.Base.TheVariants.{Spot, Chain, Face}
 use Rattle.geo_text.specs.Walks.{◌>>=◌, array_of, each}
 use Rattle.geo_text.specs.Geometries.{part, single, many, Walk, go, there, object_only, array_at, coordinates, single_at, many_at, type_of, of_type, geometry, inner, walk_of, geometries, feature, only_feature, feature_item, joined, features, top_of}
 use Rattle.geojson_model.specs.Behind.{behind}
-use Rattle.geojson_model.proofs.Faults.{ok_is, not_ok}
+use Rattle.geojson_model.proofs.FaultLaws.{ok_is, not_ok}
 use Rattle.geojson_model.proofs.Loops.{behind_nothing}
 
 -- what came before an answer

@@ -1,4 +1,4 @@
-pub mod Faults
+pub mod FaultLaws
 pub mod Loops
 pub mod Rings
 pub mod Nested

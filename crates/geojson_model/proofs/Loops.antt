@@ -5,10 +5,12 @@ use Rattle.serde_json.specs.View.{view, items_view}
 use Rattle.serde_json.specs.declared.value.Value.{Value}
 use Rattle.planar_geom.specs.declared.shapes.Part.{Part}
 use Rattle.geo_text.specs.declared.faults.GeoFault.{GeoFault}
-use Rattle.geo_text.specs.Walks.{◌>>=◌, Fails, each}
+use Rattle.geo_text.specs.Walks.{◌>>=◌, each}
 use Rattle.geo_text.specs.Geometries.{joined}
+use Rattle.geojson_model.specs.declared.faults.ShapeFault.{ShapeFault}
+use Rattle.geojson_model.specs.Answers.{Fails}
 use Rattle.geojson_model.specs.Behind.{behind}
-use Rattle.geojson_model.proofs.Faults.{carried, ok_is, not_ok, not_err}
+use Rattle.geojson_model.proofs.FaultLaws.{carried, ok_is, not_ok, not_err}
 
 -- the items from a place on
 abbrev pub from : List Value → ℕ → Items
@@ -38,7 +40,7 @@ goes_on walk front vs i count v a after total l e h so_far =
     let one : behind front (each walk (from vs i) count) ≡ behind (front ++ a ∷ []) (each walk (from vs (i + 1)) after) = rw (from_next vs i v l e, h) (one_behind front a (each walk (from vs (i + 1)) after)) in
     sym one ∙ so_far
 
-pub ends : {A : Type 0} (walk : Data → ℕ → Result (A × ℕ) GeoFault) (error : GeoFault) (front : List A) (vs : List Value) (i count : ℕ) (v : Value) (total : Result (List A × ℕ) GeoFault) → i < length vs → v ≡ get_or vs i v
+pub ends : {A : Type 0} (walk : Data → ℕ → Result (A × ℕ) GeoFault) (error : ShapeFault) (front : List A) (vs : List Value) (i count : ℕ) (v : Value) (total : Result (List A × ℕ) GeoFault) → i < length vs → v ≡ get_or vs i v
     → Fails error (walk (view v) count) → behind front (each walk (from vs i) count) ≡ total → Fails error total
 unfolding each
 ends walk error front vs i count v total l e h so_far =
@@ -81,7 +83,7 @@ goes_on_joined walk front new vs i count v after total l e h so_far =
     let one : behind front (joined walk (from vs i) count) ≡ behind new (joined walk (from vs (i + 1)) after) = rw (from_next vs i v l e) (step front new (walk (view v) count) after (joined walk (from vs (i + 1))) h) in
     sym one ∙ so_far
 
-pub ends_joined : (walk : Data → ℕ → Result (List Part × ℕ) GeoFault) (error : GeoFault) (front : List Part) (vs : List Value) (i count : ℕ) (v : Value) (total : Result (List Part × ℕ) GeoFault) → i < length vs → v ≡ get_or vs i v
+pub ends_joined : (walk : Data → ℕ → Result (List Part × ℕ) GeoFault) (error : ShapeFault) (front : List Part) (vs : List Value) (i count : ℕ) (v : Value) (total : Result (List Part × ℕ) GeoFault) → i < length vs → v ≡ get_or vs i v
     → Fails error (behind front (walk (view v) count)) → behind front (joined walk (from vs i) count) ≡ total → Fails error total
 unfolding joined
 ends_joined walk error front vs i count v total l e h so_far =

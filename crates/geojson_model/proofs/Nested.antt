@@ -10,10 +10,12 @@ use Rattle.planar_geom.specs.declared.shapes.Part.{Part}
 use Rattle.geo_text.specs.declared.faults.GeoFault.{GeoFault}
 use Rattle.geo_text.specs.declared.types.GeoType.{GeoType}
 use Rattle.geo_text.specs.declared.types.GeoType.TheVariants.{Point, MultiPoint, LineString, MultiLineString, Polygon, MultiPolygon, GeometryCollection, Feature, FeatureCollection}
-use Rattle.geo_text.specs.Walks.{◌>>=◌, Fails}
+use Rattle.geo_text.specs.Walks.{◌>>=◌}
 use Rattle.geo_text.specs.Geometries.{type_of, items_or, array_at, Walk, go, of_type, geometry, inner, walk_of, geometries, joined}
+use Rattle.geojson_model.specs.declared.faults.ShapeFault.{ShapeFault}
+use Rattle.geojson_model.specs.Answers.{Fails}
 use Rattle.geojson_model.specs.Behind.{behind, is_collection}
-use Rattle.geojson_model.proofs.Faults.{carried}
+use Rattle.geojson_model.proofs.FaultLaws.{carried}
 
 abbrev walk_or : Option Items → Option Walk
 walk_or None = None
@@ -92,10 +94,10 @@ gone (Some ds) count = geometries_are ds count
 collection_is : (d : Data) (t : GeoType) (count : ℕ) → type_of d ≡ Ok t → is_collection t ≡ true → geometry d count ≡ (array_at (codes "geometries") d >>= λ ds. joined geometry ds count)
 collection_is d t count e f = geometry_is d count ∙ ap (λ (r : Result GeoType GeoFault). r >>= λ type_. of_type type_ d (inner_at d) count) e ∙ collection_type t d (inner_at d) count f ∙ gone (option_and_then as_array (get (codes "geometries") d)) count
 
-pub no_type : (e : GeoFault) (front : List Part) (d : Data) (count : ℕ) → Fails e (type_of d) → Fails e (behind front (geometry d count))
+pub no_type : (e : ShapeFault) (front : List Part) (d : Data) (count : ℕ) → Fails e (type_of d) → Fails e (behind front (geometry d count))
 no_type e front d count h = carried e (type_of d) (behind front (geometry d count)) (λ f is. ap (behind front) (geometry_is d count ∙ ap (λ (r : Result GeoType GeoFault). r >>= λ type_. of_type type_ d (inner_at d) count) is)) h
 
-pub no_array : (e : GeoFault) (front : List Part) (d : Data) (t : GeoType) (count : ℕ) → type_of d ≡ Ok t → is_collection t ≡ true → Fails e (array_at (codes "geometries") d) → Fails e (behind front (geometry d count))
+pub no_array : (e : ShapeFault) (front : List Part) (d : Data) (t : GeoType) (count : ℕ) → type_of d ≡ Ok t → is_collection t ≡ true → Fails e (array_at (codes "geometries") d) → Fails e (behind front (geometry d count))
 no_array e front d t count a b h = carried e (array_at (codes "geometries") d) (behind front (geometry d count)) (λ f is. ap (behind front) (collection_is d t count a b ∙ ap (λ (r : Result Items GeoFault). r >>= λ ds. joined geometry ds count) is)) h
 
 pub starts : (front : List Part) (d : Data) (t : GeoType) (ds : Items) (count : ℕ) → type_of d ≡ Ok t → is_collection t ≡ true → array_at (codes "geometries") d ≡ Ok ds → behind front (joined geometry ds count) ≡ behind front (geometry d count)

@@ -10,7 +10,8 @@ use Rattle.planar_geom.specs.declared.shapes.Part.{Part}
 use Rattle.planar_geom.specs.Shapes as shapes
 use Rattle.geo_text.specs.declared.faults.GeoFault.{GeoFault}
 use Rattle.geo_text.specs.declared.faults.GeoFault.TheVariants.{NotJson}
-use Rattle.geo_text.specs.Walks.{Gives}
+use Rattle.geojson_model.specs.declared.faults.ShapeFault.{ShapeFault}
+use Rattle.geojson_model.specs.Answers.{Gives}
 use Rattle.geo_text.specs.Geometries as geo
 use Rattle.geo_text.specs.Texts.{Shape, stored_shape, shape_of_json, walked, shape_of}
 
@@ -22,7 +23,7 @@ no_shape (p ∷ ps) back e =
     let made : ◌≡◌ {A = Result (List Part) (List Part)} (Err back) (Ok (p ∷ ps)) = e ∙ rw some refl in
     absurd (cc (made))
 
-pub walked_json : (text : List ℕ) (d : Data) (r : Result Shape GeoFault) → IsUtf8 text → read text ≡ Some d → Gives (λ s. s) r (geo.shape d) → Gives (λ s. s) r (walked text)
+pub walked_json : (text : List ℕ) (d : Data) (r : Result Shape ShapeFault) → IsUtf8 text → read text ≡ Some d → Gives (λ s. s) r (geo.shape d) → Gives (λ s. s) r (walked text)
 walked_json text d r utf8 is given =
     let same : walked text ≡ geo.shape d = rw (is_utf8-from_IsUtf8 text utf8, is) refl in
     subst (Gives (λ s. s) r) (sym same) given
@@ -49,8 +50,8 @@ three_pieces (Ok x) old h p t one two new a b c =
 three_pieces (Err e) old h p t one two new a b c = tt
 
 -- an answer that the stored text's shape is
-pub answers_stored : (text : List ℕ) (s : Shape) (r : Result Shape GeoFault) → stored_shape text ≡ Some s → Gives (λ x. x) r (Ok s) → Gives (λ x. x) r (shape_of text)
+pub answers_stored : (text : List ℕ) (s : Shape) (r : Result Shape ShapeFault) → stored_shape text ≡ Some s → Gives (λ x. x) r (Ok s) → Gives (λ x. x) r (shape_of text)
 answers_stored text s r is given = subst (Gives (λ x. x) r) (sym (stored_is text s is)) given
 
-pub answers_walked : (text : List ℕ) (r : Result Shape GeoFault) → stored_shape text ≡ None → Gives (λ x. x) r (walked text) → Gives (λ x. x) r (shape_of text)
+pub answers_walked : (text : List ℕ) (r : Result Shape ShapeFault) → stored_shape text ≡ None → Gives (λ x. x) r (walked text) → Gives (λ x. x) r (shape_of text)
 answers_walked text r is given = subst (Gives (λ x. x) r) (sym (walked_is text is)) given

@@ -8,10 +8,9 @@ use Rattle.serde_json.specs.View.{items_view}
 use Rattle.serde_json.specs.declared.value.Value.{Value}
 use Rattle.planar_geom.specs.Points.{Point, same_point}
 use Rattle.planar_geom.specs.Figures.{last_of, is_ring, poly_of}
-use Rattle.planar_geom.proofs.ChainLemmas.{get_or-last}
 use Rattle.geo_text.specs.declared.faults.GeoFault.{GeoFault}
 use Rattle.geo_text.specs.declared.faults.GeoFault.TheVariants.{TooFew, BadRing, BadPosition}
-use Rattle.geojson_model.proofs.Faults.{ok_is, not_ok}
+use Rattle.geojson_model.proofs.FaultLaws.{ok_is, not_ok}
 use Rattle.geo_text.specs.Walks.{◌>>=◌, each, numbers, array_of, positions_of, ring, rings, polygon, is_closed}
 
 -- ---- lists of values by their length
@@ -31,11 +30,15 @@ four_items (v ∷ w ∷ u ∷ t ∷ vs) l = refl
 -- ---- rings
 
 -- whether a ring is closed is told by its first and its last point
+last_at : (p : Point) (ps : List Point) (d : Point) → get_or (p ∷ ps) (length ps) d ≡ last_of p ps
+last_at p [] d = refl
+last_at p (q ∷ qs) d = last_at q qs d
+
 pub closed_at : (ps : List Point) (p q : Point) → 1 ≤ length ps → p ≡ get_or ps 0 p → q ≡ get_or ps (length ps - 1) q → same_point p q ≡ is_closed ps
 closed_at [] p q l first last = absurd (omega (arith, l))
 closed_at (r ∷ rs) p q l first last =
     let place : length (r ∷ rs) - 1 ≡ length rs = omega arith in
-    let last_is : q ≡ last_of r rs = last ∙ ap (λ k. get_or (r ∷ rs) k q) place ∙ get_or-last r rs q in
+    let last_is : q ≡ last_of r rs = last ∙ ap (λ k. get_or (r ∷ rs) k q) place ∙ last_at r rs q in
     rw (first, last_is) refl
 
 by_test : {A : Type 0} (P : A → Type 0) (b : Bool) (x y : A) → (b ≡ true → P x) → (b ≡ false → P y) → P (if b then x else y)

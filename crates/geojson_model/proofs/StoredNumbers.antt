@@ -6,7 +6,7 @@ use Rattle.byte_text.specs.declared.texts.TextFault.{TextFault}
 use lib.Pointwise.{pointwise}
 use mir.Val.{SFits}
 use mir.Syntax.{w64}
-use Rattle.byte_text.proofs.LineLaws.{AreDigits, AreDigits-decimal}
+use Rattle.byte_text.specs.NumberLaws.{AreDigits, AreDigits-decimal}
 use Rattle.geojson_model.specs.Stored.{ended, Without}
 
 -- none before this place

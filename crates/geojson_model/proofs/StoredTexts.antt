@@ -6,10 +6,9 @@ use Rattle.std.proofs.lemmas.Int.{ints, to_z-of_z}
 use mir.Val.{SFits}
 use mir.Syntax.{w64}
 use Rattle.planar_geom.specs.Points.{Point, Bounds, pt, bounds, same_int, same_point, is_coordinate, is_low_of, point_at, bounds_of, IsCoordinate, InPlane, IsBox}
-use Rattle.planar_geom.proofs.PlaceLemmas.{pt_is}
 use Rattle.planar_geom.specs.declared.shapes.Part.TheVariants.{Spot, Face}
 use Rattle.geo_text.specs.Texts.{joined, position_text, point_text, corners, bounds_text, stored_shape}
-use Rattle.geo_text.proofs.StoredLaws.{point_back, bounds_back, others_none}
+use Rattle.geo_text.specs.StoredLaws.{point_back, bounds_back, others_none}
 use Rattle.geojson_model.specs.Stored.{position_then, point_head, bounds_head, point_form, five_form, bounds_form}
 
 -- ---- tests and what they test
@@ -34,6 +33,9 @@ y_fits p h = fits p.y h.y_in
 some_if : {A : Type 0} (b : Bool) (x y : A) → ◌≡◌ {A = Option A} (Some x) (if b then Some y else None) → x ≡ y
 some_if true x y e = cc (e)
 some_if false x y e = absurd (cc (e))
+
+pt_is : (a b c d : ℤ) → a ≡ c → b ≡ d → pt a b ≡ pt c d
+pt_is a b c d p q = cc
 
 -- the point that was made has these coordinates
 point_made : (p : Point) (x y : ℤ) → Some p ≡ point_at x y → p ≡ pt x y

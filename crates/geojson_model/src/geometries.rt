@@ -1,11 +1,13 @@
-// RFC 7946, section 3.1: geometry objects, and collections of them.
+//! RFC 7946, section 3.1: geometry objects, and collections of them.
+
 ghost use Rattle.std.specs.Prelude.{◌≡◌, None};
 ghost use Rattle.serde_json.specs.View.{view, items_view};
-ghost use Rattle.geo_text.specs.Walks.{Gives};
+ghost use Rattle.geojson_model.specs.Answers.{Gives};
 ghost use Rattle.geo_text.specs.Geometries as geo;
 ghost use Rattle.geojson_model.specs.Behind.{behind};
 ghost use Rattle.geojson_model.specs.Behind as behinds;
 
+use crate::faults::ShapeFault;
 use crate::members::{array_at, type_of};
 use crate::parts::{many_at, single_at};
 use geo_text::{Base, GeoFault, GeoType};
@@ -26,7 +28,7 @@ fn plain(
     type_: GeoType,
     value: &Value,
     count: u32,
-) -> Result<u32, GeoFault>
+) -> Result<u32, ShapeFault>
     ensures { Gives (λ n. (parts.new, n)) result (behind parts.old (geo.of_type type_ (view value.now) None count)) }
 {
     match type_ {
@@ -36,9 +38,9 @@ fn plain(
         GeoType::MultiLineString => many_at(alloc, parts, Base::Chain, value, count),
         GeoType::Polygon => single_at(alloc, parts, Base::Face, value, count),
         GeoType::MultiPolygon => many_at(alloc, parts, Base::Face, value, count),
-        GeoType::GeometryCollection => Err(GeoFault::NotSpatial),
-        GeoType::Feature => Err(GeoFault::BadType),
-        GeoType::FeatureCollection => Err(GeoFault::BadType),
+        GeoType::GeometryCollection => Err(ShapeFault::Refused(GeoFault::NotSpatial)),
+        GeoType::Feature => Err(ShapeFault::Refused(GeoFault::BadType)),
+        GeoType::FeatureCollection => Err(ShapeFault::Refused(GeoFault::BadType)),
     }
 }
 
@@ -49,7 +51,7 @@ pub(crate) fn geometry(
     parts: &mut Parts,
     value: &Value,
     count: u32,
-) -> Result<u32, GeoFault>
+) -> Result<u32, ShapeFault>
     ensures { Gives (λ n. (parts.new, n)) result (behind parts.old (geo.geometry (view value.now) count)) }
 {
     let type_ = type_of(value)?;

@@ -3,6 +3,7 @@
 //! Which texts are accepted, with which shape, and why the others are refused stands in `geo_text`.
 #![tactic(auto)]
 
+mod faults;
 mod geometries;
 mod members;
 mod parts;
@@ -13,6 +14,7 @@ mod stored;
 mod tests;
 mod texts;
 
+pub use faults::ShapeFault;
 pub use geo_text::GeoFault;
 pub use shapes::shape_of;
 pub use texts::{push_bounds, push_point};

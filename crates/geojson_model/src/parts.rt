@@ -1,10 +1,13 @@
-// The parts of a geometry that is no collection, put behind those found before.
+//! The parts of a geometry that is no collection, put behind those found before.
+
 ghost use Rattle.std.specs.Prelude.{◌≡◌};
 ghost use Rattle.serde_json.specs.View.{view, items_view};
-ghost use Rattle.geo_text.specs.Walks.{Gives, each};
+ghost use Rattle.geo_text.specs.Walks.{each};
+ghost use Rattle.geojson_model.specs.Answers.{Gives};
 ghost use Rattle.geo_text.specs.Geometries as geo;
 ghost use Rattle.geojson_model.specs.Behind.{behind};
 
+use crate::faults::ShapeFault;
 use crate::members::coordinates;
 use crate::positions::{array_of, line, polygon, position};
 use geo_text::{Base, GeoFault};
@@ -13,7 +16,7 @@ use serde_json::Value;
 use std::alloc::Global;
 
 #[tactic(auto, unfolding(geo_text::specs::Geometries::part))]
-fn part_of(alloc: Global, base: Base, value: &Value, count: u32) -> Result<(Part, u32), GeoFault>
+fn part_of(alloc: Global, base: Base, value: &Value, count: u32) -> Result<(Part, u32), ShapeFault>
     ensures { Gives (λ p. p) result (geo.part base (view value.now) count) }
 {
     match base {
@@ -39,12 +42,12 @@ fn single(
     base: Base,
     value: &Value,
     count: u32,
-) -> Result<u32, GeoFault>
+) -> Result<u32, ShapeFault>
     ensures { Gives (λ n. (parts.new, n)) result (behind parts.old (geo.single base (view value.now) count)) }
 {
     let (part, count) = part_of(alloc, base, value, count)?;
     if parts.push(part).is_err() {
-        return Err(GeoFault::Memory);
+        return Err(ShapeFault::Memory);
     }
     Ok(count)
 }
@@ -55,14 +58,14 @@ fn each_part(
     base: Base,
     items: &[Value],
     count: u32,
-) -> Result<u32, GeoFault>
+) -> Result<u32, ShapeFault>
     ensures { Gives (λ n. (parts.new, n)) result (behind parts.old (each (geo.part base) (items_view items.now) count)) }
 {
     let mut count = count;
     for item in items {
         let (part, after) = part_of(alloc, base, item, count)?;
         if parts.push(part).is_err() {
-            return Err(GeoFault::Memory);
+            return Err(ShapeFault::Memory);
         }
         count = after;
     }
@@ -76,7 +79,7 @@ fn many(
     base: Base,
     value: &Value,
     count: u32,
-) -> Result<u32, GeoFault>
+) -> Result<u32, ShapeFault>
     ensures { Gives (λ n. (parts.new, n)) result (behind parts.old (geo.many base (view value.now) count)) }
 {
     let items = array_of(value)?;
@@ -91,7 +94,7 @@ pub(crate) fn single_at(
     base: Base,
     value: &Value,
     count: u32,
-) -> Result<u32, GeoFault>
+) -> Result<u32, ShapeFault>
     ensures { Gives (λ n. (parts.new, n)) result (behind parts.old (geo.single_at base (view value.now) count)) }
 {
     let found = coordinates(value)?;
@@ -106,7 +109,7 @@ pub(crate) fn many_at(
     base: Base,
     value: &Value,
     count: u32,
-) -> Result<u32, GeoFault>
+) -> Result<u32, ShapeFault>
     ensures { Gives (λ n. (parts.new, n)) result (behind parts.old (geo.many_at base (view value.now) count)) }
 {
     let found = coordinates(value)?;

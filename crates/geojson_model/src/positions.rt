@@ -1,10 +1,12 @@
-// RFC 7946, section 3.1: positions, lines and polygons. `count` is the number of positions so far.
+//! RFC 7946, section 3.1: positions, lines and polygons. `count` is the number of positions so far.
+
 ghost use Rattle.std.specs.Prelude.{◌≡◌, true, IfOk};
 ghost use Rattle.serde_json.specs.View.{view, items_view, number_view};
 ghost use Rattle.planar_geom.specs.Points as plane;
-ghost use Rattle.geo_text.specs.Walks.{Gives};
+ghost use Rattle.geojson_model.specs.Answers.{Gives};
 ghost use Rattle.geo_text.specs.Walks as walks;
 
+use crate::faults::ShapeFault;
 use crate::stored::is_same;
 use geo_text::GeoFault;
 use planar_geom::{Line, MAX_COORD, Points, Poly, Pt, Rings};
@@ -20,25 +22,25 @@ fn is_coordinate(a: i64) -> bool
     -MAX_COORD <= a && a <= MAX_COORD
 }
 
-fn coordinate(number: &Number) -> Result<i64, GeoFault>
+fn coordinate(number: &Number) -> Result<i64, ShapeFault>
     ensures value { Gives (λ a. a) result (walks.coordinate (number_view number.now)) }
     ensures in_plane { IfOk result (λ a. plane.is_coordinate a ≡ true) }
 {
     if number.is_f64() {
-        return Err(GeoFault::NotWhole);
+        return Err(ShapeFault::Refused(GeoFault::NotWhole));
     }
     match number.as_i64() {
         Some(a) if is_coordinate(a) => Ok(a),
-        _ => Err(GeoFault::OutOfRange),
+        _ => Err(ShapeFault::Refused(GeoFault::OutOfRange)),
     }
 }
 
-fn pair<'a>(x: &'a Value, y: &'a Value) -> Result<(&'a Number, &'a Number), GeoFault>
+fn pair<'a>(x: &'a Value, y: &'a Value) -> Result<(&'a Number, &'a Number), ShapeFault>
     ensures { Gives (λ p. (number_view p.0.now, number_view p.1.now)) result (walks.pair (view x.now) (view y.now)) }
 {
     match (x, y) {
         (Value::Number(x), Value::Number(y)) => Ok((x, y)),
-        _ => Err(GeoFault::BadPosition),
+        _ => Err(ShapeFault::Refused(GeoFault::BadPosition)),
     }
 }
 
@@ -47,39 +49,39 @@ fn pair_before<'a>(
     x: &'a Value,
     y: &'a Value,
     altitude: &Value,
-) -> Result<(&'a Number, &'a Number), GeoFault>
+) -> Result<(&'a Number, &'a Number), ShapeFault>
     ensures { Gives (λ p. (number_view p.0.now, number_view p.1.now)) result (walks.free_third (view altitude.now) (walks.pair (view x.now) (view y.now))) }
 {
     match altitude {
         Value::Number(_) => pair(x, y),
-        _ => Err(GeoFault::BadPosition),
+        _ => Err(ShapeFault::Refused(GeoFault::BadPosition)),
     }
 }
 
-fn numbers(items: &[Value]) -> Result<(&Number, &Number), GeoFault>
+fn numbers(items: &[Value]) -> Result<(&Number, &Number), ShapeFault>
     ensures { Gives (λ p. (number_view p.0.now, number_view p.1.now)) result (walks.numbers (items_view items.now)) }
 {
     match items {
-        [] => Err(GeoFault::BadPosition),
-        [_] => Err(GeoFault::BadPosition),
+        [] => Err(ShapeFault::Refused(GeoFault::BadPosition)),
+        [_] => Err(ShapeFault::Refused(GeoFault::BadPosition)),
         [x, y] => pair(x, y),
         [x, y, altitude] => pair_before(x, y, altitude),
-        [_, _, _, _, ..] => Err(GeoFault::BadPosition),
+        [_, _, _, _, ..] => Err(ShapeFault::Refused(GeoFault::BadPosition)),
     }
 }
 
 /// The items of a value that must be an array.
-pub(crate) fn array_of(value: &Value) -> Result<&[Value], GeoFault>
+pub(crate) fn array_of(value: &Value) -> Result<&[Value], ShapeFault>
     ensures { Gives (λ items. items_view items.now) result (walks.array_of (view value.now)) }
 {
     match value {
         Value::Array(items) => Ok(items.as_slice()),
-        _ => Err(GeoFault::BadPosition),
+        _ => Err(ShapeFault::Refused(GeoFault::BadPosition)),
     }
 }
 
 #[tactic(auto, unfolding(geo_text::specs::Walks::point))]
-fn point(value: &Value) -> Result<Pt, GeoFault>
+fn point(value: &Value) -> Result<Pt, ShapeFault>
     ensures { Gives (λ p. p) result (walks.point (view value.now)) }
 {
     let items = array_of(value)?;
@@ -94,17 +96,17 @@ fn point(value: &Value) -> Result<Pt, GeoFault>
 
 /// A position, and how many there are with it.
 #[tactic(auto, unfolding(geo_text::specs::Walks::position))]
-pub(crate) fn position(value: &Value, count: u32) -> Result<(Pt, u32), GeoFault>
+pub(crate) fn position(value: &Value, count: u32) -> Result<(Pt, u32), ShapeFault>
     ensures { Gives (λ p. p) result (walks.position (view value.now) count) }
 {
     if count >= MAX_POSITIONS {
-        return Err(GeoFault::TooMany);
+        return Err(ShapeFault::Refused(GeoFault::TooMany));
     }
     let p = point(value)?;
     Ok((p, count + 1))
 }
 
-fn positions(alloc: Global, items: &[Value], count: u32) -> Result<(Points, u32), GeoFault>
+fn positions(alloc: Global, items: &[Value], count: u32) -> Result<(Points, u32), ShapeFault>
     ensures { Gives (λ p. p) result (walks.positions (items_view items.now) count) }
 {
     let mut points = Points::new(alloc);
@@ -112,7 +114,7 @@ fn positions(alloc: Global, items: &[Value], count: u32) -> Result<(Points, u32)
     for item in items {
         let (point, after) = position(item, count)?;
         if points.push(point).is_err() {
-            return Err(GeoFault::Memory);
+            return Err(ShapeFault::Memory);
         }
         count = after;
     }
@@ -120,7 +122,7 @@ fn positions(alloc: Global, items: &[Value], count: u32) -> Result<(Points, u32)
 }
 
 #[tactic(auto, unfolding(geo_text::specs::Walks::positions_of))]
-fn positions_of(alloc: Global, value: &Value, count: u32) -> Result<(Points, u32), GeoFault>
+fn positions_of(alloc: Global, value: &Value, count: u32) -> Result<(Points, u32), ShapeFault>
     ensures { Gives (λ p. p) result (walks.positions_of (view value.now) count) }
 {
     let items = array_of(value)?;
@@ -129,13 +131,13 @@ fn positions_of(alloc: Global, value: &Value, count: u32) -> Result<(Points, u32
 
 /// A line of two or more positions.
 #[tactic(auto, unfolding(geo_text::specs::Walks::line))]
-pub(crate) fn line(alloc: Global, value: &Value, count: u32) -> Result<(Line, u32), GeoFault>
+pub(crate) fn line(alloc: Global, value: &Value, count: u32) -> Result<(Line, u32), ShapeFault>
     ensures { Gives (λ p. p) result (walks.line (view value.now) count) }
 {
     let (points, count) = positions_of(alloc, value, count)?;
     match Line::of(points) {
         Ok(line) => Ok((line, count)),
-        Err(_) => Err(GeoFault::TooFew),
+        Err(_) => Err(ShapeFault::Refused(GeoFault::TooFew)),
     }
 }
 
@@ -150,20 +152,20 @@ fn is_closed(points: &[Pt]) -> bool
 
 // A ring of four or more positions, the first of which is its last.
 #[tactic(auto, unfolding(geo_text::specs::Walks::ring))]
-fn ring(alloc: Global, value: &Value, count: u32) -> Result<(Points, u32), GeoFault>
+fn ring(alloc: Global, value: &Value, count: u32) -> Result<(Points, u32), ShapeFault>
     ensures { Gives (λ p. p) result (walks.ring (view value.now) count) }
 {
     let (points, count) = positions_of(alloc, value, count)?;
     if points.as_slice().len() < 4 {
-        return Err(GeoFault::TooFew);
+        return Err(ShapeFault::Refused(GeoFault::TooFew));
     }
     if !is_closed(points.as_slice()) {
-        return Err(GeoFault::BadRing);
+        return Err(ShapeFault::Refused(GeoFault::BadRing));
     }
     Ok((points, count))
 }
 
-fn rings(alloc: Global, items: &[Value], count: u32) -> Result<(Rings, u32), GeoFault>
+fn rings(alloc: Global, items: &[Value], count: u32) -> Result<(Rings, u32), ShapeFault>
     ensures { Gives (λ p. p) result (walks.rings (items_view items.now) count) }
 {
     let mut all = Rings::new(alloc);
@@ -171,7 +173,7 @@ fn rings(alloc: Global, items: &[Value], count: u32) -> Result<(Rings, u32), Geo
     for item in items {
         let (points, after) = ring(alloc, item, count)?;
         if all.push(points).is_err() {
-            return Err(GeoFault::Memory);
+            return Err(ShapeFault::Memory);
         }
         count = after;
     }
@@ -180,7 +182,7 @@ fn rings(alloc: Global, items: &[Value], count: u32) -> Result<(Rings, u32), Geo
 
 /// A polygon of one or more rings.
 #[tactic(auto, unfolding(geo_text::specs::Walks::polygon))]
-pub(crate) fn polygon(alloc: Global, value: &Value, count: u32) -> Result<(Poly, u32), GeoFault>
+pub(crate) fn polygon(alloc: Global, value: &Value, count: u32) -> Result<(Poly, u32), ShapeFault>
     ensures { Gives (λ p. p) result (walks.polygon (view value.now) count) }
 {
     let items = array_of(value)?;
@@ -188,6 +190,6 @@ pub(crate) fn polygon(alloc: Global, value: &Value, count: u32) -> Result<(Poly,
     match Poly::of(rings) {
         Ok(poly) => Ok((poly, count)),
         // Each ring was looked at, so there is none.
-        Err(_) => Err(GeoFault::TooFew),
+        Err(_) => Err(ShapeFault::Refused(GeoFault::TooFew)),
     }
 }

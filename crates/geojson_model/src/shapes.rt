@@ -1,12 +1,14 @@
-// The shape of a text.
+//! The shape of a text.
+
 ghost use Rattle.std.specs.Prelude.{◌≡◌, ◌∷◌, [], Ok};
 ghost use Rattle.serde_json.specs.View.{view, items_view};
 ghost use Rattle.planar_geom.specs.declared.shapes.Part.TheVariants.{Spot, Face};
-ghost use Rattle.geo_text.specs.Walks.{Gives};
+ghost use Rattle.geojson_model.specs.Answers.{Gives};
 ghost use Rattle.geo_text.specs.Geometries as geo;
 ghost use Rattle.geo_text.specs.Texts as texts;
 ghost use Rattle.geojson_model.specs.Behind.{behind};
 
+use crate::faults::ShapeFault;
 use crate::geometries::geometry;
 use crate::members::{array_at, object_only, there, type_of};
 use crate::stored::{corners, stored_bounds, stored_point};
@@ -17,7 +19,7 @@ use std::alloc::Global;
 
 // RFC 7946, section 3.2.
 #[tactic(auto, unfolding(geo_text::specs::Geometries::feature))]
-fn feature(alloc: Global, parts: &mut Parts, value: &Value, count: u32) -> Result<u32, GeoFault>
+fn feature(alloc: Global, parts: &mut Parts, value: &Value, count: u32) -> Result<u32, ShapeFault>
     ensures { Gives (λ n. (parts.new, n)) result (behind parts.old (geo.feature (view value.now) count)) }
 {
     let found = there(value.get("geometry"))?;
@@ -32,7 +34,7 @@ fn only_feature(
     type_: GeoType,
     value: &Value,
     count: u32,
-) -> Result<u32, GeoFault>
+) -> Result<u32, ShapeFault>
     ensures { Gives (λ n. (parts.new, n)) result (behind parts.old (geo.only_feature type_ (view value.now) count)) }
 {
     match type_ {
@@ -44,7 +46,7 @@ fn only_feature(
         | GeoType::Polygon
         | GeoType::MultiPolygon
         | GeoType::GeometryCollection
-        | GeoType::FeatureCollection => Err(GeoFault::BadType),
+        | GeoType::FeatureCollection => Err(ShapeFault::Refused(GeoFault::BadType)),
     }
 }
 
@@ -54,7 +56,7 @@ fn feature_item(
     parts: &mut Parts,
     value: &Value,
     count: u32,
-) -> Result<u32, GeoFault>
+) -> Result<u32, ShapeFault>
     ensures { Gives (λ n. (parts.new, n)) result (behind parts.old (geo.feature_item (view value.now) count)) }
 {
     let type_ = type_of(value)?;
@@ -66,7 +68,7 @@ fn feature_items(
     parts: &mut Parts,
     items: &[Value],
     count: u32,
-) -> Result<u32, GeoFault>
+) -> Result<u32, ShapeFault>
     ensures { Gives (λ n. (parts.new, n)) result (behind parts.old (geo.joined geo.feature_item (items_view items.now) count)) }
 {
     let mut count = count;
@@ -78,14 +80,14 @@ fn feature_items(
 
 // RFC 7946, section 3.3.
 #[tactic(auto, unfolding(geo_text::specs::Geometries::features))]
-fn features(alloc: Global, parts: &mut Parts, value: &Value, count: u32) -> Result<u32, GeoFault>
+fn features(alloc: Global, parts: &mut Parts, value: &Value, count: u32) -> Result<u32, ShapeFault>
     ensures { Gives (λ n. (parts.new, n)) result (behind parts.old (geo.features (view value.now) count)) }
 {
     let items = array_at(value, "features")?;
     feature_items(alloc, parts, items, count)
 }
 
-fn object(alloc: Global, parts: &mut Parts, type_: GeoType, value: &Value) -> Result<u32, GeoFault>
+fn object(alloc: Global, parts: &mut Parts, type_: GeoType, value: &Value) -> Result<u32, ShapeFault>
     ensures { Gives (λ n. (parts.new, n)) result (behind parts.old (geo.top_of type_ (view value.now))) }
 {
     match type_ {
@@ -102,14 +104,14 @@ fn object(alloc: Global, parts: &mut Parts, type_: GeoType, value: &Value) -> Re
 }
 
 #[tactic(auto, unfolding(geo_text::specs::Geometries::shape))]
-fn shape_of_value(alloc: Global, value: &Value) -> Result<Shape, GeoFault>
+fn shape_of_value(alloc: Global, value: &Value) -> Result<Shape, ShapeFault>
     ensures { Gives (λ s. s) result (geo.shape (view value.now)) }
 {
     let type_ = type_of(value)?;
     let mut parts = Parts::new(alloc);
     let count = object(alloc, &mut parts, type_, value)?;
     if count == 0 {
-        return Err(GeoFault::NotSpatial);
+        return Err(ShapeFault::Refused(GeoFault::NotSpatial));
     }
     match Shape::of(parts) {
         Ok(shape) => Ok(shape),
@@ -117,27 +119,27 @@ fn shape_of_value(alloc: Global, value: &Value) -> Result<Shape, GeoFault>
     }
 }
 
-fn walked(alloc: Global, text: &[u8]) -> Result<Shape, GeoFault>
+fn walked(alloc: Global, text: &[u8]) -> Result<Shape, ShapeFault>
     ensures { Gives (λ s. s) result (texts.walked text.now) }
 {
     match Value::from_slice(alloc, text) {
         Ok(value) => shape_of_value(alloc, &value),
         Err(error) => {
             if error.is_memory() {
-                Err(GeoFault::Memory)
+                Err(ShapeFault::Memory)
             } else {
-                Err(GeoFault::NotJson)
+                Err(ShapeFault::Refused(GeoFault::NotJson))
             }
         }
     }
 }
 
-fn shape_of_part(alloc: Global, part: Part) -> Result<Shape, GeoFault>
+fn shape_of_part(alloc: Global, part: Part) -> Result<Shape, ShapeFault>
     ensures { Gives (λ s. s) result (Ok (part ∷ [])) }
 {
     let mut parts = Parts::new(alloc);
     if parts.push(part).is_err() {
-        return Err(GeoFault::Memory);
+        return Err(ShapeFault::Memory);
     }
     match Shape::of(parts) {
         Ok(shape) => Ok(shape),
@@ -145,24 +147,24 @@ fn shape_of_part(alloc: Global, part: Part) -> Result<Shape, GeoFault>
     }
 }
 
-fn ring_round(alloc: Global, b: BBox) -> Result<Points, GeoFault>
+fn ring_round(alloc: Global, b: BBox) -> Result<Points, ShapeFault>
     ensures { Gives (λ ring. ring) result (Ok (texts.corners b)) }
 {
     let mut ring = Points::new(alloc);
     for corner in corners(b) {
         if ring.push(corner).is_err() {
-            return Err(GeoFault::Memory);
+            return Err(ShapeFault::Memory);
         }
     }
     Ok(ring)
 }
 
-fn shape_of_box(alloc: Global, b: BBox) -> Result<Shape, GeoFault>
+fn shape_of_box(alloc: Global, b: BBox) -> Result<Shape, ShapeFault>
     ensures { Gives (λ s. s) result (Ok (Face (texts.corners b ∷ []) ∷ [])) }
 {
     let mut rings = Rings::new(alloc);
     if rings.push(ring_round(alloc, b)?).is_err() {
-        return Err(GeoFault::Memory);
+        return Err(ShapeFault::Memory);
     }
     match Poly::of(rings) {
         Ok(poly) => shape_of_part(alloc, Part::Face(poly)),
@@ -172,7 +174,7 @@ fn shape_of_box(alloc: Global, b: BBox) -> Result<Shape, GeoFault>
 
 /// The shape of a GeoJSON text, or the first fault met in it.
 /// The texts that are stored for points and boxes are read without JSON.
-pub fn shape_of(alloc: Global, text: &[u8]) -> Result<Shape, GeoFault>
+pub fn shape_of(alloc: Global, text: &[u8]) -> Result<Shape, ShapeFault>
     ensures { Gives (λ s. s) result (texts.shape_of text.now) }
 {
     if let Some(p) = stored_point(text) {

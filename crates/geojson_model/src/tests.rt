@@ -1,12 +1,12 @@
 // Texts from outside, each with its shape's size or its fault.
-use crate::{GeoFault, push_bounds, push_point, shape_of};
+use crate::{GeoFault, ShapeFault, push_bounds, push_point, shape_of};
 use byte_text::{NoMemory, Text};
 use planar_geom::{BBox, Pt, box_of};
 use std::alloc::Global;
 use std::test::Fail;
 
 // The number of positions of a text's shape, or its fault.
-fn positions(alloc: Global, text: &[u8]) -> Result<u64, GeoFault> {
+fn positions(alloc: Global, text: &[u8]) -> Result<u64, ShapeFault> {
     match shape_of(alloc, text) {
         Ok(shape) => Ok(shape.positions()),
         Err(fault) => Err(fault),
@@ -121,7 +121,7 @@ fn faults_are_the_first_met(rt: HostRuntime) {
     ] {
         assert_eq!(rt;
             positions(rt.alloc(), text.as_bytes()),
-            Err(fault),
+            Err(ShapeFault::Refused(fault)),
             "{text}"
         );
     }
@@ -207,7 +207,7 @@ fn limits_are_kept(rt: HostRuntime) -> Result<(), Fail> {
     let more = repeated(alloc, front, ",[1,2]", 9_999, ",0.5]}")
         .ok()
         .ok_or("memory")?;
-    assert_eq!(rt; positions(alloc, more.bytes()), Err(GeoFault::TooMany));
+    assert_eq!(rt; positions(alloc, more.bytes()), Err(ShapeFault::Refused(GeoFault::TooMany)));
     let mut deep = repeated(alloc, "{\"type\":\"Feature\",\"properties\":", "[", 200, "")
         .ok()
         .ok_or("memory")?;
@@ -221,6 +221,6 @@ fn limits_are_kept(rt: HostRuntime) -> Result<(), Fail> {
     .ok()
     .ok_or("memory")?;
     assert_eq!(rt; deep.push(back.bytes()), Ok(()));
-    assert_eq!(rt; positions(alloc, deep.bytes()), Err(GeoFault::NotJson));
+    assert_eq!(rt; positions(alloc, deep.bytes()), Err(ShapeFault::Refused(GeoFault::NotJson)));
     Ok(())
 }

@@ -8,7 +8,7 @@ use crate::stored::{BOUNDS_HEAD, BOUNDS_TAIL, POINT_HEAD, corners};
 use byte_text::{NoMemory, Text, push_i64};
 use planar_geom::{BBox, Pt};
 
-#[tactic(auto, using(byte_text::proofs::Kept::kept))]
+#[tactic(auto, using(byte_text::specs::TextLaws::kept))]
 fn push_position(into: &mut Text, p: Pt) -> Result<(), NoMemory>
     ensures ok { OnOk result (into.new ≡ into.old ++ position_text p) }
     ensures in_plane { OnOk result (InPlane p) }
@@ -21,7 +21,7 @@ fn push_position(into: &mut Text, p: Pt) -> Result<(), NoMemory>
     into.push(b"]")
 }
 
-#[tactic(auto, using(byte_text::proofs::Kept::kept))]
+#[tactic(auto, using(byte_text::specs::TextLaws::kept))]
 fn push_point_text(into: &mut Text, p: Pt) -> Result<(), NoMemory>
     ensures ok { OnOk result (into.new ≡ into.old ++ point_text p) }
     ensures in_plane { OnOk result (InPlane p) }
@@ -49,7 +49,7 @@ pub fn push_point(into: &mut Text, p: Pt) -> Result<(), NoMemory>
     }
 }
 
-#[tactic(auto, using(byte_text::proofs::Kept::kept))]
+#[tactic(auto, using(byte_text::specs::TextLaws::kept))]
 fn push_corners(into: &mut Text, corners: [Pt; 5]) -> Result<(), NoMemory>
     ensures ok { OnOk result (into.new ≡ into.old ++ joined (map position_text corners)) }
     ensures kept { take (length into.old) into.new ≡ into.old }
@@ -62,7 +62,7 @@ fn push_corners(into: &mut Text, corners: [Pt; 5]) -> Result<(), NoMemory>
     push_next(into, t)
 }
 
-#[tactic(auto, using(byte_text::proofs::Kept::kept))]
+#[tactic(auto, using(byte_text::specs::TextLaws::kept))]
 fn push_next(into: &mut Text, p: Pt) -> Result<(), NoMemory>
     ensures ok { OnOk result (into.new ≡ into.old ++ 44 ∷ position_text p) }
     ensures kept { take (length into.old) into.new ≡ into.old }
@@ -71,7 +71,7 @@ fn push_next(into: &mut Text, p: Pt) -> Result<(), NoMemory>
     push_position(into, p)
 }
 
-#[tactic(auto, using(byte_text::proofs::Kept::kept))]
+#[tactic(auto, using(byte_text::specs::TextLaws::kept))]
 fn push_bounds_text(into: &mut Text, b: BBox) -> Result<(), NoMemory>
     ensures ok { OnOk result (into.new ≡ into.old ++ bounds_text b) }
     ensures is_box { OnOk result (IsBox b) }

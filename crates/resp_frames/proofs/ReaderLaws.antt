@@ -7,13 +7,13 @@ use Rattle.byte_text.specs.Streams.{Front, found, begun, broken, request}
 use Rattle.byte_text.proofs.StreamTexts.{request_read}
 use Rattle.byte_text.proofs.StreamFound.{request_found}
 use Rattle.byte_text.specs.declared.faults.RespFault.{RespFault}
-use Rattle.byte_text.specs.declared.faults.RespFault.TheVariants.{BadType, BadLength, BadEnd, TooMany, TooLong, Dead, Memory}
+use Rattle.resp_frames.specs.declared.faults.FeedFault.TheVariants.{Broken, Memory}
 use Rattle.resp_frames.specs.declared.places.Place.{Place}
 use Rattle.resp_frames.specs.declared.places.Place.TheVariants.{Star}
 use Rattle.resp_frames.specs.declared.scans.Scan.TheVariants as scans
 use Rattle.resp_frames.specs.Places.{from, IsPlace}
-use Rattle.resp_frames.specs.Scans.{Says, IsOfBytes}
-use Rattle.resp_frames.specs.Readers.{Held, held_of, IsReader, IsFed, IsNotFed, IsRefused, blind, whole_request}
+use Rattle.resp_frames.specs.Scans.{Says}
+use Rattle.resp_frames.specs.Readers.{Held, held_of, IsReader, IsFed, IsNotFed, blind, whole_request}
 use Rattle.resp_frames.proofs.StepLaws.{from_none}
 use Rattle.resp_frames.proofs.BlindLaws.{blind_request, blind_begun, blind_broken, blind_found}
 
@@ -75,19 +75,10 @@ fed_whole p held piece value place taken words s w is text =
     let read : request (held ++ piece) ≡ found words (drop taken piece) = ap request (parted held piece taken ∙ ap (λ x. x ++ drop taken piece) text) ∙ request_read words (drop taken piece) is in
     subst (λ v. IsFed v (Some []) piece taken (Some words)) (sym (value_of p held value place s)) (read, w.0, refl, is)
 
-refused : (held piece : Bytes) (fault : RespFault) → IsOfBytes fault → request (held ++ piece) ≡ broken fault → IsRefused held None piece fault
-refused held piece BadType f e = (e, refl)
-refused held piece BadLength f e = (e, refl)
-refused held piece BadEnd f e = (e, refl)
-refused held piece TooMany f e = (e, refl)
-refused held piece TooLong f e = (e, refl)
-refused held piece Dead f e = absurd f
-refused held piece Memory f e = absurd f
-
-pub not_fed : (p : Option Place) (held piece : Bytes) (value : Held) (place : Place) (fault : RespFault) → Stands p held value place → Says place piece (scans.Fails fault) → IsNotFed value None piece fault
+pub not_fed : (p : Option Place) (held piece : Bytes) (value : Held) (place : Place) (fault : RespFault) → Stands p held value place → Says place piece (scans.Fails fault) → IsNotFed value None piece (Broken fault)
 not_fed p held piece value place fault s f =
-    let breaks : request (held ++ piece) ≡ broken fault = blind_broken (request (held ++ piece)) fault (reads_on p held piece value place s ∙ f.1) in
-    subst (λ v. IsNotFed v None piece fault) (sym (value_of p held value place s)) (refused held piece fault f.0 breaks)
+    let breaks : request (held ++ piece) ≡ broken fault = blind_broken (request (held ++ piece)) fault (reads_on p held piece value place s ∙ f) in
+    subst (λ v. IsNotFed v None piece (Broken fault)) (sym (value_of p held value place s)) (breaks, refl)
 
 pub no_memory : (p : Option Place) (held piece : Bytes) (value new : Held) (place : Place) → Stands p held value place → new ≡ value → IsNotFed value new piece Memory
 no_memory p held piece value new place s n =
@@ -132,7 +123,7 @@ pub begun_none : (bytes : Bytes) (next : Place) → Says Star bytes (scans.Goes 
 begun_none bytes next g = ap whole_request (sym (blind_begun (request bytes) (blind_request bytes ∙ goes_begun Star next bytes g)))
 
 pub broken_none : (bytes : Bytes) (fault : RespFault) → Says Star bytes (scans.Fails fault) → None ≡ whole_request (request bytes)
-broken_none bytes fault f = ap whole_request (sym (blind_broken (request bytes) fault (blind_request bytes ∙ f.1)))
+broken_none bytes fault f = ap whole_request (sym (blind_broken (request bytes) fault (blind_request bytes ∙ f)))
 
 pub no_text : (bytes : Bytes) → None ≡ whole_request (request bytes) → IsRequestText bytes → ⊥
 no_text bytes e text = cc (e, ap whole_request (text_read bytes text))

@@ -46,7 +46,7 @@ whole origin place piece i r l e =
 
 pub fails : (origin place : Place) (piece : Bytes) (i : ℕ) (fault : RespFault) → Reached origin piece i place → i < length piece → Fails fault ≡ step place (get_or piece i 0) → Says origin piece (scans.Fails fault)
 fails origin place piece i fault r l e =
-    (subst IsNext (sym e) (step_stands place (get_or piece i 0) r.stands), ap (from origin) (sym (take-append-drop (i + 1) piece)) ∙ behind origin place piece i (Fails fault) r l e (drop (i + 1) piece))
+    ap (from origin) (sym (take-append-drop (i + 1) piece)) ∙ behind origin place piece i (Fails fault) r l e (drop (i + 1) piece)
 
 pub ends : (origin place : Place) (piece : Bytes) (i : ℕ) → Reached origin piece i place → length piece ≤ i → Says origin piece (scans.Goes place)
 ends origin place piece i r l = (r.stands, λ more. ap (λ (x : Bytes). from origin (x ++ more)) (sym (take_all i piece l)) ∙ r.reads more)

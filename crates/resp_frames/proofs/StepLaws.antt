@@ -14,7 +14,6 @@ use Rattle.resp_frames.specs.declared.places.Next.{Next}
 use Rattle.resp_frames.specs.declared.places.Next.TheVariants.{Goes, Whole, Fails}
 use Rattle.resp_frames.specs.Steps.{step, count_digit, count_end, length_digit, length_end, word_end, HasNumbers}
 use Rattle.resp_frames.specs.Places.{skipped, words_skipped, behind_word, behind_return, behind_bytes, behind_length, behind_dollar, behind_count, from, IsPlace}
-use Rattle.resp_frames.specs.Scans.{IsOfBytes}
 
 -- what is left behind a step
 abbrev pub after : Next → Grammar (Unit {0})
@@ -25,7 +24,7 @@ after (Fails fault) bytes = broken fault
 abbrev pub IsNext : Next → Type 0
 IsNext (Goes place) = IsPlace place
 IsNext Whole = Unit {0}
-IsNext (Fails fault) = IsOfBytes fault
+IsNext (Fails fault) = Unit {0}
 
 -- a step reads what the place wants
 record Reads (front : Front (Unit {0})) (next : Next) (bytes : Bytes) : Type 0 where
@@ -33,10 +32,10 @@ record Reads (front : Front (Unit {0})) (next : Next) (bytes : Bytes) : Type 0 w
   pub is_next : IsNext next
 
 -- one wanted byte
-wanted : (k : Unit {0} → Grammar (Unit {0})) (t : Bool) (place : Place) (fault : RespFault) (bytes : Bytes) → IsOfBytes fault → IsPlace place → from place bytes ≡ k tt bytes
+wanted : (k : Unit {0} → Grammar (Unit {0})) (t : Bool) (place : Place) (fault : RespFault) (bytes : Bytes) → IsPlace place → from place bytes ≡ k tt bytes
     → Reads (go_on k (if t then found tt bytes else broken fault)) (if t then Goes place else Fails fault) bytes
-wanted k true place fault bytes f p e = record { same = sym e; is_next = p }
-wanted k false place fault bytes f p e = record { same = refl; is_next = f }
+wanted k true place fault bytes p e = record { same = sym e; is_next = p }
+wanted k false place fault bytes p e = record { same = refl; is_next = tt }
 
 -- ---- numbers
 
@@ -124,7 +123,7 @@ skip_one n b bytes = ap (λ t. if t then found (tt {0}) (drop n bytes) else begu
 
 word_reads : (ahead : Ahead) (len left b : ℕ) (bytes : Bytes) → IsPlace (Word ahead len left) → Reads (from (Word ahead len left) (b ∷ bytes)) (step (Word ahead len left) b) bytes
 word_reads ahead len zero b bytes p =
-    let one = wanted (λ u. behind_return ahead len) (b == 13) (WordEnd ahead len) BadEnd bytes tt p refl in
+    let one = wanted (λ u. behind_return ahead len) (b == 13) (WordEnd ahead len) BadEnd bytes p refl in
     record { same = ap (go_on (λ u. behind_bytes ahead len)) (skip_none (b ∷ bytes)) ∙ one.same; is_next = one.is_next }
 word_reads ahead len (suc left) b bytes p = record { same = ap (go_on (λ u. behind_bytes ahead len)) (skip_one left b bytes); is_next = p }
 
@@ -144,12 +143,12 @@ word_end_reads ahead len b bytes true s = end_reads_by ahead len (ahead.words - 
 word_end_reads ahead len b bytes false s = record { same = refl; is_next = tt }
 
 law : (place : Place) (b : ℕ) (bytes : Bytes) → IsPlace place → Reads (from place (b ∷ bytes)) (step place b) bytes
-law Star b bytes p = wanted (λ u. number count_limit None >>= behind_count) (b == 42) (Count None) BadType bytes tt tt refl
+law Star b bytes p = wanted (λ u. number count_limit None >>= behind_count) (b == 42) (Count None) BadType bytes tt refl
 law (Count digits) b bytes p = count_reads digits b bytes p
-law (CountEnd n) b bytes p = wanted (λ u. words_skipped n max_request) (b == 10) (Dollar (record { words = n; bytes = max_request })) BadEnd bytes tt p (all_words n max_request bytes p)
-law (Dollar ahead) b bytes p = wanted (λ u. behind_dollar ahead None) (b == 36) (Length ahead None) BadType bytes tt (p, tt) refl
+law (CountEnd n) b bytes p = wanted (λ u. words_skipped n max_request) (b == 10) (Dollar (record { words = n; bytes = max_request })) BadEnd bytes p (all_words n max_request bytes p)
+law (Dollar ahead) b bytes p = wanted (λ u. behind_dollar ahead None) (b == 36) (Length ahead None) BadType bytes (p, tt) refl
 law (Length ahead digits) b bytes p = length_reads ahead digits b bytes p
-law (LengthEnd ahead n) b bytes p = wanted (λ u. skipped n >> behind_bytes ahead n) (b == 10) (Word ahead n n) BadEnd bytes tt p refl
+law (LengthEnd ahead n) b bytes p = wanted (λ u. skipped n >> behind_bytes ahead n) (b == 10) (Word ahead n n) BadEnd bytes p refl
 law (Word ahead len left) b bytes p = word_reads ahead len left b bytes p
 law (WordEnd ahead len) b bytes p = word_end_reads ahead len b bytes (b == 10) p.0
 

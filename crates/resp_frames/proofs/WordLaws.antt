@@ -1,9 +1,8 @@
 -- Reading the words of a request's text.
 use Rattle.std.proofs.Common.{◌≡◌, ◌≢◌, ℕ, zero, suc, ◌+◌, ◌-◌, ◌<◌, ◌≤◌, ◌^◌, List, [], ◌∷◌, ◌++◌, length, decimal, flat_map, get_or, take, drop, refl, sym, ap, subst, ◌∙◌, append_assoc, length-append, arith, take_at, drop_at, take_all}
 use Rattle.byte_text.specs.Lines.{line, bulk_text}
-use Rattle.byte_text.specs.Requests.{request_text, IsRequest, FitsRequest, max_word, total}
-use Rattle.byte_text.proofs.LineLaws.{NoReturn, NoReturn-decimal, line-append, bulk_text-append}
-use Rattle.byte_text.proofs.RequestLaws.{AreShort}
+use Rattle.byte_text.specs.Requests.{AreShort, request_text, IsRequest, FitsRequest, max_word, total}
+use Rattle.byte_text.specs.LineLaws.{NoReturn, NoReturn-decimal, line-append, bulk_text-append}
 
 total-append : (v w : List (List ℕ)) → total (v ++ w) ≡ total v + total w
 total-append [] w = omega arith

@@ -4,7 +4,8 @@ use Rattle.byte_text.specs.Names.{Bytes}
 use Rattle.byte_text.specs.Requests.{IsRequest}
 use Rattle.byte_text.specs.Streams.{Front, found, begun, broken, go_on, request}
 use Rattle.byte_text.specs.declared.faults.RespFault.{RespFault}
-use Rattle.byte_text.specs.declared.faults.RespFault.TheVariants.{BadType, BadLength, BadEnd, TooMany, TooLong, Dead, Memory}
+use Rattle.resp_frames.specs.declared.faults.FeedFault.{FeedFault}
+use Rattle.resp_frames.specs.declared.faults.FeedFault.TheVariants.{Broken, Dead, Memory}
 use Rattle.resp_frames.specs.declared.places.Place.{Place}
 use Rattle.resp_frames.specs.Places.{from, IsPlace}
 
@@ -27,17 +28,13 @@ IsBroken held new piece fault = (request (held ++ piece) ≡ broken fault) × (n
 
 -- a piece is refused: with the fault of its bytes behind those held, and the reader is dead; or for want of memory, and it
 -- holds what it held
-abbrev pub IsRefused : Bytes → Held → Bytes → RespFault → Type 0
-IsRefused held new piece BadType = IsBroken held new piece BadType
-IsRefused held new piece BadLength = IsBroken held new piece BadLength
-IsRefused held new piece BadEnd = IsBroken held new piece BadEnd
-IsRefused held new piece TooMany = IsBroken held new piece TooMany
-IsRefused held new piece TooLong = IsBroken held new piece TooLong
+abbrev pub IsRefused : Bytes → Held → Bytes → FeedFault → Type 0
+IsRefused held new piece (Broken fault) = IsBroken held new piece fault
 IsRefused held new piece Dead = ⊥
 IsRefused held new piece Memory = new ≡ Some held
 
 -- why nothing was fed: a dead reader stays dead, whatever comes
-abbrev pub IsNotFed : Held → Held → Bytes → RespFault → Type 0
+abbrev pub IsNotFed : Held → Held → Bytes → FeedFault → Type 0
 IsNotFed None new piece fault = (fault ≡ Dead) × (new ≡ None)
 IsNotFed (Some held) new piece fault = IsRefused held new piece fault
 

@@ -3,10 +3,11 @@ ghost use Rattle.byte_text.specs.Requests.{IsRequest, IsRequestText, request_tex
 ghost use Rattle.byte_text.specs.Streams.{request};
 ghost use Rattle.resp_frames.specs.Readers.{IsFed, IsNotFed, whole_request};
 
+use crate::faults::FeedFault;
 use crate::places::Place;
 use crate::scans::{Scan, read_piece};
 use crate::words::words_of;
-use byte_text::{NoMemory, Request, RespFault};
+use byte_text::{NoMemory, Request};
 use std::alloc::Global;
 use std::marker::Model;
 
@@ -51,20 +52,20 @@ impl Requests {
         }
     }
 
-    /// Takes bytes up to the end of the first request, or the whole piece where none ends in it. A fault comes at the first
+    /// Takes bytes up to the end of the first request, or the whole piece where none ends in it. Broken comes at the first
     /// byte with which the bytes since the last request begin none, BadLength before TooMany and TooLong; every later call
     /// is then answered Dead. At Memory no byte was taken.
-    pub fn feed(&mut self, piece: &[u8]) -> Result<Fed, RespFault>
+    pub fn feed(&mut self, piece: &[u8]) -> Result<Fed, FeedFault>
         ensures fed { IfOk result (λ f. IsFed self.old self.new piece.now f.taken f.request) }
         ensures fault { IfErr result (λ f. IsNotFed self.old self.new piece.now f) }
     {
         let Some(place) = self.place else {
-            return Err(RespFault::Dead);
+            return Err(FeedFault::Dead);
         };
         match read_piece(place, piece) {
             Scan::Goes(next) => {
                 if self.held.extend_from_slice(piece).is_err() {
-                    return Err(RespFault::Memory);
+                    return Err(FeedFault::Memory);
                 }
                 self.place = Some(next);
                 Ok(Fed {
@@ -80,11 +81,11 @@ impl Requests {
                         request: Some(request),
                     })
                 }
-                Err(NoMemory) => Err(RespFault::Memory),
+                Err(NoMemory) => Err(FeedFault::Memory),
             },
             Scan::Fails(fault) => {
                 self.place = None;
-                Err(fault)
+                Err(FeedFault::Broken(fault))
             }
         }
     }

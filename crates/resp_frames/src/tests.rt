@@ -7,10 +7,11 @@ fn fault_of(alloc: Global, stream: &[u8]) -> Option<RespFault> {
     let mut reader = Requests::new(alloc);
     match reader.feed(stream) {
         Ok(_) => None,
-        Err(fault) => match reader.feed(b"*") {
-            Err(RespFault::Dead) => Some(fault),
+        Err(FeedFault::Broken(fault)) => match reader.feed(b"*") {
+            Err(FeedFault::Dead) => Some(fault),
             _ => None,
         },
+        Err(_) => None,
     }
 }
 

@@ -17,7 +17,7 @@ fn push_escaped(into: &mut Text, byte: u8) -> Result<(), NoMemory>
     }
 }
 
-#[tactic(auto, using(byte_text::proofs::Kept::kept))]
+#[tactic(auto, using(byte_text::specs::TextLaws::kept))]
 fn push_line(into: &mut Text, frame: &[u8]) -> Result<(), NoMemory>
     ensures ok { OnOk result (into.new ≡ into.old ++ frame_line frame.now) }
     ensures kept { take (length into.old) into.new ≡ into.old }

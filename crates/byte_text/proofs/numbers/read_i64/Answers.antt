@@ -4,7 +4,7 @@ use Rattle.std.proofs.lemmas.Str.{IsUtf8-from_ascii}
 use Rattle.std.proofs.lemmas.Int.{to_z-of_z}
 use mir.Syntax.{w64}
 use Rattle.byte_text.proofs.SignedText.{reads_back, is_ascii}
-use Rattle.byte_text.proofs.NumberLaws.{read_whole_is}
+use Rattle.byte_text.proofs.NumbersRead.{read_whole_is}
 use Rattle.byte_text.proofs.numbers.read_i64.Goals as goal
 
 pub returns-in_default-clause-exact : goal.returns-in_default-clause-exact

@@ -2,7 +2,7 @@ use Rattle.std.proofs.Common.{rules, ◌≡◌, ◌∙◌, refl}
 use Rattle.std.proofs.lemmas.Fmt.{parse-decimal, IsAscii-decimal}
 use Rattle.std.proofs.lemmas.Str.{IsUtf8-from_ascii}
 use Rattle.std.specs.Str.{IsUtf8}
-use Rattle.byte_text.proofs.NumberLaws.{read_natural_is}
+use Rattle.byte_text.proofs.NumbersRead.{read_natural_is}
 use Rattle.byte_text.proofs.numbers.read_u64.Goals as goal
 
 pub returns-in_default-clause-exact : goal.returns-in_default-clause-exact

@@ -1,6 +1,6 @@
 use Rattle.std.proofs.Common.{ap}
 use Rattle.geo_text.specs.Texts.{point_text, bounds_text, walked, stored_or, shape_of}
-use Rattle.geo_text.proofs.StoredLaws.{point_back, bounds_back, others_none}
+use Rattle.geo_text.specs.StoredLaws.{point_back, bounds_back, others_none}
 use Rattle.geo_text.proofs.laws.stored_texts.Goals as goal
 
 pub returns-clause-points : goal.returns-clause-points

@@ -1,5 +1,5 @@
 use Rattle.geo_text.specs.Texts.{shape_of}
-use Rattle.geo_text.proofs.Answered.{one_answer}
+use Rattle.geo_text.specs.Laws.{one_answer}
 use Rattle.geo_text.proofs.laws.texts_have_one_answer.Goals as goal
 
 pub returns : goal.returns

@@ -1,28 +1,19 @@
 -- The readers of canonical numbers answer what their definitions say.
-use Rattle.std.proofs.Common.{arith, ◌≡◌, ℕ, suc, ◌+◌, ◌-◌, ◌*◌, ◌%◌, ℤ, pos, negsuc, ◌^◌, ◌<◌, ◌≤◌, int_le, [], ◌∷◌, ◌++◌, decimal, Ok, Err, Result, Option, Some, None, ◌∙◌, sym, ap, refl, w64, Bool, true, false, fold, true≢false, nat_le, ◌&&◌, ne_eqb, if◌then◌else◌, MatchResult}
+use Rattle.std.proofs.Common.{arith, ◌≡◌, ℕ, suc, ◌+◌, ◌-◌, ◌*◌, ◌%◌, ℤ, pos, negsuc, ◌^◌, ◌<◌, ◌≤◌, int_le, [], ◌∷◌, ◌++◌, decimal, Ok, Err, Result, Option, Some, None, ◌∙◌, sym, ap, refl, subst, w64, Bool, true, false, fold, true≢false, nat_le, ◌&&◌, ne_eqb, if◌then◌else◌, MatchResult}
 use Rattle.std.specs.Fmt.{signed_decimal}
 use Rattle.std.proofs.lemmas.Fmt.{decimal_by_steps}
-use Rattle.std.proofs.lemmas.Slice.Eq.{bytes_eq-Decides}
+use Rattle.byte_text.specs.ByteOrder.{same_refl, same_equal}
 use Rattle.std.proofs.lemmas.Bool.{le-leb, leb-true}
 use mir.Val.{SFits as FitsSigned}
 use Rattle.byte_text.specs.Names.{Bytes, same}
 use Rattle.byte_text.specs.Numbers.{digits_value, signed_value, whole, natural, number_or_fault, read_natural, read_whole}
-use Rattle.byte_text.proofs.LineLaws.{AreDigits, AreDigits-decimal}
+use Rattle.byte_text.specs.NumberLaws.{digits_back, signed_back}
 use Rattle.byte_text.specs.declared.texts.TextFault.{TextFault}
 use Rattle.byte_text.specs.declared.texts.TextFault.TheVariants.{NotNumber}
 
-digits-append : (n : ℕ) (ds : Bytes) (d : ℕ) → fold (λ n b. 10 * n + (b - 48)) n (ds ++ d ∷ []) ≡ 10 * fold (λ n b. 10 * n + (b - 48)) n ds + (d - 48)
-digits-append n [] d = refl
-digits-append n (b ∷ ds) d = digits-append (10 * n + (b - 48)) ds d
-
-pub value_of : (n : ℕ) → n < 2 ^ 64 → digits_value (decimal n) ≡ n
-value_of = decimal_by_steps (λ n ds. digits_value ds ≡ n) (λ n l. omega arith) (λ n ds l h. digits-append 0 ds (48 + n % 10) ∙ omega (arith, h))
-
-pub is_same : (a b : Bytes) → same a b ≡ true → a ≡ b
-is_same a b = (bytes_eq-Decides a b).0
-
-pub same_is : (a b : Bytes) → a ≡ b → same a b ≡ true
-same_is a b = (bytes_eq-Decides a b).1
+-- equal lists are the same
+same_is : (a b : Bytes) → a ≡ b → same a b ≡ true
+same_is a b e = subst (λ c. same a c ≡ true) e (same_refl a)
 
 -- a test by cases of its value
 by_test : {A : Type 0} (P : A → Type 0) (b : Bool) (x y : A) → (b ≡ true → P x) → (b ≡ false → P y) → P (if b then x else y)
@@ -32,13 +23,13 @@ by_test P false x y f g = g refl
 -- the natural number of a text that is one
 pub natural_is : (w : Bytes) (n : ℕ) → n < 2 ^ 64 → w ≡ decimal n → natural w ≡ Some n
 natural_is w n small e =
-    let v : digits_value w ≡ n = ap digits_value e ∙ value_of n small in
+    let v : digits_value w ≡ n = ap digits_value e ∙ digits_back n small in
     let s : same (decimal (digits_value w)) w ≡ true = same_is (decimal (digits_value w)) w (ap decimal v ∙ sym e) in
     rw s (ap Some v)
 
 pub natural_of : (w : Bytes) (n : ℕ) → natural w ≡ Some n → w ≡ decimal n
 natural_of w n = by_test (λ (o : Option ℕ). o ≡ Some n → w ≡ decimal n) (same (decimal (digits_value w)) w) (Some (digits_value w)) None
-    (λ s e. let v : digits_value w ≡ n = cc e in sym (is_same (decimal (digits_value w)) w s) ∙ ap decimal v)
+    (λ s e. let v : digits_value w ≡ n = cc e in sym (same_equal (decimal (digits_value w)) w s) ∙ ap decimal v)
     (λ s e. absurd (cc e))
 
 -- within 64 bits
@@ -89,27 +80,15 @@ read_natural_is w r h exact = read_natural_by w r (natural w) refl h exact
 
 -- the same for whole numbers
 
-value_of_digits : (ds : Bytes) → AreDigits ds → signed_value ds ≡ pos (digits_value ds)
-value_of_digits [] d = refl
-value_of_digits (b ∷ ds) d = rw (ne_eqb b 45 (λ e. omega (arith, e, d.0.0))) refl
-
-signed_value_of : (z : ℤ) → FitsSigned w64 z → signed_value (signed_decimal z) ≡ z
-signed_value_of (pos n) fits =
-    let small : n < 2 ^ 64 = omega (arith, fits.sfits) in
-    value_of_digits (decimal n) (AreDigits-decimal n small) ∙ ap pos (value_of n small)
-signed_value_of (negsuc n) fits =
-    let v : digits_value (decimal (suc n)) ≡ suc n = value_of (suc n) (omega (arith, fits.sfits)) in
-    rw v refl
-
 pub whole_is : (w : Bytes) (z : ℤ) → FitsSigned w64 z → w ≡ signed_decimal z → whole w ≡ Some z
 whole_is w z fits e =
-    let v : signed_value w ≡ z = ap signed_value e ∙ signed_value_of z fits in
+    let v : signed_value w ≡ z = ap signed_value e ∙ signed_back z fits in
     let s : same (signed_decimal (signed_value w)) w ≡ true = same_is (signed_decimal (signed_value w)) w (ap signed_decimal v ∙ sym e) in
     rw s (ap Some v)
 
 pub whole_of : (w : Bytes) (z : ℤ) → whole w ≡ Some z → w ≡ signed_decimal z
 whole_of w z = by_test (λ (o : Option ℤ). o ≡ Some z → w ≡ signed_decimal z) (same (signed_decimal (signed_value w)) w) (Some (signed_value w)) None
-    (λ s e. let v : signed_value w ≡ z = cc e in sym (is_same (signed_decimal (signed_value w)) w s) ∙ ap signed_decimal v)
+    (λ s e. let v : signed_value w ≡ z = cc e in sym (same_equal (signed_decimal (signed_value w)) w s) ∙ ap signed_decimal v)
     (λ s e. absurd (cc e))
 
 read_whole_by : (w : Bytes) (r : Result ℤ TextFault) (o : Option ℤ) → whole w ≡ o → MatchResult r (λ z. FitsSigned w64 z × (w ≡ signed_decimal z)) (λ e. e ≡ NotNumber)

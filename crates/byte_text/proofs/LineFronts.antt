@@ -6,13 +6,8 @@ use Rattle.std.proofs.lemmas.Fmt.{decimal_by_steps, decimal_injective}
 use mir.Val.{SFits}
 use mir.Syntax.{w64}
 use Rattle.byte_text.specs.Lines.{line, bulk_text, IsOneLine}
-
-abbrev pub NoReturn : List ℕ → Type 0
-NoReturn text = AllByRecursion (λ b. b ≢ 13) text
-
-pub NoReturn-append : (a b : List ℕ) → NoReturn a → NoReturn b → NoReturn (a ++ b)
-NoReturn-append [] b p q = q
-NoReturn-append (x ∷ a) b p q = (p.0, NoReturn-append a b p.1 q)
+use Rattle.byte_text.specs.LineLaws.{NoReturn, NoReturn-decimal, line-append, bulk_text-append}
+use Rattle.byte_text.specs.NumberLaws.{AreDigits, AreDigits-decimal}
 
 pub NoReturn-one_line : (text : List ℕ) → IsOneLine text → NoReturn text
 NoReturn-one_line [] h = tt
@@ -29,9 +24,6 @@ same_front (c ∷ a) (d ∷ b) x y p q e =
     let others = same_front a b x y p.1 q.1 tail in
     (cc (head, others.0), others.1)
 
-pub line-append : (mark : ℕ) (text x : List ℕ) → line mark text ++ x ≡ mark ∷ (text ++ 13 ∷ 10 ∷ x)
-line-append mark text x = ap (λ (t : List ℕ). mark ∷ t) (append_assoc text (13 ∷ 10 ∷ []) x)
-
 pub same_line : (m n : ℕ) (a b x y : List ℕ) → NoReturn a → NoReturn b → line m a ++ x ≡ line n b ++ y → (m ≡ n) × (a ≡ b) × (x ≡ y)
 same_line m n a b x y p q e =
     let opened : m ∷ (a ++ 13 ∷ 10 ∷ x) ≡ n ∷ (b ++ 13 ∷ 10 ∷ y) = sym (line-append m a x) ∙ e ∙ line-append n b y in
@@ -40,9 +32,6 @@ same_line m n a b x y p q e =
     let both = same_front a b (10 ∷ x) (10 ∷ y) p q tail in
     let last : x ≡ y = cc (both.1) in
     (head, both.0, last)
-
-pub NoReturn-decimal : (n : ℕ) → n < 2 ^ 64 → NoReturn (decimal n)
-NoReturn-decimal = decimal_by_steps (λ n ds. NoReturn ds) (λ n l. ((λ e. omega (arith, e)), tt)) (λ n ds l h. NoReturn-append ds ((48 + n % 10) ∷ []) h ((λ e. omega (arith, e)), tt))
 
 -- where lists of one length begin two equal texts, they are one
 pub same_length : (a b x y : List ℕ) → length a ≡ length b → a ++ x ≡ b ++ y → (a ≡ b) × (x ≡ y)
@@ -55,9 +44,6 @@ same_length (c ∷ a) (d ∷ b) x y l e =
     let others = same_length a b x y (omega (arith, l)) tail in
     (cc (head, others.0), others.1)
 
-pub bulk_text-append : (w x : List ℕ) → bulk_text w ++ x ≡ line 36 (decimal (length w)) ++ (w ++ 13 ∷ 10 ∷ x)
-bulk_text-append w x = append_assoc (line 36 (decimal (length w))) (w ++ 13 ∷ 10 ∷ []) x ∙ ap (λ (t : List ℕ). line 36 (decimal (length w)) ++ t) (append_assoc w (13 ∷ 10 ∷ []) x)
-
 pub same_bulk : (v w x y : List ℕ) → length v < 2 ^ 64 → length w < 2 ^ 64 → bulk_text v ++ x ≡ bulk_text w ++ y → (v ≡ w) × (x ≡ y)
 same_bulk v w x y p q e =
     let heads = same_line 36 36 (decimal (length v)) (decimal (length w)) (v ++ 13 ∷ 10 ∷ x) (w ++ 13 ∷ 10 ∷ y) (NoReturn-decimal (length v) p) (NoReturn-decimal (length w) q) (sym (bulk_text-append v x) ∙ e ∙ bulk_text-append w y) in
@@ -68,16 +54,6 @@ same_bulk v w x y p q e =
 pub NoReturn-signed : (z : ℤ) → SFits w64 z → NoReturn (signed_decimal z)
 NoReturn-signed (pos n) fits = NoReturn-decimal n (omega (arith, fits.sfits))
 NoReturn-signed (negsuc n) fits = ((λ e. omega (arith, e)), NoReturn-decimal (suc n) (omega (arith, fits.sfits)))
-
-abbrev pub AreDigits : List ℕ → Type 0
-AreDigits ds = AllByRecursion (λ b. (48 ≤ b) × (b < 58)) ds
-
-pub AreDigits-append : (a b : List ℕ) → AreDigits a → AreDigits b → AreDigits (a ++ b)
-AreDigits-append [] b p q = q
-AreDigits-append (x ∷ a) b p q = (p.0, AreDigits-append a b p.1 q)
-
-pub AreDigits-decimal : (n : ℕ) → n < 2 ^ 64 → AreDigits (decimal n)
-AreDigits-decimal = decimal_by_steps (λ n ds. AreDigits ds) (λ n l. ((omega arith, omega arith), tt)) (λ n ds l h. AreDigits-append ds ((48 + n % 10) ∷ []) h ((omega arith, omega arith), tt))
 
 pub no_sign : (n : ℕ) → n < 2 ^ 64 → (ds : List ℕ) → decimal n ≡ 45 ∷ ds → ⊥
 no_sign n small ds e = omega (arith, (subst AreDigits e (AreDigits-decimal n small)).0.0)

@@ -8,9 +8,9 @@ use Rattle.std.proofs.lemmas.Fmt.{decimal_by_steps}
 use mir.Val.{SFits}
 use mir.Syntax.{w64}
 use Rattle.byte_text.specs.Names.{Bytes, same}
-use Rattle.byte_text.specs.Numbers.{signed_value, whole}
-use Rattle.byte_text.proofs.LineLaws.{AreDigits, AreDigits-decimal}
-use Rattle.byte_text.proofs.NumberLaws.{whole_is, is_same, same_is}
+use Rattle.byte_text.specs.Numbers.{signed_value}
+use Rattle.byte_text.specs.ByteOrder.{same_refl, same_equal}
+use Rattle.byte_text.specs.NumberLaws.{AreDigits, AreDigits-decimal, signed_back}
 use Rattle.planar_geom.specs.Points.{Point, Bounds, pt, bounds, InPlane, IsCoordinate, IsBox, is_coordinate, is_low_of}
 use Rattle.planar_geom.specs.declared.shapes.Part.TheVariants.{Spot, Face}
 use Rattle.geo_text.specs.Texts.{Shape, is_of_number, joins_first, stretches, numbers_in, in_plane, is_box, position_text, point_text, bounds_text, corners, joined, stored_by, stored_shape}
@@ -32,39 +32,44 @@ digits_all [] all = refl
 digits_all (b ∷ w) all = let ih = digits_all w all.1 in let here = digit b all.0.0 all.0.1 in grind arith
 
 signed_all : (z : ℤ) → SFits w64 z → list_all is_of_number (signed_decimal z) ≡ true
-signed_all (pos n) fits = digits_all (decimal n) (AreDigits-decimal n (omega (arith, fits.sfits)))
-signed_all (negsuc n) fits = digits_all (decimal (suc n)) (AreDigits-decimal (suc n) (omega (arith, fits.sfits)))
+signed_all (pos n) fits = digits_all (decimal n) (let limit = fits.sfits in AreDigits-decimal n (grind arith))
+signed_all (negsuc n) fits = digits_all (decimal (suc n)) (let limit = fits.sfits in AreDigits-decimal (suc n) (grind arith))
 
 some_digit : (n : ℕ) → n < 2 ^ 64 → 0 < length (decimal n)
-some_digit = decimal_by_steps (λ n ds. 0 < length ds) (λ n l. omega arith) (λ n ds l h. let e = length-append ds ((48 + n % 10) ∷ []) in omega (arith, e))
+some_digit = decimal_by_steps (λ n ds. 0 < length ds) (λ n l. grind arith) (λ n ds l h. let e = length-append ds ((48 + n % 10) ∷ []) in grind arith)
 
 some_byte : (z : ℤ) → SFits w64 z → nat_lt 0 (length (signed_decimal z)) ≡ true
-some_byte (pos n) fits = let h = some_digit n (omega (arith, fits.sfits)) in grind (arith, nat_tests)
+some_byte (pos n) fits = let limit = fits.sfits in let h = some_digit n (grind arith) in grind (arith, nat_tests)
 some_byte (negsuc n) fits = grind (arith, nat_tests)
-
-value_is : (w : Bytes) (z : ℤ) (test : Bool) → (if test then Some (signed_value w) else None) ≡ Some z → signed_value w ≡ z
-value_is w z true e = cc
-value_is w z false e = absurd cc
-
-value_back : (z : ℤ) → SFits w64 z → signed_value (signed_decimal z) ≡ z
-value_back z fits = value_is (signed_decimal z) z _ (whole_is (signed_decimal z) z fits refl)
 
 -- a stretch of a number's bytes, with another byte behind it
 stretch : (w : Bytes) (b : ℕ) (rest : Bytes) → list_all is_of_number w ≡ true → is_of_number b ≡ false → stretches (w ++ b ∷ rest) ≡ w ∷ stretches rest
-stretch [] b rest all other = rw other refl
+stretch [] b rest all other = grind arith
 stretch (a ∷ w) b rest all other =
     let ih : list_all is_of_number w ≡ true → stretches (w ++ b ∷ rest) ≡ w ∷ stretches rest = λ more. stretch w b rest more other in
     grind arith
 
+abbrev is_some_byte : Bytes → Bool
+is_some_byte w = nat_lt 0 (length w)
+
 -- a number in front
 number_first : (z : ℤ) (b : ℕ) (rest : Bytes) → SFits w64 z → is_of_number b ≡ false → numbers_in (signed_decimal z ++ b ∷ rest) ≡ z ∷ numbers_in rest
-number_first z b rest fits other = rw (stretch (signed_decimal z) b rest (signed_all z fits) other, some_byte z fits, value_back z fits) refl
+number_first z b rest fits other =
+    let ws = stretches rest in
+    ap (λ (stretched : List Bytes). map signed_value (filter is_some_byte stretched)) (stretch (signed_decimal z) b rest (signed_all z fits) other)
+    ∙ ap (λ (t : Bool). map signed_value (if t then signed_decimal z ∷ filter is_some_byte ws else filter is_some_byte ws)) (some_byte z fits)
+    ∙ ap (λ (y : ℤ). y ∷ numbers_in rest) (signed_back z fits)
 
 unfolded : (p : Point) (b : ℕ) (rest : Bytes) → position_text p ++ b ∷ rest ≡ 91 ∷ (signed_decimal p.x ++ 44 ∷ (signed_decimal p.y ++ 93 ∷ b ∷ rest))
-unfolded p b rest = simp append_assoc
+unfolded p b rest =
+    let x = signed_decimal p.x in
+    let y = signed_decimal p.y in
+    let one : (((x ++ 44 ∷ []) ++ y) ++ 93 ∷ []) ++ b ∷ rest ≡ x ++ 44 ∷ (y ++ 93 ∷ b ∷ rest) =
+    append_assoc ((x ++ 44 ∷ []) ++ y) (93 ∷ []) (b ∷ rest) ∙ append_assoc (x ++ 44 ∷ []) y (93 ∷ b ∷ rest) ∙ append_assoc x (44 ∷ []) (y ++ 93 ∷ b ∷ rest) in
+    ap (λ (t : Bytes). 91 ∷ t) one
 
 other_byte : (b : ℕ) (rest : Bytes) → is_of_number b ≡ false → numbers_in (b ∷ rest) ≡ numbers_in rest
-other_byte b rest other = rw other refl
+other_byte b rest other = ap (λ (t : Bool). map signed_value (filter is_some_byte (if t then joins_first b (stretches rest) else [] ∷ stretches rest))) other
 
 -- a position in front
 position_first : (p : Point) (b : ℕ) (rest : Bytes) → InPlane p → is_of_number b ≡ false → numbers_in (position_text p ++ b ∷ rest) ≡ p.x ∷ p.y ∷ numbers_in rest
@@ -95,7 +100,7 @@ and_left false b e = e
 
 and_right : (a b : Bool) → (a && b) ≡ true → b ≡ true
 and_right true b e = e
-and_right false b e = absurd cc
+and_right false b e = grind arith
 
 coordinate_in : (a : ℤ) → is_coordinate a ≡ true → IsCoordinate a
 coordinate_in a e = record { low = is_le _ _ (and_left _ _ e); high = is_le _ _ (and_right _ _ e) }
@@ -104,13 +109,16 @@ is_plane : (p : Point) → in_plane p ≡ true → InPlane p
 is_plane p e = record { x_in = coordinate_in p.x (and_left _ _ e); y_in = coordinate_in p.y (and_right _ _ e) }
 
 stored : (test : Bool) (shape : Shape) → test ≡ true → (if test then Some shape else None) ≡ Some shape
-stored test shape e = rw e refl
+stored test shape e = ap (λ (t : Bool). if t then Some shape else None) e
+
+both : (a b : Bool) → a ≡ true → b ≡ true → (a && b) ≡ true
+both a b p q = grind arith
 
 -- the text of a point is read back
 pub point_back : (p : Point) → InPlane p → stored_shape (point_text p) ≡ Some (Spot p ∷ [])
 point_back p h =
     let numbers : numbers_in (point_text p) ≡ p.x ∷ p.y ∷ [] = position_first p 125 [] h refl in
-    ap (stored_by (point_text p)) numbers ∙ stored (in_plane p && same (point_text p) (point_text p)) (Spot p ∷ []) (rw (plane_is p h, same_is (point_text p) (point_text p) refl) refl)
+    ap (stored_by (point_text p)) numbers ∙ stored (in_plane p && same (point_text p) (point_text p)) (Spot p ∷ []) (both _ _ (plane_is p h) (same_refl (point_text p)))
 
 abbrev coordinates_of : List Point → List ℤ
 coordinates_of [] = []
@@ -136,12 +144,12 @@ corners_in b h =
 pub bounds_back : (b : Bounds) → IsBox b → stored_shape (bounds_text b) ≡ Some (Face (corners b ∷ []) ∷ [])
 bounds_back b h =
     let numbers : numbers_in (bounds_text b) ≡ coordinates_of (corners b) ++ [] = positions_first b.min (pt b.max.x b.min.y ∷ b.max ∷ pt b.min.x b.max.y ∷ b.min ∷ []) (93 ∷ 125 ∷ []) (corners_in b h) in
-    ap (stored_by (bounds_text b)) numbers ∙ stored (is_box b && same (bounds_text b) (bounds_text b)) (Face (corners b ∷ []) ∷ []) (rw (box_is b h, same_is (bounds_text b) (bounds_text b) refl) refl)
+    ap (stored_by (bounds_text b)) numbers ∙ stored (is_box b && same (bounds_text b) (bounds_text b)) (Face (corners b ∷ []) ∷ []) (both _ _ (box_is b h) (same_refl (bounds_text b)))
 
 -- what no point and no box is stored as
 
 no_point : (text : Bytes) → ((p : Point) → InPlane p → text ≢ point_text p) → (p : Point) → (a b : Bool) → in_plane p ≡ a → same (point_text p) text ≡ b → (if a && b then Some (Spot p ∷ []) else None) ≡ None
-no_point text none p true true e f = absurd (none p (is_plane p e) (sym (is_same (point_text p) text f)))
+no_point text none p true true e f = absurd (none p (is_plane p e) (sym (same_equal (point_text p) text f)))
 no_point text none p true false e f = refl
 no_point text none p false b e f = refl
 
@@ -154,7 +162,7 @@ is_boxed b e =
     low_is b (and_right (in_plane b.min && in_plane b.max) (is_low_of b.min b.max) e) (and_left _ _ corners_ok) (and_right _ _ corners_ok)
 
 no_box : (text : Bytes) → ((b : Bounds) → IsBox b → text ≢ bounds_text b) → (c : Bounds) → (a b : Bool) → is_box c ≡ a → same (bounds_text c) text ≡ b → (if a && b then Some (Face (corners c ∷ []) ∷ []) else None) ≡ None
-no_box text none c true true e f = absurd (none c (is_boxed c e) (sym (is_same (bounds_text c) text f)))
+no_box text none c true true e f = absurd (none c (is_boxed c e) (sym (same_equal (bounds_text c) text f)))
 no_box text none c true false e f = refl
 no_box text none c false b e f = refl
 

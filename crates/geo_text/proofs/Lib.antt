@@ -1,2 +1,0 @@
-pub mod StoredLaws
-pub mod Answered
