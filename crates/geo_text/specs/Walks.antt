@@ -1,9 +1,9 @@
 -- RFC 7946, section 3.1: positions, lines and rings, read from left to right; the first fault met counts.
-use Rattle.std.specs.Prelude.{ℕ, ◌+◌, ℤ, nat_lt, Bool, false, List, [], ◌∷◌, length, Option, Some, None, Result, Ok, Err, if◌then◌else◌}
+use Rattle.std.specs.Prelude.{ℕ, ◌+◌, ℤ, nat_lt, List, [], ◌∷◌, length, Option, Some, None, Result, Ok, Err, if◌then◌else◌}
 use Rattle.serde_json.specs.Data.{Num, unsigned, negative, float, Data, null, boolean, number, string, array, object, Items, no_items, item}
 use Rattle.serde_json.specs.Find.{as_i64}
-use Rattle.planar_geom.specs.Points.{Point, pt, same_point, is_coordinate}
-use Rattle.planar_geom.specs.Figures.{last_of}
+use Rattle.planar_geom.specs.Points.{Point, pt, is_coordinate}
+pub use Rattle.planar_geom.specs.Figures.{is_closed}
 use Rattle.geo_text.specs.declared.faults.GeoFault.{GeoFault}
 use Rattle.geo_text.specs.declared.faults.GeoFault.TheVariants.{NotWhole, OutOfRange, BadRing, TooFew, TooMany, BadPosition}
 
@@ -107,11 +107,6 @@ unfoldable pub line : Data → ℕ → Result (List Point × ℕ) GeoFault
 line d count = do
   ps ← positions_of d count
   if nat_lt (length ps.0) 2 then Err TooFew else Ok ps
-
--- the first of the points is the last of them too
-abbrev pub is_closed : List Point → Bool
-is_closed [] = false
-is_closed (p ∷ ps) = same_point p (last_of p ps)
 
 -- section 3.1.6, Polygon: a linear ring has four or more positions, and the first is the last
 unfoldable pub ring : Data → ℕ → Result (List Point × ℕ) GeoFault

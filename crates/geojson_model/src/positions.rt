@@ -141,15 +141,6 @@ pub(crate) fn line(alloc: Global, value: &Value, count: u32) -> Result<(Line, u3
     }
 }
 
-fn is_closed(points: &[Pt]) -> bool
-    ensures { result ≡ walks.is_closed points.now }
-{
-    match points {
-        [] => false,
-        [first, ..] => is_same(*first, points[points.len() - 1]),
-    }
-}
-
 // A ring of four or more positions, the first of which is its last.
 #[tactic(auto, unfolding(geo_text::specs::Walks::ring))]
 fn ring(alloc: Global, value: &Value, count: u32) -> Result<(Points, u32), ShapeFault>
@@ -159,7 +150,7 @@ fn ring(alloc: Global, value: &Value, count: u32) -> Result<(Points, u32), Shape
     if points.as_slice().len() < 4 {
         return Err(ShapeFault::Refused(GeoFault::TooFew));
     }
-    if !is_closed(points.as_slice()) {
+    if !points.is_closed() {
         return Err(ShapeFault::Refused(GeoFault::BadRing));
     }
     Ok((points, count))

@@ -1,8 +1,7 @@
 //! The shape of a text.
 
-ghost use Rattle.std.specs.Prelude.{◌≡◌, ◌∷◌, [], Ok};
+ghost use Rattle.std.specs.Prelude.{◌≡◌, Ok, IfOk};
 ghost use Rattle.serde_json.specs.View.{view, items_view};
-ghost use Rattle.planar_geom.specs.declared.shapes.Part.TheVariants.{Spot, Face};
 ghost use Rattle.geojson_model.specs.Answers.{Gives};
 ghost use Rattle.geo_text.specs.Geometries as geo;
 ghost use Rattle.geo_text.specs.Texts as texts;
@@ -11,9 +10,9 @@ ghost use Rattle.geojson_model.specs.Behind.{behind};
 use crate::faults::ShapeFault;
 use crate::geometries::geometry;
 use crate::members::{array_at, object_only, there, type_of};
-use crate::stored::{corners, stored_bounds, stored_point};
+use crate::stored::{stored_bounds, stored_point};
 use geo_text::{GeoFault, GeoType};
-use planar_geom::{BBox, Part, Parts, Points, Poly, Pt, Rings, Shape};
+use planar_geom::{NoMemory, Parts, Shape};
 use serde_json::Value;
 use std::alloc::Global;
 
@@ -87,7 +86,12 @@ fn features(alloc: Global, parts: &mut Parts, value: &Value, count: u32) -> Resu
     feature_items(alloc, parts, items, count)
 }
 
-fn object(alloc: Global, parts: &mut Parts, type_: GeoType, value: &Value) -> Result<u32, ShapeFault>
+fn object(
+    alloc: Global,
+    parts: &mut Parts,
+    type_: GeoType,
+    value: &Value,
+) -> Result<u32, ShapeFault>
     ensures { Gives (λ n. (parts.new, n)) result (behind parts.old (geo.top_of type_ (view value.now))) }
 {
     match type_ {
@@ -134,41 +138,12 @@ fn walked(alloc: Global, text: &[u8]) -> Result<Shape, ShapeFault>
     }
 }
 
-fn shape_of_part(alloc: Global, part: Part) -> Result<Shape, ShapeFault>
-    ensures { Gives (λ s. s) result (Ok (part ∷ [])) }
+fn given(shape: Result<Shape, NoMemory>) -> Result<Shape, ShapeFault>
+    ensures { (s : geo.Shape) → IfOk shape (λ given. given ≡ s) → Gives (λ own. own) result (Ok s) }
 {
-    let mut parts = Parts::new(alloc);
-    if parts.push(part).is_err() {
-        return Err(ShapeFault::Memory);
-    }
-    match Shape::of(parts) {
+    match shape {
         Ok(shape) => Ok(shape),
-        Err(_) => unreachable!(),
-    }
-}
-
-fn ring_round(alloc: Global, b: BBox) -> Result<Points, ShapeFault>
-    ensures { Gives (λ ring. ring) result (Ok (texts.corners b)) }
-{
-    let mut ring = Points::new(alloc);
-    for corner in corners(b) {
-        if ring.push(corner).is_err() {
-            return Err(ShapeFault::Memory);
-        }
-    }
-    Ok(ring)
-}
-
-fn shape_of_box(alloc: Global, b: BBox) -> Result<Shape, ShapeFault>
-    ensures { Gives (λ s. s) result (Ok (Face (texts.corners b ∷ []) ∷ [])) }
-{
-    let mut rings = Rings::new(alloc);
-    if rings.push(ring_round(alloc, b)?).is_err() {
-        return Err(ShapeFault::Memory);
-    }
-    match Poly::of(rings) {
-        Ok(poly) => shape_of_part(alloc, Part::Face(poly)),
-        Err(_) => unreachable!(),
+        Err(NoMemory) => Err(ShapeFault::Memory),
     }
 }
 
@@ -178,10 +153,10 @@ pub fn shape_of(alloc: Global, text: &[u8]) -> Result<Shape, ShapeFault>
     ensures { Gives (λ s. s) result (texts.shape_of text.now) }
 {
     if let Some(p) = stored_point(text) {
-        return shape_of_part(alloc, Part::Spot(p));
+        return given(Shape::point(alloc, p));
     }
     if let Some(b) = stored_bounds(text) {
-        return shape_of_box(alloc, b);
+        return given(Shape::rect(alloc, b));
     }
     walked(alloc, text)
 }
