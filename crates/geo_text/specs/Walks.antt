@@ -4,6 +4,7 @@ use Rattle.serde_json.specs.Data.{Num, unsigned, negative, float, Data, null, bo
 use Rattle.serde_json.specs.Find.{as_i64}
 use Rattle.planar_geom.specs.Points.{Point, pt, is_coordinate}
 pub use Rattle.planar_geom.specs.Figures.{is_closed}
+use Rattle.planar_geom.specs.declared.shapes.TheConstants.{MAX_POSITIONS}
 use Rattle.geo_text.specs.declared.faults.GeoFault.{GeoFault}
 use Rattle.geo_text.specs.declared.faults.GeoFault.TheVariants.{NotWhole, OutOfRange, BadRing, TooFew, TooMany, BadPosition}
 
@@ -12,10 +13,6 @@ infixl 10 ◌>>=◌
 abbrev pub ◌>>=◌ : {A B : Type 0} → Result A GeoFault → (A → Result B GeoFault) → Result B GeoFault
 (Ok x) >>= f = f x
 (Err e) >>= f = Err e
-
--- the most positions of one object
-abbrev pub max_positions : ℕ
-max_positions = 10000
 
 -- a number as a coordinate of the plane
 abbrev pub within : Option ℤ → Result ℤ GeoFault
@@ -82,7 +79,7 @@ point d = do
 -- a position behind `count` others; what stands in the place of one too many is not looked at
 unfoldable pub position : Data → ℕ → Result (Point × ℕ) GeoFault
 position d count = do
-  c ← (if nat_lt count max_positions then Ok (count + 1) else Err TooMany)
+  c ← (if nat_lt count MAX_POSITIONS then Ok (count + 1) else Err TooMany)
   p ← point d
   Ok (p, c)
 

@@ -16,11 +16,12 @@ use Rattle.planar_geom.specs.declared.shapes.Part.{Part}
 use Rattle.geo_text.specs.declared.faults.GeoFault.{GeoFault}
 use Rattle.geo_text.specs.declared.faults.GeoFault.TheVariants.{TooFew, TooMany, BadRing}
 use Rattle.planar_geom.specs.declared.shapes.Part.TheVariants as parts
+use Rattle.planar_geom.specs.declared.shapes.TheConstants.{MAX_POSITIONS}
 use Rattle.geo_text.specs.declared.types.Base.{Base}
 use Rattle.geo_text.specs.declared.types.GeoType.{GeoType}
 use Rattle.geo_text.specs.declared.types.GeoType.TheVariants.{Point, MultiPoint, LineString, MultiLineString, Polygon, MultiPolygon, GeometryCollection, Feature, FeatureCollection}
 use Rattle.geo_text.specs.declared.types.Base.TheVariants.{Spot, Chain, Face}
-use Rattle.geo_text.specs.Walks.{◌>>=◌, max_positions, array_of, each, point, position, positions_of, line, ring, is_closed, polygon}
+use Rattle.geo_text.specs.Walks.{◌>>=◌, array_of, each, point, position, positions_of, line, ring, is_closed, polygon}
 use Rattle.geo_text.specs.Geometries.{part, single, many, Walk, go, there, object_only, array_at, coordinates, single_at, many_at, type_of, of_type, geometry, inner, walk_of, geometries, feature, only_feature, feature_item, joined, features, top_of}
 use Rattle.geojson_model.specs.Behind.{behind}
 use Rattle.geojson_model.proofs.FaultLaws.{ok_is, not_ok}
@@ -47,7 +48,7 @@ passing false f r x e = absurd (not_ok e)
 -- after `count` positions `size` more were found, which makes `n`, and no more than one object may have
 pub record Counted (count size n : ℕ) : Type 0 where
   pub total : n ≡ count + size
-  pub few : count ≤ max_positions → n ≤ max_positions
+  pub few : count ≤ MAX_POSITIONS → n ≤ MAX_POSITIONS
 
 nothing : (count : ℕ) → Counted count 0 count
 nothing count = record { total = omega arith; few = λ h. h }
@@ -63,9 +64,9 @@ Counts {A} size walk = (count n : ℕ) (a : A) → walk count ≡ Ok (a, n) → 
 position_counts : (d : Data) → Counts (λ p. 1) (position d)
 unfolding position
 position_counts d count n p e =
-    let o = opened (if nat_lt count max_positions then Ok (count + 1) else Err TooMany) (λ c. point d >>= λ q. Ok (q, c)) (p, n) e in
-    let c : count + 1 ≡ o.0 = ok_is (passed_or (nat_lt count max_positions) TooMany (Ok (count + 1)) o.0 o.1) in
-    let room : count < max_positions = ltb-true count max_positions (passing (nat_lt count max_positions) TooMany (Ok (count + 1)) o.0 o.1) in
+    let o = opened (if nat_lt count MAX_POSITIONS then Ok (count + 1) else Err TooMany) (λ c. point d >>= λ q. Ok (q, c)) (p, n) e in
+    let c : count + 1 ≡ o.0 = ok_is (passed_or (nat_lt count MAX_POSITIONS) TooMany (Ok (count + 1)) o.0 o.1) in
+    let room : count < MAX_POSITIONS = ltb-true count MAX_POSITIONS (passing (nat_lt count MAX_POSITIONS) TooMany (Ok (count + 1)) o.0 o.1) in
     let q = opened (point d) (λ q. Ok (q, o.0)) (p, n) o.2 in
     let last : o.0 ≡ n = ap (λ x. x.1) (ok_is q.2) in
     record { total = omega (arith, c, last); few = λ k. omega (arith, c, last, room) }
@@ -279,11 +280,11 @@ top_counts Feature d n shape e = feature_counts d 0 n shape e
 top_counts FeatureCollection d n shape e = features_count d 0 n shape e
 
 -- parts that have a position, and not too many of them, are a shape
-allowed : (parts : List Part) → positions parts ≢ 0 → positions parts ≤ max_positions → has_allowed_size parts ≡ true
+allowed : (parts : List Part) → positions parts ≢ 0 → positions parts ≤ MAX_POSITIONS → has_allowed_size parts ≡ true
 allowed [] some few = absurd (some refl)
 allowed (p ∷ ps) some few =
     let one : nat_lt 0 (length (p ∷ ps)) ≡ true = le-leb 1 (length (p ∷ ps)) (omega arith) in
-    rw one (le-leb (positions (p ∷ ps)) max_positions few)
+    rw one (le-leb (positions (p ∷ ps)) MAX_POSITIONS few)
 
 -- the parts of an object that has a position are a shape
 pub are_shape : (t : GeoType) (d : Data) (front parts back : List Part) (n : ℕ) → front ≡ [] → n ≢ 0 → behind front (top_of t d) ≡ Ok (parts, n) → ◌≡◌ {A = Result (List Part) (List Part)} (Err back) (shape_of_parts parts) → ⊥

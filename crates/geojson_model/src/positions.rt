@@ -7,14 +7,10 @@ ghost use Rattle.geojson_model.specs.Answers.{Gives};
 ghost use Rattle.geo_text.specs.Walks as walks;
 
 use crate::faults::ShapeFault;
-use crate::stored::is_same;
 use geo_text::GeoFault;
-use planar_geom::{Line, MAX_COORD, Points, Poly, Pt, Rings};
+use planar_geom::{Line, MAX_COORD, MAX_POSITIONS, Points, Poly, Pt, Rings};
 use serde_json::{Number, Value};
 use std::alloc::Global;
-
-/// The most positions of one object.
-const MAX_POSITIONS: u32 = 10_000;
 
 fn is_coordinate(a: i64) -> bool
     ensures { result ≡ plane.is_coordinate a }
