@@ -22,7 +22,7 @@ use Rattle.geo_text.specs.declared.types.GeoType.{GeoType}
 use Rattle.geo_text.specs.declared.types.GeoType.TheVariants.{Point, MultiPoint, LineString, MultiLineString, Polygon, MultiPolygon, GeometryCollection, Feature, FeatureCollection}
 use Rattle.geo_text.specs.declared.types.Base.TheVariants.{Spot, Chain, Face}
 use Rattle.geo_text.specs.Walks.{◌>>=◌, array_of, each, point, position, positions_of, line, ring, is_closed, polygon}
-use Rattle.geo_text.specs.Geometries.{part, single, many, Walk, go, there, object_only, array_at, coordinates, single_at, many_at, type_of, of_type, geometry, inner, walk_of, geometries, feature, only_feature, feature_item, joined, features, top_of}
+use Rattle.geo_text.specs.Geometries.{part, single, many, Walk, go, there, object_only, array_at, coordinates, single_at, many_at, type_of, of_type, geometry, inner, walk_of, geometries, feature, only_feature, feature_item, parts_of_each, features, top_of}
 use Rattle.geojson_model.specs.Behind.{behind}
 use Rattle.geojson_model.proofs.FaultLaws.{ok_is, not_ok}
 use Rattle.geojson_model.proofs.Loops.{behind_nothing}
@@ -257,16 +257,16 @@ feature_item_counts d count n shape e =
     let o = opened (type_of d) (λ t. only_feature t d count) (shape, n) e in
     only_feature_counts o.0 d count n shape o.2
 
-joined_counts : (ds : Items) → Counts positions (joined feature_item ds)
-unfolding joined
-joined_counts no_items count n shape e = none_counts count n shape e
-joined_counts (item d ds) count n shape e = two_count (feature_item d) (joined feature_item ds) (feature_item_counts d) (joined_counts ds) count n shape e
+parts_of_each_counts : (ds : Items) → Counts positions (parts_of_each feature_item ds)
+unfolding parts_of_each
+parts_of_each_counts no_items count n shape e = none_counts count n shape e
+parts_of_each_counts (item d ds) count n shape e = two_count (feature_item d) (parts_of_each feature_item ds) (feature_item_counts d) (parts_of_each_counts ds) count n shape e
 
 features_count : (d : Data) → Counts positions (features d)
 unfolding features
 features_count d count n shape e =
-    let o = opened (array_at (codes "features") d) (λ ds. joined feature_item ds count) (shape, n) e in
-    joined_counts o.0 count n shape o.2
+    let o = opened (array_at (codes "features") d) (λ ds. parts_of_each feature_item ds count) (shape, n) e in
+    parts_of_each_counts o.0 count n shape o.2
 
 top_counts : (t : GeoType) (d : Data) (n : ℕ) (shape : List Part) → top_of t d ≡ Ok (shape, n) → Counted 0 (positions shape) n
 top_counts Point d n shape e = geometry_counts d 0 n shape e
