@@ -1,11 +1,10 @@
 //! KEYS and SCAN: replies of many items, which are not built on once they would be too long.
 
 ghost use Rattle.std.specs.Prelude.{◌≡◌, ◌≢◌, ◌≤◌, ◌<◌, ◌+◌, ℕ, List, [], true, length, map, take, IfOk, IfErr, OnOk};
-ghost use Rattle.byte_text.specs.Globs.{is_well_formed};
+ghost use Rattle.byte_text.specs.Globs.{is_well_formed, is_sound_glob};
 ghost use Rattle.byte_text.specs.Replies.{frame_text, array, bulk};
 ghost use Rattle.byte_text.specs.declared.replies.Piece.{Piece};
 ghost use Rattle.world_data.specs.Limits.{max_reply};
-ghost use Rattle.world_data.specs.Sound.{is_sound_glob};
 ghost use Rattle.fence_model.specs.Queries.{IsPageOf, matches, page_items};
 ghost use Rattle.world_model.specs.Effects.{effect, says, within_reply};
 ghost use Rattle.world_model.specs.Replies.{page_reply, item_reply};
