@@ -10,8 +10,7 @@ ghost use Rattle.world_data.specs.Limits.{take_frames};
 
 use resp_frames::{Fed, Requests};
 use std::alloc::Global;
-use std::env;
-use std::io;
+use std::{env, io};
 use tile_core::Core;
 use world_model::{Asked, Called, Frames, Taken, Touched};
 
@@ -29,7 +28,10 @@ fn number(word: Option<String>) -> u64 {
 fn push_text(alloc: Global, all: &mut Vec<u8>, kind: &str, id: u64) -> io::Result<()> {
     let name = format!(in alloc; "truck{:012}", id)?;
     let text = match kind {
-        "set" => format!(in alloc; "*6\r\n$3\r\nSET\r\n$5\r\nfleet\r\n$17\r\n{}\r\n$5\r\nPOINT\r\n$2\r\n33\r\n$3\r\n112\r\n", name)?,
+        "set" => format!(in alloc;
+            "*6\r\n$3\r\nSET\r\n$5\r\nfleet\r\n$17\r\n{}\r\n$5\r\nPOINT\r\n$2\r\n33\r\n$3\r\n112\r\n",
+            name
+        )?,
         "get" => format!(in alloc; "*3\r\n$3\r\nGET\r\n$5\r\nfleet\r\n$17\r\n{}\r\n", name)?,
         _ => format!(in alloc; "*1\r\n$4\r\nPING\r\n")?,
     };

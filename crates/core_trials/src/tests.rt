@@ -6,12 +6,17 @@ use byte_text::{Request, Text};
 use std::alloc::Global;
 use std::test::Fail;
 use tile_core::Core;
-use world_model::{Asked, Called, Frames};
+use world_data::MAX_MOMENT;
+use world_model::{Asked, Called, Frames, Touched};
 
 // The frame that the core answers a request of session 1 with at a moment.
 fn answer(alloc: Global, core: &mut Core, moment: u64, words: Request) -> Result<Text, Fail> {
     let mut text = Text::new(alloc);
-    if core.call(1, moment, &Asked::Words(words)) != Called::Ok {
+    if words.words() == 0 || moment > MAX_MOMENT {
+        return Err(Fail::from("a trial's request is proper"));
+    }
+    let mut touched = Touched::new(alloc)?;
+    if core.call(1, moment, &Asked::Words(words), &mut touched) != Called::Ok {
         return Err(Fail::from("a call is done"));
     }
     let mut frames = Frames::new(alloc)?;

@@ -1,10 +1,10 @@
 -- RFC 7946, section 3.1: positions, lines and rings, read from left to right; the first fault met counts.
-use Rattle.std.specs.Prelude.{ℕ, ◌+◌, ℤ, nat_lt, Bool, false, List, [], ◌∷◌, length, Option, Some, None, Result, Ok, Err, if◌then◌else◌}
+use Rattle.std.specs.Prelude.{ℕ, ◌+◌, ℤ, nat_lt, List, [], ◌∷◌, length, Option, Some, None, Result, Ok, Err, if◌then◌else◌}
 use Rattle.serde_json.specs.Data.{Num, unsigned, negative, float, Data, null, boolean, number, string, array, object, Items, no_items, item}
 use Rattle.serde_json.specs.Find.{as_i64}
-use Rattle.planar_geom.specs.Points.{Point, pt, same_point, is_coordinate}
-use Rattle.planar_geom.specs.Figures.{last_of}
-use Rattle.geo_text.specs.declared.limits.TheConstants.{MAX_POSITIONS}
+use Rattle.planar_geom.specs.Points.{Point, pt, is_coordinate}
+pub use Rattle.planar_geom.specs.Figures.{is_closed}
+use Rattle.planar_geom.specs.declared.shapes.TheConstants.{MAX_POSITIONS}
 use Rattle.geo_text.specs.declared.faults.GeoFault.{GeoFault}
 use Rattle.geo_text.specs.declared.faults.GeoFault.TheVariants.{NotWhole, OutOfRange, BadRing, TooFew, TooMany, BadPosition}
 
@@ -13,10 +13,6 @@ infixl 10 ◌>>=◌
 abbrev pub ◌>>=◌ : {A B : Type 0} → Result A GeoFault → (A → Result B GeoFault) → Result B GeoFault
 (Ok x) >>= f = f x
 (Err e) >>= f = Err e
-
--- the most positions of one object
-abbrev pub max_positions : ℕ
-max_positions = MAX_POSITIONS
 
 -- a number as a coordinate of the plane
 abbrev pub within : Option ℤ → Result ℤ GeoFault
@@ -83,7 +79,7 @@ point d = do
 -- a position behind `count` others; what stands in the place of one too many is not looked at
 unfoldable pub position : Data → ℕ → Result (Point × ℕ) GeoFault
 position d count = do
-  c ← (if nat_lt count max_positions then Ok (count + 1) else Err TooMany)
+  c ← (if nat_lt count MAX_POSITIONS then Ok (count + 1) else Err TooMany)
   p ← point d
   Ok (p, c)
 
@@ -108,11 +104,6 @@ unfoldable pub line : Data → ℕ → Result (List Point × ℕ) GeoFault
 line d count = do
   ps ← positions_of d count
   if nat_lt (length ps.0) 2 then Err TooFew else Ok ps
-
--- the first of the points is the last of them too
-abbrev pub is_closed : List Point → Bool
-is_closed [] = false
-is_closed (p ∷ ps) = same_point p (last_of p ps)
 
 -- section 3.1.6, Polygon: a linear ring has four or more positions, and the first is the last
 unfoldable pub ring : Data → ℕ → Result (List Point × ℕ) GeoFault

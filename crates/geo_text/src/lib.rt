@@ -5,10 +5,8 @@
 
 mod faults;
 mod laws;
-mod limits;
 mod types;
 
 pub use faults::GeoFault;
 pub use laws::{stored_texts, texts_have_one_answer};
-pub use limits::MAX_POSITIONS;
 pub use types::{Base, GeoType};

@@ -6,22 +6,12 @@ use Rattle.std.proofs.lemmas.Str.{IsUtf8-from_is_utf8, is_utf8-from_IsUtf8}
 use Rattle.std.proofs.lemmas.Bool.{le-leb}
 use Rattle.serde_json.specs.Data.{Data}
 use Rattle.serde_json.specs.Read.{read}
-use Rattle.planar_geom.specs.declared.shapes.Part.{Part}
-use Rattle.planar_geom.specs.Shapes as shapes
 use Rattle.geo_text.specs.declared.faults.GeoFault.{GeoFault}
 use Rattle.geo_text.specs.declared.faults.GeoFault.TheVariants.{NotJson}
 use Rattle.geojson_model.specs.declared.faults.ShapeFault.{ShapeFault}
 use Rattle.geojson_model.specs.Answers.{Gives}
 use Rattle.geo_text.specs.Geometries as geo
 use Rattle.geo_text.specs.Texts.{Shape, stored_shape, shape_of_json, walked, shape_of}
-
--- parts that are no shape are none
-pub no_shape : (parts back : List Part) → ◌≡◌ {A = Result (List Part) (List Part)} (Err back) (shapes.shape_of_parts parts) → parts ≡ []
-no_shape [] back e = refl
-no_shape (p ∷ ps) back e =
-    let some : nat_lt 0 (length (p ∷ ps)) ≡ true = le-leb 1 (length (p ∷ ps)) (omega arith) in
-    let made : ◌≡◌ {A = Result (List Part) (List Part)} (Err back) (Ok (p ∷ ps)) = e ∙ rw some refl in
-    absurd (cc (made))
 
 pub walked_json : (text : List ℕ) (d : Data) (r : Result Shape ShapeFault) → IsUtf8 text → read text ≡ Some d → Gives (λ s. s) r (geo.shape d) → Gives (λ s. s) r (walked text)
 walked_json text d r utf8 is given =

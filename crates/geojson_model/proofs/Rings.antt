@@ -29,18 +29,6 @@ four_items (v ∷ w ∷ u ∷ t ∷ vs) l = refl
 
 -- ---- rings
 
--- whether a ring is closed is told by its first and its last point
-last_at : (p : Point) (ps : List Point) (d : Point) → get_or (p ∷ ps) (length ps) d ≡ last_of p ps
-last_at p [] d = refl
-last_at p (q ∷ qs) d = last_at q qs d
-
-pub closed_at : (ps : List Point) (p q : Point) → 1 ≤ length ps → p ≡ get_or ps 0 p → q ≡ get_or ps (length ps - 1) q → same_point p q ≡ is_closed ps
-closed_at [] p q l first last = absurd (omega (arith, l))
-closed_at (r ∷ rs) p q l first last =
-    let place : length (r ∷ rs) - 1 ≡ length rs = omega arith in
-    let last_is : q ≡ last_of r rs = last ∙ ap (λ k. get_or (r ∷ rs) k q) place ∙ last_at r rs q in
-    rw (first, last_is) refl
-
 by_test : {A : Type 0} (P : A → Type 0) (b : Bool) (x y : A) → (b ≡ true → P x) → (b ≡ false → P y) → P (if b then x else y)
 by_test P true x y f g = f refl
 by_test P false x y f g = g refl

@@ -46,7 +46,8 @@ pub made_from : (p q : Point) (x y : ℤ) → InPlane q → x ≡ q.x → y ≡ 
 made_from p q x y inside a b e =
     let xs : to_z w64 (of_z w64 x) ≡ q.x = ap (λ z. to_z w64 (of_z w64 z)) a ∙ to_z-of_z w64 q.x (x_fits q inside) in
     let ys : to_z w64 (of_z w64 y) ≡ q.y = ap (λ z. to_z w64 (of_z w64 z)) b ∙ to_z-of_z w64 q.y (y_fits q inside) in
-    point_made p _ _ e ∙ pt_is _ _ q.x q.y xs ys
+    let made : pt (to_z w64 (of_z w64 x)) (to_z w64 (of_z w64 y)) ≡ q = rw (xs, ys) refl in
+    point_made p (to_z w64 (of_z w64 x)) (to_z w64 (of_z w64 y)) e ∙ made
 
 same_int_is : (a b : ℤ) → same_int a b ≡ true → a ≡ b
 same_int_is a b e = let h = both_of (int_le a b) (int_le b a) e in antisym a b (true_le a b h.0) (true_le b a h.1)
@@ -59,7 +60,7 @@ same_int_is a b e = let h = both_of (int_le a b) (int_le b a) e in antisym a b (
 
 -- points that agree are one
 same_point_is : (p q : Point) → same_point p q ≡ true → p ≡ q
-same_point_is p q e = let h = both_of (same_int p.x q.x) (same_int p.y q.y) e in pt_is p.x p.y q.x q.y (same_int_is p.x q.x h.0) (same_int_is p.y q.y h.1)
+same_point_is p q e = let h = both_of (same_int p.x q.x) (same_int p.y q.y) e in rw (same_int_is p.x q.x h.0, same_int_is p.y q.y h.1) refl
 
 -- corners that agree with a box's are its corners
 pub corners_agree : (b : Bounds) (low beside high above last : Point) → Some b ≡ bounds_of low high → same_point beside (pt high.x low.y) ≡ true → same_point above (pt low.x high.y) ≡ true → same_point last b.min ≡ true

@@ -16,5 +16,5 @@ mod texts;
 
 pub use faults::ShapeFault;
 pub use geo_text::GeoFault;
-pub use shapes::{shape_of, shape_of_box, shape_of_point};
+pub use shapes::shape_of;
 pub use texts::{push_bounds, push_point};

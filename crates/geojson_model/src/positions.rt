@@ -7,9 +7,8 @@ ghost use Rattle.geojson_model.specs.Answers.{Gives};
 ghost use Rattle.geo_text.specs.Walks as walks;
 
 use crate::faults::ShapeFault;
-use crate::stored::is_same;
-use geo_text::{GeoFault, MAX_POSITIONS};
-use planar_geom::{Line, MAX_COORD, Points, Poly, Pt, Rings};
+use geo_text::GeoFault;
+use planar_geom::{Line, MAX_COORD, MAX_POSITIONS, Points, Poly, Pt, Rings};
 use serde_json::{Number, Value};
 use std::alloc::Global;
 
@@ -138,15 +137,6 @@ pub(crate) fn line(alloc: Global, value: &Value, count: u32) -> Result<(Line, u3
     }
 }
 
-fn is_closed(points: &[Pt]) -> bool
-    ensures { result ≡ walks.is_closed points.now }
-{
-    match points {
-        [] => false,
-        [first, ..] => is_same(*first, points[points.len() - 1]),
-    }
-}
-
 // A ring of four or more positions, the first of which is its last.
 #[tactic(auto, unfolding(geo_text::specs::Walks::ring))]
 fn ring(alloc: Global, value: &Value, count: u32) -> Result<(Points, u32), ShapeFault>
@@ -156,7 +146,7 @@ fn ring(alloc: Global, value: &Value, count: u32) -> Result<(Points, u32), Shape
     if points.as_slice().len() < 4 {
         return Err(ShapeFault::Refused(GeoFault::TooFew));
     }
-    if !is_closed(points.as_slice()) {
+    if !points.is_closed() {
         return Err(ShapeFault::Refused(GeoFault::BadRing));
     }
     Ok((points, count))

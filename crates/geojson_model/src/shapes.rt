@@ -1,9 +1,7 @@
 //! The shape of a text.
 
-ghost use Rattle.std.specs.Prelude.{◌≡◌, ◌∷◌, [], List, Ok, IfOk};
-ghost use Rattle.planar_geom.specs.declared.shapes.Part.{Part};
+ghost use Rattle.std.specs.Prelude.{◌≡◌, Ok, IfOk};
 ghost use Rattle.serde_json.specs.View.{view, items_view};
-ghost use Rattle.planar_geom.specs.declared.shapes.Part.TheVariants.{Spot, Face};
 ghost use Rattle.geojson_model.specs.Answers.{Gives};
 ghost use Rattle.geo_text.specs.Geometries as geo;
 ghost use Rattle.geo_text.specs.Texts as texts;
@@ -12,10 +10,9 @@ ghost use Rattle.geojson_model.specs.Behind.{behind};
 use crate::faults::ShapeFault;
 use crate::geometries::geometry;
 use crate::members::{array_at, object_only, there, type_of};
-use crate::stored::{corners, stored_bounds, stored_point};
-use byte_text::NoMemory;
+use crate::stored::{stored_bounds, stored_point};
 use geo_text::{GeoFault, GeoType};
-use planar_geom::{BBox, Part, Parts, Points, Poly, Pt, Rings, Shape};
+use planar_geom::{NoMemory, Parts, Shape};
 use serde_json::Value;
 use std::alloc::Global;
 
@@ -141,55 +138,8 @@ fn walked(alloc: Global, text: &[u8]) -> Result<Shape, ShapeFault>
     }
 }
 
-fn shape_of_part(alloc: Global, part: Part) -> Result<Shape, NoMemory>
-    ensures { IfOk result (λ s. s ≡ part ∷ []) }
-{
-    let mut parts = Parts::new(alloc);
-    if parts.push(part).is_err() {
-        return Err(NoMemory);
-    }
-    match Shape::of(parts) {
-        Ok(shape) => Ok(shape),
-        Err(_) => unreachable!(),
-    }
-}
-
-/// The shape of a point, which is that of the text stored for it.
-pub fn shape_of_point(alloc: Global, p: Pt) -> Result<Shape, NoMemory>
-    ensures { IfOk result (λ s. s ≡ Spot p ∷ []) }
-{
-    shape_of_part(alloc, Part::Spot(p))
-}
-
-fn ring_round(alloc: Global, b: BBox) -> Result<Points, NoMemory>
-    ensures { IfOk result (λ ring. ring ≡ texts.corners b) }
-{
-    let mut ring = Points::new(alloc);
-    for corner in corners(b) {
-        if ring.push(corner).is_err() {
-            return Err(NoMemory);
-        }
-    }
-    Ok(ring)
-}
-
-/// The shape of a box, which is that of the text stored for it: a face with the ring of its corners.
-pub fn shape_of_box(alloc: Global, b: BBox) -> Result<Shape, NoMemory>
-    ensures { IfOk result (λ s. s ≡ Face (texts.corners b ∷ []) ∷ []) }
-{
-    let mut rings = Rings::new(alloc);
-    if rings.push(ring_round(alloc, b)?).is_err() {
-        return Err(NoMemory);
-    }
-    match Poly::of(rings) {
-        Ok(poly) => shape_of_part(alloc, Part::Face(poly)),
-        Err(_) => unreachable!(),
-    }
-}
-
-// A shape that was made without a text.
-fn made(shape: Result<Shape, NoMemory>) -> Result<Shape, ShapeFault>
-    ensures { (parts : List Part) → IfOk shape (λ s. s ≡ parts) → Gives (λ s. s) result (Ok parts) }
+fn given(shape: Result<Shape, NoMemory>) -> Result<Shape, ShapeFault>
+    ensures { (s : geo.Shape) → IfOk shape (λ given. given ≡ s) → Gives (λ own. own) result (Ok s) }
 {
     match shape {
         Ok(shape) => Ok(shape),
@@ -203,10 +153,10 @@ pub fn shape_of(alloc: Global, text: &[u8]) -> Result<Shape, ShapeFault>
     ensures { Gives (λ s. s) result (texts.shape_of text.now) }
 {
     if let Some(p) = stored_point(text) {
-        return made(shape_of_point(alloc, p));
+        return given(Shape::point(alloc, p));
     }
     if let Some(b) = stored_bounds(text) {
-        return made(shape_of_box(alloc, b));
+        return given(Shape::rect(alloc, b));
     }
     walked(alloc, text)
 }

@@ -1,8 +1,6 @@
 //! Texts from outside, each with its shape's size or its fault.
 
-use crate::{
-    GeoFault, ShapeFault, push_bounds, push_point, shape_of, shape_of_box, shape_of_point,
-};
+use crate::{GeoFault, ShapeFault, push_bounds, push_point, shape_of};
 use byte_text::{NoMemory, Text};
 use planar_geom::{BBox, Pt, box_of};
 use std::alloc::Global;
@@ -181,8 +179,6 @@ fn stored_texts_are_read_back(rt: HostRuntime) -> Result<(), Fail> {
     let point = "{\"type\":\"Point\",\"coordinates\":[-1000000000,2]}";
     assert!(rt; text.bytes() == point.as_bytes());
     assert_eq!(rt; positions(rt.alloc(), text.bytes()), Ok(1));
-    let made = shape_of_point(rt.alloc(), low).ok().ok_or("a shape")?;
-    assert_eq!(rt; made.positions(), 1);
     let mut text = Text::new(rt.alloc());
     let bounds = BBox::of(low, high).ok_or("a box")?;
     assert_eq!(rt; push_bounds(&mut text, bounds), Ok(()));
@@ -194,8 +190,6 @@ fn stored_texts_are_read_back(rt: HostRuntime) -> Result<(), Fail> {
     assert_eq!(rt; (round.min().x(), round.min().y()), (-1_000_000_000, 2));
     assert_eq!(rt; (round.max().x(), round.max().y()), (3, 1_000_000_000));
     assert_eq!(rt; shape.positions(), 5);
-    let made = shape_of_box(rt.alloc(), bounds).ok().ok_or("a shape")?;
-    assert_eq!(rt; made.positions(), 5);
     Ok(())
 }
 

@@ -2,7 +2,7 @@
 use Rattle.std.proofs.Common.{◌≡◌, Bool, true, false, ◌||◌, List, [], ◌∷◌, refl}
 use Rattle.std.specs.Prelude.{Some, codes, if◌then◌else◌}
 use Rattle.byte_text.specs.Names.{Bytes}
-use Rattle.geo_text.specs.Texts.{joined}
+use Rattle.geo_text.specs.Texts.{with_commas}
 use Rattle.world_model.specs.Kinds.{is_in}
 use Rattle.world_model.specs.Commands.{detect_names, command_names}
 use Rattle.log_record.proofs.NormalForms.{list_reader}
@@ -18,7 +18,7 @@ three a b c = chosen a (codes "set") (chosen b (codes "del") (chosen c (codes "d
 
 -- a list of names is read as the names that it was printed of
 
-pub five_read : (a b c d e : Bool) → (a || (b || (c || (d || (e || false))))) ≡ true → list_reader detect_names (joined (five a b c d e)) ≡ Some (five a b c d e)
+pub five_read : (a b c d e : Bool) → (a || (b || (c || (d || (e || false))))) ≡ true → list_reader detect_names (with_commas (five a b c d e)) ≡ Some (five a b c d e)
 five_read true true true true true some = refl
 five_read true true true true false some = refl
 five_read true true true false true some = refl
@@ -52,7 +52,7 @@ five_read false false false true false some = refl
 five_read false false false false true some = refl
 five_read false false false false false some = absurd (cc some)
 
-pub three_read : (a b c : Bool) → (a || (b || (c || false))) ≡ true → list_reader command_names (joined (three a b c)) ≡ Some (three a b c)
+pub three_read : (a b c : Bool) → (a || (b || (c || false))) ≡ true → list_reader command_names (with_commas (three a b c)) ≡ Some (three a b c)
 three_read true true true some = refl
 three_read true true false some = refl
 three_read true false true some = refl

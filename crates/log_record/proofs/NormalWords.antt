@@ -11,7 +11,7 @@ use Rattle.byte_text.specs.Numbers.{natural_within}
 use Rattle.planar_geom.specs.Points.{Point, Bounds}
 use Rattle.planar_geom.specs.declared.shapes.Area.{Area}
 use Rattle.planar_geom.specs.declared.shapes.Area.TheVariants.{Rect, Disc, Figure}
-use Rattle.geo_text.specs.Texts.{Shape, shape_of, joined}
+use Rattle.geo_text.specs.Texts.{Shape, shape_of, with_commas}
 use Rattle.world_data.specs.Limits.{max_tests, max_meters}
 use Rattle.world_data.specs.Records.{record_words}
 use Rattle.world_data.specs.declared.channels.Channel.{Channel}
@@ -147,10 +147,10 @@ same_three None = record { set = refl; del = refl; drop = refl }
 same_three (Some l) = three_of_all l (list_all (table.wants (Some l)) table.command_names) refl
 
 abbrev five_words : Bool → Bool → Bool → Bool → Bool → List Bytes
-five_words a b c d e = if a && (b && (c && (d && (e && true)))) then [] else codes "DETECT" ∷ joined (five a b c d e) ∷ []
+five_words a b c d e = if a && (b && (c && (d && (e && true)))) then [] else codes "DETECT" ∷ with_commas (five a b c d e) ∷ []
 
 abbrev three_words : Bool → Bool → Bool → List Bytes
-three_words a b c = if a && (b && (c && true)) then [] else codes "COMMANDS" ∷ joined (three a b c) ∷ []
+three_words a b c = if a && (b && (c && true)) then [] else codes "COMMANDS" ∷ with_commas (three a b c) ∷ []
 
 module _ (A : Type 0) where
   ap3 : (f : Bool → Bool → Bool → A) (a b c x y z : Bool) → a ≡ x → b ≡ y → c ≡ z → f a b c ≡ f x y z
@@ -205,7 +205,7 @@ module _ {B : Type 0} (near : Bool) (g : table.FenceOptions → Form B) (waits :
   by_detect o tests None n rest lone some = stays (table.fence_option near) g (so_far o tests true None None n) rest
   by_detect o tests (Some l) n rest lone some =
       let w : Bytes → Bool = table.wants (Some l) in
-      leads_detect near g waits o tests n (list_all w table.detect_names) (joined (filter w table.detect_names)) (filter w table.detect_names) rest (and_false n lone)
+      leads_detect near g waits o tests n (list_all w table.detect_names) (with_commas (filter w table.detect_names)) (filter w table.detect_names) rest (and_false n lone)
       (five_read (w (codes "inside")) (w (codes "outside")) (w (codes "enter")) (w (codes "exit")) (w (codes "cross")) some)
 
   by_commands : (o : Option Bytes) (tests : List Test) (d : Option (List Bytes)) (n : Bool) (c : Option (List Bytes)) (rest : List Bytes) → IfSome c (WantsSome table.command_names)
@@ -213,7 +213,7 @@ module _ {B : Type 0} (near : Bool) (g : table.FenceOptions → Form B) (waits :
   by_commands o tests d n None rest some = stays (table.fence_option near) g (so_far o tests true d None n) rest
   by_commands o tests d n (Some l) rest some =
       let w : Bytes → Bool = table.wants (Some l) in
-      leads_commands near g waits o tests d n (list_all w table.command_names) (joined (filter w table.command_names)) (filter w table.command_names) rest
+      leads_commands near g waits o tests d n (list_all w table.command_names) (with_commas (filter w table.command_names)) (filter w table.command_names) rest
       (three_read (w (codes "set")) (w (codes "del")) (w (codes "drop")) some)
 
   grouped : (o : table.FenceOptions) (a : List Bytes) → let d = table.list_words (codes "DETECT") table.detect_names o.detect in let c = table.list_words (codes "COMMANDS") table.command_names o.commands in let n : List Bytes = if o.nodwell then codes "NODWELL" ∷ [] else [] in

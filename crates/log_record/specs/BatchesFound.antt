@@ -54,10 +54,10 @@ err_not at b e = cc e
 abbrev Behind : ℕ → Bytes → Batches → Type 0
 Behind at bytes b = Found at (open_gate ∷ bytes) b
 
-joined : (at : ℕ) (bytes : Bytes) (changes : List Change) (b others : Batches) → AreBytes bytes → length bytes < 2 ^ 64 → 8 + number_of (take 8 bytes) ≤ length bytes
+with_commas : (at : ℕ) (bytes : Bytes) (changes : List Change) (b others : Batches) → AreBytes bytes → length bytes < 2 ^ 64 → 8 + number_of (take 8 bytes) ≤ length bytes
     → AllByRecursion IsRecorded changes × (take (number_of (take 8 bytes)) (drop 8 bytes) ≡ records_text changes)
     → Found (at + 9 + number_of (take 8 bytes)) (drop (8 + number_of (take 8 bytes)) bytes) others → record { changes = changes ++ others.changes; gate = others.gate } ≡ b → Behind at bytes b
-joined at bytes changes b others are small within records rest is =
+with_commas at bytes changes b others are small within records rest is =
     let n = number_of (take 8 bytes) in
     let number : number_bytes n ≡ take 8 bytes = number_found (take 8 bytes) (omega (arith, length-take 8 bytes, within)) (all_take 8 bytes are) in
     let size : n ≡ length (records_text changes) = omega (arith, ap length records.1, length-take n (drop 8 bytes), length-drop 8 bytes, within) in
@@ -83,7 +83,7 @@ Next next = (k : ℕ) (rest : Bytes) (c : Batches) → AreBytes rest → length 
 by_others : (at : ℕ) (bytes : Bytes) (changes : List Change) (b : Batches) (r : Result Batches ℕ) → AreBytes bytes → length bytes < 2 ^ 64 → 8 + number_of (take 8 bytes) ≤ length bytes
     → AllByRecursion IsRecorded changes × (take (number_of (take 8 bytes)) (drop 8 bytes) ≡ records_text changes)
     → ((c : Batches) → r ≡ Ok c → Found (at + 9 + number_of (take 8 bytes)) (drop (8 + number_of (take 8 bytes)) bytes) c) → with_changes (Ok changes) r ≡ Ok b → Behind at bytes b
-by_others at bytes changes b (Ok c) are small within records ih e = joined at bytes changes b c are small within records (ih c refl) (ok_is (record { changes = changes ++ c.changes; gate = c.gate }) b e)
+by_others at bytes changes b (Ok c) are small within records ih e = with_commas at bytes changes b c are small within records (ih c refl) (ok_is (record { changes = changes ++ c.changes; gate = c.gate }) b e)
 by_others at bytes changes b (Err k) are small within records ih e = absurd (err_not k b e)
 
 by_records : (at : ℕ) (bytes : Bytes) (b : Batches) (r : Result (List Change) ℕ) (others : Result Batches ℕ) → AreBytes bytes → length bytes < 2 ^ 64 → 8 + number_of (take 8 bytes) ≤ length bytes

@@ -3,7 +3,7 @@
 ghost use Rattle.std.specs.Prelude.{◌≡◌, true};
 ghost use Rattle.world_data.specs.Filters.{meets_glob};
 ghost use Rattle.fence_model.specs.Queries.{meets_area, meets_query, meets_rule, near_disc};
-ghost use Rattle.world_data.specs.Sound.{is_sound_glob};
+ghost use Rattle.byte_text.specs.Globs.{is_sound_glob};
 ghost use Rattle.world_data.specs.declared.objects.Object.{Object};
 
 use byte_text::Name;

@@ -3,7 +3,7 @@
 ghost use Rattle.std.specs.Prelude.{◌≡◌, ◌≢◌, ◌<◌, ◌+◌, ◌^◌, ◌++◌, ◌∷◌, [], List, ◌&&◌, true, not, if◌then◌else◌, length, filter, reverse, slice_get, Some, nat_lt, nat_le, IfOk, OnOk};
 ghost use Rattle.fence_model.specs.Queries.{IsPageOf, matches, meets_query, page_ids, is_count};
 ghost use Rattle.world_data.specs.declared.objects.Object.{Object};
-ghost use Rattle.world_data.specs.Sound.{is_sound_glob};
+ghost use Rattle.byte_text.specs.Globs.{is_sound_glob};
 ghost use Rattle.search_query.specs.Directions.{is_down};
 ghost use Rattle.search_query.specs.Pages.{is_past, IsEnough};
 

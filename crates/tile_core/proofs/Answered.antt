@@ -23,21 +23,21 @@ never_cut Closing e = absurd (cc)
 abbrev pub seen : List Session → ℕ → Option halls.Session
 seen sessions n = find (halls.is_session n) (map session_of sessions)
 
--- a call is not served for a session that may not make it
-pub may_not : (drawn : ℕ) (sessions : List Session) (n : ℕ) → Rises 0 drawn sessions → (answer : Called) → IsServed sessions n (Err answer) → gone (seen sessions n) ≡ false → full (seen sessions n) ≡ false → ⊥
-may_not drawn sessions n r called.Gone e here room = elim e [
+-- a call of a session that may make it is refused for want of memory alone
+pub may_not : (drawn : ℕ) (sessions : List Session) (n : ℕ) → Rises 0 drawn sessions → (answer : Called) → IsServed sessions n (Err answer) → gone (seen sessions n) ≡ false → full (seen sessions n) ≡ false → answer ≡ called.Memory
+may_not drawn sessions n r called.Gone e here room = absurd (elim e [
   | inl o ↦ true≢false (sym (ap gone (none_found sessions n o)) ∙ here)
   | inr p ↦ true≢false (sym (gone_is p.1.session p.2) ∙ sym (ap gone (found 0 drawn sessions p.0 n p.1.session r p.1.here p.1.numbered)) ∙ here)
-]
+])
   where
     gone_is : (s : Session) → halls.is_live (session_of s) ≡ false → gone (Some (session_of s)) ≡ true
     gone_is s e = rw e refl
-may_not drawn sessions n r called.Full e here room = true≢false (sym e.3 ∙ sym (ap full (found 0 drawn sessions e.0 n e.1.session r e.1.here e.1.numbered)) ∙ room)
-may_not drawn sessions n r called.Ok e here room = e
-may_not drawn sessions n r called.LogFault e here room = e
-may_not drawn sessions n r called.Stopped e here room = e
-may_not drawn sessions n r called.Spent e here room = e
-may_not drawn sessions n r called.Memory e here room = e
+may_not drawn sessions n r called.Full e here room = absurd (true≢false (sym e.3 ∙ sym (ap full (found 0 drawn sessions e.0 n e.1.session r e.1.here e.1.numbered)) ∙ room))
+may_not drawn sessions n r called.Ok e here room = absurd e
+may_not drawn sessions n r called.LogFault e here room = absurd e
+may_not drawn sessions n r called.Stopped e here room = absurd e
+may_not drawn sessions n r called.Spent e here room = absurd e
+may_not drawn sessions n r called.Memory e here room = refl
 
 -- a session that was answered
 pub has_answer : (objects later : List Object) (now then logged longer drawn : ℕ) (sessions : List Session) (n i : ℕ) (s : Session) (frame : Bytes) (closes : Bool) → Rises 0 drawn sessions → slice_get sessions i ≡ Some s → s.number ≡ n

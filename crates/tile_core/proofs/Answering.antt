@@ -11,7 +11,8 @@ use Rattle.world_data.specs.Limits.{max_reply}
 use Rattle.byte_text.specs.declared.faults.RespFault.{RespFault}
 use Rattle.byte_text.specs.declared.faults.RespFault.TheVariants as resp
 use Rattle.world_model.specs.Refusals.{broken_reply}
-use Rattle.world_model.specs.Effects.{Effect, Deed, says, changes, within_reply}
+use Rattle.fence_model.specs.Writes.{Write}
+use Rattle.world_model.specs.Effects.{Effect, says, changes, within_reply}
 use Rattle.world_data.specs.declared.objects.Object.{Object}
 use Rattle.tile_core.specs.declared.moves.Move.TheVariants.{Stay}
 use Rattle.tile_core.specs.declared.plans.Plan.{Plan}
@@ -19,8 +20,8 @@ use Rattle.tile_core.specs.Kernels.{AreKept}
 use Rattle.tile_core.specs.Plans.{Says, IsPlan}
 
 -- changes behind a reply that fits
-pub within_changes : (r : List Piece) (deeds : List Deed) → length (frame_text r) ≤ max_reply → within_reply (changes r deeds) ≡ changes r deeds
-within_changes r deeds le = let t : nat_le (length (frame_text r)) max_reply ≡ true = grind (arith, nat_tests) in rw t refl
+pub within_changes : (r : List Piece) (writes : List Write) → length (frame_text r) ≤ max_reply → within_reply (changes r writes) ≡ changes r writes
+within_changes r writes le = let t : nat_le (length (frame_text r)) max_reply ≡ true = grind (arith, nat_tests) in rw t refl
 
 -- a count fits
 pub count_fits : (n : ℕ) → n < 2 ^ 64 → length (frame_text (number n)) ≤ max_reply
@@ -30,15 +31,15 @@ count_fits n lt = sizes (decimal n) (length-decimal-le 20 n (omega arith) (omega
     sizes d le = omega (arith, le, length-append (d ++ 13 ∷ 10 ∷ []) [], length-append d (13 ∷ 10 ∷ []))
 
 -- the plan of a reply and no change
-pub replies_alone : (objects : List Object) (total : ℕ) → AreKept objects total → (e : Effect) (r : List Piece) (frame : Bytes) (closes : Bool) → e ≡ record { replies = r ∷ []; subs = []; deeds = []; closes = closes } → frame ≡ frame_text r → length frame ≤ max_reply
+pub replies_alone : (objects : List Object) (total : ℕ) → AreKept objects total → (e : Effect) (r : List Piece) (frame : Bytes) (closes : Bool) → e ≡ record { replies = r ∷ []; subs = []; writes = []; closes = closes } → frame ≡ frame_text r → length frame ≤ max_reply
     → IsPlan objects e (record { frame = frame; action = Stay; length = 0; weight = total; closes = closes })
 replies_alone objects total kept e r frame closes is text short = record {
   reply = r;
-  deeds = [];
+  writes = [];
   is = is;
   frame = text;
   short = short;
-  does = record { few = tt; objects_only = tt; world = refl };
+  does = record { objects_only = tt; world = refl };
   length_is = refl;
   small = lit≤ tt;
   weight_is = kept.weighed;
@@ -65,5 +66,3 @@ broken_fits resp.BadLength = lit≤ tt
 broken_fits resp.BadEnd = lit≤ tt
 broken_fits resp.TooMany = lit≤ tt
 broken_fits resp.TooLong = lit≤ tt
-broken_fits resp.Dead = lit≤ tt
-broken_fits resp.Memory = lit≤ tt

@@ -8,12 +8,13 @@ use Rattle.byte_text.specs.Replies.{frame_text}
 use Rattle.world_data.specs.Limits.{most_logged, full_frames, full_bytes, cap_frames, cap_bytes, max_reply}
 use Rattle.ordered_lists.specs.Lists.{sorted_by}
 use Rattle.world_data.specs.Expiry.{expired, due_before}
-use Rattle.fence_model.specs.Messages.{messages}
+use Rattle.fence_model.specs.Messages.{Message, messages, loud_messages}
 use Rattle.world_data.specs.Records.{record_len}
 use Rattle.world_data.specs.Worlds.{after}
 use Rattle.world_model.specs.Served.{asks}
 use Rattle.world_model.specs.Refusals.{broken_reply}
-use Rattle.world_model.specs.Effects.{Effect, Deed, dels}
+use Rattle.fence_model.specs.Writes.{Write, dels}
+use Rattle.world_model.specs.Effects.{Effect}
 use Rattle.world_model.specs.Halls.{Hall, due, apply, apply_all, deliveries, deliveries_of, do_call, do_asked, do_words, do_effect, place, place_all, placed, change_session, close_session, closed_if, is_session}
 use Rattle.world_data.specs.Frames.{frame_bytes}
 use Rattle.world_model.specs.Halls as halls
@@ -44,18 +45,18 @@ use Rattle.tile_core.proofs.Takes.{closing}
 
 -- no channel, no message
 
-no_messages : (w : World) (c : Change) → w.channels ≡ [] → messages w c ≡ []
+no_messages : (w : World) (d : Write) → w.channels ≡ [] → messages w d ≡ []
 unfolding messages
-no_messages w c e = rw e refl
-
-no_deliveries : (w : World) (sessions : List halls.Session) (d : Deed) → w.channels ≡ [] → deliveries w sessions d ≡ []
-no_deliveries w sessions d e = by d.loud
+no_messages w d e = by d.loud
   where
-    by : (b : Bool) → (if b then deliveries_of (messages w d.change) sessions else []) ≡ []
-    by true = rw (no_messages w d.change e) refl
+    by : (b : Bool) → (if b then loud_messages w d.change else []) ≡ []
+    by true = rw e refl
     by false = refl
 
-apply_one : (h : Hall) (d : Deed) → h.world.channels ≡ [] → apply h d ≡ record h { world = after h.world d.change; logged = h.logged + record_len d.change }
+no_deliveries : (w : World) (sessions : List halls.Session) (d : Write) → w.channels ≡ [] → deliveries w sessions d ≡ []
+no_deliveries w sessions d e = ap (λ (ms : List Message). deliveries_of ms sessions) (no_messages w d e)
+
+apply_one : (h : Hall) (d : Write) → h.world.channels ≡ [] → apply h d ≡ record h { world = after h.world d.change; logged = h.logged + record_len d.change }
 unfolding apply
 apply_one h d e = ap (place_all (record h { world = after h.world d.change; logged = h.logged + record_len d.change })) (no_deliveries h.world h.sessions d e)
 
@@ -68,13 +69,13 @@ still_none w (change.SetChan c) is e = absurd is
 still_none w (change.DelChan name) is e = absurd is
 
 -- changes of objects in a world without channels place no frame
-apply_each : (h : Hall) (deeds : List Deed) → AllByRecursion (λ d. IsOfObjects d.change) deeds → h.world.channels ≡ [] → apply_all h deeds ≡ record h { world = after_all h.world deeds; logged = h.logged + records_len deeds }
+apply_each : (h : Hall) (writes : List Write) → AllByRecursion (λ d. IsOfObjects d.change) writes → h.world.channels ≡ [] → apply_all h writes ≡ record h { world = after_all h.world writes; logged = h.logged + records_len writes }
 apply_each h [] are e = ap (λ (m : ℕ). record h { logged = m }) (sym (add-zero h.logged))
-apply_each h (d ∷ deeds) are e =
+apply_each h (d ∷ writes) are e =
     let next : Hall = record h { world = after h.world d.change; logged = h.logged + record_len d.change } in
-    let sum : (h.logged + record_len d.change) + records_len deeds ≡ h.logged + (record_len d.change + records_len deeds) = omega arith in
-    ap (λ (k : Hall). apply_all k deeds) (apply_one h d e) ∙ apply_each next deeds are.1 (still_none h.world d.change are.0 e)
-    ∙ ap (λ (m : ℕ). record h { world = after_all (after h.world d.change) deeds; logged = m }) sum
+    let sum : (h.logged + record_len d.change) + records_len writes ≡ h.logged + (record_len d.change + records_len writes) = omega arith in
+    ap (λ (k : Hall). apply_all k writes) (apply_one h d e) ∙ apply_each next writes are.1 (still_none h.world d.change are.0 e)
+    ∙ ap (λ (m : ℕ). record h { world = after_all (after h.world d.change) writes; logged = m }) sum
 
 -- a change that leaves each session as it is
 same_if : (b : Bool) (f : halls.Session → halls.Session) (s : halls.Session) → f s ≡ s → (if b then f s else s) ≡ s
@@ -88,10 +89,10 @@ all_same n f (s ∷ ss) e = ap (λ (z : halls.Session). z ∷ map (λ s. if is_s
 -- the frame is placed on a session that is served and not full
 fits : (s : Session) (frame : Bytes) → is_open s ≡ true → is_full s ≡ false → length frame ≤ max_reply → placed frame (session_of s) ≡ session_of (answered frame false s)
 fits s frame lives room_ short =
-    let few : length s.outbox < full_frames = grind (arith, nat_tests) in
-    let light : frame_bytes s.outbox < full_bytes = grind (arith, nat_tests) in
-    let t : nat_lt (length s.outbox) cap_frames ≡ true = room (length s.outbox) few in
-    let u : nat_le (frame_bytes s.outbox + length frame) cap_bytes ≡ true = bytes (frame_bytes s.outbox) (length frame) light short in
+    let few : length s.outbox.frames < full_frames = grind (arith, nat_tests) in
+    let light : frame_bytes s.outbox.frames < full_bytes = grind (arith, nat_tests) in
+    let t : nat_lt (length s.outbox.frames) cap_frames ≡ true = room (length s.outbox.frames) few in
+    let u : nat_le (frame_bytes s.outbox.frames + length frame) cap_bytes ≡ true = bytes (frame_bytes s.outbox.frames) (length frame) light short in
     rw (lives, t, u) refl
   where
     room : (a : ℕ) → a < full_frames → nat_lt a cap_frames ≡ true
@@ -178,13 +179,13 @@ module _ (objects : List Object) (now logged drawn : ℕ) (sessions : List Sessi
 
   finishes : (e : Effect) (p : Plan) → IsPlan objects e p → do_effect later s.number e ≡ answered_hall (moved objects p.action) (logged + p.length) p.frame p.closes
   finishes e p is =
-      let deeds = is.deeds in
+      let writes = is.writes in
       ap (do_effect later s.number) is.is
-      ∙ ap (λ (h : Hall). closed_if p.closes s.number (apply_all (place h (s.number, frame_text is.reply)) deeds)) same_subs
-      ∙ ap (λ (f : Bytes). closed_if p.closes s.number (apply_all (place later (s.number, f)) deeds)) (sym is.frame)
-      ∙ ap (λ (h : Hall). closed_if p.closes s.number (apply_all h deeds)) (put_frame p.frame is.short)
-      ∙ ap (closed_if p.closes s.number) (apply_each (answered_hall objects logged p.frame false) deeds is.does.objects_only refl)
-      ∙ ap (λ (w : World). closed_if p.closes s.number (record (answered_hall objects logged p.frame false) { world = w; logged = logged + records_len deeds })) is.does.world
+      ∙ ap (λ (h : Hall). closed_if p.closes s.number (apply_all (place h (s.number, frame_text is.reply)) writes)) same_subs
+      ∙ ap (λ (f : Bytes). closed_if p.closes s.number (apply_all (place later (s.number, f)) writes)) (sym is.frame)
+      ∙ ap (λ (h : Hall). closed_if p.closes s.number (apply_all h writes)) (put_frame p.frame is.short)
+      ∙ ap (closed_if p.closes s.number) (apply_each (answered_hall objects logged p.frame false) writes is.does.objects_only refl)
+      ∙ ap (λ (w : World). closed_if p.closes s.number (record (answered_hall objects logged p.frame false) { world = w; logged = logged + records_len writes })) is.does.world
       ∙ ap (λ (m : ℕ). closed_if p.closes s.number (answered_hall (moved objects p.action) (logged + m) p.frame false)) (sym is.length_is)
       ∙ ends (moved objects p.action) (logged + p.length) p.frame p.closes
 
@@ -230,4 +231,4 @@ refused objects now logged drawn sessions n moment asked u r called.Ok e = absur
 refused objects now logged drawn sessions n moment asked u r called.LogFault e = absurd e
 refused objects now logged drawn sessions n moment asked u r called.Stopped e = absurd e
 refused objects now logged drawn sessions n moment asked u r called.Spent e = absurd e
-refused objects now logged drawn sessions n moment asked u r called.Memory e = absurd e
+refused objects now logged drawn sessions n moment asked u r called.Memory e = lacks objects now logged drawn sessions n moment asked u e.0 e.1.session r e.1.here e.1.numbered e.2 e.3

@@ -14,6 +14,7 @@ use Rattle.world_model.specs.Replies.{number_text}
 use Rattle.world_model.specs.Effects.{effect, says, refuses, missing, within_reply, given_and_cleared, changed_count}
 use Rattle.world_data.specs.declared.objects.Object.{Object}
 use Rattle.world_data.specs.declared.worlds.World.{World}
+use Rattle.world_model.specs.declared.faults.Refusal.TheVariants as refusal
 use Rattle.world_model.specs.declared.commands.Command.TheVariants as command
 use Rattle.tile_core.specs.Plans.{put_or_full}
 use Rattle.tile_core.proofs.FieldOrder.{there, take_more, zero_more}
@@ -23,14 +24,14 @@ use Rattle.tile_core.proofs.FieldOrder.{there, take_more, zero_more}
 pub missing_fits : (w : World) (key : Bytes) → within_reply (missing w key) ≡ missing w key
 missing_fits w key = by (list_any (has_key key) w.objects)
   where
-    by : (b : Bool) → within_reply (refuses (if b then codes "id not found" else codes "key not found")) ≡ refuses (if b then codes "id not found" else codes "key not found")
+    by : (b : Bool) → within_reply (refuses (if b then refusal.IdNotFound else refusal.KeyNotFound)) ≡ refuses (if b then refusal.IdNotFound else refusal.KeyNotFound)
     by true = refl
     by false = refl
 
-pub lacks_id : (w : World) (key : Bytes) → list_any (has_key key) w.objects ≡ true → missing w key ≡ within_reply (refuses (codes "id not found"))
+pub lacks_id : (w : World) (key : Bytes) → list_any (has_key key) w.objects ≡ true → missing w key ≡ within_reply (refuses refusal.IdNotFound)
 lacks_id w key e = rw e refl
 
-pub lacks_key : (w : World) (key : Bytes) → list_any (has_key key) w.objects ≡ false → missing w key ≡ within_reply (refuses (codes "key not found"))
+pub lacks_key : (w : World) (key : Bytes) → list_any (has_key key) w.objects ≡ false → missing w key ≡ within_reply (refuses refusal.KeyNotFound)
 lacks_key w key e = rw e refl
 
 module _ (w : World) (now : ℕ) (key id : Bytes) where
@@ -59,7 +60,7 @@ module _ (w : World) (now : ℕ) (key id : Bytes) where
         changed : (changed_count o.fields all == 0) ≡ false
         changed = grind (arith, nat_tests)
 
-        pub fset_many : max_fields < length (with_values o.fields all) → effect w now [] (command.Fset key id given cleared) ≡ within_reply (refuses (codes "too many fields"))
+        pub fset_many : max_fields < length (with_values o.fields all) → effect w now [] (command.Fset key id given cleared) ≡ within_reply (refuses refusal.TooManyFields)
         unfolding effect
         fset_many more = let t : nat_lt max_fields (length (with_values o.fields all)) ≡ true = grind (arith, nat_tests) in rw (here, changed, t) refl
 

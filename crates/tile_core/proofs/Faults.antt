@@ -31,7 +31,6 @@ IsShortFault (fault.Invalid w) = length w ≤ max_word
 IsShortFault (fault.Fraction w) = length w ≤ max_word
 IsShortFault (fault.Geo f) = Unit {0}
 IsShortFault fault.Unserved = Unit {0}
-IsShortFault fault.Memory = Unit {0}
 
 framed : (t : Bytes) → length t ≤ 2000000 → length (frame_text (error t)) ≤ max_reply
 framed t le = sizes (codes "ERR ") (lit≤ tt) le
@@ -65,7 +64,6 @@ geo_fits geo.BadRing = lit≤ tt
 geo_fits geo.TooFew = lit≤ tt
 geo_fits geo.TooMany = lit≤ tt
 geo_fits geo.BadPosition = lit≤ tt
-geo_fits geo.Memory = lit≤ tt
 
 fault_fits : (f : WordFault) → IsShortFault f → length (frame_text (fault_reply f)) ≤ max_reply
 fault_fits (fault.Unknown w) s = framed (codes "unknown command " ++ in_quotes w) (behind (codes "unknown command ") (in_quotes w) (lit≤ tt) (quotes (codes "'") w (lit≤ tt) s))
@@ -74,7 +72,6 @@ fault_fits (fault.Invalid w) s = framed (codes "invalid argument " ++ in_quotes 
 fault_fits (fault.Fraction w) s = framed (codes "coordinate is not a whole number " ++ in_quotes w) (behind (codes "coordinate is not a whole number ") (in_quotes w) (lit≤ tt) (quotes (codes "'") w (lit≤ tt) s))
 fault_fits (fault.Geo f) s = geo_fits f
 fault_fits fault.Unserved s = lit≤ tt
-fault_fits fault.Memory s = lit≤ tt
 
 -- how words are refused
 
@@ -131,6 +128,6 @@ refusal_fits words f s e = fault_fits f (by (is_served words) e)
     by true g = of_command (command_spelled words) g
     by false g = let same : fault.Unserved ≡ f = cc in subst IsShortFault same tt
 
--- of words that are refused, or where memory ran out
-pub answer_fits : (words : List Bytes) (f : WordFault) → FitsRequest words → (f ≡ fault.Memory) ⊎ (asks words ≡ Err f) → length (frame_text (fault_reply f)) ≤ max_reply
-answer_fits words f fits e = elim e [ inl m ↦ fault_fits f (subst IsShortFault (sym m) tt) | inr r ↦ refusal_fits words f fits.short r ]
+-- of words that are refused
+pub answer_fits : (words : List Bytes) (f : WordFault) → FitsRequest words → asks words ≡ Err f → length (frame_text (fault_reply f)) ≤ max_reply
+answer_fits words f fits e = refusal_fits words f fits.short e

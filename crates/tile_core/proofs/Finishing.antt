@@ -6,18 +6,18 @@ use Rattle.std.proofs.Math.ListN.{length-set}
 use Rattle.world_data.specs.Limits.{max_weight, full_frames, full_bytes}
 use Rattle.world_data.specs.Frames.{frame_bytes}
 use Rattle.world_data.specs.Worlds.{is_sorted_world, are_objects, after}
-use Rattle.world_model.specs.Effects.{Effect, Deed}
-use Rattle.world_model.specs.Laws.{ChangesKeepOrder}
+use Rattle.fence_model.specs.Writes.{Write}
+use Rattle.world_model.specs.Effects.{Effect}
+use Rattle.world_data.specs.WorldLaws.{keeps_order}
 use Rattle.world_data.specs.declared.objects.Object.{Object}
 use Rattle.world_data.specs.declared.worlds.World.{World}
 use Rattle.tile_core.specs.declared.sessions.Session.{Session}
 use Rattle.tile_core.specs.declared.plans.Plan.{Plan}
-use Rattle.tile_core.specs.Moves.{world_of, moved, HasFewFields}
+use Rattle.tile_core.specs.Moves.{world_of, moved}
 use Rattle.tile_core.specs.Sessions.{IsServed, is_full}
 use Rattle.tile_core.specs.Plans.{after_all, IsPlan}
 use Rattle.tile_core.specs.Kernels.{AreKept, ArePresent}
 use Rattle.tile_core.specs.Dues.{IsTaken}
-use Rattle.tile_core.proofs.Moving.{all_moved}
 use Rattle.tile_core.proofs.Present.{rises_set, rises_remove}
 
 -- what is read at a place where something stands
@@ -30,10 +30,10 @@ read_at (y ∷ ys) (suc i) s d at = read_at ys i s d at
 pub served_is : (sessions : List Session) (n i : ℕ) (sv : IsServed sessions n (Ok i)) (r : Session) → r ≡ get_or sessions i r → r ≡ sv.0.session
 served_is sessions n i sv r e = e ∙ read_at sessions i sv.0.session r sv.0.here
 
-pub few_frames : (s : Session) → is_full s ≡ false → length s.outbox < full_frames
+pub few_frames : (s : Session) → is_full s ≡ false → length s.outbox.frames < full_frames
 few_frames s e = grind (arith, nat_tests)
 
-pub few_bytes : (s : Session) → is_full s ≡ false → frame_bytes s.outbox < full_bytes
+pub few_bytes : (s : Session) → is_full s ≡ false → frame_bytes s.outbox.frames < full_bytes
 few_bytes s e = grind (arith, nat_tests)
 
 pub left_of : (a b : Bool) → (a && b) ≡ true → a ≡ true
@@ -43,21 +43,20 @@ pub both : (a : Bool) → a ≡ true → (a && true) ≡ true
 both a e = grind arith
 
 -- the order is kept
-sorted_all : ChangesKeepOrder → (w : World) (deeds : List Deed) → is_sorted_world w ≡ true → is_sorted_world (after_all w deeds) ≡ true
-sorted_all law w [] sorted = sorted
-sorted_all law w (d ∷ deeds) sorted = sorted_all law (after w d.change) deeds (law w d.change sorted)
+sorted_all : (w : World) (writes : List Write) → is_sorted_world w ≡ true → is_sorted_world (after_all w writes) ≡ true
+sorted_all w [] sorted = sorted
+sorted_all w (d ∷ writes) sorted = sorted_all (after w d.change) writes (keeps_order w d.change sorted)
 
 -- what is left when objects were taken out
 pub rest_kept : (old : List Object) (now total : ℕ) (xs held : List Object) (len rest : ℕ) → total ≤ max_weight → IsTaken old now total xs held len rest → AreKept xs rest
-rest_kept old now total xs held len rest light t = record { sorted = t.sorted; few = t.few; weighed = t.rest_is; light = omega (arith, light, t.small) }
+rest_kept old now total xs held len rest light t = record { sorted = t.sorted; weighed = t.rest_is; light = omega (arith, light, t.small) }
 
 -- the objects after a plan
-pub kept_after : ChangesKeepOrder → (objects : List Object) (total : ℕ) → AreKept objects total → (e : Effect) (p : Plan) → IsPlan objects e p → AreKept (moved objects p.action) p.weight
-kept_after law objects total kept e p is = record {
+pub kept_after : (objects : List Object) (total : ℕ) → AreKept objects total → (e : Effect) (p : Plan) → IsPlan objects e p → AreKept (moved objects p.action) p.weight
+kept_after objects total kept e p is = record {
   sorted =
-      let all = sorted_all law (world_of objects) is.deeds (both (are_objects objects) kept.sorted) in
+      let all = sorted_all (world_of objects) is.writes (both (are_objects objects) kept.sorted) in
       left_of (are_objects (moved objects p.action)) true (subst (λ (w : World). is_sorted_world w ≡ true) is.does.world all);
-  few = all_moved HasFewFields objects p.action is.does.few kept.few;
   weighed = is.weight_is;
   light = is.light;
 }

@@ -1,3 +1,7 @@
+mod Halving
+mod Naming
+mod Places
+mod Named
 mod Present
 mod Steps
 mod Takes

@@ -17,7 +17,7 @@ use Rattle.reply_text.specs.declared.frames.ReplyFault.{ReplyFault}
 use Rattle.reply_text.specs.declared.frames.ReplyFault.TheVariants as fault
 use Rattle.std.specs.List.{All, AllByRecursion, list_all}
 use Rattle.std.proofs.lemmas.List.Elements.{All-take, All-drop, All-filter, All-append, All-cons, All-nil, All-from_recursion, recursion_from_All}
-use Rattle.fence_model.specs.Queries.{in_order, meets_query, page_items, page_cursor, is_count, IsPageOf}
+use Rattle.fence_model.specs.Queries.{matches, in_order, meets_query, page_items, page_cursor, is_count, IsPageOf}
 use Rattle.world_data.specs.Worlds.{objects_of}
 use Rattle.world_model.specs.Effects.{effect, says, within_reply}
 use Rattle.ordered_lists.specs.Lists.{distinct}
@@ -34,7 +34,6 @@ use Rattle.world_data.specs.declared.queries.Rule.TheVariants as rule
 use Rattle.collection.specs.Objects.{id_before, has_id, are_by_id}
 use Rattle.byte_text.specs.ByteOrder.{other_before, same_refl}
 use Rattle.ordered_lists.specs.Reading.{both_of}
-use Rattle.search_query.specs.Found.{found}
 use Rattle.tile_core.specs.Listings.{keys_met, joined, AreItems, IsTooLong}
 
 pub one_more : {A : Type 0} (xs : List A) (i : ℕ) (x : A) → slice_get xs i ≡ Some x → take (i + 1) xs ≡ take i xs ++ x ∷ []
@@ -176,8 +175,8 @@ all_in_order P (rule.Kept kind a) objects all = all
 all_in_order P rule.Nearest objects all = all
 
 -- each object of a page is the first of its id
-pub page_first : (q : Query) (objects : List Object) → are_by_id objects ≡ true → All (IsFirst objects) (page_items q (found q objects))
-page_first q objects by_id = All-take (IsFirst objects) q.limit (drop q.cursor (found q objects)) (All-drop (IsFirst objects) q.cursor (found q objects)
+pub page_first : (q : Query) (objects : List Object) → are_by_id objects ≡ true → All (IsFirst objects) (page_items q (matches q objects))
+page_first q objects by_id = All-take (IsFirst objects) q.limit (drop q.cursor (matches q objects)) (All-drop (IsFirst objects) q.cursor (matches q objects)
     (all_in_order (IsFirst objects) q.rule (filter (meets_query q) objects) (All-filter (meets_query q) (IsFirst objects) objects (All-from_recursion (IsFirst objects) objects (all_first objects by_id)))))
 
 not_count : (s : Shown) → s ≢ shown.Count → is_count s ≡ false
@@ -196,10 +195,10 @@ unmapped (o ∷ objects) (suc i) id e = unmapped objects i id e
 all_at : (P : Object → Type 0) (objects : List Object) (i : ℕ) (o : Object) → All P objects → slice_get objects i ≡ Some o → P o
 all_at P objects i o all e = subst P (get_or_from_slice_get objects i o o e) (all i o (slice_get_within objects i o e))
 
-module _ (q : Query) (objects : List Object) (page : Page) (i : ℕ) (id : Bytes) (paged : IsPageOf q (found q objects) page) (other : q.shown ≢ shown.Count)
+module _ (q : Query) (objects : List Object) (page : Page) (i : ℕ) (id : Bytes) (paged : IsPageOf q (matches q objects) page) (other : q.shown ≢ shown.Count)
     (by_id : are_by_id objects ≡ true) (at : slice_get page.ids i ≡ Some id) where
   abbrev items : List Object
-  items = page_items q (found q objects)
+  items = page_items q (matches q objects)
 
   ids_are : page.ids ≡ map (λ o. o.id) items
   ids_are = paged.ids ∙ rw (not_count q.shown other) refl
@@ -215,7 +214,7 @@ module _ (q : Query) (objects : List Object) (page : Page) (i : ℕ) (id : Bytes
   unfolding paged_object
   paged_found = subst (λ n. find (has_id n) objects ≡ Some paged_object) item.2 (all_at (IsFirst objects) items i item.0 (page_first q objects by_id) item.1)
 
-  pub paged_more : map (item_reply q) (take (i + 1) (page_items q (found q objects))) ≡ map (item_reply q) (take i (page_items q (found q objects))) ++ item_reply q paged_object ∷ []
+  pub paged_more : map (item_reply q) (take (i + 1) (page_items q (matches q objects))) ≡ map (item_reply q) (take i (page_items q (matches q objects))) ++ item_reply q paged_object ∷ []
   unfolding paged_object
   paged_more = ap (map (item_reply q)) (one_more items i item.0 item.1) ∙ map-append (item_reply q) (take i items) (item.0 ∷ [])
 
@@ -235,7 +234,7 @@ pub same_object : {o p : Object} → Some o ≡ Some p → o ≡ p
 same_object {o} {p} e = grind arith
 
 module _ (w : World) (now : ℕ) where
-  pub scanned : (key : Bytes) (q : Query) → effect w now [] (command.Scan key q) ≡ within_reply (says (page_reply q (found q (objects_of w key))))
+  pub scanned : (key : Bytes) (q : Query) → effect w now [] (command.Scan key q) ≡ within_reply (says (page_reply q (matches q (objects_of w key))))
   unfolding effect
   scanned key q = refl
 

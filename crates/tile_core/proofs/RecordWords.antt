@@ -34,6 +34,14 @@ fields_next (g ∷ fs) (suc i) f at =
 next_field : (fs : List Field) (i : ℕ) (f : Field) → slice_get fs i ≡ Some f → words_len (flat_map field_words (take (i + 1) fs)) ≡ words_len (flat_map field_words (take i fs)) + words_len (field_words f)
 next_field fs i f at = let one : i + 1 ≡ suc i = omega arith in ap (λ (n : ℕ). words_len (flat_map field_words (take n fs))) one ∙ fields_next fs i f at
 
+bulk_size : (w : Bytes) → length (bulk_text w) ≡ length (line 36 (decimal (length w))) + (length w + 2)
+bulk_size w = omega (arith, length-append (line 36 (decimal (length w))) (w ++ 13 ∷ 10 ∷ []), length-append w (13 ∷ 10 ∷ []))
+
+-- each word has a byte at least
+words_long : (ws : List Bytes) → length ws ≤ words_len ws
+words_long [] = omega arith
+words_long (w ∷ ws) = omega (arith, words_long ws, words_cons w ws, bulk_size w)
+
 -- the record of a put
 pub put_count : (o : Object) → length (record_words (change.Put o)) ≡ 5 + 3 * length o.fields + length (deadline_words o.deadline)
 put_count o =
@@ -71,8 +79,11 @@ field_step fs i sum n name value lt named valued before now =
     there (y ∷ ys) zero lt = (y, refl)
     there (y ∷ ys) (suc j) lt = there ys j (omega (arith, lt))
 
-bulk_size : (w : Bytes) → length (bulk_text w) ≡ length (line 36 (decimal (length w))) + (length w + 2)
-bulk_size w = omega (arith, length-append (line 36 (decimal (length w))) (w ++ 13 ∷ 10 ∷ []), length-append w (13 ∷ 10 ∷ []))
+-- an object has no more fields than its record has bytes
+pub fields_weigh : (o : Object) → length o.fields ≤ record_len (change.Put o)
+fields_weigh o =
+    let words = record_words (change.Put o) in
+    omega (arith, length-append (line 42 (decimal (length words))) (flat_map bulk_text words), put_count o, words_long words)
 
 -- the record of a del is no longer than that of the put which it undoes
 pub del_short : (o : Object) → HasFewFields o → record_len (change.Del o.key o.id) ≤ record_len (change.Put o)
@@ -98,8 +109,8 @@ bare_short o m is few =
     let x : Object = record o { deadline = None } in
     let count = length (record_words (change.Put x)) in
     let more = length (record_words (change.Put o)) in
-    let below : count < 10 ^ 3 = omega (arith, put_count x, few) in
-    let head = length-decimal-le 3 count (omega arith) below (omega (arith, below)) in
+    let below : count < 10 ^ 10 = omega (arith, put_count x, few) in
+    let head = length-decimal-le 10 count (omega arith) below (omega (arith, below)) in
     let size : length (bulk_text (codes "AT")) ≡ length (line 36 (decimal 2)) + 4 = bulk_size (codes "AT") in
     let words : words_len (deadline_words o.deadline) ≡ words_len (codes "AT" ∷ decimal m ∷ []) = ap (λ (d : Option ℕ). words_len (deadline_words d)) is in
-    omega (arith, put_record x count refl, put_record o more refl, head, length-append (decimal count) (13 ∷ 10 ∷ []), length-append (decimal more) (13 ∷ 10 ∷ []), size, words, words_cons (codes "AT") (decimal m ∷ []))
+    omega (arith, put_record x count refl, put_record o more refl, head, bulk_size (decimal m), words_cons (decimal m) [], length-append (decimal 2) (13 ∷ 10 ∷ []), length-append (decimal (length (decimal m))) (13 ∷ 10 ∷ []), length-append (decimal count) (13 ∷ 10 ∷ []), length-append (decimal more) (13 ∷ 10 ∷ []), size, words, words_cons (codes "AT") (decimal m ∷ []))

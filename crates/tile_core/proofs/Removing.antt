@@ -6,7 +6,8 @@ use Rattle.std.proofs.lemmas.Bool.Decides.{nat_tests}
 use Rattle.byte_text.specs.Names.{Bytes}
 use Rattle.byte_text.specs.Replies.{fine, number}
 use Rattle.world_data.specs.Worlds.{object_at, objects_of, has_key}
-use Rattle.world_model.specs.Effects.{effect, says, changes, loud, quiet, dels, within_reply}
+use Rattle.fence_model.specs.Writes.{loud, quiet, dels}
+use Rattle.world_model.specs.Effects.{effect, says, changes, within_reply}
 use Rattle.world_data.specs.declared.objects.Object.{Object}
 use Rattle.world_data.specs.declared.worlds.World.{World}
 use Rattle.world_data.specs.declared.worlds.Change.TheVariants as change

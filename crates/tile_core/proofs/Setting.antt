@@ -16,6 +16,7 @@ use Rattle.world_data.specs.declared.objects.Object.{Object}
 use Rattle.world_data.specs.declared.worlds.World.{World}
 use Rattle.world_data.specs.declared.worlds.Change.TheVariants as change
 use Rattle.world_model.specs.declared.commands.Command.TheVariants as command
+use Rattle.world_model.specs.declared.faults.Refusal.TheVariants as refusal
 use Rattle.world_model.specs.declared.commands.Only.{Only}
 use Rattle.tile_core.specs.Moves.{world_of, len_of}
 use Rattle.tile_core.specs.Plans.{put_or_full}
@@ -29,11 +30,11 @@ module _ (w : World) (only : Only) (old : Option Object) (o : Object) where
   put_null e = rw e refl
 
   module _ (free : is_kept_back only old ≡ false) where
-    put_many : nat_lt max_fields (length o.fields) ≡ true → put_effect w only old o ≡ refuses (codes "too many fields")
+    put_many : nat_lt max_fields (length o.fields) ≡ true → put_effect w only old o ≡ refuses refusal.TooManyFields
     put_many e = rw (free, e) refl
 
     module _ (few : nat_lt max_fields (length o.fields) ≡ false) where
-      put_full : (is_none old && nat_le max_objects (length w.objects)) ≡ true → put_effect w only old o ≡ refuses (codes "too many objects")
+      put_full : (is_none old && nat_le max_objects (length w.objects)) ≡ true → put_effect w only old o ≡ refuses refusal.TooManyObjects
       put_full e = rw (free, few, e) refl
 
       put_rest : (is_none old && nat_le max_objects (length w.objects)) ≡ false → within_reply (put_effect w only old o) ≡ put_or_full w o fine true
@@ -82,14 +83,14 @@ module _ (xs : List Object) (x : Object) (given : List Field) (cleared : List By
     all_is = setting_is ∙ ap (λ (fs : List Field). within_reply (put_effect (world_of xs) only old (whole fs (deadline_after now seconds)))) (sym fields_are)
         ∙ ap (λ (d : Option ℕ). within_reply (put_effect (world_of xs) only old (whole fields d))) (sym deadline_is)
 
-    pub many : max_fields < length fields → setting ≡ within_reply (refuses (codes "too many fields"))
+    pub many : max_fields < length fields → setting ≡ within_reply (refuses refusal.TooManyFields)
     many more = let t : nat_lt max_fields (length fields) ≡ true = grind (arith, nat_tests) in all_is ∙ ap within_reply (put_many (world_of xs) only old (whole fields deadline) free t)
 
     module _ (less : length fields ≤ max_fields) where
       few : nat_lt max_fields (length fields) ≡ false
       few = grind (arith, nat_tests)
 
-      pub full : is_none r ≡ true → max_objects ≤ length xs → setting ≡ within_reply (refuses (codes "too many objects"))
+      pub full : is_none r ≡ true → max_objects ≤ length xs → setting ≡ within_reply (refuses refusal.TooManyObjects)
       full n le =
           let t : nat_le max_objects (length xs) ≡ true = grind (arith, nat_tests) in
           let u : (is_none old && nat_le max_objects (length xs)) ≡ true = rw (is_new r ∙ n, t) refl in
@@ -112,7 +113,7 @@ module _ (xs : List Object) (x : Object) (given : List Field) (cleared : List By
 
 -- a put, by the weight behind it
 module _ (xs : List Object) (x : Object) (reply : List Piece) (is_loud : Bool) where
-  pub heavy : max_weight < weight (world_of (put_in object_before x xs)) → put_or_full (world_of xs) x reply is_loud ≡ within_reply (refuses (codes "database is full"))
+  pub heavy : max_weight < weight (world_of (put_in object_before x xs)) → put_or_full (world_of xs) x reply is_loud ≡ within_reply (refuses refusal.DatabaseFull)
   heavy more = let t : nat_le (weight (world_of (put_in object_before x xs))) max_weight ≡ false = grind (arith, nat_tests) in rw t refl
 
   pub done : weight (world_of (put_in object_before x xs)) ≤ max_weight → length (frame_text reply) ≤ max_reply → put_or_full (world_of xs) x reply is_loud ≡ changes reply (record { change = change.Put x; loud = is_loud } ∷ [])

@@ -8,7 +8,7 @@ use Rattle.std.proofs.lemmas.List.Sums.{sum_by-cons, sum_by-append}
 use Rattle.byte_text.specs.Names.{Bytes, same}
 use Rattle.byte_text.specs.Globs.{glob_meets}
 use Rattle.world_data.specs.Worlds.{is_at, has_key}
-use Rattle.world_model.specs.Effects.{Deed, dels}
+use Rattle.fence_model.specs.Writes.{Write, dels}
 use Rattle.world_data.specs.declared.objects.Object.{Object}
 use Rattle.byte_text.specs.ByteOrder.{same_refl, same_equal}
 use Rattle.tile_core.specs.declared.deletes.Swept.{Swept}
@@ -58,7 +58,7 @@ dels_short (x ∷ xs) few = let ih = dels_short xs few.1 in let one = del_short 
 
 -- the dels, one after another
 
-pub of_objects : (xs : List Object) → AllByRecursion (λ (d : Deed). IsOfObjects d.change) (dels xs)
+pub of_objects : (xs : List Object) → AllByRecursion (λ (d : Write). IsOfObjects d.change) (dels xs)
 of_objects [] = tt
 of_objects (x ∷ xs) = (tt, of_objects xs)
 

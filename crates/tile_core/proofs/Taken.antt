@@ -8,7 +8,7 @@ use Rattle.ordered_lists.specs.Lists.{put_in, sorted_by}
 use Rattle.world_data.specs.Worlds.{after, object_before, has_key, is_at}
 use Rattle.world_data.specs.Records.{record_len, weight}
 use Rattle.world_data.specs.Expiry.{is_due, due_before}
-use Rattle.world_model.specs.Effects.{dels}
+use Rattle.fence_model.specs.Writes.{dels}
 use Rattle.ordered_lists.specs.Ascending.{ascends-filter}
 use Rattle.byte_text.specs.ByteOrder.{same_refl}
 use Rattle.world_data.specs.declared.objects.Object.{Object}
@@ -22,7 +22,7 @@ use Rattle.tile_core.specs.Dues.{AreCalm, IsTaken, IsTakenOut, HaveRoom, with_ba
 use Rattle.tile_core.proofs.Moving.{all_filtered}
 use Rattle.tile_core.proofs.RecordWords.{del_short}
 use Rattle.tile_core.proofs.Standing.{back_there, found_holds, found_sum, shorter}
-use Rattle.tile_core.proofs.Weights.{weight_sum, taken_sum}
+use Rattle.tile_core.proofs.Weights.{have_few, weight_sum, taken_sum}
 
 -- each record has a byte at least
 pub as_heavy : (xs : List Object) → length xs ≤ weight (world_of xs)
@@ -114,7 +114,7 @@ none_due calm now (x ∷ xs) ps lt = rw (far x.deadline refl) (none_due calm now
 -- the taking
 
 pub taken_none : (old : List Object) (now total : ℕ) → AreKept old total → IsTaken old now total old [] 0 total
-taken_none old now total kept = record { back = refl; order = refl; world = refl; sorted = kept.sorted; few = kept.few; length_is = refl; rest_is = kept.weighed; small = omega arith; count = omega arith }
+taken_none old now total kept = record { back = refl; order = refl; world = refl; sorted = kept.sorted; few = have_few old total kept; length_is = refl; rest_is = kept.weighed; small = omega arith; count = omega arith }
 
 module _ (old : List Object) (now total : ℕ) (xs held : List Object) (len rest : ℕ) (t : IsTaken old now total xs held len rest) where
   one_more : (o : Object) (longer less : ℕ) → find (is_at o.key o.id) xs ≡ Some o

@@ -12,7 +12,7 @@ use Rattle.tile_core.specs.declared.sessions.Stage.{Stage}
 use Rattle.tile_core.specs.declared.sessions.Stage.TheVariants.{Live, Closing}
 use Rattle.tile_core.specs.declared.sessions.Session.{Session}
 use Rattle.tile_core.specs.Moves.{world_of}
-use Rattle.tile_core.specs.Sessions.{session_of, is_open, closed, Rises, AreOthers}
+use Rattle.tile_core.specs.Sessions.{session_of, taken_from, is_open, closed, Rises, AreOthers}
 use Rattle.tile_core.specs.Kernels.{hall_of}
 use Rattle.tile_core.proofs.Present.{found, none_found, none_removed, removed, changed, unchanged}
 use Rattle.tile_core.proofs.Steps.{take_absent, take_ended, take_empty, take_given, close_done, remove_done}
@@ -46,17 +46,17 @@ module _ (objects : List Object) (now logged drawn : ℕ) (sessions : List Sessi
   remove_absent o = subst (λ (ss : List halls.Session). Step hall (Remove n) Done (hall_with ss)) (none_removed sessions n o) (remove_done hall n refl)
 
   module _ (i : ℕ) (s : Session) (rises : Rises 0 drawn sessions) (at : slice_get sessions i ≡ Some s) (numbered : s.number ≡ n) where
-    pub empty : is_open s ≡ true → length s.outbox ≡ 0 → Step hall (Take n) Empty hall
+    pub empty : is_open s ≡ true → length s.outbox.frames ≡ 0 → Step hall (Take n) Empty hall
     empty l e = take_empty hall n (session_of s) refl (found 0 drawn sessions i n s rises at numbered) l e
 
-    pub ended : is_open s ≡ false → length s.outbox ≡ 0 → Step hall (Take n) Ended (hall_of objects now logged drawn (remove sessions i))
+    pub ended : is_open s ≡ false → length s.outbox.frames ≡ 0 → Step hall (Take n) Ended (hall_of objects now logged drawn (remove sessions i))
     ended l e = subst (λ (ss : List halls.Session). Step hall (Take n) Ended (hall_with ss)) (removed 0 drawn sessions i n s rises at numbered) (take_ended hall n (session_of s) refl (found 0 drawn sessions i n s rises at numbered) l e)
 
-    pub given : (v : Session) → v ≡ record s { outbox = drop take_frames s.outbox } → 0 < length s.outbox
-        → Step hall (Take n) (Given (take take_frames s.outbox)) (hall_of objects now logged drawn (slice_set sessions i v))
+    pub given : (v : Session) → v ≡ taken_from s → 0 < length s.outbox.frames
+        → Step hall (Take n) (Given (take take_frames s.outbox.frames)) (hall_of objects now logged drawn (slice_set sessions i v))
     given v is some =
         let left : halls.Session → halls.Session = λ t. record t { frames = drop take_frames t.frames } in
-        subst (λ (ss : List halls.Session). Step hall (Take n) (Given (take take_frames s.outbox)) (hall_with ss)) (changed left 0 drawn sessions i n s v rises at numbered (ap session_of (sym is))) (take_given hall n (session_of s) refl (found 0 drawn sessions i n s rises at numbered) some)
+        subst (λ (ss : List halls.Session). Step hall (Take n) (Given (take take_frames s.outbox.frames)) (hall_with ss)) (changed left 0 drawn sessions i n s v rises at numbered (ap session_of (sym is))) (take_given hall n (session_of s) refl (found 0 drawn sessions i n s rises at numbered) some)
 
     pub close_present : (v : Session) → v ≡ closed s → Step hall (Close n) Done (hall_of objects now logged drawn (slice_set sessions i v))
     close_present v is = subst (λ (ss : List halls.Session). Step hall (Close n) Done (hall_with ss)) (changed closing 0 drawn sessions i n s v rises at numbered (closing_is s ∙ ap session_of (sym is))) (close_done hall n refl)

@@ -18,7 +18,7 @@ use Rattle.tile_core.specs.Kernels.{AreKept}
 use Rattle.tile_core.specs.Moves.{world_of, len_of, HasFewFields}
 use Rattle.tile_core.specs.Plans.{put_or_full, without_deadline}
 use Rattle.tile_core.proofs.RecordWords.{bare_short}
-use Rattle.tile_core.proofs.Weights.{weight_sum, changed_sum, found_own}
+use Rattle.tile_core.proofs.Weights.{have_few, weight_sum, changed_sum, found_own}
 use Rattle.tile_core.proofs.Standing.{found_holds}
 
 module _ (w : World) (now : ℕ) (key id : Bytes) where
@@ -77,7 +77,7 @@ bare_already o e = by o.deadline refl
 pub bare_fits : (xs : List Object) (total : ℕ) → AreKept xs total → (key id : Bytes) (o : Object) (m : ℕ) → object_at (world_of xs) key id ≡ Some o → o.deadline ≡ Some m → fits (world_of xs) (change.Put (record o { deadline = None })) ≡ true
 bare_fits xs total kept key id o m here is =
     let x : Object = record o { deadline = None } in
-    let short = bare_short o m is (found_holds (is_at key id) o HasFewFields xs here kept.few) in
+    let short = bare_short o m is (found_holds (is_at key id) o HasFewFields xs here (have_few xs total kept)) in
     let sum = changed_sum len_of x xs o kept.sorted (found_own key id xs o here) in
     let less : weight (world_of (put_in object_before x xs)) ≤ max_weight = omega (arith, sum, short, weight_sum xs, weight_sum (put_in object_before x xs), kept.weighed, kept.light) in
     grind (arith, nat_tests)

@@ -10,8 +10,11 @@ use Rattle.world_data.specs.Records.{weight}
 use Rattle.world_data.specs.declared.objects.Object.{Object}
 use Rattle.byte_text.specs.ByteOrder.{before_tie, before_self, same_refl, same_equal}
 use Rattle.ordered_lists.specs.NameOrder.{pair_asym}
+use Rattle.tile_core.specs.Kernels.{AreKept}
 use Rattle.tile_core.specs.Moves.{world_of, len_of, HasFewFields, HaveFewFields}
+use Rattle.world_data.specs.Limits.{max_weight}
 use Rattle.tile_core.proofs.FieldOrder.{take_more}
+use Rattle.tile_core.proofs.RecordWords.{fields_weigh}
 
 -- the order of objects, and the one of a key and an id
 
@@ -193,3 +196,11 @@ few_at (x ∷ xs) (suc i) o few at = few_at xs i o few.1 at
 -- some of the objects
 pub some_sum : (p : Object → Bool) (xs : List Object) → sum_by len_of (filter p xs) ≤ sum_by len_of xs
 some_sum p xs = omega (arith, parts_sum len_of p xs)
+
+-- none of them has more fields than all have bytes
+few_under : (xs : List Object) → sum_by len_of xs ≤ max_weight → HaveFewFields xs
+few_under [] le = tt
+few_under (x ∷ xs) le = (omega (arith, fields_weigh x, le, sum_by-cons len_of x xs), few_under xs (omega (arith, le, sum_by-cons len_of x xs)))
+
+pub have_few : (xs : List Object) (total : ℕ) → AreKept xs total → HaveFewFields xs
+have_few xs total kept = few_under xs (omega (arith, weight_sum xs, kept.weighed, kept.light))

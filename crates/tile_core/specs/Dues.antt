@@ -6,7 +6,7 @@ use Rattle.ordered_lists.specs.Lists.{sorted_by, put_in}
 use Rattle.world_data.specs.Worlds.{object_before, are_objects, has_key, is_at}
 use Rattle.world_data.specs.Records.{weight, record_len}
 use Rattle.world_data.specs.Expiry.{is_due, due_before}
-use Rattle.world_model.specs.Effects.{dels}
+use Rattle.fence_model.specs.Writes.{dels}
 use Rattle.world_data.specs.declared.objects.Object.{Object}
 use Rattle.world_data.specs.declared.worlds.Change.TheVariants as change
 use Rattle.keyspace.specs.Entries.{Entry, room_for}

@@ -2,7 +2,7 @@
 use Rattle.std.specs.Prelude.{◌≡◌, ℕ, ◌≤◌, true, not, List, [], ◌∷◌, length, filter}
 use Rattle.std.specs.List.{AllByRecursion}
 use Rattle.byte_text.specs.Names.{Bytes}
-use Rattle.world_data.specs.Limits.{max_fields}
+use Rattle.world_data.specs.Limits.{max_weight}
 use Rattle.ordered_lists.specs.Lists.{put_in}
 use Rattle.world_data.specs.Worlds.{object_before, has_key, is_at}
 use Rattle.world_data.specs.Records.{record_len}
@@ -25,9 +25,10 @@ world_in entries = world_of (objects_in entries)
 abbrev pub len_of : Object → ℕ
 len_of o = record_len (change.Put o)
 
--- an object has no more fields than it may have
+-- an object has no more fields than all records of a world may have bytes; so it is of each object of a world that is not too heavy, also
+-- of one that has more fields than a command may give it
 abbrev pub HasFewFields : Object → Type 0
-HasFewFields o = length o.fields ≤ max_fields
+HasFewFields o = length o.fields ≤ max_weight
 
 abbrev pub HaveFewFields : List Object → Type 0
 HaveFewFields objects = AllByRecursion HasFewFields objects

@@ -2,7 +2,7 @@
 use Rattle.std.specs.Prelude.{◌≡◌, ℕ, ◌+◌, List, [], ◌∷◌, ◌++◌, filter, map, sum_by}
 use Rattle.byte_text.specs.Names.{Bytes}
 use Rattle.byte_text.specs.Globs.{glob_meets}
-use Rattle.world_model.specs.Effects.{dels}
+use Rattle.fence_model.specs.Writes.{dels}
 use Rattle.world_data.specs.declared.objects.Object.{Object}
 use Rattle.tile_core.specs.declared.deletes.Swept.{Swept}
 use Rattle.tile_core.specs.Moves.{len_of}

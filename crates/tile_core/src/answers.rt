@@ -1,7 +1,6 @@
 //! Answers: the frames of replies, and plans that change nothing.
 
 ghost use Rattle.std.specs.Prelude.{◌≡◌, ◌≤◌, length, IfOk};
-ghost use Rattle.byte_text.specs.Lines.{IsOneLine};
 ghost use Rattle.byte_text.specs.Replies.{IsFrame, frame_text, number};
 ghost use Rattle.world_data.specs.Limits.{max_reply};
 ghost use Rattle.world_model.specs.Effects.{says, refuses, within_reply};
@@ -9,8 +8,9 @@ ghost use Rattle.tile_core.specs.Plans.{Replies, Says};
 
 use crate::plans::Plan;
 use byte_text::{NoMemory, Reply, Text};
-use reply_text::{ReplyFault, count_reply, error_reply, push_reply};
+use reply_text::{ReplyFault, count_reply, push_reply, refusal_reply};
 use std::alloc::Global;
+use world_model::Refusal;
 
 /// The frame of a reply that is short enough for one.
 pub(crate) fn short_frame(alloc: Global, reply: &Reply) -> Result<Text, NoMemory>
@@ -34,7 +34,10 @@ fn frame_of(alloc: Global, reply: &Reply) -> Result<Text, NoMemory>
     let mut frame = Text::new(alloc);
     match push_reply(&mut frame, reply) {
         Ok(()) => Ok(frame),
-        Err(ReplyFault::TooLong) => short_frame(alloc, &error_reply(alloc, b"reply too long")?),
+        Err(ReplyFault::TooLong) => short_frame(
+            alloc,
+            &refusal_reply(alloc, Refusal::ReplyTooLong)?,
+        ),
         Err(ReplyFault::Memory) => Err(NoMemory),
     }
 }
@@ -54,10 +57,9 @@ pub(crate) fn say_count(alloc: Global, weight: u64, count: u64) -> Result<Plan, 
     say(alloc, weight, &count_reply(alloc, count)?)
 }
 
-/// The plan that refuses with this text.
-pub(crate) fn say_error(alloc: Global, weight: u64, text: &[u8]) -> Result<Plan, NoMemory>
-    requires { IsOneLine text.now }
-    ensures { IfOk result (λ p. Says (within_reply (refuses text.now)) weight p) }
+/// The plan that refuses.
+pub(crate) fn say_refusal(alloc: Global, weight: u64, refusal: Refusal) -> Result<Plan, NoMemory>
+    ensures { IfOk result (λ p. Says (within_reply (refuses refusal)) weight p) }
 {
-    say(alloc, weight, &error_reply(alloc, text)?)
+    say(alloc, weight, &refusal_reply(alloc, refusal)?)
 }

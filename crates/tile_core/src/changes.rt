@@ -11,16 +11,17 @@ ghost use Rattle.tile_core.specs.Kernels.{AreKept};
 ghost use Rattle.tile_core.specs.Moves.{world_in};
 ghost use Rattle.tile_core.specs.Plans.{IsPlan};
 
-use crate::answers::{say, say_count, say_error};
+use crate::answers::{say, say_count, say_refusal};
 use crate::fields::with_values;
 use crate::plans::Plan;
-use crate::puts::{MAX_FIELDS, plan_put};
+use crate::puts::plan_put;
 use byte_text::{Name, NoMemory};
 use field_filter::value_of;
 use keyspace::Keyspace;
 use reply_text::{count_reply, value_reply};
 use std::alloc::Global;
-use world_model::{Fields, NameList};
+use world_data::MAX_FIELDS;
+use world_model::{Fields, NameList, Refusal};
 
 // Whether there is an object of the key.
 fn has_key(objects: &Keyspace, key: &Name) -> bool
@@ -38,9 +39,9 @@ fn plan_missing(alloc: Global, objects: &Keyspace, total: u64, key: &Name) -> Re
     ensures { IfOk result (λ p. IsPlan (objects_in objects.now) (missing (world_in objects.now) key.now) p) }
 {
     if has_key(objects, key) {
-        say_error(alloc, total, b"id not found")
+        say_refusal(alloc, total, Refusal::IdNotFound)
     } else {
-        say_error(alloc, total, b"key not found")
+        say_refusal(alloc, total, Refusal::KeyNotFound)
     }
 }
 
@@ -106,7 +107,7 @@ pub(crate) fn plan_fset(
     let mut object = old.copy(alloc)?;
     object.fields = with_values(alloc, old.fields.copy(alloc)?, given, cleared)?;
     if object.fields.len() > MAX_FIELDS {
-        return say_error(alloc, total, b"too many fields");
+        return say_refusal(alloc, total, Refusal::TooManyFields);
     }
     plan_put(alloc, objects, total, object, &count_reply(alloc, count)?)
 }

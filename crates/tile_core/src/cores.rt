@@ -1,31 +1,26 @@
 //! The core and its calls.
 
-ghost use Rattle.std.specs.Prelude.{◌≡◌, ◌⊎◌, ◌≤◌, ◌+◌, ◌*◌, [], length};
-ghost use Rattle.world_data.specs.Limits.{take_frames, max_weight};
+ghost use Rattle.std.specs.Prelude.{◌≡◌, true, ◌⊎◌, ◌≤◌, ◌+◌, ◌*◌, ◌<◌, ◌++◌, ◌∷◌, [], false, length, if◌then◌else◌};
+ghost use Rattle.world_data.specs.Limits.{max_moment, max_sessions, max_weight, take_frames};
 ghost use Rattle.world_data.specs.Worlds.{empty_world};
 ghost use Rattle.world_model.specs.Histories.{Step, opening_hall};
-ghost use Rattle.world_model.specs.Seats.{enter_outcome, take_outcome, given_count};
+ghost use Rattle.world_model.specs.Outcomes.{enter_outcome, take_outcome, given_count, is_proper};
+ghost use Rattle.world_model.specs.Halls.{NamesChanged};
 ghost use Rattle.world_model.specs.declared.events.Event.TheVariants as event;
 ghost use Rattle.world_model.specs.declared.events.Outcome.TheVariants as outcome;
 ghost use Rattle.tile_core.specs.Kernels.{Kernel};
-ghost use Rattle.tile_core.specs.Answered.{MayCall, IsAnswered};
+ghost use Rattle.tile_core.specs.Answered.{MayCall, IsAnswered, AreSessions, StayNamed, is_named};
 
 use crate::dues::{expire, release};
 use crate::moves::make_move;
 use crate::ready::{Ready, calm_after, make_ready};
-use crate::sessions::{Session, Stage, position_of, served};
-use byte_text::NoMemory;
+use crate::sessions::{Session, Stage, position_of, ready_session};
 use keyspace::Keyspace;
 use std::alloc::Global;
 use std::marker::Model;
 use subscriber_queue::Outbox;
-use world_model::{Asked, Called, EnterFault, Frames, Taken, world_laws};
-
-/// The most sessions that are present at once.
-const MAX_SESSIONS: usize = 512;
-
-/// From this length of the log on no call is made.
-const MOST_LOGGED: u64 = 1 << 60;
+use world_data::{MAX_SESSIONS, MOST_DRAWN, MOST_LOGGED};
+use world_model::{Asked, Called, EnterFault, Frames, Taken, Touched};
 
 /// A world and the sessions that are served.
 #[derive(Drop)]
@@ -50,7 +45,7 @@ impl Model for Core {
 
     ghost view = { λ c. record { hall = hall_of (objects_in c.objects) c.clock c.logged c.drawn c.sessions.items } };
 
-    ghost invariant = { λ c. IsSound (objects_in c.objects) c.weight c.calm c.drawn c.sessions.items };
+    ghost invariant = { λ c. IsSound (objects_in c.objects) c.weight c.calm c.clock c.drawn c.sessions.items };
 }
 
 impl Core {
@@ -90,19 +85,16 @@ impl Core {
     /// drawn. For want of memory the core is as before.
     pub fn enter(&mut self) -> Result<u32, EnterFault>
         ensures step { Step self.old.hall event.Enter (enter_outcome result) self.new.hall }
+        ensures stopped { self.new.hall.stopped ≡ self.old.hall.stopped }
         ensures logged { self.new.hall.logged ≡ self.old.hall.logged }
     {
-        if self.sessions.len() >= MAX_SESSIONS || self.drawn == u32::MAX {
+        if self.sessions.len() >= MAX_SESSIONS || self.drawn == MOST_DRAWN {
             return Err(EnterFault::TooMany);
         }
-        let outbox = match Outbox::new(self.alloc) {
-            Ok(outbox) => outbox,
-            Err(NoMemory) => return Err(EnterFault::Memory),
-        };
         let number = self.drawn + 1;
         let session = Session {
             number,
-            outbox,
+            outbox: Outbox::new(self.alloc),
             stage: Stage::Live,
         };
         if self.sessions.push(session).is_err() {
@@ -119,6 +111,7 @@ impl Core {
         ensures step { Step self.old.hall (event.Take session) (take_outcome result into.new.list) self.new.hall }
         ensures count { given_count result ≡ length into.new.list }
         ensures places { into.new.places ≡ take_frames }
+        ensures stopped { self.new.hall.stopped ≡ self.old.hall.stopped }
         ensures logged { self.new.hall.logged ≡ self.old.hall.logged }
     {
         let Some(at) = position_of(self.sessions.as_slice(), session) else {
@@ -136,9 +129,22 @@ impl Core {
 
     /// Makes a call of a session at a moment: the objects that are due then are deleted, what is asked is done, and its reply
     /// is put last in the session's queue. A broken protocol, as QUIT, lets the session end behind the reply. For want of
-    /// memory the core is as before.
-    pub fn call(&mut self, session: u32, moment: u64, asked: &Asked) -> Called
+    /// memory the core is as before. Each session that it changes is named in `touched`, beside those that are named there.
+    pub fn call(
+        &mut self,
+        session: u32,
+        moment: u64,
+        asked: &Asked,
+        touched: &mut Touched,
+    ) -> Called
+        requires moment { moment ≤ max_moment }
+        requires proper { is_proper asked.now ≡ true }
+        requires room { AreSessions touched.old self.old.hall }
         ensures step { Step self.old.hall (event.Call session moment asked.now) (outcome.Answered result) self.new.hall }
+        ensures stopped { self.new.hall.stopped ≡ self.old.hall.stopped }
+        ensures named { NamesChanged touched.new self.old.hall self.new.hall }
+        ensures kept { StayNamed touched.old touched.new }
+        ensures room { AreSessions touched.new self.new.hall }
         ensures logged { self.new.hall.logged ≤ self.old.hall.logged + 2 * max_weight }
         ensures done { MayCall self.old.hall session → (result ≡ Called.Ok) ⊎ (result ≡ Called.Memory) }
         ensures answered { result ≡ Called.Ok → IsAnswered self.old.hall self.new.hall session }
@@ -146,7 +152,7 @@ impl Core {
         if self.logged >= MOST_LOGGED {
             return Called::Spent;
         }
-        let at = match served(self.sessions.as_slice(), session) {
+        let at = match ready_session(self.sessions.as_mut_slice(), session) {
             Ok(at) => at,
             Err(answer) => return answer,
         };
@@ -162,7 +168,6 @@ impl Core {
         let Ok(Ready { gone, plan }) = ready else {
             return Called::Memory;
         };
-        world_laws();
         self.clock = now;
         self.sessions[at].answer(plan.frame, plan.closes);
         self.calm = calm_after(gone.calm, &plan.action);
@@ -170,12 +175,20 @@ impl Core {
         release(&mut self.objects, gone.held);
         self.weight = plan.weight;
         self.logged += gone.length + plan.length;
+        name_session(touched, session);
         Called::Ok
     }
 
     /// Lets the clock go on to a moment, and deletes the objects that are due then. For want of memory the core is as before.
-    pub fn tick(&mut self, moment: u64) -> Called
+    /// Each session that it changes is named, beside those that are named there; so far it changes none.
+    pub fn tick(&mut self, moment: u64, _touched: &mut Touched) -> Called
+        requires moment { moment ≤ max_moment }
+        requires room { AreSessions _touched.old self.old.hall }
         ensures step { Step self.old.hall (event.Tick moment) (outcome.Answered result) self.new.hall }
+        ensures stopped { self.new.hall.stopped ≡ self.old.hall.stopped }
+        ensures named { NamesChanged _touched.new self.old.hall self.new.hall }
+        ensures kept { StayNamed _touched.old _touched.new }
+        ensures room { AreSessions _touched.new self.new.hall }
         ensures logged { self.new.hall.logged ≤ self.old.hall.logged + max_weight }
     {
         if self.logged >= MOST_LOGGED {
@@ -197,6 +210,7 @@ impl Core {
     /// Lets a session end behind the frames that it has.
     pub fn close_session(&mut self, session: u32)
         ensures step { Step self.old.hall (event.Close session) outcome.Done self.new.hall }
+        ensures stopped { self.new.hall.stopped ≡ self.old.hall.stopped }
         ensures logged { self.new.hall.logged ≡ self.old.hall.logged }
     {
         if let Some(at) = position_of(self.sessions.as_slice(), session) {
@@ -207,10 +221,21 @@ impl Core {
     /// Takes a session away with its frames.
     pub fn remove_session(&mut self, session: u32)
         ensures step { Step self.old.hall (event.Remove session) outcome.Done self.new.hall }
+        ensures stopped { self.new.hall.stopped ≡ self.old.hall.stopped }
         ensures logged { self.new.hall.logged ≡ self.old.hall.logged }
     {
         if let Some(at) = position_of(self.sessions.as_slice(), session) {
             self.sessions.remove(at);
         }
+    }
+}
+
+// Names a session, where it is not named yet and there is room.
+fn name_session(touched: &mut Touched, session: u32)
+    requires { is_named touched.old session ≡ false → length touched.old < max_sessions }
+    ensures { touched.new ≡ (if is_named touched.old session then touched.old else touched.old ++ session ∷ []) }
+{
+    if !touched.names(session) {
+        touched.add(session);
     }
 }

@@ -1,6 +1,7 @@
 //! EXPIRE, PERSIST and TTL: the deadline of an object is set, taken away and told.
 
-ghost use Rattle.std.specs.Prelude.{◌≡◌, ℕ, [], IfOk};
+ghost use Rattle.std.specs.Prelude.{◌≡◌, ◌≤◌, ℕ, [], IfOk};
+ghost use Rattle.world_data.specs.Limits.{max_moment};
 ghost use Rattle.world_model.specs.Effects.{effect};
 ghost use Rattle.world_model.specs.Replies.{seconds_left};
 ghost use Rattle.world_model.specs.declared.commands.Command.TheVariants as command;
@@ -28,14 +29,15 @@ pub(crate) fn plan_expire(
     id: &Name,
     seconds: u32,
 ) -> Result<Plan, NoMemory>
-    requires { AreKept (objects_in objects.now) total }
+    requires kept { AreKept (objects_in objects.now) total }
+    requires moment { now ≤ max_moment }
     ensures { IfOk result (λ p. IsPlan (objects_in objects.now) (effect (world_in objects.now) now [] (command.Expire key.now id.now seconds)) p) }
 {
     let Some(old) = objects.get(key, id) else {
         return say_count(alloc, total, 0);
     };
     let mut object = old.copy(alloc)?;
-    object.deadline = deadline_after(now, Some(seconds))?;
+    object.deadline = deadline_after(now, Some(seconds));
     plan_put(alloc, objects, total, object, &count_reply(alloc, 1)?)
 }
 

@@ -2,7 +2,7 @@
 
 ghost use Rattle.std.specs.Prelude.{◌≡◌, ◌≤◌, ◌+◌, ◌^◌, Bool, Option, Some, None, [], is_some, option_map, length, IfOk};
 ghost use Rattle.byte_text.specs.Replies.{IsFrame, frame_text};
-ghost use Rattle.world_data.specs.Limits.{max_reply};
+ghost use Rattle.world_data.specs.Limits.{max_moment, max_reply};
 ghost use Rattle.ordered_lists.specs.Lists.{put_in};
 ghost use Rattle.world_data.specs.Worlds.{object_before};
 ghost use Rattle.world_data.specs.Records.{weight};
@@ -14,7 +14,7 @@ ghost use Rattle.tile_core.specs.Kernels.{AreKept};
 ghost use Rattle.tile_core.specs.Moves.{world_in, world_of, HasFewFields, len_of};
 ghost use Rattle.tile_core.specs.Plans.{IsPlan, put_or_full};
 
-use crate::answers::{say, say_error, short_frame};
+use crate::answers::{say, say_refusal, short_frame};
 use crate::fields::with_values;
 use crate::moves::Move;
 use crate::plans::Plan;
@@ -23,16 +23,8 @@ use byte_text::{NoMemory, Reply};
 use keyspace::Keyspace;
 use reply_text::{fine_reply, null_reply};
 use std::alloc::Global;
-use world_model::{Fields, NameList, Object, Only};
-
-/// The most fields of an object.
-pub(crate) const MAX_FIELDS: usize = 256;
-
-/// The most objects of a world.
-const MAX_OBJECTS: usize = 1_000_000;
-
-/// The most bytes of the records of all objects together.
-const MAX_WEIGHT: u64 = 536_870_912;
+use world_data::{MAX_FIELDS, MAX_OBJECTS, MAX_WEIGHT};
+use world_model::{Fields, NameList, Object, Only, Refusal};
 
 // Whether NX or XX keeps an object back, where one is there or not.
 fn keeps_back(only: Only, is_there: bool) -> bool
@@ -49,7 +41,7 @@ fn keeps_back(only: Only, is_there: bool) -> bool
 fn weight_after(objects: &Keyspace, total: u64, object: &Object, length: u64) -> u64
     requires kept { AreKept (objects_in objects.now) total }
     requires length { length ≡ len_of object.now }
-    requires short { length ≤ 2 ^ 63 + 300000 }
+    requires short { length ≤ 2 ^ 63 + 2 ^ 39 }
     ensures { result ≡ weight (world_of (put_in object_before object.now (objects_in objects.now))) }
 {
     match objects.get(&object.key, &object.id) {
@@ -75,7 +67,7 @@ pub(crate) fn plan_put(
     let length = put_len(&object);
     let weight = weight_after(objects, total, &object, length);
     if weight > MAX_WEIGHT {
-        return say_error(alloc, total, b"database is full");
+        return say_refusal(alloc, total, Refusal::DatabaseFull);
     }
     Ok(Plan {
         frame: short_frame(alloc, reply)?,
@@ -86,16 +78,14 @@ pub(crate) fn plan_put(
     })
 }
 
-/// The deadline that EX gives. One that no `u64` holds has room in no memory.
-pub(crate) fn deadline_after(now: u64, seconds: Option<u32>) -> Result<Option<u64>, NoMemory>
-    ensures { IfOk result (λ d. d ≡ deadline_after now seconds) }
+/// The deadline that EX gives.
+pub(crate) fn deadline_after(now: u64, seconds: Option<u32>) -> Option<u64>
+    requires { now ≤ max_moment }
+    ensures { result ≡ deadline_after now seconds }
 {
-    let Some(seconds) = seconds else {
-        return Ok(None);
-    };
-    match now.checked_add(1000 * u64::from(seconds)) {
-        Some(deadline) => Ok(Some(deadline)),
-        None => Err(NoMemory),
+    match seconds {
+        Some(seconds) => Some(now + 1000 * u64::from(seconds)),
+        None => None,
     }
 }
 
@@ -120,7 +110,8 @@ pub(crate) fn plan_set(
     only: Only,
     object: Object,
 ) -> Result<Plan, NoMemory>
-    requires { AreKept (objects_in objects.now) total }
+    requires kept { AreKept (objects_in objects.now) total }
+    requires moment { now ≤ max_moment }
     ensures { IfOk result (λ p. IsPlan (objects_in objects.now) (effect (world_in objects.now) now [] (command.Set object.key object.id object.fields cleared.now seconds only object.text object.shape)) p) }
 {
     let old = objects.get(&object.key, &object.id);
@@ -131,17 +122,17 @@ pub(crate) fn plan_set(
     let fields = fields_of(alloc, old)?;
     let whole = Object {
         fields: with_values(alloc, fields, &object.fields, cleared)?,
-        deadline: deadline_after(now, seconds)?,
+        deadline: deadline_after(now, seconds),
         key: object.key,
         id: object.id,
         text: object.text,
         shape: object.shape,
     };
     if whole.fields.len() > MAX_FIELDS {
-        return say_error(alloc, total, b"too many fields");
+        return say_refusal(alloc, total, Refusal::TooManyFields);
     }
     if is_new && objects.len() >= MAX_OBJECTS {
-        return say_error(alloc, total, b"too many objects");
+        return say_refusal(alloc, total, Refusal::TooManyObjects);
     }
     plan_put(alloc, objects, total, whole, &fine_reply(alloc)?)
 }

@@ -3,6 +3,7 @@
 
 ghost use Rattle.std.specs.Prelude.{◌≡◌, ◌≤◌, IfOk, OnErr};
 ghost use Rattle.byte_text.specs.Names.{Bytes};
+ghost use Rattle.world_data.specs.Limits.{max_moment};
 ghost use Rattle.keyspace.specs.Entries.{objects_in, room_for};
 ghost use Rattle.tile_core.specs.Dues.{IsCalm, AreCalm, IsExpired};
 ghost use Rattle.tile_core.specs.Kernels.{AreKept};
@@ -33,7 +34,8 @@ fn plan_with_room(
     now: u64,
     asked: &Asked,
 ) -> Result<Plan, NoMemory>
-    requires { AreKept (objects_in objects.old) total }
+    requires kept { AreKept (objects_in objects.old) total }
+    requires moment { now ≤ max_moment }
     ensures objects { objects_in objects.new ≡ objects_in objects.old }
     ensures kept { (key : Bytes) → room_for objects.old key ≤ room_for objects.new key }
     ensures plan { IfOk result (λ p. IsPlan (objects_in objects.old) (effect_of_asked (world_in objects.old) now asked.now) p) }
@@ -54,6 +56,7 @@ pub(crate) fn make_ready(
     asked: &Asked,
 ) -> Result<Ready, NoMemory>
     requires kept { AreKept (objects_in objects.old) total }
+    requires moment { now ≤ max_moment }
     requires calm { AreCalm calm (objects_in objects.old) }
     ensures expired { IfOk result (λ r. IsExpired (objects_in objects.old) now total (objects_in objects.new) r.gone) }
     ensures plan { IfOk result (λ r. IsPlan (objects_in objects.new) (effect_of_asked (world_in objects.new) now asked.now) r.plan) }

@@ -2,7 +2,7 @@
 
 ghost use Rattle.std.specs.Prelude.{◌≡◌, ◌≤◌, ◌+◌, ◌*◌, ◌^◌, length, decimal, flat_map};
 ghost use Rattle.byte_text.specs.Lines.{line, bulk_text};
-ghost use Rattle.world_data.specs.Limits.{max_fields};
+ghost use Rattle.world_data.specs.Limits.{max_weight};
 ghost use Rattle.world_data.specs.Records.{record_len, field_words, deadline_words};
 ghost use Rattle.world_data.specs.declared.worlds.Change.TheVariants as change;
 ghost use Rattle.tile_core.specs.Moves.{HasFewFields};
@@ -46,9 +46,9 @@ fn field_len(name: &Name, value: i64) -> u64
 
 // The bytes of the words of all fields.
 fn fields_len(fields: &Fields) -> u64
-    requires { length fields.now ≤ max_fields }
+    requires { length fields.now ≤ max_weight }
     ensures value { result ≡ words_len (flat_map field_words fields.now) }
-    ensures short { result ≤ 200000 }
+    ensures short { result ≤ 2 ^ 38 }
 {
     let mut sum = 0;
     for i in 0..fields.len() {
@@ -83,7 +83,7 @@ fn deadline_len(deadline: Option<u64>) -> u64
 pub(crate) fn put_len(object: &Object) -> u64
     requires { HasFewFields object.now }
     ensures value { result ≡ record_len (change.Put object.now) }
-    ensures short { result ≤ 2 ^ 63 + 300000 }
+    ensures short { result ≤ 2 ^ 63 + 2 ^ 39 }
 {
     let count = 5 + 3 * object.fields.len() as u64 + deadline_count(object.deadline);
     let names = name_len(&object.key) + name_len(&object.id);

@@ -1,8 +1,8 @@
 //! What a request will do.
 
-ghost use Rattle.std.specs.Prelude.{◌≢◌, ◌≤◌, ℕ, [], length, IfOk};
+ghost use Rattle.std.specs.Prelude.{◌≤◌, ℕ, [], length, IfOk};
 ghost use Rattle.byte_text.specs.Replies.{frame_text};
-ghost use Rattle.world_data.specs.Limits.{max_reply};
+ghost use Rattle.world_data.specs.Limits.{max_moment, max_reply};
 ghost use Rattle.world_model.specs.Effects.{effect, says};
 ghost use Rattle.world_model.specs.Refusals.{fault_reply as fault_pieces, broken_reply as broken_pieces};
 ghost use Rattle.world_model.specs.Served.{asks};
@@ -22,7 +22,7 @@ use crate::puts::plan_set;
 use crate::reads::{plan_bounds, plan_get, plan_stats};
 use crate::scans::{plan_keys, plan_scan};
 use byte_text::{NoMemory, Request, RespFault};
-use cmd_words::{command_of, served_commands};
+use cmd_words::{CommandFault, command_of, served_commands};
 use keyspace::Keyspace;
 use reply_text::{broken_reply, fault_reply, fine_reply, status_reply};
 use std::alloc::Global;
@@ -54,6 +54,7 @@ fn plan_command(
     command: Command,
 ) -> Result<Plan, NoMemory>
     requires kept { AreKept (objects_in objects.now) total }
+    requires moment { now ≤ max_moment }
     requires served { IsServed command }
     ensures { IfOk result (λ p. IsPlan (objects_in objects.now) (effect (world_in objects.now) now [] command) p) }
 {
@@ -118,7 +119,6 @@ fn plan_fault(
     fault: &WordFault,
 ) -> Result<Plan, NoMemory>
     requires kept { AreKept (objects_in _objects.now) total }
-    requires fault { fault.now ≢ WordFault.Memory }
     requires short { length (frame_text (fault_pieces fault.now)) ≤ max_reply }
     ensures { IfOk result (λ p. IsPlan (objects_in _objects.now) (says (fault_pieces fault.now)) p) }
 {
@@ -148,7 +148,8 @@ fn plan_words(
     now: u64,
     words: &Request,
 ) -> Result<Plan, NoMemory>
-    requires { AreKept (objects_in objects.now) total }
+    requires kept { AreKept (objects_in objects.now) total }
+    requires moment { now ≤ max_moment }
     ensures { IfOk result (λ p. IsPlan (objects_in objects.now) (effect_of_read (world_in objects.now) now (asks words.now)) p) }
 {
     served_commands();
@@ -156,8 +157,8 @@ fn plan_words(
     let _count = words.words();
     match command_of(alloc, words) {
         Ok(command) => plan_command(alloc, objects, total, now, command),
-        Err(WordFault::Memory) => Err(NoMemory),
-        Err(fault) => plan_fault(alloc, objects, total, &fault),
+        Err(CommandFault::Refused(fault)) => plan_fault(alloc, objects, total, &fault),
+        Err(CommandFault::Memory) => Err(NoMemory),
     }
 }
 
@@ -169,7 +170,8 @@ pub(crate) fn plan_asked(
     now: u64,
     asked: &Asked,
 ) -> Result<Plan, NoMemory>
-    requires { AreKept (objects_in objects.now) total }
+    requires kept { AreKept (objects_in objects.now) total }
+    requires moment { now ≤ max_moment }
     ensures { IfOk result (λ p. IsPlan (objects_in objects.now) (effect_of_asked (world_in objects.now) now asked.now) p) }
 {
     match asked {

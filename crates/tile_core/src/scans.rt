@@ -1,15 +1,14 @@
 //! KEYS and SCAN: replies of many items, which are not built on once they would be too long.
 
 ghost use Rattle.std.specs.Prelude.{◌≡◌, ◌≢◌, ◌≤◌, ◌<◌, ◌+◌, ℕ, List, [], true, length, map, take, IfOk, IfErr, OnOk};
-ghost use Rattle.byte_text.specs.Globs.{is_well_formed};
+ghost use Rattle.byte_text.specs.Globs.{is_well_formed, is_sound_glob};
 ghost use Rattle.byte_text.specs.Replies.{frame_text, array, bulk};
 ghost use Rattle.byte_text.specs.declared.replies.Piece.{Piece};
 ghost use Rattle.world_data.specs.Limits.{max_reply};
-ghost use Rattle.fence_model.specs.Queries.{IsPageOf, page_items};
+ghost use Rattle.fence_model.specs.Queries.{IsPageOf, matches, page_items};
 ghost use Rattle.world_model.specs.Effects.{effect, says, within_reply};
 ghost use Rattle.world_model.specs.Replies.{page_reply, item_reply};
 ghost use Rattle.world_model.specs.declared.commands.Command.TheVariants as command;
-ghost use Rattle.search_query.specs.Found.{found, IsGlob};
 ghost use Rattle.keyspace.specs.Entries.{objects_in};
 ghost use Rattle.tile_core.specs.Kernels.{AreKept};
 ghost use Rattle.tile_core.specs.Moves.{world_in};
@@ -22,10 +21,10 @@ use byte_text::{Name, NoMemory, Text};
 use collection::Collection;
 use glob_match::glob_meets;
 use keyspace::Keyspace;
-use reply_text::{ItemFrames, ReplyFault, count_reply, error_reply};
+use reply_text::{ItemFrames, ReplyFault, count_reply, refusal_reply};
 use search_query::page;
 use std::alloc::Global;
-use world_model::{Page, Query, Rule, Shown};
+use world_model::{Page, Query, Refusal, Rule, Shown};
 
 // The frame of a reply, or of the refusal where it would be too long.
 fn or_refusal(alloc: Global, frame: Result<Text, ReplyFault>) -> Result<Text, NoMemory>
@@ -33,7 +32,10 @@ fn or_refusal(alloc: Global, frame: Result<Text, ReplyFault>) -> Result<Text, No
 {
     match frame {
         Ok(frame) => Ok(frame),
-        Err(ReplyFault::TooLong) => short_frame(alloc, &error_reply(alloc, b"reply too long")?),
+        Err(ReplyFault::TooLong) => short_frame(
+            alloc,
+            &refusal_reply(alloc, Refusal::ReplyTooLong)?,
+        ),
         Err(ReplyFault::Memory) => Err(NoMemory),
     }
 }
@@ -98,11 +100,11 @@ fn push_found(
     i: usize,
 ) -> Result<(), ReplyFault>
     requires shown { query.now.shown ≢ Shown.Count }
-    requires page { IsPageOf query.now (found query.now objects.now.objects) page.now }
+    requires page { IsPageOf query.now (matches query.now objects.now.objects) page.now }
     requires within { i < length page.now.ids }
-    requires items { AreItems (map (item_reply query.now) (take i (page_items query.now (found query.now objects.now.objects)))) items.old }
-    ensures ok { OnOk result (AreItems (map (item_reply query.now) (take (i + 1) (page_items query.now (found query.now objects.now.objects)))) items.new) }
-    ensures too_long { IfErr result (IsTooLong (joined (map (item_reply query.now) (take (i + 1) (page_items query.now (found query.now objects.now.objects)))))) }
+    requires items { AreItems (map (item_reply query.now) (take i (page_items query.now (matches query.now objects.now.objects)))) items.old }
+    ensures ok { OnOk result (AreItems (map (item_reply query.now) (take (i + 1) (page_items query.now (matches query.now objects.now.objects)))) items.new) }
+    ensures too_long { IfErr result (IsTooLong (joined (map (item_reply query.now) (take (i + 1) (page_items query.now (matches query.now objects.now.objects)))))) }
 {
     // What stands by id is known where the objects are counted.
     let _count = objects.len();
@@ -120,9 +122,9 @@ fn page_frame(
     page: &Page,
 ) -> Result<Text, ReplyFault>
     requires shown { query.now.shown ≢ Shown.Count }
-    requires page { IsPageOf query.now (found query.now objects.now.objects) page.now }
-    ensures ok { IfOk result (λ t. (t ≡ frame_text (page_reply query.now (found query.now objects.now.objects))) × (length t ≤ max_reply)) }
-    ensures too_long { IfErr result (IsTooLong (page_reply query.now (found query.now objects.now.objects))) }
+    requires page { IsPageOf query.now (matches query.now objects.now.objects) page.now }
+    ensures ok { IfOk result (λ t. (t ≡ frame_text (page_reply query.now (matches query.now objects.now.objects))) × (length t ≤ max_reply)) }
+    ensures too_long { IfErr result (IsTooLong (page_reply query.now (matches query.now objects.now.objects))) }
 {
     let mut items = ItemFrames::new(alloc);
     for i in 0..page.ids.len() {
@@ -138,9 +140,9 @@ fn plan_page(
     total: u64,
     query: &Query,
 ) -> Result<Plan, NoMemory>
-    requires pattern { IsGlob query.now.glob }
+    requires pattern { is_sound_glob query.now.glob ≡ true }
     requires by_id { query.now.rule ≢ Rule.Nearest }
-    ensures { IfOk result (Says (within_reply (says (page_reply query.now (found query.now objects.now.objects)))) total) }
+    ensures { IfOk result (Says (within_reply (says (page_reply query.now (matches query.now objects.now.objects)))) total) }
 {
     let mut found = Page::new(alloc);
     page(alloc, objects, query, &mut found)?;
@@ -160,7 +162,7 @@ pub(crate) fn plan_scan(
     query: &Query,
 ) -> Result<Plan, NoMemory>
     requires kept { AreKept (objects_in objects.now) total }
-    requires pattern { IsGlob query.now.glob }
+    requires pattern { is_sound_glob query.now.glob ≡ true }
     requires by_id { query.now.rule ≢ Rule.Nearest }
     ensures { IfOk result (λ p. (now : ℕ) → IsPlan (objects_in objects.now) (effect (world_in objects.now) now [] (command.Scan key.now query.now)) p) }
 {

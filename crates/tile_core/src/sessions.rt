@@ -1,20 +1,14 @@
 //! The sessions that are present, in the order of their numbers.
 
-ghost use Rattle.std.specs.Prelude.{◌≡◌, ◌≢◌, ◌<◌, ◌≤◌, [], ℕ, length, drop, take, min, Some, IfSome, IfNone, slice_get};
+ghost use Rattle.std.specs.Prelude.{◌≡◌, ◌<◌, ◌≤◌, [], true, length, drop, take, min, nat_lt, map, IfSome, IfNone, IfOk, OnOk};
 ghost use Rattle.world_data.specs.Limits.{full_frames, full_bytes, max_reply, take_frames};
 ghost use Rattle.world_data.specs.Frames.{frame_bytes};
-ghost use Rattle.tile_core.specs.declared.sessions.Session.{Session};
-ghost use Rattle.tile_core.specs.Sessions.{IsAt, IsServed, is_full, is_open, answered, closed};
+ghost use Rattle.tile_core.specs.Sessions.{IsAt, IsServed, AreOthers, HasPlace, are_rising, session_of, is_full, is_open, answered, closed, taken_from};
 
-use byte_text::Text;
+use byte_text::{NoMemory, Text};
 use subscriber_queue::Outbox;
+use world_data::{FULL_BYTES, FULL_FRAMES};
 use world_model::{Called, Frames};
-
-/// From this many frames on a session is full.
-const FULL_FRAMES: usize = 1024;
-
-/// From this many bytes of frames on a session is full.
-const FULL_BYTES: u64 = 2_097_152;
 
 /// Whether a session is served, or is to end behind the frames that it has.
 #[derive(Clone, Copy, Debug, PartialEq, Eq)]
@@ -49,11 +43,20 @@ impl Session {
         }
     }
 
-    /// Puts the frame of an answer last in its queue, for which a session that is not full has room, and where the answer
-    /// closes it lets it end behind its frames.
+    /// Takes room for one more frame in its queue. The frames stay, also for want of memory.
+    pub(crate) fn make_place(&mut self) -> Result<(), NoMemory>
+        ensures same { session_of self.new ≡ session_of self.old }
+        ensures room { OnOk result (1 ≤ self.new.outbox.spare) }
+    {
+        self.outbox.reserve(1)
+    }
+
+    /// Puts the frame of an answer last in its queue, in a place of the room, and where the answer closes it lets it end behind
+    /// its frames. A session that is not full keeps the limits of its queue then.
     pub(crate) fn answer(&mut self, frame: Text, closes: bool)
-        requires frames { length self.old.outbox < full_frames }
-        requires bytes { frame_bytes self.old.outbox < full_bytes }
+        requires frames { length self.old.outbox.frames < full_frames }
+        requires bytes { frame_bytes self.old.outbox.frames < full_bytes }
+        requires room { 1 ≤ self.old.outbox.spare }
         requires short { length frame ≤ max_reply }
         ensures { self.new ≡ answered frame closes self.old }
     {
@@ -76,30 +79,39 @@ impl Session {
     /// Moves the first frames of its queue into `into`, and answers their number.
     pub(crate) fn take_frames(&mut self, into: &mut Frames) -> usize
         requires { into.old ≡ record { list = []; places = take_frames } }
-        ensures given { into.new ≡ record { list = take take_frames self.old.outbox; places = take_frames } }
-        ensures left { self.new ≡ record self.old { outbox = drop take_frames self.old.outbox } }
-        ensures count { result ≡ min take_frames (length self.old.outbox) }
+        ensures given { into.new ≡ record { list = take take_frames self.old.outbox.frames; places = take_frames } }
+        ensures left { self.new ≡ taken_from self.old }
+        ensures count { result ≡ min take_frames (length self.old.outbox.frames) }
     {
         self.outbox.take(into)
     }
 }
 
-/// Where the session of this number stands.
+/// Where the session of this number stands, found by halving, as their numbers rise.
 pub(crate) fn position_of(sessions: &[Session], number: u32) -> Option<usize>
+    requires { are_rising sessions.now ≡ true }
     ensures found { IfSome result (λ i. IsAt sessions.now number i) }
     ensures within { IfSome result (λ i. i < length sessions.now) }
-    ensures absent { IfNone result ((k : ℕ) (s : Session) → slice_get sessions.now k ≡ Some s → s.number ≢ number) }
+    ensures absent { IfNone result (AreOthers number sessions.now) }
 {
-    for (i, session) in sessions.iter().enumerate() {
-        if session.number == number {
-            return Some(i);
-        }
+    let at = sessions.partition_point(
+        |session: &Session| -> bool
+            ensures { result ≡ nat_lt session.now.number number }
+        { session.number < number },
+    );
+    if at == sessions.len() {
+        return None;
     }
-    None
+    if sessions[at].number == number {
+        Some(at)
+    } else {
+        None
+    }
 }
 
-/// Where the session stands that may make a call now; else how the call is answered: it is gone, or full.
-pub(crate) fn served(sessions: &[Session], number: u32) -> Result<usize, Called>
+// Where the session stands that may make a call now; else how the call is answered: it is gone, or full.
+fn served(sessions: &[Session], number: u32) -> Result<usize, Called>
+    requires { are_rising sessions.now ≡ true }
     ensures { IsServed sessions.now number result }
 {
     let Some(at) = position_of(sessions, number) else {
@@ -112,4 +124,22 @@ pub(crate) fn served(sessions: &[Session], number: u32) -> Result<usize, Called>
         return Err(Called::Full);
     }
     Ok(at)
+}
+
+/// Where the session stands that may make a call now, with room for one more frame in its queue; else how the call is answered:
+/// it is gone, or full, or memory ran out. What the sessions are stays the same.
+pub(crate) fn ready_session(sessions: &mut [Session], number: u32) -> Result<usize, Called>
+    requires { are_rising sessions.old ≡ true }
+    ensures same { map session_of sessions.new ≡ map session_of sessions.old }
+    ensures served { IsServed sessions.new number result }
+    ensures room { IfOk result (λ i. HasPlace sessions.new i) }
+{
+    let at = match served(sessions, number) {
+        Ok(at) => at,
+        Err(answer) => return Err(answer),
+    };
+    match sessions[at].make_place() {
+        Ok(()) => Ok(at),
+        Err(NoMemory) => Err(Called::Memory),
+    }
 }

@@ -4,7 +4,8 @@ use super::*;
 use byte_text::{Request, RespFault, Text};
 use std::alloc::Global;
 use std::test::Fail;
-use world_model::{Asked, Called, Frames, Taken};
+use world_data::MAX_MOMENT;
+use world_model::{Asked, Called, Frames, Taken, Touched};
 
 // The request of a line's words, which are split at spaces.
 fn request(alloc: Global, line: &str) -> Result<Request, Fail> {
@@ -30,7 +31,15 @@ fn called(
     line: &str,
 ) -> Result<Called, Fail> {
     let words = request(alloc, line)?;
-    Ok(core.call(session, moment, &Asked::Words(words)))
+    if words.words() == 0 || moment > MAX_MOMENT {
+        return Err(Fail::from("a test's request is proper"));
+    }
+    let mut touched = Touched::new(alloc)?;
+    let answer = core.call(session, moment, &Asked::Words(words), &mut touched);
+    if touched.names(session) != (answer == Called::Ok) {
+        return Err(Fail::from("the session that was answered is named, and no other"));
+    }
+    Ok(answer)
 }
 
 // The first of the frames that a take of a session gives, or nothing.
@@ -146,6 +155,7 @@ fn fields_and_deadlines_are_kept(rt: HostRuntime) -> Result<(), Fail> {
 #[test]
 fn sessions_end_behind_their_frames(rt: HostRuntime) -> Result<(), Fail> {
     let alloc = rt.alloc();
+    let mut touched = Touched::new(alloc)?;
     let mut core = Core::new(alloc);
     for session in 1..=4 {
         assert_eq!(rt; core.enter(), Ok(session));
@@ -154,15 +164,17 @@ fn sessions_end_behind_their_frames(rt: HostRuntime) -> Result<(), Fail> {
     assert_eq!(rt; called(alloc, &mut core, 1, 0, "PING")?, Called::Gone);
     assert_eq!(rt; taken(alloc, &mut core, 1)?.bytes(), "+OK\r\n".as_bytes());
     let broken = Asked::Broken(RespFault::BadType);
-    assert_eq!(rt; core.call(2, 0, &broken), Called::Ok);
-    assert_eq!(rt; core.call(2, 0, &broken), Called::Gone);
+    assert_eq!(rt; core.call(2, 0, &broken, &mut touched), Called::Ok);
+    touched.clear();
+    assert_eq!(rt; core.call(2, 0, &broken, &mut touched), Called::Gone);
     assert_eq!(rt;
         taken(alloc, &mut core, 2)?.bytes(),
         "-ERR protocol error: bad type\r\n".as_bytes()
     );
     core.close_session(3);
     core.remove_session(4);
-    assert_eq!(rt; core.tick(5), Called::Ok);
+    touched.clear();
+    assert_eq!(rt; core.tick(5, &mut touched), Called::Ok);
     let mut frames = Frames::new(alloc)?;
     assert_eq!(rt; core.take(1, &mut frames), Taken::Ended);
     assert_eq!(rt; core.take(2, &mut frames), Taken::Ended);

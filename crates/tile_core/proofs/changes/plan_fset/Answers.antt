@@ -8,6 +8,8 @@ use Rattle.world_data.specs.Filters.{Field, with_values}
 use Rattle.world_model.specs.Replies.{error}
 use Rattle.world_model.specs.Effects.{Effect, given_and_cleared}
 use Rattle.world_data.specs.declared.objects.Object.{Object}
+use Rattle.world_model.specs.Refusals.{refusal_reply}
+use Rattle.world_model.specs.declared.faults.Refusal.TheVariants as refusal
 use Rattle.keyspace.specs.Entries.{objects_in}
 use Rattle.tile_core.specs.Moves.{world_in}
 use Rattle.tile_core.specs.Plans.{IsPlan, put_or_full}
@@ -32,7 +34,7 @@ returns-then-len-gt-MAX_FIELDS c =
     let fields_are : c.in_ok-object-2.field-0 ≡ with_values o.fields all = c.in_ok-object-2.ensures ∙ ap (λ (fs : List Field). with_values fs all) c.in_ok-copy.ensures in
     let long : max_fields < length c.in_ok-object-2.field-0 = omega (arith, c.if-len-gt-MAX_FIELDS.true, c.len.ensures.count) in
     let more : max_fields < length (with_values o.fields all) = subst (λ (fs : List Field). max_fields < length fs) fields_are long in
-    answers_ever (objects_in c.args.objects.now) c.args.total c.requires _ (error (codes "too many fields")) _ refl c.say_error.ensures _
+    answers_ever (objects_in c.args.objects.now) c.args.total c.requires _ (refusal_reply refusal.TooManyFields) _ refl c.say_refusal.ensures _
     (λ (now : ℕ). fset_many (world_in c.args.objects.now) now c.args.key.now c.args.id.now o c.in-Some.ensures.some c.args.given.now c.args.cleared.now c.in_ok-count.count c.in_ok-count.ensures c.if-count-eq0.false more)
 
 pub plan_put-requires-clause-short : goal.plan_put-requires-clause-short

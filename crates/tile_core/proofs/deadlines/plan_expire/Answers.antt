@@ -10,6 +10,7 @@ use Rattle.world_data.specs.declared.objects.Object.{Object}
 use Rattle.keyspace.specs.Entries.{objects_in}
 use Rattle.tile_core.specs.Moves.{world_in, HasFewFields}
 use Rattle.tile_core.specs.Plans.{IsPlan, put_or_full}
+use Rattle.tile_core.proofs.Weights.{have_few}
 use Rattle.tile_core.proofs.Answering.{answers, count_fits}
 use Rattle.tile_core.proofs.Timing.{expired_some, expired_none}
 use Rattle.tile_core.proofs.Standing.{found_holds}
@@ -17,13 +18,13 @@ use Rattle.tile_core.proofs.deadlines.plan_expire.Goals as goal
 
 pub returns-in_default : goal.returns-in_default
 returns-in_default c =
-    answers (objects_in c.args.objects.now) c.args.total c.requires _ (number 0) _ refl c.say_count.ensures _
+    answers (objects_in c.args.objects.now) c.args.total c.requires.kept _ (number 0) _ refl c.say_count.ensures _
     (expired_none (world_in c.args.objects.now) c.args.now c.args.key.now c.args.id.now c.args.seconds c.in_default.ensures.none)
 
 pub plan_put-requires-clause-few : goal.plan_put-requires-clause-few
 plan_put-requires-clause-few c =
     let o = c.in-Some.old.now in
-    let few = found_holds (is_at c.args.key.now c.args.id.now) o HasFewFields (objects_in c.args.objects.now) c.in-Some.ensures.some c.requires.few in
+    let few = found_holds (is_at c.args.key.now c.args.id.now) o HasFewFields (objects_in c.args.objects.now) c.in-Some.ensures.some (have_few (objects_in c.args.objects.now) c.args.total c.requires.kept) in
     subst HasFewFields (sym c.in_ok-object.ensures) few
 
 pub plan_put-requires-clause-short : goal.plan_put-requires-clause-short

@@ -9,6 +9,7 @@ use Rattle.world_data.specs.declared.objects.Object.{Object}
 use Rattle.keyspace.specs.Entries.{objects_in}
 use Rattle.tile_core.specs.Moves.{world_in, HasFewFields}
 use Rattle.tile_core.specs.Plans.{IsPlan, put_or_full}
+use Rattle.tile_core.proofs.Weights.{have_few}
 use Rattle.tile_core.proofs.Answering.{answers_ever, count_fits}
 use Rattle.tile_core.proofs.Timing.{persisted_some, persisted_same, persisted_none, bare_is, bare_already, bare_fits}
 use Rattle.tile_core.proofs.Standing.{found_holds}
@@ -24,7 +25,7 @@ plan_put-requires-clause-few c =
     let o = c.in-Some.old.now in
     let x = c.in-Some-2.object in
     let b = bare_is o x (sym c.in_ok-object.ensures ∙ c.in-Some-2.is) in
-    let few = found_holds (is_at c.args.key.now c.args.id.now) o HasFewFields (objects_in c.args.objects.now) c.in-Some.ensures.some c.requires.few in
+    let few = found_holds (is_at c.args.key.now c.args.id.now) o HasFewFields (objects_in c.args.objects.now) c.in-Some.ensures.some (have_few (objects_in c.args.objects.now) c.args.total c.requires) in
     subst HasFewFields b.2 few
 
 pub plan_put-requires-clause-short : goal.plan_put-requires-clause-short

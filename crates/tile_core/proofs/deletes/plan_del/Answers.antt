@@ -5,13 +5,13 @@ use Rattle.byte_text.specs.Replies.{number, frame_text}
 use Rattle.byte_text.specs.declared.replies.Piece.{Piece}
 use Rattle.world_data.specs.Limits.{max_reply}
 use Rattle.world_data.specs.Worlds.{is_at}
-use Rattle.world_model.specs.Effects.{loud}
+use Rattle.fence_model.specs.Writes.{loud}
 use Rattle.world_data.specs.Records.{record_len}
 use Rattle.world_data.specs.declared.worlds.Change.TheVariants as change
 use Rattle.keyspace.specs.Entries.{objects_in}
 use Rattle.tile_core.specs.Moves.{world_in, world_of, len_of, HasFewFields}
 use Rattle.tile_core.proofs.Answering.{answers_ever, count_fits, within_changes}
-use Rattle.tile_core.proofs.Weights.{weight_sum, found_at, taken_sum}
+use Rattle.tile_core.proofs.Weights.{have_few, weight_sum, found_at, taken_sum}
 use Rattle.tile_core.proofs.Standing.{found_holds, found_sum}
 use Rattle.tile_core.proofs.Removing.{del_some, del_none}
 use Rattle.tile_core.proofs.deletes.plan_del.Goals as goal
@@ -20,7 +20,7 @@ pub short_frame-requires-clause-short : goal.short_frame-requires-clause-short
 short_frame-requires-clause-short c = subst (λ (r : List Piece). length (frame_text r) ≤ max_reply) (sym c.in_ok-count_reply-in-Some.ensures.value) (count_fits 1 (lit< tt))
 
 pub put_len-requires : goal.put_len-requires
-put_len-requires c = found_holds (is_at c.args.key c.args.id) c.in-Some.object.now HasFewFields (objects_in c.args.objects.now) c.in-Some.ensures.some c.requires.few
+put_len-requires c = found_holds (is_at c.args.key c.args.id) c.in-Some.object.now HasFewFields (objects_in c.args.objects.now) c.in-Some.ensures.some (have_few (objects_in c.args.objects.now) c.args.total c.requires)
 
 pub overflow_sub-result : goal.overflow_sub-result
 overflow_sub-result c =
@@ -44,11 +44,11 @@ returns-in_ok-short_frame-in-Some c =
     let one = count_fits 1 (lit< tt) in
     λ (now : ℕ). record {
       reply = number 1;
-      deeds = loud (change.Del o.key o.id) ∷ [];
+      writes = loud (change.Del o.key o.id) ∷ [];
       is = del_some (world_in c.args.objects.now) now key id o here ∙ within_changes (number 1) (loud (change.Del o.key o.id) ∷ []) one;
       frame = frame_is;
       short = subst (λ (f : Bytes). length f ≤ max_reply) (sym frame_is) one;
-      does = record { few = tt; objects_only = (tt, tt); world = ap world_of left };
+      does = record { objects_only = (tt, tt); world = ap world_of left };
       length_is = c.del_len.ensures.value ∙ named ∙ sym (add-zero (record_len (change.Del o.key o.id)));
       small = omega (arith, c.del_len.ensures.short);
       weight_is = omega (arith, sum, weight_sum xs, weight_sum (filter (λ p. not (is_at key id p)) xs), c.put_len.ensures.value, c.requires.weighed);

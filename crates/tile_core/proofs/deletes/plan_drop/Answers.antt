@@ -7,14 +7,14 @@ use Rattle.byte_text.specs.Replies.{number, frame_text}
 use Rattle.byte_text.specs.declared.replies.Piece.{Piece}
 use Rattle.world_data.specs.Limits.{max_reply}
 use Rattle.world_data.specs.Worlds.{has_key}
-use Rattle.world_model.specs.Effects.{loud}
+use Rattle.fence_model.specs.Writes.{loud}
 use Rattle.world_data.specs.Records.{record_len}
 use Rattle.world_data.specs.declared.worlds.Change.TheVariants as change
 use Rattle.world_data.specs.declared.objects.Object.{Object}
 use Rattle.keyspace.specs.Entries.{objects_in}
 use Rattle.tile_core.specs.Moves.{world_in, len_of, HasFewFields, HaveFewFields}
 use Rattle.tile_core.proofs.Answering.{answers_ever, count_fits, within_changes}
-use Rattle.tile_core.proofs.Weights.{weight_sum, parts_sum, some_sum}
+use Rattle.tile_core.proofs.Weights.{have_few, weight_sum, parts_sum, some_sum}
 use Rattle.tile_core.proofs.Moving.{all_filtered}
 use Rattle.tile_core.proofs.Removing.{drop_some, drop_none, any_key}
 use Rattle.tile_core.proofs.deletes.plan_drop.Goals as goal
@@ -33,7 +33,7 @@ returns-then-len-eq0 c =
     answers_ever xs c.args.total c.requires _ (number 0) _ refl c.say_count-then-len-eq0.ensures _ (λ (now : ℕ). drop_none (world_in c.args.objects.now) now c.args.key (sym none))
 
 pub weight_without-weight-requires-clause-few : goal.weight_without-weight-requires-clause-few
-weight_without-weight-requires-clause-few c = subst HaveFewFields (sym c.in-Some.ensures.some) (all_filtered HasFewFields (has_key c.args.key) (objects_in c.args.objects.now) c.requires.few)
+weight_without-weight-requires-clause-few c = subst HaveFewFields (sym c.in-Some.ensures.some) (all_filtered HasFewFields (has_key c.args.key) (objects_in c.args.objects.now) (have_few (objects_in c.args.objects.now) c.args.total c.requires))
 
 pub weight_without-weight-requires-clause-weighed : goal.weight_without-weight-requires-clause-weighed
 weight_without-weight-requires-clause-weighed c =
@@ -58,11 +58,11 @@ returns c =
     let one = count_fits 1 (lit< tt) in
     λ (now : ℕ). record {
       reply = number 1;
-      deeds = loud (change.Drop key) ∷ [];
+      writes = loud (change.Drop key) ∷ [];
       is = drop_some (world_in c.args.objects.now) now key some ∙ within_changes (number 1) (loud (change.Drop key) ∷ []) one;
       frame = frame_is;
       short = subst (λ (f : Bytes). length f ≤ max_reply) (sym frame_is) one;
-      does = record { few = tt; objects_only = (tt, tt); world = refl };
+      does = record { objects_only = (tt, tt); world = refl };
       length_is = c.drop_len.ensures.value ∙ sym (add-zero (record_len (change.Drop key)));
       small = omega (arith, c.drop_len.ensures.short);
       weight_is = omega (arith, c.weight_without-weight.ensures, same, parts, weight_sum rest, weight_sum xs, c.requires.weighed);

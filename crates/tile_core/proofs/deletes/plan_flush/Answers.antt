@@ -2,7 +2,7 @@ use Rattle.std.proofs.Common.{◌≡◌, ◌≤◌, ℕ, lit≤, length, subst, 
 use Rattle.byte_text.specs.Names.{Bytes}
 use Rattle.byte_text.specs.Replies.{fine, frame_text}
 use Rattle.world_data.specs.Limits.{max_reply}
-use Rattle.world_model.specs.Effects.{quiet}
+use Rattle.fence_model.specs.Writes.{quiet}
 use Rattle.world_data.specs.Records.{record_len}
 use Rattle.world_data.specs.declared.worlds.Change.TheVariants as change
 use Rattle.tile_core.specs.Moves.{world_in}
@@ -14,11 +14,11 @@ returns c =
     let frame_is : c.in_ok-short_frame.field-0 ≡ frame_text fine = c.in_ok-short_frame.ensures ∙ ap frame_text c.in_ok-fine_reply.ensures.value in
     λ (now : ℕ). record {
       reply = fine;
-      deeds = quiet change.Flush ∷ [];
+      writes = quiet change.Flush ∷ [];
       is = flushed (world_in c.args._objects.now) now;
       frame = frame_is;
       short = subst (λ (f : Bytes). length f ≤ max_reply) (sym frame_is) (lit≤ tt);
-      does = record { few = tt; objects_only = (tt, tt); world = refl };
+      does = record { objects_only = (tt, tt); world = refl };
       length_is = c.flush_len.ensures.value ∙ sym (add-zero (record_len change.Flush));
       small = omega (arith, c.flush_len.ensures.short);
       weight_is = refl;

@@ -7,13 +7,13 @@ use Rattle.byte_text.specs.Replies.{number, frame_text}
 use Rattle.byte_text.specs.declared.replies.Piece.{Piece}
 use Rattle.world_data.specs.Limits.{max_reply}
 use Rattle.world_data.specs.Worlds.{has_key}
-use Rattle.world_model.specs.Effects.{dels}
+use Rattle.fence_model.specs.Writes.{dels}
 use Rattle.world_data.specs.declared.objects.Object.{Object}
 use Rattle.keyspace.specs.Entries.{objects_in}
 use Rattle.tile_core.specs.Moves.{world_in, world_of, len_of, HasFewFields, HaveFewFields, without_each}
 use Rattle.tile_core.specs.Sweeps.{met, IsSweptOf}
 use Rattle.tile_core.proofs.Answering.{answers_ever, count_fits, within_changes}
-use Rattle.tile_core.proofs.Weights.{weight_sum, some_sum}
+use Rattle.tile_core.proofs.Weights.{have_few, weight_sum, some_sum}
 use Rattle.tile_core.proofs.Moving.{all_filtered}
 use Rattle.tile_core.proofs.Removing.{swept, swept_none}
 use Rattle.tile_core.proofs.Sweeping.{dels_short, of_objects, keyed, dels_do, left_sum}
@@ -24,7 +24,7 @@ returns-in_default c =
     answers_ever (objects_in c.args.objects.now) c.args.total c.requires.kept _ (number 0) _ refl c.say_count.ensures _ (λ (now : ℕ). swept_none (world_in c.args.objects.now) now c.args.key c.args.pattern.now c.in_default.ensures.none)
 
 pub sweep-requires-clause-few : goal.sweep-requires-clause-few
-sweep-requires-clause-few c = subst HaveFewFields (sym c.in-Some.ensures.some) (all_filtered HasFewFields (has_key c.args.key) (objects_in c.args.objects.now) c.requires.kept.few)
+sweep-requires-clause-few c = subst HaveFewFields (sym c.in-Some.ensures.some) (all_filtered HasFewFields (has_key c.args.key) (objects_in c.args.objects.now) (have_few (objects_in c.args.objects.now) c.args.total c.requires.kept))
 
 pub sweep-requires-clause-weighed : goal.sweep-requires-clause-weighed
 sweep-requires-clause-weighed c =
@@ -49,16 +49,15 @@ returns c =
     let frame_is : c.in_ok-short_frame.field-0 ≡ frame_text (number (length gone)) = c.in_ok-short_frame.ensures ∙ ap frame_text c.in_ok-count_reply.ensures.value ∙ ap (λ (n : ℕ). frame_text (number n)) count in
     let left : sum_by len_of (without_each key c.in_ok-swept.swept.ids xs) + sum_by len_of gone ≡ sum_by len_of xs =
     ap (λ (ids : List Bytes). sum_by len_of (without_each key ids xs) + sum_by len_of gone) s.ids ∙ left_sum pattern key xs in
-    let few = all_filtered HasFewFields (λ o. glob_meets pattern o.id) held (all_filtered HasFewFields (has_key key) xs c.requires.kept.few) in
+    let few = all_filtered HasFewFields (λ o. glob_meets pattern o.id) held (all_filtered HasFewFields (has_key key) xs (have_few xs c.args.total c.requires.kept)) in
     let short = dels_short gone few in
     λ (now : ℕ). record {
       reply = number (length gone);
-      deeds = dels gone;
+      writes = dels gone;
       is = swept (world_in c.args.objects.now) now key pattern ∙ within_changes (number (length gone)) (dels gone) fits;
       frame = frame_is;
       short = subst (λ (f : Bytes). length f ≤ max_reply) (sym frame_is) fits;
       does = record {
-        few = tt;
         objects_only = of_objects gone;
         world = dels_do key gone xs (all_filtered (λ o. o.key ≡ key) (λ o. glob_meets pattern o.id) held (keyed key xs)) ∙ ap (λ (ids : List Bytes). world_of (without_each key ids xs)) (sym s.ids);
       };

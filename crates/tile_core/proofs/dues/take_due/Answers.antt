@@ -1,8 +1,9 @@
-use Rattle.std.proofs.Common.{◌≡◌, ◌∙◌, ap, length, arith}
+use Rattle.std.proofs.Common.{◌≡◌, ◌∙◌, ap, sym, subst, List, length, arith}
 use Rattle.std.specs.Prelude.{Ok}
 use Rattle.keyspace.specs.Entries.{objects_in}
-use Rattle.tile_core.specs.Dues.{IsTaken}
-use Rattle.tile_core.proofs.Taken.{are_few, fewer, taken_more}
+use Rattle.world_data.specs.declared.objects.Object.{Object}
+use Rattle.tile_core.specs.Dues.{IsTaken, HaveRoom}
+use Rattle.tile_core.proofs.Taken.{are_few, fewer, taken_more, taken_none}
 use Rattle.tile_core.proofs.dues.take_due.Goals as goal
 
 pub loop-gone-smaller : goal.loop-gone-smaller
@@ -30,3 +31,11 @@ put_back-requires-clause-few c =
     let objects : length (objects_in c.take_next.new.objects) ≡ length (objects_in c.loop-gone.objects) = ap length (c.take_next.ensures.stays (λ ok. absurd (cc))) in
     let held : length c.take_next.new.gone.held.items ≡ length c.loop-gone.gone.held.items = ap length (c.take_next.ensures.held (λ ok. absurd (cc))) in
     omega (arith, objects, held, t.count, are_few (objects_in c.args.objects.now) c.args.total c.requires)
+
+pub loop-gone-init : goal.loop-gone-init
+loop-gone-init c =
+    let xs = objects_in c.args.objects.now in
+    record {
+      taken = subst (λ (held : List Object). IsTaken xs c.args.now c.args.total xs held 0 c.args.total) (sym c.new.ensures.items) (taken_none xs c.args.now c.args.total c.requires);
+      room = subst (HaveRoom c.args.objects.now) (sym c.new.ensures.items) (λ key. omega arith);
+    }

@@ -9,6 +9,8 @@ use Rattle.world_data.specs.Worlds.{object_before}
 use Rattle.world_model.specs.Replies.{error}
 use Rattle.world_data.specs.Records.{weight}
 use Rattle.world_data.specs.declared.worlds.Change.TheVariants as change
+use Rattle.world_model.specs.Refusals.{refusal_reply}
+use Rattle.world_model.specs.declared.faults.Refusal.TheVariants as refusal
 use Rattle.keyspace.specs.Entries.{objects_in}
 use Rattle.tile_core.specs.Moves.{world_of, len_of}
 use Rattle.tile_core.proofs.Answering.{said}
@@ -20,7 +22,7 @@ returns-then-weight-gt-MAX_WEIGHT c =
     let xs = objects_in c.args.objects.now in
     let more : max_weight < weight (world_of (put_in object_before c.args.object xs)) = subst (λ (n : ℕ). max_weight < n) c.weight_after-weight.ensures c.if-weight-gt-MAX_WEIGHT.true in
     let full = λ (is_loud : Bool). heavy xs c.args.object c.args.reply.now is_loud more in
-    IfOk-weaker c.say_error.result _ _ (λ p s. λ (is_loud : Bool). said xs c.args.total c.requires.kept _ (error (codes "database is full")) p (full is_loud) s) c.say_error.ensures
+    IfOk-weaker c.say_refusal.result _ _ (λ p s. λ (is_loud : Bool). said xs c.args.total c.requires.kept _ (refusal_reply refusal.DatabaseFull) p (full is_loud) s) c.say_refusal.ensures
 
 pub returns : goal.returns
 returns c =
@@ -31,11 +33,11 @@ returns c =
     let frame_is : c.in_ok-short_frame.field-0 ≡ frame_text c.args.reply.now = c.in_ok-short_frame.ensures in
     λ (is_loud : Bool). record {
       reply = c.args.reply.now;
-      deeds = record { change = change.Put x; loud = is_loud } ∷ [];
+      writes = record { change = change.Put x; loud = is_loud } ∷ [];
       is = done xs x c.args.reply.now is_loud less c.requires.short;
       frame = frame_is;
       short = subst (λ (f : Bytes). length f ≤ max_reply) (sym frame_is) c.requires.short;
-      does = record { few = c.requires.few; objects_only = (tt, tt); world = refl };
+      does = record { objects_only = (tt, tt); world = refl };
       length_is = c.put_len-length.ensures.value ∙ sym (add-zero (len_of x));
       small = let part = put_weighs xs x in omega (arith, part, less, c.put_len-length.ensures.value);
       weight_is = c.weight_after-weight.ensures;

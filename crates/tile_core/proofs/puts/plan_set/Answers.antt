@@ -8,6 +8,8 @@ use Rattle.world_data.specs.Filters.{Field, with_values}
 use Rattle.world_model.specs.Replies.{null, error}
 use Rattle.world_model.specs.Effects.{Effect, given_and_cleared, is_kept_back}
 use Rattle.world_data.specs.declared.objects.Object.{Object}
+use Rattle.world_model.specs.Refusals.{refusal_reply}
+use Rattle.world_model.specs.declared.faults.Refusal.TheVariants as refusal
 use Rattle.keyspace.specs.Entries.{objects_in}
 use Rattle.tile_core.specs.Moves.{world_in}
 use Rattle.tile_core.specs.Plans.{IsPlan, put_or_full}
@@ -32,7 +34,7 @@ returns-then-len-gt-MAX_FIELDS c =
     let free : is_kept_back c.args.only (option_map (λ (o : Bor Object). o.now) r) ≡ false = sym (c.keeps_back.ensures _ (sym c.is_none-is_new.ensures ∙ is_there r)) ∙ c.if-keeps_back.false in
     let fields = c.in_ok-with_values.ensures ∙ ap (λ (fs : List Field). with_values fs (given_and_cleared o.fields c.args.cleared.now)) c.in_ok-fields.ensures in
     let more : max_fields < length c.in_ok-with_values.field-0 = omega (arith, c.if-len-gt-MAX_FIELDS.true, c.len.ensures.count) in
-    answers xs c.args.total c.requires _ (error (codes "too many fields")) _ refl c.say_error.ensures _
+    answers xs c.args.total c.requires _ (refusal_reply refusal.TooManyFields) _ refl c.say_refusal.ensures _
     (many xs o o.fields c.args.cleared.now c.args.seconds c.args.only c.args.now r c.get-old.ensures.none c.get-old.ensures.some free c.in_ok-with_values.field-0 c.in_ok-deadline_after.field-0 fields c.in_ok-deadline_after.ensures more)
 
 pub returns-then-len-ge-MAX_OBJECTS : goal.returns-then-len-ge-MAX_OBJECTS
@@ -45,7 +47,7 @@ returns-then-len-ge-MAX_OBJECTS c =
     let less : length c.in_ok-with_values.field-0 ≤ max_fields = omega (arith, c.if-len-gt-MAX_FIELDS.false, c.len.ensures.count) in
     let new : is_none r ≡ true = new_is r _ c.is_none-is_new.ensures ∙ c.if-is_new.true in
     let le : max_objects ≤ length xs = omega (arith, c.if-len-ge-MAX_OBJECTS.true, c.len-then-is_new.ensures.count) in
-    answers xs c.args.total c.requires _ (error (codes "too many objects")) _ refl c.say_error-then-len-ge-MAX_OBJECTS.ensures _
+    answers xs c.args.total c.requires _ (refusal_reply refusal.TooManyObjects) _ refl c.say_refusal-then-len-ge-MAX_OBJECTS.ensures _
     (full xs o o.fields c.args.cleared.now c.args.seconds c.args.only c.args.now r c.get-old.ensures.none c.get-old.ensures.some free c.in_ok-with_values.field-0 c.in_ok-deadline_after.field-0 fields c.in_ok-deadline_after.ensures less new le)
 
 pub returns : goal.returns

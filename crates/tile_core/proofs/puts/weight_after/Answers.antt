@@ -3,14 +3,14 @@ use Rattle.ordered_lists.specs.Lists.{put_in}
 use Rattle.world_data.specs.Worlds.{object_before, is_at}
 use Rattle.keyspace.specs.Entries.{objects_in}
 use Rattle.tile_core.specs.Moves.{len_of, HasFewFields}
-use Rattle.tile_core.proofs.Weights.{weight_sum, changed_sum, new_sum}
+use Rattle.tile_core.proofs.Weights.{have_few, weight_sum, changed_sum, new_sum}
 use Rattle.tile_core.proofs.Standing.{found_holds, found_sum}
 use Rattle.tile_core.proofs.puts.weight_after.Goals as goal
 
 pub put_len-requires : goal.put_len-requires
 put_len-requires c =
     let x = c.args.object.now in
-    found_holds (is_at x.key x.id) c.in-Some.old.now HasFewFields (objects_in c.args.objects.now) c.in-Some.ensures.some c.requires.kept.few
+    found_holds (is_at x.key x.id) c.in-Some.old.now HasFewFields (objects_in c.args.objects.now) c.in-Some.ensures.some (have_few (objects_in c.args.objects.now) c.args.total c.requires.kept)
 
 pub overflow_sub-result : goal.overflow_sub-result
 overflow_sub-result c =

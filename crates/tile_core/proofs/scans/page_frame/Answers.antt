@@ -2,16 +2,15 @@ use Rattle.std.proofs.Common.{◌≡◌, ◌++◌, ◌+◌, sym, ◌∙◌, ap, 
 use Rattle.std.proofs.lemmas.List.{map-append, take-append-drop}
 use Rattle.std.proofs.lemmas.Result.{err_from_is_err_and}
 use Rattle.byte_text.specs.Replies.{number}
-use Rattle.fence_model.specs.Queries.{page_items, page_cursor}
+use Rattle.fence_model.specs.Queries.{matches, page_items, page_cursor}
 use Rattle.world_model.specs.Replies.{item_reply}
-use Rattle.search_query.specs.Found.{found}
 use Rattle.tile_core.proofs.Listings.{long_page, page_is}
 use Rattle.tile_core.proofs.scans.page_frame.Goals as goal
 
 pub returns-in_err-push_found-clause-too_long : goal.returns-in_err-push_found-clause-too_long
 returns-in_err-push_found-clause-too_long c =
     let q = c.args.query.now in
-    let all = found q c.args.objects.now.objects in
+    let all = matches q c.args.objects.now.objects in
     let items = page_items q all in
     let n = c.loop-i.i + 1 in
     let p = err_from_is_err_and c.from_residual.result c.from_residual.ensures.1 in

@@ -1,9 +1,8 @@
 use Rattle.std.proofs.Common.{◌≡◌, List, ◌++◌, ◌∷◌, [], ◌+◌, sym, ◌∙◌, ap, map, take, arith}
 use Rattle.byte_text.specs.declared.replies.Piece.{Piece}
 use Rattle.std.proofs.lemmas.Result.{IfOk-weaker, IfErr-weaker}
-use Rattle.fence_model.specs.Queries.{page_items}
+use Rattle.fence_model.specs.Queries.{matches, page_items}
 use Rattle.world_model.specs.Replies.{item_reply}
-use Rattle.search_query.specs.Found.{found}
 use Rattle.tile_core.proofs.Listings.{items_more, items_long, fault_of, paged_found, paged_more, same_object}
 use Rattle.tile_core.proofs.scans.push_found.Goals as goal
 
@@ -14,9 +13,9 @@ unreachable-requires c =
     absurd (grind (arith, there, absent))
 
 abbrev before : (c : goal.After-push_object) → List (List Piece)
-before c = map (item_reply c.args.query.now) (take c.args.i (page_items c.args.query.now (found c.args.query.now c.args.objects.now.objects)))
+before c = map (item_reply c.args.query.now) (take c.args.i (page_items c.args.query.now (matches c.args.query.now c.args.objects.now.objects)))
 
-step : (c : goal.After-push_object) → map (item_reply c.args.query.now) (take (c.args.i + 1) (page_items c.args.query.now (found c.args.query.now c.args.objects.now.objects))) ≡ before c ++ item_reply c.args.query.now c.in-Some.object.now ∷ []
+step : (c : goal.After-push_object) → map (item_reply c.args.query.now) (take (c.args.i + 1) (page_items c.args.query.now (matches c.args.query.now c.args.objects.now.objects))) ≡ before c ++ item_reply c.args.query.now c.in-Some.object.now ∷ []
 step c =
     let there = paged_found c.args.query.now c.args.objects.now.objects c.args.page.now c.args.i c.at.result.now c.requires.page c.requires.shown c.len-count.ensures.by_id c.at.ensures in
     let more = paged_more c.args.query.now c.args.objects.now.objects c.args.page.now c.args.i c.at.result.now c.requires.page c.requires.shown c.len-count.ensures.by_id c.at.ensures in

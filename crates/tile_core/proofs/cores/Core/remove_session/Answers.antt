@@ -1,4 +1,4 @@
-use Rattle.std.proofs.Common.{List, sym, subst}
+use Rattle.std.proofs.Common.{◌≡◌, true, List, sym, subst}
 use Rattle.std.specs.Prelude.{remove}
 use Rattle.world_model.specs.Histories.{Step}
 use Rattle.world_model.specs.declared.events.Event.TheVariants as event
@@ -6,10 +6,16 @@ use Rattle.world_model.specs.declared.events.Outcome.TheVariants as outcome
 use Rattle.tile_core.specs.declared.sessions.Session.{Session}
 use Rattle.keyspace.specs.Entries.{objects_in}
 use Rattle.tile_core.specs.Kernels.{Kernel, hall_of, ArePresent}
-use Rattle.tile_core.specs.Sessions.{IsAt, AreOthers}
+use Rattle.tile_core.specs.Sessions.{IsAt, AreOthers, are_rising}
+use Rattle.tile_core.proofs.Halving.{rising}
 use Rattle.tile_core.proofs.Takes.{remove_absent, remove_present}
 use Rattle.tile_core.proofs.Finishing.{present_remove, within}
 use Rattle.tile_core.proofs.cores.Core.remove_session.Goals as goal
+
+pub position_of-requires : goal.position_of-requires
+position_of-requires c =
+    let k = c.self.inside in
+    subst (λ (ss : List Session). are_rising ss ≡ true) (sym c.as_slice.ensures.value) (rising 0 k.drawn k.sessions.items c.self.invariant.present.rises)
 
 pub invariant_of-self : goal.invariant_of-self
 invariant_of-self c =
@@ -18,6 +24,7 @@ invariant_of-self c =
     record {
       kept = c.self.invariant.kept;
       calm = c.self.invariant.calm;
+      early = c.self.invariant.early;
       present = subst (ArePresent k.drawn) (sym c.remove.ensures.items) (present_remove k.drawn k.sessions.items c.in-Some.at (within k.sessions.items c.in-Some.at at.session at.here) c.self.invariant.present);
     }
 

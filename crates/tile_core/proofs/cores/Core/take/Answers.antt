@@ -1,4 +1,4 @@
-use Rattle.std.proofs.Common.{◌≡◌, ℕ, ◌<◌, ◌≤◌, List, length, length-take, take, drop, sym, ap, ◌∙◌, subst, arith}
+use Rattle.std.proofs.Common.{◌≡◌, ℕ, ◌<◌, ◌≤◌, true, List, length, length-take, take, drop, sym, ap, ◌∙◌, subst, arith}
 use Rattle.std.specs.Prelude.{slice_set, remove}
 use Rattle.world_data.specs.Limits.{take_frames}
 use Rattle.world_data.specs.Frames.{FrameList}
@@ -9,7 +9,8 @@ use Rattle.world_model.specs.declared.events.Outcome.TheVariants as outcome
 use Rattle.tile_core.specs.declared.sessions.Session.{Session}
 use Rattle.keyspace.specs.Entries.{objects_in}
 use Rattle.tile_core.specs.Kernels.{Kernel, hall_of, ArePresent}
-use Rattle.tile_core.specs.Sessions.{IsAt, AreOthers, is_open}
+use Rattle.tile_core.specs.Sessions.{IsAt, AreOthers, is_open, taken_from, are_rising}
+use Rattle.tile_core.proofs.Halving.{rising}
 use Rattle.tile_core.proofs.Takes.{absent, empty, ended, given}
 use Rattle.tile_core.proofs.Finishing.{read_at, within, present_set, present_remove}
 use Rattle.tile_core.proofs.cores.Core.take.Goals as goal
@@ -19,6 +20,11 @@ some_of a b e lt = omega (arith, e, lt)
 
 none_of : (a b : ℕ) → a ≡ b → a ≤ 0 → b ≡ 0
 none_of a b e le = omega (arith, e, le)
+
+pub position_of-requires : goal.position_of-requires
+position_of-requires c =
+    let k = c.self.inside in
+    subst (λ (ss : List Session). are_rising ss ≡ true) (sym c.as_slice.ensures.value) (rising 0 k.drawn k.sessions.items c.self.invariant.present.rises)
 
 pub returns-in_default-clause-step : goal.returns-in_default-clause-step
 returns-in_default-clause-step c =
@@ -33,7 +39,7 @@ invariant_of-self c =
     let at = subst (λ (ss : List Session). IsAt ss c.args.session c.in-Some.at) c.as_slice.ensures.value c.in-Some.ensures.found in
     let is : c.index_mut.result.now ≡ at.session = c.index_mut.ensures.value ∙ read_at k.sessions.items c.in-Some.at at.session c.index_mut.result.now at.here in
     let same : c.take_frames.new.self.number ≡ at.session.number = ap (λ (s : Session). s.number) c.take_frames.ensures.left ∙ ap (λ (s : Session). s.number) is in
-    record { kept = c.self.invariant.kept; calm = c.self.invariant.calm; present = present_set k.drawn k.sessions.items c.in-Some.at at.session c.take_frames.new.self c.self.invariant.present at.here same }
+    record { kept = c.self.invariant.kept; calm = c.self.invariant.calm; early = c.self.invariant.early; present = present_set k.drawn k.sessions.items c.in-Some.at at.session c.take_frames.new.self c.self.invariant.present at.here same }
 
 pub returns-then-frames-gt0-clause-step : goal.returns-then-frames-gt0-clause-step
 returns-then-frames-gt0-clause-step c =
@@ -41,17 +47,17 @@ returns-then-frames-gt0-clause-step c =
     let at = subst (λ (ss : List Session). IsAt ss c.args.session c.in-Some.at) c.as_slice.ensures.value c.in-Some.ensures.found in
     let read : c.index.result.now ≡ at.session = c.index.ensures ∙ read_at k.sessions.items c.in-Some.at at.session c.index.result.now at.here in
     let is : c.index_mut.result.now ≡ at.session = c.index_mut.ensures.value ∙ read_at k.sessions.items c.in-Some.at at.session c.index_mut.result.now at.here in
-    let left : c.take_frames.new.self ≡ record at.session { outbox = drop take_frames at.session.outbox } = c.take_frames.ensures.left ∙ ap (λ (s : Session). record s { outbox = drop take_frames s.outbox }) is in
-    let count : c.frames.result ≡ length at.session.outbox = c.frames.ensures ∙ ap (λ (s : Session). length s.outbox) read in
-    let some : 0 < length at.session.outbox = some_of c.frames.result (length at.session.outbox) count c.if-frames-gt0.true in
-    let shown : c.take_frames.new.into.list ≡ take take_frames at.session.outbox = ap (λ (f : FrameList). f.list) c.take_frames.ensures.given ∙ ap (λ (s : Session). take take_frames s.outbox) is in
+    let left : c.take_frames.new.self ≡ taken_from at.session = c.take_frames.ensures.left ∙ ap taken_from is in
+    let count : c.frames.result ≡ length at.session.outbox.frames = c.frames.ensures ∙ ap (λ (s : Session). length s.outbox.frames) read in
+    let some : 0 < length at.session.outbox.frames = some_of c.frames.result (length at.session.outbox.frames) count c.if-frames-gt0.true in
+    let shown : c.take_frames.new.into.list ≡ take take_frames at.session.outbox.frames = ap (λ (f : FrameList). f.list) c.take_frames.ensures.given ∙ ap (λ (s : Session). take take_frames s.outbox.frames) is in
     let step = given (objects_in k.objects) k.clock k.logged k.drawn k.sessions.items c.args.session c.in-Some.at at.session c.self.invariant.present.rises at.here at.numbered c.take_frames.new.self left some in
     subst (λ (fs : List Bytes). Step c.args.self.now.hall (event.Take c.args.session) (outcome.Given fs) (hall_of (objects_in k.objects) k.clock k.logged k.drawn (slice_set k.sessions.items c.in-Some.at c.take_frames.new.self))) (sym shown)
-    (subst (λ (n : Kernel). Step n.hall (event.Take c.args.session) (outcome.Given (take take_frames at.session.outbox)) (hall_of (objects_in k.objects) k.clock k.logged k.drawn (slice_set k.sessions.items c.in-Some.at c.take_frames.new.self))) c.self.view_is step)
+    (subst (λ (n : Kernel). Step n.hall (event.Take c.args.session) (outcome.Given (take take_frames at.session.outbox.frames)) (hall_of (objects_in k.objects) k.clock k.logged k.drawn (slice_set k.sessions.items c.in-Some.at c.take_frames.new.self))) c.self.view_is step)
 
 pub returns-then-frames-gt0-clause-count : goal.returns-then-frames-gt0-clause-count
 returns-then-frames-gt0-clause-count c =
-    c.take_frames.ensures.count ∙ sym (length-take take_frames c.index_mut.result.now.outbox) ∙ ap length (sym (ap (λ (f : FrameList). f.list) c.take_frames.ensures.given))
+    c.take_frames.ensures.count ∙ sym (length-take take_frames c.index_mut.result.now.outbox.frames) ∙ ap length (sym (ap (λ (f : FrameList). f.list) c.take_frames.ensures.given))
 
 pub returns-then-is_open-clause-step : goal.returns-then-is_open-clause-step
 returns-then-is_open-clause-step c =
@@ -59,7 +65,7 @@ returns-then-is_open-clause-step c =
     let at = subst (λ (ss : List Session). IsAt ss c.args.session c.in-Some.at) c.as_slice.ensures.value c.in-Some.ensures.found in
     let is : c.index.result.now ≡ at.session = c.index.ensures ∙ read_at k.sessions.items c.in-Some.at at.session c.index.result.now at.here in
     let also : c.index-2.result.now ≡ at.session = c.index-2.ensures ∙ read_at k.sessions.items c.in-Some.at at.session c.index-2.result.now at.here in
-    let none : length at.session.outbox ≡ 0 = none_of c.frames.result (length at.session.outbox) (c.frames.ensures ∙ ap (λ (s : Session). length s.outbox) is) c.if-frames-gt0.false in
+    let none : length at.session.outbox.frames ≡ 0 = none_of c.frames.result (length at.session.outbox.frames) (c.frames.ensures ∙ ap (λ (s : Session). length s.outbox.frames) is) c.if-frames-gt0.false in
     let lives = sym (ap is_open also) ∙ sym c.is_open.ensures ∙ c.if-is_open.true in
     let step = empty (objects_in k.objects) k.clock k.logged k.drawn k.sessions.items c.args.session c.in-Some.at at.session c.self.invariant.present.rises at.here at.numbered lives none in
     subst (λ (n : Kernel). Step n.hall (event.Take c.args.session) outcome.Empty n.hall) c.self.view_is step
@@ -71,6 +77,7 @@ invariant_of-self-2 c =
     record {
       kept = c.self.invariant.kept;
       calm = c.self.invariant.calm;
+      early = c.self.invariant.early;
       present = subst (ArePresent k.drawn) (sym c.remove.ensures.items) (present_remove k.drawn k.sessions.items c.in-Some.at (within k.sessions.items c.in-Some.at at.session at.here) c.self.invariant.present);
     }
 
@@ -80,7 +87,7 @@ returns-clause-step c =
     let at = subst (λ (ss : List Session). IsAt ss c.args.session c.in-Some.at) c.as_slice.ensures.value c.in-Some.ensures.found in
     let is : c.index.result.now ≡ at.session = c.index.ensures ∙ read_at k.sessions.items c.in-Some.at at.session c.index.result.now at.here in
     let also : c.index-2.result.now ≡ at.session = c.index-2.ensures ∙ read_at k.sessions.items c.in-Some.at at.session c.index-2.result.now at.here in
-    let none : length at.session.outbox ≡ 0 = none_of c.frames.result (length at.session.outbox) (c.frames.ensures ∙ ap (λ (s : Session). length s.outbox) is) c.if-frames-gt0.false in
+    let none : length at.session.outbox.frames ≡ 0 = none_of c.frames.result (length at.session.outbox.frames) (c.frames.ensures ∙ ap (λ (s : Session). length s.outbox.frames) is) c.if-frames-gt0.false in
     let closed_ = sym (ap is_open also) ∙ sym c.is_open.ensures ∙ c.if-is_open.false in
     let step = ended (objects_in k.objects) k.clock k.logged k.drawn k.sessions.items c.args.session c.in-Some.at at.session c.self.invariant.present.rises at.here at.numbered closed_ none in
     subst (λ (ss : List Session). Step c.args.self.now.hall (event.Take c.args.session) outcome.Ended (hall_of (objects_in k.objects) k.clock k.logged k.drawn ss)) (sym c.remove.ensures.items)
