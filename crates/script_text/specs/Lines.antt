@@ -1,5 +1,5 @@
 -- What a line of a script says. A line is read without its line feed.
-use Rattle.std.specs.Prelude.{◌≡◌, ℕ, ◌==◌, ◌&&◌, Bool, true, not, nat_lt, List, [], ◌∷◌, length, Option, Some, None, if◌then◌else◌, option_map, option_and_then, codes, Result, Ok, Err}
+use Rattle.std.specs.Prelude.{◌≡◌, ◌≤◌, ℕ, ◌==◌, ◌&&◌, Bool, true, not, nat_lt, List, [], ◌∷◌, length, Option, Some, None, if◌then◌else◌, option_map, option_and_then, codes, Result, Ok, Err}
 use Rattle.std.specs.List.{list_all}
 use Rattle.std.specs.Char.{is_ascii_graphic}
 use Rattle.percent_encoding.specs.Percent.{percent_decode}
@@ -76,6 +76,17 @@ line bytes =
     if nat_lt max_line (length bytes) then None else
     if is_silent bytes then Some Nothing else
     line_of_words (words bytes)
+
+-- a moment that a line names is no later than the last one
+abbrev pub KeepsMoment : ScriptLine → Type 0
+KeepsMoment (Feed n m bytes) = m ≤ max_moment
+KeepsMoment (Tick m) = m ≤ max_moment
+KeepsMoment Nothing = Unit {0}
+KeepsMoment Enter = Unit {0}
+KeepsMoment (Take n) = Unit {0}
+KeepsMoment (Close n) = Unit {0}
+KeepsMoment Step = Unit {0}
+KeepsMoment Reopen = Unit {0}
 
 -- an answer that this says: nothing is outside, and what says something is said, or memory wants
 abbrev pub IsAnswer : Option ScriptLine → Result ScriptLine LineFault → Type 0

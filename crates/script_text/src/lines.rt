@@ -6,7 +6,7 @@ ghost use Rattle.std.specs.Char.{is_ascii_graphic};
 ghost use Rattle.percent_encoding.specs.Percent.{percent_decode as decode};
 ghost use Rattle.script_text.specs.Words.{words};
 ghost use Rattle.script_text.specs.Lines as says;
-ghost use Rattle.script_text.specs.Lines.{IsAnswer};
+ghost use Rattle.script_text.specs.Lines.{IsAnswer, KeepsMoment};
 
 use crate::line_words::split_word;
 use byte_text::{NoMemory, Text, read_u64};
@@ -193,9 +193,17 @@ fn is_silent(bytes: &[u8]) -> bool
 /// What a line says, its bytes without the line feed: empty or beginning with `#`, or the words `open`, `feed N M BYTES`,
 /// `take N`, `tick M`, `close N`, `step` or `reopen`, one space between two. N is a canonical number of 32 bits, M one up to
 /// 9,007,199,254,740,991, BYTES are one or more bytes from 0x21 to 0x7E. Everything else, and a line of more than 1,048,576
-/// bytes, is Outside.
-#[tactic(auto, unfolding(crate::specs::Lines::line))]
+/// bytes, is Outside. No moment is later than that last one.
 pub fn line_of(alloc: Global, bytes: &[u8]) -> Result<ScriptLine, LineFault>
+    ensures answer { IsAnswer (says.line bytes.now) result }
+    ensures moment { IfOk result KeepsMoment }
+{
+    read_line(alloc, bytes)
+}
+
+// What a line says.
+#[tactic(auto, unfolding(crate::specs::Lines::line))]
+fn read_line(alloc: Global, bytes: &[u8]) -> Result<ScriptLine, LineFault>
     ensures { IsAnswer (says.line bytes.now) result }
 {
     if bytes.len() > 1_048_576 {

@@ -1,13 +1,15 @@
 -- Bytes that are fed to a reader, request by request.
-use Rattle.std.proofs.Common.{◌≡◌, ℕ, ◌+◌, ◌<◌, ◌≤◌, refl, sym, ap, ◌∙◌, subst, List, [], ◌++◌, length, drop, append_assoc, length-append, arith}
+use Rattle.std.proofs.Common.{◌≡◌, ℕ, ◌+◌, ◌<◌, ◌≤◌, refl, sym, ap, ◌∙◌, subst, List, [], ◌∷◌, ◌++◌, length, true, drop, append_assoc, length-append, arith}
 use Rattle.std.specs.Prelude.{Some, None}
 use Rattle.std.proofs.lemmas.List.{append-nil}
 use Rattle.byte_text.specs.Names.{Bytes}
 use Rattle.byte_text.specs.Requests.{IsRequest, request_text}
 use Rattle.byte_text.specs.Streams.{Stream, found, begun, broken, request, stream_of, with_first, only_rest, only_fault}
 use Rattle.byte_text.specs.declared.faults.RespFault.{RespFault}
-use Rattle.byte_text.specs.declared.faults.RespFault.TheVariants as resp
+use Rattle.resp_frames.specs.declared.faults.FeedFault.{FeedFault}
+use Rattle.resp_frames.specs.declared.faults.FeedFault.TheVariants as feed
 use Rattle.resp_frames.specs.RequestReader.{Held, IsFed, IsNotFed}
+use Rattle.world_model.specs.Outcomes.{is_proper}
 use Rattle.world_model.specs.Halls.{Hall}
 use Rattle.world_model.specs.declared.events.Asked.TheVariants.{Words, Broken}
 use Rattle.world_model.specs.declared.events.Event.TheVariants as event
@@ -56,17 +58,22 @@ module _ (laws : Laws) (h next : Hall) (n m : ℕ) where
       (subst (λ (z : Stream). Calls h n m z out next) (sym s) one, is ∙ ap (λ (z : Stream). unread_of z.ending) (sym s))
 
   -- the bytes are refused
-  pub last_step : (old new : Held) (bytes out : Bytes) (fault : RespFault) → IsNotFed old new bytes fault → IsBrokenOff h n m fault out next → FedTo h n m old bytes out next new
+  pub last_step : (old new : Held) (bytes out : Bytes) (fault : FeedFault) → IsNotFed old new bytes fault → IsBrokenOff h n m fault out next → FedTo h n m old bytes out next new
   last_step None new bytes out fault fed off =
-      let is = subst (λ (f : RespFault). IsBrokenOff h n m f out next) fed.0 off in
+      let is = subst (λ (f : FeedFault). IsBrokenOff h n m f out next) fed.0 off in
       (is.0, is.1, fed.1)
-  last_step (Some held) new bytes out resp.BadType fed off = broken_step held [] bytes out resp.BadType new fed.0 fed.1 off
-  last_step (Some held) new bytes out resp.BadLength fed off = broken_step held [] bytes out resp.BadLength new fed.0 fed.1 off
-  last_step (Some held) new bytes out resp.BadEnd fed off = broken_step held [] bytes out resp.BadEnd new fed.0 fed.1 off
-  last_step (Some held) new bytes out resp.TooMany fed off = broken_step held [] bytes out resp.TooMany new fed.0 fed.1 off
-  last_step (Some held) new bytes out resp.TooLong fed off = broken_step held [] bytes out resp.TooLong new fed.0 fed.1 off
-  last_step (Some held) new bytes out resp.Dead fed off = absurd fed
-  last_step (Some held) new bytes out resp.Memory fed off = absurd off
+  last_step (Some held) new bytes out (feed.Broken fault) fed off = broken_step held [] bytes out fault new fed.0 fed.1 off
+  last_step (Some held) new bytes out feed.Dead fed off = absurd fed
+  last_step (Some held) new bytes out feed.Memory fed off = absurd off
+
+-- a request that was read is proper
+pub proper_words : (old new : Held) (bytes : Bytes) (taken : ℕ) (words : List Bytes) → IsFed old new bytes taken (Some words) → is_proper (Words words) ≡ true
+proper_words None new bytes taken words fed = absurd fed
+proper_words (Some held) new bytes taken words fed = some_words words fed.3.some
+  where
+    some_words : (ws : List Bytes) → 0 < length ws → is_proper (Words ws) ≡ true
+    some_words [] h = absurd (omega (arith, h))
+    some_words (w ∷ ws) h = refl
 
 -- the first call, and then those of the other bytes
 fed_first : (h mid last : Hall) (n m : ℕ) (rest bytes out more : Bytes) (left unread : Unread) (taken : ℕ) → IsFirst h n m rest bytes out mid left taken → FedTo mid n m left (drop taken bytes) more last unread → FedTo h n m (Some rest) bytes (out ++ more) last unread

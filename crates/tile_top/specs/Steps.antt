@@ -2,8 +2,8 @@
 use Rattle.std.specs.Prelude.{◌≡◌, ℕ, ◌+◌, ◌≤◌, ◌<◌, List, [], ◌++◌, length, drop, Option, Some, None, codes}
 use Rattle.byte_text.specs.Names.{Bytes}
 use Rattle.byte_text.specs.Streams.{stream_of, with_first}
-use Rattle.byte_text.specs.declared.faults.RespFault.{RespFault}
-use Rattle.byte_text.specs.declared.faults.RespFault.TheVariants as resp
+use Rattle.resp_frames.specs.declared.faults.FeedFault.{FeedFault}
+use Rattle.resp_frames.specs.declared.faults.FeedFault.TheVariants as feed
 use Rattle.world_model.specs.Halls.{Hall}
 use Rattle.world_model.specs.declared.events.Asked.TheVariants.{Words, Broken}
 use Rattle.world_model.specs.declared.events.Event.TheVariants as event
@@ -11,10 +11,10 @@ use Rattle.tile_top.specs.Readers.{Unread}
 use Rattle.tile_top.specs.Scripts.{Makes, FedTo}
 
 -- the fault of a stream makes its call; a stream that had met one makes none
-abbrev pub IsBrokenOff : Hall → ℕ → ℕ → RespFault → Bytes → Hall → Type 0
-IsBrokenOff h n m resp.Dead out next = (out ≡ codes "dead\n") × (next ≡ h)
-IsBrokenOff h n m resp.Memory out next = ⊥
-IsBrokenOff h n m fault out next = Makes h (event.Call n m (Broken fault)) out next
+abbrev pub IsBrokenOff : Hall → ℕ → ℕ → FeedFault → Bytes → Hall → Type 0
+IsBrokenOff h n m (feed.Broken fault) out next = Makes h (event.Call n m (Broken fault)) out next
+IsBrokenOff h n m feed.Dead out next = (out ≡ codes "dead\n") × (next ≡ h)
+IsBrokenOff h n m feed.Memory out next = ⊥
 
 -- so many of the bytes end a request: its call is made, and the stream goes on with the others, which are less than there was
 pub record IsFirst (h : Hall) (n m : ℕ) (rest bytes out : Bytes) (next : Hall) (unread : Unread) (taken : ℕ) : Type 0 where

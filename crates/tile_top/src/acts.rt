@@ -1,7 +1,7 @@
 //! What one line of a script does.
 
-ghost use Rattle.std.specs.Prelude.{◌≡◌, [], IfOk};
-ghost use Rattle.world_data.specs.Limits.{take_frames};
+ghost use Rattle.std.specs.Prelude.{◌≡◌, ◌≤◌, [], IfOk};
+ghost use Rattle.world_data.specs.Limits.{max_moment, take_frames};
 ghost use Rattle.world_model.specs.declared.events.Event.TheVariants as event;
 ghost use Rattle.tile_top.specs.Readers.{reader_of};
 ghost use Rattle.tile_top.specs.Scripts.{opening, Makes, MakesOne, Enters, Closes, Feeds, ActsOn};
@@ -14,7 +14,7 @@ use script_text::{LineFault, ScriptLine, line_of};
 use std::alloc::Global;
 use std::marker::Model;
 use tile_core::Core;
-use world_model::{Called, EnterFault, Frames, Taken};
+use world_model::{Called, EnterFault, Frames, Taken, Touched};
 
 /// What the lines of a script that were played have made: a core, and the readers of the sessions that were entered.
 #[derive(Drop)]
@@ -24,6 +24,8 @@ pub(crate) struct Player {
     readers: Vec<Reader>,
     // The places that a take gives its frames into; empty between two lines.
     frames: Frames,
+    // Who was changed by the last call; nobody in a script waits to be told.
+    touched: Touched,
 }
 
 impl Model for Player {
@@ -61,11 +63,13 @@ impl Player {
         ensures { IfOk result (λ p. p ≡ opening) }
     {
         let frames = Frames::new(alloc)?;
+        let touched = Touched::new(alloc)?;
         Ok(Player {
             alloc,
             core: Core::new(alloc),
             readers: Vec::new(alloc),
             frames,
+            touched,
         })
     }
 
@@ -86,6 +90,7 @@ impl Player {
 
     // Feeds bytes to a session's reader.
     fn feed(&mut self, session: u32, moment: u64, bytes: &[u8]) -> Result<Text, NoMemory>
+        requires { moment ≤ max_moment }
         ensures { IfOk result (λ out. Feeds self.old session moment bytes.now (reader_of session self.old.readers) out self.new) }
     {
         feed(
@@ -95,6 +100,7 @@ impl Player {
             session,
             moment,
             bytes,
+            &mut self.touched,
         )
     }
 
@@ -107,9 +113,11 @@ impl Player {
 
     // Lets the clock go on.
     fn tick(&mut self, moment: u64) -> Result<Text, NoMemory>
+        requires { moment ≤ max_moment }
         ensures { IfOk result (λ out. MakesOne self.old (event.Tick moment) out self.new) }
     {
-        match self.core.tick(moment) {
+        self.touched.clear();
+        match self.core.tick(moment, &mut self.touched) {
             Called::Ok => text_of(self.alloc, b"ok\n"),
             // As no log is kept, the hall never stops and is never spent.
             _ => Err(NoMemory),

@@ -1,6 +1,8 @@
 //! Bytes that come to a session's reader, and the calls that they bring.
 
-ghost use Rattle.std.specs.Prelude.{◌≡◌, IfOk};
+ghost use Rattle.std.specs.Prelude.{◌≡◌, ◌≤◌, true, IfOk};
+ghost use Rattle.world_data.specs.Limits.{max_moment};
+ghost use Rattle.world_model.specs.Outcomes.{is_proper};
 ghost use Rattle.world_model.specs.declared.events.Event.TheVariants as event;
 ghost use Rattle.tile_top.specs.Readers.{reader_of};
 ghost use Rattle.tile_top.specs.Scripts.{Makes, FedTo, Feeds};
@@ -8,11 +10,11 @@ ghost use Rattle.tile_top.specs.Steps.{IsBrokenOff, IsStep};
 
 use crate::outputs::text_of;
 use crate::readers::{Reader, position_of};
-use byte_text::{NoMemory, RespFault, Text, requests_are_read, streams_read_once};
-use resp_frames::Fed;
+use byte_text::{NoMemory, Text, requests_are_read, streams_read_once};
+use resp_frames::{Fed, FeedFault};
 use std::alloc::Global;
 use tile_core::Core;
-use world_model::{Asked, Called};
+use world_model::{Asked, Called, Touched};
 
 // What comes of the first request, or fault, of some bytes.
 #[derive(Drop)]
@@ -30,10 +32,15 @@ fn call(
     session: u32,
     moment: u64,
     asked: &Asked,
+    touched: &mut Touched,
 ) -> Result<Text, NoMemory>
+    requires moment { moment ≤ max_moment }
+    requires proper { is_proper asked.now ≡ true }
     ensures { IfOk result (λ out. Makes core.old.hall (event.Call session moment asked.now) out core.new.hall) }
 {
-    match core.call(session, moment, asked) {
+    // Nobody waits for frames in a script, so nobody is woken.
+    touched.clear();
+    match core.call(session, moment, asked, touched) {
         Called::Ok => text_of(alloc, b"ok\n"),
         Called::Full => text_of(alloc, b"full\n"),
         Called::Gone => text_of(alloc, b"gone\n"),
@@ -48,14 +55,18 @@ fn break_off(
     core: &mut Core,
     session: u32,
     moment: u64,
-    fault: RespFault,
+    fault: FeedFault,
+    touched: &mut Touched,
 ) -> Result<Text, NoMemory>
+    requires { moment ≤ max_moment }
     ensures { IfOk result (λ out. IsBrokenOff core.old.hall session moment fault out core.new.hall) }
 {
     match fault {
-        RespFault::Dead => text_of(alloc, b"dead\n"),
-        RespFault::Memory => Err(NoMemory),
-        _ => call(alloc, core, session, moment, &Asked::Broken(fault)),
+        FeedFault::Broken(fault) => {
+            call(alloc, core, session, moment, &Asked::Broken(fault), touched)
+        }
+        FeedFault::Dead => text_of(alloc, b"dead\n"),
+        FeedFault::Memory => Err(NoMemory),
     }
 }
 
@@ -66,7 +77,9 @@ fn feed_next(
     reader: &mut Reader,
     moment: u64,
     bytes: &[u8],
+    touched: &mut Touched,
 ) -> Result<Step, NoMemory>
+    requires { moment ≤ max_moment }
     ensures step { IfOk result (λ s. IsStep core.old.hall reader.old.session moment reader.old.unread bytes.now s.out core.new.hall reader.new.unread s.taken) }
     ensures session { reader.new.session ≡ reader.old.session }
 {
@@ -83,14 +96,14 @@ fn feed_next(
                 });
             };
             let asked = Asked::Words(request);
-            let out = call(alloc, core, reader.session, moment, &asked)?;
+            let out = call(alloc, core, reader.session, moment, &asked, touched)?;
             Ok(Step {
                 out,
                 taken: Some(taken),
             })
         }
         Err(fault) => {
-            let out = break_off(alloc, core, reader.session, moment, fault)?;
+            let out = break_off(alloc, core, reader.session, moment, fault, touched)?;
             Ok(Step { out, taken: None })
         }
     }
@@ -103,14 +116,16 @@ fn feed_reader(
     reader: &mut Reader,
     moment: u64,
     bytes: &[u8],
+    touched: &mut Touched,
 ) -> Result<Text, NoMemory>
+    requires { moment ≤ max_moment }
     ensures fed { IfOk result (λ out. FedTo core.old.hall reader.old.session moment reader.old.unread bytes.now out core.new.hall reader.new.unread) }
     ensures session { reader.new.session ≡ reader.old.session }
 {
     let mut out = Text::new(alloc);
     let mut rest = bytes;
     loop {
-        let step = feed_next(alloc, core, reader, moment, rest)?;
+        let step = feed_next(alloc, core, reader, moment, rest, touched)?;
         out.push(step.out.bytes())?;
         match step.taken {
             Some(taken) => rest = &rest[taken..],
@@ -128,11 +143,13 @@ pub(crate) fn feed(
     session: u32,
     moment: u64,
     bytes: &[u8],
+    touched: &mut Touched,
 ) -> Result<Text, NoMemory>
+    requires { moment ≤ max_moment }
     ensures { IfOk result (λ out. Feeds (record { hall = core.old.hall; readers = readers.old.items }) session moment bytes.now (reader_of session readers.old.items) out (record { hall = core.new.hall; readers = readers.new.items })) }
 {
     match position_of(readers.as_slice(), session) {
-        Some(at) => feed_reader(alloc, core, &mut readers[at], moment, bytes),
+        Some(at) => feed_reader(alloc, core, &mut readers[at], moment, bytes, touched),
         None => text_of(alloc, b"gone\n"),
     }
 }

@@ -1,7 +1,7 @@
 use Rattle.std.proofs.Common.{subst, IfOk}
 use Rattle.std.specs.Prelude.{Err}
 use Rattle.world_model.specs.Histories.{Step}
-use Rattle.world_model.specs.Seats.{enter_outcome}
+use Rattle.world_model.specs.Outcomes.{enter_outcome}
 use Rattle.world_model.specs.declared.events.EnterFault.{EnterFault}
 use Rattle.world_model.specs.declared.events.Event.TheVariants as event
 use Rattle.tile_top.specs.Played.{Played}
