@@ -152,7 +152,7 @@ impl Core {
         if self.logged >= MOST_LOGGED {
             return Called::Spent;
         }
-        let at = match ready_session(self.sessions.as_mut_slice(), session) {
+        let at = match ready_session(&mut self.sessions, session) {
             Ok(at) => at,
             Err(answer) => return answer,
         };

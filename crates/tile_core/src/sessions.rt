@@ -128,13 +128,13 @@ fn served(sessions: &[Session], number: u32) -> Result<usize, Called>
 
 /// Where the session stands that may make a call now, with room for one more frame in its queue; else how the call is answered:
 /// it is gone, or full, or memory ran out. What the sessions are stays the same.
-pub(crate) fn ready_session(sessions: &mut [Session], number: u32) -> Result<usize, Called>
-    requires { are_rising sessions.old ≡ true }
-    ensures same { map session_of sessions.new ≡ map session_of sessions.old }
-    ensures served { IsServed sessions.new number result }
-    ensures room { IfOk result (λ i. HasPlace sessions.new i) }
+pub(crate) fn ready_session(sessions: &mut Vec<Session>, number: u32) -> Result<usize, Called>
+    requires { are_rising sessions.old.items ≡ true }
+    ensures same { map session_of sessions.new.items ≡ map session_of sessions.old.items }
+    ensures served { IsServed sessions.new.items number result }
+    ensures room { IfOk result (λ i. HasPlace sessions.new.items i) }
 {
-    let at = match served(sessions, number) {
+    let at = match served(sessions.as_slice(), number) {
         Ok(at) => at,
         Err(answer) => return Err(answer),
     };

@@ -37,6 +37,6 @@ returns c =
     let at = c.args.now + 1000 * c.args.seconds in
     let put = expired_some w c.args.now c.args.key.now c.args.id.now o c.in-Some.ensures.some c.args.seconds
     ∙ ap (λ (z : Object). put_or_full w (record z { deadline = Some at }) (number 1) false) (sym c.in_ok-object.ensures)
-    ∙ ap (λ (d : Option ℕ). put_or_full w (record c.in_ok-object.object { deadline = d }) (number 1) false) (sym c.in_ok-object-2.ensures)
-    ∙ ap (λ (r : List Piece). put_or_full w (record c.in_ok-object.object { deadline = c.in_ok-object-2.field-0 }) r false) (sym c.in_ok-count_reply.ensures.value) in
+    ∙ ap (λ (d : Option ℕ). put_or_full w (record c.in_ok-object.object { deadline = d }) (number 1) false) (sym c.deadline_after-object.ensures)
+    ∙ ap (λ (r : List Piece). put_or_full w (record c.in_ok-object.object { deadline = c.deadline_after-object.result }) r false) (sym c.in_ok-count_reply.ensures.value) in
     IfOk-weaker c.plan_put-2.result _ _ (λ q s. subst (λ (e : Effect). IsPlan (objects_in c.args.objects.now) e q) (sym put) (s false)) c.plan_put-2.ensures

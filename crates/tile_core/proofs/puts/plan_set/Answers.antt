@@ -23,7 +23,7 @@ returns-then-keeps_back c =
     let xs = objects_in c.args.objects.now in
     let r = c.get-old.result in
     let back : is_kept_back c.args.only (option_map (λ (o : Bor Object). o.now) r) ≡ true = sym (c.keeps_back.ensures _ (sym c.is_none-is_new.ensures ∙ is_there r)) ∙ c.if-keeps_back.true in
-    answers xs c.args.total c.requires _ null _ c.in_ok-null_reply.ensures.value c.say-then-keeps_back.ensures _
+    answers xs c.args.total c.requires.kept _ null _ c.in_ok-null_reply.ensures.value c.say-then-keeps_back.ensures _
     (kept_back xs c.args.object c.args.object.fields c.args.cleared.now c.args.seconds c.args.only c.args.now r c.get-old.ensures.none c.get-old.ensures.some back)
 
 pub returns-then-len-gt-MAX_FIELDS : goal.returns-then-len-gt-MAX_FIELDS
@@ -34,8 +34,8 @@ returns-then-len-gt-MAX_FIELDS c =
     let free : is_kept_back c.args.only (option_map (λ (o : Bor Object). o.now) r) ≡ false = sym (c.keeps_back.ensures _ (sym c.is_none-is_new.ensures ∙ is_there r)) ∙ c.if-keeps_back.false in
     let fields = c.in_ok-with_values.ensures ∙ ap (λ (fs : List Field). with_values fs (given_and_cleared o.fields c.args.cleared.now)) c.in_ok-fields.ensures in
     let more : max_fields < length c.in_ok-with_values.field-0 = omega (arith, c.if-len-gt-MAX_FIELDS.true, c.len.ensures.count) in
-    answers xs c.args.total c.requires _ (refusal_reply refusal.TooManyFields) _ refl c.say_refusal.ensures _
-    (many xs o o.fields c.args.cleared.now c.args.seconds c.args.only c.args.now r c.get-old.ensures.none c.get-old.ensures.some free c.in_ok-with_values.field-0 c.in_ok-deadline_after.field-0 fields c.in_ok-deadline_after.ensures more)
+    answers xs c.args.total c.requires.kept _ (refusal_reply refusal.TooManyFields) _ refl c.say_refusal.ensures _
+    (many xs o o.fields c.args.cleared.now c.args.seconds c.args.only c.args.now r c.get-old.ensures.none c.get-old.ensures.some free c.in_ok-with_values.field-0 c.deadline_after.result fields c.deadline_after.ensures more)
 
 pub returns-then-len-ge-MAX_OBJECTS : goal.returns-then-len-ge-MAX_OBJECTS
 returns-then-len-ge-MAX_OBJECTS c =
@@ -47,8 +47,8 @@ returns-then-len-ge-MAX_OBJECTS c =
     let less : length c.in_ok-with_values.field-0 ≤ max_fields = omega (arith, c.if-len-gt-MAX_FIELDS.false, c.len.ensures.count) in
     let new : is_none r ≡ true = new_is r _ c.is_none-is_new.ensures ∙ c.if-is_new.true in
     let le : max_objects ≤ length xs = omega (arith, c.if-len-ge-MAX_OBJECTS.true, c.len-then-is_new.ensures.count) in
-    answers xs c.args.total c.requires _ (refusal_reply refusal.TooManyObjects) _ refl c.say_refusal-then-len-ge-MAX_OBJECTS.ensures _
-    (full xs o o.fields c.args.cleared.now c.args.seconds c.args.only c.args.now r c.get-old.ensures.none c.get-old.ensures.some free c.in_ok-with_values.field-0 c.in_ok-deadline_after.field-0 fields c.in_ok-deadline_after.ensures less new le)
+    answers xs c.args.total c.requires.kept _ (refusal_reply refusal.TooManyObjects) _ refl c.say_refusal-then-len-ge-MAX_OBJECTS.ensures _
+    (full xs o o.fields c.args.cleared.now c.args.seconds c.args.only c.args.now r c.get-old.ensures.none c.get-old.ensures.some free c.in_ok-with_values.field-0 c.deadline_after.result fields c.deadline_after.ensures less new le)
 
 pub returns : goal.returns
 returns c =
@@ -57,15 +57,15 @@ returns c =
     let o = c.args.object in
     let r = c.get-old.result in
     let fs = c.in_ok-with_values.field-0 in
-    let d = c.in_ok-deadline_after.field-0 in
+    let d = c.deadline_after.result in
     let free : is_kept_back c.args.only (option_map (λ (o : Bor Object). o.now) r) ≡ false = sym (c.keeps_back.ensures _ (sym c.is_none-is_new.ensures ∙ is_there r)) ∙ c.if-keeps_back.false in
     let fields = c.in_ok-with_values.ensures ∙ ap (λ (fs : List Field). with_values fs (given_and_cleared o.fields c.args.cleared.now)) c.in_ok-fields.ensures in
     let less : length fs ≤ max_fields = omega (arith, c.if-len-gt-MAX_FIELDS.false, c.len.ensures.count) in
     let whole : Object = record { key = o.key; id = o.id; text = o.text; shape = o.shape; fields = fs; deadline = d } in
     let put : setting xs o o.fields c.args.cleared.now c.args.seconds c.args.only c.args.now r c.get-old.ensures.none c.get-old.ensures.some ≡ put_or_full w whole fine true = elim c.else-is_new.branch [
       | else-is_new-via-then-is_new+else-len-ge-MAX_OBJECTS b ↦
-          put_more xs o o.fields c.args.cleared.now c.args.seconds c.args.only c.args.now r c.get-old.ensures.none c.get-old.ensures.some free fs d fields c.in_ok-deadline_after.ensures less (omega (arith, b.if-len-ge-MAX_OBJECTS.false, b.len-then-is_new.ensures.count))
+          put_more xs o o.fields c.args.cleared.now c.args.seconds c.args.only c.args.now r c.get-old.ensures.none c.get-old.ensures.some free fs d fields c.deadline_after.ensures less (omega (arith, b.if-len-ge-MAX_OBJECTS.false, b.len-then-is_new.ensures.count))
       | else-is_new-via-else-is_new b ↦
-          put_over xs o o.fields c.args.cleared.now c.args.seconds c.args.only c.args.now r c.get-old.ensures.none c.get-old.ensures.some free fs d fields c.in_ok-deadline_after.ensures less (new_is r _ c.is_none-is_new.ensures ∙ b.if-is_new.false)
+          put_over xs o o.fields c.args.cleared.now c.args.seconds c.args.only c.args.now r c.get-old.ensures.none c.get-old.ensures.some free fs d fields c.deadline_after.ensures less (new_is r _ c.is_none-is_new.ensures ∙ b.if-is_new.false)
     ] in
     IfOk-weaker c.plan_put-2.result _ _ (λ p s. subst (λ (e : Effect). IsPlan xs e p) (sym (put ∙ ap (λ (q : List Piece). put_or_full w whole q true) (sym c.in_ok-fine_reply.ensures.value))) (s true)) c.plan_put-2.ensures

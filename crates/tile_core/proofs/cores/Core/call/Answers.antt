@@ -1,21 +1,22 @@
 use Rattle.std.proofs.Common.{◌≡◌, ◌≤◌, ◌<◌, ◌+◌, inr, ℕ, true, false, List, length, max, map, sym, ap, ◌∙◌, subst, arith}
-use Rattle.std.specs.Prelude.{Ok, Err, slice_set}
+use Rattle.std.specs.Prelude.{Result, Ok, Err, slice_set}
 use Rattle.world_data.specs.Limits.{full_frames, full_bytes, max_sessions}
 use Rattle.world_data.specs.Frames.{frame_bytes}
 use Rattle.world_model.specs.Halls.{Hall, NamesChanged}
 use Rattle.world_model.specs.Histories.{Step}
 use Rattle.world_model.specs.declared.events.Event.TheVariants as event
 use Rattle.world_model.specs.declared.events.Outcome.TheVariants as outcome
+use Rattle.world_model.specs.declared.events.Called.{Called}
 use Rattle.world_model.specs.declared.events.Called.TheVariants as called
 use Rattle.world_data.specs.declared.objects.Object.{Object}
 use Rattle.tile_core.specs.declared.sessions.Session.{Session}
 use Rattle.keyspace.specs.Entries.{objects_in}
-use Rattle.tile_core.specs.Kernels.{Kernel, hall_of, AreKept}
+use Rattle.tile_core.specs.Kernels.{Kernel, IsSound, hall_of, AreKept}
 use Rattle.tile_core.specs.Answered.{MayCall, IsAnswered, AreSessions, StayNamed, is_named}
 use Rattle.tile_core.specs.Moves.{world_of, moved}
 use Rattle.tile_core.specs.Dues.{AreCalm, IsExpired}
 use Rattle.tile_core.specs.Plans.{IsPlan, effect_of_asked}
-use Rattle.tile_core.specs.Sessions.{answered, are_rising, session_of}
+use Rattle.tile_core.specs.Sessions.{IsServed, answered}
 use Rattle.tile_core.proofs.Answered.{may_not, has_answer}
 use Rattle.tile_core.proofs.Calls.{refused, lacks, done}
 use Rattle.tile_core.proofs.Finishing.{few_frames, few_bytes, served_is, kept_after, rest_kept, present_set}
@@ -30,52 +31,52 @@ use Rattle.tile_core.proofs.cores.Core.call.Goals as goal
 pub ready_session-requires : goal.ready_session-requires
 ready_session-requires c =
     let k = c.self.inside in
-    subst (λ (ss : List Session). are_rising ss ≡ true) (sym c.as_mut_slice.ensures.value) (rising 0 k.drawn k.sessions.items c.self.invariant.present.rises)
+    rising 0 k.drawn k.sessions.items c.self.invariant.present.rises
 
 pub invariant_of-self : goal.invariant_of-self
 invariant_of-self c =
     let k = c.self.inside in
-    let same = c.ready_session.ensures.same ∙ ap (map session_of) c.as_mut_slice.ensures.value in
-    record { kept = c.self.invariant.kept; calm = c.self.invariant.calm; early = c.self.invariant.early; present = still_present (objects_in k.objects) k.clock k.logged k.drawn k.sessions.items c.ready_session.new.sessions same c.self.invariant.present }
+    let same = c.ready_session.ensures.same in
+    record { kept = c.self.invariant.kept; calm = c.self.invariant.calm; early = c.self.invariant.early; present = still_present (objects_in k.objects) k.clock k.logged k.drawn k.sessions.items c.ready_session.new.sessions.items same c.self.invariant.present }
 
 pub returns-in-Err-clause-step : goal.returns-in-Err-clause-step
 returns-in-Err-clause-step c =
     let k = c.self.inside in
-    let ss = c.ready_session.new.sessions in
-    let same = c.ready_session.ensures.same ∙ ap (map session_of) c.as_mut_slice.ensures.value in
+    let ss = c.ready_session.new.sessions.items in
+    let same = c.ready_session.ensures.same in
     let present = still_present (objects_in k.objects) k.clock k.logged k.drawn k.sessions.items ss same c.self.invariant.present in
     let hall = same_hall (objects_in k.objects) k.clock k.logged k.drawn k.sessions.items ss same ∙ ap (λ (n : Kernel). n.hall) c.self.view_is in
     subst (λ (h : Hall). Step h (event.Call c.args.session c.args.moment c.args.asked.now) (outcome.Answered c.in-Err.answer) (hall_of (objects_in k.objects) k.clock k.logged k.drawn ss)) hall
-    (refused (objects_in k.objects) k.clock k.logged k.drawn ss c.args.session c.args.moment c.args.asked.now c.if-self-ge-MOST_LOGGED.false present.rises c.in-Err.answer c.ready_session.ensures.served)
+    (refused (objects_in k.objects) k.clock k.logged k.drawn ss c.args.session c.args.moment c.args.asked.now c.if-self-ge-MOST_LOGGED.false present.rises c.in-Err.answer (subst (λ (r : Result ℕ Called). IsServed ss c.args.session r) c.in-Err.is c.ready_session.ensures.served))
 
 pub returns-in-Err-clause-named : goal.returns-in-Err-clause-named
 returns-in-Err-clause-named c =
     let k = c.self.inside in
-    let same = c.ready_session.ensures.same ∙ ap (map session_of) c.as_mut_slice.ensures.value in
-    none_named c.args.touched.now _ _ (same_hall (objects_in k.objects) k.clock k.logged k.drawn k.sessions.items c.ready_session.new.sessions same ∙ ap (λ (n : Kernel). n.hall) c.self.view_is)
+    let same = c.ready_session.ensures.same in
+    none_named c.args.touched.now _ _ (same_hall (objects_in k.objects) k.clock k.logged k.drawn k.sessions.items c.ready_session.new.sessions.items same ∙ ap (λ (n : Kernel). n.hall) c.self.view_is)
 
 pub returns-in-Err-clause-room : goal.returns-in-Err-clause-room
 returns-in-Err-clause-room c =
     let k = c.self.inside in
-    let same = c.ready_session.ensures.same ∙ ap (map session_of) c.as_mut_slice.ensures.value in
-    same_room c.args.touched.now _ _ (same_hall (objects_in k.objects) k.clock k.logged k.drawn k.sessions.items c.ready_session.new.sessions same ∙ ap (λ (n : Kernel). n.hall) c.self.view_is) c.requires.room
+    let same = c.ready_session.ensures.same in
+    same_room c.args.touched.now _ _ (same_hall (objects_in k.objects) k.clock k.logged k.drawn k.sessions.items c.ready_session.new.sessions.items same ∙ ap (λ (n : Kernel). n.hall) c.self.view_is) c.requires.room
 
 pub returns-in-Err-clause-done : goal.returns-in-Err-clause-done
 returns-in-Err-clause-done c =
     let k = c.self.inside in
-    let ss = c.ready_session.new.sessions in
-    let same = c.ready_session.ensures.same ∙ ap (map session_of) c.as_mut_slice.ensures.value in
+    let ss = c.ready_session.new.sessions.items in
+    let same = c.ready_session.ensures.same in
     let present = still_present (objects_in k.objects) k.clock k.logged k.drawn k.sessions.items ss same c.self.invariant.present in
     let hall = same_hall (objects_in k.objects) k.clock k.logged k.drawn k.sessions.items ss same ∙ ap (λ (n : Kernel). n.hall) c.self.view_is in
     λ may.
     let m = subst (λ (h : Hall). MayCall h c.args.session) (sym hall) may in
-    inr (may_not k.drawn ss c.args.session present.rises c.in-Err.answer c.ready_session.ensures.served m.1 m.2)
+    inr (may_not k.drawn ss c.args.session present.rises c.in-Err.answer (subst (λ (r : Result ℕ Called). IsServed ss c.args.session r) c.in-Err.is c.ready_session.ensures.served) m.1 m.2)
 
 pub returns-in_default-clause-step : goal.returns-in_default-clause-step
 returns-in_default-clause-step c =
     let k = c.self.inside in
-    let ss = c.ready_session.new.sessions in
-    let same = c.ready_session.ensures.same ∙ ap (map session_of) c.as_mut_slice.ensures.value in
+    let ss = c.ready_session.new.sessions.items in
+    let same = c.ready_session.ensures.same in
     let present = still_present (objects_in k.objects) k.clock k.logged k.drawn k.sessions.items ss same c.self.invariant.present in
     let hall = same_hall (objects_in k.objects) k.clock k.logged k.drawn k.sessions.items ss same ∙ ap (λ (n : Kernel). n.hall) c.self.view_is in
     let sv = c.in-Ok.ensures.served in
@@ -86,8 +87,8 @@ returns-in_default-clause-step c =
 pub answer-requires-clause-frames : goal.answer-requires-clause-frames
 answer-requires-clause-frames c =
     let k = c.self.inside in
-    let ss = c.ready_session.new.sessions in
-    let same_list = c.ready_session.ensures.same ∙ ap (map session_of) c.as_mut_slice.ensures.value in
+    let ss = c.ready_session.new.sessions.items in
+    let same_list = c.ready_session.ensures.same in
     let present = still_present (objects_in k.objects) k.clock k.logged k.drawn k.sessions.items ss same_list c.self.invariant.present in
     let hall = same_hall (objects_in k.objects) k.clock k.logged k.drawn k.sessions.items ss same_list ∙ ap (λ (n : Kernel). n.hall) c.self.view_is in
     let sv = c.in-Ok.ensures.served in
@@ -97,8 +98,8 @@ answer-requires-clause-frames c =
 pub answer-requires-clause-bytes : goal.answer-requires-clause-bytes
 answer-requires-clause-bytes c =
     let k = c.self.inside in
-    let ss = c.ready_session.new.sessions in
-    let same_list = c.ready_session.ensures.same ∙ ap (map session_of) c.as_mut_slice.ensures.value in
+    let ss = c.ready_session.new.sessions.items in
+    let same_list = c.ready_session.ensures.same in
     let present = still_present (objects_in k.objects) k.clock k.logged k.drawn k.sessions.items ss same_list c.self.invariant.present in
     let hall = same_hall (objects_in k.objects) k.clock k.logged k.drawn k.sessions.items ss same_list ∙ ap (λ (n : Kernel). n.hall) c.self.view_is in
     let sv = c.in-Ok.ensures.served in
@@ -108,8 +109,8 @@ answer-requires-clause-bytes c =
 pub answer-requires-clause-room : goal.answer-requires-clause-room
 answer-requires-clause-room c =
     let k = c.self.inside in
-    let ss = c.ready_session.new.sessions in
-    let same_list = c.ready_session.ensures.same ∙ ap (map session_of) c.as_mut_slice.ensures.value in
+    let ss = c.ready_session.new.sessions.items in
+    let same_list = c.ready_session.ensures.same in
     let present = still_present (objects_in k.objects) k.clock k.logged k.drawn k.sessions.items ss same_list c.self.invariant.present in
     let hall = same_hall (objects_in k.objects) k.clock k.logged k.drawn k.sessions.items ss same_list ∙ ap (λ (n : Kernel). n.hall) c.self.view_is in
     let sv = c.in-Ok.ensures.served in
@@ -128,8 +129,8 @@ make_move-requires-clause-few c =
 pub name_session-requires : goal.name_session-requires
 name_session-requires c =
     let k = c.self.inside in
-    let ss = c.ready_session.new.sessions in
-    let same_list = c.ready_session.ensures.same ∙ ap (map session_of) c.as_mut_slice.ensures.value in
+    let ss = c.ready_session.new.sessions.items in
+    let same_list = c.ready_session.ensures.same in
     let present = still_present (objects_in k.objects) k.clock k.logged k.drawn k.sessions.items ss same_list c.self.invariant.present in
     let hall = same_hall (objects_in k.objects) k.clock k.logged k.drawn k.sessions.items ss same_list ∙ ap (λ (n : Kernel). n.hall) c.self.view_is in
     let sv = c.in-Ok.ensures.served in
@@ -143,8 +144,8 @@ name_session-requires c =
 pub invariant_of-self-2 : goal.invariant_of-self-2
 invariant_of-self-2 c =
     let k = c.self.inside in
-    let ss = c.ready_session.new.sessions in
-    let same_list = c.ready_session.ensures.same ∙ ap (map session_of) c.as_mut_slice.ensures.value in
+    let ss = c.ready_session.new.sessions.items in
+    let same_list = c.ready_session.ensures.same in
     let present = still_present (objects_in k.objects) k.clock k.logged k.drawn k.sessions.items ss same_list c.self.invariant.present in
     let hall = same_hall (objects_in k.objects) k.clock k.logged k.drawn k.sessions.items ss same_list ∙ ap (λ (n : Kernel). n.hall) c.self.view_is in
     let sv = c.in-Ok.ensures.served in
@@ -169,8 +170,8 @@ invariant_of-self-2 c =
 pub returns-clause-step : goal.returns-clause-step
 returns-clause-step c =
     let k = c.self.inside in
-    let ss = c.ready_session.new.sessions in
-    let same_list = c.ready_session.ensures.same ∙ ap (map session_of) c.as_mut_slice.ensures.value in
+    let ss = c.ready_session.new.sessions.items in
+    let same_list = c.ready_session.ensures.same in
     let present = still_present (objects_in k.objects) k.clock k.logged k.drawn k.sessions.items ss same_list c.self.invariant.present in
     let hall = same_hall (objects_in k.objects) k.clock k.logged k.drawn k.sessions.items ss same_list ∙ ap (λ (n : Kernel). n.hall) c.self.view_is in
     let sv = c.in-Ok.ensures.served in
@@ -197,8 +198,8 @@ returns-clause-step c =
 pub returns-clause-named : goal.returns-clause-named
 returns-clause-named c =
     let k = c.self.inside in
-    let ss = c.ready_session.new.sessions in
-    let same_list = c.ready_session.ensures.same ∙ ap (map session_of) c.as_mut_slice.ensures.value in
+    let ss = c.ready_session.new.sessions.items in
+    let same_list = c.ready_session.ensures.same in
     let present = still_present (objects_in k.objects) k.clock k.logged k.drawn k.sessions.items ss same_list c.self.invariant.present in
     let hall = same_hall (objects_in k.objects) k.clock k.logged k.drawn k.sessions.items ss same_list ∙ ap (λ (n : Kernel). n.hall) c.self.view_is in
     let sv = c.in-Ok.ensures.served in
@@ -213,8 +214,8 @@ returns-clause-named c =
 pub returns-clause-room : goal.returns-clause-room
 returns-clause-room c =
     let k = c.self.inside in
-    let ss = c.ready_session.new.sessions in
-    let same_list = c.ready_session.ensures.same ∙ ap (map session_of) c.as_mut_slice.ensures.value in
+    let ss = c.ready_session.new.sessions.items in
+    let same_list = c.ready_session.ensures.same in
     let present = still_present (objects_in k.objects) k.clock k.logged k.drawn k.sessions.items ss same_list c.self.invariant.present in
     let hall = same_hall (objects_in k.objects) k.clock k.logged k.drawn k.sessions.items ss same_list ∙ ap (λ (n : Kernel). n.hall) c.self.view_is in
     let sv = c.in-Ok.ensures.served in
@@ -231,8 +232,8 @@ returns-clause-kept c = subst (StayNamed c.args.touched.now) (sym c.name_session
 pub returns-clause-answered : goal.returns-clause-answered
 returns-clause-answered c =
     let k = c.self.inside in
-    let ss = c.ready_session.new.sessions in
-    let same_list = c.ready_session.ensures.same ∙ ap (map session_of) c.as_mut_slice.ensures.value in
+    let ss = c.ready_session.new.sessions.items in
+    let same_list = c.ready_session.ensures.same in
     let present = still_present (objects_in k.objects) k.clock k.logged k.drawn k.sessions.items ss same_list c.self.invariant.present in
     let hall = same_hall (objects_in k.objects) k.clock k.logged k.drawn k.sessions.items ss same_list ∙ ap (λ (n : Kernel). n.hall) c.self.view_is in
     let sv = c.in-Ok.ensures.served in
@@ -245,3 +246,10 @@ returns-clause-answered c =
     λ _.
     subst (λ (h : Hall). IsAnswered h (hall_of later c.max-now.result longer k.drawn (slice_set ss c.in-Ok.at c.answer.new.self)) c.args.session) hall
     (subst (λ (s : Session). IsAnswered (hall_of (objects_in k.objects) k.clock k.logged k.drawn ss) (hall_of later c.max-now.result longer k.drawn (slice_set ss c.in-Ok.at s)) c.args.session) (sym now_) is_answered)
+
+pub invariant_of-self-in_default : goal.invariant_of-self-in_default
+invariant_of-self-in_default c =
+    let k = c.self.inside in
+    let present = still_present (objects_in k.objects) k.clock k.logged k.drawn k.sessions.items c.ready_session.new.sessions.items c.ready_session.ensures.same c.self.invariant.present in
+    subst (λ (os : List Object). IsSound os k.weight k.calm k.clock k.drawn c.ready_session.new.sessions.items) (sym c.in_default.ensures.err)
+    (record { kept = c.self.invariant.kept; calm = c.self.invariant.calm; early = c.self.invariant.early; present = present })
