@@ -4,7 +4,7 @@ use Rattle.std.specs.Io.KnownBytes.{Consumes, Keeps, IsAtEnd}
 use Rattle.tile_top.specs.TextLines.{max_line, max_script}
 use Rattle.tile_top.specs.declared.streams.LineEnd.TheVariants.{Line}
 use Rattle.tile_top.specs.Reads.{OnLine}
-use Rattle.tile_top.proofs.Reading.{Reads, Plain, plain_more, reads_more, reads_line, reads_last, reads_long, reads_past}
+use Rattle.tile_top.proofs.Reading.{Reads, Plain, one_line_kept, one_line_more, plain_more, reads_more, reads_line, reads_last, reads_long, reads_past}
 use Rattle.tile_top.proofs.streams.read_line.Goals as goal
 
 pub returns-in-Ok-None-2-clause-told : goal.returns-in-Ok-None-2-clause-told
@@ -67,3 +67,43 @@ loop-byte-preserved g c =
       most = omega arith;
       later = search rules;
     }
+
+-- what was read is at most one line
+
+pub returns-in-Ok-None-2-clause-piece : goal.returns-in-Ok-None-2-clause-piece
+returns-in-Ok-None-2-clause-piece g c =
+    let old = g.S.Source.left c.loop-byte.source in
+    let new = g.S.Source.left c.read_byte.new.source in
+    let took : IsAtEnd new × Keeps old new = subst (λ (o : Option ℕ). MatchOption o (IsAtEnd new × Keeps old new) (λ b. Consumes old new (b ∷ []))) c.in-Ok-None.field-0-is c.in-Ok-None.ensures.byte in
+    one_line_kept _ _ _ c.loop-byte.line.items c.loop-byte.invariant.plain took.1
+
+pub returns-in-Err-clause-piece : goal.returns-in-Err-clause-piece
+returns-in-Err-clause-piece g c = one_line_kept _ _ _ c.loop-byte.line.items c.loop-byte.invariant.plain c.in-Err.ensures.byte
+
+pub returns-then-used-ge-MAX_SCRIPT-clause-piece : goal.returns-then-used-ge-MAX_SCRIPT-clause-piece
+returns-then-used-ge-MAX_SCRIPT-clause-piece g c =
+    let old = g.S.Source.left c.loop-byte.source in
+    let new = g.S.Source.left c.read_byte.new.source in
+    let took : Consumes old new (c.in-Ok-Some.byte ∷ []) = subst (λ (o : Option ℕ). MatchOption o (IsAtEnd new × Keeps old new) (λ b. Consumes old new (b ∷ []))) c.in-Ok-Some.field-0-is c.in-Ok-Some.ensures.byte in
+    one_line_more _ _ _ c.loop-byte.line.items c.in-Ok-Some.byte c.loop-byte.invariant.plain took
+
+pub returns-then-byte-eq10-clause-piece : goal.returns-then-byte-eq10-clause-piece
+returns-then-byte-eq10-clause-piece g c =
+    let old = g.S.Source.left c.loop-byte.source in
+    let new = g.S.Source.left c.read_byte.new.source in
+    let took : Consumes old new (c.in-Ok-Some.byte ∷ []) = subst (λ (o : Option ℕ). MatchOption o (IsAtEnd new × Keeps old new) (λ b. Consumes old new (b ∷ []))) c.in-Ok-Some.field-0-is c.in-Ok-Some.ensures.byte in
+    one_line_more _ _ _ c.loop-byte.line.items c.in-Ok-Some.byte c.loop-byte.invariant.plain took
+
+pub returns-then-len-ge-MAX_LINE-clause-piece : goal.returns-then-len-ge-MAX_LINE-clause-piece
+returns-then-len-ge-MAX_LINE-clause-piece g c =
+    let old = g.S.Source.left c.loop-byte.source in
+    let new = g.S.Source.left c.read_byte.new.source in
+    let took : Consumes old new (c.in-Ok-Some.byte ∷ []) = subst (λ (o : Option ℕ). MatchOption o (IsAtEnd new × Keeps old new) (λ b. Consumes old new (b ∷ []))) c.in-Ok-Some.field-0-is c.in-Ok-Some.ensures.byte in
+    one_line_more _ _ _ c.loop-byte.line.items c.in-Ok-Some.byte c.loop-byte.invariant.plain took
+
+pub returns-then-is_err-clause-piece : goal.returns-then-is_err-clause-piece
+returns-then-is_err-clause-piece g c =
+    let old = g.S.Source.left c.loop-byte.source in
+    let new = g.S.Source.left c.read_byte.new.source in
+    let took : Consumes old new (c.in-Ok-Some.byte ∷ []) = subst (λ (o : Option ℕ). MatchOption o (IsAtEnd new × Keeps old new) (λ b. Consumes old new (b ∷ []))) c.in-Ok-Some.field-0-is c.in-Ok-Some.ensures.byte in
+    one_line_more _ _ _ c.loop-byte.line.items c.in-Ok-Some.byte c.loop-byte.invariant.plain took
