@@ -11,7 +11,7 @@ mod streams;
 mod tops;
 
 pub use laws::feeds_are_one_stream;
-pub use tops::{Ended, top};
+pub use tops::{Ended, out_of_memory, top};
 
 #[cfg(test)]
 mod tests;

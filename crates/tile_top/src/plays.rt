@@ -79,6 +79,7 @@ pub(crate) fn play<S: Source, K: Sink>(
 ) -> (Turn, u64)
     requires { player.old ≡ opening }
     ensures told { OnPlay result.0 (S.left source.old) (S.left source.new) (K.held sink.old) (K.held sink.new) result.1 }
+    ensures source { S.faults source.old ≤ S.faults source.new }
     ensures later { K.faults sink.old ≤ K.faults sink.new }
     ensures read { result.0 ≡ Turn.ReadFault → Rose (S.faults source.old) (S.faults source.new) }
     ensures write { result.0 ≡ Turn.WriteFault → Rose (K.faults sink.old) (K.faults sink.new) }

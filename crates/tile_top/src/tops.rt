@@ -5,7 +5,7 @@ ghost use Rattle.std.specs.Io.KnownBytes.{Appends};
 ghost use Rattle.outside.specs.Causes.{Rose};
 ghost use mathlib.Core.List.{IsPrefix};
 ghost use Rattle.byte_text.specs.Names.{Bytes};
-ghost use Rattle.tile_top.specs.Tops.{IsReplay, Replays, IsStopped, IsEnd, usage_line, script_line};
+ghost use Rattle.tile_top.specs.Tops.{IsReplay, Replays, IsStopped, IsEnd, usage_line, script_line, memory_line};
 
 use crate::acts::Player;
 use crate::plays::{Turn, play};
@@ -64,6 +64,7 @@ fn end<K: Sink>(sink: &mut K, status: u8, last: &[u8]) -> Ended
 // Plays the script, and writes the last line of its status.
 fn replay<S: Source, K: Sink>(alloc: Global, source: &mut S, sink: &mut K) -> Ended
     ensures told { Replays (S.left source.old) (S.left source.new) (K.held sink.old) (K.held sink.new) result.status }
+    ensures source { S.faults source.old ≤ S.faults source.new }
     ensures later { K.faults sink.old ≤ K.faults sink.new }
     ensures read { result.status ≡ 3 → Rose (S.faults source.old) (S.faults source.new) }
     ensures write { result.status ≡ 4 → Rose (K.faults sink.old) (K.faults sink.new) }
@@ -85,13 +86,24 @@ fn replay<S: Source, K: Sink>(alloc: Global, source: &mut S, sink: &mut K) -> En
     }
 }
 
+/// The end of a program that wants memory before it can call [`top`]: the last line of status 7 is written, or a beginning of it at
+/// status 4.
+pub fn out_of_memory<K: Sink>(sink: &mut K) -> Ended
+    ensures told { IsEnd (K.held sink.old) (K.held sink.new) 7 memory_line result.status }
+    ensures later { K.faults sink.old ≤ K.faults sink.new }
+    ensures cause { result.status ≡ 4 → Rose (K.faults sink.old) (K.faults sink.new) }
+{
+    end(sink, 7, OUT_OF_MEMORY)
+}
+
 /// Does what the words ask for, the words after the program's name: `replay` plays the script that the source gives, and writes
-/// its output to the sink. Every other list of words is answered by a line on the usage and status 1.
+/// its output to the sink. Every other list of words is answered by a line on the usage and status 1, and nothing is read.
 ///
 /// Status 0: the source was read to its end, and the bytes written are the script's output. Status 2: this line is the first that
 /// is none of a script, and the bytes written are the whole output of the lines before it and then the status's line. At status 3
-/// (reading failed), 4 (writing failed) and 7 (want of memory) they are the output of some first lines, a part of that of the
-/// next one, and the status's line, which at 4 is cut or missing.
+/// (reading failed) and 7 (want of memory) they are the whole output of the lines before the last one that was read, and then the
+/// status's line. At 4 (writing failed) they are that output and a part of the last line's, or a beginning of the line of the status
+/// that was due.
 pub fn top<S: Source, K: Sink>(
     alloc: Global,
     words: &[String],
@@ -101,6 +113,9 @@ pub fn top<S: Source, K: Sink>(
     ensures replay { IsReplay (map string_bytes words.now) → Replays (S.left source.old) (S.left source.new) (K.held sink.old) (K.held sink.new) result.status }
     ensures usage { (IsReplay (map string_bytes words.now) → ⊥) → ((result.status ≡ 1) × Appends (K.held sink.old) (K.held sink.new) usage_line)
         ⊎ ((result.status ≡ 4) × ((part : Bytes) × IsPrefix part usage_line × Appends (K.held sink.old) (K.held sink.new) part)) }
+    ensures unread { (IsReplay (map string_bytes words.now) → ⊥) → source.new ≡ source.old }
+    ensures source { S.faults source.old ≤ S.faults source.new }
+    ensures sink { K.faults sink.old ≤ K.faults sink.new }
     ensures read { result.status ≡ 3 → Rose (S.faults source.old) (S.faults source.new) }
     ensures write { result.status ≡ 4 → Rose (K.faults sink.old) (K.faults sink.new) }
 {
