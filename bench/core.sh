@@ -1,0 +1,26 @@
+#!/usr/bin/env bash
+# Measures what a request costs on one thread, from the bytes of the request to the frame taken: nanoseconds, and allocations where
+# valgrind is there (as the difference of two runs, so that filling is not counted).
+# Usage: bench/core.sh [COUNT]   COUNT requests a row, 1000000 if left out.
+set -eu
+cd "$(dirname "$0")/.."
+count=${1:-1000000}
+program=crates/core_bench/out/core_bench
+
+[ -x "$program" ] || (cd crates/core_bench && rt run >/dev/null)
+
+allocations() {
+    valgrind "$program" "$1" "$2" "$3" 2>&1 | awk '/total heap usage/ { gsub(",", "", $5); print $5 }'
+}
+
+printf '%-6s %8s %10s %12s %12s\n' kind ids answered nanoseconds allocations
+for ids in 1000 100000; do
+    for kind in set get ping; do
+        each=-
+        if command -v valgrind >/dev/null && [ "$ids" -le 1000 ]; then
+            each=$((($(allocations "$kind" "$ids" 2000) - $(allocations "$kind" "$ids" 1000)) / 1000))
+        fi
+        read -r name many answered took <<<"$("$program" "$kind" "$ids" "$count")"
+        printf '%-6s %8s %10s %12s %12s\n' "$name" "$many" "$answered" "$took" "$each"
+    done
+done

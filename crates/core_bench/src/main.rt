@@ -1,0 +1,68 @@
+//! A program to measure by: requests go through reader and core on one thread, and what was answered is counted.
+//!
+//! Its words are `KIND IDS COUNT`: the kind is `set`, `get` or `ping`, the requests go over so many ids, and so many of them are
+//! made, each called and taken. It prints how many were answered and the nanoseconds that each took. Without words it does nothing.
+//! `bench/core.sh` runs it.
+#![tactic(auto)]
+
+mod drivers;
+
+use crate::drivers::Driver;
+use std::alloc::Global;
+use std::time::Instant;
+use std::{env, io};
+
+fn number(word: Option<String>) -> u64 {
+    match word {
+        Some(word) => word.parse::<u64>().unwrap_or(0),
+        None => 0,
+    }
+}
+
+// The text of one request about an id.
+fn push_text(alloc: Global, all: &mut Vec<u8>, kind: &str, id: u64) -> io::Result<()> {
+    let name = format!(in alloc; "truck{:012}", id)?;
+    let text = match kind {
+        "set" => format!(in alloc;
+            "*6\r\n$3\r\nSET\r\n$5\r\nfleet\r\n$17\r\n{}\r\n$5\r\nPOINT\r\n$2\r\n33\r\n$3\r\n112\r\n",
+            name
+        )?,
+        "get" => format!(in alloc; "*3\r\n$3\r\nGET\r\n$5\r\nfleet\r\n$17\r\n{}\r\n", name)?,
+        _ => format!(in alloc; "*1\r\n$4\r\nPING\r\n")?,
+    };
+    all.extend_from_slice(text.as_bytes())?;
+    Ok(())
+}
+
+// The texts of requests over so many ids, in a scattered order.
+fn texts(alloc: Global, kind: &str, ids: u64) -> io::Result<Vec<u8>> {
+    let mut all = Vec::new(alloc);
+    let mut id = 0u64;
+    for _ in 0..ids {
+        id = id.wrapping_add(7919).checked_rem(ids).unwrap_or(0);
+        push_text(alloc, &mut all, kind, id)?;
+    }
+    Ok(all)
+}
+
+fn main(rt: HostRuntime) -> io::Result<()> {
+    let alloc = rt.alloc();
+    let mut words = env::args(&rt)?.skip(1);
+    let Some(kind) = words.next() else {
+        return Ok(());
+    };
+    let ids = number(words.next());
+    let count = number(words.next());
+    let Ok(mut driver) = Driver::new(alloc) else {
+        return Ok(());
+    };
+    let filling = texts(alloc, "set", ids)?;
+    driver.drive(filling.as_slice(), ids);
+    let all = texts(alloc, kind.as_str(), ids)?;
+    let begun = Instant::now(&rt)?;
+    let answered = driver.drive(all.as_slice(), count);
+    let took = begun.elapsed(&rt)?.as_nanos();
+    let each = took.checked_div(u128::from(answered)).unwrap_or(0);
+    println!(rt; "{} {} {} {}", kind, ids, answered, each)?;
+    Ok(())
+}
