@@ -225,12 +225,18 @@ fn push_fault(out: &mut Text, fault: &WordFault) -> Result<(), NoMemory> {
     }
 }
 
+fn push_refusal(out: &mut Text, fault: &CommandFault) -> Result<(), NoMemory> {
+    match fault {
+        CommandFault::Refused(fault) => push_fault(out, fault),
+        CommandFault::Memory => Err(NoMemory),
+    }
+}
+
 fn answer(alloc: Global, words: &Request) -> Result<Text, NoMemory> {
     let mut out = Text::new(alloc);
     match command_of(alloc, words) {
         Ok(command) => push_command(&mut out, &command)?,
-        Err(CommandFault::Refused(fault)) => push_fault(&mut out, &fault)?,
-        Err(CommandFault::Memory) => return Err(NoMemory),
+        Err(fault) => push_refusal(&mut out, &fault)?,
     }
     Ok(out)
 }
