@@ -232,12 +232,17 @@ fn push_refusal(out: &mut Text, fault: &CommandFault) -> Result<(), NoMemory> {
     }
 }
 
+fn push_answer(out: &mut Text, read: &Result<Command, CommandFault>) -> Result<(), NoMemory> {
+    match read {
+        Ok(command) => push_command(out, command),
+        Err(fault) => push_refusal(out, fault),
+    }
+}
+
 fn answer(alloc: Global, words: &Request) -> Result<Text, NoMemory> {
     let mut out = Text::new(alloc);
-    match command_of(alloc, words) {
-        Ok(command) => push_command(&mut out, &command)?,
-        Err(fault) => push_refusal(&mut out, &fault)?,
-    }
+    let read = command_of(alloc, words);
+    push_answer(&mut out, &read)?;
     Ok(out)
 }
 
@@ -260,6 +265,13 @@ fn sets_are_read(rt: HostRuntime) -> Result<(), Fail> {
             "SET k a FIELD f -1 EX 5 FIELD g 0 FIELD f 1 POINT 1 2",
             "set k a with 1 without 1 after 5 {\"type\":\"Point\",\"coordinates\":[2,1]}",
         ),
+    ];
+    lines_are_read(rt.alloc(), &table)
+}
+
+#[test]
+fn sets_are_refused(rt: HostRuntime) -> Result<(), Fail> {
+    let table = [
         ("SET k a FIELD f x POINT 1 2", "invalid x"),
         ("SET k a EX 0 POINT 1 2", "invalid 0"),
         ("SET k a EX 5 EX 5 POINT 1 2", "invalid EX"),
@@ -267,6 +279,13 @@ fn sets_are_read(rt: HostRuntime) -> Result<(), Fail> {
         ("Set k a", "wrong count set"),
         ("SET k a POINT 1", "wrong count set"),
         ("SET k a POINT 1 2 3", "wrong count set"),
+    ];
+    lines_are_read(rt.alloc(), &table)
+}
+
+#[test]
+fn places_are_refused(rt: HostRuntime) -> Result<(), Fail> {
+    let table = [
         ("SET k a POINT -1.0 2", "fraction -1.0"),
         ("SET k a POINT 01 2", "invalid 01"),
         ("SET k a POINT 1 1000000001", "invalid 1000000001"),
