@@ -239,10 +239,14 @@ fn push_answer(out: &mut Text, read: &Result<Command, CommandFault>) -> Result<(
     }
 }
 
+fn push_read(alloc: Global, out: &mut Text, words: &Request) -> Result<(), NoMemory> {
+    let read = command_of(alloc, words);
+    push_answer(out, &read)
+}
+
 fn answer(alloc: Global, words: &Request) -> Result<Text, NoMemory> {
     let mut out = Text::new(alloc);
-    let read = command_of(alloc, words);
-    push_answer(&mut out, &read)?;
+    push_read(alloc, &mut out, words)?;
     Ok(out)
 }
 
