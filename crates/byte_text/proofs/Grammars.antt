@@ -7,7 +7,7 @@ use Rattle.byte_text.specs.Streams.{Front, found, begun, broken, Grammar, read_t
 use Rattle.byte_text.specs.declared.faults.RespFault.{RespFault}
 use Rattle.byte_text.specs.declared.faults.RespFault.TheVariants.{BadType, BadEnd}
 use Rattle.byte_text.specs.Requests.{max_request}
-use Rattle.byte_text.proofs.StreamTexts.{one_digit, bytes_read, word_end, behind_length, others, with_word, behind_count}
+use Rattle.byte_text.specs.StreamTexts.{one_digit, bytes_read, word_end, behind_length, others, with_word, behind_count}
 
 -- what more bytes make of a front
 abbrev pub IsMore : {A : Type 0} → Bytes → Front A → Front A → Type 0

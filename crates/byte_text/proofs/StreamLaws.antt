@@ -6,8 +6,8 @@ use Rattle.byte_text.specs.Lines.{line_end, bulk_text}
 use Rattle.byte_text.specs.Requests.{request_text, IsRequestText}
 use Rattle.byte_text.specs.Streams.{Front, found, begun, broken, request, holds, fails, StreamEnd, with_first, only_rest, only_fault, stream_behind, first_requests, stream_of, fed, fed_ending}
 use Rattle.byte_text.specs.declared.faults.RespFault.{RespFault}
-use Rattle.byte_text.proofs.StreamTexts.{request_read}
-use Rattle.byte_text.proofs.StreamFound.{request_found}
+use Rattle.byte_text.specs.StreamTexts.{request_read}
+use Rattle.byte_text.specs.StreamFound.{request_found}
 use Rattle.byte_text.proofs.Grammars.{IsMore, open_request}
 
 -- more bytes behind a request, and behind a fault

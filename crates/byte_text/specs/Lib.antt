@@ -10,3 +10,5 @@ pub mod ByteOrder
 pub mod NumberLaws
 pub mod LineLaws
 pub mod TextLaws
+pub mod StreamTexts
+pub mod StreamFound

@@ -7,7 +7,7 @@ use Rattle.byte_text.specs.Names.{Bytes}
 use Rattle.byte_text.specs.Lines.{line_end, bulk_text}
 use Rattle.byte_text.specs.Requests.{request_text}
 use Rattle.byte_text.specs.Streams.{request}
-use Rattle.byte_text.proofs.StreamTexts.{request_read}
+use Rattle.byte_text.specs.StreamTexts.{request_read}
 use Rattle.world_data.specs.Records.{record_words, record_text}
 use Rattle.world_data.specs.declared.worlds.Change.{Change}
 use Rattle.log_record.specs.Words.{IsRecorded}

@@ -4,7 +4,7 @@ use Rattle.std.specs.List.{AllByRecursion}
 use Rattle.byte_text.specs.Names.{Bytes}
 use Rattle.byte_text.specs.Requests.{IsRequest, request_text}
 use Rattle.byte_text.specs.Streams.{Front, found, begun, broken, request}
-use Rattle.byte_text.proofs.StreamFound.{request_found}
+use Rattle.byte_text.specs.StreamFound.{request_found}
 use Rattle.world_data.specs.Records.{record_text}
 use Rattle.world_data.specs.declared.worlds.Change.{Change}
 use Rattle.log_record.specs.Words.{change_of_words, IsRecorded}

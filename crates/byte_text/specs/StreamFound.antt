@@ -10,7 +10,7 @@ use Rattle.byte_text.specs.Streams.{Front, Grammar, ◌>>=◌, ◌>>◌, done, f
 use Rattle.byte_text.specs.declared.faults.RespFault.{RespFault}
 use Rattle.byte_text.specs.declared.faults.RespFault.TheVariants.{BadType, BadEnd, TooMany, TooLong}
 use Rattle.byte_text.specs.LineLaws.{line-append, bulk_text-append}
-use Rattle.byte_text.proofs.StreamTexts.{word_end, behind_length, others, with_word, behind_count}
+use Rattle.byte_text.specs.StreamTexts.{word_end, behind_length, others, with_word, behind_count}
 
 -- the second part is read behind the first
 record Parts {A B : Type 0} (k : A → Grammar B) (x : Front A) (value : B) (behind : Bytes) : Type 0 where
