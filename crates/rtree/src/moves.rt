@@ -26,9 +26,10 @@ pub(crate) fn move_tail<T: Drop>(from: &mut Vec<T>, keep: usize, to: &mut Vec<T>
 {
     while from.len() > keep {
         if let Some(item) = from.pop() {
-            put(to, 0, item);
+            to.push_reserved(item);
         }
     }
+    to.reverse();
 }
 
 /// Moves all items of a list behind those of another that has room for them.

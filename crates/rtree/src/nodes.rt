@@ -391,12 +391,17 @@ ghost use Rattle.rtree.specs.Slots.{IsPlaceFor, IsThinAt, IsThinPair, slots_of, 
 fn place_for(slots: &[Slot], entry: &Entry) -> usize
     ensures { IsPlaceFor slots.now entry.now result }
 {
-    for (i, slot) in slots.iter().enumerate() {
-        if entry.is_before(&slot.first) {
-            return i;
+    let mut low = 0;
+    let mut high = slots.len();
+    while low < high {
+        let middle = low + (high - low) / 2;
+        if entry.is_before(&slots[middle].first) {
+            high = middle;
+        } else {
+            low = middle + 1;
         }
     }
-    slots.len()
+    low
 }
 
 // The place of a slot, or that before it where no other slot stands behind.
