@@ -1,7 +1,7 @@
 //! The records that wait for the next commit, as they are to be written.
 
 ghost use Rattle.std.specs.Prelude.{◌≡◌, ◌≤◌, ◌++◌, ◌+◌, [], take, drop, length, IfOk, OnOk, OnErr};
-ghost use Rattle.append_log.specs.Texts.{sealed, records_in};
+ghost use Rattle.log_sides.specs.Texts.{sealed, records_in};
 
 use byte_text::NoMemory;
 use std::alloc::Global;
@@ -18,7 +18,7 @@ pub(crate) struct Batch {
 
 impl Model for Batch {
     ghost use Rattle.std.specs.Prelude.{◌≡◌, List, ℕ};
-    ghost use Rattle.append_log.specs.Texts.{sealed, records_in};
+    ghost use Rattle.log_sides.specs.Texts.{sealed, records_in};
 
     ghost Value = { List ℕ };
 

@@ -1,5 +1,5 @@
 use Rattle.std.proofs.Common.{◌∙◌}
-use Rattle.append_log.specs.Texts.{number_bytes}
+use Rattle.log_sides.specs.Texts.{number_bytes}
 use Rattle.append_log.proofs.Sealing.{sealed_is}
 use Rattle.append_log.proofs.pending_batches.seal.Goals as goal
 

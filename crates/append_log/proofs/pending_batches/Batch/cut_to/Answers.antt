@@ -1,5 +1,5 @@
 use Rattle.std.proofs.Common.{◌+◌, ◌∙◌, List, ℕ, length, take, ap, arith, length-take}
-use Rattle.append_log.specs.Texts.{records_in}
+use Rattle.log_sides.specs.Texts.{records_in}
 use Rattle.append_log.proofs.Sealing.{sealed_long, still_sealed, records_sealed, records_cut}
 use Rattle.append_log.proofs.pending_batches.Batch.cut_to.Goals as goal
 

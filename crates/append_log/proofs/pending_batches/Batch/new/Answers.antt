@@ -1,5 +1,5 @@
 use Rattle.std.proofs.Common.{◌∙◌, ap}
-use Rattle.append_log.specs.Texts.{records_in}
+use Rattle.log_sides.specs.Texts.{records_in}
 use Rattle.append_log.proofs.Sealing.{still_sealed, records_sealed}
 use Rattle.append_log.proofs.pending_batches.Batch.new.Goals as goal
 

@@ -1,5 +1,5 @@
 use Rattle.std.proofs.Common.{◌+◌, ◌-◌, ◌++◌, ◌∙◌, List, ℕ, length, take, drop, ap, arith, length-append}
-use Rattle.append_log.specs.Texts.{records_in}
+use Rattle.log_sides.specs.Texts.{records_in}
 use Rattle.append_log.proofs.Sealing.{sealed_long, still_sealed, records_sealed, records_pushed}
 use Rattle.append_log.proofs.pending_batches.Batch.push.Goals as goal
 

@@ -1,10 +1,10 @@
 use Rattle.std.proofs.Common.{◌≡◌, ◌∙◌, false, sym, subst, inl}
 use Rattle.byte_text.specs.Names.{Bytes}
 use Rattle.outside.specs.Disks.{Torn}
-use Rattle.append_log.specs.Making.{is_shut, WhileShut}
-use Rattle.append_log.proofs.Closing.{gate_torn}
-use Rattle.append_log.proofs.Crashing.{leads_step, leads_then, leads_weaker, safe_held}
-use Rattle.append_log.proofs.side_making.shut_gate.Goals as goal
+use Rattle.log_sides.specs.Making.{is_shut, WhileShut}
+use Rattle.log_sides.specs.Closing.{gate_torn}
+use Rattle.log_sides.specs.Crashing.{leads_step, leads_then, leads_weaker, safe_held}
+use Rattle.log_sides.proofs.side_making.shut_gate.Goals as goal
 
 pub returns-in-Ok-true-clause-either : goal.returns-in-Ok-true-clause-either
 returns-in-Ok-true-clause-either g c before safe =

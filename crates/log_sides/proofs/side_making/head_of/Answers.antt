@@ -1,6 +1,6 @@
 use Rattle.std.proofs.Common.{◌∙◌, ◌∷◌, ◌++◌, [], List, ℕ, ap}
-use Rattle.append_log.specs.Texts.{number_bytes}
-use Rattle.append_log.proofs.side_making.head_of.Goals as goal
+use Rattle.log_sides.specs.Texts.{number_bytes}
+use Rattle.log_sides.proofs.side_making.head_of.Goals as goal
 
 pub returns : goal.returns
 unfolding number_bytes

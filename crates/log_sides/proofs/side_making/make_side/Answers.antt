@@ -1,10 +1,10 @@
 use Rattle.std.proofs.Common.{[], ◌∷◌, inl}
 use Rattle.outside.specs.Disks.{Torn}
-use Rattle.append_log.specs.Texts.{StandsFor}
-use Rattle.append_log.specs.Making.{IsMade, WhileShut, WhileMade}
-use Rattle.append_log.proofs.Closing.{made_written, made_torn}
-use Rattle.append_log.proofs.Crashing.{leads_then, leads_weaker, leads_step, safe_now, safe_held, safe_written}
-use Rattle.append_log.proofs.side_making.make_side.Goals as goal
+use Rattle.log_sides.specs.Texts.{StandsFor}
+use Rattle.log_sides.specs.Making.{IsMade, WhileShut, WhileMade}
+use Rattle.log_sides.specs.Closing.{made_written, made_torn}
+use Rattle.log_sides.specs.Crashing.{leads_then, leads_weaker, leads_step, safe_now, safe_held, safe_written}
+use Rattle.log_sides.proofs.side_making.make_side.Goals as goal
 
 pub returns-in-Ok-clause-stands : goal.returns-in-Ok-clause-stands
 returns-in-Ok-clause-stands g c before safe =

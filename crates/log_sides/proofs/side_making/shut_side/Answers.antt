@@ -1,8 +1,8 @@
 use Rattle.std.proofs.lemmas.Result.{on_ok_weaker}
-use Rattle.append_log.specs.Making.{IsShut, WhileShut}
-use Rattle.append_log.proofs.Closing.{shut_while}
-use Rattle.append_log.proofs.Crashing.{leads_then, leads_weaker, leads_held, safe_held}
-use Rattle.append_log.proofs.side_making.shut_side.Goals as goal
+use Rattle.log_sides.specs.Making.{IsShut, WhileShut}
+use Rattle.log_sides.specs.Closing.{shut_while}
+use Rattle.log_sides.specs.Crashing.{leads_then, leads_weaker, leads_held, safe_held}
+use Rattle.log_sides.proofs.side_making.shut_side.Goals as goal
 
 pub returns-in-Ok-clause-bare : goal.returns-in-Ok-clause-bare
 returns-in-Ok-clause-bare g c before safe =

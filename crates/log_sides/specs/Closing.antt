@@ -6,9 +6,9 @@ use Rattle.std.specs.Prelude.{eqb}
 use Rattle.outside.specs.Disks.{write_over, Torn}
 use Rattle.outside.specs.WriteLaws.{write_over-end, torn_within}
 use Rattle.byte_text.specs.Names.{Bytes}
-use Rattle.append_log.specs.Texts.{StandsFor, IsGeneration, open_gate, header}
-use Rattle.append_log.specs.Making.{IsOpen, is_shut, IsShut, IsBare, IsMade, WhileShut, WhileMade, head_text}
-use Rattle.append_log.proofs.Torn.{one_byte, gate_written, length-number_bytes}
+use Rattle.log_sides.specs.Texts.{StandsFor, IsGeneration, open_gate, header}
+use Rattle.log_sides.specs.Making.{IsOpen, is_shut, IsShut, IsBare, IsMade, WhileShut, WhileMade, head_text}
+use Rattle.log_sides.specs.Torn.{one_byte, gate_written, length-number_bytes}
 
 -- a closed gate
 pub shut_closed : (side : Bytes) → IsShut side → IsOpen side → ⊥

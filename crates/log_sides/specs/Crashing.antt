@@ -9,7 +9,7 @@ use Rattle.outside.specs.Crashes.{IsSettled, EachImage, LeavesOnly}
 use Rattle.outside.specs.SideLaws.{on_keeps}
 use Rattle.outside.specs.CrashLaws.{begins, then, weaker, told_next, if_told, call_carries}
 use Rattle.byte_text.specs.Names.{Bytes}
-use Rattle.append_log.specs.States.{HasNow, IsHeld, SideIsSafe, IsLeft, SideLeads}
+use Rattle.log_sides.specs.States.{HasNow, IsHeld, SideIsSafe, IsLeft, SideLeads}
 use Rattle.outside.specs.Crashes.{After}
 
 -- the bytes that a side was given

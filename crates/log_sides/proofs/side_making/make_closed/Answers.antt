@@ -1,9 +1,9 @@
 use Rattle.std.proofs.Common.{length}
 use Rattle.outside.specs.Disks.{Torn}
-use Rattle.append_log.specs.Making.{IsShut, IsBare, IsMade, WhileShut}
-use Rattle.append_log.proofs.Closing.{shut_while, head_torn, head_written}
-use Rattle.append_log.proofs.Crashing.{leads_then, leads_step, safe_written}
-use Rattle.append_log.proofs.side_making.make_closed.Goals as goal
+use Rattle.log_sides.specs.Making.{IsShut, IsBare, IsMade, WhileShut}
+use Rattle.log_sides.specs.Closing.{shut_while, head_torn, head_written}
+use Rattle.log_sides.specs.Crashing.{leads_then, leads_step, safe_written}
+use Rattle.log_sides.proofs.side_making.make_closed.Goals as goal
 
 pub returns-in-Ok-clause-made : goal.returns-in-Ok-clause-made
 returns-in-Ok-clause-made g c before safe =

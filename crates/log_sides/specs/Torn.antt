@@ -6,7 +6,7 @@ use Rattle.outside.specs.WriteLaws.{length-write_over}
 use Rattle.outside.specs.Disks.{write_over, Torn}
 use Rattle.outside.specs.WriteLaws.{write_over-within, torn_within}
 use Rattle.byte_text.specs.Names.{Bytes}
-use Rattle.append_log.specs.Texts.{StandsFor, IsGeneration, front_text, batches_text, framed, gate_place, header, open_gate, max_side, number_bytes, IsReady, with_batch, StandsWithin, committed}
+use Rattle.log_sides.specs.Texts.{StandsFor, IsGeneration, front_text, batches_text, framed, gate_place, header, open_gate, max_side, number_bytes, IsReady, with_batch, StandsWithin, committed}
 
 -- a torn write behind the closed gate leaves the batches
 pub torn_behind : (generation : ℕ) (batches : List Bytes) (n : ℕ) (old new : Bytes) → StandsFor generation batches old → gate_place generation batches + 1 + n ≤ max_side

@@ -3,9 +3,9 @@
 ghost use Rattle.std.specs.Prelude.{◌≡◌, [], ◌∷◌, IfOk, OnOk};
 ghost use Rattle.byte_text.specs.Names.{Bytes};
 ghost use Rattle.outside.specs.Causes.{HasCause};
-ghost use Rattle.append_log.specs.Texts.{StandsFor, IsGeneration};
-ghost use Rattle.append_log.specs.Making.{is_shut, IsShut, IsBare, IsMade, WhileShut, WhileMade, head_text};
-ghost use Rattle.append_log.specs.States.{HasNow, IsHeld, SideIsSafe, SideLeads};
+ghost use Rattle.log_sides.specs.Texts.{StandsFor, IsGeneration};
+ghost use Rattle.log_sides.specs.Making.{is_shut, IsShut, IsBare, IsMade, WhileShut, WhileMade, head_text};
+ghost use Rattle.log_sides.specs.States.{HasNow, IsHeld, SideIsSafe, SideLeads};
 
 use outside::{Disk, Failed, Side, write_durably};
 

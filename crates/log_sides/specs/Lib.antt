@@ -1,0 +1,6 @@
+pub mod Closing
+pub mod Crashing
+pub mod Making
+pub mod States
+pub mod Texts
+pub mod Torn
