@@ -8,8 +8,8 @@ ghost use Rattle.log_sides.specs.Making.{WhileMade};
 ghost use Rattle.log_sides.specs.States.{SideIsSafe, IsLog, SideLeads};
 
 use crate::commits::append_batch;
-use crate::pending_batches::Batch;
-use log_sides::make_side;
+
+use log_sides::{Batch, make_side};
 use byte_text::NoMemory;
 use outside::{Disk, Failed, Side};
 use std::alloc::Global;
@@ -172,10 +172,7 @@ impl<D: Disk> AppendLog<D> {
     pub fn last_batch(&self) -> &[u8]
         ensures { result.now ≡ written self.now.last }
     {
-        if self.last.len() == 0 {
-            return &[];
-        }
-        self.last.bytes()
+        self.last.written()
     }
 
     /// Gives the disk out.

@@ -4,7 +4,6 @@
 mod append_logs;
 mod commits;
 mod laws;
-mod pending_batches;
 mod side_ends;
 mod side_heads;
 mod side_readers;

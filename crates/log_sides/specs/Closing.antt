@@ -1,5 +1,5 @@
 -- What writes on a side that is being made leave of it.
-use Rattle.std.proofs.Common.{◌≡◌, ◌≢◌, ◌⊎◌, ◌∙◌, ◌==◌, ℕ, true, false, not, [], ◌∷◌, ◌++◌, length, take, slice_index, refl, sym, ap, subst, inl, inr, arith, length-append, append-nil}
+use Rattle.std.proofs.Common.{◌≡◌, ◌≢◌, ◌⊎◌, ◌≤◌, ◌∙◌, ◌==◌, ℕ, zero, suc, true, false, not, [], ◌∷◌, ◌++◌, length, take, slice_index, refl, sym, ap, subst, inl, inr, arith, length-append, append-nil}
 use Rattle.std.proofs.lemmas.Bool.{cases_eq}
 use Rattle.std.proofs.lemmas.Bool.Decides.{eqb_tells}
 use Rattle.std.specs.Prelude.{eqb}
@@ -47,11 +47,12 @@ gate_torn (gate ∷ rest) side unshut torn =
     by_gate b text (inr closed) = inr (shut_closed side (record { gate = b; closed = closed; rest = rest; is = text }))
 
 -- a torn write behind a closed gate
-pub head_torn : (n : ℕ) (old new : Bytes) → IsShut old → Torn 1 n old new → IsShut new
-head_torn n old [] shut torn = absurd (omega (arith, torn.no_shorter, ap length shut.is))
-head_torn n old (b ∷ bytes) shut torn =
-    let front : take 1 old ≡ shut.gate ∷ [] = ap (λ (l : Bytes). take 1 l) shut.is in
-    let same : shut.gate ∷ [] ≡ b ∷ [] = sym front ∙ torn.before ∙ ap (λ (j : ℕ). take j (b ∷ bytes)) (ap length front) in
+pub shut_torn : (at n : ℕ) (old new : Bytes) → 1 ≤ at → IsShut old → Torn at n old new → IsShut new
+shut_torn zero n old new behind shut torn = absurd (omega (arith, behind))
+shut_torn (suc at) n old [] behind shut torn = absurd (omega (arith, torn.no_shorter, ap length shut.is))
+shut_torn (suc at) n old (b ∷ bytes) behind shut torn =
+    let front : take (suc at) old ≡ shut.gate ∷ take at shut.rest = ap (λ (l : Bytes). take (suc at) l) shut.is in
+    let same : shut.gate ∷ take at shut.rest ≡ b ∷ take (length (take at shut.rest)) bytes = sym front ∙ torn.before ∙ ap (λ (j : ℕ). take j (b ∷ bytes)) (ap length front) in
     record { gate = b; closed = λ opened. shut.closed (let e : shut.gate ≡ b = cc in e ∙ opened); rest = bytes; is = refl }
 
 -- the header was written behind the gate

@@ -13,7 +13,7 @@ use Rattle.log_sides.specs.States.{HasNow, IsHeld, SideIsSafe, IsLeft, SideLeads
 use Rattle.outside.specs.Crashes.{After}
 
 -- the bytes that a side was given
-given : (s : Sides) (side : Side) (bytes : Bytes) → side_of (with_side s side bytes) side ≡ bytes
+pub given : (s : Sides) (side : Side) (bytes : Bytes) → side_of (with_side s side bytes) side ≡ bytes
 given s A bytes = refl
 given s B bytes = refl
 

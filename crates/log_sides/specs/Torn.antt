@@ -34,7 +34,7 @@ pub length-framed : (batch : Bytes) → length (framed batch) ≡ 8 + length bat
 length-framed batch = length-append (number_bytes (length batch)) batch ∙ ap (λ (j : ℕ). j + length batch) (length-number_bytes (length batch))
 
 -- one batch more goes behind the text
-batches_text-append : (batches : List Bytes) (batch : Bytes) → batches_text (with_batch batches batch) ≡ batches_text batches ++ open_gate ∷ framed batch
+pub batches_text-append : (batches : List Bytes) (batch : Bytes) → batches_text (with_batch batches batch) ≡ batches_text batches ++ open_gate ∷ framed batch
 batches_text-append [] batch = ap (λ (l : Bytes). open_gate ∷ l) (append-nil (framed batch))
 batches_text-append (first ∷ later) batch = ap (λ (l : Bytes). open_gate ∷ l) (ap (λ (l : Bytes). framed first ++ l) (batches_text-append later batch) ∙ sym (append_assoc (framed first) (batches_text later) (open_gate ∷ framed batch)))
 

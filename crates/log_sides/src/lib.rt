@@ -3,6 +3,8 @@
 //! What the bytes of a batch say is left open here.
 #![tactic(auto)]
 
+mod batches;
 mod side_making;
 
-pub use side_making::{make_side, shut_side};
+pub use batches::Batch;
+pub use side_making::{head_of, make_side, shut_side};

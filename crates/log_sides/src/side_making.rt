@@ -36,7 +36,8 @@ fn make_closed<D: Disk>(disk: &mut D, side: Side, generation: u64) -> Result<(),
     }
 }
 
-fn head_of(generation: u64) -> [u8; 16]
+/// What is written behind the gate of a new side: its header and a closed gate.
+pub fn head_of(generation: u64) -> [u8; 16]
     ensures { result ≡ head_text generation }
 {
     let mut head = [b'T', b'F', b'L', 1, 0, 0, 0, 0, 0, 0, 0, 0, 0, 0, 0, 0];

@@ -1,7 +1,7 @@
-use Rattle.std.proofs.Common.{length}
+use Rattle.std.proofs.Common.{length, arith}
 use Rattle.outside.specs.Disks.{Torn}
 use Rattle.log_sides.specs.Making.{IsShut, IsBare, IsMade, WhileShut}
-use Rattle.log_sides.specs.Closing.{shut_while, head_torn, head_written}
+use Rattle.log_sides.specs.Closing.{shut_while, shut_torn, head_written}
 use Rattle.log_sides.specs.Crashing.{leads_then, leads_step, safe_written}
 use Rattle.log_sides.proofs.side_making.make_closed.Goals as goal
 
@@ -20,4 +20,4 @@ returns-in-Ok-clause-either g c before safe =
     let new = c.write_durably.new.disk in
     leads_then D.crashes D.seen D.images D.moment D.left_since c.args.side (WhileShut before) c.args.disk.now mid new c.in-Ok.ensures.told (c.in-Ok.ensures.either before safe)
     (leads_step D.crashes D.seen D.images D.moment D.left_since c.args.side IsShut (WhileShut before) (Torn 1 (length c.head_of.result)) mid new (c.in-Ok.ensures.shut before safe)
-    (λ x y shut torn. shut_while before y (head_torn (length c.head_of.result) x y shut torn)) c.write_durably.ensures.torn c.write_durably.ensures.crash c.write_durably.ensures.moments)
+    (λ x y shut torn. shut_while before y (shut_torn 1 (length c.head_of.result) x y (omega arith) shut torn)) c.write_durably.ensures.torn c.write_durably.ensures.crash c.write_durably.ensures.moments)

@@ -1,7 +1,7 @@
 use Rattle.std.proofs.Common.{◌∙◌}
 use Rattle.log_sides.specs.Texts.{number_bytes}
-use Rattle.append_log.proofs.Sealing.{sealed_is}
-use Rattle.append_log.proofs.pending_batches.seal.Goals as goal
+use Rattle.log_sides.specs.Sealing.{sealed_is}
+use Rattle.log_sides.proofs.batches.seal.Goals as goal
 
 pub returns : goal.returns
 unfolding number_bytes

@@ -1,7 +1,7 @@
-//! The records that wait for the next commit, as they are to be written.
+//! The records of a batch, as they are to be written.
 
 ghost use Rattle.std.specs.Prelude.{◌≡◌, ◌≤◌, ◌++◌, ◌+◌, [], take, drop, length, IfOk, OnOk, OnErr};
-ghost use Rattle.log_sides.specs.Texts.{sealed, records_in};
+ghost use Rattle.log_sides.specs.Texts.{sealed, records_in, written};
 
 use byte_text::NoMemory;
 use std::alloc::Global;
@@ -12,7 +12,7 @@ const FRAME: usize = 10;
 
 /// The records of a batch, kept as they are to be written: between two gates, behind their length.
 #[derive(Drop)]
-pub(crate) struct Batch {
+pub struct Batch {
     bytes: Vec<u8>,
 }
 
@@ -29,7 +29,7 @@ impl Model for Batch {
 
 impl Batch {
     /// No record.
-    pub(crate) fn new(alloc: Global) -> Result<Batch, NoMemory>
+    pub fn new(alloc: Global) -> Result<Batch, NoMemory>
         ensures { IfOk result (λ b. b ≡ []) }
     {
         match vec![in alloc; 0u8; FRAME] {
@@ -42,21 +42,31 @@ impl Batch {
     }
 
     /// The bytes as they are written.
-    pub(crate) fn bytes(&self) -> &[u8]
+    pub fn bytes(&self) -> &[u8]
         ensures { result.now ≡ sealed self.now }
     {
         &self.bytes
     }
 
+    /// The bytes as they are written: none where there is no record.
+    pub fn written(&self) -> &[u8]
+        ensures { result.now ≡ written self.now }
+    {
+        if self.len() == 0 {
+            return &[];
+        }
+        self.bytes()
+    }
+
     /// How many bytes the records have.
-    pub(crate) fn len(&self) -> usize
+    pub fn len(&self) -> usize
         ensures { result ≡ length self.now }
     {
         self.bytes.len() - FRAME
     }
 
     /// Puts a record last.
-    pub(crate) fn push(&mut self, entry: &[u8]) -> Result<(), NoMemory>
+    pub fn push(&mut self, entry: &[u8]) -> Result<(), NoMemory>
         ensures ok { OnOk result (self.new ≡ self.old ++ entry.now) }
         ensures err { OnErr result (self.new ≡ self.old) }
     {
@@ -72,7 +82,7 @@ impl Batch {
     }
 
     /// Forgets the records behind the first `len` bytes.
-    pub(crate) fn cut_to(&mut self, len: usize)
+    pub fn cut_to(&mut self, len: usize)
         requires { len ≤ length self.old }
         ensures { self.new ≡ take len self.old }
     {

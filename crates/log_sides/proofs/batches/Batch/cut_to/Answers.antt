@@ -1,7 +1,7 @@
 use Rattle.std.proofs.Common.{◌+◌, ◌∙◌, List, ℕ, length, take, ap, arith, length-take}
 use Rattle.log_sides.specs.Texts.{records_in}
-use Rattle.append_log.proofs.Sealing.{sealed_long, still_sealed, records_sealed, records_cut}
-use Rattle.append_log.proofs.pending_batches.Batch.cut_to.Goals as goal
+use Rattle.log_sides.specs.Sealing.{sealed_long, still_sealed, records_sealed, records_cut}
+use Rattle.log_sides.proofs.batches.Batch.cut_to.Goals as goal
 
 pub seal_all-requires : goal.seal_all-requires
 seal_all-requires c = omega (arith, ap length c.truncate.ensures.items, length-take (c.args.len + 10) c.self.inside.bytes.items, sealed_long c.self.inside.bytes.items c.self.invariant)

@@ -1,7 +1,7 @@
 use Rattle.std.proofs.Common.{◌+◌, ◌-◌, ◌++◌, ◌∙◌, List, ℕ, length, take, drop, ap, arith, length-append}
 use Rattle.log_sides.specs.Texts.{records_in}
-use Rattle.append_log.proofs.Sealing.{sealed_long, still_sealed, records_sealed, records_pushed}
-use Rattle.append_log.proofs.pending_batches.Batch.push.Goals as goal
+use Rattle.log_sides.specs.Sealing.{sealed_long, still_sealed, records_sealed, records_pushed}
+use Rattle.log_sides.proofs.batches.Batch.push.Goals as goal
 
 pub seal_all-requires : goal.seal_all-requires
 seal_all-requires c = omega (arith, c.put.ensures.len, ap length c.in-Ok.ensures.items, length-append c.self.inside.bytes.items c.args.entry.now, sealed_long c.self.inside.bytes.items c.self.invariant)

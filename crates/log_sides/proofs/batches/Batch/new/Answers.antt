@@ -1,7 +1,7 @@
 use Rattle.std.proofs.Common.{◌∙◌, ap}
 use Rattle.log_sides.specs.Texts.{records_in}
-use Rattle.append_log.proofs.Sealing.{still_sealed, records_sealed}
-use Rattle.append_log.proofs.pending_batches.Batch.new.Goals as goal
+use Rattle.log_sides.specs.Sealing.{still_sealed, records_sealed}
+use Rattle.log_sides.proofs.batches.Batch.new.Goals as goal
 
 pub invariant_of-result : goal.invariant_of-result
 invariant_of-result c = still_sealed c.seal_all.new.bytes.items (records_in c.in-Ok.bytes.items) c.seal_all.ensures
