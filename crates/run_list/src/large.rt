@@ -51,7 +51,7 @@ impl LargeList {
     }
 
     /// These numbers, with room for `extra` more.
-    pub(crate) fn of(alloc: Global, numbers: &[u32], extra: usize) -> Result<LargeList, NoMemory>
+    pub(crate) fn of(alloc: Global, numbers: &[usize], extra: usize) -> Result<LargeList, NoMemory>
         requires { length numbers.now ≤ 1024 }
         ensures items { IfOk result (λ l. l.items ≡ numbers.now) }
         ensures room { IfOk result (λ l. extra ≤ l.spare) }
@@ -66,7 +66,7 @@ impl LargeList {
     }
 
     // Puts numbers behind all, for which there is room.
-    fn fill(&mut self, numbers: &[u32])
+    fn fill(&mut self, numbers: &[usize])
         requires { length numbers.now ≤ self.old.spare }
         ensures items { self.new.items ≡ self.old.items ++ numbers.now }
         ensures spare { self.new.spare + length numbers.now ≡ self.old.spare }
@@ -121,7 +121,7 @@ impl LargeList {
     }
 
     /// The number at a place.
-    pub(crate) fn at(&self, i: usize) -> u32
+    pub(crate) fn at(&self, i: usize) -> usize
         requires { i < length self.now.items }
         ensures { result ≡ slice_index self.now.items i }
     {
@@ -131,7 +131,7 @@ impl LargeList {
     }
 
     /// The number at a place and some behind it, side by side.
-    pub(crate) fn run_at(&self, i: usize) -> &[u32]
+    pub(crate) fn run_at(&self, i: usize) -> &[usize]
         requires { i < length self.now.items }
         ensures some { 0 < length result.now }
         ensures within { i + length result.now ≤ length self.now.items }
@@ -144,7 +144,7 @@ impl LargeList {
 
     /// Puts a number at a place, for which there is room. It takes no memory. Without a run in store it may take steps in
     /// the number of all.
-    pub(crate) fn insert(&mut self, i: usize, number: u32)
+    pub(crate) fn insert(&mut self, i: usize, number: usize)
         requires within { i ≤ length self.old.items }
         requires room { 1 ≤ self.old.spare }
         ensures items { self.new.items ≡ insert self.old.items i number }
@@ -164,7 +164,7 @@ impl LargeList {
     }
 
     /// Takes out the number at a place, which is room for another.
-    pub(crate) fn remove(&mut self, i: usize) -> u32
+    pub(crate) fn remove(&mut self, i: usize) -> usize
         requires { i < length self.old.items }
         ensures items { self.new.items ≡ remove self.old.items i }
         ensures taken { result ≡ slice_index self.old.items i }

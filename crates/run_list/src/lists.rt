@@ -16,7 +16,7 @@ use std::marker::Model;
 pub struct RunList {
     alloc: Global,
     // A few numbers, while there were never many.
-    few: Vec<u32>,
+    few: Vec<usize>,
     many: Option<LargeList>,
 }
 
@@ -77,7 +77,7 @@ impl RunList {
     }
 
     /// The number at a place.
-    pub fn at(&self, i: usize) -> u32
+    pub fn at(&self, i: usize) -> usize
         requires { i < length self.now.items }
         ensures { result ≡ slice_index self.now.items i }
     {
@@ -88,7 +88,7 @@ impl RunList {
     }
 
     /// The number at a place and some behind it, side by side.
-    pub fn run_at(&self, i: usize) -> &[u32]
+    pub fn run_at(&self, i: usize) -> &[usize]
         requires { i < length self.now.items }
         ensures some { 0 < length result.now }
         ensures within { i + length result.now ≤ length self.now.items }
@@ -114,7 +114,7 @@ impl RunList {
     }
 
     /// Puts a number at a place, for which there is room. It takes no memory.
-    pub fn insert(&mut self, i: usize, number: u32)
+    pub fn insert(&mut self, i: usize, number: usize)
         requires within { i ≤ length self.old.items }
         requires room { 1 ≤ self.old.spare }
         ensures items { self.new.items ≡ insert self.old.items i number }
@@ -131,7 +131,7 @@ impl RunList {
     }
 
     /// Takes out the number at a place, which is room for another.
-    pub fn remove(&mut self, i: usize) -> u32
+    pub fn remove(&mut self, i: usize) -> usize
         requires { i < length self.old.items }
         ensures items { self.new.items ≡ remove self.old.items i }
         ensures taken { result ≡ slice_index self.old.items i }

@@ -16,7 +16,7 @@ pub(crate) const HALF: usize = 512;
 /// A few numbers, with room for all that a run may hold.
 #[derive(Drop)]
 pub(crate) struct Run {
-    numbers: Vec<u32>,
+    numbers: Vec<usize>,
 }
 
 impl Model for Run {
@@ -49,7 +49,7 @@ impl Run {
     }
 
     /// The number at a place.
-    pub(crate) fn at(&self, i: usize) -> u32
+    pub(crate) fn at(&self, i: usize) -> usize
         requires { i < length self.now }
         ensures { result ≡ slice_index self.now i }
     {
@@ -57,14 +57,14 @@ impl Run {
     }
 
     /// All numbers.
-    pub(crate) fn numbers(&self) -> &[u32]
+    pub(crate) fn numbers(&self) -> &[usize]
         ensures { result.now ≡ self.now }
     {
         self.numbers.as_slice()
     }
 
     /// Puts a number at a place of a run that is not full.
-    pub(crate) fn insert(&mut self, i: usize, number: u32)
+    pub(crate) fn insert(&mut self, i: usize, number: usize)
         requires within { i ≤ length self.old }
         requires room { length self.old < 1024 }
         ensures { self.new ≡ insert self.old i number }
@@ -76,7 +76,7 @@ impl Run {
     }
 
     /// Takes out the number at a place.
-    pub(crate) fn remove(&mut self, i: usize) -> u32
+    pub(crate) fn remove(&mut self, i: usize) -> usize
         requires { i < length self.old }
         ensures numbers { self.new ≡ remove self.old i }
         ensures taken { result ≡ slice_index self.old i }
@@ -133,7 +133,7 @@ impl Run {
 
     /// Puts a number at a place of a full run, whose upper half goes to an empty one. A number that goes behind all goes there
     /// alone, so that runs are full where numbers come in order.
-    pub(crate) fn insert_halving(&mut self, i: usize, number: u32, upper: &mut Run)
+    pub(crate) fn insert_halving(&mut self, i: usize, number: usize, upper: &mut Run)
         requires within { i ≤ length self.old }
         requires full { length self.old ≡ 1024 }
         requires empty { upper.old ≡ [] }
@@ -155,7 +155,7 @@ impl Run {
 }
 
 /// Takes out all numbers from a place up to another.
-pub(crate) fn cut_out(numbers: &mut Vec<u32>, from: usize, to: usize)
+pub(crate) fn cut_out(numbers: &mut Vec<usize>, from: usize, to: usize)
     requires order { from ≤ to }
     requires within { to ≤ vec_len numbers.old }
     ensures numbers { numbers.new.items ≡ take from numbers.old.items ++ drop to numbers.old.items }

@@ -14,7 +14,7 @@ pub trait Before {
     ghost before: { Self → ℕ → Bool };
 
     /// Whether a number passes it.
-    fn is_before(&self, number: u32) -> bool
+    fn is_before(&self, number: usize) -> bool
         ensures { result ≡ before self.now number };
 }
 
@@ -58,7 +58,7 @@ fn runs_before<B: Before>(runs: &[Run], test: &B) -> usize
 }
 
 // A number that fails the test, while the one before it passes.
-fn numbers_before<B: Before>(numbers: &[u32], test: &B) -> usize
+fn numbers_before<B: Before>(numbers: &[usize], test: &B) -> usize
     ensures within { result ≤ length numbers.now }
     ensures front { 0 < result → B.before test.now (slice_index numbers.now (result - 1)) ≡ true }
     ensures behind { result < length numbers.now → B.before test.now (slice_index numbers.now result) ≡ false }
@@ -77,7 +77,7 @@ fn numbers_before<B: Before>(numbers: &[u32], test: &B) -> usize
 }
 
 /// How many numbers pass a test that those in front pass alone.
-pub(crate) fn place_among<B: Before>(numbers: &[u32], test: &B) -> usize
+pub(crate) fn place_among<B: Before>(numbers: &[usize], test: &B) -> usize
     requires { is_cut (B.before test.now) numbers.now ≡ true }
     ensures within { result ≤ length numbers.now }
     ensures front { list_all (B.before test.now) (take result numbers.now) ≡ true }

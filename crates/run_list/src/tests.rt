@@ -7,14 +7,14 @@ use std::test::Fail;
 
 // A test that the numbers below one pass.
 #[derive(Drop)]
-struct Below(u32);
+struct Below(usize);
 
 impl Before for Below {
     ghost use Rattle.std.specs.Prelude.{nat_lt};
 
     ghost before = { λ b x. nat_lt x b.0 };
 
-    fn is_before(&self, number: u32) -> bool {
+    fn is_before(&self, number: usize) -> bool {
         number < self.0
     }
 }
@@ -30,7 +30,7 @@ fn next(seed: &mut u64) -> usize {
 }
 
 // Puts a number at the same place of both.
-fn put(list: &mut RunList, plain: &mut Vec<u32>, i: usize, x: u32) -> Result<(), Fail> {
+fn put(list: &mut RunList, plain: &mut Vec<usize>, i: usize, x: usize) -> Result<(), Fail> {
     list.reserve(1)?;
     if i <= list.len() && i <= plain.len() {
         list.insert(i, x);
@@ -40,7 +40,7 @@ fn put(list: &mut RunList, plain: &mut Vec<u32>, i: usize, x: u32) -> Result<(),
 }
 
 // Puts the numbers below one in front of all, from the least on.
-fn put_in_front(list: &mut RunList, count: u32)
+fn put_in_front(list: &mut RunList, count: usize)
     requires { count ≤ list.old.spare }
 {
     for x in 0..count {
@@ -49,12 +49,12 @@ fn put_in_front(list: &mut RunList, count: u32)
 }
 
 // Takes the numbers at the same place out of both: whether they are the same.
-fn take(list: &mut RunList, plain: &mut Vec<u32>, i: usize) -> bool {
+fn take(list: &mut RunList, plain: &mut Vec<usize>, i: usize) -> bool {
     i < list.len() && i < plain.len() && list.remove(i) == plain.remove(i)
 }
 
 // Whether both hold the same, read one by one and run by run.
-fn same(list: &RunList, plain: &[u32]) -> bool {
+fn same(list: &RunList, plain: &[usize]) -> bool {
     if list.len() != plain.len() {
         return false;
     }
@@ -73,7 +73,7 @@ fn same(list: &RunList, plain: &[u32]) -> bool {
 #[test]
 fn a_list_is_as_a_plain_one(rt: HostRuntime) -> Result<(), Fail> {
     let mut list = RunList::new(rt.alloc());
-    let mut plain: Vec<u32> = Vec::new(rt.alloc());
+    let mut plain: Vec<usize> = Vec::new(rt.alloc());
     let mut seed: u64 = 88_172_645_463_325_252;
     for x in 0..3000 {
         let i = next(&mut seed) % (list.len() + 1);
@@ -116,7 +116,7 @@ fn places_are_found(rt: HostRuntime) -> Result<(), Fail> {
 #[test]
 fn a_stretch_is_taken_out(rt: HostRuntime) -> Result<(), Fail> {
     let mut list = RunList::new(rt.alloc());
-    let mut plain: Vec<u32> = Vec::new(rt.alloc());
+    let mut plain: Vec<usize> = Vec::new(rt.alloc());
     for x in 0..2000 {
         let i = list.len();
         put(&mut list, &mut plain, i, x)?;
@@ -138,7 +138,7 @@ fn room_that_was_taken_is_enough(rt: HostRuntime) -> Result<(), Fail> {
     put_in_front(&mut list, 4000);
     assert_eq!(rt; list.len(), 4000);
     for i in 0..list.len() {
-        assert_eq!(rt; list.at(i) as usize, 3999 - i);
+        assert_eq!(rt; list.at(i), 3999 - i);
     }
     Ok(())
 }

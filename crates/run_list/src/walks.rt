@@ -61,7 +61,7 @@ pub(crate) fn start(runs: &[Run], k: usize) -> usize
 }
 
 /// Puts a number at a place, where there are room and an empty run for the upper half of a full one.
-pub(crate) fn put(runs: &mut Vec<Run>, spares: &mut Vec<Run>, spot: Spot, number: u32)
+pub(crate) fn put(runs: &mut Vec<Run>, spares: &mut Vec<Run>, spot: Spot, number: usize)
     requires within { spot.run < vec_len runs.old }
     requires inside { spot.at ≤ length (slice_index_or runs.old.items spot.run []) }
     requires room { vec_len runs.old < vec_capacity runs.old }
@@ -90,7 +90,7 @@ pub(crate) fn put(runs: &mut Vec<Run>, spares: &mut Vec<Run>, spot: Spot, number
 
 /// Takes out the number at a place. A run that is empty then goes to the store, and one
 /// that is small then is joined with its neighbours.
-pub(crate) fn take_out(runs: &mut Vec<Run>, spares: &mut Vec<Run>, spot: Spot) -> u32
+pub(crate) fn take_out(runs: &mut Vec<Run>, spares: &mut Vec<Run>, spot: Spot) -> usize
     requires within { spot.run < vec_len runs.old }
     requires inside { spot.at < length (slice_index_or runs.old.items spot.run []) }
     requires filled { AreFilled runs.old.items }
@@ -131,7 +131,7 @@ pub(crate) fn take_run(runs: &mut Vec<Run>, spares: &mut Vec<Run>, k: usize)
 }
 
 // Takes out the number at a place, and its run where that is empty then.
-fn take_one(runs: &mut Vec<Run>, spares: &mut Vec<Run>, spot: Spot) -> u32
+fn take_one(runs: &mut Vec<Run>, spares: &mut Vec<Run>, spot: Spot) -> usize
     requires within { spot.run < vec_len runs.old }
     requires inside { spot.at < length (slice_index_or runs.old.items spot.run []) }
     requires filled { AreFilled runs.old.items }
