@@ -18,8 +18,8 @@ use Rattle.world_model.specs.declared.commands.Command.{Command}
 use Rattle.world_model.specs.declared.faults.WordFault.{WordFault}
 use Rattle.world_model.specs.declared.faults.WordFault.TheVariants as fault
 use Rattle.world_model.specs.FormLaws.{Takes, Fair, fair_done, fair_word, fair_bind, takes_word, takes_bind}
-use Rattle.cmd_words.specs.Places.{Place, all_words, IsBehind, Moves, Follows, Reads, IsFault, IsRefusal, answers, answered}
-use Rattle.cmd_words.specs.declared.options.OptionWord.TheVariants as option
+use Rattle.cmd_words.specs.Progress.{Place, all_words, IsBehind, Moves, Follows, Reads, IsFault, IsRefusal, answers, answered}
+use Rattle.cmd_words.specs.declared.set_options.OptionWord.TheVariants as option
 use Rattle.cmd_words.specs.declared.object_places.PlaceWord.TheVariants as at
 use Rattle.cmd_words.specs.Sets.{options_and_place, IsOption, is_option, LacksOption, IsPlace, LacksPlace, ReadsPlace, Goes, Refuses}
 use Rattle.cmd_words.proofs.Gets.{lower_word, step, moves, moves_on}

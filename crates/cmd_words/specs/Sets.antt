@@ -14,9 +14,9 @@ use Rattle.world_model.specs.declared.commands.Command.{Command}
 use Rattle.world_model.specs.declared.commands.Command.TheVariants as command
 use Rattle.world_model.specs.declared.faults.WordFault.{WordFault}
 use Rattle.world_model.specs.declared.faults.WordFault.TheVariants as fault
-use Rattle.cmd_words.specs.Places.{Place, all_words, answers, IsBehind, Moves, Follows}
-use Rattle.cmd_words.specs.declared.options.OptionWord.{OptionWord}
-use Rattle.cmd_words.specs.declared.options.OptionWord.TheVariants as option
+use Rattle.cmd_words.specs.Progress.{Place, all_words, answers, IsBehind, Moves, Follows}
+use Rattle.cmd_words.specs.declared.set_options.OptionWord.{OptionWord}
+use Rattle.cmd_words.specs.declared.set_options.OptionWord.TheVariants as option
 use Rattle.cmd_words.specs.declared.object_places.PlaceWord.{PlaceWord}
 use Rattle.cmd_words.specs.declared.object_places.PlaceWord.TheVariants as at
 use Rattle.cmd_words.specs.declared.faults.CommandFault.{CommandFault}
