@@ -134,6 +134,16 @@ abbrev pub Took : Bytes → Place → Place → Bool → Type 0
 Took called old new true = (w : Bytes) × (is_word w called ≡ true) × IsBehind w old new
 Took called old new false = (new ≡ old) × IsNot called old.left
 
+-- the word is not next, or may not come
+abbrev pub IsNotDue : Bool → Bytes → List Bytes → Type 0
+IsNotDue may called [] = Unit {0}
+IsNotDue may called (w ∷ words) = (may && is_word w called) ≡ false
+
+-- the word was read, which may come; or none was, and it is not next or may not come
+abbrev pub TookDue : Bool → Bytes → Place → Place → Bool → Type 0
+TookDue may called old new true = (may ≡ true) × (w : Bytes) × (is_word w called ≡ true) × IsBehind w old new
+TookDue may called old new false = (new ≡ old) × IsNotDue may called old.left
+
 -- no word was read
 abbrev pub start : List Bytes → Place
 start words = record { read = []; left = words }

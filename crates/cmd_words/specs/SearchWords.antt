@@ -11,7 +11,7 @@ use Rattle.world_data.specs.declared.queries.Shown.{Shown}
 use Rattle.world_data.specs.declared.queries.Shown.TheVariants as shown
 use Rattle.world_model.specs.declared.commands.Command.{Command}
 use Rattle.world_model.specs.declared.faults.WordFault.{WordFault}
-use Rattle.cmd_words.specs.Progress.{Place, all_words, answers, IsBehind, Moves, Follows, Took, IsNot}
+use Rattle.cmd_words.specs.Progress.{Place, all_words, answers, Moves, Follows, Took, TookDue, IsNot, IsNotDue}
 use Rattle.cmd_words.specs.declared.search_options.SearchWord.{SearchWord}
 use Rattle.cmd_words.specs.declared.search_options.SearchWord.TheVariants as option
 use Rattle.cmd_words.specs.declared.faults.CommandFault.{CommandFault}
@@ -69,16 +69,6 @@ may_come ordered o option.Ascending = ordered && is_none o.down
 may_come ordered o option.Descending = ordered && is_none o.down
 may_come ordered o option.Where = nat_lt (length o.tests) max_tests
 may_come ordered o option.WhereIn = nat_lt (length o.tests) max_tests
-
--- the word is not next, or may not come
-abbrev pub IsNotDue : Bool → Bytes → List Bytes → Type 0
-IsNotDue may called [] = Unit {0}
-IsNotDue may called (w ∷ words) = (may && is_word w called) ≡ false
-
--- the word was read, which may come; or none was, and it is not next or may not come
-abbrev pub TookDue : Bool → Bytes → Place → Place → Bool → Type 0
-TookDue may called old new true = (may ≡ true) × (w : Bytes) × (is_word w called ≡ true) × IsBehind w old new
-TookDue may called old new false = (new ≡ old) × IsNotDue may called old.left
 
 -- no option that may come is next
 abbrev pub LacksOption : Bool → SearchOptions → List Bytes → Type 0

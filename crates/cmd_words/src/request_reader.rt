@@ -3,8 +3,8 @@
 ghost use Rattle.std.specs.Prelude.{◌≡◌, [], MatchOption};
 ghost use Rattle.world_model.specs.Commands.{wrong_count as count_fault, shown_of};
 ghost use Rattle.world_model.specs.declared.faults.WordFault.TheVariants as fault;
-ghost use Rattle.cmd_words.specs.Progress.{start, all_words, IsBehind, IsFault, Parses, Took, a_name, key_and_id, ReadsShown, IsEnd, IsRefusal};
-ghost use Rattle.cmd_words.specs.SearchWords.{TookDue, ReadsOutput};
+ghost use Rattle.cmd_words.specs.Progress.{start, all_words, IsBehind, IsFault, Parses, Took, TookDue, a_name, key_and_id, ReadsShown, IsEnd, IsRefusal};
+ghost use Rattle.cmd_words.specs.SearchWords.{ReadsOutput};
 
 use crate::faults::{CommandFault, invalid, wrong_count};
 use crate::word_kinds::read_name;

@@ -64,21 +64,17 @@ impl SetOptions {
 fn option_word(reader: &mut Reader, options: &SetOptions) -> Option<OptionWord>
     ensures { TakesOption options.now reader.old reader.new result }
 {
-    if reader.takes(b"FIELD") {
-        return Some(OptionWord::Field);
+    if reader.takes_due(true, b"FIELD") {
+        Some(OptionWord::Field)
+    } else if reader.takes_due(options.seconds.is_none(), b"EX") {
+        Some(OptionWord::Seconds)
+    } else if reader.takes_due(options.only.is_none(), b"NX") {
+        Some(OptionWord::Absent)
+    } else if reader.takes_due(options.only.is_none(), b"XX") {
+        Some(OptionWord::Present)
+    } else {
+        None
     }
-    if options.seconds.is_none() && reader.takes(b"EX") {
-        return Some(OptionWord::Seconds);
-    }
-    if options.only.is_none() {
-        if reader.takes(b"NX") {
-            return Some(OptionWord::Absent);
-        }
-        if reader.takes(b"XX") {
-            return Some(OptionWord::Present);
-        }
-    }
-    None
 }
 
 // Reads one option, where one is next: FIELD with a name and a value, EX with seconds, NX or XX.
