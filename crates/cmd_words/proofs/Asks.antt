@@ -11,7 +11,7 @@ use Rattle.world_model.specs.declared.faults.WordFault.TheVariants as fault
 use Rattle.world_model.specs.Commands.{shown_of}
 use Rattle.cmd_words.specs.CommandNames.{IsNoName}
 use Rattle.cmd_words.proofs.Heads.{not_known}
-use Rattle.cmd_words.specs.Places.{IsFault, fault_of_no_name, Place, Answers, IsBehind, all_words, start, answers, answered, IfRefused}
+use Rattle.cmd_words.specs.Progress.{IsFault, fault_of_no_name, Place, Answers, IsBehind, all_words, start, answers, answered, IfRefused}
 use Rattle.cmd_words.specs.declared.faults.CommandFault.{CommandFault}
 use Rattle.cmd_words.specs.declared.faults.CommandFault.TheVariants.{Refused, Memory}
 

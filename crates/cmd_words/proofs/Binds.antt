@@ -10,7 +10,7 @@ use Rattle.world_model.specs.declared.commands.Command.{Command}
 use Rattle.world_model.specs.declared.faults.WordFault.{WordFault}
 use Rattle.world_model.specs.FormLaws.{Each, Left, Takes}
 use Rattle.world_model.specs.PrefixLaws.{enough}
-use Rattle.cmd_words.specs.Places.{Place, Follows, Reads, answers}
+use Rattle.cmd_words.specs.Progress.{Place, Follows, Reads, answers}
 use Rattle.cmd_words.proofs.Gets.{moves_on}
 use Rattle.cmd_words.specs.declared.faults.CommandFault.{CommandFault}
 

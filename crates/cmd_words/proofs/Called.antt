@@ -29,3 +29,6 @@ built called command.Flush e = let l : str_to_ascii_lowercase called ≡ codes "
 built called command.Ping e = let l : str_to_ascii_lowercase called ≡ codes "ping" = lower_word called (codes "PING") e in rw l refl
 built called command.Quit e = let l : str_to_ascii_lowercase called ≡ codes "quit" = lower_word called (codes "QUIT") e in rw l refl
 built called command.Scan e = let l : str_to_ascii_lowercase called ≡ codes "scan" = lower_word called (codes "SCAN") e in rw l refl
+built called command.Within e = let l : str_to_ascii_lowercase called ≡ codes "within" = lower_word called (codes "WITHIN") e in rw l refl
+built called command.Intersects e = let l : str_to_ascii_lowercase called ≡ codes "intersects" = lower_word called (codes "INTERSECTS") e in rw l refl
+built called command.Nearby e = let l : str_to_ascii_lowercase called ≡ codes "nearby" = lower_word called (codes "NEARBY") e in rw l refl

@@ -8,7 +8,7 @@ use Rattle.world_model.specs.Grammar.{Form, Due, a_word, a_coordinate, a_geojson
 use Rattle.world_model.specs.Commands.{readings, reads, is_open, command_spelled, stop_behind, fault_at, wrong_count}
 use Rattle.world_model.specs.declared.commands.Command.{Command}
 use Rattle.world_model.specs.PrefixLaws.{beginnings, spelling_open, stops_there}
-use Rattle.cmd_words.specs.Places.{Place, all_words, IsBehind, Follows, due_fault}
+use Rattle.cmd_words.specs.Progress.{Place, all_words, IsBehind, Follows, due_fault}
 
 pub open_by : (words : List Bytes) (r : Reading Command) (rs : List (Reading Command)) → readings words ≡ r ∷ rs → is_open words ≡ true
 open_by words r rs e = rw e (grind (arith, nat_tests))

@@ -14,13 +14,15 @@ use Rattle.cmd_words.proofs.Follows.{stopped, shut_by}
 use Rattle.world_model.specs.declared.commands.Command.{Command}
 use Rattle.world_model.specs.declared.commands.Command.TheVariants as command
 use Rattle.cmd_words.specs.CommandNames.{IsNoName}
-use Rattle.cmd_words.specs.Places.{Place, Follows, Answers, IsFault, all_words, a_name, key_and_id, get_options, stats_names, answered}
+use Rattle.cmd_words.specs.Progress.{Place, Follows, Answers, IsFault, all_words, a_name, key_and_id, get_options, stats_names, answered}
 use Rattle.cmd_words.specs.Sets.{behind_set, field_step, fields_first, fset_of}
 use Rattle.cmd_words.proofs.Binds.{bind_same}
 use Rattle.cmd_words.proofs.FieldLists.{first_field}
 use Rattle.world_model.specs.Kinds.{name, glob, seconds}
 use Rattle.world_model.specs.Served.{unbuilt}
 use Rattle.cmd_words.specs.Scans.{behind_scan}
+use Rattle.cmd_words.specs.Searches.{behind_search, behind_nearby}
+use Rattle.world_data.specs.declared.channels.Kind.TheVariants.{Within, Intersects}
 use Rattle.cmd_words.proofs.Gets.{lower_word}
 use Rattle.cmd_words.proofs.Stats.{first_name}
 use Rattle.cmd_words.specs.declared.faults.CommandFault.{CommandFault}
@@ -127,6 +129,27 @@ scan_goes called more e = rw e (simp append-nil)
 pub scan_head : (called : Bytes) (p : Place) → p.read ≡ called ∷ [] → is_word called (codes "SCAN") ≡ true → Follows p (a_name behind_scan)
 scan_head called p r e = begins called p _ r (λ more. scan_goes called more (lower_word called (codes "SCAN") e))
 
+within_goes : (called : Bytes) (more : List Bytes) → str_to_ascii_lowercase called ≡ codes "within" → readings (called ∷ more) ≡ live (a_name (behind_search Within) more)
+unfolding readings
+within_goes called more e = rw e (simp append-nil)
+
+pub within_head : (called : Bytes) (p : Place) → p.read ≡ called ∷ [] → is_word called (codes "WITHIN") ≡ true → Follows p (a_name (behind_search Within))
+within_head called p r e = begins called p _ r (λ more. within_goes called more (lower_word called (codes "WITHIN") e))
+
+intersects_goes : (called : Bytes) (more : List Bytes) → str_to_ascii_lowercase called ≡ codes "intersects" → readings (called ∷ more) ≡ live (a_name (behind_search Intersects) more)
+unfolding readings
+intersects_goes called more e = rw e (simp append-nil)
+
+pub intersects_head : (called : Bytes) (p : Place) → p.read ≡ called ∷ [] → is_word called (codes "INTERSECTS") ≡ true → Follows p (a_name (behind_search Intersects))
+intersects_head called p r e = begins called p _ r (λ more. intersects_goes called more (lower_word called (codes "INTERSECTS") e))
+
+nearby_goes : (called : Bytes) (more : List Bytes) → str_to_ascii_lowercase called ≡ codes "nearby" → readings (called ∷ more) ≡ live (a_name behind_nearby more)
+unfolding readings
+nearby_goes called more e = rw e (simp append-nil)
+
+pub nearby_head : (called : Bytes) (p : Place) → p.read ≡ called ∷ [] → is_word called (codes "NEARBY") ≡ true → Follows p (a_name behind_nearby)
+nearby_head called p r e = begins called p _ r (λ more. nearby_goes called more (lower_word called (codes "NEARBY") e))
+
 pub get_head : (called : Bytes) (p : Place) → p.read ≡ called ∷ [] → is_word called (codes "GET") ≡ true → Follows p (key_and_id get_options)
 get_head called p r e = begins called p _ r (λ more. get_goes called more (lower_word called (codes "GET") e))
 
@@ -161,7 +184,7 @@ unfolding readings
 nothing_goes called w_get w_del w_drop w_bounds w_stats w_flushdb w_ping w_quit w_set w_pdel w_fset w_fget w_expire w_persist w_ttl w_keys w_aofshrink w_scan w_within w_intersects w_nearby w_setchan w_delchan w_pdelchan w_chans w_subscribe w_psubscribe = rw (w_get, w_del, w_drop, w_bounds, w_stats, w_flushdb, w_ping, w_quit, w_set, w_pdel, w_fset, w_fget, w_expire, w_persist, w_ttl, w_keys, w_aofshrink, w_scan, w_within, w_intersects, w_nearby, w_setchan, w_delchan, w_pdelchan, w_chans, w_subscribe, w_psubscribe) refl
 
 unknown : (called : Bytes) (rest : List Bytes) → IsNoName called → NoneIs called unbuilt → reads (called ∷ rest) ≡ Err (fault.Unknown (shown_of called))
-unknown called rest n u = stopped [] called rest nothing_starts (shut_by (called ∷ []) (nothing_goes called n.1.0 n.1.1.0 n.1.1.1.1.1.1.1.1.1.0 n.1.1.1.1.1.1.1.1.1.1.1.0 n.1.1.1.1.1.1.1.1.1.1.1.1.0 n.1.1.1.1.1.1.1.1.1.1.1.1.1.0 n.1.1.1.1.1.1.1.1.1.1.1.1.1.1.0 n.1.1.1.1.1.1.1.1.1.1.1.1.1.1.1.0 n.0 n.1.1.1.1.1.1.1.1.0 n.1.1.1.0 n.1.1.1.1.0 n.1.1.1.1.1.0 n.1.1.1.1.1.1.0 n.1.1.1.1.1.1.1.0 n.1.1.1.1.1.1.1.1.1.1.0 u.0 n.1.1.1.1.1.1.1.1.1.1.1.1.1.1.1.1.0 u.1.0 u.1.1.0 u.1.1.1.0 u.1.1.1.1.0 u.1.1.1.1.1.0 u.1.1.1.1.1.1.0 u.1.1.1.1.1.1.1.0 u.1.1.1.1.1.1.1.1.0 u.1.1.1.1.1.1.1.1.1.0))
+unknown called rest n u = stopped [] called rest nothing_starts (shut_by (called ∷ []) (nothing_goes called n.1.0 n.1.1.0 n.1.1.1.1.1.1.1.1.1.0 n.1.1.1.1.1.1.1.1.1.1.1.0 n.1.1.1.1.1.1.1.1.1.1.1.1.0 n.1.1.1.1.1.1.1.1.1.1.1.1.1.0 n.1.1.1.1.1.1.1.1.1.1.1.1.1.1.0 n.1.1.1.1.1.1.1.1.1.1.1.1.1.1.1.0 n.0 n.1.1.1.1.1.1.1.1.0 n.1.1.1.0 n.1.1.1.1.0 n.1.1.1.1.1.0 n.1.1.1.1.1.1.0 n.1.1.1.1.1.1.1.0 n.1.1.1.1.1.1.1.1.1.1.0 u.0 n.1.1.1.1.1.1.1.1.1.1.1.1.1.1.1.1.0 n.1.1.1.1.1.1.1.1.1.1.1.1.1.1.1.1.1.0 n.1.1.1.1.1.1.1.1.1.1.1.1.1.1.1.1.1.1.0 n.1.1.1.1.1.1.1.1.1.1.1.1.1.1.1.1.1.1.1.0 u.1.0 u.1.1.0 u.1.1.1.0 u.1.1.1.1.0 u.1.1.1.1.1.0 u.1.1.1.1.1.1.0))
 
 pub not_known : (p : Place) (called : Bytes) (why : CommandFault) → p.read ≡ called ∷ [] → IsNoName called → list_any (is_word called) unbuilt ≡ false → IsFault (fault.Unknown (shown_of called)) why → Answers (all_words p) (Err why)
 not_known p called why r n u (inl m) = inl m

@@ -7,7 +7,7 @@ use Rattle.byte_text.specs.Names.{Bytes, is_word}
 use Rattle.world_model.specs.Commands.{shown_of}
 use Rattle.world_model.specs.declared.faults.WordFault.{WordFault}
 use Rattle.world_model.specs.declared.faults.WordFault.TheVariants as fault
-use Rattle.cmd_words.specs.Places.{Place, place_at, IsBehind, IsNot, IsFault, IsRefusal}
+use Rattle.cmd_words.specs.Progress.{Place, place_at, IsBehind, IsNot, IsFault, IsRefusal}
 use Rattle.cmd_words.specs.declared.faults.CommandFault.{CommandFault}
 
 pub one_less : (words : List Bytes) (read : ℕ) (w : Bytes) → read < length words → slice_get words read ≡ Some w → drop read words ≡ w ∷ drop (read + 1) words

@@ -3,6 +3,7 @@ pub mod Lefts
 pub mod Gets
 pub mod Stats
 pub mod Binds
+pub mod Ahead
 pub mod OptionWords
 pub mod Heads
 pub mod Ends
@@ -12,8 +13,12 @@ pub mod SetWords
 pub mod FieldValues
 pub mod Coordinates
 pub mod NoneOf
+pub mod NoNumbers
 pub mod Seconds
 pub mod FieldLists
 pub mod NumberLists
+pub mod SearchWords
 pub mod ScanWords
+pub mod AreaWords
+pub mod SearchCommands
 pub mod Called

@@ -18,10 +18,12 @@ use Rattle.world_model.specs.declared.commands.Command.{Command}
 use Rattle.world_model.specs.declared.faults.WordFault.{WordFault}
 use Rattle.world_model.specs.declared.faults.WordFault.TheVariants as fault
 use Rattle.world_model.specs.FormLaws.{Takes, Fair, fair_done, fair_word, fair_bind, takes_word, takes_bind}
-use Rattle.cmd_words.specs.Places.{Place, all_words, IsBehind, Moves, Follows, Reads, IsFault, IsRefusal, answers, answered}
-use Rattle.cmd_words.specs.declared.options.OptionWord.TheVariants as option
+use Rattle.cmd_words.specs.Progress.{Place, all_words, IsBehind, Moves, Follows, Reads, IsFault, IsRefusal, answers, answered}
+use Rattle.cmd_words.specs.declared.set_options.OptionWord.{OptionWord}
+use Rattle.cmd_words.specs.declared.set_options.OptionWord.TheVariants as option
+use Rattle.cmd_words.specs.declared.object_places.PlaceWord.{PlaceWord}
 use Rattle.cmd_words.specs.declared.object_places.PlaceWord.TheVariants as at
-use Rattle.cmd_words.specs.Sets.{options_and_place, IsOption, is_option, LacksOption, IsPlace, LacksPlace, ReadsPlace, Goes, Refuses}
+use Rattle.cmd_words.specs.Sets.{options_and_place, option_name, may_come, LacksOption, place_name, LacksPlace, ReadsPlace, Goes, Refuses}
 use Rattle.cmd_words.proofs.Gets.{lower_word, step, moves, moves_on}
 use Rattle.cmd_words.proofs.Follows.{stopped, now, no_more, some_more, open_by, shut_by, ran_out}
 use Rattle.cmd_words.proofs.Binds.{unrolled, done_behind, each_both}
@@ -62,13 +64,13 @@ module _ (o : SetOptions) (next : SetOptions → Bytes × Shape → Form Command
   field_goes : str_to_ascii_lowercase w ≡ codes "field" → options_and_place o next (w ∷ more) ≡ (field >>= λ f. options_and_place (record o { given = o.given ++ f ∷ [] }) next) more
   field_goes e = unroll o next (w ∷ more) ∙ rw (e, nothing (is_none o.after_ex), nothing (is_none o.only)) (simp append-nil (done_behind (λ (f : Field). record o { given = o.given ++ f ∷ [] }) (λ p. options_and_place p next) (field more)))
 
-  seconds_goes : str_to_ascii_lowercase w ≡ codes "ex" → o.after_ex ≡ None → options_and_place o next (w ∷ more) ≡ (seconds >>= λ s. options_and_place (record o { after_ex = Some s }) next) more
+  seconds_goes : str_to_ascii_lowercase w ≡ codes "ex" → is_none o.after_ex ≡ true → options_and_place o next (w ∷ more) ≡ (seconds >>= λ s. options_and_place (record o { after_ex = Some s }) next) more
   seconds_goes e x = unroll o next (w ∷ more) ∙ rw (e, x, nothing (is_none o.only)) (simp append-nil (done_behind (λ (s : ℕ). record o { after_ex = Some s }) (λ p. options_and_place p next) (seconds more)))
 
-  absent_goes : str_to_ascii_lowercase w ≡ codes "nx" → o.only ≡ None → options_and_place o next (w ∷ more) ≡ options_and_place (record o { only = Some Absent }) next more
+  absent_goes : str_to_ascii_lowercase w ≡ codes "nx" → is_none o.only ≡ true → options_and_place o next (w ∷ more) ≡ options_and_place (record o { only = Some Absent }) next more
   absent_goes e x = unroll o next (w ∷ more) ∙ rw (e, x, nothing (is_none o.after_ex)) (append-nil (options_and_place (record o { only = Some Absent }) next more))
 
-  present_goes : str_to_ascii_lowercase w ≡ codes "xx" → o.only ≡ None → options_and_place o next (w ∷ more) ≡ options_and_place (record o { only = Some Present }) next more
+  present_goes : str_to_ascii_lowercase w ≡ codes "xx" → is_none o.only ≡ true → options_and_place o next (w ∷ more) ≡ options_and_place (record o { only = Some Present }) next more
   present_goes e x = unroll o next (w ∷ more) ∙ rw (e, x, nothing (is_none o.after_ex)) (append-nil (options_and_place (record o { only = Some Present }) next more))
 
   point_goes : str_to_ascii_lowercase w ≡ codes "point" → options_and_place o next (w ∷ more) ≡ (lat_lon >>= λ p. next o (point_text p, Spot p ∷ [])) more
@@ -86,32 +88,22 @@ pub absent_when : {A : Type 0} (b e : Bool) (xs : List A) → (b && e) ≡ false
 absent_when false e xs h n = refl
 absent_when true e xs h n = n h
 
-three : (a b c : Bool) → (a || b || c) ≡ false → (a ≡ false) × (b ≡ false) × (c ≡ false)
-three a b c e = (grind arith, grind arith, grind arith)
-
-each_of : (a b c : Bool) → (a && (b || c)) ≡ false → ((a && b) ≡ false) × ((a && c) ≡ false)
-each_of a b c e = (grind arith, grind arith)
-
 no_word : {A : Type 0} (w n : Bytes) (g : Bytes → Form A) (more : List Bytes) → is_word w n ≡ false → (word n >>= g) (w ∷ more) ≡ []
 no_word w n g more e = rw e refl
 
-module _ (o : SetOptions) (w : Bytes) (more : List Bytes) (n : is_option o w ≡ false) where
-  parts : (is_word w (codes "FIELD") ≡ false) × ((is_none o.after_ex && is_word w (codes "EX")) ≡ false) × ((is_none o.only && (is_word w (codes "NX") || is_word w (codes "XX"))) ≡ false)
-  parts = three (is_word w (codes "FIELD")) (is_none o.after_ex && is_word w (codes "EX")) (is_none o.only && (is_word w (codes "NX") || is_word w (codes "XX"))) n
-
+module _ (o : SetOptions) (w : Bytes) (more : List Bytes) (n : LacksOption o (w ∷ [])) where
   no_option : set_option o (w ∷ more) ≡ []
   no_option =
-      let conditions = each_of (is_none o.only) (is_word w (codes "NX")) (is_word w (codes "XX")) parts.2 in
-      let no_field = parts.0 in
+      let no_field : is_word w (codes "FIELD") ≡ false = n option.Field in
       rw (
         no_field,
-        absent_when (is_none o.after_ex) (is_word w (codes "EX")) ((word (codes "EX") >> seconds >>= λ s. done (record o { after_ex = Some s })) (w ∷ more)) parts.1 (λ e. rw e refl),
-        absent_when (is_none o.only) (is_word w (codes "NX")) ((word (codes "NX") >> done (record o { only = Some Absent })) (w ∷ more)) conditions.0 (λ e. rw e refl),
-        absent_when (is_none o.only) (is_word w (codes "XX")) ((word (codes "XX") >> done (record o { only = Some Present })) (w ∷ more)) conditions.1 (λ e. rw e refl),
+        absent_when (is_none o.after_ex) (is_word w (codes "EX")) ((word (codes "EX") >> seconds >>= λ s. done (record o { after_ex = Some s })) (w ∷ more)) (n option.Seconds) (λ e. rw e refl),
+        absent_when (is_none o.only) (is_word w (codes "NX")) ((word (codes "NX") >> done (record o { only = Some Absent })) (w ∷ more)) (n option.Absent) (λ e. rw e refl),
+        absent_when (is_none o.only) (is_word w (codes "XX")) ((word (codes "XX") >> done (record o { only = Some Present })) (w ∷ more)) (n option.Present) (λ e. rw e refl),
       ) refl
 
   none_goes : (next : SetOptions → Bytes × Shape → Form Command) → LacksPlace (w ∷ more) → options_and_place o next (w ∷ more) ≡ []
-  none_goes next p = let no_point = p.0 in let no_bounds = p.1 in let no_object = p.2 in unroll o next (w ∷ more) ∙ rw (no_option, no_point, no_bounds, no_object) refl
+  none_goes next p = let no_point = p at.Point in let no_bounds = p at.Bounds in let no_object = p at.Object in unroll o next (w ∷ more) ∙ rw (no_option, no_point, no_bounds, no_object) refl
 
 -- where the words run out
 
@@ -153,7 +145,7 @@ module _ (o : SetOptions) (p : Place) where
       let none : command_spelled p.read ≡ None = ap spelled there ∙ no_command due.0 in
       rw (no_more p l) (ap answered (ran_out p.read (open_by p.read (runs_out a_word) (due_words due.0) there) none)) ∙ ap Err (sym e))
 
-  pub word_refused : (w : Bytes) (rest : List Bytes) (why : CommandFault) → p.left ≡ w ∷ rest → is_option o w ≡ false → LacksPlace (w ∷ []) → IsFault (fault.Invalid (shown_of w)) why → Refuses o p why
+  pub word_refused : (w : Bytes) (rest : List Bytes) (why : CommandFault) → p.left ≡ w ∷ rest → LacksOption o (w ∷ []) → LacksPlace (w ∷ []) → IsFault (fault.Invalid (shown_of w)) why → Refuses o p why
   word_refused w rest why l n q (inl m) = inl m
   word_refused w rest why l n q (inr e) = inr (λ next h.
       let due = due_there o next in
@@ -183,14 +175,21 @@ module _ {A : Type 0} (o : SetOptions) (f : Form A) (behind : (SetOptions → By
   value_refused why (inl m) = inl m
   value_refused why (inr r) = inr (λ next h. subst (λ ws. answers ws ≡ Err why) (moves w old mid b).words (r (behind next) (begun next h)))
 
+-- the word begins this option, which may still come; this place
+abbrev IsOption : SetOptions → Bytes → OptionWord → Type 0
+IsOption o w kind = (is_word w (option_name kind) ≡ true) × (may_come o kind ≡ true)
+
+abbrev IsPlace : Bytes → PlaceWord → Type 0
+IsPlace w kind = is_word w (place_name kind) ≡ true
+
 module _ (o : SetOptions) (old mid new : Place) (w : Bytes) (b : IsBehind w old mid) where
   pub field_read : (f : Field) → IsOption o w option.Field → Reads field mid new (Ok f) → Goes o (record o { given = o.given ++ f ∷ [] }) old new × (length new.left < length old.left)
   field_read f e k =
-      let r = value_read o field (λ next x. options_and_place (record o { given = o.given ++ x ∷ [] }) next) old mid new w b (λ next more. field_goes o next w more (lower_word w (codes "FIELD") e)) f k in
+      let r = value_read o field (λ next x. options_and_place (record o { given = o.given ++ x ∷ [] }) next) old mid new w b (λ next more. field_goes o next w more (lower_word w (codes "FIELD") e.0)) f k in
       (record { moves = r.0; follows = r.2 }, r.1)
 
   pub field_refused : (why : CommandFault) → IsOption o w option.Field → Reads field mid new (Err why) → Refuses o old why
-  field_refused why e k = value_refused o field (λ next x. options_and_place (record o { given = o.given ++ x ∷ [] }) next) old mid new w b (λ next more. field_goes o next w more (lower_word w (codes "FIELD") e)) why k
+  field_refused why e k = value_refused o field (λ next x. options_and_place (record o { given = o.given ++ x ∷ [] }) next) old mid new w b (λ next more. field_goes o next w more (lower_word w (codes "FIELD") e.0)) why k
 
   pub seconds_read : (s : ℕ) → IsOption o w option.Seconds → Reads seconds mid new (Ok s) → Goes o (record o { after_ex = Some s }) old new × (length new.left < length old.left)
   seconds_read s e k =
@@ -246,3 +245,6 @@ goes_further o p q first old new g h = record { moves = moves_on first old new g
 pub refused_further : (o p : SetOptions) (first old : Place) (why : CommandFault) → Goes o p first old → Refuses p old why → Refuses o first why
 refused_further o p first old why g (inl m) = inl m
 refused_further o p first old why g (inr r) = inr (λ next h. subst (λ ws. answers ws ≡ Err why) g.moves.words (r next (g.follows next h)))
+
+pub options_done : (first_options o p : SetOptions) (first old new : Place) → Goes first_options o first old → (new ≡ old) × (p ≡ o) × LacksOption o old.left → Goes first_options p first new × LacksOption p new.left
+options_done first_options o p first old new g e = rw (e.0, e.1) (g, e.2)

@@ -4,12 +4,15 @@ use Rattle.std.specs.Prelude.{◌&&◌, Option, Some, None, is_none, unwrap_or, 
 use Rattle.std.specs.List.{list_any, AllByRecursion}
 use Rattle.byte_text.specs.Names.{Bytes, is_word, is_name}
 use Rattle.world_model.specs.Grammar.{Form, Reading, spells, runs_out, done, word, maybe, ◌>>=◌, ◌>>◌, ◌or◌, repeated, once_or_more, live, spelled, a_word}
-use Rattle.world_model.specs.Kinds.{name, glob, seconds, when}
+use Rattle.world_model.specs.Kinds.{name, glob, seconds, meters, lat_lon, four, geojson, when}
 use Rattle.world_data.specs.Limits.{max_tests}
 use Rattle.byte_text.specs.Globs.{is_well_formed}
 use Rattle.world_model.specs.Commands as table
 use Rattle.world_model.specs.Served.{asks, unbuilt}
-use Rattle.world_model.specs.Sound.{IsSoundCommand}
+use Rattle.world_model.specs.Sound.{IsSoundCommand, is_sound_from}
+use Rattle.world_data.specs.declared.channels.Kind.{Kind}
+use Rattle.world_data.specs.declared.channels.Kind.TheVariants.{Within, Intersects}
+use Rattle.world_data.specs.declared.queries.Rule.TheVariants.{Kept, Nearest}
 use Rattle.world_data.specs.declared.queries.Shown.TheVariants as shown
 use Rattle.world_model.specs.declared.commands.Only.TheVariants.{Any}
 use Rattle.world_model.specs.declared.commands.Command.{Command}
@@ -21,7 +24,7 @@ use Rattle.world_model.specs.declared.faults.WordFault.TheVariants as fault
 use Rattle.world_model.specs.FormLaws.{Each}
 use Rattle.world_model.specs.MadeForms.{Makes, Said, makes_done, makes_or, makes_none, makes_where, makes_word, makes_bind, makes_behind, makes_then, makes_maybe, makes_repeated}
 use Rattle.world_model.specs.SoundLaws.{reads_sound}
-use Rattle.cmd_words.specs.Laws.{IsServed, IsOfObject, IsPattern, IsById}
+use Rattle.cmd_words.specs.Laws.{IsServed, IsOfObject, IsPattern, IsById, IsKept}
 use Rattle.cmd_words.specs.declared.faults.CommandFault.{CommandFault}
 
 abbrev IsName : Bytes → Type 0
@@ -95,15 +98,18 @@ NamedGlob o = IfSome o.glob IsName
 first : {A : Type 0} {P : A → Type 0} {f g : Form A} → Makes P f → Makes P g → Makes P (f or g)
 first {P = P} {f = f} {g = g} p q = makes_or P f g p q
 
-makes_option : (o : table.SearchOptions) → NamedGlob o → Makes NamedGlob (table.search_option true o)
-makes_option o h =
+makes_option : (ordered : Bool) (o : table.SearchOptions) → NamedGlob o → Makes NamedGlob (table.search_option ordered o)
+makes_option ordered o h =
     first (makes_where NamedGlob (is_none o.glob) _ (makes_bind IsPattern NamedGlob (word (codes "MATCH") >> glob) _ (makes_then IsPattern (word (codes "MATCH")) glob makes_glob) (λ p w. makes_done NamedGlob _ w.0))) (
     first (makes_where NamedGlob (is_none o.cursor) _ (makes_behind NamedGlob (word (codes "CURSOR") >> _) _ (λ n. makes_done NamedGlob _ h))) (
     first (makes_where NamedGlob (is_none o.limit) _ (makes_behind NamedGlob (word (codes "LIMIT") >> _) _ (λ n. makes_done NamedGlob _ h))) (
     first (makes_where NamedGlob (not o.bare) _ (makes_then NamedGlob (word (codes "NOFIELDS")) _ (makes_done NamedGlob _ h))) (
-    first (makes_where NamedGlob (is_none o.down) _ (makes_then NamedGlob (word (codes "ASC")) _ (makes_done NamedGlob _ h))) (
-    first (makes_where NamedGlob (is_none o.down) _ (makes_then NamedGlob (word (codes "DESC")) _ (makes_done NamedGlob _ h))) (
+    first (makes_where NamedGlob (ordered && is_none o.down) _ (makes_then NamedGlob (word (codes "ASC")) _ (makes_done NamedGlob _ h))) (
+    first (makes_where NamedGlob (ordered && is_none o.down) _ (makes_then NamedGlob (word (codes "DESC")) _ (makes_done NamedGlob _ h))) (
     first (makes_where NamedGlob (nat_lt (length o.tests) max_tests) _ (makes_behind NamedGlob table.test _ (λ t. makes_done NamedGlob _ h))) (makes_none NamedGlob)))))))
+
+makes_options : (ordered : Bool) → Makes NamedGlob (repeated (table.search_option ordered) table.no_search_options)
+makes_options ordered = makes_repeated NamedGlob (table.search_option ordered) (makes_option ordered) table.no_search_options tt
 
 by_id : (down : Option Bool) → IsById (table.scan_rule down)
 by_id None = tt
@@ -111,8 +117,31 @@ by_id (Some true) = tt
 by_id (Some false) = tt
 
 makes_scan : Makes Keeps table.scan_command
-makes_scan = makes_then Keeps (word (codes "SCAN")) _ (makes_bind IsName Keeps name _ makes_name (λ key k. makes_bind NamedGlob Keeps _ _ (makes_repeated NamedGlob (table.search_option true) makes_option table.no_search_options tt) (λ o n.
+makes_scan = makes_then Keeps (word (codes "SCAN")) _ (makes_bind IsName Keeps name _ makes_name (λ key k. makes_bind NamedGlob Keeps _ _ (makes_options true) (λ o n.
     makes_behind Keeps (maybe shown.Objects table.output) _ (λ how. makes_done Keeps (command.Scan key (table.query_of o how (table.scan_rule o.down))) (λ sound. (k, record { sound = sound; by_id = by_id o.down; named = n }))))))
+
+-- WITHIN, INTERSECTS and NEARBY
+
+-- the area is kept where what it is from is sound
+abbrev HasArea : table.AreaRead → Type 0
+HasArea a = (kind : Kind) → is_sound_from a.from ≡ true → IsKept (Kept kind a.area) a.from
+
+makes_area : Makes HasArea table.area
+makes_area =
+    first (makes_behind HasArea (word (codes "BOUNDS") >> four) _ (λ b. makes_done HasArea _ (λ kind s. (refl, s)))) (
+    first (makes_behind HasArea (word (codes "OBJECT") >> geojson) _ (λ t. makes_done HasArea _ (λ kind s. (refl, s)))) (
+    first (makes_behind HasArea (word (codes "CIRCLE") >> lat_lon) _ (λ p. makes_behind HasArea meters _ (λ r. makes_done HasArea _ (λ kind s. (refl, s))))) (
+    first (makes_bind IsName HasArea (word (codes "GET") >> name) _ (makes_then IsName (word (codes "GET")) name makes_name) (λ key k. makes_bind IsName HasArea name _ makes_name (λ id i. makes_done HasArea _ (λ kind s. (k, i))))) (makes_none HasArea))))
+
+makes_search : (called : Bytes) (kind : Kind) → Makes Keeps (table.search_command called kind)
+makes_search called kind = makes_then Keeps (word called) _ (makes_bind IsName Keeps name _ makes_name (λ key k. makes_bind NamedGlob Keeps _ _ (makes_options false) (λ o n.
+    makes_behind Keeps (maybe shown.Objects table.output) _ (λ how. makes_bind HasArea Keeps table.area _ makes_area (λ a h.
+    makes_done Keeps (command.Search key (table.query_of o how (Kept kind a.area)) a.from) (λ sound. (k, record { sound = sound.0; kept = h kind sound.1; named = n })))))))
+
+makes_nearby : Makes Keeps table.nearby_command
+makes_nearby = makes_then Keeps (word (codes "NEARBY")) _ (makes_bind IsName Keeps name _ makes_name (λ key k. makes_bind NamedGlob Keeps _ _ (makes_options false) (λ o n.
+    makes_behind Keeps (maybe shown.Objects table.output) _ (λ how. makes_then Keeps (word (codes "POINT")) _ (makes_behind Keeps lat_lon _ (λ at. makes_behind Keeps (maybe None (meters >>= λ r. done (Some r))) _ (λ reach.
+    makes_done Keeps (command.Nearby key (table.query_of o how Nearest) at reach) (λ sound. (k, record { sound = sound.0; nearest = refl; within = sound.1; named = n })))))))))
 
 -- GET
 
@@ -197,15 +226,15 @@ module _ (called : Bytes) (rest : List Bytes) where
       each_both (Said Keeps) _ _ (makes_ping.made (called ∷ rest)) (
       each_both (Said Keeps) _ _ (makes_quit.made (called ∷ rest)) (
       each_both (Said Keeps) _ _ (makes_scan.made (called ∷ rest)) (
-      each_both (Said Keeps) _ _ (other (Said Keeps) (codes "WITHIN") _ u.1.0) (
-      each_both (Said Keeps) _ _ (other (Said Keeps) (codes "INTERSECTS") _ u.1.1.0) (
-      each_both (Said Keeps) _ _ (other (Said Keeps) (codes "NEARBY") _ u.1.1.1.0) (
-      each_both (Said Keeps) _ _ (other (Said Keeps) (codes "SETCHAN") _ u.1.1.1.1.0) (
-      each_both (Said Keeps) _ _ (other (Said Keeps) (codes "DELCHAN") _ u.1.1.1.1.1.0) (
-      each_both (Said Keeps) _ _ (other (Said Keeps) (codes "PDELCHAN") _ u.1.1.1.1.1.1.0) (
-      each_both (Said Keeps) _ _ (other (Said Keeps) (codes "CHANS") _ u.1.1.1.1.1.1.1.0) (
-      each_both (Said Keeps) _ _ (other (Said Keeps) (codes "SUBSCRIBE") _ u.1.1.1.1.1.1.1.1.0) (
-      each_both (Said Keeps) _ _ (other (Said Keeps) (codes "PSUBSCRIBE") _ u.1.1.1.1.1.1.1.1.1.0) tt))))))))))))))))))))))))))
+      each_both (Said Keeps) _ _ ((makes_search (codes "WITHIN") Within).made (called ∷ rest)) (
+      each_both (Said Keeps) _ _ ((makes_search (codes "INTERSECTS") Intersects).made (called ∷ rest)) (
+      each_both (Said Keeps) _ _ (makes_nearby.made (called ∷ rest)) (
+      each_both (Said Keeps) _ _ (other (Said Keeps) (codes "SETCHAN") _ u.1.0) (
+      each_both (Said Keeps) _ _ (other (Said Keeps) (codes "DELCHAN") _ u.1.1.0) (
+      each_both (Said Keeps) _ _ (other (Said Keeps) (codes "PDELCHAN") _ u.1.1.1.0) (
+      each_both (Said Keeps) _ _ (other (Said Keeps) (codes "CHANS") _ u.1.1.1.1.0) (
+      each_both (Said Keeps) _ _ (other (Said Keeps) (codes "SUBSCRIBE") _ u.1.1.1.1.1.0) (
+      each_both (Said Keeps) _ _ (other (Said Keeps) (codes "PSUBSCRIBE") _ u.1.1.1.1.1.1.0) tt))))))))))))))))))))))))))
 
 said : (rs : List (Reading Command)) (c : Command) → Each (Said Keeps) rs → spelled (live rs) ≡ Some c → Keeps c
 said [] c all e = absurd cc

@@ -23,9 +23,12 @@ name_of command.Flush = codes "FLUSHDB"
 name_of command.Ping = codes "PING"
 name_of command.Quit = codes "QUIT"
 name_of command.Scan = codes "SCAN"
+name_of command.Within = codes "WITHIN"
+name_of command.Intersects = codes "INTERSECTS"
+name_of command.Nearby = codes "NEARBY"
 
 abbrev pub all_names : List CommandName
-all_names = command.Set ∷ command.Get ∷ command.Del ∷ command.Fset ∷ command.Fget ∷ command.Expire ∷ command.Persist ∷ command.Ttl ∷ command.Pdel ∷ command.Drop ∷ command.Keys ∷ command.Bounds ∷ command.Stats ∷ command.Flush ∷ command.Ping ∷ command.Quit ∷ command.Scan ∷ []
+all_names = command.Set ∷ command.Get ∷ command.Del ∷ command.Fset ∷ command.Fget ∷ command.Expire ∷ command.Persist ∷ command.Ttl ∷ command.Pdel ∷ command.Drop ∷ command.Keys ∷ command.Bounds ∷ command.Stats ∷ command.Flush ∷ command.Ping ∷ command.Quit ∷ command.Scan ∷ command.Within ∷ command.Intersects ∷ command.Nearby ∷ []
 
 -- the word is the name of none of these commands
 abbrev pub AreOthers : Bytes → List CommandName → Type 0

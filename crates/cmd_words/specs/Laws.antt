@@ -1,12 +1,15 @@
 -- Which commands are asked for.
-use Rattle.std.specs.Prelude.{◌≡◌, ◌<◌, true, List, Ok, length, IfSome}
+use Rattle.std.specs.Prelude.{◌≡◌, ◌<◌, ℕ, true, List, Option, Ok, length, IfSome}
 use Rattle.std.specs.List.{AllByRecursion}
 use Rattle.byte_text.specs.Names.{Bytes, is_name}
 use Rattle.byte_text.specs.Globs.{is_well_formed}
 use Rattle.geo_text.specs.Texts.{shape_of}
 use Rattle.world_data.specs.Filters.{are_fields}
 use Rattle.world_model.specs.Served.{asks}
-use Rattle.world_data.specs.Sound.{is_sound_query}
+use Rattle.world_data.specs.Sound.{is_sound_area, is_sound_query}
+use Rattle.world_model.specs.Sound.{is_sound_reach}
+use Rattle.world_model.specs.declared.commands.AreaWords.{AreaWords}
+use Rattle.world_model.specs.declared.commands.AreaWords.TheVariants.{Given, Of}
 use Rattle.world_model.specs.declared.commands.Command.{Command}
 use Rattle.world_model.specs.declared.commands.Command.TheVariants as command
 use Rattle.world_data.specs.declared.queries.Query.{Query}
@@ -40,6 +43,26 @@ pub record IsScan (q : Query) : Type 0 where
   pub by_id : IsById q.rule
   pub named : IfSome q.glob (λ pattern. is_name pattern ≡ true)
 
+-- a search in an area: the query is sound, a pattern is a name, and the rule keeps the area that is given, or what holds the place of an object's
+abbrev pub IsKept : Rule → AreaWords → Type 0
+IsKept (Kept kind a) (Given b) = (b ≡ a) × (is_sound_area b ≡ true)
+IsKept (Kept kind a) (Of key id) = (is_name key ≡ true) × (is_name id ≡ true)
+IsKept All from = ⊥
+IsKept Down from = ⊥
+IsKept Nearest from = ⊥
+
+pub record IsSearch (q : Query) (from : AreaWords) : Type 0 where
+  pub sound : is_sound_query q ≡ true
+  pub kept : IsKept q.rule from
+  pub named : IfSome q.glob (λ pattern. is_name pattern ≡ true)
+
+-- a search of the nearest: the query is sound, a pattern is a name, and the meters are within their limit
+pub record IsNearby (q : Query) (reach : Option ℕ) : Type 0 where
+  pub sound : is_sound_query q ≡ true
+  pub nearest : q.rule ≡ Nearest
+  pub within : is_sound_reach reach ≡ true
+  pub named : IfSome q.glob (λ pattern. is_name pattern ≡ true)
+
 -- the command is served: its keys, ids, field names and patterns are names; fields are in order and none is 0; a text has the shape
 abbrev pub IsServed : Command → Type 0
 IsServed (command.Set key id fields cleared seconds only text shape) = (is_name key ≡ true) × (is_name id ≡ true) × (are_fields fields ≡ true) × (shape_of text ≡ Ok shape)
@@ -59,6 +82,8 @@ IsServed command.Flush = Unit {0}
 IsServed command.Ping = Unit {0}
 IsServed command.Quit = Unit {0}
 IsServed (command.Scan key q) = (is_name key ≡ true) × IsScan q
+IsServed (command.Search key q from) = (is_name key ≡ true) × IsSearch q from
+IsServed (command.Nearby key q at reach) = (is_name key ≡ true) × IsNearby q reach
 IsServed c = ⊥
 
 -- what words ask for is served

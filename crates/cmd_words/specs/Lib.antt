@@ -1,6 +1,9 @@
-pub mod Places
+pub mod Progress
 pub mod Sets
+pub mod SearchWords
 pub mod Scans
+pub mod Areas
+pub mod Searches
 pub mod Laws
 pub mod ShortRequests
 pub mod CommandNames

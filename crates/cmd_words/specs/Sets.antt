@@ -14,9 +14,9 @@ use Rattle.world_model.specs.declared.commands.Command.{Command}
 use Rattle.world_model.specs.declared.commands.Command.TheVariants as command
 use Rattle.world_model.specs.declared.faults.WordFault.{WordFault}
 use Rattle.world_model.specs.declared.faults.WordFault.TheVariants as fault
-use Rattle.cmd_words.specs.Places.{Place, all_words, answers, IsBehind, Moves, Follows}
-use Rattle.cmd_words.specs.declared.options.OptionWord.{OptionWord}
-use Rattle.cmd_words.specs.declared.options.OptionWord.TheVariants as option
+use Rattle.cmd_words.specs.Progress.{Place, all_words, answers, Moves, Follows, Took, TookDue, IsNot, IsNotDue}
+use Rattle.cmd_words.specs.declared.set_options.OptionWord.{OptionWord}
+use Rattle.cmd_words.specs.declared.set_options.OptionWord.TheVariants as option
 use Rattle.cmd_words.specs.declared.object_places.PlaceWord.{PlaceWord}
 use Rattle.cmd_words.specs.declared.object_places.PlaceWord.TheVariants as at
 use Rattle.cmd_words.specs.declared.faults.CommandFault.{CommandFault}
@@ -52,25 +52,27 @@ set_of k o at = command.Set k.0 k.1 (nonzero_of o.given) (cleared_of o.given) o.
 abbrev pub behind_set : Bytes × Bytes → Form Command
 behind_set k = options_and_place no_options (λ o at. done (set_of k o at))
 
--- the word begins this option, which may still come
-abbrev pub IsOption : SetOptions → Bytes → OptionWord → Type 0
-IsOption o w option.Field = is_word w (codes "FIELD") ≡ true
-IsOption o w option.Seconds = (is_word w (codes "EX") ≡ true) × (o.after_ex ≡ None)
-IsOption o w option.Absent = (is_word w (codes "NX") ≡ true) × (o.only ≡ None)
-IsOption o w option.Present = (is_word w (codes "XX") ≡ true) × (o.only ≡ None)
+-- the word that an option begins with
+abbrev pub option_name : OptionWord → Bytes
+option_name option.Field = codes "FIELD"
+option_name option.Seconds = codes "EX"
+option_name option.Absent = codes "NX"
+option_name option.Present = codes "XX"
 
--- the word begins an option that may still come
-abbrev pub is_option : SetOptions → Bytes → Bool
-is_option o w = is_word w (codes "FIELD") || (is_none o.after_ex && is_word w (codes "EX")) || (is_none o.only && (is_word w (codes "NX") || is_word w (codes "XX")))
+-- the option may still come
+abbrev pub may_come : SetOptions → OptionWord → Bool
+may_come o option.Field = true
+may_come o option.Seconds = is_none o.after_ex
+may_come o option.Absent = is_none o.only
+may_come o option.Present = is_none o.only
 
--- no such option is next
+-- no option that may come is next
 abbrev pub LacksOption : SetOptions → List Bytes → Type 0
-LacksOption o [] = Unit {0}
-LacksOption o (w ∷ words) = is_option o w ≡ false
+LacksOption o left = (kind : OptionWord) → IsNotDue (may_come o kind) (option_name kind) left
 
 -- the word of an option was read; or none was, and none is next
 abbrev pub TakesOption : SetOptions → Place → Place → Option OptionWord → Type 0
-TakesOption o old new (Some kind) = (w : Bytes) × IsOption o w kind × IsBehind w old new
+TakesOption o old new (Some kind) = TookDue (may_come o kind) (option_name kind) old new true
 TakesOption o old new None = (new ≡ old) × LacksOption o old.left
 
 -- the words behind are read from here on with these options in place of those
@@ -93,20 +95,19 @@ abbrev pub ReadsOptions : SetOptions → Place → Place → Result SetOptions C
 ReadsOptions o old new (Ok p) = Goes o p old new × LacksOption p new.left
 ReadsOptions o old new (Err why) = Refuses o old why
 
--- the word begins this place
-abbrev pub IsPlace : Bytes → PlaceWord → Type 0
-IsPlace w at.Point = is_word w (codes "POINT") ≡ true
-IsPlace w at.Bounds = is_word w (codes "BOUNDS") ≡ true
-IsPlace w at.Object = is_word w (codes "OBJECT") ≡ true
+-- the word that a place begins with
+abbrev pub place_name : PlaceWord → Bytes
+place_name at.Point = codes "POINT"
+place_name at.Bounds = codes "BOUNDS"
+place_name at.Object = codes "OBJECT"
 
 -- no place is next
 abbrev pub LacksPlace : List Bytes → Type 0
-LacksPlace [] = Unit {0}
-LacksPlace (w ∷ words) = (is_word w (codes "POINT") ≡ false) × (is_word w (codes "BOUNDS") ≡ false) × (is_word w (codes "OBJECT") ≡ false)
+LacksPlace left = (kind : PlaceWord) → IsNot (place_name kind) left
 
 -- the word of a place was read; or none was, and none is next
 abbrev pub TakesPlace : Place → Place → Option PlaceWord → Type 0
-TakesPlace old new (Some kind) = (w : Bytes) × IsPlace w kind × IsBehind w old new
+TakesPlace old new (Some kind) = Took (place_name kind) old new true
 TakesPlace old new None = (new ≡ old) × LacksPlace old.left
 
 -- the place behind these options was read

@@ -24,10 +24,13 @@ pub(crate) enum CommandName {
     Ping,
     Quit,
     Scan,
+    Within,
+    Intersects,
+    Nearby,
 }
 
 // Those that are called most come first.
-const COMMANDS: [CommandName; 17] = [
+const COMMANDS: [CommandName; 20] = [
     CommandName::Set,
     CommandName::Get,
     CommandName::Del,
@@ -45,6 +48,9 @@ const COMMANDS: [CommandName; 17] = [
     CommandName::Ping,
     CommandName::Quit,
     CommandName::Scan,
+    CommandName::Within,
+    CommandName::Intersects,
+    CommandName::Nearby,
 ];
 
 impl CommandName {
@@ -70,6 +76,9 @@ impl CommandName {
             CommandName::Ping => b"PING",
             CommandName::Quit => b"QUIT",
             CommandName::Scan => b"SCAN",
+            CommandName::Within => b"WITHIN",
+            CommandName::Intersects => b"INTERSECTS",
+            CommandName::Nearby => b"NEARBY",
         }
     }
 }

@@ -7,19 +7,21 @@ ghost use Rattle.world_model.specs.Grammar.{done};
 ghost use Rattle.world_model.specs.declared.commands.Command.TheVariants as command;
 ghost use Rattle.world_model.specs.Served.{asks, unbuilt};
 ghost use Rattle.cmd_words.specs.CommandNames.{name_of};
-ghost use Rattle.cmd_words.specs.Places.{IfRefused, all_words, Follows, Answers, a_name, key_and_id, get_options, stats_names, IsFault, fault_of_no_name};
+ghost use Rattle.cmd_words.specs.Progress.{IfRefused, all_words, Follows, Answers, a_name, key_and_id, get_options, stats_names, IsFault, fault_of_no_name};
 
 use crate::command_names::{CommandName, command_named};
 use crate::faults::{CommandFault, unknown};
 use crate::fields::push_name;
 use crate::objects::{expire_command, fget_command, fset_command, persist_command, ttl_command};
 use crate::patterns::{keys_command, pdel_command};
-use crate::readers::Reader;
+use crate::request_reader::Reader;
 use crate::scans::scan_command;
+use crate::searches::{nearby_command, search_command};
 use crate::sets::set_command;
-use crate::words::read_name;
+use crate::word_kinds::read_name;
 use byte_text::Request;
 use std::alloc::Global;
+use world_data::Kind;
 use world_model::{Command, NameList, Shown, WordFault};
 
 /// The command that the words of a request spell, or how they are refused.
@@ -48,11 +50,8 @@ fn is_any(called: &[u8], names: &[&[u8]]) -> bool
 fn is_unbuilt(called: &[u8]) -> bool
     ensures { result ≡ list_any (is_word called.now) unbuilt }
 {
-    let names: [&[u8]; 10] = [
+    let names: [&[u8]; 7] = [
         b"AOFSHRINK",
-        b"WITHIN",
-        b"INTERSECTS",
-        b"NEARBY",
         b"SETCHAN",
         b"DELCHAN",
         b"PDELCHAN",
@@ -96,6 +95,9 @@ fn read_named(reader: &mut Reader, name: CommandName) -> Result<Command, Command
         CommandName::Ping => ping_command(reader),
         CommandName::Quit => quit_command(reader),
         CommandName::Scan => scan_command(reader),
+        CommandName::Within => search_command(reader, Kind::Within),
+        CommandName::Intersects => search_command(reader, Kind::Intersects),
+        CommandName::Nearby => nearby_command(reader),
     }
 }
 

@@ -3,11 +3,11 @@
 ghost use Rattle.std.specs.Prelude.{◌≡◌, ◌++◌, ◌∷◌, [], IfErr, OnOk};
 ghost use Rattle.world_model.specs.Grammar.{times};
 ghost use Rattle.world_model.specs.Kinds as kinds;
-ghost use Rattle.cmd_words.specs.Places.{Reads};
-ghost use Rattle.cmd_words.specs.Scans.{range_test as a_range_test, among_test as an_among_test};
+ghost use Rattle.cmd_words.specs.Progress.{Reads};
+ghost use Rattle.cmd_words.specs.SearchWords.{range_test as a_range_test, among_test as an_among_test};
 
 use crate::faults::CommandFault;
-use crate::readers::Reader;
+use crate::request_reader::Reader;
 use world_data::MAX_VALUES;
 use world_model::{Numbers, Test};
 

@@ -4,7 +4,7 @@ ghost use Rattle.std.specs.Prelude.{◌≡◌, take, IfOk, IfErr};
 ghost use Rattle.std.specs.Str.{str_to_ascii_lowercase};
 ghost use Rattle.world_model.specs.Commands.{shown_of};
 ghost use Rattle.world_model.specs.declared.faults.WordFault.TheVariants as fault;
-ghost use Rattle.cmd_words.specs.Places.{IsFault, IsText};
+ghost use Rattle.cmd_words.specs.Progress.{IsFault, IsText};
 
 use byte_text::{NoMemory, Text};
 use std::alloc::Global;

@@ -1,23 +1,26 @@
 //! The words of requests, read as commands.
 #![tactic(auto)]
 
+mod areas;
 mod command_names;
 mod commands;
 mod conditions;
 mod faults;
 mod fields;
-mod kinds;
 mod laws;
 mod object_places;
 mod objects;
-mod options;
 mod patterns;
-mod readers;
+mod reader_values;
+mod request_reader;
 mod scans;
+mod search_options;
+mod searches;
+mod set_options;
 mod sets;
 #[cfg(test)]
 mod tests;
-mod words;
+mod word_kinds;
 
 pub use commands::command_of;
 pub use faults::CommandFault;

@@ -7,7 +7,7 @@ ghost use Rattle.world_model.specs.Commands.{SetOptions};
 ghost use Rattle.cmd_words.specs.Sets.{LacksOption, TakesPlace, ReadsPlace};
 
 use crate::faults::CommandFault;
-use crate::readers::Reader;
+use crate::request_reader::Reader;
 use byte_text::Text;
 use geojson_model::{push_bounds, push_point};
 use planar_geom::{BBox, Pt, Shape};

@@ -4,13 +4,13 @@ ghost use Rattle.std.specs.Prelude.{◌≡◌, ◌++◌, ◌∷◌, [], Ok, Err,
 ghost use Rattle.world_model.specs.Grammar.{done};
 ghost use Rattle.world_model.specs.Kinds as kinds;
 ghost use Rattle.world_model.specs.declared.commands.Command.TheVariants as command;
-ghost use Rattle.cmd_words.specs.Places.{all_words, Follows, Answers, key_and_id, a_form};
+ghost use Rattle.cmd_words.specs.Progress.{all_words, Follows, Answers, key_and_id, a_form};
 ghost use Rattle.cmd_words.specs.Sets.{fields_first, fset_of, ReadsFields};
 
 use crate::faults::CommandFault;
 use crate::fields::fields_of;
-use crate::readers::Reader;
-use crate::words::read_name;
+use crate::request_reader::Reader;
+use crate::word_kinds::read_name;
 use byte_text::Name;
 use world_model::Command;
 

@@ -4,10 +4,10 @@ ghost use Rattle.std.specs.Prelude.{◌≡◌};
 ghost use Rattle.world_model.specs.Grammar.{done};
 ghost use Rattle.world_model.specs.Kinds as kinds;
 ghost use Rattle.world_model.specs.declared.commands.Command.TheVariants as command;
-ghost use Rattle.cmd_words.specs.Places.{all_words, Follows, Answers, a_name, a_form};
+ghost use Rattle.cmd_words.specs.Progress.{all_words, Follows, Answers, a_name, a_form};
 
 use crate::faults::CommandFault;
-use crate::readers::Reader;
+use crate::request_reader::Reader;
 use world_model::Command;
 
 /// `key pattern`

@@ -1,14 +1,14 @@
 //! SET.
 
 ghost use Rattle.std.specs.Prelude.{◌≡◌, IfOk, IfErr};
-ghost use Rattle.cmd_words.specs.Places.{all_words, Follows, Answers, key_and_id};
+ghost use Rattle.cmd_words.specs.Progress.{all_words, Follows, Answers, key_and_id};
 ghost use Rattle.cmd_words.specs.Sets.{behind_set, set_of};
 
 use crate::faults::CommandFault;
 use crate::fields::fields_of;
 use crate::object_places::read_place;
-use crate::options::{SetOptions, read_options};
-use crate::readers::Reader;
+use crate::request_reader::Reader;
+use crate::set_options::{SetOptions, read_options};
 use byte_text::{Name, Text};
 use planar_geom::Shape;
 use std::alloc::Global;

@@ -3,9 +3,13 @@
 use crate::{CommandFault, command_of};
 use byte_text::{Name, NoMemory, Request, Text, push_i64, push_u64};
 use geojson_model::GeoFault;
+use planar_geom::{Area, Pt};
 use std::alloc::Global;
 use std::test::Fail;
-use world_model::{Command, Fields, NameList, Numbers, Only, Query, Rule, Shown, Test, WordFault};
+use world_data::Kind;
+use world_model::{
+    AreaWords, Command, Fields, NameList, Numbers, Only, Query, Rule, Shown, Test, WordFault,
+};
 
 // The request of a line's words, which are split at spaces.
 fn request(alloc: Global, line: &str) -> Result<Request, Fail> {
@@ -98,7 +102,65 @@ fn rule_text(rule: &Rule) -> &'static str {
     match rule {
         Rule::All => " up",
         Rule::Down => " down",
-        _ => " another",
+        Rule::Kept(Kind::Within, _) => " within",
+        Rule::Kept(Kind::Intersects, _) => " intersects",
+        Rule::Kept(_, _) => " near",
+        Rule::Nearest => " nearest",
+    }
+}
+
+// A point as its words are: the latitude, and then the longitude.
+fn push_place(out: &mut Text, at: Pt) -> Result<(), NoMemory> {
+    out.push(b" ")?;
+    push_i64(out, at.y() as i64)?;
+    out.push(b" ")?;
+    push_i64(out, at.x() as i64)
+}
+
+fn push_area(out: &mut Text, area: &Area) -> Result<(), NoMemory> {
+    match area {
+        Area::Rect(_) => out.push(b" box"),
+        Area::Disc(centre, radius) => {
+            out.push(b" disc")?;
+            push_place(out, *centre)?;
+            push_count(out, " ", *radius as u64)
+        }
+        Area::Figure(_) => out.push(b" figure"),
+    }
+}
+
+fn push_from(out: &mut Text, from: &AreaWords) -> Result<(), NoMemory> {
+    match from {
+        AreaWords::Given(area) => push_area(out, area),
+        AreaWords::Of(key, id) => push_two(out, " of ", key, id),
+    }
+}
+
+// A search in an area, or of the nearest.
+fn push_search(out: &mut Text, command: &Command) -> Result<(), NoMemory> {
+    match command {
+        Command::Search { key, query, area } => {
+            out.push(b"search ")?;
+            out.push(key.bytes())?;
+            push_query(out, query)?;
+            push_from(out, area)
+        }
+        Command::Nearby {
+            key,
+            query,
+            at,
+            reach,
+        } => {
+            out.push(b"nearby ")?;
+            out.push(key.bytes())?;
+            push_query(out, query)?;
+            push_place(out, *at)?;
+            match reach {
+                Some(meters) => push_count(out, " up to ", *meters as u64),
+                None => Ok(()),
+            }
+        }
+        _ => out.push(b"another command"),
     }
 }
 
@@ -162,7 +224,7 @@ fn push_wider(out: &mut Text, command: &Command) -> Result<(), NoMemory> {
             out.push(key.bytes())?;
             push_query(out, query)
         }
-        _ => out.push(b"another command"),
+        _ => push_search(out, command),
     }
 }
 
@@ -330,7 +392,7 @@ fn others_are_read(rt: HostRuntime) -> Result<(), Fail> {
         ("PING x", "wrong count ping"),
         ("quit", "quit"),
         ("QUIT now", "wrong count quit"),
-        ("WITHIN k BOUNDS 1 2 3 4", "not served"),
+        ("SUBSCRIBE z", "not served"),
         ("SETS k a POINT 1 2", "unknown SETS"),
         ("", "unknown "),
     ];
@@ -384,6 +446,76 @@ fn scans_are_read(rt: HostRuntime) -> Result<(), Fail> {
         ("SCAN k POINT", "invalid POINT"),
         ("SCAN k POINTS x", "wrong count scan"),
         ("SCAN", "wrong count scan"),
+    ];
+    lines_are_read(rt.alloc(), &table)
+}
+
+#[test]
+fn areas_are_read(rt: HostRuntime) -> Result<(), Fail> {
+    let table = [
+        (
+            "within k cursor 2 limit 5 nofields count bounds 1 2 3 4",
+            "search k within from 2 to 5 bare count box",
+        ),
+        (
+            "WITHIN k BOUNDS BOUNDS 1 2 3 4",
+            "search k within from 0 to 100 bounds box",
+        ),
+        (
+            "WITHIN k BOUNDS 1 2 3 4",
+            "search k within from 0 to 100 objects box",
+        ),
+        (
+            "INTERSECTS k MATCH a* BOUNDS GET fleet truck",
+            "search k intersects match a* from 0 to 100 bounds of fleet truck",
+        ),
+        (
+            "INTERSECTS k POINTS CIRCLE -1 2 2000000000",
+            "search k intersects from 0 to 100 points disc -1 2 2000000000",
+        ),
+        (
+            "INTERSECTS k OBJECT {\"type\":\"Point\",\"coordinates\":[1,2]}",
+            "search k intersects from 0 to 100 objects figure",
+        ),
+    ];
+    lines_are_read(rt.alloc(), &table)
+}
+
+#[test]
+fn areas_are_refused(rt: HostRuntime) -> Result<(), Fail> {
+    let table = [
+        ("WITHIN k ASC BOUNDS 1 2 3 4", "invalid ASC"),
+        ("WITHIN k BOUNDS", "wrong count within"),
+        ("WITHIN k BOUNDS 1.5 2 3 4", "fraction 1.5"),
+        ("WITHIN k BOUNDS IDS", "invalid IDS"),
+        ("WITHIN k BOUNDS BOUNDS OBJECT", "invalid OBJECT"),
+        ("WITHIN k BOUNDS 3 2 1 4", "invalid 1"),
+        ("WITHIN k COUNT COUNT", "invalid COUNT"),
+        ("INTERSECTS k CIRCLE 1 2 2000000001", "invalid 2000000001"),
+        ("INTERSECTS k CIRCLE 1 2 3 4", "wrong count intersects"),
+        ("INTERSECTS k OBJECT x", "not json"),
+        ("INTERSECTS k GET fleet", "wrong count intersects"),
+    ];
+    lines_are_read(rt.alloc(), &table)
+}
+
+#[test]
+fn nearest_are_read(rt: HostRuntime) -> Result<(), Fail> {
+    let table = [
+        (
+            "nearby k limit 2 ids point 0 -3",
+            "nearby k nearest from 0 to 2 ids 0 -3",
+        ),
+        (
+            "NEARBY k COUNT POINT 1 2 0",
+            "nearby k nearest from 0 to 100 count 1 2 up to 0",
+        ),
+        ("NEARBY k DESC POINT 1 2", "invalid DESC"),
+        ("NEARBY k CIRCLE 1 2 3", "invalid CIRCLE"),
+        ("NEARBY k POINT 1 2 2000000001", "invalid 2000000001"),
+        ("NEARBY k POINT 1 2 3 4", "wrong count nearby"),
+        ("NEARBY k POINT 1", "wrong count nearby"),
+        ("NEARBY k", "wrong count nearby"),
     ];
     lines_are_read(rt.alloc(), &table)
 }

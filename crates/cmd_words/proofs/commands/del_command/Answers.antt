@@ -1,6 +1,6 @@
 use Rattle.std.proofs.lemmas.Result.{err_from_is_err_and}
 use Rattle.world_model.specs.declared.commands.Command.TheVariants as command
-use Rattle.cmd_words.specs.Places.{key_and_id}
+use Rattle.cmd_words.specs.Progress.{key_and_id}
 use Rattle.cmd_words.proofs.Ends.{not_begun, not_ended, ended}
 use Rattle.cmd_words.proofs.commands.del_command.Goals as goal
 

@@ -1,5 +1,5 @@
 use Rattle.std.proofs.lemmas.Result.{err_from_is_err_and}
-use Rattle.cmd_words.specs.Places.{key_and_id, get_options}
+use Rattle.cmd_words.specs.Progress.{key_and_id, get_options}
 use Rattle.cmd_words.proofs.Ends.{begun_fails, get_faults, get_objects, get_refused, get_read}
 use Rattle.cmd_words.proofs.commands.get_command.Goals as goal
 

@@ -1,4 +1,4 @@
-use Rattle.cmd_words.proofs.Heads.{set_head, get_head, del_head, fset_head, fget_head, expire_head, persist_head, ttl_head, pdel_head, drop_head, keys_head, bounds_head, stats_head, flush_head, ping_head, quit_head, scan_head}
+use Rattle.cmd_words.proofs.Heads.{set_head, get_head, del_head, fset_head, fget_head, expire_head, persist_head, ttl_head, pdel_head, drop_head, keys_head, bounds_head, stats_head, flush_head, ping_head, quit_head, scan_head, within_head, intersects_head, nearby_head}
 use Rattle.cmd_words.proofs.commands.read_named.Goals as goal
 
 pub returns-in-Set : goal.returns-in-Set
@@ -51,3 +51,12 @@ returns-in-Quit c = λ called read named. c.quit_command.ensures (quit_head call
 
 pub returns-in-Scan : goal.returns-in-Scan
 returns-in-Scan c = λ called read named. c.scan_command.ensures (scan_head called c.args.reader.now read (rw c.in-Scan.is at named))
+
+pub returns-in-Within : goal.returns-in-Within
+returns-in-Within c = λ called read named. c.search_command.ensures (within_head called c.args.reader.now read (rw c.in-Within.is at named))
+
+pub returns-in-Intersects : goal.returns-in-Intersects
+returns-in-Intersects c = λ called read named. c.search_command-in-Intersects.ensures (intersects_head called c.args.reader.now read (rw c.in-Intersects.is at named))
+
+pub returns-in-Nearby : goal.returns-in-Nearby
+returns-in-Nearby c = λ called read named. c.nearby_command.ensures (nearby_head called c.args.reader.now read (rw c.in-Nearby.is at named))

@@ -1,7 +1,7 @@
 use Rattle.std.proofs.Common.{◌∙◌, ap, List, [], ◌∷◌, ◌++◌}
 use Rattle.std.proofs.lemmas.Result.{err_from_is_err_and}
 use Rattle.byte_text.specs.Names.{Bytes}
-use Rattle.cmd_words.specs.Places.{a_name, stats_more}
+use Rattle.cmd_words.specs.Progress.{a_name, stats_more}
 use Rattle.cmd_words.proofs.Ends.{begun_fails}
 use Rattle.cmd_words.proofs.Stats.{begun, one_more, refused}
 use Rattle.cmd_words.proofs.commands.stats_command.Goals as goal

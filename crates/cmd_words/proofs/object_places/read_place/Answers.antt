@@ -12,7 +12,7 @@ pub returns-in_err-bounds-in-Some-Bounds : goal.returns-in_err-bounds-in-Some-Bo
 returns-in_err-bounds-in-Some-Bounds c =
     let p = err_from_is_err_and c.from_residual-in_err-bounds-in-Some-Bounds.result c.from_residual-in_err-bounds-in-Some-Bounds.ensures.1 in
     let t = rw c.in-Some-Bounds.field-0-is at c.in-Some-Bounds.ensures in
-    rw (p.1, p.2) (λ o n. bounds_refused o c.args.reader.now c.place_word.new.reader c.bounds.new.self t.0 t.2 _ t.1 c.in_err-bounds-in-Some-Bounds.ensures)
+    rw (p.1, p.2) (λ o n. bounds_refused o c.args.reader.now c.place_word.new.reader c.bounds.new.self t.0 t.2 _ t.1 c.in_err-bounds-in-Some-Bounds.ensures.reads)
 
 pub returns-in_ok-at-in-Some-Point : goal.returns-in_ok-at-in-Some-Point
 returns-in_ok-at-in-Some-Point c =
@@ -24,7 +24,7 @@ pub returns-in_ok-bounds-in-Some-Bounds : goal.returns-in_ok-bounds-in-Some-Boun
 returns-in_ok-bounds-in-Some-Bounds c =
     let t = rw c.in-Some-Bounds.field-0-is at c.in-Some-Bounds.ensures in
     λ o n. made_read o c.args.reader.now c.bounds.new.self _ c.bounds_object.result c.bounds_object.ensures.ok c.bounds_object.ensures.err
-    (bounds_read o c.args.reader.now c.place_word.new.reader c.bounds.new.self t.0 t.2 c.in_ok-bounds-in-Some-Bounds.bounds t.1 c.in_ok-bounds-in-Some-Bounds.ensures)
+    (bounds_read o c.args.reader.now c.place_word.new.reader c.bounds.new.self t.0 t.2 c.in_ok-bounds-in-Some-Bounds.bounds t.1 c.in_ok-bounds-in-Some-Bounds.ensures.reads)
 
 pub returns-in-Some-Object : goal.returns-in-Some-Object
 returns-in-Some-Object c =

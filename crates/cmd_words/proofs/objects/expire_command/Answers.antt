@@ -2,7 +2,7 @@ use Rattle.std.proofs.lemmas.Result.{err_from_is_err_and}
 use Rattle.world_model.specs.Grammar.{◌>>=◌, done}
 use Rattle.world_model.specs.Kinds.{seconds}
 use Rattle.world_model.specs.declared.commands.Command.TheVariants as command
-use Rattle.cmd_words.specs.Places.{key_and_id}
+use Rattle.cmd_words.specs.Progress.{key_and_id}
 use Rattle.cmd_words.proofs.Ends.{begun_fails}
 use Rattle.cmd_words.proofs.Seconds.{second_fails, second_not_ended, second_ended}
 use Rattle.cmd_words.proofs.objects.expire_command.Goals as goal

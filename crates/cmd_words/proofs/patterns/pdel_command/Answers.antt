@@ -2,7 +2,7 @@ use Rattle.std.proofs.lemmas.Result.{err_from_is_err_and}
 use Rattle.world_model.specs.Grammar.{◌>>=◌, done}
 use Rattle.world_model.specs.Kinds.{glob}
 use Rattle.world_model.specs.declared.commands.Command.TheVariants as command
-use Rattle.cmd_words.specs.Places.{a_name}
+use Rattle.cmd_words.specs.Progress.{a_name}
 use Rattle.cmd_words.proofs.Ends.{begun_fails}
 use Rattle.cmd_words.proofs.Seconds.{second_fails, second_not_ended, second_ended}
 use Rattle.cmd_words.proofs.patterns.pdel_command.Goals as goal

@@ -1,10 +1,11 @@
 use Rattle.std.proofs.Common.{◌∙◌, ap, sym}
-use Rattle.std.specs.Prelude.{Ok}
+use Rattle.std.specs.Prelude.{Ok, true}
 use Rattle.std.proofs.lemmas.Result.{err_from_is_err_and}
-use Rattle.cmd_words.specs.Places.{a_name}
-use Rattle.cmd_words.specs.Scans.{behind_scan}
+use Rattle.cmd_words.specs.Progress.{a_name}
+use Rattle.cmd_words.specs.Scans.{scan_output, behind_scan}
 use Rattle.cmd_words.proofs.Ends.{begun_fails}
-use Rattle.cmd_words.proofs.ScanWords.{options_refused, bare_read, more_refused, output_refused, output_read}
+use Rattle.cmd_words.proofs.SearchWords.{options_refused}
+use Rattle.cmd_words.proofs.ScanWords.{no_option_word, bare_read, more_refused, output_refused, output_read}
 use Rattle.cmd_words.proofs.scans.scan_command.Goals as goal
 
 pub returns-in_err-key : goal.returns-in_err-key
@@ -15,7 +16,7 @@ returns-in_err-key c =
 pub returns-in_err-options : goal.returns-in_err-options
 returns-in_err-options c =
     let p = err_from_is_err_and c.from_residual-in_err-options.result c.from_residual-in_err-options.ensures.1 in
-    rw (p.1, p.2) (λ h. options_refused c.args.reader.now c.name.new.self _ c.in_ok-key.ensures h c.read_options.new.reader _ c.in_err-options.ensures)
+    rw (p.1, p.2) (λ h. options_refused true scan_output no_option_word c.args.reader.now c.name.new.self _ c.in_ok-key.ensures h _ c.in_err-options.ensures)
 
 pub returns-in_err-stop : goal.returns-in_err-stop
 returns-in_err-stop c =

@@ -1,5 +1,5 @@
 use Rattle.std.proofs.lemmas.Result.{err_from_is_err_and}
-use Rattle.cmd_words.specs.Places.{key_and_id}
+use Rattle.cmd_words.specs.Progress.{key_and_id}
 use Rattle.cmd_words.specs.Sets.{behind_set}
 use Rattle.cmd_words.proofs.Ends.{begun_fails}
 use Rattle.cmd_words.proofs.SetWords.{options_refused, place_refused, more_refused, put_asked}

@@ -1,7 +1,7 @@
 use Rattle.std.proofs.Common.{◌≡◌, subst}
 use Rattle.std.specs.Prelude.{Err}
 use Rattle.world_model.specs.Served.{asks}
-use Rattle.cmd_words.specs.Places.{IfRefused}
+use Rattle.cmd_words.specs.Progress.{IfRefused}
 use Rattle.cmd_words.specs.declared.faults.CommandFault.{CommandFault}
 use Rattle.tile_core.proofs.Faults.{answer_fits}
 use Rattle.tile_core.proofs.requests.plan_words.Goals as goal

@@ -1,6 +1,0 @@
-use Rattle.std.proofs.Common.{arith}
-use Rattle.cmd_words.proofs.Lefts.{some_left}
-use Rattle.cmd_words.proofs.readers.Reader.end.Goals as goal
-
-pub returns-else-self-words : goal.returns-else-self-words
-returns-else-self-words c = let s = some_left c.self.inside.words.now c.self.inside.read c.args.self.now c.self.view_is (omega arith) in (s.0, s.1, s.2, c.wrong_count.ensures)

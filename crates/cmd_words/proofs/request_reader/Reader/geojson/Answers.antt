@@ -1,0 +1,10 @@
+use Rattle.world_model.specs.Grammar.{a_geojson}
+use Rattle.cmd_words.specs.Sets.{object_of}
+use Rattle.cmd_words.proofs.Ends.{one_found, one_lacks}
+use Rattle.cmd_words.proofs.request_reader.Reader.geojson.Goals as goal
+
+pub returns-in-Some : goal.returns-in-Some
+returns-in-Some c = one_found a_geojson object_of c.args.self.now c.next.new.self c.in-Some.word.now c.read_geojson.result c.in-Some.ensures c.read_geojson.ensures
+
+pub returns-in-None : goal.returns-in-None
+returns-in-None c = one_lacks a_geojson object_of c.args.self.now c.next.new.self c.wrong_count.result c.in-None.ensures c.wrong_count.ensures
