@@ -1,0 +1,3 @@
+mod Tending
+mod Starting
+mod Rounding

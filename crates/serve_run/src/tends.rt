@@ -1,0 +1,63 @@
+//! The Tick and the Rewrite behind each accept.
+
+ghost use Rattle.std.specs.Prelude.{◌≡◌, ℕ};
+ghost use Rattle.std.specs.Arc.{arc_value};
+ghost use Rattle.serve_run.specs.Links.{Tends, serve_end};
+
+use crate::shared::Shared;
+use outside::{Bell, Clock};
+use session_run::ring_touched;
+use std::sync::Wait;
+use world_model::{Called, HallApi, Touched};
+
+/// How the loop of a server ended.
+#[derive(Clone, Copy, Debug, PartialEq, Eq)]
+pub enum ServeEnd {
+    /// The door told that no caller will come, or as many came as are served.
+    Done,
+    /// The door failed.
+    DoorFault,
+    /// The hall has stopped.
+    Stopped,
+    /// The log has come to its greatest length.
+    Spent,
+    /// Memory ran out, here or in the hall.
+    Memory,
+}
+
+// The end that the answer to a Tick or Rewrite brings.
+fn serve_end(answer: Called) -> Option<ServeEnd>
+    ensures { result ≡ serve_end answer }
+{
+    match answer {
+        Called::Ok => None,
+        Called::LogFault | Called::Stopped => Some(ServeEnd::Stopped),
+        Called::Spent => Some(ServeEnd::Spent),
+        Called::Full | Called::Gone | Called::Memory => Some(ServeEnd::Memory),
+    }
+}
+
+/// Makes a Tick and a Rewrite, and rings for the sessions that were touched. The end that they bring.
+pub(crate) fn tend<H: HallApi + Drop, C: Clock, B: Bell + Drop, G: Drop, R: Wait>(
+    rt: &R,
+    shared: &Shared<H, B, G>,
+    seat: &mut H::Seat,
+    clock: &C,
+    touched: &mut Touched,
+) -> Option<ServeEnd>
+    requires { H.is_of (arc_value shared.now.hall) seat.old }
+    ensures seat { H.is_of (arc_value shared.now.hall) seat.new }
+    ensures tends { Tends (C.told clock.now) (H.knows seat.old) (H.knows seat.new) result }
+{
+    touched.clear();
+    let moment = clock.now();
+    let ticked = shared.hall.tick(rt, seat, moment, touched);
+    ring_touched(&*shared.bell, touched);
+    match serve_end(ticked) {
+        Some(end) => Some(end),
+        None => {
+            let rewritten = shared.hall.step_rewrite(rt, seat);
+            serve_end(rewritten)
+        }
+    }
+}

@@ -1,0 +1,212 @@
+-- Calls one behind another.
+use Rattle.std.proofs.Common.{◌≡◌, ◌≤◌, ◌<◌, ℕ, zero, suc, Bool, true, false, List, [], ◌∷◌, ◌++◌, length, take, drop, refl, sym, ap, ◌∙◌, subst, arith, append_assoc, length-append, length-drop}
+use Rattle.std.specs.Prelude.{Option, Some, None, MatchOption, map, ◌&&◌}
+use Rattle.std.specs.List.{list_all}
+use Rattle.std.proofs.lemmas.List.{append-nil}
+use Rattle.world_model.specs.Outcomes.{is_proper}
+use Rattle.world_model.specs.declared.events.Asked.{Asked}
+use Rattle.world_model.specs.declared.events.Called.{Called}
+use Rattle.world_model.specs.declared.events.Called.TheVariants as called
+use Rattle.world_model.specs.Seats.{Knows, Act, AddsCalls}
+use Rattle.session_run.specs.Gains.{Gains}
+use Rattle.world_model.specs.Outcomes.{call_act, last_call, call_acts, IsCount}
+use Rattle.session_run.specs.Gains.{gains_more, gains_calls}
+use Rattle.session_run.specs.Calls.{Call, call_of, IsTimely, IsNext, goes_on, behind, Serves, IsStop, StopsAt, ServesList, ServesOn, CallsTurn}
+
+pub map_more : (n : ℕ) (a b : List Call) → map (call_of n) (a ++ b) ≡ map (call_of n) a ++ map (call_of n) b
+map_more n [] b = refl
+map_more n (c ∷ a) b = ap (λ (l : List Act). call_of n c ∷ l) (map_more n a b)
+
+pub serves_more : (told : Option ℕ) (a b : List Call) (asks mid left : List Asked) → Serves told a asks mid → Serves told b mid left → Serves told (a ++ b) asks left
+serves_more told [] b asks mid left s t = subst (λ (l : List Asked). Serves told b l left) s t
+serves_more told (c ∷ a) b asks mid left s t = (s.0, s.1, s.2, serves_more told a b (behind c.answer asks) mid left s.3 t)
+
+next_more : (c : Call) (asks more : List Asked) → IsNext c asks → IsNext c (asks ++ more)
+next_more c asks more i = (i.0 ++ more, ap (λ (l : List Asked). l ++ more) i.1)
+
+behind_more : (answer : Called) (a : Asked) (asks more : List Asked) → behind answer ((a ∷ asks) ++ more) ≡ behind answer (a ∷ asks) ++ more
+behind_more called.Ok a asks more = refl
+behind_more called.Full a asks more = refl
+behind_more called.Gone a asks more = refl
+behind_more called.LogFault a asks more = refl
+behind_more called.Stopped a asks more = refl
+behind_more called.Spent a asks more = refl
+behind_more called.Memory a asks more = refl
+
+behind_next : (c : Call) (asks more : List Asked) → IsNext c asks → behind c.answer (asks ++ more) ≡ behind c.answer asks ++ more
+behind_next c asks more i = subst (λ (l : List Asked). behind c.answer (l ++ more) ≡ behind c.answer l ++ more) (sym i.1) (behind_more c.answer c.asked i.0 more)
+
+-- where more is asked for behind it, that is left over too
+pub serves_before : (told : Option ℕ) (calls : List Call) (asks left more : List Asked) → Serves told calls asks left → Serves told calls (asks ++ more) (left ++ more)
+serves_before told [] asks left more s = ap (λ (l : List Asked). l ++ more) s
+serves_before told (c ∷ calls) asks left more s = (
+  s.0,
+  next_more c asks more s.1,
+  s.2,
+  subst (λ (l : List Asked). Serves told calls l (left ++ more)) (sym (behind_next c asks more s.1)) (serves_before told calls (behind c.answer asks) left more s.3),
+)
+
+pub stop_before : (told : Option ℕ) (answer : Called) (stop : List Call) (left more : List Asked) → IsStop told answer stop left → IsStop told answer stop (left ++ more)
+stop_before told answer stop left more s = (s.0, s.1, s.2, s.3, next_more s.0 left more s.4)
+
+-- the calls of one turn
+
+abbrev ok_call : ℕ → Asked → Call
+ok_call m a = record { moment = m; asked = a; answer = called.Ok }
+
+oks_are : (n m : ℕ) (asks : List Asked) → map (call_of n) (map (ok_call m) asks) ≡ map (call_act n m called.Ok) asks
+oks_are n m [] = refl
+oks_are n m (a ∷ asks) = ap (λ (l : List Act). call_act n m called.Ok a ∷ l) (oks_are n m asks)
+
+serves_oks : (told : Option ℕ) (m : ℕ) (asks : List Asked) (served : ℕ) → ((a : Asked) → IsTimely told (ok_call m a)) → Serves told (map (ok_call m) (take served asks)) asks (drop served asks)
+serves_oks told m asks zero timely = refl
+serves_oks told m [] (suc served) timely = refl
+serves_oks told m (a ∷ asks) (suc served) timely = (timely a, (asks, refl), refl, serves_oks told m asks served timely)
+
+next_left : (asks : List Asked) (served : ℕ) → served < length asks → (a : Asked) × (more : List Asked) × (drop served asks ≡ a ∷ more)
+next_left [] served h = absurd (omega (arith, h))
+next_left (a ∷ asks) zero h = (a, asks, refl)
+next_left (a ∷ asks) (suc served) h = next_left asks served (omega (arith, h))
+
+drop_none : (asks : List Asked) → drop (length asks) asks ≡ []
+drop_none [] = refl
+drop_none (a ∷ asks) = drop_none asks
+
+proper_drop : (asks : List Asked) (n : ℕ) → list_all is_proper asks ≡ true → list_all is_proper (drop n asks) ≡ true
+proper_drop asks zero h = h
+proper_drop [] (suc n) h = h
+proper_drop (a ∷ asks) (suc n) h = proper_drop asks n (rest (is_proper a) (list_all is_proper asks) h)
+  where
+    rest : (x y : Bool) → (x && y) ≡ true → y ≡ true
+    rest true y k = k
+    rest false true k = refl
+    rest false false k = k
+
+some_acts : (n m : ℕ) (asks : List Asked) (served : ℕ) (end : Called) → 0 < length asks → IsCount served end (length asks) → 0 < length (call_acts n m asks served end)
+some_acts n m [] served end some count = absurd (omega (arith, some))
+some_acts n m (a ∷ asks) zero called.Ok some count = absurd (omega (arith, count))
+some_acts n m (a ∷ asks) zero called.Full some count = omega arith
+some_acts n m (a ∷ asks) zero called.Gone some count = omega arith
+some_acts n m (a ∷ asks) zero called.LogFault some count = omega arith
+some_acts n m (a ∷ asks) zero called.Stopped some count = omega arith
+some_acts n m (a ∷ asks) zero called.Spent some count = omega arith
+some_acts n m (a ∷ asks) zero called.Memory some count = omega arith
+some_acts n m (a ∷ asks) (suc served) end some count = omega arith
+
+pub served_within : (end : Called) (served most : ℕ) → IsCount served end most → served ≤ most
+served_within called.Ok served most count = omega (arith, count)
+served_within called.Full served most count = omega (arith, count)
+served_within called.Gone served most count = omega (arith, count)
+served_within called.LogFault served most count = omega (arith, count)
+served_within called.Stopped served most count = omega (arith, count)
+served_within called.Spent served most count = omega (arith, count)
+served_within called.Memory served most count = omega (arith, count)
+
+module _ (n m : ℕ) (told : Option ℕ) (old new : Knows) (asks : List Asked) (served : ℕ) (some : 0 < length asks) (time : (c : Call) → c.moment ≡ m → IsTimely told c) where
+  gained : (end : Called) → IsCount served end (length asks) → AddsCalls (call_acts n m asks served end) old new → Gains old new (call_acts n m asks served end)
+  gained end count adds = gains_calls (call_acts n m asks served end) old new (some_acts n m asks served end some count) adds
+
+  -- all were answered Ok
+  turn_ok : IsCount served called.Ok (length asks) → AddsCalls (call_acts n m asks served called.Ok) old new → ServesList n told old new asks (drop served asks) called.Ok
+  turn_ok count adds =
+      let none : drop served asks ≡ [] = ap (λ (k : ℕ). drop k asks) count ∙ drop_none asks in
+      let oks = map (ok_call m) (take served asks) in
+      record {
+        calls = oks;
+        stop = [];
+        gains = subst (λ (l : List Act). Gains old new l)
+            (ap (λ (l : List Asked). map (call_act n m called.Ok) (take served asks) ++ last_call n m called.Ok l) none
+            ∙ ap (λ (l : List Act). l ++ []) (sym (oks_are n m (take served asks))) ∙ sym (map_more n oks []))
+            (gained called.Ok count adds);
+        serves = serves_oks told m asks served (λ a. time (ok_call m a) refl);
+        stops = (refl, none);
+      }
+
+  -- the calls with one more, that is answered otherwise
+  with_last : (end : Called) (a : Asked) (more : List Asked) → drop served asks ≡ a ∷ more → last_call n m end (a ∷ more) ≡ call_act n m end a ∷ [] → IsCount served end (length asks) → AddsCalls (call_acts n m asks served end) old new
+      → Gains old new (map (call_of n) (map (ok_call m) (take served asks) ++ record { moment = m; asked = a; answer = end } ∷ []))
+  with_last end a more is one count adds =
+      let oks = map (ok_call m) (take served asks) in
+      let c : Call = record { moment = m; asked = a; answer = end } in
+      subst (λ (l : List Act). Gains old new l)
+      (ap (λ (l : List Asked). map (call_act n m called.Ok) (take served asks) ++ last_call n m end l) is
+      ∙ ap (λ (l : List Act). map (call_act n m called.Ok) (take served asks) ++ l) one
+      ∙ ap (λ (l : List Act). l ++ call_of n c ∷ []) (sym (oks_are n m (take served asks))) ∙ sym (map_more n oks (c ∷ [])))
+      (gained end count adds)
+
+  turn_full : IsCount served called.Full (length asks) → AddsCalls (call_acts n m asks served called.Full) old new → ServesOn n told old new asks (drop served asks)
+  turn_full count adds =
+      let left = next_left asks served count in
+      let oks = map (ok_call m) (take served asks) in
+      let c : Call = record { moment = m; asked = left.0; answer = called.Full } in
+      record {
+        calls = oks ++ c ∷ [];
+        gains = with_last called.Full left.0 left.1 left.2 refl count adds;
+        serves = serves_more told oks (c ∷ []) asks (drop served asks) (drop served asks) (serves_oks told m asks served (λ a. time (ok_call m a) refl)) (time c refl, (left.1, left.2), refl, refl);
+        some = omega (arith, length-drop served asks, count);
+        few = omega (arith, length-drop served asks);
+        proper = proper_drop asks served;
+      }
+
+  turn_stop : (end : Called) → ((a : Asked) (more : List Asked) → last_call n m end (a ∷ more) ≡ call_act n m end a ∷ []) → served < length asks
+      → ((stop : List Call) → IsStop told end stop (drop served asks) → StopsAt told end stop (drop served asks))
+      → IsCount served end (length asks) → AddsCalls (call_acts n m asks served end) old new → ServesList n told old new asks (drop served asks) end
+  turn_stop end one few stops count adds =
+      let left = next_left asks served few in
+      let oks = map (ok_call m) (take served asks) in
+      let c : Call = record { moment = m; asked = left.0; answer = end } in
+      record {
+        calls = oks;
+        stop = c ∷ [];
+        gains = with_last end left.0 left.1 left.2 (one left.0 left.1) count adds;
+        serves = serves_oks told m asks served (λ a. time (ok_call m a) refl);
+        stops = stops (c ∷ []) (c, refl, refl, time c refl, (left.1, left.2));
+      }
+
+  pub turn_ends : (end : Called) → (end ≡ called.Full → ⊥) → IsCount served end (length asks) → AddsCalls (call_acts n m asks served end) old new → ServesList n told old new asks (drop served asks) end
+  turn_ends called.Ok ne count adds = turn_ok count adds
+  turn_ends called.Full ne count adds = absurd (ne refl)
+  turn_ends called.Gone ne count adds = turn_stop called.Gone (λ a more. refl) count (λ stop s. s) count adds
+  turn_ends called.LogFault ne count adds = turn_stop called.LogFault (λ a more. refl) count (λ stop s. s) count adds
+  turn_ends called.Stopped ne count adds = turn_stop called.Stopped (λ a more. refl) count (λ stop s. s) count adds
+  turn_ends called.Spent ne count adds = turn_stop called.Spent (λ a more. refl) count (λ stop s. s) count adds
+  turn_ends called.Memory ne count adds = turn_stop called.Memory (λ a more. refl) count (λ stop s. s) count adds
+
+  pub turn_waits : IsCount served called.Full (length asks) → AddsCalls (call_acts n m asks served called.Full) old new → ServesOn n told old new asks (drop served asks)
+  turn_waits count adds = turn_full count adds
+
+-- the turns so far
+pub record Serving (n : ℕ) (told : Option ℕ) (old now : Knows) (asks left : List Asked) : Type 0 where
+  pub calls : List Call
+  pub gains : Gains old now (map (call_of n) calls)
+  pub serves : Serves told calls asks left
+
+pub serving_start : (n : ℕ) (told : Option ℕ) (old : Knows) (asks : List Asked) → Serving n told old old asks asks
+serving_start n told old asks = record { calls = []; gains = refl; serves = refl }
+
+gains_calls_more : (n : ℕ) (old mid new : Knows) (a b : List Call) → Gains old mid (map (call_of n) a) → Gains mid new (map (call_of n) b) → Gains old new (map (call_of n) (a ++ b))
+gains_calls_more n old mid new a b p q = subst (λ (l : List Act). Gains old new l) (sym (map_more n a b)) (gains_more old mid new (map (call_of n) a) (map (call_of n) b) p q)
+
+pub serving_on : (n : ℕ) (told : Option ℕ) (old mid new : Knows) (asks left left' : List Asked) → Serving n told old mid asks left → ServesOn n told mid new left left' → Serving n told old new asks left'
+serving_on n told old mid new asks left left' s t = record {
+  calls = s.calls ++ t.calls;
+  gains = gains_calls_more n old mid new s.calls t.calls s.gains t.gains;
+  serves = serves_more told s.calls t.calls asks left left' s.serves t.serves;
+}
+
+pub serving_last : (n : ℕ) (told : Option ℕ) (old mid new : Knows) (asks left left' : List Asked) (answer : Called) → Serving n told old mid asks left → ServesList n told mid new left left' answer → ServesList n told old new asks left' answer
+serving_last n told old mid new asks left left' answer s t = record {
+  calls = s.calls ++ t.calls;
+  stop = t.stop;
+  gains = subst (λ (l : List Call). Gains old new (map (call_of n) l)) (sym (append_assoc s.calls t.calls t.stop)) (gains_calls_more n old mid new s.calls (t.calls ++ t.stop) s.gains t.gains);
+  serves = serves_more told s.calls t.calls asks left left' s.serves t.serves;
+  stops = t.stops;
+}
+
+pub serves_none : (n : ℕ) (told : Option ℕ) (old : Knows) (asks : List Asked) → length asks ≡ 0 → ServesList n told old old asks asks called.Ok
+serves_none n told old [] none = record { calls = []; stop = []; gains = refl; serves = refl; stops = (refl, refl) }
+serves_none n told old (a ∷ asks) none = absurd (omega (arith, none))
+
+pub timely : (told : Option ℕ) (m : ℕ) → MatchOption told (Unit {0}) (λ x. m ≡ x) → (c : Call) → c.moment ≡ m → IsTimely told c
+timely None m t c e = tt
+timely (Some x) m t c e = e ∙ t

@@ -1,0 +1,350 @@
+-- Parts and blocks one behind another.
+use Rattle.std.proofs.Common.{◌≡◌, ◌⊎◌, ◌≤◌, ◌<◌, ℕ, zero, suc, ◌+◌, ◌-◌, Bool, true, false, List, [], ◌∷◌, ◌++◌, length, take, drop, refl, sym, ap, ◌∙◌, subst, inl, inr, arith, append_assoc, length-append, length-drop}
+use Rattle.std.specs.Prelude.{Option, Some, None, map}
+use Rattle.std.specs.Io.KnownBytes.{Keeps, Consumes, IsAtEnd}
+use Rattle.std.proofs.lemmas.List.{append-nil, take_all, drop-drop}
+use Rattle.outside.specs.Causes.{Rose}
+use Rattle.byte_text.specs.Names.{Bytes}
+use Rattle.byte_text.specs.Streams.{stream_of}
+use Rattle.resp_frames.specs.RequestReader.{Held}
+use Rattle.world_model.specs.declared.events.Asked.{Asked}
+use Rattle.world_model.specs.declared.events.Asked.TheVariants as asked
+use Rattle.world_model.specs.declared.events.Called.{Called}
+use Rattle.world_model.specs.declared.events.Called.TheVariants as called
+use Rattle.world_model.specs.declared.events.Event.TheVariants as event
+use Rattle.world_model.specs.declared.events.Outcome.TheVariants as outcome
+use Rattle.world_model.specs.Seats.{Knows, Act, Adds}
+use Rattle.session_run.specs.Gains.{Gains}
+use Rattle.session_run.specs.Gains.{gains_more, gains_last, made}
+use Rattle.session_run.specs.Calls.{Call, call_of, Serves, IsStop, StopsAt, ServesList}
+use Rattle.session_run.specs.Feeds.{asked_by, asked_behind, Feeds, EndsBroken, IsFill}
+use Rattle.session_run.specs.declared.batches.Fill.{Fill}
+use Rattle.session_run.specs.declared.batches.Fill.TheVariants as fill
+use Rattle.session_run.specs.declared.ends.InEnd.{InEnd}
+use Rattle.session_run.specs.declared.ends.InEnd.TheVariants.{Over, Broken, ClosedByHall, ReadFault, LogFault, Stopped, Spent, Memory}
+use Rattle.session_run.specs.Ends.{end_of, EndsAt, ReadsOn, ReadsSession, PartOn, PartLast, is_of_calls, BlockOn, BlockLast}
+use Rattle.session_run.proofs.Calling.{map_more, serves_more, serves_before, stop_before}
+use Rattle.session_run.proofs.Feeding.{feeds_none, feeds_more}
+
+pub gains_calls_more : (n : ℕ) (old mid new : Knows) (a b : List Call) → Gains old mid (map (call_of n) a) → Gains mid new (map (call_of n) b) → Gains old new (map (call_of n) (a ++ b))
+gains_calls_more n old mid new a b p q = subst (λ (l : List Act). Gains old new l) (sym (map_more n a b)) (gains_more old mid new (map (call_of n) a) (map (call_of n) b) p q)
+
+gains_stop_more : (n : ℕ) (old mid new : Knows) (a b stop : List Call) → Gains old mid (map (call_of n) a) → Gains mid new (map (call_of n) (b ++ stop)) → Gains old new (map (call_of n) ((a ++ b) ++ stop))
+gains_stop_more n old mid new a b stop p q = subst (λ (l : List Call). Gains old new (map (call_of n) l)) (sym (append_assoc a b stop)) (gains_calls_more n old mid new a (b ++ stop) p q)
+
+-- what is asked for before it changes nothing of an end
+ends_behind : (told : Option ℕ) (end : InEnd) (stop : List Call) (front asks left : List Asked) → EndsAt told end stop asks left → EndsAt told end stop (front ++ asks) left
+ends_behind told Over stop front asks left e = e
+ends_behind told ReadFault stop front asks left e = e
+ends_behind told Broken stop front asks left e = (e.0, e.1, (front ++ e.2.0, e.2.1, ap (λ (l : List Asked). front ++ l) e.2.2 ∙ sym (append_assoc front e.2.0 (asked.Broken e.2.1 ∷ []))))
+ends_behind told ClosedByHall stop front asks left e = e
+ends_behind told LogFault stop front asks left e = e
+ends_behind told Stopped stop front asks left e = e
+ends_behind told Spent stop front asks left e = e
+ends_behind told Memory stop front asks left e = e
+
+-- calls of what was asked for first, and then those of the rest
+serves_behind : (told : Option ℕ) (a b : List Call) (first rest left : List Asked) → Serves told a first [] → Serves told b rest left → Serves told (a ++ b) (first ++ rest) left
+serves_behind told a b first rest left s t = serves_more told a b (first ++ rest) rest left (serves_before told a first [] rest s) t
+
+-- all of the bytes, where the front was served
+all_bytes : (held held' : Held) (bytes rest : Bytes) (asks : List Asked) → Feeds held bytes held' rest asks → asked_behind held bytes ≡ asks ++ asked_behind held' rest
+all_bytes held held' bytes rest asks f = ap (λ (l : Bytes). asked_behind held l) (sym (append-nil bytes)) ∙ f.goes [] ∙ ap (λ (l : Bytes). asks ++ asked_behind held' l) (append-nil rest)
+
+module _ (n : ℕ) (told : Option ℕ) where
+  pub part_start : (old : Knows) (held : Held) (bytes : Bytes) → PartOn n told old old held bytes held bytes
+  part_start old held bytes = record { asks = []; calls = []; gains = refl; serves = refl; feeds = feeds_none held bytes }
+
+  pub part_more : (old mid new : Knows) (held held' held'' : Held) (bytes rest left : Bytes) → PartOn n told old mid held bytes held' rest → PartOn n told mid new held' rest held'' left → PartOn n told old new held bytes held'' left
+  part_more old mid new held held' held'' bytes rest left p q = record {
+    asks = p.asks ++ q.asks;
+    calls = p.calls ++ q.calls;
+    gains = gains_calls_more n old mid new p.calls q.calls p.gains q.gains;
+    serves = serves_behind told p.calls q.calls p.asks q.asks [] p.serves q.serves;
+    feeds = feeds_more held held' held'' bytes rest left p.asks q.asks p.feeds q.feeds;
+  }
+
+  pub part_last : (old mid new : Knows) (held held' : Held) (bytes rest : Bytes) (end : InEnd) → PartOn n told old mid held bytes held' rest → PartLast n told mid new held' rest end → PartLast n told old new held bytes end
+  part_last old mid new held held' bytes rest end p q =
+      let all = all_bytes held held' bytes rest p.asks p.feeds in
+      record {
+        calls = p.calls ++ q.calls;
+        stop = q.stop;
+        unasked = q.unasked;
+        gains = gains_stop_more n old mid new p.calls q.calls q.stop p.gains q.gains;
+        serves = subst (λ (l : List Asked). Serves told (p.calls ++ q.calls) l q.unasked) (sym all) (serves_behind told p.calls q.calls p.asks (asked_behind held' rest) q.unasked p.serves q.serves);
+        ends = subst (λ (l : List Asked). EndsAt told end q.stop l q.unasked) (sym all) (ends_behind told end q.stop p.asks (asked_behind held' rest) q.unasked q.ends);
+        own = q.own;
+      }
+
+  -- a list was served as a whole
+  pub list_on : (old new : Knows) (held held' : Held) (bytes rest : Bytes) (asks left : List Asked) → Feeds held bytes held' rest asks → ServesList n told old new asks left called.Ok → PartOn n told old new held bytes held' rest
+  list_on old new held held' bytes rest asks left f s = record {
+    asks = asks;
+    calls = s.calls;
+    gains = subst (λ (l : List Call). Gains old new (map (call_of n) l)) (ap (λ (l : List Call). s.calls ++ l) s.stops.0 ∙ append-nil s.calls) s.gains;
+    serves = subst (λ (l : List Asked). Serves told s.calls asks l) s.stops.1 s.serves;
+    feeds = f;
+  }
+
+  pub list_broken : (old new : Knows) (held held' : Held) (bytes : Bytes) (asks left : List Asked) → Feeds held bytes held' [] asks → EndsBroken asks → held' ≡ None → ServesList n told old new asks left called.Ok → PartLast n told old new held bytes Broken
+  list_broken old new held held' bytes asks left f b dead s =
+      let all : asked_behind held bytes ≡ asks = all_bytes held held' bytes [] asks f ∙ ap (λ (h : Held). asks ++ asked_behind h []) dead ∙ append-nil asks in
+      record {
+        calls = s.calls;
+        stop = [];
+        unasked = [];
+        gains = subst (λ (l : List Call). Gains old new (map (call_of n) (s.calls ++ l))) s.stops.0 s.gains;
+        serves = subst (λ (l : List Asked). Serves told s.calls l []) (sym all) (subst (λ (l : List Asked). Serves told s.calls asks l) s.stops.1 s.serves);
+        ends = (refl, refl, subst (λ (l : List Asked). EndsBroken l) (sym all) b);
+        own = refl;
+      }
+
+  -- nothing was collected, for want of memory
+  pub list_memory : (old new : Knows) (held : Held) (bytes : Bytes) (left : List Asked) → ServesList n told old new [] left called.Ok → PartLast n told old new held bytes Memory
+  list_memory old new held bytes left s =
+      let none = no_calls s.calls s.serves in
+      record {
+        calls = [];
+        stop = [];
+        unasked = asked_behind held bytes;
+        gains = subst (λ (l : List Call). Gains old new (map (call_of n) l)) (ap (λ (l : List Call). s.calls ++ l) s.stops.0 ∙ append-nil s.calls ∙ none) s.gains;
+        serves = refl;
+        ends = inl refl;
+        own = refl;
+      }
+    where
+      no_calls : (calls : List Call) → Serves told calls [] left → calls ≡ []
+      no_calls [] t = refl
+      no_calls (c ∷ calls) t = absurd (nil_cons (c.asked) (t.1.0) t.1.1)
+        where
+          nil_cons : (a : Asked) (more : List Asked) → [] ≡ a ∷ more → ⊥
+          nil_cons a more e = absurd (cc)
+
+  list_stop : (old new : Knows) (held held' : Held) (bytes rest : Bytes) (asks left : List Asked) (answer : Called) (end : InEnd) → Feeds held bytes held' rest asks
+      → ((stop : List Call) (total : List Asked) (l : List Asked) → IsStop told answer stop l → EndsAt told end stop total l) → is_of_calls end ≡ true
+      → (s : ServesList n told old new asks left answer) → IsStop told answer s.stop left → PartLast n told old new held bytes end
+  list_stop old new held held' bytes rest asks left answer end f why own s stop =
+      let more = asked_behind held' rest in
+      let all = all_bytes held held' bytes rest asks f in
+      record {
+        calls = s.calls;
+        stop = s.stop;
+        unasked = left ++ more;
+        gains = s.gains;
+        serves = subst (λ (l : List Asked). Serves told s.calls l (left ++ more)) (sym all) (serves_before told s.calls asks left more s.serves);
+        ends = why s.stop (asked_behind held bytes) (left ++ more) (stop_before told answer s.stop left more stop);
+        own = own;
+      }
+
+  pub list_ends : (old new : Knows) (held held' : Held) (bytes rest : Bytes) (asks left : List Asked) (answer : Called) (end : InEnd) → end_of answer ≡ Some end → Feeds held bytes held' rest asks
+      → ServesList n told old new asks left answer → PartLast n told old new held bytes end
+  list_ends old new held held' bytes rest asks left called.Ok end is f s = absurd (cc)
+  list_ends old new held held' bytes rest asks left called.Full end is f s = absurd (cc)
+  list_ends old new held held' bytes rest asks left called.Gone end is f s = subst (λ (e : InEnd). PartLast n told old new held bytes e) (some_is ClosedByHall end is) (list_stop old new held held' bytes rest asks left called.Gone ClosedByHall f (λ stop total l t. t) refl s s.stops)
+    where
+      some_is : (a b : InEnd) → Some a ≡ Some b → a ≡ b
+      some_is a b e = cc
+  list_ends old new held held' bytes rest asks left called.LogFault end is f s = subst (λ (e : InEnd). PartLast n told old new held bytes e) (some_is LogFault end is) (list_stop old new held held' bytes rest asks left called.LogFault LogFault f (λ stop total l t. t) refl s s.stops)
+    where
+      some_is : (a b : InEnd) → Some a ≡ Some b → a ≡ b
+      some_is a b e = cc
+  list_ends old new held held' bytes rest asks left called.Stopped end is f s = subst (λ (e : InEnd). PartLast n told old new held bytes e) (some_is Stopped end is) (list_stop old new held held' bytes rest asks left called.Stopped Stopped f (λ stop total l t. t) refl s s.stops)
+    where
+      some_is : (a b : InEnd) → Some a ≡ Some b → a ≡ b
+      some_is a b e = cc
+  list_ends old new held held' bytes rest asks left called.Spent end is f s = subst (λ (e : InEnd). PartLast n told old new held bytes e) (some_is Spent end is) (list_stop old new held held' bytes rest asks left called.Spent Spent f (λ stop total l t. t) refl s s.stops)
+    where
+      some_is : (a b : InEnd) → Some a ≡ Some b → a ≡ b
+      some_is a b e = cc
+  list_ends old new held held' bytes rest asks left called.Memory end is f s = subst (λ (e : InEnd). PartLast n told old new held bytes e) (some_is Memory end is) (list_stop old new held held' bytes rest asks left called.Memory Memory f (λ stop total l t. inr t) refl s s.stops)
+    where
+      some_is : (a b : InEnd) → Some a ≡ Some b → a ≡ b
+      some_is a b e = cc
+
+-- any fill feeds its list
+pub fill_feeds : (held held' : Held) (bytes : Bytes) (asks : List Asked) (f : Fill) → IsFill held bytes held' asks f → (now : Held) × (rest : Bytes) × Feeds held bytes now rest asks
+fill_feeds held held' bytes asks (fill.Full taken) i = (held', drop taken bytes, i.1)
+fill_feeds held held' bytes asks fill.Dry i = (held', [], i.0)
+fill_feeds held held' bytes asks fill.Broken i = (held', [], i.0)
+fill_feeds held held' bytes asks fill.Memory i = (held, bytes, subst (λ (l : List Asked). Feeds held bytes held bytes l) (sym i) (feeds_none held bytes))
+
+-- reading
+pub consumes_more : (a b c : Option Bytes) (x y : Bytes) → Consumes a b x → Consumes b c y → Consumes a c (x ++ y)
+consumes_more None b c x y p q = tt
+consumes_more (Some s) None c x y p q = absurd p
+consumes_more (Some s) (Some t) None x y p q = absurd q
+consumes_more (Some s) (Some t) (Some u) x y p q = p ∙ ap (λ (l : Bytes). x ++ l) q ∙ sym (append_assoc x y u)
+
+pub consumes_nothing : (a b : Option Bytes) → Keeps a b → Consumes a b []
+consumes_nothing None b k = tt
+consumes_nothing (Some s) None k = absurd k
+consumes_nothing (Some s) (Some t) k = sym k
+
+pub keeps_all : (a : Option Bytes) → Keeps a a
+keeps_all None = tt
+keeps_all (Some s) = refl
+
+-- the blocks so far
+pub record Reading (n : ℕ) (told : Option ℕ) (old now : Knows) (left left' : Option Bytes) (faults faults' : ℕ) (held : Held) : Type 0 where
+  pub read : Bytes
+  pub consumed : Consumes left left' read
+  pub served : PartOn n told old now (Some []) read held []
+  pub dry : asked_behind held [] ≡ []
+  pub later : faults ≤ faults'
+
+nothing_asked : asked_by (stream_of []) ≡ []
+unfolding stream_of
+nothing_asked = refl
+
+pub reading_start : (n : ℕ) (told : Option ℕ) (old : Knows) (left : Option Bytes) (faults : ℕ) → Reading n told old old left left faults faults (Some [])
+reading_start n told old left faults = record { read = []; consumed = consumes_nothing left left (keeps_all left); served = part_start n told old (Some []) []; dry = nothing_asked; later = omega arith }
+
+-- more bytes behind those that were fed
+feeds_wider : (held held' : Held) (bytes more : Bytes) (asks : List Asked) → Feeds held bytes held' [] asks → Feeds held (bytes ++ more) held' more asks
+feeds_wider held held' bytes more asks f = record { goes = λ x. ap (λ (l : Bytes). asked_behind held l) (append_assoc bytes more x) ∙ f.goes (more ++ x) }
+
+part_wider : (n : ℕ) (told : Option ℕ) (old new : Knows) (held held' : Held) (bytes more : Bytes) → PartOn n told old new held bytes held' [] → PartOn n told old new held (bytes ++ more) held' more
+part_wider n told old new held held' bytes more p = record { asks = p.asks; calls = p.calls; gains = p.gains; serves = p.serves; feeds = feeds_wider held held' bytes more p.asks p.feeds }
+
+pub reading_on : (n : ℕ) (told : Option ℕ) (old mid new : Knows) (a b c : Option Bytes) (x y z : ℕ) (held held' : Held) → Reading n told old mid a b x y held → BlockOn n told mid new b c y z held held' → Reading n told old new a c x z held'
+reading_on n told old mid new a b c x y z held held' r t =
+    let before : x ≤ y = r.later in
+    let now : y ≤ z = t.later in
+    record {
+      read = r.read ++ t.block;
+      consumed = consumes_more a b c r.read t.block r.consumed t.consumed;
+      served = part_more n told old mid new (Some []) held held' (r.read ++ t.block) t.block [] (part_wider n told old mid (Some []) held r.read t.block r.served) t.served;
+      dry = t.dry;
+      later = omega (arith, before, now);
+    }
+
+rose : (a b c : ℕ) → a ≤ b → Rose b c → Rose a c
+rose a b c h r = omega (arith, h, r)
+
+pub reading_last : (n : ℕ) (told : Option ℕ) (old mid new : Knows) (a b c : Option Bytes) (x y z : ℕ) (held : Held) (end : InEnd) → Reading n told old mid a b x y held → BlockLast n told mid new b c y z held end → ReadsOn n told old new a c x z end
+reading_last n told old mid new a b c x y z held end r t =
+    let before : x ≤ y = r.later in
+    let now : y ≤ z = t.later in
+    let p = part_wider n told old mid (Some []) held r.read t.block r.served in
+    let all = all_bytes (Some []) held (r.read ++ t.block) t.block p.asks p.feeds in
+    record {
+      read = r.read ++ t.block;
+      consumed = consumes_more a b c r.read t.block r.consumed t.consumed;
+      calls = p.calls ++ t.calls;
+      stop = t.stop;
+      unasked = t.unasked;
+      gains = gains_stop_more n old mid new p.calls t.calls t.stop p.gains t.gains;
+      serves = subst (λ (l : List Asked). Serves told (p.calls ++ t.calls) l t.unasked) (sym all) (serves_behind told p.calls t.calls p.asks (asked_behind held t.block) t.unasked p.serves t.serves);
+      ends = subst (λ (l : List Asked). EndsAt told end t.stop l t.unasked) (sym all) (ends_behind told end t.stop p.asks (asked_behind held t.block) t.unasked t.ends);
+      at_end = t.at_end;
+      cause = λ is. rose x y z before (t.cause is);
+      later = omega (arith, before, now);
+    }
+
+-- the rest of some bytes from a place on
+abbrev pub rest_from : ℕ → Bytes → Bytes
+rest_from taken bytes = take (length bytes - taken) (drop taken bytes)
+
+rest_is : (taken : ℕ) (bytes : Bytes) → rest_from taken bytes ≡ drop taken bytes
+rest_is taken bytes = take_all (length bytes - taken) (drop taken bytes) (omega (arith, length-drop taken bytes))
+
+drop_more : (bytes : Bytes) (a b : ℕ) → drop b (drop a bytes) ≡ drop (a + b) bytes
+drop_more bytes a b = drop-drop b a bytes
+
+module _ (n : ℕ) (told : Option ℕ) (old mid new : Knows) (held held' : Held) (bytes : Bytes) (taken : ℕ) (within : taken ≤ length bytes) (p : PartOn n told old mid held bytes held' (drop taken bytes)) where
+  pub part_next : (held'' : Held) (count : ℕ) → (count ≤ length (rest_from taken bytes)) × PartOn n told mid new held' (rest_from taken bytes) held'' (drop count (rest_from taken bytes))
+      → (taken + count ≤ length bytes) × PartOn n told old new held bytes held'' (drop (taken + count) bytes)
+  part_next held'' count q =
+      let r = rest_is taken bytes in
+      let few : count ≤ length (drop taken bytes) = subst (λ (l : Bytes). count ≤ length l) r q.0 in
+      let on = subst (λ (l : Bytes). PartOn n told mid new held' l held'' (drop count l)) r q.1 in (
+        omega (arith, few, length-drop taken bytes, within),
+        part_more n told old mid new held held' held'' bytes (drop taken bytes) (drop (taken + count) bytes) p
+            (subst (λ (l : Bytes). PartOn n told mid new held' (drop taken bytes) held'' l) (drop_more bytes taken count) on),
+      )
+
+  pub part_dry : (held'' : Held) → PartOn n told mid new held' (rest_from taken bytes) held'' [] × (asked_behind held'' [] ≡ []) → PartOn n told old new held bytes held'' [] × (asked_behind held'' [] ≡ [])
+  part_dry held'' q = (
+    part_more n told old mid new held held' held'' bytes (drop taken bytes) [] p (subst (λ (l : Bytes). PartOn n told mid new held' l held'' []) (rest_is taken bytes) q.0),
+    q.1,
+  )
+
+  pub part_end : (end : InEnd) → PartLast n told mid new held' (rest_from taken bytes) end → PartLast n told old new held bytes end
+  part_end end q = part_last n told old mid new held held' bytes (drop taken bytes) end p (subst (λ (l : Bytes). PartLast n told mid new held' l end) (rest_is taken bytes) q)
+
+-- nothing was read
+pub read_nothing : (n : ℕ) (told : Option ℕ) (old : Knows) (left : Option Bytes) (faults : ℕ) → ReadsOn n told old old left left faults faults Memory
+read_nothing n told old left faults = record {
+  read = [];
+  consumed = consumes_nothing left left (keeps_all left);
+  calls = [];
+  stop = [];
+  unasked = asked_by (stream_of []);
+  gains = refl;
+  serves = refl;
+  ends = inl refl;
+  at_end = λ e. absurd (cc);
+  cause = λ e. absurd (cc);
+  later = omega arith;
+}
+
+-- no further block
+pub block_none : (n : ℕ) (told : Option ℕ) (old : Knows) (left left' : Option Bytes) (faults faults' : ℕ) (held : Held) → asked_behind held [] ≡ [] → Keeps left left' → faults ≤ faults' → Rose faults faults'
+    → BlockLast n told old old left left' faults faults' held ReadFault
+block_none n told old left left' faults faults' held dry keeps later rose = record {
+  block = [];
+  consumed = consumes_nothing left left' keeps;
+  calls = [];
+  stop = [];
+  unasked = [];
+  gains = refl;
+  serves = sym dry;
+  ends = (refl, refl);
+  at_end = λ e. absurd (cc);
+  cause = λ e. rose;
+  later = later;
+}
+
+pub block_over : (n : ℕ) (told : Option ℕ) (old : Knows) (left left' : Option Bytes) (faults faults' : ℕ) (held : Held) → asked_behind held [] ≡ [] → Consumes left left' [] → IsAtEnd left' → faults ≤ faults'
+    → BlockLast n told old old left left' faults faults' held Over
+block_over n told old left left' faults faults' held dry consumed at later = record {
+  block = [];
+  consumed = consumed;
+  calls = [];
+  stop = [];
+  unasked = [];
+  gains = refl;
+  serves = sym dry;
+  ends = (refl, refl);
+  at_end = λ e. at;
+  cause = λ e. absurd (cc);
+  later = later;
+}
+
+-- and then the close
+pub reads_closed : (n : ℕ) (told : Option ℕ) (old mid new : Knows) (left left' : Option Bytes) (faults faults' : ℕ) (end : InEnd) → ReadsOn n told old mid left left' faults faults' end → Adds (event.Close n) outcome.Done mid new → ReadsSession n told old new left left' faults faults' end
+reads_closed n told old mid new left left' faults faults' end r a = record {
+  read = r.read;
+  consumed = r.consumed;
+  calls = r.calls;
+  stop = r.stop;
+  unasked = r.unasked;
+  gains = gains_last old mid new (map (call_of n) (r.calls ++ r.stop)) (event.Close n, outcome.Done) r.gains (made (event.Close n) outcome.Done mid new a);
+  serves = r.serves;
+  ends = r.ends;
+  at_end = r.at_end;
+  cause = r.cause;
+  later = r.later;
+  legal = a.legal;
+}
+
+-- an answer that brings no end is Ok
+pub ended_ok : (n : ℕ) (told : Option ℕ) (old new : Knows) (asks left : List Asked) (answer : Called) → end_of answer ≡ None → ServesList n told old new asks left answer → ServesList n told old new asks left called.Ok
+ended_ok n told old new asks left called.Ok none s = s
+ended_ok n told old new asks left called.Full none s = absurd s.stops
+ended_ok n told old new asks left called.Gone none s = absurd (cc)
+ended_ok n told old new asks left called.LogFault none s = absurd (cc)
+ended_ok n told old new asks left called.Stopped none s = absurd (cc)
+ended_ok n told old new asks left called.Spent none s = absurd (cc)
+ended_ok n told old new asks left called.Memory none s = absurd (cc)

@@ -1,0 +1,72 @@
+-- The calls by which a session serves what its stream asks for.
+use Rattle.std.specs.Prelude.{◌≡◌, ◌≤◌, ◌<◌, ℕ, Bool, true, false, List, [], ◌∷◌, ◌++◌, length, map, Option, Some, None, MatchOption}
+use Rattle.std.specs.List.{list_all}
+use Rattle.world_model.specs.Outcomes.{is_proper}
+use Rattle.world_model.specs.declared.events.Asked.{Asked}
+use Rattle.world_model.specs.declared.events.Called.{Called}
+use Rattle.world_model.specs.declared.events.Called.TheVariants as called
+use Rattle.world_model.specs.Seats.{Knows, Act}
+use Rattle.session_run.specs.Gains.{Gains}
+use Rattle.world_model.specs.Outcomes.{call_act}
+
+-- a call: at which moment, of what, and its answer
+pub record Call : Type 0 where
+  pub moment : ℕ
+  pub asked : Asked
+  pub answer : Called
+
+abbrev pub call_of : ℕ → Call → Act
+call_of n c = call_act n c.moment c.answer c.asked
+
+-- the moment is the one that the clock tells
+abbrev pub IsTimely : Option ℕ → Call → Type 0
+IsTimely told c = MatchOption told (Unit {0}) (λ m. c.moment ≡ m)
+
+-- the call is of the first of what is asked for
+abbrev pub IsNext : Call → List Asked → Type 0
+IsNext c asks = (more : List Asked) × (asks ≡ c.asked ∷ more)
+
+abbrev pub goes_on : Called → Bool
+goes_on called.Ok = true
+goes_on called.Full = true
+goes_on answer = false
+
+-- what is asked for behind a call with this answer: after Full it is asked for again
+abbrev pub behind : Called → List Asked → List Asked
+behind called.Ok (a ∷ asks) = asks
+behind answer asks = asks
+
+-- calls serve what is asked for, in order, each again while it is answered Full; this is left over
+abbrev pub Serves : Option ℕ → List Call → List Asked → List Asked → Type 0
+Serves told [] asks left = left ≡ asks
+Serves told (c ∷ calls) asks left = IsTimely told c × IsNext c asks × (goes_on c.answer ≡ true) × Serves told calls (behind c.answer asks) left
+
+-- one call more, of the first of what is left, has this answer
+abbrev pub IsStop : Option ℕ → Called → List Call → List Asked → Type 0
+IsStop told answer stop left = (c : Call) × (stop ≡ c ∷ []) × (c.answer ≡ answer) × IsTimely told c × IsNext c left
+
+-- how a list of requests was left: all served, or with a call that is answered otherwise
+abbrev pub StopsAt : Option ℕ → Called → List Call → List Asked → Type 0
+StopsAt told called.Ok stop left = (stop ≡ []) × (left ≡ [])
+StopsAt told called.Full stop left = ⊥
+StopsAt told answer stop left = IsStop told answer stop left
+
+pub record ServesList (n : ℕ) (told : Option ℕ) (old new : Knows) (asks left : List Asked) (answer : Called) : Type 0 where
+  pub calls : List Call
+  pub stop : List Call
+  pub gains : Gains old new (map (call_of n) (calls ++ stop))
+  pub serves : Serves told calls asks left
+  pub stops : StopsAt told answer stop left
+
+-- calls of one turn, the last answered Full
+pub record ServesOn (n : ℕ) (told : Option ℕ) (old new : Knows) (asks left : List Asked) : Type 0 where
+  pub calls : List Call
+  pub gains : Gains old new (map (call_of n) calls)
+  pub serves : Serves told calls asks left
+  pub some : 0 < length left
+  pub few : length left ≤ length asks
+  pub proper : list_all is_proper asks ≡ true → list_all is_proper left ≡ true
+
+abbrev pub CallsTurn : ℕ → Option ℕ → Knows → Knows → List Asked → List Asked → Option Called → Type 0
+CallsTurn n told old new asks left None = ServesOn n told old new asks left
+CallsTurn n told old new asks left (Some answer) = ServesList n told old new asks left answer

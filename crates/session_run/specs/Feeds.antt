@@ -1,0 +1,62 @@
+-- What a reader of requests makes of bytes, some requests at a time.
+use Rattle.std.specs.Prelude.{◌≡◌, ◌≤◌, ◌<◌, ℕ, ◌+◌, Bool, true, false, List, [], ◌∷◌, ◌++◌, length, map, drop, Option, Some, None}
+use Rattle.std.specs.List.{list_all}
+use Rattle.byte_text.specs.Names.{Bytes}
+use Rattle.byte_text.specs.Streams.{Stream, StreamEnd, holds, fails, stream_of}
+use Rattle.byte_text.specs.declared.faults.RespFault.{RespFault}
+use Rattle.resp_frames.specs.RequestReader.{Held}
+use Rattle.world_model.specs.Outcomes.{is_proper}
+use Rattle.world_model.specs.declared.events.Asked.{Asked}
+use Rattle.world_model.specs.declared.events.Asked.TheVariants.{Words, Broken}
+use Rattle.session_run.specs.declared.batches.Step.{Step}
+use Rattle.session_run.specs.declared.batches.Step.TheVariants as step
+use Rattle.session_run.specs.declared.batches.Fill.{Fill}
+use Rattle.session_run.specs.declared.batches.Fill.TheVariants as fill
+
+-- what a stream asks for: each of its requests, and at last the end that its fault brings
+abbrev pub last_asked : StreamEnd → List Asked
+last_asked (holds rest) = []
+last_asked (fails fault) = Broken fault ∷ []
+
+abbrev pub asked_by : Stream → List Asked
+asked_by stream = map Words stream.requests ++ last_asked stream.ending
+
+-- what some bytes ask for behind those that a reader holds; nothing once it is dead
+abbrev pub asked_behind : Held → Bytes → List Asked
+asked_behind None bytes = []
+asked_behind (Some held) bytes = asked_by (stream_of (held ++ bytes))
+
+-- the bytes ask for these first, and then for what the rest asks for; so too with more bytes behind them
+pub record Feeds (old : Held) (bytes : Bytes) (new : Held) (rest : Bytes) (asks : List Asked) : Type 0 where
+  pub goes : (more : Bytes) → asked_behind old (bytes ++ more) ≡ asks ++ asked_behind new (rest ++ more)
+
+-- the last that is asked for is the end that a fault brings
+abbrev pub EndsBroken : List Asked → Type 0
+EndsBroken asks = (front : List Asked) × (fault : RespFault) × (asks ≡ front ++ Broken fault ∷ [])
+
+-- one request was read, or that there is none
+pub record Reads (old : Held) (bytes : Bytes) (new : Held) (rest : Bytes) (before now : List Asked) : Type 0 where
+  pub ask : Asked
+  pub pushed : now ≡ before ++ ask ∷ []
+  pub proper : is_proper ask ≡ true
+  pub feeds : Feeds old bytes new rest (ask ∷ [])
+
+pub record ReadsFault (old : Held) (bytes : Bytes) (new : Held) (before now : List Asked) : Type 0 where
+  pub fault : RespFault
+  pub pushed : now ≡ before ++ Broken fault ∷ []
+  pub proper : is_proper (Broken fault) ≡ true
+  pub feeds : Feeds old bytes new [] (Broken fault ∷ [])
+  pub dead : new ≡ None
+
+abbrev pub IsStep : Held → Bytes → Held → List Asked → List Asked → Step → Type 0
+IsStep old bytes new before now (step.Next taken) = (taken ≤ length bytes) × Reads old bytes new (drop taken bytes) before now
+IsStep old bytes new before now step.Dry = (now ≡ before) × Feeds old bytes new [] [] × (asked_behind new [] ≡ [])
+IsStep old bytes new before now step.Broken = ReadsFault old bytes new before now
+IsStep old bytes new before now step.Memory = Unit {0}
+
+-- the requests of the bytes were collected, as far as this says
+abbrev pub IsFill : Held → Bytes → Held → List Asked → Fill → Type 0
+IsFill old bytes new asks (fill.Full taken) = (taken ≤ length bytes) × Feeds old bytes new (drop taken bytes) asks
+IsFill old bytes new asks fill.Dry = Feeds old bytes new [] asks × (asked_behind new [] ≡ [])
+IsFill old bytes new asks fill.Broken = Feeds old bytes new [] asks × EndsBroken asks × (new ≡ None)
+IsFill old bytes new asks fill.Memory = asks ≡ []

@@ -1,0 +1,6 @@
+pub mod Gains
+pub mod Outs
+pub mod Calls
+pub mod Feeds
+pub mod Ends
+pub mod Jobs

@@ -1,0 +1,88 @@
+-- What the writing of a session's frames does.
+use Rattle.std.specs.Prelude.{◌≡◌, ◌≤◌, ℕ, Bool, true, false, List, [], ◌∷◌, ◌++◌, map, flat_map, Option, Some, None}
+use Rattle.std.specs.List.{concat, list_all}
+use Rattle.std.specs.Io.KnownBytes.{Appends}
+use Rattle.outside.specs.Causes.{Rose}
+use mathlib.Core.List.{IsPrefix}
+use Rattle.byte_text.specs.Names.{Bytes}
+use Rattle.world_model.specs.declared.events.Called.TheVariants as called
+use Rattle.world_model.specs.declared.events.Event.TheVariants as event
+use Rattle.world_model.specs.declared.events.Outcome.{Outcome}
+use Rattle.world_model.specs.declared.events.Outcome.TheVariants as outcome
+use Rattle.world_model.specs.Seats.{Knows, Act}
+use Rattle.session_run.specs.Gains.{Makes, Gains, SeesLegal}
+use Rattle.session_run.specs.declared.outs.OutEnd.{OutEnd}
+use Rattle.session_run.specs.declared.outs.OutEnd.TheVariants.{Ended, WriteFault, LogFault, Stopped}
+
+-- the take gave frames, or there was none yet
+abbrev pub goes_on : Outcome → Bool
+goes_on (outcome.Given frames) = true
+goes_on outcome.Empty = true
+goes_on o = false
+
+-- the bytes of the frames that a take gave, and of those that some gave
+abbrev pub given_bytes : Outcome → Bytes
+given_bytes (outcome.Given frames) = concat frames
+given_bytes o = []
+
+abbrev pub bytes_given : List Outcome → Bytes
+bytes_given takes = flat_map given_bytes takes
+
+-- a take of the session with this outcome
+abbrev pub take_act : ℕ → Outcome → Act
+take_act n o = (event.Take n, o)
+
+-- behind a write fault the session is removed
+abbrev pub remove_acts : ℕ → OutEnd → List Act
+remove_acts n WriteFault = (event.Remove n, outcome.Done) ∷ []
+remove_acts n end = []
+
+-- the outcome of the last take
+abbrev pub IsLast : OutEnd → Outcome → Type 0
+IsLast Ended o = o ≡ outcome.Ended
+IsLast WriteFault o = (frames : List Bytes) × (o ≡ outcome.Given frames)
+IsLast LogFault o = o ≡ outcome.Answered called.LogFault
+IsLast Stopped o = o ≡ outcome.Answered called.Stopped
+
+-- a first part of the bytes was written
+abbrev pub AppendsPart : Option Bytes → Option Bytes → Bytes → Type 0
+AppendsPart held held' bytes = (part : Bytes) × IsPrefix part bytes × Appends held held' part
+
+-- the bytes were written, or a first part of them at a write fault
+abbrev pub Wrote : OutEnd → Option Bytes → Option Bytes → Bytes → Type 0
+Wrote WriteFault held held' bytes = AppendsPart held held' bytes
+Wrote end held held' bytes = Appends held held' bytes
+
+-- a session's frames were taken and written: the seat's new entries are takes of this session, and one removal of it behind a write
+-- fault; the bytes written are those of the frames of these takes, or a first part of them at a write fault
+pub record WritesSession (n : ℕ) (old new : Knows) (held held' : Option Bytes) (faults faults' : ℕ) (end : OutEnd) : Type 0 where
+  pub takes : List Outcome
+  pub last : Outcome
+  pub gains : Gains old new (map (take_act n) (takes ++ last ∷ []) ++ remove_acts n end)
+  pub went_on : list_all goes_on takes ≡ true
+  pub is_last : IsLast end last
+  pub wrote : Wrote end held held' (bytes_given (takes ++ last ∷ []))
+  pub cause : end ≡ WriteFault → Rose faults faults'
+  pub later : faults ≤ faults'
+  pub legal : SeesLegal new
+
+-- one take, and what it gave was written
+pub record TakesOn (n : ℕ) (old new : Knows) (held held' : Option Bytes) (faults faults' : ℕ) : Type 0 where
+  pub taken : Outcome
+  pub makes : Makes (take_act n taken) old new
+  pub goes : goes_on taken ≡ true
+  pub wrote : Appends held held' (given_bytes taken)
+  pub later : faults ≤ faults'
+
+pub record TakesLast (n : ℕ) (old new : Knows) (held held' : Option Bytes) (faults faults' : ℕ) (end : OutEnd) : Type 0 where
+  pub taken : Outcome
+  pub gains : Gains old new (take_act n taken ∷ remove_acts n end)
+  pub is_last : IsLast end taken
+  pub wrote : Wrote end held held' (given_bytes taken)
+  pub cause : end ≡ WriteFault → Rose faults faults'
+  pub later : faults ≤ faults'
+  pub legal : SeesLegal new
+
+abbrev pub WritesTurn : ℕ → Knows → Knows → Option Bytes → Option Bytes → ℕ → ℕ → Option OutEnd → Type 0
+WritesTurn n old new held held' faults faults' None = TakesOn n old new held held' faults faults'
+WritesTurn n old new held held' faults faults' (Some end) = TakesLast n old new held held' faults faults' end

@@ -1,0 +1,135 @@
+//! The requests of a block of bytes, and their calls.
+
+ghost use Rattle.std.specs.Prelude.{◌≡◌, ◌≤◌, ◌<◌, [], ℕ, length};
+ghost use Rattle.session_run.specs.Feeds.{asked_behind};
+ghost use Rattle.session_run.specs.Ends.{ServesPart, ServesBlock, BlockTurn};
+
+use crate::batches::{Fill, collect};
+use crate::calls::{Hand, serve_list};
+use crate::ends::{InEnd, end_of};
+use outside::{Bell, Clock, Failed, Gate, Source};
+use std::sync::Wait;
+use world_model::HallApi;
+
+// How the first requests of some bytes were served.
+#[derive(Clone, Copy, Debug, PartialEq, Eq)]
+enum Part {
+    /// Those that end in so many bytes, and there may be more.
+    More(usize),
+    /// All of them.
+    Dry,
+    End(InEnd),
+}
+
+// Collects as many requests as one turn carries, and makes their calls.
+fn serve_part<H: HallApi, C: Clock, B: Bell, G: Gate, R: Wait>(
+    rt: &R,
+    hall: &H,
+    seat: &mut H::Seat,
+    session: u32,
+    clock: &C,
+    bell: &B,
+    room: &B,
+    gate: &G,
+    hand: &mut Hand,
+    piece: &[u8],
+) -> Part
+    requires seat { H.is_of hall.now seat.old }
+    ensures seat { H.is_of hall.now seat.new }
+    ensures part { ServesPart session (C.told clock.now) (H.knows seat.old) (H.knows seat.new) hand.old.reader piece.now hand.new.reader result }
+{
+    let fill = collect(&mut hand.reader, piece, &mut hand.asked);
+    let answer = serve_list(rt, hall, seat, session, clock, bell, room, gate, hand);
+    if let Some(end) = end_of(answer) {
+        return Part::End(end);
+    }
+    match fill {
+        Fill::Full(taken) => Part::More(taken),
+        Fill::Dry => Part::Dry,
+        Fill::Broken => Part::End(InEnd::Broken),
+        Fill::Memory => Part::End(InEnd::Memory),
+    }
+}
+
+// Serves the requests that end in the bytes, and the fault that they make. None where the session goes on.
+fn serve_block<H: HallApi, C: Clock, B: Bell, G: Gate, R: Wait>(
+    rt: &R,
+    hall: &H,
+    seat: &mut H::Seat,
+    session: u32,
+    clock: &C,
+    bell: &B,
+    room: &B,
+    gate: &G,
+    hand: &mut Hand,
+    piece: &[u8],
+) -> Option<InEnd>
+    requires seat { H.is_of hall.now seat.old }
+    ensures seat { H.is_of hall.now seat.new }
+    ensures block { ServesBlock session (C.told clock.now) (H.knows seat.old) (H.knows seat.new) hand.old.reader piece.now hand.new.reader result }
+{
+    let mut taken = 0;
+    for _ in rt.forever() {
+        match serve_part(
+            rt,
+            hall,
+            seat,
+            session,
+            clock,
+            bell,
+            room,
+            gate,
+            hand,
+            &piece[taken..],
+        ) {
+            Part::More(count) => taken += count,
+            Part::Dry => return None,
+            Part::End(end) => return Some(end),
+        }
+    }
+    unreachable!()
+}
+
+/// Reads a block and serves its requests. None where the session goes on.
+pub(crate) fn read_block<H: HallApi, S: Source, C: Clock, B: Bell, G: Gate, R: Wait>(
+    rt: &R,
+    hall: &H,
+    seat: &mut H::Seat,
+    session: u32,
+    source: &mut S,
+    clock: &C,
+    bell: &B,
+    room: &B,
+    gate: &G,
+    hand: &mut Hand,
+    block: &mut [u8],
+) -> Option<InEnd>
+    requires seat { H.is_of hall.now seat.old }
+    requires some { 0 < length block.old }
+    requires dry { asked_behind hand.old.reader [] ≡ [] }
+    ensures seat { H.is_of hall.now seat.new }
+    ensures turn { BlockTurn session (C.told clock.now)
+        (H.knows seat.old) (H.knows seat.new)
+        (S.left source.old) (S.left source.new) (S.faults source.old) (S.faults source.new)
+        hand.old.reader hand.new.reader result }
+{
+    let count = match source.read(block) {
+        Ok(count) => count,
+        Err(Failed) => return Some(InEnd::ReadFault),
+    };
+    if count == 0 {
+        return Some(InEnd::Over);
+    }
+    serve_block(
+        rt,
+        hall,
+        seat,
+        session,
+        clock,
+        bell,
+        room,
+        gate,
+        hand,
+        &block[..count],
+    )
+}

@@ -1,0 +1,99 @@
+//! The calls of a session.
+
+ghost use Rattle.std.specs.Prelude.{◌≡◌, ◌≤◌, ◌<◌, ℕ, length, true};
+ghost use Rattle.std.specs.List.{list_all};
+ghost use Rattle.world_model.specs.Outcomes.{is_proper};
+ghost use Rattle.session_run.specs.Calls.{CallsTurn, ServesList};
+
+use outside::{Bell, Clock, Gate};
+use resp_frames::Requests;
+use std::sync::Wait;
+use world_model::{AskedList, Called, HallApi, Touched};
+
+/// What a session has in hand.
+#[derive(Drop)]
+pub(crate) struct Hand {
+    /// The reader of its requests.
+    pub(crate) reader: Requests,
+    /// The requests that wait for their calls.
+    pub(crate) asked: AskedList,
+    /// The sessions that the last calls changed.
+    pub(crate) touched: Touched,
+    /// How often it has passed the gate.
+    pub(crate) passes: u64,
+}
+
+/// Rings for each session that is named.
+pub fn ring_touched<B: Bell>(bell: &B, touched: &Touched) {
+    for i in 0..touched.len() {
+        bell.ring(touched.at(i));
+    }
+}
+
+// Makes the calls of one turn. None where the session had no room, after a wait for room.
+fn call_turn<H: HallApi, C: Clock, B: Bell, G: Gate, R: Wait>(
+    rt: &R,
+    hall: &H,
+    seat: &mut H::Seat,
+    session: u32,
+    clock: &C,
+    bell: &B,
+    room: &B,
+    gate: &G,
+    hand: &mut Hand,
+) -> Option<Called>
+    requires seat { H.is_of hall.now seat.old }
+    requires some { 0 < length hand.old.asked }
+    requires few { length hand.old.asked ≤ 64 }
+    requires proper { list_all is_proper hand.old.asked ≡ true }
+    ensures seat { H.is_of hall.now seat.new }
+    ensures reader { hand.new.reader ≡ hand.old.reader }
+    ensures turn { CallsTurn session (C.told clock.now) (H.knows seat.old) (H.knows seat.new) hand.old.asked hand.new.asked result }
+{
+    hand.passes = hand.passes.saturating_add(1);
+    gate.pass(rt, session, hand.passes);
+    let mark = room.mark(session);
+    let moment = clock.now();
+    hand.touched.clear();
+    let answers = hall.calls(rt, seat, session, moment, &hand.asked, &mut hand.touched);
+    ring_touched(bell, &hand.touched);
+    hand.asked.pass(answers.served);
+    match answers.end {
+        Called::Full => {
+            room.wait(rt, session, mark);
+            None
+        }
+        end => Some(end),
+    }
+}
+
+/// Makes the calls of the requests that wait, in order, and again those that are answered Full, up to the first that is answered
+/// neither so nor Ok. That answer, or Ok.
+pub(crate) fn serve_list<H: HallApi, C: Clock, B: Bell, G: Gate, R: Wait>(
+    rt: &R,
+    hall: &H,
+    seat: &mut H::Seat,
+    session: u32,
+    clock: &C,
+    bell: &B,
+    room: &B,
+    gate: &G,
+    hand: &mut Hand,
+) -> Called
+    requires seat { H.is_of hall.now seat.old }
+    requires few { length hand.old.asked ≤ 64 }
+    requires proper { list_all is_proper hand.old.asked ≡ true }
+    ensures seat { H.is_of hall.now seat.new }
+    ensures reader { hand.new.reader ≡ hand.old.reader }
+    ensures serves { ServesList session (C.told clock.now) (H.knows seat.old) (H.knows seat.new) hand.old.asked hand.new.asked result }
+{
+    if hand.asked.len() == 0 {
+        return Called::Ok;
+    }
+    for _ in rt.forever() {
+        if let Some(end) = call_turn(rt, hall, seat, session, clock, bell, room, gate, hand) {
+            return end;
+        }
+    }
+    unreachable!()
+}

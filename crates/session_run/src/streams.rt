@@ -1,0 +1,110 @@
+//! Pieces that are written whole.
+
+ghost use Rattle.std.specs.Prelude.{◌≡◌, ◌≤◌, true, IfErr, OnOk};
+ghost use Rattle.std.specs.List.{concat};
+ghost use Rattle.std.specs.Io.KnownBytes.{Appends};
+ghost use Rattle.outside.specs.Causes.{HasCause};
+ghost use Rattle.session_run.specs.Outs.{AppendsPart};
+
+use outside::{Failed, Sink};
+use world_model::Frames;
+
+/// Frames of at most so many bytes together are written in one piece.
+const MOST_GATHERED: usize = 16_384;
+
+/// Writes the whole piece. At an error some first part of it was written.
+pub(crate) fn write_all<K: Sink>(sink: &mut K, piece: &[u8]) -> Result<(), Failed>
+    ensures done { OnOk result (Appends (K.held sink.old) (K.held sink.new) piece.now) }
+    ensures part { IfErr result (λ _. AppendsPart (K.held sink.old) (K.held sink.new) piece.now) }
+    ensures cause { HasCause (K.faults sink.old) (K.faults sink.new) result }
+{
+    let mut rest = piece;
+    while !rest.is_empty() {
+        let count = match sink.write(rest) {
+            Ok(count) => count,
+            Err(Failed) => return Err(Failed),
+        };
+        rest = &rest[count..];
+    }
+    Ok(())
+}
+
+// Gathers the bytes of all frames, where they are few. `false` where they are not, or there is no memory for them.
+fn gather(frames: &Frames, text: &mut Vec<u8>) -> bool
+    ensures { result ≡ true → text.new.items ≡ concat frames.now.list }
+{
+    text.clear();
+    for i in 0..frames.len() {
+        let frame = frames.at(i);
+        if text.len().saturating_add(frame.len()) > MOST_GATHERED {
+            return false;
+        }
+        match text.extend_from_slice(frame) {
+            Ok(()) => {}
+            Err(_) => return false,
+        }
+    }
+    true
+}
+
+// Writes all frames in order, each by itself. At an error some first part of their bytes was written.
+fn write_each<K: Sink>(sink: &mut K, frames: &Frames) -> Result<(), Failed>
+    ensures done { OnOk result (Appends (K.held sink.old) (K.held sink.new) (concat frames.now.list)) }
+    ensures part { IfErr result (λ _. AppendsPart (K.held sink.old) (K.held sink.new) (concat frames.now.list)) }
+    ensures cause { HasCause (K.faults sink.old) (K.faults sink.new) result }
+{
+    for i in 0..frames.len() {
+        match write_all(sink, frames.at(i)) {
+            Ok(()) => {}
+            Err(Failed) => return Err(Failed),
+        }
+    }
+    Ok(())
+}
+
+/// Writes all frames in order, in one piece where they are few. At an error some first part of their bytes was written.
+pub(crate) fn write_frames<K: Sink>(
+    sink: &mut K,
+    frames: &Frames,
+    text: &mut Vec<u8>,
+) -> Result<(), Failed>
+    ensures done { OnOk result (Appends (K.held sink.old) (K.held sink.new) (concat frames.now.list)) }
+    ensures part { IfErr result (λ _. AppendsPart (K.held sink.old) (K.held sink.new) (concat frames.now.list)) }
+    ensures cause { HasCause (K.faults sink.old) (K.faults sink.new) result }
+{
+    if frames.len() > 1 && gather(frames, text) {
+        return write_all(sink, text);
+    }
+    write_each(sink, frames)
+}
+
+#[cfg(test)]
+mod tests {
+    use super::*;
+    use byte_text::Text;
+    use outside::BytesSink;
+    use std::alloc::Global;
+    use std::test::Fail;
+
+    // Frames of these bytes, written to a sink that takes a few at a call and fails at one: whether all were written, and which.
+    fn written(alloc: Global, failing: u64) -> Result<(bool, Vec<u8>), Fail> {
+        let mut frames = Frames::new(alloc)?;
+        frames.put(Text::of(alloc, b"+OK\r\n")?);
+        frames.put(Text::of(alloc, b":1\r\n")?);
+        let mut sink = BytesSink::new(alloc, 4, [failing].to_vec(alloc)?);
+        let all = write_frames(&mut sink, &frames, &mut Vec::new(alloc)).is_ok();
+        Ok((all, sink.written().to_vec(alloc)?))
+    }
+
+    #[test]
+    fn frames_go_out_whole_up_to_a_fault(rt: HostRuntime) -> Result<(), Fail> {
+        let alloc = rt.alloc();
+        let (all, bytes) = written(alloc, 9)?;
+        assert!(rt; all);
+        assert_eq!(rt; bytes.as_slice(), b"+OK\r\n:1\r\n".as_slice());
+        let (all, bytes) = written(alloc, 2)?;
+        assert!(rt; !all);
+        assert_eq!(rt; bytes.as_slice(), b"+OK\r".as_slice());
+        Ok(())
+    }
+}
