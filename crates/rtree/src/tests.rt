@@ -1,6 +1,6 @@
 //! The tree beside a plain list of pairs, and how many nodes searches visit.
 
-use crate::{Ids, NearWalk, NoLedger, Steps, Tree, Visits};
+use crate::{Ids, Ledger, NearWalk, NoLedger, Steps, Tree, Visits};
 use planar_geom::{BBox, Pt, box_dist2};
 use std::alloc::Global;
 use std::process::Abort;
@@ -127,21 +127,26 @@ fn walks_by_distance(rt: HostRuntime) {
     assert_eq!(rt; walk.next(&mut ids, &mut steps).ok(), Some(None));
 }
 
+// A point at each of 100 by 100 places, ten apart, with a number each.
+fn grid<L: Ledger>(rt: &impl Abort, alloc: Global, steps: &mut Steps<L>) -> Tree {
+    let mut tree = Tree::new(alloc);
+    for i in 0..100u32 {
+        for j in 0..100u32 {
+            if tree.reserve(1).is_ok() {
+                tree.insert(square(rt, 10 * i, 10 * j, 0), 100 * i + j, steps);
+            }
+        }
+    }
+    tree
+}
+
 // Each of 1,000 searches visits a node of each level, and 10,000 pairs need four levels of 16.
 const LEAST_VISITS: u64 = 4_000;
 
 #[test]
 fn visits_few_nodes(rt: HostRuntime) {
     let alloc = rt.alloc();
-    let mut tree = Tree::new(alloc);
-    let mut steps = Steps::new(NoLedger);
-    for i in 0..100u32 {
-        for j in 0..100u32 {
-            if tree.reserve(1).is_ok() {
-                tree.insert(square(&rt, 10 * i, 10 * j, 0), 100 * i + j, &mut steps);
-            }
-        }
-    }
+    let tree = grid(&rt, alloc, &mut Steps::new(NoLedger));
     let mut visits = Steps::new(Visits::new());
     let mut ids = Ids::new(alloc);
     for m in 0..1000u32 {
@@ -165,4 +170,41 @@ fn visits_few_nodes(rt: HostRuntime) {
     let count = visits.ledger().count();
     assert!(rt; LEAST_VISITS <= count && count <= 300_000);
     let _ = rt.println(count);
+}
+
+// Among more than 4,096 pairs, where 5,904 of 10,000 insertions and as many removals are made, each visits a
+// node of each of four levels.
+const LEAST_VISITS_OF_CHANGES: u64 = 4 * 5_904;
+
+#[test]
+fn changes_visit_each_level(rt: HostRuntime) {
+    let mut visits = Steps::new(Visits::new());
+    let mut tree = grid(&rt, rt.alloc(), &mut visits);
+    let count = visits.ledger().count();
+    assert!(rt; LEAST_VISITS_OF_CHANGES <= count && count <= 500_000);
+    let _ = rt.println(count);
+    let mut visits = Steps::new(Visits::new());
+    for i in 0..100u32 {
+        for j in 0..100u32 {
+            let place = square(&rt, 10 * i, 10 * j, 0);
+            assert!(rt; tree.remove(place, 100 * i + j, &mut visits));
+        }
+    }
+    let count = visits.ledger().count();
+    assert!(rt; LEAST_VISITS_OF_CHANGES <= count && count <= 500_000);
+    let _ = rt.println(count);
+}
+
+#[test]
+fn goes_on_counting(rt: HostRuntime) {
+    let mut before = Visits::new();
+    before.visit();
+    let mut steps = Steps::new(before);
+    let tree = Tree::new(rt.alloc());
+    let mut ids = Ids::new(rt.alloc());
+    let nowhere = square(&rt, 0, 0, 0);
+    assert!(rt; tree.search(&nowhere, &mut ids, &mut steps).is_ok());
+    assert_eq!(rt; steps.ledger().count(), 1);
+    assert_eq!(rt; steps.ledger().visits(), Some(1));
+    assert_eq!(rt; NoLedger.visits(), None);
 }
