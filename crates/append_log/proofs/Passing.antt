@@ -5,9 +5,9 @@ use Rattle.outside.specs.declared.sides.Side.{Side}
 use Rattle.outside.specs.Sides.{Sides}
 use Rattle.outside.specs.CrashLaws.{begins}
 use Rattle.byte_text.specs.Names.{Bytes}
-use Rattle.append_log.specs.States.{SideIsSafe, IsLeft, SideLeads}
+use Rattle.log_sides.specs.States.{SideIsSafe, IsLeft, SideLeads}
 use Rattle.append_log.specs.Reading.{IsAtGate}
-use Rattle.append_log.proofs.Crashing.{leads_then}
+use Rattle.log_sides.specs.Crashing.{leads_then}
 
 -- from an old disk, and a place, to what is read now
 pub record Passes {D : Type 0} (crashes : D → Bool) (seen : D → Option Sides) (images : D → Sides → Type 0) (moment : D → ℕ) (left_since : D → ℕ → Sides → Type 0) (faults : D → ℕ) (side : Side) (len from : ℕ) (old now : D) (at : ℕ) : Type 0 where

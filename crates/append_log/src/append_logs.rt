@@ -3,13 +3,13 @@
 ghost use Rattle.std.specs.Prelude.{Decides, ◌≡◌, ◌+◌, ◌≤◌, ◌<◌, ◌^◌, ◌++◌, ℕ, List, [], take, length, OnOk, OnErr, IfOk, IfErr, MatchResult};
 ghost use Rattle.byte_text.specs.Names.{Bytes};
 ghost use Rattle.outside.specs.Causes.{HasCause, Rose};
-ghost use Rattle.append_log.specs.Texts.{StandsRound, IsGeneration, committed, written};
-ghost use Rattle.append_log.specs.Making.{WhileMade};
-ghost use Rattle.append_log.specs.States.{SideIsSafe, IsLog, SideLeads};
+ghost use Rattle.log_sides.specs.Texts.{StandsRound, IsGeneration, committed, written};
+ghost use Rattle.log_sides.specs.Making.{WhileMade};
+ghost use Rattle.log_sides.specs.States.{SideIsSafe, IsLog, SideLeads};
 
 use crate::commits::append_batch;
-use crate::pending_batches::Batch;
-use crate::side_making::make_side;
+
+use log_sides::{Batch, make_side};
 use byte_text::NoMemory;
 use outside::{Disk, Failed, Side};
 use std::alloc::Global;
@@ -172,10 +172,7 @@ impl<D: Disk> AppendLog<D> {
     pub fn last_batch(&self) -> &[u8]
         ensures { result.now ≡ written self.now.last }
     {
-        if self.last.len() == 0 {
-            return &[];
-        }
-        self.last.bytes()
+        self.last.written()
     }
 
     /// Gives the disk out.

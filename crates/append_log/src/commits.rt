@@ -3,8 +3,8 @@
 ghost use Rattle.std.specs.Prelude.{◌≡◌, ◌+◌, ◌≤◌, ◌^◌, ℕ, List, length, OnOk};
 ghost use Rattle.byte_text.specs.Names.{Bytes};
 ghost use Rattle.outside.specs.Causes.{HasCause};
-ghost use Rattle.append_log.specs.Texts.{StandsFor, StandsWithin, with_batch, sealed};
-ghost use Rattle.append_log.specs.States.{SideIsSafe, IsLog, SideLeads};
+ghost use Rattle.log_sides.specs.Texts.{StandsFor, StandsWithin, with_batch, sealed};
+ghost use Rattle.log_sides.specs.States.{SideIsSafe, IsLog, SideLeads};
 
 use outside::{Disk, Failed, Side, write_durably};
 

@@ -4,17 +4,14 @@
 mod append_logs;
 mod commits;
 mod laws;
-mod pending_batches;
 mod side_ends;
 mod side_heads;
-mod side_making;
 mod side_readers;
 
 pub use append_logs::{AppendLog, LogFault, Refused};
 pub use laws::{logs_read_once, used_sides_stay};
 pub use side_ends::End;
 pub use side_heads::{Head, Start, start_log};
-pub use side_making::{make_side, shut_side};
 pub use side_readers::{Gate, Reader};
 
 #[cfg(test)]

@@ -3,7 +3,7 @@
 ghost use Rattle.std.specs.Prelude.{◌≡◌, ℕ, [], IfOk};
 ghost use Rattle.byte_text.specs.Names.{Bytes};
 ghost use Rattle.outside.specs.Causes.{HasCause};
-ghost use Rattle.append_log.specs.States.{SideIsSafe, SideLeads};
+ghost use Rattle.log_sides.specs.States.{SideIsSafe, SideLeads};
 
 use crate::side_readers::{Gate, Reader};
 use outside::{Disk, Failed};

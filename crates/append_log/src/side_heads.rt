@@ -6,7 +6,7 @@ ghost use Rattle.outside.specs.Causes.{HasCause};
 ghost use Rattle.outside.specs.declared.sides.Side.TheVariants.{A, B};
 ghost use Rattle.outside.specs.Sides.{Sides, side_of, Told};
 ghost use Rattle.outside.specs.Crashes.{LeavesOnly};
-ghost use Rattle.append_log.specs.States.{SideIsSafe};
+ghost use Rattle.log_sides.specs.States.{SideIsSafe};
 ghost use Rattle.append_log.specs.Heads.{head_of, start_of, IsHeadedIn, IsOpenHead, IsSizedHead, IsSizedStart};
 
 use outside::{Disk, Failed, Side};

@@ -3,8 +3,8 @@
 ghost use Rattle.std.specs.Prelude.{Ok, ◌≡◌, ◌+◌, ◌-◌, ◌≤◌, ◌<◌, ◌++◌, ℕ, List, [], ◌∷◌, take, drop, length, min, IfOk, ◌^◌};
 ghost use Rattle.byte_text.specs.Names.{Bytes};
 ghost use Rattle.outside.specs.Causes.{HasCause};
-ghost use Rattle.append_log.specs.States.{SideIsSafe, SideLeads};
-ghost use Rattle.append_log.specs.Texts.{with_batch};
+ghost use Rattle.log_sides.specs.States.{SideIsSafe, SideLeads};
+ghost use Rattle.log_sides.specs.Texts.{with_batch};
 
 use outside::{Disk, Failed, Side};
 

@@ -1,5 +1,5 @@
 -- What becomes of the slots of a node into which a pair is put.
-use Rattle.std.proofs.Common.{◌≡◌, ℕ, zero, suc, ◌+◌, ◌-◌, ◌≤◌, ◌<◌, sym, ap, ◌∙◌, subst, Some, None, List, [], ◌∷◌, ◌++◌, length, take, drop, get_or, set, arith, append_assoc, append-nil, add-one, All}
+use Rattle.std.proofs.Common.{◌≡◌, ℕ, zero, suc, ◌+◌, ◌-◌, ◌≤◌, ◌<◌, ◌*◌, sym, ap, ◌∙◌, subst, Some, None, List, [], ◌∷◌, ◌++◌, length, take, drop, get_or, set, arith, append_assoc, append-nil, add-one, All}
 use Rattle.std.specs.List.{insert}
 use Rattle.std.proofs.lemmas.List.{take-append-drop, take_more_set, drop-set-lt, set_split, get_or_default}
 use Rattle.std.proofs.lemmas.List.Elements.{All-nil, All-cons, All-append, All-get_or}
@@ -8,8 +8,8 @@ use Rattle.rtree.specs.declared.nodes.Slot.{Slot}
 use Rattle.rtree.specs.Pairs.{Pair, IsBefore, IsAtMost, IsInside, IsPut}
 use Rattle.rtree.specs.Subtrees.{Subtree, entries_at, nodes_of, IsFull}
 use Rattle.rtree.specs.Slots.{slot_entries, all_entries, all_nodes, IsSlot, IsNode, IsPlaceFor}
-use Rattle.rtree.proofs.Lists.{all-right}
-use Rattle.rtree.proofs.Slots.{entries_more, entries_parts, nodes_parts, nodes-append}
+use Rattle.rtree.proofs.Lists.{all-right, length-with}
+use Rattle.rtree.proofs.Slots.{few_all, entries_more, entries_parts, nodes_parts, nodes-append}
 use Rattle.rtree.proofs.Places.{split_at, low_part, high_part, grown-entries, grown-node, nodes-middle, put_alone, leaf_slot}
 
 -- the slots of a node with a pair more
@@ -31,7 +31,7 @@ leaf_low room slots p (suc j) d node place =
     subst (λ n. All P (all_entries (take n slots))) next (subst (All P) (sym (entries_more slots i s within (get_or_default slots i d s within))) both)
 
 -- an entry is put into a leaf
-pub leaf_grows : (h room room' : ℕ) (slots : List Slot) (p : Pair) (k : ℕ) (s : Slot) → IsNode h slots room → IsPlaceFor slots p k → h ≡ 1 → IsSlot 1 s → s.first ≡ p → s.below ≡ None → 20 ≤ room' → Grows h p slots (insert slots k s) room'
+pub leaf_grows : (h room room' : ℕ) (slots : List Slot) (p : Pair) (k : ℕ) (s : Slot) → IsNode h slots room → IsPlaceFor slots p k → h ≡ 1 → IsSlot 1 s → s.first ≡ p → s.below ≡ None → 17 ≤ room' → Grows h p slots (insert slots k s) room'
 leaf_grows h room room' slots p k s node place leaf slot first none roomy =
     let a = take k slots in
     let c = drop k slots in
@@ -63,7 +63,7 @@ high_after h room slots p (suc j) d node place =
     subst (λ n. All (IsBefore p) (all_entries (drop n slots))) next (high_part h room slots p (suc j) d node place)
 
 -- a child is replaced by one or two with a pair more
-pub inner_grows : (h room room' : ℕ) (slots new : List Slot) (p : Pair) (k at : ℕ) (s : Slot) → IsNode h slots room → IsPlaceFor slots p k → at ≡ k - 1 → at < length slots → s ≡ get_or slots at s → All (IsSlot h) new → IsPut p (slot_entries s) (all_entries new) → 20 ≤ room' → Grows h p slots (take at slots ++ (new ++ drop (at + 1) slots)) room'
+pub inner_grows : (h room room' : ℕ) (slots new : List Slot) (p : Pair) (k at : ℕ) (s : Slot) → IsNode h slots room → IsPlaceFor slots p k → at ≡ k - 1 → at < length slots → s ≡ get_or slots at s → All (IsSlot h) new → IsPut p (slot_entries s) (all_entries new) → 17 ≤ room' → Grows h p slots (take at slots ++ (new ++ drop (at + 1) slots)) room'
 inner_grows h room room' slots new p k at s node place at_is within read each into roomy =
     let a = take at slots in
     let c = drop (at + 1) slots in
@@ -100,3 +100,8 @@ set_one slots at t within = set_split slots at t within ∙ ap (λ n. take at sl
 pub set_two : (slots : List Slot) (at : ℕ) (t u : Slot) → at < length slots → insert (set slots at t) (at + 1) u ≡ take at slots ++ ((t ∷ u ∷ []) ++ drop (at + 1) slots)
 set_two slots at t u within =
     ap (λ xs. xs ++ (u ∷ drop (at + 1) (set slots at t))) (take_more_set slots at t within) ∙ (ap (λ xs. (take at slots ++ (t ∷ [])) ++ (u ∷ xs)) (drop-set-lt (at + 1) slots at t (omega arith)) ∙ append_assoc (take at slots) (t ∷ []) (u ∷ drop (at + 1) slots))
+
+-- where a pair more makes a node too wide, a list is left for its upper half
+pub spare_left : (h spare spare' : ℕ) (p : Pair) (old new : List Slot) → All (IsSlot h) new → IsPut p (all_entries old) (all_entries new) → 17 ≤ length new → spare' + all_nodes new ≡ spare + all_nodes old → length (all_entries old) + 3 ≤ 7 * (spare + (all_nodes old + 1)) + 8 → 1 ≤ spare'
+spare_left h spare spare' p old new each put wide lists enough =
+    omega (arith, few_all h new each, length-with p (all_entries old) (all_entries new) put.there)

@@ -15,7 +15,7 @@ shrunk-entries p a m n c w =
     let e : (x : List Slot) → all_entries (a ++ (x ++ c)) ≡ all_entries a ++ (all_entries x ++ all_entries c) = λ x. entries-append a (x ++ c) ∙ ap (λ es. all_entries a ++ es) (entries-append x c) in
     subst (λ es. IsWith p es (all_entries (a ++ (m ++ c)))) (sym (e n)) (subst (λ es. IsWith p (all_entries a ++ (all_entries n ++ all_entries c)) es) (sym (e m)) (with-between p (all_entries a) (all_entries n) (all_entries m) (all_entries c) w))
 
-pub shrunk-node : (h room room' : ℕ) (p : Pair) (a m n c : List Slot) → IsNode h (a ++ (m ++ c)) room → All (IsSlot h) n → IsWith p (all_entries (a ++ (n ++ c))) (all_entries (a ++ (m ++ c))) → 20 ≤ room' → IsNode h (a ++ (n ++ c)) room'
+pub shrunk-node : (h room room' : ℕ) (p : Pair) (a m n c : List Slot) → IsNode h (a ++ (m ++ c)) room → All (IsSlot h) n → IsWith p (all_entries (a ++ (n ++ c))) (all_entries (a ++ (m ++ c))) → 17 ≤ room' → IsNode h (a ++ (n ++ c)) room'
 shrunk-node h room room' p a m n c node each w roomy = record {
   each = All-append (IsSlot h) a (n ++ c) (all-left (IsSlot h) a (m ++ c) node.each) (All-append (IsSlot h) n c each (all-right (IsSlot h) m c (all-right (IsSlot h) a (m ++ c) node.each)));
   ordered = with-ordered p (all_entries (a ++ (n ++ c))) (all_entries (a ++ (m ++ c))) w node.ordered;

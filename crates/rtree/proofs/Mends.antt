@@ -12,8 +12,10 @@ use Rattle.rtree.proofs.Slots.{entries-append}
 pub record Neighbours (h : ℕ) (low high : Slot) (n m : Subtree) : Type 0 where
   pub level : n.height ≡ m.height
   pub below : n.height + 1 ≡ h
-  pub least : 7 ≤ n.width + m.width
-  pub most : n.width + m.width ≤ 20
+  pub least : 7 ≤ n.width
+  pub most : n.width ≤ 16
+  pub other_least : 7 ≤ m.width
+  pub other_most : m.width ≤ 16
   pub ordered : IsOrdered (n.entries ++ m.entries)
   pub entries : n.entries ++ m.entries ≡ all_entries (low ∷ high ∷ [])
   pub nodes : all_nodes (low ∷ high ∷ []) ≡ n.nodes + m.nodes
@@ -32,8 +34,10 @@ neighbours h low high n m pair is_low is_high =
     record {
       level = omega (arith, h1, h2, pair.low_summed.height_is, pair.high_summed.height_is);
       below = omega (arith, h1, pair.low_summed.height_is);
-      least = omega (arith, w1, w2, pair.least);
-      most = omega (arith, w1, w2, pair.most);
+      least = omega (arith, w1, pair.low_least);
+      most = omega (arith, w1, pair.low_most);
+      other_least = omega (arith, w2, pair.high_least);
+      other_most = omega (arith, w2, pair.high_most);
       ordered = subst IsOrdered both pair.ordered;
       entries = sym both;
       nodes = omega (arith, n1, n2);
@@ -45,18 +49,18 @@ not_none h s summed above none =
     let low : height_of s.below ≡ 0 = ap height_of none in
     absurd (omega (arith, low, summed.height_is))
 
-wide_of : (b : Option Subtree) → IfSome b IsFull → 2 ≤ height_of b + 1 → (4 ≤ width_of b) × (width_of b ≤ 16)
+wide_of : (b : Option Subtree) → IfSome b IsFull → 2 ≤ height_of b + 1 → (8 ≤ width_of b) × (width_of b ≤ 16)
 wide_of None full above = absurd (omega arith)
 wide_of (Some n) full above = (full.least, full.most)
 
-thin_of : (b : Option Subtree) → IfSome b (λ n. n.width ≡ 3) → 2 ≤ height_of b + 1 → width_of b ≡ 3
+thin_of : (b : Option Subtree) → IfSome b (λ n. n.width ≡ 7) → 2 ≤ height_of b + 1 → width_of b ≡ 7
 thin_of None thin above = absurd (omega arith)
 thin_of (Some n) thin above = thin
 
-wide : (h : ℕ) (s : Slot) → IsSlot h s → 2 ≤ h → (4 ≤ width_of s.below) × (width_of s.below ≤ 16)
+wide : (h : ℕ) (s : Slot) → IsSlot h s → 2 ≤ h → (8 ≤ width_of s.below) × (width_of s.below ≤ 16)
 wide h s slot above = wide_of s.below slot.full (omega (arith, slot.summed.height_is))
 
-narrow : (h : ℕ) (s : Slot) → IsThin h s → 2 ≤ h → width_of s.below ≡ 3
+narrow : (h : ℕ) (s : Slot) → IsThin h s → 2 ≤ h → width_of s.below ≡ 7
 narrow h s thin above = thin_of s.below thin.thin (omega (arith, thin.summed.height_is))
 
 pub pair_split : (slots : List Slot) (left : ℕ) (d : Slot) → left + 1 < length slots → slots ≡ take left slots ++ (get_or slots left d ∷ get_or slots (left + 1) d ∷ drop (left + 1 + 1) slots)
@@ -79,11 +83,11 @@ thin_pair h at left slots d thin place within =
           let two = thin.others (left + 1) d within (omega (arith, e)) in
           let w = narrow h low one thin.above in
           let v = wide h high two thin.above in
-          record { above = thin.above; low_summed = one.summed; high_summed = two.summed; least = omega (arith, w, v.0); most = omega (arith, w, v.1); ordered = order }
+          record { above = thin.above; low_summed = one.summed; high_summed = two.summed; low_least = omega (arith, w); low_most = omega (arith, w); high_least = omega (arith, v.0); high_most = v.1; ordered = order }
       | inr e ↦
           let one = thin.others left d (omega arith) (omega (arith, e)) in
           let two = subst (λ k. IsThin h (get_or slots k d)) (sym e) (thin.thin d) in
           let w = narrow h high two thin.above in
           let v = wide h low one thin.above in
-          record { above = thin.above; low_summed = one.summed; high_summed = two.summed; least = omega (arith, w, v.0); most = omega (arith, w, v.1); ordered = order }
+          record { above = thin.above; low_summed = one.summed; high_summed = two.summed; low_least = omega (arith, v.0); low_most = v.1; high_least = omega (arith, w); high_most = omega (arith, w); ordered = order }
     ]

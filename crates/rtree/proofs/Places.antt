@@ -65,7 +65,7 @@ grown-entries p a m n c put low high =
     let e : (x : List Slot) → all_entries (a ++ (x ++ c)) ≡ all_entries a ++ (all_entries x ++ all_entries c) = λ x. entries-append a (x ++ c) ∙ ap (λ es. all_entries a ++ es) (entries-append x c) in
     subst (λ es. IsPut p es (all_entries (a ++ (n ++ c)))) (sym (e m)) (subst (λ es. IsPut p (all_entries a ++ (all_entries m ++ all_entries c)) es) (sym (e n)) (put-between p (all_entries a) (all_entries m) (all_entries n) (all_entries c) low high' put))
 
-pub grown-node : (h room room' : ℕ) (p : Pair) (a m n c : List Slot) → IsNode h (a ++ (m ++ c)) room → All (IsSlot h) n → IsPut p (all_entries (a ++ (m ++ c))) (all_entries (a ++ (n ++ c))) → 20 ≤ room' → IsNode h (a ++ (n ++ c)) room'
+pub grown-node : (h room room' : ℕ) (p : Pair) (a m n c : List Slot) → IsNode h (a ++ (m ++ c)) room → All (IsSlot h) n → IsPut p (all_entries (a ++ (m ++ c))) (all_entries (a ++ (n ++ c))) → 17 ≤ room' → IsNode h (a ++ (n ++ c)) room'
 grown-node h room room' p a m n c node each put roomy = record {
   each = All-append (IsSlot h) a (n ++ c) (all-left (IsSlot h) a (m ++ c) node.each) (All-append (IsSlot h) n c each (all-right (IsSlot h) m c (all-right (IsSlot h) a (m ++ c) node.each)));
   ordered = put-ordered p (all_entries (a ++ (m ++ c))) (all_entries (a ++ (n ++ c))) put node.ordered;

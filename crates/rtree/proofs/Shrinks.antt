@@ -38,7 +38,7 @@ leaf_found slots p k at s place next read test =
     let low : IsAtMost s.first p = subst (λ t. IsAtMost t.first p) (sym read) (subst (λ n. IsAtMost (get_or slots n s).first p) same (place.before s (omega arith))) in
     at_most-antisymm s.first p low (record { not_less = test })
 
-pub leaf_shrinks : (h room room' : ℕ) (slots : List Slot) (p : Pair) (at : ℕ) (s : Slot) → IsNode h slots room → at < length slots → s ≡ get_or slots at s → s.below ≡ None → s.first ≡ p → 20 ≤ room' → Shrinks h p slots (remove slots at) room'
+pub leaf_shrinks : (h room room' : ℕ) (slots : List Slot) (p : Pair) (at : ℕ) (s : Slot) → IsNode h slots room → at < length slots → s ≡ get_or slots at s → s.below ≡ None → s.first ≡ p → 17 ≤ room' → Shrinks h p slots (remove slots at) room'
 leaf_shrinks h room room' slots p at s node within read none first roomy =
     let a = take at slots in
     let c = drop (at + 1) slots in
@@ -74,7 +74,7 @@ inner_there slots p at s t n within read below w =
     let all = shrunk-entries p a (s ∷ []) (t ∷ []) c one in
     subst (λ xs. IsWith p (all_entries xs) (all_entries slots)) (sym (set_one slots at t within)) (subst (λ xs. IsWith p (all_entries (a ++ (t ∷ c))) (all_entries xs)) whole all)
 
-pub inner_shrinks : (h room room' : ℕ) (slots : List Slot) (p : Pair) (at : ℕ) (s t : Slot) (n : Subtree) → IsNode h slots room → at < length slots → s ≡ get_or slots at s → s.below ≡ Some n → IsWith p (slot_entries t) n.entries → IsSlot h t → 20 ≤ room' → Shrinks h p slots (set slots at t) room'
+pub inner_shrinks : (h room room' : ℕ) (slots : List Slot) (p : Pair) (at : ℕ) (s t : Slot) (n : Subtree) → IsNode h slots room → at < length slots → s ≡ get_or slots at s → s.below ≡ Some n → IsWith p (slot_entries t) n.entries → IsSlot h t → 17 ≤ room' → Shrinks h p slots (set slots at t) room'
 inner_shrinks h room room' slots p at s t n node within read below w slot roomy =
     let there = inner_there slots p at s t n within read below w in
     record {

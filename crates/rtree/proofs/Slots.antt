@@ -9,7 +9,7 @@ use Rattle.planar_geom.specs.Points.{Bounds, box_round_both}
 use Rattle.rtree.specs.Pairs.{Pair, IsInside, IsOrdered}
 use Rattle.rtree.specs.Subtrees.{Subtree, entries_at, nodes_of, height_of, IsFull, IsRoot}
 use Rattle.rtree.specs.Slots.{slot_entries, all_entries, all_nodes, subtree, IsSlot, IsNode}
-use Rattle.rtree.proofs.Lists.{ordered-left, ordered-right}
+use Rattle.rtree.proofs.Lists.{all-left, all-right, ordered-left, ordered-right}
 use Rattle.rtree.proofs.Insides.{inside-first, inside-second}
 
 pub entries-append : (xs ys : List Slot) → all_entries (xs ++ ys) ≡ all_entries xs ++ all_entries ys
@@ -24,7 +24,7 @@ pub begins-append : (x : Pair) (xs ys : List Pair) → xs ≡ x ∷ drop 1 xs �
 begins-append x [] ys h = absurd cc
 begins-append x (z ∷ zs) ys h = let e : z ≡ x = cc in ap (λ w. w ∷ (zs ++ ys)) e
 
-few_at : (first : Pair) (below : Option Subtree) → IfSome below IsFull → 3 * nodes_of below + 1 ≤ length (entries_at first below)
+few_at : (first : Pair) (below : Option Subtree) → IfSome below IsFull → 7 * nodes_of below + 1 ≤ length (entries_at first below)
 few_at first None h = omega arith
 few_at first (Some n) h = h.few_nodes
 
@@ -36,7 +36,7 @@ many_at : (first : Pair) (below : Option Subtree) → IfSome below IsFull → 2 
 many_at first None h = omega arith
 many_at first (Some n) h = h.many
 
-pub few_all : (h : ℕ) (slots : List Slot) → All (IsSlot h) slots → 3 * all_nodes slots + length slots ≤ length (all_entries slots)
+pub few_all : (h : ℕ) (slots : List Slot) → All (IsSlot h) slots → 7 * all_nodes slots + length slots ≤ length (all_entries slots)
 few_all h [] each = omega arith
 few_all h (s ∷ slots) each =
     omega (arith, length-append (slot_entries s) (all_entries slots), few_at s.first s.below (All-head (IsSlot h) s slots each).full, few_all h slots (All-tail (IsSlot h) s slots each))
@@ -59,11 +59,11 @@ height_low h (s ∷ slots) each some =
 power : (h k : ℕ) → h ≡ k + 1 → 2 ^ h ≡ 2 * 2 ^ k
 power h k e = subst (λ n. 2 ^ n ≡ 2 * 2 ^ k) (sym e) (rw (add-one) (omega (arith, two-pow-succ k)))
 
-pub full_of : (h : ℕ) (slots : List Slot) → All (IsSlot h) slots → 4 ≤ length slots → length slots ≤ 16 → IsFull (subtree h slots)
+pub full_of : (h : ℕ) (slots : List Slot) → All (IsSlot h) slots → 8 ≤ length slots → length slots ≤ 16 → IsFull (subtree h slots)
 full_of h slots each least most =
     let low = height_low h slots each (omega arith) in
     let k : h ≡ (h - 1) + 1 = omega (arith, low.0) in
-    let wide : 4 * 2 ^ (h - 1) ≤ length slots * 2 ^ (h - 1) = mul-le-mul_right (2 ^ (h - 1)) least in
+    let wide : 8 * 2 ^ (h - 1) ≤ length slots * 2 ^ (h - 1) = mul-le-mul_right (2 ^ (h - 1)) least in
     record {
       least = least;
       most = most;
@@ -114,23 +114,42 @@ entries_parts n slots = sym (entries-append (take n slots) (drop n slots)) ∙ a
 pub nodes_parts : (n : ℕ) (slots : List Slot) → all_nodes (take n slots) + all_nodes (drop n slots) ≡ all_nodes slots
 nodes_parts n slots = sym (nodes-append (take n slots) (drop n slots)) ∙ ap all_nodes (take-append-drop n slots)
 
-pub part_left : (h n room room' : ℕ) (slots : List Slot) → IsNode h slots room → 20 ≤ room' → IsNode h (take n slots) room'
+pub part_left : (h n room room' : ℕ) (slots : List Slot) → IsNode h slots room → 17 ≤ room' → IsNode h (take n slots) room'
 part_left h n room room' slots node roomy = record {
   each = All-take (IsSlot h) n slots node.each;
   ordered = ordered-left (all_entries (take n slots)) (all_entries (drop n slots)) (subst IsOrdered (sym (entries_parts n slots)) node.ordered);
   roomy = roomy;
 }
 
-pub part_right : (h n room room' : ℕ) (slots : List Slot) → IsNode h slots room → 20 ≤ room' → IsNode h (drop n slots) room'
+pub part_right : (h n room room' : ℕ) (slots : List Slot) → IsNode h slots room → 17 ≤ room' → IsNode h (drop n slots) room'
 part_right h n room room' slots node roomy = record {
   each = All-drop (IsSlot h) n slots node.each;
   ordered = ordered-right (all_entries (take n slots)) (all_entries (drop n slots)) (subst IsOrdered (sym (entries_parts n slots)) node.ordered);
   roomy = roomy;
 }
 
-pub joined : (h k room room' room'' : ℕ) (low high : List Slot) → IsNode h low room → IsNode k high room' → h ≡ k → IsOrdered (all_entries low ++ all_entries high) → 20 ≤ room'' → IsNode h (low ++ high) room''
+pub joined : (h k room room' room'' : ℕ) (low high : List Slot) → IsNode h low room → IsNode k high room' → h ≡ k → IsOrdered (all_entries low ++ all_entries high) → 17 ≤ room'' → IsNode h (low ++ high) room''
 joined h k room room' room'' low high one two same order roomy = record {
   each = All-append (IsSlot h) low high one.each (subst (λ n. All (IsSlot n) high) (sym same) two.each);
   ordered = subst IsOrdered (sym (entries-append low high)) order;
   roomy = roomy;
 }
+
+-- the first of the slots of a node, and the others
+pub front_node : (h room room' : ℕ) (a b : List Slot) → IsNode h (a ++ b) room → 17 ≤ room' → IsNode h a room'
+front_node h room room' a b node roomy = record {
+  each = all-left (IsSlot h) a b node.each;
+  ordered = ordered-left (all_entries a) (all_entries b) (subst IsOrdered (entries-append a b) node.ordered);
+  roomy = roomy;
+}
+
+pub back_node : (h room room' : ℕ) (a b : List Slot) → IsNode h (a ++ b) room → 17 ≤ room' → IsNode h b room'
+back_node h room room' a b node roomy = record {
+  each = all-right (IsSlot h) a b node.each;
+  ordered = ordered-right (all_entries a) (all_entries b) (subst IsOrdered (entries-append a b) node.ordered);
+  roomy = roomy;
+}
+
+-- two parts of so many slots, each a node, have enough entries for both
+pub split_full : (h n : ℕ) (slots : List Slot) → All (IsSlot h) slots → 17 ≤ length slots → 7 * ((all_nodes (take n slots) + 1) + (all_nodes (drop n slots) + 1)) + 2 ≤ length (all_entries (take n slots) ++ all_entries (drop n slots))
+split_full h n slots each wide = rw (entries_parts n slots) (omega (arith, few_all h slots each, nodes_parts n slots))

@@ -19,12 +19,13 @@ pair b n = record { bounds = b; id = n }
 abbrev pub point_cmp : Point → Point → Ordering
 point_cmp = then_cmp (on (λ p. p.x) int_cmp) (on (λ p. p.y) int_cmp)
 
+-- pairs by the box, then by the number
+abbrev pub box_cmp : Pair → Pair → Ordering
+box_cmp = then_cmp (on (λ p. p.bounds.min) point_cmp) (then_cmp (on (λ p. p.bounds.max) point_cmp) (on (λ p. p.id) nat_cmp))
+
 -- pairs by the place of the box on the curve, then by the box, then by the number
 unfoldable pub pair_cmp : Pair → Pair → Ordering
-pair_cmp =
-    then_cmp
-    (on (λ p. box_place p.bounds) nat_cmp)
-    (then_cmp (on (λ p. p.bounds.min) point_cmp) (then_cmp (on (λ p. p.bounds.max) point_cmp) (on (λ p. p.id) nat_cmp)))
+pair_cmp = then_cmp (on (λ p. box_place p.bounds) nat_cmp) box_cmp
 
 -- a stands before b
 pub record IsBefore (a b : Pair) : Type 0 where

@@ -33,11 +33,11 @@ pub record IsSlot (height : ℕ) (s : Slot) : Type 0 where
   pub summed : IsSummed height s
   pub full : IfSome s.below IsFull
 
--- the slots of a node stand in order, in a list with room for two nodes that are joined
+-- the slots of a node stand in order, in a list with room for one more than a node holds
 pub record IsNode (height : ℕ) (slots : List Slot) (room : ℕ) : Type 0 where
   pub each : All (IsSlot height) slots
   pub ordered : IsOrdered (all_entries slots)
-  pub roomy : 20 ≤ room
+  pub roomy : 17 ≤ room
 
 -- k is how many slots begin with a pair that is at most p
 pub record IsPlaceFor (slots : List Slot) (p : Pair) (k : ℕ) : Type 0 where
@@ -48,7 +48,7 @@ pub record IsPlaceFor (slots : List Slot) (p : Pair) (k : ℕ) : Type 0 where
 -- a slot over a node that has lost one slot too many
 pub record IsThin (height : ℕ) (s : Slot) : Type 0 where
   pub summed : IsSummed height s
-  pub thin : IfSome s.below (λ n. n.width ≡ 3)
+  pub thin : IfSome s.below (λ n. n.width ≡ 7)
 
 -- of the slots of a node above leaves, one has lost a slot too many
 pub record IsThinAt (height : ℕ) (slots : List Slot) (at : ℕ) : Type 0 where
@@ -69,6 +69,8 @@ pub record IsThinPair (height : ℕ) (low high : Slot) : Type 0 where
   pub above : 2 ≤ height
   pub low_summed : IsSummed height low
   pub high_summed : IsSummed height high
-  pub least : 7 ≤ width_of low.below + width_of high.below
-  pub most : width_of low.below + width_of high.below ≤ 20
+  pub low_least : 7 ≤ width_of low.below
+  pub low_most : width_of low.below ≤ 16
+  pub high_least : 7 ≤ width_of high.below
+  pub high_most : width_of high.below ≤ 16
   pub ordered : IsOrdered (all_entries (low ∷ high ∷ []))

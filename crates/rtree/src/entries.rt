@@ -3,7 +3,7 @@
 ghost use Rattle.std.specs.Prelude.{◌≡◌, ◌<◌, ◌≤◌, ◌^◌, ◌*◌};
 ghost use Rattle.std.specs.Ordering.{is_lt};
 ghost use Rattle.planar_geom.specs.Points.{IsBox};
-ghost use Rattle.rtree.specs.Pairs.{pair, point_cmp, pair_cmp};
+ghost use Rattle.rtree.specs.Pairs.{pair, point_cmp, box_cmp, pair_cmp};
 ghost use Rattle.rtree.specs.Curve.{box_place as place_of_box, curve_place as place_on_curve, turned as turned_point};
 
 use planar_geom::{BBox, MAX_COORD, Pt, centre};
@@ -66,13 +66,20 @@ impl Entry {
     pub(crate) fn is_before(&self, other: &Entry) -> bool
         ensures { result ≡ is_lt (pair_cmp self.now other.now) }
     {
-        let order = self
-            .place
-            .cmp(&other.place)
-            .then(point_order(self.bounds.min(), other.bounds.min()))
+        match self.place.cmp(&other.place) {
+            Ordering::Less => true,
+            Ordering::Greater => false,
+            Ordering::Equal => self.order_in_place(other).is_lt(),
+        }
+    }
+
+    // The order of entries at one place of the curve.
+    fn order_in_place(&self, other: &Entry) -> Ordering
+        ensures { result ≡ box_cmp self.now other.now }
+    {
+        point_order(self.bounds.min(), other.bounds.min())
             .then(point_order(self.bounds.max(), other.bounds.max()))
-            .then(self.id.cmp(&other.id));
-        order.is_lt()
+            .then(self.id.cmp(&other.id))
     }
 }
 

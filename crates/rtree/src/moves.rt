@@ -26,7 +26,30 @@ pub(crate) fn move_tail<T: Drop>(from: &mut Vec<T>, keep: usize, to: &mut Vec<T>
 {
     while from.len() > keep {
         if let Some(item) = from.pop() {
-            put(to, 0, item);
+            to.push_reserved(item);
+        }
+    }
+    to.reverse();
+}
+
+/// Gives whichever of two lists side by side has fewer than `least` items its neighbour's nearest.
+pub(crate) fn even<T: Drop>(low: &mut Vec<T>, high: &mut Vec<T>, least: usize)
+    requires room { least ≤ vec_capacity low.old }
+    requires high_room { least ≤ vec_capacity high.old }
+    requires low_some { 1 ≤ vec_len low.old }
+    requires high_some { 1 ≤ vec_len high.old }
+    ensures items { low.new.items ++ high.new.items ≡ low.old.items ++ high.old.items }
+    ensures low_thin { vec_len low.old < least → (vec_len low.new ≡ vec_len low.old + 1) × (vec_len high.new + 1 ≡ vec_len high.old) }
+    ensures high_thin { least ≤ vec_len low.old → vec_len high.old < least → (vec_len low.new + 1 ≡ vec_len low.old) × (vec_len high.new ≡ vec_len high.old + 1) }
+    ensures no_thin { least ≤ vec_len low.old → least ≤ vec_len high.old → (vec_len low.new ≡ vec_len low.old) × (vec_len high.new ≡ vec_len high.old) }
+    ensures low_room { vec_capacity low.old ≤ vec_capacity low.new }
+    ensures high_room { vec_capacity high.old ≤ vec_capacity high.new }
+{
+    if low.len() < least {
+        low.push_reserved(high.remove(0));
+    } else if high.len() < least {
+        if let Some(last) = low.pop() {
+            put(high, 0, last);
         }
     }
 }

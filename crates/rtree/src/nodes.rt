@@ -1,15 +1,15 @@
-//! Nodes: each holds its slots in order, at least four unless it is the root, at most sixteen, and all
+//! Nodes: each holds its slots in order, at least eight unless it is the root, at most sixteen, and all
 //! leaves stand at one depth.
 
 ghost use Rattle.std.specs.Prelude.{◌≡◌, ℕ, ◌≢◌, ◌≤◌, ◌<◌, ◌+◌, ◌-◌, ◌⊎◌, ◌*◌, ◌^◌, ◌++◌, [], ◌∷◌, Some, None, true, false, min, take, drop, length, All, IfSome, MatchOption, OnOk, OnErr, vec_capacity, vec_len};
 ghost use Rattle.planar_geom.specs.Points.{IsBox};
 ghost use Rattle.rtree.specs.Pairs.{IsInside, IsOrdered, IsWith, IsPut, IsPart, ids_meeting};
 ghost use Rattle.rtree.specs.Ledgers.{IsRead};
-ghost use Rattle.rtree.specs.Subtrees.{entries_of, nodes_of, IsFull, IsRoot, IsHalved, IsRemoved};
+ghost use Rattle.rtree.specs.Subtrees.{entries_of, nodes_of, IsFull, IsRoot, IsHalved, IsSplitFull, IsRemoved};
 
 use crate::entries::Entry;
 use crate::ids::Ids;
-use crate::moves::{move_all, move_tail, put};
+use crate::moves::{even, move_all, move_tail, put};
 use crate::pool::Pool;
 use crate::steps::{Ledger, Steps};
 use planar_geom::{BBox, NoMemory};
@@ -18,9 +18,9 @@ use std::marker::Model;
 /// The most that a node holds.
 pub(crate) const MOST: usize = 16;
 /// The least that a node other than the root holds.
-pub(crate) const LEAST: usize = 4;
-/// The most that a node holds while two are joined.
-pub(crate) const ROOM: usize = 20;
+pub(crate) const LEAST: usize = 8;
+/// The most that a node holds before it is halved.
+pub(crate) const ROOM: usize = 17;
 
 /// An entry, or a node with its first entry and the least box round its entries.
 #[cycle(node)]
@@ -103,7 +103,7 @@ impl Node {
     /// A leaf of one entry.
     pub(crate) fn leaf(mut slots: Vec<Slot>, entry: Entry) -> Node
         requires empty { slots.items ≡ [] }
-        requires roomy { 20 ≤ vec_capacity slots }
+        requires roomy { 17 ≤ vec_capacity slots }
         ensures entries { result.entries ≡ entry ∷ [] }
         ensures nodes { result.nodes ≡ 1 }
         ensures root { IsRoot result }
@@ -120,7 +120,7 @@ impl Node {
         steps: &mut Steps<L>,
     ) -> Node
         requires empty { slots.items ≡ [] }
-        requires roomy { 20 ≤ vec_capacity slots }
+        requires roomy { 17 ≤ vec_capacity slots }
         requires halves { IsHalved low (Some high) }
         requires ordered { IsOrdered (low.entries ++ high.entries) }
         requires fits { low.height + 1 < 2 ^ 64 }
@@ -157,7 +157,7 @@ impl Node {
         requires { 1 ≤ self.now.width }
         ensures begins { self.now.entries ≡ result.0 ∷ drop 1 self.now.entries }
         ensures covers { All (λ p. IsInside result.1 p.bounds) self.now.entries }
-        ensures full { 4 ≤ self.now.width → self.now.width ≤ 16 → IsFull self.now }
+        ensures full { 8 ≤ self.now.width → self.now.width ≤ 16 → IsFull self.now }
         ensures cost { steps.new.count ≤ steps.old.count + 1 }
     {
         steps.tick();
@@ -170,7 +170,7 @@ impl Node {
     }
 
     fn into_slot<L: Ledger>(self, steps: &mut Steps<L>) -> Slot
-        requires least { 4 ≤ self.width }
+        requires least { 8 ≤ self.width }
         requires most { self.width ≤ 16 }
         ensures slot { IsSlot (self.height + 1) result }
         ensures below { result.below ≡ Some self }
@@ -186,14 +186,14 @@ impl Node {
 
     // Hands out the upper half where there are too many slots.
     fn halve(&mut self, pool: &mut Pool) -> Option<Node>
-        requires spare { 1 ≤ pool.old.spare }
-        requires most { self.old.width ≤ 18 }
+        requires spare { 17 ≤ self.old.width → 1 ≤ pool.old.spare }
+        requires most { self.old.width ≤ 17 }
         ensures halved { IsHalved self.new result }
         ensures height { self.new.height ≡ self.old.height }
         ensures width { min 8 self.old.width ≤ self.new.width }
         ensures entries { self.new.entries ++ entries_of result ≡ self.old.entries }
         ensures lists { pool.new.spare + (self.new.nodes + nodes_of result) ≡ pool.old.spare + self.old.nodes }
-        ensures taken { pool.old.spare ≤ pool.new.spare + 1 }
+        ensures few_nodes { IsSplitFull self.new result }
         ensures ordered { IsOrdered self.old.entries }
         ensures room { pool.new.room ≡ pool.old.room }
         ensures root { 1 ≤ self.new.width → (1 < self.new.height → 2 ≤ self.new.width) → IsRoot self.new }
@@ -210,35 +210,34 @@ impl Node {
         })
     }
 
-    // Takes in what another node holds, and hands out the upper half where that is too much for one.
-    fn join(&mut self, other: Node, pool: &mut Pool) -> Option<Node>
+    // Takes in what the node behind holds, or hands that node back where it is too much for one: the one
+    // that has too little then gets its neighbour's nearest.
+    fn join(&mut self, mut other: Node, pool: &mut Pool) -> Option<Node>
         requires level { self.old.height ≡ other.height }
-        requires least { 7 ≤ self.old.width + other.width }
-        requires most { self.old.width + other.width ≤ 20 }
+        requires least { 7 ≤ self.old.width }
+        requires most { self.old.width ≤ 16 }
+        requires other_least { 7 ≤ other.width }
+        requires other_most { other.width ≤ 16 }
         requires ordered { IsOrdered (self.old.entries ++ other.entries) }
         requires room { pool.old.spare < pool.old.room }
         ensures halved { IsHalved self.new result }
         ensures height { self.new.height ≡ self.old.height }
-        ensures width { 7 ≤ self.new.width }
+        ensures width { 8 ≤ self.new.width }
         ensures entries { self.new.entries ++ entries_of result ≡ self.old.entries ++ other.entries }
         ensures lists { pool.new.spare + (self.new.nodes + nodes_of result) ≡ pool.old.spare + (self.old.nodes + other.nodes) }
         ensures room { pool.new.room ≡ pool.old.room }
     {
-        let Node {
-            height,
-            slots: mut upper,
-        } = other;
-        move_all(&mut upper, &mut self.slots);
-        if self.slots.len() <= MOST {
-            pool.give(upper);
+        if self.slots.len() + other.slots.len() <= MOST {
+            let Node {
+                slots: mut emptied,
+                ..
+            } = other;
+            move_all(&mut emptied, &mut self.slots);
+            pool.give(emptied);
             return None;
         }
-        let keep = self.slots.len() / 2;
-        move_tail(&mut self.slots, keep, &mut upper);
-        Some(Node {
-            height,
-            slots: upper,
-        })
+        even(&mut self.slots, &mut other.slots, LEAST);
+        Some(other)
     }
 
     /// Puts an entry in its place, and hands out the upper half where the node was full.
@@ -250,14 +249,14 @@ impl Node {
     ) -> Option<Node>
         requires least { 1 ≤ self.old.width }
         requires most { self.old.width ≤ 16 }
-        requires spare { self.old.height ≤ pool.old.spare }
+        requires spare { length self.old.entries + 3 ≤ 7 * (pool.old.spare + self.old.nodes) + min self.old.width 8 }
         ensures halved { IsHalved self.new result }
         ensures height { self.new.height ≡ self.old.height }
         ensures width { min 8 self.old.width ≤ self.new.width }
         ensures entries { IsPut entry self.old.entries (self.new.entries ++ entries_of result) }
         ensures lists { pool.new.spare + (self.new.nodes + nodes_of result) ≡ pool.old.spare + self.old.nodes }
         ensures ordered { IsOrdered (self.new.entries ++ entries_of result) }
-        ensures taken { pool.old.spare ≤ pool.new.spare + self.old.height }
+        ensures few_nodes { IsSplitFull self.new result }
         ensures room { pool.new.room ≡ pool.old.room }
         ensures root { 1 ≤ self.new.width → (1 < self.new.height → 2 ≤ self.new.width) → IsRoot self.new }
         ensures cost { steps.new.count ≤ steps.old.count + 3 * self.old.height }
@@ -391,12 +390,17 @@ ghost use Rattle.rtree.specs.Slots.{IsPlaceFor, IsThinAt, IsThinPair, slots_of, 
 fn place_for(slots: &[Slot], entry: &Entry) -> usize
     ensures { IsPlaceFor slots.now entry.now result }
 {
-    for (i, slot) in slots.iter().enumerate() {
-        if entry.is_before(&slot.first) {
-            return i;
+    let mut low = 0;
+    let mut high = slots.len();
+    while low < high {
+        let middle = low + (high - low) / 2;
+        if entry.is_before(&slots[middle].first) {
+            high = middle;
+        } else {
+            low = middle + 1;
         }
     }
-    slots.len()
+    low
 }
 
 // The place of a slot, or that before it where no other slot stands behind.

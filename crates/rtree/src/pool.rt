@@ -22,7 +22,7 @@ impl Model for Pool {
 
     ghost view = { λ p. record { spare = vec_len p.lists; room = vec_capacity p.lists } };
 
-    ghost invariant = { λ p. All (λ l. (l.items ≡ []) × (20 ≤ vec_capacity l)) p.lists.items };
+    ghost invariant = { λ p. All (λ l. (l.items ≡ []) × (17 ≤ vec_capacity l)) p.lists.items };
 }
 
 impl Pool {
@@ -44,7 +44,7 @@ impl Pool {
     pub(crate) fn take(&mut self) -> Vec<Slot>
         requires { 1 ≤ self.old.spare }
         ensures empty { result.items ≡ [] }
-        ensures roomy { 20 ≤ vec_capacity result }
+        ensures roomy { 17 ≤ vec_capacity result }
         ensures spare { self.new.spare + 1 ≡ self.old.spare }
         ensures room { self.new.room ≡ self.old.room }
     {
@@ -58,7 +58,7 @@ impl Pool {
     pub(crate) fn give(&mut self, list: Vec<Slot>)
         requires room { self.old.spare < self.old.room }
         requires empty { list.items ≡ [] }
-        requires roomy { 20 ≤ vec_capacity list }
+        requires roomy { 17 ≤ vec_capacity list }
         ensures spare { self.new.spare ≡ self.old.spare + 1 }
         ensures room { self.new.room ≡ self.old.room }
     {

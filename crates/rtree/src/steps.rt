@@ -1,6 +1,6 @@
 //! The count of nodes that are visited, and what keeps it at run time.
 
-ghost use Rattle.std.specs.Prelude.{◌≡◌, ◌+◌, ◌-◌, ◌^◌, min, Some, None};
+ghost use Rattle.std.specs.Prelude.{◌≡◌, ◌+◌, ◌-◌, ◌^◌, min, unwrap_or, Some, None};
 ghost use Rattle.rtree.specs.Ledgers.{Tells};
 
 /// What is told of each node that is visited.
@@ -10,6 +10,10 @@ pub trait Ledger {
 
     // Of how many visits it was told, up to the greatest u64, where it keeps that.
     ghost told: { Self → Option ℕ };
+
+    /// Of how many visits it was told, where it keeps that.
+    fn visits(&self) -> Option<u64>
+        ensures { result ≡ told self.now };
 
     /// A node is visited.
     fn visit(&mut self)
@@ -22,6 +26,10 @@ pub struct NoLedger;
 
 impl Ledger for NoLedger {
     ghost told = { λ l. None };
+
+    fn visits(&self) -> Option<u64> {
+        None
+    }
 
     fn visit(&mut self) {}
 }
@@ -51,13 +59,18 @@ impl Visits {
 impl Ledger for Visits {
     ghost told = { λ v. Some v.count };
 
+    fn visits(&self) -> Option<u64> {
+        Some(self.count)
+    }
+
     fn visit(&mut self) {
         self.count = self.count.saturating_add(1);
     }
 }
 
-/// The number of nodes visited, up to the greatest u64, and a ledger that is told of each of them and of
-/// nothing else: where it tells how many there were, it tells that number.
+/// A count of nodes visited, up to the greatest u64, and a ledger that is told of each of them and of
+/// nothing else. The count begins at what the ledger was told before, so that the two stay equal where
+/// the ledger keeps a count.
 #[derive(Drop)]
 pub struct Steps<L: Ledger> {
     count: u64,
@@ -66,13 +79,13 @@ pub struct Steps<L: Ledger> {
 }
 
 impl<L: Ledger> Steps<L> {
-    /// No node visited yet, by a ledger that was told of none.
+    /// Goes on from what the ledger was told before, or from 0 where it does not keep that.
     pub fn new(ledger: L) -> Steps<L>
-        requires fresh { Tells (L.told ledger) 0 }
-        ensures count { result.count ≡ 0 }
+        ensures count { result.count ≡ unwrap_or (L.told ledger) 0 }
         ensures ledger { result.ledger ≡ ledger }
     {
-        Steps { count: 0, ledger }
+        let count = ledger.visits().unwrap_or(0);
+        Steps { count, ledger }
     }
 
     /// The ledger.

@@ -25,6 +25,10 @@ pub struct Tree {
     lists: usize,
 }
 
+/// For how many pairs each list is counted on: a node other than the root holds one more at least, and the
+/// pairs above are as many as make up for the nodes above leaves.
+const PAIRS_A_LIST: usize = 7;
+
 impl Model for Tree {
     ghost use Rattle.rtree.specs.Trees.{Seen, seen, IsTree};
 
@@ -60,9 +64,10 @@ impl Tree {
         let Some(pairs) = self.len.checked_add(extra) else {
             return Err(NoMemory);
         };
-        let Some(wanted) = pairs.checked_add(1) else {
+        let Some(rounded) = pairs.checked_add(PAIRS_A_LIST) else {
             return Err(NoMemory);
         };
+        let wanted = rounded / PAIRS_A_LIST;
         self.pool.reserve(wanted)?;
         while self.lists < wanted {
             self.pool.add()?;
@@ -132,7 +137,7 @@ impl Tree {
 // A root with an entry more.
 fn grown<L: Ledger>(mut root: Node, entry: Entry, pool: &mut Pool, steps: &mut Steps<L>) -> Node
     requires root { IsRoot root }
-    requires spare { root.height < pool.old.spare }
+    requires spare { length root.entries + 2 ≤ 7 * (pool.old.spare + root.nodes) }
     requires fits { root.height + 1 < 2 ^ 64 }
     ensures root { IsRoot result }
     ensures entries { IsWith entry root.entries result.entries }

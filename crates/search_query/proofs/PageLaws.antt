@@ -1,11 +1,11 @@
 -- A page, told from the first objects that match.
-use Rattle.std.proofs.Common.{◌≡◌, ◌+◌, ◌<◌, ◌≤◌, ℕ, Bool, true, false, not, sym, ap, ◌∙◌, List, [], ◌++◌, length, map, take, drop, arith, length-append}
+use Rattle.std.proofs.Common.{◌≡◌, ◌+◌, ◌-◌, min, ◌<◌, ◌≤◌, ℕ, Bool, true, false, not, sym, ap, ◌∙◌, List, [], ◌++◌, length, map, take, drop, arith, length-append}
 use Rattle.std.specs.Prelude.{filter, nat_lt, if◌then◌else◌}
 use Rattle.std.proofs.lemmas.Bool.Decides.{nat_tests}
-use Rattle.std.proofs.lemmas.List.{length-drop, take-append-drop, take-append-le, drop-append-le}
+use Rattle.std.proofs.lemmas.List.{length-drop, length-take, take-append-drop, take-append-le, drop-append-le}
 use Rattle.std.proofs.lemmas.List.Elements.{filter-append}
 use Rattle.ordered_lists.specs.Reading.{both_of}
-use Rattle.fence_model.specs.Queries.{in_order, matches, meets_query, page_items, page_ids, is_count}
+use Rattle.fence_model.specs.Queries.{in_order, matches, meets_query, page_items, page_ids, page_cursor, is_count}
 use Rattle.world_data.specs.declared.objects.Object.{Object}
 use Rattle.world_data.specs.declared.queries.Query.{Query}
 use Rattle.search_query.specs.Pages.{is_past, IsEnough}
@@ -50,3 +50,13 @@ count_all q all n is = record {
   within = omega arith;
   exact = λ other. is;
 }
+
+-- where the next page begins, told from its cursor and limit
+pub next_page : (q : Query) (all : List Object) (found : ℕ) → IsEnough q all found → is_count q.shown ≡ false → (if nat_lt (q.cursor + q.limit) found then q.cursor + q.limit else 0) ≡ page_cursor q all
+next_page q all found enough paged =
+    let exact : nat_lt (q.cursor + q.limit) found ≡ false → found ≡ length all = λ behind. enough.exact (rw paged behind) in
+    next q.cursor q.limit found (length all) (length (page_items q all)) enough.within exact (length-take q.limit (drop q.cursor all) ∙ ap (min q.limit) (length-drop q.cursor all))
+  where
+    next : (cursor limit found all items : ℕ) → found ≤ all → (nat_lt (cursor + limit) found ≡ false → found ≡ all) → items ≡ min limit (all - cursor)
+        → (if nat_lt (cursor + limit) found then cursor + limit else 0) ≡ (if nat_lt (cursor + items) all then cursor + items else 0)
+    next cursor limit found all items within exact count = grind (arith, nat_tests)

@@ -4,7 +4,8 @@
 mod matches;
 mod pages;
 
-pub use pages::page;
+pub use matches::meets_query;
+pub use pages::{add_id, end_page, is_count, page};
 
 #[cfg(test)]
 mod tests;

@@ -13,7 +13,7 @@ use planar_geom::{Area, Shape, box_dist2, box_of, intersects, within};
 use world_data::{Kind, Object, Query, Rule};
 
 /// Whether the object meets MATCH, the tests and the area of the query.
-pub(crate) fn meets_query(query: &Query, object: &Object) -> bool
+pub fn meets_query(query: &Query, object: &Object) -> bool
     requires { is_sound_glob query.now.glob ≡ true }
     ensures { result ≡ meets_query query.now object.now }
 {

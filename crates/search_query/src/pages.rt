@@ -1,6 +1,6 @@
 //! Pages of what a query finds.
 
-ghost use Rattle.std.specs.Prelude.{◌≡◌, ◌≢◌, ◌<◌, ◌+◌, ◌^◌, ◌++◌, ◌∷◌, [], List, ◌&&◌, true, not, if◌then◌else◌, length, filter, reverse, slice_get, Some, nat_lt, nat_le, IfOk, OnOk};
+ghost use Rattle.std.specs.Prelude.{◌≡◌, ◌<◌, ◌≤◌, ◌+◌, ◌^◌, ◌++◌, ◌∷◌, [], List, ◌&&◌, true, not, if◌then◌else◌, length, filter, reverse, slice_get, Some, nat_lt, nat_le, IfOk, OnOk};
 ghost use Rattle.fence_model.specs.Queries.{IsPageOf, matches, meets_query, page_ids, is_count};
 ghost use Rattle.world_data.specs.declared.objects.Object.{Object};
 ghost use Rattle.byte_text.specs.Globs.{is_sound_glob};
@@ -22,20 +22,26 @@ pub fn page(
     into: &mut Page,
 ) -> Result<(), NoMemory>
     requires pattern { is_sound_glob query.now.glob ≡ true }
-    requires by_id { query.now.rule ≢ Rule.Nearest }
     ensures { OnOk result (IsPageOf query.now (matches query.now collection.now.objects) into.new) }
 {
     into.ids.clear();
     let found = list_ids(alloc, collection, query, &mut into.ids)?;
-    if is_count(query.shown) {
-        into.count = found;
-        into.cursor = 0;
-        return Ok(());
-    }
-    let next = u64::from(query.cursor) + into.ids.len() as u64;
-    into.count = 0;
-    into.cursor = if next < found { next } else { 0 };
+    end_page(query, found, into);
     Ok(())
+}
+
+/// Notes behind the ids of a page where the next one begins, and of a count how many were found.
+pub fn end_page(query: &Query, found: u64, page: &mut Page)
+    ensures { (all : List Object) → page.old.ids ≡ page_ids query.now all → IsEnough query.now all found → IsPageOf query.now all page.new }
+{
+    if is_count(query.shown) {
+        page.count = found;
+        page.cursor = 0;
+        return;
+    }
+    let next = u64::from(query.cursor) + u64::from(query.limit);
+    page.count = 0;
+    page.cursor = if next < found { next } else { 0 };
 }
 
 // Lists the ids of a page, none of a count, and gives the number of all that is found; once one is found behind the page, the
@@ -47,7 +53,6 @@ fn list_ids(
     ids: &mut NameList,
 ) -> Result<u64, NoMemory>
     requires pattern { is_sound_glob query.now.glob ≡ true }
-    requires by_id { query.now.rule ≢ Rule.Nearest }
     requires empty { ids.old ≡ [] }
     ensures count { IfOk result (λ n. IsEnough query.now (matches query.now collection.now.objects) n) }
     ensures ids { OnOk result (ids.new ≡ page_ids query.now (matches query.now collection.now.objects)) }
@@ -119,14 +124,15 @@ fn is_on_page(query: &Query, place: u64) -> bool
     !is_count(query.shown) && first <= place && place < first + u64::from(query.limit)
 }
 
-fn is_count(shown: Shown) -> bool
+/// Whether the number alone is asked for.
+pub fn is_count(shown: Shown) -> bool
     ensures { result ≡ is_count shown }
 {
     matches!(shown, Shown::Count)
 }
 
-// Puts an id last.
-fn add_id(alloc: Global, ids: &mut NameList, id: &Name) -> Result<(), NoMemory>
+/// Puts an id last.
+pub fn add_id(alloc: Global, ids: &mut NameList, id: &Name) -> Result<(), NoMemory>
     ensures { OnOk result (ids.new ≡ ids.old ++ id.now ∷ []) }
 {
     match ids.push(id.copy(alloc)?) {

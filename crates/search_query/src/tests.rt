@@ -1,7 +1,5 @@
 //! Pages of the objects of one key.
 
-ghost use Rattle.std.specs.Prelude.{◌≢◌};
-
 use super::*;
 use byte_text::{Name, NoMemory, Text, push_u64};
 use collection::Collection;
@@ -53,9 +51,7 @@ fn answer(
     rule: Rule,
     from: (u32, u32),
     shown: Shown,
-) -> Result<Text, NoMemory>
-    requires { rule ≢ Rule.Nearest }
-{
+) -> Result<Text, NoMemory> {
     let (cursor, limit) = from;
     let query = Query {
         rule,

@@ -1,7 +1,7 @@
 -- Bytes that are fed to a reader, request by request.
-use Rattle.std.proofs.Common.{◌≡◌, ℕ, ◌+◌, ◌<◌, ◌≤◌, refl, sym, ap, ◌∙◌, subst, List, [], ◌∷◌, ◌++◌, length, true, drop, append_assoc, length-append, arith}
-use Rattle.std.specs.Prelude.{Some, None}
-use Rattle.std.proofs.lemmas.List.{append-nil}
+use Rattle.std.proofs.Common.{◌≡◌, inl, inr, ℕ, ◌+◌, ◌<◌, ◌≤◌, ◌-◌, refl, sym, ap, ◌∙◌, subst, List, [], ◌∷◌, ◌++◌, length, true, take, drop, append_assoc, length-append, length-drop, arith}
+use Rattle.std.specs.Prelude.{Some, None, map}
+use Rattle.std.proofs.lemmas.List.{append-nil, take_all}
 use Rattle.byte_text.specs.Names.{Bytes}
 use Rattle.byte_text.specs.Requests.{IsRequest, request_text}
 use Rattle.byte_text.specs.Streams.{Stream, found, begun, broken, request, stream_of, with_first, only_rest, only_fault}
@@ -13,9 +13,10 @@ use Rattle.world_model.specs.Outcomes.{is_proper}
 use Rattle.world_model.specs.Halls.{Hall}
 use Rattle.world_model.specs.declared.events.Asked.TheVariants.{Words, Broken}
 use Rattle.world_model.specs.declared.events.Event.TheVariants as event
-use Rattle.tile_top.specs.Readers.{Unread, unread_of}
+use Rattle.tile_top.specs.Readers.{Unread, unread_of, asked_by}
 use Rattle.tile_top.specs.Scripts.{Makes, Calls, FedTo}
-use Rattle.tile_top.specs.Steps.{IsBrokenOff, IsFirst, IsStep}
+use Rattle.tile_top.specs.Spent.{IsSpent, SpendsEach, FedSpent}
+use Rattle.tile_top.specs.Steps.{IsBrokenOff, BreaksOffSpent, IsFirst, IsStep}
 
 -- what is said of a stream by its front
 pub record Laws : Type 0 where
@@ -66,6 +67,23 @@ module _ (laws : Laws) (h next : Hall) (n m : ℕ) where
   last_step (Some held) new bytes out feed.Dead fed off = absurd fed
   last_step (Some held) new bytes out feed.Memory fed off = absurd off
 
+module _ (laws : Laws) (h : Hall) (n m : ℕ) where
+  -- a request was read, and its call found the log at its greatest length
+  pub first_spent : (old new : Held) (bytes : Bytes) (taken : ℕ) (words : List Bytes) → IsFed old new bytes taken (Some words) → IsSpent h (event.Call n m (Words words)) → FedSpent h n m old bytes
+  first_spent None new bytes taken words fed s = absurd fed
+  first_spent (Some held) new bytes taken words fed s =
+      let is = laws.found_first (held ++ bytes) (drop taken bytes) words fed.0 in
+      subst (λ (z : Stream). SpendsEach h (map (event.Call n m) (asked_by z))) (sym is) (inl s)
+
+  -- so did the call of the bytes' fault
+  pub last_spent : (old new : Held) (bytes : Bytes) (fault : FeedFault) → IsNotFed old new bytes fault → BreaksOffSpent h n m fault → FedSpent h n m old bytes
+  last_spent None new bytes fault fed s = subst (λ (f : FeedFault). BreaksOffSpent h n m f) fed.0 s
+  last_spent (Some held) new bytes (feed.Broken fault) fed s =
+      let is = laws.broken_fault (held ++ bytes) fault fed.0 in
+      subst (λ (z : Stream). SpendsEach h (map (event.Call n m) (asked_by z))) (sym is) (inl s)
+  last_spent (Some held) new bytes feed.Dead fed s = absurd fed
+  last_spent (Some held) new bytes feed.Memory fed s = absurd s
+
 -- a request that was read is proper
 pub proper_words : (old new : Held) (bytes : Bytes) (taken : ℕ) (words : List Bytes) → IsFed old new bytes taken (Some words) → is_proper (Words words) ≡ true
 proper_words None new bytes taken words fed = absurd fed
@@ -82,19 +100,34 @@ fed_first h mid last n m rest bytes out more left unread taken f g =
     let all : Calls h n m (with_first f.words (stream_of (drop taken bytes))) (out ++ more) last = (mid, out, more, f.made, others.0, refl) in
     (subst (λ (s : Stream). Calls h n m s (out ++ more) last) (sym f.first) all, others.1 ∙ ap (λ (s : Stream). unread_of s.ending) (sym f.first))
 
+-- the first call, and then one that finds the log so
+spent_behind : (h mid : Hall) (n m : ℕ) (rest bytes out : Bytes) (left : Unread) (taken : ℕ) → IsFirst h n m rest bytes out mid left taken → FedSpent mid n m left (drop taken bytes) → FedSpent h n m (Some rest) bytes
+spent_behind h mid n m rest bytes out left taken f s =
+    let others : FedSpent mid n m (Some []) (drop taken bytes) = subst (λ (u : Unread). FedSpent mid n m u (drop taken bytes)) f.read s in
+    subst (λ (z : Stream). SpendsEach h (map (event.Call n m) (asked_by z))) (sym f.first) (inr (mid, out, f.made, others))
+
 -- what was fed, and what is left of the bytes: what comes of those is, behind what was printed, what comes of all
 pub record Goes (old : Hall) (n m : ℕ) (unread : Unread) (bytes : Bytes) (h : Hall) (left : Unread) (rest out : Bytes) : Type 0 where
   pub goes : (more : Bytes) (next : Hall) (last : Unread) → FedTo h n m left rest more next last → FedTo old n m unread bytes (out ++ more) next last
+  pub spends : FedSpent h n m left rest → FedSpent old n m unread bytes
 
 pub goes_start : (old : Hall) (n m : ℕ) (unread : Unread) (bytes : Bytes) → Goes old n m unread bytes old unread bytes []
-goes_start old n m unread bytes = record { goes = λ more next last f. f }
+goes_start old n m unread bytes = record { goes = λ more next last f. f; spends = λ s. s }
 
 pub goes_more : (old : Hall) (n m : ℕ) (unread : Unread) (bytes : Bytes) (h mid : Hall) (left new : Unread) (rest out text : Bytes) (taken : ℕ)
     → Goes old n m unread bytes h left rest out → IsStep h n m left rest text mid new (Some taken) → Goes old n m unread bytes mid new (drop taken rest) (out ++ text)
 goes_more old n m unread bytes h mid None new rest out text taken g s = absurd s
 goes_more old n m unread bytes h mid (Some held) new rest out text taken g s = record {
   goes = λ more next last f. subst (λ (z : Bytes). FedTo old n m unread bytes z next last) (sym (append_assoc out text more)) (g.goes (text ++ more) next last (fed_first h mid next n m held rest text more new last taken s f));
+  spends = λ f. g.spends (spent_behind h mid n m held rest text new taken s f);
 }
+
+-- the bytes that are left are a piece of those before
+pub goes_piece : (old : Hall) (n m : ℕ) (unread : Unread) (bytes : Bytes) (h mid : Hall) (left new : Unread) (rest out text : Bytes) (taken : ℕ)
+    → Goes old n m unread bytes h left rest out → IsStep h n m left rest text mid new (Some taken) → Goes old n m unread bytes mid new (take (length rest - taken) (drop taken rest)) (out ++ text)
+goes_piece old n m unread bytes h mid left new rest out text taken g s =
+    let all : take (length rest - taken) (drop taken rest) ≡ drop taken rest = take_all (length rest - taken) (drop taken rest) (omega (arith, length-drop taken rest)) in
+    subst (λ (z : Bytes). Goes old n m unread bytes mid new z (out ++ text)) (sym all) (goes_more old n m unread bytes h mid left new rest out text taken g s)
 
 -- the bytes that are still to be gone over
 abbrev pub left_of : Unread → Bytes → ℕ

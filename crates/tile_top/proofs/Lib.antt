@@ -4,6 +4,8 @@ mod Shown
 mod Playing
 mod Ends
 mod Present
+mod Halting
 mod Feeding
 mod Acting
 mod Cutting
+mod OneOutput

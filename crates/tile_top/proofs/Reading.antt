@@ -5,9 +5,9 @@ use Rattle.std.proofs.lemmas.List.{append-nil}
 use Rattle.std.specs.Prelude.{Option, if◌then◌else◌, ◌==◌}
 use Rattle.std.proofs.lemmas.Bool.Decides.{nat_tests}
 use Rattle.std.specs.Io.KnownBytes.{Consumes, Keeps, IsAtEnd}
-use Rattle.tile_top.specs.declared.streams.LineEnd.TheVariants.{Line, End, TooLong, ReadFault, Memory}
+use Rattle.tile_top.specs.declared.streams.LineEnd.TheVariants.{Line, End, TooLong}
 use Rattle.tile_top.specs.TextLines.{TextLine, in_front, lines, size, max_line, max_script}
-use Rattle.tile_top.specs.Reads.{OnLine, IsOneLine}
+use Rattle.tile_top.specs.Reads.{OnLine, IsFirstLine, IsOneLine}
 
 -- the lines with these bytes in front of the first
 abbrev pub all_in_front : List ℕ → List TextLine → List TextLine
@@ -51,32 +51,27 @@ reads_more (Some text) (Some rest) None line x ne r c = absurd c
 reads_more (Some text) (Some rest) (Some left) line x ne r c = r ∙ ap (λ (z : List ℕ). all_in_front line (lines z)) c ∙ ap (all_in_front line) (plain_line x left ne) ∙ one_more line x (lines left)
 
 pub reads_line : (old mid new : Option (List ℕ)) (used : ℕ) (line : List ℕ) (x : ℕ) → x ≡ 10 → length line ≤ max_line → used + length line + 1 ≤ max_script → Reads old mid line → Consumes mid new (x ∷ []) → OnLine Line old new used (used + length line + 1) line
-reads_line None mid new used line x is le few r c = tt
-reads_line (Some text) None new used line x is le few r c = absurd r
-reads_line (Some text) (Some rest) None used line x is le few r c = absurd c
-reads_line (Some text) (Some rest) (Some left) used line x is le few r c = (
-  record { bytes = line; is_ended = true },
-  r ∙ ap (λ (z : List ℕ). all_in_front line (lines z)) c ∙ ap (all_in_front line) (feed_line x left is) ∙ at_feed line (lines left),
-  refl,
-  omega arith,
-  record { in_line = le; in_script = omega arith },
-)
+reads_line old mid new used line x is le few r c = (record { bytes = line; is_ended = true }, first old mid new r c, refl, omega arith, record { in_line = le; in_script = omega arith })
+  where
+    first : (old mid new : Option (List ℕ)) → Reads old mid line → Consumes mid new (x ∷ []) → IsFirstLine old new (record { bytes = line; is_ended = true })
+    first None mid new r c = tt
+    first (Some text) None new r c = absurd r
+    first (Some text) (Some rest) None r c = absurd c
+    first (Some text) (Some rest) (Some left) r c = r ∙ ap (λ (z : List ℕ). all_in_front line (lines z)) c ∙ ap (all_in_front line) (feed_line x left is) ∙ at_feed line (lines left)
 
 last_line : (line : List ℕ) → 0 < length line → all_in_front line [] ≡ record { bytes = line; is_ended = false } ∷ []
 last_line [] h = absurd (omega (arith, h))
 last_line (x ∷ xs) h = at_end x xs
 
 pub reads_last : (old mid new : Option (List ℕ)) (used : ℕ) (line : List ℕ) → 0 < length line → length line ≤ max_line → used + length line ≤ max_script → Reads old mid line → IsAtEnd new → Keeps mid new → OnLine Line old new used (used + length line) line
-reads_last None mid new used line h le few r e k = tt
-reads_last (Some text) None new used line h le few r e k = absurd r
-reads_last (Some text) (Some rest) None used line h le few r e k = absurd k
-reads_last (Some text) (Some rest) (Some left) used line h le few r e k = (
-  record { bytes = line; is_ended = false },
-  r ∙ ap (λ (z : List ℕ). all_in_front line (lines z)) (sym k ∙ e) ∙ last_line line h ∙ ap (λ (z : List ℕ). record { bytes = line; is_ended = false } ∷ lines z) (sym e),
-  refl,
-  omega arith,
-  record { in_line = le; in_script = omega arith },
-)
+reads_last old mid new used line h le few r e k = (record { bytes = line; is_ended = false }, first old mid new r e k, refl, omega arith, record { in_line = le; in_script = omega arith })
+  where
+    first : (old mid new : Option (List ℕ)) → Reads old mid line → IsAtEnd new → Keeps mid new → IsFirstLine old new (record { bytes = line; is_ended = false })
+    first None mid new r e k = tt
+    first (Some text) None new r e k = absurd r
+    first (Some text) (Some rest) None r e k = absurd k
+    first (Some text) (Some rest) (Some left) r e k =
+        r ∙ ap (λ (z : List ℕ). all_in_front line (lines z)) (sym k ∙ e) ∙ last_line line h ∙ ap (λ (z : List ℕ). record { bytes = line; is_ended = false } ∷ lines z) (sym e)
 
 nil_is : (line : List ℕ) → length line ≡ 0 → line ≡ []
 nil_is [] h = refl
@@ -203,16 +198,3 @@ one_line_more (Some text) (Some rest) (Some left) line x p c = (
   p.0 ∙ ap (λ (z : List ℕ). line ++ z) c ∙ sym (append_assoc line (x ∷ []) left),
   subst (λ (ls : List TextLine). length ls ≤ 1) (sym (front_lines line (x ∷ []) p.1)) (few_lines line (lines (x ∷ [])) (one_byte x)),
 )
-
--- nothing is said of these
-pub told_fault : (old mid new : Option (List ℕ)) (used now : ℕ) (line more : List ℕ) → Reads old mid line → Keeps mid new → OnLine ReadFault old new used now more
-told_fault None mid new used now line more r k = tt
-told_fault (Some text) None new used now line more r k = absurd r
-told_fault (Some text) (Some rest) None used now line more r k = absurd k
-told_fault (Some text) (Some rest) (Some left) used now line more r k = tt
-
-pub told_memory : (old mid new : Option (List ℕ)) (used now : ℕ) (line more : List ℕ) (x : ℕ) → Reads old mid line → Consumes mid new (x ∷ []) → OnLine Memory old new used now more
-told_memory None mid new used now line more x r k = tt
-told_memory (Some text) None new used now line more x r k = absurd r
-told_memory (Some text) (Some rest) None used now line more x r k = absurd k
-told_memory (Some text) (Some rest) (Some left) used now line more x r k = tt

@@ -4,7 +4,9 @@ pub mod Outputs
 pub mod Played
 pub mod Readers
 pub mod Scripts
+pub mod Spent
 pub mod Steps
 pub mod Cuts
+pub mod OneOutput
 pub mod Plays
 pub mod Tops

@@ -9,12 +9,19 @@ use Rattle.world_model.specs.declared.events.Asked.TheVariants.{Words, Broken}
 use Rattle.world_model.specs.declared.events.Event.TheVariants as event
 use Rattle.tile_top.specs.Readers.{Unread}
 use Rattle.tile_top.specs.Scripts.{Makes, FedTo}
+use Rattle.tile_top.specs.Spent.{IsSpent}
 
 -- the fault of a stream makes its call; a stream that had met one makes none
 abbrev pub IsBrokenOff : Hall → ℕ → ℕ → FeedFault → Bytes → Hall → Type 0
 IsBrokenOff h n m (feed.Broken fault) out next = Makes h (event.Call n m (Broken fault)) out next
 IsBrokenOff h n m feed.Dead out next = (out ≡ codes "dead\n") × (next ≡ h)
 IsBrokenOff h n m feed.Memory out next = ⊥
+
+-- that call finds the log at its greatest length
+abbrev pub BreaksOffSpent : Hall → ℕ → ℕ → FeedFault → Type 0
+BreaksOffSpent h n m (feed.Broken fault) = IsSpent h (event.Call n m (Broken fault))
+BreaksOffSpent h n m feed.Dead = ⊥
+BreaksOffSpent h n m feed.Memory = ⊥
 
 -- so many of the bytes end a request: its call is made, and the stream goes on with the others, which are less than there was
 pub record IsFirst (h : Hall) (n m : ℕ) (rest bytes out : Bytes) (next : Hall) (unread : Unread) (taken : ℕ) : Type 0 where

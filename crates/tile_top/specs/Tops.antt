@@ -3,7 +3,7 @@ use Rattle.std.specs.Prelude.{◌≡◌, ◌⊎◌, ℕ, List, [], ◌∷◌, �
 use Rattle.std.specs.Io.KnownBytes.{Appends}
 use mathlib.Core.List.{IsPrefix}
 use Rattle.byte_text.specs.Names.{Bytes}
-use Rattle.tile_top.specs.Plays.{IsDone, IsFaulty, IsBefore, IsWithinLine}
+use Rattle.tile_top.specs.Plays.{IsDone, IsFaulty, IsBefore, IsWithinLine, IsAtSpent}
 
 -- the last lines
 abbrev pub usage_line : Bytes
@@ -18,11 +18,15 @@ read_line = codes "read fault\n"
 abbrev pub memory_line : Bytes
 memory_line = codes "out of memory\n"
 
+abbrev pub spent_line : Bytes
+spent_line = codes "spent\n"
+
 -- writing failed: in the output of the last line that was read, or in the last line of the status that was due
 abbrev pub IsStopped : Option Bytes → Option Bytes → Option Bytes → Option Bytes → Type 0
 IsStopped left0 left held0 held = IsWithinLine left0 left held0 held
     ⊎ (((number : ℕ) × (part : Bytes) × IsPrefix part (script_line number) × IsFaulty left0 left held0 held number part)
-    ⊎ ((part : Bytes) × (IsPrefix part read_line ⊎ IsPrefix part memory_line) × IsBefore left0 left held0 held part))
+    ⊎ (((part : Bytes) × (IsPrefix part read_line ⊎ IsPrefix part memory_line) × IsBefore left0 left held0 held part)
+    ⊎ ((part : Bytes) × IsPrefix part spent_line × IsAtSpent left0 left held0 held part)))
 
 -- the program's words are `replay` alone
 abbrev pub IsReplay : List Bytes → Type 0
@@ -33,11 +37,12 @@ abbrev pub IsEnd : Option Bytes → Option Bytes → ℕ → Bytes → ℕ → T
 IsEnd held held' status last ended = ((ended ≡ status) × Appends held held' last) ⊎ ((ended ≡ 4) × ((part : Bytes) × IsPrefix part last × Appends held held' part))
 
 -- what a script's play did and its status says: done, or a line that is none of a script, or a read or a write that failed, or want of
--- memory. At each status the lines before the last one that was read were done, and their whole output was written before it was read
+-- memory, or a log at its greatest length. At each status the lines before the last one that was read were done, and their whole output was written before it was read
 pub record Replays (left0 left held0 held : Option Bytes) (status : ℕ) : Type 0 where
   pub done : status ≡ 0 → IsDone left0 left held0 held
   pub script : status ≡ 2 → (number : ℕ) × IsFaulty left0 left held0 held number (script_line number)
   pub read : status ≡ 3 → IsBefore left0 left held0 held read_line
   pub write : status ≡ 4 → IsStopped left0 left held0 held
   pub memory : status ≡ 7 → IsBefore left0 left held0 held memory_line
-  pub few : (status ≡ 0) ⊎ ((status ≡ 2) ⊎ ((status ≡ 3) ⊎ ((status ≡ 4) ⊎ (status ≡ 7))))
+  pub spent : status ≡ 9 → IsAtSpent left0 left held0 held spent_line
+  pub few : (status ≡ 0) ⊎ ((status ≡ 2) ⊎ ((status ≡ 3) ⊎ ((status ≡ 4) ⊎ ((status ≡ 7) ⊎ (status ≡ 9)))))

@@ -1,12 +1,15 @@
 //! What one line of a script does.
 
-ghost use Rattle.std.specs.Prelude.{◌≡◌, ◌≤◌, [], IfOk};
+ghost use Rattle.std.specs.Prelude.{◌≡◌, ◌≤◌, [], false, true, IfOk, IfErr};
 ghost use Rattle.world_data.specs.Limits.{max_moment, take_frames};
+ghost use Rattle.world_model.specs.Histories.{is_spent};
 ghost use Rattle.world_model.specs.declared.events.Event.TheVariants as event;
 ghost use Rattle.tile_top.specs.Readers.{reader_of};
 ghost use Rattle.tile_top.specs.Scripts.{opening, Makes, MakesOne, Enters, Closes, Feeds, ActsOn};
+ghost use Rattle.tile_top.specs.Spent.{IsSpent, FeedsSpent, SpendsOn};
 
 use crate::feeds::feed;
+use crate::halts::Halt;
 use crate::outputs::{frame_lines, session_line, text_of};
 use crate::readers::{Reader, add_reader, drop_reader};
 use byte_text::{NoMemory, Text};
@@ -29,7 +32,7 @@ pub(crate) struct Player {
 }
 
 impl Model for Player {
-    ghost use Rattle.std.specs.Prelude.{◌≡◌, []};
+    ghost use Rattle.std.specs.Prelude.{◌≡◌, [], false};
     ghost use Rattle.world_data.specs.Limits.{take_frames};
     ghost use Rattle.tile_top.specs.Played.{Played};
 
@@ -37,21 +40,24 @@ impl Model for Player {
 
     ghost view = { λ p. record { hall = p.core.hall; readers = p.readers.items } };
 
-    ghost invariant = { λ p. p.frames ≡ record { list = []; places = take_frames } };
+    ghost invariant = { λ p. (p.frames ≡ record { list = []; places = take_frames }) × (p.core.hall.stopped ≡ false) };
 }
 
 // Takes the frames of a session.
 fn take(alloc: Global, core: &mut Core, frames: &mut Frames, session: u32) -> Result<Text, NoMemory>
-    requires { frames.old ≡ record { list = []; places = take_frames } }
+    requires empty { frames.old ≡ record { list = []; places = take_frames } }
+    requires goes { core.old.hall.stopped ≡ false }
     ensures made { IfOk result (λ out. Makes core.old.hall (event.Take session) out core.new.hall) }
     ensures cleared { frames.new ≡ record { list = []; places = take_frames } }
+    ensures goes { core.new.hall.stopped ≡ false }
 {
     let lines = match core.take(session, frames) {
         Taken::Some(_) => frame_lines(alloc, frames),
         Taken::Empty => text_of(alloc, b"empty\n"),
         Taken::Ended => text_of(alloc, b"ended\n"),
-        // As no log is kept, the hall never stops and is never spent.
-        _ => Err(NoMemory),
+        // Only a log that fails stops the hall, and none is kept.
+        Taken::LogFault => unreachable!(),
+        Taken::Stopped => unreachable!(),
     };
     frames.clear();
     lines
@@ -83,15 +89,16 @@ impl Player {
                 session_line(self.alloc, session)
             }
             Err(EnterFault::TooMany) => text_of(self.alloc, b"toomany\n"),
-            // As no log is kept, the hall never stops and is never spent.
-            Err(_) => Err(NoMemory),
+            Err(EnterFault::Stopped) => unreachable!(),
+            Err(EnterFault::Memory) => Err(NoMemory),
         }
     }
 
     // Feeds bytes to a session's reader.
-    fn feed(&mut self, session: u32, moment: u64, bytes: &[u8]) -> Result<Text, NoMemory>
+    fn feed(&mut self, session: u32, moment: u64, bytes: &[u8]) -> Result<Text, Halt>
         requires { moment ≤ max_moment }
-        ensures { IfOk result (λ out. Feeds self.old session moment bytes.now (reader_of session self.old.readers) out self.new) }
+        ensures done { IfOk result (λ out. Feeds self.old session moment bytes.now (reader_of session self.old.readers) out self.new) }
+        ensures spent { IfErr result (λ f. f ≡ Halt.Spent → FeedsSpent self.old.hall session moment bytes.now (reader_of session self.old.readers)) }
     {
         feed(
             self.alloc,
@@ -112,15 +119,21 @@ impl Player {
     }
 
     // Lets the clock go on.
-    fn tick(&mut self, moment: u64) -> Result<Text, NoMemory>
+    fn tick(&mut self, moment: u64) -> Result<Text, Halt>
         requires { moment ≤ max_moment }
-        ensures { IfOk result (λ out. MakesOne self.old (event.Tick moment) out self.new) }
+        ensures done { IfOk result (λ out. MakesOne self.old (event.Tick moment) out self.new) }
+        ensures spent { IfErr result (λ f. f ≡ Halt.Spent → IsSpent self.old.hall (event.Tick moment)) }
+        ensures memory { IfErr result (λ f. f ≡ Halt.Memory → is_spent self.old.hall ≡ false) }
     {
         self.touched.clear();
         match self.core.tick(moment, &mut self.touched) {
-            Called::Ok => text_of(self.alloc, b"ok\n"),
-            // As no log is kept, the hall never stops and is never spent.
-            _ => Err(NoMemory),
+            Called::Ok => Ok(text_of(self.alloc, b"ok\n")?),
+            Called::Full => unreachable!(),
+            Called::Gone => unreachable!(),
+            Called::LogFault => unreachable!(),
+            Called::Stopped => unreachable!(),
+            Called::Spent => Err(Halt::Spent),
+            Called::Memory => Err(Halt::Memory),
         }
     }
 
@@ -134,8 +147,9 @@ impl Player {
     }
 
     /// Does what a line says, and answers its output; none where the line is none of a script, and then nothing is done.
-    pub(crate) fn act(&mut self, line: &[u8]) -> Result<Option<Text>, NoMemory>
-        ensures { IfOk result (λ o. ActsOn self.old self.new line.now o) }
+    pub(crate) fn act(&mut self, line: &[u8]) -> Result<Option<Text>, Halt>
+        ensures done { IfOk result (λ o. ActsOn self.old self.new line.now o) }
+        ensures spent { IfErr result (λ f. f ≡ Halt.Spent → SpendsOn self.old line.now) }
     {
         match line_of(self.alloc, line) {
             Ok(ScriptLine::Nothing) => Ok(Some(Text::new(self.alloc))),
@@ -149,7 +163,7 @@ impl Player {
             Ok(ScriptLine::Step) => Ok(None),
             Ok(ScriptLine::Reopen) => Ok(None),
             Err(LineFault::Outside) => Ok(None),
-            Err(LineFault::Memory) => Err(NoMemory),
+            Err(LineFault::Memory) => Err(Halt::Memory),
         }
     }
 }

@@ -1,16 +1,19 @@
 //! Bytes that come to a session's reader, and the calls that they bring.
 
-ghost use Rattle.std.specs.Prelude.{◌≡◌, ◌≤◌, true, IfOk};
+ghost use Rattle.std.specs.Prelude.{◌≡◌, ◌≤◌, true, false, IfOk, IfErr};
 ghost use Rattle.world_data.specs.Limits.{max_moment};
+ghost use Rattle.world_model.specs.Histories.{is_spent};
 ghost use Rattle.world_model.specs.Outcomes.{is_proper};
 ghost use Rattle.world_model.specs.declared.events.Event.TheVariants as event;
 ghost use Rattle.tile_top.specs.Readers.{reader_of};
 ghost use Rattle.tile_top.specs.Scripts.{Makes, FedTo, Feeds};
-ghost use Rattle.tile_top.specs.Steps.{IsBrokenOff, IsStep};
+ghost use Rattle.tile_top.specs.Spent.{IsSpent, FedSpent, FeedsSpent};
+ghost use Rattle.tile_top.specs.Steps.{IsBrokenOff, BreaksOffSpent, IsStep};
 
+use crate::halts::Halt;
 use crate::outputs::text_of;
 use crate::readers::{Reader, position_of};
-use byte_text::{NoMemory, Text, requests_are_read, streams_read_once};
+use byte_text::{Text, requests_are_read, streams_read_once};
 use resp_frames::{Fed, FeedFault};
 use std::alloc::Global;
 use tile_core::Core;
@@ -33,19 +36,26 @@ fn call(
     moment: u64,
     asked: &Asked,
     touched: &mut Touched,
-) -> Result<Text, NoMemory>
+) -> Result<Text, Halt>
     requires moment { moment ≤ max_moment }
     requires proper { is_proper asked.now ≡ true }
-    ensures { IfOk result (λ out. Makes core.old.hall (event.Call session moment asked.now) out core.new.hall) }
+    requires goes { core.old.hall.stopped ≡ false }
+    ensures done { IfOk result (λ out. Makes core.old.hall (event.Call session moment asked.now) out core.new.hall) }
+    ensures spent { IfErr result (λ f. f ≡ Halt.Spent → IsSpent core.old.hall (event.Call session moment asked.now)) }
+    ensures memory { IfErr result (λ f. f ≡ Halt.Memory → is_spent core.old.hall ≡ false) }
+    ensures goes { core.new.hall.stopped ≡ false }
 {
     // Nobody waits for frames in a script, so nobody is woken.
     touched.clear();
     match core.call(session, moment, asked, touched) {
-        Called::Ok => text_of(alloc, b"ok\n"),
-        Called::Full => text_of(alloc, b"full\n"),
-        Called::Gone => text_of(alloc, b"gone\n"),
-        // As no log is kept, the hall never stops and is never spent.
-        _ => Err(NoMemory),
+        Called::Ok => Ok(text_of(alloc, b"ok\n")?),
+        Called::Full => Ok(text_of(alloc, b"full\n")?),
+        Called::Gone => Ok(text_of(alloc, b"gone\n")?),
+        // Only a log that fails stops the hall, and none is kept.
+        Called::LogFault => unreachable!(),
+        Called::Stopped => unreachable!(),
+        Called::Spent => Err(Halt::Spent),
+        Called::Memory => Err(Halt::Memory),
     }
 }
 
@@ -57,16 +67,19 @@ fn break_off(
     moment: u64,
     fault: FeedFault,
     touched: &mut Touched,
-) -> Result<Text, NoMemory>
-    requires { moment ≤ max_moment }
-    ensures { IfOk result (λ out. IsBrokenOff core.old.hall session moment fault out core.new.hall) }
+) -> Result<Text, Halt>
+    requires moment { moment ≤ max_moment }
+    requires goes { core.old.hall.stopped ≡ false }
+    ensures done { IfOk result (λ out. IsBrokenOff core.old.hall session moment fault out core.new.hall) }
+    ensures spent { IfErr result (λ f. f ≡ Halt.Spent → BreaksOffSpent core.old.hall session moment fault) }
+    ensures goes { core.new.hall.stopped ≡ false }
 {
     match fault {
         FeedFault::Broken(fault) => {
             call(alloc, core, session, moment, &Asked::Broken(fault), touched)
         }
-        FeedFault::Dead => text_of(alloc, b"dead\n"),
-        FeedFault::Memory => Err(NoMemory),
+        FeedFault::Dead => Ok(text_of(alloc, b"dead\n")?),
+        FeedFault::Memory => Err(Halt::Memory),
     }
 }
 
@@ -78,9 +91,12 @@ fn feed_next(
     moment: u64,
     bytes: &[u8],
     touched: &mut Touched,
-) -> Result<Step, NoMemory>
-    requires { moment ≤ max_moment }
+) -> Result<Step, Halt>
+    requires moment { moment ≤ max_moment }
+    requires goes { core.old.hall.stopped ≡ false }
     ensures step { IfOk result (λ s. IsStep core.old.hall reader.old.session moment reader.old.unread bytes.now s.out core.new.hall reader.new.unread s.taken) }
+    ensures spent { IfErr result (λ f. f ≡ Halt.Spent → FedSpent core.old.hall reader.old.session moment reader.old.unread bytes.now) }
+    ensures goes { core.new.hall.stopped ≡ false }
     ensures session { reader.new.session ≡ reader.old.session }
 {
     // What was read first is the stream's first request, and leaves less than there was.
@@ -117,9 +133,12 @@ fn feed_reader(
     moment: u64,
     bytes: &[u8],
     touched: &mut Touched,
-) -> Result<Text, NoMemory>
-    requires { moment ≤ max_moment }
+) -> Result<Text, Halt>
+    requires moment { moment ≤ max_moment }
+    requires goes { core.old.hall.stopped ≡ false }
     ensures fed { IfOk result (λ out. FedTo core.old.hall reader.old.session moment reader.old.unread bytes.now out core.new.hall reader.new.unread) }
+    ensures spent { IfErr result (λ f. f ≡ Halt.Spent → FedSpent core.old.hall reader.old.session moment reader.old.unread bytes.now) }
+    ensures goes { core.new.hall.stopped ≡ false }
     ensures session { reader.new.session ≡ reader.old.session }
 {
     let mut out = Text::new(alloc);
@@ -144,12 +163,15 @@ pub(crate) fn feed(
     moment: u64,
     bytes: &[u8],
     touched: &mut Touched,
-) -> Result<Text, NoMemory>
-    requires { moment ≤ max_moment }
-    ensures { IfOk result (λ out. Feeds (record { hall = core.old.hall; readers = readers.old.items }) session moment bytes.now (reader_of session readers.old.items) out (record { hall = core.new.hall; readers = readers.new.items })) }
+) -> Result<Text, Halt>
+    requires moment { moment ≤ max_moment }
+    requires goes { core.old.hall.stopped ≡ false }
+    ensures fed { IfOk result (λ out. Feeds (record { hall = core.old.hall; readers = readers.old.items }) session moment bytes.now (reader_of session readers.old.items) out (record { hall = core.new.hall; readers = readers.new.items })) }
+    ensures spent { IfErr result (λ f. f ≡ Halt.Spent → FeedsSpent core.old.hall session moment bytes.now (reader_of session readers.old.items)) }
+    ensures goes { core.new.hall.stopped ≡ false }
 {
     match position_of(readers.as_slice(), session) {
         Some(at) => feed_reader(alloc, core, &mut readers[at], moment, bytes, touched),
-        None => text_of(alloc, b"gone\n"),
+        None => Ok(text_of(alloc, b"gone\n")?),
     }
 }

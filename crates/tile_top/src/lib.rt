@@ -3,6 +3,7 @@
 
 mod acts;
 mod feeds;
+mod halts;
 mod laws;
 mod outputs;
 mod plays;
@@ -10,7 +11,7 @@ mod readers;
 mod streams;
 mod tops;
 
-pub use laws::feeds_are_one_stream;
+pub use laws::{feeds_are_one_stream, scripts_have_one_output};
 pub use tops::{Ended, out_of_memory, top};
 
 #[cfg(test)]

@@ -8,8 +8,8 @@ ghost use Rattle.tile_top.specs.Scripts.{opening};
 ghost use Rattle.tile_top.specs.Plays.{OnTurn, OnPlay, OnLineDone};
 
 use crate::acts::Player;
+use crate::halts::Halt;
 use crate::streams::{LineEnd, read_line, write_all};
-use byte_text::NoMemory;
 use outside::{Failed, Sink, Source};
 use std::alloc::Global;
 
@@ -24,6 +24,8 @@ pub(crate) enum Turn {
     Script,
     ReadFault,
     WriteFault,
+    /// The line found the log at its greatest length.
+    Spent,
     Memory,
 }
 
@@ -39,7 +41,8 @@ fn do_line<K: Sink>(sink: &mut K, player: &mut Player, line: &[u8]) -> Turn
             Err(Failed) => Turn::WriteFault,
         },
         Ok(None) => Turn::Script,
-        Err(NoMemory) => Turn::Memory,
+        Err(Halt::Spent) => Turn::Spent,
+        Err(Halt::Memory) => Turn::Memory,
     }
 }
 
@@ -94,6 +97,7 @@ pub(crate) fn play<S: Source, K: Sink>(
             Turn::Script => return (Turn::Script, number),
             Turn::ReadFault => return (Turn::ReadFault, number),
             Turn::WriteFault => return (Turn::WriteFault, number),
+            Turn::Spent => return (Turn::Spent, number),
             Turn::Memory => return (Turn::Memory, number),
         }
     }

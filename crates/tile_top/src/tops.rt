@@ -21,10 +21,12 @@ const READ_FAULT: &[u8] = b"read fault\n";
 
 const OUT_OF_MEMORY: &[u8] = b"out of memory\n";
 
+const SPENT: &[u8] = b"spent\n";
+
 /// How the program ended.
 #[derive(Clone, Copy, Debug, PartialEq, Eq)]
 pub struct Ended {
-    /// 0 done, 1 usage, 2 script fault, 3 read fault, 4 write fault, 7 out of memory.
+    /// 0 done, 1 usage, 2 script fault, 3 read fault, 4 write fault, 7 out of memory, 9 log at its greatest length.
     pub status: u8,
 }
 
@@ -81,6 +83,7 @@ fn replay<S: Source, K: Sink>(alloc: Global, source: &mut S, sink: &mut K) -> En
         },
         Turn::ReadFault => end(sink, 3, READ_FAULT),
         Turn::WriteFault => Ended { status: 4 },
+        Turn::Spent => end(sink, 9, SPENT),
         Turn::Memory => end(sink, 7, OUT_OF_MEMORY),
         Turn::Next => unreachable!(),
     }
@@ -101,9 +104,15 @@ pub fn out_of_memory<K: Sink>(sink: &mut K) -> Ended
 ///
 /// Status 0: the source was read to its end, and the bytes written are the script's output. Status 2: this line is the first that
 /// is none of a script, and the bytes written are the whole output of the lines before it and then the status's line. At status 3
-/// (reading failed) and 7 (want of memory) they are the whole output of the lines before the last one that was read, and then the
+/// (reading failed), 7 (want of memory) and 9 they are the whole output of the lines before the last one that was read, and then the
 /// status's line. At 4 (writing failed) they are that output and a part of the last line's, or a beginning of the line of the status
 /// that was due.
+///
+/// Status 9 comes where a call or tick of the last line found the machine's log at its greatest length, 2^60 bytes, and nowhere else;
+/// no line is done there. Status 7 stands for want of memory alone.
+///
+/// Where the source does not tell its text, these clauses hold of some list of lines in place of the text's: what was written is the
+/// output of a script all the same, and then the status's line.
 pub fn top<S: Source, K: Sink>(
     alloc: Global,
     words: &[String],

@@ -1,7 +1,7 @@
 use Rattle.std.proofs.Common.{◌≡◌}
 use Rattle.std.specs.Prelude.{Result, Ok, Err, OnOk}
 use Rattle.outside.specs.declared.sides.Side.TheVariants.{A, B}
-use Rattle.append_log.proofs.Crashing.{safe_look}
+use Rattle.log_sides.specs.Crashing.{safe_look}
 use Rattle.append_log.proofs.side_heads.start_log.Goals as goal
 
 ok_of : {T E P : Type 0} (r : Result T E) → P → OnOk r P

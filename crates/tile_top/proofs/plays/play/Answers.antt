@@ -1,6 +1,6 @@
 use Rattle.std.proofs.Common.{◌≤◌, ◌+◌, arith, refl, sym, subst}
 use Rattle.tile_top.specs.Played.{Played}
-use Rattle.tile_top.proofs.Playing.{Going, going_start, going_next, plays_fault, plays_before, plays_part}
+use Rattle.tile_top.proofs.Playing.{Going, going_start, going_next, plays_fault, plays_before, plays_part, plays_spent}
 use Rattle.tile_top.proofs.plays.play.Goals as goal
 
 pub loop-number-init : goal.loop-number-init
@@ -41,3 +41,6 @@ returns-in-ReadFault-clause-told g c = plays_before _ _ (g.S.Source.left c.next_
 
 pub returns-in-Memory-clause-told : goal.returns-in-Memory-clause-told
 returns-in-Memory-clause-told g c = plays_before _ _ (g.S.Source.left c.next_line.new.source) _ _ _ c.loop-number.number c.loop-number.used c.loop-number.player c.loop-number.invariant.going c.in-Memory.ensures.told c.in-Memory.ensures.piece
+
+pub returns-in-Spent-clause-told : goal.returns-in-Spent-clause-told
+returns-in-Spent-clause-told g c = plays_spent _ _ (g.S.Source.left c.next_line.new.source) _ _ _ c.loop-number.number c.loop-number.used c.next_line.new.used c.loop-number.player c.next_line.new.player c.loop-number.invariant.going c.in-Spent.ensures.told

@@ -1,7 +1,7 @@
 use Rattle.std.proofs.Common.{◌∙◌, refl, subst, inl}
 use Rattle.tile_top.specs.declared.plays.Turn.{Turn}
 use Rattle.tile_top.specs.Plays.{OnPlay}
-use Rattle.tile_top.proofs.Ends.{before_none, faulty_before, replays_stopped, ends_script, ends_read, ends_memory}
+use Rattle.tile_top.proofs.Ends.{before_none, faulty_before, replays_stopped, ends_script, ends_read, ends_memory, ends_spent}
 use Rattle.tile_top.proofs.tops.replay.Goals as goal
 
 pub returns-in_default-clause-told : goal.returns-in_default-clause-told
@@ -31,3 +31,8 @@ pub returns-in-Memory-clause-told : goal.returns-in-Memory-clause-told
 returns-in-Memory-clause-told g c =
     let played = subst (λ (t : Turn). OnPlay t (g.S.Source.left c.args.source.now) (g.S.Source.left c.play-turn.new.source) (g.K.Sink.held c.args.sink.now) (g.K.Sink.held c.play-turn.new.sink) c.play-turn.result.1) c.in-Memory.is c.play-turn.ensures.told in
     ends_memory _ (g.S.Source.left c.play-turn.new.source) _ _ _ c.end-in-Memory.result.status played c.end-in-Memory.ensures.told
+
+pub returns-in-Spent-clause-told : goal.returns-in-Spent-clause-told
+returns-in-Spent-clause-told g c =
+    let played = subst (λ (t : Turn). OnPlay t (g.S.Source.left c.args.source.now) (g.S.Source.left c.play-turn.new.source) (g.K.Sink.held c.args.sink.now) (g.K.Sink.held c.play-turn.new.sink) c.play-turn.result.1) c.in-Spent.is c.play-turn.ensures.told in
+    ends_spent _ (g.S.Source.left c.play-turn.new.source) _ _ _ c.end-in-Spent.result.status played c.end-in-Spent.ensures.told

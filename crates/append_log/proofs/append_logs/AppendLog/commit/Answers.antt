@@ -1,9 +1,9 @@
 use Rattle.std.proofs.Common.{◌⊎◌, ◌<◌, ◌∙◌, List, length, sym, ap, subst, arith}
 use Rattle.byte_text.specs.Names.{Bytes}
-use Rattle.append_log.specs.Texts.{StandsFor, gate_place}
-use Rattle.append_log.specs.States.{SideIsSafe, SideLeads}
-use Rattle.append_log.proofs.Torn.{committed_some, gate_place-append}
-use Rattle.append_log.proofs.Sealing.{length-sealed}
+use Rattle.log_sides.specs.Texts.{StandsFor, gate_place}
+use Rattle.log_sides.specs.States.{SideIsSafe, SideLeads}
+use Rattle.log_sides.specs.Torn.{committed_some, gate_place-append}
+use Rattle.log_sides.specs.Sealing.{length-sealed}
 use Rattle.append_log.proofs.append_logs.AppendLog.commit.Goals as goal
 
 pub append_batch-requires-clause-room : goal.append_batch-requires-clause-room

@@ -1,8 +1,8 @@
 use Rattle.std.proofs.Common.{◌≡◌, ◌∙◌, ℕ, [], sym, arith, length-append}
-use Rattle.append_log.specs.Texts.{header, gate_place}
-use Rattle.append_log.specs.Making.{WhileMade}
-use Rattle.append_log.proofs.Torn.{length-number_bytes}
-use Rattle.append_log.proofs.Crashing.{leads_from, leads_to, safe_under}
+use Rattle.log_sides.specs.Texts.{header, gate_place}
+use Rattle.log_sides.specs.Making.{WhileMade}
+use Rattle.log_sides.specs.Torn.{length-number_bytes}
+use Rattle.log_sides.specs.Crashing.{leads_from, leads_to, safe_under}
 use Rattle.append_log.proofs.append_logs.AppendLog.make.Goals as goal
 
 first_place : (generation : ℕ) → 16 ≡ gate_place generation []

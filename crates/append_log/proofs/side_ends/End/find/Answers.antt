@@ -1,7 +1,7 @@
 use Rattle.std.proofs.Common.{◌≡◌, ◌∙◌, ◌++◌, ℕ, [], take, drop, sym, subst, arith}
 use Rattle.outside.specs.declared.sides.Side.{Side}
-use Rattle.append_log.specs.Texts.{with_batch}
-use Rattle.append_log.specs.States.{SideIsSafe}
+use Rattle.log_sides.specs.Texts.{with_batch}
+use Rattle.log_sides.specs.States.{SideIsSafe}
 use Rattle.append_log.specs.Reading.{IsAtGate, IsGateOf}
 use Rattle.append_log.specs.declared.side_readers.Gate.{Gate}
 use Rattle.append_log.proofs.Passing.{safe_next, same_next}

@@ -110,7 +110,7 @@ returns-then-self-eq1-clause-removed g t0 c =
     let slot = subst (IsSlot h) (sym read) (All-get_or (IsSlot h) items at s within c.self.invariant.each) in
     let none = leaf_slot s (subst (λ n. IsSlot n s) c.if-self-eq1.true slot) in
     let first = leaf_found items e k at s place next read (sym c.is_before.ensures ∙ c.if-is_before.false) in
-    let all = (leaf_shrinks h _ 20 items e at s c.self.invariant within read none first (omega arith)).there in
+    let all = (leaf_shrinks h _ 17 items e at s c.self.invariant within read none first (omega arith)).there in
     rw (c.remove.ensures.items) (subst (λ (v : Subtree). IsWith e (all_entries (remove items at)) v.entries) c.self.view_is all)
 
 pub returns-then-self-eq1-clause-lists : goal.returns-then-self-eq1-clause-lists
@@ -296,7 +296,7 @@ mend-requires-clause-thin g t0 c =
     let t : Slot = record { first = first; bounds = box; below = Some m } in
     let level : m.height + 1 ≡ h = omega (arith, child.height, c.remove-2.ensures.height) in
     let w : IsWith e m.entries n.entries = c.if-not-remove.ensures.removed in
-    let slim : m.width ≡ 3 = omega (arith, c.width-width.ensures, c.if-width-ge-LEAST.false, c.remove-2.ensures.width, child.full.least) in
+    let slim : m.width ≡ 7 = omega (arith, c.width-width.ensures, c.if-width-ge-LEAST.false, c.remove-2.ensures.width, child.full.least) in
     let slot : IsThin h t = record { summed = summed_slot h m first box level c.summary-first.ensures.begins c.summary-first.ensures.covers; thin = slim } in
     let above : 2 ≤ h = omega (arith, child.height, child.full.high) in
     let two : 2 ≤ length items = omega (arith, wide, c.requires.two (omega (arith, tall, above))) in
@@ -351,7 +351,7 @@ invariant_of-self-2 g t0 c =
     let t : Slot = record { first = first; bounds = box; below = Some m } in
     let level : m.height + 1 ≡ h = omega (arith, child.height, c.remove-2.ensures.height) in
     let w : IsWith e m.entries n.entries = c.if-not-remove.ensures.removed in
-    let slim : m.width ≡ 3 = omega (arith, c.width-width.ensures, c.if-width-ge-LEAST.false, c.remove-2.ensures.width, child.full.least) in
+    let slim : m.width ≡ 7 = omega (arith, c.width-width.ensures, c.if-width-ge-LEAST.false, c.remove-2.ensures.width, child.full.least) in
     let slot : IsThin h t = record { summed = summed_slot h m first box level c.summary-first.ensures.begins c.summary-first.ensures.covers; thin = slim } in
     let above : 2 ≤ h = omega (arith, child.height, child.full.high) in
     let two : 2 ≤ length items = omega (arith, wide, c.requires.two (omega (arith, tall, above))) in

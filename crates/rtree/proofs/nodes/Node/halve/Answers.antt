@@ -1,6 +1,6 @@
 use Rattle.std.proofs.Common.{◌≡◌, ◌/◌, ◌≤◌, length, length-take, arith, ap}
 use Rattle.rtree.specs.Subtrees.{Subtree}
-use Rattle.rtree.proofs.Slots.{root_of, entries_parts, nodes_parts, part_left, part_right}
+use Rattle.rtree.proofs.Slots.{root_of, entries_parts, nodes_parts, split_full, part_left, part_right}
 use Rattle.rtree.proofs.nodes.Node.halve.Goals as goal
 
 pub returns-then-len-le-MOST-clause-root : goal.returns-then-len-le-MOST-clause-root
@@ -29,3 +29,7 @@ returns-clause-root c =
     let wide : length c.self.inside.slots.items ≡ c.args.self.now.width = ap (λ (v : Subtree). v.width) c.self.view_is in
     let most : length c.move_tail.new.from.items ≤ 16 = rw (c.move_tail.ensures.kept, length-take) (omega arith) in
     root_of c.self.inside.height c.move_tail.new.from.items (invariant_of-self c).each least two most
+
+pub returns-clause-few_nodes : goal.returns-clause-few_nodes
+returns-clause-few_nodes c =
+    rw (c.move_tail.ensures.kept, c.move_tail.ensures.moved) (split_full c.self.inside.height (c.len-keep.result / 2) c.self.inside.slots.items c.self.invariant.each (omega arith))

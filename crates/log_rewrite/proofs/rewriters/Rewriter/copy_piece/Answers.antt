@@ -1,0 +1,6 @@
+use Rattle.std.proofs.Common.{ap, length, arith}
+use Rattle.log_rewrite.proofs.Parts.{written_short}
+use Rattle.log_rewrite.proofs.rewriters.Rewriter.copy_piece.Goals as goal
+
+pub mirror-requires : goal.mirror-requires
+mirror-requires g c = omega (arith, c.requires, ap length c.written.ensures, written_short c.args.piece.now)

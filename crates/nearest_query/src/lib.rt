@@ -1,0 +1,10 @@
+//! Queries over the objects of one key by distance from a point: NEARBY.
+#![tactic(auto)]
+
+mod hits;
+mod pages;
+
+pub use pages::near_page;
+
+#[cfg(test)]
+mod tests;

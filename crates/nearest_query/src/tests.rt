@@ -1,0 +1,118 @@
+//! Pages of the objects of one key by distance.
+
+use super::*;
+use byte_text::{Name, NoMemory, Text, push_u64};
+use collection::Collection;
+use planar_geom::{Part, Parts, Pt, Shape};
+use std::alloc::Global;
+use std::test::Fail;
+use world_data::{Fields, Object, Page, Query, Rule, Shown, Tests};
+
+fn spot(alloc: Global, x: i64, y: i64) -> Result<Shape, NoMemory> {
+    let mut parts = Parts::new(alloc);
+    match Pt::of(x, y) {
+        Some(p) => match parts.push(Part::Spot(p)) {
+            Ok(()) => {}
+            Err(_) => return Err(NoMemory),
+        },
+        None => return Err(NoMemory),
+    }
+    match Shape::of(parts) {
+        Ok(shape) => Ok(shape),
+        Err(_) => Err(NoMemory),
+    }
+}
+
+// Puts an object of this id at a point.
+fn put(alloc: Global, trucks: &mut Collection, id: &[u8], x: i64, y: i64) -> Result<(), NoMemory> {
+    let Ok(id) = Name::of(alloc, id) else {
+        return Err(NoMemory);
+    };
+    let Ok(key) = Name::of(alloc, b"fleet") else {
+        return Err(NoMemory);
+    };
+    let object = Object {
+        key,
+        id,
+        text: Text::new(alloc),
+        shape: spot(alloc, x, y)?,
+        fields: Fields::new(alloc),
+        deadline: None,
+    };
+    trucks.prepare()?;
+    trucks.put(object);
+    Ok(())
+}
+
+// Three trucks at distance 3 of the origin, one at 4 and one at 5.
+fn trucks_round_the_origin(alloc: Global) -> Result<Collection, NoMemory> {
+    let mut trucks = Collection::new(alloc);
+    put(alloc, &mut trucks, b"a", 5, 0)?;
+    put(alloc, &mut trucks, b"e", 0, 3)?;
+    put(alloc, &mut trucks, b"c", -3, 0)?;
+    put(alloc, &mut trucks, b"d", 0, -4)?;
+    put(alloc, &mut trucks, b"b", 3, 0)?;
+    Ok(trucks)
+}
+
+// The ids of a page, where the next one begins, and the count.
+fn answer(
+    alloc: Global,
+    trucks: &Collection,
+    reach: Option<u32>,
+    from: (u32, u32),
+    shown: Shown,
+) -> Result<Text, NoMemory> {
+    let (cursor, limit) = from;
+    let query = Query {
+        rule: Rule::Nearest,
+        glob: None,
+        tests: Tests::new(alloc),
+        cursor,
+        limit,
+        bare: false,
+        shown,
+    };
+    let Some(origin) = Pt::of(0, 0) else {
+        return Err(NoMemory);
+    };
+    let mut found = Page::new(alloc);
+    near_page(alloc, trucks, origin, reach, &query, &mut found)?;
+    let mut text = Text::new(alloc);
+    for i in 0..found.ids.len() {
+        text.push(found.ids.at(i).bytes())?;
+    }
+    text.push(b" ")?;
+    push_u64(&mut text, found.cursor)?;
+    text.push(b" ")?;
+    push_u64(&mut text, found.count)?;
+    Ok(text)
+}
+
+#[test]
+fn ties_go_by_id(rt: HostRuntime) -> Result<(), Fail> {
+    let alloc = rt.alloc();
+    let trucks = trucks_round_the_origin(alloc)?;
+    let all = answer(alloc, &trucks, None, (0, 9), Shown::Ids)?;
+    assert_eq!(rt; all.bytes(), b"bceda 0 0".as_slice());
+    let first = answer(alloc, &trucks, None, (0, 2), Shown::Ids)?;
+    assert_eq!(rt; first.bytes(), b"bc 2 0".as_slice());
+    let second = answer(alloc, &trucks, None, (2, 2), Shown::Points)?;
+    assert_eq!(rt; second.bytes(), b"ed 4 0".as_slice());
+    let last = answer(alloc, &trucks, None, (4, 2), Shown::Ids)?;
+    assert_eq!(rt; last.bytes(), b"a 0 0".as_slice());
+    Ok(())
+}
+
+#[test]
+fn reach_counts_its_end(rt: HostRuntime) -> Result<(), Fail> {
+    let alloc = rt.alloc();
+    let trucks = trucks_round_the_origin(alloc)?;
+    let near = answer(alloc, &trucks, Some(4), (0, 9), Shown::Ids)?;
+    assert_eq!(rt; near.bytes(), b"bced 0 0".as_slice());
+    let count = answer(alloc, &trucks, Some(3), (1, 1), Shown::Count)?;
+    assert_eq!(rt; count.bytes(), b" 0 3".as_slice());
+    let none = answer(alloc, &trucks, Some(2), (0, 9), Shown::Ids)?;
+    assert_eq!(rt; none.bytes(), b" 0 0".as_slice());
+    Ok(())
+}

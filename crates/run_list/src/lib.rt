@@ -1,0 +1,15 @@
+//! A list of numbers in which a number is put in or taken out at any place without moving all behind it.
+#![tactic(auto)]
+
+mod large;
+mod lists;
+mod runs;
+mod searches;
+mod store;
+mod walks;
+
+pub use lists::RunList;
+pub use searches::Before;
+
+#[cfg(test)]
+mod tests;

@@ -1,0 +1,191 @@
+//! Places in a list of runs.
+
+ghost use Rattle.std.specs.Prelude.{◌≡◌, ◌<◌, ◌≤◌, ◌+◌, ◌++◌, [], length, take, drop, slice_index, slice_index_or, vec_len, vec_capacity};
+ghost use Rattle.std.specs.List.{insert, remove};
+ghost use Rattle.run_list.specs.Runs.{flat, start, AreFilled, AreEmpty, IsAt, IsGap};
+
+use crate::runs::{HALF, MOST, Run};
+
+/// A run, by its place among the runs, and a place in it.
+#[derive(Clone, Copy)]
+pub(crate) struct Spot {
+    pub(crate) run: usize,
+    pub(crate) at: usize,
+}
+
+/// Where a place of the list is found.
+pub(crate) fn find(runs: &[Run], i: usize) -> Spot
+    requires { i < length (flat runs.now) }
+    ensures { IsAt runs.now i result.run result.at }
+{
+    let mut rest = i;
+    for (k, run) in runs.iter().enumerate() {
+        let len = run.len();
+        if rest < len {
+            return Spot { run: k, at: rest };
+        }
+        rest -= len;
+    }
+    unreachable!()
+}
+
+/// Where a place of the list is found, or where its end is. There are `len` numbers.
+pub(crate) fn gap(runs: &[Run], i: usize, len: usize) -> Spot
+    requires some { 0 < length runs.now }
+    requires within { i ≤ length (flat runs.now) }
+    requires len { len ≡ length (flat runs.now) }
+    ensures { IsGap runs.now i result.run result.at }
+{
+    if i < len {
+        return find(runs, i);
+    }
+    let last = runs.len() - 1;
+    let run = &runs[last];
+    Spot {
+        run: last,
+        at: run.len(),
+    }
+}
+
+/// How many numbers stand before a run.
+pub(crate) fn start(runs: &[Run], k: usize) -> usize
+    requires within { k ≤ length runs.now }
+    requires fits { length (flat runs.now) ≤ 4294967295 }
+    ensures { result ≡ start runs.now k }
+{
+    let mut count = 0;
+    for run in &runs[..k] {
+        count += run.len();
+    }
+    count
+}
+
+/// Puts a number at a place, where there are room and an empty run for the upper half of a full one.
+pub(crate) fn put(runs: &mut Vec<Run>, spares: &mut Vec<Run>, spot: Spot, number: usize)
+    requires within { spot.run < vec_len runs.old }
+    requires inside { spot.at ≤ length (slice_index_or runs.old.items spot.run []) }
+    requires room { vec_len runs.old < vec_capacity runs.old }
+    requires spare { 0 < vec_len spares.old }
+    requires filled { AreFilled runs.old.items }
+    requires empty { AreEmpty spares.old.items }
+    ensures numbers { flat runs.new.items ≡ insert (flat runs.old.items) (start runs.old.items spot.run + spot.at) number }
+    ensures filled { AreFilled runs.new.items }
+    ensures empty { AreEmpty spares.new.items }
+    ensures owned { vec_len runs.new + vec_len spares.new ≡ vec_len runs.old + vec_len spares.old }
+    ensures places { vec_capacity runs.new ≡ vec_capacity runs.old }
+    ensures stores { vec_capacity spares.new ≡ vec_capacity spares.old }
+{
+    let run = &mut runs[spot.run];
+    if run.len() < MOST {
+        run.insert(spot.at, number);
+    } else {
+        let mut upper = spares.take_last();
+        run.insert_halving(spot.at, number, &mut upper);
+        match runs.insert(spot.run + 1, upper) {
+            Ok(()) => {}
+            Err(_) => unreachable!(),
+        }
+    }
+}
+
+/// Takes out the number at a place. A run that is empty then goes to the store, and one
+/// that is small then is joined with its neighbours.
+pub(crate) fn take_out(runs: &mut Vec<Run>, spares: &mut Vec<Run>, spot: Spot) -> usize
+    requires within { spot.run < vec_len runs.old }
+    requires inside { spot.at < length (slice_index_or runs.old.items spot.run []) }
+    requires filled { AreFilled runs.old.items }
+    requires empty { AreEmpty spares.old.items }
+    requires store { vec_len runs.old + vec_len spares.old ≤ vec_capacity spares.old }
+    ensures numbers { flat runs.new.items ≡ remove (flat runs.old.items) (start runs.old.items spot.run + spot.at) }
+    ensures taken { result ≡ slice_index (flat runs.old.items) (start runs.old.items spot.run + spot.at) }
+    ensures filled { AreFilled runs.new.items }
+    ensures empty { AreEmpty spares.new.items }
+    ensures owned { vec_len runs.new + vec_len spares.new ≡ vec_len runs.old + vec_len spares.old }
+    ensures places { vec_capacity runs.new ≡ vec_capacity runs.old }
+    ensures stores { vec_capacity spares.new ≡ vec_capacity spares.old }
+{
+    let number = take_one(runs, spares, spot);
+    join(runs, spares, spot.run);
+    if spot.run > 0 {
+        join(runs, spares, spot.run - 1);
+    }
+    number
+}
+
+/// Takes out a run. It goes to the store.
+pub(crate) fn take_run(runs: &mut Vec<Run>, spares: &mut Vec<Run>, k: usize)
+    requires within { k < vec_len runs.old }
+    requires filled { AreFilled runs.old.items }
+    requires empty { AreEmpty spares.old.items }
+    requires store { vec_len runs.old + vec_len spares.old ≤ vec_capacity spares.old }
+    ensures numbers { flat runs.new.items ≡ take (start runs.old.items k) (flat runs.old.items) ++ drop (start runs.old.items k + length (slice_index_or runs.old.items k [])) (flat runs.old.items) }
+    ensures filled { AreFilled runs.new.items }
+    ensures empty { AreEmpty spares.new.items }
+    ensures owned { vec_len runs.new + vec_len spares.new ≡ vec_len runs.old + vec_len spares.old }
+    ensures places { vec_capacity runs.new ≡ vec_capacity runs.old }
+    ensures stores { vec_capacity spares.new ≡ vec_capacity spares.old }
+{
+    let mut run = runs.remove(k);
+    run.clear();
+    keep(spares, run);
+}
+
+// Takes out the number at a place, and its run where that is empty then.
+fn take_one(runs: &mut Vec<Run>, spares: &mut Vec<Run>, spot: Spot) -> usize
+    requires within { spot.run < vec_len runs.old }
+    requires inside { spot.at < length (slice_index_or runs.old.items spot.run []) }
+    requires filled { AreFilled runs.old.items }
+    requires empty { AreEmpty spares.old.items }
+    requires store { vec_len runs.old + vec_len spares.old ≤ vec_capacity spares.old }
+    ensures numbers { flat runs.new.items ≡ remove (flat runs.old.items) (start runs.old.items spot.run + spot.at) }
+    ensures taken { result ≡ slice_index (flat runs.old.items) (start runs.old.items spot.run + spot.at) }
+    ensures filled { AreFilled runs.new.items }
+    ensures empty { AreEmpty spares.new.items }
+    ensures owned { vec_len runs.new + vec_len spares.new ≡ vec_len runs.old + vec_len spares.old }
+    ensures places { vec_capacity runs.new ≡ vec_capacity runs.old }
+    ensures stores { vec_capacity spares.new ≡ vec_capacity spares.old }
+{
+    let run = &mut runs[spot.run];
+    let number = run.remove(spot.at);
+    if run.len() == 0 {
+        keep(spares, runs.remove(spot.run));
+    }
+    number
+}
+
+// Joins a run with the next one, where both are small.
+fn join(runs: &mut Vec<Run>, spares: &mut Vec<Run>, k: usize)
+    requires filled { AreFilled runs.old.items }
+    requires empty { AreEmpty spares.old.items }
+    requires store { vec_len runs.old + vec_len spares.old ≤ vec_capacity spares.old }
+    ensures numbers { flat runs.new.items ≡ flat runs.old.items }
+    ensures filled { AreFilled runs.new.items }
+    ensures empty { AreEmpty spares.new.items }
+    ensures owned { vec_len runs.new + vec_len spares.new ≡ vec_len runs.old + vec_len spares.old }
+    ensures places { vec_capacity runs.new ≡ vec_capacity runs.old }
+    ensures stores { vec_capacity spares.new ≡ vec_capacity spares.old }
+{
+    let len = runs.len();
+    if len < 2 || k > len - 2 {
+        return;
+    }
+    if runs[k].len() + runs[k + 1].len() > HALF {
+        return;
+    }
+    let mut upper = runs.remove(k + 1);
+    let run = &mut runs[k];
+    run.append(&mut upper);
+    keep(spares, upper);
+}
+
+/// Keeps an empty run, for which there is a place.
+pub(crate) fn keep(spares: &mut Vec<Run>, run: Run)
+    requires run { run ≡ [] }
+    requires empty { AreEmpty spares.old.items }
+    requires store { vec_len spares.old < vec_capacity spares.old }
+    ensures empty { AreEmpty spares.new.items }
+    ensures spares { vec_len spares.new ≡ vec_len spares.old + 1 }
+    ensures stores { vec_capacity spares.new ≡ vec_capacity spares.old }
+{
+    spares.push_reserved(run);
+}
