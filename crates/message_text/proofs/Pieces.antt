@@ -6,8 +6,5 @@ pub two : {E : Type 0} (r : Result (Unit {0}) E) (old p t one new : Bytes) → o
 two (Ok x) old p t one new a b = b ∙ ap (λ (xs : Bytes). xs ++ t) a ∙ append_assoc old p t
 two (Err e) old p t one new a b = tt
 
-pub joined : (old p q one new : Bytes) → one ≡ old ++ p → new ≡ one ++ q → new ≡ old ++ (p ++ q)
-joined old p q one new a b = b ∙ ap (λ (xs : Bytes). xs ++ q) a ∙ append_assoc old p q
-
 pub three : {E : Type 0} (r : Result (Unit {0}) E) (old p q t one next new : Bytes) → one ≡ old ++ p → next ≡ one ++ q → OnOk r (new ≡ next ++ t) → OnOk r (new ≡ old ++ (p ++ (q ++ t)))
 three r old p q t one next new a b c = two r old p (q ++ t) one new a (two r one q t next new b c)

@@ -84,6 +84,17 @@ fn push_field(into: &mut Text, fields: &Fields, i: usize) -> Result<(), NoMemory
     fields.show(i, into)
 }
 
+// Appends a field that is not the first.
+#[tactic(auto, using(byte_text::specs::TextLaws::kept))]
+fn push_next(into: &mut Text, fields: &Fields, i: usize) -> Result<(), NoMemory>
+    requires { i < length fields.now }
+    ensures ok { OnOk result (IfSome (slice_get fields.now i) (λ f. into.new ≡ into.old ++ 44 ∷ field_part f)) }
+    ensures kept { take (length into.old) into.new ≡ into.old }
+{
+    into.push(b",")?;
+    push_field(into, fields, i)
+}
+
 /// Appends the fields, where there are some.
 #[tactic(auto, using(byte_text::specs::TextLaws::kept))]
 pub(crate) fn push_fields(into: &mut Text, fields: &Fields) -> Result<(), NoMemory>
@@ -96,8 +107,7 @@ pub(crate) fn push_fields(into: &mut Text, fields: &Fields) -> Result<(), NoMemo
     into.push(b",\"fields\":{")?;
     push_field(into, fields, 0)?;
     for i in 1..fields.len() {
-        into.push(b",")?;
-        push_field(into, fields, i)?;
+        push_next(into, fields, i)?;
     }
     into.push(b"}")
 }
