@@ -11,8 +11,8 @@ ghost use Rattle.nearest_query.specs.Hits.{near_found, is_closer, AreHits};
 
 use byte_text::NoMemory;
 use collection::Collection;
+use object_match::meets_query;
 use planar_geom::{Pt, box_dist2, box_of};
-use search_query::meets_query;
 use std::alloc::Global;
 use world_data::{Object, Query};
 

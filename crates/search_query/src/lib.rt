@@ -1,10 +1,8 @@
 //! Queries over the objects of one key by id: SCAN, WITHIN and INTERSECTS.
 #![tactic(auto)]
 
-mod matches;
 mod pages;
 
-pub use matches::meets_query;
 pub use pages::{add_id, end_page, is_count, page};
 
 #[cfg(test)]

@@ -7,9 +7,9 @@ ghost use Rattle.byte_text.specs.Globs.{is_sound_glob};
 ghost use Rattle.search_query.specs.Directions.{is_down};
 ghost use Rattle.search_query.specs.Pages.{is_past, IsEnough};
 
-use crate::matches::meets_query;
 use byte_text::{Name, NoMemory};
 use collection::Collection;
+use object_match::meets_query;
 use std::alloc::Global;
 use world_data::{NameList, Object, Page, Query, Rule, Shown};
 

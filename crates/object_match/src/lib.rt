@@ -1,0 +1,15 @@
+//! Whether an object meets a query or is in a fence: the pattern of ids, the tests of fields, and the area.
+#![tactic(auto)]
+
+mod areas;
+mod fences;
+mod patterns;
+mod queries;
+
+pub use areas::meets_area;
+pub use fences::{is_in_fence, meets_fence};
+pub use patterns::meets_glob;
+pub use queries::meets_query;
+
+#[cfg(test)]
+mod tests;

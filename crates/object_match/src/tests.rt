@@ -1,0 +1,1 @@
+//! Whether objects meet queries and fences.
