@@ -7,7 +7,7 @@ ghost use Rattle.world_data.specs.Worlds.{has_key};
 ghost use Rattle.world_model.specs.Effects.{effect, changed_count, given_and_cleared, missing};
 ghost use Rattle.world_model.specs.declared.commands.Command.TheVariants as command;
 ghost use Rattle.keyspace.specs.Entries.{objects_in};
-ghost use Rattle.tile_core.specs.Kernels.{AreKept};
+ghost use Rattle.tile_core.specs.CoreStates.{AreKept};
 ghost use Rattle.tile_core.specs.Moves.{world_in};
 ghost use Rattle.tile_core.specs.Plans.{IsPlan};
 

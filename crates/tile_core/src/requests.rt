@@ -8,7 +8,7 @@ ghost use Rattle.world_model.specs.Refusals.{fault_reply as fault_pieces, broken
 ghost use Rattle.world_model.specs.Served.{asks};
 ghost use Rattle.world_model.specs.declared.commands.Command.TheVariants as command;
 ghost use Rattle.cmd_words.specs.Laws.{IsServed};
-ghost use Rattle.tile_core.specs.Kernels.{AreKept};
+ghost use Rattle.tile_core.specs.CoreStates.{AreKept};
 ghost use Rattle.keyspace.specs.Entries.{objects_in};
 ghost use Rattle.tile_core.specs.Moves.{world_in};
 ghost use Rattle.tile_core.specs.Plans.{IsPlan, ends_with, effect_of_read, effect_of_asked};

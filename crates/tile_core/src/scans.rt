@@ -10,7 +10,7 @@ ghost use Rattle.world_model.specs.Effects.{effect, says, within_reply};
 ghost use Rattle.world_model.specs.Replies.{page_reply, item_reply};
 ghost use Rattle.world_model.specs.declared.commands.Command.TheVariants as command;
 ghost use Rattle.keyspace.specs.Entries.{objects_in};
-ghost use Rattle.tile_core.specs.Kernels.{AreKept};
+ghost use Rattle.tile_core.specs.CoreStates.{AreKept};
 ghost use Rattle.tile_core.specs.Moves.{world_in};
 ghost use Rattle.tile_core.specs.Plans.{IsPlan, Replies, Says};
 ghost use Rattle.tile_core.specs.Listings.{keys_met, joined, AreItems, IsTooLong};
