@@ -33,8 +33,13 @@ fn has_key(objects: &Keyspace, key: &Name) -> bool
     }
 }
 
-// The refusal of a command on an object that is not there.
-fn plan_missing(alloc: Global, objects: &Keyspace, total: u64, key: &Name) -> Result<Plan, NoMemory>
+/// The refusal of a command on an object that is not there.
+pub(crate) fn plan_missing(
+    alloc: Global,
+    objects: &Keyspace,
+    total: u64,
+    key: &Name,
+) -> Result<Plan, NoMemory>
     requires { AreKept (objects_in objects.now) total }
     ensures { IfOk result (λ p. IsPlan (objects_in objects.now) (missing (world_in objects.now) key.now) p) }
 {
