@@ -11,7 +11,7 @@ use Rattle.tile_core.specs.declared.sessions.Session.{Session}
 use Rattle.tile_core.specs.declared.sessions.Stage.{Stage}
 use Rattle.tile_core.specs.declared.sessions.Stage.TheVariants.{Live, Closing}
 use Rattle.tile_core.specs.Sessions.{stage_of, session_of, answered, Rises, IsServed}
-use Rattle.tile_core.specs.Kernels.{hall_of}
+use Rattle.tile_core.specs.CoreStates.{hall_of}
 use Rattle.tile_core.specs.Answered.{IsAnswered}
 use Rattle.tile_core.proofs.Present.{found, none_found, rises_set, get_set}
 

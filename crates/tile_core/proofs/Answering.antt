@@ -16,7 +16,7 @@ use Rattle.world_model.specs.Effects.{Effect, says, changes, within_reply}
 use Rattle.world_data.specs.declared.objects.Object.{Object}
 use Rattle.tile_core.specs.declared.moves.Move.TheVariants.{Stay}
 use Rattle.tile_core.specs.declared.plans.Plan.{Plan}
-use Rattle.tile_core.specs.Kernels.{AreKept}
+use Rattle.tile_core.specs.CoreStates.{AreKept}
 use Rattle.tile_core.specs.Plans.{Says, IsPlan}
 
 -- changes behind a reply that fits

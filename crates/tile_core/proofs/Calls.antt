@@ -34,10 +34,10 @@ use Rattle.world_model.specs.declared.events.Outcome.TheVariants.{Answered}
 use Rattle.tile_core.specs.declared.sessions.Session.{Session}
 use Rattle.tile_core.specs.declared.plans.Plan.{Plan}
 use Rattle.tile_core.specs.Moves.{world_of, moved}
-use Rattle.tile_core.specs.declared.dues.Gone.{Gone}
+use Rattle.tile_core.specs.declared.dues.Expired.{Expired}
 use Rattle.tile_core.specs.Dues.{IsExpired}
 use Rattle.tile_core.specs.Sessions.{session_of, is_open, is_full, answered, Rises, AreOthers, IsServed}
-use Rattle.tile_core.specs.Kernels.{hall_of}
+use Rattle.tile_core.specs.CoreStates.{hall_of}
 use Rattle.tile_core.specs.Plans.{effect_of_read, effect_of_asked, after_all, records_len, IsOfObjects, IsPlan}
 use Rattle.tile_core.proofs.Present.{found, none_found, changed, rises_set, get_set, set_twice}
 use Rattle.tile_core.proofs.Steps.{call_spent, call_gone, call_closed, call_full, call_lacks, call_done, tick_spent, tick_lacks, tick_done}
@@ -115,11 +115,11 @@ are_dels [] = tt
 are_dels (o ∷ os) = (tt, are_dels os)
 
 -- what was taken out is what is due
-gone_are : (objects : List Object) (now total : ℕ) (rest : List Object) (g : Gone) → IsExpired objects now total rest g → expired (world_of objects) now ≡ g.held.items
+gone_are : (objects : List Object) (now total : ℕ) (rest : List Object) (g : Expired) → IsExpired objects now total rest g → expired (world_of objects) now ≡ g.held.items
 gone_are objects now total rest g e =
     sym (sym (all_there g.held.items) ∙ ap (λ (os : List Object). g.held.items ++ sorted_by due_before os) (sym e.none) ∙ e.taken.order)
 
-module _ (objects : List Object) (now logged drawn : ℕ) (sessions : List Session) (moment total : ℕ) (rest : List Object) (g : Gone) (e : IsExpired objects (max now moment) total rest g) where
+module _ (objects : List Object) (now logged drawn : ℕ) (sessions : List Session) (moment total : ℕ) (rest : List Object) (g : Expired) (e : IsExpired objects (max now moment) total rest g) where
   pub clock : due (hall_of objects now logged drawn sessions) moment ≡ hall_of rest (max now moment) (logged + g.length) drawn sessions
   clock =
       let m = max now moment in
@@ -215,7 +215,7 @@ module _ (objects : List Object) (now logged drawn : ℕ) (sessions : List Sessi
           pub lacks : Step hall (Call n moment asked) (Answered called.Memory) hall
           lacks = call_lacks hall n moment asked refl unspent (session_of s) (found 0 drawn sessions i n s rises at numbered) lives open_
 
-          pub done : (total : ℕ) (rest : List Object) (g : Gone) (e : IsExpired objects (max now moment) total rest g) (p : Plan) → IsPlan rest (effect_of_asked (world_of rest) (max now moment) asked) p
+          pub done : (total : ℕ) (rest : List Object) (g : Expired) (e : IsExpired objects (max now moment) total rest g) (p : Plan) → IsPlan rest (effect_of_asked (world_of rest) (max now moment) asked) p
               → Step hall (Call n moment asked) (Answered called.Ok) (hall_of (moved rest p.action) (max now moment) ((logged + g.length) + p.length) drawn (slice_set sessions i (answered p.frame p.closes s)))
           done total rest g e p is = subst (λ (h : Hall). Step hall (Call n moment asked) (Answered called.Ok) h)
               (ap (λ (h : Hall). do_call h n asked) (clock objects now logged drawn sessions moment total rest g e) ∙ made rest (max now moment) (logged + g.length) drawn sessions n i s rises at numbered lives open_ asked p is)

@@ -16,7 +16,7 @@ use Rattle.tile_core.specs.declared.plans.Plan.{Plan}
 use Rattle.tile_core.specs.Moves.{world_of, moved}
 use Rattle.tile_core.specs.Sessions.{IsServed, is_full}
 use Rattle.tile_core.specs.Plans.{after_all, IsPlan}
-use Rattle.tile_core.specs.Kernels.{AreKept, ArePresent}
+use Rattle.tile_core.specs.CoreStates.{AreKept, ArePresent}
 use Rattle.tile_core.specs.Dues.{IsTaken}
 use Rattle.tile_core.proofs.Present.{rises_set, rises_remove}
 

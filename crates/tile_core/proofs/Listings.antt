@@ -1,6 +1,6 @@
 -- Items that are pushed one after another.
-use Rattle.std.proofs.Common.{◌≡◌, ◌≢◌, ◌+◌, ◌≤◌, ◌<◌, ℕ, zero, suc, true, false, refl, sym, ◌∙◌, ap, subst, List, [], ◌∷◌, ◌++◌, length, take, drop, map, length-append, arith}
-use Rattle.std.specs.Prelude.{filter, find, reverse, slice_get, Some, IfSome}
+use Rattle.std.proofs.Common.{◌≡◌, ◌≢◌, ◌+◌, ◌≤◌, ◌<◌, ℕ, zero, suc, Bool, true, false, refl, sym, ◌∙◌, ap, subst, List, [], ◌∷◌, ◌++◌, length, take, drop, map, length-append, arith}
+use Rattle.std.specs.Prelude.{filter, find, reverse, slice_get, Option, Some, None, IfSome, if◌then◌else◌}
 use Rattle.std.proofs.lemmas.List.{take_more, reverse-append, append-nil, map-append, take-append-drop}
 use Rattle.std.proofs.lemmas.List.Elements.{filter-append}
 use Rattle.std.proofs.lemmas.Grind.{flat_map-append}
@@ -16,11 +16,16 @@ use Rattle.keyspace.specs.Entries.{Entry, has_objects}
 use Rattle.reply_text.specs.declared.frames.ReplyFault.{ReplyFault}
 use Rattle.reply_text.specs.declared.frames.ReplyFault.TheVariants as fault
 use Rattle.std.specs.List.{All, AllByRecursion, list_all}
-use Rattle.std.proofs.lemmas.List.Elements.{All-take, All-drop, All-filter, All-append, All-cons, All-nil, All-from_recursion, recursion_from_All}
-use Rattle.fence_model.specs.Queries.{matches, in_order, meets_query, page_items, page_cursor, is_count, IsPageOf}
-use Rattle.world_data.specs.Worlds.{objects_of}
-use Rattle.world_model.specs.Effects.{effect, says, within_reply}
-use Rattle.ordered_lists.specs.Lists.{distinct}
+use Rattle.std.proofs.lemmas.List.Elements.{All-take, All-drop, All-filter, filter_map-append, All-append, All-cons, All-nil, All-from_recursion, recursion_from_All}
+use Rattle.planar_geom.specs.Points.{Point}
+use Rattle.planar_geom.specs.declared.shapes.Area.{Area}
+use Rattle.planar_geom.specs.declared.shapes.Area.TheVariants.{Figure}
+use Rattle.fence_model.specs.Queries.{matches, near_matches, nearer, within_reach, in_order, meets_query, page_items, page_cursor, is_count, IsPageOf}
+use Rattle.world_data.specs.Worlds.{object_at, objects_of}
+use Rattle.world_model.specs.Effects.{effect, missing, rule_over, says, within_reply}
+use Rattle.world_model.specs.declared.commands.AreaWords.TheVariants.{Given, Of}
+use Rattle.tile_core.proofs.Changing.{missing_fits}
+use Rattle.ordered_lists.specs.Lists.{distinct, insert_by, sorted_by}
 use Rattle.world_model.specs.Replies.{item_reply, page_reply}
 use Rattle.world_data.specs.declared.worlds.World.{World}
 use Rattle.world_model.specs.declared.commands.Command.TheVariants as command
@@ -34,7 +39,7 @@ use Rattle.world_data.specs.declared.queries.Rule.TheVariants as rule
 use Rattle.collection.specs.Objects.{id_before, has_id, are_by_id}
 use Rattle.byte_text.specs.ByteOrder.{other_before, same_refl}
 use Rattle.ordered_lists.specs.Reading.{both_of}
-use Rattle.tile_core.specs.Listings.{keys_met, joined, AreItems, IsTooLong}
+use Rattle.tile_core.specs.Listings.{keys_met, joined, listing, objects_of_ids, AreItems, IsFirst, IsTooLong}
 
 pub one_more : {A : Type 0} (xs : List A) (i : ℕ) (x : A) → slice_get xs i ≡ Some x → take (i + 1) xs ≡ take i xs ++ x ∷ []
 one_more xs i x e = take_more xs i x (slice_get_within xs i x e) ∙ ap (λ y. take i xs ++ y ∷ []) (get_or_from_slice_get xs i x x e)
@@ -147,10 +152,6 @@ long_page head first rest fault.Memory long = tt
 pub met_first : (pattern : Bytes) (entries : List Entry) (n : ℕ) → map bulk (keys_met pattern entries) ≡ map bulk (keys_met pattern (take n entries)) ++ map bulk (keys_met pattern (drop n entries))
 met_first pattern entries n = ap (λ es. map bulk (keys_met pattern es)) (sym (take-append-drop n entries)) ∙ ap (map bulk) (met_both pattern (take n entries) (drop n entries)) ∙ map-append bulk (keys_met pattern (take n entries)) (keys_met pattern (drop n entries))
 
--- the object is the first of its id
-abbrev IsFirst : List Object → Object → Type 0
-IsFirst objects o = find (has_id o.id) objects ≡ Some o
-
 first_behind : (o : Object) (objects all : List Object) → list_all (id_before o) objects ≡ true → AllByRecursion (IsFirst all) objects → AllByRecursion (IsFirst (o ∷ all)) objects
 first_behind o [] all below firsts = tt
 first_behind o (p ∷ objects) all below firsts =
@@ -174,10 +175,49 @@ all_in_order P rule.All objects all = all
 all_in_order P (rule.Kept kind a) objects all = all
 all_in_order P rule.Nearest objects all = all
 
--- each object of a page is the first of its id
-pub page_first : (q : Query) (objects : List Object) → are_by_id objects ≡ true → All (IsFirst objects) (page_items q (matches q objects))
-page_first q objects by_id = All-take (IsFirst objects) q.limit (drop q.cursor (matches q objects)) (All-drop (IsFirst objects) q.cursor (matches q objects)
-    (all_in_order (IsFirst objects) q.rule (filter (meets_query q) objects) (All-filter (meets_query q) (IsFirst objects) objects (All-from_recursion (IsFirst objects) objects (all_first objects by_id)))))
+-- each object that is found by id or by area is the first of its id
+pub matches_first : (q : Query) (objects : List Object) → are_by_id objects ≡ true → All (IsFirst objects) (matches q objects)
+matches_first q objects by_id = all_in_order (IsFirst objects) q.rule (filter (meets_query q) objects)
+    (All-filter (meets_query q) (IsFirst objects) objects (All-from_recursion (IsFirst objects) objects (all_first objects by_id)))
+
+all_insert_by : (P : Object → Type 0) (lt : Object → Object → Bool) (o : Object) (objects : List Object) → P o → AllByRecursion P objects → AllByRecursion P (insert_by lt o objects)
+all_insert_by P lt o [] here all = (here, tt)
+all_insert_by P lt o (p ∷ objects) here all = put (lt p o) (all_insert_by P lt o objects here all.1)
+  where
+    put : (b : Bool) → AllByRecursion P (insert_by lt o objects) → AllByRecursion P (if b then p ∷ insert_by lt o objects else o ∷ p ∷ objects)
+    put true rest = (all.0, rest)
+    put false rest = (here, all)
+
+all_sorted_by : (P : Object → Type 0) (lt : Object → Object → Bool) (objects : List Object) → AllByRecursion P objects → AllByRecursion P (sorted_by lt objects)
+all_sorted_by P lt [] all = tt
+all_sorted_by P lt (o ∷ objects) all = all_insert_by P lt o (sorted_by lt objects) all.0 (all_sorted_by P lt objects all.1)
+
+-- so is each that is found by distance
+pub near_first : (q : Query) (p : Point) (reach : Option ℕ) (objects : List Object) → are_by_id objects ≡ true → All (IsFirst objects) (near_matches q p reach objects)
+near_first q p reach objects by_id =
+    let met = All-filter (meets_query q) (IsFirst objects) objects (All-from_recursion (IsFirst objects) objects (all_first objects by_id)) in
+    let near = All-filter (within_reach p reach) (IsFirst objects) (filter (meets_query q) objects) met in
+    let found = filter (within_reach p reach) (filter (meets_query q) objects) in
+    All-from_recursion (IsFirst objects) (sorted_by (nearer p) found) (all_sorted_by (IsFirst objects) (nearer p) found (recursion_from_All (IsFirst objects) found near))
+
+all_listed : (objects found : List Object) → AllByRecursion (IsFirst objects) found → objects_of_ids objects (map (λ o. o.id) found) ≡ found
+all_listed objects [] firsts = refl
+all_listed objects (o ∷ found) firsts = rw firsts.0 (ap (λ os. o ∷ os) (all_listed objects found firsts.1))
+
+-- an id more
+pub id_more : (objects : List Object) (ids : List Bytes) (i : ℕ) (id : Bytes) (o : Object) → slice_get ids i ≡ Some id → find (has_id id) objects ≡ Some o → objects_of_ids objects (take (i + 1) ids) ≡ objects_of_ids objects (take i ids) ++ o ∷ []
+id_more objects ids i id o at there =
+    let alone : objects_of_ids objects (id ∷ []) ≡ o ∷ [] = rw there refl in
+    ap (objects_of_ids objects) (one_more ids i id at) ∙ filter_map-append (λ n. find (has_id n) objects) (take i ids) (id ∷ []) ∙ ap (λ os. objects_of_ids objects (take i ids) ++ os) alone
+
+pub id_lost : (objects : List Object) (ids : List Bytes) (i : ℕ) (id : Bytes) → slice_get ids i ≡ Some id → find (has_id id) objects ≡ None → objects_of_ids objects (take (i + 1) ids) ≡ objects_of_ids objects (take i ids)
+id_lost objects ids i id at absent =
+    let alone : objects_of_ids objects (id ∷ []) ≡ [] = rw absent refl in
+    ap (objects_of_ids objects) (one_more ids i id at) ∙ filter_map-append (λ n. find (has_id n) objects) (take i ids) (id ∷ []) ∙ ap (λ os. objects_of_ids objects (take i ids) ++ os) alone ∙ append-nil (objects_of_ids objects (take i ids))
+
+-- the objects of the first ids come first
+pub ids_first : (objects : List Object) (ids : List Bytes) (n : ℕ) → objects_of_ids objects ids ≡ objects_of_ids objects (take n ids) ++ objects_of_ids objects (drop n ids)
+ids_first objects ids n = ap (objects_of_ids objects) (sym (take-append-drop n ids)) ∙ filter_map-append (λ id. find (has_id id) objects) (take n ids) (drop n ids)
 
 not_count : (s : Shown) → s ≢ shown.Count → is_count s ≡ false
 not_count shown.Count other = absurd (other refl)
@@ -185,38 +225,6 @@ not_count shown.Ids other = refl
 not_count shown.Objects other = refl
 not_count shown.Points other = refl
 not_count shown.Bounds other = refl
-
--- an object of a mapped list stands at the same place
-unmapped : (objects : List Object) (i : ℕ) (id : Bytes) → slice_get (map (λ o. o.id) objects) i ≡ Some id → (o : Object) × (slice_get objects i ≡ Some o) × (o.id ≡ id)
-unmapped [] i id e = absurd (grind arith)
-unmapped (o ∷ objects) zero id e = (o, refl, grind arith)
-unmapped (o ∷ objects) (suc i) id e = unmapped objects i id e
-
-all_at : (P : Object → Type 0) (objects : List Object) (i : ℕ) (o : Object) → All P objects → slice_get objects i ≡ Some o → P o
-all_at P objects i o all e = subst P (get_or_from_slice_get objects i o o e) (all i o (slice_get_within objects i o e))
-
-module _ (q : Query) (objects : List Object) (page : Page) (i : ℕ) (id : Bytes) (paged : IsPageOf q (matches q objects) page) (other : q.shown ≢ shown.Count)
-    (by_id : are_by_id objects ≡ true) (at : slice_get page.ids i ≡ Some id) where
-  abbrev items : List Object
-  items = page_items q (matches q objects)
-
-  ids_are : page.ids ≡ map (λ o. o.id) items
-  ids_are = paged.ids ∙ rw (not_count q.shown other) refl
-
-  abbrev item : (o : Object) × (slice_get items i ≡ Some o) × (o.id ≡ id)
-  item = unmapped items i id (subst (λ ids. slice_get ids i ≡ Some id) ids_are at)
-
-  -- the object that the page shows at this place
-  pub paged_object : Object
-  paged_object = item.0
-
-  pub paged_found : find (has_id id) objects ≡ Some paged_object
-  unfolding paged_object
-  paged_found = subst (λ n. find (has_id n) objects ≡ Some paged_object) item.2 (all_at (IsFirst objects) items i item.0 (page_first q objects by_id) item.1)
-
-  pub paged_more : map (item_reply q) (take (i + 1) (page_items q (matches q objects))) ≡ map (item_reply q) (take i (page_items q (matches q objects))) ++ item_reply q paged_object ∷ []
-  unfolding paged_object
-  paged_more = ap (map (item_reply q)) (one_more items i item.0 item.1) ∙ map-append (item_reply q) (take i items) (item.0 ∷ [])
 
 -- the reply of a page that is no number
 page_of : (q : Query) (objects : List Object) (s : Shown) → s ≢ shown.Count → let r : Query = record q { shown = s } in
@@ -230,13 +238,48 @@ page_of q objects shown.Bounds other = refl
 pub page_is : (q : Query) (objects : List Object) → q.shown ≢ shown.Count → page_reply q objects ≡ array (number (page_cursor q objects) ∷ array (map (item_reply q) (page_items q objects)) ∷ [])
 page_is q objects other = page_of q objects q.shown other
 
-pub same_object : {o p : Object} → Some o ≡ Some p → o ≡ p
-same_object {o} {p} e = grind arith
+-- the listing of a page that is no number is its reply
+pub page_listed : (q : Query) (objects found : List Object) (page : Page) → All (IsFirst objects) found → IsPageOf q found page → q.shown ≢ shown.Count → listing q page.cursor (objects_of_ids objects page.ids) ≡ page_reply q found
+page_listed q objects found page firsts paged other =
+    let no = not_count q.shown other in
+    let cursor : page.cursor ≡ page_cursor q found = paged.cursor ∙ rw no refl in
+    let ids : page.ids ≡ map (λ o. o.id) (page_items q found) = paged.ids ∙ rw no refl in
+    let on_page = All-take (IsFirst objects) q.limit (drop q.cursor found) (All-drop (IsFirst objects) q.cursor found firsts) in
+    let items : objects_of_ids objects page.ids ≡ page_items q found = ap (objects_of_ids objects) ids ∙ all_listed objects (page_items q found) (recursion_from_All (IsFirst objects) (page_items q found) on_page) in
+    ap (λ (n : ℕ). listing q n (objects_of_ids objects page.ids)) cursor ∙ ap (listing q (page_cursor q found)) items ∙ sym (page_is q found other)
+
+-- the reply of a number
+pub page_counted : (q : Query) (found : List Object) (page : Page) → IsPageOf q found page → q.shown ≡ shown.Count → number page.count ≡ page_reply q found
+page_counted q found page paged is = counted q.shown is (paged.count)
+  where
+    counted : (s : Shown) → s ≡ shown.Count → page.count ≡ (if is_count s then length found else 0) → number page.count ≡ page_reply (record q { shown = s }) found
+    counted shown.Count is e = ap number e
+    counted shown.Ids is e = absurd (cc)
+    counted shown.Objects is e = absurd (cc)
+    counted shown.Points is e = absurd (cc)
+    counted shown.Bounds is e = absurd (cc)
 
 module _ (w : World) (now : ℕ) where
   pub scanned : (key : Bytes) (q : Query) → effect w now [] (command.Scan key q) ≡ within_reply (says (page_reply q (matches q (objects_of w key))))
   unfolding effect
   scanned key q = refl
+
+  pub searched : (key : Bytes) (q : Query) (a : Area) → effect w now [] (command.Search key q (Given a)) ≡ within_reply (says (page_reply q (matches (record q { rule = rule_over q.rule a }) (objects_of w key))))
+  unfolding effect
+  searched key q a = refl
+
+  pub searched_figure : (key : Bytes) (q : Query) (of_key id : Bytes) (o : Object) → object_at w of_key id ≡ Some o
+      → effect w now [] (command.Search key q (Of of_key id)) ≡ within_reply (says (page_reply q (matches (record q { rule = rule_over q.rule (Figure o.shape) }) (objects_of w key))))
+  unfolding effect
+  searched_figure key q of_key id o e = rw e refl
+
+  pub searched_nothing : (key : Bytes) (q : Query) (of_key id : Bytes) → object_at w of_key id ≡ None → effect w now [] (command.Search key q (Of of_key id)) ≡ missing w of_key
+  unfolding effect
+  searched_nothing key q of_key id e = rw e (missing_fits w of_key)
+
+  pub neared : (key : Bytes) (q : Query) (p : Point) (reach : Option ℕ) → effect w now [] (command.Nearby key q p reach) ≡ within_reply (says (page_reply q (near_matches q p reach (objects_of w key))))
+  unfolding effect
+  neared key q p reach = refl
 
   pub keyed : (pattern : Bytes) (keys : List Bytes) → distinct (map (λ o. o.key) w.objects) ≡ keys
       → effect w now [] (command.Keys pattern) ≡ within_reply (says (array (map bulk (filter (glob_meets pattern) keys))))

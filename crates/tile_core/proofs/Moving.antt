@@ -9,7 +9,7 @@ use Rattle.world_data.specs.declared.objects.Object.{Object}
 use Rattle.tile_core.specs.declared.moves.Move.{Move}
 use Rattle.tile_core.specs.declared.moves.Move.TheVariants.{Stay, Put, Delete, DeleteEach, Leave, Clear}
 use Rattle.tile_core.specs.Moves.{moved, without_each, HoldsOfPut}
-use Rattle.tile_core.specs.Dues.{IsCalm, AreCalm}
+use Rattle.tile_core.specs.Dues.{IsDueFrom, AreDueFrom}
 
 -- the ids that are left, after one more is taken out
 next_out : (key : Bytes) (ids : List Bytes) (i : ℕ) (id : Bytes) (xs : List Object) → slice_get ids i ≡ Some id → without_each key (drop i ids) xs ≡ without_each key (drop (suc i) ids) (filter (λ o. not (is_at key id o)) xs)
@@ -52,10 +52,10 @@ module _ (P : Object → Type 0) where
   all_moved xs (Leave key) h ps = all_filtered (λ o. not (has_key key o)) xs ps
   all_moved xs Clear h ps = tt
 
--- a moment before a calm one is calm
-calmer : (calm less : ℕ) → less ≤ calm → (xs : List Object) → AreCalm calm xs → AreCalm less xs
-calmer calm less le [] ps = tt
-calmer calm less le (x ∷ xs) ps = (λ d e. let far = ps.0 d e in omega (arith, le, far), calmer calm less le xs ps.1)
+-- what is due from a moment on is not due before an earlier one
+due_earlier : (due_from less : ℕ) → less ≤ due_from → (xs : List Object) → AreDueFrom due_from xs → AreDueFrom less xs
+due_earlier due_from less le [] ps = tt
+due_earlier due_from less le (x ∷ xs) ps = (λ d e. let far = ps.0 d e in omega (arith, le, far), due_earlier due_from less le xs ps.1)
 
-pub calm_moved : (calm less : ℕ) (xs : List Object) (action : Move) → less ≤ calm → HoldsOfPut (IsCalm less) action → AreCalm calm xs → AreCalm less (moved xs action)
-calm_moved calm less xs action le h ps = all_moved (IsCalm less) xs action h (calmer calm less le xs ps)
+pub due_from_moved : (due_from less : ℕ) (xs : List Object) (action : Move) → less ≤ due_from → HoldsOfPut (IsDueFrom less) action → AreDueFrom due_from xs → AreDueFrom less (moved xs action)
+due_from_moved due_from less xs action le h ps = all_moved (IsDueFrom less) xs action h (due_earlier due_from less le xs ps)

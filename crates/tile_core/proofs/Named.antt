@@ -6,7 +6,7 @@ use Rattle.world_model.specs.Halls as halls
 use Rattle.world_model.specs.Halls.{Hall, NamesChanged}
 use Rattle.tile_core.specs.declared.sessions.Session.{Session}
 use Rattle.tile_core.specs.Sessions.{session_of}
-use Rattle.tile_core.specs.Kernels.{hall_of, ArePresent}
+use Rattle.tile_core.specs.CoreStates.{hall_of, ArePresent}
 use Rattle.tile_core.specs.Answered.{AreSessions}
 use Rattle.tile_core.proofs.Places.{rises_same, long_same}
 

@@ -7,7 +7,7 @@ use Rattle.world_model.specs.Halls as halls
 use Rattle.world_model.specs.Halls.{NamesChanged}
 use Rattle.tile_core.specs.declared.sessions.Session.{Session}
 use Rattle.tile_core.specs.Sessions.{session_of, AreOthers}
-use Rattle.tile_core.specs.Kernels.{hall_of}
+use Rattle.tile_core.specs.CoreStates.{hall_of}
 use Rattle.tile_core.specs.Answered.{is_named, AreSessions, StayNamed}
 
 -- one more is named

@@ -15,10 +15,10 @@ use Rattle.world_data.specs.declared.objects.Object.{Object}
 use Rattle.world_data.specs.declared.worlds.World.{World}
 use Rattle.world_data.specs.declared.worlds.Change.TheVariants as change
 use Rattle.keyspace.specs.Entries.{Entry, objects_in, room_for, has_room}
-use Rattle.tile_core.specs.Kernels.{AreKept}
+use Rattle.tile_core.specs.CoreStates.{AreKept}
 use Rattle.tile_core.specs.Moves.{world_of, len_of, HasFewFields}
 use Rattle.tile_core.specs.Plans.{after_all, records_len}
-use Rattle.tile_core.specs.Dues.{AreCalm, IsTaken, IsTakenOut, HaveRoom, with_back}
+use Rattle.tile_core.specs.Dues.{AreDueFrom, IsTaken, IsTakenOut, HaveRoom, with_back}
 use Rattle.tile_core.proofs.Moving.{all_filtered}
 use Rattle.tile_core.proofs.RecordWords.{del_short}
 use Rattle.tile_core.proofs.Standing.{back_there, found_holds, found_sum, shorter}
@@ -103,9 +103,9 @@ module _ (entries : List Entry) (held : List Object) (o : Object) where
         at_most false c = omega arith
 
 -- nothing is due before the first deadline
-pub none_due : (calm now : ℕ) (xs : List Object) → AreCalm calm xs → now < calm → filter (is_due now) xs ≡ []
-none_due calm now [] ps lt = refl
-none_due calm now (x ∷ xs) ps lt = rw (far x.deadline refl) (none_due calm now xs ps.1 lt)
+pub none_due : (due_from now : ℕ) (xs : List Object) → AreDueFrom due_from xs → now < due_from → filter (is_due now) xs ≡ []
+none_due due_from now [] ps lt = refl
+none_due due_from now (x ∷ xs) ps lt = rw (far x.deadline refl) (none_due due_from now xs ps.1 lt)
   where
     far : (d : Option ℕ) → x.deadline ≡ d → is_due now x ≡ false
     far None e = rw e refl

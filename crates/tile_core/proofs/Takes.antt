@@ -13,7 +13,7 @@ use Rattle.tile_core.specs.declared.sessions.Stage.TheVariants.{Live, Closing}
 use Rattle.tile_core.specs.declared.sessions.Session.{Session}
 use Rattle.tile_core.specs.Moves.{world_of}
 use Rattle.tile_core.specs.Sessions.{session_of, taken_from, is_open, closed, Rises, AreOthers}
-use Rattle.tile_core.specs.Kernels.{hall_of}
+use Rattle.tile_core.specs.CoreStates.{hall_of}
 use Rattle.tile_core.proofs.Present.{found, none_found, none_removed, removed, changed, unchanged}
 use Rattle.tile_core.proofs.Steps.{take_absent, take_ended, take_empty, take_given, close_done, remove_done}
 

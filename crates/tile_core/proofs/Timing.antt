@@ -14,7 +14,7 @@ use Rattle.world_data.specs.declared.worlds.Change.TheVariants as change
 use Rattle.world_data.specs.declared.objects.Object.{Object}
 use Rattle.world_data.specs.declared.worlds.World.{World}
 use Rattle.world_model.specs.declared.commands.Command.TheVariants as command
-use Rattle.tile_core.specs.Kernels.{AreKept}
+use Rattle.tile_core.specs.CoreStates.{AreKept}
 use Rattle.tile_core.specs.Moves.{world_of, len_of, HasFewFields}
 use Rattle.tile_core.specs.Plans.{put_or_full, without_deadline}
 use Rattle.tile_core.proofs.RecordWords.{bare_short}

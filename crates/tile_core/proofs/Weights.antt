@@ -10,7 +10,7 @@ use Rattle.world_data.specs.Records.{weight}
 use Rattle.world_data.specs.declared.objects.Object.{Object}
 use Rattle.byte_text.specs.ByteOrder.{before_tie, before_self, same_refl, same_equal}
 use Rattle.ordered_lists.specs.NameOrder.{pair_asym}
-use Rattle.tile_core.specs.Kernels.{AreKept}
+use Rattle.tile_core.specs.CoreStates.{AreKept}
 use Rattle.tile_core.specs.Moves.{world_of, len_of, HasFewFields, HaveFewFields}
 use Rattle.world_data.specs.Limits.{max_weight}
 use Rattle.tile_core.proofs.FieldOrder.{take_more}

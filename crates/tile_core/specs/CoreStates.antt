@@ -7,11 +7,11 @@ use Rattle.world_model.specs.Halls.{Hall}
 use Rattle.world_data.specs.declared.objects.Object.{Object}
 use Rattle.tile_core.specs.declared.sessions.Session.{Session}
 use Rattle.tile_core.specs.Moves.{world_of}
-use Rattle.tile_core.specs.Dues.{AreCalm}
+use Rattle.tile_core.specs.Dues.{AreDueFrom}
 use Rattle.tile_core.specs.Sessions.{session_of, Rises}
 
 -- what contracts see: the hall
-pub record Kernel : Type 0 where
+pub record CoreState : Type 0 where
   pub hall : Hall
 
 -- the hall of these parts; no log can fail so far, so it never stops
@@ -32,6 +32,6 @@ pub record ArePresent (drawn : ℕ) (sessions : List Session) : Type 0 where
 -- the parts of a core: no deadline comes before the moment `until`, so until then nothing is due
 pub record IsSound (objects : List Object) (total until now drawn : ℕ) (sessions : List Session) : Type 0 where
   pub kept : AreKept objects total
-  pub calm : AreCalm until objects
+  pub due_from : AreDueFrom until objects
   pub early : now ≤ max_moment
   pub present : ArePresent drawn sessions

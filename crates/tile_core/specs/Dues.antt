@@ -10,16 +10,16 @@ use Rattle.fence_model.specs.Writes.{dels}
 use Rattle.world_data.specs.declared.objects.Object.{Object}
 use Rattle.world_data.specs.declared.worlds.Change.TheVariants as change
 use Rattle.keyspace.specs.Entries.{Entry, room_for}
-use Rattle.tile_core.specs.declared.dues.Gone.{Gone}
+use Rattle.tile_core.specs.declared.dues.Expired.{Expired}
 use Rattle.tile_core.specs.Moves.{world_of, HaveFewFields}
 use Rattle.tile_core.specs.Plans.{after_all, records_len}
 
 -- no deadline comes before this moment
-abbrev pub IsCalm : ℕ → Object → Type 0
-IsCalm calm o = (d : ℕ) → o.deadline ≡ Some d → calm ≤ d
+abbrev pub IsDueFrom : ℕ → Object → Type 0
+IsDueFrom due_from o = (d : ℕ) → o.deadline ≡ Some d → due_from ≤ d
 
-abbrev pub AreCalm : ℕ → List Object → Type 0
-AreCalm calm objects = AllByRecursion (IsCalm calm) objects
+abbrev pub AreDueFrom : ℕ → List Object → Type 0
+AreDueFrom due_from objects = AllByRecursion (IsDueFrom due_from) objects
 
 -- the objects with those that were taken out put back
 abbrev pub with_back : List Object → List Object → List Object
@@ -53,7 +53,7 @@ pub record IsTakenOut (old : List Object) (now : ℕ) (objects held more : List 
   pub rest_is : less + record_len (change.Put object) ≡ rest
 
 -- all that was due then is taken out
-pub record IsExpired (old : List Object) (now total : ℕ) (objects : List Object) (g : Gone) : Type 0 where
+pub record IsExpired (old : List Object) (now total : ℕ) (objects : List Object) (g : Expired) : Type 0 where
   pub taken : IsTaken old now total objects g.held.items g.length g.weight
   pub none : filter (is_due now) objects ≡ []
-  pub calm : AreCalm g.calm objects
+  pub due_from : AreDueFrom g.due_from objects

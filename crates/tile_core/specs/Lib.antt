@@ -5,5 +5,5 @@ pub mod Plans
 pub mod Sweeps
 pub mod Listings
 pub mod Dues
-pub mod Kernels
+pub mod CoreStates
 pub mod Answered

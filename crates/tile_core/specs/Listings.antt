@@ -1,9 +1,13 @@
 -- Replies of many items.
-use Rattle.std.specs.Prelude.{◌≡◌, ◌<◌, List, filter, flat_map, length, map}
+use Rattle.std.specs.Prelude.{◌≡◌, ◌<◌, ℕ, List, [], ◌∷◌, filter, filter_map, find, flat_map, length, map, Some}
 use Rattle.byte_text.specs.Names.{Bytes}
 use Rattle.byte_text.specs.Globs.{glob_meets}
-use Rattle.byte_text.specs.Replies.{frame_text}
+use Rattle.byte_text.specs.Replies.{frame_text, array, number}
 use Rattle.byte_text.specs.declared.replies.Piece.{Piece}
+use Rattle.collection.specs.Objects.{has_id}
+use Rattle.world_data.specs.declared.objects.Object.{Object}
+use Rattle.world_data.specs.declared.queries.Query.{Query}
+use Rattle.world_model.specs.Replies.{item_reply}
 use Rattle.reply_text.specs.Items.{Items}
 use Rattle.reply_text.specs.declared.frames.ReplyFault.{ReplyFault}
 use Rattle.reply_text.specs.declared.frames.ReplyFault.TheVariants as fault
@@ -22,6 +26,18 @@ joined replies = flat_map (λ r. r) replies
 pub record AreItems (replies : List (List Piece)) (items : Items) : Type 0 where
   pub text : items.text ≡ frame_text (joined replies)
   pub count : items.count ≡ length replies
+
+-- the objects of these ids, where they are there
+abbrev pub objects_of_ids : List Object → List Bytes → List Object
+objects_of_ids objects ids = filter_map (λ id. find (has_id id) objects) ids
+
+-- the object is the first of its id
+abbrev pub IsFirst : List Object → Object → Type 0
+IsFirst objects o = find (has_id o.id) objects ≡ Some o
+
+-- the reply of a page: where the next one begins, and the items
+abbrev pub listing : Query → ℕ → List Object → List Piece
+listing q cursor objects = array (number cursor ∷ array (map (item_reply q) objects) ∷ [])
 
 -- a frame that is too long is one of a reply that is
 abbrev pub IsTooLong : List Piece → ReplyFault → Type 0

@@ -7,7 +7,7 @@ ghost use Rattle.world_data.specs.Worlds.{has_key};
 ghost use Rattle.world_model.specs.Effects.{effect, changed_count, given_and_cleared, missing};
 ghost use Rattle.world_model.specs.declared.commands.Command.TheVariants as command;
 ghost use Rattle.keyspace.specs.Entries.{objects_in};
-ghost use Rattle.tile_core.specs.Kernels.{AreKept};
+ghost use Rattle.tile_core.specs.CoreStates.{AreKept};
 ghost use Rattle.tile_core.specs.Moves.{world_in};
 ghost use Rattle.tile_core.specs.Plans.{IsPlan};
 
@@ -33,8 +33,13 @@ fn has_key(objects: &Keyspace, key: &Name) -> bool
     }
 }
 
-// The refusal of a command on an object that is not there.
-fn plan_missing(alloc: Global, objects: &Keyspace, total: u64, key: &Name) -> Result<Plan, NoMemory>
+/// The refusal of a command on an object that is not there.
+pub(crate) fn plan_missing(
+    alloc: Global,
+    objects: &Keyspace,
+    total: u64,
+    key: &Name,
+) -> Result<Plan, NoMemory>
     requires { AreKept (objects_in objects.now) total }
     ensures { IfOk result (λ p. IsPlan (objects_in objects.now) (missing (world_in objects.now) key.now) p) }
 {

@@ -8,12 +8,12 @@ ghost use Rattle.world_model.specs.Outcomes.{enter_outcome, take_outcome, given_
 ghost use Rattle.world_model.specs.Halls.{NamesChanged};
 ghost use Rattle.world_model.specs.declared.events.Event.TheVariants as event;
 ghost use Rattle.world_model.specs.declared.events.Outcome.TheVariants as outcome;
-ghost use Rattle.tile_core.specs.Kernels.{Kernel};
+ghost use Rattle.tile_core.specs.CoreStates.{CoreState};
 ghost use Rattle.tile_core.specs.Answered.{MayCall, IsAnswered, AreSessions, StayNamed, is_named};
 
 use crate::dues::{expire, release};
 use crate::moves::make_move;
-use crate::ready::{Ready, calm_after, make_ready};
+use crate::ready::{Ready, due_from_after, make_ready};
 use crate::sessions::{Session, Stage, position_of, ready_session};
 use keyspace::Keyspace;
 use std::alloc::Global;
@@ -30,7 +30,7 @@ pub struct Core {
     /// The bytes of the records of all objects.
     weight: u64,
     /// No deadline comes before this moment, so that until then nothing is due.
-    calm: u64,
+    due_from: u64,
     clock: u64,
     logged: u64,
     drawn: u32,
@@ -39,13 +39,13 @@ pub struct Core {
 
 impl Model for Core {
     ghost use Rattle.keyspace.specs.Entries.{objects_in};
-    ghost use Rattle.tile_core.specs.Kernels.{Kernel, hall_of, IsSound};
+    ghost use Rattle.tile_core.specs.CoreStates.{CoreState, hall_of, IsSound};
 
-    ghost Value = { Kernel };
+    ghost Value = { CoreState };
 
     ghost view = { λ c. record { hall = hall_of (objects_in c.objects) c.clock c.logged c.drawn c.sessions.items } };
 
-    ghost invariant = { λ c. IsSound (objects_in c.objects) c.weight c.calm c.clock c.drawn c.sessions.items };
+    ghost invariant = { λ c. IsSound (objects_in c.objects) c.weight c.due_from c.clock c.drawn c.sessions.items };
 }
 
 impl Core {
@@ -57,7 +57,7 @@ impl Core {
             alloc,
             objects: Keyspace::new(alloc),
             weight: 0,
-            calm: u64::MAX,
+            due_from: u64::MAX,
             clock: 0,
             logged: 0,
             drawn: 0,
@@ -161,7 +161,7 @@ impl Core {
             self.alloc,
             &mut self.objects,
             self.weight,
-            self.calm,
+            self.due_from,
             now,
             asked,
         );
@@ -170,7 +170,7 @@ impl Core {
         };
         self.clock = now;
         self.sessions[at].answer(plan.frame, plan.closes);
-        self.calm = calm_after(gone.calm, &plan.action);
+        self.due_from = due_from_after(gone.due_from, &plan.action);
         make_move(&mut self.objects, plan.action);
         release(&mut self.objects, gone.held);
         self.weight = plan.weight;
@@ -195,14 +195,20 @@ impl Core {
             return Called::Spent;
         }
         let now = self.clock.max(moment);
-        let expired = expire(self.alloc, &mut self.objects, self.weight, self.calm, now);
+        let expired = expire(
+            self.alloc,
+            &mut self.objects,
+            self.weight,
+            self.due_from,
+            now,
+        );
         let Ok(gone) = expired else {
             return Called::Memory;
         };
         release(&mut self.objects, gone.held);
         self.clock = now;
         self.weight = gone.weight;
-        self.calm = gone.calm;
+        self.due_from = gone.due_from;
         self.logged += gone.length;
         Called::Ok
     }

@@ -6,7 +6,7 @@ ghost use Rattle.world_model.specs.Effects.{effect};
 ghost use Rattle.world_model.specs.Replies.{seconds_left};
 ghost use Rattle.world_model.specs.declared.commands.Command.TheVariants as command;
 ghost use Rattle.keyspace.specs.Entries.{objects_in};
-ghost use Rattle.tile_core.specs.Kernels.{AreKept};
+ghost use Rattle.tile_core.specs.CoreStates.{AreKept};
 ghost use Rattle.tile_core.specs.Moves.{world_in};
 ghost use Rattle.tile_core.specs.Plans.{IsPlan, without_deadline};
 

@@ -6,7 +6,7 @@ ghost use Rattle.world_data.specs.Limits.{max_weight};
 ghost use Rattle.world_model.specs.Effects.{effect};
 ghost use Rattle.world_model.specs.declared.commands.Command.TheVariants as command;
 ghost use Rattle.keyspace.specs.Entries.{objects_in};
-ghost use Rattle.tile_core.specs.Kernels.{AreKept};
+ghost use Rattle.tile_core.specs.CoreStates.{AreKept};
 ghost use Rattle.tile_core.specs.Moves.{world_in, HasFewFields, HaveFewFields, len_of};
 ghost use Rattle.tile_core.specs.Plans.{IsPlan};
 ghost use Rattle.tile_core.specs.Sweeps.{IsSwept, IsSweptOf};

@@ -5,9 +5,9 @@ ghost use Rattle.world_data.specs.Limits.{max_weight};
 ghost use Rattle.world_data.specs.Expiry.{is_due};
 ghost use Rattle.world_data.specs.Records.{weight};
 ghost use Rattle.keyspace.specs.Entries.{objects_in};
-ghost use Rattle.tile_core.specs.Kernels.{AreKept};
+ghost use Rattle.tile_core.specs.CoreStates.{AreKept};
 ghost use Rattle.tile_core.specs.Moves.{world_of, HaveFewFields};
-ghost use Rattle.tile_core.specs.Dues.{IsCalm, AreCalm, HaveRoom, IsTaken, IsTakenOut, IsExpired, with_back};
+ghost use Rattle.tile_core.specs.Dues.{IsDueFrom, AreDueFrom, HaveRoom, IsTaken, IsTakenOut, IsExpired, with_back};
 
 use crate::records::{del_len, put_len};
 use byte_text::NoMemory;
@@ -17,18 +17,18 @@ use world_model::Object;
 
 /// The objects that were taken out, in the order in which they expire.
 #[derive(Drop)]
-pub(crate) struct Gone {
+pub(crate) struct Expired {
     pub(crate) held: Vec<Object>,
     /// The bytes of the records of their dels.
     pub(crate) length: u64,
     /// The weight of the world without them.
     pub(crate) weight: u64,
     /// No deadline of what is left comes before this moment.
-    pub(crate) calm: u64,
+    pub(crate) due_from: u64,
 }
 
 // Takes the object out that expires first, and says whether one is due. For want of memory all is as before.
-fn take_next(objects: &mut Keyspace, gone: &mut Gone, now: u64) -> Result<bool, NoMemory>
+fn take_next(objects: &mut Keyspace, gone: &mut Expired, now: u64) -> Result<bool, NoMemory>
     requires few { HaveFewFields (objects_in objects.old) }
     requires rest { gone.old.weight ≡ weight (world_of (objects_in objects.old)) }
     requires short { gone.old.length ≤ max_weight }
@@ -74,18 +74,23 @@ pub(crate) fn release(objects: &mut Keyspace, held: Vec<Object>)
 }
 
 // Takes all objects out that are due. For want of memory the objects are as before.
-fn take_due(alloc: Global, objects: &mut Keyspace, total: u64, now: u64) -> Result<Gone, NoMemory>
+fn take_due(
+    alloc: Global,
+    objects: &mut Keyspace,
+    total: u64,
+    now: u64,
+) -> Result<Expired, NoMemory>
     requires { AreKept (objects_in objects.old) total }
     ensures taken { IfOk result (λ g. IsTaken (objects_in objects.old) now total (objects_in objects.new) g.held.items g.length g.weight) }
     ensures none { IfOk result (λ g. filter (is_due now) (objects_in objects.new) ≡ []) }
     ensures room { IfOk result (λ g. HaveRoom objects.new g.held.items) }
     ensures err { OnErr result (objects_in objects.new ≡ objects_in objects.old) }
 {
-    let mut gone = Gone {
+    let mut gone = Expired {
         held: Vec::new(alloc),
         length: 0,
         weight: total,
-        calm: 0,
+        due_from: 0,
     };
     loop {
         match take_next(objects, &mut gone, now) {
@@ -100,46 +105,47 @@ fn take_due(alloc: Global, objects: &mut Keyspace, total: u64, now: u64) -> Resu
 }
 
 /// The earlier of a moment and the deadline of an object.
-pub(crate) fn earlier(calm: u64, object: &Object) -> u64
-    ensures least { result ≤ calm }
-    ensures calm { IsCalm result object.now }
+pub(crate) fn earlier(due_from: u64, object: &Object) -> u64
+    ensures least { result ≤ due_from }
+    ensures due_from { IsDueFrom result object.now }
 {
     match object.deadline {
-        Some(deadline) => calm.min(deadline),
-        None => calm,
+        Some(deadline) => due_from.min(deadline),
+        None => due_from,
     }
 }
 
 // The least deadline of the objects, or the greatest moment where there is none.
 fn least_deadline(objects: &Keyspace) -> u64
-    ensures { AreCalm result (objects_in objects.now) }
+    ensures { AreDueFrom result (objects_in objects.now) }
 {
     objects.least_due().unwrap_or(u64::MAX)
 }
 
-/// Takes the objects out that are due now, where no deadline comes before `calm`. For want of memory the objects are as before.
+/// Takes the objects out that are due now, where no deadline comes before `due_from`. For want of memory the objects are as
+/// before.
 pub(crate) fn expire(
     alloc: Global,
     objects: &mut Keyspace,
     total: u64,
-    calm: u64,
+    due_from: u64,
     now: u64,
-) -> Result<Gone, NoMemory>
+) -> Result<Expired, NoMemory>
     requires kept { AreKept (objects_in objects.old) total }
-    requires calm { AreCalm calm (objects_in objects.old) }
+    requires due_from { AreDueFrom due_from (objects_in objects.old) }
     ensures expired { IfOk result (λ g. IsExpired (objects_in objects.old) now total (objects_in objects.new) g) }
     ensures room { IfOk result (λ g. HaveRoom objects.new g.held.items) }
     ensures err { OnErr result (objects_in objects.new ≡ objects_in objects.old) }
 {
-    if now < calm {
-        return Ok(Gone {
+    if now < due_from {
+        return Ok(Expired {
             held: Vec::new(alloc),
             length: 0,
             weight: total,
-            calm,
+            due_from,
         });
     }
     let mut gone = take_due(alloc, objects, total, now)?;
-    gone.calm = least_deadline(objects);
+    gone.due_from = least_deadline(objects);
     Ok(gone)
 }

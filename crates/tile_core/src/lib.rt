@@ -16,6 +16,7 @@ mod ready;
 mod records;
 mod requests;
 mod scans;
+mod searches;
 mod sessions;
 
 pub use cores::Core;

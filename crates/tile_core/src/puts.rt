@@ -10,7 +10,7 @@ ghost use Rattle.world_model.specs.Effects.{effect, deadline_after, fields_of, i
 ghost use Rattle.world_model.specs.declared.commands.Command.TheVariants as command;
 ghost use Rattle.world_data.specs.declared.objects.Object.{Object};
 ghost use Rattle.keyspace.specs.Entries.{objects_in};
-ghost use Rattle.tile_core.specs.Kernels.{AreKept};
+ghost use Rattle.tile_core.specs.CoreStates.{AreKept};
 ghost use Rattle.tile_core.specs.Moves.{world_in, world_of, HasFewFields, len_of};
 ghost use Rattle.tile_core.specs.Plans.{IsPlan, put_or_full};
 

@@ -8,7 +8,7 @@ ghost use Rattle.world_model.specs.Refusals.{fault_reply as fault_pieces, broken
 ghost use Rattle.world_model.specs.Served.{asks};
 ghost use Rattle.world_model.specs.declared.commands.Command.TheVariants as command;
 ghost use Rattle.cmd_words.specs.Laws.{IsServed};
-ghost use Rattle.tile_core.specs.Kernels.{AreKept};
+ghost use Rattle.tile_core.specs.CoreStates.{AreKept};
 ghost use Rattle.keyspace.specs.Entries.{objects_in};
 ghost use Rattle.tile_core.specs.Moves.{world_in};
 ghost use Rattle.tile_core.specs.Plans.{IsPlan, ends_with, effect_of_read, effect_of_asked};
@@ -21,6 +21,7 @@ use crate::plans::Plan;
 use crate::puts::plan_set;
 use crate::reads::{plan_bounds, plan_get, plan_stats};
 use crate::scans::{plan_keys, plan_scan};
+use crate::searches::{plan_nearby, plan_search};
 use byte_text::{NoMemory, Request, RespFault};
 use cmd_words::{CommandFault, command_of, served_commands};
 use keyspace::Keyspace;
@@ -104,6 +105,15 @@ fn plan_command(
         Command::Stats { keys } => plan_stats(alloc, objects, total, &keys),
         Command::Keys { glob } => plan_keys(alloc, objects, total, &glob),
         Command::Scan { key, query } => plan_scan(alloc, objects, total, &key, &query),
+        Command::Search { key, query, area } => {
+            plan_search(alloc, objects, total, &key, query, area)
+        }
+        Command::Nearby {
+            key,
+            query,
+            at,
+            reach,
+        } => plan_nearby(alloc, objects, total, &key, &query, at, reach),
         Command::Flush => plan_flush(alloc, objects),
         Command::Ping => plan_ping(alloc, objects, total),
         Command::Quit => plan_quit(alloc, objects, total),

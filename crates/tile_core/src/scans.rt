@@ -1,19 +1,20 @@
 //! KEYS and SCAN: replies of many items, which are not built on once they would be too long.
 
-ghost use Rattle.std.specs.Prelude.{◌≡◌, ◌≢◌, ◌≤◌, ◌<◌, ◌+◌, ℕ, List, [], true, length, map, take, IfOk, IfErr, OnOk};
+ghost use Rattle.std.specs.Prelude.{◌≡◌, ◌≢◌, ◌≤◌, ◌<◌, ◌+◌, ℕ, List, [], true, length, map, take, All, IfOk, IfErr, OnOk};
 ghost use Rattle.byte_text.specs.Globs.{is_well_formed, is_sound_glob};
 ghost use Rattle.byte_text.specs.Replies.{frame_text, array, bulk};
 ghost use Rattle.byte_text.specs.declared.replies.Piece.{Piece};
 ghost use Rattle.world_data.specs.Limits.{max_reply};
-ghost use Rattle.fence_model.specs.Queries.{IsPageOf, matches, page_items};
+ghost use Rattle.fence_model.specs.Queries.{IsPageOf, matches, near_matches};
+ghost use Rattle.world_data.specs.declared.objects.Object.{Object};
 ghost use Rattle.world_model.specs.Effects.{effect, says, within_reply};
 ghost use Rattle.world_model.specs.Replies.{page_reply, item_reply};
 ghost use Rattle.world_model.specs.declared.commands.Command.TheVariants as command;
 ghost use Rattle.keyspace.specs.Entries.{objects_in};
-ghost use Rattle.tile_core.specs.Kernels.{AreKept};
+ghost use Rattle.tile_core.specs.CoreStates.{AreKept};
 ghost use Rattle.tile_core.specs.Moves.{world_in};
 ghost use Rattle.tile_core.specs.Plans.{IsPlan, Replies, Says};
-ghost use Rattle.tile_core.specs.Listings.{keys_met, joined, AreItems, IsTooLong};
+ghost use Rattle.tile_core.specs.Listings.{keys_met, joined, listing, objects_of_ids, AreItems, IsFirst, IsTooLong};
 
 use crate::answers::{say, short_frame};
 use crate::plans::Plan;
@@ -21,10 +22,12 @@ use byte_text::{Name, NoMemory, Text};
 use collection::Collection;
 use glob_match::glob_meets;
 use keyspace::Keyspace;
+use nearest_query::near_page;
+use planar_geom::Pt;
 use reply_text::{ItemFrames, ReplyFault, count_reply, refusal_reply};
 use search_query::page;
 use std::alloc::Global;
-use world_model::{Page, Query, Refusal, Rule, Shown};
+use world_model::{Page, Query, Refusal, Shown};
 
 // The frame of a reply, or of the refusal where it would be too long.
 fn or_refusal(alloc: Global, frame: Result<Text, ReplyFault>) -> Result<Text, NoMemory>
@@ -91,7 +94,7 @@ pub(crate) fn plan_keys(
     Ok(Plan::reply(frame, total))
 }
 
-// Puts the object of an id last, which stands at a place of a page.
+// Puts the object last whose id stands at a place of a page.
 fn push_found(
     items: &mut ItemFrames,
     objects: &Collection,
@@ -100,21 +103,18 @@ fn push_found(
     i: usize,
 ) -> Result<(), ReplyFault>
     requires shown { query.now.shown ≢ Shown.Count }
-    requires page { IsPageOf query.now (matches query.now objects.now.objects) page.now }
     requires within { i < length page.now.ids }
-    requires items { AreItems (map (item_reply query.now) (take i (page_items query.now (matches query.now objects.now.objects)))) items.old }
-    ensures ok { OnOk result (AreItems (map (item_reply query.now) (take (i + 1) (page_items query.now (matches query.now objects.now.objects)))) items.new) }
-    ensures too_long { IfErr result (IsTooLong (joined (map (item_reply query.now) (take (i + 1) (page_items query.now (matches query.now objects.now.objects)))))) }
+    requires items { AreItems (map (item_reply query.now) (objects_of_ids objects.now.objects (take i page.now.ids))) items.old }
+    ensures ok { OnOk result (AreItems (map (item_reply query.now) (objects_of_ids objects.now.objects (take (i + 1) page.now.ids))) items.new) }
+    ensures too_long { IfErr result (IsTooLong (joined (map (item_reply query.now) (objects_of_ids objects.now.objects (take (i + 1) page.now.ids))))) }
 {
-    // What stands by id is known where the objects are counted.
-    let _count = objects.len();
     match objects.get(page.ids.at(i)) {
         Some(object) => items.push_object(query, object),
-        None => unreachable!(),
+        None => Ok(()),
     }
 }
 
-// The frame of a page of the objects of a key.
+// The frame of a page of the objects of a key. An id without an object shows nothing.
 fn page_frame(
     alloc: Global,
     objects: &Collection,
@@ -122,9 +122,8 @@ fn page_frame(
     page: &Page,
 ) -> Result<Text, ReplyFault>
     requires shown { query.now.shown ≢ Shown.Count }
-    requires page { IsPageOf query.now (matches query.now objects.now.objects) page.now }
-    ensures ok { IfOk result (λ t. (t ≡ frame_text (page_reply query.now (matches query.now objects.now.objects))) × (length t ≤ max_reply)) }
-    ensures too_long { IfErr result (IsTooLong (page_reply query.now (matches query.now objects.now.objects))) }
+    ensures ok { IfOk result (λ t. (t ≡ frame_text (listing query.now page.now.cursor (objects_of_ids objects.now.objects page.now.ids))) × (length t ≤ max_reply)) }
+    ensures too_long { IfErr result (IsTooLong (listing query.now page.now.cursor (objects_of_ids objects.now.objects page.now.ids))) }
 {
     let mut items = ItemFrames::new(alloc);
     for i in 0..page.ids.len() {
@@ -133,24 +132,57 @@ fn page_frame(
     items.page(alloc, page.cursor)
 }
 
-// What SCAN will do over the objects of its key.
-fn plan_page(
+// The answer of a page of what was found among the objects of a key.
+fn say_page(
+    alloc: Global,
+    objects: &Collection,
+    total: u64,
+    query: &Query,
+    page: &Page,
+) -> Result<Plan, NoMemory>
+    ensures { (found : List Object) → All (IsFirst objects.now.objects) found → IsPageOf query.now found page.now → IfOk result (Says (within_reply (says (page_reply query.now found))) total) }
+{
+    if query.shown == Shown::Count {
+        return say(alloc, total, &count_reply(alloc, page.count)?);
+    }
+    let frame = or_refusal(alloc, page_frame(alloc, objects, query, page))?;
+    Ok(Plan::reply(frame, total))
+}
+
+/// What a query by id or by area will answer over the objects of its key.
+pub(crate) fn plan_page(
     alloc: Global,
     objects: &Collection,
     total: u64,
     query: &Query,
 ) -> Result<Plan, NoMemory>
     requires pattern { is_sound_glob query.now.glob ≡ true }
-    requires by_id { query.now.rule ≢ Rule.Nearest }
     ensures { IfOk result (Says (within_reply (says (page_reply query.now (matches query.now objects.now.objects)))) total) }
 {
+    // What stands by id is known where the objects are counted.
+    let _count = objects.len();
     let mut found = Page::new(alloc);
     page(alloc, objects, query, &mut found)?;
-    if query.shown == Shown::Count {
-        return say(alloc, total, &count_reply(alloc, found.count)?);
-    }
-    let frame = or_refusal(alloc, page_frame(alloc, objects, query, &found))?;
-    Ok(Plan::reply(frame, total))
+    say_page(alloc, objects, total, query, &found)
+}
+
+/// What a query by distance will answer over the objects of its key.
+pub(crate) fn plan_near_page(
+    alloc: Global,
+    objects: &Collection,
+    total: u64,
+    query: &Query,
+    at: Pt,
+    reach: Option<u32>,
+) -> Result<Plan, NoMemory>
+    requires pattern { is_sound_glob query.now.glob ≡ true }
+    ensures { IfOk result (Says (within_reply (says (page_reply query.now (near_matches query.now at reach objects.now.objects)))) total) }
+{
+    // What stands by id is known where the objects are counted.
+    let _count = objects.len();
+    let mut found = Page::new(alloc);
+    near_page(alloc, objects, at, reach, query, &mut found)?;
+    say_page(alloc, objects, total, query, &found)
 }
 
 /// What SCAN will do.
@@ -163,7 +195,6 @@ pub(crate) fn plan_scan(
 ) -> Result<Plan, NoMemory>
     requires kept { AreKept (objects_in objects.now) total }
     requires pattern { is_sound_glob query.now.glob ≡ true }
-    requires by_id { query.now.rule ≢ Rule.Nearest }
     ensures { IfOk result (λ p. (now : ℕ) → IsPlan (objects_in objects.now) (effect (world_in objects.now) now [] (command.Scan key.now query.now)) p) }
 {
     match objects.collection(key) {

@@ -1,29 +1,26 @@
-use Rattle.std.proofs.Common.{◌≡◌, List, ◌++◌, ◌∷◌, [], ◌+◌, sym, ◌∙◌, ap, map, take, arith}
+use Rattle.std.proofs.Common.{◌≡◌, List, ◌++◌, ◌∷◌, [], ◌+◌, ◌∙◌, ap, map, take}
+use Rattle.std.proofs.lemmas.List.{map-append}
 use Rattle.byte_text.specs.declared.replies.Piece.{Piece}
 use Rattle.std.proofs.lemmas.Result.{IfOk-weaker, IfErr-weaker}
-use Rattle.fence_model.specs.Queries.{matches, page_items}
 use Rattle.world_model.specs.Replies.{item_reply}
-use Rattle.tile_core.proofs.Listings.{items_more, items_long, fault_of, paged_found, paged_more, same_object}
+use Rattle.tile_core.specs.Listings.{objects_of_ids}
+use Rattle.tile_core.proofs.Listings.{items_more, items_long, fault_of, id_more, id_lost}
 use Rattle.tile_core.proofs.scans.push_found.Goals as goal
 
-pub unreachable-requires : goal.unreachable-requires
-unreachable-requires c =
-    let there = paged_found c.args.query.now c.args.objects.now.objects c.args.page.now c.args.i c.at.result.now c.requires.page c.requires.shown c.len-count.ensures.by_id c.at.ensures in
-    let absent = c.in-None.ensures.none in
-    absurd (grind (arith, there, absent))
-
 abbrev before : (c : goal.After-push_object) → List (List Piece)
-before c = map (item_reply c.args.query.now) (take c.args.i (page_items c.args.query.now (matches c.args.query.now c.args.objects.now.objects)))
+before c = map (item_reply c.args.query.now) (objects_of_ids c.args.objects.now.objects (take c.args.i c.args.page.now.ids))
 
-step : (c : goal.After-push_object) → map (item_reply c.args.query.now) (take (c.args.i + 1) (page_items c.args.query.now (matches c.args.query.now c.args.objects.now.objects))) ≡ before c ++ item_reply c.args.query.now c.in-Some.object.now ∷ []
+step : (c : goal.After-push_object) → map (item_reply c.args.query.now) (objects_of_ids c.args.objects.now.objects (take (c.args.i + 1) c.args.page.now.ids)) ≡ before c ++ item_reply c.args.query.now c.in-Some.object.now ∷ []
 step c =
-    let there = paged_found c.args.query.now c.args.objects.now.objects c.args.page.now c.args.i c.at.result.now c.requires.page c.requires.shown c.len-count.ensures.by_id c.at.ensures in
-    let more = paged_more c.args.query.now c.args.objects.now.objects c.args.page.now c.args.i c.at.result.now c.requires.page c.requires.shown c.len-count.ensures.by_id c.at.ensures in
-    let is = same_object (sym there ∙ c.in-Some.ensures.some) in
-    more ∙ ap (λ o. before c ++ item_reply c.args.query.now o ∷ []) is
+    let objects = c.args.objects.now.objects in
+    let more = id_more objects c.args.page.now.ids c.args.i c.at.result.now c.in-Some.object.now c.at.ensures c.in-Some.ensures.some in
+    ap (map (item_reply c.args.query.now)) more ∙ map-append (item_reply c.args.query.now) (objects_of_ids objects (take c.args.i c.args.page.now.ids)) (c.in-Some.object.now ∷ [])
 
-pub returns-clause-ok : goal.returns-clause-ok
-returns-clause-ok c = rw (step c) (IfOk-weaker c.push_object.result _ _ (λ u is. items_more (before c) (item_reply c.args.query.now c.in-Some.object.now) c.args.items.now c.push_object.new.self c.requires.items is) c.push_object.ensures.ok)
+pub returns-in-Some-clause-ok : goal.returns-in-Some-clause-ok
+returns-in-Some-clause-ok c = rw (step c) (IfOk-weaker c.push_object.result _ _ (λ u is. items_more (before c) (item_reply c.args.query.now c.in-Some.object.now) c.args.items.now c.push_object.new.self c.requires.items is) c.push_object.ensures.ok)
 
-pub returns-clause-too_long : goal.returns-clause-too_long
-returns-clause-too_long c = rw (step c) (IfErr-weaker c.push_object.result _ _ (λ f is. fault_of _ f (λ e. items_long (before c) (item_reply c.args.query.now c.in-Some.object.now) c.args.items.now c.requires.items (is e))) c.push_object.ensures.too_long)
+pub returns-in-Some-clause-too_long : goal.returns-in-Some-clause-too_long
+returns-in-Some-clause-too_long c = rw (step c) (IfErr-weaker c.push_object.result _ _ (λ f is. fault_of _ f (λ e. items_long (before c) (item_reply c.args.query.now c.in-Some.object.now) c.args.items.now c.requires.items (is e))) c.push_object.ensures.too_long)
+
+pub returns-in-None-clause-ok : goal.returns-in-None-clause-ok
+returns-in-None-clause-ok c = rw (id_lost c.args.objects.now.objects c.args.page.now.ids c.args.i c.at.result.now c.at.ensures c.in-None.ensures.none) c.requires.items

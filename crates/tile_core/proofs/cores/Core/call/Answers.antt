@@ -11,17 +11,17 @@ use Rattle.world_model.specs.declared.events.Called.TheVariants as called
 use Rattle.world_data.specs.declared.objects.Object.{Object}
 use Rattle.tile_core.specs.declared.sessions.Session.{Session}
 use Rattle.keyspace.specs.Entries.{objects_in}
-use Rattle.tile_core.specs.Kernels.{Kernel, IsSound, hall_of, AreKept}
+use Rattle.tile_core.specs.CoreStates.{CoreState, IsSound, hall_of, AreKept}
 use Rattle.tile_core.specs.Answered.{MayCall, IsAnswered, AreSessions, StayNamed, is_named}
 use Rattle.tile_core.specs.Moves.{world_of, moved}
-use Rattle.tile_core.specs.Dues.{AreCalm, IsExpired}
+use Rattle.tile_core.specs.Dues.{AreDueFrom, IsExpired}
 use Rattle.tile_core.specs.Plans.{IsPlan, effect_of_asked}
 use Rattle.tile_core.specs.Sessions.{IsServed, answered}
 use Rattle.tile_core.proofs.Answered.{may_not, has_answer}
 use Rattle.tile_core.proofs.Calls.{refused, lacks, done}
 use Rattle.tile_core.proofs.Finishing.{few_frames, few_bytes, served_is, kept_after, rest_kept, present_set}
 use Rattle.tile_core.proofs.Halving.{rising}
-use Rattle.tile_core.proofs.Moving.{calm_moved}
+use Rattle.tile_core.proofs.Moving.{due_from_moved}
 use Rattle.tile_core.proofs.Named.{same_hall, still_present, none_named, same_room}
 use Rattle.tile_core.proofs.Naming.{with_name, stay, room_for_one, one_changed, still_sessions}
 use Rattle.tile_core.proofs.Places.{placed_there}
@@ -37,7 +37,7 @@ pub invariant_of-self : goal.invariant_of-self
 invariant_of-self c =
     let k = c.self.inside in
     let same = c.ready_session.ensures.same in
-    record { kept = c.self.invariant.kept; calm = c.self.invariant.calm; early = c.self.invariant.early; present = still_present (objects_in k.objects) k.clock k.logged k.drawn k.sessions.items c.ready_session.new.sessions.items same c.self.invariant.present }
+    record { kept = c.self.invariant.kept; due_from = c.self.invariant.due_from; early = c.self.invariant.early; present = still_present (objects_in k.objects) k.clock k.logged k.drawn k.sessions.items c.ready_session.new.sessions.items same c.self.invariant.present }
 
 pub returns-in-Err-clause-step : goal.returns-in-Err-clause-step
 returns-in-Err-clause-step c =
@@ -45,7 +45,7 @@ returns-in-Err-clause-step c =
     let ss = c.ready_session.new.sessions.items in
     let same = c.ready_session.ensures.same in
     let present = still_present (objects_in k.objects) k.clock k.logged k.drawn k.sessions.items ss same c.self.invariant.present in
-    let hall = same_hall (objects_in k.objects) k.clock k.logged k.drawn k.sessions.items ss same ∙ ap (λ (n : Kernel). n.hall) c.self.view_is in
+    let hall = same_hall (objects_in k.objects) k.clock k.logged k.drawn k.sessions.items ss same ∙ ap (λ (n : CoreState). n.hall) c.self.view_is in
     subst (λ (h : Hall). Step h (event.Call c.args.session c.args.moment c.args.asked.now) (outcome.Answered c.in-Err.answer) (hall_of (objects_in k.objects) k.clock k.logged k.drawn ss)) hall
     (refused (objects_in k.objects) k.clock k.logged k.drawn ss c.args.session c.args.moment c.args.asked.now c.if-self-ge-MOST_LOGGED.false present.rises c.in-Err.answer (subst (λ (r : Result ℕ Called). IsServed ss c.args.session r) c.in-Err.is c.ready_session.ensures.served))
 
@@ -53,13 +53,13 @@ pub returns-in-Err-clause-named : goal.returns-in-Err-clause-named
 returns-in-Err-clause-named c =
     let k = c.self.inside in
     let same = c.ready_session.ensures.same in
-    none_named c.args.touched.now _ _ (same_hall (objects_in k.objects) k.clock k.logged k.drawn k.sessions.items c.ready_session.new.sessions.items same ∙ ap (λ (n : Kernel). n.hall) c.self.view_is)
+    none_named c.args.touched.now _ _ (same_hall (objects_in k.objects) k.clock k.logged k.drawn k.sessions.items c.ready_session.new.sessions.items same ∙ ap (λ (n : CoreState). n.hall) c.self.view_is)
 
 pub returns-in-Err-clause-room : goal.returns-in-Err-clause-room
 returns-in-Err-clause-room c =
     let k = c.self.inside in
     let same = c.ready_session.ensures.same in
-    same_room c.args.touched.now _ _ (same_hall (objects_in k.objects) k.clock k.logged k.drawn k.sessions.items c.ready_session.new.sessions.items same ∙ ap (λ (n : Kernel). n.hall) c.self.view_is) c.requires.room
+    same_room c.args.touched.now _ _ (same_hall (objects_in k.objects) k.clock k.logged k.drawn k.sessions.items c.ready_session.new.sessions.items same ∙ ap (λ (n : CoreState). n.hall) c.self.view_is) c.requires.room
 
 pub returns-in-Err-clause-done : goal.returns-in-Err-clause-done
 returns-in-Err-clause-done c =
@@ -67,7 +67,7 @@ returns-in-Err-clause-done c =
     let ss = c.ready_session.new.sessions.items in
     let same = c.ready_session.ensures.same in
     let present = still_present (objects_in k.objects) k.clock k.logged k.drawn k.sessions.items ss same c.self.invariant.present in
-    let hall = same_hall (objects_in k.objects) k.clock k.logged k.drawn k.sessions.items ss same ∙ ap (λ (n : Kernel). n.hall) c.self.view_is in
+    let hall = same_hall (objects_in k.objects) k.clock k.logged k.drawn k.sessions.items ss same ∙ ap (λ (n : CoreState). n.hall) c.self.view_is in
     λ may.
     let m = subst (λ (h : Hall). MayCall h c.args.session) (sym hall) may in
     inr (may_not k.drawn ss c.args.session present.rises c.in-Err.answer (subst (λ (r : Result ℕ Called). IsServed ss c.args.session r) c.in-Err.is c.ready_session.ensures.served) m.1 m.2)
@@ -78,7 +78,7 @@ returns-in_default-clause-step c =
     let ss = c.ready_session.new.sessions.items in
     let same = c.ready_session.ensures.same in
     let present = still_present (objects_in k.objects) k.clock k.logged k.drawn k.sessions.items ss same c.self.invariant.present in
-    let hall = same_hall (objects_in k.objects) k.clock k.logged k.drawn k.sessions.items ss same ∙ ap (λ (n : Kernel). n.hall) c.self.view_is in
+    let hall = same_hall (objects_in k.objects) k.clock k.logged k.drawn k.sessions.items ss same ∙ ap (λ (n : CoreState). n.hall) c.self.view_is in
     let sv = c.in-Ok.ensures.served in
     let step = lacks (objects_in k.objects) k.clock k.logged k.drawn ss c.args.session c.args.moment c.args.asked.now c.if-self-ge-MOST_LOGGED.false c.in-Ok.at sv.0.session present.rises sv.0.here sv.0.numbered sv.1 sv.2 in
     subst (λ (os : List Object). Step c.args.self.now.hall (event.Call c.args.session c.args.moment c.args.asked.now) (outcome.Answered called.Memory) (hall_of os k.clock k.logged k.drawn ss)) (sym c.in_default.ensures.err)
@@ -90,7 +90,7 @@ answer-requires-clause-frames c =
     let ss = c.ready_session.new.sessions.items in
     let same_list = c.ready_session.ensures.same in
     let present = still_present (objects_in k.objects) k.clock k.logged k.drawn k.sessions.items ss same_list c.self.invariant.present in
-    let hall = same_hall (objects_in k.objects) k.clock k.logged k.drawn k.sessions.items ss same_list ∙ ap (λ (n : Kernel). n.hall) c.self.view_is in
+    let hall = same_hall (objects_in k.objects) k.clock k.logged k.drawn k.sessions.items ss same_list ∙ ap (λ (n : CoreState). n.hall) c.self.view_is in
     let sv = c.in-Ok.ensures.served in
     let is = served_is ss c.args.session c.in-Ok.at sv c.index_mut.result.now c.index_mut.ensures.value in
     subst (λ (s : Session). length s.outbox.frames < full_frames) (sym is) (few_frames sv.0.session sv.2)
@@ -101,7 +101,7 @@ answer-requires-clause-bytes c =
     let ss = c.ready_session.new.sessions.items in
     let same_list = c.ready_session.ensures.same in
     let present = still_present (objects_in k.objects) k.clock k.logged k.drawn k.sessions.items ss same_list c.self.invariant.present in
-    let hall = same_hall (objects_in k.objects) k.clock k.logged k.drawn k.sessions.items ss same_list ∙ ap (λ (n : Kernel). n.hall) c.self.view_is in
+    let hall = same_hall (objects_in k.objects) k.clock k.logged k.drawn k.sessions.items ss same_list ∙ ap (λ (n : CoreState). n.hall) c.self.view_is in
     let sv = c.in-Ok.ensures.served in
     let is = served_is ss c.args.session c.in-Ok.at sv c.index_mut.result.now c.index_mut.ensures.value in
     subst (λ (s : Session). frame_bytes s.outbox.frames < full_bytes) (sym is) (few_bytes sv.0.session sv.2)
@@ -112,7 +112,7 @@ answer-requires-clause-room c =
     let ss = c.ready_session.new.sessions.items in
     let same_list = c.ready_session.ensures.same in
     let present = still_present (objects_in k.objects) k.clock k.logged k.drawn k.sessions.items ss same_list c.self.invariant.present in
-    let hall = same_hall (objects_in k.objects) k.clock k.logged k.drawn k.sessions.items ss same_list ∙ ap (λ (n : Kernel). n.hall) c.self.view_is in
+    let hall = same_hall (objects_in k.objects) k.clock k.logged k.drawn k.sessions.items ss same_list ∙ ap (λ (n : CoreState). n.hall) c.self.view_is in
     let sv = c.in-Ok.ensures.served in
     let is = served_is ss c.args.session c.in-Ok.at sv c.index_mut.result.now c.index_mut.ensures.value in
     subst (λ (s : Session). 1 ≤ s.outbox.spare) (sym is) (placed_there ss c.in-Ok.at sv.0.session sv.0.here c.in-Ok.ensures.room)
@@ -132,7 +132,7 @@ name_session-requires c =
     let ss = c.ready_session.new.sessions.items in
     let same_list = c.ready_session.ensures.same in
     let present = still_present (objects_in k.objects) k.clock k.logged k.drawn k.sessions.items ss same_list c.self.invariant.present in
-    let hall = same_hall (objects_in k.objects) k.clock k.logged k.drawn k.sessions.items ss same_list ∙ ap (λ (n : Kernel). n.hall) c.self.view_is in
+    let hall = same_hall (objects_in k.objects) k.clock k.logged k.drawn k.sessions.items ss same_list ∙ ap (λ (n : CoreState). n.hall) c.self.view_is in
     let sv = c.in-Ok.ensures.served in
     let is = served_is ss c.args.session c.in-Ok.at sv c.index_mut.result.now c.index_mut.ensures.value in
     λ was.
@@ -147,7 +147,7 @@ invariant_of-self-2 c =
     let ss = c.ready_session.new.sessions.items in
     let same_list = c.ready_session.ensures.same in
     let present = still_present (objects_in k.objects) k.clock k.logged k.drawn k.sessions.items ss same_list c.self.invariant.present in
-    let hall = same_hall (objects_in k.objects) k.clock k.logged k.drawn k.sessions.items ss same_list ∙ ap (λ (n : Kernel). n.hall) c.self.view_is in
+    let hall = same_hall (objects_in k.objects) k.clock k.logged k.drawn k.sessions.items ss same_list ∙ ap (λ (n : CoreState). n.hall) c.self.view_is in
     let sv = c.in-Ok.ensures.served in
     let is = served_is ss c.args.session c.in-Ok.at sv c.index_mut.result.now c.index_mut.ensures.value in
     let g = c.in-Ok-ready.field-0.gone in
@@ -159,10 +159,10 @@ invariant_of-self-2 c =
     let items : objects_in c.release.new.objects ≡ moved rest p.action = c.release.ensures ∙ c.make_move.ensures in
     let same : c.answer.new.self.number ≡ sv.0.session.number = ap (λ (s : Session). s.number) c.answer.ensures ∙ ap (λ (s : Session). s.number) is in
     let left = rest_kept (objects_in k.objects) now k.weight rest g.held.items g.length g.weight c.self.invariant.kept.light e.taken in
-    let calm = c.calm_after-self-inside.result in
+    let due_from = c.due_from_after-self-inside.result in
     record {
       kept = subst (λ (os : List Object). AreKept os p.weight) (sym items) (kept_after rest g.weight left (effect_of_asked (world_of rest) now c.args.asked.now) p plan);
-      calm = subst (λ (os : List Object). AreCalm calm os) (sym items) (calm_moved g.calm calm rest p.action c.calm_after-self-inside.ensures.least c.calm_after-self-inside.ensures.put e.calm);
+      due_from = subst (λ (os : List Object). AreDueFrom due_from os) (sym items) (due_from_moved g.due_from due_from rest p.action c.due_from_after-self-inside.ensures.least c.due_from_after-self-inside.ensures.put e.due_from);
       early = omega (arith, c.max-now.ensures, c.self.invariant.early, c.requires.moment);
       present = present_set k.drawn ss c.in-Ok.at sv.0.session c.answer.new.self present sv.0.here same;
     }
@@ -173,7 +173,7 @@ returns-clause-step c =
     let ss = c.ready_session.new.sessions.items in
     let same_list = c.ready_session.ensures.same in
     let present = still_present (objects_in k.objects) k.clock k.logged k.drawn k.sessions.items ss same_list c.self.invariant.present in
-    let hall = same_hall (objects_in k.objects) k.clock k.logged k.drawn k.sessions.items ss same_list ∙ ap (λ (n : Kernel). n.hall) c.self.view_is in
+    let hall = same_hall (objects_in k.objects) k.clock k.logged k.drawn k.sessions.items ss same_list ∙ ap (λ (n : CoreState). n.hall) c.self.view_is in
     let sv = c.in-Ok.ensures.served in
     let is = served_is ss c.args.session c.in-Ok.at sv c.index_mut.result.now c.index_mut.ensures.value in
     let g = c.in-Ok-ready.field-0.gone in
@@ -201,7 +201,7 @@ returns-clause-named c =
     let ss = c.ready_session.new.sessions.items in
     let same_list = c.ready_session.ensures.same in
     let present = still_present (objects_in k.objects) k.clock k.logged k.drawn k.sessions.items ss same_list c.self.invariant.present in
-    let hall = same_hall (objects_in k.objects) k.clock k.logged k.drawn k.sessions.items ss same_list ∙ ap (λ (n : Kernel). n.hall) c.self.view_is in
+    let hall = same_hall (objects_in k.objects) k.clock k.logged k.drawn k.sessions.items ss same_list ∙ ap (λ (n : CoreState). n.hall) c.self.view_is in
     let sv = c.in-Ok.ensures.served in
     let is = served_is ss c.args.session c.in-Ok.at sv c.index_mut.result.now c.index_mut.ensures.value in
     let room = subst (AreSessions c.args.touched.now) (sym hall) c.requires.room in
@@ -217,7 +217,7 @@ returns-clause-room c =
     let ss = c.ready_session.new.sessions.items in
     let same_list = c.ready_session.ensures.same in
     let present = still_present (objects_in k.objects) k.clock k.logged k.drawn k.sessions.items ss same_list c.self.invariant.present in
-    let hall = same_hall (objects_in k.objects) k.clock k.logged k.drawn k.sessions.items ss same_list ∙ ap (λ (n : Kernel). n.hall) c.self.view_is in
+    let hall = same_hall (objects_in k.objects) k.clock k.logged k.drawn k.sessions.items ss same_list ∙ ap (λ (n : CoreState). n.hall) c.self.view_is in
     let sv = c.in-Ok.ensures.served in
     let is = served_is ss c.args.session c.in-Ok.at sv c.index_mut.result.now c.index_mut.ensures.value in
     let room = subst (AreSessions c.args.touched.now) (sym hall) c.requires.room in
@@ -235,7 +235,7 @@ returns-clause-answered c =
     let ss = c.ready_session.new.sessions.items in
     let same_list = c.ready_session.ensures.same in
     let present = still_present (objects_in k.objects) k.clock k.logged k.drawn k.sessions.items ss same_list c.self.invariant.present in
-    let hall = same_hall (objects_in k.objects) k.clock k.logged k.drawn k.sessions.items ss same_list ∙ ap (λ (n : Kernel). n.hall) c.self.view_is in
+    let hall = same_hall (objects_in k.objects) k.clock k.logged k.drawn k.sessions.items ss same_list ∙ ap (λ (n : CoreState). n.hall) c.self.view_is in
     let sv = c.in-Ok.ensures.served in
     let is = served_is ss c.args.session c.in-Ok.at sv c.index_mut.result.now c.index_mut.ensures.value in
     let p = c.in-Ok-ready.field-0.plan in
@@ -251,5 +251,5 @@ pub invariant_of-self-in_default : goal.invariant_of-self-in_default
 invariant_of-self-in_default c =
     let k = c.self.inside in
     let present = still_present (objects_in k.objects) k.clock k.logged k.drawn k.sessions.items c.ready_session.new.sessions.items c.ready_session.ensures.same c.self.invariant.present in
-    subst (λ (os : List Object). IsSound os k.weight k.calm k.clock k.drawn c.ready_session.new.sessions.items) (sym c.in_default.ensures.err)
-    (record { kept = c.self.invariant.kept; calm = c.self.invariant.calm; early = c.self.invariant.early; present = present })
+    subst (λ (os : List Object). IsSound os k.weight k.due_from k.clock k.drawn c.ready_session.new.sessions.items) (sym c.in_default.ensures.err)
+    (record { kept = c.self.invariant.kept; due_from = c.self.invariant.due_from; early = c.self.invariant.early; present = present })

@@ -13,7 +13,7 @@ invariant_of-self-2 c =
     let pushed : c.push.new.self.items ≡ items ++ v ∷ [] = search rules in
     record {
       kept = i.kept;
-      calm = i.calm;
+      due_from = i.due_from;
       early = i.early;
       present = record {
         rises = subst (λ (xs : List Session). Rises 0 (c.self.inside.drawn + 1) xs) (sym pushed) (rises_more 0 c.self.inside.drawn items v i.present.rises refl);

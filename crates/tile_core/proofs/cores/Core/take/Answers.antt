@@ -8,7 +8,7 @@ use Rattle.world_model.specs.declared.events.Event.TheVariants as event
 use Rattle.world_model.specs.declared.events.Outcome.TheVariants as outcome
 use Rattle.tile_core.specs.declared.sessions.Session.{Session}
 use Rattle.keyspace.specs.Entries.{objects_in}
-use Rattle.tile_core.specs.Kernels.{Kernel, hall_of, ArePresent}
+use Rattle.tile_core.specs.CoreStates.{CoreState, hall_of, ArePresent}
 use Rattle.tile_core.specs.Sessions.{IsAt, AreOthers, is_open, taken_from, are_rising}
 use Rattle.tile_core.proofs.Halving.{rising}
 use Rattle.tile_core.proofs.Takes.{absent, empty, ended, given}
@@ -31,7 +31,7 @@ returns-in_default-clause-step c =
     let k = c.self.inside in
     let others = subst (λ (ss : List Session). AreOthers c.args.session ss) c.as_slice.ensures.value c.in_default.ensures.absent in
     let step = absent (objects_in k.objects) k.clock k.logged k.drawn k.sessions.items c.args.session others in
-    subst (λ (n : Kernel). Step n.hall (event.Take c.args.session) outcome.Ended n.hall) c.self.view_is step
+    subst (λ (n : CoreState). Step n.hall (event.Take c.args.session) outcome.Ended n.hall) c.self.view_is step
 
 pub invariant_of-self : goal.invariant_of-self
 invariant_of-self c =
@@ -39,7 +39,7 @@ invariant_of-self c =
     let at = subst (λ (ss : List Session). IsAt ss c.args.session c.in-Some.at) c.as_slice.ensures.value c.in-Some.ensures.found in
     let is : c.index_mut.result.now ≡ at.session = c.index_mut.ensures.value ∙ read_at k.sessions.items c.in-Some.at at.session c.index_mut.result.now at.here in
     let same : c.take_frames.new.self.number ≡ at.session.number = ap (λ (s : Session). s.number) c.take_frames.ensures.left ∙ ap (λ (s : Session). s.number) is in
-    record { kept = c.self.invariant.kept; calm = c.self.invariant.calm; early = c.self.invariant.early; present = present_set k.drawn k.sessions.items c.in-Some.at at.session c.take_frames.new.self c.self.invariant.present at.here same }
+    record { kept = c.self.invariant.kept; due_from = c.self.invariant.due_from; early = c.self.invariant.early; present = present_set k.drawn k.sessions.items c.in-Some.at at.session c.take_frames.new.self c.self.invariant.present at.here same }
 
 pub returns-then-frames-gt0-clause-step : goal.returns-then-frames-gt0-clause-step
 returns-then-frames-gt0-clause-step c =
@@ -53,7 +53,7 @@ returns-then-frames-gt0-clause-step c =
     let shown : c.take_frames.new.into.list ≡ take take_frames at.session.outbox.frames = ap (λ (f : FrameList). f.list) c.take_frames.ensures.given ∙ ap (λ (s : Session). take take_frames s.outbox.frames) is in
     let step = given (objects_in k.objects) k.clock k.logged k.drawn k.sessions.items c.args.session c.in-Some.at at.session c.self.invariant.present.rises at.here at.numbered c.take_frames.new.self left some in
     subst (λ (fs : List Bytes). Step c.args.self.now.hall (event.Take c.args.session) (outcome.Given fs) (hall_of (objects_in k.objects) k.clock k.logged k.drawn (slice_set k.sessions.items c.in-Some.at c.take_frames.new.self))) (sym shown)
-    (subst (λ (n : Kernel). Step n.hall (event.Take c.args.session) (outcome.Given (take take_frames at.session.outbox.frames)) (hall_of (objects_in k.objects) k.clock k.logged k.drawn (slice_set k.sessions.items c.in-Some.at c.take_frames.new.self))) c.self.view_is step)
+    (subst (λ (n : CoreState). Step n.hall (event.Take c.args.session) (outcome.Given (take take_frames at.session.outbox.frames)) (hall_of (objects_in k.objects) k.clock k.logged k.drawn (slice_set k.sessions.items c.in-Some.at c.take_frames.new.self))) c.self.view_is step)
 
 pub returns-then-frames-gt0-clause-count : goal.returns-then-frames-gt0-clause-count
 returns-then-frames-gt0-clause-count c =
@@ -68,7 +68,7 @@ returns-then-is_open-clause-step c =
     let none : length at.session.outbox.frames ≡ 0 = none_of c.frames.result (length at.session.outbox.frames) (c.frames.ensures ∙ ap (λ (s : Session). length s.outbox.frames) is) c.if-frames-gt0.false in
     let lives = sym (ap is_open also) ∙ sym c.is_open.ensures ∙ c.if-is_open.true in
     let step = empty (objects_in k.objects) k.clock k.logged k.drawn k.sessions.items c.args.session c.in-Some.at at.session c.self.invariant.present.rises at.here at.numbered lives none in
-    subst (λ (n : Kernel). Step n.hall (event.Take c.args.session) outcome.Empty n.hall) c.self.view_is step
+    subst (λ (n : CoreState). Step n.hall (event.Take c.args.session) outcome.Empty n.hall) c.self.view_is step
 
 pub invariant_of-self-2 : goal.invariant_of-self-2
 invariant_of-self-2 c =
@@ -76,7 +76,7 @@ invariant_of-self-2 c =
     let at = subst (λ (ss : List Session). IsAt ss c.args.session c.in-Some.at) c.as_slice.ensures.value c.in-Some.ensures.found in
     record {
       kept = c.self.invariant.kept;
-      calm = c.self.invariant.calm;
+      due_from = c.self.invariant.due_from;
       early = c.self.invariant.early;
       present = subst (ArePresent k.drawn) (sym c.remove.ensures.items) (present_remove k.drawn k.sessions.items c.in-Some.at (within k.sessions.items c.in-Some.at at.session at.here) c.self.invariant.present);
     }
@@ -91,4 +91,4 @@ returns-clause-step c =
     let closed_ = sym (ap is_open also) ∙ sym c.is_open.ensures ∙ c.if-is_open.false in
     let step = ended (objects_in k.objects) k.clock k.logged k.drawn k.sessions.items c.args.session c.in-Some.at at.session c.self.invariant.present.rises at.here at.numbered closed_ none in
     subst (λ (ss : List Session). Step c.args.self.now.hall (event.Take c.args.session) outcome.Ended (hall_of (objects_in k.objects) k.clock k.logged k.drawn ss)) (sym c.remove.ensures.items)
-    (subst (λ (n : Kernel). Step n.hall (event.Take c.args.session) outcome.Ended (hall_of (objects_in k.objects) k.clock k.logged k.drawn (remove k.sessions.items c.in-Some.at))) c.self.view_is step)
+    (subst (λ (n : CoreState). Step n.hall (event.Take c.args.session) outcome.Ended (hall_of (objects_in k.objects) k.clock k.logged k.drawn (remove k.sessions.items c.in-Some.at))) c.self.view_is step)
