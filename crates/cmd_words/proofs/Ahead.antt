@@ -1,16 +1,16 @@
 -- What goes on with the next word, where other forms could be due too.
-use Rattle.std.proofs.Common.{◌≡◌, ◌⊎◌, inl, inr, ◌<◌, Bool, true, false, refl, sym, ◌∙◌, ap, subst, List, [], ◌∷◌, ◌++◌, length, arith, length-append, append_assoc}
-use Rattle.std.specs.Prelude.{Option, None, Some, Result, Ok, Err, if◌then◌else◌, flat_map}
+use Rattle.std.proofs.Common.{◌≡◌, ◌⊎◌, inl, inr, ◌<◌, false, refl, sym, ◌∙◌, ap, subst, List, [], ◌∷◌, ◌++◌, length, arith, length-append, append_assoc}
+use Rattle.std.specs.Prelude.{Option, None, Some, Result, Ok, Err}
 use Rattle.std.specs.List.{list_any}
 use Rattle.std.proofs.lemmas.List.{append-nil}
 use Rattle.byte_text.specs.Names.{Bytes}
-use Rattle.world_model.specs.Grammar.{Form, Reading, spells, runs_out, a_word, a_coordinate, a_geojson, ◌>>=◌, ◌or◌, go_on, one_word, read_as, live, spelled, wants_coordinate, wants_geojson}
-use Rattle.world_model.specs.Commands.{readings, reads, is_fraction, shown_of, fault_at, command_spelled, wrong_count}
+use Rattle.world_model.specs.Grammar.{Form, Reading, spells, runs_out, a_word, a_coordinate, a_geojson, ◌>>=◌, ◌or◌, one_word, live, spelled, wants_coordinate, wants_geojson}
+use Rattle.world_model.specs.Commands.{readings, reads, shown_of, fault_at, command_spelled, wrong_count}
 use Rattle.world_model.specs.declared.commands.Command.{Command}
 use Rattle.world_model.specs.declared.faults.WordFault.{WordFault}
 use Rattle.world_model.specs.declared.faults.WordFault.TheVariants as fault
 use Rattle.world_model.specs.FormLaws.{Each}
-use Rattle.cmd_words.specs.Progress.{Place, all_words, IsBehind, Moves, Follows, Reads, IsWordDue, WantsWord, IsAhead, ParsesAhead, IsSilent, ReadsBeside, IsFault, IsOne, IsRefusal, due_fault, answers, answered}
+use Rattle.cmd_words.specs.Progress.{Place, all_words, IsBehind, Follows, Reads, IsWordDue, WantsWord, IsAhead, ParsesAhead, IsSilent, ReadsBeside, IsFault, IsOne, IsRefusal, due_fault, answers, answered}
 use Rattle.cmd_words.proofs.Follows.{stopped, now, no_more, some_more, open_by, shut_by, ran_out}
 use Rattle.cmd_words.proofs.Gets.{moves, moves_on}
 use Rattle.cmd_words.proofs.Binds.{bind_assoc}

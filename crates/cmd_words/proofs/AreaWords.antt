@@ -1,21 +1,19 @@
 -- The words of an area, and the numbers that they are not.
-use Rattle.std.proofs.Common.{◌≡◌, ◌⊎◌, ℕ, ℤ, zero, suc, Bool, true, false, inl, inr, refl, sym, ◌∙◌, ap, subst, List, [], ◌∷◌, ◌++◌, length, arith}
-use Rattle.std.specs.Prelude.{codes, Some, None, Option, Ok, Err, Result, IfOk, IfErr}
+use Rattle.std.proofs.Common.{◌≡◌, ℕ, true, inl, inr, refl, sym, ◌∙◌, ap, subst, List, [], ◌∷◌}
+use Rattle.std.specs.Prelude.{codes, Some, None, Ok, Err, Result, IfOk, IfErr}
 use Rattle.std.specs.Fmt.{signed_decimal}
 use Rattle.std.specs.Prelude.{decimal}
-use Rattle.std.specs.Str.{str_to_ascii_lowercase}
 use Rattle.std.proofs.lemmas.List.{append-nil}
 use Rattle.byte_text.specs.Names.{Bytes, is_word}
 use Rattle.planar_geom.specs.Points.{Point, Bounds}
 use Rattle.planar_geom.specs.declared.shapes.Area.TheVariants.{Rect, Disc, Figure}
 use Rattle.geo_text.specs.Texts.{Shape}
-use Rattle.world_model.specs.Grammar.{Form, Reading, a_word, runs_out, ◌>>=◌, done, live}
+use Rattle.world_model.specs.Grammar.{Form, a_word, runs_out, ◌>>=◌, done, live}
 use Rattle.world_model.specs.Kinds.{name, meters, lat_lon, four, geojson}
-use Rattle.world_model.specs.Commands.{AreaRead, area, given_area, nowhere, readings}
-use Rattle.world_model.specs.declared.commands.AreaWords.TheVariants.{Given, Of}
+use Rattle.world_model.specs.Commands.{AreaRead, given_area, nowhere}
+use Rattle.world_model.specs.declared.commands.AreaWords.TheVariants.{Of}
 use Rattle.world_model.specs.declared.commands.Command.{Command}
-use Rattle.world_model.specs.declared.faults.WordFault.{WordFault}
-use Rattle.cmd_words.specs.Progress.{Place, all_words, IsBehind, Moves, Follows, Parses, ParsesAhead, Reads, IsAhead, WantsWord, IsNot, IsRefusal, answers, key_and_id}
+use Rattle.cmd_words.specs.Progress.{Place, all_words, Follows, Parses, ParsesAhead, Reads, IsAhead, WantsWord, IsRefusal, answers, key_and_id}
 use Rattle.cmd_words.specs.Areas.{Sought, given, an_area, area_name, behind_area, LacksArea, TakesArea}
 use Rattle.cmd_words.specs.declared.areas.AreaWord.{AreaWord}
 use Rattle.cmd_words.specs.declared.areas.AreaWord.TheVariants as at

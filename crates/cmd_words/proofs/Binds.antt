@@ -5,9 +5,7 @@ use Rattle.std.proofs.lemmas.Grind.{flat_map-append}
 use Rattle.std.proofs.lemmas.List.{append-nil}
 use Rattle.byte_text.specs.Names.{Bytes}
 use Rattle.world_model.specs.Grammar.{Form, Reading, spells, runs_out, go_on, ◌>>=◌, done, at_most_times, repeated, live}
-use Rattle.world_model.specs.Commands.{reads}
 use Rattle.world_model.specs.declared.commands.Command.{Command}
-use Rattle.world_model.specs.declared.faults.WordFault.{WordFault}
 use Rattle.world_model.specs.FormLaws.{Each, Left, Takes}
 use Rattle.world_model.specs.PrefixLaws.{enough}
 use Rattle.cmd_words.specs.Progress.{Place, Follows, Reads, answers}

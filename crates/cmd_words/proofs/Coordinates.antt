@@ -8,7 +8,6 @@ use Rattle.planar_geom.specs.Points.{pt, bounds, bounds_of}
 use Rattle.world_data.specs.Limits.{max_coord}
 use Rattle.world_model.specs.Commands.{without_minus, are_digits}
 use Rattle.world_model.specs.Grammar.{Due}
-use Rattle.world_model.specs.declared.faults.WordFault.{WordFault}
 use Rattle.cmd_words.specs.Progress.{IsFault, IsOne, due_fault}
 use Rattle.cmd_words.specs.Sets.{coordinate_of}
 use Rattle.cmd_words.specs.declared.faults.CommandFault.{CommandFault}

@@ -8,7 +8,6 @@ use Rattle.world_model.specs.Kinds.{name, integer}
 use Rattle.world_data.specs.Filters.{Field}
 use Rattle.world_model.specs.Commands.{field, reads}
 use Rattle.world_model.specs.declared.commands.Command.{Command}
-use Rattle.world_model.specs.declared.faults.WordFault.{WordFault}
 use Rattle.world_model.specs.FormLaws.{Takes, fair_done, fair_word, fair_bind, takes_word, takes_bind}
 use Rattle.cmd_words.specs.Progress.{Place, all_words, IsBehind, Moves, Follows, Parses, Reads, Answers, IsOne, name_of, key_and_id, answers, answered}
 use Rattle.cmd_words.specs.Sets.{field_step, fields_more, fields_first, fset_of, ReadsFields}

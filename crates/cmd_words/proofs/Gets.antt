@@ -13,7 +13,6 @@ use Rattle.world_model.specs.declared.commands.Command.TheVariants as command
 use Rattle.world_data.specs.declared.queries.Shown.{Shown}
 use Rattle.world_data.specs.declared.queries.Shown.TheVariants as shown
 use Rattle.world_model.specs.declared.faults.WordFault.TheVariants as fault
-use Rattle.world_model.specs.declared.faults.WordFault.{WordFault}
 use Rattle.cmd_words.specs.Progress.{Place, all_words, IsBehind, Moves, Follows, Took, Answers, IsEnd, ReadsShown, IsNot, IsShown, IsNotShown, get_output, get_options, answered}
 use Rattle.cmd_words.proofs.Follows.{stopped, spelt, now, no_more, some_more, open_by, shut_by}
 use Rattle.cmd_words.specs.declared.faults.CommandFault.{CommandFault}

@@ -8,7 +8,6 @@ use Rattle.byte_text.specs.Names.{Bytes, is_word}
 use Rattle.world_model.specs.Grammar.{Form, done, live, ◌>>=◌, once_or_more}
 use Rattle.world_model.specs.Commands.{readings, reads, is_open, shown_of}
 use Rattle.cmd_words.proofs.NoneOf.{NoneIs, none_is}
-use Rattle.world_model.specs.declared.faults.WordFault.{WordFault}
 use Rattle.world_model.specs.declared.faults.WordFault.TheVariants as fault
 use Rattle.cmd_words.proofs.Follows.{stopped, shut_by}
 use Rattle.world_model.specs.declared.commands.Command.{Command}

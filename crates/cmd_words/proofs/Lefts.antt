@@ -5,7 +5,6 @@ use Rattle.std.proofs.lemmas.Option.{get_or_from_slice_get}
 use Rattle.std.proofs.lemmas.List.{take_more}
 use Rattle.byte_text.specs.Names.{Bytes, is_word}
 use Rattle.world_model.specs.Commands.{shown_of}
-use Rattle.world_model.specs.declared.faults.WordFault.{WordFault}
 use Rattle.world_model.specs.declared.faults.WordFault.TheVariants as fault
 use Rattle.cmd_words.specs.Progress.{Place, place_at, IsBehind, IsNot, IsFault, IsRefusal}
 use Rattle.cmd_words.specs.declared.faults.CommandFault.{CommandFault}

@@ -1,6 +1,6 @@
 -- A word of letters is no number.
-use Rattle.std.proofs.Common.{◌≡◌, ℕ, ℤ, suc, pos, negsuc, ◌<◌, ◌≤◌, ◌^◌, Bool, true, false, refl, sym, ◌∙◌, ap, subst, List, [], ◌∷◌, arith, rules, decimal}
-use Rattle.std.specs.Prelude.{Option, Some, None, ◌&&◌, int_le, neg_ℤ, option_and_then, if◌then◌else◌, map, codes}
+use Rattle.std.proofs.Common.{◌≡◌, ℕ, ℤ, pos, negsuc, ◌<◌, ◌≤◌, Bool, true, false, refl, sym, ap, subst, [], ◌∷◌, arith, rules, decimal}
+use Rattle.std.specs.Prelude.{Option, Some, None, ◌&&◌, int_le, neg_ℤ, option_and_then, if◌then◌else◌}
 use Rattle.std.specs.Char.{to_ascii_lowercase}
 use Rattle.std.specs.Str.{str_to_ascii_lowercase}
 use Rattle.std.specs.Fmt.{signed_decimal}

@@ -5,9 +5,7 @@ use Rattle.std.proofs.lemmas.List.{append-nil}
 use Rattle.byte_text.specs.Names.{Bytes}
 use Rattle.world_model.specs.Grammar.{Form, ◌>>=◌, done, times}
 use Rattle.world_model.specs.Kinds.{integer}
-use Rattle.world_model.specs.Commands.{reads}
 use Rattle.world_model.specs.declared.commands.Command.{Command}
-use Rattle.world_model.specs.declared.faults.WordFault.{WordFault}
 use Rattle.cmd_words.specs.Progress.{Place, Moves, Follows, Reads, answers}
 use Rattle.cmd_words.proofs.Gets.{moves_on}
 use Rattle.cmd_words.proofs.Binds.{bind_assoc, bind_same, done_behind, follows_same}

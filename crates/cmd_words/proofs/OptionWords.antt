@@ -1,6 +1,6 @@
 -- What stands behind SET's key and id: options in any order, and a place.
 use Rattle.std.proofs.Common.{◌≡◌, ◌<◌, ℕ, zero, suc, Bool, true, false, inl, inr, refl, sym, ◌∙◌, ap, subst, List, [], ◌∷◌, ◌++◌, length, arith}
-use Rattle.std.specs.Prelude.{codes, is_none, if◌then◌else◌, ◌&&◌, ◌||◌, Option, Some, None, Ok, Err, Result, IfOk, IfErr}
+use Rattle.std.specs.Prelude.{codes, is_none, if◌then◌else◌, ◌&&◌, Option, Some, None, Ok, Err, Result, IfOk, IfErr}
 use Rattle.std.specs.List.{list_any}
 use Rattle.std.specs.Str.{str_to_ascii_lowercase}
 use Rattle.std.proofs.lemmas.List.{append-nil}
@@ -11,11 +11,10 @@ use Rattle.planar_geom.specs.declared.shapes.Part.TheVariants.{Spot, Face}
 use Rattle.world_model.specs.Grammar.{Form, a_word, Reading, runs_out, ◌>>=◌, ◌>>◌, done, where_, word, live, spelled, wants_coordinate, wants_geojson}
 use Rattle.world_model.specs.Kinds.{name, integer, seconds, lat_lon, four, geojson}
 use Rattle.world_data.specs.Filters.{Field}
-use Rattle.world_model.specs.Commands.{SetOptions, set_option, field, place, reads, readings, shown_of, fault_at, command_spelled, wrong_count}
+use Rattle.world_model.specs.Commands.{SetOptions, set_option, field, place, readings, shown_of, fault_at, command_spelled, wrong_count}
 use Rattle.world_model.specs.declared.commands.Only.{Only}
 use Rattle.world_model.specs.declared.commands.Only.TheVariants.{Absent, Present}
 use Rattle.world_model.specs.declared.commands.Command.{Command}
-use Rattle.world_model.specs.declared.faults.WordFault.{WordFault}
 use Rattle.world_model.specs.declared.faults.WordFault.TheVariants as fault
 use Rattle.world_model.specs.FormLaws.{Takes, Fair, fair_done, fair_word, fair_bind, takes_word, takes_bind}
 use Rattle.cmd_words.specs.Progress.{Place, all_words, IsBehind, Moves, Follows, Reads, IsFault, IsRefusal, answers, answered}

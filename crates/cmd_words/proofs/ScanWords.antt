@@ -1,17 +1,15 @@
 -- How a whole SCAN is read or refused.
-use Rattle.std.proofs.Common.{◌≡◌, Bool, true, false, inl, inr, refl, sym, ◌∙◌, ap, subst, List, [], ◌∷◌, ◌++◌}
+use Rattle.std.proofs.Common.{◌≡◌, true, false, inl, inr, refl, sym, ◌∙◌, ap, subst, List, [], ◌∷◌}
 use Rattle.std.specs.Prelude.{codes, Some, None, Ok, Err}
-use Rattle.std.specs.Str.{str_to_ascii_lowercase}
 use Rattle.byte_text.specs.Names.{Bytes, is_word}
-use Rattle.world_model.specs.Grammar.{Form, a_word, Reading, spells, runs_out, done, live}
+use Rattle.world_model.specs.Grammar.{a_word, Reading, spells, runs_out, done, live}
 use Rattle.world_model.specs.Commands.{SearchOptions, no_search_options, reads, wrong_count, shown_of}
 use Rattle.world_data.specs.declared.queries.Shown.{Shown}
 use Rattle.world_data.specs.declared.queries.Shown.TheVariants as shown
 use Rattle.world_model.specs.declared.commands.Command.{Command}
-use Rattle.world_model.specs.declared.faults.WordFault.{WordFault}
 use Rattle.world_model.specs.declared.faults.WordFault.TheVariants as fault
 use Rattle.cmd_words.specs.Progress.{Place, all_words, Follows, Parses, Answers, IsEnd, IsNot, a_name, answers, answered}
-use Rattle.cmd_words.specs.SearchWords.{option_name, LacksOption, options_then, IsNoOption, ReadsOptions, output_name, ReadsOutput}
+use Rattle.cmd_words.specs.SearchWords.{LacksOption, options_then, IsNoOption, ReadsOptions, output_name, ReadsOutput}
 use Rattle.cmd_words.specs.Scans.{scan_of, scan_output, behind_scan}
 use Rattle.cmd_words.specs.declared.search_options.SearchWord.TheVariants as option
 use Rattle.cmd_words.proofs.Gets.{lower_word, ends, stops, moves}

@@ -1,26 +1,23 @@
 -- How a whole WITHIN, INTERSECTS or NEARBY is read or refused.
-use Rattle.std.proofs.Common.{◌≡◌, ◌⊎◌, ℕ, ℤ, pos, Bool, true, false, inl, inr, refl, sym, ◌∙◌, ap, subst, List, [], ◌∷◌, ◌++◌, ◌≤◌, arith}
-use Rattle.std.specs.Prelude.{codes, Option, Some, None, Result, Ok, Err, unwrap_or, neg_ℤ}
-use Rattle.std.specs.Str.{str_to_ascii_lowercase}
+use Rattle.std.proofs.Common.{◌≡◌, ℕ, true, false, inl, inr, refl, sym, ◌∙◌, ap, subst, List, [], ◌∷◌, ◌++◌, arith}
+use Rattle.std.specs.Prelude.{codes, Option, Some, None, Result, Ok, Err, unwrap_or}
 use Rattle.std.proofs.lemmas.List.{append-nil}
 use Rattle.byte_text.specs.Names.{Bytes, is_word}
-use Rattle.byte_text.specs.Numbers.{whole_within, natural_within}
+use Rattle.byte_text.specs.Numbers.{natural_within}
 use Rattle.planar_geom.specs.Points.{Point, Bounds}
 use Rattle.planar_geom.specs.declared.shapes.Area.TheVariants.{Rect}
-use Rattle.world_data.specs.Limits.{max_coord, max_meters}
-use Rattle.world_model.specs.Grammar.{Form, Reading, spells, runs_out, a_word, ◌>>=◌, ◌>>◌, ◌or◌, done, word, live}
-use Rattle.world_model.specs.Kinds.{meters, lat_lon, four, coordinate}
-use Rattle.world_model.specs.Commands.{SearchOptions, no_search_options, output, reads, wrong_count, shown_of}
+use Rattle.world_data.specs.Limits.{max_meters}
+use Rattle.world_model.specs.Grammar.{Form, Reading, spells, runs_out, a_word, ◌>>=◌, done, live}
+use Rattle.world_model.specs.Kinds.{lat_lon, four}
+use Rattle.world_model.specs.Commands.{SearchOptions, no_search_options, output, reads, wrong_count}
 use Rattle.world_data.specs.declared.channels.Kind.{Kind}
 use Rattle.world_data.specs.declared.queries.Shown.{Shown}
 use Rattle.world_data.specs.declared.queries.Shown.TheVariants as shown
 use Rattle.world_model.specs.declared.commands.Command.{Command}
-use Rattle.world_model.specs.declared.faults.WordFault.{WordFault}
-use Rattle.world_model.specs.declared.faults.WordFault.TheVariants as fault
 use Rattle.world_model.specs.FormLaws.{Each}
 use Rattle.cmd_words.proofs.Binds.{each_both}
-use Rattle.cmd_words.specs.Progress.{Place, IsWordDue, all_words, IsBehind, Moves, Follows, Parses, ParsesAhead, Reads, ReadsBeside, Answers, IsAhead, IsSilent, WantsWord, IsEnd, IsNot, IsOne, IsRefusal, Took, a_name, answers, answered, due_fault}
-use Rattle.cmd_words.specs.SearchWords.{option_name, options_then, IsNoOption, ReadsOptions, output_name, ReadsOutput}
+use Rattle.cmd_words.specs.Progress.{Place, IsWordDue, all_words, IsBehind, Moves, Follows, Parses, ParsesAhead, Reads, ReadsBeside, Answers, IsAhead, IsSilent, WantsWord, IsEnd, IsNot, IsOne, IsRefusal, Took, a_name, answers, answered}
+use Rattle.cmd_words.specs.SearchWords.{options_then, IsNoOption, ReadsOptions, output_name, ReadsOutput}
 use Rattle.cmd_words.specs.Areas.{Sought, given, an_area, area_name, behind_area, LacksArea, TakesArea}
 use Rattle.cmd_words.specs.Searches.{output_and_area, box_or_area, search_of, search_area, behind_search, a_point, output_and_point, reach_of, ReadsReach, nearby_of, nearby_point, behind_nearby}
 use Rattle.cmd_words.specs.declared.search_options.SearchWord.TheVariants as option
@@ -34,7 +31,6 @@ use Rattle.cmd_words.proofs.Ahead.{due_live, ahead, next_read, ahead_same, wants
 use Rattle.cmd_words.proofs.AreaWords.{area_goes, area_stops, area_wanted}
 use Rattle.cmd_words.proofs.SearchWords.{options_done, same_words, next_ahead, unroll, behind_options, options_due}
 use Rattle.cmd_words.specs.declared.faults.CommandFault.{CommandFault}
-use Rattle.cmd_words.specs.declared.faults.CommandFault.TheVariants.{Memory}
 
 -- no word of an option begins an output or an area, or an output or a point
 

@@ -1,17 +1,15 @@
 -- What stands behind the key of a search: options in any order, and what is to follow them.
 use Rattle.std.proofs.Common.{◌≡◌, ℕ, zero, suc, Bool, true, false, not, inl, inr, refl, sym, ◌∙◌, ap, subst, List, [], ◌∷◌, ◌++◌, length, arith}
-use Rattle.std.specs.Prelude.{codes, is_none, if◌then◌else◌, ◌&&◌, nat_lt, flat_map, Some, None, Ok, Err}
-use Rattle.std.specs.List.{list_any}
+use Rattle.std.specs.Prelude.{codes, is_none, if◌then◌else◌, ◌&&◌, nat_lt, flat_map, Some, Ok, Err}
 use Rattle.std.specs.Str.{str_to_ascii_lowercase}
 use Rattle.std.proofs.lemmas.List.{append-nil}
 use Rattle.byte_text.specs.Names.{Bytes, is_word}
 use Rattle.world_data.specs.Limits.{max_tests, max_limit}
 use Rattle.world_model.specs.Grammar.{Form, a_word, a_coordinate, a_geojson, Reading, spells, runs_out, go_on, ◌>>=◌, ◌>>◌, done, word, times, live}
 use Rattle.world_model.specs.Kinds.{name, glob, integer, between, bound}
-use Rattle.world_model.specs.Commands.{SearchOptions, no_search_options, search_option, test, reads}
+use Rattle.world_model.specs.Commands.{SearchOptions, no_search_options, search_option, test}
 use Rattle.world_data.specs.declared.filters.Test.TheVariants.{Range, Among}
 use Rattle.world_model.specs.declared.commands.Command.{Command}
-use Rattle.world_model.specs.declared.faults.WordFault.{WordFault}
 use Rattle.world_model.specs.FormLaws.{Each, Takes, Fair, fair_done, fair_word, fair_bind, takes_word, takes_bind}
 use Rattle.cmd_words.specs.Progress.{Place, all_words, IsBehind, Moves, Follows, Parses, Reads, Answers, IsAhead, IsWordDue, a_name, answers}
 use Rattle.cmd_words.specs.SearchWords.{range_test, among_test, with_test, behind_word, option_name, may_come, LacksOption, options_then, IsNoOption, Goes, Refuses, ReadsOptions}

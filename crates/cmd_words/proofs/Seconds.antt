@@ -4,7 +4,6 @@ use Rattle.std.specs.Prelude.{Ok, Err}
 use Rattle.world_model.specs.Grammar.{Form, done, ◌>>=◌}
 use Rattle.world_model.specs.Commands.{reads, wrong_count}
 use Rattle.world_model.specs.declared.commands.Command.{Command}
-use Rattle.world_model.specs.declared.faults.WordFault.{WordFault}
 use Rattle.cmd_words.specs.Progress.{Place, all_words, Follows, Parses, Reads, Answers, IsEnd, answers}
 use Rattle.cmd_words.proofs.Follows.{finished}
 use Rattle.cmd_words.proofs.Ends.{end_refused}

@@ -25,7 +25,6 @@ use Rattle.world_model.specs.FormLaws.{Each}
 use Rattle.world_model.specs.MadeForms.{Makes, Said, makes_done, makes_or, makes_none, makes_where, makes_word, makes_bind, makes_behind, makes_then, makes_maybe, makes_repeated}
 use Rattle.world_model.specs.SoundLaws.{reads_sound}
 use Rattle.cmd_words.specs.Laws.{IsServed, IsOfObject, IsPattern, IsById, IsKept}
-use Rattle.cmd_words.specs.declared.faults.CommandFault.{CommandFault}
 
 abbrev IsName : Bytes → Type 0
 IsName w = is_name w ≡ true

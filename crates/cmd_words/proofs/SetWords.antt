@@ -6,8 +6,6 @@ use Rattle.geo_text.specs.Texts.{Shape}
 use Rattle.world_model.specs.Grammar.{Form, done}
 use Rattle.world_model.specs.Commands.{SetOptions, reads, wrong_count}
 use Rattle.world_model.specs.declared.commands.Command.{Command}
-use Rattle.world_model.specs.declared.faults.WordFault.{WordFault}
-use Rattle.world_model.specs.declared.faults.WordFault.TheVariants as fault
 use Rattle.cmd_words.specs.Progress.{Place, all_words, Follows, Parses, Answers, IsEnd, key_and_id, answers}
 use Rattle.cmd_words.specs.Sets.{options_and_place, no_options, behind_set, set_of, Refuses, ReadsOptions, ReadsPlace}
 use Rattle.cmd_words.proofs.Follows.{finished}

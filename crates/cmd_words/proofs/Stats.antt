@@ -7,7 +7,6 @@ use Rattle.world_model.specs.Grammar.{a_word, Reading, runs_out, go_on, â—Œ>>=â—
 use Rattle.world_model.specs.Kinds.{when}
 use Rattle.world_model.specs.Commands.{reads}
 use Rattle.world_model.specs.declared.commands.Command.TheVariants as command
-use Rattle.world_model.specs.declared.faults.WordFault.{WordFault}
 use Rattle.cmd_words.specs.Progress.{Place, all_words, IsBehind, Follows, Parses, Answers, IsOne, name_of, a_name, key_step, stats_more, stats_names, answered}
 use Rattle.cmd_words.proofs.Gets.{step, ends, stops, moved}
 use Rattle.cmd_words.specs.declared.faults.CommandFault.{CommandFault}

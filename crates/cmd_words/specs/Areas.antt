@@ -1,5 +1,5 @@
 -- The areas that are searched.
-use Rattle.std.specs.Prelude.{◌≡◌, ◌⊎◌, true, List, Option, Some, None, codes}
+use Rattle.std.specs.Prelude.{◌≡◌, true, List, Option, Some, None, codes}
 use Rattle.byte_text.specs.Names.{Bytes}
 use Rattle.planar_geom.specs.declared.shapes.Area.{Area}
 use Rattle.planar_geom.specs.declared.shapes.Area.TheVariants.{Rect, Disc, Figure}

@@ -10,7 +10,6 @@ use Rattle.world_data.specs.declared.filters.Test.TheVariants.{Range, Among}
 use Rattle.world_data.specs.declared.queries.Shown.{Shown}
 use Rattle.world_data.specs.declared.queries.Shown.TheVariants as shown
 use Rattle.world_model.specs.declared.commands.Command.{Command}
-use Rattle.world_model.specs.declared.faults.WordFault.{WordFault}
 use Rattle.cmd_words.specs.Progress.{Place, all_words, answers, Moves, Follows, Took, TookDue, IsNot, IsNotDue}
 use Rattle.cmd_words.specs.declared.search_options.SearchWord.{SearchWord}
 use Rattle.cmd_words.specs.declared.search_options.SearchWord.TheVariants as option

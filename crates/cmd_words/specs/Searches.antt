@@ -12,7 +12,6 @@ use Rattle.world_data.specs.declared.queries.Shown.{Shown}
 use Rattle.world_data.specs.declared.queries.Shown.TheVariants as shown
 use Rattle.world_model.specs.declared.commands.Command.{Command}
 use Rattle.world_model.specs.declared.commands.Command.TheVariants as command
-use Rattle.world_model.specs.declared.faults.WordFault.{WordFault}
 use Rattle.cmd_words.specs.Progress.{Place, Follows, all_words, answers}
 use Rattle.cmd_words.specs.SearchWords.{options_then}
 use Rattle.cmd_words.specs.Areas.{Sought, an_area, given}

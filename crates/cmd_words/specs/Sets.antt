@@ -1,7 +1,7 @@
 -- SET: its options and its place.
-use Rattle.std.specs.Prelude.{◌≡◌, ◌⊎◌, ◌<◌, length, ◌&&◌, ◌||◌, ℤ, pos, neg_ℤ, ◌^◌, ◌-◌, Bool, true, false, List, [], ◌∷◌, ◌++◌, Option, Some, None, is_none, unwrap_or, if◌then◌else◌, Result, Ok, Err, codes}
+use Rattle.std.specs.Prelude.{◌≡◌, ◌⊎◌, ◌<◌, length, ℤ, pos, neg_ℤ, ◌^◌, ◌-◌, Bool, true, false, List, [], ◌∷◌, ◌++◌, Option, Some, None, is_none, unwrap_or, if◌then◌else◌, Result, Ok, Err, codes}
 use Rattle.planar_geom.specs.Points.{same_int}
-use Rattle.byte_text.specs.Names.{Bytes, is_word}
+use Rattle.byte_text.specs.Names.{Bytes}
 use Rattle.byte_text.specs.Numbers.{whole_within}
 use Rattle.geo_text.specs.Texts.{Shape, shape_of}
 use Rattle.world_data.specs.Limits.{max_coord}
@@ -12,8 +12,6 @@ use Rattle.world_model.specs.Commands.{SetOptions, set_option, field, place, non
 use Rattle.world_model.specs.declared.commands.Only.TheVariants.{Any}
 use Rattle.world_model.specs.declared.commands.Command.{Command}
 use Rattle.world_model.specs.declared.commands.Command.TheVariants as command
-use Rattle.world_model.specs.declared.faults.WordFault.{WordFault}
-use Rattle.world_model.specs.declared.faults.WordFault.TheVariants as fault
 use Rattle.cmd_words.specs.Progress.{Place, all_words, answers, Moves, Follows, Took, TookDue, IsNot, IsNotDue}
 use Rattle.cmd_words.specs.declared.set_options.OptionWord.{OptionWord}
 use Rattle.cmd_words.specs.declared.set_options.OptionWord.TheVariants as option

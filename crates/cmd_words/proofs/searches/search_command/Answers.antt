@@ -1,5 +1,4 @@
-use Rattle.std.proofs.Common.{◌∙◌, ap, sym}
-use Rattle.std.specs.Prelude.{Ok, false}
+use Rattle.std.specs.Prelude.{false}
 use Rattle.std.proofs.lemmas.Result.{err_from_is_err_and}
 use Rattle.cmd_words.specs.Progress.{a_name}
 use Rattle.cmd_words.specs.Searches.{search_area, behind_search}
