@@ -2,13 +2,14 @@
 use Rattle.std.proofs.Common.{◌≡◌, ℕ, zero, suc, ◌+◌, ◌-◌, ◌≤◌, ◌<◌, ◌*◌, sym, ap, ◌∙◌, subst, Some, None, List, [], ◌∷◌, ◌++◌, length, take, drop, get_or, set, arith, append_assoc, append-nil, add-one, All}
 use Rattle.std.specs.List.{insert}
 use Rattle.std.proofs.lemmas.List.{take-append-drop, take_more_set, drop-set-lt, set_split, get_or_default}
-use Rattle.std.proofs.lemmas.List.Elements.{All-nil, All-cons, All-append, All-get_or}
-use Rattle.planar_geom.specs.Points.{Bounds}
+use Rattle.std.proofs.lemmas.List.Elements.{All-nil, All-cons, All-append, All-weaker, All-get_or}
+use Rattle.planar_geom.specs.Points.{Bounds, IsBox, box_round_both}
 use Rattle.rtree.specs.declared.nodes.Slot.{Slot}
-use Rattle.rtree.specs.Pairs.{Pair, IsBefore, IsAtMost, IsInside, IsPut}
-use Rattle.rtree.specs.Subtrees.{Subtree, entries_at, nodes_of, IsFull}
+use Rattle.rtree.specs.Pairs.{Pair, earlier, IsBefore, IsAtMost, IsInside, IsPut}
+use Rattle.rtree.specs.Subtrees.{Subtree, entries_at, height_of, nodes_of, IsFull}
 use Rattle.rtree.specs.Slots.{slot_entries, all_entries, all_nodes, IsSlot, IsNode, IsPlaceFor}
-use Rattle.rtree.proofs.Lists.{all-right, length-with}
+use Rattle.rtree.proofs.Lists.{all-right, all-with, put_begins, length-with}
+use Rattle.rtree.proofs.Insides.{inside-itself, inside-first, inside-second}
 use Rattle.rtree.proofs.Slots.{few_all, entries_more, entries_parts, nodes_parts, nodes-append}
 use Rattle.rtree.proofs.Places.{split_at, low_part, high_part, grown-entries, grown-node, nodes-middle, put_alone, leaf_slot}
 
@@ -92,6 +93,23 @@ made_slot h n first box height begins covers full = record {
   summed = record { height_is = height; begins = begins; covers = covers; exact = λ none. absurd cc };
   full = full;
 }
+
+-- the slot over a node with a pair more, with the earlier first entry and a box round that of the pair too
+pub widened_slot : (h : ℕ) (s : Slot) (n m : Subtree) (e first : Pair) (box : Bounds) → IsSlot h s → s.below ≡ Some n → m.height ≡ n.height → IsPut e n.entries m.entries → IsFull m → IsBox e.bounds → first ≡ earlier e s.first → box ≡ box_round_both s.bounds e.bounds → IsSlot h (record { first = first; bounds = box; below = Some m })
+widened_slot h s n m e first box slot below height put full is_box first_is box_is =
+    let b = box_round_both s.bounds e.bounds in
+    let P : Pair → Type 0 = λ p. IsInside b p.bounds in
+    let old : slot_entries s ≡ n.entries = ap (entries_at s.first) below in
+    let put' : IsPut e (slot_entries s) m.entries = subst (λ es. IsPut e es m.entries) (sym old) put in
+    let level : height_of s.below ≡ n.height = ap height_of below in
+    let before : All P (slot_entries s) = All-weaker (λ p. IsInside s.bounds p.bounds) P (λ p k. inside-first s.bounds e.bounds p.bounds k) (slot_entries s) slot.summed.covers in
+    let begins = put_begins e s.first (slot_entries s) m.entries put' slot.summed.begins in
+    let covers : All P m.entries = all-with P e (slot_entries s) m.entries put'.there (inside-second s.bounds e.bounds e.bounds (inside-itself e.bounds is_box)) before in
+    made_slot h m first box
+    (omega (arith, level, height, slot.summed.height_is))
+    (subst (λ f. m.entries ≡ f ∷ drop 1 m.entries) (sym first_is) begins)
+    (subst (λ x. All (λ p. IsInside x p.bounds) m.entries) (sym box_is) covers)
+    full
 
 -- the slots with one replaced, and with another behind it
 pub set_one : (slots : List Slot) (at : ℕ) (t : Slot) → at < length slots → set slots at t ≡ take at slots ++ ((t ∷ []) ++ drop (at + 1) slots)

@@ -21,9 +21,5 @@ read_below short i from mid after old new later read more below = omega (arith, 
 pub read_none : (short i from count : ℕ) (old : List ℕ) → IsRead (short + i) (length old) from count → IsRead (short + (i + 1)) (length old) from count
 read_none short i from count old read below = omega (arith, read below)
 
--- what a node gives after its own visit was read from nodes of at most 16 items
-pub read_all : (short width from count : ℕ) (before : ℕ) (long : ℕ) → width ≤ 16 → from ≡ one_more before → from ≤ count → IsRead (short + width) long from count → IsRead short long before count
-read_all short width from count before long most is later read below = omega (arith, most, is, later, read below)
-
 pub le-trans : {a b c : ℕ} → a ≤ b → b ≤ c → a ≤ c
 le-trans {a} {b} {c} h k = omega (arith, h, k)

@@ -1,8 +1,9 @@
 -- Lists of pairs in order, and a pair more in them.
-use Rattle.std.proofs.Common.{◌≡◌, ◌+◌, refl, sym, subst, inl, inr, List, [], ◌∷◌, ◌++◌, length, arith, append_assoc, length-append, All}
+use Rattle.std.proofs.Common.{◌≡◌, ◌+◌, ◌∙◌, ap, refl, sym, subst, Bool, true, false, drop, if◌then◌else◌, inl, inr, List, [], ◌∷◌, ◌++◌, length, arith, append_assoc, length-append, All}
 use Rattle.std.specs.List.{Contains}
 use Rattle.std.proofs.lemmas.List.Elements.{All-nil, All-cons, All-head, All-tail, All-append, All-weaker, All-contains, Contains-append_cases}
-use Rattle.rtree.specs.Pairs.{Pair, IsBefore, IsAtMost, IsOrdered, IsWith, IsPut}
+use Rattle.std.specs.Ordering.{is_lt}
+use Rattle.rtree.specs.Pairs.{Pair, pair_cmp, earlier, IsBefore, IsAtMost, IsOrdered, IsWith, IsPut}
 use Rattle.rtree.proofs.Order.{at_most-refl, at_most-trans, at_most-antisymm, before-not_at_most}
 
 pub all-left : {X : Type 0} (P : X → Type 0) (xs ys : List X) → All P (xs ++ ys) → All P xs
@@ -78,6 +79,24 @@ pub all-with : (P : Pair → Type 0) (p : Pair) (small large : List Pair) → Is
 all-with P p small large t one all =
     let all' = subst (All P) t.without all in
     subst (All P) (sym t.with) (All-append P t.front (p ∷ t.back) (all-left P t.front t.back all') (All-cons P p t.back one (all-right P t.front t.back all')))
+
+begins_by : (e f : Pair) (old new front back : List Pair) → old ≡ front ++ back → new ≡ front ++ e ∷ back → All (λ q. IsAtMost q e) front → All (IsAtMost e) back → old ≡ f ∷ drop 1 old → (t : Bool) → is_lt (pair_cmp e f) ≡ t → new ≡ (if t then e else f) ∷ drop 1 new
+begins_by e f old new [] back without with low high begins true is = with ∙ ap (λ xs. e ∷ xs) (sym (ap (drop 1) with))
+begins_by e f old new [] back without with low high begins false is =
+    let high' : All (IsAtMost e) (f ∷ drop 1 old) = subst (All (IsAtMost e)) (sym without ∙ begins) high in
+    let same : e ≡ f = at_most-antisymm e f (All-head (IsAtMost e) f (drop 1 old) high') (record { not_less = is }) in
+    subst (λ x. new ≡ x ∷ drop 1 new) same (with ∙ ap (λ xs. e ∷ xs) (sym (ap (drop 1) with)))
+begins_by e f old new (x ∷ front) back without with low high begins true is =
+    let same : x ≡ f = cc (without, begins) in
+    absurd (before-not_at_most e f (record { less = is }) (subst (λ y. IsAtMost y e) same (All-head (λ q. IsAtMost q e) x front low)))
+begins_by e f old new (x ∷ front) back without with low high begins false is =
+    let same : x ≡ f = cc (without, begins) in
+    subst (λ y. new ≡ y ∷ drop 1 new) same (with ∙ ap (λ xs. x ∷ xs) (sym (ap (drop 1) with)))
+
+-- with a pair more, a list begins with that pair or as before
+pub put_begins : (e f : Pair) (old new : List Pair) → IsPut e old new → old ≡ f ∷ drop 1 old → new ≡ earlier e f ∷ drop 1 new
+put_begins e f old new put begins =
+    begins_by e f old new put.there.front put.there.back put.there.without put.there.with put.below put.above begins (is_lt (pair_cmp e f)) refl
 
 pub all-without : (P : Pair → Type 0) (p : Pair) (small large : List Pair) → IsWith p small large → All P large → All P small
 all-without P p small large t all =

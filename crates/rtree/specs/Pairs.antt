@@ -1,5 +1,5 @@
 -- The pairs of a box and a number that a tree holds, their order, and what is asked of them.
-use Rattle.std.specs.Prelude.{ℕ, ◌≡◌, ◌≤ℤ◌, Bool, true, false, List, [], ◌∷◌, ◌++◌, map, All}
+use Rattle.std.specs.Prelude.{ℕ, ◌≡◌, ◌≤ℤ◌, Bool, true, false, if◌then◌else◌, List, [], ◌∷◌, ◌++◌, map, All}
 use Rattle.std.specs.List.{filter, Contains}
 use Rattle.std.specs.declared.cmp.Ordering.{Ordering}
 use Rattle.std.specs.Ordering.{nat_cmp, int_cmp, on, then_cmp, is_lt}
@@ -26,6 +26,10 @@ box_cmp = then_cmp (on (λ p. p.bounds.min) point_cmp) (then_cmp (on (λ p. p.bo
 -- pairs by the place of the box on the curve, then by the box, then by the number
 unfoldable pub pair_cmp : Pair → Pair → Ordering
 pair_cmp = then_cmp (on (λ p. box_place p.bounds) nat_cmp) box_cmp
+
+-- the earlier of two pairs
+abbrev pub earlier : Pair → Pair → Pair
+earlier a b = if is_lt (pair_cmp a b) then a else b
 
 -- a stands before b
 pub record IsBefore (a b : Pair) : Type 0 where

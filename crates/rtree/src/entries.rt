@@ -3,7 +3,7 @@
 ghost use Rattle.std.specs.Prelude.{◌≡◌, ◌<◌, ◌≤◌, ◌^◌, ◌*◌};
 ghost use Rattle.std.specs.Ordering.{is_lt};
 ghost use Rattle.planar_geom.specs.Points.{IsBox};
-ghost use Rattle.rtree.specs.Pairs.{pair, point_cmp, box_cmp, pair_cmp};
+ghost use Rattle.rtree.specs.Pairs.{pair, point_cmp, box_cmp, pair_cmp, earlier as earlier_pair};
 ghost use Rattle.rtree.specs.Curve.{box_place as place_of_box, curve_place as place_on_curve, turned as turned_point};
 
 use planar_geom::{BBox, MAX_COORD, Pt, centre};
@@ -71,6 +71,13 @@ impl Entry {
             Ordering::Greater => false,
             Ordering::Equal => self.order_in_place(other).is_lt(),
         }
+    }
+
+    /// The earlier of two entries.
+    pub(crate) fn earlier(self, other: Entry) -> Entry
+        ensures { result ≡ earlier_pair self other }
+    {
+        if self.is_before(&other) { self } else { other }
     }
 
     // The order of entries at one place of the curve.

@@ -196,6 +196,7 @@ impl Node {
         ensures few_nodes { IsSplitFull self.new result }
         ensures ordered { IsOrdered self.old.entries }
         ensures room { pool.new.room ≡ pool.old.room }
+        ensures full { 8 ≤ self.new.width → self.new.width ≤ 16 → IsFull self.new }
         ensures root { 1 ≤ self.new.width → (1 < self.new.height → 2 ≤ self.new.width) → IsRoot self.new }
     {
         if self.slots.len() <= MOST {
@@ -258,6 +259,7 @@ impl Node {
         ensures ordered { IsOrdered (self.new.entries ++ entries_of result) }
         ensures few_nodes { IsSplitFull self.new result }
         ensures room { pool.new.room ≡ pool.old.room }
+        ensures full { 8 ≤ self.new.width → self.new.width ≤ 16 → IsFull self.new }
         ensures root { 1 ≤ self.new.width → (1 < self.new.height → 2 ≤ self.new.width) → IsRoot self.new }
         ensures cost { steps.new.count ≤ steps.old.count + 3 * self.old.height }
     {
@@ -270,12 +272,15 @@ impl Node {
         let at = place.saturating_sub(1);
         let slot = &mut self.slots[at];
         let child = slot.below.as_mut()?;
-        let upper = child.insert(entry, pool, steps);
+        let Some(upper) = child.insert(entry, pool, steps) else {
+            slot.first = entry.earlier(slot.first);
+            slot.bounds = slot.bounds.with_box(entry.bounds());
+            return None;
+        };
         let (least, around) = child.summary(steps);
         slot.first = least;
         slot.bounds = around;
-        let upper = upper?.into_slot(steps);
-        put(&mut self.slots, at + 1, upper);
+        put(&mut self.slots, at + 1, upper.into_slot(steps));
         self.halve(pool)
     }
 

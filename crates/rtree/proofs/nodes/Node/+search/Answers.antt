@@ -1,10 +1,10 @@
-use Rattle.std.proofs.Common.{◌≡◌, ◌≤◌, ℕ, length, arith, [], ◌∷◌, ◌++◌, ◌∙◌, ap, sym, subst, All, append-nil}
+use Rattle.std.proofs.Common.{◌≡◌, length, [], ◌∷◌, ◌++◌, ◌∙◌, ap, sym, subst, All, append-nil}
 use Rattle.std.proofs.lemmas.List.Elements.{All-get_or}
 use Rattle.std.proofs.lemmas.Result.{err_from_is_err_and}
 use Rattle.rtree.specs.Pairs.{IsPart, ids_meeting}
 use Rattle.rtree.specs.Subtrees.{Subtree, entries_at}
 use Rattle.rtree.specs.Slots.{IsSlot, all_entries, slot_entries}
-use Rattle.rtree.proofs.LedgerLaws.{read_one, read_below, read_none, read_all, le-trans}
+use Rattle.rtree.proofs.LedgerLaws.{read_one, read_below, read_none, le-trans}
 use Rattle.rtree.proofs.Meetings.{met_more, met_part, no_part, meeting_none, meeting_leaf}
 use Rattle.rtree.proofs.nodes.Node.+search.Goals as goal
 use Rattle.rtree.proofs.nodes.Node.+search.Goals.{then-meets+in-None+in_ok-push-in-None, then-meets+in-Some+in_ok-search-in-Some, else-meets}

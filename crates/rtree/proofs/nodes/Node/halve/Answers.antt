@@ -1,6 +1,6 @@
 use Rattle.std.proofs.Common.{◌≡◌, ◌/◌, ◌≤◌, length, length-take, arith, ap}
 use Rattle.rtree.specs.Subtrees.{Subtree}
-use Rattle.rtree.proofs.Slots.{root_of, entries_parts, nodes_parts, split_full, part_left, part_right}
+use Rattle.rtree.proofs.Slots.{full_of, root_of, entries_parts, nodes_parts, split_full, part_left, part_right}
 use Rattle.rtree.proofs.nodes.Node.halve.Goals as goal
 
 pub returns-then-len-le-MOST-clause-root : goal.returns-then-len-le-MOST-clause-root
@@ -33,3 +33,11 @@ returns-clause-root c =
 pub returns-clause-few_nodes : goal.returns-clause-few_nodes
 returns-clause-few_nodes c =
     rw (c.move_tail.ensures.kept, c.move_tail.ensures.moved) (split_full c.self.inside.height (c.len-keep.result / 2) c.self.inside.slots.items c.self.invariant.each (omega arith))
+
+pub returns-then-len-le-MOST-clause-full : goal.returns-then-len-le-MOST-clause-full
+returns-then-len-le-MOST-clause-full c =
+    rw (← c.self.view_is) (λ least most. full_of c.self.inside.height c.self.inside.slots.items c.self.invariant.each least most)
+
+pub returns-clause-full : goal.returns-clause-full
+returns-clause-full c =
+    λ least most. full_of c.self.inside.height c.move_tail.new.from.items (invariant_of-self c).each least most
