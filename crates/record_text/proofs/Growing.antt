@@ -1,0 +1,44 @@
+-- A text grows by one part at a time.
+use Rattle.std.proofs.Common.{◌≡◌, ◌∙◌, ◌+◌, ◌<◌, ℕ, ℤ, zero, suc, List, [], ◌∷◌, ◌++◌, length, drop, refl, sym, ap, subst, arith, append_assoc, flat_map}
+use Rattle.std.specs.Prelude.{Option, Some, slice_get, IfSome}
+use Rattle.byte_text.specs.Names.{Bytes}
+use Rattle.byte_text.specs.Lines.{bulk_text}
+use Rattle.world_data.specs.Filters.{Field}
+use Rattle.world_data.specs.Records.{field_words}
+use Rattle.record_text.specs.Texts.{words_text, field_text}
+
+next : {A : Type 0} (xs : List A) (i : ℕ) (x : A) → slice_get xs i ≡ Some x → drop i xs ≡ x ∷ drop (suc i) xs
+next [] i x at = absurd (cc)
+next (y ∷ xs) zero x at = let is : y ≡ x = cc in ap (λ z. z ∷ xs) is
+next (y ∷ xs) (suc i) x at = next xs i x at
+
+-- the part at a place was written
+pub one_more : {A : Type 0} (text : A → Bytes) (xs : List A) (i : ℕ) (x : A) (into grown whole : Bytes) → slice_get xs i ≡ Some x → grown ≡ into ++ text x
+    → into ++ flat_map text (drop i xs) ≡ whole → grown ++ flat_map text (drop (i + 1) xs) ≡ whole
+one_more text xs i x into grown whole at is before =
+    let one : suc i ≡ i + 1 = omega arith in
+    let here : drop i xs ≡ x ∷ drop (i + 1) xs = next xs i x at ∙ ap (λ (n : ℕ). x ∷ drop n xs) one in
+    ap (λ (l : Bytes). l ++ flat_map text (drop (i + 1) xs)) is ∙ append_assoc into (text x) (flat_map text (drop (i + 1) xs)) ∙ ap (λ l. into ++ flat_map text l) (sym here) ∙ before
+
+-- the field at a place was written
+pub one_field : (fs : List Field) (i : ℕ) (name : Bytes) (value : ℤ) (into grown whole : Bytes) → i < length fs → IfSome (slice_get fs i) (λ f. name ≡ f.0) → IfSome (slice_get fs i) (λ f. value ≡ f.1)
+    → grown ≡ into ++ field_text (name, value) → into ++ flat_map field_text (drop i fs) ≡ whole → grown ++ flat_map field_text (drop (i + 1) fs) ≡ whole
+one_field fs i name value into grown whole lt named valued is before =
+    let s = there fs i lt in
+    let name_is : name ≡ s.0.0 = subst (λ (o : Option Field). IfSome o (λ f. name ≡ f.0)) s.1 named in
+    let value_is : value ≡ s.0.1 = subst (λ (o : Option Field). IfSome o (λ f. value ≡ f.1)) s.1 valued in
+    one_more field_text fs i s.0 into grown whole s.1 (is ∙ ap (λ (m : Bytes). into ++ field_text (m, value)) name_is ∙ ap (λ (v : ℤ). into ++ field_text (s.0.0, v)) value_is) before
+  where
+    there : (xs : List Field) (j : ℕ) → j < length xs → (x : Field) × (slice_get xs j ≡ Some x)
+    there [] j lt = absurd (omega (arith, lt))
+    there (y ∷ ys) zero lt = (y, refl)
+    there (y ∷ ys) (suc j) lt = there ys j (omega (arith, lt))
+
+pub words-append : (us vs : List Bytes) → words_text (us ++ vs) ≡ words_text us ++ words_text vs
+words-append [] vs = refl
+words-append (u ∷ us) vs = ap (λ (l : Bytes). bulk_text u ++ l) (words-append us vs) ∙ sym (append_assoc (bulk_text u) (words_text us) (words_text vs))
+
+-- the texts of fields are the text of their words
+pub fields_are : (fs : List Field) → flat_map field_text fs ≡ words_text (flat_map field_words fs)
+fields_are [] = refl
+fields_are (f ∷ fs) = ap (λ (l : Bytes). field_text f ++ l) (fields_are fs) ∙ sym (words-append (field_words f) (flat_map field_words fs))

@@ -1,0 +1,123 @@
+//! The record of a change is written.
+
+ghost use Rattle.std.specs.Prelude.{◌≡◌, ◌++◌, ◌∷◌, [], ◌+◌, ◌*◌, ◌≤◌, codes, length, take, OnOk, OnErr};
+ghost use Rattle.world_data.specs.Records.{deadline_words, record_text, record_words};
+ghost use Rattle.world_data.specs.declared.worlds.Change.TheVariants as change;
+
+use crate::parts::{push_deadline, push_fields, push_head, push_word, push_words};
+use byte_text::{Name, NoMemory, Text};
+use world_data::{Change, Channel, Object};
+
+// How many words tell a deadline: `AT moment`, or none.
+fn deadline_count(deadline: Option<u64>) -> u128
+    ensures value { result ≡ length (deadline_words deadline) }
+    ensures short { result ≤ 2 }
+{
+    match deadline {
+        Some(_) => 2,
+        None => 0,
+    }
+}
+
+// How many words the record of a put has: `SET key id`, its fields and its deadline, and `OBJECT text`. Of 128 bits, so that no
+// count of fields is too great.
+fn put_count(object: &Object) -> u128
+    ensures { result ≡ length (record_words (change.Put object.now)) }
+{
+    5 + 3 * object.fields.len() as u128 + deadline_count(object.deadline)
+}
+
+#[tactic(auto, using(byte_text::specs::TextLaws::kept))]
+fn push_put(into: &mut Text, object: &Object) -> Result<(), NoMemory>
+    ensures ok { OnOk result (into.new ≡ into.old ++ record_text (change.Put object.now)) }
+    ensures kept { take (length into.old) into.new ≡ into.old }
+{
+    push_head(into, put_count(object))?;
+    push_word(into, b"SET")?;
+    push_word(into, object.key.bytes())?;
+    push_word(into, object.id.bytes())?;
+    push_fields(into, &object.fields)?;
+    push_deadline(into, object.deadline)?;
+    push_word(into, b"OBJECT")?;
+    push_word(into, object.text.bytes())
+}
+
+#[tactic(auto, using(byte_text::specs::TextLaws::kept))]
+fn push_del(into: &mut Text, key: &Name, id: &Name) -> Result<(), NoMemory>
+    ensures ok { OnOk result (into.new ≡ into.old ++ record_text (change.Del key.now id.now)) }
+    ensures kept { take (length into.old) into.new ≡ into.old }
+{
+    push_head(into, 3)?;
+    push_word(into, b"DEL")?;
+    push_word(into, key.bytes())?;
+    push_word(into, id.bytes())
+}
+
+#[tactic(auto, using(byte_text::specs::TextLaws::kept))]
+fn push_drop(into: &mut Text, key: &Name) -> Result<(), NoMemory>
+    ensures ok { OnOk result (into.new ≡ into.old ++ record_text (change.Drop key.now)) }
+    ensures kept { take (length into.old) into.new ≡ into.old }
+{
+    push_head(into, 2)?;
+    push_word(into, b"DROP")?;
+    push_word(into, key.bytes())
+}
+
+#[tactic(auto, using(byte_text::specs::TextLaws::kept))]
+fn push_flush(into: &mut Text) -> Result<(), NoMemory>
+    ensures ok { OnOk result (into.new ≡ into.old ++ record_text change.Flush) }
+    ensures kept { take (length into.old) into.new ≡ into.old }
+{
+    push_head(into, 1)?;
+    push_word(into, b"FLUSHDB")
+}
+
+#[tactic(auto, using(byte_text::specs::TextLaws::kept))]
+fn push_setchan(into: &mut Text, channel: &Channel) -> Result<(), NoMemory>
+    ensures ok { OnOk result (into.new ≡ into.old ++ record_text (change.SetChan channel.now)) }
+    ensures kept { take (length into.old) into.new ≡ into.old }
+{
+    push_head(into, 2 + channel.words.words() as u128)?;
+    push_word(into, b"SETCHAN")?;
+    push_word(into, channel.name.bytes())?;
+    push_words(into, &channel.words)
+}
+
+#[tactic(auto, using(byte_text::specs::TextLaws::kept))]
+fn push_delchan(into: &mut Text, name: &Name) -> Result<(), NoMemory>
+    ensures ok { OnOk result (into.new ≡ into.old ++ record_text (change.DelChan name.now)) }
+    ensures kept { take (length into.old) into.new ≡ into.old }
+{
+    push_head(into, 2)?;
+    push_word(into, b"DELCHAN")?;
+    push_word(into, name.bytes())
+}
+
+fn push_change(into: &mut Text, change: &Change) -> Result<(), NoMemory>
+    ensures ok { OnOk result (into.new ≡ into.old ++ record_text change.now) }
+    ensures kept { take (length into.old) into.new ≡ into.old }
+{
+    match change {
+        Change::Put(object) => push_put(into, object),
+        Change::Del(key, id) => push_del(into, key, id),
+        Change::Drop(key) => push_drop(into, key),
+        Change::Flush => push_flush(into),
+        Change::SetChan(channel) => push_setchan(into, channel),
+        Change::DelChan(name) => push_delchan(into, name),
+    }
+}
+
+/// Appends the record of a change. At want of memory the text is as before.
+pub fn push_record(into: &mut Text, change: &Change) -> Result<(), NoMemory>
+    ensures ok { OnOk result (into.new ≡ into.old ++ record_text change.now) }
+    ensures err { OnErr result (into.new ≡ into.old) }
+{
+    let before = into.len();
+    match push_change(into, change) {
+        Ok(()) => Ok(()),
+        Err(NoMemory) => {
+            into.truncate(before);
+            Err(NoMemory)
+        }
+    }
+}
