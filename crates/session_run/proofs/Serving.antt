@@ -1,5 +1,5 @@
 -- Parts and blocks one behind another.
-use Rattle.std.proofs.Common.{◌≡◌, ◌⊎◌, ◌≤◌, ◌<◌, ℕ, zero, suc, ◌+◌, ◌-◌, Bool, true, false, List, [], ◌∷◌, ◌++◌, length, take, drop, refl, sym, ap, ◌∙◌, subst, inl, inr, arith, append_assoc, length-append, length-drop}
+use Rattle.std.proofs.Common.{◌≡◌, ◌≤◌, ℕ, ◌+◌, ◌-◌, true, List, [], ◌∷◌, ◌++◌, length, take, drop, refl, sym, ap, ◌∙◌, subst, inl, inr, arith, append_assoc, length-drop}
 use Rattle.std.specs.Prelude.{Option, Some, None, map}
 use Rattle.std.specs.Io.KnownBytes.{Keeps, Consumes, IsAtEnd}
 use Rattle.std.proofs.lemmas.List.{append-nil, take_all, drop-drop}
@@ -16,7 +16,7 @@ use Rattle.world_model.specs.declared.events.Outcome.TheVariants as outcome
 use Rattle.world_model.specs.Seats.{Knows, Act, Adds}
 use Rattle.session_run.specs.Gains.{Gains}
 use Rattle.session_run.specs.Gains.{gains_more, gains_last, made}
-use Rattle.session_run.specs.Calls.{Call, call_of, Serves, IsStop, StopsAt, ServesList}
+use Rattle.session_run.specs.Calls.{Call, call_of, Serves, IsStop, ServesList}
 use Rattle.session_run.specs.Feeds.{asked_by, asked_behind, Feeds, EndsBroken, IsFill}
 use Rattle.session_run.specs.declared.batches.Fill.{Fill}
 use Rattle.session_run.specs.declared.batches.Fill.TheVariants as fill

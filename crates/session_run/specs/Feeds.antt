@@ -1,6 +1,5 @@
 -- What a reader of requests makes of bytes, some requests at a time.
-use Rattle.std.specs.Prelude.{◌≡◌, ◌≤◌, ◌<◌, ℕ, ◌+◌, Bool, true, false, List, [], ◌∷◌, ◌++◌, length, map, drop, Option, Some, None}
-use Rattle.std.specs.List.{list_all}
+use Rattle.std.specs.Prelude.{◌≡◌, ◌≤◌, true, List, [], ◌∷◌, ◌++◌, length, map, drop, Some, None}
 use Rattle.byte_text.specs.Names.{Bytes}
 use Rattle.byte_text.specs.Streams.{Stream, StreamEnd, holds, fails, stream_of}
 use Rattle.byte_text.specs.declared.faults.RespFault.{RespFault}

@@ -1,4 +1,4 @@
-use Rattle.std.proofs.Common.{◌≡◌, ◌∙◌, List, refl, sym, subst}
+use Rattle.std.proofs.Common.{List, subst}
 use Rattle.std.specs.Prelude.{Option}
 use Rattle.byte_text.specs.Names.{Bytes}
 use Rattle.resp_frames.specs.RequestReader.{IsFed, IsNotFed}
