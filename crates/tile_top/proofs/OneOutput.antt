@@ -1,6 +1,7 @@
 -- What a script prints, and leads to, is one.
-use Rattle.std.proofs.Common.{◌≡◌, ◌≢◌, ℕ, ◌+◌, refl, sym, ap, ◌∙◌, subst, List, [], ◌∷◌, ◌++◌, inl, inr}
+use Rattle.std.proofs.Common.{◌≡◌, ◌≢◌, ℕ, ◌+◌, refl, sym, ap, ◌∙◌, subst, List, [], ◌∷◌, ◌++◌, append_assoc, inl, inr}
 use Rattle.std.specs.Prelude.{Option, Some, None, map}
+use mathlib.Core.List.{IsPrefix}
 use Rattle.byte_text.specs.Names.{Bytes}
 use Rattle.byte_text.specs.Streams.{stream_of}
 use Rattle.script_text.specs.declared.lines.ScriptLine.{ScriptLine}
@@ -91,6 +92,14 @@ module _ (determined : StepsAreDetermined) where
       let behind : Runs (before + size l) a.0 ls b.2 end = subst (λ (z : Played). Runs (before + size l) z ls b.2 end) s.1 b.4 in
       let r = same_runs (before + size l) a.0 last end ls a.2 b.2 a.4 behind in
       (b.5 ∙ ap (λ (z : Bytes). z ++ b.2) s.0 ∙ ap (λ (z : Bytes). a.1 ++ z) r.0 ∙ sym a.5, r.1)
+
+  pub first_runs : (before : ℕ) (p mid last : Played) (front more : List TextLine) (out all : Bytes) → Runs before p front out mid → Runs before p (front ++ more) all last → IsPrefix out all
+  first_runs before p mid last [] more out all a b = (all, ap (λ (z : Bytes). z ++ all) a.0)
+  first_runs before p mid last (l ∷ front) more out all a b =
+      let s = same_does before p l a.1 b.1 a.0 b.0 a.3 b.3 in
+      let behind : Runs (before + size l) a.0 (front ++ more) b.2 last = subst (λ (z : Played). Runs (before + size l) z (front ++ more) b.2 last) s.1 b.4 in
+      let r = first_runs (before + size l) a.0 mid last front more a.2 b.2 a.4 behind in
+      (r.0, ap (λ (z : Bytes). z ++ r.0) a.5 ∙ append_assoc a.1 a.2 r.0 ∙ ap (λ (z : Bytes). a.1 ++ z) r.1 ∙ ap (λ (z : Bytes). z ++ b.2) (sym s.0) ∙ sym b.5)
 
   not_spent : (h : Hall) (e : Event) (out : Bytes) (next : Hall) → Makes h e out next → IsSpent h e → ⊥
   not_spent h e out next a s =

@@ -1,5 +1,6 @@
 -- A script has one output.
-use Rattle.std.specs.Prelude.{◌≡◌, ℕ, List}
+use Rattle.std.specs.Prelude.{◌≡◌, ℕ, List, ◌++◌}
+use mathlib.Core.List.{IsPrefix}
 use Rattle.byte_text.specs.Names.{Bytes}
 use Rattle.tile_top.specs.TextLines.{TextLine}
 use Rattle.tile_top.specs.Played.{Played}
@@ -10,6 +11,11 @@ use Rattle.tile_top.specs.Spent.{EndsSpent}
 abbrev pub LinesHaveOneOutput : Type 0
 LinesHaveOneOutput = (before : ℕ) (p last end : Played) (ls : List TextLine) (out other : Bytes)
     → Runs before p ls out last → Runs before p ls other end → (other ≡ out) × (end ≡ last)
+
+-- what the first lines print is a beginning of what all of them print
+abbrev pub FirstLinesPrintFirst : Type 0
+FirstLinesPrintFirst = (before : ℕ) (p mid last : Played) (front more : List TextLine) (out all : Bytes)
+    → Runs before p front out mid → Runs before p (front ++ more) all last → IsPrefix out all
 
 -- no line is done where it finds the log at its greatest length
 abbrev pub SpentIsNotDone : Type 0
