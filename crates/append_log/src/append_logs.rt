@@ -1,4 +1,4 @@
-//! A log on the sides of a disk: records are pushed, and a commit makes them stand.
+//! The log on a side of a disk: records are pushed, and a commit makes them stand.
 
 ghost use Rattle.std.specs.Prelude.{Decides, ◌≡◌, ◌+◌, ◌≤◌, ◌<◌, ◌^◌, ◌++◌, ℕ, List, [], take, length, OnOk, OnErr, IfOk, IfErr, MatchResult};
 ghost use Rattle.byte_text.specs.Names.{Bytes};
@@ -8,20 +8,15 @@ ghost use Rattle.log_sides.specs.Making.{WhileMade};
 ghost use Rattle.log_sides.specs.States.{SideIsSafe, IsLog, SideLeads};
 
 use crate::commits::append_batch;
-
-use log_sides::{Batch, make_side};
 use byte_text::NoMemory;
+use log_sides::{Batch, FIRST_GATE, make_side};
 use outside::{Disk, Failed, Side};
 use std::alloc::Global;
 use std::mem;
 
-// The place of the closed gate of a side without a batch.
-const FIRST_GATE: u64 = 16;
-
-/// A log on the sides of a disk, and the records that wait for the next commit.
+/// The log on a side of a disk, and the records that wait for the next commit.
 #[derive(Drop)]
-pub struct AppendLog<D> {
-    disk: D,
+pub struct AppendLog {
     side: Side,
     generation: u64,
     gate: u64,
@@ -39,76 +34,59 @@ pub enum LogFault {
     Memory,
 }
 
-/// A disk that no log was put on, and why.
-#[derive(Drop)]
-pub struct Refused<D> {
-    pub disk: D,
-    pub fault: LogFault,
-}
-
-impl<D: Disk> AppendLog<D> {
+impl AppendLog {
     /// The log of a side of this generation whose closed gate stands at this place. Nothing is pending.
     pub fn over(
         alloc: Global,
-        disk: D,
         side: Side,
         generation: u64,
         gate: u64,
-    ) -> Result<AppendLog<D>, Refused<D>>
+    ) -> Result<AppendLog, NoMemory>
         requires { gate ≤ 2 ^ 62 }
-        ensures disk { IfOk result (λ log. log.disk ≡ disk) }
         ensures side { IfOk result (λ log. log.side ≡ side) }
         ensures generation { IfOk result (λ log. log.generation ≡ generation) }
         ensures gate { IfOk result (λ log. log.gate ≡ gate) }
         ensures pending { IfOk result (λ log. log.pending ≡ []) }
         ensures last { IfOk result (λ log. log.last ≡ []) }
-        ensures refused { IfErr result (λ refused. (refused.disk ≡ disk) × (refused.fault ≡ LogFault.Memory)) }
     {
         match (Batch::new(alloc), Batch::new(alloc)) {
             (Ok(pending), Ok(last)) => Ok(AppendLog {
-                disk,
                 side,
                 generation,
                 gate,
                 pending,
                 last,
             }),
-            _ => Err(Refused {
-                disk,
-                fault: LogFault::Memory,
-            }),
+            _ => Err(NoMemory),
         }
     }
 
     /// Makes a side of this generation, and the log over it. Without memory for that the disk is left alone.
-    pub fn make(
+    pub fn make<D: Disk>(
         alloc: Global,
-        disk: D,
+        disk: &mut D,
         side: Side,
         generation: u64,
-    ) -> Result<AppendLog<D>, Refused<D>>
+    ) -> Result<AppendLog, LogFault>
         requires { IsGeneration generation }
-        ensures stands { (before : Bytes) → SideIsSafe (D.crashes disk) (D.seen disk) (D.images disk) side (λ x. x ≡ before) → IfOk result (λ log. IsLog (D.crashes log.disk) (D.seen log.disk) (D.images log.disk) side generation log.gate []) }
-        ensures either { (before : Bytes) → SideIsSafe (D.crashes disk) (D.seen disk) (D.images disk) side (λ x. x ≡ before) → MatchResult result (λ log. SideLeads D.crashes D.seen D.images D.moment D.left_since side (WhileMade generation before) disk log.disk) (λ refused. (refused.fault ≡ LogFault.Disk → SideLeads D.crashes D.seen D.images D.moment D.left_since side (WhileMade generation before) disk refused.disk)) }
-        ensures memory { IfErr result (λ refused. refused.fault ≡ LogFault.Memory → refused.disk ≡ disk) }
-        ensures told { MatchResult result (λ log. D.crashes log.disk ≡ D.crashes disk) (λ refused. D.crashes refused.disk ≡ D.crashes disk) }
-        ensures later { MatchResult result (λ log. D.faults disk ≤ D.faults log.disk) (λ refused. D.faults disk ≤ D.faults refused.disk) }
-        ensures cause { IfErr result (λ refused. refused.fault ≡ LogFault.Disk → Rose (D.faults disk) (D.faults refused.disk)) }
+        ensures stands { (before : Bytes) → SideIsSafe (D.crashes disk.old) (D.seen disk.old) (D.images disk.old) side (λ x. x ≡ before) → IfOk result (λ log. IsLog (D.crashes disk.new) (D.seen disk.new) (D.images disk.new) side generation log.gate []) }
+        ensures either { (before : Bytes) → SideIsSafe (D.crashes disk.old) (D.seen disk.old) (D.images disk.old) side (λ x. x ≡ before) → MatchResult result (λ log. SideLeads D.crashes D.seen D.images D.moment D.left_since side (WhileMade generation before) disk.old disk.new) (λ fault. fault ≡ LogFault.Disk → SideLeads D.crashes D.seen D.images D.moment D.left_since side (WhileMade generation before) disk.old disk.new) }
+        ensures memory { IfErr result (λ fault. fault ≡ LogFault.Memory → disk.new ≡ disk.old) }
+        ensures told { D.crashes disk.new ≡ D.crashes disk.old }
+        ensures later { D.faults disk.old ≤ D.faults disk.new }
+        ensures cause { IfErr result (λ fault. fault ≡ LogFault.Disk → Rose (D.faults disk.old) (D.faults disk.new)) }
         ensures side { IfOk result (λ log. log.side ≡ side) }
         ensures generation { IfOk result (λ log. log.generation ≡ generation) }
         ensures gate { IfOk result (λ log. log.gate ≡ 16) }
         ensures pending { IfOk result (λ log. log.pending ≡ []) }
         ensures last { IfOk result (λ log. log.last ≡ []) }
     {
-        match AppendLog::over(alloc, disk, side, generation, FIRST_GATE) {
-            Ok(mut log) => match make_side(&mut log.disk, side, generation) {
+        match AppendLog::over(alloc, side, generation, FIRST_GATE) {
+            Ok(log) => match make_side(disk, side, generation) {
                 Ok(()) => Ok(log),
-                Err(Failed) => Err(Refused {
-                    disk: log.into_disk(),
-                    fault: LogFault::Disk,
-                }),
+                Err(Failed) => Err(LogFault::Disk),
             },
-            Err(refused) => Err(refused),
+            Err(NoMemory) => Err(LogFault::Memory),
         }
     }
 
@@ -125,7 +103,6 @@ impl<D: Disk> AppendLog<D> {
         requires { self.old.gate + length self.old.pending + length entry.now + 10 ≤ 2 ^ 62 }
         ensures ok { OnOk result (self.new.pending ≡ self.old.pending ++ entry.now) }
         ensures err { OnErr result (self.new.pending ≡ self.old.pending) }
-        ensures disk { self.new.disk ≡ self.old.disk }
         ensures side { self.new.side ≡ self.old.side }
         ensures generation { self.new.generation ≡ self.old.generation }
         ensures gate { self.new.gate ≡ self.old.gate }
@@ -138,7 +115,6 @@ impl<D: Disk> AppendLog<D> {
     pub fn cut_to(&mut self, len: u64)
         requires { len ≤ length self.old.pending }
         ensures pending { self.new.pending ≡ take len self.old.pending }
-        ensures disk { self.new.disk ≡ self.old.disk }
         ensures side { self.new.side ≡ self.old.side }
         ensures generation { self.new.generation ≡ self.old.generation }
         ensures gate { self.new.gate ≡ self.old.gate }
@@ -175,21 +151,6 @@ impl<D: Disk> AppendLog<D> {
         self.last.written()
     }
 
-    /// Gives the disk out.
-    pub fn into_disk(self) -> D
-        ensures { result ≡ self.disk }
-    {
-        let AppendLog {
-            disk,
-            side: _,
-            generation: _,
-            gate: _,
-            pending: _,
-            last: _,
-        } = self;
-        disk
-    }
-
     /// Makes another side the one in use, whose closed gate stands at this place. Nothing is pending.
     pub fn turn_to(&mut self, side: Side, generation: u64, gate: u64)
         requires pending { self.old.pending ≡ [] }
@@ -198,7 +159,6 @@ impl<D: Disk> AppendLog<D> {
         ensures generation { self.new.generation ≡ generation }
         ensures gate { self.new.gate ≡ gate }
         ensures pending { self.new.pending ≡ [] }
-        ensures disk { self.new.disk ≡ self.old.disk }
         ensures last { self.new.last ≡ self.old.last }
     {
         self.side = side;
@@ -208,11 +168,11 @@ impl<D: Disk> AppendLog<D> {
 
     /// Makes the pending batch stand, by a write of it behind the closed gate and then one of the gate, each of which
     /// is synced. After `Failed` the log stands for the batches without or with it, and is not to be used again.
-    pub fn commit(&mut self) -> Result<(), Failed>
-        ensures stands { (batches : List Bytes) → IsLog (D.crashes self.old.disk) (D.seen self.old.disk) (D.images self.old.disk) self.old.side self.old.generation self.old.gate batches → OnOk result (IsLog (D.crashes self.new.disk) (D.seen self.new.disk) (D.images self.new.disk) self.old.side self.old.generation self.new.gate (committed batches self.old.pending)) }
-        ensures either { (batches : List Bytes) → IsLog (D.crashes self.old.disk) (D.seen self.old.disk) (D.images self.old.disk) self.old.side self.old.generation self.old.gate batches → SideLeads D.crashes D.seen D.images D.moment D.left_since self.old.side (StandsRound self.old.generation batches self.old.pending) self.old.disk self.new.disk }
-        ensures told { D.crashes self.new.disk ≡ D.crashes self.old.disk }
-        ensures cause { HasCause (D.faults self.old.disk) (D.faults self.new.disk) result }
+    pub fn commit<D: Disk>(&mut self, disk: &mut D) -> Result<(), Failed>
+        ensures stands { (batches : List Bytes) → IsLog (D.crashes disk.old) (D.seen disk.old) (D.images disk.old) self.old.side self.old.generation self.old.gate batches → OnOk result (IsLog (D.crashes disk.new) (D.seen disk.new) (D.images disk.new) self.old.side self.old.generation self.new.gate (committed batches self.old.pending)) }
+        ensures either { (batches : List Bytes) → IsLog (D.crashes disk.old) (D.seen disk.old) (D.images disk.old) self.old.side self.old.generation self.old.gate batches → SideLeads D.crashes D.seen D.images D.moment D.left_since self.old.side (StandsRound self.old.generation batches self.old.pending) disk.old disk.new }
+        ensures told { D.crashes disk.new ≡ D.crashes disk.old }
+        ensures cause { HasCause (D.faults disk.old) (D.faults disk.new) result }
         ensures side { self.new.side ≡ self.old.side }
         ensures generation { self.new.generation ≡ self.old.generation }
         ensures gate { OnOk result (self.new.gate ≤ self.old.gate + length self.old.pending + 9) }
@@ -223,7 +183,7 @@ impl<D: Disk> AppendLog<D> {
             self.last.cut_to(0);
             return Ok(());
         }
-        match append_batch(&mut self.disk, self.side, self.gate, self.pending.bytes()) {
+        match append_batch(disk, self.side, self.gate, self.pending.bytes()) {
             Ok(()) => {
                 self.gate += self.pending.len() as u64 + 9;
                 mem::swap(&mut self.pending, &mut self.last);

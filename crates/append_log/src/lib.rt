@@ -8,7 +8,7 @@ mod side_ends;
 mod side_heads;
 mod side_readers;
 
-pub use append_logs::{AppendLog, LogFault, Refused};
+pub use append_logs::{AppendLog, LogFault};
 pub use laws::{logs_read_once, used_sides_stay};
 pub use side_ends::End;
 pub use side_heads::{Head, Start, start_log};

@@ -90,7 +90,3 @@ part_torn generation batches old new numbered room part torn =
 pub written_short : (records : Bytes) → length (written records) ≤ length records + 10
 written_short [] = omega arith
 written_short (byte ∷ bytes) = omega (arith, length-sealed (byte ∷ bytes))
-
--- the closed gate of a side without a batch
-pub first_place : (generation : ℕ) → 16 ≡ gate_place generation []
-first_place generation = omega (arith, ap length (append-nil (header generation)), length-number_bytes generation)

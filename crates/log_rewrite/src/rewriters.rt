@@ -9,11 +9,8 @@ ghost use Rattle.log_sides.specs.Making.{IsShut, WhileShut};
 ghost use Rattle.log_rewrite.specs.NewSides.{IsNewSide, ShutOrStands};
 
 use crate::writes::{settle, write_piece};
-use log_sides::{Batch, head_of, shut_side};
+use log_sides::{Batch, FIRST_GATE, head_of, shut_side};
 use outside::{Disk, Failed, Side, write_durably};
-
-// The place of the closed gate of a side without a batch.
-const FIRST_GATE: u64 = 16;
 
 /// A side that was made: it stands, and its closed gate is at this place.
 #[derive(Clone, Copy, Debug, PartialEq, Eq)]
@@ -44,6 +41,7 @@ impl Rewriter {
         ensures cause { HasCause (D.faults disk.old) (D.faults disk.new) result }
         ensures side { IfOk result (λ r. r.side ≡ side) }
         ensures generation { IfOk result (λ r. r.generation ≡ generation) }
+        ensures gate { IfOk result (λ r. r.gate ≡ 16) }
     {
         match begin_side(disk, side, generation) {
             Ok(()) => Ok(Rewriter {
@@ -71,6 +69,7 @@ impl Rewriter {
         ensures cause { HasCause (D.faults disk.old) (D.faults disk.new) result }
         ensures side { self.new.side ≡ self.old.side }
         ensures generation { self.new.generation ≡ self.old.generation }
+        ensures gate { OnOk result (self.new.gate ≤ self.old.gate + length piece.now + 10) }
     {
         self.mirror(disk, piece.written())
     }
@@ -84,6 +83,7 @@ impl Rewriter {
         ensures cause { HasCause (D.faults disk.old) (D.faults disk.new) result }
         ensures side { self.new.side ≡ self.old.side }
         ensures generation { self.new.generation ≡ self.old.generation }
+        ensures gate { OnOk result (self.new.gate ≤ self.old.gate + length batch.now) }
     {
         if batch.len() == 0 {
             return Ok(());
@@ -105,6 +105,7 @@ impl Rewriter {
         ensures cause { HasCause (D.faults disk.old) (D.faults disk.new) result }
         ensures side { IfOk result (λ made. made.side ≡ self.side) }
         ensures generation { IfOk result (λ made. made.generation ≡ self.generation) }
+        ensures gate { IfOk result (λ made. made.gate ≡ self.gate) }
     {
         match open_side(disk, self.side) {
             Ok(()) => Ok(NewSide {

@@ -134,3 +134,7 @@ is_ready generation batches batch at gate piece old stands place behind is room 
     let here : at ≡ gate_place generation batches + 1 = omega (arith, place, behind) in
     let same : write_over at piece old ≡ write_over (gate_place generation batches + 1) (framed batch ++ 0 ∷ []) old = ap (λ (j : ℕ). write_over j piece old) here ∙ ap (λ (l : Bytes). write_over (gate_place generation batches + 1) l old) is in
     subst (λ (l : Bytes). IsReady generation batches batch l) (sym same) (written_behind generation batches batch old stands (omega (arith, place, room)))
+
+-- the closed gate of a side without a batch
+pub first_place : (generation : ℕ) → 16 ≡ gate_place generation []
+first_place generation = omega (arith, length-append (header generation) [], length-number_bytes generation)

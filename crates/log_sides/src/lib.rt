@@ -7,4 +7,4 @@ mod batches;
 mod side_making;
 
 pub use batches::Batch;
-pub use side_making::{head_of, make_side, shut_side};
+pub use side_making::{FIRST_GATE, head_of, make_side, shut_side};

@@ -9,6 +9,9 @@ ghost use Rattle.log_sides.specs.States.{HasNow, IsHeld, SideIsSafe, SideLeads};
 
 use outside::{Disk, Failed, Side, write_durably};
 
+/// The place of the closed gate of a side without a batch.
+pub const FIRST_GATE: u64 = 16;
+
 /// Makes a side of this generation, without a batch. Its gate is closed first, and opened when all else is safe.
 pub fn make_side<D: Disk>(disk: &mut D, side: Side, generation: u64) -> Result<(), Failed>
     requires { IsGeneration generation }

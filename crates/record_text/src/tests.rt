@@ -11,6 +11,9 @@ fn the_record_of_a_drop(rt: HostRuntime) -> Result<(), Fail> {
     let mut text = Text::of(alloc, b"x")?;
     let change = Change::Drop(Name::of(alloc, b"k")?);
     assert_eq!(rt; push_record(&mut text, &change), Ok(()));
-    assert_eq!(rt; text.bytes(), b"x*2\r\n$4\r\nDROP\r\n$1\r\nk\r\n".as_slice());
+    assert_eq!(rt;
+        text.bytes(),
+        b"x*2\r\n$4\r\nDROP\r\n$1\r\nk\r\n".as_slice()
+    );
     Ok(())
 }

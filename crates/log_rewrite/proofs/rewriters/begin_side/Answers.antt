@@ -4,8 +4,9 @@ use Rattle.outside.specs.Disks.{Torn}
 use Rattle.log_sides.specs.Making.{IsShut, IsBare, WhileShut}
 use Rattle.log_sides.specs.Closing.{shut_torn, shut_while}
 use Rattle.log_sides.specs.Crashing.{leads_step, leads_then, leads_held}
+use Rattle.log_sides.specs.Torn.{first_place}
 use Rattle.log_rewrite.specs.NewSides.{IsPart}
-use Rattle.log_rewrite.proofs.Parts.{part_begun, first_place}
+use Rattle.log_rewrite.proofs.Parts.{part_begun}
 use Rattle.log_rewrite.proofs.Written.{now_write}
 use Rattle.log_rewrite.proofs.rewriters.begin_side.Goals as goal
 

@@ -32,7 +32,7 @@ returns-in-Ok-clause-either g c batches is =
     let D = g.D.Disk in
     let log = c.args.self.now in
     let some = committed_some batches log.pending (λ none. c.if-len-eq0.false (c.len.ensures ∙ none)) in
-    subst (λ (l : List Bytes). SideLeads D.crashes D.seen D.images D.moment D.left_since log.side (λ (x : Bytes). StandsFor log.generation batches x ⊎ StandsFor log.generation l x) log.disk c.append_batch.new.disk) (sym some)
+    subst (λ (l : List Bytes). SideLeads D.crashes D.seen D.images D.moment D.left_since log.side (λ (x : Bytes). StandsFor log.generation batches x ⊎ StandsFor log.generation l x) c.args.disk.now c.append_batch.new.disk) (sym some)
     (c.in-Ok.ensures.either log.generation batches log.pending c.bytes.ensures is)
 
 pub returns-in-Err-clause-either : goal.returns-in-Err-clause-either
@@ -40,5 +40,5 @@ returns-in-Err-clause-either g c batches is =
     let D = g.D.Disk in
     let log = c.args.self.now in
     let some = committed_some batches log.pending (λ none. c.if-len-eq0.false (c.len.ensures ∙ none)) in
-    subst (λ (l : List Bytes). SideLeads D.crashes D.seen D.images D.moment D.left_since log.side (λ (x : Bytes). StandsFor log.generation batches x ⊎ StandsFor log.generation l x) log.disk c.append_batch.new.disk) (sym some)
+    subst (λ (l : List Bytes). SideLeads D.crashes D.seen D.images D.moment D.left_since log.side (λ (x : Bytes). StandsFor log.generation batches x ⊎ StandsFor log.generation l x) c.args.disk.now c.append_batch.new.disk) (sym some)
     (c.in-Err.ensures.either log.generation batches log.pending c.bytes.ensures is)
