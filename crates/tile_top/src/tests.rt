@@ -220,7 +220,7 @@ fn commands_and_their_answers(rt: HostRuntime) -> Result<(), Fail> {
             "*2\r\n*2\r\n$1\r\n0\r\n$1\r\n0\r\n*2\r\n$2\r\n10\r\n$2\r\n10\r\n",
         ),
         ("GET k h POINT", "*2\r\n$1\r\n5\r\n$1\r\n5\r\n"),
-        ("WITHIN k BOUNDS 0 0 1 1", "-ERR not served yet\r\n"),
+        ("SUBSCRIBE z", "-ERR not served yet\r\n"),
         ("NOSUCH k", "-ERR unknown command 'NOSUCH'\r\n"),
         (
             "GET k",
@@ -330,6 +330,165 @@ fn pages_and_their_cursors(rt: HostRuntime) -> Result<(), Fail> {
     ];
     let (script, output) = exchanges(alloc, &table)?;
     let (ended, sink) = played(alloc, "replay", script.bytes(), &[], &[])?;
+    assert_eq!(rt; ended, 0);
+    assert_eq!(rt; sink.written(), output.bytes());
+    Ok(())
+}
+
+// The play of one session's requests, each taken at once, and what it prints where these are the answers.
+fn answers(alloc: Global, table: &[(&str, &str)]) -> Result<(u8, BytesSink, Text), Fail> {
+    let (script, output) = exchanges(alloc, table)?;
+    let (ended, sink) = played(alloc, "replay", script.bytes(), &[], &[])?;
+    Ok((ended, sink, output))
+}
+
+// A square with a square hole.
+const HOLED: &str =
+    "{\"type\":\"Polygon\",\"coordinates\":[[[0,0],[10,0],[10,10],[0,10],[0,0]],[[4,4],[6,4],[6,6],[4,6],[4,4]]]}";
+
+// These words, and then the square with the hole.
+fn with_holed(alloc: Global, words: &str) -> Result<String, Fail> {
+    let mut text = words.to_string(alloc)?;
+    text.push_str(HOLED)?;
+    Ok(text)
+}
+
+// The squared distances are 4000000000000000000, which the radius just reaches, and 8000000000000000000.
+#[test]
+fn the_largest_products(rt: HostRuntime) -> Result<(), Fail> {
+    let table = [
+        ("SET far a POINT 1000000000 1000000000", "+OK\r\n"),
+        (
+            "INTERSECTS far IDS CIRCLE -1000000000 1000000000 2000000000",
+            "*2\r\n:0\r\n*1\r\n$1\r\na\r\n",
+        ),
+        (
+            "INTERSECTS far IDS CIRCLE -1000000000 -1000000000 2000000000",
+            "*2\r\n:0\r\n*0\r\n",
+        ),
+        ("WITHIN far COUNT CIRCLE 1000000000 1000000000 0", ":1\r\n"),
+        (
+            "NEARBY far COUNT POINT -1000000000 1000000000 2000000000",
+            ":1\r\n",
+        ),
+        (
+            "NEARBY far COUNT POINT -1000000000 1000000000 1999999999",
+            ":0\r\n",
+        ),
+    ];
+    let (ended, sink, output) = answers(rt.alloc(), &table)?;
+    assert_eq!(rt; ended, 0);
+    assert_eq!(rt; sink.written(), output.bytes());
+    Ok(())
+}
+
+// Points on an edge, at a corner, in the hole, on its edge, and inside: the hole alone is outside.
+#[test]
+fn edges_and_a_hole(rt: HostRuntime) -> Result<(), Fail> {
+    let alloc = rt.alloc();
+    let found = "*2\r\n:0\r\n*4\r\n$1\r\na\r\n$1\r\nb\r\n$1\r\nd\r\n$1\r\ne\r\n";
+    let meets = with_holed(alloc, "INTERSECTS p IDS OBJECT ")?;
+    let lies = with_holed(alloc, "WITHIN p IDS OBJECT ")?;
+    let table = [
+        ("SET p a POINT 0 5", "+OK\r\n"),
+        ("SET p b POINT 0 0", "+OK\r\n"),
+        ("SET p c POINT 5 5", "+OK\r\n"),
+        ("SET p d POINT 5 4", "+OK\r\n"),
+        ("SET p e POINT 2 2", "+OK\r\n"),
+        (meets.as_str(), found),
+        (lies.as_str(), found),
+    ];
+    let (ended, sink, output) = answers(alloc, &table)?;
+    assert_eq!(rt; ended, 0);
+    assert_eq!(rt; sink.written(), output.bytes());
+    Ok(())
+}
+
+// A box that goes round the hole is in the square, and not in the square with the hole.
+#[test]
+fn an_object_round_a_hole(rt: HostRuntime) -> Result<(), Fail> {
+    let alloc = rt.alloc();
+    let set = with_holed(alloc, "SET q h OBJECT ")?;
+    let lies = with_holed(alloc, "WITHIN q IDS OBJECT ")?;
+    let table = [
+        (set.as_str(), "+OK\r\n"),
+        ("SET q r BOUNDS 3 3 7 7", "+OK\r\n"),
+        (lies.as_str(), "*2\r\n:0\r\n*1\r\n$1\r\nh\r\n"),
+        ("WITHIN q IDS GET q h", "*2\r\n:0\r\n*1\r\n$1\r\nh\r\n"),
+        ("INTERSECTS q COUNT GET q h", ":2\r\n"),
+        ("WITHIN q COUNT BOUNDS 0 0 10 10", ":2\r\n"),
+        ("WITHIN q COUNT GET q none", "-ERR id not found\r\n"),
+        ("WITHIN q COUNT GET none h", "-ERR key not found\r\n"),
+    ];
+    let (ended, sink, output) = answers(alloc, &table)?;
+    assert_eq!(rt; ended, 0);
+    assert_eq!(rt; sink.written(), output.bytes());
+    Ok(())
+}
+
+// The points stand level with corners of a diamond, one inside it and two beside its lowest and its highest corner: of the edges that
+// meet at a corner both count, or one, or none.
+#[test]
+fn level_with_a_corner(rt: HostRuntime) -> Result<(), Fail> {
+    let table = [
+        ("SET v i POINT 5 2", "+OK\r\n"),
+        ("SET v o POINT 0 2", "+OK\r\n"),
+        ("SET v z POINT 10 2", "+OK\r\n"),
+        (
+            "INTERSECTS v IDS OBJECT {\"type\":\"Polygon\",\"coordinates\":[[[5,0],[10,5],[5,10],[0,5],[5,0]]]}",
+            "*2\r\n:0\r\n*1\r\n$1\r\ni\r\n",
+        ),
+    ];
+    let (ended, sink, output) = answers(rt.alloc(), &table)?;
+    assert_eq!(rt; ended, 0);
+    assert_eq!(rt; sink.written(), output.bytes());
+    Ok(())
+}
+
+// Three points as far away as one another come by their ids.
+#[test]
+fn the_nearest_and_ties(rt: HostRuntime) -> Result<(), Fail> {
+    let table = [
+        ("SET n c POINT 0 3", "+OK\r\n"),
+        ("SET n a POINT 3 0", "+OK\r\n"),
+        ("SET n b POINT 0 -3", "+OK\r\n"),
+        (
+            "NEARBY n LIMIT 2 IDS POINT 0 0",
+            "*2\r\n:2\r\n*2\r\n$1\r\na\r\n$1\r\nb\r\n",
+        ),
+        (
+            "NEARBY n CURSOR 2 IDS POINT 0 0",
+            "*2\r\n:0\r\n*1\r\n$1\r\nc\r\n",
+        ),
+        ("NEARBY n COUNT POINT 0 0 2", ":0\r\n"),
+        ("NEARBY n COUNT POINT 0 0 3", ":3\r\n"),
+    ];
+    let (ended, sink, output) = answers(rt.alloc(), &table)?;
+    assert_eq!(rt; ended, 0);
+    assert_eq!(rt; sink.written(), output.bytes());
+    Ok(())
+}
+
+// The word BOUNDS is an output where an area stands behind it, and else the area. A box is as near as its nearest point.
+#[test]
+fn boxes_and_bounds(rt: HostRuntime) -> Result<(), Fail> {
+    let table = [
+        ("SET r big BOUNDS 0 0 10 10", "+OK\r\n"),
+        ("SET r small BOUNDS 3 3 7 7", "+OK\r\n"),
+        (
+            "WITHIN r MATCH s* BOUNDS BOUNDS 0 0 9 9",
+            "*2\r\n:0\r\n*1\r\n*2\r\n$5\r\nsmall\r\n*2\r\n*2\r\n$1\r\n3\r\n$1\r\n3\r\n*2\r\n$1\r\n7\r\n$1\r\n7\r\n",
+        ),
+        ("INTERSECTS r COUNT BOUNDS 10 10 20 20", ":1\r\n"),
+        (
+            "INTERSECTS r LIMIT 1 IDS BOUNDS 7 7 20 20",
+            "*2\r\n:1\r\n*1\r\n$3\r\nbig\r\n",
+        ),
+        ("NEARBY r COUNT POINT 5 -1 1", ":1\r\n"),
+        ("NEARBY r COUNT POINT 5 -1 4", ":2\r\n"),
+        ("WITHIN r BOUNDS 1 0 0 0", "-ERR invalid argument '0'\r\n"),
+    ];
+    let (ended, sink, output) = answers(rt.alloc(), &table)?;
     assert_eq!(rt; ended, 0);
     assert_eq!(rt; sink.written(), output.bytes());
     Ok(())
