@@ -1,5 +1,5 @@
 -- The least deadline of objects, as one comes or goes.
-use Rattle.std.proofs.Common.{◌≡◌, ◌≢◌, ℕ, zero, suc, refl, sym, ap, ◌∙◌, subst, List, [], ◌∷◌, arith}
+use Rattle.std.proofs.Common.{◌≡◌, ◌≢◌, ℕ, zero, suc, refl, sym, ap, ◌∙◌, List, [], ◌∷◌, arith}
 use Rattle.std.specs.Prelude.{Option, Some, None, fold, min, slice_get}
 use Rattle.std.specs.List.{slice_set, insert, remove}
 use Rattle.world_data.specs.declared.objects.Object.{Object}

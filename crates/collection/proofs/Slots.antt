@@ -1,8 +1,10 @@
 -- A list of keys of objects in slots: an edit of the keys and their slots is an edit of the objects.
-use Rattle.std.proofs.Common.{◌≡◌, ◌≢◌, ◌<◌, ◌≤◌, ◌+◌, ℕ, zero, suc, Bool, true, false, refl, sym, ap, ◌∙◌, subst, List, [], ◌∷◌, length, take, drop, get_or, add-one, arith}
+use Rattle.std.proofs.Common.{◌≡◌, ◌≢◌, ◌<◌, ◌≤◌, ◌+◌, ℕ, zero, suc, Bool, true, false, refl, sym, ap, ◌∙◌, subst, List, [], ◌∷◌, ◌++◌, length, take, drop, get_or, add-one, arith}
 use Rattle.std.specs.Prelude.{Option, Some, None, is_some, IsSome, nat_eq, not, ◌&&◌, ◌||◌, slice_get}
 use Rattle.std.specs.List.{list_all, list_any, insert, remove, slice_set}
 use Rattle.std.proofs.lemmas.Bool.Decides.{nat_tests}
+use Rattle.std.proofs.lemmas.List.{take-append-drop, drop-drop}
+use Rattle.std.proofs.lemmas.List.Elements.{filter_map-append}
 use Rattle.byte_text.specs.Names.{Bytes, before}
 use Rattle.byte_text.specs.ByteOrder.{before_trans}
 use Rattle.ordered_lists.specs.Reading.{both_of}
@@ -298,3 +300,11 @@ first_behind q (y ∷ xs) zero x is behind =
     let s : y ≡ x = cc in
     ap q (sym s) ∙ not_true (q y) (both_of (not (q y)) (list_all (λ o. not (q o)) xs) behind).0
 first_behind q (y ∷ xs) (suc i) x is behind = first_behind q xs i x is behind
+
+-- the objects of a run of keys, and of those behind it
+pub run_and_rest : (f : ℕ → Option Object) (ks run : List ℕ) (i : ℕ) → run ≡ take (length run) (drop i ks) → objects_at f (drop i ks) ≡ objects_at f run ++ objects_at f (drop (i + length run) ks)
+run_and_rest f ks run i is =
+    ap (objects_at f) (sym (take-append-drop (length run) (drop i ks)))
+    ∙ filter_map-append f (take (length run) (drop i ks)) (drop (length run) (drop i ks))
+    ∙ ap (λ (l : List ℕ). objects_at f l ++ objects_at f (drop (length run) (drop i ks))) (sym is)
+    ∙ ap (λ (l : List ℕ). objects_at f run ++ objects_at f l) (drop-drop (length run) i ks)

@@ -21,20 +21,9 @@ pub(crate) fn least_after(
         None => lesser(least, into),
         Some(gone) => match least {
             Some(first) if first != gone => lesser(least, into),
-            _ => least_deadline(objects),
+            _ => objects.least_due(),
         },
     }
-}
-
-// The least deadline of the objects.
-fn least_deadline(objects: &ObjectList) -> Option<u64>
-    ensures { result ≡ least_due objects.now.objects }
-{
-    let mut found = None;
-    for i in 0..objects.len() {
-        found = lesser(found, objects.at(i).deadline);
-    }
-    found
 }
 
 /// The lesser of two moments, where there are two.

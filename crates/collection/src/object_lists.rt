@@ -1,10 +1,13 @@
 //! Objects in slots, in an order of their own: none moves when another is put in or taken out.
 
-ghost use Rattle.std.specs.Prelude.{◌≡◌, ◌<◌, ◌≤◌, ◌+◌, [], true, not, length, take, drop, slice_get, Some, OnOk};
+ghost use Rattle.std.specs.Prelude.{◌≡◌, ◌<◌, ◌≤◌, ◌+◌, [], true, not, length, take, drop, slice_get, fold, Some, OnOk};
 ghost use Rattle.std.specs.List.{insert, remove, slice_set, list_all};
 ghost use Rattle.byte_text.specs.Names.{before};
-ghost use Rattle.collection.specs.Objects.{are_by_id};
+ghost use Rattle.slab.specs.Slab.{get};
+ghost use Rattle.collection.specs.Objects.{are_by_id, earlier, least_due};
+ghost use Rattle.collection.specs.Slotted.{objects_at};
 
+use crate::deadlines::lesser;
 use crate::id_tests::IsBefore;
 use byte_text::{Name, NoMemory};
 use run_list::RunList;
@@ -123,4 +126,40 @@ impl ObjectList {
         let _ = self.slots.insert_reserved(object);
         old
     }
+
+    /// The least deadline of all objects.
+    pub(crate) fn least_due(&self) -> Option<u64>
+        ensures { result ≡ least_due self.now.objects }
+    {
+        least_by_runs(&self.slots, &self.keys)
+    }
+}
+
+// The least deadline of objects by their keys, run by run.
+fn least_by_runs(slots: &Slab<Object>, keys: &RunList) -> Option<u64>
+    ensures { result ≡ least_due (objects_at (get slots.now) keys.now.items) }
+{
+    let len = keys.len();
+    let mut found = None;
+    let mut i = 0;
+    while i < len {
+        let run = keys.run_at(i);
+        found = least_in(slots, run, found);
+        i += run.len();
+    }
+    found
+}
+
+// The lesser of a moment and of the deadlines of objects by their keys.
+fn least_in(slots: &Slab<Object>, keys: &[usize], found: Option<u64>) -> Option<u64>
+    ensures { result ≡ fold (λ d o. earlier d o.deadline) found (objects_at (get slots.now) keys.now) }
+{
+    let mut least = found;
+    for key in keys {
+        least = match slots.get(*key) {
+            Some(object) => lesser(least, object.deadline),
+            None => least,
+        };
+    }
+    least
 }

@@ -1,5 +1,5 @@
-use Rattle.std.proofs.Common.{◌≡◌, ◌<◌, ℕ, true, false, rules, length, sym, subst, ◌∙◌, arith}
-use Rattle.std.specs.Prelude.{Option, IfSome, slice_get, not}
+use Rattle.std.proofs.Common.{◌≡◌, ◌<◌, true, false, rules, length, sym, subst, ◌∙◌}
+use Rattle.std.specs.Prelude.{Option, IfSome}
 use Rattle.byte_text.specs.Names.{before, same}
 use Rattle.world_data.specs.declared.objects.Object.{Object}
 use Rattle.collection.specs.IdOrder.{tied, is_behind}

@@ -1,4 +1,4 @@
-use Rattle.std.proofs.Common.{◌≡◌, ◌≤◌, true, false, subst, sym, ap, ◌∙◌, List, arith}
+use Rattle.std.proofs.Common.{◌≡◌, true, false, subst, sym, ap, ◌∙◌, List}
 use Rattle.std.specs.Prelude.{Option, IfSome, ℕ}
 use Rattle.std.specs.List.{list_any}
 use Rattle.byte_text.specs.Names.{before}

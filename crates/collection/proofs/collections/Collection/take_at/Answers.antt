@@ -1,8 +1,6 @@
-use Rattle.std.proofs.Common.{◌≡◌, true, subst, sym, ap, ◌∙◌, List}
-use Rattle.std.specs.Prelude.{Option, None, ℕ}
+use Rattle.std.proofs.Common.{◌≡◌, true, subst, sym, List}
 use Rattle.world_data.specs.declared.objects.Object.{Object}
-use Rattle.collection.specs.Objects.{are_by_id, least_due}
-use Rattle.collection.specs.Slotted.{IsLeastAfter}
+use Rattle.collection.specs.Objects.{are_by_id}
 use Rattle.collection.specs.IdOrder.{removed_by_id}
 use Rattle.collection.proofs.Least.{least_removed}
 use Rattle.collection.proofs.collections.Collection.take_at.Goals as goal

@@ -1,5 +1,4 @@
-use Rattle.std.proofs.Common.{◌≡◌, ◌∙◌, ap, sym, get_or}
-use Rattle.std.specs.Prelude.{None}
+use Rattle.std.proofs.Common.{◌∙◌, ap, sym, get_or}
 use Rattle.slab.specs.Slab.{get}
 use Rattle.collection.proofs.Slots.{within_keys, stored_at, get_at, gone}
 use Rattle.collection.proofs.object_lists.ObjectList.at.Goals as goal

@@ -1,7 +1,6 @@
-use Rattle.std.proofs.Common.{◌≤◌, ◌∙◌, ℕ, List, subst, sym}
-use Rattle.std.specs.List.{insert}
+use Rattle.std.proofs.Common.{◌≤◌, ℕ, subst, sym}
 use Rattle.slab.specs.Slab.{get}
-use Rattle.collection.specs.Slotted.{objects_at, AreSlotted}
+use Rattle.collection.specs.Slotted.{AreSlotted}
 use Rattle.collection.proofs.Slots.{length_at, free_key, insert_at, slotted_insert}
 use Rattle.collection.proofs.object_lists.ObjectList.insert.Goals as goal
 
