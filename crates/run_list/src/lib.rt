@@ -1,6 +1,7 @@
 //! A list of numbers in which a number is put in or taken out at any place without moving all behind it.
 #![tactic(auto)]
 
+mod ends;
 mod large;
 mod lists;
 mod runs;
