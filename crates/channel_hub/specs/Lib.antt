@@ -1,0 +1,3 @@
+pub mod Subscribers
+pub mod Hubs
+pub mod SubscriberLaws
