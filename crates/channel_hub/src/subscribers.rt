@@ -3,7 +3,7 @@
 ghost use Rattle.std.specs.Prelude.{◌≡◌, ◌<◌, ◌↔◌, [], true, length, take, nat_lt, Err, IfOk, IfErr, IfSome, IfNone, OnOk, OnErr};
 ghost use Rattle.ordered_lists.specs.Lists.{ascends, IsHeld, IsFree};
 ghost use Rattle.world_data.specs.Limits.{max_subs};
-ghost use Rattle.channel_hub.specs.Subscribers.{session_before, subs_of, set_subs, subscribed};
+ghost use Rattle.channel_hub.specs.Subscribers.{session_before, subs_of, set_subs, subscribed, are_subscribers};
 ghost use Rattle.channel_hub.specs.declared.subscriptions.HubFault.TheVariants.{TooMany};
 
 use crate::subscriptions::{HubFault, Subscriber};
@@ -46,6 +46,7 @@ impl Subscribers {
     pub(crate) fn get(&self, session: u32) -> Option<&Subscriber>
         ensures none { IfNone result (subs_of self.now session ≡ []) }
         ensures some { IfSome result (λ s. s.now.subs ≡ subs_of self.now session) }
+        ensures sorted { are_subscribers self.now ≡ true }
     {
         match place_of(self.list.as_slice(), session) {
             Ok(at) => Some(&self.list[at]),
