@@ -1,6 +1,6 @@
 -- Groups one behind another.
-use Rattle.std.proofs.Common.{◌≡◌, ◌⊎◌, ◌≤◌, ◌<◌, ℕ, ◌+◌, Bool, true, false, List, [], ◌∷◌, ◌++◌, refl, sym, ap, ◌∙◌, subst, inl, inr, arith, append_assoc}
-use Rattle.std.specs.Prelude.{Option, Some, None, flat_map, min}
+use Rattle.std.proofs.Common.{◌≡◌, ◌⊎◌, ◌≤◌, ℕ, ◌+◌, Bool, false, List, [], ◌∷◌, ◌++◌, refl, sym, ap, ◌∙◌, subst, inl, inr, arith, append_assoc}
+use Rattle.std.specs.Prelude.{Option, Some, None, min}
 use Rattle.std.proofs.lemmas.List.{append-nil}
 use Rattle.std.proofs.lemmas.Grind.{flat_map-append}
 use Rattle.outside.specs.Causes.{Rose, most_count, next_count}
@@ -13,7 +13,7 @@ use Rattle.serve_run.specs.declared.starts.Fate.{Fate}
 use Rattle.serve_run.specs.declared.tends.ServeEnd.{ServeEnd}
 use Rattle.serve_run.specs.declared.tends.ServeEnd.TheVariants as end
 use Rattle.serve_run.specs.Links.{Joins, TendsOn, TendsLast, IsLast, Tends, serve_end, refusals, fate_acts, tick_act, rewrite_act}
-use Rattle.serve_run.specs.Rounds.{State, state_of, Came, Group, IsLost, group_acts, groups_acts, AreGroups, link_jobs, groups_jobs, groups_refusals, groups_starved, groups_links, groups_callers, link_callers, lost_count, lost_callers, fate_starved, Rounds, EndsBy, RoundTurn, RoundsOn, ServesLinks}
+use Rattle.serve_run.specs.Rounds.{State, state_of, Group, IsLost, group_acts, groups_acts, AreGroups, link_jobs, groups_jobs, groups_refusals, groups_starved, groups_links, groups_callers, link_callers, lost_count, lost_callers, fate_starved, Rounds, EndsBy, RoundTurn, RoundsOn, ServesLinks}
 
 -- what stays as it was while no link is served: the spawner's counts, and the sessions that were starved; a caller may have come
 pub record Idles (old new : State) (lost : Bool) : Type 0 where

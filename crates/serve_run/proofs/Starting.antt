@@ -1,8 +1,8 @@
 -- A link: its session and its jobs.
-use Rattle.std.proofs.Common.{◌≡◌, ◌≤◌, ℕ, ◌+◌, List, [], ◌∷◌, refl, sym, ap, ◌∙◌, subst, arith}
+use Rattle.std.proofs.Common.{◌≡◌, ◌≤◌, ℕ, ◌+◌, [], ◌∷◌, refl, ◌∙◌, subst, arith}
 use Rattle.std.specs.Prelude.{min, Err}
 use Rattle.outside.specs.Causes.{Rose, most_count, next_count}
-use Rattle.world_model.specs.Seats.{Knows, Act, Adds}
+use Rattle.world_model.specs.Seats.{Knows, Adds}
 use Rattle.world_model.specs.Outcomes.{enter_outcome}
 use Rattle.world_model.specs.declared.events.EnterFault.{EnterFault}
 use Rattle.world_model.specs.declared.events.EnterFault.TheVariants as refused
@@ -11,7 +11,7 @@ use Rattle.world_model.specs.declared.events.Event.TheVariants as event
 use Rattle.world_model.specs.declared.events.Outcome.TheVariants as outcome
 use Rattle.session_run.specs.Gains.{Gains, gains_more, gains_one, made}
 use Rattle.serve_run.specs.declared.starts.Fate.{Fate}
-use Rattle.serve_run.specs.declared.starts.Fate.TheVariants.{Refused, Served, Closed, Dropped, Starved}
+use Rattle.serve_run.specs.declared.starts.Fate.TheVariants.{Refused, Closed, Dropped, Starved}
 use Rattle.serve_run.specs.Links.{Starts, Joins, start_acts}
 
 none_refused : (faults : ℕ) → min (faults + 0) most_count ≤ faults

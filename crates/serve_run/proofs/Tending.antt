@@ -1,15 +1,14 @@
 -- A Tick and a Rewrite.
-use Rattle.std.proofs.Common.{◌≡◌, ◌⊎◌, ℕ, List, [], ◌∷◌, refl, sym, ◌∙◌, subst, inl, inr}
+use Rattle.std.proofs.Common.{◌≡◌, ℕ, [], ◌∷◌, refl, subst, inl, inr}
 use Rattle.std.specs.Prelude.{Option, Some, None}
 use Rattle.world_model.specs.declared.events.Called.{Called}
 use Rattle.world_model.specs.declared.events.Called.TheVariants as called
-use Rattle.world_model.specs.Seats.{Knows, Act, Adds}
+use Rattle.world_model.specs.Seats.{Knows, Adds}
 use Rattle.world_model.specs.declared.events.Event.TheVariants as event
 use Rattle.world_model.specs.declared.events.Outcome.TheVariants as outcome
-use Rattle.session_run.specs.Gains.{Makes, Gains, made}
+use Rattle.session_run.specs.Gains.{Makes, made}
 use Rattle.serve_run.specs.declared.tends.ServeEnd.{ServeEnd}
-use Rattle.serve_run.specs.declared.tends.ServeEnd.TheVariants as end
-use Rattle.serve_run.specs.Links.{serve_end, tick_act, rewrite_act, IsTold, Tends, TendsOn, TendsLast}
+use Rattle.serve_run.specs.Links.{serve_end, tick_act, rewrite_act, IsTold, Tends}
 
 pub tends_tick : (told : Option ℕ) (old new : Knows) (m : ℕ) (c : Called) (e : ServeEnd) → IsTold told m → serve_end c ≡ Some e → Adds (event.Tick m) (outcome.Answered c) old new → Tends told old new (Some e)
 tends_tick told old new m c e t is adds = record { last = tick_act m c ∷ []; gains = (new, made (event.Tick m) (outcome.Answered c) old new adds, refl); is_last = (m, c, t, is, inl refl) }

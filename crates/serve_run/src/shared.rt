@@ -12,11 +12,13 @@ use world_model::Frames;
 /// A hall, its bells and the gate.
 #[derive(Drop)]
 pub struct Shared<H, B, G> {
+    /// The hall that the sessions are of.
     pub hall: Arc<H, Global>,
     /// Rung for a session where frames wait.
     pub bell: Arc<B, Global>,
     /// Rung for a session where there is room for frames again.
     pub room: Arc<B, Global>,
+    /// What a session passes before each turn of its calls.
     pub gate: Arc<G, Global>,
 }
 

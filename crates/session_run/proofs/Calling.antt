@@ -1,8 +1,7 @@
 -- Calls one behind another.
-use Rattle.std.proofs.Common.{◌≡◌, ◌≤◌, ◌<◌, ℕ, zero, suc, Bool, true, false, List, [], ◌∷◌, ◌++◌, length, take, drop, refl, sym, ap, ◌∙◌, subst, arith, append_assoc, length-append, length-drop}
+use Rattle.std.proofs.Common.{◌≡◌, ◌≤◌, ◌<◌, ℕ, zero, suc, Bool, true, false, List, [], ◌∷◌, ◌++◌, length, take, drop, refl, sym, ap, ◌∙◌, subst, arith, append_assoc, length-drop}
 use Rattle.std.specs.Prelude.{Option, Some, None, MatchOption, map, ◌&&◌}
 use Rattle.std.specs.List.{list_all}
-use Rattle.std.proofs.lemmas.List.{append-nil}
 use Rattle.world_model.specs.Outcomes.{is_proper}
 use Rattle.world_model.specs.declared.events.Asked.{Asked}
 use Rattle.world_model.specs.declared.events.Called.{Called}
@@ -11,7 +10,7 @@ use Rattle.world_model.specs.Seats.{Knows, Act, AddsCalls}
 use Rattle.session_run.specs.Gains.{Gains}
 use Rattle.world_model.specs.Outcomes.{call_act, last_call, call_acts, IsCount}
 use Rattle.session_run.specs.Gains.{gains_more, gains_calls}
-use Rattle.session_run.specs.Calls.{Call, call_of, IsTimely, IsNext, goes_on, behind, Serves, IsStop, StopsAt, ServesList, ServesOn, CallsTurn}
+use Rattle.session_run.specs.Calls.{Call, call_of, IsTimely, IsNext, behind, Serves, IsStop, StopsAt, ServesList, ServesOn}
 
 pub map_more : (n : ℕ) (a b : List Call) → map (call_of n) (a ++ b) ≡ map (call_of n) a ++ map (call_of n) b
 map_more n [] b = refl

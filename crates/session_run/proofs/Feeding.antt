@@ -1,19 +1,19 @@
 -- Bytes that are fed to a reader, request by request.
-use Rattle.std.proofs.Common.{◌≡◌, ℕ, ◌+◌, ◌<◌, ◌≤◌, Bool, true, false, refl, sym, ap, ◌∙◌, subst, List, [], ◌∷◌, ◌++◌, length, drop, append_assoc, length-append, arith}
-use Rattle.std.specs.Prelude.{Some, None, map, ◌&&◌}
+use Rattle.std.proofs.Common.{◌≡◌, ℕ, ◌≤◌, Bool, true, refl, sym, ap, ◌∙◌, subst, List, [], ◌∷◌, ◌++◌, length, drop, append_assoc, arith}
+use Rattle.std.specs.Prelude.{Some, None, ◌&&◌}
 use Rattle.std.specs.List.{list_all}
 use Rattle.std.proofs.lemmas.List.{append-nil}
 use Rattle.std.proofs.lemmas.List.Folds.{list_all-append}
 use Rattle.byte_text.specs.Names.{Bytes}
 use Rattle.byte_text.specs.Requests.{IsRequest, request_text}
-use Rattle.byte_text.specs.Streams.{Stream, found, begun, broken, request, stream_of, with_first, only_rest, only_fault}
+use Rattle.byte_text.specs.Streams.{found, begun, broken, request, stream_of, with_first, only_rest, only_fault}
 use Rattle.byte_text.specs.declared.faults.RespFault.{RespFault}
 use Rattle.resp_frames.specs.declared.faults.FeedFault.TheVariants as feed
 use Rattle.resp_frames.specs.RequestReader.{Held, IsFed, IsNotFed}
 use Rattle.world_model.specs.Outcomes.{is_proper}
 use Rattle.world_model.specs.declared.events.Asked.{Asked}
 use Rattle.world_model.specs.declared.events.Asked.TheVariants.{Words, Broken}
-use Rattle.session_run.specs.Feeds.{asked_by, asked_behind, Feeds, EndsBroken, Reads, ReadsFault}
+use Rattle.session_run.specs.Feeds.{asked_by, asked_behind, Feeds, Reads, ReadsFault}
 
 -- what is said of a stream by its front
 pub record Laws : Type 0 where

@@ -1,6 +1,6 @@
 -- Takes one behind another.
 use Rattle.std.proofs.Common.{◌≡◌, ◌≤◌, ℕ, Bool, true, List, [], ◌∷◌, ◌++◌, refl, sym, ap, ◌∙◌, subst, arith, append_assoc}
-use Rattle.std.specs.Prelude.{Option, map, flat_map, ◌&&◌}
+use Rattle.std.specs.Prelude.{Option, map, ◌&&◌}
 use Rattle.std.specs.List.{concat, list_all}
 use Rattle.std.specs.Io.KnownBytes.{Appends}
 use Rattle.std.proofs.lemmas.List.{append-nil}
@@ -11,7 +11,7 @@ use Rattle.outside.specs.Causes.{Rose}
 use Rattle.world_model.specs.Seats.{Knows, Act, Adds}
 use Rattle.world_model.specs.declared.events.Event.TheVariants as event
 use Rattle.world_model.specs.declared.events.Outcome.TheVariants as outcome
-use Rattle.session_run.specs.Gains.{Gains, Makes}
+use Rattle.session_run.specs.Gains.{Gains}
 use Rattle.session_run.specs.Gains.{gains_more, gains_last, gains_one, made}
 use Rattle.session_run.specs.declared.outs.OutEnd.{OutEnd}
 use Rattle.session_run.specs.declared.outs.OutEnd.TheVariants.{Ended, WriteFault, LogFault, Stopped}

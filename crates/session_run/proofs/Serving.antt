@@ -1,5 +1,5 @@
 -- Parts and blocks one behind another.
-use Rattle.std.proofs.Common.{◌≡◌, ◌⊎◌, ◌≤◌, ◌<◌, ℕ, zero, suc, ◌+◌, ◌-◌, Bool, true, false, List, [], ◌∷◌, ◌++◌, length, take, drop, refl, sym, ap, ◌∙◌, subst, inl, inr, arith, append_assoc, length-append, length-drop}
+use Rattle.std.proofs.Common.{◌≡◌, ◌≤◌, ℕ, ◌+◌, ◌-◌, true, List, [], ◌∷◌, ◌++◌, length, take, drop, refl, sym, ap, ◌∙◌, subst, inl, inr, arith, append_assoc, length-drop}
 use Rattle.std.specs.Prelude.{Option, Some, None, map}
 use Rattle.std.specs.Io.KnownBytes.{Keeps, Consumes, IsAtEnd}
 use Rattle.std.proofs.lemmas.List.{append-nil, take_all, drop-drop}
@@ -16,7 +16,7 @@ use Rattle.world_model.specs.declared.events.Outcome.TheVariants as outcome
 use Rattle.world_model.specs.Seats.{Knows, Act, Adds}
 use Rattle.session_run.specs.Gains.{Gains}
 use Rattle.session_run.specs.Gains.{gains_more, gains_last, made}
-use Rattle.session_run.specs.Calls.{Call, call_of, Serves, IsStop, StopsAt, ServesList}
+use Rattle.session_run.specs.Calls.{Call, call_of, Serves, IsStop, ServesList}
 use Rattle.session_run.specs.Feeds.{asked_by, asked_behind, Feeds, EndsBroken, IsFill}
 use Rattle.session_run.specs.declared.batches.Fill.{Fill}
 use Rattle.session_run.specs.declared.batches.Fill.TheVariants as fill
@@ -31,6 +31,9 @@ gains_calls_more n old mid new a b p q = subst (λ (l : List Act). Gains old new
 
 gains_stop_more : (n : ℕ) (old mid new : Knows) (a b stop : List Call) → Gains old mid (map (call_of n) a) → Gains mid new (map (call_of n) (b ++ stop)) → Gains old new (map (call_of n) ((a ++ b) ++ stop))
 gains_stop_more n old mid new a b stop p q = subst (λ (l : List Call). Gains old new (map (call_of n) l)) (sym (append_assoc a b stop)) (gains_calls_more n old mid new a (b ++ stop) p q)
+
+same_end : (a b : InEnd) → Some a ≡ Some b → a ≡ b
+same_end a b e = cc
 
 -- what is asked for before it changes nothing of an end
 ends_behind : (told : Option ℕ) (end : InEnd) (stop : List Call) (front asks left : List Asked) → EndsAt told end stop asks left → EndsAt told end stop (front ++ asks) left
@@ -100,26 +103,20 @@ module _ (n : ℕ) (told : Option ℕ) where
         own = refl;
       }
 
-  -- nothing was collected, for want of memory
-  pub list_memory : (old new : Knows) (held : Held) (bytes : Bytes) (left : List Asked) → ServesList n told old new [] left called.Ok → PartLast n told old new held bytes Memory
-  list_memory old new held bytes left s =
-      let none = no_calls s.calls s.serves in
+  -- what was collected before want of memory was served
+  pub list_memory : (old new : Knows) (held now : Held) (bytes rest : Bytes) (asks left : List Asked) → Feeds held bytes now rest asks → ServesList n told old new asks left called.Ok → PartLast n told old new held bytes Memory
+  list_memory old new held now bytes rest asks left f s =
+      let p = list_on old new held now bytes rest asks left f s in
+      let more = asked_behind now rest in
       record {
-        calls = [];
+        calls = p.calls;
         stop = [];
-        unasked = asked_behind held bytes;
-        gains = subst (λ (l : List Call). Gains old new (map (call_of n) l)) (ap (λ (l : List Call). s.calls ++ l) s.stops.0 ∙ append-nil s.calls ∙ none) s.gains;
-        serves = refl;
+        unasked = more;
+        gains = subst (λ (l : List Call). Gains old new (map (call_of n) l)) (sym (append-nil p.calls)) p.gains;
+        serves = subst (λ (l : List Asked). Serves told p.calls l more) (sym (all_bytes held now bytes rest p.asks p.feeds)) (serves_before told p.calls p.asks [] more p.serves);
         ends = inl refl;
         own = refl;
       }
-    where
-      no_calls : (calls : List Call) → Serves told calls [] left → calls ≡ []
-      no_calls [] t = refl
-      no_calls (c ∷ calls) t = absurd (nil_cons (c.asked) (t.1.0) t.1.1)
-        where
-          nil_cons : (a : Asked) (more : List Asked) → [] ≡ a ∷ more → ⊥
-          nil_cons a more e = absurd (cc)
 
   list_stop : (old new : Knows) (held held' : Held) (bytes rest : Bytes) (asks left : List Asked) (answer : Called) (end : InEnd) → Feeds held bytes held' rest asks
       → ((stop : List Call) (total : List Asked) (l : List Asked) → IsStop told answer stop l → EndsAt told end stop total l) → is_of_calls end ≡ true
@@ -141,33 +138,18 @@ module _ (n : ℕ) (told : Option ℕ) where
       → ServesList n told old new asks left answer → PartLast n told old new held bytes end
   list_ends old new held held' bytes rest asks left called.Ok end is f s = absurd (cc)
   list_ends old new held held' bytes rest asks left called.Full end is f s = absurd (cc)
-  list_ends old new held held' bytes rest asks left called.Gone end is f s = subst (λ (e : InEnd). PartLast n told old new held bytes e) (some_is ClosedByHall end is) (list_stop old new held held' bytes rest asks left called.Gone ClosedByHall f (λ stop total l t. t) refl s s.stops)
-    where
-      some_is : (a b : InEnd) → Some a ≡ Some b → a ≡ b
-      some_is a b e = cc
-  list_ends old new held held' bytes rest asks left called.LogFault end is f s = subst (λ (e : InEnd). PartLast n told old new held bytes e) (some_is LogFault end is) (list_stop old new held held' bytes rest asks left called.LogFault LogFault f (λ stop total l t. t) refl s s.stops)
-    where
-      some_is : (a b : InEnd) → Some a ≡ Some b → a ≡ b
-      some_is a b e = cc
-  list_ends old new held held' bytes rest asks left called.Stopped end is f s = subst (λ (e : InEnd). PartLast n told old new held bytes e) (some_is Stopped end is) (list_stop old new held held' bytes rest asks left called.Stopped Stopped f (λ stop total l t. t) refl s s.stops)
-    where
-      some_is : (a b : InEnd) → Some a ≡ Some b → a ≡ b
-      some_is a b e = cc
-  list_ends old new held held' bytes rest asks left called.Spent end is f s = subst (λ (e : InEnd). PartLast n told old new held bytes e) (some_is Spent end is) (list_stop old new held held' bytes rest asks left called.Spent Spent f (λ stop total l t. t) refl s s.stops)
-    where
-      some_is : (a b : InEnd) → Some a ≡ Some b → a ≡ b
-      some_is a b e = cc
-  list_ends old new held held' bytes rest asks left called.Memory end is f s = subst (λ (e : InEnd). PartLast n told old new held bytes e) (some_is Memory end is) (list_stop old new held held' bytes rest asks left called.Memory Memory f (λ stop total l t. inr t) refl s s.stops)
-    where
-      some_is : (a b : InEnd) → Some a ≡ Some b → a ≡ b
-      some_is a b e = cc
+  list_ends old new held held' bytes rest asks left called.Gone end is f s = subst (λ (e : InEnd). PartLast n told old new held bytes e) (same_end ClosedByHall end is) (list_stop old new held held' bytes rest asks left called.Gone ClosedByHall f (λ stop total l t. t) refl s s.stops)
+  list_ends old new held held' bytes rest asks left called.LogFault end is f s = subst (λ (e : InEnd). PartLast n told old new held bytes e) (same_end LogFault end is) (list_stop old new held held' bytes rest asks left called.LogFault LogFault f (λ stop total l t. t) refl s s.stops)
+  list_ends old new held held' bytes rest asks left called.Stopped end is f s = subst (λ (e : InEnd). PartLast n told old new held bytes e) (same_end Stopped end is) (list_stop old new held held' bytes rest asks left called.Stopped Stopped f (λ stop total l t. t) refl s s.stops)
+  list_ends old new held held' bytes rest asks left called.Spent end is f s = subst (λ (e : InEnd). PartLast n told old new held bytes e) (same_end Spent end is) (list_stop old new held held' bytes rest asks left called.Spent Spent f (λ stop total l t. t) refl s s.stops)
+  list_ends old new held held' bytes rest asks left called.Memory end is f s = subst (λ (e : InEnd). PartLast n told old new held bytes e) (same_end Memory end is) (list_stop old new held held' bytes rest asks left called.Memory Memory f (λ stop total l t. inr t) refl s s.stops)
 
 -- any fill feeds its list
 pub fill_feeds : (held held' : Held) (bytes : Bytes) (asks : List Asked) (f : Fill) → IsFill held bytes held' asks f → (now : Held) × (rest : Bytes) × Feeds held bytes now rest asks
 fill_feeds held held' bytes asks (fill.Full taken) i = (held', drop taken bytes, i.1)
 fill_feeds held held' bytes asks fill.Dry i = (held', [], i.0)
 fill_feeds held held' bytes asks fill.Broken i = (held', [], i.0)
-fill_feeds held held' bytes asks fill.Memory i = (held, bytes, subst (λ (l : List Asked). Feeds held bytes held bytes l) (sym i) (feeds_none held bytes))
+fill_feeds held held' bytes asks fill.Memory i = i
 
 -- reading
 pub consumes_more : (a b c : Option Bytes) (x y : Bytes) → Consumes a b x → Consumes b c y → Consumes a c (x ++ y)

@@ -1,6 +1,5 @@
 -- What a reader of requests makes of bytes, some requests at a time.
-use Rattle.std.specs.Prelude.{◌≡◌, ◌≤◌, ◌<◌, ℕ, ◌+◌, Bool, true, false, List, [], ◌∷◌, ◌++◌, length, map, drop, Option, Some, None}
-use Rattle.std.specs.List.{list_all}
+use Rattle.std.specs.Prelude.{◌≡◌, ◌≤◌, true, List, [], ◌∷◌, ◌++◌, length, map, drop, Some, None}
 use Rattle.byte_text.specs.Names.{Bytes}
 use Rattle.byte_text.specs.Streams.{Stream, StreamEnd, holds, fails, stream_of}
 use Rattle.byte_text.specs.declared.faults.RespFault.{RespFault}
@@ -52,11 +51,11 @@ abbrev pub IsStep : Held → Bytes → Held → List Asked → List Asked → St
 IsStep old bytes new before now (step.Next taken) = (taken ≤ length bytes) × Reads old bytes new (drop taken bytes) before now
 IsStep old bytes new before now step.Dry = (now ≡ before) × Feeds old bytes new [] [] × (asked_behind new [] ≡ [])
 IsStep old bytes new before now step.Broken = ReadsFault old bytes new before now
-IsStep old bytes new before now step.Memory = Unit {0}
+IsStep old bytes new before now step.Memory = now ≡ before
 
 -- the requests of the bytes were collected, as far as this says
 abbrev pub IsFill : Held → Bytes → Held → List Asked → Fill → Type 0
 IsFill old bytes new asks (fill.Full taken) = (taken ≤ length bytes) × Feeds old bytes new (drop taken bytes) asks
 IsFill old bytes new asks fill.Dry = Feeds old bytes new [] asks × (asked_behind new [] ≡ [])
 IsFill old bytes new asks fill.Broken = Feeds old bytes new [] asks × EndsBroken asks × (new ≡ None)
-IsFill old bytes new asks fill.Memory = asks ≡ []
+IsFill old bytes new asks fill.Memory = (now : Held) × (rest : Bytes) × Feeds old bytes now rest asks

@@ -1,5 +1,5 @@
 -- When a session's job may be run, and what it leaves behind.
-use Rattle.std.specs.Prelude.{◌≡◌, ℕ, List, [], Option}
+use Rattle.std.specs.Prelude.{◌≡◌, ℕ, [], Option}
 use Rattle.std.specs.Arc.{arc_value}
 use Rattle.byte_text.specs.Names.{Bytes}
 use Rattle.world_data.specs.Limits.{take_frames}

@@ -1,6 +1,6 @@
 //! The requests of a block of bytes, some at a time.
 
-ghost use Rattle.std.specs.Prelude.{◌≡◌, ◌≤◌, ◌<◌, ◌++◌, ◌∷◌, [], ℕ, length, true};
+ghost use Rattle.std.specs.Prelude.{◌≡◌, ◌≤◌, ◌<◌, ◌++◌, ◌∷◌, [], ℕ, length, true, false};
 ghost use Rattle.std.specs.List.{list_all};
 ghost use Rattle.world_model.specs.Outcomes.{is_proper};
 ghost use Rattle.session_run.specs.Feeds.{IsFill, IsStep};
@@ -18,6 +18,7 @@ enum Step {
     Dry,
     /// The end that a fault brings was put last.
     Broken,
+    /// Nothing was put last, for want of memory.
     Memory,
 }
 
@@ -30,12 +31,14 @@ pub(crate) enum Fill {
     Dry,
     /// The last is the end that a fault brings.
     Broken,
+    /// There may be more, for which there was no memory.
     Memory,
 }
 
 // Puts what is asked for last; `false` for want of memory.
 fn push(asked: &mut AskedList, ask: Asked) -> bool
-    ensures { result ≡ true → asked.new ≡ asked.old ++ ask ∷ [] }
+    ensures pushed { result ≡ true → asked.new ≡ asked.old ++ ask ∷ [] }
+    ensures kept { result ≡ false → asked.new ≡ asked.old }
 {
     asked.push(ask).is_ok()
 }
@@ -86,10 +89,7 @@ pub(crate) fn collect(reader: &mut Requests, piece: &[u8], asked: &mut AskedList
             Step::Next(count) => taken += count,
             Step::Dry => return Fill::Dry,
             Step::Broken => return Fill::Broken,
-            Step::Memory => {
-                asked.clear();
-                return Fill::Memory;
-            }
+            Step::Memory => return Fill::Memory,
         }
     }
     Fill::Full(taken)

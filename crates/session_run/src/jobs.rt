@@ -13,9 +13,11 @@ use world_model::{Frames, HallApi};
 pub struct InJob<H: HallApi, S, C, B, G> {
     /// Where its memory comes from.
     pub alloc: Global,
+    /// The hall that the session is of.
     pub hall: Arc<H, Global>,
     /// A seat of that hall.
     pub seat: H::Seat,
+    /// The session's number.
     pub session: u32,
     /// Where the requests come from.
     pub source: S,
@@ -25,6 +27,7 @@ pub struct InJob<H: HallApi, S, C, B, G> {
     pub bell: Arc<B, Global>,
     /// It rings where there is room for frames again.
     pub room: Arc<B, Global>,
+    /// What the session passes before each turn of its calls.
     pub gate: Arc<G, Global>,
 }
 
@@ -33,9 +36,11 @@ pub struct InJob<H: HallApi, S, C, B, G> {
 pub struct OutJob<H: HallApi, K, B> {
     /// Where its memory comes from.
     pub alloc: Global,
+    /// The hall that the session is of.
     pub hall: Arc<H, Global>,
     /// A seat of that hall.
     pub seat: H::Seat,
+    /// The session's number.
     pub session: u32,
     /// Where the frames go to.
     pub sink: K,

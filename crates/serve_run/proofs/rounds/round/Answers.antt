@@ -1,4 +1,4 @@
-use Rattle.std.proofs.Common.{ℕ, ◌≡◌, ◌<◌, ◌≤◌, ◌+◌, ◌∙◌, false, true, refl, arith, ap}
+use Rattle.std.proofs.Common.{◌<◌, ◌+◌, ◌∙◌, false, true, refl, arith, ap}
 use Rattle.outside.specs.Links.{ends_after, links_after}
 use Rattle.serve_run.specs.Rounds.{state_of}
 use Rattle.serve_run.proofs.Rounding.{tend_round, tend_last, over_round, door_round, link_round, full_round}

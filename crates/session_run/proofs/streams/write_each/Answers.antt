@@ -1,4 +1,4 @@
-use Rattle.std.proofs.Common.{rules, ◌≤◌, List, ℕ, ◌+◌, take, subst, sym, arith}
+use Rattle.std.proofs.Common.{◌≤◌, List, ℕ, take, subst, sym, arith}
 use Rattle.std.specs.List.{concat}
 use Rattle.std.specs.Io.KnownBytes.{Appends}
 use Rattle.session_run.proofs.Framing.{concat_next, part_of_frames}
