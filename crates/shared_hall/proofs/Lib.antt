@@ -1,0 +1,4 @@
+mod Adding
+mod Calling
+mod Fine
+mod Leading
