@@ -7,7 +7,7 @@ use Rattle.turn_lock.specs.Seats.{Turn}
 use Rattle.world_model.specs.Halls.{Hall, NamesChanged}
 use Rattle.world_model.specs.Histories.{IsLegal}
 use Rattle.world_model.specs.Laws.{StepsLeadToOne}
-use Rattle.world_model.specs.Seats.{Act, act_of, places_from, Knows, AddsCalls, AddsNamed}
+use Rattle.world_model.specs.Seats.{Act, act_of, places_from, Knows, AddsCalls, AddsNamed, NamesChangedBy}
 use Rattle.world_model.specs.declared.events.Entry.{Entry}
 use Rattle.world_model.specs.declared.events.Opening.{Opening}
 use Rattle.shared_hall.specs.Turns.{entry_of, Stands}
@@ -36,3 +36,19 @@ adds k l o log acts h was t s =
       first = t.first;
       legal = subst (λ (z : Opening). IsLegal z l.seen) (sym opens) (subst (λ (z : List Entry). IsLegal o z) (sym t.seen) (is_legal h o (log ++ made) s));
     }
+
+-- a turn of a work, by what its acts are
+pub turn_adds : (k l : Known Opening Entry) (o : Opening) (log : List Entry) (made acts : List Act) (h : Hall) → made ≡ acts → k.opening ≡ Some o → Turn k l log (map entry_of made) → Stands h o (log ++ map entry_of made) → AddsCalls acts (shown k) (shown l)
+turn_adds k l o log made acts h is was t s = subst (λ (z : List Act). AddsCalls z (shown k) (shown l)) is (adds k l o log made h was t s)
+
+-- the same, with the sessions that were changed
+pub turn_names : StepsLeadToOne → (k l : Known Opening Entry) (o : Opening) (log : List Entry) (made acts : List Act) (named : List ℕ) (g h : Hall) → made ≡ acts → k.opening ≡ Some o → Turn k l log (map entry_of made) → Stands g o log → Stands h o (log ++ map entry_of made) → NamesChanged named g h → AddsNamed acts named (shown k) (shown l)
+turn_names one k l o log made acts named g h is was t p s names =
+    let added = adds k l o log made h was t s in
+    let opens : unwrap_or l.opening no_opening ≡ o = ap (λ (z : Option Opening). unwrap_or z no_opening) (t.opening ∙ was) in
+    let changed = names_changed one o log (map entry_of made) g h named p s names in
+    subst (λ (z : List Act). AddsNamed z named (shown k) (shown l)) is
+    (record {
+      adds = added;
+      names = subst (λ (z : Opening). NamesChangedBy z (k.seen ++ t.begins.0) (map entry_of made) named) (sym opens) (subst (λ (z : List Entry). NamesChangedBy o z (map entry_of made) named) (sym t.begins.1) changed);
+    })

@@ -33,8 +33,8 @@ acts (work.Remove n) answer.Done = (event.Remove n, outcome.Done) ∷ []
 acts work.StepRewrite (answer.Rewrote c) = (event.Rewrite, outcome.Answered c) ∷ []
 acts _ _ = []
 
-abbrev pub entries : HallWork → HallAnswer → List Entry
-entries w out = map entry_of (acts w out)
+abbrev pub entries_of : HallWork → HallAnswer → List Entry
+entries_of w out = map entry_of (acts w out)
 
 -- each work has an answer of its own kind, with what the work had brought
 abbrev pub Gives : HallWork → Hall → HallAnswer → Hall → Type 0

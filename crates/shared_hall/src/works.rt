@@ -1,11 +1,10 @@
 //! What is done with the core in one turn.
 
-ghost use Rattle.std.specs.Prelude.{◌≡◌, ◌≤◌, ◌∷◌, [], true, false, length};
+ghost use Rattle.std.specs.Prelude.{◌≡◌, ◌≤◌, [], true, length};
 ghost use Rattle.std.specs.List.{list_all};
 ghost use Rattle.world_data.specs.Limits.{max_moment, take_frames};
 ghost use Rattle.world_model.specs.Outcomes.{is_proper, call_acts, IsCount};
 ghost use Rattle.world_model.specs.Halls.{NamesChanged};
-ghost use Rattle.tile_core.specs.Answered.{AreSessions};
 ghost use Rattle.shared_hall.specs.Turns.{acts, Gives, LeadsBy};
 ghost use Rattle.shared_hall.specs.declared.works.HallWork.TheVariants as work;
 
@@ -67,11 +66,11 @@ pub enum HallAnswer {
 impl Work<HallCore> for HallWork {
     type Out = HallAnswer;
 
-    ghost use Rattle.shared_hall.specs.Turns.{entries, Gives};
+    ghost use Rattle.shared_hall.specs.Turns.{entries_of, Gives};
 
-    ghost entries = { λ work out h. entries work out };
+    ghost entries = { λ asked out h. entries_of asked out };
 
-    ghost gives = { λ work before out after. Gives work before.core.hall out after.core.hall };
+    ghost gives = { λ asked before out after. Gives asked before.core.hall out after.core.hall };
 
     // A take gives frames only when what they tell of is there to stay: one take of many serves all.
     fn is_late(&self) -> bool {
