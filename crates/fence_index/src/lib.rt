@@ -11,3 +11,6 @@ mod nearness;
 
 pub use indexes::FenceIndex;
 pub use laws::{unconcerned_by_del, unconcerned_by_put};
+
+#[cfg(test)]
+mod tests;
