@@ -97,11 +97,20 @@ fn puts(rt: HostRuntime) -> Result<(), Fail> {
     let enter = pair(Some(Detect::Enter), Some(Detect::Inside));
     assert_eq!(rt; moved(alloc, None, (-5, 5))?, outside);
     assert_eq!(rt; moved(alloc, Some((-5, 5)), (-5, 6))?, outside);
-    assert_eq!(rt; moved(alloc, Some((-5, 5)), (15, 5))?, pair(Some(Detect::Cross), Some(Detect::Outside)));
+    assert_eq!(rt;
+        moved(alloc, Some((-5, 5)), (15, 5))?,
+        pair(Some(Detect::Cross), Some(Detect::Outside))
+    );
     assert_eq!(rt; moved(alloc, None, (1, 1))?, enter);
     assert_eq!(rt; moved(alloc, Some((-5, 5)), (0, 5))?, enter);
-    assert_eq!(rt; moved(alloc, Some((1, 1)), (1, 1))?, pair(Some(Detect::Inside), None));
-    assert_eq!(rt; moved(alloc, Some((1, 1)), (11, 1))?, pair(Some(Detect::Exit), Some(Detect::Outside)));
+    assert_eq!(rt;
+        moved(alloc, Some((1, 1)), (1, 1))?,
+        pair(Some(Detect::Inside), None)
+    );
+    assert_eq!(rt;
+        moved(alloc, Some((1, 1)), (11, 1))?,
+        pair(Some(Detect::Exit), Some(Detect::Outside))
+    );
     Ok(())
 }
 
@@ -111,10 +120,19 @@ fn wanted(rt: HostRuntime) -> Result<(), Fail> {
     let inside = object(alloc, 1, 1)?;
     let beside = object(alloc, 1, 11)?;
     let quiet = channel(alloc, false)?;
-    assert_eq!(rt; raised(&quiet, Some(&inside), Some(&inside)), pair(None, None));
+    assert_eq!(rt;
+        raised(&quiet, Some(&inside), Some(&inside)),
+        pair(None, None)
+    );
     let nothing = raised(&quiet, Some(&beside), None);
     assert_eq!(rt; nothing, pair(None, None));
     let del = raised(&quiet, Some(&inside), None);
-    assert_eq!(rt; del, Pair { first: Some(Raised::Del), second: None });
+    assert_eq!(rt;
+        del,
+        Pair {
+            first: Some(Raised::Del),
+            second: None
+        }
+    );
     Ok(())
 }

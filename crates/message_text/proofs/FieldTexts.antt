@@ -37,4 +37,4 @@ begun (f ∷ fields) before between after lt head field =
     let opening = codes ",\"fields\":{" in
     let rest = rest_of (f ∷ fields) 1 in
     rw (field, head) (append_assoc (before ++ opening) (field_part f) rest ∙ append_assoc before opening (field_part f ++ rest)
-        ∙ ap (λ (t : Bytes). before ++ (opening ++ t)) (sym (append_assoc (field_part f) (more_fields fields) (codes "}"))))
+    ∙ ap (λ (t : Bytes). before ++ (opening ++ t)) (sym (append_assoc (field_part f) (more_fields fields) (codes "}"))))

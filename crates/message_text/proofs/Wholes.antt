@@ -117,9 +117,9 @@ pub roam_whole : (hook : Bytes) (o t : Object) (d : Detect)
     → roam_payload hook o (t, d) ≡ set_part hook d o ++ (fields_part o.fields ++ (roam_head d ++ (other_part o t ++ codes "}")))
 roam_whole hook o t d =
     let split : tail (fields_members o.fields ++ other_member d o t ∷ []) ≡ fields_part o.fields ++ (roam_head d ++ other_part o t)
-        = rw (flat_map-append (λ (m : Bytes). 44 ∷ m) (fields_members o.fields) (other_member d o t ∷ []), fields_are o.fields, append-nil (other_member d o t), other_is d o t) refl in
+    = rw (flat_map-append (λ (m : Bytes). 44 ∷ m) (fields_members o.fields) (other_member d o t ∷ []), fields_are o.fields, append-nil (other_member d o t), other_is d o t) refl in
     unfolded_roam hook d o.key o.id o.text o.shape o.fields o.deadline t
     ∙ set_is hook d o.key o.id o.text (fields_members o.fields ++ other_member d o t ∷ [])
     ∙ ap (λ (s : Bytes). set_part hook d o ++ (s ++ codes "}")) split
     ∙ ap (λ (s : Bytes). set_part hook d o ++ s) (append_assoc (fields_part o.fields) (roam_head d ++ other_part o t) (codes "}")
-        ∙ ap (λ (s : Bytes). fields_part o.fields ++ s) (append_assoc (roam_head d) (other_part o t) (codes "}")))
+    ∙ ap (λ (s : Bytes). fields_part o.fields ++ s) (append_assoc (roam_head d) (other_part o t) (codes "}")))

@@ -129,8 +129,5 @@ pub(crate) fn push_other(into: &mut Text, object: &Object, other: &Object) -> Re
 fn meters_between(object: &Object, other: &Object) -> u64
     ensures { result ≡ meters_of object.now other.now }
 {
-    floor_root(dist2(
-        centre(box_of(&object.shape)),
-        centre(box_of(&other.shape)),
-    ))
+    floor_root(dist2(centre(box_of(&object.shape)), centre(box_of(&other.shape))))
 }

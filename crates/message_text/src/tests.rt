@@ -2,10 +2,10 @@
 
 use super::*;
 use byte_text::{Name, NoMemory, Request, Text};
+use planar_geom::{Area, Pt, Shape};
 use std::alloc::Global;
 use std::test::Fail;
 use world_data::{Channel, Detect, Fence, Fields, Kind, Object, Raised, Tests, Wanted, Watch};
-use planar_geom::{Area, Pt, Shape};
 
 fn name(alloc: Global, bytes: &[u8]) -> Result<Name, NoMemory> {
     match Name::of(alloc, bytes) {
@@ -98,9 +98,19 @@ fn told(alloc: Global, raised: Raised, fields: &[(&[u8], i64)]) -> Result<Text, 
 fn areas(rt: HostRuntime) -> Result<(), Fail> {
     let alloc = rt.alloc();
     let plain = told(alloc, Raised::Set(Detect::Cross), &[])?;
-    assert_eq!(rt; plain.bytes(), b"> {\"command\":\"set\",\"detect\":\"cross\",\"hook\":\"z\",\"key\":\"people\",\"id\":\"b\",\"object\":{\"type\":\"Point\",\"coordinates\":[5,0]}}".as_slice());
-    let fielded = told(alloc, Raised::Set(Detect::Enter), &[(b"speed", 55), (b"a\"ge", -7)])?;
-    assert_eq!(rt; fielded.bytes(), b"> {\"command\":\"set\",\"detect\":\"enter\",\"hook\":\"z\",\"key\":\"people\",\"id\":\"b\",\"object\":{\"type\":\"Point\",\"coordinates\":[5,0]},\"fields\":{\"a\\\"ge\":-7,\"speed\":55}}".as_slice());
+    assert_eq!(rt;
+        plain.bytes(),
+        b"> {\"command\":\"set\",\"detect\":\"cross\",\"hook\":\"z\",\"key\":\"people\",\"id\":\"b\",\"object\":{\"type\":\"Point\",\"coordinates\":[5,0]}}".as_slice()
+    );
+    let fielded = told(
+        alloc,
+        Raised::Set(Detect::Enter),
+        &[(b"speed", 55), (b"a\"ge", -7)],
+    )?;
+    assert_eq!(rt;
+        fielded.bytes(),
+        b"> {\"command\":\"set\",\"detect\":\"enter\",\"hook\":\"z\",\"key\":\"people\",\"id\":\"b\",\"object\":{\"type\":\"Point\",\"coordinates\":[5,0]},\"fields\":{\"a\\\"ge\":-7,\"speed\":55}}".as_slice()
+    );
     Ok(())
 }
 
@@ -108,9 +118,15 @@ fn areas(rt: HostRuntime) -> Result<(), Fail> {
 fn ends(rt: HostRuntime) -> Result<(), Fail> {
     let alloc = rt.alloc();
     let del = told(alloc, Raised::Del, &[])?;
-    assert_eq!(rt; del.bytes(), b"> {\"command\":\"del\",\"hook\":\"z\",\"key\":\"people\",\"id\":\"b\"}".as_slice());
+    assert_eq!(rt;
+        del.bytes(),
+        b"> {\"command\":\"del\",\"hook\":\"z\",\"key\":\"people\",\"id\":\"b\"}".as_slice()
+    );
     let drop = told(alloc, Raised::Drop, &[])?;
-    assert_eq!(rt; drop.bytes(), b"> {\"command\":\"drop\",\"hook\":\"z\",\"key\":\"people\"}".as_slice());
+    assert_eq!(rt;
+        drop.bytes(),
+        b"> {\"command\":\"drop\",\"hook\":\"z\",\"key\":\"people\"}".as_slice()
+    );
     Ok(())
 }
 
@@ -118,8 +134,14 @@ fn ends(rt: HostRuntime) -> Result<(), Fail> {
 fn roaming(rt: HostRuntime) -> Result<(), Fail> {
     let alloc = rt.alloc();
     let near = told(alloc, Raised::Set(Detect::Near), &[])?;
-    assert_eq!(rt; near.bytes(), b"> {\"command\":\"set\",\"detect\":\"roam\",\"hook\":\"z\",\"key\":\"people\",\"id\":\"b\",\"object\":{\"type\":\"Point\",\"coordinates\":[5,0]},\"nearby\":{\"key\":\"people\",\"id\":\"a\",\"object\":{\"type\":\"Point\",\"coordinates\":[0,0]},\"meters\":5}}".as_slice());
+    assert_eq!(rt;
+        near.bytes(),
+        b"> {\"command\":\"set\",\"detect\":\"roam\",\"hook\":\"z\",\"key\":\"people\",\"id\":\"b\",\"object\":{\"type\":\"Point\",\"coordinates\":[5,0]},\"nearby\":{\"key\":\"people\",\"id\":\"a\",\"object\":{\"type\":\"Point\",\"coordinates\":[0,0]},\"meters\":5}}".as_slice()
+    );
     let far = told(alloc, Raised::Set(Detect::Far), &[])?;
-    assert_eq!(rt; far.bytes(), b"> {\"command\":\"set\",\"detect\":\"roam\",\"hook\":\"z\",\"key\":\"people\",\"id\":\"b\",\"object\":{\"type\":\"Point\",\"coordinates\":[5,0]},\"faraway\":{\"key\":\"people\",\"id\":\"a\",\"object\":{\"type\":\"Point\",\"coordinates\":[0,0]},\"meters\":5}}".as_slice());
+    assert_eq!(rt;
+        far.bytes(),
+        b"> {\"command\":\"set\",\"detect\":\"roam\",\"hook\":\"z\",\"key\":\"people\",\"id\":\"b\",\"object\":{\"type\":\"Point\",\"coordinates\":[5,0]},\"faraway\":{\"key\":\"people\",\"id\":\"a\",\"object\":{\"type\":\"Point\",\"coordinates\":[0,0]},\"meters\":5}}".as_slice()
+    );
     Ok(())
 }

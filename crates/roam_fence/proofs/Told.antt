@@ -21,6 +21,7 @@ told_is pattern meters nodwell old new (t ∷ ts) = by_test (told_is pattern met
   where
     detect : Option Detect
     detect = roamed nodwell (was_near meters old t) (is_near meters new t)
+
     by_test : map shown (filter_map (pair_of meters nodwell old new) (targets pattern new ts)) ≡ told_of_all pattern meters nodwell old new ts → (b : Bool)
         → map shown (filter_map (pair_of meters nodwell old new) (if b then t ∷ targets pattern new ts else targets pattern new ts))
         ≡ noted t (if b then option_map is_near_now detect else None) ++ told_of_all pattern meters nodwell old new ts

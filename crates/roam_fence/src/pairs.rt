@@ -28,10 +28,7 @@ fn is_near(meters: u32, object: &Object, target: &Object) -> bool
     ensures { result ≡ is_near meters object.now target.now }
 {
     let meters = u64::from(meters);
-    let distance = dist2(
-        centre(box_of(&object.shape)),
-        centre(box_of(&target.shape)),
-    );
+    let distance = dist2(centre(box_of(&object.shape)), centre(box_of(&target.shape)));
     distance <= meters * meters
 }
 
@@ -118,12 +115,7 @@ fn push_pairs(
 {
     for i in 0..targets.len() {
         let target = targets.at(i);
-        note(
-            alloc,
-            told(pattern, reach, old, new, target),
-            target,
-            into,
-        )?;
+        note(alloc, told(pattern, reach, old, new, target), target, into)?;
     }
     Ok(())
 }

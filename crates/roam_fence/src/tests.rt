@@ -111,12 +111,30 @@ fn told(
 fn near_and_far(rt: HostRuntime) -> Result<(), Fail> {
     let alloc = rt.alloc();
     assert_eq!(rt; told(alloc, true, b"b", None, 5)?.bytes(), b"+a".as_slice());
-    assert_eq!(rt; told(alloc, true, b"b", Some(5), 6)?.bytes(), b"".as_slice());
-    assert_eq!(rt; told(alloc, false, b"b", Some(5), 6)?.bytes(), b"+a".as_slice());
-    assert_eq!(rt; told(alloc, true, b"b", Some(6), 50)?.bytes(), b"-a".as_slice());
-    assert_eq!(rt; told(alloc, true, b"b", Some(50), 60)?.bytes(), b"".as_slice());
-    assert_eq!(rt; told(alloc, true, b"b", None, 10)?.bytes(), b"+a".as_slice());
+    assert_eq!(rt;
+        told(alloc, true, b"b", Some(5), 6)?.bytes(),
+        b"".as_slice()
+    );
+    assert_eq!(rt;
+        told(alloc, false, b"b", Some(5), 6)?.bytes(),
+        b"+a".as_slice()
+    );
+    assert_eq!(rt;
+        told(alloc, true, b"b", Some(6), 50)?.bytes(),
+        b"-a".as_slice()
+    );
+    assert_eq!(rt;
+        told(alloc, true, b"b", Some(50), 60)?.bytes(),
+        b"".as_slice()
+    );
+    assert_eq!(rt;
+        told(alloc, true, b"b", None, 10)?.bytes(),
+        b"+a".as_slice()
+    );
     assert_eq!(rt; told(alloc, true, b"b", None, 11)?.bytes(), b"".as_slice());
-    assert_eq!(rt; told(alloc, true, b"a", Some(0), 0)?.bytes(), b"".as_slice());
+    assert_eq!(rt;
+        told(alloc, true, b"a", Some(0), 0)?.bytes(),
+        b"".as_slice()
+    );
     Ok(())
 }
