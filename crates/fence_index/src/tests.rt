@@ -154,23 +154,41 @@ fn names(rt: HostRuntime) -> Result<(), Fail> {
     Ok(())
 }
 
-#[test]
-fn a_channel_is_replaced(rt: HostRuntime) -> Result<(), Fail> {
-    let alloc = rt.alloc();
-    let mut index = filled(alloc)?;
+// The channel `a` of `fleet` goes from 0 to 9 over to 60 to 69. What is taken out is known by key and name alone: `d` goes, and nothing of
+// `gulls` does.
+fn replace(alloc: Global, index: &mut FenceIndex) -> Result<(), NoMemory> {
     let old = channel(alloc, b"fleet", b"a", false, spot(0, 9)?)?;
     let new = channel(alloc, b"fleet", b"a", false, spot(60, 69)?)?;
     index.prepare(alloc, &new)?;
     index.take_out(&old);
     index.put(&new);
-    index.take_out(&channel(alloc, b"fleet", b"d", false, roam(alloc)?)?);
-    index.take_out(&channel(alloc, b"gulls", b"a", false, roam(alloc)?)?);
+    Ok(())
+}
+
+fn take_out(
+    alloc: Global,
+    index: &mut FenceIndex,
+    key: &[u8],
+    called: &[u8],
+) -> Result<(), NoMemory> {
+    index.take_out(&channel(alloc, key, called, false, roam(alloc)?)?);
+    Ok(())
+}
+
+#[test]
+fn a_channel_is_replaced(rt: HostRuntime) -> Result<(), Fail> {
+    let alloc = rt.alloc();
+    let mut index = filled(alloc)?;
+    replace(alloc, &mut index)?;
+    take_out(alloc, &mut index, b"fleet", b"d")?;
+    take_out(alloc, &mut index, b"gulls", b"a")?;
+    let (west, wide) = (strip(5, 5)?, strip(9, 60)?);
     assert_eq!(rt;
-        named(alloc, &index, b"fleet", Some(strip(5, 5)?), None)?.bytes(),
+        named(alloc, &index, b"fleet", Some(west), None)?.bytes(),
         b"".as_slice()
     );
     assert_eq!(rt;
-        named(alloc, &index, b"fleet", Some(strip(9, 60)?), None)?.bytes(),
+        named(alloc, &index, b"fleet", Some(wide), None)?.bytes(),
         b"a b ".as_slice()
     );
     Ok(())
