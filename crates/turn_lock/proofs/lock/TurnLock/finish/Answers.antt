@@ -1,5 +1,5 @@
 use Rattle.std.proofs.Common.{arith}
-use Rattle.turn_lock.proofs.Allowing.{does}
+use Rattle.turn_lock.proofs.AllowingPlaces.{does}
 use Rattle.turn_lock.proofs.lock.TurnLock.finish.Goals as goal
 
 pub swap-requires : goal.swap-requires
