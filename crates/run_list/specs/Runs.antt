@@ -36,16 +36,23 @@ pub record IsGap (runs : List (List ℕ)) (i k at : ℕ) : Type 0 where
   pub inside : at ≤ length (slice_index_or runs k [])
   pub is : start runs k + at ≡ i
 
+-- how many numbers stand before the end of each run
+pub record AreEnds (runs : List (List ℕ)) (ends : List ℕ) : Type 0 where
+  pub count : length ends ≡ length runs
+  pub each : (k d : ℕ) → k < length runs → slice_index_or ends k d ≡ start runs (k + 1)
+
 -- runs without an empty one, empty ones in store, how many numbers there are, and how many runs there are places for,
--- in use and in store: all numbers would fit in the runs but one
-pub record IsList (runs spares : List (List ℕ)) (len places stores : ℕ) : Type 0 where
+-- in use, in store and in the list of their ends: all numbers would fit in the runs but one
+pub record IsList (runs spares : List (List ℕ)) (ends : List ℕ) (len places stores marks : ℕ) : Type 0 where
   pub filled : AreFilled runs
   pub empty : AreEmpty spares
+  pub counted : AreEnds runs ends
   pub count : len ≡ length (flat runs)
   pub room : len + 1024 ≤ (length runs + length spares) * 1024
   pub most : length runs + length spares ≤ 4194304
   pub in_use : length runs + length spares ≤ places
   pub in_store : length runs + length spares ≤ stores
+  pub in_ends : length runs + length spares ≤ marks
 
 -- for how many numbers more there is room in so many runs but one, beside so many numbers
 abbrev pub room_of : ℕ → ℕ → ℕ

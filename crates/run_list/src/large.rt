@@ -3,6 +3,7 @@
 ghost use Rattle.std.specs.Prelude.{◌≡◌, ◌<◌, ◌≤◌, ◌+◌, ◌-◌, ◌++◌, [], length, take, drop, slice_index, OnOk, OnErr, IfOk};
 ghost use Rattle.std.specs.List.{insert, remove};
 
+use crate::ends::recount;
 use crate::runs::{MOST, Run};
 use crate::store::{add_run, spare_one};
 use crate::walks::{find, gap, put, take_out, take_run};
@@ -20,6 +21,8 @@ pub(crate) struct LargeList {
     pub(crate) runs: Vec<Run>,
     // Empty runs.
     spares: Vec<Run>,
+    // How many numbers stand before the end of each run.
+    pub(crate) ends: Vec<usize>,
     len: usize,
 }
 
@@ -31,7 +34,7 @@ impl Model for LargeList {
 
     ghost view = { λ l. record { items = flat l.runs.items; spare = room_of (vec_len l.runs + vec_len l.spares) l.len } };
 
-    ghost invariant = { λ l. IsList l.runs.items l.spares.items l.len (vec_capacity l.runs) (vec_capacity l.spares) };
+    ghost invariant = { λ l. IsList l.runs.items l.spares.items l.ends.items l.len (vec_capacity l.runs) (vec_capacity l.spares) (vec_capacity l.ends) };
 }
 
 impl LargeList {
@@ -41,11 +44,13 @@ impl LargeList {
     {
         let mut runs = Vec::new(alloc);
         let mut spares = Vec::new(alloc);
-        add_run(alloc, &mut runs, &mut spares)?;
+        let mut ends = Vec::new(alloc);
+        add_run(alloc, &mut runs, &mut spares, &mut ends)?;
         Ok(LargeList {
             alloc,
             runs,
             spares,
+            ends,
             len: 0,
         })
     }
@@ -117,7 +122,7 @@ impl LargeList {
         if self.runs.len() + self.spares.len() >= MOST_RUNS {
             return Err(NoMemory);
         }
-        add_run(self.alloc, &mut self.runs, &mut self.spares)
+        add_run(self.alloc, &mut self.runs, &mut self.spares, &mut self.ends)
     }
 
     /// The number at a place.
@@ -125,7 +130,7 @@ impl LargeList {
         requires { i < length self.now.items }
         ensures { result ≡ slice_index self.now.items i }
     {
-        let spot = find(self.runs.as_slice(), i);
+        let spot = find(self.ends.as_slice(), self.runs.as_slice(), i);
         let run = &self.runs[spot.run];
         run.at(spot.at)
     }
@@ -137,7 +142,7 @@ impl LargeList {
         ensures within { i + length result.now ≤ length self.now.items }
         ensures numbers { result.now ≡ take (length result.now) (drop i self.now.items) }
     {
-        let spot = find(self.runs.as_slice(), i);
+        let spot = find(self.ends.as_slice(), self.runs.as_slice(), i);
         let run = &self.runs[spot.run];
         &run.numbers()[spot.at..]
     }
@@ -154,13 +159,15 @@ impl LargeList {
             let mut run = self.spares.take_last();
             run.insert(0, number);
             self.runs.push_reserved(run);
+            self.ends.push_reserved(1);
             self.len = 1;
             return;
         }
-        spare_one(&mut self.runs, &mut self.spares);
-        let spot = gap(self.runs.as_slice(), i, self.len);
+        spare_one(&mut self.runs, &mut self.spares, &mut self.ends);
+        let spot = gap(self.ends.as_slice(), self.runs.as_slice(), i, self.len);
         put(&mut self.runs, &mut self.spares, spot, number);
         self.len += 1;
+        recount(self.runs.as_slice(), &mut self.ends, spot.run);
     }
 
     /// Takes out the number at a place, which is room for another.
@@ -170,9 +177,15 @@ impl LargeList {
         ensures taken { result ≡ slice_index self.old.items i }
         ensures spare { self.new.spare ≡ self.old.spare + 1 }
     {
-        let spot = find(self.runs.as_slice(), i);
+        let spot = find(self.ends.as_slice(), self.runs.as_slice(), i);
         self.len -= 1;
-        take_out(&mut self.runs, &mut self.spares, spot)
+        let number = take_out(&mut self.runs, &mut self.spares, spot);
+        recount(
+            self.runs.as_slice(),
+            &mut self.ends,
+            spot.run.saturating_sub(1),
+        );
+        number
     }
 
     /// Takes out all numbers from a place up to another, which is room for as many. Where that is many, whole runs are taken
@@ -199,7 +212,7 @@ impl LargeList {
         ensures most { result ≤ most }
         ensures spare { self.new.spare ≡ self.old.spare + result }
     {
-        let spot = find(self.runs.as_slice(), i);
+        let spot = find(self.ends.as_slice(), self.runs.as_slice(), i);
         let run = &self.runs[spot.run];
         let len = run.len();
         if spot.at > 0 || len > most {
@@ -208,6 +221,7 @@ impl LargeList {
         }
         self.len -= len;
         take_run(&mut self.runs, &mut self.spares, spot.run);
+        recount(self.runs.as_slice(), &mut self.ends, spot.run);
         len
     }
 }

@@ -1,6 +1,6 @@
 //! A list of numbers.
 
-ghost use Rattle.std.specs.Prelude.{◌≡◌, ◌<◌, ◌≤◌, ◌+◌, ◌-◌, ◌++◌, [], true, not, length, take, drop, slice_index, OnOk};
+ghost use Rattle.std.specs.Prelude.{◌≡◌, ◌<◌, ◌≤◌, ◌+◌, ◌-◌, ◌++◌, [], true, not, length, take, drop, filter, slice_index, OnOk};
 ghost use Rattle.std.specs.List.{insert, remove, list_all};
 ghost use Rattle.run_list.specs.Runs.{is_cut};
 
@@ -156,5 +156,20 @@ impl RunList {
             return;
         }
         cut_out(&mut self.few, from, to);
+    }
+
+    /// Keeps the numbers that pass a test, in their order. Taking out the others is room for as many.
+    pub fn retain<B: Before>(&mut self, test: &B)
+        ensures items { self.new.items ≡ filter (B.before test.now) self.old.items }
+        ensures spare { self.new.spare + length self.new.items ≡ self.old.spare + length self.old.items }
+    {
+        let mut i = 0;
+        while i < self.len() {
+            if test.is_before(self.at(i)) {
+                i += 1;
+            } else {
+                let _ = self.remove(i);
+            }
+        }
     }
 }

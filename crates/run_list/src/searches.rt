@@ -4,9 +4,9 @@ ghost use Rattle.std.specs.Prelude.{◌≡◌, ◌<◌, ◌≤◌, ◌-◌, ℕ,
 ghost use Rattle.std.specs.List.{list_all};
 ghost use Rattle.run_list.specs.Runs.{is_cut, AreFilled};
 
+use crate::ends::before;
 use crate::large::LargeList;
 use crate::runs::Run;
-use crate::walks::start;
 
 /// A test of numbers.
 pub trait Before {
@@ -31,7 +31,7 @@ impl LargeList {
             return 0;
         }
         let run = &self.runs[next - 1];
-        let front = start(self.runs.as_slice(), next - 1);
+        let front = before(self.ends.as_slice(), next - 1);
         front + numbers_before(run.numbers(), test)
     }
 }

@@ -1,9 +1,10 @@
 //! Places in a list of runs.
 
-ghost use Rattle.std.specs.Prelude.{◌≡◌, ◌<◌, ◌≤◌, ◌+◌, ◌++◌, [], length, take, drop, slice_index, slice_index_or, vec_len, vec_capacity};
+ghost use Rattle.std.specs.Prelude.{◌≡◌, ◌<◌, ◌≤◌, ◌+◌, ◌-◌, ◌++◌, [], length, take, drop, slice_index, slice_index_or, vec_len, vec_capacity};
 ghost use Rattle.std.specs.List.{insert, remove};
-ghost use Rattle.run_list.specs.Runs.{flat, start, AreFilled, AreEmpty, IsAt, IsGap};
+ghost use Rattle.run_list.specs.Runs.{flat, start, AreEnds, AreFilled, AreEmpty, IsAt, IsGap};
 
+use crate::ends::{before, runs_up_to};
 use crate::runs::{HALF, MOST, Run};
 
 /// A run, by its place among the runs, and a place in it.
@@ -14,30 +15,28 @@ pub(crate) struct Spot {
 }
 
 /// Where a place of the list is found.
-pub(crate) fn find(runs: &[Run], i: usize) -> Spot
-    requires { i < length (flat runs.now) }
+pub(crate) fn find(ends: &[usize], runs: &[Run], i: usize) -> Spot
+    requires ends { AreEnds runs.now ends.now }
+    requires within { i < length (flat runs.now) }
     ensures { IsAt runs.now i result.run result.at }
 {
-    let mut rest = i;
-    for (k, run) in runs.iter().enumerate() {
-        let len = run.len();
-        if rest < len {
-            return Spot { run: k, at: rest };
-        }
-        rest -= len;
+    let run = runs_up_to(ends, i);
+    Spot {
+        run,
+        at: i - before(ends, run),
     }
-    unreachable!()
 }
 
 /// Where a place of the list is found, or where its end is. There are `len` numbers.
-pub(crate) fn gap(runs: &[Run], i: usize, len: usize) -> Spot
+pub(crate) fn gap(ends: &[usize], runs: &[Run], i: usize, len: usize) -> Spot
+    requires ends { AreEnds runs.now ends.now }
     requires some { 0 < length runs.now }
     requires within { i ≤ length (flat runs.now) }
     requires len { len ≡ length (flat runs.now) }
     ensures { IsGap runs.now i result.run result.at }
 {
     if i < len {
-        return find(runs, i);
+        return find(ends, runs, i);
     }
     let last = runs.len() - 1;
     let run = &runs[last];
@@ -45,19 +44,6 @@ pub(crate) fn gap(runs: &[Run], i: usize, len: usize) -> Spot
         run: last,
         at: run.len(),
     }
-}
-
-/// How many numbers stand before a run.
-pub(crate) fn start(runs: &[Run], k: usize) -> usize
-    requires within { k ≤ length runs.now }
-    requires fits { length (flat runs.now) ≤ 4294967295 }
-    ensures { result ≡ start runs.now k }
-{
-    let mut count = 0;
-    for run in &runs[..k] {
-        count += run.len();
-    }
-    count
 }
 
 /// Puts a number at a place, where there are room and an empty run for the upper half of a full one.
@@ -71,6 +57,7 @@ pub(crate) fn put(runs: &mut Vec<Run>, spares: &mut Vec<Run>, spot: Spot, number
     ensures numbers { flat runs.new.items ≡ insert (flat runs.old.items) (start runs.old.items spot.run + spot.at) number }
     ensures filled { AreFilled runs.new.items }
     ensures empty { AreEmpty spares.new.items }
+    ensures front { take (spot.run) runs.new.items ≡ take (spot.run) runs.old.items }
     ensures owned { vec_len runs.new + vec_len spares.new ≡ vec_len runs.old + vec_len spares.old }
     ensures places { vec_capacity runs.new ≡ vec_capacity runs.old }
     ensures stores { vec_capacity spares.new ≡ vec_capacity spares.old }
@@ -100,6 +87,7 @@ pub(crate) fn take_out(runs: &mut Vec<Run>, spares: &mut Vec<Run>, spot: Spot) -
     ensures taken { result ≡ slice_index (flat runs.old.items) (start runs.old.items spot.run + spot.at) }
     ensures filled { AreFilled runs.new.items }
     ensures empty { AreEmpty spares.new.items }
+    ensures front { take (spot.run - 1) runs.new.items ≡ take (spot.run - 1) runs.old.items }
     ensures owned { vec_len runs.new + vec_len spares.new ≡ vec_len runs.old + vec_len spares.old }
     ensures places { vec_capacity runs.new ≡ vec_capacity runs.old }
     ensures stores { vec_capacity spares.new ≡ vec_capacity spares.old }
@@ -121,6 +109,7 @@ pub(crate) fn take_run(runs: &mut Vec<Run>, spares: &mut Vec<Run>, k: usize)
     ensures numbers { flat runs.new.items ≡ take (start runs.old.items k) (flat runs.old.items) ++ drop (start runs.old.items k + length (slice_index_or runs.old.items k [])) (flat runs.old.items) }
     ensures filled { AreFilled runs.new.items }
     ensures empty { AreEmpty spares.new.items }
+    ensures front { take (k) runs.new.items ≡ take (k) runs.old.items }
     ensures owned { vec_len runs.new + vec_len spares.new ≡ vec_len runs.old + vec_len spares.old }
     ensures places { vec_capacity runs.new ≡ vec_capacity runs.old }
     ensures stores { vec_capacity spares.new ≡ vec_capacity spares.old }
@@ -141,6 +130,7 @@ fn take_one(runs: &mut Vec<Run>, spares: &mut Vec<Run>, spot: Spot) -> usize
     ensures taken { result ≡ slice_index (flat runs.old.items) (start runs.old.items spot.run + spot.at) }
     ensures filled { AreFilled runs.new.items }
     ensures empty { AreEmpty spares.new.items }
+    ensures front { take (spot.run) runs.new.items ≡ take (spot.run) runs.old.items }
     ensures owned { vec_len runs.new + vec_len spares.new ≡ vec_len runs.old + vec_len spares.old }
     ensures places { vec_capacity runs.new ≡ vec_capacity runs.old }
     ensures stores { vec_capacity spares.new ≡ vec_capacity spares.old }
@@ -161,6 +151,7 @@ fn join(runs: &mut Vec<Run>, spares: &mut Vec<Run>, k: usize)
     ensures numbers { flat runs.new.items ≡ flat runs.old.items }
     ensures filled { AreFilled runs.new.items }
     ensures empty { AreEmpty spares.new.items }
+    ensures front { take (k) runs.new.items ≡ take (k) runs.old.items }
     ensures owned { vec_len runs.new + vec_len spares.new ≡ vec_len runs.old + vec_len spares.old }
     ensures places { vec_capacity runs.new ≡ vec_capacity runs.old }
     ensures stores { vec_capacity spares.new ≡ vec_capacity spares.old }

@@ -1,10 +1,6 @@
-use Rattle.std.proofs.Common.{◌<◌, length, arith, ap}
-use Rattle.run_list.proofs.Flats.{start-more}
+use Rattle.std.proofs.Common.{◌≡◌}
+use Rattle.run_list.proofs.Flats.{found-at}
 use Rattle.run_list.proofs.walks.find.Goals as goal
 
-pub loop-k-preserved : goal.loop-k-preserved
-loop-k-preserved c =
-    let lt : c.loop-k.k < length c.args.runs.now = omega arith in
-    let more = start-more c.args.runs.now c.loop-k.k c.index-runs-k.result lt in
-    let len = ap length c.index-runs-k.is in
-    omega (arith, more, len)
+pub returns : goal.returns
+returns c = found-at c.args.runs.now c.args.ends.now c.args.i c.runs_up_to-run.result c.before.result c.requires.ends c.requires.within c.runs_up_to-run.ensures.within c.runs_up_to-run.ensures.front c.runs_up_to-run.ensures.behind c.before.ensures.none c.before.ensures.some
