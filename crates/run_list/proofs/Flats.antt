@@ -1,11 +1,10 @@
 -- A list held as runs: an edit of one run is an edit of the list.
-use Rattle.std.proofs.Common.{◌≡◌, ◌<◌, ◌≤◌, ◌+◌, ◌-◌, ℕ, zero, suc, refl, sym, ap, ◌∙◌, List, [], ◌∷◌, ◌++◌, length, take, drop, set, get_or, append_assoc, length-append, add-one, arith, inl, inr}
+use Rattle.std.proofs.Common.{◌≡◌, ◌<◌, ◌≤◌, ◌+◌, ◌-◌, ℕ, zero, suc, refl, sym, ap, ◌∙◌, List, [], ◌∷◌, ◌++◌, length, take, drop, set, get_or, append_assoc, length-append, add-one, arith}
 use Rattle.std.specs.List.{insert, remove}
-use Rattle.std.proofs.lemmas.Bool.{cases_lt}
 use Rattle.std.proofs.lemmas.List.{get_or-append-add, get_or_append_left, take_all, take-append-drop, length-take, length-drop, get_or_default, get_or-set_same, nil_from_length, get_or_push, drop-drop, drop_at, drop-append-le, take_at, take_rest}
 use Rattle.std.proofs.lemmas.List.Elements.{All-push, All-append, All-take, All-drop, All-set}
 use Rattle.std.proofs.lemmas.List.Edits.{insert-append_left, insert-append_right, remove-append_left, remove-append_right, get_or-remove_below, length-remove}
-use Rattle.run_list.specs.Runs.{flat, start, AreEnds, AreFilled, AreEmpty, IsAt, IsGap}
+use Rattle.run_list.specs.Runs.{flat, start, AreFilled, AreEmpty, IsGap}
 
 pub flat-append : (xs ys : List (List ℕ)) → flat (xs ++ ys) ≡ flat xs ++ flat ys
 flat-append [] ys = refl
@@ -260,52 +259,3 @@ pub flat-first : (rs new : List (List ℕ)) (run made : List ℕ) (i x : ℕ) �
 flat-first [] new run made zero x none empty is added le = rw (added, is, empty) refl
 flat-first [] new run made (suc i) x none empty is added le = absurd (omega (arith, le))
 flat-first (r ∷ rs) new run made i x none empty is added le = absurd (omega (arith, none))
-
--- as many stand before a run where the runs before it are the same
-pub start-same : (a b : List (List ℕ)) (n k : ℕ) → k ≤ n → take n a ≡ take n b → start a k ≡ start b k
-start-same a b n k le same = ap (λ z. length (flat z)) (shorter a b n k le same)
-  where
-    shorter : (a b : List (List ℕ)) (n k : ℕ) → k ≤ n → take n a ≡ take n b → take k a ≡ take k b
-    shorter [] [] n k le same = refl
-    shorter [] (y ∷ b) zero zero le same = refl
-    shorter [] (y ∷ b) zero (suc k) le same = absurd (omega (arith, le))
-    shorter [] (y ∷ b) (suc n) k le same = absurd (cc)
-    shorter (x ∷ a) [] zero zero le same = refl
-    shorter (x ∷ a) [] zero (suc k) le same = absurd (omega (arith, le))
-    shorter (x ∷ a) [] (suc n) k le same = absurd (cc)
-    shorter (x ∷ a) (y ∷ b) n zero le same = refl
-    shorter (x ∷ a) (y ∷ b) zero (suc k) le same = absurd (omega (arith, le))
-    shorter (x ∷ a) (y ∷ b) (suc n) (suc k) le same =
-        let here : x ≡ y = cc in
-        let rest : take n a ≡ take n b = cc in
-        ap (λ z. z ∷ take k a) here ∙ ap (λ z. y ∷ z) (shorter a b n k (omega (arith, le)) rest)
-
--- a place is found by the ends of the runs
-pub found-at : (rs : List (List ℕ)) (es : List ℕ) (i k b : ℕ) → AreEnds rs es → i < length (flat rs) → k ≤ length es → (0 < k → get_or es (k - 1) 0 ≤ i) → (k < length es → i < get_or es k 0) → (k ≡ 0 → b ≡ 0) → (0 < k → b ≡ get_or es (k - 1) 0) → IsAt rs i k (i - b)
-found-at rs es i zero b ends lt within front behind none some = first rs es i b ends lt (none refl) behind
-  where
-    first : (rs : List (List ℕ)) (es : List ℕ) (i b : ℕ) → AreEnds rs es → i < length (flat rs) → b ≡ 0 → (0 < length es → i < get_or es 0 0) → IsAt rs i 0 (i - b)
-    first [] es i b ends lt none behind = absurd (omega (arith, lt))
-    first (r ∷ rs) es i b ends lt none behind =
-        let more = start-more (r ∷ rs) 0 [] (omega arith) in
-        let each = ends.each 0 0 (omega arith) in
-        let count = ends.count in
-        let less = behind (omega (arith, count)) in
-        record { within = omega arith; inside = omega (arith, more, each, less, none); is = omega (arith, none) }
-found-at rs es i (suc k) b ends lt within front behind none some =
-    let back : suc k - 1 ≡ k = omega arith in
-    let one : k + 1 ≡ suc k = omega arith in
-    let count = ends.count in
-    let begin = ends.each k 0 (omega (arith, count, within)) in
-    let b-is = some (omega arith) in
-    let low = front (omega arith) in
-    let back-is = ap (λ n. get_or es n 0) back in
-    let one-is = ap (λ n. start rs n) one in
-    let start-is : start rs (suc k) ≡ b = omega (arith, begin, b-is, back-is, one-is) in
-    let le : b ≤ i = omega (arith, b-is, low) in
-    let all = start-all rs in
-    let lt' : suc k < length rs = elim (cases_lt (suc k) (length rs)) [ inl q ↦ q | inr q ↦ absurd (let e : suc k ≡ length rs = omega (arith, q, within, count) in let f = ap (λ n. start rs n) e in omega (arith, f, all, start-is, le, lt)) ] in
-    let more = start-more rs (suc k) [] lt' in
-    let each = ends.each (suc k) 0 lt' in
-    let less = behind (omega (arith, count, lt')) in
-    record { within = lt'; inside = omega (arith, more, each, less, start-is, le); is = omega (arith, start-is, le) }

@@ -41,6 +41,13 @@ pub record AreEnds (runs : List (List ℕ)) (ends : List ℕ) : Type 0 where
   pub count : length ends ≡ length runs
   pub each : (k d : ℕ) → k < length runs → slice_index_or ends k d ≡ start runs (k + 1)
 
+-- the numbers from a place up to another are what they were, but for so much less and so much more, and the others stay
+pub record IsShifted (less more : ℕ) (old new : List ℕ) (from to : ℕ) : Type 0 where
+  pub count : length new ≡ length old
+  pub front : (k d : ℕ) → k < from → slice_index_or new k d ≡ slice_index_or old k d
+  pub moved : (k d : ℕ) → from ≤ k → k < to → k < length old → slice_index_or new k d + less ≡ slice_index_or old k d + more
+  pub rest : (k d : ℕ) → to ≤ k → slice_index_or new k d ≡ slice_index_or old k d
+
 -- runs without an empty one, empty ones in store, how many numbers there are, and how many runs there are places for,
 -- in use, in store and in the list of their ends: all numbers would fit in the runs but one
 pub record IsList (runs spares : List (List ℕ)) (ends : List ℕ) (len places stores marks : ℕ) : Type 0 where

@@ -1,7 +1,7 @@
 //! How many numbers stand before the ends of runs.
 
 ghost use Rattle.std.specs.Prelude.{◌≡◌, ◌<◌, ◌≤◌, ◌+◌, ◌-◌, ℕ, length, slice_index, slice_index_or, vec_len, vec_capacity};
-ghost use Rattle.run_list.specs.Runs.{flat, start, AreEnds};
+ghost use Rattle.run_list.specs.Runs.{flat, start, AreEnds, IsShifted};
 
 use crate::runs::Run;
 
@@ -21,6 +21,28 @@ pub(crate) fn recount(runs: &[Run], ends: &mut Vec<usize>, from: usize)
         let run = &runs[k];
         count += run.len();
         ends.push_reserved(count);
+    }
+}
+
+/// One number more stands before the end of each run from one on.
+pub(crate) fn raise(ends: &mut Vec<usize>, from: usize)
+    requires { (k : ℕ) (d : ℕ) → k < vec_len ends.old → slice_index_or ends.old.items k d < 4294967295 }
+    ensures ends { IsShifted 0 1 ends.old.items ends.new.items from (vec_len ends.old) }
+    ensures capacity { vec_capacity ends.new ≡ vec_capacity ends.old }
+{
+    for k in from..ends.len() {
+        ends[k] += 1;
+    }
+}
+
+/// One number fewer stands before the end of each run from one on.
+pub(crate) fn lower(ends: &mut Vec<usize>, from: usize)
+    requires { (k : ℕ) (d : ℕ) → from ≤ k → k < vec_len ends.old → 0 < slice_index_or ends.old.items k d }
+    ensures ends { IsShifted 1 0 ends.old.items ends.new.items from (vec_len ends.old) }
+    ensures capacity { vec_capacity ends.new ≡ vec_capacity ends.old }
+{
+    for k in from..ends.len() {
+        ends[k] -= 1;
     }
 }
 

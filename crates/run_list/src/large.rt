@@ -3,7 +3,6 @@
 ghost use Rattle.std.specs.Prelude.{◌≡◌, ◌<◌, ◌≤◌, ◌+◌, ◌-◌, ◌++◌, [], length, take, drop, slice_index, OnOk, OnErr, IfOk};
 ghost use Rattle.std.specs.List.{insert, remove};
 
-use crate::ends::recount;
 use crate::runs::{MOST, Run};
 use crate::store::{add_run, spare_one};
 use crate::walks::{find, gap, put, take_out, take_run};
@@ -20,10 +19,10 @@ pub(crate) struct LargeList {
     alloc: Global,
     pub(crate) runs: Vec<Run>,
     // Empty runs.
-    spares: Vec<Run>,
+    pub(crate) spares: Vec<Run>,
     // How many numbers stand before the end of each run.
     pub(crate) ends: Vec<usize>,
-    len: usize,
+    pub(crate) len: usize,
 }
 
 impl Model for LargeList {
@@ -165,9 +164,14 @@ impl LargeList {
         }
         spare_one(&mut self.runs, &mut self.spares, &mut self.ends);
         let spot = gap(self.ends.as_slice(), self.runs.as_slice(), i, self.len);
-        put(&mut self.runs, &mut self.spares, spot, number);
+        put(
+            &mut self.runs,
+            &mut self.spares,
+            &mut self.ends,
+            spot,
+            number,
+        );
         self.len += 1;
-        recount(self.runs.as_slice(), &mut self.ends, spot.run);
     }
 
     /// Takes out the number at a place, which is room for another.
@@ -179,13 +183,7 @@ impl LargeList {
     {
         let spot = find(self.ends.as_slice(), self.runs.as_slice(), i);
         self.len -= 1;
-        let number = take_out(&mut self.runs, &mut self.spares, spot);
-        recount(
-            self.runs.as_slice(),
-            &mut self.ends,
-            spot.run.saturating_sub(1),
-        );
-        number
+        take_out(&mut self.runs, &mut self.spares, &mut self.ends, spot)
     }
 
     /// Takes out all numbers from a place up to another, which is room for as many. Where that is many, whole runs are taken
@@ -220,8 +218,7 @@ impl LargeList {
             return 1;
         }
         self.len -= len;
-        take_run(&mut self.runs, &mut self.spares, spot.run);
-        recount(self.runs.as_slice(), &mut self.ends, spot.run);
+        take_run(&mut self.runs, &mut self.spares, &mut self.ends, spot.run);
         len
     }
 }

@@ -8,6 +8,7 @@ mod numbers;
 mod runs;
 mod searches;
 mod store;
+mod sweeps;
 mod walks;
 
 pub use lists::RunList;

@@ -5,7 +5,7 @@ ghost use Rattle.std.specs.List.{insert, remove, list_all};
 ghost use Rattle.run_list.specs.Runs.{is_cut};
 
 use crate::large::LargeList;
-use crate::runs::{MOST, cut_out};
+use crate::runs::{MOST, cut_out, retain_numbers};
 use crate::searches::{Before, place_among};
 use byte_text::NoMemory;
 use std::alloc::Global;
@@ -163,13 +163,9 @@ impl RunList {
         ensures items { self.new.items ≡ filter (B.before test.now) self.old.items }
         ensures spare { self.new.spare + length self.new.items ≡ self.old.spare + length self.old.items }
     {
-        let mut i = 0;
-        while i < self.len() {
-            if test.is_before(self.at(i)) {
-                i += 1;
-            } else {
-                let _ = self.remove(i);
-            }
+        match &mut self.many {
+            None => retain_numbers(&mut self.few, test),
+            Some(many) => many.retain(test),
         }
     }
 }

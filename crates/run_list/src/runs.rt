@@ -1,8 +1,9 @@
 //! One run of a list: a few numbers side by side.
 
-ghost use Rattle.std.specs.Prelude.{◌≡◌, ◌<◌, ◌≤◌, ◌+◌, ◌++◌, [], length, take, drop, slice_index, vec_len, vec_capacity, IfOk};
+ghost use Rattle.std.specs.Prelude.{◌≡◌, ◌<◌, ◌≤◌, ◌+◌, ◌++◌, [], length, take, drop, filter, slice_index, vec_len, vec_capacity, IfOk};
 ghost use Rattle.std.specs.List.{insert, remove};
 
+use crate::searches::Before;
 use byte_text::NoMemory;
 use std::alloc::Global;
 use std::marker::Model;
@@ -91,6 +92,13 @@ impl Run {
         self.numbers.clear();
     }
 
+    /// Keeps the numbers that pass a test.
+    pub(crate) fn retain<B: Before>(&mut self, test: &B)
+        ensures { self.new ≡ filter (B.before test.now) self.old }
+    {
+        retain_numbers(&mut self.numbers, test);
+    }
+
     /// Moves what stands behind the first `keep` numbers to an empty run.
     pub(crate) fn move_tail(&mut self, keep: usize, to: &mut Run)
         requires within { keep ≤ length self.old }
@@ -167,4 +175,13 @@ pub(crate) fn cut_out(numbers: &mut Vec<usize>, from: usize, to: usize)
         let _ = numbers.remove(from);
         left -= 1;
     }
+}
+
+/// Keeps the numbers that pass a test, in their order.
+pub(crate) fn retain_numbers<B: Before>(numbers: &mut Vec<usize>, test: &B)
+    ensures numbers { numbers.new.items ≡ filter (B.before test.now) numbers.old.items }
+    ensures len { vec_len numbers.new ≤ vec_len numbers.old }
+    ensures capacity { vec_capacity numbers.new ≡ vec_capacity numbers.old }
+{
+    numbers.retain(|number| test.is_before(*number));
 }

@@ -142,3 +142,37 @@ fn room_that_was_taken_is_enough(rt: HostRuntime) -> Result<(), Fail> {
     }
     Ok(())
 }
+
+// Whether the numbers of a list from a place on are those of a plain one.
+fn same_from(list: &RunList, plain: &[usize], i: usize) -> bool {
+    if i > list.len() || i > plain.len() {
+        return false;
+    }
+    let mut rest = list.numbers_from(i);
+    for x in &plain[i..] {
+        if rest.next() != Some(*x) {
+            return false;
+        }
+    }
+    rest.next().is_none()
+}
+
+#[test]
+fn numbers_that_fail_are_taken_out(rt: HostRuntime) -> Result<(), Fail> {
+    let mut list = RunList::new(rt.alloc());
+    let mut plain: Vec<usize> = Vec::new(rt.alloc());
+    let mut seed: u64 = 88_172_645_463_325_252;
+    for x in 0..2500 {
+        let i = next(&mut seed) % (list.len() + 1);
+        put(&mut list, &mut plain, i, x)?;
+    }
+    assert!(rt; same_from(&list, plain.as_slice(), 0));
+    assert!(rt; same_from(&list, plain.as_slice(), 1200));
+    assert!(rt; same_from(&list, plain.as_slice(), 2500));
+    list.retain(&Below(40));
+    plain.retain(|x| *x < 40);
+    assert_eq!(rt; list.len(), 40);
+    assert!(rt; same(&list, plain.as_slice()));
+    assert!(rt; same_from(&list, plain.as_slice(), 0));
+    Ok(())
+}
