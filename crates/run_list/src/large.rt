@@ -5,7 +5,7 @@ ghost use Rattle.std.specs.List.{insert, remove};
 
 use crate::runs::{MOST, Run};
 use crate::store::{add_run, spare_one};
-use crate::walks::{find, gap, put, take_out, take_run};
+use crate::walks::{find, gap, put, put_in, take_out, take_run};
 use byte_text::NoMemory;
 use std::alloc::Global;
 use std::marker::Model;
@@ -147,7 +147,7 @@ impl LargeList {
     }
 
     /// Puts a number at a place, for which there is room. It takes no memory. Without a run in store it may take steps in
-    /// the number of all.
+    /// the number of all, where the run is full.
     pub(crate) fn insert(&mut self, i: usize, number: usize)
         requires within { i ≤ length self.old.items }
         requires room { 1 ≤ self.old.spare }
@@ -160,6 +160,12 @@ impl LargeList {
             self.runs.push_reserved(run);
             self.ends.push_reserved(1);
             self.len = 1;
+            return;
+        }
+        let spot = gap(self.ends.as_slice(), self.runs.as_slice(), i, self.len);
+        if self.runs[spot.run].len() < MOST {
+            put_in(&mut self.runs, &mut self.ends, spot, number);
+            self.len += 1;
             return;
         }
         spare_one(&mut self.runs, &mut self.spares, &mut self.ends);

@@ -170,11 +170,7 @@ pub(crate) fn cut_out(numbers: &mut Vec<usize>, from: usize, to: usize)
     ensures len { vec_len numbers.new ≤ vec_len numbers.old }
     ensures capacity { vec_capacity numbers.new ≡ vec_capacity numbers.old }
 {
-    let mut left = to - from;
-    while left > 0 {
-        let _ = numbers.remove(from);
-        left -= 1;
-    }
+    drop(numbers.drain(from..to));
 }
 
 /// Keeps the numbers that pass a test, in their order.

@@ -46,6 +46,26 @@ pub(crate) fn gap(ends: &[usize], runs: &[Run], i: usize, len: usize) -> Spot
     }
 }
 
+/// Puts a number at a place of a run that is not full.
+pub(crate) fn put_in(runs: &mut Vec<Run>, ends: &mut Vec<usize>, spot: Spot, number: usize)
+    requires within { spot.run < vec_len runs.old }
+    requires inside { spot.at ≤ length (slice_index_or runs.old.items spot.run []) }
+    requires room { length (slice_index_or runs.old.items spot.run []) < 1024 }
+    requires filled { AreFilled runs.old.items }
+    requires ends { AreEnds runs.old.items ends.old.items }
+    requires fits { length (flat runs.old.items) < 4294967295 }
+    ensures numbers { flat runs.new.items ≡ insert (flat runs.old.items) (start runs.old.items spot.run + spot.at) number }
+    ensures filled { AreFilled runs.new.items }
+    ensures ends { AreEnds runs.new.items ends.new.items }
+    ensures len { vec_len runs.new ≡ vec_len runs.old }
+    ensures places { vec_capacity runs.new ≡ vec_capacity runs.old }
+    ensures marks { vec_capacity ends.new ≡ vec_capacity ends.old }
+{
+    let run = &mut runs[spot.run];
+    run.insert(spot.at, number);
+    raise(ends, spot.run);
+}
+
 /// Puts a number at a place, where there are room and an empty run for the upper half of a full one.
 pub(crate) fn put(
     runs: &mut Vec<Run>,
@@ -72,13 +92,12 @@ pub(crate) fn put(
     ensures stores { vec_capacity spares.new ≡ vec_capacity spares.old }
     ensures marks { vec_capacity ends.new ≡ vec_capacity ends.old }
 {
-    let run = &mut runs[spot.run];
-    if run.len() < MOST {
-        run.insert(spot.at, number);
-        raise(ends, spot.run);
+    if runs[spot.run].len() < MOST {
+        put_in(runs, ends, spot, number);
         return;
     }
     let mut upper = spares.take_last();
+    let run = &mut runs[spot.run];
     run.insert_halving(spot.at, number, &mut upper);
     match runs.insert(spot.run + 1, upper) {
         Ok(()) => {}
