@@ -1,0 +1,7 @@
+mod Adding
+mod AnswerKinds
+mod Calling
+mod Fine
+mod Joining
+mod Leading
+mod Opening
