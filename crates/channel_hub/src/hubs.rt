@@ -93,8 +93,9 @@ impl Hub {
     {
         match place_of(self.channels.as_slice(), name) {
             Ok(at) => {
-                self.index.take_out(&self.channels[at]);
-                Some(self.channels.remove(at))
+                let channel = self.channels.remove(at);
+                self.index.take_out(&channel);
+                Some(channel)
             }
             Err(_) => None,
         }
