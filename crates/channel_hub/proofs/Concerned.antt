@@ -69,5 +69,9 @@ places_named n test (c ∷ cs) sorted =
     by_test true e ih rest r = grind arith
     by_test false e ih rest r = rw e (rest ∙ ih)
 
+from_zero : (cs : List Channel) (names : List Bytes) → map (λ name. place_named name cs) names ≡ map (λ name. 0 + place_named name cs) names
+from_zero cs [] = refl
+from_zero cs (n ∷ names) = let ih = from_zero cs names in let here : place_named n cs ≡ 0 + place_named n cs = omega arith in grind (arith, here, ih)
+
 pub places_are : (test : Channel → Bool) (cs : List Channel) → are_channels cs ≡ true → map (λ name. place_named name cs) (map (λ c. c.name) (filter test cs)) ≡ places_of test cs
-places_are test cs sorted = places_named 0 test cs sorted
+places_are test cs sorted = from_zero cs (map (λ (c : Channel). c.name) (filter test cs)) ∙ places_named 0 test cs sorted

@@ -15,4 +15,4 @@ returns-in-Ok-clause-some c =
 pub returns-in-Err-clause-none : goal.returns-in-Err-clause-none
 returns-in-Err-clause-none c =
     let free = rw c.as_slice.ensures.value at c.in-Err.ensures.free in
-    rw (← c.self.view_is) (lacking c.args.name.now c.self.inside.channels.items c.in-Err.field-0 c.self.invariant free)
+    rw (← c.self.view_is) (lacking c.args.name.now c.self.inside.channels.items c.in-Err.field-0 c.self.invariant.by_name free)
