@@ -1,6 +1,6 @@
 -- The marks of the channels of each key, when a channel is put or taken out.
 use Rattle.std.proofs.Common.{◌≡◌, Bool, true, false, refl, sym, ◌∙◌, ap, subst, List, [], ◌∷◌, arith}
-use Rattle.std.specs.Prelude.{Option, Some, None, filter, find, is_some, map, not, ◌&&◌, ◌||◌}
+use Rattle.std.specs.Prelude.{Option, Some, None, filter, find, is_some, map, not, ◌||◌}
 use Rattle.std.specs.List.{list_all}
 use Rattle.byte_text.specs.Names.{Bytes, before, same}
 use Rattle.byte_text.specs.ByteOrder.{before_self, before_tie, same_refl, same_equal, other_before, other_behind, behind_others}
@@ -12,7 +12,7 @@ use Rattle.fence_model.specs.Messages.{watches}
 use Rattle.world_data.specs.declared.channels.Channel.{Channel}
 use Rattle.world_data.specs.Worlds.{are_channels, channel_before, is_named}
 use Rattle.fence_index.specs.declared.marks.Mark.{Mark}
-use Rattle.fence_index.specs.Marks.{are_marks, is_mark_of, is_of_key, mark_before, mark_of}
+use Rattle.fence_index.specs.Marks.{is_mark_of, is_of_key, mark_before, mark_of}
 use Rattle.channel_hub.specs.Hubs.{IsIndexOf}
 
 -- those of a list that pass a test, when an item is put in
@@ -167,10 +167,10 @@ pub taken_out : (name : Bytes) (old : Channel) (ms : List Mark) (cs : List Chann
 taken_out name old ms cs index sorted is = record {
   sorted = ascends-filter mark_before (λ m. not (is_mark_of old m)) ms index.sorted;
   of_key = λ key.
-    filters_swap (is_of_key key) (λ m. not (is_mark_of old m)) ms
-    ∙ ap (filter (λ m. not (is_mark_of old m))) (index.of_key key)
-    ∙ marks_left name old (filter (watches (Some key)) cs) (found_name name old cs is) (all_left (λ d. not (is_named name d) || same d.fence.key old.fence.key) (watches (Some key)) cs (only_one name old cs sorted is))
-    ∙ ap (map mark_of) (filters_swap (λ d. not (is_named name d)) (watches (Some key)) cs);
+      filters_swap (is_of_key key) (λ m. not (is_mark_of old m)) ms
+      ∙ ap (filter (λ m. not (is_mark_of old m))) (index.of_key key)
+      ∙ marks_left name old (filter (watches (Some key)) cs) (found_name name old cs is) (all_left (λ d. not (is_named name d) || same d.fence.key old.fence.key) (watches (Some key)) cs (only_one name old cs sorted is))
+      ∙ ap (map mark_of) (filters_swap (λ d. not (is_named name d)) (watches (Some key)) cs);
 }
 
 -- a channel put in the place of the one of its name

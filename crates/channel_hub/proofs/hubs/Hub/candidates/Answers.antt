@@ -1,4 +1,4 @@
-use Rattle.std.proofs.Common.{◌≡◌, ◌++◌, ℕ, List, ap, ◌∙◌, map}
+use Rattle.std.proofs.Common.{◌++◌, ℕ, List, ap, ◌∙◌, map}
 use Rattle.byte_text.specs.Names.{Bytes}
 use Rattle.fence_index.specs.Candidates.{candidates_of}
 use Rattle.channel_hub.specs.Hubs.{may_concern}

@@ -1,7 +1,3 @@
-use Rattle.std.proofs.Common.{◌≡◌, false, subst}
-use Rattle.std.specs.Prelude.{Option, IfSome}
-use Rattle.byte_text.specs.Names.{before}
-use Rattle.world_data.specs.declared.channels.Channel.{Channel}
 use Rattle.ordered_lists.specs.Reading.{stands_at}
 use Rattle.channel_hub.proofs.ChannelsByName.{found, lacking}
 use Rattle.channel_hub.proofs.hubs.Hub.get.Goals as goal

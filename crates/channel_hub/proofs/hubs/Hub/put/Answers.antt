@@ -1,4 +1,4 @@
-use Rattle.std.proofs.Common.{◌≡◌, sym, ◌∙◌}
+use Rattle.std.proofs.Common.{sym, ◌∙◌}
 use Rattle.ordered_lists.specs.Reading.{stands_at}
 use Rattle.channel_hub.proofs.ChannelsByName.{found, lacking, put_held, put_free, put_by_name}
 use Rattle.channel_hub.proofs.Index.{none_prepared, put_new, put_over}

@@ -2,7 +2,6 @@ use Rattle.std.proofs.Common.{◌≡◌, true, subst, sym, ◌∙◌, List, arit
 use Rattle.world_data.specs.declared.channels.Channel.{Channel}
 use Rattle.world_data.specs.Worlds.{are_channels}
 use Rattle.ordered_lists.specs.Reading.{stands_at}
-use Rattle.channel_hub.specs.Hubs.{IsIndexOf}
 use Rattle.channel_hub.proofs.ChannelsByName.{found, lacking, left, none_left, removed_by_name}
 use Rattle.channel_hub.proofs.Index.{taken_out}
 use Rattle.channel_hub.proofs.hubs.Hub.take_out.Goals as goal
