@@ -1,0 +1,5 @@
+pub mod Found
+pub mod ChannelsByName
+pub mod Index
+pub mod Concerned
+pub mod Placing
