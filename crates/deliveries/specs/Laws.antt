@@ -1,5 +1,5 @@
 -- The laws of deliveries.
-use Rattle.std.specs.Prelude.{◌≡◌, ℕ, ◌+◌, ◌==◌, ◌≤◌, max, codes, true, false, List, [], ◌∷◌, ◌++◌, map, length, Some}
+use Rattle.std.specs.Prelude.{◌≡◌, ℕ, ◌+◌, ◌==◌, ◌≤◌, max, true, false, List, [], ◌∷◌, ◌++◌, map, length, Some}
 use Rattle.std.specs.List.{AllByRecursion}
 use Rattle.byte_text.specs.Replies.{frame_text}
 use Rattle.byte_text.specs.declared.replies.Piece.{Piece}
@@ -13,9 +13,9 @@ use Rattle.world_data.specs.declared.worlds.World.{World}
 use Rattle.world_model.specs.declared.commands.Command.{Command}
 use Rattle.world_model.specs.declared.faults.Refusal.TheVariants as refusal
 use Rattle.world_data.specs.Expiry.{expired}
-use Rattle.world_model.specs.Halls.{Hall, Session, placed, session_of, is_live, placed_each, place_all, apply_all, due, do_call}
-use Rattle.deliveries.specs.Staging.{AreStaged, Suffice, Delivery, HaveOwnNumbers, Rise, changed_at, after_all, records_len, staged, frames_to, listens, heard, placed_all, has_room_for}
-use Rattle.deliveries.specs.Plans.{Part, CallPlan, IsCallPlan, IsReplied, FitBehind, HasShortWords, NoneListens, IsOfObjects, plan_names, IsAnswer, SubscribesOrChanges, subscribes, effect_of_asked, finish}
+use Rattle.world_model.specs.Halls.{Hall, Session, session_of, is_live, placed_each, place_all, apply_all, due, do_call}
+use Rattle.deliveries.specs.Staging.{AreStaged, Suffice, Delivery, HaveOwnNumbers, Rise, after_all, records_len, staged, frames_to, listens, heard, placed_all, has_room_for}
+use Rattle.deliveries.specs.Plans.{CallPlan, IsCallPlan, IsReplied, FitBehind, HasShortWords, NoneListens, IsOfObjects, plan_names, IsAnswer, SubscribesOrChanges, subscribes, effect_of_asked, brought, answered, finish}
 use Rattle.world_model.specs.declared.events.Asked.{Asked}
 
 -- placing a list changes the sessions alone
@@ -51,6 +51,14 @@ DueIsStaged = (h : Hall) (moment : ℕ) → HaveOwnNumbers h.sessions → let wr
 -- the finish of a plan is the whole call
 abbrev pub PlanDoesCall : Type 0
 PlanDoesCall = (h : Hall) (moment n : ℕ) (asked : Asked) (p : CallPlan) → HaveOwnNumbers h.sessions → IsCallPlan h moment n asked p → finish h moment n p ≡ do_call (due h moment) n asked
+
+-- a call of a session that is served behind what is due, session by session: each is brought all that it hears of what is due and of the
+-- call's own writes, and then the caller has its subscriptions and replies
+abbrev pub CallBySessions : Type 0
+CallBySessions = (h : Hall) (moment n : ℕ) (asked : Asked) (s : Session) → HaveOwnNumbers h.sessions → session_of h n ≡ Some s → is_live s ≡ true
+    → let now = max h.now moment in let dues = dels (expired h.world now) in let w = after_all h.world dues in let e = effect_of_asked w now s.subs asked in
+    has_room_for s (heard h.world dues (listens s)) ≡ true
+    → do_call (due h moment) n asked ≡ record h { now = now; world = after_all w e.writes; logged = (h.logged + records_len dues) + records_len e.writes; sessions = answered n e (brought h.world (dues ++ e.writes) h.sessions) }
 
 -- no request both subscribes and changes something
 abbrev pub NoneSubscribesAndChanges : Type 0

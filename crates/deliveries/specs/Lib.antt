@@ -12,3 +12,4 @@ pub mod Quiet
 pub mod Callers
 pub mod Rising
 pub mod Confirming
+pub mod BySession

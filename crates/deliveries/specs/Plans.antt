@@ -7,11 +7,11 @@ use Rattle.byte_text.specs.Replies.{frame_text}
 use Rattle.byte_text.specs.declared.replies.Piece.{Piece}
 use Rattle.world_model.specs.Subscriptions.{Sub, with_subs}
 use Rattle.world_model.specs.Effects.{Effect, says, effect}
-use Rattle.fence_model.specs.Writes.{dels}
+use Rattle.fence_model.specs.Writes.{Write, dels}
 use Rattle.world_data.specs.Expiry.{expired}
 use Rattle.world_model.specs.Refusals.{fault_reply, broken_reply}
 use Rattle.world_model.specs.Served.{asks}
-use Rattle.world_model.specs.Halls.{Hall, Session, is_live, cut, closing, session_of}
+use Rattle.world_model.specs.Halls.{Hall, Session, is_live, cut, closing, session_of, placed_each}
 use Rattle.world_data.specs.Frames.{frame_bytes}
 use Rattle.world_data.specs.declared.worlds.World.{World}
 use Rattle.world_data.specs.declared.worlds.Change.{Change}
@@ -22,7 +22,7 @@ use Rattle.world_data.specs.Limits.{max_reply, full_frames, full_bytes, cap_fram
 use Rattle.world_model.specs.declared.faults.WordFault.{WordFault}
 use Rattle.world_model.specs.declared.events.Asked.{Asked}
 use Rattle.world_model.specs.declared.events.Asked.TheVariants.{Words, Broken}
-use Rattle.deliveries.specs.Staging.{AreStaged, Delivery, after_all, records_len, staged, frames_to, all_to, names, listens, changed_at, placed_all, has_room_for}
+use Rattle.deliveries.specs.Staging.{AreStaged, Delivery, after_all, records_len, staged, frames_to, all_to, names, listens, changed_at, placed_all, has_room_for, heard}
 
 -- what words do in a world at a moment, for a session with these subscriptions, by how they are read
 abbrev pub effect_of_read : World → ℕ → List Sub → Result Command WordFault → Effect
@@ -187,3 +187,13 @@ IsOfObjects (change.Drop key) = Unit {0}
 IsOfObjects change.Flush = Unit {0}
 IsOfObjects (change.SetChan c) = ⊥
 IsOfObjects (change.DelChan name) = ⊥
+
+-- session by session
+
+-- each session is brought the frames of what it hears of writes
+abbrev pub brought : World → List Write → List Session → List Session
+brought w writes sessions = map (λ s. placed_each s (heard w writes (listens s))) sessions
+
+-- the caller has its new subscriptions and its replies, and may close
+abbrev pub answered : ℕ → Effect → List Session → List Session
+answered n e sessions = ended_if e.closes n (placed_all (changed_at (subscribing e.subs) n sessions) (all_to n (map frame_text e.replies)))

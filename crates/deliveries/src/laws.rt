@@ -1,6 +1,6 @@
 //! Each law is the contract of a function that does nothing.
 
-ghost use Rattle.deliveries.specs.Laws.{PlacingIsOfSessions, EachTakesItsOwn, StagingIsSound, EachHears, ServedByCounts, ServedTakesAll, DueIsStaged, PlanDoesCall, NoneSubscribesAndChanges, OthersAnswer, SubscribingKeeps, SubscribedAreServedFour, SubscribedChangeNothing, OwnCallNeverCuts, OneReplyAnswers, AnswersFit, ConfirmationsFit, CallsHavePlans, TouchedAreNamed, NoneListeningNoneStaged, WithoutChannelsNoneStaged, StagedInTurn, HeardInTurn, StagedAreStaged, StagedListsServe, EnoughIsEnough, AllSuffice, RisingHaveOwnNumbers};
+ghost use Rattle.deliveries.specs.Laws.{PlacingIsOfSessions, EachTakesItsOwn, StagingIsSound, EachHears, ServedByCounts, ServedTakesAll, DueIsStaged, PlanDoesCall, CallBySessions, NoneSubscribesAndChanges, OthersAnswer, SubscribingKeeps, SubscribedAreServedFour, SubscribedChangeNothing, OwnCallNeverCuts, OneReplyAnswers, AnswersFit, ConfirmationsFit, CallsHavePlans, TouchedAreNamed, NoneListeningNoneStaged, WithoutChannelsNoneStaged, StagedInTurn, HeardInTurn, StagedAreStaged, StagedListsServe, EnoughIsEnough, AllSuffice, RisingHaveOwnNumbers};
 
 /// Writes in order are done by staging all that they bring, with the sessions as they were before the first of them, and placing
 /// it after the last.
@@ -26,6 +26,7 @@ pub fn room_laws()
 pub fn call_laws()
     ensures due { DueIsStaged }
     ensures call { PlanDoesCall }
+    ensures by_sessions { CallBySessions }
     ensures plans { CallsHavePlans }
     ensures touched { TouchedAreNamed }
 {}
