@@ -84,6 +84,14 @@ impl FenceIndex {
         }
     }
 
+    /// Takes out all channels. The one that was prepared stays prepared. It takes no memory.
+    pub fn clear(&mut self)
+        ensures marks { self.new.marks ≡ [] }
+        ensures prepared { self.new.prepared ≡ self.old.prepared }
+    {
+        self.marks.clear();
+    }
+
     /// Appends the names of the channels of the key, ascending, which a change may concern that moves an object from one box, where it was
     /// there, to another, where it is there after it: where it is, those that roam and those that want `outside`; and those whose area
     /// has a box that meets the least box round what is there of the two. After want of memory the list holds its old names and some of

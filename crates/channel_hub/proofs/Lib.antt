@@ -1,0 +1,4 @@
+pub mod Found
+pub mod ChannelsByName
+pub mod Index
+pub mod Concerned

@@ -1,0 +1,28 @@
+-- What a contract sees of a hub, and what its index holds.
+use Rattle.std.specs.Prelude.{◌≡◌, Bool, true, ◌&&◌, List, Option, Some, filter, map}
+use Rattle.byte_text.specs.Names.{Bytes}
+use Rattle.planar_geom.specs.Points.{Bounds}
+use Rattle.fence_model.specs.Messages.{watches}
+use Rattle.world_data.specs.declared.channels.Channel.{Channel}
+use Rattle.fence_index.specs.declared.marks.Mark.{Mark}
+use Rattle.fence_index.specs.Marks.{are_marks, is_of_key, mark_of}
+use Rattle.fence_index.specs.Candidates.{is_concerned}
+
+-- channels by name, and what is kept of the one that can be put without taking memory
+pub record Held : Type 0 where
+  pub channels : List Channel
+  pub prepared : Option Mark
+
+-- this channel can be put without taking memory
+abbrev pub IsPrepared : Held → Channel → Type 0
+IsPrepared held c = held.prepared ≡ Some (mark_of c)
+
+-- the marks are those of these channels: for each key the marks of its channels, by name
+pub record IsIndexOf (marks : List Mark) (channels : List Channel) : Type 0 where
+  pub sorted : are_marks marks ≡ true
+  pub of_key : (key : Bytes) → filter (is_of_key key) marks ≡ map mark_of (filter (watches (Some key)) channels)
+
+-- the channel is on the key, and a change that moves an object from the old box, where it was there, to the new one, where it is there after
+-- it, may concern it
+abbrev pub may_concern : Bytes → Option Bounds → Option Bounds → Channel → Bool
+may_concern key old new c = watches (Some key) c && is_concerned old new (mark_of c)

@@ -1,0 +1,4 @@
+pub mod Hubs
+pub mod Places
+pub mod PlaceLaws
+pub mod MessageLaws

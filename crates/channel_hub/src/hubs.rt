@@ -1,0 +1,170 @@
+//! The hub: all channels by name, and their marks in the index.
+
+ghost use Rattle.std.specs.Prelude.{◌≡◌, ◌<◌, [], true, not, length, filter, find, slice_get, Some, None, IfOk, IfNone, IfSome, OnOk, OnErr};
+ghost use Rattle.ordered_lists.specs.Lists.{put_in};
+ghost use Rattle.world_data.specs.Worlds.{are_channels, channel_before, is_named};
+ghost use Rattle.fence_model.specs.Messages.{watches};
+ghost use Rattle.fence_index.specs.Marks.{mark_of};
+ghost use Rattle.channel_hub.specs.Hubs.{IsPrepared, may_concern};
+ghost use Rattle.channel_hub.specs.Places.{places_of};
+
+use crate::candidates::Candidates;
+use crate::channel_order::{exchange, insert_reserved, place_of, push_places};
+use byte_text::{Name, NoMemory};
+use fence_index::FenceIndex;
+use ordered_lists::is_same;
+use planar_geom::BBox;
+use std::alloc::Global;
+use std::marker::Model;
+use world_data::{Channel, NameList};
+
+/// The channels of a world, in byte order of their names, and an index of their fences. One more may be prepared, which is then put
+/// without taking memory.
+#[derive(Drop)]
+pub struct Hub {
+    channels: Vec<Channel>,
+    // The marks of these channels. There is room for the channel that is prepared in it.
+    index: FenceIndex,
+}
+
+impl Model for Hub {
+    ghost use Rattle.std.specs.Prelude.{◌≡◌, ◌<◌, true, is_some, vec_len, vec_capacity};
+    ghost use Rattle.world_data.specs.Worlds.{are_channels};
+    ghost use Rattle.channel_hub.specs.Hubs.{Held, IsIndexOf};
+
+    ghost Value = { Held };
+
+    ghost view = { λ h. record { channels = h.channels.items; prepared = h.index.prepared } };
+
+    ghost invariant = { λ h. (are_channels h.channels.items ≡ true) × (IsIndexOf h.index.marks h.channels.items) × (is_some h.index.prepared ≡ true → vec_len h.channels < vec_capacity h.channels) };
+}
+
+impl Hub {
+    /// No channel, and none prepared. It takes no memory; channels take it from `alloc`.
+    pub fn new(alloc: Global) -> Hub
+        ensures channels { result.channels ≡ [] }
+        ensures prepared { result.prepared ≡ None }
+    {
+        Hub {
+            channels: Vec::new(alloc),
+            index: FenceIndex::new(alloc),
+        }
+    }
+
+    /// Prepares a channel, in place of the one that was prepared before and not put: all memory that `put` needs is taken. For want of it
+    /// that one stays prepared. The channels stay.
+    pub fn prepare(&mut self, alloc: Global, channel: &Channel) -> Result<(), NoMemory>
+        ensures channels { self.new.channels ≡ self.old.channels }
+        ensures ok { OnOk result (IsPrepared self.new channel.now) }
+        ensures err { OnErr result (self.new.prepared ≡ self.old.prepared) }
+    {
+        match self.channels.reserve(1) {
+            Ok(()) => self.index.prepare(alloc, channel),
+            Err(_) => Err(NoMemory),
+        }
+    }
+
+    /// Puts the channel that was prepared at its place, and gives out the one of its name that stood there. None is prepared then.
+    pub fn put(&mut self, channel: Channel) -> Option<Channel>
+        requires { IsPrepared self.old channel }
+        ensures channels { self.new.channels ≡ put_in channel_before channel self.old.channels }
+        ensures replaced { result ≡ find (is_named channel.name) self.old.channels }
+        ensures prepared { self.new.prepared ≡ None }
+    {
+        match place_of(self.channels.as_slice(), &channel.name) {
+            Ok(at) => {
+                self.index.take_out(&self.channels[at]);
+                self.index.put(&channel);
+                Some(exchange(&mut self.channels, at, channel))
+            }
+            Err(at) => {
+                self.index.put(&channel);
+                insert_reserved(&mut self.channels, at, channel);
+                None
+            }
+        }
+    }
+
+    /// Takes out the channel of this name, where there is one. The one that was prepared stays prepared. It takes no memory.
+    pub fn take_out(&mut self, name: &Name) -> Option<Channel>
+        ensures channels { self.new.channels ≡ filter (λ c. not (is_named name.now c)) self.old.channels }
+        ensures taken { result ≡ find (is_named name.now) self.old.channels }
+        ensures prepared { self.new.prepared ≡ self.old.prepared }
+    {
+        match place_of(self.channels.as_slice(), name) {
+            Ok(at) => {
+                let channel = self.channels.remove(at);
+                self.index.take_out(&channel);
+                Some(channel)
+            }
+            Err(_) => None,
+        }
+    }
+
+    /// Takes out all channels. The one that was prepared stays prepared. It takes no memory.
+    pub fn clear(&mut self)
+        ensures channels { self.new.channels ≡ [] }
+        ensures prepared { self.new.prepared ≡ self.old.prepared }
+    {
+        self.channels.clear();
+        self.index.clear();
+    }
+
+    /// The channel of this name, where there is one.
+    pub fn get(&self, name: &Name) -> Option<&Channel>
+        ensures none { IfNone result (find (is_named name.now) self.now.channels ≡ None) }
+        ensures some { IfSome result (λ c. find (is_named name.now) self.now.channels ≡ Some c.now) }
+    {
+        match place_of(self.channels.as_slice(), name) {
+            Ok(at) => Some(&self.channels[at]),
+            Err(_) => None,
+        }
+    }
+
+    /// How many channels there are.
+    pub fn len(&self) -> usize
+        ensures count { result ≡ length self.now.channels }
+        ensures by_name { are_channels self.now.channels ≡ true }
+    {
+        self.channels.len()
+    }
+
+    /// The channel at this place, counted from 0 by ascending name.
+    pub fn at(&self, i: usize) -> &Channel
+        requires { i < length self.now.channels }
+        ensures { slice_get self.now.channels i ≡ Some result.now }
+    {
+        &self.channels[i]
+    }
+
+    /// The places, ascending, of the channels of the key which a change may concern that moves an object from one box, where it was there, to
+    /// another, where it is there after it.
+    pub fn candidates(
+        &self,
+        alloc: Global,
+        key: &Name,
+        old: Option<BBox>,
+        new: Option<BBox>,
+    ) -> Result<Candidates, NoMemory>
+        ensures { IfOk result (λ p. p ≡ places_of (may_concern key.now old new) self.now.channels) }
+    {
+        let mut names = NameList::new(alloc);
+        self.index.candidates(alloc, key, old, new, &mut names)?;
+        let mut candidates = Candidates::new(alloc);
+        push_places(self.channels.as_slice(), &names, &mut candidates)?;
+        Ok(candidates)
+    }
+
+    /// The places, ascending, of all channels of the key: a drop of it may concern each.
+    pub fn of_key(&self, alloc: Global, key: &Name) -> Result<Candidates, NoMemory>
+        ensures { IfOk result (λ p. p ≡ places_of (watches (Some key.now)) self.now.channels) }
+    {
+        let mut candidates = Candidates::new(alloc);
+        for (place, channel) in self.channels.iter().enumerate() {
+            if is_same(&channel.fence.key, key) {
+                candidates.push(place)?;
+            }
+        }
+        Ok(candidates)
+    }
+}

@@ -1,0 +1,9 @@
+//! The subscriptions of one session, in the order of subscribing.
+#![tactic(auto)]
+
+mod held;
+
+pub use held::{SubscribeFault, Subscription, Subscriptions};
+
+#[cfg(test)]
+mod tests;
