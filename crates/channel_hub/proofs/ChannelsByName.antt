@@ -1,5 +1,5 @@
 -- Channels by name: where one stands, and what a put or a removal makes of them.
-use Rattle.std.proofs.Common.{◌≡◌, ◌≤◌, ℕ, zero, suc, Bool, true, false, refl, sym, subst, List, [], ◌∷◌, take, arith}
+use Rattle.std.proofs.Common.{◌≡◌, ℕ, zero, suc, Bool, true, false, refl, sym, subst, List, [], ◌∷◌, take, arith}
 use Rattle.std.specs.Prelude.{Option, Some, None, filter, find, not, slice_get, IfSome}
 use Rattle.std.specs.List.{list_all, list_any, slice_set, insert, remove}
 use Rattle.byte_text.specs.Names.{Bytes, before, same}

@@ -1,8 +1,8 @@
 -- The names that the index gives, and the places of the channels of these names.
-use Rattle.std.proofs.Common.{◌≡◌, ◌+◌, ℕ, Bool, true, false, refl, sym, ◌∙◌, ap, List, [], ◌∷◌, arith}
-use Rattle.std.specs.Prelude.{Option, Some, filter, map, ◌&&◌, ◌||◌}
+use Rattle.std.proofs.Common.{◌≡◌, ◌+◌, ℕ, Bool, true, false, refl, ◌∙◌, ap, List, [], ◌∷◌, arith}
+use Rattle.std.specs.Prelude.{Option, Some, filter, map, ◌&&◌}
 use Rattle.std.specs.List.{list_all, list_any}
-use Rattle.byte_text.specs.Names.{Bytes, before, same}
+use Rattle.byte_text.specs.Names.{Bytes, same}
 use Rattle.byte_text.specs.ByteOrder.{same_refl, other_before}
 use Rattle.planar_geom.specs.Points.{Bounds}
 use Rattle.ordered_lists.specs.Reading.{both_of}
@@ -10,7 +10,7 @@ use Rattle.fence_model.specs.Messages.{watches}
 use Rattle.world_data.specs.declared.channels.Channel.{Channel}
 use Rattle.world_data.specs.Worlds.{are_channels, channel_before, is_named}
 use Rattle.fence_index.specs.declared.marks.Mark.{Mark}
-use Rattle.fence_index.specs.Marks.{is_of_key, mark_of}
+use Rattle.fence_index.specs.Marks.{mark_of}
 use Rattle.fence_index.specs.Candidates.{candidates_of, is_concerned}
 use Rattle.channel_hub.specs.Hubs.{IsIndexOf, may_concern}
 use Rattle.channel_hub.specs.Places.{places_from, places_of, place_named}
@@ -69,5 +69,9 @@ places_named n test (c ∷ cs) sorted =
     by_test true e ih rest r = grind arith
     by_test false e ih rest r = rw e (rest ∙ ih)
 
+from_zero : (cs : List Channel) (names : List Bytes) → map (λ name. place_named name cs) names ≡ map (λ name. 0 + place_named name cs) names
+from_zero cs [] = refl
+from_zero cs (n ∷ names) = let ih = from_zero cs names in let here : place_named n cs ≡ 0 + place_named n cs = omega arith in grind (arith, here, ih)
+
 pub places_are : (test : Channel → Bool) (cs : List Channel) → are_channels cs ≡ true → map (λ name. place_named name cs) (map (λ c. c.name) (filter test cs)) ≡ places_of test cs
-places_are test cs sorted = places_named 0 test cs sorted
+places_are test cs sorted = from_zero cs (map (λ (c : Channel). c.name) (filter test cs)) ∙ places_named 0 test cs sorted

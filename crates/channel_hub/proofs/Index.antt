@@ -1,6 +1,6 @@
 -- The marks of the channels of each key, when a channel is put or taken out.
 use Rattle.std.proofs.Common.{◌≡◌, Bool, true, false, refl, sym, ◌∙◌, ap, subst, List, [], ◌∷◌, arith}
-use Rattle.std.specs.Prelude.{Option, Some, None, filter, find, map, not, ◌&&◌, ◌||◌}
+use Rattle.std.specs.Prelude.{Option, Some, None, filter, find, is_some, map, not, ◌||◌}
 use Rattle.std.specs.List.{list_all}
 use Rattle.byte_text.specs.Names.{Bytes, before, same}
 use Rattle.byte_text.specs.ByteOrder.{before_self, before_tie, same_refl, same_equal, other_before, other_behind, behind_others}
@@ -12,7 +12,7 @@ use Rattle.fence_model.specs.Messages.{watches}
 use Rattle.world_data.specs.declared.channels.Channel.{Channel}
 use Rattle.world_data.specs.Worlds.{are_channels, channel_before, is_named}
 use Rattle.fence_index.specs.declared.marks.Mark.{Mark}
-use Rattle.fence_index.specs.Marks.{are_marks, is_mark_of, is_of_key, mark_before, mark_of}
+use Rattle.fence_index.specs.Marks.{is_mark_of, is_of_key, mark_before, mark_of}
 use Rattle.channel_hub.specs.Hubs.{IsIndexOf}
 
 -- those of a list that pass a test, when an item is put in
@@ -128,20 +128,22 @@ others name old c (d ∷ cs) is all =
 
 only_one : (name : Bytes) (old : Channel) (cs : List Channel) → are_channels cs ≡ true → find (is_named name) cs ≡ Some old → list_all (λ d. not (is_named name d) || same d.fence.key old.fence.key) cs ≡ true
 only_one name old [] sorted is = absurd (cc)
-only_one name old (c ∷ cs) sorted is = by_name (is_named name c) refl
+only_one name old (c ∷ cs) sorted is =
+    let p = both_of (list_all (channel_before c) cs) (are_channels cs) sorted in
+    by_name (is_named name c) refl p.0 (only_one name old cs p.1) is
   where
-    by_name : (b : Bool) → is_named name c ≡ b → list_all (λ d. not (is_named name d) || same d.fence.key old.fence.key) (c ∷ cs) ≡ true
-    by_name true e =
-        let p = both_of (list_all (channel_before c) cs) (are_channels cs) sorted in
+    by_name : (b : Bool) → is_named name c ≡ b → list_all (channel_before c) cs ≡ true
+        → (find (is_named name) cs ≡ Some old → list_all (λ d. not (is_named name d) || same d.fence.key old.fence.key) cs ≡ true)
+        → find (is_named name) (c ∷ cs) ≡ Some old → list_all (λ d. not (is_named name d) || same d.fence.key old.fence.key) (c ∷ cs) ≡ true
+    by_name true e all ih is =
         let found : find (is_named name) (c ∷ cs) ≡ Some c = rw e refl in
         let it : c ≡ old = cc in
-        let rest = others name old c cs e p.0 in
+        let rest = others name old c cs e all in
         let r = same_refl old.fence.key in
         grind arith
-    by_name false e =
-        let p = both_of (list_all (channel_before c) cs) (are_channels cs) sorted in
+    by_name false e all ih is =
         let found : find (is_named name) cs ≡ Some old = rw e at is in
-        let ih = only_one name old cs p.1 found in
+        let rest = ih found in
         grind arith
 
 all_left : {A : Type 0} (test kept : A → Bool) (xs : List A) → list_all test xs ≡ true → list_all test (filter kept xs) ≡ true
@@ -165,10 +167,10 @@ pub taken_out : (name : Bytes) (old : Channel) (ms : List Mark) (cs : List Chann
 taken_out name old ms cs index sorted is = record {
   sorted = ascends-filter mark_before (λ m. not (is_mark_of old m)) ms index.sorted;
   of_key = λ key.
-    filters_swap (is_of_key key) (λ m. not (is_mark_of old m)) ms
-    ∙ ap (filter (λ m. not (is_mark_of old m))) (index.of_key key)
-    ∙ marks_left name old (filter (watches (Some key)) cs) (found_name name old cs is) (all_left (λ d. not (is_named name d) || same d.fence.key old.fence.key) (watches (Some key)) cs (only_one name old cs sorted is))
-    ∙ ap (map mark_of) (filters_swap (λ d. not (is_named name d)) (watches (Some key)) cs);
+      filters_swap (is_of_key key) (λ m. not (is_mark_of old m)) ms
+      ∙ ap (filter (λ m. not (is_mark_of old m))) (index.of_key key)
+      ∙ marks_left name old (filter (watches (Some key)) cs) (found_name name old cs is) (all_left (λ d. not (is_named name d) || same d.fence.key old.fence.key) (watches (Some key)) cs (only_one name old cs sorted is))
+      ∙ ap (map mark_of) (filters_swap (λ d. not (is_named name d)) (watches (Some key)) cs);
 }
 
 -- a channel put in the place of the one of its name
@@ -215,3 +217,8 @@ put_over c old ms cs index sorted is =
 
 pub no_marks : IsIndexOf [] []
 no_marks = record { sorted = refl; of_key = λ key. refl }
+
+-- none is prepared any more
+pub none_prepared : {P : Type 0} (o : Option Mark) → o ≡ None → is_some o ≡ true → P
+none_prepared None e some = absurd (cc)
+none_prepared (Some m) e some = absurd (cc)

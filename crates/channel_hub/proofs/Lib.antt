@@ -2,3 +2,4 @@ pub mod Found
 pub mod ChannelsByName
 pub mod Index
 pub mod Concerned
+pub mod Placing

@@ -1,11 +1,12 @@
 -- What a contract sees of a hub, and what its index holds.
-use Rattle.std.specs.Prelude.{◌≡◌, Bool, true, ◌&&◌, List, Option, Some, filter, map}
+use Rattle.std.specs.Prelude.{◌≡◌, ◌<◌, ℕ, Bool, true, ◌&&◌, List, Option, Some, is_some, filter, map}
 use Rattle.byte_text.specs.Names.{Bytes}
 use Rattle.planar_geom.specs.Points.{Bounds}
 use Rattle.fence_model.specs.Messages.{watches}
+use Rattle.world_data.specs.Worlds.{are_channels}
 use Rattle.world_data.specs.declared.channels.Channel.{Channel}
 use Rattle.fence_index.specs.declared.marks.Mark.{Mark}
-use Rattle.fence_index.specs.Marks.{are_marks, is_of_key, mark_of}
+use Rattle.fence_index.specs.Marks.{Indexed, are_marks, is_of_key, mark_of}
 use Rattle.fence_index.specs.Candidates.{is_concerned}
 
 -- channels by name, and what is kept of the one that can be put without taking memory
@@ -21,6 +22,12 @@ IsPrepared held c = held.prepared ≡ Some (mark_of c)
 pub record IsIndexOf (marks : List Mark) (channels : List Channel) : Type 0 where
   pub sorted : are_marks marks ≡ true
   pub of_key : (key : Bytes) → filter (is_of_key key) marks ≡ map mark_of (filter (watches (Some key)) channels)
+
+-- what a hub keeps: channels by name, an index of them, and room among so many places where one is prepared
+pub record IsKept (channels : List Channel) (index : Indexed) (count places : ℕ) : Type 0 where
+  pub by_name : are_channels channels ≡ true
+  pub indexed : IsIndexOf index.marks channels
+  pub room : is_some index.prepared ≡ true → count < places
 
 -- the channel is on the key, and a change that moves an object from the old box, where it was there, to the new one, where it is there after
 -- it, may concern it

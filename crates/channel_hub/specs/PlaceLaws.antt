@@ -1,5 +1,5 @@
 -- The places of those of a list that pass a test: each is one of the list, and there they stand.
-use Rattle.std.proofs.Common.{◌≡◌, ◌<◌, ◌+◌, ℕ, zero, suc, Bool, true, false, refl, ap, List, [], ◌∷◌, length, drop, arith}
+use Rattle.std.proofs.Common.{◌≡◌, ◌<◌, ◌+◌, ℕ, zero, suc, Bool, true, false, refl, ap, List, [], ◌∷◌, length, drop, add-one, arith}
 use Rattle.std.specs.Prelude.{Some, filter, filter_map, slice_get}
 use Rattle.channel_hub.specs.Places.{places_from, places_of}
 
@@ -15,19 +15,19 @@ one_on n x xs p s = record { past = s.past + 1; is_past = omega (arith, s.is_pas
 
 all_stand : {A : Type 0} (n : ℕ) (test : A → Bool) (xs : List A) (i p : ℕ) → slice_get (places_from n test xs) i ≡ Some p → Stands n xs p
 all_stand n test [] i p is = absurd (cc)
-all_stand n test (x ∷ xs) i p is = by_test (test x) refl i is
+all_stand n test (x ∷ xs) i p is = by_test (test x) refl i (λ j. all_stand (n + 1) test xs j p) is
   where
-    by_test : (b : Bool) → test x ≡ b → (i : ℕ) → slice_get (places_from n test (x ∷ xs)) i ≡ Some p → Stands n (x ∷ xs) p
-    by_test true e zero is =
+    by_test : (b : Bool) → test x ≡ b → (i : ℕ) → ((j : ℕ) → slice_get (places_from (n + 1) test xs) j ≡ Some p → Stands (n + 1) xs p) → slice_get (places_from n test (x ∷ xs)) i ≡ Some p → Stands n (x ∷ xs) p
+    by_test true e zero ih is =
         let here : slice_get (n ∷ places_from (n + 1) test xs) 0 ≡ Some p = rw e at is in
         let first : n ≡ p = cc in
         record { past = 0; is_past = omega (arith, first); within = omega arith }
-    by_test true e (suc i) is =
+    by_test true e (suc i) ih is =
         let there : slice_get (n ∷ places_from (n + 1) test xs) (suc i) ≡ Some p = rw e at is in
-        one_on n x xs p (all_stand (n + 1) test xs i p there)
-    by_test false e i is =
+        one_on n x xs p (ih i there)
+    by_test false e i ih is =
         let there : slice_get (places_from (n + 1) test xs) i ≡ Some p = rw e at is in
-        one_on n x xs p (all_stand (n + 1) test xs i p there)
+        one_on n x xs p (ih i there)
 
 -- each place is one of the list
 pub place_within : {A : Type 0} (test : A → Bool) (xs : List A) (i p : ℕ) → slice_get (places_of test xs) i ≡ Some p → p < length xs
@@ -45,7 +45,7 @@ dropped_past : {A : Type 0} (all xs : List A) (n : ℕ) (x : A) → drop n all �
 dropped_past [] xs zero x is = absurd (cc)
 dropped_past [] xs (suc n) x is = absurd (cc)
 dropped_past (y ∷ all) xs zero x is = cc
-dropped_past (y ∷ all) xs (suc n) x is = dropped_past all xs n x is
+dropped_past (y ∷ all) xs (suc n) x is = rw add-one (rw add-one at (dropped_past all xs n x is))
 
 items_past : {A : Type 0} (all : List A) (test : A → Bool) (n : ℕ) (xs : List A) → drop n all ≡ xs → filter_map (slice_get all) (places_from n test xs) ≡ filter test xs
 items_past all test n [] is = refl

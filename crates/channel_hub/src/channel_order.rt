@@ -1,17 +1,16 @@
 //! Where channels stand in a list in byte order of their names.
 
-ghost use Rattle.std.specs.Prelude.{◌≡◌, ◌<◌, ◌≤◌, ◌++◌, true, map, vec_len, vec_capacity, slice_get, Some, IfOk, IfErr, OnOk};
-ghost use Rattle.std.specs.List.{insert, slice_set, list_all, list_any};
+ghost use Rattle.std.specs.Prelude.{◌≡◌, ◌<◌, ◌≤◌, true, vec_len, vec_capacity, slice_get, Some, IfOk, IfErr};
+ghost use Rattle.std.specs.List.{insert, slice_set, list_any};
 ghost use Rattle.byte_text.specs.Names.{before};
 ghost use Rattle.ordered_lists.specs.Lists.{IsHeld, IsFree};
 ghost use Rattle.world_data.specs.Worlds.{are_channels, is_named};
 ghost use Rattle.channel_hub.specs.Places.{place_named};
 
-use crate::candidates::Candidates;
-use byte_text::{Name, NoMemory};
+use byte_text::Name;
 use ordered_lists::{is_before, is_same};
 use std::mem;
-use world_data::{Channel, NameList};
+use world_data::Channel;
 
 /// The place of the channel of this name, or, where there is none, the place where it would go.
 pub(crate) fn place_of(list: &[Channel], name: &Name) -> Result<usize, usize>
@@ -57,8 +56,8 @@ pub(crate) fn insert_reserved(list: &mut Vec<Channel>, at: usize, channel: Chann
     }
 }
 
-// The place of the channel of this name, which is there.
-fn place_in(list: &[Channel], name: &Name) -> usize
+/// The place of the channel of this name, which is there.
+pub(crate) fn place_in(list: &[Channel], name: &Name) -> usize
     requires sorted { are_channels list.now ≡ true }
     requires held { list_any (is_named name.now) list.now ≡ true }
     ensures { result ≡ place_named name.now list.now }
@@ -67,20 +66,4 @@ fn place_in(list: &[Channel], name: &Name) -> usize
         Ok(at) => at,
         Err(_) => unreachable!(),
     }
-}
-
-/// Appends the places of the channels of these names, which are all there.
-pub(crate) fn push_places(
-    list: &[Channel],
-    names: &NameList,
-    into: &mut Candidates,
-) -> Result<(), NoMemory>
-    requires sorted { are_channels list.now ≡ true }
-    requires held { list_all (λ name. list_any (is_named name) list.now) names.now ≡ true }
-    ensures { OnOk result (into.new ≡ into.old ++ map (λ name. place_named name list.now) names.now) }
-{
-    for i in 0..names.len() {
-        into.push(place_in(list, names.at(i)))?;
-    }
-    Ok(())
 }

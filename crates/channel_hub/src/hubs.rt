@@ -8,11 +8,10 @@ ghost use Rattle.fence_index.specs.Marks.{mark_of};
 ghost use Rattle.channel_hub.specs.Hubs.{IsPrepared, may_concern};
 ghost use Rattle.channel_hub.specs.Places.{places_of};
 
-use crate::candidates::Candidates;
-use crate::channel_order::{exchange, insert_reserved, place_of, push_places};
+use crate::candidates::{Candidates, push_of_key, push_places};
+use crate::channel_order::{exchange, insert_reserved, place_of};
 use byte_text::{Name, NoMemory};
 use fence_index::FenceIndex;
-use ordered_lists::is_same;
 use planar_geom::BBox;
 use std::alloc::Global;
 use std::marker::Model;
@@ -28,15 +27,14 @@ pub struct Hub {
 }
 
 impl Model for Hub {
-    ghost use Rattle.std.specs.Prelude.{◌≡◌, ◌<◌, true, is_some, vec_len, vec_capacity};
-    ghost use Rattle.world_data.specs.Worlds.{are_channels};
-    ghost use Rattle.channel_hub.specs.Hubs.{Held, IsIndexOf};
+    ghost use Rattle.std.specs.Prelude.{vec_len, vec_capacity};
+    ghost use Rattle.channel_hub.specs.Hubs.{Held, IsKept};
 
     ghost Value = { Held };
 
     ghost view = { λ h. record { channels = h.channels.items; prepared = h.index.prepared } };
 
-    ghost invariant = { λ h. (are_channels h.channels.items ≡ true) × (IsIndexOf h.index.marks h.channels.items) × (is_some h.index.prepared ≡ true → vec_len h.channels < vec_capacity h.channels) };
+    ghost invariant = { λ h. IsKept h.channels.items h.index (vec_len h.channels) (vec_capacity h.channels) };
 }
 
 impl Hub {
@@ -160,11 +158,7 @@ impl Hub {
         ensures { IfOk result (λ p. p ≡ places_of (watches (Some key.now)) self.now.channels) }
     {
         let mut candidates = Candidates::new(alloc);
-        for (place, channel) in self.channels.iter().enumerate() {
-            if is_same(&channel.fence.key, key) {
-                candidates.push(place)?;
-            }
-        }
+        push_of_key(self.channels.as_slice(), key, &mut candidates)?;
         Ok(candidates)
     }
 }

@@ -1,7 +1,3 @@
-use Rattle.std.proofs.Common.{◌≡◌, false, subst}
-use Rattle.std.specs.Prelude.{Option, IfSome}
-use Rattle.byte_text.specs.Names.{before}
-use Rattle.world_data.specs.declared.channels.Channel.{Channel}
 use Rattle.ordered_lists.specs.Reading.{stands_at}
 use Rattle.channel_hub.proofs.ChannelsByName.{found, lacking}
 use Rattle.channel_hub.proofs.hubs.Hub.get.Goals as goal
@@ -15,4 +11,4 @@ returns-in-Ok-clause-some c =
 pub returns-in-Err-clause-none : goal.returns-in-Err-clause-none
 returns-in-Err-clause-none c =
     let free = rw c.as_slice.ensures.value at c.in-Err.ensures.free in
-    rw (← c.self.view_is) (lacking c.args.name.now c.self.inside.channels.items c.in-Err.field-0 c.self.invariant free)
+    rw (← c.self.view_is) (lacking c.args.name.now c.self.inside.channels.items c.in-Err.field-0 c.self.invariant.by_name free)

@@ -1,35 +1,39 @@
-use Rattle.std.proofs.Common.{◌≡◌, ◌≤◌, ◌-◌, true, false, subst, sym, ◌∙◌, List, arith}
-use Rattle.std.specs.Prelude.{vec_len, vec_capacity}
-use Rattle.std.specs.List.{list_any}
-use Rattle.world_data.specs.declared.channels.Channel.{Channel}
-use Rattle.world_data.specs.Worlds.{are_channels, is_named}
-use Rattle.channel_hub.specs.Hubs.{Held, has_room}
-use Rattle.channel_hub.proofs.ChannelsByName.{found, lacking, put_held, put_free, put_by_name, none_any, room_left}
+use Rattle.std.proofs.Common.{sym, ◌∙◌}
+use Rattle.ordered_lists.specs.Reading.{stands_at}
+use Rattle.channel_hub.proofs.ChannelsByName.{found, lacking, put_held, put_free, put_by_name}
+use Rattle.channel_hub.proofs.Index.{none_prepared, put_new, put_over}
 use Rattle.channel_hub.proofs.hubs.Hub.put.Goals as goal
 
 pub invariant_of-self : goal.invariant_of-self
 invariant_of-self c =
+    let channel = c.args.channel in
     let items = c.self.inside.channels.items in
+    let marks = c.self.inside.index.marks in
+    let old = c.index.result.now in
+    let kept = c.self.invariant in
     let held = rw c.as_slice.ensures.value at c.in-Ok.ensures.held in
-    let made = c.exchange.ensures.items ∙ put_held c.args.channel items c.in-Ok.at held in
-    subst (λ (l : List Channel). are_channels l ≡ true) (sym made) (put_by_name c.args.channel items c.self.invariant)
-
-pub insert_reserved-requires-clause-room : goal.insert_reserved-requires-clause-room
-insert_reserved-requires-clause-room c =
-    let name = c.args.channel.name in
-    let items = c.self.inside.channels.items in
-    let free = rw c.as_slice.ensures.value at c.in-Err.ensures.free in
-    let none = none_any (is_named name) items (lacking name items c.in-Err.at c.self.invariant free) in
-    let room = subst (λ (h : Held). has_room h name ≡ true) (sym c.self.view_is) c.requires in
-    let spare = room_left (vec_capacity c.self.inside.channels - vec_len c.self.inside.channels) (list_any (is_named name) items) room none in
-    omega (arith, spare)
+    let here = found channel.name items c.in-Ok.at old held (stands_at items c.in-Ok.at old held.within c.index.ensures) in
+    let made = c.exchange.ensures.items ∙ put_held channel items c.in-Ok.at held in
+    record {
+      by_name = rw made (put_by_name channel items kept.by_name);
+      indexed = rw (c.put.ensures.marks, c.take_out.ensures.marks, made) (put_over channel old marks items kept.indexed kept.by_name here);
+      room = λ some. none_prepared c.put.new.self.prepared c.put.ensures.prepared some;
+    }
 
 pub invariant_of-self-in-Err : goal.invariant_of-self-in-Err
 invariant_of-self-in-Err c =
+    let channel = c.args.channel in
     let items = c.self.inside.channels.items in
+    let marks = c.self.inside.index.marks in
+    let kept = c.self.invariant in
     let free = rw c.as_slice.ensures.value at c.in-Err.ensures.free in
-    let made = c.insert_reserved.ensures.items ∙ put_free c.args.channel items c.in-Err.at free in
-    subst (λ (l : List Channel). are_channels l ≡ true) (sym made) (put_by_name c.args.channel items c.self.invariant)
+    let none = lacking channel.name items c.in-Err.at kept.by_name free in
+    let made = c.insert_reserved.ensures.items ∙ put_free channel items c.in-Err.at free in
+    record {
+      by_name = rw made (put_by_name channel items kept.by_name);
+      indexed = rw (c.put-in-Err.ensures.marks, made) (put_new channel marks items kept.indexed kept.by_name none);
+      room = λ some. none_prepared c.put-in-Err.new.self.prepared c.put-in-Err.ensures.prepared some;
+    }
 
 pub returns-in-Ok-clause-channels : goal.returns-in-Ok-clause-channels
 returns-in-Ok-clause-channels c =
@@ -49,4 +53,4 @@ returns-in-Err-clause-channels c =
 pub returns-in-Err-clause-replaced : goal.returns-in-Err-clause-replaced
 returns-in-Err-clause-replaced c =
     let free = rw c.as_slice.ensures.value at c.in-Err.ensures.free in
-    rw (← c.self.view_is) (sym (lacking c.args.channel.name c.self.inside.channels.items c.in-Err.at c.self.invariant free))
+    rw (← c.self.view_is) (sym (lacking c.args.channel.name c.self.inside.channels.items c.in-Err.at c.self.invariant.by_name free))

@@ -1,0 +1,26 @@
+use Rattle.std.proofs.Common.{◌++◌, ℕ, List, ap, ◌∙◌, map}
+use Rattle.byte_text.specs.Names.{Bytes}
+use Rattle.fence_index.specs.Candidates.{candidates_of}
+use Rattle.channel_hub.specs.Hubs.{may_concern}
+use Rattle.channel_hub.specs.Places.{place_named}
+use Rattle.channel_hub.proofs.Concerned.{names_are, names_stand, places_are}
+use Rattle.channel_hub.proofs.hubs.Hub.candidates.Goals as goal
+
+pub push_places-requires-clause-held : goal.push_places-requires-clause-held
+push_places-requires-clause-held c =
+    let items = c.self.inside.channels.items in
+    let marks = c.self.inside.index.marks in
+    let key = c.args.key.now in
+    let named = ap (λ (l : List Bytes). l ++ candidates_of key c.args.old c.args.new marks) c.new-names.ensures ∙ names_are key c.args.old c.args.new marks items c.self.invariant.indexed in
+    rw (c.in_ok-candidates.ensures ∙ named, c.as_slice.ensures.value) (names_stand (may_concern key c.args.old c.args.new) items)
+
+pub returns : goal.returns
+returns c =
+    let items = c.self.inside.channels.items in
+    let marks = c.self.inside.index.marks in
+    let key = c.args.key.now in
+    let named = ap (λ (l : List Bytes). l ++ candidates_of key c.args.old c.args.new marks) c.new-names.ensures ∙ names_are key c.args.old c.args.new marks items c.self.invariant.indexed in
+    let places = map (λ name. place_named name items) in
+    let placed = rw c.as_slice.ensures.value at c.in_ok-push_places.ensures in
+    rw (← c.self.view_is) (placed ∙ ap (λ (l : List ℕ). l ++ places c.candidates.new.into) c.new-candidates.ensures
+    ∙ ap places (c.in_ok-candidates.ensures ∙ named) ∙ places_are (may_concern key c.args.old c.args.new) items c.self.invariant.by_name)
