@@ -1,0 +1,4 @@
+pub mod Mail
+pub mod Sessions
+pub mod Fans
+pub mod FanLaws

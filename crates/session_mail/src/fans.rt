@@ -1,0 +1,51 @@
+//! Messages to all sessions that hear them, staged and then placed.
+
+ghost use Rattle.std.specs.Prelude.{◌≡◌, ◌+◌, ◌∷◌, [], List, map, OnOk};
+ghost use Rattle.fence_model.specs.Writes.{Write};
+ghost use Rattle.world_model.specs.Halls.{Hall, apply_all};
+ghost use Rattle.world_data.specs.declared.worlds.World.{World};
+ghost use Rattle.deliveries.specs.Staging.{HaveOwnNumbers, after_all, records_len};
+ghost use Rattle.session_mail.specs.Sessions.{session_of};
+ghost use Rattle.session_mail.specs.Fans.{AreBrought, ArePlaced, AreBare, HaveStaged};
+
+use crate::sessions::Session;
+use byte_text::{Name, NoMemory, Text};
+use std::alloc::Global;
+
+/// Stages a message for each session that hears it. For want of memory some sessions may have it staged.
+pub fn stage_message(
+    alloc: Global,
+    sessions: &mut Vec<Session>,
+    name: &Name,
+    payload: &Text,
+) -> Result<(), NoMemory>
+    ensures same { map session_of sessions.new.items ≡ map session_of sessions.old.items }
+    ensures staged { OnOk result (AreBrought ((name.now, payload.now) ∷ []) sessions.old.items sessions.new.items) }
+{
+    for i in 0..sessions.len() {
+        sessions[i].stage_message(alloc, name, payload)?;
+    }
+    Ok(())
+}
+
+/// Places all that is staged, in order, and cuts each session that has no room. It takes no memory. Where what is staged is what writes
+/// bring, the hall is then as the writes leave it.
+pub fn place_staged(sessions: &mut Vec<Session>)
+    ensures placed { ArePlaced sessions.old.items sessions.new.items }
+    ensures hall { (h : Hall) (writes : List Write) → HaveOwnNumbers h.sessions → h.sessions ≡ map session_of sessions.old.items → HaveStaged h.world writes sessions.old.items
+        → apply_all h writes ≡ record h { world = after_all h.world writes; logged = h.logged + records_len writes; sessions = map session_of sessions.new.items } }
+{
+    for i in 0..sessions.len() {
+        sessions[i].place_staged();
+    }
+}
+
+/// Lets all go that is staged.
+pub fn unstage(sessions: &mut Vec<Session>)
+    ensures same { map session_of sessions.new.items ≡ map session_of sessions.old.items }
+    ensures bare { AreBare sessions.new.items }
+{
+    for i in 0..sessions.len() {
+        sessions[i].unstage();
+    }
+}
