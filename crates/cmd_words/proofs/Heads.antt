@@ -1,29 +1,27 @@
 -- What stands behind a command's name.
 use Rattle.std.proofs.Common.{◌≡◌, inl, inr, ◌<◌, true, false, refl, sym, ap, subst, ◌∙◌, List, [], ◌∷◌, ◌++◌, length, arith}
 use Rattle.std.specs.Prelude.{codes, Err}
-use Rattle.std.specs.List.{list_any}
 use Rattle.std.specs.Str.{str_to_ascii_lowercase}
 use Rattle.std.proofs.lemmas.List.{append-nil}
 use Rattle.byte_text.specs.Names.{Bytes, is_word}
 use Rattle.world_model.specs.Grammar.{Form, done, live, ◌>>=◌, once_or_more}
-use Rattle.world_model.specs.Commands.{readings, reads, is_open, shown_of}
-use Rattle.cmd_words.proofs.NoneOf.{NoneIs, none_is}
+use Rattle.world_model.specs.Commands.{readings, reads, is_open, shown_of, wrong_count}
 use Rattle.world_model.specs.declared.faults.WordFault.TheVariants as fault
 use Rattle.cmd_words.proofs.Follows.{stopped, shut_by}
 use Rattle.world_model.specs.declared.commands.Command.{Command}
 use Rattle.world_model.specs.declared.commands.Command.TheVariants as command
 use Rattle.cmd_words.specs.CommandNames.{IsNoName}
-use Rattle.cmd_words.specs.Progress.{Place, Follows, Answers, IsFault, all_words, a_name, key_and_id, get_options, stats_names, answered}
+use Rattle.cmd_words.specs.Progress.{Place, Follows, Answers, IsFault, all_words, a_name, key_and_id, get_options, name_of, glob_of, answered}
 use Rattle.cmd_words.specs.Sets.{behind_set, field_step, fields_first, fset_of}
 use Rattle.cmd_words.proofs.Binds.{bind_same}
 use Rattle.cmd_words.proofs.FieldLists.{first_field}
 use Rattle.world_model.specs.Kinds.{name, glob, seconds}
-use Rattle.world_model.specs.Served.{unbuilt}
+use Rattle.cmd_words.specs.NameLists.{some_names}
 use Rattle.cmd_words.specs.Scans.{behind_scan}
 use Rattle.cmd_words.specs.Searches.{behind_search, behind_nearby}
 use Rattle.world_data.specs.declared.channels.Kind.TheVariants.{Within, Intersects}
 use Rattle.cmd_words.proofs.Gets.{lower_word}
-use Rattle.cmd_words.proofs.Stats.{first_name}
+use Rattle.cmd_words.proofs.NameLists.{first_name}
 use Rattle.cmd_words.specs.declared.faults.CommandFault.{CommandFault}
 
 -- the name of a command, and the words behind it
@@ -50,9 +48,9 @@ bounds_goes : (called : Bytes) (more : List Bytes) → str_to_ascii_lowercase ca
 unfolding readings
 bounds_goes called more e = rw e (simp append-nil)
 
-stats_goes : (called : Bytes) (more : List Bytes) → str_to_ascii_lowercase called ≡ codes "stats" → readings (called ∷ more) ≡ live (stats_names more)
+stats_goes : (called : Bytes) (more : List Bytes) → str_to_ascii_lowercase called ≡ codes "stats" → readings (called ∷ more) ≡ live (some_names name_of command.Stats more)
 unfolding readings
-stats_goes called more e = rw e (simp append-nil (first_name more))
+stats_goes called more e = rw e (simp append-nil (first_name name_of command.Stats more))
 
 flush_goes : (called : Bytes) (more : List Bytes) → str_to_ascii_lowercase called ≡ codes "flushdb" → readings (called ∷ more) ≡ live (done command.Flush more)
 unfolding readings
@@ -161,7 +159,7 @@ drop_head called p r e = begins called p _ r (λ more. drop_goes called more (lo
 pub bounds_head : (called : Bytes) (p : Place) → p.read ≡ called ∷ [] → is_word called (codes "BOUNDS") ≡ true → Follows p (a_name (λ key. done (command.Bounds key)))
 bounds_head called p r e = begins called p _ r (λ more. bounds_goes called more (lower_word called (codes "BOUNDS") e))
 
-pub stats_head : (called : Bytes) (p : Place) → p.read ≡ called ∷ [] → is_word called (codes "STATS") ≡ true → Follows p stats_names
+pub stats_head : (called : Bytes) (p : Place) → p.read ≡ called ∷ [] → is_word called (codes "STATS") ≡ true → Follows p (some_names name_of command.Stats)
 stats_head called p r e = begins called p _ r (λ more. stats_goes called more (lower_word called (codes "STATS") e))
 
 pub flush_head : (called : Bytes) (p : Place) → p.read ≡ called ∷ [] → is_word called (codes "FLUSHDB") ≡ true → Follows p (done command.Flush)
@@ -173,18 +171,70 @@ ping_head called p r e = begins called p _ r (λ more. ping_goes called more (lo
 pub quit_head : (called : Bytes) (p : Place) → p.read ≡ called ∷ [] → is_word called (codes "QUIT") ≡ true → Follows p (done command.Quit)
 quit_head called p r e = begins called p _ r (λ more. quit_goes called more (lower_word called (codes "QUIT") e))
 
--- no command has this name
+shrink_goes : (called : Bytes) (more : List Bytes) → str_to_ascii_lowercase called ≡ codes "aofshrink" → readings (called ∷ more) ≡ live (done command.Shrink more)
+unfolding readings
+shrink_goes called more e = rw e refl
+
+pub shrink_head : (called : Bytes) (p : Place) → p.read ≡ called ∷ [] → is_word called (codes "AOFSHRINK") ≡ true → Follows p (done command.Shrink)
+shrink_head called p r e = begins called p _ r (λ more. shrink_goes called more (lower_word called (codes "AOFSHRINK") e))
+
+-- channels and subscriptions
+
+delchan_goes : (called : Bytes) (more : List Bytes) → str_to_ascii_lowercase called ≡ codes "delchan" → readings (called ∷ more) ≡ live (a_name (λ n. done (command.Delchan n)) more)
+unfolding readings
+delchan_goes called more e = rw e (simp append-nil)
+
+pub delchan_head : (called : Bytes) (p : Place) → p.read ≡ called ∷ [] → is_word called (codes "DELCHAN") ≡ true → Follows p (a_name (λ n. done (command.Delchan n)))
+delchan_head called p r e = begins called p _ r (λ more. delchan_goes called more (lower_word called (codes "DELCHAN") e))
+
+pdelchan_goes : (called : Bytes) (more : List Bytes) → str_to_ascii_lowercase called ≡ codes "pdelchan" → readings (called ∷ more) ≡ live ((glob >>= λ pattern. done (command.Pdelchan pattern)) more)
+unfolding readings
+pdelchan_goes called more e = rw e (simp append-nil)
+
+pub pdelchan_head : (called : Bytes) (p : Place) → p.read ≡ called ∷ [] → is_word called (codes "PDELCHAN") ≡ true → Follows p (glob >>= λ pattern. done (command.Pdelchan pattern))
+pdelchan_head called p r e = begins called p _ r (λ more. pdelchan_goes called more (lower_word called (codes "PDELCHAN") e))
+
+chans_goes : (called : Bytes) (more : List Bytes) → str_to_ascii_lowercase called ≡ codes "chans" → readings (called ∷ more) ≡ live ((glob >>= λ pattern. done (command.Chans pattern)) more)
+unfolding readings
+chans_goes called more e = rw e (simp append-nil)
+
+pub chans_head : (called : Bytes) (p : Place) → p.read ≡ called ∷ [] → is_word called (codes "CHANS") ≡ true → Follows p (glob >>= λ pattern. done (command.Chans pattern))
+chans_head called p r e = begins called p _ r (λ more. chans_goes called more (lower_word called (codes "CHANS") e))
+
+subscribe_goes : (called : Bytes) (more : List Bytes) → str_to_ascii_lowercase called ≡ codes "subscribe" → readings (called ∷ more) ≡ live (some_names name_of command.Subscribe more)
+unfolding readings
+subscribe_goes called more e = rw e (simp append-nil (first_name name_of command.Subscribe more))
+
+pub subscribe_head : (called : Bytes) (p : Place) → p.read ≡ called ∷ [] → is_word called (codes "SUBSCRIBE") ≡ true → Follows p (some_names name_of command.Subscribe)
+subscribe_head called p r e = begins called p _ r (λ more. subscribe_goes called more (lower_word called (codes "SUBSCRIBE") e))
+
+psubscribe_goes : (called : Bytes) (more : List Bytes) → str_to_ascii_lowercase called ≡ codes "psubscribe" → readings (called ∷ more) ≡ live (some_names glob_of command.Psubscribe more)
+unfolding readings
+psubscribe_goes called more e = rw e (simp append-nil (first_name glob_of command.Psubscribe more))
+
+pub psubscribe_head : (called : Bytes) (p : Place) → p.read ≡ called ∷ [] → is_word called (codes "PSUBSCRIBE") ≡ true → Follows p (some_names glob_of command.Psubscribe)
+psubscribe_head called p r e = begins called p _ r (λ more. psubscribe_goes called more (lower_word called (codes "PSUBSCRIBE") e))
+
+-- no word, or no command's name
 nothing_starts : is_open [] ≡ true
 unfolding readings
 nothing_starts = refl
 
-nothing_goes : (called : Bytes) → is_word called (codes "GET") ≡ false → is_word called (codes "DEL") ≡ false → is_word called (codes "DROP") ≡ false → is_word called (codes "BOUNDS") ≡ false → is_word called (codes "STATS") ≡ false → is_word called (codes "FLUSHDB") ≡ false → is_word called (codes "PING") ≡ false → is_word called (codes "QUIT") ≡ false → is_word called (codes "SET") ≡ false → is_word called (codes "PDEL") ≡ false → is_word called (codes "FSET") ≡ false → is_word called (codes "FGET") ≡ false → is_word called (codes "EXPIRE") ≡ false → is_word called (codes "PERSIST") ≡ false → is_word called (codes "TTL") ≡ false → is_word called (codes "KEYS") ≡ false → is_word called (codes "AOFSHRINK") ≡ false → is_word called (codes "SCAN") ≡ false → is_word called (codes "WITHIN") ≡ false → is_word called (codes "INTERSECTS") ≡ false → is_word called (codes "NEARBY") ≡ false → is_word called (codes "SETCHAN") ≡ false → is_word called (codes "DELCHAN") ≡ false → is_word called (codes "PDELCHAN") ≡ false → is_word called (codes "CHANS") ≡ false → is_word called (codes "SUBSCRIBE") ≡ false → is_word called (codes "PSUBSCRIBE") ≡ false → readings (called ∷ []) ≡ []
+nothing_spelled : reads [] ≡ Err (wrong_count [])
 unfolding readings
-nothing_goes called w_get w_del w_drop w_bounds w_stats w_flushdb w_ping w_quit w_set w_pdel w_fset w_fget w_expire w_persist w_ttl w_keys w_aofshrink w_scan w_within w_intersects w_nearby w_setchan w_delchan w_pdelchan w_chans w_subscribe w_psubscribe = rw (w_get, w_del, w_drop, w_bounds, w_stats, w_flushdb, w_ping, w_quit, w_set, w_pdel, w_fset, w_fget, w_expire, w_persist, w_ttl, w_keys, w_aofshrink, w_scan, w_within, w_intersects, w_nearby, w_setchan, w_delchan, w_pdelchan, w_chans, w_subscribe, w_psubscribe) refl
+nothing_spelled = refl
 
-unknown : (called : Bytes) (rest : List Bytes) → IsNoName called → NoneIs called unbuilt → reads (called ∷ rest) ≡ Err (fault.Unknown (shown_of called))
-unknown called rest n u = stopped [] called rest nothing_starts (shut_by (called ∷ []) (nothing_goes called n.1.0 n.1.1.0 n.1.1.1.1.1.1.1.1.1.0 n.1.1.1.1.1.1.1.1.1.1.1.0 n.1.1.1.1.1.1.1.1.1.1.1.1.0 n.1.1.1.1.1.1.1.1.1.1.1.1.1.0 n.1.1.1.1.1.1.1.1.1.1.1.1.1.1.0 n.1.1.1.1.1.1.1.1.1.1.1.1.1.1.1.0 n.0 n.1.1.1.1.1.1.1.1.0 n.1.1.1.0 n.1.1.1.1.0 n.1.1.1.1.1.0 n.1.1.1.1.1.1.0 n.1.1.1.1.1.1.1.0 n.1.1.1.1.1.1.1.1.1.1.0 u.0 n.1.1.1.1.1.1.1.1.1.1.1.1.1.1.1.1.0 n.1.1.1.1.1.1.1.1.1.1.1.1.1.1.1.1.1.0 n.1.1.1.1.1.1.1.1.1.1.1.1.1.1.1.1.1.1.0 n.1.1.1.1.1.1.1.1.1.1.1.1.1.1.1.1.1.1.1.0 u.1.0 u.1.1.0 u.1.1.1.0 u.1.1.1.1.0 u.1.1.1.1.1.0 u.1.1.1.1.1.1.0))
+nothing_goes : (called : Bytes) → is_word called (codes "SET") ≡ false → is_word called (codes "GET") ≡ false → is_word called (codes "DEL") ≡ false → is_word called (codes "FSET") ≡ false → is_word called (codes "FGET") ≡ false → is_word called (codes "EXPIRE") ≡ false → is_word called (codes "PERSIST") ≡ false → is_word called (codes "TTL") ≡ false → is_word called (codes "PDEL") ≡ false → is_word called (codes "DROP") ≡ false → is_word called (codes "KEYS") ≡ false → is_word called (codes "BOUNDS") ≡ false → is_word called (codes "STATS") ≡ false → is_word called (codes "FLUSHDB") ≡ false → is_word called (codes "PING") ≡ false → is_word called (codes "QUIT") ≡ false → is_word called (codes "SCAN") ≡ false → is_word called (codes "WITHIN") ≡ false → is_word called (codes "INTERSECTS") ≡ false → is_word called (codes "NEARBY") ≡ false → is_word called (codes "AOFSHRINK") ≡ false → is_word called (codes "DELCHAN") ≡ false → is_word called (codes "PDELCHAN") ≡ false → is_word called (codes "CHANS") ≡ false → is_word called (codes "SUBSCRIBE") ≡ false → is_word called (codes "PSUBSCRIBE") ≡ false → is_word called (codes "SETCHAN") ≡ false → readings (called ∷ []) ≡ []
+unfolding readings
+nothing_goes called w_set w_get w_del w_fset w_fget w_expire w_persist w_ttl w_pdel w_drop w_keys w_bounds w_stats w_flush w_ping w_quit w_scan w_within w_intersects w_nearby w_shrink w_delchan w_pdelchan w_chans w_subscribe w_psubscribe w_setchan = rw (w_set, w_get, w_del, w_fset, w_fget, w_expire, w_persist, w_ttl, w_pdel, w_drop, w_keys, w_bounds, w_stats, w_flush, w_ping, w_quit, w_scan, w_within, w_intersects, w_nearby, w_shrink, w_delchan, w_pdelchan, w_chans, w_subscribe, w_psubscribe, w_setchan) refl
 
-pub not_known : (p : Place) (called : Bytes) (why : CommandFault) → p.read ≡ called ∷ [] → IsNoName called → list_any (is_word called) unbuilt ≡ false → IsFault (fault.Unknown (shown_of called)) why → Answers (all_words p) (Err why)
-not_known p called why r n u (inl m) = inl m
-not_known p called why r n u (inr e) = inr (rw (e, r) (ap answered (unknown called p.left n (none_is called unbuilt u))))
+unknown : (called : Bytes) (rest : List Bytes) → IsNoName called → is_word called (codes "SETCHAN") ≡ false → reads (called ∷ rest) ≡ Err (fault.Unknown (shown_of called))
+unknown called rest n setchan = stopped [] called rest nothing_starts (shut_by (called ∷ []) (nothing_goes called n.0 n.1.0 n.1.1.0 n.1.1.1.0 n.1.1.1.1.0 n.1.1.1.1.1.0 n.1.1.1.1.1.1.0 n.1.1.1.1.1.1.1.0 n.1.1.1.1.1.1.1.1.0 n.1.1.1.1.1.1.1.1.1.0 n.1.1.1.1.1.1.1.1.1.1.0 n.1.1.1.1.1.1.1.1.1.1.1.0 n.1.1.1.1.1.1.1.1.1.1.1.1.0 n.1.1.1.1.1.1.1.1.1.1.1.1.1.0 n.1.1.1.1.1.1.1.1.1.1.1.1.1.1.0 n.1.1.1.1.1.1.1.1.1.1.1.1.1.1.1.0 n.1.1.1.1.1.1.1.1.1.1.1.1.1.1.1.1.0 n.1.1.1.1.1.1.1.1.1.1.1.1.1.1.1.1.1.0 n.1.1.1.1.1.1.1.1.1.1.1.1.1.1.1.1.1.1.0 n.1.1.1.1.1.1.1.1.1.1.1.1.1.1.1.1.1.1.1.0 n.1.1.1.1.1.1.1.1.1.1.1.1.1.1.1.1.1.1.1.1.0 n.1.1.1.1.1.1.1.1.1.1.1.1.1.1.1.1.1.1.1.1.1.0 n.1.1.1.1.1.1.1.1.1.1.1.1.1.1.1.1.1.1.1.1.1.1.0 n.1.1.1.1.1.1.1.1.1.1.1.1.1.1.1.1.1.1.1.1.1.1.1.0 n.1.1.1.1.1.1.1.1.1.1.1.1.1.1.1.1.1.1.1.1.1.1.1.1.0 n.1.1.1.1.1.1.1.1.1.1.1.1.1.1.1.1.1.1.1.1.1.1.1.1.1.0 setchan))
+
+pub not_known : (called : Bytes) (rest : List Bytes) (why : CommandFault) → IsNoName called → is_word called (codes "SETCHAN") ≡ false → IsFault (fault.Unknown (shown_of called)) why → Answers (called ∷ rest) (Err why)
+not_known called rest why n s (inl m) = inl m
+not_known called rest why n s (inr e) = inr (rw e (ap answered (unknown called rest n s)))
+
+pub no_words : (why : CommandFault) → IsFault (wrong_count []) why → Answers [] (Err why)
+no_words why (inl m) = inl m
+no_words why (inr e) = inr (rw e (ap answered nothing_spelled))

@@ -1,7 +1,7 @@
 pub mod Follows
 pub mod Lefts
 pub mod Gets
-pub mod Stats
+pub mod NameLists
 pub mod Binds
 pub mod Ahead
 pub mod OptionWords
@@ -21,4 +21,4 @@ pub mod SearchWords
 pub mod ScanWords
 pub mod AreaWords
 pub mod SearchCommands
-pub mod Called
+pub mod Others

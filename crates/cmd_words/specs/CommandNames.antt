@@ -1,4 +1,4 @@
--- The names of the commands that are served.
+-- The names of the commands.
 use Rattle.std.specs.Prelude.{◌≡◌, false, List, [], ◌∷◌, codes}
 use Rattle.std.specs.List.{AllByRecursion}
 use Rattle.byte_text.specs.Names.{Bytes, is_word}
@@ -26,9 +26,16 @@ name_of command.Scan = codes "SCAN"
 name_of command.Within = codes "WITHIN"
 name_of command.Intersects = codes "INTERSECTS"
 name_of command.Nearby = codes "NEARBY"
+name_of command.Shrink = codes "AOFSHRINK"
+name_of command.Delchan = codes "DELCHAN"
+name_of command.Pdelchan = codes "PDELCHAN"
+name_of command.Chans = codes "CHANS"
+name_of command.Subscribe = codes "SUBSCRIBE"
+name_of command.Psubscribe = codes "PSUBSCRIBE"
 
 abbrev pub all_names : List CommandName
-all_names = command.Set ∷ command.Get ∷ command.Del ∷ command.Fset ∷ command.Fget ∷ command.Expire ∷ command.Persist ∷ command.Ttl ∷ command.Pdel ∷ command.Drop ∷ command.Keys ∷ command.Bounds ∷ command.Stats ∷ command.Flush ∷ command.Ping ∷ command.Quit ∷ command.Scan ∷ command.Within ∷ command.Intersects ∷ command.Nearby ∷ []
+all_names = command.Set ∷ command.Get ∷ command.Del ∷ command.Fset ∷ command.Fget ∷ command.Expire ∷ command.Persist ∷ command.Ttl ∷ command.Pdel ∷ command.Drop ∷ command.Keys ∷ command.Bounds ∷ command.Stats ∷ command.Flush ∷ command.Ping ∷ command.Quit ∷ command.Scan ∷ command.Within ∷ command.Intersects ∷ command.Nearby
+    ∷ command.Shrink ∷ command.Delchan ∷ command.Pdelchan ∷ command.Chans ∷ command.Subscribe ∷ command.Psubscribe ∷ []
 
 -- the word is the name of none of these commands
 abbrev pub AreOthers : Bytes → List CommandName → Type 0
@@ -36,3 +43,8 @@ AreOthers called commands = AllByRecursion (λ c. is_word called (name_of c) ≡
 
 abbrev pub IsNoName : Bytes → Type 0
 IsNoName called = AreOthers called all_names
+
+-- the first word is no name of a command whose words are not read yet
+abbrev pub IsRead : List Bytes → Type 0
+IsRead [] = Unit {0}
+IsRead (called ∷ words) = is_word called (codes "SETCHAN") ≡ false

@@ -7,3 +7,4 @@ pub mod Searches
 pub mod Laws
 pub mod ShortRequests
 pub mod CommandNames
+pub mod NameLists

@@ -1,9 +1,7 @@
 -- How far the words of a request were read, and what may follow.
 use Rattle.std.specs.Prelude.{◌&&◌, ◌≡◌, ◌⊎◌, ◌<◌, ◌≤◌, Bool, true, false, List, [], ◌∷◌, ◌++◌, length, Option, Some, None, Result, Ok, Err, codes, ℕ, ℤ, take, drop, if◌then◌else◌}
 use Rattle.byte_text.specs.Names.{Bytes, is_word, is_name}
-use Rattle.std.specs.List.{list_any}
 use Rattle.byte_text.specs.Globs.{is_well_formed}
-use Rattle.world_model.specs.Served.{unbuilt}
 use Rattle.world_model.specs.Grammar.{Form, Reading, spells, runs_out, Due, a_word, a_coordinate, a_geojson, ◌>>=◌, ◌>>◌, ◌or◌, done, maybe, repeated, word, live}
 use Rattle.world_model.specs.FormLaws.{Each}
 use Rattle.planar_geom.specs.Points.{Bounds, bounds, pt}
@@ -208,16 +206,6 @@ name_of w = when (is_name w) w
 abbrev pub place_at : List Bytes → ℕ → Place
 place_at words n = record { read = take n words; left = drop n words }
 
--- STATS: one more key, and the keys behind the first
-abbrev pub key_step : List Bytes → Form (List Bytes)
-key_step keys = name >>= λ key. done (keys ++ key ∷ [])
-
-abbrev pub stats_more : List Bytes → Form Command
-stats_more keys = repeated key_step keys >>= λ all. done (command.Stats all)
-
-abbrev pub stats_names : Form Command
-stats_names = a_name (λ key. stats_more (key ∷ []))
-
 -- the next word is refused where another is due; or the words ran out
 abbrev pub IsRefusal : List Bytes → List Bytes → CommandFault → Type 0
 IsRefusal words [] why = IsFault (wrong_count words) why
@@ -226,7 +214,3 @@ IsRefusal words (w ∷ left) why = IsFault (fault.Invalid (shown_of w)) why
 -- the pattern that a word is
 abbrev pub glob_of : Bytes → Option Bytes
 glob_of w = when (is_name w && is_well_formed w) w
-
--- how a word is refused that is the name of no command that is served
-abbrev pub fault_of_no_name : Bytes → WordFault
-fault_of_no_name called = if list_any (is_word called) unbuilt then fault.Unserved else fault.Unknown (shown_of called)

@@ -1,8 +1,8 @@
-//! The table of the commands that are served, by their names.
+//! The table of the commands, by their names.
 
 ghost use Rattle.std.specs.Prelude.{◌≡◌, true, IfSome, IfNone};
 ghost use Rattle.byte_text.specs.Names.{is_word};
-ghost use Rattle.cmd_words.specs.CommandNames.{name_of, IsNoName};
+ghost use Rattle.cmd_words.specs.CommandNames.{name_of, AreOthers, IsNoName};
 
 /// A command, as its name calls it.
 #[derive(Clone, Copy)]
@@ -27,10 +27,16 @@ pub(crate) enum CommandName {
     Within,
     Intersects,
     Nearby,
+    Shrink,
+    Delchan,
+    Pdelchan,
+    Chans,
+    Subscribe,
+    Psubscribe,
 }
 
 // Those that are called most come first.
-const COMMANDS: [CommandName; 20] = [
+const COMMANDS: [CommandName; 26] = [
     CommandName::Set,
     CommandName::Get,
     CommandName::Del,
@@ -51,6 +57,12 @@ const COMMANDS: [CommandName; 20] = [
     CommandName::Within,
     CommandName::Intersects,
     CommandName::Nearby,
+    CommandName::Shrink,
+    CommandName::Delchan,
+    CommandName::Pdelchan,
+    CommandName::Chans,
+    CommandName::Subscribe,
+    CommandName::Psubscribe,
 ];
 
 impl CommandName {
@@ -79,6 +91,12 @@ impl CommandName {
             CommandName::Within => b"WITHIN",
             CommandName::Intersects => b"INTERSECTS",
             CommandName::Nearby => b"NEARBY",
+            CommandName::Shrink => b"AOFSHRINK",
+            CommandName::Delchan => b"DELCHAN",
+            CommandName::Pdelchan => b"PDELCHAN",
+            CommandName::Chans => b"CHANS",
+            CommandName::Subscribe => b"SUBSCRIBE",
+            CommandName::Psubscribe => b"PSUBSCRIBE",
         }
     }
 }
@@ -88,9 +106,17 @@ pub(crate) fn command_named(called: &[u8]) -> Option<CommandName>
     ensures some { IfSome result (λ command. is_word called.now (name_of command) ≡ true) }
     ensures none { IfNone result (IsNoName called.now) }
 {
-    for command in COMMANDS {
+    named_among(called, &COMMANDS)
+}
+
+// The first of these commands that a word calls.
+fn named_among(called: &[u8], commands: &[CommandName]) -> Option<CommandName>
+    ensures some { IfSome result (λ command. is_word called.now (name_of command) ≡ true) }
+    ensures none { IfNone result (AreOthers called.now commands.now) }
+{
+    for command in commands {
         if called.eq_ignore_ascii_case(command.word()) {
-            return Some(command);
+            return Some(*command);
         }
     }
     None

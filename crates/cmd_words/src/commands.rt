@@ -5,45 +5,43 @@ ghost use Rattle.std.specs.List.{list_any};
 ghost use Rattle.byte_text.specs.Names.{Bytes, is_word};
 ghost use Rattle.world_model.specs.Grammar.{done};
 ghost use Rattle.world_model.specs.declared.commands.Command.TheVariants as command;
-ghost use Rattle.world_model.specs.Served.{asks, unbuilt};
-ghost use Rattle.cmd_words.specs.CommandNames.{name_of};
-ghost use Rattle.cmd_words.specs.Progress.{IfRefused, all_words, Follows, Answers, a_name, key_and_id, get_options, stats_names, IsFault, fault_of_no_name};
+ghost use Rattle.world_model.specs.Commands.{reads};
+ghost use Rattle.world_model.specs.Served.{asks, is_served, unbuilt};
+ghost use Rattle.cmd_words.specs.CommandNames.{name_of, IsRead};
+ghost use Rattle.cmd_words.specs.Progress.{IfRefused, all_words, Follows, Answers, a_name, key_and_id, get_options};
 
 use crate::command_names::{CommandName, command_named};
 use crate::faults::{CommandFault, unknown};
-use crate::fields::push_name;
+use crate::name_lists::{psubscribe_command, stats_command, subscribe_command};
 use crate::objects::{expire_command, fget_command, fset_command, persist_command, ttl_command};
-use crate::patterns::{keys_command, pdel_command};
+use crate::patterns::{chans_command, keys_command, pdel_command, pdelchan_command};
 use crate::request_reader::Reader;
 use crate::scans::scan_command;
 use crate::searches::{nearby_command, search_command};
 use crate::sets::set_command;
-use crate::word_kinds::read_name;
 use byte_text::Request;
 use std::alloc::Global;
 use world_data::Kind;
-use world_model::{Command, NameList, Shown, WordFault};
+use world_model::{Command, Shown, WordFault};
 
-/// The command that the words of a request spell, or how they are refused.
+/// The command that the words of a request ask for, or how they are refused: as not served yet where their first word is the name
+/// of a command that is not, and else as [`read_command`] says.
 pub fn command_of(alloc: Global, words: &Request) -> Result<Command, CommandFault>
     ensures ok { IfOk result (λ c. asks words.now ≡ Ok c) }
     ensures err { IfErr result (λ why. IfRefused why (λ fault. asks words.now ≡ Err fault)) }
 {
-    let mut reader = Reader::new(alloc, words);
-    let Some(called) = reader.next() else {
-        return Err(CommandFault::Refused(WordFault::Unserved));
-    };
-    match command_named(called) {
-        Some(name) => read_named(&mut reader, name),
-        None => Err(unnamed(alloc, called)),
+    if is_served(words) {
+        read_command(alloc, words)
+    } else {
+        Err(CommandFault::Refused(WordFault::Unserved))
     }
 }
 
-// Whether this is one of these names, in any case of its ASCII letters.
-fn is_any(called: &[u8], names: &[&[u8]]) -> bool
-    ensures { result ≡ list_any (λ n. is_word called.now n.now) names.now }
+// Whether the first word is no name of a command that is not served yet.
+fn is_served(words: &Request) -> bool
+    ensures { result ≡ is_served words.now }
 {
-    names.iter().any(|name| called.eq_ignore_ascii_case(name))
+    words.words() > 0 && !is_unbuilt(words.word(0))
 }
 
 // Whether this is the name of a command that is not built yet.
@@ -62,14 +60,25 @@ fn is_unbuilt(called: &[u8]) -> bool
     is_any(called, &names)
 }
 
-// How a word is refused that calls no command that is served.
-fn unnamed(alloc: Global, called: &[u8]) -> CommandFault
-    ensures { IsFault (fault_of_no_name called.now) result }
+// Whether this is one of these names, in any case of its ASCII letters.
+fn is_any(called: &[u8], names: &[&[u8]]) -> bool
+    ensures { result ≡ list_any (λ n. is_word called.now n.now) names.now }
 {
-    if is_unbuilt(called) {
-        CommandFault::Refused(WordFault::Unserved)
-    } else {
-        unknown(alloc, called)
+    names.iter().any(|name| called.eq_ignore_ascii_case(name))
+}
+
+/// The command that the words of a request spell, or how they are refused, whether it is served or not.
+pub(crate) fn read_command(alloc: Global, words: &Request) -> Result<Command, CommandFault>
+    ensures ok { IsRead words.now → IfOk result (λ c. reads words.now ≡ Ok c) }
+    ensures err { IsRead words.now → IfErr result (λ why. IfRefused why (λ fault. reads words.now ≡ Err fault)) }
+{
+    let mut reader = Reader::new(alloc, words);
+    let Some(called) = reader.next() else {
+        return Err(reader.wrong_count());
+    };
+    match command_named(called) {
+        Some(name) => read_named(&mut reader, name),
+        None => Err(unknown(alloc, called)),
     }
 }
 
@@ -98,6 +107,12 @@ fn read_named(reader: &mut Reader, name: CommandName) -> Result<Command, Command
         CommandName::Within => search_command(reader, Kind::Within),
         CommandName::Intersects => search_command(reader, Kind::Intersects),
         CommandName::Nearby => nearby_command(reader),
+        CommandName::Shrink => shrink_command(reader),
+        CommandName::Delchan => delchan_command(reader),
+        CommandName::Pdelchan => pdelchan_command(reader),
+        CommandName::Chans => chans_command(reader),
+        CommandName::Subscribe => subscribe_command(reader),
+        CommandName::Psubscribe => psubscribe_command(reader),
     }
 }
 
@@ -152,18 +167,13 @@ fn bounds_command(reader: &mut Reader) -> Result<Command, CommandFault>
     Ok(Command::Bounds { key })
 }
 
-// `key+`
-fn stats_command(reader: &mut Reader) -> Result<Command, CommandFault>
-    ensures { Follows reader.old stats_names → Answers (all_words reader.old) result }
+// `name`
+fn delchan_command(reader: &mut Reader) -> Result<Command, CommandFault>
+    ensures { Follows reader.old (a_name (λ name. done (command.Delchan name))) → Answers (all_words reader.old) result }
 {
-    let mut keys = NameList::new(reader.alloc());
-    let first = reader.name()?;
-    push_name(&mut keys, first)?;
-    'keys: while let Some(word) = reader.next() {
-        let key = read_name(reader.alloc(), word)?;
-        push_name(&mut keys, key)?;
-    }
-    Ok(Command::Stats { keys })
+    let name = reader.name()?;
+    reader.end()?;
+    Ok(Command::Delchan { name })
 }
 
 // no word
@@ -172,6 +182,14 @@ fn flush_command(reader: &Reader) -> Result<Command, CommandFault>
 {
     reader.end()?;
     Ok(Command::Flush)
+}
+
+// no word
+fn shrink_command(reader: &Reader) -> Result<Command, CommandFault>
+    ensures { Follows reader.now (done command.Shrink) → Answers (all_words reader.now) result }
+{
+    reader.end()?;
+    Ok(Command::Shrink)
 }
 
 // no word

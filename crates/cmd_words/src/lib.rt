@@ -8,6 +8,7 @@ mod conditions;
 mod faults;
 mod fields;
 mod laws;
+mod name_lists;
 mod object_places;
 mod objects;
 mod patterns;

@@ -29,3 +29,21 @@ pub(crate) fn keys_command(reader: &mut Reader) -> Result<Command, CommandFault>
     reader.end()?;
     Ok(Command::Keys { glob })
 }
+
+/// `pattern`
+pub(crate) fn pdelchan_command(reader: &mut Reader) -> Result<Command, CommandFault>
+    ensures { Follows reader.old (a_form kinds.glob (λ pattern. done (command.Pdelchan pattern))) → Answers (all_words reader.old) result }
+{
+    let glob = reader.glob()?;
+    reader.end()?;
+    Ok(Command::Pdelchan { glob })
+}
+
+/// `pattern`
+pub(crate) fn chans_command(reader: &mut Reader) -> Result<Command, CommandFault>
+    ensures { Follows reader.old (a_form kinds.glob (λ pattern. done (command.Chans pattern))) → Answers (all_words reader.old) result }
+{
+    let glob = reader.glob()?;
+    reader.end()?;
+    Ok(Command::Chans { glob })
+}

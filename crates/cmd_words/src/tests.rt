@@ -1,5 +1,6 @@
 //! Lines of words, read.
 
+use crate::commands::read_command;
 use crate::{CommandFault, command_of};
 use byte_text::{Name, NoMemory, Request, Text, push_i64, push_u64};
 use geojson_model::GeoFault;
@@ -224,6 +225,35 @@ fn push_wider(out: &mut Text, command: &Command) -> Result<(), NoMemory> {
             out.push(key.bytes())?;
             push_query(out, query)
         }
+        _ => push_channels(out, command),
+    }
+}
+
+// A word, and names behind it.
+fn push_names(out: &mut Text, called: &str, names: &NameList) -> Result<(), NoMemory> {
+    out.push(called.as_bytes())?;
+    for at in 0..names.len() {
+        out.push(b" ")?;
+        out.push(names.at(at).bytes())?;
+    }
+    Ok(())
+}
+
+// A word, and a name behind it.
+fn push_one(out: &mut Text, called: &str, name: &Name) -> Result<(), NoMemory> {
+    out.push(called.as_bytes())?;
+    out.push(name.bytes())
+}
+
+// A command of channels or of subscriptions.
+fn push_channels(out: &mut Text, command: &Command) -> Result<(), NoMemory> {
+    match command {
+        Command::Delchan { name } => push_one(out, "delchan ", name),
+        Command::Pdelchan { glob } => push_one(out, "pdelchan ", glob),
+        Command::Chans { glob } => push_one(out, "chans ", glob),
+        Command::Subscribe { names } => push_names(out, "subscribe", names),
+        Command::Psubscribe { globs } => push_names(out, "psubscribe", globs),
+        Command::Shrink => out.push(b"shrink"),
         _ => push_search(out, command),
     }
 }
@@ -302,7 +332,7 @@ fn push_answer(out: &mut Text, read: &Result<Command, CommandFault>) -> Result<(
 }
 
 fn push_read(alloc: Global, out: &mut Text, words: &Request) -> Result<(), NoMemory> {
-    let read = command_of(alloc, words);
+    let read = read_command(alloc, words);
     push_answer(out, &read)
 }
 
@@ -392,7 +422,6 @@ fn others_are_read(rt: HostRuntime) -> Result<(), Fail> {
         ("PING x", "wrong count ping"),
         ("quit", "quit"),
         ("QUIT now", "wrong count quit"),
-        ("SUBSCRIBE z", "not served"),
         ("SETS k a POINT 1 2", "unknown SETS"),
         ("", "unknown "),
     ];
@@ -448,6 +477,45 @@ fn scans_are_read(rt: HostRuntime) -> Result<(), Fail> {
         ("SCAN", "wrong count scan"),
     ];
     lines_are_read(rt.alloc(), &table)
+}
+
+#[test]
+fn channels_are_read(rt: HostRuntime) -> Result<(), Fail> {
+    let table = [
+        ("delchan z", "delchan z"),
+        ("DELCHAN", "wrong count delchan"),
+        ("DELCHAN a b", "wrong count delchan"),
+        ("PDELCHAN z*", "pdelchan z*"),
+        ("Chans *", "chans *"),
+        ("CHANS [", "invalid ["),
+        ("CHANS * *", "wrong count chans"),
+        ("aofshrink", "shrink"),
+        ("AOFSHRINK now", "wrong count aofshrink"),
+        ("subscribe a b a", "subscribe a b a"),
+        ("SUBSCRIBE", "wrong count subscribe"),
+        ("SUBSCRIBE a ", "invalid "),
+        ("PSUBSCRIBE a* *", "psubscribe a* *"),
+        ("PSUBSCRIBE a* [ b*", "invalid ["),
+    ];
+    lines_are_read(rt.alloc(), &table)
+}
+
+// Whether a line asks for what is not served yet.
+fn is_unserved(alloc: Global, line: &str) -> Result<bool, Fail> {
+    let words = request(alloc, line)?;
+    Ok(matches!(
+        command_of(alloc, &words),
+        Err(CommandFault::Refused(WordFault::Unserved))
+    ))
+}
+
+#[test]
+fn some_commands_are_not_served(rt: HostRuntime) -> Result<(), Fail> {
+    assert!(rt; is_unserved(rt.alloc(), "Subscribe z")?);
+    assert!(rt; is_unserved(rt.alloc(), "SETCHAN")?);
+    assert!(rt; !is_unserved(rt.alloc(), "PING")?);
+    assert!(rt; !is_unserved(rt.alloc(), "SETS z")?);
+    Ok(())
 }
 
 #[test]

@@ -1,3 +1,4 @@
 pub mod OneLine
 pub mod WholeReplies
 pub mod FieldParts
+pub mod WordParts

@@ -1,5 +1,5 @@
 -- Which replies are whole and clean.
-use Rattle.std.proofs.Common.{◌≡◌, ◌≢◌, ℕ, ◌+◌, suc, Bool, true, false, List, [], ◌∷◌, ◌++◌, length, flat_map, subst, arith, refl, ap, ◌<◌, length-append}
+use Rattle.std.proofs.Common.{◌≡◌, ◌≢◌, ℕ, ◌+◌, suc, Bool, true, false, List, [], ◌∷◌, ◌++◌, length, map, flat_map, subst, arith, refl, ap, ◌<◌, length-append}
 use Rattle.std.specs.Prelude.{if◌then◌else◌, decimal}
 use Rattle.std.specs.List.{AllByRecursion}
 use Rattle.std.specs.Fmt.{signed_decimal}
@@ -9,7 +9,8 @@ use Rattle.byte_text.specs.Replies.{piece_text, frame_text, AreReplies, IsWhole,
 use Rattle.byte_text.specs.declared.replies.Piece.{Piece}
 use Rattle.byte_text.specs.declared.replies.Piece.TheVariants as piece
 use Rattle.world_data.specs.Filters.{Field}
-use Rattle.world_model.specs.Replies.{number_text, fields_reply, fields_part, is_ids, item_reply, object_reply}
+use Rattle.world_model.specs.Replies.{number_text, fields_reply, fields_part, is_ids, item_reply, object_reply, channel_reply}
+use Rattle.world_data.specs.declared.channels.Channel.{Channel}
 use Rattle.world_data.specs.declared.objects.Object.{Object}
 use Rattle.world_data.specs.declared.queries.Query.{Query}
 use Rattle.world_data.specs.declared.queries.Shown.{Shown}
@@ -71,6 +72,13 @@ pub item_frame : Next → Listed → (q : Query) (o : Object) → q.shown ≢ sh
 item_frame next list q o h =
     one_of (is_ids q.shown) _ _ (bulk_frame o.id)
     (array_frame next list (bulk o.id ∷ object_reply q.shown o ∷ fields_part q.bare o.fields) (bulk_frame o.id, (object_frame q.shown o h, part_frames next list q.bare o.fields)))
+
+words_frames : (words : List Bytes) → AllByRecursion IsFrame (map bulk words)
+words_frames [] = tt
+words_frames (w ∷ words) = (bulk_frame w, words_frames words)
+
+pub channel_frame : Next → Listed → (c : Channel) → IsFrame (channel_reply c)
+channel_frame next list c = array_frame next list (bulk c.name ∷ bulk c.fence.key ∷ array (map bulk c.words) ∷ []) (bulk_frame c.name, (bulk_frame c.fence.key, (array_frame next list (map bulk c.words) (words_frames c.words), tt)))
 
 -- a frame has a byte at least
 

@@ -5,14 +5,15 @@ ghost use Rattle.byte_text.specs.Replies.{array, bulk, number, frame_text, piece
 ghost use Rattle.byte_text.specs.declared.replies.Piece.{Piece};
 ghost use Rattle.byte_text.specs.declared.replies.Piece.TheVariants as piece;
 ghost use Rattle.world_data.specs.Limits.{max_reply};
-ghost use Rattle.world_model.specs.Replies.{item_reply};
+ghost use Rattle.world_model.specs.Replies.{item_reply, channel_reply};
 
+use crate::channels::channel_reply;
 use crate::frames::ReplyFault;
 use crate::objects::{item_reply, name_reply};
 use byte_text::{Name, NoMemory, Reply, Text, push_frame, push_u64};
 use std::alloc::Global;
 use std::marker::Model;
-use world_data::MAX_REPLY;
+use world_data::{Channel, MAX_REPLY};
 use world_model::{Object, Query, Shown};
 
 /// The frames of items, one behind another, while the array of them is made. As texts they take no more memory than the reply, and
@@ -75,6 +76,22 @@ impl ItemFrames {
         ensures err { OnErr result (self.new ≡ self.old) }
     {
         let item = name_reply(self.alloc, name)?;
+        self.push(&item)
+    }
+
+    /// Puts a channel last: its name, its key and its normal words. TooLong where the items alone are longer than a reply may be. The
+    /// items are as before then, and for want of memory.
+    pub fn push_channel(&mut self, channel: &Channel) -> Result<(), ReplyFault>
+        ensures ok { OnOk result (self.new ≡ record {
+          text = self.old.text ++ frame_text (channel_reply channel.now);
+          count = self.old.count + 1;
+        }) }
+        ensures short { OnOk result (length self.new.text ≤ max_reply) }
+        ensures too_long { IfErr result (λ f. f ≡ ReplyFault.TooLong
+            → max_reply < length (self.old.text ++ frame_text (channel_reply channel.now))) }
+        ensures err { OnErr result (self.new ≡ self.old) }
+    {
+        let item = channel_reply(self.alloc, channel)?;
         self.push(&item)
     }
 

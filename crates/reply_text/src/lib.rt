@@ -1,6 +1,7 @@
 //! Replies, and the text of their frames.
 #![tactic(auto)]
 
+mod channels;
 mod drafts;
 mod frames;
 mod items;
@@ -9,6 +10,7 @@ mod objects;
 mod refusals;
 mod replies;
 
+pub use channels::confirmation_reply;
 pub use frames::{ReplyFault, push_reply};
 pub use items::ItemFrames;
 pub use lists::ReplyList;

@@ -4,11 +4,12 @@ ghost use Rattle.std.specs.Prelude.{◌≢◌};
 ghost use Rattle.byte_text.specs.Replies.{IsFrame};
 
 use super::*;
-use byte_text::{Name, NoMemory, Piece, Reply, RespFault, Text};
+use byte_text::{Name, NoMemory, Piece, Reply, Request, RespFault, Text};
 use geo_text::GeoFault;
-use planar_geom::{BBox, Line, Part, Parts, Points, Pt, Shape};
+use planar_geom::{Area, BBox, Line, Part, Parts, Points, Pt, Shape};
 use std::alloc::Global;
 use std::test::Fail;
+use world_data::{Channel, Fence, Kind, Wanted, Watch};
 use world_model::{Fields, Object, Query, Refusal, Rule, Shown, Tests, WordFault};
 
 fn text_of(alloc: Global, bytes: &[u8]) -> Result<Text, NoMemory> {
@@ -150,6 +151,65 @@ fn items(rt: HostRuntime) -> Result<(), Fail> {
     assert_eq!(rt;
         names.array(alloc)?.bytes(),
         b"*2\r\n$1\r\na\r\n$1\r\nb\r\n".as_slice()
+    );
+    Ok(())
+}
+
+// A channel of this name, of which the first of the normal words is given.
+fn channel(alloc: Global, name: &[u8]) -> Result<Channel, Fail> {
+    let Some(area) = BBox::of(point(1, 2)?, point(3, 4)?) else {
+        return Err(Fail::from("a box"));
+    };
+    let mut words = Request::new(alloc);
+    words.push(b"WITHIN")?;
+    Ok(Channel {
+        name: Name::of(alloc, name)?,
+        fence: Fence {
+            key: Name::of(alloc, b"fleet")?,
+            glob: None,
+            tests: Tests::new(alloc),
+            wanted: Wanted {
+                inside: true,
+                outside: true,
+                enter: true,
+                exit: true,
+                cross: true,
+                set: true,
+                del: true,
+                drop: true,
+            },
+            watch: Watch::Spot(Kind::Within, Area::Rect(area)),
+        },
+        words,
+    })
+}
+
+#[test]
+fn channels(rt: HostRuntime) -> Result<(), Fail> {
+    let alloc = rt.alloc();
+    let mut items = ItemFrames::new(alloc);
+    items.push_channel(&channel(alloc, b"y")?)?;
+    items.push_channel(&channel(alloc, b"z")?)?;
+    assert_eq!(rt;
+        items.array(alloc)?.bytes(),
+        b"*2\r\n*3\r\n$1\r\ny\r\n$5\r\nfleet\r\n*1\r\n$6\r\nWITHIN\r\n*3\r\n$1\r\nz\r\n$5\r\nfleet\r\n*1\r\n$6\r\nWITHIN\r\n".as_slice()
+    );
+    Ok(())
+}
+
+#[test]
+fn confirmations(rt: HostRuntime) -> Result<(), Fail> {
+    let alloc = rt.alloc();
+    let all = Name::of(alloc, b"*")?;
+    let name = confirmation_reply(alloc, false, &all, 1)?;
+    assert_eq!(rt;
+        line(alloc, &name)?.bytes(),
+        b"*3\r\n$9\r\nsubscribe\r\n$1\r\n*\r\n:1\r\n".as_slice()
+    );
+    let pattern = confirmation_reply(alloc, true, &all, 2)?;
+    assert_eq!(rt;
+        line(alloc, &pattern)?.bytes(),
+        b"*3\r\n$10\r\npsubscribe\r\n$1\r\n*\r\n:2\r\n".as_slice()
     );
     Ok(())
 }

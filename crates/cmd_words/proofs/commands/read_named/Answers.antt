@@ -1,4 +1,4 @@
-use Rattle.cmd_words.proofs.Heads.{set_head, get_head, del_head, fset_head, fget_head, expire_head, persist_head, ttl_head, pdel_head, drop_head, keys_head, bounds_head, stats_head, flush_head, ping_head, quit_head, scan_head, within_head, intersects_head, nearby_head}
+use Rattle.cmd_words.proofs.Heads.{set_head, get_head, del_head, fset_head, fget_head, expire_head, persist_head, ttl_head, pdel_head, drop_head, keys_head, bounds_head, stats_head, flush_head, ping_head, quit_head, scan_head, within_head, intersects_head, nearby_head, shrink_head, delchan_head, pdelchan_head, chans_head, subscribe_head, psubscribe_head}
 use Rattle.cmd_words.proofs.commands.read_named.Goals as goal
 
 pub returns-in-Set : goal.returns-in-Set
@@ -60,3 +60,21 @@ returns-in-Intersects c = λ called read named. c.search_command-in-Intersects.e
 
 pub returns-in-Nearby : goal.returns-in-Nearby
 returns-in-Nearby c = λ called read named. c.nearby_command.ensures (nearby_head called c.args.reader.now read (rw c.in-Nearby.is at named))
+
+pub returns-in-Shrink : goal.returns-in-Shrink
+returns-in-Shrink c = λ called read named. c.shrink_command.ensures (shrink_head called c.args.reader.now read (rw c.in-Shrink.is at named))
+
+pub returns-in-Delchan : goal.returns-in-Delchan
+returns-in-Delchan c = λ called read named. c.delchan_command.ensures (delchan_head called c.args.reader.now read (rw c.in-Delchan.is at named))
+
+pub returns-in-Pdelchan : goal.returns-in-Pdelchan
+returns-in-Pdelchan c = λ called read named. c.pdelchan_command.ensures (pdelchan_head called c.args.reader.now read (rw c.in-Pdelchan.is at named))
+
+pub returns-in-Chans : goal.returns-in-Chans
+returns-in-Chans c = λ called read named. c.chans_command.ensures (chans_head called c.args.reader.now read (rw c.in-Chans.is at named))
+
+pub returns-in-Subscribe : goal.returns-in-Subscribe
+returns-in-Subscribe c = λ called read named. c.subscribe_command.ensures (subscribe_head called c.args.reader.now read (rw c.in-Subscribe.is at named))
+
+pub returns-in-Psubscribe : goal.returns-in-Psubscribe
+returns-in-Psubscribe c = λ called read named. c.psubscribe_command.ensures (psubscribe_head called c.args.reader.now read (rw c.in-Psubscribe.is at named))

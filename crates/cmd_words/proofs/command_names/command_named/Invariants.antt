@@ -1,6 +1,0 @@
-use Rattle.std.proofs.Common.{take}
-use Rattle.cmd_words.specs.CommandNames.{AreOthers}
-use Rattle.cmd_words.proofs.command_names.command_named.Given as goal
-
-abbrev pub invariant-loop-command : goal.invariant-loop-command
-invariant-loop-command l = AreOthers l.called (take l.command-index l.command-items)
