@@ -1,2 +1,4 @@
-pub mod Counts
 pub mod Boxes
+pub mod Least
+pub mod Rooms
+pub mod Slots

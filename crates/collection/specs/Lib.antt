@@ -1,3 +1,3 @@
 pub mod Objects
-pub mod Deadlines
 pub mod IdOrder
+pub mod Slotted
