@@ -1,5 +1,5 @@
 -- Room for an object that is not there yet.
-use Rattle.std.proofs.Common.{◌≡◌, ◌≤◌, ℕ, Bool, true, false, refl, List, [], ◌∷◌, arith}
+use Rattle.std.proofs.Common.{◌≡◌, ◌≤◌, ◌+◌, ◌-◌, ℕ, min, Bool, true, false, refl, List, [], ◌∷◌, arith}
 use Rattle.std.specs.Prelude.{Some, None, find, nat_le, ◌||◌}
 use Rattle.std.specs.List.{list_any}
 use Rattle.std.proofs.lemmas.Bool.Decides.{nat_tests}
@@ -15,3 +15,8 @@ none_any q (x ∷ xs) e = none_first q x xs (q x) refl (none_any q xs) e
 
 pub room_left : (spare : ℕ) (b : Bool) → (nat_le 1 spare || b) ≡ true → b ≡ false → 1 ≤ spare
 room_left spare b room e = grind (arith, nat_tests)
+
+-- the room where an object was taken out
+pub room_removed : (used left capacity spare spare-after total total-after keys keys-after : ℕ) → left + 1 ≡ used → left + 1 ≤ capacity → spare-after ≡ spare + 1 → total-after ≡ total → keys-after + 1 ≡ keys → keys ≤ total
+    → min (min (capacity - left) spare-after) (total-after - keys-after) ≡ min (min (capacity - used) spare) (total - keys) + 1
+room_removed used left capacity spare spare-after total total-after keys keys-after a b c d e f = omega (arith, a, b, c, d, e, f)

@@ -16,7 +16,7 @@ use Rattle.collection.specs.Slotted.{objects_at, are_stored, are_apart, AreSlott
 neither : (a b : Bool) → (a || b) ≡ false → (a ≡ false) × (b ≡ false)
 neither a b e = (grind arith, grind arith)
 
-some_of : (o : Option Object) → is_some o ≡ true → (x : Object) × (o ≡ Some x)
+pub some_of : (o : Option Object) → is_some o ≡ true → (x : Object) × (o ≡ Some x)
 some_of None e = absurd (cc)
 some_of (Some x) e = (x, refl)
 

@@ -1,9 +1,10 @@
 -- Objects in slots, in the order of a list of keys.
-use Rattle.std.specs.Prelude.{ℕ, ◌≡◌, Bool, ◌&&◌, not, true, false, nat_eq, List, [], ◌∷◌, is_some, Option, Some, None, filter_map}
+use Rattle.std.specs.Prelude.{ℕ, ◌≡◌, ◌≤◌, ◌+◌, ◌-◌, min, Bool, ◌&&◌, not, true, false, nat_eq, List, [], ◌∷◌, length, is_some, Option, Some, None, filter_map}
 use Rattle.std.specs.List.{list_all, list_any}
 use Rattle.byte_text.specs.Names.{Bytes, before}
 use Rattle.world_data.specs.declared.objects.Object.{Object}
-use Rattle.collection.specs.Objects.{earlier}
+use Rattle.run_list.specs.Runs.{Sequence}
+use Rattle.collection.specs.Deadlines.{AreDues}
 
 -- the objects that these keys have
 abbrev pub objects_at : (ℕ → Option Object) → List ℕ → List Object
@@ -28,6 +29,12 @@ abbrev pub stands_before : Bytes → Option Object → Bool
 stands_before id None = false
 stands_before id (Some o) = before o.id id
 
--- one deadline went out of some, and another came in: the least before and after
-abbrev pub IsLeastAfter : Option ℕ → Option ℕ → Option ℕ → Option ℕ → Type 0
-IsLeastAfter least out into next = (rest : Option ℕ) × (least ≡ earlier out rest) × (next ≡ earlier into rest)
+-- keys of objects, those of objects with a deadline once more, and room for all to have one
+pub record AreKept (slots : ℕ → Option Object) (keys : List ℕ) (dues : Sequence) : Type 0 where
+  pub slotted : AreSlotted slots keys
+  pub expiring : AreDues slots keys dues.items
+  pub room : length keys ≤ length dues.items + dues.spare
+
+-- for how many objects more there is room, in slots of which so many are used, and in both lists of keys
+abbrev pub room_of : ℕ → ℕ → Sequence → Sequence → ℕ
+room_of used capacity keys dues = min (min (capacity - used) keys.spare) (length dues.items + dues.spare - length keys.items)

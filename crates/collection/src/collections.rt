@@ -1,13 +1,13 @@
-//! The objects of one key, with the least of their deadlines.
+//! The objects of one key.
 
 ghost use Rattle.std.specs.Prelude.{◌≡◌, ◌+◌, ◌<◌, ◌≤◌, ℕ, [], true, not, length, filter, find, is_some, if◌then◌else◌, slice_get, Some, None, IfNone, IfSome, MatchOption, OnOk};
 ghost use Rattle.std.specs.List.{remove};
 ghost use Rattle.ordered_lists.specs.Lists.{put_in};
 ghost use Rattle.world_data.specs.declared.objects.Object.{Object};
-ghost use Rattle.collection.specs.Objects.{id_before, has_id, are_by_id, has_room, earlier, least_due, bounds_of};
+ghost use Rattle.collection.specs.Objects.{id_before, has_id, are_by_id, has_room, least_due, bounds_of};
+ghost use Rattle.collection.specs.Deadlines.{FirstDue};
 
 use crate::bounds;
-use crate::deadlines::{least_after, lesser};
 use crate::id_order::place_of;
 use crate::object_lists::ObjectList;
 use byte_text::{Name, NoMemory};
@@ -20,19 +20,17 @@ use world_data::Object;
 #[derive(Drop)]
 pub struct Collection {
     objects: ObjectList,
-    // The least deadline of all objects.
-    least: Option<u64>,
 }
 
 impl Model for Collection {
     ghost use Rattle.std.specs.Prelude.{◌≡◌, true};
-    ghost use Rattle.collection.specs.Objects.{Held, are_by_id, least_due};
+    ghost use Rattle.collection.specs.Objects.{Held, are_by_id};
 
     ghost Value = { Held };
 
     ghost view = { λ c. c.objects };
 
-    ghost invariant = { λ c. (are_by_id c.objects.objects ≡ true) × (c.least ≡ least_due c.objects.objects) };
+    ghost invariant = { λ c. are_by_id c.objects.objects ≡ true };
 }
 
 impl Collection {
@@ -42,7 +40,6 @@ impl Collection {
     {
         Collection {
             objects: ObjectList::new(alloc),
-            least: None,
         }
     }
 
@@ -62,16 +59,10 @@ impl Collection {
         ensures replaced { result ≡ find (has_id object.id) self.old.objects }
         ensures spare { self.new.spare + (if is_some result then 0 else 1) ≡ self.old.spare }
     {
-        let deadline = object.deadline;
         match place_of(&self.objects, &object.id) {
-            Ok(at) => {
-                let old = self.objects.exchange(at, object);
-                self.least = least_after(self.least, old.deadline, deadline, &self.objects);
-                Some(old)
-            }
+            Ok(at) => Some(self.objects.exchange(at, object)),
             Err(at) => {
                 self.objects.insert(at, object);
-                self.least = lesser(self.least, deadline);
                 None
             }
         }
@@ -96,9 +87,7 @@ impl Collection {
         ensures taken { slice_get self.old.objects i ≡ Some result }
         ensures spare { self.new.spare ≡ self.old.spare + 1 }
     {
-        let object = self.objects.remove(i);
-        self.least = least_after(self.least, object.deadline, None, &self.objects);
-        object
+        self.objects.remove(i)
     }
 
     /// The object of this id, where there is one.
@@ -128,11 +117,19 @@ impl Collection {
         self.objects.at(i)
     }
 
-    /// The least deadline of all objects. No object is looked at.
+    /// The least deadline of all objects. One object is looked at.
     pub fn least_due(&self) -> Option<u64>
         ensures { result ≡ least_due self.now.objects }
     {
-        self.least
+        self.objects.least_due()
+    }
+
+    /// The first place of the least deadline, counted from 0 by ascending id; none where no object has a deadline. It is found in
+    /// steps in the logarithm of the number of objects.
+    pub fn first_due(&self) -> Option<usize>
+        ensures { FirstDue self.now.objects result }
+    {
+        self.objects.first_due()
     }
 
     /// The least box round the objects; none where there is no object.

@@ -3,7 +3,7 @@
 
 mod bounds;
 mod collections;
-mod deadlines;
+mod due_lists;
 mod id_order;
 mod id_tests;
 mod object_lists;

@@ -1,13 +1,12 @@
 //! Objects in slots, in an order of their own: none moves when another is put in or taken out.
 
-ghost use Rattle.std.specs.Prelude.{◌≡◌, ◌<◌, ◌≤◌, ◌+◌, [], true, not, length, take, drop, slice_get, fold, Some, OnOk};
+ghost use Rattle.std.specs.Prelude.{◌≡◌, ◌<◌, ◌≤◌, ◌+◌, [], true, not, length, take, drop, slice_get, Some, OnOk};
 ghost use Rattle.std.specs.List.{insert, remove, slice_set, list_all};
 ghost use Rattle.byte_text.specs.Names.{before};
-ghost use Rattle.slab.specs.Slab.{get};
-ghost use Rattle.collection.specs.Objects.{are_by_id, earlier, least_due};
-ghost use Rattle.collection.specs.Slotted.{objects_at};
+ghost use Rattle.collection.specs.Objects.{are_by_id, least_due};
+ghost use Rattle.collection.specs.Deadlines.{FirstDue};
 
-use crate::deadlines::lesser;
+use crate::due_lists::{put_due, take_due};
 use crate::id_tests::IsBefore;
 use byte_text::{Name, NoMemory};
 use run_list::RunList;
@@ -21,19 +20,20 @@ use world_data::Object;
 pub(crate) struct ObjectList {
     slots: Slab<Object>,
     keys: RunList,
+    // Those of objects with a deadline, in order of deadline and id. There is room for all.
+    dues: RunList,
 }
 
 impl Model for ObjectList {
-    ghost use Rattle.std.specs.Prelude.{◌-◌, min};
     ghost use Rattle.slab.specs.Slab.{get, slab_len};
     ghost use Rattle.collection.specs.Objects.{Held};
-    ghost use Rattle.collection.specs.Slotted.{objects_at, AreSlotted};
+    ghost use Rattle.collection.specs.Slotted.{objects_at, AreKept, room_of};
 
     ghost Value = { Held };
 
-    ghost view = { λ l. record { objects = objects_at (get l.slots) l.keys.items; spare = min (l.slots.capacity - slab_len l.slots) l.keys.spare } };
+    ghost view = { λ l. record { objects = objects_at (get l.slots) l.keys.items; spare = room_of (slab_len l.slots) l.slots.capacity l.keys l.dues } };
 
-    ghost invariant = { λ l. AreSlotted (get l.slots) l.keys.items };
+    ghost invariant = { λ l. AreKept (get l.slots) l.keys.items l.dues };
 }
 
 impl ObjectList {
@@ -44,6 +44,7 @@ impl ObjectList {
         ObjectList {
             slots: Slab::new(alloc),
             keys: RunList::new(alloc),
+            dues: RunList::new(alloc),
         }
     }
 
@@ -57,7 +58,8 @@ impl ObjectList {
             Ok(()) => {}
             Err(_) => return Err(NoMemory),
         }
-        self.keys.reserve(1)
+        self.keys.reserve(1)?;
+        self.dues.reserve(self.keys.len() + 1 - self.dues.len())
     }
 
     /// How many objects there are.
@@ -92,15 +94,17 @@ impl ObjectList {
         })
     }
 
-    /// Puts an object at a place, for which there is room. It takes no memory.
+    /// Puts an object at a place, for which there is room, where all are in order then. It takes no memory.
     pub(crate) fn insert(&mut self, i: usize, object: Object)
         requires within { i ≤ length self.old.objects }
         requires room { 1 ≤ self.old.spare }
+        requires by_id { are_by_id (insert self.old.objects i object) ≡ true }
         ensures objects { self.new.objects ≡ insert self.old.objects i object }
         ensures spare { self.new.spare + 1 ≡ self.old.spare }
     {
         let key = self.slots.insert_reserved(object);
         self.keys.insert(i, key);
+        put_due(&mut self.dues, &self.slots, key);
     }
 
     /// Takes out the object at a place, which is room for another.
@@ -111,19 +115,23 @@ impl ObjectList {
         ensures spare { self.new.spare ≡ self.old.spare + 1 }
     {
         let key = self.keys.remove(i);
+        take_due(&mut self.dues, &self.slots, key);
         self.slots.remove(key)
     }
 
-    /// Puts an object in the place of another, which it gives out.
+    /// Puts an object in the place of another, which it gives out, where all are in order then.
     pub(crate) fn exchange(&mut self, i: usize, object: Object) -> Object
-        requires { i < length self.old.objects }
+        requires within { i < length self.old.objects }
+        requires by_id { are_by_id (slice_set self.old.objects i object) ≡ true }
         ensures objects { self.new.objects ≡ slice_set self.old.objects i object }
         ensures taken { slice_get self.old.objects i ≡ Some result }
         ensures spare { self.new.spare ≡ self.old.spare }
     {
         let key = self.keys.at(i);
+        take_due(&mut self.dues, &self.slots, key);
         let old = self.slots.remove(key);
         let _ = self.slots.insert_reserved(object);
+        put_due(&mut self.dues, &self.slots, key);
         old
     }
 
@@ -131,35 +139,26 @@ impl ObjectList {
     pub(crate) fn least_due(&self) -> Option<u64>
         ensures { result ≡ least_due self.now.objects }
     {
-        least_by_runs(&self.slots, &self.keys)
+        if self.dues.len() == 0 {
+            return None;
+        }
+        match self.slots.get(self.dues.at(0)) {
+            Some(object) => object.deadline,
+            None => unreachable!(),
+        }
     }
-}
 
-// The least deadline of objects by their keys, run by run.
-fn least_by_runs(slots: &Slab<Object>, keys: &RunList) -> Option<u64>
-    ensures { result ≡ least_due (objects_at (get slots.now) keys.now.items) }
-{
-    let len = keys.len();
-    let mut found = None;
-    let mut i = 0;
-    while i < len {
-        let run = keys.run_at(i);
-        found = least_in(slots, run, found);
-        i += run.len();
+    /// The first place of the least deadline, where there is a deadline and the objects are in order.
+    pub(crate) fn first_due(&self) -> Option<usize>
+        requires { are_by_id self.now.objects ≡ true }
+        ensures { FirstDue self.now.objects result }
+    {
+        if self.dues.len() == 0 {
+            return None;
+        }
+        match self.slots.get(self.dues.at(0)) {
+            Some(object) => Some(self.count_before(&object.id)),
+            None => unreachable!(),
+        }
     }
-    found
-}
-
-// The lesser of a moment and of the deadlines of objects by their keys.
-fn least_in(slots: &Slab<Object>, keys: &[usize], found: Option<u64>) -> Option<u64>
-    ensures { result ≡ fold (λ d o. earlier d o.deadline) found (objects_at (get slots.now) keys.now) }
-{
-    let mut least = found;
-    for key in keys {
-        least = match slots.get(*key) {
-            Some(object) => lesser(least, object.deadline),
-            None => least,
-        };
-    }
-    least
 }

@@ -57,13 +57,24 @@ fn objects_stand_by_id(rt: HostRuntime) -> Result<(), Fail> {
     let alloc = rt.alloc();
     let mut trucks = Collection::new(alloc);
     assert_eq!(rt; corners(&trucks), None);
-    assert_eq!(rt; trucks.least_due(), None);
     put(alloc, &mut trucks, b"b", Some(9), (1, 2))?;
     put(alloc, &mut trucks, b"a", Some(7), (-3, 4))?;
     assert_eq!(rt; trucks.len(), 2);
     assert_eq!(rt; trucks.at(0).id.bytes(), b"a".as_slice());
-    assert_eq!(rt; trucks.least_due(), Some(7));
     assert_eq!(rt; corners(&trucks), Some((-3, 2, 1, 4)));
+    Ok(())
+}
+
+#[test]
+fn the_first_to_expire_is_found(rt: HostRuntime) -> Result<(), Fail> {
+    let alloc = rt.alloc();
+    let mut trucks = Collection::new(alloc);
+    assert_eq!(rt; trucks.first_due(), None);
+    put(alloc, &mut trucks, b"c", Some(7), (1, 2))?;
+    put(alloc, &mut trucks, b"a", Some(9), (1, 2))?;
+    put(alloc, &mut trucks, b"b", Some(7), (1, 2))?;
+    assert_eq!(rt; trucks.least_due(), Some(7));
+    assert_eq!(rt; trucks.first_due(), Some(1));
     Ok(())
 }
 

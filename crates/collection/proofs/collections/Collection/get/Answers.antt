@@ -21,4 +21,4 @@ returns-in-Err-clause-none c =
     let id = c.args.id.now in
     let items = c.self.inside.objects.objects in
     let free = c.in-Err.ensures.free in
-    rw (← c.self.view_is) (found_free id items c.in-Err.field-0 c.self.invariant.0 free.front free.behind)
+    rw (← c.self.view_is) (found_free id items c.in-Err.field-0 c.self.invariant free.front free.behind)
