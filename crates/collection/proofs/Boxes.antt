@@ -1,12 +1,14 @@
 -- The box round a box and points.
-use Rattle.std.proofs.Common.{◌≡◌, ◌≢◌, ◌<◌, ℤ, refl, sym, ◌∙◌, ap, List, [], ◌∷◌, length, flat_map, arith, ◌≤ℤ◌}
-use Rattle.std.specs.Prelude.{Option, Some, None, fold}
+use Rattle.std.proofs.Common.{◌≡◌, ◌≢◌, ◌<◌, ◌+◌, ℕ, ℤ, refl, sym, ◌∙◌, ap, List, [], ◌∷◌, length, drop, flat_map, arith, ◌≤ℤ◌}
+use Rattle.std.specs.Prelude.{Option, Some, None, fold, slice_get}
 use Rattle.std.specs.Int.{int_min, int_max}
 use Rattle.std.proofs.lemmas.Int.{ints, int_min_is, int_max_is}
+use Rattle.std.proofs.lemmas.List.Sums.{fold-append}
 use Rattle.planar_geom.specs.Points.{Point, Bounds, bounds, with_point, box_round_both, grown}
 use Rattle.planar_geom.specs.Shapes.{all_vertices, box_of_points}
 use Rattle.world_data.specs.declared.objects.Object.{Object}
 use Rattle.collection.specs.Objects.{bounds_of}
+use Rattle.collection.proofs.Slots.{drop_next}
 
 least : (b l h p : ℤ) → l ≤ℤ h → int_min (int_min (int_min b l) h) p ≡ int_min (int_min b (int_min l p)) (int_max h p)
 least b l h p le = omega (arith, ints, int_min_is b l, int_min_is (int_min b l) h, int_min_is (int_min (int_min b l) h) p, int_min_is l p, int_max_is h p, int_min_is b (int_min l p), int_min_is (int_min b (int_min l p)) (int_max h p))
@@ -68,3 +70,10 @@ all_of (v ∷ vs) round e some = sym e ∙ grown_some (bounds v v) vs
 pub bounds_at : (objects : List Object) (round : Option Bounds) → fold grown None (flat_map (λ o. all_vertices o.shape) objects) ≡ round → (0 < length objects → round ≢ None) → round ≡ bounds_of objects
 bounds_at [] round e some = sym e
 bounds_at (o ∷ objects) round e some = all_of (flat_map (λ p. all_vertices p.shape) (o ∷ objects)) round e (some (omega arith))
+
+-- one object more is taken in
+pub taken_more : (objects : List Object) (i : ℕ) (o : Object) (round : Option Bounds) (made : Bounds) → slice_get objects i ≡ Some o → Some made ≡ fold grown round (all_vertices o.shape) → fold grown (Some made) (flat_map (λ o. all_vertices o.shape) (drop (i + 1) objects)) ≡ fold grown round (flat_map (λ o. all_vertices o.shape) (drop i objects))
+taken_more objects i o round made is done =
+    ap (λ (r : Option Bounds). fold grown r (flat_map (λ o. all_vertices o.shape) (drop (i + 1) objects))) done
+    ∙ sym (fold-append grown round (all_vertices o.shape) (flat_map (λ o. all_vertices o.shape) (drop (i + 1) objects)))
+    ∙ ap (λ (l : List Object). fold grown round (flat_map (λ o. all_vertices o.shape) l)) (sym (drop_next objects i o is))

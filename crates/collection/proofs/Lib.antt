@@ -1,2 +1,7 @@
-pub mod Counts
 pub mod Boxes
+pub mod Dues
+pub mod FirstDues
+pub mod Least
+pub mod Numbers
+pub mod Rooms
+pub mod Slots

@@ -1,3 +1,4 @@
 pub mod Objects
 pub mod Deadlines
 pub mod IdOrder
+pub mod Slotted

@@ -5,16 +5,16 @@ ghost use Rattle.planar_geom.specs.Points.{grown};
 ghost use Rattle.planar_geom.specs.Shapes.{all_vertices};
 ghost use Rattle.collection.specs.Objects.{bounds_of};
 
+use crate::object_lists::ObjectList;
 use planar_geom::{BBox, Shape, box_of};
-use world_data::Object;
 
 /// The least box round the objects; none where there is no object.
-pub(crate) fn bounds_of(objects: &[Object]) -> Option<BBox>
-    ensures { result ≡ bounds_of objects.now }
+pub(crate) fn bounds_of(objects: &ObjectList) -> Option<BBox>
+    ensures { result ≡ bounds_of objects.now.objects }
 {
     let mut round = None;
-    for object in objects {
-        round = Some(round_shape(round, &object.shape));
+    for i in 0..objects.len() {
+        round = Some(round_shape(round, &objects.at(i).shape));
     }
     round
 }

@@ -3,7 +3,10 @@
 
 mod bounds;
 mod collections;
+mod due_lists;
 mod id_order;
+mod id_tests;
+mod object_lists;
 
 pub use collections::Collection;
 

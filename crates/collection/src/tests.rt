@@ -53,29 +53,55 @@ fn corners(collection: &Collection) -> Option<(i32, i32, i32, i32)> {
 }
 
 #[test]
-fn objects_are_put_and_taken(rt: HostRuntime) -> Result<(), Fail> {
+fn objects_stand_by_id(rt: HostRuntime) -> Result<(), Fail> {
     let alloc = rt.alloc();
     let mut trucks = Collection::new(alloc);
     assert_eq!(rt; corners(&trucks), None);
-    assert_eq!(rt; trucks.least_due(), None);
-    assert_eq!(rt; put(alloc, &mut trucks, b"b", Some(9), (1, 2))?, None);
-    assert_eq!(rt; put(alloc, &mut trucks, b"c", Some(7), (0, 3))?, None);
-    assert_eq!(rt; put(alloc, &mut trucks, b"a", None, (-3, 4))?, None);
-    assert_eq!(rt; trucks.len(), 3);
+    put(alloc, &mut trucks, b"b", Some(9), (1, 2))?;
+    put(alloc, &mut trucks, b"a", Some(7), (-3, 4))?;
+    assert_eq!(rt; trucks.len(), 2);
     assert_eq!(rt; trucks.at(0).id.bytes(), b"a".as_slice());
-    assert_eq!(rt; trucks.least_due(), Some(7));
     assert_eq!(rt; corners(&trucks), Some((-3, 2, 1, 4)));
-    assert_eq!(rt; put(alloc, &mut trucks, b"c", None, (0, 0))?, Some(7));
-    assert_eq!(rt; trucks.least_due(), Some(9));
+    Ok(())
+}
+
+#[test]
+fn the_first_to_expire_is_found(rt: HostRuntime) -> Result<(), Fail> {
+    let alloc = rt.alloc();
+    let mut trucks = Collection::new(alloc);
+    assert_eq!(rt; trucks.first_due(), None);
+    put(alloc, &mut trucks, b"c", Some(7), (1, 2))?;
+    put(alloc, &mut trucks, b"a", Some(9), (1, 2))?;
+    put(alloc, &mut trucks, b"b", Some(7), (1, 2))?;
+    assert_eq!(rt; trucks.least_due(), Some(7));
+    assert_eq!(rt; trucks.first_due(), Some(1));
+    Ok(())
+}
+
+#[test]
+fn an_object_takes_the_place_of_another(rt: HostRuntime) -> Result<(), Fail> {
+    let alloc = rt.alloc();
+    let mut trucks = Collection::new(alloc);
+    assert_eq!(rt; put(alloc, &mut trucks, b"b", Some(9), (1, 2))?, None);
+    assert_eq!(rt; put(alloc, &mut trucks, b"b", None, (0, 3))?, Some(9));
+    assert_eq!(rt; trucks.len(), 1);
+    assert_eq!(rt; trucks.least_due(), None);
+    assert_eq!(rt; corners(&trucks), Some((0, 3, 0, 3)));
+    Ok(())
+}
+
+#[test]
+fn objects_are_taken_out(rt: HostRuntime) -> Result<(), Fail> {
+    let alloc = rt.alloc();
+    let mut trucks = Collection::new(alloc);
+    put(alloc, &mut trucks, b"b", Some(9), (1, 2))?;
+    put(alloc, &mut trucks, b"a", Some(7), (-3, 4))?;
     let b = Name::of(alloc, b"b")?;
     assert!(rt; matches!(trucks.get(&b), Some(object) if object.deadline == Some(9)));
     assert!(rt; trucks.take_out(&b).is_some());
     assert!(rt; trucks.take_out(&b).is_none());
-    assert_eq!(rt; put(alloc, &mut trucks, b"b", Some(8), (1, 2))?, None);
-    assert_eq!(rt; trucks.len(), 3);
-    assert_eq!(rt; trucks.take_at(1).deadline, Some(8));
     assert!(rt; trucks.get(&b).is_none());
+    assert_eq!(rt; trucks.take_at(0).deadline, Some(7));
     assert_eq!(rt; trucks.least_due(), None);
-    assert_eq!(rt; corners(&trucks), Some((-3, 0, 0, 4)));
     Ok(())
 }

@@ -1,7 +1,7 @@
 -- The least deadline, and where it is.
 use Rattle.std.proofs.Common.{◌≡◌, ◌<◌, ◌≤◌, ◌+◌, ℕ, min, Bool, true, false, not, refl, sym, ap, subst, ◌∙◌, List, [], ◌∷◌, ◌++◌, length, take, append_assoc, append-nil, arith, eqb, get_or}
-use Rattle.std.specs.Prelude.{Option, Some, None, fold, nat_lt, nat_le, ◌&&◌, if◌then◌else◌}
-use Rattle.std.specs.List.{list_all}
+use Rattle.std.specs.Prelude.{Option, Some, None, fold, nat_lt, nat_le, ◌&&◌, if◌then◌else◌, slice_get, IfSome}
+use Rattle.std.specs.List.{list_all, remove}
 use Rattle.std.proofs.lemmas.Bool.Decides.{nat_tests}
 use Rattle.std.proofs.lemmas.List.{take_more, length-take-le}
 use Rattle.std.proofs.lemmas.List.Concat.{flat_map-append}
@@ -9,7 +9,8 @@ use Rattle.world_data.specs.declared.objects.Object.{Object}
 use Rattle.collection.specs.Objects.{earlier, least_due}
 use Rattle.ordered_lists.specs.Reading.{both_of}
 use Rattle.keyspace.specs.Entries.{Entry, objects_in}
-use Rattle.keyspace.specs.FirstDue.{has_deadline, is_later, is_no_sooner, IsSoonest, Soonest, sooner}
+use Rattle.collection.specs.Deadlines.{has_deadline, IsFirst, IsFirstDue}
+use Rattle.keyspace.specs.FirstDue.{is_later, is_no_sooner, IsSoonest, Soonest, sooner, Took}
 use Rattle.keyspace.proofs.Parts.{all_both}
 
 abbrev step : Option ℕ → Object → Option ℕ
@@ -218,11 +219,27 @@ others_later due (x ∷ xs) a b =
     not_true true h = absurd (cc)
     not_true false h = refl
 
-pub one_has : (due : ℕ) (xs : List Object) → least_due xs ≡ Some due → list_all (λ o. not (has_deadline due o)) xs ≡ true → ⊥
-one_has due xs is none =
-    let all = others_later due xs (none_sooner due xs is) none in
-    let h : is_later due (Some due) ≡ true = subst (λ (d : Option ℕ). is_later due d ≡ true) is (least_all (is_later due) (later due) xs ∙ all) in
-    not_before due h
+some_is : (a b : ℕ) → Some a ≡ Some b → a ≡ b
+some_is a b e = cc
+
+none_is : (a : ℕ) → Some a ≡ None → ⊥
+none_is a e = cc
+
+-- where there is a least deadline, there is an object of it
+pub no_first : (due : ℕ) (xs : List Object) → least_due xs ≡ Some due → least_due xs ≡ None → ⊥
+no_first due xs is none = none_is due (sym is ∙ none)
+
+moment_is : (due : ℕ) (d : Option ℕ) (o : Object) → o.deadline ≡ d → has_deadline due o ≡ true → o.deadline ≡ Some due
+moment_is due None o is h = let e : false ≡ true = rw is at h in absurd (cc)
+moment_is due (Some d) o is h = is ∙ ap (λ (n : ℕ). Some n) (same d due (rw is at h))
   where
-    not_before : (n : ℕ) → nat_lt n n ≡ true → ⊥
-    not_before n h = absurd (grind (arith, nat_tests))
+    same : (a b : ℕ) → eqb a b ≡ true → a ≡ b
+    same a b e = grind (arith, nat_tests)
+
+-- what there is without the object at the first place
+pub took_first : (due at : ℕ) (old new : List Object) (o : Object) → least_due old ≡ Some due → IsFirstDue old at → slice_get old at ≡ Some o → new ≡ remove old at → Took due old new o
+took_first due at old new o is first got left =
+    let e : first.due ≡ due = some_is first.due due (sym first.least ∙ is) in
+    let own = subst (λ (n : ℕ). IsFirst (has_deadline n) old at) e first.first in
+    let here : has_deadline due o ≡ true = subst (λ (x : Option Object). IfSome x (λ y. has_deadline due y ≡ true)) got own.here in
+    record { at = at; taken = got; left = left; front = own.front; here = moment_is due o.deadline o refl here }

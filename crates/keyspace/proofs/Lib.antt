@@ -1,4 +1,5 @@
 pub mod Parts
+pub mod Held
 pub mod Keys
 pub mod Lookups
 pub mod Orders

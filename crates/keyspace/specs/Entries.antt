@@ -1,8 +1,8 @@
 -- The objects of all keys, key by key.
 use Rattle.std.specs.Prelude.{ℕ, Bool, ◌||◌, not, nat_le, ◌==◌, List, [], ◌∷◌, length, map, flat_map, if◌then◌else◌}
-use Rattle.std.specs.List.{list_any}
+use Rattle.std.specs.List.{list_all, list_any}
 use Rattle.byte_text.specs.Names.{Bytes, same, before}
-use Rattle.world_data.specs.Worlds.{is_at}
+use Rattle.world_data.specs.Worlds.{is_at, has_key}
 use Rattle.world_data.specs.declared.objects.Object.{Object}
 
 -- a key with its objects by id, and how many more of them there is room for
@@ -27,6 +27,14 @@ objects_in entries = flat_map (λ e. e.objects) entries
 -- the keys, in byte order
 abbrev pub keys_of : List Entry → List Bytes
 keys_of entries = map (λ e. e.key) entries
+
+-- the key has an object
+abbrev pub is_held : List Object → Bytes → Bool
+is_held objects key = list_any (has_key key) objects
+
+-- each of these keys has an object
+abbrev pub are_held : List Bytes → List Object → Bool
+are_held keys objects = list_all (is_held objects) keys
 
 -- how many more objects of a key there is room for
 abbrev pub room_for : List Entry → Bytes → ℕ

@@ -1,17 +1,10 @@
 -- Where the first object that expires is found.
-use Rattle.std.specs.Prelude.{◌≡◌, ◌<◌, ℕ, Bool, true, false, not, ◌==◌, nat_lt, nat_le, List, ◌∷◌, ◌++◌, length, take, slice_get, Option, Some, None, IfSome, if◌then◌else◌}
+use Rattle.std.specs.Prelude.{◌≡◌, ℕ, Bool, true, not, nat_lt, nat_le, List, ◌∷◌, ◌++◌, length, take, slice_get, Option, Some, None, if◌then◌else◌}
 use Rattle.std.specs.List.{list_all, remove}
 use Rattle.world_data.specs.declared.objects.Object.{Object}
 use Rattle.collection.specs.Objects.{least_due}
+use Rattle.collection.specs.Deadlines.{has_deadline}
 use Rattle.keyspace.specs.Entries.{Entry, objects_in}
-
--- this is the object's deadline
-abbrev pub has_deadline : ℕ → Object → Bool
-has_deadline due o = is_deadline o.deadline
-  where
-    is_deadline : Option ℕ → Bool
-    is_deadline None = false
-    is_deadline (Some d) = d == due
 
 -- there is no deadline, or a later one
 abbrev pub is_later : ℕ → Option ℕ → Bool
@@ -22,12 +15,6 @@ is_later due (Some d) = nat_lt due d
 abbrev pub is_no_sooner : ℕ → Option ℕ → Bool
 is_no_sooner due None = true
 is_no_sooner due (Some d) = nat_le due d
-
--- the place is the first where the test holds
-pub record IsFirst {A : Type 0} (test : A → Bool) (xs : List A) (at : ℕ) : Type 0 where
-  pub within : at < length xs
-  pub front : list_all (λ x. not (test x)) (take at xs) ≡ true
-  pub here : IfSome (slice_get xs at) (λ x. test x ≡ true)
 
 -- the objects without the first of this deadline
 pub record Took (due : ℕ) (old new : List Object) (o : Object) : Type 0 where

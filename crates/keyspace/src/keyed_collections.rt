@@ -5,7 +5,7 @@ ghost use Rattle.ordered_lists.specs.Lists.{put_in};
 ghost use Rattle.collection.specs.Objects.{id_before, has_id, has_room, least_due};
 ghost use Rattle.keyspace.specs.Entries.{Entry};
 ghost use Rattle.keyspace.specs.KeyOrder.{held_of};
-ghost use Rattle.keyspace.specs.FirstDue.{has_deadline, IsFirst, Took};
+ghost use Rattle.keyspace.specs.FirstDue.{Took};
 
 use byte_text::{Name, NoMemory};
 use collection::Collection;
@@ -93,30 +93,9 @@ impl KeyedCollection {
         ensures took { Took due self.old.objects self.new.objects result }
         ensures spare { self.new.spare ≡ self.old.spare + 1 }
     {
-        let at = first_of(&self.objects, due);
-        self.objects.take_at(at)
-    }
-}
-
-// The place of the first object of the least deadline.
-fn first_of(objects: &Collection, due: u64) -> usize
-    requires { least_due objects.now.objects ≡ Some due }
-    ensures { IsFirst (has_deadline due) objects.now.objects result }
-{
-    for i in 0..objects.len() {
-        if is_due_at(objects.at(i), due) {
-            return i;
+        match self.objects.first_due() {
+            Some(at) => self.objects.take_at(at),
+            None => unreachable!(),
         }
-    }
-    unreachable!()
-}
-
-// Whether this is the object's deadline.
-fn is_due_at(object: &Object, due: u64) -> bool
-    ensures { result ≡ has_deadline due object.now }
-{
-    match object.deadline {
-        Some(deadline) => deadline == due,
-        None => false,
     }
 }

@@ -8,7 +8,7 @@ ghost use Rattle.world_data.specs.Expiry.{is_due, due_before};
 ghost use Rattle.world_data.specs.declared.objects.Object.{Object};
 ghost use Rattle.collection.specs.Objects.{least_due};
 ghost use Rattle.keyspace.specs.KeyOrder.{IsAdded};
-ghost use Rattle.keyspace.specs.Entries.{objects_in, keys_of, room_for, has_room, has_objects, is_entry_of};
+ghost use Rattle.keyspace.specs.Entries.{objects_in, keys_of, is_held, are_held, room_for, has_room, has_objects, is_entry_of};
 
 use crate::deadlines::soonest;
 use crate::key_order::place_of;
@@ -86,6 +86,7 @@ impl Keyspace {
     pub fn keys(&self) -> usize
         ensures count { result ≡ length self.now }
         ensures distinct { distinct (map (λ o. o.key) (objects_in self.now)) ≡ map (λ e. e.key) (filter has_objects self.now) }
+        ensures held { are_held (keys_of self.now) (objects_in self.now) ≡ true → keys_of self.now ≡ distinct (map (λ o. o.key) (objects_in self.now)) }
     {
         self.collections.len()
     }
@@ -198,11 +199,13 @@ impl Keyspace {
     pub fn drop_key(&mut self, key: &Name)
         ensures objects { objects_in self.new ≡ filter (λ o. not (has_key key.now o)) (objects_in self.old) }
         ensures others { self.new ≡ filter (λ e. not (is_entry_of key.now e)) self.old }
+        ensures keys { keys_of self.new ≡ filter (λ k. not (same k key.now)) (keys_of self.old) }
     {
         match place_of(self.collections.as_slice(), key) {
             Ok(at) => {
                 let keyed = self.collections.remove(at);
                 self.count -= keyed.objects().len();
+                drop(keyed);
             }
             Err(_) => {}
         }
@@ -220,11 +223,12 @@ impl Keyspace {
     pub fn give_up(&mut self, key: &Name)
         ensures objects { objects_in self.new ≡ objects_in self.old }
         ensures given_up { self.new ≡ filter (λ e. not (is_entry_of key.now e && not (has_objects e))) self.old }
+        ensures keys { keys_of self.new ≡ filter (λ k. not (same k key.now && not (is_held (objects_in self.old) key.now))) (keys_of self.old) }
     {
         match place_of(self.collections.as_slice(), key) {
             Ok(at) => {
                 if self.collections[at].objects().len() == 0 {
-                    self.collections.remove(at);
+                    drop(self.collections.remove(at));
                 }
             }
             Err(_) => {}

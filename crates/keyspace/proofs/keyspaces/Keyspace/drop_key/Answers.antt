@@ -1,11 +1,12 @@
 use Rattle.std.proofs.Common.{◌≡◌, ◌+◌, ◌-◌, ◌≤◌, ℕ, true, ap, sym, subst, ◌∙◌, List, length, arith}
 use Rattle.std.specs.List.{remove}
 use Rattle.collection.specs.Objects.{Held}
-use Rattle.keyspace.specs.Entries.{Entry, objects_in}
+use Rattle.keyspace.specs.Entries.{Entry, objects_in, keys_of}
 use Rattle.keyspace.specs.KeyOrder.{are_entries}
 use Rattle.keyspace.proofs.Keys.{stands, lacks, left_entries}
 use Rattle.keyspace.proofs.Lookups.{others_in, others_stay, length_taken, at_most_all}
 use Rattle.keyspace.proofs.KeyLists.{is_other, other_stays, key_left_out, none_left_out}
+use Rattle.keyspace.proofs.Held.{keys_dropped}
 use Rattle.keyspace.proofs.keyspaces.Keyspace.drop_key.Goals as goal
 
 pub overflow_sub-self : goal.overflow_sub-self
@@ -67,3 +68,20 @@ returns-in-Err-clause-others c =
     let free = rw c.as_slice.ensures.value at c.in-Err.ensures.free in
     let s = lacks key xs c.in-Err.field-0 c.self.invariant.0 free in
     rw (← c.self.view_is) (sym (none_left_out key (is_other key) (other_stays key) xs c.in-Err.field-0 s))
+
+pub returns-in-Ok-clause-keys : goal.returns-in-Ok-clause-keys
+returns-in-Ok-clause-keys c =
+    let key = c.args.key.now in
+    let xs = c.self.inside.collections.items in
+    let e = c.remove-keyed.result in
+    let held = rw c.as_slice.ensures.value at c.in-Ok.ensures.held in
+    let s = stands key xs c.in-Ok.at e c.self.invariant.0 held c.remove-keyed.ensures.value in
+    rw (← c.self.view_is) (ap keys_of (c.remove-keyed.ensures.items ∙ sym (key_left_out key xs c.in-Ok.at e s)) ∙ keys_dropped key xs)
+
+pub returns-in-Err-clause-keys : goal.returns-in-Err-clause-keys
+returns-in-Err-clause-keys c =
+    let key = c.args.key.now in
+    let xs = c.self.inside.collections.items in
+    let free = rw c.as_slice.ensures.value at c.in-Err.ensures.free in
+    let s = lacks key xs c.in-Err.field-0 c.self.invariant.0 free in
+    rw (← c.self.view_is) (ap keys_of (sym (none_left_out key (is_other key) (other_stays key) xs c.in-Err.field-0 s)) ∙ keys_dropped key xs)

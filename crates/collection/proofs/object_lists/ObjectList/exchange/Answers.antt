@@ -1,0 +1,116 @@
+use Rattle.std.proofs.Common.{◌≡◌, ◌≢◌, ◌∙◌, ℕ, List, true, ap, sym, subst, arith}
+use Rattle.std.specs.Prelude.{Some, is_some}
+use Rattle.slab.specs.Slab.{get}
+use Rattle.world_data.specs.declared.objects.Object.{Object}
+use Rattle.collection.specs.Objects.{are_by_id}
+use Rattle.collection.specs.Deadlines.{is_expiring}
+use Rattle.collection.proofs.Numbers.{among_at}
+use Rattle.collection.proofs.Slots.{within_keys, stored_at, get_at, has_one, set_at, slotted_set}
+use Rattle.collection.proofs.Dues.{AreOthers, others_taken, others_kept, others_apart, others_fewer, dues_put, listed}
+use Rattle.collection.proofs.object_lists.ObjectList.exchange.Goals as goal
+
+pub at-key-requires : goal.at-key-requires
+at-key-requires c =
+    let within = rw (← c.self.view_is) at c.requires.within in
+    within_keys (get c.self.inside.slots) c.self.inside.keys.items c.args.i c.self.invariant.slotted.stored within
+
+pub take_due-requires-clause-there : goal.take_due-requires-clause-there
+take_due-requires-clause-there c =
+    let f = get c.self.inside.slots in
+    let keys = c.self.inside.keys.items in
+    let key = c.at-key.result in
+    let within = rw (← c.self.view_is) at c.requires.within in
+    let lt = within_keys f keys c.args.i c.self.invariant.slotted.stored within in
+    listed f keys c.self.inside.dues.items key c.self.invariant.expiring (among_at key keys c.args.i 0 lt c.at-key.ensures)
+
+pub remove-old-requires : goal.remove-old-requires
+remove-old-requires c =
+    let f = get c.self.inside.slots in
+    let keys = c.self.inside.keys.items in
+    let within = rw (← c.self.view_is) at c.requires.within in
+    let lt = within_keys f keys c.args.i c.self.invariant.slotted.stored within in
+    has_one f c.at-key.result (ap (λ n. is_some (f n)) c.at-key.ensures ∙ stored_at f keys c.args.i 0 lt c.self.invariant.slotted.stored)
+
+pub put_due-requires-clause-order : goal.put_due-requires-clause-order
+put_due-requires-clause-order c =
+    let f = get c.self.inside.slots in
+    let g = get c.insert_reserved.new.self in
+    let key = c.at-key.result in
+    let keys = c.self.inside.keys.items in
+    let dues = c.take_due.new.dues.items in
+    let same : c.insert_reserved.result ≡ key = c.insert_reserved.ensures.key ∙ c.remove-old.ensures.key_is_next in
+    let others : (other : ℕ) → other ≢ key → g other ≡ f other = λ other ne. c.insert_reserved.ensures.updates.others other (λ e. ne (e ∙ same)) ∙ c.remove-old.ensures.updates.others other ne in
+    let o = others_taken f keys c.self.inside.dues.items dues key c.self.invariant.expiring c.take_due.ensures.order c.take_due.ensures.among in
+    (others_kept f g key others keys dues o).order
+
+pub put_due-requires-clause-apart : goal.put_due-requires-clause-apart
+put_due-requires-clause-apart c =
+    let f = get c.self.inside.slots in
+    let g = get c.insert_reserved.new.self in
+    let key = c.at-key.result in
+    let keys = c.self.inside.keys.items in
+    let dues = c.take_due.new.dues.items in
+    let within = rw (← c.self.view_is) at c.requires.within in
+    let lt = within_keys f keys c.args.i c.self.invariant.slotted.stored within in
+    let same : c.insert_reserved.result ≡ key = c.insert_reserved.ensures.key ∙ c.remove-old.ensures.key_is_next in
+    let new : g key ≡ Some c.args.object = ap g (sym same) ∙ c.insert_reserved.ensures.updates.changed in
+    let others : (other : ℕ) → other ≢ key → g other ≡ f other = λ other ne. c.insert_reserved.ensures.updates.others other (λ e. ne (e ∙ same)) ∙ c.remove-old.ensures.updates.others other ne in
+    let o = others_taken f keys c.self.inside.dues.items dues key c.self.invariant.expiring c.take_due.ensures.order c.take_due.ensures.among in
+    let kept = others_kept f g key others keys dues o in
+    let slotted = slotted_set f g key others keys c.self.invariant.slotted c.args.object c.args.i 0 lt c.at-key.ensures new in
+    let objects = set_at f g key others c.args.object keys c.args.i 0 c.self.invariant.slotted.stored c.self.invariant.slotted.apart lt c.at-key.ensures new in
+    let asc = rw (← c.self.view_is) at c.requires.by_id in
+    others_apart g keys key dues kept slotted.stored (subst (λ (l : List Object). are_by_id l ≡ true) (sym objects) asc) (among_at key keys c.args.i 0 lt c.at-key.ensures)
+
+pub put_due-requires-clause-room : goal.put_due-requires-clause-room
+put_due-requires-clause-room c =
+    let f = get c.self.inside.slots in
+    let key = c.at-key.result in
+    let keys = c.self.inside.keys.items in
+    let dues = c.take_due.new.dues.items in
+    let within = rw (← c.self.view_is) at c.requires.within in
+    let lt = within_keys f keys c.args.i c.self.invariant.slotted.stored within in
+    let o = others_taken f keys c.self.inside.dues.items dues key c.self.invariant.expiring c.take_due.ensures.order c.take_due.ensures.among in
+    let fewer = others_fewer f keys key dues o (among_at key keys c.args.i 0 lt c.at-key.ensures) in
+    λ e. omega (arith, fewer, c.self.invariant.room, c.take_due.ensures.room)
+
+pub invariant_of-self : goal.invariant_of-self
+invariant_of-self c =
+    let f = get c.self.inside.slots in
+    let g = get c.insert_reserved.new.self in
+    let key = c.at-key.result in
+    let keys = c.self.inside.keys.items in
+    let dues = c.take_due.new.dues.items in
+    let within = rw (← c.self.view_is) at c.requires.within in
+    let lt = within_keys f keys c.args.i c.self.invariant.slotted.stored within in
+    let same : c.insert_reserved.result ≡ key = c.insert_reserved.ensures.key ∙ c.remove-old.ensures.key_is_next in
+    let new : g key ≡ Some c.args.object = ap g (sym same) ∙ c.insert_reserved.ensures.updates.changed in
+    let others : (other : ℕ) → other ≢ key → g other ≡ f other = λ other ne. c.insert_reserved.ensures.updates.others other (λ e. ne (e ∙ same)) ∙ c.remove-old.ensures.updates.others other ne in
+    let o = others_taken f keys c.self.inside.dues.items dues key c.self.invariant.expiring c.take_due.ensures.order c.take_due.ensures.among in
+    let kept = others_kept f g key others keys dues o in
+    record {
+      slotted = slotted_set f g key others keys c.self.invariant.slotted c.args.object c.args.i 0 lt c.at-key.ensures new;
+      expiring = dues_put g keys key dues kept c.put_due.new.dues.items (among_at key keys c.args.i 0 lt c.at-key.ensures) c.put_due.ensures.order c.put_due.ensures.among;
+      room = omega (arith, c.self.invariant.room, c.take_due.ensures.room, c.put_due.ensures.room);
+    }
+
+pub returns-clause-objects : goal.returns-clause-objects
+returns-clause-objects c =
+    let f = get c.self.inside.slots in
+    let g = get c.insert_reserved.new.self in
+    let key = c.at-key.result in
+    let keys = c.self.inside.keys.items in
+    let within = rw (← c.self.view_is) at c.requires.within in
+    let lt = within_keys f keys c.args.i c.self.invariant.slotted.stored within in
+    let same : c.insert_reserved.result ≡ key = c.insert_reserved.ensures.key ∙ c.remove-old.ensures.key_is_next in
+    let new : g key ≡ Some c.args.object = ap g (sym same) ∙ c.insert_reserved.ensures.updates.changed in
+    let others : (other : ℕ) → other ≢ key → g other ≡ f other = λ other ne. c.insert_reserved.ensures.updates.others other (λ e. ne (e ∙ same)) ∙ c.remove-old.ensures.updates.others other ne in
+    rw (← c.self.view_is) (set_at f g key others c.args.object keys c.args.i 0 c.self.invariant.slotted.stored c.self.invariant.slotted.apart lt c.at-key.ensures new)
+
+pub returns-clause-taken : goal.returns-clause-taken
+returns-clause-taken c =
+    let f = get c.self.inside.slots in
+    let keys = c.self.inside.keys.items in
+    let within = rw (← c.self.view_is) at c.requires.within in
+    let lt = within_keys f keys c.args.i c.self.invariant.slotted.stored within in
+    rw (← c.self.view_is) (get_at f keys c.args.i 0 lt c.self.invariant.slotted.stored ∙ ap f (sym c.at-key.ensures) ∙ c.remove-old.ensures.value)
