@@ -20,7 +20,10 @@ use world_model::{Answers, Asked, AskedList, Called, Frames, HallApi, HallSplit,
 fn request(alloc: Global, line: &str) -> Option<Request> {
     let mut words = Request::new(alloc);
     for word in line.split(' ') {
-        if words.words() >= 64 || word.len() > 255 {
+        if words.words() >= 64 {
+            return None;
+        }
+        if word.len() > 255 {
             return None;
         }
         words.push(word.as_bytes()).ok()?;
