@@ -119,7 +119,8 @@ fn short_words(
     bytes: &[u8],
 ) -> Result<Option<(Request, usize)>, NoMemory>
     requires { count < 100 }
-    ensures { IfOk result (λ r. IfSome r (λ f. AreShortWords f.0 count × (f.1 ≤ length bytes.now) × (take f.1 bytes.now ≡ flat_map bulk_text f.0))) }
+    ensures { IfOk result (λ r. IfSome r (λ f. AreShortWords f.0 count × (f.1 ≤ length bytes.now)
+        × (take f.1 bytes.now ≡ flat_map bulk_text f.0))) }
 {
     let room = count as usize;
     let mut request = Request::with_room(alloc, room, room * WORD_ROOM)?;
