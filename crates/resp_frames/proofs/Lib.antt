@@ -3,3 +3,4 @@ pub mod StepLaws
 pub mod BlindLaws
 pub mod ScanLaws
 pub mod ReaderLaws
+pub mod ShortLaws

@@ -1,5 +1,6 @@
 -- What a piece gives.
-use Rattle.std.proofs.Common.{◌≡◌, ℕ, List, [], ◌++◌, length, take, drop, Option, Some, None, refl, sym, ap, subst, ◌∙◌, append_assoc, append-nil, take-append-drop}
+use Rattle.std.proofs.Common.{◌≡◌, ◌≤◌, ℕ, true, List, [], ◌∷◌, ◌++◌, length, take, drop, Option, Some, None, refl, sym, ap, subst, ◌∙◌, append_assoc, append-nil, take-append-drop}
+use Rattle.std.specs.Prelude.{is_some}
 use Rattle.std.proofs.lemmas.List.{append_cancel_right}
 use Rattle.byte_text.specs.Names.{Bytes}
 use Rattle.byte_text.specs.Requests.{request_text, IsRequest, IsRequestText}
@@ -72,6 +73,15 @@ pub fed_whole : TextsAreRead → (p : Option Place) (held piece : Bytes) (value 
 fed_whole texts_read p held piece value place taken words s w is text =
     let read : request (held ++ piece) ≡ found words (drop taken piece) = ap request (parted held piece taken ∙ ap (λ x. x ++ drop taken piece) text) ∙ texts_read words (drop taken piece) is in
     subst (λ v. IsFed v (Some []) piece taken (Some words)) (sym (value_of p held value place s)) (read, w.0, refl, is)
+
+-- a request that stands whole at the front of the piece, where no bytes are held
+pub fed_short : TextsAreRead → (p : Option Place) (held piece : Bytes) (value : Held) (taken : ℕ) (words : List Bytes) → is_some p ≡ true → length held ≡ 0 → held_of p held ≡ value
+    → IsRequest words × (taken ≤ length piece) × (take taken piece ≡ request_text words) → IsFed value value piece taken (Some words)
+fed_short texts_read None held piece value taken words some empty is w = absurd (cc)
+fed_short texts_read (Some q) (b ∷ held) piece value taken words some empty is w = absurd (cc)
+fed_short texts_read (Some q) [] piece value taken words some empty is w =
+    let read : request piece ≡ found words (drop taken piece) = ap request (sym (take-append-drop taken piece) ∙ ap (λ x. x ++ drop taken piece) w.2) ∙ texts_read words (drop taken piece) w.0 in
+    subst (λ v. IsFed v v piece taken (Some words)) is (read, w.1, refl, w.0)
 
 pub not_fed : (p : Option Place) (held piece : Bytes) (value : Held) (place : Place) (fault : RespFault) → Stands p held value place → Says place piece (scans.Fails fault) → IsNotFed value None piece (Broken fault)
 not_fed p held piece value place fault s f =

@@ -2,3 +2,4 @@ pub mod PlaceSteps
 pub mod RequestPlaces
 pub mod Pieces
 pub mod RequestReader
+pub mod ShortRequests

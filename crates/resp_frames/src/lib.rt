@@ -7,6 +7,7 @@ mod pieces;
 mod request_places;
 mod request_reader;
 mod request_words;
+mod short_requests;
 
 pub use byte_text::{Piece, Reply, Request, RespFault, push_frame, push_request};
 pub use faults::FeedFault;

@@ -8,6 +8,7 @@ use crate::faults::FeedFault;
 use crate::pieces::{Scan, read_piece};
 use crate::request_places::Place;
 use crate::request_words::words_of;
+use crate::short_requests::short_request;
 use byte_text::{NoMemory, Request, requests_are_read};
 use std::alloc::Global;
 use std::marker::Model;
@@ -61,6 +62,25 @@ impl Requests {
         ensures fault { IfErr result (λ f. IsNotFed self.old self.new piece.now f) }
     {
         // The laws that this function's proof stands on.
+        requests_are_read();
+        if self.place.is_none() || !self.held.is_empty() {
+            return self.go_on(piece);
+        }
+        match short_request(self.alloc, piece) {
+            Ok(Some((request, taken))) => Ok(Fed {
+                taken,
+                request: Some(request),
+            }),
+            Ok(None) => self.go_on(piece),
+            Err(NoMemory) => Err(FeedFault::Memory),
+        }
+    }
+
+    // The same, byte by byte but for those of words.
+    fn go_on(&mut self, piece: &[u8]) -> Result<Fed, FeedFault>
+        ensures fed { IfOk result (λ f. IsFed self.old self.new piece.now f.taken f.request) }
+        ensures fault { IfErr result (λ f. IsNotFed self.old self.new piece.now f) }
+    {
         requests_are_read();
         let Some(place) = self.place else {
             return Err(FeedFault::Dead);

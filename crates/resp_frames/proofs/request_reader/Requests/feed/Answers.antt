@@ -1,25 +1,14 @@
-use Rattle.std.proofs.Common.{◌≡◌, ◌++◌, Some, rules, sym, subst}
-use Rattle.resp_frames.specs.declared.request_places.Place.TheVariants.{Star}
-use Rattle.resp_frames.specs.RequestReader.{IsReader, IsFed}
-use Rattle.resp_frames.proofs.ReaderLaws.{reader_begins, ended_text, fed_on, fed_whole}
+use Rattle.std.proofs.Common.{◌≡◌, ◌≤◌, length, take, true, subst, arith}
+use Rattle.std.specs.Prelude.{is_some, IfSome}
+use Rattle.std.proofs.lemmas.Grind.{common_steps}
+use Rattle.byte_text.specs.Requests.{IsRequest, request_text}
+use Rattle.resp_frames.proofs.ReaderLaws.{fed_short}
 use Rattle.resp_frames.proofs.request_reader.Requests.feed.Goals as goal
 
-pub finish-requires : goal.finish-requires
-finish-requires c =
-    ended_text c.requests_are_read.ensures.found c.self.inside.place c.self.inside.held.items c.args.piece.now c.args.self.now c.in-Some.place c.in-Whole.taken
-    (record { is = c.in-Some.is; value_is = c.self.view_is; reader = c.self.invariant }) c.in-Whole.ensures
-
-pub invariant_of-self-in-Ok : goal.invariant_of-self-in-Ok
-invariant_of-self-in-Ok c = subst (λ held. IsReader (Some Star) held) (sym c.in-Ok.ensures.ok) reader_begins
-
-pub returns-else-is_err-clause-fed : goal.returns-else-is_err-clause-fed
-returns-else-is_err-clause-fed c =
-    let grown : c.extend_from_slice.new.self.items ≡ c.self.inside.held.items ++ c.args.piece.now = search rules in
-    fed_on c.self.inside.place c.self.inside.held.items c.extend_from_slice.new.self.items c.args.piece.now c.args.self.now c.in-Some.place c.in-Goes.next
-    (record { is = c.in-Some.is; value_is = c.self.view_is; reader = c.self.invariant }) c.in-Goes.ensures grown
-
-pub returns-in-Ok-clause-fed : goal.returns-in-Ok-clause-fed
-returns-in-Ok-clause-fed c =
-    subst (λ held. IsFed c.args.self.now (Some held) c.args.piece.now c.in-Whole.taken (Some c.in-Ok.request)) (sym c.in-Ok.ensures.ok)
-    (fed_whole c.requests_are_read.ensures.text c.self.inside.place c.self.inside.held.items c.args.piece.now c.args.self.now c.in-Some.place c.in-Whole.taken c.in-Ok.request
-    (record { is = c.in-Some.is; value_is = c.self.view_is; reader = c.self.invariant }) c.in-Whole.ensures c.in-Ok.ensures.read.0 c.in-Ok.ensures.read.1)
+pub returns-in-Ok-Some-clause-fed : goal.returns-in-Ok-Some-clause-fed
+returns-in-Ok-Some-clause-fed c =
+    let piece = c.args.piece.now in
+    let some : is_some c.self.inside.place ≡ true = grind (arith, common_steps) in
+    let empty : length c.self.inside.held.items ≡ 0 = grind (arith, common_steps) in
+    let w = subst (λ r. IfSome r (λ f. IsRequest f.0 × (f.1 ≤ length piece) × (take f.1 piece ≡ request_text f.0))) c.in-Ok-Some.field-0-is c.in-Ok-Some.ensures in
+    fed_short c.requests_are_read.ensures.text c.self.inside.place c.self.inside.held.items piece c.args.self.now c.in-Ok-Some.taken c.in-Ok-Some.request some empty c.self.view_is w
