@@ -28,8 +28,8 @@ pub struct TcpDoor<R: Net<Listener = TcpListener, Stream = TcpStream> + rt::Cloc
     alloc: Global,
     patience: Duration,
     listener: Option<TcpListener>,
-    faults: u64,
-    links: u64,
+    pub(crate) faults: u64,
+    pub(crate) links: u64,
 }
 
 // What one look for a caller found.

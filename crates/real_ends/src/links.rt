@@ -12,14 +12,14 @@ use std::sync::Arc;
 #[derive(Drop)]
 pub struct TcpSource {
     stream: Arc<TcpStream, Global>,
-    faults: u64,
+    pub(crate) faults: u64,
 }
 
 /// What a caller is sent. A write that the caller takes nothing of for as long as the door is patient has failed. When the sink is
 /// dropped the link ends both ways: the caller sees the end, and the source on the same link comes to its end.
 pub struct TcpSink {
     stream: Arc<TcpStream, Global>,
-    faults: u64,
+    pub(crate) faults: u64,
 }
 
 /// Both ends of a link.

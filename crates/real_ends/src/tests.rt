@@ -1,8 +1,7 @@
 // The real things, over the loopback.
 use crate::{TcpDoor, TcpSink, TcpSource, ThreadSpawner, WallClock};
-use outside::{Accepted, Clock, Door, Failed, Job, Link, MAX_MOMENT, Sink, Source, Spawner};
+use outside::{Accepted, Clock, Door, Failed, Job, Link, MAX_MOMENT, Sink, Source, Spawner, Tally};
 use std::alloc::Global;
-use std::io;
 use std::io::{Read, Write};
 use std::net::TcpStream;
 use std::sync::atomic::{AtomicU64, Ordering};
@@ -11,13 +10,15 @@ use std::test::Fail;
 use std::time::Duration;
 
 // A door at a port of this machine, where a write waits for its caller so many milliseconds.
-fn door_at(rt: &HostRuntime, addr: &str, patience: u64) -> Result<TcpDoor<HostRuntime>, Fail> {
+fn door_at(rt: &HostRuntime, addr: &str, patience: u64) -> Result<TcpDoor<HostRuntime>, Failed> {
     let mut door = TcpDoor::new(*rt, rt.alloc(), Duration::from_millis(patience));
-    assert_eq!(rt; door.listen(addr), Ok(()));
-    Ok(door)
+    match door.listen(addr) {
+        Ok(()) => Ok(door),
+        Err(Failed) => Err(Failed),
+    }
 }
 
-// A caller at the port of a door, and the door's ends of the link to it.
+// A caller at the address of a door, and the door's ends of the link to it.
 fn call_at(
     rt: &HostRuntime,
     door: &mut TcpDoor<HostRuntime>,
@@ -26,7 +27,7 @@ fn call_at(
     let caller = TcpStream::connect(rt, addr)?;
     match door.accept() {
         Ok(Accepted::Joined(link)) => Ok((caller, link)),
-        _ => panic!(rt; "no caller came"),
+        _ => Err(Fail::from(Failed)),
     }
 }
 

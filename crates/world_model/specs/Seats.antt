@@ -1,7 +1,7 @@
 -- Seats: what the holder of a seat has seen of a hall's history, and what its calls add to it.
 use Rattle.std.specs.Prelude.{◌≡◌, ◌⊎◌, ℕ, ◌+◌, zero, suc, Bool, true, false, not, List, [], ◌∷◌, ◌++◌, length, map}
 use Rattle.std.specs.List.{list_any, list_all}
-use Rattle.std.specs.Prelude.{◌==◌, nat_lt}
+use Rattle.std.specs.Prelude.{◌==◌, ◌||◌, nat_lt}
 use Rattle.ordered_lists.specs.Lists.{ascends}
 use Rattle.world_model.specs.Halls.{Hall, NamesChanged}
 use Rattle.world_model.specs.Histories.{IsLegal, Reaches}
@@ -69,9 +69,17 @@ Begins front whole = (rest : List Entry) × (whole ≡ front ++ rest)
 abbrev pub are_ascending : List ℕ → Bool
 are_ascending places = ascends nat_lt places
 
+-- the place is one of these
+abbrev pub is_among : List ℕ → ℕ → Bool
+is_among places p = list_any (λ q. q == p) places
+
 -- no place stands in both
 abbrev pub are_apart : List ℕ → List ℕ → Bool
-are_apart places others = list_all (λ p. not (list_any (λ q. q == p) others)) places
+are_apart places others = list_all (λ p. not (is_among others p)) places
+
+-- a seat's own places are places of what it has seen
+abbrev pub are_seen : Knows → Bool
+are_seen k = list_all (λ p. nat_lt p (length k.seen)) k.mine
 
 -- two seats of one hall have seen beginnings of one history, and no entry is an own one of both
 pub record AreOfOne (one other : Knows) : Type 0 where
@@ -80,3 +88,11 @@ pub record AreOfOne (one other : Knows) : Type 0 where
   pub own : are_ascending one.mine ≡ true
   pub others : are_ascending other.mine ≡ true
   pub apart : are_apart one.mine other.mine ≡ true
+
+-- a seat into which another was put: it has seen the longer of the two beginnings, and the entries of both are its own
+pub record IsJoined (one other new : Knows) : Type 0 where
+  pub opening : new.opening ≡ one.opening
+  pub seen : (new.seen ≡ one.seen) ⊎ (new.seen ≡ other.seen)
+  pub begins : Begins one.seen new.seen × Begins other.seen new.seen
+  pub mine : (p : ℕ) → is_among new.mine p ≡ (is_among one.mine p || is_among other.mine p)
+  pub first : new.first ≡ (one.first || other.first)

@@ -33,24 +33,26 @@ pub trait HallApi {
         ensures entry { Adds event.Enter (enter_outcome result) (knows seat.old) (knows seat.new) };
 
     /// Does what a session asks for at a moment: a call for each request, in order and in one turn, up to the first that is not
-    /// answered Ok. Hands out the sessions that it changed.
+    /// answered Ok. The requests come back as they were, and the list of names with the sessions that the calls changed in place of
+    /// what it held. Both go to whoever does the work, so they are handed over.
     fn calls<R: Wait>(
         &self,
         rt: &R,
         seat: &mut Self::Seat,
         session: u32,
         moment: u64,
-        asked: &AskedList,
-        touched: &mut Touched,
-    ) -> Answers
+        asked: AskedList,
+        touched: Touched,
+    ) -> (Answers, AskedList, Touched)
         requires seat { is_of self.now seat.old }
         requires moment { moment ≤ max_moment }
-        requires some { 0 < length asked.now }
-        requires few { length asked.now ≤ 64 }
-        requires proper { list_all is_proper asked.now ≡ true }
+        requires some { 0 < length asked }
+        requires few { length asked ≤ 64 }
+        requires proper { list_all is_proper asked ≡ true }
         ensures seat { is_of self.now seat.new }
-        ensures count { IsCount result.served result.end (length asked.now) }
-        ensures entries { AddsNamed (call_acts session moment asked.now result.served result.end) touched.new (knows seat.old) (knows seat.new) };
+        ensures count { IsCount result.0.served result.0.end (length asked) }
+        ensures back { result.1 ≡ asked }
+        ensures entries { AddsNamed (call_acts session moment asked result.0.served result.0.end) result.2 (knows seat.old) (knows seat.new) };
 
     /// Takes the first frames of a session, as many as there are places.
     fn take<R: Wait>(&self, rt: &R, seat: &mut Self::Seat, session: u32, into: &mut Frames) -> Taken
@@ -62,18 +64,19 @@ pub trait HallApi {
         ensures count { length into.new.list ≡ given_count result }
         ensures entry { Adds (event.Take session) (take_outcome result into.new.list) (knows seat.old) (knows seat.new) };
 
-    /// Moves the clock to a moment; what is due then expires. Hands out the sessions that it changed.
+    /// Moves the clock to a moment; what is due then expires. The list of names comes back with the sessions that this changed in
+    /// place of what it held.
     fn tick<R: Wait>(
         &self,
         rt: &R,
         seat: &mut Self::Seat,
         moment: u64,
-        touched: &mut Touched,
-    ) -> Called
+        touched: Touched,
+    ) -> (Called, Touched)
         requires seat { is_of self.now seat.old }
         requires moment { moment ≤ max_moment }
         ensures seat { is_of self.now seat.new }
-        ensures entry { AddsNamed ((event.Tick moment, outcome.Answered result) ∷ []) touched.new (knows seat.old) (knows seat.new) };
+        ensures entry { AddsNamed ((event.Tick moment, outcome.Answered result.0) ∷ []) result.1 (knows seat.old) (knows seat.new) };
 
     /// Closes a session: it is given its frames, and served no more.
     fn close<R: Wait>(&self, rt: &R, seat: &mut Self::Seat, session: u32)
@@ -94,11 +97,12 @@ pub trait HallApi {
         ensures entry { Adds event.Rewrite (outcome.Answered result) (knows seat.old) (knows seat.new) };
 }
 
-/// A hall that gives out further seats and compares them. It is a trait of its own, so that code over `HallApi` makes entries by the
-/// seat that it was lent and by no other.
+/// A hall that gives out further seats, tells what they have seen and puts them together. It is a trait of its own, so that code over
+/// `HallApi` makes entries by the seat that it was lent and by no other.
 pub trait HallSplit: HallApi {
-    ghost use Rattle.std.specs.Prelude.{◌≡◌};
-    ghost use Rattle.world_model.specs.Seats.{AreOfOne, IsSplit};
+    ghost use Rattle.std.specs.Prelude.{◌≡◌, true};
+    ghost use Rattle.world_model.specs.Histories.{IsLegal};
+    ghost use Rattle.world_model.specs.Seats.{AreOfOne, IsJoined, IsSplit, are_ascending, are_seen};
 
     /// A further seat, which has seen what this one has.
     fn split(&self, seat: &mut Self::Seat) -> Self::Seat
@@ -108,14 +112,20 @@ pub trait HallSplit: HallApi {
         ensures made { Self.is_of self.now result }
         ensures split { IsSplit (Self.knows seat.old) (Self.knows result) };
 
-    /// Compares two seats of the hall: they have seen beginnings of one history, and no entry is an own one of both. It changes
-    /// nothing.
-    fn compare(&self, seat: &mut Self::Seat, other: &mut Self::Seat)
+    /// A law, which does nothing: what a seat of the hall has seen is a legal history from its opening on, and the seat's own entries
+    /// stand in it, in order.
+    fn seen(&self, seat: &Self::Seat)
+        requires { Self.is_of self.now seat.now }
+        ensures legal { IsLegal (Self.knows seat.now).opening (Self.knows seat.now).seen }
+        ensures own { are_ascending (Self.knows seat.now).mine ≡ true }
+        ensures stand { are_seen (Self.knows seat.now) ≡ true };
+
+    /// Puts two seats of the hall together: the first has then seen what either had, and the entries of both are its own. The two had
+    /// seen beginnings of one history, and no entry was an own one of both.
+    fn join(&self, seat: &mut Self::Seat, other: Self::Seat)
         requires seat { Self.is_of self.now seat.old }
-        requires other { Self.is_of self.now other.old }
+        requires other { Self.is_of self.now other }
         ensures lent { Self.is_of self.now seat.new }
-        ensures lent_too { Self.is_of self.now other.new }
-        ensures same { Self.knows seat.new ≡ Self.knows seat.old }
-        ensures same_too { Self.knows other.new ≡ Self.knows other.old }
-        ensures one { AreOfOne (Self.knows seat.new) (Self.knows other.new) };
+        ensures one { AreOfOne (Self.knows seat.old) (Self.knows other) }
+        ensures joined { IsJoined (Self.knows seat.old) (Self.knows other) (Self.knows seat.new) };
 }

@@ -1,0 +1,71 @@
+-- No event ends by a failing log where the hall goes on.
+use Rattle.std.proofs.Common.{◌≡◌, Bool, true, false, refl, sym, ap, ◌∙◌, inl, inr, true≢false}
+use Rattle.std.specs.Prelude.{Option, Some, None, if◌then◌else◌}
+use Rattle.world_model.specs.Halls.{Hall, session_of}
+use Rattle.world_model.specs.Histories.{Ending, Step, StepBy, refusal, refusal_going, when_stopped, answer, doing, is_log_fault, is_spent, gone, full, ended, idle}
+use Rattle.world_model.specs.declared.events.Event.{Event}
+use Rattle.world_model.specs.declared.events.Event.TheVariants.{Enter, Call, Take, Tick, Close, Remove, Rewrite, Retire}
+use Rattle.world_model.specs.declared.events.Outcome.{Outcome}
+use Rattle.world_model.specs.Seats.{Act}
+use Rattle.std.specs.Prelude.{[], ◌∷◌}
+use Rattle.shared_hall.specs.Turns.{LeadsBy}
+
+abbrev Fine : Option Ending → Type 0
+Fine None = Unit {0}
+Fine (Some e) = is_log_fault e.0 ≡ false
+
+fine_if : (b : Bool) (x y : Option Ending) → Fine x → Fine y → Fine (if b then x else y)
+fine_if true x y p q = p
+fine_if false x y p q = q
+
+stopped_fine : (event : Event) → is_log_fault (when_stopped event) ≡ false
+stopped_fine Enter = refl
+stopped_fine (Call n moment asked) = refl
+stopped_fine (Take n) = refl
+stopped_fine (Tick moment) = refl
+stopped_fine (Close n) = refl
+stopped_fine (Remove n) = refl
+stopped_fine Rewrite = refl
+stopped_fine Retire = refl
+
+going_fine : (h : Hall) (event : Event) → Fine (refusal_going h event)
+going_fine h Enter = fine_if _ _ None refl tt
+going_fine h (Call n moment asked) = fine_if (is_spent h) _ _ refl (fine_if (gone (session_of h n)) _ _ refl (fine_if (full (session_of h n)) _ None refl tt))
+going_fine h (Take n) = fine_if (ended (session_of h n)) _ _ refl (fine_if (idle (session_of h n)) _ None refl tt)
+going_fine h (Tick moment) = fine_if (is_spent h) _ None refl tt
+going_fine h (Close n) = tt
+going_fine h (Remove n) = tt
+going_fine h Rewrite = tt
+going_fine h Retire = tt
+
+refusal_fine : (h : Hall) (event : Event) → Fine (refusal h event)
+refusal_fine h event = fine_if h.stopped _ _ (stopped_fine event) (going_fine h event)
+
+doing_fine : (h : Hall) (event : Event) → is_log_fault (doing h event).0 ≡ false
+doing_fine h Enter = refl
+doing_fine h (Call n moment asked) = refl
+doing_fine h (Take n) = refl
+doing_fine h (Tick moment) = refl
+doing_fine h (Close n) = refl
+doing_fine h (Remove n) = refl
+doing_fine h Rewrite = refl
+doing_fine h Retire = refl
+
+-- a hall that had stopped refuses
+refuses : (h : Hall) (event : Event) → h.stopped ≡ true → refusal h event ≡ Some (when_stopped event, h)
+refuses h event stops = ap (λ (b : Bool). if b then Some (when_stopped event, h) else refusal_going h event) stops
+
+fine_by : (r : Option Ending) (old new : Hall) (event : Event) (outcome : Outcome) → refusal old event ≡ r → Fine r → new.stopped ≡ old.stopped → StepBy r old event outcome new → is_log_fault outcome ≡ false
+fine_by (Some e) old new event outcome is fine same s = ap is_log_fault s.0 ∙ fine
+fine_by None old new event outcome is fine same (inl s) =
+    let was = sym (refuses old event (sym same ∙ ap (λ (h : Hall). h.stopped) s.1.1)) ∙ is in
+    absurd (cc)
+fine_by None old new event outcome is fine same (inr (inl s)) = ap is_log_fault s.1.0
+fine_by None old new event outcome is fine same (inr (inr s)) = ap is_log_fault s.0 ∙ doing_fine old event
+
+pub is_fine : (old new : Hall) (event : Event) (outcome : Outcome) → new.stopped ≡ old.stopped → Step old event outcome new → is_log_fault outcome ≡ false
+is_fine old new event outcome same s = fine_by (refusal old event) old new event outcome refl (refusal_fine old event) same s
+
+-- one event more
+pub one_act : (old new : Hall) (event : Event) (outcome : Outcome) → new.stopped ≡ old.stopped → Step old event outcome new → LeadsBy ((event, outcome) ∷ []) old new
+one_act old new event outcome same s = (new, s, is_fine old new event outcome same s, refl)

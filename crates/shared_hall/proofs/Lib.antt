@@ -1,0 +1,6 @@
+mod Adding
+mod Calling
+mod Fine
+mod Kinds
+mod Leading
+mod Opening

@@ -1,0 +1,43 @@
+-- Whose seat a seat is, and what it shows.
+use Rattle.std.specs.Prelude.{Option, [], true, unwrap_or}
+use Rattle.atomic_table.specs.declared.shared.Seat.{Seat}
+use Rattle.turn_lock.specs.declared.lock.TurnLock.{TurnLock}
+use Rattle.turn_lock.specs.declared.seat.Held.{Held}
+use Rattle.turn_lock.specs.declared.seat.Known.{Known}
+use Rattle.turn_lock.specs.declared.seat.View.{View}
+use Rattle.turn_lock.specs.Lock.{IsSeatOf}
+use Rattle.turn_lock.specs.Seats.{OwnPlaces, known_of}
+use Rattle.world_data.specs.Worlds.{empty_world}
+use Rattle.world_model.specs.Histories.{IsLegal}
+use Rattle.world_model.specs.Seats.{Knows}
+use Rattle.world_model.specs.declared.events.Entry.{Entry}
+use Rattle.world_model.specs.declared.events.Opening.{Opening}
+use Rattle.shared_hall.specs.declared.values.HallCore.{HallCore}
+use Rattle.shared_hall.specs.declared.works.HallWork.{HallWork}
+use Rattle.shared_hall.specs.declared.works.HallAnswer.{HallAnswer}
+use Rattle.shared_hall.specs.declared.halls.SharedHall.{SharedHall}
+use Rattle.shared_hall.specs.Turns.{opening_at}
+
+abbrev pub LockSeat : Type 0
+LockSeat = Seat (Option (Held HallCore HallWork HallAnswer)) (View Opening Entry HallWork)
+
+-- a seat of a hall has its opening; this one stands for none
+abbrev pub no_opening : Opening
+no_opening = record { world = empty_world; logged = 0; moment = 0; count = 0 }
+
+abbrev pub shown : Known Opening Entry → Knows
+shown k = record { opening = unwrap_or k.opening no_opening; seen = k.seen; mine = k.mine; first = k.first }
+
+-- what the seat shows
+abbrev pub knows_of : LockSeat → Knows
+knows_of s = shown (known_of s)
+
+-- the seat is one of this hall; what it has seen is a legal history, and its own entries stand there in order
+pub record IsOf (hall : SharedHall) (s : LockSeat) : Type 0 where
+  pub seat : IsSeatOf (λ (k : HallCore). opening_at k.core.hall) hall.lock s
+  pub own : OwnPlaces (known_of s)
+  pub legal : IsLegal (knows_of s).opening (knows_of s).seen
+
+-- the first seat of a hall that has no history yet
+abbrev pub first_knows : Knows
+first_knows = record { opening = no_opening; seen = []; mine = []; first = true }

@@ -1,0 +1,177 @@
+//! Two threads share a hall.
+
+ghost use Rattle.std.specs.Prelude.{◌≡◌, IfOk};
+ghost use Rattle.std.specs.Arc.{arc_value};
+ghost use Rattle.shared_hall.specs.Seats.{IsOf};
+
+use super::*;
+use byte_text::{Request, Text};
+use std::alloc::{AllocError, Global};
+use std::sync::{Arc, Wait};
+use std::test::Fail;
+use std::thread;
+use std::thread::{JoinHandle, Threads};
+use tile_core::Core;
+use world_model::{Answers, Asked, AskedList, Called, Frames, Touched};
+
+// The request of a line's words, which are split at spaces.
+fn request(alloc: Global, line: &str) -> Result<Request, Fail> {
+    let mut words = Request::new(alloc);
+    for word in line.split(' ') {
+        if words.words() >= 64 {
+            return Err(Fail::from("a test's line has few words"));
+        }
+        if word.len() > 255 {
+            return Err(Fail::from("a test's word is short"));
+        }
+        words.push(word.as_bytes())?;
+    }
+    if words.words() == 0 {
+        return Err(Fail::from("a test's line has words"));
+    }
+    Ok(words)
+}
+
+// The first of the frames that a take of a session gives, or nothing.
+fn taken<R: Wait>(
+    rt: &R,
+    alloc: Global,
+    hall: &SharedHall,
+    seat: &mut HallSeat,
+    session: u32,
+) -> Result<Text, Fail>
+    requires { IsOf hall.now seat.old }
+    ensures { IsOf hall.now seat.new }
+{
+    let mut frames = Frames::new(alloc)?;
+    hall.take(rt, seat, session, &mut frames);
+    let mut text = Text::new(alloc);
+    if !frames.is_empty() {
+        text.push(frames.at(0))?;
+    }
+    Ok(text)
+}
+
+// What a session is answered to a line.
+fn answered<R: Wait>(
+    rt: &R,
+    alloc: Global,
+    hall: &SharedHall,
+    seat: &mut HallSeat,
+    session: u32,
+    line: &str,
+) -> Result<Text, Fail>
+    requires { IsOf hall.now seat.old }
+    ensures { IsOf hall.now seat.new }
+{
+    let words = request(alloc, line)?;
+    let mut asked = AskedList::new(alloc);
+    if words.words() == 0 || asked.push(Asked::Words(words)).is_err() {
+        return Err(Fail::from(AllocError));
+    }
+    let (answers, _asked, touched) = hall.calls(rt, seat, session, 0, asked, Touched::new(alloc)?);
+    let whole = Answers {
+        served: 1,
+        end: Called::Ok,
+    };
+    if answers != whole || !touched.names(session) {
+        return Err(Fail::from("the call is answered, and its session named"));
+    }
+    taken(rt, alloc, hall, seat, session)
+}
+
+// A hall of an empty world.
+fn hall_at(alloc: Global) -> Result<(SharedHall, HallSeat), Fail>
+    ensures { IfOk result (λ r. IsOf r.0 r.1) }
+{
+    match SharedHall::new(alloc, Core::new(alloc)) {
+        Ok(made) => Ok(made),
+        Err(_core) => Err(Fail::from(AllocError)),
+    }
+}
+
+fn is_answered<R: Wait>(
+    rt: &R,
+    alloc: Global,
+    hall: &SharedHall,
+    seat: &mut HallSeat,
+    line: &str,
+    reply: &str,
+) -> bool
+    requires { IsOf hall.now seat.old }
+    ensures { IsOf hall.now seat.new }
+{
+    let Ok(session) = hall.enter(rt, seat) else {
+        return false;
+    };
+    match answered(rt, alloc, hall, seat, session, line) {
+        Ok(text) => text.bytes() == reply.as_bytes(),
+        Err(_) => false,
+    }
+}
+
+// A thread that sets an object by a seat of its own, and answers whether it was told so.
+fn start<R: Wait + Threads + Copy + Send + 'static>(
+    rt: R,
+    alloc: Global,
+    hall: &Arc<SharedHall>,
+    seat: &mut HallSeat,
+) -> Result<JoinHandle<bool>, Fail>
+    requires { IsOf (arc_value hall.now) seat.old }
+    ensures { IsOf (arc_value hall.now) seat.new }
+{
+    let mut own = hall.split(seat);
+    let theirs = Arc::try_clone(hall)?;
+    let child = thread::spawn(
+        &rt,
+        move || -> bool
+            requires { IsOf (arc_value theirs) own }
+        {
+            is_answered(
+                &rt,
+                alloc,
+                &theirs,
+                &mut own,
+                "SET k a POINT 1 2",
+                "+OK\r\n",
+            )
+        },
+    )?;
+    Ok(child)
+}
+
+#[test]
+fn what_one_thread_sets_another_reads(rt: HostRuntime) -> Result<(), Fail> {
+    let alloc = rt.alloc();
+    let (hall, mut seat) = hall_at(alloc)?;
+    let hall = Arc::new(alloc, hall)?;
+    let child = start(rt, alloc, &hall, &mut seat)?;
+    assert!(rt; child.join(&rt));
+    let mut reader = hall.split(&mut seat);
+    let point = "$36\r\n{\"type\":\"Point\",\"coordinates\":[2,1]}\r\n";
+    assert!(rt; is_answered(&rt, alloc, &hall, &mut reader, "GET k a", point));
+    Ok(())
+}
+
+#[test]
+fn sessions_end(rt: HostRuntime) -> Result<(), Fail> {
+    let alloc = rt.alloc();
+    let (hall, mut seat) = hall_at(alloc)?;
+    assert_eq!(rt; hall.enter(&rt, &mut seat), Ok(1));
+    assert_eq!(rt; hall.enter(&rt, &mut seat), Ok(2));
+    hall.close(&rt, &mut seat, 1);
+    hall.remove(&rt, &mut seat, 2);
+    assert_eq!(rt;
+        hall.tick(&rt, &mut seat, 5, Touched::new(alloc)?).0,
+        Called::Ok
+    );
+    assert_eq!(rt; hall.step_rewrite(&rt, &mut seat), Called::Ok);
+    for session in [1, 2] {
+        assert!(rt;
+            taken(&rt, alloc, &hall, &mut seat, session)?
+                .bytes()
+                .is_empty()
+        );
+    }
+    Ok(())
+}
