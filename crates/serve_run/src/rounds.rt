@@ -59,10 +59,10 @@ fn round<
     door: &mut L,
     clock: &C,
     spawner: &mut P,
-    touched: &mut Touched,
+    touched: Touched,
     counts: &mut Counts,
     limit: u32,
-) -> Option<ServeEnd>
+) -> (Option<ServeEnd>, Touched)
 where
     H::Seat: Send + Drop + 'static,
     L::In: Send + Drop + 'static,
@@ -71,33 +71,37 @@ where
     requires room { counts.old.joined < limit }
     requires few { counts.old.starved ≤ counts.old.joined }
     ensures seat { H.HallApi.is_of (arc_value shared.now.hall) seat.new }
-    ensures room { result ≡ None → counts.new.joined < limit }
+    ensures room { result.0 ≡ None → counts.new.joined < limit }
     ensures few { counts.new.starved ≤ counts.new.joined }
     ensures turn { RoundTurn (C.told clock.now) limit
         (state_of (H.HallApi.knows seat.old) (P.jobs spawner.old) (P.faults spawner.old)
         (L.links door.old) (L.ends door.old) (L.faults door.old) counts.old.joined counts.old.starved)
         (state_of (H.HallApi.knows seat.new) (P.jobs spawner.new) (P.faults spawner.new)
         (L.links door.new) (L.ends door.new) (L.faults door.new) counts.new.joined counts.new.starved)
-        result }
+        result.0 }
 {
     match door.accept() {
-        Err(Failed) => Some(ServeEnd::DoorFault),
+        Err(Failed) => (Some(ServeEnd::DoorFault), touched),
         Ok(Accepted::Idle) => tend(rt, shared, seat, clock, touched),
-        Ok(Accepted::Over) => match tend(rt, shared, seat, clock, touched) {
-            Some(end) => Some(end),
-            None => Some(ServeEnd::Done),
-        },
+        Ok(Accepted::Over) => {
+            let (end, touched) = tend(rt, shared, seat, clock, touched);
+            match end {
+                Some(end) => (Some(end), touched),
+                None => (Some(ServeEnd::Done), touched),
+            }
+        }
         Ok(Accepted::Joined(link)) => {
             counts.joined += 1;
-            if let Some(end) = tend(rt, shared, seat, clock, touched) {
-                return Some(end);
+            let (end, touched) = tend(rt, shared, seat, clock, touched);
+            if let Some(end) = end {
+                return (Some(end), touched);
             }
             let fate = join_link(rt, alloc, shared, seat, link, clock, spawner);
             counts.starved += starved_of(fate);
             if counts.joined < limit {
-                None
+                (None, touched)
             } else {
-                Some(ServeEnd::Done)
+                (Some(ServeEnd::Done), touched)
             }
         }
     }
@@ -120,7 +124,7 @@ fn serve_on<
     door: &mut L,
     clock: &C,
     spawner: &mut P,
-    touched: &mut Touched,
+    touched: Touched,
     counts: &mut Counts,
     limit: u32,
 ) -> ServeEnd
@@ -139,10 +143,13 @@ where
         (L.links door.new) (L.ends door.new) (L.faults door.new) counts.new.joined counts.new.starved)
         result }
 {
+    let mut touched = touched;
     for _ in rt.forever() {
-        if let Some(end) = round(
+        let (end, back) = round(
             rt, alloc, shared, seat, door, clock, spawner, touched, counts, limit,
-        ) {
+        );
+        touched = back;
+        if let Some(end) = end {
             return end;
         }
     }
@@ -187,7 +194,7 @@ where
     if counts.joined == limit {
         return ServeEnd::Done;
     }
-    let Ok(mut touched) = Touched::new(alloc) else {
+    let Ok(touched) = Touched::new(alloc) else {
         return ServeEnd::Memory;
     };
     serve_on(
@@ -198,7 +205,7 @@ where
         door,
         clock,
         spawner,
-        &mut touched,
+        touched,
         counts,
         limit,
     )

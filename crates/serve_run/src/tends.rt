@@ -43,21 +43,20 @@ pub(crate) fn tend<H: HallApi + Drop, C: Clock, B: Bell + Drop, G: Drop, R: Wait
     shared: &Shared<H, B, G>,
     seat: &mut H::Seat,
     clock: &C,
-    touched: &mut Touched,
-) -> Option<ServeEnd>
+    touched: Touched,
+) -> (Option<ServeEnd>, Touched)
     requires { H.is_of (arc_value shared.now.hall) seat.old }
     ensures seat { H.is_of (arc_value shared.now.hall) seat.new }
-    ensures tends { Tends (C.told clock.now) (H.knows seat.old) (H.knows seat.new) result }
+    ensures tends { Tends (C.told clock.now) (H.knows seat.old) (H.knows seat.new) result.0 }
 {
-    touched.clear();
     let moment = clock.now();
-    let ticked = shared.hall.tick(rt, seat, moment, touched);
-    ring_touched(&*shared.bell, touched);
+    let (ticked, touched) = shared.hall.tick(rt, seat, moment, touched);
+    ring_touched(&*shared.bell, &touched);
     match serve_end(ticked) {
-        Some(end) => Some(end),
+        Some(end) => (Some(end), touched),
         None => {
             let rewritten = shared.hall.step_rewrite(rt, seat);
-            serve_end(rewritten)
+            (serve_end(rewritten), touched)
         }
     }
 }

@@ -31,24 +31,26 @@ fn serve_part<H: HallApi, C: Clock, B: Bell, G: Gate, R: Wait>(
     bell: &B,
     room: &B,
     gate: &G,
-    hand: &mut Hand,
+    hand: Hand,
     piece: &[u8],
-) -> Part
+) -> (Part, Hand)
     requires seat { H.is_of hall.now seat.old }
     ensures seat { H.is_of hall.now seat.new }
-    ensures part { ServesPart session (C.told clock.now) (H.knows seat.old) (H.knows seat.new) hand.old.reader piece.now hand.new.reader result }
+    ensures part { ServesPart session (C.told clock.now) (H.knows seat.old) (H.knows seat.new) hand.reader piece.now result.1.reader result.0 }
 {
+    let mut hand = hand;
     let fill = collect(&mut hand.reader, piece, &mut hand.asked);
-    let answer = serve_list(rt, hall, seat, session, clock, bell, room, gate, hand);
+    let (answer, hand) = serve_list(rt, hall, seat, session, clock, bell, room, gate, hand);
     if let Some(end) = end_of(answer) {
-        return Part::End(end);
+        return (Part::End(end), hand);
     }
-    match fill {
+    let part = match fill {
         Fill::Full(taken) => Part::More(taken),
         Fill::Dry => Part::Dry,
         Fill::Broken => Part::End(InEnd::Broken),
         Fill::Memory => Part::End(InEnd::Memory),
-    }
+    };
+    (part, hand)
 }
 
 // Serves the requests that end in the bytes, and the fault that they make. None where the session goes on.
@@ -61,16 +63,17 @@ fn serve_block<H: HallApi, C: Clock, B: Bell, G: Gate, R: Wait>(
     bell: &B,
     room: &B,
     gate: &G,
-    hand: &mut Hand,
+    hand: Hand,
     piece: &[u8],
-) -> Option<InEnd>
+) -> (Option<InEnd>, Hand)
     requires seat { H.is_of hall.now seat.old }
     ensures seat { H.is_of hall.now seat.new }
-    ensures block { ServesBlock session (C.told clock.now) (H.knows seat.old) (H.knows seat.new) hand.old.reader piece.now hand.new.reader result }
+    ensures block { ServesBlock session (C.told clock.now) (H.knows seat.old) (H.knows seat.new) hand.reader piece.now result.1.reader result.0 }
 {
+    let mut hand = hand;
     let mut taken = 0;
     for _ in rt.forever() {
-        match serve_part(
+        let (part, back) = serve_part(
             rt,
             hall,
             seat,
@@ -81,10 +84,12 @@ fn serve_block<H: HallApi, C: Clock, B: Bell, G: Gate, R: Wait>(
             gate,
             hand,
             &piece[taken..],
-        ) {
+        );
+        hand = back;
+        match part {
             Part::More(count) => taken += count,
-            Part::Dry => return None,
-            Part::End(end) => return Some(end),
+            Part::Dry => return (None, hand),
+            Part::End(end) => return (Some(end), hand),
         }
     }
     unreachable!()
@@ -101,24 +106,24 @@ pub(crate) fn read_block<H: HallApi, S: Source, C: Clock, B: Bell, G: Gate, R: W
     bell: &B,
     room: &B,
     gate: &G,
-    hand: &mut Hand,
+    hand: Hand,
     block: &mut [u8],
-) -> Option<InEnd>
+) -> (Option<InEnd>, Hand)
     requires seat { H.is_of hall.now seat.old }
     requires some { 0 < length block.old }
-    requires dry { asked_behind hand.old.reader [] ≡ [] }
+    requires dry { asked_behind hand.reader [] ≡ [] }
     ensures seat { H.is_of hall.now seat.new }
     ensures turn { BlockTurn session (C.told clock.now)
         (H.knows seat.old) (H.knows seat.new)
         (S.left source.old) (S.left source.new) (S.faults source.old) (S.faults source.new)
-        hand.old.reader hand.new.reader result }
+        hand.reader result.1.reader result.0 }
 {
     let count = match source.read(block) {
         Ok(count) => count,
-        Err(Failed) => return Some(InEnd::ReadFault),
+        Err(Failed) => return (Some(InEnd::ReadFault), hand),
     };
     if count == 0 {
-        return Some(InEnd::Over);
+        return (Some(InEnd::Over), hand);
     }
     serve_block(
         rt,

@@ -40,30 +40,41 @@ fn call_turn<H: HallApi, C: Clock, B: Bell, G: Gate, R: Wait>(
     bell: &B,
     room: &B,
     gate: &G,
-    hand: &mut Hand,
-) -> Option<Called>
+    hand: Hand,
+) -> (Option<Called>, Hand)
     requires seat { H.is_of hall.now seat.old }
-    requires some { 0 < length hand.old.asked }
-    requires few { length hand.old.asked ≤ 64 }
-    requires proper { list_all is_proper hand.old.asked ≡ true }
+    requires some { 0 < length hand.asked }
+    requires few { length hand.asked ≤ 64 }
+    requires proper { list_all is_proper hand.asked ≡ true }
     ensures seat { H.is_of hall.now seat.new }
-    ensures reader { hand.new.reader ≡ hand.old.reader }
-    ensures turn { CallsTurn session (C.told clock.now) (H.knows seat.old) (H.knows seat.new) hand.old.asked hand.new.asked result }
+    ensures reader { result.1.reader ≡ hand.reader }
+    ensures turn { CallsTurn session (C.told clock.now) (H.knows seat.old) (H.knows seat.new) hand.asked result.1.asked result.0 }
 {
-    hand.passes = hand.passes.saturating_add(1);
-    gate.pass(rt, session, hand.passes);
+    let Hand {
+        reader,
+        asked,
+        touched,
+        passes,
+    } = hand;
+    let passes = passes.saturating_add(1);
+    gate.pass(rt, session, passes);
     let mark = room.mark(session);
     let moment = clock.now();
-    hand.touched.clear();
-    let answers = hall.calls(rt, seat, session, moment, &hand.asked, &mut hand.touched);
-    ring_touched(bell, &hand.touched);
-    hand.asked.pass(answers.served);
+    let (answers, mut asked, touched) = hall.calls(rt, seat, session, moment, asked, touched);
+    ring_touched(bell, &touched);
+    asked.pass(answers.served);
+    let hand = Hand {
+        reader,
+        asked,
+        touched,
+        passes,
+    };
     match answers.end {
         Called::Full => {
             room.wait(rt, session, mark);
-            None
+            (None, hand)
         }
-        end => Some(end),
+        end => (Some(end), hand),
     }
 }
 
@@ -78,21 +89,24 @@ pub(crate) fn serve_list<H: HallApi, C: Clock, B: Bell, G: Gate, R: Wait>(
     bell: &B,
     room: &B,
     gate: &G,
-    hand: &mut Hand,
-) -> Called
+    hand: Hand,
+) -> (Called, Hand)
     requires seat { H.is_of hall.now seat.old }
-    requires few { length hand.old.asked ≤ 64 }
-    requires proper { list_all is_proper hand.old.asked ≡ true }
+    requires few { length hand.asked ≤ 64 }
+    requires proper { list_all is_proper hand.asked ≡ true }
     ensures seat { H.is_of hall.now seat.new }
-    ensures reader { hand.new.reader ≡ hand.old.reader }
-    ensures serves { ServesList session (C.told clock.now) (H.knows seat.old) (H.knows seat.new) hand.old.asked hand.new.asked result }
+    ensures reader { result.1.reader ≡ hand.reader }
+    ensures serves { ServesList session (C.told clock.now) (H.knows seat.old) (H.knows seat.new) hand.asked result.1.asked result.0 }
 {
+    let mut hand = hand;
     if hand.asked.len() == 0 {
-        return Called::Ok;
+        return (Called::Ok, hand);
     }
     for _ in rt.forever() {
-        if let Some(end) = call_turn(rt, hall, seat, session, clock, bell, room, gate, hand) {
-            return end;
+        let (end, back) = call_turn(rt, hall, seat, session, clock, bell, room, gate, hand);
+        hand = back;
+        if let Some(end) = end {
+            return (end, hand);
         }
     }
     unreachable!()

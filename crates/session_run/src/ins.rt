@@ -42,21 +42,24 @@ fn read_on<H: HallApi, S: Source, C: Clock, B: Bell, G: Gate, R: Wait>(
     bell: &B,
     room: &B,
     gate: &G,
-    hand: &mut Hand,
+    hand: Hand,
     block: &mut [u8],
 ) -> InEnd
     requires seat { H.is_of hall.now seat.old }
     requires some { 0 < length block.old }
-    requires fresh { hand.old.reader ≡ Some [] }
+    requires fresh { hand.reader ≡ Some [] }
     ensures seat { H.is_of hall.now seat.new }
     ensures reads { ReadsOn session (C.told clock.now)
         (H.knows seat.old) (H.knows seat.new)
         (S.left source.old) (S.left source.new) (S.faults source.old) (S.faults source.new) result }
 {
+    let mut hand = hand;
     for _ in rt.forever() {
-        if let Some(end) = read_block(
+        let (end, back) = read_block(
             rt, hall, seat, session, source, clock, bell, room, gate, hand, block,
-        ) {
+        );
+        hand = back;
+        if let Some(end) = end {
             return end;
         }
     }
@@ -82,14 +85,14 @@ fn read_all<H: HallApi, S: Source, C: Clock, B: Bell, G: Gate, R: Wait>(
         (H.knows seat.old) (H.knows seat.new)
         (S.left source.old) (S.left source.new) (S.faults source.old) (S.faults source.new) result }
 {
-    let Ok(mut hand) = new_hand(alloc) else {
+    let Ok(hand) = new_hand(alloc) else {
         return InEnd::Memory;
     };
     let Ok(mut block) = vec![in alloc; 0u8; BLOCK] else {
         return InEnd::Memory;
     };
     read_on(
-        rt, hall, seat, session, source, clock, bell, room, gate, &mut hand, &mut block,
+        rt, hall, seat, session, source, clock, bell, room, gate, hand, &mut block,
     )
 }
 
