@@ -32,23 +32,13 @@ counted jobs refused callers ends faults = record { jobs = jobs; refused = refus
 abbrev pub state_at : Knows → Counted → ℕ → ℕ → State
 state_at k c joined starved = state_of k c.jobs c.refused c.callers c.ends c.faults joined starved
 
-abbrev pub end_status : ServeEnd → ℕ
-end_status loop.Done = 0
-end_status loop.DoorFault = 8
-end_status loop.Stopped = 5
-end_status loop.Spent = 9
-end_status loop.Memory = 7
-
-abbrev pub end_lines : ServeEnd → ℕ → ℕ → Bytes
-end_lines loop.Done joined starved = served_lines joined starved
-end_lines loop.DoorFault joined starved = door_line
-end_lines loop.Stopped joined starved = disk_line
-end_lines loop.Spent joined starved = spent_line
-end_lines loop.Memory joined starved = memory_line
-
--- the lines of the loop's end were written, or there was no memory for them
+-- the last lines of the loop's end were written, with its status; where the loop is done, there may have been no memory for them
 abbrev pub Finishes : ServeEnd → ℕ → ℕ → Option Bytes → Option Bytes → ℕ → Type 0
-Finishes end joined starved held held' status = IsEnd held held' (end_status end) (end_lines end joined starved) status ⊎ IsEnd held held' 7 memory_line status
+Finishes loop.Done joined starved held held' status = IsEnd held held' 0 (served_lines joined starved) status ⊎ IsEnd held held' 7 memory_line status
+Finishes loop.DoorFault joined starved held held' status = IsEnd held held' 8 door_line status
+Finishes loop.Stopped joined starved held held' status = IsEnd held held' 5 disk_line status
+Finishes loop.Spent joined starved held held' status = IsEnd held held' 9 spent_line status
+Finishes loop.Memory joined starved held held' status = IsEnd held held' 7 memory_line status
 
 -- memory wanted before the door was opened, and nothing was done
 pub record IsUnbegun (k k' : Knows) (c c' : Counted) (held held' : Option Bytes) (status : ℕ) : Type 0 where

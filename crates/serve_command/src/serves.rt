@@ -125,10 +125,11 @@ where
     ensures accept { result ≡ 8 → Rose (L.faults door.old) (L.faults door.new) }
     ensures unread { result ≡ 3 → ⊥ }
 {
+    // What the seat has seen is a legal history, also where no more is done.
+    hall.seen(seat);
     let Ok(shared) = shared_of(alloc, hall) else {
         return end(sink, 7, OUT_OF_MEMORY);
     };
-    shared.hall.seen(seat);
     let Ok(line) = listening(alloc, asked.addr) else {
         return end(sink, 7, OUT_OF_MEMORY);
     };
