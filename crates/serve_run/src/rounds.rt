@@ -84,16 +84,16 @@ where
         Err(Failed) => (Some(ServeEnd::DoorFault), touched),
         Ok(Accepted::Idle) => tend(rt, shared, seat, clock, touched),
         Ok(Accepted::Over) => {
-            let (end, touched) = tend(rt, shared, seat, clock, touched);
-            match end {
+            let (last, touched) = tend(rt, shared, seat, clock, touched);
+            match last {
                 Some(end) => (Some(end), touched),
                 None => (Some(ServeEnd::Done), touched),
             }
         }
         Ok(Accepted::Joined(link)) => {
             counts.joined += 1;
-            let (end, touched) = tend(rt, shared, seat, clock, touched);
-            if let Some(end) = end {
+            let (tended, touched) = tend(rt, shared, seat, clock, touched);
+            if let Some(end) = tended {
                 return (Some(end), touched);
             }
             let fate = join_link(rt, alloc, shared, seat, link, clock, spawner);
@@ -198,16 +198,7 @@ where
         return ServeEnd::Memory;
     };
     serve_on(
-        rt,
-        alloc,
-        shared,
-        seat,
-        door,
-        clock,
-        spawner,
-        touched,
-        counts,
-        limit,
+        rt, alloc, shared, seat, door, clock, spawner, touched, counts, limit,
     )
 }
 

@@ -44,13 +44,12 @@ fn serve_part<H: HallApi, C: Clock, B: Bell, G: Gate, R: Wait>(
     if let Some(end) = end_of(answer) {
         return (Part::End(end), hand);
     }
-    let part = match fill {
-        Fill::Full(taken) => Part::More(taken),
-        Fill::Dry => Part::Dry,
-        Fill::Broken => Part::End(InEnd::Broken),
-        Fill::Memory => Part::End(InEnd::Memory),
-    };
-    (part, hand)
+    match fill {
+        Fill::Full(taken) => (Part::More(taken), hand),
+        Fill::Dry => (Part::Dry, hand),
+        Fill::Broken => (Part::End(InEnd::Broken), hand),
+        Fill::Memory => (Part::End(InEnd::Memory), hand),
+    }
 }
 
 // Serves the requests that end in the bytes, and the fault that they make. None where the session goes on.

@@ -1,17 +1,20 @@
 -- What a turn adds to what a seat shows.
-use Rattle.std.proofs.Common.{◌≡◌, ℕ, zero, suc, ◌+◌, List, [], ◌∷◌, ◌++◌, length, map, refl, sym, ap, ◌∙◌, subst}
+use Rattle.std.proofs.Common.{◌≡◌, false, ℕ, zero, suc, ◌+◌, List, [], ◌∷◌, ◌++◌, length, map, refl, sym, ap, ◌∙◌, subst}
 use Rattle.std.specs.Prelude.{Option, Some, unwrap_or}
 use Rattle.std.specs.List.{range_with_len}
 use Rattle.turn_lock.specs.declared.seat.Known.{Known}
 use Rattle.turn_lock.specs.Seats.{Turn}
+use Rattle.turn_lock.specs.Turned.{NoneKept}
 use Rattle.world_model.specs.Halls.{Hall, NamesChanged}
 use Rattle.world_model.specs.Histories.{IsLegal}
 use Rattle.world_model.specs.Laws.{StepsLeadToOne}
 use Rattle.world_model.specs.Seats.{Act, act_of, places_from, Knows, AddsCalls, AddsNamed, NamesChangedBy}
 use Rattle.world_model.specs.declared.events.Entry.{Entry}
 use Rattle.world_model.specs.declared.events.Opening.{Opening}
-use Rattle.shared_hall.specs.Turns.{entry_of, Stands}
-use Rattle.shared_hall.specs.Seats.{no_opening, shown}
+use Rattle.shared_hall.specs.Turns.{entry_of, acts, entries_of, Gives, Stands}
+use Rattle.shared_hall.specs.declared.works.HallWork.{HallWork}
+use Rattle.shared_hall.specs.declared.works.HallAnswer.{HallAnswer}
+use Rattle.shared_hall.specs.Seats.{IsDone, no_opening, shown}
 use Rattle.shared_hall.proofs.Leading.{is_legal, names_changed}
 
 same_places : (at n : ℕ) → range_with_len at n ≡ places_from at n
@@ -37,18 +40,30 @@ adds k l o log acts h was t s =
       legal = subst (λ (z : Opening). IsLegal z l.seen) (sym opens) (subst (λ (z : List Entry). IsLegal o z) (sym t.seen) (is_legal h o (log ++ made) s));
     }
 
--- a turn of a work, by what its acts are
-pub turn_adds : (k l : Known Opening Entry) (o : Opening) (log : List Entry) (made acts : List Act) (h : Hall) → made ≡ acts → k.opening ≡ Some o → Turn k l log (map entry_of made) → Stands h o (log ++ map entry_of made) → AddsCalls acts (shown k) (shown l)
-turn_adds k l o log made acts h is was t s = subst (λ (z : List Act). AddsCalls z (shown k) (shown l)) is (adds k l o log made h was t s)
+-- a turn did the work, and its acts are the seat's own
+pub is_done : StepsLeadToOne → (w : HallWork) (out : HallAnswer) (k l : Known Opening Entry) (o : Opening) (log : List Entry) (g h : Hall) → Gives w g out h → k.opening ≡ Some o → Turn k l log (entries_of w out) → Stands g o log → Stands h o (log ++ entries_of w out) → IsDone w out (shown k) (shown l)
+is_done one w out k l o log g h gives was t p s =
+    let made = entries_of w out in
+    let opens : unwrap_or l.opening no_opening ≡ o = ap (λ (z : Option Opening). unwrap_or z no_opening) (t.opening ∙ was) in
+    record {
+      before = g;
+      after = h;
+      gives = gives;
+      adds = adds k l o log (acts w out) h was t s;
+      names = λ named names.
+          let changed = names_changed one o log made g h named p s names in
+          subst (λ (z : Opening). NamesChangedBy z (k.seen ++ t.begins.0) made named) (sym opens) (subst (λ (z : List Entry). NamesChangedBy o z made named) (sym t.begins.1) changed);
+    }
+
+-- no entry is kept for the first seat
+pub none_kept : (entries : List Entry) → NoneKept (λ (e : Entry). false) entries
+none_kept [] = tt
+none_kept (e ∷ es) = (refl, none_kept es)
+
+-- a work that was done added its acts, by what they are
+pub adds_acts : (w : HallWork) (out : HallAnswer) (old new : Knows) (made : List Act) → acts w out ≡ made → IsDone w out old new → AddsCalls made old new
+adds_acts w out old new made is d = subst (λ (z : List Act). AddsCalls z old new) is d.adds
 
 -- the same, with the sessions that were changed
-pub turn_names : StepsLeadToOne → (k l : Known Opening Entry) (o : Opening) (log : List Entry) (made acts : List Act) (named : List ℕ) (g h : Hall) → made ≡ acts → k.opening ≡ Some o → Turn k l log (map entry_of made) → Stands g o log → Stands h o (log ++ map entry_of made) → NamesChanged named g h → AddsNamed acts named (shown k) (shown l)
-turn_names one k l o log made acts named g h is was t p s names =
-    let added = adds k l o log made h was t s in
-    let opens : unwrap_or l.opening no_opening ≡ o = ap (λ (z : Option Opening). unwrap_or z no_opening) (t.opening ∙ was) in
-    let changed = names_changed one o log (map entry_of made) g h named p s names in
-    subst (λ (z : List Act). AddsNamed z named (shown k) (shown l)) is
-    (record {
-      adds = added;
-      names = subst (λ (z : Opening). NamesChangedBy z (k.seen ++ t.begins.0) (map entry_of made) named) (sym opens) (subst (λ (z : List Entry). NamesChangedBy o z (map entry_of made) named) (sym t.begins.1) changed);
-    })
+pub adds_named : (w : HallWork) (out : HallAnswer) (old new : Knows) (made : List Act) (named : List ℕ) → acts w out ≡ made → (d : IsDone w out old new) → NamesChanged named d.before d.after → AddsNamed made named old new
+adds_named w out old new made named is d names = subst (λ (z : List Act). AddsNamed z named old new) is (record { adds = d.adds; names = d.names named names })

@@ -1,6 +1,7 @@
 mod Adding
+mod AnswerKinds
 mod Calling
 mod Fine
-mod Kinds
+mod Joining
 mod Leading
 mod Opening

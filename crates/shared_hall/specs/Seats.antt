@@ -1,5 +1,5 @@
 -- Whose seat a seat is, and what it shows.
-use Rattle.std.specs.Prelude.{Option, [], true, unwrap_or}
+use Rattle.std.specs.Prelude.{ℕ, Option, List, [], ◌++◌, true, unwrap_or}
 use Rattle.atomic_table.specs.declared.shared.Seat.{Seat}
 use Rattle.turn_lock.specs.declared.lock.TurnLock.{TurnLock}
 use Rattle.turn_lock.specs.declared.seat.Held.{Held}
@@ -9,14 +9,15 @@ use Rattle.turn_lock.specs.Lock.{IsSeatOf}
 use Rattle.turn_lock.specs.Seats.{OwnPlaces, known_of}
 use Rattle.world_data.specs.Worlds.{empty_world}
 use Rattle.world_model.specs.Histories.{IsLegal}
-use Rattle.world_model.specs.Seats.{Knows}
+use Rattle.world_model.specs.Halls.{Hall, NamesChanged}
+use Rattle.world_model.specs.Seats.{Knows, AddsCalls, NamesChangedBy}
 use Rattle.world_model.specs.declared.events.Entry.{Entry}
 use Rattle.world_model.specs.declared.events.Opening.{Opening}
 use Rattle.shared_hall.specs.declared.values.HallCore.{HallCore}
 use Rattle.shared_hall.specs.declared.works.HallWork.{HallWork}
 use Rattle.shared_hall.specs.declared.works.HallAnswer.{HallAnswer}
 use Rattle.shared_hall.specs.declared.halls.SharedHall.{SharedHall}
-use Rattle.shared_hall.specs.Turns.{opening_at}
+use Rattle.shared_hall.specs.Turns.{acts, opening_at, Gives}
 
 abbrev pub LockSeat : Type 0
 LockSeat = Seat (Option (Held HallCore HallWork HallAnswer)) (View Opening Entry HallWork)
@@ -41,3 +42,12 @@ pub record IsOf (hall : SharedHall) (s : LockSeat) : Type 0 where
 -- the first seat of a hall that has no history yet
 abbrev pub first_knows : Knows
 first_knows = record { opening = no_opening; seen = []; mine = []; first = true }
+
+-- a turn did a work once, between two halls: its acts are entries of the seat's own, and who names the sessions that differ names all
+-- that the entries changed
+pub record IsDone (w : HallWork) (out : HallAnswer) (old new : Knows) : Type 0 where
+  pub before : Hall
+  pub after : Hall
+  pub gives : Gives w before out after
+  pub adds : AddsCalls (acts w out) old new
+  pub names : (named : List ℕ) → NamesChanged named before after → NamesChangedBy new.opening (old.seen ++ adds.between) adds.entries named

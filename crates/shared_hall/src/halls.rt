@@ -3,7 +3,7 @@
 ghost use Rattle.std.specs.Prelude.{◌≡◌, IfOk, IfErr};
 ghost use Rattle.world_data.specs.Worlds.{empty_world};
 ghost use Rattle.world_model.specs.Histories.{opening_hall};
-ghost use Rattle.shared_hall.specs.Seats.{IsOf, knows_of, first_knows};
+ghost use Rattle.shared_hall.specs.Seats.{IsOf, IsDone, knows_of, first_knows};
 
 use crate::values::HallCore;
 use crate::works::{Asking, HallAnswer, HallWork, Taking, Ticking};
@@ -38,6 +38,17 @@ impl SharedHall {
             Err(value) => Err(value.core),
         }
     }
+
+    // Takes a turn: the work is done once, and its acts are entries of the seat's own.
+    fn turn<R: Wait>(&self, rt: &R, seat: &mut HallSeat, work: HallWork) -> HallAnswer
+        requires { IsOf self.now seat.old }
+        ensures seat { IsOf self.now seat.new }
+        ensures done { IsDone work result (knows_of seat.old) (knows_of seat.new) }
+    {
+        // An entry leads to one hall, so that the history alone tells who was changed.
+        step_laws();
+        self.lock.turn(rt, seat, work)
+    }
 }
 
 impl HallApi for SharedHall {
@@ -50,7 +61,7 @@ impl HallApi for SharedHall {
     ghost knows = { λ seat. knows_of seat };
 
     fn enter<R: Wait>(&self, rt: &R, seat: &mut HallSeat) -> Result<u32, EnterFault> {
-        match self.lock.turn(rt, seat, HallWork::Enter) {
+        match self.turn(rt, seat, HallWork::Enter) {
             HallAnswer::Entered(entered) => entered,
             _ => unreachable!(),
         }
@@ -65,15 +76,13 @@ impl HallApi for SharedHall {
         asked: AskedList,
         touched: Touched,
     ) -> (Answers, AskedList, Touched) {
-        // An entry leads to one hall, so that who was changed is told by the history alone.
-        step_laws();
         let asking = Asking {
             session,
             moment,
             asked,
             touched,
         };
-        match self.lock.turn(rt, seat, HallWork::Call(asking)) {
+        match self.turn(rt, seat, HallWork::Call(asking)) {
             HallAnswer::Called(answers, asked, touched) => (answers, asked, touched),
             _ => unreachable!(),
         }
@@ -84,7 +93,7 @@ impl HallApi for SharedHall {
             session,
             into: into.move_out(),
         };
-        match self.lock.turn(rt, seat, HallWork::Take(taking)) {
+        match self.turn(rt, seat, HallWork::Take(taking)) {
             HallAnswer::Taken(taken, frames) => {
                 *into = frames;
                 taken
@@ -100,8 +109,6 @@ impl HallApi for SharedHall {
         moment: u64,
         touched: Touched,
     ) -> (Called, Touched) {
-        // As with calls.
-        step_laws();
         match self
             .lock
             .turn(rt, seat, HallWork::Tick(Ticking { moment, touched }))
@@ -112,16 +119,16 @@ impl HallApi for SharedHall {
     }
 
     fn close<R: Wait>(&self, rt: &R, seat: &mut HallSeat, session: u32) {
-        self.lock.turn(rt, seat, HallWork::Close(session));
+        self.turn(rt, seat, HallWork::Close(session));
     }
 
     fn remove<R: Wait>(&self, rt: &R, seat: &mut HallSeat, session: u32) {
-        self.lock.turn(rt, seat, HallWork::Remove(session));
+        self.turn(rt, seat, HallWork::Remove(session));
     }
 
     // There is no log so far, so nothing is rewritten.
     fn step_rewrite<R: Wait>(&self, rt: &R, seat: &mut HallSeat) -> Called {
-        match self.lock.turn(rt, seat, HallWork::StepRewrite) {
+        match self.turn(rt, seat, HallWork::StepRewrite) {
             HallAnswer::Rewrote(called) => called,
             _ => unreachable!(),
         }

@@ -2,6 +2,7 @@
 //! in the hall's one history.
 #![tactic(auto)]
 
+mod answers;
 mod halls;
 #[cfg(test)]
 mod tests;

@@ -1,7 +1,9 @@
 //! Two threads share a hall.
 
-ghost use Rattle.std.specs.Prelude.{◌≡◌, IfOk};
+ghost use Rattle.std.specs.Prelude.{◌≡◌, IfOk, length, true};
+ghost use Rattle.std.specs.List.{list_all};
 ghost use Rattle.std.specs.Arc.{arc_value};
+ghost use Rattle.world_model.specs.Outcomes.{is_proper};
 ghost use Rattle.shared_hall.specs.Seats.{IsOf};
 
 use super::*;
@@ -12,7 +14,7 @@ use std::test::Fail;
 use std::thread;
 use std::thread::{JoinHandle, Threads};
 use tile_core::Core;
-use world_model::{Answers, Asked, AskedList, Called, Frames, Touched};
+use world_model::{Answers, Asked, AskedList, Called, Frames, HallApi, HallSplit, Touched};
 
 // The request of a line's words, which are split at spaces.
 fn request(alloc: Global, line: &str) -> Result<Request, Fail> {
@@ -25,9 +27,6 @@ fn request(alloc: Global, line: &str) -> Result<Request, Fail> {
             return Err(Fail::from("a test's word is short"));
         }
         words.push(word.as_bytes())?;
-    }
-    if words.words() == 0 {
-        return Err(Fail::from("a test's line has words"));
     }
     Ok(words)
 }
@@ -52,6 +51,22 @@ fn taken<R: Wait>(
     Ok(text)
 }
 
+// The one request of a line.
+fn asked_by(alloc: Global, line: &str) -> Result<AskedList, Fail>
+    ensures one { IfOk result (λ a. length a ≡ 1) }
+    ensures proper { IfOk result (λ a. list_all is_proper a ≡ true) }
+{
+    let words = request(alloc, line)?;
+    if words.words() == 0 {
+        return Err(Fail::from("a test's line has words"));
+    }
+    let mut asked = AskedList::new(alloc);
+    match asked.push(Asked::Words(words)) {
+        Ok(()) => Ok(asked),
+        Err(_) => Err(Fail::from(AllocError)),
+    }
+}
+
 // What a session is answered to a line.
 fn answered<R: Wait>(
     rt: &R,
@@ -64,11 +79,7 @@ fn answered<R: Wait>(
     requires { IsOf hall.now seat.old }
     ensures { IsOf hall.now seat.new }
 {
-    let words = request(alloc, line)?;
-    let mut asked = AskedList::new(alloc);
-    if words.words() == 0 || asked.push(Asked::Words(words)).is_err() {
-        return Err(Fail::from(AllocError));
-    }
+    let asked = asked_by(alloc, line)?;
     let (answers, _asked, touched) = hall.calls(rt, seat, session, 0, asked, Touched::new(alloc)?);
     let whole = Answers {
         served: 1,
@@ -150,6 +161,7 @@ fn what_one_thread_sets_another_reads(rt: HostRuntime) -> Result<(), Fail> {
     let mut reader = hall.split(&mut seat);
     let point = "$36\r\n{\"type\":\"Point\",\"coordinates\":[2,1]}\r\n";
     assert!(rt; is_answered(&rt, alloc, &hall, &mut reader, "GET k a", point));
+    hall.join(&mut seat, reader);
     Ok(())
 }
 

@@ -1,16 +1,10 @@
-//! What is done with the core in one turn.
+//! What is asked of the hall in one turn, and what is answered.
 
-ghost use Rattle.std.specs.Prelude.{◌≡◌, ◌≤◌, [], true, length};
+ghost use Rattle.std.specs.Prelude.{◌≡◌, ◌≤◌, [], true};
 ghost use Rattle.std.specs.List.{list_all};
 ghost use Rattle.world_data.specs.Limits.{max_moment, take_frames};
-ghost use Rattle.world_model.specs.Outcomes.{is_proper, call_acts, IsCount};
-ghost use Rattle.world_model.specs.Halls.{NamesChanged};
-ghost use Rattle.shared_hall.specs.Turns.{acts, Gives, LeadsBy};
-ghost use Rattle.shared_hall.specs.declared.works.HallWork.TheVariants as work;
+ghost use Rattle.world_model.specs.Outcomes.{is_proper};
 
-use crate::values::HallCore;
-use tile_core::Core;
-use turn_lock::Work;
 use world_model::{Answers, AskedList, Called, EnterFault, Frames, Taken, Touched};
 
 /// What a session asks for at a moment, and where the sessions are named that it changes.
@@ -61,110 +55,4 @@ pub enum HallAnswer {
     Ticked(Called, Touched),
     Rewrote(Called),
     Done,
-}
-
-impl Work<HallCore> for HallWork {
-    type Out = HallAnswer;
-
-    ghost use Rattle.shared_hall.specs.Turns.{entries_of, Gives};
-
-    ghost entries = { λ asked out h. entries_of asked out };
-
-    ghost gives = { λ asked before out after. Gives asked before.core.hall out after.core.hall };
-
-    // A take gives frames only when what they tell of is there to stay: one take of many serves all.
-    fn is_late(&self) -> bool {
-        matches!(self, HallWork::Take(_))
-    }
-
-    fn run(self, value: &mut HallCore) -> HallAnswer {
-        answer(&mut value.core, self)
-    }
-}
-
-// Does what is asked, and answers it.
-fn answer(core: &mut Core, asked: HallWork) -> HallAnswer
-    ensures gives { Gives asked core.old.hall result core.new.hall }
-    ensures leads { LeadsBy (acts asked result) core.old.hall core.new.hall }
-{
-    match asked {
-        HallWork::Enter => HallAnswer::Entered(core.enter()),
-        HallWork::Call(asking) => answer_call(core, asking),
-        HallWork::Take(taking) => answer_take(core, taking),
-        HallWork::Tick(ticking) => answer_tick(core, ticking),
-        HallWork::Close(session) => {
-            core.close_session(session);
-            HallAnswer::Done
-        }
-        HallWork::Remove(session) => {
-            core.remove_session(session);
-            HallAnswer::Done
-        }
-        // There is no log so far, and so nothing to rewrite.
-        HallWork::StepRewrite => HallAnswer::Rewrote(Called::Ok),
-    }
-}
-
-fn answer_call(core: &mut Core, asking: Asking) -> HallAnswer
-    ensures gives { Gives (work.Call asking) core.old.hall result core.new.hall }
-    ensures leads { LeadsBy (acts (work.Call asking) result) core.old.hall core.new.hall }
-{
-    let Asking {
-        session,
-        moment,
-        asked,
-        mut touched,
-    } = asking;
-    touched.clear();
-    let answers = call_each(core, session, moment, &asked, &mut touched);
-    HallAnswer::Called(answers, asked, touched)
-}
-
-fn answer_take(core: &mut Core, taking: Taking) -> HallAnswer
-    ensures gives { Gives (work.Take taking) core.old.hall result core.new.hall }
-    ensures leads { LeadsBy (acts (work.Take taking) result) core.old.hall core.new.hall }
-{
-    let Taking { session, mut into } = taking;
-    let taken = core.take(session, &mut into);
-    HallAnswer::Taken(taken, into)
-}
-
-fn answer_tick(core: &mut Core, ticking: Ticking) -> HallAnswer
-    ensures gives { Gives (work.Tick ticking) core.old.hall result core.new.hall }
-    ensures leads { LeadsBy (acts (work.Tick ticking) result) core.old.hall core.new.hall }
-{
-    let Ticking {
-        moment,
-        mut touched,
-    } = ticking;
-    touched.clear();
-    let called = core.tick(moment, &mut touched);
-    HallAnswer::Ticked(called, touched)
-}
-
-// Makes the calls of a session in order, up to the first that is not answered Ok.
-fn call_each(
-    core: &mut Core,
-    session: u32,
-    moment: u64,
-    asked: &AskedList,
-    touched: &mut Touched,
-) -> Answers
-    requires early { moment ≤ max_moment }
-    requires proper { list_all is_proper asked.now ≡ true }
-    requires none { touched.old ≡ [] }
-    ensures count { IsCount result.served result.end (length asked.now) }
-    ensures leads { LeadsBy (call_acts session moment asked.now result.served result.end) core.old.hall core.new.hall }
-    ensures named { NamesChanged touched.new core.old.hall core.new.hall }
-{
-    for i in 0..asked.len() {
-        let end = core.call(session, moment, asked.at(i), touched);
-        if end != Called::Ok {
-            return Answers { served: i, end };
-        }
-    }
-    Answers {
-        served: asked.len(),
-        end: Called::Ok,
-    }
 }

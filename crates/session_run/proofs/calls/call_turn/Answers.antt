@@ -1,4 +1,4 @@
-use Rattle.std.proofs.Common.{◌≡◌, List, refl, sym, subst}
+use Rattle.std.proofs.Common.{◌≡◌, ◌∙◌, List, drop, refl, sym, ap, subst}
 use Rattle.world_model.specs.declared.events.Asked.{Asked}
 use Rattle.world_model.specs.declared.events.Called.{Called}
 use Rattle.world_model.specs.declared.events.Called.TheVariants as called
@@ -11,32 +11,32 @@ use Rattle.session_run.proofs.calls.call_turn.Goals as goal
 
 pub returns-in-Full-clause-turn : goal.returns-in-Full-clause-turn
 returns-in-Full-clause-turn g c =
-    let asks = c.args.hand.now.asked in
+    let asks = c.args.hand.asked in
     let n = c.args.session in
     let m = c.now-moment.result in
     let told = g.C.Clock.told c.args.clock.now in
     let old = g.H.HallApi.knows c.args.seat.now in
-    let new = g.H.HallApi.knows c.calls-answers.new.seat in
-    let served = c.calls-answers.result.served in
-    let is : c.calls-answers.result.end ≡ called.Full = c.in-Full.is in
-    let count = subst (λ (e : Called). IsCount served e (length asks)) is c.calls-answers.ensures.count in
-    let adds = subst (λ (e : Called). AddsCalls (call_acts n m asks served e) old new) is c.calls-answers.ensures.entries.adds in
-    subst (λ (l : List Asked). ServesOn n told old new asks l) (sym c.pass-2.ensures)
+    let new = g.H.HallApi.knows c.calls-asked.new.seat in
+    let served = c.calls-asked.result.0.served in
+    let is : c.calls-asked.result.0.end ≡ called.Full = c.in-Full.is in
+    let count = subst (λ (e : Called). IsCount served e (length asks)) is c.calls-asked.ensures.count in
+    let adds = subst (λ (e : Called). AddsCalls (call_acts n m asks served e) old new) is c.calls-asked.ensures.entries.adds in
+    subst (λ (l : List Asked). ServesOn n told old new asks l) (sym (c.pass-2.ensures ∙ ap (λ (l : List Asked). drop served l) c.calls-asked.ensures.back))
     (turn_waits n m told old new asks served c.requires.some (timely told m c.now-moment.ensures.told) count adds)
 
 pub returns-in_default : goal.returns-in_default
 returns-in_default g c =
-    let asks = c.args.hand.now.asked in
+    let asks = c.args.hand.asked in
     let n = c.args.session in
     let m = c.now-moment.result in
     let told = g.C.Clock.told c.args.clock.now in
     let old = g.H.HallApi.knows c.args.seat.now in
-    let new = g.H.HallApi.knows c.calls-answers.new.seat in
-    let served = c.calls-answers.result.served in
-    let end = c.calls-answers.result.end in
+    let new = g.H.HallApi.knows c.calls-asked.new.seat in
+    let served = c.calls-asked.result.0.served in
+    let end = c.calls-asked.result.0.end in
     record {
-      seat = c.calls-answers.ensures.seat;
+      seat = c.calls-asked.ensures.seat;
       reader = refl;
-      turn = subst (λ (l : List Asked). ServesList n told old new asks l end) (sym c.pass-2.ensures)
-          (turn_ends n m told old new asks served c.requires.some (timely told m c.now-moment.ensures.told) end c.in_default.not-Full c.calls-answers.ensures.count c.calls-answers.ensures.entries.adds);
+      turn = subst (λ (l : List Asked). ServesList n told old new asks l end) (sym (c.pass-2.ensures ∙ ap (λ (l : List Asked). drop served l) c.calls-asked.ensures.back))
+          (turn_ends n m told old new asks served c.requires.some (timely told m c.now-moment.ensures.told) end c.in_default.not-Full c.calls-asked.ensures.count c.calls-asked.ensures.entries.adds);
     }

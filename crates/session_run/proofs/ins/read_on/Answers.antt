@@ -1,5 +1,8 @@
 use Rattle.std.proofs.Common.{rules, sym, subst}
+use Rattle.std.specs.Prelude.{Option}
 use Rattle.resp_frames.specs.RequestReader.{Held}
+use Rattle.session_run.specs.declared.ends.InEnd.{InEnd}
+use Rattle.session_run.specs.Ends.{BlockTurn}
 use Rattle.session_run.proofs.Serving.{Reading, reading_start, reading_on, reading_last}
 use Rattle.session_run.proofs.ins.read_on.Goals as goal
 
@@ -17,15 +20,38 @@ loop-init g c =
       reading = subst (λ (h : Held). Reading c.args.session told old old left left faults faults h) (sym c.requires.fresh) (reading_start c.args.session told old left faults);
     }
 
-pub returns-in-Some-read_block-clause-reads : goal.returns-in-Some-read_block-clause-reads
-returns-in-Some-read_block-clause-reads g c =
-    reading_last c.args.session (g.C.Clock.told c.args.clock.now) _ (g.H.HallApi.knows c.loop.seat) _ _ (g.S.Source.left c.loop.source) _ _ (g.S.Source.faults c.loop.source) _ c.loop.hand.reader c.in-Some-read_block.end c.loop.invariant.reading c.in-Some-read_block.ensures.turn
+pub returns-in-Some-end-clause-reads : goal.returns-in-Some-end-clause-reads
+returns-in-Some-end-clause-reads g c =
+    let n = c.args.session in
+    let told = g.C.Clock.told c.args.clock.now in
+    let mid = g.H.HallApi.knows c.loop.seat in
+    let new = g.H.HallApi.knows c.read_block-end.new.seat in
+    let left = g.S.Source.left c.loop.source in
+    let left' = g.S.Source.left c.read_block-end.new.source in
+    let faults = g.S.Source.faults c.loop.source in
+    let faults' = g.S.Source.faults c.read_block-end.new.source in
+    let held = c.loop.hand.reader in
+    let back = c.read_block-end.result.1.reader in
+    let t = subst (λ (r : Option InEnd). BlockTurn n told mid new left left' faults faults' held back r) c.in-Some-end.is c.read_block-end.ensures.turn in
+    reading_last n told (g.H.HallApi.knows c.args.seat.now) mid new (g.S.Source.left c.args.source.now) left left' (g.S.Source.faults c.args.source.now) faults faults' held c.in-Some-end.end c.loop.invariant.reading t
 
 pub loop-preserved : goal.loop-preserved
-loop-preserved g c = record {
-  next = tt;
-  finite = tt;
-  seat = c.in_default.ensures.seat;
-  some = search rules;
-  reading = reading_on c.args.session (g.C.Clock.told c.args.clock.now) _ (g.H.HallApi.knows c.loop.seat) _ _ (g.S.Source.left c.loop.source) _ _ (g.S.Source.faults c.loop.source) _ c.loop.hand.reader _ c.loop.invariant.reading c.in_default.ensures.turn;
-}
+loop-preserved g c =
+    let n = c.args.session in
+    let told = g.C.Clock.told c.args.clock.now in
+    let mid = g.H.HallApi.knows c.loop.seat in
+    let new = g.H.HallApi.knows c.read_block-end.new.seat in
+    let left = g.S.Source.left c.loop.source in
+    let left' = g.S.Source.left c.read_block-end.new.source in
+    let faults = g.S.Source.faults c.loop.source in
+    let faults' = g.S.Source.faults c.read_block-end.new.source in
+    let held = c.loop.hand.reader in
+    let back = c.read_block-end.result.1.reader in
+    let t = subst (λ (r : Option InEnd). BlockTurn n told mid new left left' faults faults' held back r) c.in_default.is c.read_block-end.ensures.turn in
+    record {
+      next = tt;
+      finite = tt;
+      seat = c.read_block-end.ensures.seat;
+      some = search rules;
+      reading = reading_on n told (g.H.HallApi.knows c.args.seat.now) mid new (g.S.Source.left c.args.source.now) left left' (g.S.Source.faults c.args.source.now) faults faults' held back c.loop.invariant.reading t;
+    }

@@ -4,7 +4,7 @@ use Rattle.world_model.specs.Outcomes.{call_act}
 use Rattle.world_model.specs.declared.events.Called.TheVariants as called
 use Rattle.tile_core.specs.Answered.{AreSessions}
 use Rattle.shared_hall.specs.Turns.{LeadsBy}
-use Rattle.shared_hall.proofs.works.call_each.Given as goal
+use Rattle.shared_hall.proofs.answers.call_each.Given as goal
 
 abbrev pub invariant-loop-i : goal.invariant-loop-i
 invariant-loop-i l = record {
