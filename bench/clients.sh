@@ -65,7 +65,7 @@ import redis, socket, sys, threading
 host, port = sys.argv[1], int(sys.argv[2])
 client = redis.Redis(host, port)
 assert client.ping()
-assert client.execute_command("SET", "py", "a", "POINT", 7, 8) == b"OK" or True
+assert client.execute_command("SET", "py", "a", "POINT", 7, 8) in (True, b"OK")
 assert client.execute_command("GET", "py", "a") == b'{"type":"Point","coordinates":[8,7]}'
 assert client.execute_command("GET", "py", "a", "POINT") == [b"7", b"8"]
 try:
@@ -109,8 +109,10 @@ for it in threads:
 for it in threads:
     it.join()
 assert not fails, fails[0]
+# The module reads answers of SCAN as those of Redis.
+client.set_response_callback("SCAN", lambda answer, **_: answer)
 found = client.execute_command("SCAN", "many", "COUNT")
-assert found in (10000, [0, 10000], [b"0", 10000]), found
+assert found == 10000, found
 for it in silents:
     it.close()
 PYTHON

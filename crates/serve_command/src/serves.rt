@@ -112,7 +112,7 @@ where
     L::In: Send + Drop + 'static,
     L::Out: Send + Drop + 'static,
     requires seat { H.HallApi.is_of (arc_value hall) seat.old }
-    ensures serves { Serves (C.told clock.now) (record { addr = asked.addr.now; limit = asked.limit })
+    ensures serves { Serves (C.told clock.now) (record { addr = asked.entry.addr.now; limit = asked.entry.limit })
         (H.HallApi.knows seat.old) (H.HallApi.knows seat.new)
         (counted (P.jobs spawner.old) (P.faults spawner.old) (L.links door.old) (L.ends door.old) (L.faults door.old))
         (counted (P.jobs spawner.new) (P.faults spawner.new) (L.links door.new) (L.ends door.new) (L.faults door.new))
@@ -139,16 +139,7 @@ where
     if let Err(Failed) = write_all(sink, line.bytes()) {
         return 4;
     }
-    let done = serve(
-        rt,
-        alloc,
-        &shared,
-        seat,
-        door,
-        clock,
-        spawner,
-        asked.limit,
-    );
+    let done = serve(rt, alloc, &shared, seat, door, clock, spawner, asked.limit);
     shared.hall.seen(seat);
     finish(alloc, sink, done)
 }

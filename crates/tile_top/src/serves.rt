@@ -35,7 +35,7 @@ pub(crate) fn serve_hall<
 where
     L::In: Send + Drop + 'static,
     L::Out: Send + Drop + 'static,
-    ensures serves { ServesFront (C.told clock.now) (record { addr = asked.addr.now; limit = asked.limit }) (option_map knows_of result.front)
+    ensures serves { ServesFront (C.told clock.now) (record { addr = asked.entry.addr.now; limit = asked.entry.limit }) (option_map knows_of result.front)
         (counted (P.jobs spawner.old) (P.faults spawner.old) (L.links door.old) (L.ends door.old) (L.faults door.old))
         (counted (P.jobs spawner.new) (P.faults spawner.new) (L.links door.new) (L.ends door.new) (L.faults door.new))
         (K.held sink.old) (K.held sink.new) result.status }
