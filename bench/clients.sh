@@ -128,7 +128,8 @@ rate() {
 }
 median() { sort -n | sed -n 2p; }
 
-value='{"type":"Point","coordinates":[112,33]}'
+# As long as the answer of GET here; redis-benchmark shows it in its table, so it has no commas or quotes.
+value=$(printf 'x%.0s' {1..39})
 printf '%8s %9s %-5s %10s %10s %6s\n' clients pipeline what here redis ratio
 for row in '1 1' '50 1' '200 1' '50 16'; do
     read -r clients pipeline <<<"$row"
