@@ -42,6 +42,7 @@ adds k l o log acts h was t s =
 
 -- a turn did the work, and its acts are the seat's own
 pub is_done : StepsLeadToOne → (w : HallWork) (out : HallAnswer) (k l : Known Opening Entry) (o : Opening) (log : List Entry) (g h : Hall) → Gives w g out h → k.opening ≡ Some o → Turn k l log (entries_of w out) → Stands g o log → Stands h o (log ++ entries_of w out) → IsDone w out (shown k) (shown l)
+unfolding adds
 is_done one w out k l o log g h gives was t p s =
     let made = entries_of w out in
     let opens : unwrap_or l.opening no_opening ≡ o = ap (λ (z : Option Opening). unwrap_or z no_opening) (t.opening ∙ was) in

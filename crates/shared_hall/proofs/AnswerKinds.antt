@@ -23,7 +23,7 @@ use Rattle.shared_hall.specs.Turns.{acts, Gives}
 use Rattle.shared_hall.specs.Seats.{IsDone}
 use Rattle.shared_hall.proofs.Adding.{adds_acts, adds_named}
 
-pub is_entered : (old new : Hall) (out : HallAnswer) → Gives work.Enter old out new → (r : Result ℕ EnterFault) × (out ≡ answer.Entered r)
+is_entered : (old new : Hall) (out : HallAnswer) → Gives work.Enter old out new → (r : Result ℕ EnterFault) × (out ≡ answer.Entered r)
 is_entered old new (answer.Entered r) g = (r, refl)
 is_entered old new (answer.Called a asked touched) g = absurd g
 is_entered old new (answer.Taken t into) g = absurd g
@@ -31,7 +31,7 @@ is_entered old new (answer.Ticked c touched) g = absurd g
 is_entered old new (answer.Rewrote c) g = absurd g
 is_entered old new answer.Done g = absurd g
 
-pub is_called : (w : Asking) (old new : Hall) (out : HallAnswer) → Gives (work.Call w) old out new → (a : Answers) × (asked : List Asked) × (touched : List ℕ) × (out ≡ answer.Called a asked touched)
+is_called : (w : Asking) (old new : Hall) (out : HallAnswer) → Gives (work.Call w) old out new → (a : Answers) × (asked : List Asked) × (touched : List ℕ) × (out ≡ answer.Called a asked touched)
 is_called w old new (answer.Entered r) g = absurd g
 is_called w old new (answer.Called a asked touched) g = (a, asked, touched, refl)
 is_called w old new (answer.Taken t into) g = absurd g
@@ -39,7 +39,7 @@ is_called w old new (answer.Ticked c touched) g = absurd g
 is_called w old new (answer.Rewrote c) g = absurd g
 is_called w old new answer.Done g = absurd g
 
-pub is_taken : (w : Taking) (old new : Hall) (out : HallAnswer) → Gives (work.Take w) old out new → (t : Taken) × (into : FrameList) × (out ≡ answer.Taken t into)
+is_taken : (w : Taking) (old new : Hall) (out : HallAnswer) → Gives (work.Take w) old out new → (t : Taken) × (into : FrameList) × (out ≡ answer.Taken t into)
 is_taken w old new (answer.Entered r) g = absurd g
 is_taken w old new (answer.Called a asked touched) g = absurd g
 is_taken w old new (answer.Taken t into) g = (t, into, refl)
@@ -47,7 +47,7 @@ is_taken w old new (answer.Ticked c touched) g = absurd g
 is_taken w old new (answer.Rewrote c) g = absurd g
 is_taken w old new answer.Done g = absurd g
 
-pub is_ticked : (w : Ticking) (old new : Hall) (out : HallAnswer) → Gives (work.Tick w) old out new → (c : Called) × (touched : List ℕ) × (out ≡ answer.Ticked c touched)
+is_ticked : (w : Ticking) (old new : Hall) (out : HallAnswer) → Gives (work.Tick w) old out new → (c : Called) × (touched : List ℕ) × (out ≡ answer.Ticked c touched)
 is_ticked w old new (answer.Entered r) g = absurd g
 is_ticked w old new (answer.Called a asked touched) g = absurd g
 is_ticked w old new (answer.Taken t into) g = absurd g
@@ -55,7 +55,7 @@ is_ticked w old new (answer.Ticked c touched) g = (c, touched, refl)
 is_ticked w old new (answer.Rewrote c) g = absurd g
 is_ticked w old new answer.Done g = absurd g
 
-pub is_closed : (n : ℕ) (old new : Hall) (out : HallAnswer) → Gives (work.Close n) old out new → out ≡ answer.Done
+is_closed : (n : ℕ) (old new : Hall) (out : HallAnswer) → Gives (work.Close n) old out new → out ≡ answer.Done
 is_closed n old new (answer.Entered r) g = absurd g
 is_closed n old new (answer.Called a asked touched) g = absurd g
 is_closed n old new (answer.Taken t into) g = absurd g
@@ -63,7 +63,7 @@ is_closed n old new (answer.Ticked c touched) g = absurd g
 is_closed n old new (answer.Rewrote c) g = absurd g
 is_closed n old new answer.Done g = refl
 
-pub is_removed : (n : ℕ) (old new : Hall) (out : HallAnswer) → Gives (work.Remove n) old out new → out ≡ answer.Done
+is_removed : (n : ℕ) (old new : Hall) (out : HallAnswer) → Gives (work.Remove n) old out new → out ≡ answer.Done
 is_removed n old new (answer.Entered r) g = absurd g
 is_removed n old new (answer.Called a asked touched) g = absurd g
 is_removed n old new (answer.Taken t into) g = absurd g
@@ -71,7 +71,7 @@ is_removed n old new (answer.Ticked c touched) g = absurd g
 is_removed n old new (answer.Rewrote c) g = absurd g
 is_removed n old new answer.Done g = refl
 
-pub is_rewrote : (old new : Hall) (out : HallAnswer) → Gives work.StepRewrite old out new → (c : Called) × (out ≡ answer.Rewrote c)
+is_rewrote : (old new : Hall) (out : HallAnswer) → Gives work.StepRewrite old out new → (c : Called) × (out ≡ answer.Rewrote c)
 is_rewrote old new (answer.Entered r) g = absurd g
 is_rewrote old new (answer.Called a asked touched) g = absurd g
 is_rewrote old new (answer.Taken t into) g = absurd g
@@ -115,3 +115,20 @@ removed n out old new d = adds_acts (work.Remove n) out old new ((event.Remove n
 
 pub rewrote : (out : HallAnswer) (old new : Knows) (a : Called) → out ≡ answer.Rewrote a → IsDone work.StepRewrite out old new → AddsCalls ((event.Rewrite, outcome.Answered a) ∷ []) old new
 rewrote out old new a is d = adds_acts work.StepRewrite out old new ((event.Rewrite, outcome.Answered a) ∷ []) (ap (λ (z : HallAnswer). acts work.StepRewrite z) is) d
+
+-- of a work that was done, the answer's own kind
+
+pub entered_out : (out : HallAnswer) (old new : Knows) → IsDone work.Enter out old new → (r : Result ℕ EnterFault) × (out ≡ answer.Entered r)
+entered_out out old new d = is_entered d.before d.after out d.gives
+
+pub called_out : (w : Asking) (out : HallAnswer) (old new : Knows) → IsDone (work.Call w) out old new → (a : Answers) × (asked : List Asked) × (touched : List ℕ) × (out ≡ answer.Called a asked touched)
+called_out w out old new d = is_called w d.before d.after out d.gives
+
+pub taken_out : (w : Taking) (out : HallAnswer) (old new : Knows) → IsDone (work.Take w) out old new → (t : Taken) × (into : FrameList) × (out ≡ answer.Taken t into)
+taken_out w out old new d = is_taken w d.before d.after out d.gives
+
+pub ticked_out : (w : Ticking) (out : HallAnswer) (old new : Knows) → IsDone (work.Tick w) out old new → (c : Called) × (touched : List ℕ) × (out ≡ answer.Ticked c touched)
+ticked_out w out old new d = is_ticked w d.before d.after out d.gives
+
+pub rewrote_out : (out : HallAnswer) (old new : Knows) → IsDone work.StepRewrite out old new → (c : Called) × (out ≡ answer.Rewrote c)
+rewrote_out out old new d = is_rewrote d.before d.after out d.gives

@@ -31,22 +31,22 @@ is_proper_at (y ∷ xs) zero x all at = let is : y ≡ x = cc in ap is_proper (s
 is_proper_at (y ∷ xs) (suc i) x all at = is_proper_at xs i x (both (is_proper y) (list_all is_proper xs) all).1 at
 
 last_one : (n m : ℕ) (end : Called) (x : Asked) (xs : List Asked) → end ≢ called.Ok → last_call n m end (x ∷ xs) ≡ call_act n m end x ∷ []
-last_one n m called.Ok x xs no = absurd (no refl)
-last_one n m called.Full x xs no = refl
-last_one n m called.Gone x xs no = refl
-last_one n m called.LogFault x xs no = refl
-last_one n m called.Stopped x xs no = refl
-last_one n m called.Spent x xs no = refl
-last_one n m called.Memory x xs no = refl
+last_one n m called.Ok x xs not_ok = absurd (not_ok refl)
+last_one n m called.Full x xs not_ok = refl
+last_one n m called.Gone x xs not_ok = refl
+last_one n m called.LogFault x xs not_ok = refl
+last_one n m called.Stopped x xs not_ok = refl
+last_one n m called.Spent x xs not_ok = refl
+last_one n m called.Memory x xs not_ok = refl
 
 last_at : (n m : ℕ) (end : Called) (xs : List Asked) (i : ℕ) (x : Asked) → end ≢ called.Ok → slice_get xs i ≡ Some x → last_call n m end (drop i xs) ≡ call_act n m end x ∷ []
-last_at n m end [] i x no at = absurd (cc)
-last_at n m end (y ∷ xs) zero x no at = let is : y ≡ x = cc in last_one n m end y xs no ∙ ap (λ (z : Asked). call_act n m end z ∷ []) is
-last_at n m end (y ∷ xs) (suc i) x no at = last_at n m end xs i x no at
+last_at n m end [] i x not_ok at = absurd (cc)
+last_at n m end (y ∷ xs) zero x not_ok at = let is : y ≡ x = cc in last_one n m end y xs not_ok ∙ ap (λ (z : Asked). call_act n m end z ∷ []) is
+last_at n m end (y ∷ xs) (suc i) x not_ok at = last_at n m end xs i x not_ok at
 
 -- the calls up to the first that was not answered Ok
 pub acts_to : (n m : ℕ) (end : Called) (xs : List Asked) (i : ℕ) (x : Asked) → end ≢ called.Ok → slice_get xs i ≡ Some x → map (call_act n m called.Ok) (take i xs) ++ call_act n m end x ∷ [] ≡ call_acts n m xs i end
-acts_to n m end xs i x no at = ap (λ (l : List Act). map (call_act n m called.Ok) (take i xs) ++ l) (sym (last_at n m end xs i x no at))
+acts_to n m end xs i x not_ok at = ap (λ (l : List Act). map (call_act n m called.Ok) (take i xs) ++ l) (sym (last_at n m end xs i x not_ok at))
 
 none_last : (n m : ℕ) (xs : List Asked) → last_call n m called.Ok xs ≡ []
 none_last n m [] = refl
@@ -57,13 +57,13 @@ pub acts_all : (n m : ℕ) (xs : List Asked) (i : ℕ) → map (call_act n m cal
 acts_all n m xs i = sym (ap (λ (l : List Act). map (call_act n m called.Ok) (take i xs) ++ l) (none_last n m (drop i xs)) ∙ append-nil (map (call_act n m called.Ok) (take i xs)))
 
 pub stops_at : (end : Called) (i n : ℕ) → end ≢ called.Ok → i < n → IsCount i end n
-stops_at called.Ok i n no lt = absurd (no refl)
-stops_at called.Full i n no lt = lt
-stops_at called.Gone i n no lt = lt
-stops_at called.LogFault i n no lt = lt
-stops_at called.Stopped i n no lt = lt
-stops_at called.Spent i n no lt = lt
-stops_at called.Memory i n no lt = lt
+stops_at called.Ok i n not_ok lt = absurd (not_ok refl)
+stops_at called.Full i n not_ok lt = lt
+stops_at called.Gone i n not_ok lt = lt
+stops_at called.LogFault i n not_ok lt = lt
+stops_at called.Stopped i n not_ok lt = lt
+stops_at called.Spent i n not_ok lt = lt
+stops_at called.Memory i n not_ok lt = lt
 
 -- what was changed before is still named, and what is changed now is
 pub names_more : (named more : List ℕ) (h k l : Hall) → NamesChanged named h k → StayNamed named more → NamesChanged more k l → NamesChanged more h l
@@ -72,8 +72,8 @@ names_more named more h k l p stay q = λ n ne. by n ne (is_named more n) refl
     by : (n : ℕ) → session_of l n ≢ session_of h n → (b : Bool) → is_named more n ≡ b → is_named more n ≡ true
     by n ne true e = e
     by n ne false e = absurd (
-        let no : is_named more n ≡ true → ⊥ = λ yes. true≢false (sym yes ∙ e) in
-        no (q n (λ same. no (stay n (p n (λ (before : session_of k n ≡ session_of h n). ne (same ∙ before)))))))
+        let not_ok : is_named more n ≡ true → ⊥ = λ yes. true≢false (sym yes ∙ e) in
+        not_ok (q n (λ same. not_ok (stay n (p n (λ (before : session_of k n ≡ session_of h n). ne (same ∙ before)))))))
 
 pub none_changed : (named : List ℕ) (h : Hall) → NamesChanged named h h
 none_changed named h = λ n ne. absurd (ne refl)

@@ -1,13 +1,15 @@
 -- No event ends by a failing log where the hall goes on.
-use Rattle.std.proofs.Common.{◌≡◌, Bool, true, false, refl, sym, ap, ◌∙◌, inl, inr, true≢false}
+use Rattle.std.proofs.Common.{◌≡◌, Bool, true, false, refl, sym, ap, ◌∙◌, inl, inr, subst, true≢false}
 use Rattle.std.specs.Prelude.{Option, Some, None, if◌then◌else◌}
-use Rattle.world_model.specs.Halls.{Hall, session_of}
-use Rattle.world_model.specs.Histories.{Ending, Step, StepBy, refusal, refusal_going, when_stopped, answer, doing, is_log_fault, is_spent, gone, full, ended, idle}
+use Rattle.world_model.specs.Halls.{Hall}
+use Rattle.world_model.specs.Histories.{Ending, Step, StepBy, refusal, refusal_going, when_stopped, answer, doing, is_log_fault, first_of, enter_tests, call_tests, take_tests, tick_tests}
 use Rattle.world_model.specs.declared.events.Event.{Event}
 use Rattle.world_model.specs.declared.events.Event.TheVariants.{Enter, Call, Take, Tick, Close, Remove, Rewrite, Retire}
+use Rattle.world_model.specs.declared.events.Called.TheVariants as called
+use Rattle.world_model.specs.declared.events.Outcome.TheVariants.{Answered}
 use Rattle.world_model.specs.declared.events.Outcome.{Outcome}
 use Rattle.world_model.specs.Seats.{Act}
-use Rattle.std.specs.Prelude.{[], ◌∷◌}
+use Rattle.std.specs.Prelude.{List, [], ◌∷◌}
 use Rattle.shared_hall.specs.Turns.{LeadsBy}
 
 abbrev Fine : Option Ending → Type 0
@@ -28,11 +30,19 @@ stopped_fine (Remove n) = refl
 stopped_fine Rewrite = refl
 stopped_fine Retire = refl
 
+abbrev AreFine : List (Bool × Ending) → Type 0
+AreFine [] = Unit {0}
+AreFine (t ∷ tests) = (is_log_fault t.1.0 ≡ false) × AreFine tests
+
+first_fine : (tests : List (Bool × Ending)) → AreFine tests → Fine (first_of tests)
+first_fine [] p = tt
+first_fine (t ∷ tests) p = fine_if t.0 (Some t.1) (first_of tests) p.0 (first_fine tests p.1)
+
 going_fine : (h : Hall) (event : Event) → Fine (refusal_going h event)
-going_fine h Enter = fine_if _ _ None refl tt
-going_fine h (Call n moment asked) = fine_if (is_spent h) _ _ refl (fine_if (gone (session_of h n)) _ _ refl (fine_if (full (session_of h n)) _ None refl tt))
-going_fine h (Take n) = fine_if (ended (session_of h n)) _ _ refl (fine_if (idle (session_of h n)) _ None refl tt)
-going_fine h (Tick moment) = fine_if (is_spent h) _ None refl tt
+going_fine h Enter = first_fine (enter_tests h) (refl, tt)
+going_fine h (Call n moment asked) = first_fine (call_tests h n) (refl, (refl, (refl, tt)))
+going_fine h (Take n) = first_fine (take_tests h n) (refl, (refl, tt))
+going_fine h (Tick moment) = first_fine (tick_tests h) (refl, tt)
 going_fine h (Close n) = tt
 going_fine h (Remove n) = tt
 going_fine h Rewrite = tt
@@ -69,3 +79,9 @@ is_fine old new event outcome same s = fine_by (refusal old event) old new event
 -- one event more
 pub one_act : (old new : Hall) (event : Event) (outcome : Outcome) → new.stopped ≡ old.stopped → Step old event outcome new → LeadsBy ((event, outcome) ∷ []) old new
 one_act old new event outcome same s = (new, s, is_fine old new event outcome same s, refl)
+
+-- a rewriting where there is no log
+pub one_rewrite : (h : Hall) → h.stopped ≡ false → LeadsBy ((Rewrite, Answered called.Ok) ∷ []) h h
+one_rewrite h going =
+    let none : refusal h Rewrite ≡ None = ap (λ (b : Bool). if b then Some (when_stopped Rewrite, h) else refusal_going h Rewrite) going in
+    one_act h h Rewrite (Answered called.Ok) refl (subst (λ (r : Option Ending). StepBy r h Rewrite (Answered called.Ok) h) (sym none) (inr (inr (refl, refl))))

@@ -7,7 +7,7 @@ use mathlib.Core.List.{IsPrefix}
 use Rattle.ordered_lists.specs.Lists.{ascends}
 use Rattle.turn_lock.specs.declared.seat.Known.{Known}
 use Rattle.turn_lock.specs.Places.{IsAmong, AllAfter, Ascends, insert, merge, longer}
-use Rattle.turn_lock.specs.Seats.{OwnPlaces, AreApart, joined_known}
+use Rattle.turn_lock.specs.Seats.{OwnPlaces, AreApart, joined_known, split_known}
 use Rattle.world_model.specs.Histories.{IsLegal}
 use Rattle.world_model.specs.Seats.{Knows, Begins, AreOfOne, IsJoined, are_ascending, are_apart, are_seen, is_among}
 use Rattle.world_model.specs.declared.events.Entry.{Entry}
@@ -41,22 +41,22 @@ same_number q p e = grind (arith, nat_tests)
 
 found : (p : ℕ) (xs : List ℕ) → is_among xs p ≡ true → IsAmong p xs
 found p [] e = absurd (true≢false (sym e))
-found p (x ∷ xs) e = by (x == p) refl
+found p (x ∷ xs) e = by (found p xs) (x == p) refl
   where
-    by : (b : Bool) → (x == p) ≡ b → IsAmong p (x ∷ xs)
-    by true is = inl (same_number x p is)
-    by false is = inr (found p xs (sym (ap (λ (b : Bool). b || is_among xs p) is) ∙ e))
+    by : (is_among xs p ≡ true → IsAmong p xs) → (b : Bool) → (x == p) ≡ b → IsAmong p (x ∷ xs)
+    by rest true is = inl (same_number x p is)
+    by rest false is = inr (rest (sym (ap (λ (b : Bool). b || is_among xs p) is) ∙ e))
 
 none_of : (p : ℕ) (xs : List ℕ) → (IsAmong p xs → ⊥) → not (is_among xs p) ≡ true
-none_of p xs no = by (is_among xs p) refl
+none_of p xs apart = by (is_among xs p) refl
   where
     by : (b : Bool) → is_among xs p ≡ b → not b ≡ true
-    by true is = absurd (no (found p xs is))
+    by true is = absurd (apart (found p xs is))
     by false is = refl
 
 pub they_are_apart : (xs ys : List ℕ) → ((place : ℕ) → IsAmong place xs → IsAmong place ys → ⊥) → are_apart xs ys ≡ true
-they_are_apart [] ys no = refl
-they_are_apart (x ∷ xs) ys no = both (not (is_among ys x)) (are_apart xs ys) (none_of x ys (no x (inl refl))) (they_are_apart xs ys (λ place among. no place (inr among)))
+they_are_apart [] ys apart = refl
+they_are_apart (x ∷ xs) ys apart = both (not (is_among ys x)) (are_apart xs ys) (none_of x ys (apart x (inl refl))) (they_are_apart xs ys (λ place among. apart place (inr among)))
 
 swapped : (a b c : Bool) → (b || (a || c)) ≡ (a || (b || c))
 swapped true true c = refl
@@ -133,3 +133,7 @@ joined_legal k l j o p q t a b =
     subst (λ (z : Opening). IsLegal z j.seen) (sym opens)
     (⊎_elim (λ (e : longer k.seen l.seen ≡ k.seen). subst (λ (z : List Entry). IsLegal (shown k).opening z) (sym (seen_is ∙ e)) a)
     (λ (e : longer k.seen l.seen ≡ l.seen). subst (λ (z : List Entry). IsLegal (shown k).opening z) (sym (seen_is ∙ e)) (subst (λ (z : Opening). IsLegal z l.seen) (same_opening l k o q p) b)) (either k.seen l.seen))
+
+-- a seat that is split off has seen the same
+pub split_legal : (k l : Known Opening Entry) → l ≡ split_known k → IsLegal (shown k).opening k.seen → IsLegal (shown l).opening l.seen
+split_legal k l is h = subst (λ (z : Known Opening Entry). IsLegal (shown z).opening z.seen) (sym is) h

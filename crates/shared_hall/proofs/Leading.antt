@@ -14,11 +14,12 @@ pub leads_more : (a b : List Act) (h k l : Hall) → LeadsBy a h k → LeadsBy b
 leads_more [] b h k l p q = subst (λ (z : Hall). LeadsBy b z l) p q
 leads_more (x ∷ a) b h k l p q = (p.0, p.1, p.2, leads_more a b p.0 k l p.3 q)
 
-pub stands_more : (k l : Hall) (acts : List Act) → LeadsBy acts k l → (o : Opening) (log : List Entry) → Stands k o log → Stands l o (log ++ map entry_of acts)
-stands_more k l acts p o log s = record {
+pub stands_more : (k l : Hall) (acts : List Act) → l.stopped ≡ k.stopped → LeadsBy acts k l → (o : Opening) (log : List Entry) → Stands k o log → Stands l o (log ++ map entry_of acts)
+stands_more k l acts same p o log s = record {
   made = s.made ++ acts;
   log_is = ap (λ (z : List Entry). z ++ map entry_of acts) s.log_is ∙ sym (map-append entry_of s.made acts);
   leads = leads_more s.made acts (opening_hall o.world o.logged) k l s.leads p;
+  going = same ∙ s.going;
   sound = s.sound;
   moment = s.moment;
   count = s.count;

@@ -52,11 +52,12 @@ abbrev pub LeadsBy : List Act → Hall → Hall → Type 0
 LeadsBy [] old new = new ≡ old
 LeadsBy (a ∷ more) old new = (next : Hall) × Step old a.0 a.1 next × (is_log_fault a.1 ≡ false) × LeadsBy more next new
 
--- the history, from an opening with a sound world on, leads to this hall
+-- the history, from an opening with a sound world on, leads to this hall, which has not stopped
 pub record Stands (h : Hall) (o : Opening) (log : List Entry) : Type 0 where
   pub made : List Act
   pub log_is : log ≡ map entry_of made
   pub leads : LeadsBy made (opening_hall o.world o.logged) h
+  pub going : h.stopped ≡ false
   pub sound : IsSoundWorld o.world
   pub moment : o.moment ≡ 0
   pub count : o.count ≡ 0

@@ -1,6 +1,6 @@
 //! What is done with the core in one turn.
 
-ghost use Rattle.std.specs.Prelude.{◌≡◌, ◌≤◌, [], true, length};
+ghost use Rattle.std.specs.Prelude.{◌≡◌, ◌≤◌, [], true, false, length};
 ghost use Rattle.std.specs.List.{list_all};
 ghost use Rattle.world_data.specs.Limits.{max_moment};
 ghost use Rattle.world_model.specs.Outcomes.{is_proper, call_acts, IsCount};
@@ -34,7 +34,10 @@ impl Work<HallCore> for HallWork {
 }
 
 // Does what is asked, and answers it.
+#[tactic(auto, using(crate::proofs::Fine::one_act, crate::proofs::Fine::one_rewrite))]
 fn answer(core: &mut Core, asked: HallWork) -> HallAnswer
+    requires { core.old.hall.stopped ≡ false }
+    ensures stopped { core.new.hall.stopped ≡ core.old.hall.stopped }
     ensures gives { Gives asked core.old.hall result core.new.hall }
     ensures leads { LeadsBy (acts asked result) core.old.hall core.new.hall }
 {
@@ -57,6 +60,7 @@ fn answer(core: &mut Core, asked: HallWork) -> HallAnswer
 }
 
 fn answer_call(core: &mut Core, asking: Asking) -> HallAnswer
+    ensures stopped { core.new.hall.stopped ≡ core.old.hall.stopped }
     ensures gives { Gives (work.Call asking) core.old.hall result core.new.hall }
     ensures leads { LeadsBy (acts (work.Call asking) result) core.old.hall core.new.hall }
 {
@@ -71,7 +75,9 @@ fn answer_call(core: &mut Core, asking: Asking) -> HallAnswer
     HallAnswer::Called(answers, asked, touched)
 }
 
+#[tactic(auto, using(crate::proofs::Fine::one_act))]
 fn answer_take(core: &mut Core, taking: Taking) -> HallAnswer
+    ensures stopped { core.new.hall.stopped ≡ core.old.hall.stopped }
     ensures gives { Gives (work.Take taking) core.old.hall result core.new.hall }
     ensures leads { LeadsBy (acts (work.Take taking) result) core.old.hall core.new.hall }
 {
@@ -80,7 +86,9 @@ fn answer_take(core: &mut Core, taking: Taking) -> HallAnswer
     HallAnswer::Taken(taken, into)
 }
 
+#[tactic(auto, using(crate::proofs::Fine::one_act))]
 fn answer_tick(core: &mut Core, ticking: Ticking) -> HallAnswer
+    ensures stopped { core.new.hall.stopped ≡ core.old.hall.stopped }
     ensures gives { Gives (work.Tick ticking) core.old.hall result core.new.hall }
     ensures leads { LeadsBy (acts (work.Tick ticking) result) core.old.hall core.new.hall }
 {
@@ -105,13 +113,14 @@ fn call_each(
     requires proper { list_all is_proper asked.now ≡ true }
     requires none { touched.old ≡ [] }
     ensures count { IsCount result.served result.end (length asked.now) }
+    ensures stopped { core.new.hall.stopped ≡ core.old.hall.stopped }
     ensures leads { LeadsBy (call_acts session moment asked.now result.served result.end) core.old.hall core.new.hall }
     ensures named { NamesChanged touched.new core.old.hall core.new.hall }
 {
     for i in 0..asked.len() {
-        let end = core.call(session, moment, asked.at(i), touched);
-        if end != Called::Ok {
-            return Answers { served: i, end };
+        match core.call(session, moment, asked.at(i), touched) {
+            Called::Ok => {}
+            end => return Answers { served: i, end },
         }
     }
     Answers {

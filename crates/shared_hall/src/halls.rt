@@ -109,10 +109,7 @@ impl HallApi for SharedHall {
         moment: u64,
         touched: Touched,
     ) -> (Called, Touched) {
-        match self
-            .lock
-            .turn(rt, seat, HallWork::Tick(Ticking { moment, touched }))
-        {
+        match self.turn(rt, seat, HallWork::Tick(Ticking { moment, touched })) {
             HallAnswer::Ticked(called, touched) => (called, touched),
             _ => unreachable!(),
         }

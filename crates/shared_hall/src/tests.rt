@@ -1,6 +1,6 @@
 //! Two threads share a hall.
 
-ghost use Rattle.std.specs.Prelude.{◌≡◌, IfOk, length, true};
+ghost use Rattle.std.specs.Prelude.{◌≡◌, IfOk, IfSome, length, true};
 ghost use Rattle.std.specs.List.{list_all};
 ghost use Rattle.std.specs.Arc.{arc_value};
 ghost use Rattle.world_model.specs.Outcomes.{is_proper};
@@ -16,19 +16,19 @@ use std::thread::{JoinHandle, Threads};
 use tile_core::Core;
 use world_model::{Answers, Asked, AskedList, Called, Frames, HallApi, HallSplit, Touched};
 
-// The request of a line's words, which are split at spaces.
-fn request(alloc: Global, line: &str) -> Result<Request, Fail> {
+// The request of a line's words, which are split at spaces. None for want of memory, or where the line is no test's.
+fn request(alloc: Global, line: &str) -> Option<Request> {
     let mut words = Request::new(alloc);
     for word in line.split(' ') {
         if words.words() >= 64 {
-            return Err(Fail::from("a test's line has few words"));
+            return None;
         }
         if word.len() > 255 {
-            return Err(Fail::from("a test's word is short"));
+            return None;
         }
-        words.push(word.as_bytes())?;
+        words.push(word.as_bytes()).ok()?;
     }
-    Ok(words)
+    Some(words)
 }
 
 // The first of the frames that a take of a session gives, or nothing.
@@ -38,32 +38,32 @@ fn taken<R: Wait>(
     hall: &SharedHall,
     seat: &mut HallSeat,
     session: u32,
-) -> Result<Text, Fail>
+) -> Option<Text>
     requires { IsOf hall.now seat.old }
     ensures { IsOf hall.now seat.new }
 {
-    let mut frames = Frames::new(alloc)?;
+    let mut frames = Frames::new(alloc).ok()?;
     hall.take(rt, seat, session, &mut frames);
     let mut text = Text::new(alloc);
     if !frames.is_empty() {
-        text.push(frames.at(0))?;
+        text.push(frames.at(0)).ok()?;
     }
-    Ok(text)
+    Some(text)
 }
 
 // The one request of a line.
-fn asked_by(alloc: Global, line: &str) -> Result<AskedList, Fail>
-    ensures one { IfOk result (λ a. length a ≡ 1) }
-    ensures proper { IfOk result (λ a. list_all is_proper a ≡ true) }
+fn asked_by(alloc: Global, line: &str) -> Option<AskedList>
+    ensures one { IfSome result (λ a. length a ≡ 1) }
+    ensures proper { IfSome result (λ a. list_all is_proper a ≡ true) }
 {
     let words = request(alloc, line)?;
     if words.words() == 0 {
-        return Err(Fail::from("a test's line has words"));
+        return None;
     }
     let mut asked = AskedList::new(alloc);
     match asked.push(Asked::Words(words)) {
-        Ok(()) => Ok(asked),
-        Err(_) => Err(Fail::from(AllocError)),
+        Ok(()) => Some(asked),
+        Err(_) => None,
     }
 }
 
@@ -75,18 +75,19 @@ fn answered<R: Wait>(
     seat: &mut HallSeat,
     session: u32,
     line: &str,
-) -> Result<Text, Fail>
+) -> Option<Text>
     requires { IsOf hall.now seat.old }
     ensures { IsOf hall.now seat.new }
 {
     let asked = asked_by(alloc, line)?;
-    let (answers, _asked, touched) = hall.calls(rt, seat, session, 0, asked, Touched::new(alloc)?);
+    let touched = Touched::new(alloc).ok()?;
+    let (answers, _asked, touched) = hall.calls(rt, seat, session, 0, asked, touched);
     let whole = Answers {
         served: 1,
         end: Called::Ok,
     };
     if answers != whole || !touched.names(session) {
-        return Err(Fail::from("the call is answered, and its session named"));
+        return None;
     }
     taken(rt, alloc, hall, seat, session)
 }
@@ -116,8 +117,8 @@ fn is_answered<R: Wait>(
         return false;
     };
     match answered(rt, alloc, hall, seat, session, line) {
-        Ok(text) => text.bytes() == reply.as_bytes(),
-        Err(_) => false,
+        Some(text) => text.bytes() == reply.as_bytes(),
+        None => false,
     }
 }
 
@@ -179,11 +180,8 @@ fn sessions_end(rt: HostRuntime) -> Result<(), Fail> {
     );
     assert_eq!(rt; hall.step_rewrite(&rt, &mut seat), Called::Ok);
     for session in [1, 2] {
-        assert!(rt;
-            taken(&rt, alloc, &hall, &mut seat, session)?
-                .bytes()
-                .is_empty()
-        );
+        let text = taken(&rt, alloc, &hall, &mut seat, session);
+        assert!(rt; text.is_some_and(|text| text.bytes().is_empty()));
     }
     Ok(())
 }

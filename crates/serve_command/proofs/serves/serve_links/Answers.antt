@@ -5,7 +5,7 @@ use Rattle.serve_command.proofs.serves.serve_links.Goals as goal
 pub returns-in-Err-clause-serves : goal.returns-in-Err-clause-serves
 returns-in-Err-clause-serves g c = inr (inl (record {
   unseen = refl;
-  same = only_faults _ _ _ _ _ _ _ _ c.in-Err.ensures.links c.in-Err.ensures.ends;
+  same = only_faults _ _ _ _ (g.L.Door.faults c.args.door.now) _ _ _ c.in-Err.ensures.links c.in-Err.ensures.ends;
   cause = c.in-Err.ensures.cause.failed;
   later = c.in-Err.ensures.cause.later;
   ended = c.end-in-Err.ensures.told;

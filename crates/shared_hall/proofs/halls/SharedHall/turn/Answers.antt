@@ -4,7 +4,7 @@ use Rattle.shared_hall.proofs.Adding.{is_done, none_kept}
 use Rattle.shared_hall.proofs.halls.SharedHall.turn.Goals as goal
 
 pub turn-requires-clause-may : goal.turn-requires-clause-may
-turn-requires-clause-may g c = λ _ old out new gives. none_kept (entries_of c.args.work out)
+turn-requires-clause-may g c = λ _ _ _ old out new gives. none_kept (entries_of c.args.work out)
 
 pub returns-clause-seat : goal.returns-clause-seat
 returns-clause-seat g c =

@@ -1,0 +1,14 @@
+use Rattle.shared_hall.proofs.AnswerKinds.{called, called_back, called_count, called_out}
+use Rattle.shared_hall.proofs.halls.SharedHallHallApi.calls.Goals as goal
+
+pub returns-clause-count : goal.returns-clause-count
+returns-clause-count g c = called_count _ _ _ _ _ _ _ c.in-Called.is c.turn.ensures.done
+
+pub returns-clause-back : goal.returns-clause-back
+returns-clause-back g c = called_back _ _ _ _ _ _ _ c.in-Called.is c.turn.ensures.done
+
+pub returns-clause-entries : goal.returns-clause-entries
+returns-clause-entries g c = called _ _ _ _ _ _ _ c.in-Called.is c.turn.ensures.done
+
+pub unreachable-requires : goal.unreachable-requires
+unreachable-requires g c = let k = called_out _ _ _ _ c.turn.ensures.done in c.in_default.not-Called k.0 k.1 k.2 k.3
