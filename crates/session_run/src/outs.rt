@@ -23,6 +23,12 @@ pub enum OutEnd {
     Stopped,
 }
 
+// Whether the last frame is one that answers QUIT.
+fn ends_as_a_quit_does(frames: &Frames) -> bool {
+    let count = frames.len();
+    count > 0 && frames.at(count - 1) == b"+OK\r\n".as_slice()
+}
+
 // Takes once and writes what was given. None where the session goes on.
 fn write_turn<H: HallApi, K: Sink, B: Bell, R: Wait>(
     rt: &R,
@@ -50,14 +56,16 @@ fn write_turn<H: HallApi, K: Sink, B: Bell, R: Wait>(
         Taken::Some(count) => {
             room.ring(session);
             let written = write_frames(sink, frames, text);
+            let may_have_quit = ends_as_a_quit_does(frames);
             frames.clear();
             if let Err(Failed) = written {
                 hall.remove(rt, seat, session);
                 room.ring(session);
                 return Some(OutEnd::WriteFault);
             }
-            // Where fewer frames were given than there are places, none was left, and a frame that came since has rung.
-            if count < TAKE {
+            // Where fewer frames were given than there are places, none was left, and a frame that came since has rung. Behind the
+            // last frame of a session that has quit nobody rings: that one is taken from again, and has ended.
+            if count < TAKE && !may_have_quit {
                 bell.wait(rt, session, mark);
             }
             None

@@ -8,8 +8,9 @@ use mathlib.Core.List.{IsPrefix}
 use Rattle.byte_text.specs.Names.{Bytes}
 use Rattle.tile_top.specs.Scripts.{opening}
 use Rattle.tile_top.specs.Plays.{IsDone, IsFaulty, IsBefore, IsAtSpent}
-use Rattle.tile_top.specs.Tops.{IsStopped, IsEnd, Replays, script_line, read_line, memory_line, spent_line}
-use Rattle.tile_top.proofs.Writing.{appends_more, appends_nothing}
+use Rattle.serve_command.specs.Ends.{IsEnd, memory_line, spent_line}
+use Rattle.tile_top.specs.Tops.{IsStopped, Replays, script_line, read_line}
+use Rattle.serve_command.specs.Writing.{appends_more, appends_nothing}
 
 -- nothing was read, and nothing done
 pub before_none : (left0 held0 : Option Bytes) → IsBefore left0 left0 held0 held0 []

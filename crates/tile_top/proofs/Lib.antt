@@ -1,5 +1,4 @@
 mod Reading
-mod Writing
 mod Shown
 mod Playing
 mod Ends

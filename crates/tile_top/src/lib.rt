@@ -8,6 +8,7 @@ mod laws;
 mod outputs;
 mod plays;
 mod readers;
+mod serves;
 mod streams;
 mod tops;
 

@@ -9,8 +9,9 @@ ghost use Rattle.tile_top.specs.Plays.{OnTurn, OnPlay, OnLineDone};
 
 use crate::acts::Player;
 use crate::halts::Halt;
-use crate::streams::{LineEnd, read_line, write_all};
+use crate::streams::{LineEnd, read_line};
 use outside::{Failed, Sink, Source};
+use serve_command::write_all;
 use std::alloc::Global;
 
 /// How a line of a script ended.

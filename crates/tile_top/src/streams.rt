@@ -1,13 +1,12 @@
-//! Reading lines from a source, and writing whole pieces to a sink.
+//! Reading lines from a source.
 
-ghost use Rattle.std.specs.Prelude.{◌≡◌, ◌+◌, ◌≤◌, ◌<◌, ℕ, List, [], ◌∷◌, length, Some, None, MatchResult, MatchOption, IfErr, OnOk};
-ghost use Rattle.std.specs.Io.KnownBytes.{Consumes, Keeps, IsAtEnd, Appends};
+ghost use Rattle.std.specs.Prelude.{◌≡◌, ◌+◌, ◌≤◌, ◌<◌, ℕ, List, [], ◌∷◌, length, Some, None, MatchResult, MatchOption};
+ghost use Rattle.std.specs.Io.KnownBytes.{Consumes, Keeps, IsAtEnd};
 ghost use Rattle.outside.specs.Causes.{HasCause, Rose};
-ghost use mathlib.Core.List.{IsPrefix};
 ghost use Rattle.tile_top.specs.TextLines.{max_script};
 ghost use Rattle.tile_top.specs.Reads.{IsOneLine, OnLine};
 
-use outside::{Failed, Sink, Source};
+use outside::{Failed, Source};
 
 /// The greatest number of bytes of a line.
 const MAX_LINE: usize = 1 << 20;
@@ -76,21 +75,4 @@ pub(crate) fn read_line<S: Source>(source: &mut S, line: &mut Vec<u8>, used: &mu
             return LineEnd::Memory;
         }
     }
-}
-
-/// Writes the whole piece. At an error some first part of it was written.
-pub(crate) fn write_all<K: Sink>(sink: &mut K, piece: &[u8]) -> Result<(), Failed>
-    ensures done { OnOk result (Appends (K.held sink.old) (K.held sink.new) piece.now) }
-    ensures part { IfErr result (λ _. (part : List ℕ) × IsPrefix part piece.now × Appends (K.held sink.old) (K.held sink.new) part) }
-    ensures cause { HasCause (K.faults sink.old) (K.faults sink.new) result }
-{
-    let mut rest = piece;
-    while !rest.is_empty() {
-        let count = match sink.write(rest) {
-            Ok(count) => count,
-            Err(Failed) => return Err(Failed),
-        };
-        rest = &rest[count..];
-    }
-    Ok(())
 }

@@ -2,10 +2,12 @@
 
 use super::*;
 use byte_text::{NoMemory, Text, push_u64};
-use outside::{BytesSink, BytesSource};
+use outside::{BytesSink, BytesSource, HandClock, ListDoor, ListedSpawner};
 use script_text::push_frame_line;
 use std::alloc::Global;
+use std::sync::Wait;
 use std::test::Fail;
+use std::thread::Threads;
 
 const SCRIPT: &[u8] = b"open\n\
     feed 1 0 *6%0D%0A$3%0D%0ASET%0D%0A$5%0D%0Afleet%0D%0A$6%0D%0Atruck1%0D%0A$5%0D%0APOINT%0D%0A$2%0D%0A33%0D%0A$3%0D%0A112%0D%0A\n\
@@ -22,9 +24,34 @@ const OUTPUT: &[u8] = b"session 1\nok\nok\n\
 const REQUESTS: &[u8] =
     b"*6\r\n$3\r\nSET\r\n$5\r\nfleet\r\n$6\r\ntruck1\r\n$5\r\nPOINT\r\n$2\r\n33\r\n$3\r\n112\r\n*3\r\n$3\r\nGET\r\n$5\r\nfleet\r\n$6\r\ntruck1\r\n";
 
+// Asks for what the words say, with a door in memory at which nobody comes. The status.
+fn asked<R: Wait + Threads + Copy + Send + Sync + 'static>(
+    rt: &R,
+    alloc: Global,
+    words: &[String],
+    source: &mut BytesSource,
+    sink: &mut BytesSink,
+) -> Result<u8, Fail> {
+    let mut door = ListDoor::new(alloc, Vec::new(alloc), Vec::new(alloc))?;
+    let mut spawner = ListedSpawner::new(alloc, Vec::new(alloc));
+    let clock = HandClock::at(0);
+    let ended = top(
+        rt,
+        alloc,
+        words,
+        source,
+        sink,
+        &mut door,
+        &clock,
+        &mut spawner,
+    );
+    Ok(ended.status)
+}
+
 // Plays the script, which is read in pieces of 7 bytes and whose output is written in pieces of 5. The reads and writes of these
 // numbers fail.
-fn played(
+fn played<R: Wait + Threads + Copy + Send + Sync + 'static>(
+    rt: &R,
     alloc: Global,
     word: &str,
     script: &[u8],
@@ -35,8 +62,8 @@ fn played(
     words.push(word.to_string(alloc)?)?;
     let mut source = BytesSource::new(script.to_vec(alloc)?, 7, reads.to_vec(alloc)?);
     let mut sink = BytesSink::new(alloc, 5, writes.to_vec(alloc)?);
-    let ended = top(alloc, words.as_slice(), &mut source, &mut sink);
-    Ok((ended.status, sink))
+    let status = asked(rt, alloc, words.as_slice(), &mut source, &mut sink)?;
+    Ok((status, sink))
 }
 
 // The lines that feed session 1 these bytes, cut into pieces of this size.
@@ -129,7 +156,7 @@ fn scripts_and_their_output(rt: HostRuntime) -> Result<(), Fail> {
         ("serve", SCRIPT, 1, usage),
     ];
     for (word, script, status, output) in table {
-        let (ended, sink) = played(rt.alloc(), word, script, &[], &[])?;
+        let (ended, sink) = played(&rt, rt.alloc(), word, script, &[], &[])?;
         assert_eq!(rt; ended, status, "{word}");
         assert_eq!(rt; sink.written(), output);
     }
@@ -144,7 +171,7 @@ fn requests_in_any_cutting(rt: HostRuntime) -> Result<(), Fail> {
         script.push(b"open\n")?;
         script.push(feeds(alloc, REQUESTS, size)?.bytes())?;
         script.push(b"take 1\ntake 1\n")?;
-        let (ended, sink) = played(alloc, "replay", script.bytes(), &[], &[])?;
+        let (ended, sink) = played(&rt, alloc, "replay", script.bytes(), &[], &[])?;
         assert_eq!(rt; ended, 0);
         assert_eq!(rt; sink.written(), OUTPUT, "in pieces of {size}");
     }
@@ -179,7 +206,7 @@ fn broken_protocols(rt: HostRuntime) -> Result<(), Fail> {
         output.push(b"session 1\nok\n")?;
         push_frame_line(&mut output, frame.bytes())?;
         output.push(b"ended\ndead\n")?;
-        let (ended, sink) = played(alloc, "replay", script.bytes(), &[], &[])?;
+        let (ended, sink) = played(&rt, alloc, "replay", script.bytes(), &[], &[])?;
         assert_eq!(rt; ended, 0);
         assert_eq!(rt; sink.written(), output.bytes(), "{bytes}");
     }
@@ -235,7 +262,7 @@ fn commands_and_their_answers(rt: HostRuntime) -> Result<(), Fail> {
         ("QUIT", "+OK\r\n"),
     ];
     let (script, output) = exchanges(alloc, &table)?;
-    let (ended, sink) = played(alloc, "replay", script.bytes(), &[], &[])?;
+    let (ended, sink) = played(&rt, alloc, "replay", script.bytes(), &[], &[])?;
     assert_eq!(rt; ended, 0);
     assert_eq!(rt; sink.written(), output.bytes());
     Ok(())
@@ -267,7 +294,7 @@ fn fields_and_their_answers(rt: HostRuntime) -> Result<(), Fail> {
         ("QUIT", "+OK\r\n"),
     ];
     let (script, output) = exchanges(alloc, &table)?;
-    let (ended, sink) = played(alloc, "replay", script.bytes(), &[], &[])?;
+    let (ended, sink) = played(&rt, alloc, "replay", script.bytes(), &[], &[])?;
     assert_eq!(rt; ended, 0);
     assert_eq!(rt; sink.written(), output.bytes());
     Ok(())
@@ -301,7 +328,7 @@ fn deadlines_and_keys(rt: HostRuntime) -> Result<(), Fail> {
         ("KEYS *", "*0\r\n"),
     ];
     let (script, output) = exchanges(alloc, &table)?;
-    let (ended, sink) = played(alloc, "replay", script.bytes(), &[], &[])?;
+    let (ended, sink) = played(&rt, alloc, "replay", script.bytes(), &[], &[])?;
     assert_eq!(rt; ended, 0);
     assert_eq!(rt; sink.written(), output.bytes());
     Ok(())
@@ -329,16 +356,20 @@ fn pages_and_their_cursors(rt: HostRuntime) -> Result<(), Fail> {
         ("SCAN none IDS", "*2\r\n:0\r\n*0\r\n"),
     ];
     let (script, output) = exchanges(alloc, &table)?;
-    let (ended, sink) = played(alloc, "replay", script.bytes(), &[], &[])?;
+    let (ended, sink) = played(&rt, alloc, "replay", script.bytes(), &[], &[])?;
     assert_eq!(rt; ended, 0);
     assert_eq!(rt; sink.written(), output.bytes());
     Ok(())
 }
 
 // The play of one session's requests, each taken at once, and what it prints where these are the answers.
-fn answers(alloc: Global, table: &[(&str, &str)]) -> Result<(u8, BytesSink, Text), Fail> {
+fn answers<R: Wait + Threads + Copy + Send + Sync + 'static>(
+    rt: &R,
+    alloc: Global,
+    table: &[(&str, &str)],
+) -> Result<(u8, BytesSink, Text), Fail> {
     let (script, output) = exchanges(alloc, table)?;
-    let (ended, sink) = played(alloc, "replay", script.bytes(), &[], &[])?;
+    let (ended, sink) = played(rt, alloc, "replay", script.bytes(), &[], &[])?;
     Ok((ended, sink, output))
 }
 
@@ -376,7 +407,7 @@ fn the_largest_products(rt: HostRuntime) -> Result<(), Fail> {
             ":0\r\n",
         ),
     ];
-    let (ended, sink, output) = answers(rt.alloc(), &table)?;
+    let (ended, sink, output) = answers(&rt, rt.alloc(), &table)?;
     assert_eq!(rt; ended, 0);
     assert_eq!(rt; sink.written(), output.bytes());
     Ok(())
@@ -398,7 +429,7 @@ fn edges_and_a_hole(rt: HostRuntime) -> Result<(), Fail> {
         (meets.as_str(), found),
         (lies.as_str(), found),
     ];
-    let (ended, sink, output) = answers(alloc, &table)?;
+    let (ended, sink, output) = answers(&rt, alloc, &table)?;
     assert_eq!(rt; ended, 0);
     assert_eq!(rt; sink.written(), output.bytes());
     Ok(())
@@ -420,7 +451,7 @@ fn an_object_round_a_hole(rt: HostRuntime) -> Result<(), Fail> {
         ("WITHIN q COUNT GET q none", "-ERR id not found\r\n"),
         ("WITHIN q COUNT GET none h", "-ERR key not found\r\n"),
     ];
-    let (ended, sink, output) = answers(alloc, &table)?;
+    let (ended, sink, output) = answers(&rt, alloc, &table)?;
     assert_eq!(rt; ended, 0);
     assert_eq!(rt; sink.written(), output.bytes());
     Ok(())
@@ -439,7 +470,7 @@ fn level_with_a_corner(rt: HostRuntime) -> Result<(), Fail> {
             "*2\r\n:0\r\n*1\r\n$1\r\ni\r\n",
         ),
     ];
-    let (ended, sink, output) = answers(rt.alloc(), &table)?;
+    let (ended, sink, output) = answers(&rt, rt.alloc(), &table)?;
     assert_eq!(rt; ended, 0);
     assert_eq!(rt; sink.written(), output.bytes());
     Ok(())
@@ -463,7 +494,7 @@ fn the_nearest_and_ties(rt: HostRuntime) -> Result<(), Fail> {
         ("NEARBY n COUNT POINT 0 0 2", ":0\r\n"),
         ("NEARBY n COUNT POINT 0 0 3", ":3\r\n"),
     ];
-    let (ended, sink, output) = answers(rt.alloc(), &table)?;
+    let (ended, sink, output) = answers(&rt, rt.alloc(), &table)?;
     assert_eq!(rt; ended, 0);
     assert_eq!(rt; sink.written(), output.bytes());
     Ok(())
@@ -488,7 +519,7 @@ fn boxes_and_bounds(rt: HostRuntime) -> Result<(), Fail> {
         ("NEARBY r COUNT POINT 5 -1 4", ":2\r\n"),
         ("WITHIN r BOUNDS 1 0 0 0", "-ERR invalid argument '0'\r\n"),
     ];
-    let (ended, sink, output) = answers(rt.alloc(), &table)?;
+    let (ended, sink, output) = answers(&rt, rt.alloc(), &table)?;
     assert_eq!(rt; ended, 0);
     assert_eq!(rt; sink.written(), output.bytes());
     Ok(())
@@ -536,7 +567,7 @@ fn refused_objects(rt: HostRuntime) -> Result<(), Fail> {
         answer.push_str(refusal)?;
         answer.push_str("\r\n")?;
         let (script, output) = exchanges(alloc, &[(words.as_str(), answer.as_str())])?;
-        let (ended, sink) = played(alloc, "replay", script.bytes(), &[], &[])?;
+        let (ended, sink) = played(&rt, alloc, "replay", script.bytes(), &[], &[])?;
         assert_eq!(rt; ended, 0);
         assert_eq!(rt; sink.written(), output.bytes(), "{text}");
     }
@@ -565,7 +596,7 @@ fn a_session_is_full(rt: HostRuntime) -> Result<(), Fail> {
     for _ in 0..1024 {
         output.push(b"frame +PONG%0D%0A\n")?;
     }
-    let (ended, sink) = played(alloc, "replay", script.bytes(), &[], &[])?;
+    let (ended, sink) = played(&rt, alloc, "replay", script.bytes(), &[], &[])?;
     assert_eq!(rt; ended, 0);
     assert_eq!(rt; sink.written(), output.bytes());
     Ok(())
@@ -584,7 +615,7 @@ fn five_hundred_and_twelve_sessions_are_let_in(rt: HostRuntime) -> Result<(), Fa
     }
     script.push(b"open\nclose 9\ntake 9\nopen\n")?;
     output.push(b"toomany\nok\nended\nsession 513\n")?;
-    let (ended, sink) = played(alloc, "replay", script.bytes(), &[], &[])?;
+    let (ended, sink) = played(&rt, alloc, "replay", script.bytes(), &[], &[])?;
     assert_eq!(rt; ended, 0);
     assert_eq!(rt; sink.written(), output.bytes());
     Ok(())
@@ -600,7 +631,7 @@ fn a_read_or_a_write_fails_in_mid_stream(rt: HostRuntime) -> Result<(), Fail> {
         ([1000], [5], 4, written),
         ([40], [4], 4, cut),
     ] {
-        let (ended, sink) = played(rt.alloc(), "replay", SCRIPT, &reads, &writes)?;
+        let (ended, sink) = played(&rt, rt.alloc(), "replay", SCRIPT, &reads, &writes)?;
         assert_eq!(rt; ended, status);
         assert_eq!(rt; sink.written(), output);
     }
@@ -613,11 +644,92 @@ fn no_words_show_the_usage(rt: HostRuntime) -> Result<(), Fail> {
     let words: Vec<String> = Vec::new(alloc);
     let mut source = BytesSource::new(SCRIPT.to_vec(alloc)?, 7, Vec::new(alloc));
     let mut sink = BytesSink::new(alloc, 100, Vec::new(alloc));
-    let ended = top(alloc, words.as_slice(), &mut source, &mut sink);
-    assert_eq!(rt; ended.status, 1);
+    let status = asked(&rt, alloc, words.as_slice(), &mut source, &mut sink)?;
+    assert_eq!(rt; status, 1);
     assert_eq!(rt;
         sink.written(),
         b"usage: tile_server replay | check | load N SEED | serve ADDR [--sessions N]\n".as_slice()
     );
+    Ok(())
+}
+
+// Serves the callers of a door in memory, in the words given. The status, the bytes written, and those written to the first caller.
+fn served<R: Wait + Threads + Copy + Send + Sync + 'static>(
+    rt: &R,
+    alloc: Global,
+    words: &[&str],
+    failing: &[u64],
+) -> Result<(u8, Vec<u8>, Vec<u8>), Fail> {
+    let mut all = Vec::new(alloc);
+    for word in words {
+        all.push(word.to_string(alloc)?)?;
+    }
+    let mut source = BytesSource::new(Vec::new(alloc), 1, Vec::new(alloc));
+    let mut sink = BytesSink::new(alloc, 5, Vec::new(alloc));
+    let mut links = Vec::new(alloc);
+    links.push(REQUESTS.to_vec(alloc)?)?;
+    links.push(b"*1\r\n$4\r\nPING\r\n*1\r\n$4\r\nQUIT\r\n".to_vec(alloc)?)?;
+    let mut door = ListDoor::new(alloc, links, failing.to_vec(alloc)?)?;
+    let mut spawner = ListedSpawner::new(alloc, Vec::new(alloc));
+    let clock = HandClock::at(7);
+    let ended = top(
+        rt,
+        alloc,
+        all.as_slice(),
+        &mut source,
+        &mut sink,
+        &mut door,
+        &clock,
+        &mut spawner,
+    );
+    let first = door.written(rt, alloc, 0)?;
+    Ok((ended.status, sink.written().to_vec(alloc)?, first))
+}
+
+#[test]
+fn callers_are_served_up_to_an_end(rt: HostRuntime) -> Result<(), Fail> {
+    let alloc = rt.alloc();
+    let replies = b"+OK\r\n$39\r\n{\"type\":\"Point\",\"coordinates\":[112,33]}\r\n";
+    let (status, lines, first) = served(&rt, alloc, &["serve", "door"], &[])?;
+    assert_eq!(rt; status, 0);
+    assert_eq!(rt; lines.as_slice(), b"listening door\nserved 2\n".as_slice());
+    assert_eq!(rt; first.as_slice(), replies.as_slice());
+    let (status, lines, first) = served(&rt, alloc, &["serve", "door", "--sessions", "1"], &[])?;
+    assert_eq!(rt; status, 0);
+    assert_eq!(rt; lines.as_slice(), b"listening door\nserved 1\n".as_slice());
+    assert_eq!(rt; first.as_slice(), replies.as_slice());
+    Ok(())
+}
+
+#[test]
+fn a_door_that_fails_ends_the_server(rt: HostRuntime) -> Result<(), Fail> {
+    let alloc = rt.alloc();
+    let words = ["serve", "door"];
+    let (status, lines, _) = served(&rt, alloc, &words, &[1])?;
+    assert_eq!(rt; status, 8);
+    assert_eq!(rt; lines.as_slice(), b"door fault\n".as_slice());
+    let (status, lines, _) = served(&rt, alloc, &words, &[3])?;
+    assert_eq!(rt; status, 8);
+    assert_eq!(rt;
+        lines.as_slice(),
+        b"listening door\ndoor fault\n".as_slice()
+    );
+    Ok(())
+}
+
+#[test]
+fn other_words_show_the_usage(rt: HostRuntime) -> Result<(), Fail> {
+    let alloc = rt.alloc();
+    let table: [&[&str]; 5] = [
+        &["serve", "--help"],
+        &["serve", "door", "--sessions"],
+        &["serve", "door", "--sessions", "0"],
+        &["serve", "door", "--sessions", "01"],
+        &["serve", "door", "--sessions", "1000000001"],
+    ];
+    for words in table {
+        let (status, lines, first) = served(&rt, alloc, words, &[])?;
+        assert_eq!(rt; (status, lines.len(), first.len()), (1, 76, 0));
+    }
     Ok(())
 }

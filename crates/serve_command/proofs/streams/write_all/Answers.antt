@@ -1,6 +1,6 @@
 use Rattle.std.proofs.Common.{rules}
-use Rattle.tile_top.proofs.Writing.{written_more, written_part}
-use Rattle.tile_top.proofs.streams.write_all.Goals as goal
+use Rattle.serve_command.specs.Writing.{written_more, written_part}
+use Rattle.serve_command.proofs.streams.write_all.Goals as goal
 
 pub loop-rest-preserved : goal.loop-rest-preserved
 loop-rest-preserved g c = record { written = written_more _ _ _ _ _ _ c.loop-rest.invariant.written c.in-Ok.ensures.bytes; later = search rules }

@@ -1,6 +1,6 @@
 use Rattle.std.proofs.Common.{◌≤◌, length}
-use Rattle.tile_top.proofs.Writing.{Written}
-use Rattle.tile_top.proofs.streams.write_all.Given as goal
+use Rattle.serve_command.specs.Writing.{Written}
+use Rattle.serve_command.proofs.streams.write_all.Given as goal
 
 abbrev pub invariant-loop-rest : goal.invariant-loop-rest
 invariant-loop-rest g l = record {

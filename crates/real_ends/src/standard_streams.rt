@@ -1,4 +1,4 @@
-//! The real source and sink. They tell nothing of their content, and count their failures.
+//! Standard input and output, or another reader and writer.
 
 ghost use Rattle.std.specs.Prelude.{None};
 
@@ -7,14 +7,14 @@ use std::io::{Read, Write};
 
 /// What is read from standard input, or another reader.
 #[derive(Drop)]
-pub(crate) struct StdinSource<R: Read + Drop> {
+pub struct StdinSource<R: Read + Drop> {
     reader: R,
     faults: u64,
 }
 
 impl<R: Read + Drop> StdinSource<R> {
     /// Nothing was read yet, and nothing has failed.
-    pub(crate) fn new(reader: R) -> StdinSource<R> {
+    pub fn new(reader: R) -> StdinSource<R> {
         StdinSource { reader, faults: 0 }
     }
 }
@@ -37,14 +37,14 @@ impl<R: Read + Drop> Source for StdinSource<R> {
 
 /// What is written to standard output, or to another writer.
 #[derive(Drop)]
-pub(crate) struct StdoutSink<W: Write + Drop> {
+pub struct StdoutSink<W: Write + Drop> {
     writer: W,
     faults: u64,
 }
 
 impl<W: Write + Drop> StdoutSink<W> {
     /// Nothing was written yet, and nothing has failed.
-    pub(crate) fn new(writer: W) -> StdoutSink<W> {
+    pub fn new(writer: W) -> StdoutSink<W> {
         StdoutSink { writer, faults: 0 }
     }
 }

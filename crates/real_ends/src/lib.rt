@@ -1,0 +1,18 @@
+//! The real things that stand outside of the program: standard input and output, sockets, the system's clock, and threads. They tell
+//! nothing of their content, and count their failures.
+#![tactic(auto)]
+
+mod doors;
+mod links;
+mod spawners;
+mod standard_streams;
+mod wall_clocks;
+
+pub use doors::TcpDoor;
+pub use links::{TcpSink, TcpSource};
+pub use spawners::ThreadSpawner;
+pub use standard_streams::{StdinSource, StdoutSink};
+pub use wall_clocks::WallClock;
+
+#[cfg(test)]
+mod tests;

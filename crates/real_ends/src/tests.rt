@@ -1,0 +1,145 @@
+// The real things, over the loopback.
+use crate::{TcpDoor, TcpSink, TcpSource, ThreadSpawner, WallClock};
+use outside::{Accepted, Clock, Door, Failed, Job, Link, MAX_MOMENT, Sink, Source, Spawner, Tally};
+use std::alloc::Global;
+use std::io::{Read, Write};
+use std::net::TcpStream;
+use std::sync::atomic::{AtomicU64, Ordering};
+use std::sync::{Arc, Wait};
+use std::test::Fail;
+use std::time::Duration;
+
+// A door at a port of this machine, where a write waits for its caller so many milliseconds.
+fn door_at(rt: &HostRuntime, addr: &str, patience: u64) -> Result<TcpDoor<HostRuntime>, Failed> {
+    let mut door = TcpDoor::new(*rt, rt.alloc(), Duration::from_millis(patience));
+    match door.listen(addr) {
+        Ok(()) => Ok(door),
+        Err(Failed) => Err(Failed),
+    }
+}
+
+// A caller at the address of a door, and the door's ends of the link to it.
+fn call_at(
+    rt: &HostRuntime,
+    door: &mut TcpDoor<HostRuntime>,
+    addr: &str,
+) -> Result<(TcpStream, Link<TcpSource, TcpSink>), Fail> {
+    let caller = TcpStream::connect(rt, addr)?;
+    match door.accept() {
+        Ok(Accepted::Joined(link)) => Ok((caller, link)),
+        _ => Err(Fail::from(Failed)),
+    }
+}
+
+#[test]
+fn a_link_carries_bytes_both_ways_up_to_its_end(rt: HostRuntime) -> Result<(), Fail> {
+    let addr = "127.0.0.1:39411";
+    let mut door = door_at(&rt, addr, 1000)?;
+    assert!(rt; matches!(door.accept(), Ok(Accepted::Idle)));
+    let (mut caller, link) = call_at(&rt, &mut door, addr)?;
+    let Link {
+        mut incoming,
+        mut outgoing,
+    } = link;
+    let mut got = [b'.'; 2];
+    caller.write_all(b"ab")?;
+    assert_eq!(rt; incoming.read(&mut got), Ok(2));
+    assert_eq!(rt; got, *b"ab");
+    assert_eq!(rt; outgoing.write(b"cd"), Ok(2));
+    drop(outgoing);
+    assert_eq!(rt; caller.read(&mut got)?, 2);
+    assert_eq!(rt; got, *b"cd");
+    assert_eq!(rt; caller.read(&mut got)?, 0);
+    assert_eq!(rt; incoming.read(&mut got), Ok(0));
+    assert_eq!(rt; (door.links, door.faults, incoming.faults), (1, 0, 0));
+    Ok(())
+}
+
+#[test]
+fn a_peer_that_never_reads_is_a_failure_of_its_sink(rt: HostRuntime) -> Result<(), Fail> {
+    let addr = "127.0.0.1:39412";
+    let mut door = door_at(&rt, addr, 20)?;
+    let (caller, link) = call_at(&rt, &mut door, addr)?;
+    let Link {
+        incoming,
+        mut outgoing,
+    } = link;
+    let piece = vec![in rt.alloc(); 0u8; 1_000_000]?;
+    let mut failed = false;
+    for _ in 0..100 {
+        if outgoing.write(&piece) == Err(Failed) {
+            failed = true;
+            break;
+        }
+    }
+    assert!(rt; failed);
+    assert_eq!(rt; (outgoing.faults, incoming.faults), (1, 0));
+    drop(caller);
+    Ok(())
+}
+
+#[test]
+fn a_caller_that_leaves_bytes_unread_is_a_failure_of_its_source(
+    rt: HostRuntime,
+) -> Result<(), Fail> {
+    let addr = "127.0.0.1:39413";
+    let mut door = door_at(&rt, addr, 1000)?;
+    let (caller, link) = call_at(&rt, &mut door, addr)?;
+    let Link {
+        mut incoming,
+        mut outgoing,
+    } = link;
+    assert_eq!(rt; outgoing.write(b"ab"), Ok(2));
+    drop(caller);
+    assert_eq!(rt; incoming.read(&mut [b'.'; 2]), Err(Failed));
+    assert_eq!(rt; (incoming.faults, outgoing.faults), (1, 0));
+    Ok(())
+}
+
+#[test]
+fn a_door_fails_where_it_cannot_listen(rt: HostRuntime) -> Result<(), Fail> {
+    let mut door = TcpDoor::new(rt, rt.alloc(), Duration::from_secs(1));
+    assert!(rt; matches!(door.accept(), Err(Failed)));
+    assert_eq!(rt; door.listen("no address"), Err(Failed));
+    assert_eq!(rt; (door.faults, door.links), (2, 0));
+    Ok(())
+}
+
+#[test]
+fn a_wall_clock_tells_milliseconds(rt: HostRuntime) {
+    let now = WallClock::new(rt).twin().now();
+    assert!(rt; now > 1_600_000_000_000 && now <= MAX_MOMENT);
+}
+
+#[derive(Drop)]
+struct Adds {
+    sum: Arc<AtomicU64, Global>,
+}
+
+impl Job for Adds {
+    type Out = u64;
+
+    ghost gives = { λ _ _. Unit {0} };
+
+    ghost ready = { λ _. Unit {0} };
+
+    fn run<R: Wait>(self, _rt: &R) -> u64 {
+        self.sum.fetch_add(1, Ordering::SeqCst)
+    }
+}
+
+#[test]
+fn a_spawner_runs_each_job(rt: HostRuntime) -> Result<(), Fail> {
+    let alloc = rt.alloc();
+    let sum = Arc::new(alloc, AtomicU64::new(0))?;
+    let mut spawner = ThreadSpawner::new(alloc);
+    for _ in 0..3 {
+        let job = Adds {
+            sum: Arc::try_clone(&sum)?,
+        };
+        assert_eq!(rt; spawner.start(&rt, job), Ok(()));
+    }
+    spawner.finish(&rt);
+    assert_eq!(rt; sum.load(Ordering::SeqCst), 3);
+    Ok(())
+}
