@@ -34,7 +34,8 @@ impl Model for RunList {
 impl RunList {
     /// No number, and no room. Room is taken from `alloc`.
     pub fn new(alloc: Global) -> RunList
-        ensures { result.items ≡ [] }
+        ensures items { result.items ≡ [] }
+        ensures room { result.spare ≡ 0 }
     {
         RunList {
             alloc,

@@ -14,7 +14,7 @@ pub(crate) struct Spot {
     pub(crate) at: usize,
 }
 
-/// Where a place of the list is found.
+/// Where a place of the list is found, by the ends of its runs alone. The runs are those that the ends count.
 pub(crate) fn find(ends: &[usize], runs: &[Run], i: usize) -> Spot
     requires ends { AreEnds runs.now ends.now }
     requires within { i < length (flat runs.now) }

@@ -1,7 +1,7 @@
-use Rattle.std.proofs.Common.{◌≡◌, ◌<◌, ◌≤◌, ◌+◌, ◌∙◌, ℕ, ap, sym, length, get_or, vec_len, arith, rules, inl, inr}
+use Rattle.std.proofs.Common.{◌≡◌, ◌<◌, ◌+◌, ◌∙◌, ℕ, ap, sym, length, get_or, arith, rules, inl, inr}
 use Rattle.std.proofs.lemmas.Bool.{cases_lt}
 use Rattle.std.proofs.lemmas.List.{get_or_append_left, get_or_push}
-use Rattle.run_list.specs.Runs.{flat, start}
+use Rattle.run_list.specs.Runs.{start}
 use Rattle.run_list.proofs.Flats.{start-more, start-most}
 use Rattle.run_list.proofs.ends.recount.Goals as goal
 

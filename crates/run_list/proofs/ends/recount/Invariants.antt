@@ -1,4 +1,4 @@
-use Rattle.std.proofs.Common.{◌≡◌, ◌<◌, ◌+◌, ℕ, length, vec_len, vec_capacity}
+use Rattle.std.proofs.Common.{◌≡◌, ◌<◌, ◌+◌, ℕ, vec_len, vec_capacity}
 use Rattle.std.specs.Prelude.{slice_index_or}
 use Rattle.run_list.specs.Runs.{start}
 use Rattle.run_list.proofs.ends.recount.Given as goal

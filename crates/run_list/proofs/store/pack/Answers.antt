@@ -1,5 +1,5 @@
-use Rattle.std.proofs.Common.{rules, ◌≡◌, ◌<◌, ◌≤◌, ◌+◌, ◌*◌, ap, length, get_or, [], arith}
-use Rattle.run_list.specs.Runs.{flat, start}
+use Rattle.std.proofs.Common.{rules, ◌≡◌, ◌<◌, ◌+◌, ◌*◌, ap, length, [], arith}
+use Rattle.run_list.specs.Runs.{start}
 use Rattle.run_list.proofs.Flats.{start-more, start-most}
 use Rattle.run_list.proofs.store.pack.Goals as goal
 

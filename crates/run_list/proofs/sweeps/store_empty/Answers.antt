@@ -1,6 +1,5 @@
 use Rattle.std.proofs.Common.{◌≡◌, ◌<◌, ◌∙◌, ℕ, List, ap, sym, subst, length, get_or, arith, rules}
 use Rattle.std.proofs.lemmas.List.Edits.{get_or-remove_below}
-use Rattle.std.specs.List.{remove}
 use Rattle.run_list.specs.Runs.{flat}
 use Rattle.run_list.proofs.Filters.{flat-emptied}
 use Rattle.run_list.proofs.sweeps.store_empty.Goals as goal

@@ -1,4 +1,4 @@
-use Rattle.std.proofs.Common.{◌≡◌, ◌<◌, ◌≤◌, ◌+◌, ◌-◌, ℕ, List, [], length, vec_len, vec_capacity}
+use Rattle.std.proofs.Common.{◌≡◌, ◌<◌, ◌≤◌, ◌+◌, ◌-◌, ℕ, List, length, vec_len, vec_capacity}
 use Rattle.std.specs.Prelude.{slice_index_or}
 use Rattle.run_list.specs.Runs.{flat, AreEmpty}
 use Rattle.run_list.proofs.sweeps.store_empty.Given as goal

@@ -1,4 +1,3 @@
-use Rattle.std.proofs.Common.{◌≡◌}
 use Rattle.run_list.proofs.RunEnds.{found-at}
 use Rattle.run_list.proofs.walks.find.Goals as goal
 

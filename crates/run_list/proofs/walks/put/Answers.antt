@@ -1,4 +1,4 @@
-use Rattle.std.proofs.Common.{◌≡◌, ◌<◌, ◌≤◌, ◌+◌, ◌∙◌, length, set, ap, subst, sym, List, ℕ, rules, arith}
+use Rattle.std.proofs.Common.{◌<◌, ◌≤◌, ◌+◌, ◌∙◌, length, set, subst, sym, List, ℕ, rules, arith}
 use Rattle.std.specs.List.{insert}
 use Rattle.std.proofs.lemmas.List.{take-set, length-set}
 use Rattle.run_list.proofs.RunEnds.{kept-ends, front-inserted, cut-count}

@@ -1,5 +1,4 @@
-use Rattle.std.proofs.Common.{◌≡◌, ◌≤◌, ◌+◌, ◌∙◌, ℕ, Bool, ap, length, vec_len, arith, rules}
-use Rattle.std.specs.List.{filter}
+use Rattle.std.proofs.Common.{◌≡◌, ◌≤◌, ◌∙◌, ℕ, Bool, ap, length, arith, rules}
 use Rattle.run_list.specs.Runs.{flat, start, AreEnds}
 use Rattle.run_list.proofs.Flats.{start-all}
 use Rattle.run_list.proofs.RunEnds.{before-is}
