@@ -3,3 +3,4 @@ pub mod ChannelsByName
 pub mod Index
 pub mod Concerned
 pub mod Placing
+pub mod Silence

@@ -1,9 +1,9 @@
-use Rattle.std.proofs.Common.{◌≡◌, true, subst, sym, ◌∙◌, List, arith}
+use Rattle.std.proofs.Common.{◌≡◌, true, not, subst, sym, ◌∙◌, List, arith}
 use Rattle.world_data.specs.declared.channels.Channel.{Channel}
-use Rattle.world_data.specs.Worlds.{are_channels}
+use Rattle.world_data.specs.Worlds.{are_channels, is_named}
 use Rattle.ordered_lists.specs.Reading.{stands_at}
 use Rattle.channel_hub.proofs.ChannelsByName.{found, lacking, left, none_left, removed_by_name}
-use Rattle.channel_hub.proofs.Index.{taken_out}
+use Rattle.channel_hub.proofs.Index.{taken_out, whole_left}
 use Rattle.channel_hub.proofs.hubs.Hub.take_out.Goals as goal
 
 pub invariant_of-self : goal.invariant_of-self
@@ -20,6 +20,7 @@ invariant_of-self c =
     record {
       by_name = subst (λ (l : List Channel). are_channels l ≡ true) (sym c.remove-channel.ensures.items) (removed_by_name items c.in-Ok.at kept.by_name);
       indexed = rw (made, c.take_out.ensures.marks) index;
+      whole = rw made (whole_left (λ d. not (is_named name d)) items kept.whole);
       room = λ some. let room = kept.room (rw (← c.take_out.ensures.prepared) some) in omega (arith, room, c.remove-channel.ensures.len, c.remove-channel.ensures.capacity);
     }
 
