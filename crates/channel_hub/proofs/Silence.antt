@@ -1,8 +1,7 @@
 -- The messages of a put or a del are those of the channels that it may concern.
-use Rattle.std.proofs.Common.{◌≡◌, false, sym, subst, List, [], ◌∷◌}
+use Rattle.std.proofs.Common.{◌≡◌, sym, subst, List, [], ◌∷◌}
 use Rattle.std.specs.Prelude.{Option, Some, None, filter, flat_map}
 use Rattle.std.specs.List.{AllByRecursion}
-use Rattle.byte_text.specs.Names.{Bytes}
 use Rattle.planar_geom.specs.Nearness.{IsWholeShape}
 use Rattle.world_data.specs.Worlds.{object_at}
 use Rattle.world_data.specs.declared.channels.Channel.{Channel}
