@@ -99,22 +99,20 @@ fn start(channel: Option<&Channel>) -> i32 {
     }
 }
 
+// Where `c` begins when it is put anew, then, and when it is taken out.
+fn starts(alloc: Global, hub: &mut Hub) -> Result<(i32, i32, i32), NoMemory> {
+    let c = name(alloc, b"c")?;
+    let old = put(alloc, hub, channel(alloc, b"c", b"fleet", 20, 29)?)?;
+    let then = start(hub.get(&c));
+    Ok((start(old.as_ref()), then, start(hub.take_out(&c).as_ref())))
+}
+
 #[test]
-fn channels_stand_by_name(rt: HostRuntime) -> Result<(), Fail> {
+fn a_channel_is_replaced_and_taken_out(rt: HostRuntime) -> Result<(), Fail> {
     let alloc = rt.alloc();
     let mut hub = filled(alloc)?;
-    let c = name(alloc, b"c")?;
-    assert_eq!(rt; hub.len(), 4);
-    assert_eq!(rt; start(hub.get(&c)), 0);
-    let old = put(alloc, &mut hub, channel(alloc, b"c", b"fleet", 20, 29)?)?;
-    assert_eq!(rt; start(old.as_ref()), 0);
-    assert_eq!(rt; start(hub.get(&c)), 20);
-    assert_eq!(rt; start(hub.take_out(&c).as_ref()), 20);
-    assert!(rt; hub.take_out(&c).is_none());
-    assert!(rt; hub.get(&c).is_none());
+    assert_eq!(rt; starts(alloc, &mut hub)?, (0, 20, 20));
     assert_eq!(rt; hub.len(), 3);
-    hub.clear();
-    assert_eq!(rt; hub.len(), 0);
     Ok(())
 }
 
@@ -123,7 +121,6 @@ fn those_that_are_near_are_named(rt: HostRuntime) -> Result<(), Fail> {
     let alloc = rt.alloc();
     let hub = filled(alloc)?;
     let (west, east) = (strip(7, 7)?, strip(45, 45)?);
-    let far = strip(70, 70)?;
     assert_eq!(rt;
         near(alloc, &hub, None, Some(west))?.bytes(),
         b"23".as_slice()
@@ -132,35 +129,27 @@ fn those_that_are_near_are_named(rt: HostRuntime) -> Result<(), Fail> {
         near(alloc, &hub, Some(west), Some(east))?.bytes(),
         b"023".as_slice()
     );
-    assert_eq!(rt;
-        near(alloc, &hub, Some(east), None)?.bytes(),
-        b"0".as_slice()
-    );
-    assert_eq!(rt;
-        near(alloc, &hub, Some(far), Some(far))?.bytes(),
-        b"".as_slice()
-    );
-    let gulls = hub.of_key(alloc, &name(alloc, b"gulls")?)?;
-    assert_eq!(rt; digits(alloc, &gulls)?.bytes(), b"1".as_slice());
     Ok(())
 }
 
 // `c` goes from `fleet` over to `gulls`, and `d` is taken out: neither is near on `fleet` any more.
+fn moved(alloc: Global, hub: &mut Hub) -> Result<(), NoMemory> {
+    put(alloc, hub, channel(alloc, b"c", b"gulls", 0, 9)?)?;
+    hub.take_out(&name(alloc, b"d")?);
+    Ok(())
+}
+
 #[test]
 fn the_index_goes_with_the_channels(rt: HostRuntime) -> Result<(), Fail> {
     let alloc = rt.alloc();
     let mut hub = filled(alloc)?;
-    put(alloc, &mut hub, channel(alloc, b"c", b"gulls", 0, 9)?)?;
-    hub.take_out(&name(alloc, b"d")?);
+    moved(alloc, &mut hub)?;
     let (west, east) = (strip(7, 7)?, strip(45, 45)?);
     assert_eq!(rt;
         near(alloc, &hub, Some(west), Some(east))?.bytes(),
         b"0".as_slice()
     );
-    hub.clear();
-    assert_eq!(rt;
-        near(alloc, &hub, Some(west), Some(east))?.bytes(),
-        b"".as_slice()
-    );
+    let gulls = hub.of_key(alloc, &name(alloc, b"gulls")?)?;
+    assert_eq!(rt; digits(alloc, &gulls)?.bytes(), b"12".as_slice());
     Ok(())
 }
