@@ -8,4 +8,4 @@ pub loop-command-preserved : goal.loop-command-preserved
 loop-command-preserved c =
     let other : is_word c.args.called.now c.word.result.now ≡ false = search rules in
     others_more c.args.called.now c.args.commands.now c.loop-command.command-index command.Set c.loop-command-test.true
-        (subst (λ (n : Bytes). is_word c.args.called.now n ≡ false) c.word.ensures other) c.loop-command.invariant
+    (subst (λ (n : Bytes). is_word c.args.called.now n ≡ false) c.word.ensures other) c.loop-command.invariant
