@@ -52,16 +52,30 @@ fn corners(collection: &Collection) -> Option<(i32, i32, i32, i32)> {
     Some((min.x(), min.y(), max.x(), max.y()))
 }
 
+// Two trucks, put in the other order.
+fn pair(alloc: Global, trucks: &mut Collection) -> Result<(), Fail> {
+    put(alloc, trucks, b"b", Some(9), (1, 2))?;
+    put(alloc, trucks, b"a", Some(7), (-3, 4))?;
+    Ok(())
+}
+
 #[test]
 fn objects_stand_by_id(rt: HostRuntime) -> Result<(), Fail> {
     let alloc = rt.alloc();
     let mut trucks = Collection::new(alloc);
     assert_eq!(rt; corners(&trucks), None);
-    put(alloc, &mut trucks, b"b", Some(9), (1, 2))?;
-    put(alloc, &mut trucks, b"a", Some(7), (-3, 4))?;
+    pair(alloc, &mut trucks)?;
     assert_eq!(rt; trucks.len(), 2);
     assert_eq!(rt; trucks.at(0).id.bytes(), b"a".as_slice());
     assert_eq!(rt; corners(&trucks), Some((-3, 2, 1, 4)));
+    Ok(())
+}
+
+// Three of which two expire first, at one moment.
+fn two_that_tie(alloc: Global, trucks: &mut Collection) -> Result<(), Fail> {
+    put(alloc, trucks, b"c", Some(7), (1, 2))?;
+    put(alloc, trucks, b"a", Some(9), (1, 2))?;
+    put(alloc, trucks, b"b", Some(7), (1, 2))?;
     Ok(())
 }
 
@@ -70,37 +84,47 @@ fn the_first_to_expire_is_found(rt: HostRuntime) -> Result<(), Fail> {
     let alloc = rt.alloc();
     let mut trucks = Collection::new(alloc);
     assert_eq!(rt; trucks.first_due(), None);
-    put(alloc, &mut trucks, b"c", Some(7), (1, 2))?;
-    put(alloc, &mut trucks, b"a", Some(9), (1, 2))?;
-    put(alloc, &mut trucks, b"b", Some(7), (1, 2))?;
+    two_that_tie(alloc, &mut trucks)?;
     assert_eq!(rt; trucks.least_due(), Some(7));
     assert_eq!(rt; trucks.first_due(), Some(1));
     Ok(())
+}
+
+// What stood there when one is put, and when another takes its place.
+fn replaced(alloc: Global, trucks: &mut Collection) -> Result<(Option<u64>, Option<u64>), Fail> {
+    let none = put(alloc, trucks, b"b", Some(9), (1, 2))?;
+    let old = put(alloc, trucks, b"b", None, (0, 3))?;
+    Ok((none, old))
 }
 
 #[test]
 fn an_object_takes_the_place_of_another(rt: HostRuntime) -> Result<(), Fail> {
     let alloc = rt.alloc();
     let mut trucks = Collection::new(alloc);
-    assert_eq!(rt; put(alloc, &mut trucks, b"b", Some(9), (1, 2))?, None);
-    assert_eq!(rt; put(alloc, &mut trucks, b"b", None, (0, 3))?, Some(9));
+    assert_eq!(rt; replaced(alloc, &mut trucks)?, (None, Some(9)));
     assert_eq!(rt; trucks.len(), 1);
     assert_eq!(rt; trucks.least_due(), None);
     assert_eq!(rt; corners(&trucks), Some((0, 3, 0, 3)));
     Ok(())
 }
 
+// Whether `b` is there, is taken out, is taken out again, and is there then.
+fn taken(alloc: Global, trucks: &mut Collection) -> Result<(bool, bool, bool, bool), Fail> {
+    pair(alloc, trucks)?;
+    let b = Name::of(alloc, b"b")?;
+    let before = trucks.get(&b).is_some();
+    let first = trucks.take_out(&b).is_some();
+    let again = trucks.take_out(&b).is_some();
+    let after = trucks.get(&b).is_some();
+    Ok((before, first, again, after))
+}
+
 #[test]
 fn objects_are_taken_out(rt: HostRuntime) -> Result<(), Fail> {
     let alloc = rt.alloc();
     let mut trucks = Collection::new(alloc);
-    put(alloc, &mut trucks, b"b", Some(9), (1, 2))?;
-    put(alloc, &mut trucks, b"a", Some(7), (-3, 4))?;
-    let b = Name::of(alloc, b"b")?;
-    assert!(rt; matches!(trucks.get(&b), Some(object) if object.deadline == Some(9)));
-    assert!(rt; trucks.take_out(&b).is_some());
-    assert!(rt; trucks.take_out(&b).is_none());
-    assert!(rt; trucks.get(&b).is_none());
+    assert_eq!(rt; taken(alloc, &mut trucks)?, (true, true, false, false));
+    assert_eq!(rt; trucks.len(), 1);
     assert_eq!(rt; trucks.take_at(0).deadline, Some(7));
     assert_eq!(rt; trucks.least_due(), None);
     Ok(())
