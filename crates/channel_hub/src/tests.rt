@@ -56,19 +56,26 @@ fn channel(
     })
 }
 
-fn put(alloc: Global, hub: &mut Hub, channel: Channel) -> Result<Option<Channel>, NoMemory> {
+// Puts such a channel, and tells where the area of the one that it replaces begins, -1 for none.
+fn put(
+    alloc: Global,
+    hub: &mut Hub,
+    called: &[u8],
+    key: &[u8],
+    area: (i64, i64),
+) -> Result<i32, NoMemory> {
+    let channel = channel(alloc, called, key, area.0, area.1)?;
     hub.prepare(alloc, &channel)?;
-    Ok(hub.put(channel))
+    Ok(start(hub.put(channel).as_ref()))
 }
 
 // On `fleet`: `a` from 40 to 49, `c` from 0 to 9, `d` from 5 to 15. On `gulls`: `b` from 0 to 9.
-fn filled(alloc: Global) -> Result<Hub, NoMemory> {
-    let mut hub = Hub::new(alloc);
-    put(alloc, &mut hub, channel(alloc, b"d", b"fleet", 5, 15)?)?;
-    put(alloc, &mut hub, channel(alloc, b"b", b"gulls", 0, 9)?)?;
-    put(alloc, &mut hub, channel(alloc, b"a", b"fleet", 40, 49)?)?;
-    put(alloc, &mut hub, channel(alloc, b"c", b"fleet", 0, 9)?)?;
-    Ok(hub)
+fn fill(alloc: Global, hub: &mut Hub) -> Result<(), NoMemory> {
+    put(alloc, hub, b"d", b"fleet", (5, 15))?;
+    put(alloc, hub, b"b", b"gulls", (0, 9))?;
+    put(alloc, hub, b"a", b"fleet", (40, 49))?;
+    put(alloc, hub, b"c", b"fleet", (0, 9))?;
+    Ok(())
 }
 
 // The places, a digit each.
@@ -88,6 +95,21 @@ fn near(alloc: Global, hub: &Hub, old: Option<BBox>, new: Option<BBox>) -> Resul
     )
 }
 
+// Those that one who comes to the west of `fleet` may concern.
+fn come(alloc: Global, hub: &Hub) -> Result<Text, NoMemory> {
+    near(alloc, hub, None, Some(strip(7, 7)?))
+}
+
+// Those that one who goes from the west of `fleet` to the east may concern.
+fn gone_east(alloc: Global, hub: &Hub) -> Result<Text, NoMemory> {
+    near(alloc, hub, Some(strip(7, 7)?), Some(strip(45, 45)?))
+}
+
+// Those of `gulls`.
+fn of_gulls(alloc: Global, hub: &Hub) -> Result<Text, NoMemory> {
+    digits(alloc, &hub.of_key(alloc, &name(alloc, b"gulls")?)?)
+}
+
 // Where the area of a channel begins, -1 for none.
 fn start(channel: Option<&Channel>) -> i32 {
     match channel {
@@ -102,15 +124,16 @@ fn start(channel: Option<&Channel>) -> i32 {
 // Where `c` begins when it is put anew, then, and when it is taken out.
 fn starts(alloc: Global, hub: &mut Hub) -> Result<(i32, i32, i32), NoMemory> {
     let c = name(alloc, b"c")?;
-    let old = put(alloc, hub, channel(alloc, b"c", b"fleet", 20, 29)?)?;
+    let old = put(alloc, hub, b"c", b"fleet", (20, 29))?;
     let then = start(hub.get(&c));
-    Ok((start(old.as_ref()), then, start(hub.take_out(&c).as_ref())))
+    Ok((old, then, start(hub.take_out(&c).as_ref())))
 }
 
 #[test]
 fn a_channel_is_replaced_and_taken_out(rt: HostRuntime) -> Result<(), Fail> {
     let alloc = rt.alloc();
-    let mut hub = filled(alloc)?;
+    let mut hub = Hub::new(alloc);
+    fill(alloc, &mut hub)?;
     assert_eq!(rt; starts(alloc, &mut hub)?, (0, 20, 20));
     assert_eq!(rt; hub.len(), 3);
     Ok(())
@@ -119,22 +142,16 @@ fn a_channel_is_replaced_and_taken_out(rt: HostRuntime) -> Result<(), Fail> {
 #[test]
 fn those_that_are_near_are_named(rt: HostRuntime) -> Result<(), Fail> {
     let alloc = rt.alloc();
-    let hub = filled(alloc)?;
-    let (west, east) = (strip(7, 7)?, strip(45, 45)?);
-    assert_eq!(rt;
-        near(alloc, &hub, None, Some(west))?.bytes(),
-        b"23".as_slice()
-    );
-    assert_eq!(rt;
-        near(alloc, &hub, Some(west), Some(east))?.bytes(),
-        b"023".as_slice()
-    );
+    let mut hub = Hub::new(alloc);
+    fill(alloc, &mut hub)?;
+    assert_eq!(rt; come(alloc, &hub)?.bytes(), b"23".as_slice());
+    assert_eq!(rt; gone_east(alloc, &hub)?.bytes(), b"023".as_slice());
     Ok(())
 }
 
 // `c` goes from `fleet` over to `gulls`, and `d` is taken out: neither is near on `fleet` any more.
 fn moved(alloc: Global, hub: &mut Hub) -> Result<(), NoMemory> {
-    put(alloc, hub, channel(alloc, b"c", b"gulls", 0, 9)?)?;
+    put(alloc, hub, b"c", b"gulls", (0, 9))?;
     hub.take_out(&name(alloc, b"d")?);
     Ok(())
 }
@@ -142,14 +159,10 @@ fn moved(alloc: Global, hub: &mut Hub) -> Result<(), NoMemory> {
 #[test]
 fn the_index_goes_with_the_channels(rt: HostRuntime) -> Result<(), Fail> {
     let alloc = rt.alloc();
-    let mut hub = filled(alloc)?;
+    let mut hub = Hub::new(alloc);
+    fill(alloc, &mut hub)?;
     moved(alloc, &mut hub)?;
-    let (west, east) = (strip(7, 7)?, strip(45, 45)?);
-    assert_eq!(rt;
-        near(alloc, &hub, Some(west), Some(east))?.bytes(),
-        b"0".as_slice()
-    );
-    let gulls = hub.of_key(alloc, &name(alloc, b"gulls")?)?;
-    assert_eq!(rt; digits(alloc, &gulls)?.bytes(), b"12".as_slice());
+    assert_eq!(rt; gone_east(alloc, &hub)?.bytes(), b"0".as_slice());
+    assert_eq!(rt; of_gulls(alloc, &hub)?.bytes(), b"12".as_slice());
     Ok(())
 }
