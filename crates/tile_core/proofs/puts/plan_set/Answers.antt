@@ -23,7 +23,7 @@ returns-then-keeps_back c =
     let xs = objects_in c.args.objects.now in
     let r = c.get-old.result in
     let back : is_kept_back c.args.only (option_map (λ (o : Bor Object). o.now) r) ≡ true = sym (c.keeps_back.ensures _ (sym c.is_none-is_new.ensures ∙ is_there r)) ∙ c.if-keeps_back.true in
-    answers xs c.args.total c.requires.kept _ null _ refl (c.say_frame-then-keeps_back.ensures null c.in_ok-null_frame.ensures) _
+    answers xs c.args.total c.requires.kept _ null _ refl (c.say_frame.ensures null c.in_ok-null_frame.ensures) _
     (kept_back xs c.args.object c.args.object.fields c.args.cleared.now c.args.seconds c.args.only c.args.now r c.get-old.ensures.none c.get-old.ensures.some back)
 
 pub returns-then-len-gt-MAX_FIELDS : goal.returns-then-len-gt-MAX_FIELDS
@@ -71,4 +71,4 @@ returns c =
       | else-is_new-via-else-is_new b ↦
           put_over xs o o.fields c.args.cleared.now c.args.seconds c.args.only c.args.now r c.get-old.ensures.none c.get-old.ensures.some free fs d fields c.deadline_after.ensures less (new_is r _ c.is_none-is_new.ensures ∙ b.if-is_new.false)
     ] in
-    IfOk-weaker c.plan_put-2.result _ _ (λ p s. subst (λ (e : Effect). IsPlan xs e p) (sym put) (s true)) (c.plan_put-2.ensures fine c.in_ok-fine_frame.ensures)
+    IfOk-weaker c.plan_put.result _ _ (λ p s. subst (λ (e : Effect). IsPlan xs e p) (sym put) (s true)) (c.plan_put.ensures fine c.in_ok-fine_frame.ensures)

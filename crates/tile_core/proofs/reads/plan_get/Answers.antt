@@ -15,5 +15,5 @@ returns-in_ok-frame-in-Some c =
 
 pub returns-in_ok-null_frame-in-None : goal.returns-in_ok-null_frame-in-None
 returns-in_ok-null_frame-in-None c =
-    answers_ever (objects_in c.args.objects.now) c.args.total c.requires.kept _ null _ refl (c.say_frame-in-None-2.ensures null c.in_ok-null_frame-in-None.ensures) _
+    answers_ever (objects_in c.args.objects.now) c.args.total c.requires.kept _ null _ refl (c.say_frame-in-None.ensures null c.in_ok-null_frame-in-None.ensures) _
     (λ (now : ℕ). got_none (world_in c.args.objects.now) now c.args.key.now c.args.id.now c.args.with_fields c.args.shown c.in-None.ensures.none)

@@ -9,4 +9,4 @@ use Rattle.tile_core.proofs.requests.plan_ping.Goals as goal
 
 pub returns : goal.returns
 returns c =
-    answers_ever (objects_in c.args._objects.now) c.args.total c.requires _ (piece.Status (codes "PONG") ∷ []) _ refl (c.say_frame-2.ensures (piece.Status (codes "PONG") ∷ []) c.in_ok-pong_frame.ensures) _ (λ (now : ℕ). answered (world_in c.args._objects.now) now)
+    answers_ever (objects_in c.args._objects.now) c.args.total c.requires _ (piece.Status (codes "PONG") ∷ []) _ refl (c.say_frame.ensures (piece.Status (codes "PONG") ∷ []) c.in_ok-pong_frame.ensures) _ (λ (now : ℕ). answered (world_in c.args._objects.now) now)
