@@ -1,6 +1,6 @@
 -- Texts of one line.
 use Rattle.std.proofs.Common.{◌≢◌, ℕ, [], ◌∷◌, ◌++◌, arith, map}
-use Rattle.std.specs.Prelude.{nat_le, ◌&&◌, if◌then◌else◌, codes}
+use Rattle.std.specs.Prelude.{codes}
 use Rattle.std.proofs.lemmas.Bool.Decides.{nat_tests}
 use Rattle.byte_text.specs.Lines.{IsOneLine}
 use Rattle.byte_text.specs.Names.{Bytes}

@@ -1,6 +1,6 @@
 //! Items that become one array, each as the text of its frame from the first on.
 
-ghost use Rattle.std.specs.Prelude.{◌≡◌, ◌≢◌, ◌<◌, ◌≤◌, ◌+◌, ◌++◌, ◌∷◌, [], List, length, flat_map, pos, IfOk, IfErr, OnOk, OnErr};
+ghost use Rattle.std.specs.Prelude.{◌≡◌, ◌≢◌, ◌<◌, ◌≤◌, ◌+◌, ◌++◌, ◌∷◌, [], List, length, flat_map, IfOk, IfErr, OnOk, OnErr};
 ghost use Rattle.byte_text.specs.Replies.{array, bulk, number, frame_text, piece_text, IsFrame};
 ghost use Rattle.byte_text.specs.declared.replies.Piece.{Piece};
 ghost use Rattle.byte_text.specs.declared.replies.Piece.TheVariants as piece;
@@ -10,6 +10,7 @@ ghost use Rattle.world_model.specs.Replies.{item_reply, channel_reply};
 use crate::channels::channel_reply;
 use crate::frames::ReplyFault;
 use crate::objects::{item_reply, name_reply};
+use crate::ready_frames::push_count;
 use byte_text::{Name, NoMemory, Reply, Text, push_frame, push_u64};
 use std::alloc::Global;
 use std::marker::Model;
@@ -137,15 +138,6 @@ impl ItemFrames {
         push_head(&mut head, self.count)?;
         joined(head, &self.text)
     }
-}
-
-// Puts a count last, as an integer.
-fn push_count(into: &mut Text, count: u64) -> Result<(), NoMemory>
-    ensures { OnOk result (into.new ≡ into.old ++ piece_text (piece.Number (pos count))) }
-{
-    into.push(b":")?;
-    push_u64(into, count)?;
-    into.push(b"\r\n")
 }
 
 // Puts the frame of an item last, where the text is no longer then than a reply may be. Else the text is as before.

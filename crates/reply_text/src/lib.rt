@@ -7,6 +7,7 @@ mod frames;
 mod items;
 mod lists;
 mod objects;
+mod ready_frames;
 mod refusals;
 mod replies;
 
@@ -14,9 +15,10 @@ pub use channels::confirmation_reply;
 pub use frames::{ReplyFault, push_reply};
 pub use items::ItemFrames;
 pub use lists::ReplyList;
-pub use objects::{bounds_reply, get_reply, object_reply, stats_reply};
+pub use objects::{bounds_reply, get_frame, stats_reply};
+pub use ready_frames::{count_frame, fine_frame, null_frame, pong_frame, text_frame};
 pub use refusals::{broken_reply, error_reply, fault_reply, refusal_reply};
-pub use replies::{count_reply, fine_reply, null_reply, number_reply, status_reply, value_reply};
+pub use replies::{number_reply, value_reply};
 
 #[cfg(test)]
 mod tests;

@@ -1,14 +1,16 @@
 //! Objects and their keys, as replies show them.
 
-ghost use Rattle.std.specs.Prelude.{◌≡◌, ◌≢◌, ◌++◌, ◌∷◌, [], List, length, sum_by, if◌then◌else◌, IfOk, IfSome, IfNone, OnOk};
-ghost use Rattle.byte_text.specs.Replies.{array, bulk, IsFrame};
+ghost use Rattle.std.specs.Prelude.{◌≡◌, ◌≢◌, ◌++◌, ◌∷◌, [], List, length, sum_by, IfOk, IfSome, IfNone, OnOk};
+ghost use Rattle.byte_text.specs.Replies.{bulk, frame_text, IsFrame};
 ghost use Rattle.byte_text.specs.declared.replies.Piece.TheVariants as piece;
 ghost use Rattle.planar_geom.specs.Shapes.{positions};
 ghost use Rattle.world_model.specs.Replies.{no_list, bounds_reply as bounds_pieces, fields_reply, is_ids, item_reply as item_pieces, object_reply as object_pieces, stats_of_key};
 ghost use Rattle.world_data.specs.declared.objects.Object.{Object};
+ghost use Rattle.reply_text.specs.Gets.{get_pieces};
 
 use crate::drafts::Draft;
-use byte_text::{Name, NoMemory, Piece, Reply, lists_are_whole};
+use crate::ready_frames::text_frame;
+use byte_text::{Name, NoMemory, Piece, Reply, Text, lists_are_whole, push_frame};
 use planar_geom::{BBox, box_of, centre};
 use std::alloc::Global;
 use world_model::{Fields, Object, Query, Shown};
@@ -44,9 +46,9 @@ fn push_fields(draft: &mut Draft, fields: &Fields) -> Result<(), NoMemory>
     Ok(())
 }
 
-/// An object as it is shown: its text, the centre of its box as latitude and longitude, its bounds, or its id. A count shows
-/// nothing of it.
-pub fn object_reply(alloc: Global, object: &Object, shown: Shown) -> Result<Reply, NoMemory>
+// An object as it is shown: its text, the centre of its box as latitude and longitude, its bounds, or its id. A count shows
+// nothing of it.
+fn object_reply(alloc: Global, object: &Object, shown: Shown) -> Result<Reply, NoMemory>
     ensures value { IfOk result (λ reply. reply ≡ object_pieces shown object.now) }
     ensures frame { shown ≢ Shown.Count → IfOk result IsFrame }
 {
@@ -55,16 +57,35 @@ pub fn object_reply(alloc: Global, object: &Object, shown: Shown) -> Result<Repl
     Ok(draft.finish())
 }
 
-/// The answer to GET for an object that is there: the object as it is shown, or an array of that and its fields.
-pub fn get_reply(
+/// The frame of the answer to GET for an object that is there: the object as it is shown, or an array of that and its fields.
+pub fn get_frame(
+    alloc: Global,
+    object: &Object,
+    with_fields: bool,
+    shown: Shown,
+) -> Result<Text, NoMemory>
+    requires { shown ≢ Shown.Count }
+    ensures { IfOk result (λ frame. frame ≡ frame_text (get_pieces with_fields shown object.now)) }
+{
+    match (with_fields, shown) {
+        (false, Shown::Objects) => text_frame(alloc, object.text.bytes()),
+        _ => {
+            let reply = get_reply(alloc, object, with_fields, shown)?;
+            let mut frame = Text::new(alloc);
+            push_frame(&mut frame, &reply)?;
+            Ok(frame)
+        }
+    }
+}
+
+// The reply that this frame is of.
+fn get_reply(
     alloc: Global,
     object: &Object,
     with_fields: bool,
     shown: Shown,
 ) -> Result<Reply, NoMemory>
-    ensures value { IfOk result (λ reply. reply ≡ (if with_fields
-        then array (object_pieces shown object.now ∷ fields_reply object.now.fields ∷ [])
-        else object_pieces shown object.now)) }
+    ensures value { IfOk result (λ reply. reply ≡ get_pieces with_fields shown object.now) }
     ensures frame { shown ≢ Shown.Count → IfOk result IsFrame }
 {
     lists_are_whole();

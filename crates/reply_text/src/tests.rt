@@ -77,21 +77,18 @@ fn line(alloc: Global, reply: &Reply) -> Result<Text, Fail>
 fn objects(rt: HostRuntime) -> Result<(), Fail> {
     let alloc = rt.alloc();
     let truck = truck(alloc)?;
-    let text = object_reply(alloc, &truck, Shown::Objects)?;
-    assert_eq!(rt; line(alloc, &text)?.bytes(), b"$2\r\n{}\r\n".as_slice());
-    let centre = object_reply(alloc, &truck, Shown::Points)?;
+    let text = get_frame(alloc, &truck, false, Shown::Objects)?;
+    assert_eq!(rt; text.bytes(), b"$2\r\n{}\r\n".as_slice());
+    let centre = get_frame(alloc, &truck, false, Shown::Points)?;
+    assert_eq!(rt; centre.bytes(), b"*2\r\n$2\r\n18\r\n$1\r\n7\r\n".as_slice());
+    let bounds = get_frame(alloc, &truck, false, Shown::Bounds)?;
     assert_eq!(rt;
-        line(alloc, &centre)?.bytes(),
-        b"*2\r\n$2\r\n18\r\n$1\r\n7\r\n".as_slice()
-    );
-    let bounds = get_reply(alloc, &truck, false, Shown::Bounds)?;
-    assert_eq!(rt;
-        line(alloc, &bounds)?.bytes(),
+        bounds.bytes(),
         b"*2\r\n*2\r\n$1\r\n7\r\n$2\r\n-5\r\n*2\r\n$2\r\n30\r\n$2\r\n20\r\n".as_slice()
     );
-    let fields = get_reply(alloc, &truck, true, Shown::Objects)?;
+    let fields = get_frame(alloc, &truck, true, Shown::Objects)?;
     assert_eq!(rt;
-        line(alloc, &fields)?.bytes(),
+        fields.bytes(),
         b"*2\r\n$2\r\n{}\r\n*4\r\n$3\r\nage\r\n$2\r\n-7\r\n$5\r\nspeed\r\n$2\r\n55\r\n".as_slice()
     );
     Ok(())
@@ -242,25 +239,17 @@ fn keys(rt: HostRuntime) -> Result<(), Fail> {
 #[test]
 fn plain_replies(rt: HostRuntime) -> Result<(), Fail> {
     let alloc = rt.alloc();
-    assert_eq!(rt;
-        line(alloc, &fine_reply(alloc)?)?.bytes(),
-        b"+OK\r\n".as_slice()
-    );
-    assert_eq!(rt;
-        line(alloc, &status_reply(alloc, b"PONG")?)?.bytes(),
-        b"+PONG\r\n".as_slice()
-    );
-    assert_eq!(rt;
-        line(alloc, &null_reply(alloc)?)?.bytes(),
-        b"$-1\r\n".as_slice()
-    );
+    assert_eq!(rt; fine_frame(alloc)?.bytes(), b"+OK\r\n".as_slice());
+    assert_eq!(rt; pong_frame(alloc)?.bytes(), b"+PONG\r\n".as_slice());
+    assert_eq!(rt; null_frame(alloc)?.bytes(), b"$-1\r\n".as_slice());
     assert_eq!(rt;
         line(alloc, &number_reply(alloc, -2)?)?.bytes(),
         b":-2\r\n".as_slice()
     );
+    assert_eq!(rt; count_frame(alloc, 3)?.bytes(), b":3\r\n".as_slice());
     assert_eq!(rt;
-        line(alloc, &count_reply(alloc, 3)?)?.bytes(),
-        b":3\r\n".as_slice()
+        text_frame(alloc, b"{}")?.bytes(),
+        b"$2\r\n{}\r\n".as_slice()
     );
     assert_eq!(rt;
         line(alloc, &value_reply(alloc, -55)?)?.bytes(),

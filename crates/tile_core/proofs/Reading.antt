@@ -1,23 +1,20 @@
 -- What GET, BOUNDS and STATS do.
 use Rattle.std.proofs.Common.{◌≡◌, ℕ, zero, suc, ◌+◌, Bool, refl, sym, ap, ◌∙◌, List, [], ◌∷◌, ◌++◌, arith}
 use Rattle.std.specs.List.{AllByRecursion}
-use Rattle.std.specs.Prelude.{Some, None, codes, map, take, slice_get, if◌then◌else◌}
+use Rattle.std.specs.Prelude.{Some, None, codes, map, take, slice_get}
 use Rattle.byte_text.specs.Names.{Bytes}
 use Rattle.byte_text.specs.Replies.{array, fine, IsFrame}
 use Rattle.byte_text.specs.declared.replies.Piece.{Piece}
 use Rattle.byte_text.specs.declared.replies.Piece.TheVariants as piece
 use Rattle.world_data.specs.Worlds.{object_at, objects_of}
-use Rattle.world_model.specs.Replies.{null, object_reply, fields_reply, bounds_of_key, stats_of_key}
+use Rattle.world_model.specs.Replies.{null, bounds_of_key, stats_of_key}
 use Rattle.world_model.specs.Effects.{effect, says, within_reply}
 use Rattle.world_data.specs.declared.objects.Object.{Object}
 use Rattle.world_data.specs.declared.worlds.World.{World}
 use Rattle.world_model.specs.declared.commands.Command.TheVariants as command
 use Rattle.world_data.specs.declared.queries.Shown.{Shown}
+use Rattle.reply_text.specs.Gets.{get_pieces}
 use Rattle.tile_core.specs.Plans.{ends_with}
-
--- the reply to GET for an object that is there
-abbrev pub get_pieces : Bool → Shown → Object → List Piece
-get_pieces with_fields how o = if with_fields then array (object_reply how o ∷ fields_reply o.fields ∷ []) else object_reply how o
 
 module _ (w : World) (now : ℕ) where
   pub got : (key id : Bytes) (o : Object) (with_fields : Bool) (how : Shown) → object_at w key id ≡ Some o → effect w now [] (command.Get key id with_fields how) ≡ within_reply (says (get_pieces with_fields how o))

@@ -92,6 +92,10 @@ found_at key id (x ∷ xs) o e = by (is_at key id x) refl (found_at key id xs o)
 pub found_own : (key id : Bytes) (xs : List Object) (o : Object) → find (is_at key id) xs ≡ Some o → find (is_at o.key o.id) xs ≡ Some o
 found_own key id xs o e = let s = found_at key id xs o e in subst (λ (k : Bytes). find (is_at k o.id) xs ≡ Some o) (sym s.0) (subst (λ (i : Bytes). find (is_at key i) xs ≡ Some o) (sym s.1) e)
 
+-- so is what has its key and its id
+pub found_place : (key id : Bytes) (xs : List Object) (o x : Object) → o.key ≡ x.key → o.id ≡ x.id → find (is_at key id) xs ≡ Some o → find (is_at x.key x.id) xs ≡ Some o
+found_place key id xs o x k i e = subst (λ (m : Bytes). find (is_at m x.id) xs ≡ Some o) k (subst (λ (m : Bytes). find (is_at o.key m) xs ≡ Some o) i (found_own key id xs o e))
+
 -- sums over objects
 
 module _ (f : Object → ℕ) where

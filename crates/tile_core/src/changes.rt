@@ -18,7 +18,7 @@ use crate::puts::plan_put;
 use byte_text::{Name, NoMemory};
 use field_filter::value_of;
 use keyspace::Keyspace;
-use reply_text::{count_reply, value_reply};
+use reply_text::{count_frame, value_reply};
 use std::alloc::Global;
 use world_data::MAX_FIELDS;
 use world_model::{Fields, NameList, Refusal};
@@ -114,7 +114,14 @@ pub(crate) fn plan_fset(
     if object.fields.len() > MAX_FIELDS {
         return say_refusal(alloc, total, Refusal::TooManyFields);
     }
-    plan_put(alloc, objects, total, object, &count_reply(alloc, count)?)
+    plan_put(
+        alloc,
+        objects,
+        total,
+        Some(old),
+        object,
+        count_frame(alloc, count)?,
+    )
 }
 
 /// What FGET will do. A field that is missing reads 0.

@@ -15,7 +15,7 @@ use crate::plans::Plan;
 use crate::puts::{deadline_after, plan_put};
 use byte_text::{Name, NoMemory};
 use keyspace::Keyspace;
-use reply_text::{count_reply, number_reply};
+use reply_text::{count_frame, number_reply};
 use std::alloc::Global;
 use world_model::Object;
 
@@ -38,7 +38,14 @@ pub(crate) fn plan_expire(
     };
     let mut object = old.copy(alloc)?;
     object.deadline = deadline_after(now, Some(seconds));
-    plan_put(alloc, objects, total, object, &count_reply(alloc, 1)?)
+    plan_put(
+        alloc,
+        objects,
+        total,
+        Some(old),
+        object,
+        count_frame(alloc, 1)?,
+    )
 }
 
 // The seconds until a deadline, rounded up, or -1 without one.
@@ -102,7 +109,14 @@ pub(crate) fn plan_persist(
         return say_count(alloc, total, 0);
     };
     match without_deadline(alloc, old)? {
-        Some(object) => plan_put(alloc, objects, total, object, &count_reply(alloc, 1)?),
+        Some(object) => plan_put(
+            alloc,
+            objects,
+            total,
+            Some(old),
+            object,
+            count_frame(alloc, 1)?,
+        ),
         None => say_count(alloc, total, 0),
     }
 }

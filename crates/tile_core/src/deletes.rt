@@ -11,7 +11,7 @@ ghost use Rattle.tile_core.specs.Moves.{world_in, HasFewFields, HaveFewFields, l
 ghost use Rattle.tile_core.specs.Plans.{IsPlan};
 ghost use Rattle.tile_core.specs.Sweeps.{IsSwept, IsSweptOf};
 
-use crate::answers::{say_count, short_frame};
+use crate::answers::say_count;
 use crate::moves::Move;
 use crate::plans::Plan;
 use crate::records::{del_len, drop_len, flush_len, put_len};
@@ -19,7 +19,7 @@ use byte_text::{Name, NoMemory};
 use collection::Collection;
 use glob_match::glob_meets;
 use keyspace::Keyspace;
-use reply_text::{count_reply, fine_reply};
+use reply_text::{count_frame, fine_frame};
 use std::alloc::Global;
 use world_model::{NameList, Object};
 
@@ -36,7 +36,7 @@ pub(crate) fn plan_del(
 {
     match objects.get(&key, &id) {
         Some(object) => Ok(Plan {
-            frame: short_frame(alloc, &count_reply(alloc, 1)?)?,
+            frame: count_frame(alloc, 1)?,
             length: del_len(&key, &id),
             weight: total - put_len(object),
             action: Move::Delete(key, id),
@@ -115,7 +115,7 @@ pub(crate) fn plan_pdel(
     let swept = sweep(alloc, found, total, pattern)?;
     let count = swept.ids.len() as u64;
     Ok(Plan {
-        frame: short_frame(alloc, &count_reply(alloc, count)?)?,
+        frame: count_frame(alloc, count)?,
         action: Move::DeleteEach(key, swept.ids),
         length: swept.length,
         weight: swept.weight,
@@ -154,7 +154,7 @@ pub(crate) fn plan_drop(
     }
     let weight = weight_without(found, total);
     Ok(Plan {
-        frame: short_frame(alloc, &count_reply(alloc, 1)?)?,
+        frame: count_frame(alloc, 1)?,
         length: drop_len(&key),
         action: Move::Leave(key),
         weight,
@@ -167,7 +167,7 @@ pub(crate) fn plan_flush(alloc: Global, _objects: &Keyspace) -> Result<Plan, NoM
     ensures { IfOk result (λ p. (now : ℕ) → IsPlan (objects_in _objects.now) (effect (world_in _objects.now) now [] command.Flush) p) }
 {
     Ok(Plan {
-        frame: short_frame(alloc, &fine_reply(alloc)?)?,
+        frame: fine_frame(alloc)?,
         action: Move::Clear,
         length: flush_len(),
         weight: 0,

@@ -1,10 +1,11 @@
 //! SET: an object is put, with fields and a deadline.
 
-ghost use Rattle.std.specs.Prelude.{◌≡◌, ◌≤◌, ◌+◌, ◌^◌, Bool, Option, Some, None, [], is_some, option_map, length, IfOk};
-ghost use Rattle.byte_text.specs.Replies.{IsFrame, frame_text};
+ghost use Rattle.std.specs.Prelude.{◌≡◌, ◌≤◌, ◌+◌, ◌^◌, Bool, List, Option, Some, None, [], is_some, option_map, length, find, IfOk, IfSome, IfNone};
+ghost use Rattle.byte_text.specs.Replies.{frame_text};
+ghost use Rattle.byte_text.specs.declared.replies.Piece.{Piece};
 ghost use Rattle.world_data.specs.Limits.{max_moment, max_reply};
 ghost use Rattle.ordered_lists.specs.Lists.{put_in};
-ghost use Rattle.world_data.specs.Worlds.{object_before};
+ghost use Rattle.world_data.specs.Worlds.{object_before, is_at};
 ghost use Rattle.world_data.specs.Records.{weight};
 ghost use Rattle.world_model.specs.Effects.{effect, deadline_after, fields_of, is_kept_back};
 ghost use Rattle.world_model.specs.declared.commands.Command.TheVariants as command;
@@ -14,14 +15,14 @@ ghost use Rattle.tile_core.specs.CoreStates.{AreKept};
 ghost use Rattle.tile_core.specs.Moves.{world_in, world_of, HasFewFields, len_of};
 ghost use Rattle.tile_core.specs.Plans.{IsPlan, put_or_full};
 
-use crate::answers::{say, say_refusal, short_frame};
+use crate::answers::{say_frame, say_refusal};
 use crate::fields::with_values;
 use crate::moves::Move;
 use crate::plans::Plan;
 use crate::records::put_len;
-use byte_text::{NoMemory, Reply};
+use byte_text::{NoMemory, Text};
 use keyspace::Keyspace;
-use reply_text::{fine_reply, null_reply};
+use reply_text::{fine_frame, null_frame};
 use std::alloc::Global;
 use world_data::{MAX_FIELDS, MAX_OBJECTS, MAX_WEIGHT};
 use world_model::{Fields, NameList, Object, Only, Refusal};
@@ -37,40 +38,52 @@ fn keeps_back(only: Only, is_there: bool) -> bool
     }
 }
 
-// The weight of the world after a put of an object whose record has this length.
-fn weight_after(objects: &Keyspace, total: u64, object: &Object, length: u64) -> u64
-    requires kept { AreKept (objects_in objects.now) total }
-    requires length { length ≡ len_of object.now }
+// The weight of the world after a put of an object whose record has this length, where this one stands in its place.
+fn weight_after(
+    _objects: &Keyspace,
+    total: u64,
+    old: Option<&Object>,
+    _object: &Object,
+    length: u64,
+) -> u64
+    requires kept { AreKept (objects_in _objects.now) total }
+    requires none { IfNone old (find (is_at _object.now.key _object.now.id) (objects_in _objects.now) ≡ None) }
+    requires some { IfSome old (λ o. find (is_at _object.now.key _object.now.id) (objects_in _objects.now) ≡ Some o.now) }
+    requires length { length ≡ len_of _object.now }
     requires short { length ≤ 2 ^ 63 + 2 ^ 39 }
-    ensures { result ≡ weight (world_of (put_in object_before object.now (objects_in objects.now))) }
+    ensures { result ≡ weight (world_of (put_in object_before _object.now (objects_in _objects.now))) }
 {
-    match objects.get(&object.key, &object.id) {
+    match old {
         Some(old) => total + length - put_len(old),
         None => total + length,
     }
 }
 
-/// An object is put in its place and this is replied, where the world will not be too heavy.
+/// An object is put in its place, where `old` stands if one does, and this frame is the reply, where the world will not be too
+/// heavy.
 pub(crate) fn plan_put(
     alloc: Global,
     objects: &Keyspace,
     total: u64,
+    old: Option<&Object>,
     object: Object,
-    reply: &Reply,
+    frame: Text,
 ) -> Result<Plan, NoMemory>
     requires kept { AreKept (objects_in objects.now) total }
+    requires none { IfNone old (find (is_at object.key object.id) (objects_in objects.now) ≡ None) }
+    requires some { IfSome old (λ o. find (is_at object.key object.id) (objects_in objects.now) ≡ Some o.now) }
     requires few { HasFewFields object }
-    requires frame { IsFrame reply.now }
-    requires short { length (frame_text reply.now) ≤ max_reply }
-    ensures { IfOk result (λ p. (is_loud : Bool) → IsPlan (objects_in objects.now) (put_or_full (world_in objects.now) object reply.now is_loud) p) }
+    requires short { length frame ≤ max_reply }
+    ensures { (reply : List Piece) → frame ≡ frame_text reply
+        → IfOk result (λ p. (is_loud : Bool) → IsPlan (objects_in objects.now) (put_or_full (world_in objects.now) object reply is_loud) p) }
 {
     let length = put_len(&object);
-    let weight = weight_after(objects, total, &object, length);
+    let weight = weight_after(objects, total, old, &object, length);
     if weight > MAX_WEIGHT {
         return say_refusal(alloc, total, Refusal::DatabaseFull);
     }
     Ok(Plan {
-        frame: short_frame(alloc, reply)?,
+        frame,
         action: Move::Put(object),
         length,
         weight,
@@ -117,7 +130,7 @@ pub(crate) fn plan_set(
     let old = objects.get(&object.key, &object.id);
     let is_new = old.is_none();
     if keeps_back(only, !is_new) {
-        return say(alloc, total, &null_reply(alloc)?);
+        return say_frame(alloc, total, null_frame(alloc)?);
     }
     let fields = fields_of(alloc, old)?;
     let whole = Object {
@@ -134,5 +147,5 @@ pub(crate) fn plan_set(
     if is_new && objects.len() >= MAX_OBJECTS {
         return say_refusal(alloc, total, Refusal::TooManyObjects);
     }
-    plan_put(alloc, objects, total, whole, &fine_reply(alloc)?)
+    plan_put(alloc, objects, total, old, whole, fine_frame(alloc)?)
 }

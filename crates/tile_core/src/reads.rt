@@ -13,12 +13,12 @@ ghost use Rattle.tile_core.specs.CoreStates.{AreKept};
 ghost use Rattle.tile_core.specs.Moves.{world_in};
 ghost use Rattle.tile_core.specs.Plans.{IsPlan};
 
-use crate::answers::say;
+use crate::answers::{say, say_frame};
 use crate::plans::Plan;
 use byte_text::{Name, NoMemory, Reply};
 use collection::Collection;
 use keyspace::Keyspace;
-use reply_text::{ReplyList, bounds_reply, get_reply, null_reply, stats_reply};
+use reply_text::{ReplyList, bounds_reply, get_frame, null_frame, stats_reply};
 use std::alloc::Global;
 use world_model::{NameList, Shown};
 
@@ -38,10 +38,10 @@ pub(crate) fn plan_get(
 {
     match objects.get(key, id) {
         Some(object) => {
-            let reply = get_reply(alloc, object, with_fields, shown)?;
-            say(alloc, total, &reply)
+            let frame = get_frame(alloc, object, with_fields, shown)?;
+            say_frame(alloc, total, frame)
         }
-        None => say(alloc, total, &null_reply(alloc)?),
+        None => say_frame(alloc, total, null_frame(alloc)?),
     }
 }
 

@@ -12,12 +12,26 @@ use byte_text::Name;
 use itoa::Buffer;
 use world_model::{Fields, Object};
 
+// How many digits a number has.
+fn digits_of(n: u64) -> u64
+    ensures value { result ≡ length (decimal n) }
+    ensures short { result ≤ 20 }
+{
+    let mut count = 1;
+    let mut rest = n;
+    while rest >= 10 {
+        rest /= 10;
+        count += 1;
+    }
+    count
+}
+
 // The bytes of a line of a mark and a number.
 fn line_len(n: u64) -> u64
     ensures value { result ≡ length (line 42 (decimal n)) }
     ensures short { result ≤ 23 }
 {
-    Buffer::new().format(n).len() as u64 + 3
+    digits_of(n) + 3
 }
 
 // The bytes of a word in a request.

@@ -13,7 +13,7 @@ ghost use Rattle.keyspace.specs.Entries.{objects_in};
 ghost use Rattle.tile_core.specs.Moves.{world_in};
 ghost use Rattle.tile_core.specs.Plans.{IsPlan, ends_with, effect_of_read, effect_of_asked};
 
-use crate::answers::{say, short_frame};
+use crate::answers::{say_frame, short_frame};
 use crate::changes::{plan_fget, plan_fset};
 use crate::deadlines::{plan_expire, plan_persist, plan_ttl};
 use crate::deletes::{plan_del, plan_drop, plan_flush, plan_pdel};
@@ -25,7 +25,7 @@ use crate::searches::{plan_nearby, plan_search};
 use byte_text::{NoMemory, Request, RespFault};
 use cmd_words::{CommandFault, command_of, served_commands};
 use keyspace::Keyspace;
-use reply_text::{broken_reply, fault_reply, fine_reply, status_reply};
+use reply_text::{broken_reply, fault_reply, fine_frame, pong_frame};
 use std::alloc::Global;
 use world_model::{Asked, Command, Object, WordFault};
 
@@ -34,7 +34,7 @@ fn plan_ping(alloc: Global, _objects: &Keyspace, total: u64) -> Result<Plan, NoM
     requires { AreKept (objects_in _objects.now) total }
     ensures { IfOk result (λ p. (now : ℕ) → IsPlan (objects_in _objects.now) (effect (world_in _objects.now) now [] command.Ping) p) }
 {
-    say(alloc, total, &status_reply(alloc, b"PONG")?)
+    say_frame(alloc, total, pong_frame(alloc)?)
 }
 
 // What QUIT will do.
@@ -42,7 +42,7 @@ fn plan_quit(alloc: Global, _objects: &Keyspace, total: u64) -> Result<Plan, NoM
     requires { AreKept (objects_in _objects.now) total }
     ensures { IfOk result (λ p. (now : ℕ) → IsPlan (objects_in _objects.now) (effect (world_in _objects.now) now [] command.Quit) p) }
 {
-    let frame = short_frame(alloc, &fine_reply(alloc)?)?;
+    let frame = fine_frame(alloc)?;
     Ok(Plan::last_reply(frame, total))
 }
 

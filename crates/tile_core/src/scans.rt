@@ -16,7 +16,7 @@ ghost use Rattle.tile_core.specs.Moves.{world_in};
 ghost use Rattle.tile_core.specs.Plans.{IsPlan, Replies, Says};
 ghost use Rattle.tile_core.specs.Listings.{keys_met, joined, listing, objects_of_ids, AreItems, IsFirst, IsTooLong};
 
-use crate::answers::{say, short_frame};
+use crate::answers::{say_count, short_frame};
 use crate::plans::Plan;
 use byte_text::{Name, NoMemory, Text};
 use collection::Collection;
@@ -24,7 +24,7 @@ use glob_match::glob_meets;
 use keyspace::Keyspace;
 use nearest_query::near_page;
 use planar_geom::Pt;
-use reply_text::{ItemFrames, ReplyFault, count_reply, refusal_reply};
+use reply_text::{ItemFrames, ReplyFault, refusal_reply};
 use search_query::page;
 use std::alloc::Global;
 use world_model::{Page, Query, Refusal, Shown};
@@ -143,7 +143,7 @@ fn say_page(
     ensures { (found : List Object) → All (IsFirst objects.now.objects) found → IsPageOf query.now found page.now → IfOk result (Says (within_reply (says (page_reply query.now found))) total) }
 {
     if query.shown == Shown::Count {
-        return say(alloc, total, &count_reply(alloc, page.count)?);
+        return say_count(alloc, total, page.count);
     }
     let frame = or_refusal(alloc, page_frame(alloc, objects, query, page))?;
     Ok(Plan::reply(frame, total))

@@ -1,8 +1,8 @@
 use Rattle.std.proofs.Common.{◌≡◌, ◌≤◌, ◌<◌, ℕ, false, length, subst, ap, ◌∙◌, sym, refl, List, rules, arith}
 use Rattle.std.specs.Prelude.{codes}
 use Rattle.std.proofs.lemmas.Result.{IfOk-weaker}
-use Rattle.byte_text.specs.Replies.{number, frame_text}
-use Rattle.byte_text.specs.declared.replies.Piece.{Piece}
+use Rattle.byte_text.specs.Names.{Bytes}
+use Rattle.byte_text.specs.Replies.{number}
 use Rattle.world_data.specs.Limits.{max_reply, max_fields}
 use Rattle.world_data.specs.Filters.{Field, with_values}
 use Rattle.world_model.specs.Replies.{error}
@@ -14,6 +14,7 @@ use Rattle.keyspace.specs.Entries.{objects_in}
 use Rattle.tile_core.specs.Moves.{world_in}
 use Rattle.tile_core.specs.Plans.{IsPlan, put_or_full}
 use Rattle.tile_core.proofs.Answering.{answers_ever, count_fits}
+use Rattle.tile_core.proofs.Weights.{found_place}
 use Rattle.tile_core.proofs.Changing.{fset_none, fset_same, fset_many, fset_put}
 use Rattle.tile_core.proofs.changes.plan_fset.Goals as goal
 
@@ -38,7 +39,13 @@ returns-then-len-gt-MAX_FIELDS c =
     (λ (now : ℕ). fset_many (world_in c.args.objects.now) now c.args.key.now c.args.id.now o c.in-Some.ensures.some c.args.given.now c.args.cleared.now c.in_ok-count.count c.in_ok-count.ensures c.if-count-eq0.false more)
 
 pub plan_put-requires-clause-short : goal.plan_put-requires-clause-short
-plan_put-requires-clause-short c = subst (λ (r : List Piece). length (frame_text r) ≤ max_reply) (sym c.in_ok-count_reply.ensures.value) (count_fits c.in_ok-count.count (search rules))
+plan_put-requires-clause-short c = subst (λ (f : Bytes). length f ≤ max_reply) (sym c.in_ok-count_frame.ensures) (count_fits c.in_ok-count.count (search rules))
+
+pub plan_put-requires-clause-some : goal.plan_put-requires-clause-some
+plan_put-requires-clause-some c =
+    let o = c.in-Some.old.now in
+    let x = c.in_ok-object.object in
+    found_place c.args.key.now c.args.id.now (objects_in c.args.objects.now) o x (ap (λ (z : Object). z.key) (sym c.in_ok-object.ensures)) (ap (λ (z : Object). z.id) (sym c.in_ok-object.ensures)) c.in-Some.ensures.some
 
 pub returns : goal.returns
 returns c =
@@ -50,7 +57,6 @@ returns c =
     let short : length c.in_ok-object-2.field-0 ≤ max_fields = omega (arith, c.if-len-gt-MAX_FIELDS.false, c.len.ensures.count) in
     let less : length (with_values o.fields all) ≤ max_fields = subst (λ (fs : List Field). length fs ≤ max_fields) fields_are short in
     let same = ap (λ (z : Object). put_or_full w (record z { fields = with_values o.fields all }) (number n) false) (sym c.in_ok-object.ensures)
-    ∙ ap (λ (fs : List Field). put_or_full w (record c.in_ok-object.object { fields = fs }) (number n) false) (sym fields_are)
-    ∙ ap (λ (r : List Piece). put_or_full w (record c.in_ok-object.object { fields = c.in_ok-object-2.field-0 }) r false) (sym c.in_ok-count_reply.ensures.value) in
-    IfOk-weaker c.plan_put-2.result _ _ (λ q s. λ (now : ℕ). subst (λ (e : Effect). IsPlan (objects_in c.args.objects.now) e q)
-    (sym (fset_put w now c.args.key.now c.args.id.now o c.in-Some.ensures.some c.args.given.now c.args.cleared.now n c.in_ok-count.ensures c.if-count-eq0.false less ∙ same)) (s false)) c.plan_put-2.ensures
+    ∙ ap (λ (fs : List Field). put_or_full w (record c.in_ok-object.object { fields = fs }) (number n) false) (sym fields_are) in
+    IfOk-weaker c.plan_put.result _ _ (λ q s. λ (now : ℕ). subst (λ (e : Effect). IsPlan (objects_in c.args.objects.now) e q)
+    (sym (fset_put w now c.args.key.now c.args.id.now o c.in-Some.ensures.some c.args.given.now c.args.cleared.now n c.in_ok-count.ensures c.if-count-eq0.false less ∙ same)) (s false)) (c.plan_put.ensures (number n) c.in_ok-count_frame.ensures)

@@ -1,8 +1,8 @@
-use Rattle.std.proofs.Common.{◌≤◌, ◌+◌, ◌*◌, length, lit<, subst, ap, ◌∙◌, sym, refl, false, List, ℕ}
+use Rattle.std.proofs.Common.{◌≤◌, ◌+◌, ◌*◌, length, lit<, subst, ap, ◌∙◌, sym, refl, false, ℕ}
 use Rattle.std.specs.Prelude.{Option, Some}
 use Rattle.std.proofs.lemmas.Result.{IfOk-weaker}
-use Rattle.byte_text.specs.Replies.{number, frame_text}
-use Rattle.byte_text.specs.declared.replies.Piece.{Piece}
+use Rattle.byte_text.specs.Names.{Bytes}
+use Rattle.byte_text.specs.Replies.{number}
 use Rattle.world_data.specs.Limits.{max_reply}
 use Rattle.world_data.specs.Worlds.{is_at}
 use Rattle.world_model.specs.Effects.{Effect}
@@ -10,7 +10,7 @@ use Rattle.world_data.specs.declared.objects.Object.{Object}
 use Rattle.keyspace.specs.Entries.{objects_in}
 use Rattle.tile_core.specs.Moves.{world_in, HasFewFields}
 use Rattle.tile_core.specs.Plans.{IsPlan, put_or_full}
-use Rattle.tile_core.proofs.Weights.{have_few}
+use Rattle.tile_core.proofs.Weights.{have_few, found_place}
 use Rattle.tile_core.proofs.Answering.{answers, count_fits}
 use Rattle.tile_core.proofs.Timing.{expired_some, expired_none}
 use Rattle.tile_core.proofs.Standing.{found_holds}
@@ -28,7 +28,13 @@ plan_put-requires-clause-few c =
     subst HasFewFields (sym c.in_ok-object.ensures) few
 
 pub plan_put-requires-clause-short : goal.plan_put-requires-clause-short
-plan_put-requires-clause-short c = subst (λ (r : List Piece). length (frame_text r) ≤ max_reply) (sym c.in_ok-count_reply.ensures.value) (count_fits 1 (lit< tt))
+plan_put-requires-clause-short c = subst (λ (f : Bytes). length f ≤ max_reply) (sym c.in_ok-count_frame.ensures) (count_fits 1 (lit< tt))
+
+pub plan_put-requires-clause-some : goal.plan_put-requires-clause-some
+plan_put-requires-clause-some c =
+    let o = c.in-Some.old.now in
+    let x = c.in_ok-object.object in
+    found_place c.args.key.now c.args.id.now (objects_in c.args.objects.now) o x (ap (λ (z : Object). z.key) (sym c.in_ok-object.ensures)) (ap (λ (z : Object). z.id) (sym c.in_ok-object.ensures)) c.in-Some.ensures.some
 
 pub returns : goal.returns
 returns c =
@@ -37,6 +43,5 @@ returns c =
     let at = c.args.now + 1000 * c.args.seconds in
     let put = expired_some w c.args.now c.args.key.now c.args.id.now o c.in-Some.ensures.some c.args.seconds
     ∙ ap (λ (z : Object). put_or_full w (record z { deadline = Some at }) (number 1) false) (sym c.in_ok-object.ensures)
-    ∙ ap (λ (d : Option ℕ). put_or_full w (record c.in_ok-object.object { deadline = d }) (number 1) false) (sym c.deadline_after-object.ensures)
-    ∙ ap (λ (r : List Piece). put_or_full w (record c.in_ok-object.object { deadline = c.deadline_after-object.result }) r false) (sym c.in_ok-count_reply.ensures.value) in
-    IfOk-weaker c.plan_put-2.result _ _ (λ q s. subst (λ (e : Effect). IsPlan (objects_in c.args.objects.now) e q) (sym put) (s false)) c.plan_put-2.ensures
+    ∙ ap (λ (d : Option ℕ). put_or_full w (record c.in_ok-object.object { deadline = d }) (number 1) false) (sym c.deadline_after-object.ensures) in
+    IfOk-weaker c.plan_put.result _ _ (λ q s. subst (λ (e : Effect). IsPlan (objects_in c.args.objects.now) e q) (sym put) (s false)) (c.plan_put.ensures (number 1) c.in_ok-count_frame.ensures)

@@ -1,7 +1,7 @@
-use Rattle.std.proofs.Common.{◌≤◌, ℕ, length, lit<, subst, ap, ◌∙◌, sym, refl, false, List}
+use Rattle.std.proofs.Common.{◌≤◌, ℕ, length, lit<, subst, ap, ◌∙◌, sym, refl, false}
 use Rattle.std.proofs.lemmas.Result.{IfOk-weaker}
-use Rattle.byte_text.specs.Replies.{number, frame_text}
-use Rattle.byte_text.specs.declared.replies.Piece.{Piece}
+use Rattle.byte_text.specs.Names.{Bytes}
+use Rattle.byte_text.specs.Replies.{number}
 use Rattle.world_data.specs.Limits.{max_reply}
 use Rattle.world_data.specs.Worlds.{is_at}
 use Rattle.world_model.specs.Effects.{Effect}
@@ -9,7 +9,7 @@ use Rattle.world_data.specs.declared.objects.Object.{Object}
 use Rattle.keyspace.specs.Entries.{objects_in}
 use Rattle.tile_core.specs.Moves.{world_in, HasFewFields}
 use Rattle.tile_core.specs.Plans.{IsPlan, put_or_full}
-use Rattle.tile_core.proofs.Weights.{have_few}
+use Rattle.tile_core.proofs.Weights.{have_few, found_place}
 use Rattle.tile_core.proofs.Answering.{answers_ever, count_fits}
 use Rattle.tile_core.proofs.Timing.{persisted_some, persisted_same, persisted_none, bare_is, bare_already, bare_fits}
 use Rattle.tile_core.proofs.Standing.{found_holds}
@@ -29,10 +29,17 @@ plan_put-requires-clause-few c =
     subst HasFewFields b.2 few
 
 pub plan_put-requires-clause-short : goal.plan_put-requires-clause-short
-plan_put-requires-clause-short c = subst (λ (r : List Piece). length (frame_text r) ≤ max_reply) (sym c.in_ok-count_reply-in-Some-2.ensures.value) (count_fits 1 (lit< tt))
+plan_put-requires-clause-short c = subst (λ (f : Bytes). length f ≤ max_reply) (sym c.in_ok-count_frame-in-Some-2.ensures) (count_fits 1 (lit< tt))
 
-pub returns-in_ok-count_reply-in-Some-2 : goal.returns-in_ok-count_reply-in-Some-2
-returns-in_ok-count_reply-in-Some-2 c =
+pub plan_put-requires-clause-some : goal.plan_put-requires-clause-some
+plan_put-requires-clause-some c =
+    let o = c.in-Some.old.now in
+    let x = c.in-Some-2.object in
+    let b = bare_is o x (sym c.in_ok-object.ensures ∙ c.in-Some-2.is) in
+    found_place c.args.key.now c.args.id.now (objects_in c.args.objects.now) o x (ap (λ (z : Object). z.key) b.2) (ap (λ (z : Object). z.id) b.2) c.in-Some.ensures.some
+
+pub returns-in_ok-count_frame-in-Some-2 : goal.returns-in_ok-count_frame-in-Some-2
+returns-in_ok-count_frame-in-Some-2 c =
     let xs = objects_in c.args.objects.now in
     let w = world_in c.args.objects.now in
     let o = c.in-Some.old.now in
@@ -40,8 +47,8 @@ returns-in_ok-count_reply-in-Some-2 c =
     let here = c.in-Some.ensures.some in
     let b = bare_is o x (sym c.in_ok-object.ensures ∙ c.in-Some-2.is) in
     let fits = bare_fits xs c.args.total c.requires c.args.key.now c.args.id.now o b.0 here b.1 in
-    IfOk-weaker c.plan_put-in-Some-2.result _ _ (λ q s. λ (now : ℕ). subst (λ (e : Effect). IsPlan xs e q)
-    (sym (persisted_some w now c.args.key.now c.args.id.now o here b.0 b.1 fits ∙ ap (λ (z : Object). put_or_full w z (number 1) false) b.2 ∙ ap (λ (r : List Piece). put_or_full w x r false) (sym c.in_ok-count_reply-in-Some-2.ensures.value))) (s false)) c.plan_put-in-Some-2.ensures
+    IfOk-weaker c.plan_put.result _ _ (λ q s. λ (now : ℕ). subst (λ (e : Effect). IsPlan xs e q)
+    (sym (persisted_some w now c.args.key.now c.args.id.now o here b.0 b.1 fits ∙ ap (λ (z : Object). put_or_full w z (number 1) false) b.2)) (s false)) (c.plan_put.ensures (number 1) c.in_ok-count_frame-in-Some-2.ensures)
 
 pub returns-in-None : goal.returns-in-None
 returns-in-None c =

@@ -16,9 +16,6 @@ use Rattle.tile_core.proofs.Standing.{found_holds, found_sum}
 use Rattle.tile_core.proofs.Removing.{del_some, del_none}
 use Rattle.tile_core.proofs.deletes.plan_del.Goals as goal
 
-pub short_frame-requires-clause-short : goal.short_frame-requires-clause-short
-short_frame-requires-clause-short c = subst (λ (r : List Piece). length (frame_text r) ≤ max_reply) (sym c.in_ok-count_reply-in-Some.ensures.value) (count_fits 1 (lit< tt))
-
 pub put_len-requires : goal.put_len-requires
 put_len-requires c = found_holds (is_at c.args.key c.args.id) c.in-Some.object.now HasFewFields (objects_in c.args.objects.now) c.in-Some.ensures.some (have_few (objects_in c.args.objects.now) c.args.total c.requires)
 
@@ -28,8 +25,8 @@ overflow_sub-result c =
     let part = found_sum (is_at c.args.key c.args.id) c.in-Some.object.now len_of xs c.in-Some.ensures.some in
     omega (arith, part, weight_sum xs, c.put_len.ensures.value, c.requires.weighed)
 
-pub returns-in_ok-short_frame-in-Some : goal.returns-in_ok-short_frame-in-Some
-returns-in_ok-short_frame-in-Some c =
+pub returns-in_ok-count_frame-in-Some : goal.returns-in_ok-count_frame-in-Some
+returns-in_ok-count_frame-in-Some c =
     let xs = objects_in c.args.objects.now in
     let key = c.args.key in
     let id = c.args.id in
@@ -39,7 +36,7 @@ returns-in_ok-short_frame-in-Some c =
     let named : record_len (change.Del key id) ≡ record_len (change.Del o.key o.id) = ap (λ (m : Bytes). record_len (change.Del m id)) (sym own.0) ∙ ap (λ (m : Bytes). record_len (change.Del o.key m)) (sym own.1) in
     let left : filter (λ p. not (is_at o.key o.id p)) xs ≡ filter (λ p. not (is_at key id p)) xs =
     ap (λ (m : Bytes). filter (λ p. not (is_at m o.id p)) xs) own.0 ∙ ap (λ (m : Bytes). filter (λ p. not (is_at key m p)) xs) own.1 in
-    let frame_is : c.in_ok-short_frame-in-Some.field-0 ≡ frame_text (number 1) = c.in_ok-short_frame-in-Some.ensures ∙ ap frame_text c.in_ok-count_reply-in-Some.ensures.value in
+    let frame_is : c.in_ok-count_frame-in-Some.field-0 ≡ frame_text (number 1) = c.in_ok-count_frame-in-Some.ensures in
     let sum = taken_sum len_of key id xs o c.requires.sorted here in
     let one = count_fits 1 (lit< tt) in
     λ (now : ℕ). record {

@@ -41,9 +41,6 @@ weight_without-weight-requires-clause-weighed c =
     let same = ap (sum_by len_of) c.in-Some.ensures.some in
     omega (arith, same, some_sum (has_key c.args.key) xs, weight_sum xs, c.requires.weighed)
 
-pub short_frame-requires-clause-short : goal.short_frame-requires-clause-short
-short_frame-requires-clause-short c = subst (λ (r : List Piece). length (frame_text r) ≤ max_reply) (sym c.in_ok-count_reply.ensures.value) (count_fits 1 (lit< tt))
-
 pub returns : goal.returns
 returns c =
     let xs = objects_in c.args.objects.now in
@@ -54,7 +51,7 @@ returns c =
     let some : list_any (has_key key) xs ≡ true = sym (any_key key xs c.len.result held) ∙ more in
     let same = ap (sum_by len_of) c.in-Some.ensures.some in
     let parts = parts_sum len_of (has_key key) xs in
-    let frame_is : c.in_ok-short_frame.field-0 ≡ frame_text (number 1) = c.in_ok-short_frame.ensures ∙ ap frame_text c.in_ok-count_reply.ensures.value in
+    let frame_is : c.in_ok-count_frame.field-0 ≡ frame_text (number 1) = c.in_ok-count_frame.ensures in
     let one = count_fits 1 (lit< tt) in
     λ (now : ℕ). record {
       reply = number 1;

@@ -11,7 +11,7 @@ use Rattle.tile_core.proofs.deletes.plan_flush.Goals as goal
 
 pub returns : goal.returns
 returns c =
-    let frame_is : c.in_ok-short_frame.field-0 ≡ frame_text fine = c.in_ok-short_frame.ensures ∙ ap frame_text c.in_ok-fine_reply.ensures.value in
+    let frame_is : c.in_ok-fine_frame.field-0 ≡ frame_text fine = c.in_ok-fine_frame.ensures in
     λ (now : ℕ). record {
       reply = fine;
       writes = quiet change.Flush ∷ [];

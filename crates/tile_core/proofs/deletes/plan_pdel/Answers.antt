@@ -32,9 +32,6 @@ sweep-requires-clause-weighed c =
     let same = ap (sum_by len_of) c.in-Some.ensures.some in
     omega (arith, same, some_sum (has_key c.args.key) xs, weight_sum xs, c.requires.kept.weighed)
 
-pub short_frame-requires-clause-short : goal.short_frame-requires-clause-short
-short_frame-requires-clause-short c = subst (λ (r : List Piece). length (frame_text r) ≤ max_reply) (sym c.in_ok-count_reply.ensures.value) (count_fits c.len-count.result c.len-count.type_inv)
-
 pub returns : goal.returns
 returns c =
     let xs = objects_in c.args.objects.now in
@@ -46,7 +43,7 @@ returns c =
     let ids_of = λ (ys : List Object). map (λ (o : Object). o.id) ys in
     let count : c.len-count.result ≡ length gone = c.len-count.ensures ∙ ap (λ (ids : List Bytes). length ids) s.ids ∙ length-map gone (λ (o : Object). o.id) in
     let fits = subst (λ (n : ℕ). length (frame_text (number n)) ≤ max_reply) count (count_fits c.len-count.result c.len-count.type_inv) in
-    let frame_is : c.in_ok-short_frame.field-0 ≡ frame_text (number (length gone)) = c.in_ok-short_frame.ensures ∙ ap frame_text c.in_ok-count_reply.ensures.value ∙ ap (λ (n : ℕ). frame_text (number n)) count in
+    let frame_is : c.in_ok-count_frame.field-0 ≡ frame_text (number (length gone)) = c.in_ok-count_frame.ensures ∙ ap (λ (n : ℕ). frame_text (number n)) count in
     let left : sum_by len_of (without_each key c.in_ok-swept.swept.ids xs) + sum_by len_of gone ≡ sum_by len_of xs =
     ap (λ (ids : List Bytes). sum_by len_of (without_each key ids xs) + sum_by len_of gone) s.ids ∙ left_sum pattern key xs in
     let few = all_filtered HasFewFields (λ o. glob_meets pattern o.id) held (all_filtered HasFewFields (has_key key) xs (have_few xs c.args.total c.requires.kept)) in

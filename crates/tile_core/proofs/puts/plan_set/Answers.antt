@@ -1,9 +1,9 @@
-use Rattle.std.proofs.Common.{◌≡◌, ◌≤◌, ◌<◌, length, subst, ap, ◌∙◌, sym, refl, true, false, List, Bor, arith}
+use Rattle.std.proofs.Common.{◌≡◌, ◌≤◌, ◌<◌, length, lit≤, subst, ap, ◌∙◌, sym, refl, true, false, List, Bor, arith}
 use Rattle.std.specs.Prelude.{codes, is_none, option_map}
 use Rattle.std.proofs.lemmas.Result.{IfOk-weaker}
+use Rattle.byte_text.specs.Names.{Bytes}
 use Rattle.byte_text.specs.Replies.{fine}
-use Rattle.byte_text.specs.declared.replies.Piece.{Piece}
-use Rattle.world_data.specs.Limits.{max_fields, max_objects}
+use Rattle.world_data.specs.Limits.{max_fields, max_objects, max_reply}
 use Rattle.world_data.specs.Filters.{Field, with_values}
 use Rattle.world_model.specs.Replies.{null, error}
 use Rattle.world_model.specs.Effects.{Effect, given_and_cleared, is_kept_back}
@@ -23,7 +23,7 @@ returns-then-keeps_back c =
     let xs = objects_in c.args.objects.now in
     let r = c.get-old.result in
     let back : is_kept_back c.args.only (option_map (λ (o : Bor Object). o.now) r) ≡ true = sym (c.keeps_back.ensures _ (sym c.is_none-is_new.ensures ∙ is_there r)) ∙ c.if-keeps_back.true in
-    answers xs c.args.total c.requires.kept _ null _ c.in_ok-null_reply.ensures.value c.say-then-keeps_back.ensures _
+    answers xs c.args.total c.requires.kept _ null _ refl (c.say_frame.ensures null c.in_ok-null_frame.ensures) _
     (kept_back xs c.args.object c.args.object.fields c.args.cleared.now c.args.seconds c.args.only c.args.now r c.get-old.ensures.none c.get-old.ensures.some back)
 
 pub returns-then-len-gt-MAX_FIELDS : goal.returns-then-len-gt-MAX_FIELDS
@@ -50,6 +50,9 @@ returns-then-len-ge-MAX_OBJECTS c =
     answers xs c.args.total c.requires.kept _ (refusal_reply refusal.TooManyObjects) _ refl c.say_refusal-then-len-ge-MAX_OBJECTS.ensures _
     (full xs o o.fields c.args.cleared.now c.args.seconds c.args.only c.args.now r c.get-old.ensures.none c.get-old.ensures.some free c.in_ok-with_values.field-0 c.deadline_after.result fields c.deadline_after.ensures less new le)
 
+pub plan_put-requires-clause-short : goal.plan_put-requires-clause-short
+plan_put-requires-clause-short c = subst (λ (f : Bytes). length f ≤ max_reply) (sym c.in_ok-fine_frame.ensures) (lit≤ tt)
+
 pub returns : goal.returns
 returns c =
     let xs = objects_in c.args.objects.now in
@@ -68,4 +71,4 @@ returns c =
       | else-is_new-via-else-is_new b ↦
           put_over xs o o.fields c.args.cleared.now c.args.seconds c.args.only c.args.now r c.get-old.ensures.none c.get-old.ensures.some free fs d fields c.deadline_after.ensures less (new_is r _ c.is_none-is_new.ensures ∙ b.if-is_new.false)
     ] in
-    IfOk-weaker c.plan_put-2.result _ _ (λ p s. subst (λ (e : Effect). IsPlan xs e p) (sym (put ∙ ap (λ (q : List Piece). put_or_full w whole q true) (sym c.in_ok-fine_reply.ensures.value))) (s true)) c.plan_put-2.ensures
+    IfOk-weaker c.plan_put.result _ _ (λ p s. subst (λ (e : Effect). IsPlan xs e p) (sym put) (s true)) (c.plan_put.ensures fine c.in_ok-fine_frame.ensures)

@@ -1,4 +1,4 @@
-use Rattle.std.proofs.Common.{ℕ, [], ◌∷◌}
+use Rattle.std.proofs.Common.{ℕ, [], ◌∷◌, refl}
 use Rattle.std.specs.Prelude.{codes}
 use Rattle.byte_text.specs.declared.replies.Piece.TheVariants as piece
 use Rattle.keyspace.specs.Entries.{objects_in}
@@ -9,4 +9,4 @@ use Rattle.tile_core.proofs.requests.plan_ping.Goals as goal
 
 pub returns : goal.returns
 returns c =
-    answers_ever (objects_in c.args._objects.now) c.args.total c.requires _ (piece.Status (codes "PONG") ∷ []) _ c.in_ok-status_reply.ensures.value c.say-2.ensures _ (λ (now : ℕ). answered (world_in c.args._objects.now) now)
+    answers_ever (objects_in c.args._objects.now) c.args.total c.requires _ (piece.Status (codes "PONG") ∷ []) _ refl (c.say_frame.ensures (piece.Status (codes "PONG") ∷ []) c.in_ok-pong_frame.ensures) _ (λ (now : ℕ). answered (world_in c.args._objects.now) now)

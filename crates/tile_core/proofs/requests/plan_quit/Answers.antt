@@ -10,11 +10,8 @@ use Rattle.tile_core.proofs.Answering.{replies_alone}
 use Rattle.tile_core.proofs.Reading.{left}
 use Rattle.tile_core.proofs.requests.plan_quit.Goals as goal
 
-pub short_frame-requires-clause-short : goal.short_frame-requires-clause-short
-short_frame-requires-clause-short c = subst (λ (r : List Piece). length (frame_text r) ≤ max_reply) (sym c.in_ok-fine_reply.ensures.value) (lit≤ tt)
-
 pub returns : goal.returns
 returns c =
     let xs = objects_in c.args._objects.now in
-    let frame_is : c.in_ok-frame.frame ≡ frame_text fine = c.in_ok-frame.ensures ∙ ap frame_text c.in_ok-fine_reply.ensures.value in
+    let frame_is : c.in_ok-frame.frame ≡ frame_text fine = c.in_ok-frame.ensures in
     λ (now : ℕ). subst (IsPlan xs _) (sym c.last_reply.ensures) (replies_alone xs c.args.total c.requires _ fine c.in_ok-frame.frame true (left (world_in c.args._objects.now) now) frame_is (subst (λ (f : Bytes). length f ≤ max_reply) (sym frame_is) (lit≤ tt)))
