@@ -179,9 +179,9 @@ fn sessions_end(rt: HostRuntime) -> Result<(), Fail> {
         Called::Ok
     );
     assert_eq!(rt; hall.step_rewrite(&rt, &mut seat), Called::Ok);
-    for session in [1, 2] {
-        let text = taken(&rt, alloc, &hall, &mut seat, session);
-        assert!(rt; text.is_some_and(|text| text.bytes().is_empty()));
-    }
+    let closed = taken(&rt, alloc, &hall, &mut seat, 1);
+    assert!(rt; closed.is_some_and(|text| text.bytes().is_empty()));
+    let removed = taken(&rt, alloc, &hall, &mut seat, 2);
+    assert!(rt; removed.is_some_and(|text| text.bytes().is_empty()));
     Ok(())
 }
