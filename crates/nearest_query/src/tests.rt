@@ -45,24 +45,23 @@ fn put(alloc: Global, trucks: &mut Collection, id: &[u8], x: i64, y: i64) -> Res
 }
 
 // Three trucks at distance 3 of the origin, one at 4 and one at 5.
-fn trucks_round_the_origin(alloc: Global) -> Result<Collection, NoMemory> {
-    let mut trucks = Collection::new(alloc);
-    put(alloc, &mut trucks, b"a", 5, 0)?;
-    put(alloc, &mut trucks, b"e", 0, 3)?;
-    put(alloc, &mut trucks, b"c", -3, 0)?;
-    put(alloc, &mut trucks, b"d", 0, -4)?;
-    put(alloc, &mut trucks, b"b", 3, 0)?;
-    Ok(trucks)
+fn put_round_the_origin(alloc: Global, trucks: &mut Collection) -> Result<(), NoMemory> {
+    put(alloc, trucks, b"a", 5, 0)?;
+    put(alloc, trucks, b"e", 0, 3)?;
+    put(alloc, trucks, b"c", -3, 0)?;
+    put(alloc, trucks, b"d", 0, -4)?;
+    put(alloc, trucks, b"b", 3, 0)
 }
 
-// The ids of a page, where the next one begins, and the count.
+// Appends a line: the ids of a page, where the next one begins, and the count.
 fn answer(
     alloc: Global,
     trucks: &Collection,
     reach: Option<u32>,
     from: (u32, u32),
     shown: Shown,
-) -> Result<Text, NoMemory> {
+    text: &mut Text,
+) -> Result<(), NoMemory> {
     let (cursor, limit) = from;
     let query = Query {
         rule: Rule::Nearest,
@@ -78,41 +77,51 @@ fn answer(
     };
     let mut found = Page::new(alloc);
     near_page(alloc, trucks, origin, reach, &query, &mut found)?;
-    let mut text = Text::new(alloc);
     for i in 0..found.ids.len() {
         text.push(found.ids.at(i).bytes())?;
     }
     text.push(b" ")?;
-    push_u64(&mut text, found.cursor)?;
+    push_u64(text, found.cursor)?;
     text.push(b" ")?;
-    push_u64(&mut text, found.count)?;
+    push_u64(text, found.count)?;
+    text.push(b";")
+}
+
+// All of them on one page, and then page by page.
+fn all_and_pages(alloc: Global, trucks: &mut Collection) -> Result<Text, NoMemory> {
+    let mut text = Text::new(alloc);
+    put_round_the_origin(alloc, trucks)?;
+    answer(alloc, trucks, None, (0, 9), Shown::Ids, &mut text)?;
+    answer(alloc, trucks, None, (0, 2), Shown::Ids, &mut text)?;
+    answer(alloc, trucks, None, (2, 2), Shown::Points, &mut text)?;
+    answer(alloc, trucks, None, (4, 2), Shown::Ids, &mut text)?;
+    Ok(text)
+}
+
+// Those within 4, the number of those within 3, and those within 2.
+fn reached(alloc: Global, trucks: &mut Collection) -> Result<Text, NoMemory> {
+    let mut text = Text::new(alloc);
+    put_round_the_origin(alloc, trucks)?;
+    answer(alloc, trucks, Some(4), (0, 9), Shown::Ids, &mut text)?;
+    answer(alloc, trucks, Some(3), (1, 1), Shown::Count, &mut text)?;
+    answer(alloc, trucks, Some(2), (0, 9), Shown::Ids, &mut text)?;
     Ok(text)
 }
 
 #[test]
 fn ties_go_by_id(rt: HostRuntime) -> Result<(), Fail> {
     let alloc = rt.alloc();
-    let trucks = trucks_round_the_origin(alloc)?;
-    let all = answer(alloc, &trucks, None, (0, 9), Shown::Ids)?;
-    assert_eq!(rt; all.bytes(), b"bceda 0 0".as_slice());
-    let first = answer(alloc, &trucks, None, (0, 2), Shown::Ids)?;
-    assert_eq!(rt; first.bytes(), b"bc 2 0".as_slice());
-    let second = answer(alloc, &trucks, None, (2, 2), Shown::Points)?;
-    assert_eq!(rt; second.bytes(), b"ed 4 0".as_slice());
-    let last = answer(alloc, &trucks, None, (4, 2), Shown::Ids)?;
-    assert_eq!(rt; last.bytes(), b"a 0 0".as_slice());
+    let mut trucks = Collection::new(alloc);
+    let text = all_and_pages(alloc, &mut trucks)?;
+    assert_eq!(rt; text.bytes(), b"bceda 0 0;bc 2 0;ed 4 0;a 0 0;".as_slice());
     Ok(())
 }
 
 #[test]
 fn reach_counts_its_end(rt: HostRuntime) -> Result<(), Fail> {
     let alloc = rt.alloc();
-    let trucks = trucks_round_the_origin(alloc)?;
-    let near = answer(alloc, &trucks, Some(4), (0, 9), Shown::Ids)?;
-    assert_eq!(rt; near.bytes(), b"bced 0 0".as_slice());
-    let count = answer(alloc, &trucks, Some(3), (1, 1), Shown::Count)?;
-    assert_eq!(rt; count.bytes(), b" 0 3".as_slice());
-    let none = answer(alloc, &trucks, Some(2), (0, 9), Shown::Ids)?;
-    assert_eq!(rt; none.bytes(), b" 0 0".as_slice());
+    let mut trucks = Collection::new(alloc);
+    let text = reached(alloc, &mut trucks)?;
+    assert_eq!(rt; text.bytes(), b"bced 0 0; 0 3; 0 0;".as_slice());
     Ok(())
 }

@@ -71,33 +71,33 @@ fn fence(alloc: Global, nodwell: bool) -> Result<Fence, NoMemory>
     })
 }
 
-// The key `people` with `a` at 0.
-fn people(alloc: Global) -> Result<Collection, NoMemory> {
-    let mut people = Collection::new(alloc);
+// Puts `a` at 0.
+fn settle(alloc: Global, people: &mut Collection) -> Result<(), NoMemory> {
+    let a = person(alloc, b"a", 0)?;
     people.prepare()?;
-    people.put(person(alloc, b"a", 0)?);
-    Ok(people)
+    people.put(a);
+    Ok(())
 }
 
-// What is told where one person is put, who stood at a place before or nowhere: `+` and the id of each that is near, `-` of each that is
-// not any more.
-fn told(
+// What is told of people where one person is put, who stood at a place before or nowhere: `+` and the id of each that is near, `-` of
+// each that is not any more.
+fn told_of(
     alloc: Global,
+    people: &Collection,
     nodwell: bool,
     id: &[u8],
     from: Option<i64>,
     to: i64,
 ) -> Result<Text, NoMemory> {
     let fence = fence(alloc, nodwell)?;
-    let people = people(alloc)?;
     let new = person(alloc, id, to)?;
     let mut pairs = RoamList::new(alloc);
     match from {
         Some(from) => {
             let old = person(alloc, id, from)?;
-            near_pairs(alloc, &fence, &people, Some(&old), &new, &mut pairs)?;
+            near_pairs(alloc, &fence, people, Some(&old), &new, &mut pairs)?;
         }
-        None => near_pairs(alloc, &fence, &people, None, &new, &mut pairs)?,
+        None => near_pairs(alloc, &fence, people, None, &new, &mut pairs)?,
     }
     let mut text = Text::new(alloc);
     for i in 0..pairs.len() {
@@ -105,6 +105,19 @@ fn told(
         text.push(pairs.id(i).bytes())?;
     }
     Ok(text)
+}
+
+// What is told of `a` at 0.
+fn told(
+    alloc: Global,
+    nodwell: bool,
+    id: &[u8],
+    from: Option<i64>,
+    to: i64,
+) -> Result<Text, NoMemory> {
+    let mut people = Collection::new(alloc);
+    settle(alloc, &mut people)?;
+    told_of(alloc, &people, nodwell, id, from, to)
 }
 
 #[test]

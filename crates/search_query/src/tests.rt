@@ -44,14 +44,15 @@ fn put(alloc: Global, trucks: &mut Collection, id: &[u8]) -> Result<(), NoMemory
     Ok(())
 }
 
-// The ids of a page, where the next one begins, and the count.
+// Appends a line: the ids of a page, where the next one begins, and the count.
 fn answer(
     alloc: Global,
     trucks: &Collection,
     rule: Rule,
     from: (u32, u32),
     shown: Shown,
-) -> Result<Text, NoMemory> {
+    text: &mut Text,
+) -> Result<(), NoMemory> {
     let (cursor, limit) = from;
     let query = Query {
         rule,
@@ -64,14 +65,35 @@ fn answer(
     };
     let mut found = Page::new(alloc);
     page(alloc, trucks, &query, &mut found)?;
-    let mut text = Text::new(alloc);
     for i in 0..found.ids.len() {
         text.push(found.ids.at(i).bytes())?;
     }
     text.push(b" ")?;
-    push_u64(&mut text, found.cursor)?;
+    push_u64(text, found.cursor)?;
     text.push(b" ")?;
-    push_u64(&mut text, found.count)?;
+    push_u64(text, found.count)?;
+    text.push(b";")
+}
+
+// Puts five trucks, `a` to `e`.
+fn fill(alloc: Global, trucks: &mut Collection) -> Result<(), NoMemory> {
+    for id in [b"c", b"a", b"e", b"b", b"d"] {
+        put(alloc, trucks, id.as_slice())?;
+    }
+    Ok(())
+}
+
+// Pages of five trucks, and of four when `a` is taken out.
+fn pages_of(alloc: Global, trucks: &mut Collection) -> Result<Text, NoMemory> {
+    let mut text = Text::new(alloc);
+    fill(alloc, trucks)?;
+    answer(alloc, trucks, Rule::All, (0, 2), Shown::Ids, &mut text)?;
+    answer(alloc, trucks, Rule::Down, (0, 1), Shown::Ids, &mut text)?;
+    if let Ok(a) = Name::of(alloc, b"a") {
+        trucks.take_out(&a);
+    }
+    answer(alloc, trucks, Rule::All, (2, 2), Shown::Ids, &mut text)?;
+    answer(alloc, trucks, Rule::All, (1, 2), Shown::Count, &mut text)?;
     Ok(text)
 }
 
@@ -79,17 +101,7 @@ fn answer(
 fn pages(rt: HostRuntime) -> Result<(), Fail> {
     let alloc = rt.alloc();
     let mut trucks = Collection::new(alloc);
-    for id in [b"c", b"a", b"e", b"b", b"d"] {
-        put(alloc, &mut trucks, id.as_slice())?;
-    }
-    let first = answer(alloc, &trucks, Rule::All, (0, 2), Shown::Ids)?;
-    assert_eq!(rt; first.bytes(), b"ab 2 0".as_slice());
-    let last = answer(alloc, &trucks, Rule::Down, (0, 1), Shown::Ids)?;
-    assert_eq!(rt; last.bytes(), b"e 1 0".as_slice());
-    assert!(rt; trucks.take_out(&Name::of(alloc, b"a")?).is_some());
-    let second = answer(alloc, &trucks, Rule::All, (2, 2), Shown::Ids)?;
-    assert_eq!(rt; second.bytes(), b"de 0 0".as_slice());
-    let count = answer(alloc, &trucks, Rule::All, (1, 2), Shown::Count)?;
-    assert_eq!(rt; count.bytes(), b" 0 4".as_slice());
+    let text = pages_of(alloc, &mut trucks)?;
+    assert_eq!(rt; text.bytes(), b"ab 2 0;e 1 0;de 0 0; 0 4;".as_slice());
     Ok(())
 }
