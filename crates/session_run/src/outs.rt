@@ -8,7 +8,7 @@ use crate::streams::write_frames;
 use outside::{Bell, Failed, Sink};
 use std::alloc::Global;
 use std::sync::Wait;
-use world_model::{Frames, HallApi, TAKE, Taken};
+use world_model::{Frames, HallApi, Taken};
 
 /// How the writing of a session's frames ended.
 #[derive(Clone, Copy, Debug, PartialEq, Eq)]
@@ -21,12 +21,6 @@ pub enum OutEnd {
     LogFault,
     /// The hall had stopped before.
     Stopped,
-}
-
-// Whether the last frame is one that answers QUIT.
-fn ends_as_a_quit_does(frames: &Frames) -> bool {
-    let count = frames.len();
-    count > 0 && frames.at(count - 1) == b"+OK\r\n".as_slice()
 }
 
 // Takes once and writes what was given. None where the session goes on.
@@ -53,21 +47,17 @@ fn write_turn<H: HallApi, K: Sink, B: Bell, R: Wait>(
 {
     let mark = bell.mark(session);
     match hall.take(rt, seat, session, frames) {
-        Taken::Some(count) => {
+        Taken::Some(_) => {
             room.ring(session);
             let written = write_frames(sink, frames, text);
-            let may_have_quit = ends_as_a_quit_does(frames);
             frames.clear();
             if let Err(Failed) = written {
                 hall.remove(rt, seat, session);
                 room.ring(session);
                 return Some(OutEnd::WriteFault);
             }
-            // Where fewer frames were given than there are places, none was left, and a frame that came since has rung. Behind the
-            // last frame of a session that has quit nobody rings: that one is taken from again, and has ended.
-            if count < TAKE && !may_have_quit {
-                bell.wait(rt, session, mark);
-            }
+            // It is taken from again before the writer waits, as the session may have ended behind these frames, and nobody rings
+            // for that any more.
             None
         }
         Taken::Empty => {

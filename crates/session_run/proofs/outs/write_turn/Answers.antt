@@ -11,13 +11,8 @@ returns-in-Err-clause-turn g c =
     takes_fault c.args.session (g.H.HallApi.knows c.args.seat.now) (g.H.HallApi.knows c.remove.new.seat) (g.K.Sink.held c.args.sink.now) (g.K.Sink.held c.write_frames-written.new.sink) (g.K.Sink.faults c.args.sink.now) (g.K.Sink.faults c.write_frames-written.new.sink)
     (g.H.HallApi.knows c.take.new.seat) c.take.new.into.list c.in-Some.ensures.entry c.remove.ensures.entry c.in-Err.ensures.part c.write_frames-written.ensures.cause.later c.in-Err.ensures.cause.failed
 
-pub returns-then-not-may_have_quit-clause-turn : goal.returns-then-not-may_have_quit-clause-turn
-returns-then-not-may_have_quit-clause-turn g c =
-    takes_given c.args.session (g.H.HallApi.knows c.args.seat.now) (g.H.HallApi.knows c.take.new.seat) (g.K.Sink.held c.args.sink.now) (g.K.Sink.held c.write_frames-written.new.sink) (g.K.Sink.faults c.args.sink.now) (g.K.Sink.faults c.write_frames-written.new.sink)
-    c.take.new.into.list c.in-Some.ensures.entry c.in_default.ensures.done c.write_frames-written.ensures.cause.later
-
-pub returns-else-count-lt-TAKE-clause-turn : goal.returns-else-count-lt-TAKE-clause-turn
-returns-else-count-lt-TAKE-clause-turn g c =
+pub returns-in_default-clause-turn : goal.returns-in_default-clause-turn
+returns-in_default-clause-turn g c =
     takes_given c.args.session (g.H.HallApi.knows c.args.seat.now) (g.H.HallApi.knows c.take.new.seat) (g.K.Sink.held c.args.sink.now) (g.K.Sink.held c.write_frames-written.new.sink) (g.K.Sink.faults c.args.sink.now) (g.K.Sink.faults c.write_frames-written.new.sink)
     c.take.new.into.list c.in-Some.ensures.entry c.in_default.ensures.done c.write_frames-written.ensures.cause.later
 
