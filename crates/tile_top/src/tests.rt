@@ -653,37 +653,59 @@ fn no_words_show_the_usage(rt: HostRuntime) -> Result<(), Fail> {
     Ok(())
 }
 
-// Serves the callers of a door in memory, in the words given. The status, the bytes written, and those written to the first caller.
+fn texts_of(alloc: Global, words: &[&str]) -> Result<Vec<String>, Fail> {
+    let mut all = Vec::new(alloc);
+    for word in words {
+        all.push(word.to_string(alloc)?)?;
+    }
+    Ok(all)
+}
+
+// What two callers send.
+fn callers(alloc: Global) -> Result<Vec<Vec<u8>>, Fail> {
+    let mut links = Vec::new(alloc);
+    links.push(REQUESTS.to_vec(alloc)?)?;
+    links.push(b"*1\r\n$4\r\nPING\r\n*1\r\n$4\r\nQUIT\r\n".to_vec(alloc)?)?;
+    Ok(links)
+}
+
+// Serves the callers of a door in memory, in the words given. The status.
+fn served_at<R: Wait + Threads + Copy + Send + Sync + 'static>(
+    rt: &R,
+    alloc: Global,
+    words: &[String],
+    sink: &mut BytesSink,
+    door: &mut ListDoor,
+) -> u8 {
+    let mut source = BytesSource::new(Vec::new(alloc), 1, Vec::new(alloc));
+    let mut spawner = ListedSpawner::new(alloc, Vec::new(alloc));
+    let clock = HandClock::at(7);
+    let ended = top(
+        rt,
+        alloc,
+        words,
+        &mut source,
+        sink,
+        door,
+        &clock,
+        &mut spawner,
+    );
+    ended.status
+}
+
+// The same of two callers. The status, the bytes written, and those written to the first caller.
 fn served<R: Wait + Threads + Copy + Send + Sync + 'static>(
     rt: &R,
     alloc: Global,
     words: &[&str],
     failing: &[u64],
 ) -> Result<(u8, Vec<u8>, Vec<u8>), Fail> {
-    let mut all = Vec::new(alloc);
-    for word in words {
-        all.push(word.to_string(alloc)?)?;
-    }
-    let mut source = BytesSource::new(Vec::new(alloc), 1, Vec::new(alloc));
+    let words = texts_of(alloc, words)?;
+    let mut door = ListDoor::new(alloc, callers(alloc)?, failing.to_vec(alloc)?)?;
     let mut sink = BytesSink::new(alloc, 5, Vec::new(alloc));
-    let mut links = Vec::new(alloc);
-    links.push(REQUESTS.to_vec(alloc)?)?;
-    links.push(b"*1\r\n$4\r\nPING\r\n*1\r\n$4\r\nQUIT\r\n".to_vec(alloc)?)?;
-    let mut door = ListDoor::new(alloc, links, failing.to_vec(alloc)?)?;
-    let mut spawner = ListedSpawner::new(alloc, Vec::new(alloc));
-    let clock = HandClock::at(7);
-    let ended = top(
-        rt,
-        alloc,
-        all.as_slice(),
-        &mut source,
-        &mut sink,
-        &mut door,
-        &clock,
-        &mut spawner,
-    );
+    let status = served_at(rt, alloc, words.as_slice(), &mut sink, &mut door);
     let first = door.written(rt, alloc, 0)?;
-    Ok((ended.status, sink.written().to_vec(alloc)?, first))
+    Ok((status, sink.written().to_vec(alloc)?, first))
 }
 
 #[test]
