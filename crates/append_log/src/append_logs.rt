@@ -5,7 +5,7 @@ ghost use Rattle.byte_text.specs.Names.{Bytes};
 ghost use Rattle.outside.specs.Causes.{HasCause, Rose};
 ghost use Rattle.log_sides.specs.Texts.{StandsRound, IsGeneration, committed, written};
 ghost use Rattle.log_sides.specs.Making.{WhileMade};
-ghost use Rattle.log_sides.specs.States.{SideIsSafe, IsLog, SideLeads};
+ghost use Rattle.log_sides.specs.States.{ReadsAs, SideLeads, LogOn};
 
 use crate::commits::append_batch;
 use byte_text::NoMemory;
@@ -69,8 +69,13 @@ impl AppendLog {
         generation: u64,
     ) -> Result<AppendLog, LogFault>
         requires { IsGeneration generation }
-        ensures stands { (before : Bytes) → SideIsSafe (D.crashes disk.old) (D.seen disk.old) (D.images disk.old) side (λ x. x ≡ before) → IfOk result (λ log. IsLog (D.crashes disk.new) (D.seen disk.new) (D.images disk.new) side generation log.gate []) }
-        ensures either { (before : Bytes) → SideIsSafe (D.crashes disk.old) (D.seen disk.old) (D.images disk.old) side (λ x. x ≡ before) → MatchResult result (λ log. SideLeads D.crashes D.seen D.images D.moment D.left_since side (WhileMade generation before) disk.old disk.new) (λ fault. fault ≡ LogFault.Disk → SideLeads D.crashes D.seen D.images D.moment D.left_since side (WhileMade generation before) disk.old disk.new) }
+        ensures stands { (before : Bytes) → ReadsAs D.crashes D.seen D.images disk.old side before
+            → IfOk result (λ log. LogOn D.crashes D.seen D.images disk.new side generation log.gate []) }
+        ensures either { (before : Bytes) → ReadsAs D.crashes D.seen D.images disk.old side before
+            → MatchResult result
+            (λ log. SideLeads D.crashes D.seen D.images D.moment D.left_since side (WhileMade generation before) disk.old disk.new)
+            (λ fault. fault ≡ LogFault.Disk
+            → SideLeads D.crashes D.seen D.images D.moment D.left_since side (WhileMade generation before) disk.old disk.new) }
         ensures memory { IfErr result (λ fault. fault ≡ LogFault.Memory → disk.new ≡ disk.old) }
         ensures told { D.crashes disk.new ≡ D.crashes disk.old }
         ensures later { D.faults disk.old ≤ D.faults disk.new }
@@ -169,8 +174,14 @@ impl AppendLog {
     /// Makes the pending batch stand, by a write of it behind the closed gate and then one of the gate, each of which
     /// is synced. After `Failed` the log stands for the batches without or with it, and is not to be used again.
     pub fn commit<D: Disk>(&mut self, disk: &mut D) -> Result<(), Failed>
-        ensures stands { (batches : List Bytes) → IsLog (D.crashes disk.old) (D.seen disk.old) (D.images disk.old) self.old.side self.old.generation self.old.gate batches → OnOk result (IsLog (D.crashes disk.new) (D.seen disk.new) (D.images disk.new) self.old.side self.old.generation self.new.gate (committed batches self.old.pending)) }
-        ensures either { (batches : List Bytes) → IsLog (D.crashes disk.old) (D.seen disk.old) (D.images disk.old) self.old.side self.old.generation self.old.gate batches → SideLeads D.crashes D.seen D.images D.moment D.left_since self.old.side (StandsRound self.old.generation batches self.old.pending) disk.old disk.new }
+        ensures stands { (batches : List Bytes)
+            → LogOn D.crashes D.seen D.images disk.old self.old.side self.old.generation self.old.gate batches
+            → OnOk result (LogOn D.crashes D.seen D.images disk.new self.old.side self.old.generation self.new.gate
+            (committed batches self.old.pending)) }
+        ensures either { (batches : List Bytes)
+            → LogOn D.crashes D.seen D.images disk.old self.old.side self.old.generation self.old.gate batches
+            → SideLeads D.crashes D.seen D.images D.moment D.left_since self.old.side
+            (StandsRound self.old.generation batches self.old.pending) disk.old disk.new }
         ensures told { D.crashes disk.new ≡ D.crashes disk.old }
         ensures cause { HasCause (D.faults disk.old) (D.faults disk.new) result }
         ensures side { self.new.side ≡ self.old.side }

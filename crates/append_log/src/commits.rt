@@ -4,7 +4,7 @@ ghost use Rattle.std.specs.Prelude.{◌≡◌, ◌+◌, ◌≤◌, ◌^◌, ℕ,
 ghost use Rattle.byte_text.specs.Names.{Bytes};
 ghost use Rattle.outside.specs.Causes.{HasCause};
 ghost use Rattle.log_sides.specs.Texts.{StandsFor, StandsWithin, with_batch, sealed};
-ghost use Rattle.log_sides.specs.States.{SideIsSafe, IsLog, SideLeads};
+ghost use Rattle.log_sides.specs.States.{SafeOn, SideLeads, LogOn};
 
 use outside::{Disk, Failed, Side, write_durably};
 
@@ -17,8 +17,10 @@ pub(crate) fn append_batch<D: Disk>(
 ) -> Result<(), Failed>
     requires room { gate + length batch.now ≤ 2 ^ 62 }
     requires sealed { 10 ≤ length batch.now }
-    ensures stands { (g : ℕ) (bs : List Bytes) (b : Bytes) → batch.now ≡ sealed b → IsLog (D.crashes disk.old) (D.seen disk.old) (D.images disk.old) side g gate bs → OnOk result (SideIsSafe (D.crashes disk.new) (D.seen disk.new) (D.images disk.new) side (StandsFor g (with_batch bs b))) }
-    ensures either { (g : ℕ) (bs : List Bytes) (b : Bytes) → batch.now ≡ sealed b → IsLog (D.crashes disk.old) (D.seen disk.old) (D.images disk.old) side g gate bs → SideLeads D.crashes D.seen D.images D.moment D.left_since side (StandsWithin g bs b) disk.old disk.new }
+    ensures stands { (g : ℕ) (bs : List Bytes) (b : Bytes) → batch.now ≡ sealed b → LogOn D.crashes D.seen D.images disk.old side g gate bs
+        → OnOk result (SafeOn D.crashes D.seen D.images disk.new side (StandsFor g (with_batch bs b))) }
+    ensures either { (g : ℕ) (bs : List Bytes) (b : Bytes) → batch.now ≡ sealed b → LogOn D.crashes D.seen D.images disk.old side g gate bs
+        → SideLeads D.crashes D.seen D.images D.moment D.left_since side (StandsWithin g bs b) disk.old disk.new }
     ensures told { D.crashes disk.new ≡ D.crashes disk.old }
     ensures cause { HasCause (D.faults disk.old) (D.faults disk.new) result }
 {

@@ -3,7 +3,7 @@
 ghost use Rattle.std.specs.Prelude.{◌≡◌, ℕ, [], IfOk};
 ghost use Rattle.byte_text.specs.Names.{Bytes};
 ghost use Rattle.outside.specs.Causes.{HasCause};
-ghost use Rattle.log_sides.specs.States.{SideIsSafe, SideLeads};
+ghost use Rattle.log_sides.specs.States.{ReadsAs, SideLeads};
 
 use crate::side_readers::{Gate, Reader};
 use outside::{Disk, Failed};
@@ -22,9 +22,13 @@ impl End {
 
     /// Passes over the batches of a side, whose gates and lengths alone are read.
     pub fn find<D: Disk>(disk: &mut D, mut reader: Reader) -> Result<End, Failed>
-        ensures end { (g : ℕ) (bytes : Bytes) → SideIsSafe (D.crashes disk.old) (D.seen disk.old) (D.images disk.old) reader.side (λ x. x ≡ bytes) → IsAtGate g [] reader.len reader.at bytes → IfOk result (IsEndOf g bytes reader.len) }
-        ensures safe { (bytes : Bytes) → SideIsSafe (D.crashes disk.old) (D.seen disk.old) (D.images disk.old) reader.side (λ x. x ≡ bytes) → SideIsSafe (D.crashes disk.new) (D.seen disk.new) (D.images disk.new) reader.side (λ x. x ≡ bytes) }
-        ensures same { (bytes : Bytes) → SideIsSafe (D.crashes disk.old) (D.seen disk.old) (D.images disk.old) reader.side (λ x. x ≡ bytes) → SideLeads D.crashes D.seen D.images D.moment D.left_since reader.side (λ x. x ≡ bytes) disk.old disk.new }
+        ensures end { (g : ℕ) (bytes : Bytes) → ReadsAs D.crashes D.seen D.images disk.old reader.side bytes
+            → IsAtGate g [] reader.len reader.at bytes
+            → IfOk result (IsEndOf g bytes reader.len) }
+        ensures safe { (bytes : Bytes) → ReadsAs D.crashes D.seen D.images disk.old reader.side bytes
+            → ReadsAs D.crashes D.seen D.images disk.new reader.side bytes }
+        ensures same { (bytes : Bytes) → ReadsAs D.crashes D.seen D.images disk.old reader.side bytes
+            → SideLeads D.crashes D.seen D.images D.moment D.left_since reader.side (λ x. x ≡ bytes) disk.old disk.new }
         ensures told { D.crashes disk.new ≡ D.crashes disk.old }
         ensures cause { HasCause (D.faults disk.old) (D.faults disk.new) result }
     {

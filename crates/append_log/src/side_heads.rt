@@ -6,7 +6,7 @@ ghost use Rattle.outside.specs.Causes.{HasCause};
 ghost use Rattle.outside.specs.declared.sides.Side.TheVariants.{A, B};
 ghost use Rattle.outside.specs.Sides.{Sides, side_of, Told};
 ghost use Rattle.outside.specs.Crashes.{LeavesOnly};
-ghost use Rattle.log_sides.specs.States.{SideIsSafe};
+ghost use Rattle.log_sides.specs.States.{SafeOn};
 ghost use Rattle.append_log.specs.Heads.{head_of, start_of, IsHeadedIn, IsOpenHead, IsSizedHead, IsSizedStart};
 
 use outside::{Disk, Failed, Side};
@@ -117,10 +117,11 @@ impl Head {
 
 /// Makes both sides safe, and sees which of them is in use.
 pub fn start_log<D: Disk>(disk: &mut D) -> Result<Start, Failed>
-    ensures start { (s : Sides) → D.seen disk.old ≡ Some s → IfOk result (λ start. (start ≡ start_of (head_of s.a) (head_of s.b)) × IsHeadedIn s start) }
+    ensures start { (s : Sides) → D.seen disk.old ≡ Some s
+        → IfOk result (λ start. (start ≡ start_of (head_of s.a) (head_of s.b)) × IsHeadedIn s start) }
     ensures sized { IfOk result IsSizedStart }
-    ensures a { (s : Sides) → D.seen disk.old ≡ Some s → OnOk result (SideIsSafe (D.crashes disk.new) (D.seen disk.new) (D.images disk.new) A (λ x. x ≡ s.a)) }
-    ensures b { (s : Sides) → D.seen disk.old ≡ Some s → OnOk result (SideIsSafe (D.crashes disk.new) (D.seen disk.new) (D.images disk.new) B (λ x. x ≡ s.b)) }
+    ensures a { (s : Sides) → D.seen disk.old ≡ Some s → OnOk result (SafeOn D.crashes D.seen D.images disk.new A (λ x. x ≡ s.a)) }
+    ensures b { (s : Sides) → D.seen disk.old ≡ Some s → OnOk result (SafeOn D.crashes D.seen D.images disk.new B (λ x. x ≡ s.b)) }
     ensures same { Told (D.seen disk.old) (D.seen disk.new) (λ s t. t ≡ s) }
     ensures crash { (c : Sides) → D.images disk.new c → D.images disk.old c }
     ensures moments { LeavesOnly D.moment D.left_since disk.old disk.new (D.images disk.old) }
@@ -134,7 +135,8 @@ pub fn start_log<D: Disk>(disk: &mut D) -> Result<Start, Failed>
 }
 
 fn look_at_both<D: Disk>(disk: &mut D) -> Result<Start, Failed>
-    ensures start { (s : Sides) → D.seen disk.old ≡ Some s → IfOk result (λ start. (start ≡ start_of (head_of s.a) (head_of s.b)) × IsHeadedIn s start) }
+    ensures start { (s : Sides) → D.seen disk.old ≡ Some s
+        → IfOk result (λ start. (start ≡ start_of (head_of s.a) (head_of s.b)) × IsHeadedIn s start) }
     ensures sized { IfOk result IsSizedStart }
     ensures same { Told (D.seen disk.old) (D.seen disk.new) (λ s t. t ≡ s) }
     ensures crash { (c : Sides) → D.images disk.new c → D.images disk.old c }
@@ -152,7 +154,8 @@ fn look_at_both<D: Disk>(disk: &mut D) -> Result<Start, Failed>
 }
 
 fn look_at<D: Disk>(disk: &mut D, side: Side) -> Result<Head, Failed>
-    ensures head { (s : Sides) → D.seen disk.old ≡ Some s → IfOk result (λ head. (head ≡ head_of (side_of s side)) × IsOpenHead (side_of s side) head) }
+    ensures head { (s : Sides) → D.seen disk.old ≡ Some s
+        → IfOk result (λ head. (head ≡ head_of (side_of s side)) × IsOpenHead (side_of s side) head) }
     ensures sized { IfOk result IsSizedHead }
     ensures same { Told (D.seen disk.old) (D.seen disk.new) (λ s t. t ≡ s) }
     ensures crash { (c : Sides) → D.images disk.new c → D.images disk.old c }
@@ -173,8 +176,8 @@ fn look_at<D: Disk>(disk: &mut D, side: Side) -> Result<Head, Failed>
 }
 
 fn sync_both<D: Disk>(disk: &mut D) -> Result<(), Failed>
-    ensures a { (s : Sides) → D.seen disk.old ≡ Some s → OnOk result (SideIsSafe (D.crashes disk.new) (D.seen disk.new) (D.images disk.new) A (λ x. x ≡ s.a)) }
-    ensures b { (s : Sides) → D.seen disk.old ≡ Some s → OnOk result (SideIsSafe (D.crashes disk.new) (D.seen disk.new) (D.images disk.new) B (λ x. x ≡ s.b)) }
+    ensures a { (s : Sides) → D.seen disk.old ≡ Some s → OnOk result (SafeOn D.crashes D.seen D.images disk.new A (λ x. x ≡ s.a)) }
+    ensures b { (s : Sides) → D.seen disk.old ≡ Some s → OnOk result (SafeOn D.crashes D.seen D.images disk.new B (λ x. x ≡ s.b)) }
     ensures same { Told (D.seen disk.old) (D.seen disk.new) (λ s t. t ≡ s) }
     ensures crash { (c : Sides) → D.images disk.new c → D.images disk.old c }
     ensures moments { LeavesOnly D.moment D.left_since disk.old disk.new (D.images disk.old) }

@@ -92,20 +92,5 @@ pushed ends ends' bytes bytes' word words h is b e =
       ascend = subst (λ es. Ascend 0 es (length bytes')) (sym e) (Ascend-push 0 ends (length bytes) (length bytes') h grown);
     }
 
--- the words from a place on
-pub words_from : (words : List Bytes) (at : ℕ) (word : Bytes) → slice_get words at ≡ Some word → drop at words ≡ word ∷ drop (at + 1) words
-words_from [] at word e = absurd (cc e)
-words_from (w ∷ words) zero word e = ap (λ v. v ∷ words) (cc e)
-words_from (w ∷ words) (suc at) word e =
-    let n : suc at + 1 ≡ suc (at + 1) = omega arith in
-    words_from words at word e ∙ ap (λ k. word ∷ drop k (w ∷ words)) (sym n)
-
--- one more bulk string of a request is written
-pub one_written : (words : List Bytes) (at : ℕ) (word into into' all : Bytes) → slice_get words at ≡ Some word → into' ≡ into ++ bulk_text word → into ++ flat_map bulk_text (drop at words) ≡ all
-    → into' ++ flat_map bulk_text (drop (at + 1) words) ≡ all
-one_written words at word into into' all e n so_far =
-    ap (λ t. t ++ flat_map bulk_text (drop (at + 1) words)) n ∙ append_assoc into (bulk_text word) (flat_map bulk_text (drop (at + 1) words))
-    ∙ ap (λ ws. into ++ flat_map bulk_text ws) (sym (words_from words at word e)) ∙ so_far
-
 pub all_written : (words : List Bytes) (at : ℕ) (into all : Bytes) → length words ≤ at → into ++ flat_map bulk_text (drop at words) ≡ all → into ≡ all
 all_written words at into all l so_far = sym (append-nil into) ∙ ap (λ ws. into ++ flat_map bulk_text ws) (sym (drop_of_length-le words l)) ∙ so_far

@@ -12,3 +12,4 @@ pub mod LineLaws
 pub mod TextLaws
 pub mod StreamTexts
 pub mod StreamFound
+pub mod ListLaws

@@ -55,11 +55,6 @@ pub fn push_json(into: &mut Text, bytes: &[u8]) -> Result<(), NoMemory>
     ensures err { OnErr result (into.new ≡ into.old) }
 {
     let before = into.len();
-    match push_quoted(into, bytes) {
-        Ok(()) => Ok(()),
-        Err(NoMemory) => {
-            into.truncate(before);
-            Err(NoMemory)
-        }
-    }
+    let pushed = push_quoted(into, bytes);
+    into.keep_if(pushed, before)
 }

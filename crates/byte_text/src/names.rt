@@ -1,6 +1,8 @@
 //! Names: keys, ids and the like, in byte order.
 
-ghost use Rattle.std.specs.Prelude.{◌≡◌, ◌==◌, IfOk, true};
+ghost use Rattle.std.specs.Prelude.{◌≡◌, ◌<◌, ◌==◌, IfOk, true};
+ghost use Rattle.std.specs.Int.{w64, from_be_bytes};
+ghost use Rattle.std.specs.List.{AllByRecursion};
 ghost use Rattle.std.proofs.Common.{rules};
 ghost use Rattle.std.specs.Hash as fed;
 ghost use Rattle.std.specs.Cmp.Rules.{comparing, hashing};
@@ -47,6 +49,45 @@ fn fault_of(bytes: &[u8]) -> Option<TextFault>
         Ok(_) => None,
         Err(_) => Some(TextFault::NotUtf8),
     }
+}
+
+// Eight bytes as a number, the first highest.
+fn number(bytes: &[u8; 8]) -> u64
+    ensures small { AllByRecursion (λ b. b < 256) bytes.now }
+    ensures value { result ≡ from_be_bytes w64 bytes.now }
+{
+    let [a, b, c, d, e, f, g, h] = *bytes;
+    u64::from_be_bytes([a, b, c, d, e, f, g, h])
+}
+
+// The order of eight bytes and eight others is that of the two numbers.
+#[tactic(auto, using(crate::proofs::WordOrder::order_of_eight_is))]
+fn order_of_eight(a: &[u8; 8], b: &[u8; 8]) -> Ordering
+    ensures { result ≡ slice_cmp nat_cmp a.now b.now }
+{
+    number(a).cmp(&number(b))
+}
+
+// Byte order. Eight bytes are compared at a time: many names begin alike.
+fn byte_order(a: &[u8], b: &[u8]) -> Ordering
+    ensures { result ≡ slice_cmp nat_cmp a.now b.now }
+{
+    let (mut front, mut back) = (a, b);
+    for _ in 0..a.len() {
+        let Some((first, rest)) = front.split_first_chunk::<8>() else {
+            break;
+        };
+        let Some((other, others)) = back.split_first_chunk::<8>() else {
+            break;
+        };
+        let order = order_of_eight(first, other);
+        if order.is_ne() {
+            return order;
+        }
+        front = rest;
+        back = others;
+    }
+    front.cmp(back)
 }
 
 impl Name {
@@ -117,7 +158,7 @@ impl Ord for Name {
     ghost matches_eq = { Prim.search (comparing, rules) };
 
     fn cmp(&self, other: &Name) -> Ordering {
-        self.bytes.as_slice().cmp(other.bytes.as_slice())
+        byte_order(self.bytes.as_slice(), other.bytes.as_slice())
     }
 }
 

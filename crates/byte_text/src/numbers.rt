@@ -9,7 +9,8 @@ ghost use mir.Val.{SFits as FitsSigned};
 use crate::texts::{NoMemory, Text, TextFault};
 use itoa::{Buffer, Integer};
 
-fn push_number<I: Integer>(into: &mut Text, n: I) -> Result<(), NoMemory>
+/// Appends the text of a number. At want of memory the text is as before.
+pub(crate) fn push_number<I: Integer>(into: &mut Text, n: I) -> Result<(), NoMemory>
     ensures ok { OnOk result (into.new ≡ into.old ++ I.text n) }
     ensures err { OnErr result (into.new ≡ into.old) }
 {

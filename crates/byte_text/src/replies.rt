@@ -9,7 +9,7 @@ ghost use Rattle.byte_text.specs.declared.replies.Piece.TheVariants as piece;
 ghost use Rattle.byte_text.specs.declared.replies.Piece.{Piece};
 
 use crate::numbers::push_i64;
-use crate::requests::{push_bulk, push_header};
+use crate::requests::{push_array_head, push_bulk};
 use crate::texts::{NoMemory, Text};
 use std::alloc::Global;
 use std::marker::Model;
@@ -131,7 +131,7 @@ fn push_piece(into: &mut Text, piece: &Piece) -> Result<(), NoMemory>
         Piece::Bulk(text) => push_bulk(into, text.bytes()),
         Piece::NoBulk => push_text_line(into, b'$', b"-1"),
         Piece::NoList => push_text_line(into, b'*', b"-1"),
-        Piece::List(n) => push_header(into, b'*', *n as u64),
+        Piece::List(n) => push_array_head(into, *n),
     }
 }
 
@@ -153,13 +153,8 @@ pub fn push_frame(into: &mut Text, reply: &Reply) -> Result<(), NoMemory>
     ensures err { OnErr result (into.new ≡ into.old) }
 {
     let before = into.len();
-    match push_pieces(into, reply.pieces.as_slice()) {
-        Ok(()) => Ok(()),
-        Err(NoMemory) => {
-            into.truncate(before);
-            Err(NoMemory)
-        }
-    }
+    let pushed = push_pieces(into, reply.pieces.as_slice());
+    into.keep_if(pushed, before)
 }
 
 /// No frame's text is a proper prefix of another's, whatever is behind them, and each is the text of one reply alone.

@@ -1,12 +1,13 @@
 //! Requests (RESP2): words within limits, and their texts.
 
 ghost use Rattle.byte_text.specs.Names.{Bytes};
-ghost use Rattle.std.specs.Prelude.{◌≡◌, ℕ, List, ◌++◌, ◌∷◌, [], ◌<◌, ◌≤◌, ◌-◌, length, take, drop, slice_get, Some, OnOk, OnErr, IfOk, decimal};
+ghost use Rattle.std.specs.Prelude.{◌≡◌, ℕ, List, ◌++◌, ◌∷◌, [], ◌<◌, ◌≤◌, ◌-◌, length, take, drop, slice_get, Some, OnOk, OnErr, IfOk, flat_map};
 ghost use Rattle.byte_text.specs.Lines.{line, bulk_text};
 ghost use Rattle.byte_text.specs.Requests.{FitsRequest, IsRequest, request_text, start_of};
 
-use crate::numbers::push_u64;
+use crate::numbers::push_number;
 use crate::texts::{NoMemory, Text};
+use itoa::Integer;
 use std::alloc::Global;
 use std::marker::Model;
 
@@ -110,37 +111,75 @@ fn start_of(ends: &[u32], at: usize) -> usize
 
 // Appends a line: a mark, a number, CR LF.
 #[tactic(auto, using(crate::specs::TextLaws::kept))]
-pub(crate) fn push_header(into: &mut Text, mark: u8, n: u64) -> Result<(), NoMemory>
-    ensures ok { OnOk result (into.new ≡ into.old ++ line mark (decimal n)) }
+fn push_line<I: Integer>(into: &mut Text, mark: u8, n: I) -> Result<(), NoMemory>
+    ensures ok { OnOk result (into.new ≡ into.old ++ line mark (I.text n)) }
     ensures kept { take (length into.old) into.new ≡ into.old }
 {
     into.push(&[mark])?;
-    push_u64(into, n)?;
+    push_number(into, n)?;
     into.push(b"\r\n")
 }
 
-// Appends a bulk string.
 #[tactic(auto, using(crate::specs::TextLaws::kept))]
-pub(crate) fn push_bulk(into: &mut Text, bytes: &[u8]) -> Result<(), NoMemory>
+fn push_bulk_parts(into: &mut Text, bytes: &[u8]) -> Result<(), NoMemory>
     ensures ok { OnOk result (into.new ≡ into.old ++ bulk_text bytes.now) }
     ensures kept { take (length into.old) into.new ≡ into.old }
 {
-    push_header(into, b'$', bytes.len() as u64)?;
+    push_line(into, b'$', bytes.len())?;
     into.push(bytes)?;
     into.push(b"\r\n")
 }
 
+/// Appends the head of an array of so many items, which follow it: the head of a request of so many words, or of a reply. At want of
+/// memory the text is as before.
+pub fn push_array_head<I: Integer>(into: &mut Text, items: I) -> Result<(), NoMemory>
+    ensures ok { OnOk result (into.new ≡ into.old ++ line 42 (I.text items)) }
+    ensures err { OnErr result (into.new ≡ into.old) }
+{
+    let before = into.len();
+    let pushed = push_line(into, b'*', items);
+    into.keep_if(pushed, before)
+}
+
+/// Appends a bulk string. At want of memory the text is as before.
+pub fn push_bulk(into: &mut Text, bytes: &[u8]) -> Result<(), NoMemory>
+    ensures ok { OnOk result (into.new ≡ into.old ++ bulk_text bytes.now) }
+    ensures err { OnErr result (into.new ≡ into.old) }
+{
+    let before = into.len();
+    let pushed = push_bulk_parts(into, bytes);
+    into.keep_if(pushed, before)
+}
+
 #[tactic(auto, using(crate::specs::TextLaws::kept))]
-fn push_words(into: &mut Text, request: &Request) -> Result<(), NoMemory>
+fn push_each_word(into: &mut Text, words: &Request) -> Result<(), NoMemory>
+    ensures ok { OnOk result (into.new ≡ into.old ++ flat_map bulk_text words.now) }
+    ensures kept { take (length into.old) into.new ≡ into.old }
+{
+    for at in 0..words.words() {
+        push_bulk(into, words.word(at))?;
+    }
+    Ok(())
+}
+
+/// Appends the words of a request, each as a bulk string, without the head of the request. At want of memory the text is as before.
+pub fn push_words(into: &mut Text, words: &Request) -> Result<(), NoMemory>
+    ensures ok { OnOk result (into.new ≡ into.old ++ flat_map bulk_text words.now) }
+    ensures err { OnErr result (into.new ≡ into.old) }
+{
+    let before = into.len();
+    let pushed = push_each_word(into, words);
+    into.keep_if(pushed, before)
+}
+
+#[tactic(auto, using(crate::specs::TextLaws::kept))]
+fn push_request_parts(into: &mut Text, request: &Request) -> Result<(), NoMemory>
     ensures fits { FitsRequest request.now }
     ensures ok { OnOk result (into.new ≡ into.old ++ request_text request.now) }
     ensures kept { take (length into.old) into.new ≡ into.old }
 {
-    push_header(into, b'*', request.words() as u64)?;
-    for at in 0..request.words() {
-        push_bulk(into, request.word(at))?;
-    }
-    Ok(())
+    push_array_head(into, request.words())?;
+    push_words(into, request)
 }
 
 /// Appends the text of a request. At want of memory the text is as before.
@@ -151,13 +190,8 @@ pub fn push_request(into: &mut Text, request: &Request) -> Result<(), NoMemory>
     ensures err { OnErr result (into.new ≡ into.old) }
 {
     let before = into.len();
-    match push_words(into, request) {
-        Ok(()) => Ok(()),
-        Err(NoMemory) => {
-            into.truncate(before);
-            Err(NoMemory)
-        }
-    }
+    let pushed = push_request_parts(into, request);
+    into.keep_if(pushed, before)
 }
 
 /// No request's text is a proper prefix of another's, whatever is behind them, and each is the text of one request alone.

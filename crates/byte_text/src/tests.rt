@@ -36,6 +36,9 @@ fn names(rt: HostRuntime) -> Result<(), Fail> {
     let ten = Name::of(alloc, b"v10")?;
     assert_eq!(rt; two.bytes(), b"v1".as_slice());
     assert!(rt; one == two && one < ten && ten != two);
+    // The earlier byte decides, among the first eight bytes and behind them.
+    assert!(rt; Name::of(alloc, b"truck01z")? < Name::of(alloc, b"truck02a")?);
+    assert!(rt; Name::of(alloc, b"truck0000019")? < Name::of(alloc, b"truck0000020")?);
     let mut table = HashMap::new(alloc);
     table.insert(one, 7u8)?;
     assert_eq!(rt; table.get(&two).copied(), Some(7));
@@ -120,6 +123,16 @@ fn requests(rt: HostRuntime) -> Result<(), Fail> {
     assert_eq!(rt; request.words(), 2);
     assert_eq!(rt; request.word(0), b"".as_slice());
     assert_eq!(rt; request.word(1), b"key".as_slice());
+    Ok(())
+}
+
+#[test]
+fn an_array_of_bulk_strings(rt: HostRuntime) -> Result<(), Fail> {
+    let mut text = Text::new(rt.alloc());
+    push_array_head(&mut text, 2)?;
+    push_bulk(&mut text, b"hello")?;
+    push_bulk(&mut text, b"")?;
+    assert_eq!(rt; text.bytes(), b"*2\r\n$5\r\nhello\r\n$0\r\n\r\n".as_slice());
     Ok(())
 }
 

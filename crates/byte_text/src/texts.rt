@@ -121,4 +121,17 @@ impl Text {
     {
         self.bytes.truncate(len);
     }
+
+    /// What was pushed stays if nothing failed, else the first `before` bytes alone: so a text to which several pieces were pushed has
+    /// all of them or none.
+    pub fn keep_if(&mut self, pushed: Result<(), NoMemory>, before: usize) -> Result<(), NoMemory>
+        ensures same { result ≡ pushed }
+        ensures ok { OnOk pushed (self.new ≡ self.old) }
+        ensures err { OnErr pushed (self.new ≡ take before self.old) }
+    {
+        if pushed.is_err() {
+            self.truncate(before);
+        }
+        pushed
+    }
 }

@@ -15,7 +15,8 @@ messages_on w change c = map (λ p. (c.name, p)) (payloads w change c)
 abbrev pub IsSilentUnless : World → Change → (Channel → Bool) → Channel → Type 0
 IsSilentUnless w change test c = test c ≡ false → payloads w change c ≡ []
 
-silent_on : (w : World) (change : Change) (test : Channel → Bool) (c : Channel) → IsSilentUnless w change test c → test c ≡ false → messages_on w change c ≡ []
+silent_on : (w : World) (change : Change) (test : Channel → Bool) (c : Channel) → IsSilentUnless w change test c → test c ≡ false
+    → messages_on w change c ≡ []
 silent_on w change test c silent off = ap (map (λ p. (c.name, p))) (silent off)
 
 -- where the channels of the key that do not pass the test raise nothing, those that pass raise all

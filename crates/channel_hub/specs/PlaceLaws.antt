@@ -17,7 +17,8 @@ all_stand : {A : Type 0} (n : ℕ) (test : A → Bool) (xs : List A) (i p : ℕ)
 all_stand n test [] i p is = absurd (cc)
 all_stand n test (x ∷ xs) i p is = by_test (test x) refl i (λ j. all_stand (n + 1) test xs j p) is
   where
-    by_test : (b : Bool) → test x ≡ b → (i : ℕ) → ((j : ℕ) → slice_get (places_from (n + 1) test xs) j ≡ Some p → Stands (n + 1) xs p) → slice_get (places_from n test (x ∷ xs)) i ≡ Some p → Stands n (x ∷ xs) p
+    by_test : (b : Bool) → test x ≡ b → (i : ℕ) → ((j : ℕ) → slice_get (places_from (n + 1) test xs) j ≡ Some p → Stands (n + 1) xs p)
+        → slice_get (places_from n test (x ∷ xs)) i ≡ Some p → Stands n (x ∷ xs) p
     by_test true e zero ih is =
         let here : slice_get (n ∷ places_from (n + 1) test xs) 0 ≡ Some p = rw e at is in
         let first : n ≡ p = cc in
@@ -47,7 +48,8 @@ dropped_past [] xs (suc n) x is = absurd (cc)
 dropped_past (y ∷ all) xs zero x is = cc
 dropped_past (y ∷ all) xs (suc n) x is = rw add-one (rw add-one at (dropped_past all xs n x is))
 
-items_past : {A : Type 0} (all : List A) (test : A → Bool) (n : ℕ) (xs : List A) → drop n all ≡ xs → filter_map (slice_get all) (places_from n test xs) ≡ filter test xs
+items_past : {A : Type 0} (all : List A) (test : A → Bool) (n : ℕ) (xs : List A) → drop n all ≡ xs
+    → filter_map (slice_get all) (places_from n test xs) ≡ filter test xs
 items_past all test n [] is = refl
 items_past all test n (x ∷ xs) is =
     let ih = items_past all test (n + 1) xs (dropped_past all xs n x is) in

@@ -1,21 +1,26 @@
 //! The hub: all channels by name, and their marks in the index.
 
-ghost use Rattle.std.specs.Prelude.{◌≡◌, ◌<◌, [], true, not, length, filter, find, slice_get, Some, None, IfOk, IfNone, IfSome, OnOk, OnErr};
+ghost use Rattle.std.specs.Prelude.{◌≡◌, ◌<◌, [], true, not, length, filter, find, slice_get, Some, None, IfOk, IfNone, IfSome, OnOk, OnErr, flat_map, option_map};
 ghost use Rattle.ordered_lists.specs.Lists.{put_in};
-ghost use Rattle.world_data.specs.Worlds.{are_channels, channel_before, is_named};
-ghost use Rattle.fence_model.specs.Messages.{watches};
+ghost use Rattle.world_data.specs.Worlds.{are_channels, channel_before, is_named, object_at};
+ghost use Rattle.fence_model.specs.Messages.{loud_messages, watches};
+ghost use Rattle.world_data.specs.declared.worlds.World.{World};
+ghost use Rattle.world_data.specs.declared.worlds.Change.TheVariants.{Put, Del};
 ghost use Rattle.fence_index.specs.Marks.{mark_of};
-ghost use Rattle.channel_hub.specs.Hubs.{IsPrepared, may_concern};
+ghost use Rattle.fence_index.specs.Silence.{IfWhole};
+ghost use Rattle.fence_index.specs.Candidates.{box_if};
+ghost use Rattle.channel_hub.specs.Hubs.{IsPrepared, del_may_concern, may_concern, put_may_concern};
+ghost use Rattle.channel_hub.specs.MessageLaws.{messages_on};
 ghost use Rattle.channel_hub.specs.Places.{places_of};
 
 use crate::candidates::{Candidates, push_of_key, push_places};
 use crate::channel_order::{exchange, insert_reserved, place_of};
 use byte_text::{Name, NoMemory};
-use fence_index::FenceIndex;
-use planar_geom::BBox;
+use fence_index::{FenceIndex, unconcerned_are_silent, watch_is_whole};
+use planar_geom::{BBox, box_of, shape_is_whole};
 use std::alloc::Global;
 use std::marker::Model;
-use world_data::{Channel, NameList};
+use world_data::{Channel, NameList, Object};
 
 /// The channels of a world, in byte order of their names, and an index of their fences. One more may be prepared, which is then put
 /// without taking memory.
@@ -69,6 +74,8 @@ impl Hub {
         ensures replaced { result ≡ find (is_named channel.name) self.old.channels }
         ensures prepared { self.new.prepared ≡ None }
     {
+        // The hub keeps that what its channels watch is whole: the law on those that no change concerns asks for it.
+        watch_is_whole(&channel.fence.watch);
         match place_of(self.channels.as_slice(), &channel.name) {
             Ok(at) => {
                 self.index.take_out(&self.channels[at]);
@@ -153,6 +160,39 @@ impl Hub {
         Ok(candidates)
     }
 
+    /// The places, ascending, of the channels that a put may concern of an object in the place of the old one, where there is one. Every
+    /// other raises nothing: the messages are those of these channels alone.
+    pub fn candidates_of_put(
+        &self,
+        alloc: Global,
+        old: Option<&Object>,
+        new: &Object,
+    ) -> Result<Candidates, NoMemory>
+        ensures places { IfOk result (λ p. p ≡ places_of (put_may_concern (option_map (λ o. o.now) old.entry) new.now) self.now.channels) }
+        ensures messages { (w : World) → w.channels ≡ self.now.channels → object_at w new.now.key new.now.id ≡ option_map (λ o. o.now) old.entry
+            → loud_messages w (Put new.now)
+            ≡ flat_map (messages_on w (Put new.now)) (filter (put_may_concern (option_map (λ o. o.now) old.entry) new.now) w.channels) }
+    {
+        // The law speaks of whole shapes and of the channels that are kept here.
+        shape_is_whole(&new.shape);
+        unconcerned_are_silent();
+        let _kept = &self.channels;
+        self.candidates(alloc, &new.key, whole_box(old), Some(box_of(&new.shape)))
+    }
+
+    /// The places, ascending, of the channels that a del of an object may concern. Every other raises nothing: the messages are those of
+    /// these channels alone.
+    pub fn candidates_of_del(&self, alloc: Global, old: &Object) -> Result<Candidates, NoMemory>
+        ensures places { IfOk result (λ p. p ≡ places_of (del_may_concern old.now) self.now.channels) }
+        ensures messages { (w : World) → w.channels ≡ self.now.channels → object_at w old.now.key old.now.id ≡ Some old.now
+            → loud_messages w (Del old.now.key old.now.id)
+            ≡ flat_map (messages_on w (Del old.now.key old.now.id)) (filter (del_may_concern old.now) w.channels) }
+    {
+        unconcerned_are_silent();
+        let _kept = &self.channels;
+        self.candidates(alloc, &old.key, whole_box(Some(old)), None)
+    }
+
     /// The places, ascending, of all channels of the key: a drop of it may concern each.
     pub fn of_key(&self, alloc: Global, key: &Name) -> Result<Candidates, NoMemory>
         ensures { IfOk result (λ p. p ≡ places_of (watches (Some key.now)) self.now.channels) }
@@ -160,5 +200,19 @@ impl Hub {
         let mut candidates = Candidates::new(alloc);
         push_of_key(self.channels.as_slice(), key, &mut candidates)?;
         Ok(candidates)
+    }
+}
+
+// The box of an object, where there is one, whose shape is whole.
+fn whole_box(object: Option<&Object>) -> Option<BBox>
+    ensures value { result ≡ box_if (option_map (λ o. o.now) object.entry) }
+    ensures whole { IfWhole (option_map (λ o. o.now) object.entry) }
+{
+    match object {
+        Some(object) => {
+            shape_is_whole(&object.shape);
+            Some(box_of(&object.shape))
+        }
+        None => None,
     }
 }

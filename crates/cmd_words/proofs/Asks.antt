@@ -1,13 +1,13 @@
 -- What is read of a whole request.
-use Rattle.std.proofs.Common.{◌≡◌, inl, inr, refl, sym, ◌∙◌, ap, subst, List, [], ◌∷◌, ◌++◌}
+use Rattle.std.proofs.Common.{◌≡◌, inl, inr, sym, ◌∙◌, ap, subst, List, [], ◌∷◌, ◌++◌}
 use Rattle.std.specs.Prelude.{Ok, Err, Result, IfOk, IfErr}
 use Rattle.byte_text.specs.Names.{Bytes}
 use Rattle.world_model.specs.Commands.{reads, shown_of, wrong_count}
 use Rattle.world_model.specs.declared.commands.Command.{Command}
 use Rattle.world_model.specs.declared.faults.WordFault.{WordFault}
 use Rattle.world_model.specs.declared.faults.WordFault.TheVariants as fault
-use Rattle.cmd_words.specs.CommandNames.{IsNoName, IsRead}
-use Rattle.cmd_words.specs.Progress.{IsFault, Place, Answers, IsBehind, all_words, start, answers, answered, IfRefused}
+use Rattle.cmd_words.specs.CommandNames.{IsNoName}
+use Rattle.cmd_words.specs.Progress.{IsFault, Place, Answers, IsBehind, all_words, start, answered, IfRefused}
 use Rattle.cmd_words.proofs.Heads.{not_known, no_words}
 use Rattle.cmd_words.specs.declared.faults.CommandFault.{CommandFault}
 use Rattle.cmd_words.specs.declared.faults.CommandFault.TheVariants.{Refused, Memory}
@@ -37,10 +37,8 @@ one_read words p q w e b = b.read ∙ ap (λ (x : Place). x.read ++ w ∷ []) e
 pub named_answers : (words : List Bytes) (p q : Place) (w : Bytes) → p ≡ start words → IsBehind w p q → (r : Result Command CommandFault) → Answers (all_words q) r → Answers words r
 named_answers words p q w e b r a = subst (λ (ws : List Bytes). Answers ws r) (ap (λ (l : List Bytes). l ++ q.left) (one_read words p q w e b) ∙ sym (first_of words p q w e b)) a
 
-pub unnamed_answers : (words : List Bytes) (p q : Place) (w : Bytes) → p ≡ start words → IsBehind w p q → IsRead words → (why : CommandFault) → IsNoName w → IsFault (fault.Unknown (shown_of w)) why → Answers words (Err why)
-unnamed_answers words p q w e b read why n f =
-    let there = first_of words p q w e b in
-    subst (λ (ws : List Bytes). Answers ws (Err why)) (sym there) (not_known w q.left why n (subst IsRead there read) f)
+pub unnamed_answers : (words : List Bytes) (p q : Place) (w : Bytes) → p ≡ start words → IsBehind w p q → (why : CommandFault) → IsNoName w → IsFault (fault.Unknown (shown_of w)) why → Answers words (Err why)
+unnamed_answers words p q w e b why n f = subst (λ (ws : List Bytes). Answers ws (Err why)) (sym (first_of words p q w e b)) (not_known w q.left why n f)
 
 pub empty_answers : (words : List Bytes) (p q : Place) → p ≡ start words → (q ≡ p) × (p.left ≡ []) → (why : CommandFault) → IsFault (wrong_count (all_words q)) why → Answers words (Err why)
 empty_answers words p q e none why f =

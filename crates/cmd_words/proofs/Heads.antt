@@ -11,7 +11,7 @@ use Rattle.cmd_words.proofs.Follows.{stopped, shut_by}
 use Rattle.world_model.specs.declared.commands.Command.{Command}
 use Rattle.world_model.specs.declared.commands.Command.TheVariants as command
 use Rattle.cmd_words.specs.CommandNames.{IsNoName}
-use Rattle.cmd_words.specs.Progress.{Place, Follows, Answers, IsFault, all_words, a_name, key_and_id, get_options, name_of, glob_of, answered}
+use Rattle.cmd_words.specs.Progress.{Place, Follows, Answers, IsFault, a_name, key_and_id, get_options, name_of, glob_of, answered}
 use Rattle.cmd_words.specs.Sets.{behind_set, field_step, fields_first, fset_of}
 use Rattle.cmd_words.proofs.Binds.{bind_same}
 use Rattle.cmd_words.proofs.FieldLists.{first_field}
@@ -19,6 +19,8 @@ use Rattle.world_model.specs.Kinds.{name, glob, seconds}
 use Rattle.cmd_words.specs.NameLists.{some_names}
 use Rattle.cmd_words.specs.Scans.{behind_scan}
 use Rattle.cmd_words.specs.Searches.{behind_search, behind_nearby}
+use Rattle.cmd_words.specs.Channels.{behind_setchan}
+use Rattle.cmd_words.proofs.SetchanHead.{channel_and_more, setchan_same}
 use Rattle.world_data.specs.declared.channels.Kind.TheVariants.{Within, Intersects}
 use Rattle.cmd_words.proofs.Gets.{lower_word}
 use Rattle.cmd_words.proofs.NameLists.{first_name}
@@ -215,6 +217,13 @@ psubscribe_goes called more e = rw e (simp append-nil (first_name glob_of comman
 pub psubscribe_head : (called : Bytes) (p : Place) → p.read ≡ called ∷ [] → is_word called (codes "PSUBSCRIBE") ≡ true → Follows p (some_names glob_of command.Psubscribe)
 psubscribe_head called p r e = begins called p _ r (λ more. psubscribe_goes called more (lower_word called (codes "PSUBSCRIBE") e))
 
+setchan_goes : (called : Bytes) (more : List Bytes) → str_to_ascii_lowercase called ≡ codes "setchan" → readings (called ∷ more) ≡ live (channel_and_more more)
+unfolding readings
+setchan_goes called more e = rw e (simp append-nil)
+
+pub setchan_head : (called : Bytes) (p : Place) → p.read ≡ called ∷ [] → is_word called (codes "SETCHAN") ≡ true → Follows p (a_name behind_setchan)
+setchan_head called p r e = begins called p _ r (λ more. setchan_goes called more (lower_word called (codes "SETCHAN") e) ∙ ap live (setchan_same more))
+
 -- no word, or no command's name
 nothing_starts : is_open [] ≡ true
 unfolding readings
@@ -228,12 +237,12 @@ nothing_goes : (called : Bytes) → is_word called (codes "SET") ≡ false → i
 unfolding readings
 nothing_goes called w_set w_get w_del w_fset w_fget w_expire w_persist w_ttl w_pdel w_drop w_keys w_bounds w_stats w_flush w_ping w_quit w_scan w_within w_intersects w_nearby w_shrink w_delchan w_pdelchan w_chans w_subscribe w_psubscribe w_setchan = rw (w_set, w_get, w_del, w_fset, w_fget, w_expire, w_persist, w_ttl, w_pdel, w_drop, w_keys, w_bounds, w_stats, w_flush, w_ping, w_quit, w_scan, w_within, w_intersects, w_nearby, w_shrink, w_delchan, w_pdelchan, w_chans, w_subscribe, w_psubscribe, w_setchan) refl
 
-unknown : (called : Bytes) (rest : List Bytes) → IsNoName called → is_word called (codes "SETCHAN") ≡ false → reads (called ∷ rest) ≡ Err (fault.Unknown (shown_of called))
-unknown called rest n setchan = stopped [] called rest nothing_starts (shut_by (called ∷ []) (nothing_goes called n.0 n.1.0 n.1.1.0 n.1.1.1.0 n.1.1.1.1.0 n.1.1.1.1.1.0 n.1.1.1.1.1.1.0 n.1.1.1.1.1.1.1.0 n.1.1.1.1.1.1.1.1.0 n.1.1.1.1.1.1.1.1.1.0 n.1.1.1.1.1.1.1.1.1.1.0 n.1.1.1.1.1.1.1.1.1.1.1.0 n.1.1.1.1.1.1.1.1.1.1.1.1.0 n.1.1.1.1.1.1.1.1.1.1.1.1.1.0 n.1.1.1.1.1.1.1.1.1.1.1.1.1.1.0 n.1.1.1.1.1.1.1.1.1.1.1.1.1.1.1.0 n.1.1.1.1.1.1.1.1.1.1.1.1.1.1.1.1.0 n.1.1.1.1.1.1.1.1.1.1.1.1.1.1.1.1.1.0 n.1.1.1.1.1.1.1.1.1.1.1.1.1.1.1.1.1.1.0 n.1.1.1.1.1.1.1.1.1.1.1.1.1.1.1.1.1.1.1.0 n.1.1.1.1.1.1.1.1.1.1.1.1.1.1.1.1.1.1.1.1.0 n.1.1.1.1.1.1.1.1.1.1.1.1.1.1.1.1.1.1.1.1.1.0 n.1.1.1.1.1.1.1.1.1.1.1.1.1.1.1.1.1.1.1.1.1.1.0 n.1.1.1.1.1.1.1.1.1.1.1.1.1.1.1.1.1.1.1.1.1.1.1.0 n.1.1.1.1.1.1.1.1.1.1.1.1.1.1.1.1.1.1.1.1.1.1.1.1.0 n.1.1.1.1.1.1.1.1.1.1.1.1.1.1.1.1.1.1.1.1.1.1.1.1.1.0 setchan))
+unknown : (called : Bytes) (rest : List Bytes) → IsNoName called → reads (called ∷ rest) ≡ Err (fault.Unknown (shown_of called))
+unknown called rest n = stopped [] called rest nothing_starts (shut_by (called ∷ []) (nothing_goes called n.0 n.1.0 n.1.1.0 n.1.1.1.0 n.1.1.1.1.0 n.1.1.1.1.1.0 n.1.1.1.1.1.1.0 n.1.1.1.1.1.1.1.0 n.1.1.1.1.1.1.1.1.0 n.1.1.1.1.1.1.1.1.1.0 n.1.1.1.1.1.1.1.1.1.1.0 n.1.1.1.1.1.1.1.1.1.1.1.0 n.1.1.1.1.1.1.1.1.1.1.1.1.0 n.1.1.1.1.1.1.1.1.1.1.1.1.1.0 n.1.1.1.1.1.1.1.1.1.1.1.1.1.1.0 n.1.1.1.1.1.1.1.1.1.1.1.1.1.1.1.0 n.1.1.1.1.1.1.1.1.1.1.1.1.1.1.1.1.0 n.1.1.1.1.1.1.1.1.1.1.1.1.1.1.1.1.1.0 n.1.1.1.1.1.1.1.1.1.1.1.1.1.1.1.1.1.1.0 n.1.1.1.1.1.1.1.1.1.1.1.1.1.1.1.1.1.1.1.0 n.1.1.1.1.1.1.1.1.1.1.1.1.1.1.1.1.1.1.1.1.0 n.1.1.1.1.1.1.1.1.1.1.1.1.1.1.1.1.1.1.1.1.1.0 n.1.1.1.1.1.1.1.1.1.1.1.1.1.1.1.1.1.1.1.1.1.1.0 n.1.1.1.1.1.1.1.1.1.1.1.1.1.1.1.1.1.1.1.1.1.1.1.0 n.1.1.1.1.1.1.1.1.1.1.1.1.1.1.1.1.1.1.1.1.1.1.1.1.0 n.1.1.1.1.1.1.1.1.1.1.1.1.1.1.1.1.1.1.1.1.1.1.1.1.1.0 n.1.1.1.1.1.1.1.1.1.1.1.1.1.1.1.1.1.1.1.1.1.1.1.1.1.1.0))
 
-pub not_known : (called : Bytes) (rest : List Bytes) (why : CommandFault) → IsNoName called → is_word called (codes "SETCHAN") ≡ false → IsFault (fault.Unknown (shown_of called)) why → Answers (called ∷ rest) (Err why)
-not_known called rest why n s (inl m) = inl m
-not_known called rest why n s (inr e) = inr (rw e (ap answered (unknown called rest n s)))
+pub not_known : (called : Bytes) (rest : List Bytes) (why : CommandFault) → IsNoName called → IsFault (fault.Unknown (shown_of called)) why → Answers (called ∷ rest) (Err why)
+not_known called rest why n (inl m) = inl m
+not_known called rest why n (inr e) = inr (rw e (ap answered (unknown called rest n)))
 
 pub no_words : (why : CommandFault) → IsFault (wrong_count []) why → Answers [] (Err why)
 no_words why (inl m) = inl m

@@ -1,5 +1,5 @@
 -- One name or more, to the end of the words.
-use Rattle.std.proofs.Common.{◌≡◌, inl, inr, suc, refl, ◌∙◌, ap, subst, List, [], ◌∷◌, ◌++◌, length, add-one}
+use Rattle.std.proofs.Common.{◌≡◌, inl, inr, suc, refl, ap, subst, List, [], ◌∷◌, ◌++◌, length, add-one}
 use Rattle.std.specs.Prelude.{Option, Some, None, Ok, Err, flat_map}
 use Rattle.std.proofs.lemmas.List.{append-nil}
 use Rattle.byte_text.specs.Names.{Bytes}
@@ -10,7 +10,6 @@ use Rattle.cmd_words.specs.Progress.{Place, all_words, IsBehind, Moves, Follows,
 use Rattle.cmd_words.specs.NameLists.{name_step, names_more, some_names, ReadsNames}
 use Rattle.cmd_words.proofs.Gets.{step, ends, stops, moves, moves_on}
 use Rattle.cmd_words.specs.declared.faults.CommandFault.{CommandFault}
-use Rattle.cmd_words.specs.declared.faults.CommandFault.TheVariants.{Memory}
 
 module _ (reader : Bytes → Option Bytes) (make : List Bytes → Command) where
   takes : (names : List Bytes) (w n : Bytes) (more : List Bytes) → reader w ≡ Some n → live (names_more reader make names (w ∷ more)) ≡ live (names_more reader make (names ++ n ∷ []) more)

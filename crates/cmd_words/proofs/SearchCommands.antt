@@ -5,11 +5,10 @@ use Rattle.std.proofs.lemmas.List.{append-nil}
 use Rattle.byte_text.specs.Names.{Bytes, is_word}
 use Rattle.byte_text.specs.Numbers.{natural_within}
 use Rattle.planar_geom.specs.Points.{Point, Bounds}
-use Rattle.planar_geom.specs.declared.shapes.Area.TheVariants.{Rect}
 use Rattle.world_data.specs.Limits.{max_meters}
 use Rattle.world_model.specs.Grammar.{Form, Reading, spells, runs_out, a_word, ◌>>=◌, done, live}
 use Rattle.world_model.specs.Kinds.{lat_lon, four}
-use Rattle.world_model.specs.Commands.{SearchOptions, no_search_options, output, reads, wrong_count}
+use Rattle.world_model.specs.Commands.{AreaRead, SearchOptions, no_search_options, output, reads, wrong_count}
 use Rattle.world_data.specs.declared.channels.Kind.{Kind}
 use Rattle.world_data.specs.declared.queries.Shown.{Shown}
 use Rattle.world_data.specs.declared.queries.Shown.TheVariants as shown
@@ -17,8 +16,9 @@ use Rattle.world_model.specs.declared.commands.Command.{Command}
 use Rattle.world_model.specs.FormLaws.{Each}
 use Rattle.cmd_words.proofs.Binds.{each_both}
 use Rattle.cmd_words.specs.Progress.{Place, IsWordDue, all_words, IsBehind, Moves, Follows, Parses, ParsesAhead, Reads, ReadsBeside, Answers, IsAhead, IsSilent, WantsWord, IsEnd, IsNot, IsOne, IsRefusal, Took, a_name, answers, answered}
-use Rattle.cmd_words.specs.SearchWords.{options_then, IsNoOption, ReadsOptions, output_name, ReadsOutput}
-use Rattle.cmd_words.specs.Areas.{Sought, given, an_area, area_name, behind_area, LacksArea, TakesArea}
+use Rattle.cmd_words.specs.Options.{options_then, IsNoOption, ReadsOptions}
+use Rattle.cmd_words.specs.SearchWords.{search_table, output_name, ReadsOutput}
+use Rattle.cmd_words.specs.Areas.{box_area, an_area, area_name, behind_area, LacksArea, TakesArea}
 use Rattle.cmd_words.specs.Searches.{output_and_area, box_or_area, search_of, search_area, behind_search, a_point, output_and_point, reach_of, ReadsReach, nearby_of, nearby_point, behind_nearby}
 use Rattle.cmd_words.specs.declared.search_options.SearchWord.TheVariants as option
 use Rattle.cmd_words.specs.declared.areas.AreaWord.{AreaWord}
@@ -29,12 +29,13 @@ use Rattle.cmd_words.proofs.Ends.{end_refused}
 use Rattle.cmd_words.proofs.NoNumbers.{no_coordinate_word}
 use Rattle.cmd_words.proofs.Ahead.{due_live, ahead, next_read, ahead_same, wants_by, none_ahead}
 use Rattle.cmd_words.proofs.AreaWords.{area_goes, area_stops, area_wanted}
-use Rattle.cmd_words.proofs.SearchWords.{options_done, same_words, next_ahead, unroll, behind_options, options_due}
+use Rattle.cmd_words.proofs.Options.{options_done, same_words, next_ahead, unroll, behind_options, options_due}
+use Rattle.cmd_words.proofs.SearchWords.{search_laws}
 use Rattle.cmd_words.specs.declared.faults.CommandFault.{CommandFault}
 
 -- no word of an option begins an output or an area, or an output or a point
 
-pub no_option_word : (kind : Kind) (key : Bytes) → IsNoOption (search_area kind key)
+pub no_option_word : (kind : Kind) (key : Bytes) → IsNoOption (search_table false) (search_area kind key)
 no_option_word kind key o option.Match w more e = rw (lower_word w (codes "MATCH") e) refl
 no_option_word kind key o option.Cursor w more e = rw (lower_word w (codes "CURSOR") e) refl
 no_option_word kind key o option.Limit w more e = rw (lower_word w (codes "LIMIT") e) refl
@@ -44,7 +45,7 @@ no_option_word kind key o option.Descending w more e = rw (lower_word w (codes "
 no_option_word kind key o option.Where w more e = rw (lower_word w (codes "WHERE") e) refl
 no_option_word kind key o option.WhereIn w more e = rw (lower_word w (codes "WHEREIN") e) refl
 
-pub no_option_point : (key : Bytes) → IsNoOption (nearby_point key)
+pub no_option_point : (key : Bytes) → IsNoOption (search_table false) (nearby_point key)
 no_option_point key o option.Match w more e = rw (lower_word w (codes "MATCH") e) refl
 no_option_point key o option.Cursor w more e = rw (lower_word w (codes "CURSOR") e) refl
 no_option_point key o option.Limit w more e = rw (lower_word w (codes "LIMIT") e) refl
@@ -56,8 +57,8 @@ no_option_point key o option.WhereIn w more e = rw (lower_word w (codes "WHEREIN
 
 -- an output, and an area behind it
 
-module _ (next : Shown × Sought → Form Command) where
-  abbrev shown_as : Shown → Sought → Form Command
+module _ (next : Shown × AreaRead → Form Command) where
+  abbrev shown_as : Shown → AreaRead → Form Command
   shown_as how a = next (how, a)
 
   output_goes : (how : Shown) (w : Bytes) (more : List Bytes) → is_word w (output_name how) ≡ true → is_word w (codes "BOUNDS") ≡ false → output_and_area next (w ∷ more) ≡ an_area (shown_as how) more
@@ -90,7 +91,7 @@ module _ (next : Shown × Sought → Form Command) where
     bounds_follow : IsAhead old (output_and_area next) → Follows mid (box_or_area next)
     bounds_follow h = next_read (output_and_area next) (box_or_area next) old mid t.0 t.2 (λ more. ap live (bounds_goes t.0 more t.1)) h
 
-pub bounds_read : (old mid new : Place) → Took (codes "BOUNDS") old mid true → (r : Result (Shown × Sought) CommandFault) → Parses box_or_area mid new r → ParsesAhead output_and_area old new r
+pub bounds_read : (old mid new : Place) → Took (codes "BOUNDS") old mid true → (r : Result (Shown × AreaRead) CommandFault) → Parses box_or_area mid new r → ParsesAhead output_and_area old new r
 bounds_read old mid new t (Ok x) k = (moves_on old mid new (moves t.0 old mid t.2) k.0, λ next h. k.1 next (bounds_follow next old mid new t h))
 bounds_read old mid new t (Err why) (inl m) = inl m
 bounds_read old mid new t (Err why) (inr r) = inr (λ next h d. subst (λ ws. answers ws ≡ Err why) (moves t.0 old mid t.2).words (r next (bounds_follow next old mid new t h)))
@@ -100,13 +101,13 @@ module _ (old p mid new : Place) (n : Took (codes "BOUNDS") old p false) where
   not_bounds : (w : Bytes) → IsBehind w p mid → is_word w (codes "BOUNDS") ≡ false
   not_bounds w b = subst (IsNot (codes "BOUNDS")) (ap (λ (x : Place). x.left) (sym n.0) ∙ b.left) n.1
 
-  area_ahead : (o : Option Shown) → ReadsOutput p mid o → (next : Shown × Sought → Form Command) → IsAhead old (output_and_area next) → IsAhead mid (an_area (λ a. next (unwrap_or o shown.Objects, a)))
+  area_ahead : (o : Option Shown) → ReadsOutput p mid o → (next : Shown × AreaRead → Form Command) → IsAhead old (output_and_area next) → IsAhead mid (an_area (λ a. next (unwrap_or o shown.Objects, a)))
   area_ahead (Some how) t next h = ahead mid (an_area (λ a. next (how, a)))
       (next_read (output_and_area next) (an_area (λ a. next (how, a))) p mid t.0 t.2 (λ more. ap live (output_goes next how t.0 more t.1 (not_bounds t.0 t.2))) (subst (λ (x : Place). IsAhead x (output_and_area next)) (sym n.0) h))
   area_ahead None t next h = ahead_same mid (output_and_area next) (an_area (λ a. next (shown.Objects, a)))
       (λ w rest l more. ap live (none_goes next w rest more (λ how. subst (IsNot (output_name how)) (ap (λ (x : Place). x.left) (sym t.0) ∙ l) (t.1 how)))) (subst (λ (x : Place). IsAhead x (output_and_area next)) (sym n.0 ∙ sym t.0) h)
 
-  area_due : (o : Option Shown) → ReadsOutput p mid o → (next : Shown × Sought → Form Command) → IsAhead old (output_and_area next) → WantsWord old → WantsWord mid
+  area_due : (o : Option Shown) → ReadsOutput p mid o → (next : Shown × AreaRead → Form Command) → IsAhead old (output_and_area next) → WantsWord old → WantsWord mid
   area_due (Some how) t next h d = area_wanted (λ a. next (how, a)) mid
       (next_read (output_and_area next) (an_area (λ a. next (how, a))) p mid t.0 t.2 (λ more. ap live (output_goes next how t.0 more t.1 (not_bounds t.0 t.2))) (subst (λ (x : Place). IsAhead x (output_and_area next)) (sym n.0) h))
   area_due None t next h d = subst WantsWord (sym n.0 ∙ sym t.0) d
@@ -115,7 +116,7 @@ module _ (old p mid new : Place) (n : Took (codes "BOUNDS") old p false) where
   moved (Some how) t = subst (λ (x : Place). Moves x mid) n.0 (moves t.0 p mid t.2)
   moved None t = subst (λ (x : Place). Moves old x) (sym n.0 ∙ sym t.0) (record { words = refl; fewer = omega arith })
 
-  pub area_found : (o : Option Shown) → ReadsOutput p mid o → (a : Sought) → ParsesAhead an_area mid new (Ok a) → ParsesAhead output_and_area old new (Ok (unwrap_or o shown.Objects, a))
+  pub area_found : (o : Option Shown) → ReadsOutput p mid o → (a : AreaRead) → ParsesAhead an_area mid new (Ok a) → ParsesAhead output_and_area old new (Ok (unwrap_or o shown.Objects, a))
   area_found o t a k = (moves_on old mid new (moved o t) k.0, λ next h. k.1 (λ x. next (unwrap_or o shown.Objects, x)) (area_ahead o t next h))
 
   pub area_refused : (o : Option Shown) → ReadsOutput p mid o → (why : CommandFault) → ParsesAhead an_area mid new (Err why) → ParsesAhead output_and_area old new (Err why)
@@ -131,11 +132,11 @@ no_box w more g at.Circle e = let none = no_coordinate_word w 99 (codes "ircle")
 no_box w more g at.Get e = let none = no_coordinate_word w 103 (codes "et") (lower_word w (codes "GET") e) (omega arith) in rw none refl
 
 module _ (old mid new : Place) (kind : AreaWord) (t : TakesArea old mid (Some kind)) where
-  behind_follows : (next : Shown × Sought → Form Command) → Follows old (box_or_area next) → Follows mid (behind_area kind (λ a. next (shown.Bounds, a)))
+  behind_follows : (next : Shown × AreaRead → Form Command) → Follows old (box_or_area next) → Follows mid (behind_area kind (λ a. next (shown.Bounds, a)))
   behind_follows next h = step (box_or_area next) (behind_area kind (λ a. next (shown.Bounds, a))) old mid t.0 t.2
-      (λ more. ap live (ap (λ (l : List (Reading Command)). l ++ an_area (λ a. next (shown.Bounds, a)) (t.0 ∷ more)) (no_box t.0 more (λ b. next (shown.Objects, given (Rect b))) kind t.1) ∙ area_goes (λ a. next (shown.Bounds, a)) more kind t.0 t.1)) h
+      (λ more. ap live (ap (λ (l : List (Reading Command)). l ++ an_area (λ a. next (shown.Bounds, a)) (t.0 ∷ more)) (no_box t.0 more (λ b. next (shown.Objects, box_area b)) kind t.1) ∙ area_goes (λ a. next (shown.Bounds, a)) more kind t.0 t.1)) h
 
-  pub second_found : (a : Sought) → Parses (behind_area kind) mid new (Ok a) → Parses box_or_area old new (Ok (shown.Bounds, a))
+  pub second_found : (a : AreaRead) → Parses (behind_area kind) mid new (Ok a) → Parses box_or_area old new (Ok (shown.Bounds, a))
   second_found a k = (moves_on old mid new (moves t.0 old mid t.2) k.0, λ next h. k.1 (λ x. next (shown.Bounds, x)) (behind_follows next h))
 
   pub second_refused : (why : CommandFault) → Parses (behind_area kind) mid new (Err why) → Parses box_or_area old new (Err why)
@@ -145,41 +146,41 @@ module _ (old mid new : Place) (kind : AreaWord) (t : TakesArea old mid (Some ki
 -- behind BOUNDS: no area is next, so that it is one
 
 module _ (old mid new : Place) (t : TakesArea old mid None) where
-  silent : (next : Shown × Sought → Form Command) → IsSilent (an_area (λ a. next (shown.Bounds, a))) mid.left
+  silent : (next : Shown × AreaRead → Form Command) → IsSilent (an_area (λ a. next (shown.Bounds, a))) mid.left
   silent next = record {
     next = λ w rest l more. area_stops (λ a. next (shown.Bounds, a)) w rest more (subst LacksArea (ap (λ (x : Place). x.left) (sym t.0) ∙ l) t.1);
     due = (tt, (tt, (tt, (tt, tt))));
   }
 
-  pub box_found : (b : Bounds) → ReadsBeside four mid new (Ok b) → Parses box_or_area old new (Ok (shown.Objects, given (Rect b)))
-  box_found b k = subst (λ (x : Place). Parses box_or_area x new (Ok (shown.Objects, given (Rect b)))) t.0
-      (k.0, λ next h. k.1 (λ x. next (shown.Objects, given (Rect x))) (an_area (λ a. next (shown.Bounds, a))) (silent next) h)
+  pub box_found : (b : Bounds) → ReadsBeside four mid new (Ok b) → Parses box_or_area old new (Ok (shown.Objects, box_area b))
+  box_found b k = subst (λ (x : Place). Parses box_or_area x new (Ok (shown.Objects, box_area b))) t.0
+      (k.0, λ next h. k.1 (λ x. next (shown.Objects, box_area x)) (an_area (λ a. next (shown.Bounds, a))) (silent next) h)
 
   pub box_faults : (why : CommandFault) → ReadsBeside four mid new (Err why) → Parses box_or_area old new (Err why)
   box_faults why (inl m) = inl m
   box_faults why (inr r) = subst (λ (x : Place). Parses box_or_area x new (Err why)) t.0
-      (inr (λ next h. r (λ x. next (shown.Objects, given (Rect x))) (an_area (λ a. next (shown.Bounds, a))) (silent next) h))
+      (inr (λ next h. r (λ x. next (shown.Objects, box_area x)) (an_area (λ a. next (shown.Bounds, a))) (silent next) h))
 
 -- a whole WITHIN or INTERSECTS
 
 -- what was read behind the options, where words are due behind them
-module _ {A : Type 0} (form : (A → Form Command) → Form Command) (make : Bytes → SearchOptions → A → Form Command) (quiet : (key : Bytes) → IsNoOption (λ o. form (make key o)))
+module _ {A : Type 0} (form : (A → Form Command) → Form Command) (make : Bytes → SearchOptions → A → Form Command) (quiet : (key : Bytes) → IsNoOption (search_table false) (λ o. form (make key o)))
     (due : (next : A → Form Command) → (first : Reading Command) × (others : List (Reading Command)) × (form next [] ≡ first ∷ others) × Each IsWordDue (first ∷ others))
-    (old behind_key : Place) (key : Bytes) (a : Parses a_name old behind_key (Ok key)) (h : Follows old (a_name (λ k. options_then false no_search_options (λ o. form (make k o))))) (mid : Place) (o : SearchOptions) (g : ReadsOptions false no_search_options behind_key mid (Ok o)) where
+    (old behind_key : Place) (key : Bytes) (a : Parses a_name old behind_key (Ok key)) (h : Follows old (a_name (λ k. options_then (search_table false) no_search_options (λ o. form (make k o))))) (mid : Place) (o : SearchOptions) (g : ReadsOptions (search_table false) no_search_options behind_key mid (Ok o)) where
   form_ahead : IsAhead mid (form (make key o))
-  form_ahead = next_ahead false (λ k p. form (make k p)) quiet old behind_key key a h mid o g
+  form_ahead = next_ahead (search_table false) (search_laws false) no_search_options (λ k p. form (make k p)) quiet old behind_key key a h mid o g
 
   words_are : all_words mid ≡ all_words old
-  words_are = same_words false (λ k p. form (make k p)) quiet old behind_key key a h mid o g
+  words_are = same_words (search_table false) (search_laws false) no_search_options (λ k p. form (make k p)) quiet old behind_key key a h mid o g
 
   form_wanted : WantsWord mid
   form_wanted =
       let d = due (make key o) in
       let next : SearchOptions → Form Command = λ p. form (make key p) in
-      let rest : List (Reading Command) = behind_options false o next in
-      let all_due : Each IsWordDue (d.0 ∷ (d.1 ++ rest)) = each_both IsWordDue (d.0 ∷ d.1) rest d.3 (options_due false o next) in
-      let there : options_then false o next [] ≡ d.0 ∷ (d.1 ++ rest) = unroll false o next [] ∙ ap (λ (l : List (Reading Command)). l ++ rest) d.2 in
-      wants_by mid d.0 (d.1 ++ rest) (now mid (options_then false o next) (options_done false (λ k p. form (make k p)) quiet old behind_key key a h mid o g) ∙ ap live there ∙ due_live (d.0 ∷ (d.1 ++ rest)) all_due) all_due
+      let rest : List (Reading Command) = behind_options (search_table false) (search_laws false) o next in
+      let all_due : Each IsWordDue (d.0 ∷ (d.1 ++ rest)) = each_both IsWordDue (d.0 ∷ d.1) rest d.3 (options_due (search_table false) (search_laws false) o next) in
+      let there : options_then (search_table false) o next [] ≡ d.0 ∷ (d.1 ++ rest) = unroll (search_table false) (search_laws false) o next [] ∙ ap (λ (l : List (Reading Command)). l ++ rest) d.2 in
+      wants_by mid d.0 (d.1 ++ rest) (now mid (options_then (search_table false) o next) (options_done (search_table false) (search_laws false) no_search_options (λ k p. form (make k p)) quiet old behind_key key a h mid o g) ∙ ap live there ∙ due_live (d.0 ∷ (d.1 ++ rest)) all_due) all_due
 
   pub form_refused : (new : Place) (why : CommandFault) → ParsesAhead form mid new (Err why) → Answers (all_words old) (Err why)
   form_refused new why (inl m) = inl m
@@ -192,23 +193,23 @@ module _ {A : Type 0} (form : (A → Form Command) → Form Command) (make : Byt
     pub made_words : all_words new ≡ all_words old
     made_words = k.0.words ∙ words_are
 
-abbrev pub search_made : Kind → Bytes → SearchOptions → Shown × Sought → Form Command
+abbrev pub search_made : Kind → Bytes → SearchOptions → Shown × AreaRead → Form Command
 search_made kind key o x = done (search_of kind key o x)
 
 abbrev pub nearby_made : Bytes → SearchOptions → Shown × Point → Form Command
 nearby_made key o x = reach_of (nearby_of key o x)
 
-pub area_is_due : (next : Shown × Sought → Form Command) → (first : Reading Command) × (others : List (Reading Command)) × (output_and_area next [] ≡ first ∷ others) × Each IsWordDue (first ∷ others)
+pub area_is_due : (next : Shown × AreaRead → Form Command) → (first : Reading Command) × (others : List (Reading Command)) × (output_and_area next [] ≡ first ∷ others) × Each IsWordDue (first ∷ others)
 area_is_due next = (runs_out a_word, _, refl, (tt, (tt, (tt, (tt, (tt, (tt, (tt, (tt, (tt, tt))))))))))
 
 pub point_is_due : (next : Shown × Point → Form Command) → (first : Reading Command) × (others : List (Reading Command)) × (output_and_point next [] ≡ first ∷ others) × Each IsWordDue (first ∷ others)
 point_is_due next = (runs_out a_word, _, refl, (tt, (tt, (tt, (tt, (tt, (tt, tt)))))))
 
-module _ (kind : Kind) (old behind_key : Place) (key : Bytes) (a : Parses a_name old behind_key (Ok key)) (h : Follows old (a_name (behind_search kind))) (mid new : Place) (o : SearchOptions) (g : ReadsOptions false no_search_options behind_key mid (Ok o)) where
+module _ (kind : Kind) (old behind_key : Place) (key : Bytes) (a : Parses a_name old behind_key (Ok key)) (h : Follows old (a_name (behind_search kind))) (mid new : Place) (o : SearchOptions) (g : ReadsOptions (search_table false) no_search_options behind_key mid (Ok o)) where
   pub search_refused : (why : CommandFault) → ParsesAhead output_and_area mid new (Err why) → Answers (all_words old) (Err why)
   search_refused why r = form_refused output_and_area (search_made kind) (no_option_word kind) area_is_due old behind_key key a h mid o g new why r
 
-  module _ (x : Shown × Sought) (k : ParsesAhead output_and_area mid new (Ok x)) where
+  module _ (x : Shown × AreaRead) (k : ParsesAhead output_and_area mid new (Ok x)) where
     follows : Follows new (done (search_of kind key o x))
     follows = made_follows output_and_area (search_made kind) (no_option_word kind) area_is_due old behind_key key a h mid o g new x k
 
@@ -305,7 +306,7 @@ module _ (old mid : Place) (w : Bytes) (b : IsBehind w old mid) where
     pub reach_read : mid.left ≡ [] → ReadsReach old (Ok (Some n))
     reach_read l make h = subst (λ ws. reads ws ≡ Ok (make (Some n))) (moves w old mid b).words (finished mid (make (Some n)) l (reach_follows make h))
 
-module _ (old behind_key : Place) (key : Bytes) (a : Parses a_name old behind_key (Ok key)) (h : Follows old (a_name behind_nearby)) (mid new : Place) (o : SearchOptions) (g : ReadsOptions false no_search_options behind_key mid (Ok o)) where
+module _ (old behind_key : Place) (key : Bytes) (a : Parses a_name old behind_key (Ok key)) (h : Follows old (a_name behind_nearby)) (mid new : Place) (o : SearchOptions) (g : ReadsOptions (search_table false) no_search_options behind_key mid (Ok o)) where
   pub nearby_refused : (why : CommandFault) → ParsesAhead output_and_point mid new (Err why) → Answers (all_words old) (Err why)
   nearby_refused why r = form_refused output_and_point nearby_made no_option_point point_is_due old behind_key key a h mid o g new why r
 

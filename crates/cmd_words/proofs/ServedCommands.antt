@@ -3,7 +3,7 @@ use Rattle.std.proofs.Common.{◌≡◌, ◌<◌, Bool, true, false, not, refl, 
 use Rattle.std.specs.Prelude.{◌&&◌, Option, Some, None, is_none, unwrap_or, Result, Ok, Err, if◌then◌else◌, codes, IfSome, nat_lt}
 use Rattle.std.specs.List.{list_any, AllByRecursion}
 use Rattle.byte_text.specs.Names.{Bytes, is_word, is_name}
-use Rattle.world_model.specs.Grammar.{Form, Reading, spells, runs_out, done, word, maybe, ◌>>=◌, ◌>>◌, ◌or◌, repeated, once_or_more, live, spelled, a_word}
+use Rattle.world_model.specs.Grammar.{Form, Reading, spells, runs_out, done, word, maybe, ◌>>=◌, ◌>>◌, ◌or◌, where_, repeated, once_or_more, live, spelled, a_word}
 use Rattle.world_model.specs.Kinds.{name, glob, seconds, meters, lat_lon, four, geojson, when}
 use Rattle.world_data.specs.Limits.{max_tests}
 use Rattle.byte_text.specs.Globs.{is_well_formed}
@@ -12,6 +12,7 @@ use Rattle.world_model.specs.Served.{asks, unbuilt}
 use Rattle.world_model.specs.Sound.{IsSoundCommand, is_sound_from}
 use Rattle.world_data.specs.declared.channels.Kind.{Kind}
 use Rattle.world_data.specs.declared.channels.Kind.TheVariants.{Within, Intersects}
+use Rattle.world_data.specs.declared.channels.Watch.TheVariants as watch
 use Rattle.world_data.specs.declared.queries.Rule.TheVariants.{Kept, Nearest}
 use Rattle.world_data.specs.declared.queries.Shown.TheVariants as shown
 use Rattle.world_model.specs.declared.commands.Only.TheVariants.{Any}
@@ -154,29 +155,67 @@ makes_get : Makes Keeps table.get_command
 makes_get = makes_then Keeps (word (codes "GET")) _ (makes_bind IsName Keeps name _ makes_name (λ key k. makes_bind IsName Keeps name _ makes_name (λ id i. makes_behind Keeps (maybe false _) _ (λ with_fields.
     makes_bind IsOfObject Keeps (maybe shown.Objects table.as_objects) _ makes_output (λ how h. makes_done Keeps (command.Get key id with_fields how) (λ sound. (k, i, h)))))))
 
--- STATS
+-- STATS, SUBSCRIBE and PSUBSCRIBE
 
-abbrev AreNames : List Bytes → Type 0
-AreNames keys = AllByRecursion IsName keys
+module _ (Is : Bytes → Type 0) (kind : Form Bytes) (makes_one : Makes Is kind) where
+  abbrev AreSome : List Bytes → Type 0
+  AreSome words = (0 < length words) × AllByRecursion Is words
 
-abbrev SomeNames : List Bytes → Type 0
-SomeNames keys = (0 < length keys) × AreNames keys
+  one_more : (words : List Bytes) (w : Bytes) → AllByRecursion Is words → Is w → AreSome (words ++ w ∷ [])
+  one_more [] w all k = (omega arith, (k, tt))
+  one_more (other ∷ words) w all k = (omega arith, (all.0, (one_more words w all.1 k).1))
 
-names_more : (keys : List Bytes) (key : Bytes) → AreNames keys → IsName key → SomeNames (keys ++ key ∷ [])
-names_more [] key all k = (omega arith, (k, tt))
-names_more (other ∷ keys) key all k = (omega arith, (all.0, (names_more keys key all.1 k).1))
+  step : (read : List Bytes) → AllByRecursion Is read → Makes AreSome (kind >>= λ w. done (read ++ w ∷ []))
+  step read all = makes_bind Is AreSome kind _ makes_one (λ w k. makes_done AreSome (read ++ w ∷ []) (one_more read w all k))
 
-makes_names : Makes SomeNames (once_or_more (λ read. name >>= λ w. done (read ++ w ∷ [])) [])
-makes_names = makes_bind SomeNames SomeNames _ _ (step [] tt) (λ keys all. repeats keys all)
-  where
-    step : (read : List Bytes) → AreNames read → Makes SomeNames (name >>= λ w. done (read ++ w ∷ []))
-    step read all = makes_bind IsName SomeNames name _ makes_name (λ w k. makes_done SomeNames (read ++ w ∷ []) (names_more read w all k))
+  repeats : (words : List Bytes) → AreSome words → Makes AreSome (repeated (λ read. kind >>= λ w. done (read ++ w ∷ [])) words)
+  repeats words all = makes_repeated AreSome (λ read. kind >>= λ w. done (read ++ w ∷ [])) (λ read some. step read some.1) words all
 
-    repeats : (keys : List Bytes) → SomeNames keys → Makes SomeNames (repeated (λ read. name >>= λ w. done (read ++ w ∷ [])) keys)
-    repeats keys all = makes_repeated SomeNames (λ read. name >>= λ w. done (read ++ w ∷ [])) (λ read some. step read some.1) keys all
+  makes_words : Makes AreSome (once_or_more (λ read. kind >>= λ w. done (read ++ w ∷ [])) [])
+  makes_words = makes_bind AreSome AreSome _ _ (step [] tt) (λ words all. repeats words all)
+
+  makes_some : (called : Bytes) (make : List Bytes → Command) → ((words : List Bytes) → AreSome words → Keeps (make words)) → Makes Keeps (table.of_some called kind make)
+  makes_some called make keeps = makes_then Keeps (word called) _ (makes_bind AreSome Keeps _ _ makes_words (λ words all. makes_done Keeps (make words) (keeps words all)))
 
 makes_stats : Makes Keeps (table.of_some (codes "STATS") name command.Stats)
-makes_stats = makes_then Keeps (word (codes "STATS")) _ (makes_bind SomeNames Keeps _ _ makes_names (λ keys all. makes_done Keeps (command.Stats keys) (λ sound. all)))
+makes_stats = makes_some IsName name makes_name (codes "STATS") command.Stats (λ keys all sound. all)
+
+makes_subscribe : Makes Keeps (table.of_some (codes "SUBSCRIBE") name command.Subscribe)
+makes_subscribe = makes_some IsName name makes_name (codes "SUBSCRIBE") command.Subscribe (λ names all sound. all)
+
+makes_psubscribe : Makes Keeps (table.of_some (codes "PSUBSCRIBE") glob command.Psubscribe)
+makes_psubscribe = makes_some IsPattern glob makes_glob (codes "PSUBSCRIBE") command.Psubscribe (λ patterns all sound. all)
+
+-- SETCHAN: every channel that is read is sound
+
+makes_over : (called : Bytes) (kind : Kind) (channel : Bytes) → Makes Keeps (table.setchan_area called kind channel)
+makes_over called kind channel = makes_then Keeps (word called) _ (makes_behind Keeps name _ (λ key. makes_behind Keeps (repeated (table.fence_option false) table.no_fence_options) _ (λ o.
+    makes_behind Keeps (where_ o.fence table.area) _ (λ a. makes_done Keeps (table.setting channel called key o (watch.Spot kind a.area) a.words (Some a.from)) (λ sound. sound)))))
+
+makes_around : (channel key : Bytes) (o : table.FenceOptions) → Makes Keeps (table.near_area channel key o)
+makes_around channel key o =
+    first (makes_where Keeps (not o.nodwell) _ (makes_behind Keeps (word (codes "POINT") >> lat_lon) _ (λ p. makes_behind Keeps meters _ (λ r. makes_done Keeps _ (λ sound. sound))))) (
+    first (makes_where Keeps (is_none o.detect) _ (makes_behind Keeps (word (codes "ROAM") >> name) _ (λ other. makes_behind Keeps glob _ (λ pattern. makes_behind Keeps meters _ (λ r.
+    makes_done Keeps _ (λ sound. sound)))))) (makes_none Keeps))
+
+makes_near : (channel : Bytes) → Makes Keeps (table.setchan_near channel)
+makes_near channel = makes_then Keeps (word (codes "NEARBY")) _ (makes_behind Keeps name _ (λ key. makes_behind Keeps (repeated (table.fence_option true) table.no_fence_options) _ (λ o.
+    makes_where Keeps o.fence _ (makes_around channel key o))))
+
+makes_setchan : Makes Keeps table.setchan_command
+makes_setchan = makes_then Keeps (word (codes "SETCHAN")) _ (makes_behind Keeps name _ (λ channel.
+    first (makes_over (codes "WITHIN") Within channel) (first (makes_over (codes "INTERSECTS") Intersects channel) (first (makes_near channel) (makes_none Keeps)))))
+
+-- DELCHAN, PDELCHAN and CHANS
+
+makes_delchan : Makes Keeps (table.of_one (codes "DELCHAN") name command.Delchan)
+makes_delchan = makes_then Keeps (word (codes "DELCHAN")) _ (makes_bind IsName Keeps name _ makes_name (λ n k. makes_done Keeps (command.Delchan n) (λ sound. k)))
+
+makes_pdelchan : Makes Keeps (table.of_one (codes "PDELCHAN") glob command.Pdelchan)
+makes_pdelchan = makes_then Keeps (word (codes "PDELCHAN")) _ (makes_bind IsPattern Keeps glob _ makes_glob (λ pattern p. makes_done Keeps (command.Pdelchan pattern) (λ sound. p)))
+
+makes_chans : Makes Keeps (table.of_one (codes "CHANS") glob command.Chans)
+makes_chans = makes_then Keeps (word (codes "CHANS")) _ (makes_bind IsPattern Keeps glob _ makes_glob (λ pattern p. makes_done Keeps (command.Chans pattern) (λ sound. p)))
 
 -- the others
 
@@ -228,12 +267,12 @@ module _ (called : Bytes) (rest : List Bytes) where
       each_both (Said Keeps) _ _ ((makes_search (codes "WITHIN") Within).made (called ∷ rest)) (
       each_both (Said Keeps) _ _ ((makes_search (codes "INTERSECTS") Intersects).made (called ∷ rest)) (
       each_both (Said Keeps) _ _ (makes_nearby.made (called ∷ rest)) (
-      each_both (Said Keeps) _ _ (other (Said Keeps) (codes "SETCHAN") _ u.1.0) (
-      each_both (Said Keeps) _ _ (other (Said Keeps) (codes "DELCHAN") _ u.1.1.0) (
-      each_both (Said Keeps) _ _ (other (Said Keeps) (codes "PDELCHAN") _ u.1.1.1.0) (
-      each_both (Said Keeps) _ _ (other (Said Keeps) (codes "CHANS") _ u.1.1.1.1.0) (
-      each_both (Said Keeps) _ _ (other (Said Keeps) (codes "SUBSCRIBE") _ u.1.1.1.1.1.0) (
-      each_both (Said Keeps) _ _ (other (Said Keeps) (codes "PSUBSCRIBE") _ u.1.1.1.1.1.1.0) tt))))))))))))))))))))))))))
+      each_both (Said Keeps) _ _ (makes_setchan.made (called ∷ rest)) (
+      each_both (Said Keeps) _ _ (makes_delchan.made (called ∷ rest)) (
+      each_both (Said Keeps) _ _ (makes_pdelchan.made (called ∷ rest)) (
+      each_both (Said Keeps) _ _ (makes_chans.made (called ∷ rest)) (
+      each_both (Said Keeps) _ _ (makes_subscribe.made (called ∷ rest)) (
+      each_both (Said Keeps) _ _ (makes_psubscribe.made (called ∷ rest)) tt))))))))))))))))))))))))))
 
 said : (rs : List (Reading Command)) (c : Command) → Each (Said Keeps) rs → spelled (live rs) ≡ Some c → Keeps c
 said [] c all e = absurd cc

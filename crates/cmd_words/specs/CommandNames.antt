@@ -1,7 +1,8 @@
 -- The names of the commands.
-use Rattle.std.specs.Prelude.{◌≡◌, false, List, [], ◌∷◌, codes}
+use Rattle.std.specs.Prelude.{◌≡◌, true, false, List, [], ◌∷◌, codes}
 use Rattle.std.specs.List.{AllByRecursion}
 use Rattle.byte_text.specs.Names.{Bytes, is_word}
+use Rattle.cmd_words.specs.Progress.{Place}
 use Rattle.cmd_words.specs.declared.command_names.CommandName.{CommandName}
 use Rattle.cmd_words.specs.declared.command_names.CommandName.TheVariants as command
 
@@ -32,10 +33,11 @@ name_of command.Pdelchan = codes "PDELCHAN"
 name_of command.Chans = codes "CHANS"
 name_of command.Subscribe = codes "SUBSCRIBE"
 name_of command.Psubscribe = codes "PSUBSCRIBE"
+name_of command.Setchan = codes "SETCHAN"
 
 abbrev pub all_names : List CommandName
 all_names = command.Set ∷ command.Get ∷ command.Del ∷ command.Fset ∷ command.Fget ∷ command.Expire ∷ command.Persist ∷ command.Ttl ∷ command.Pdel ∷ command.Drop ∷ command.Keys ∷ command.Bounds ∷ command.Stats ∷ command.Flush ∷ command.Ping ∷ command.Quit ∷ command.Scan ∷ command.Within ∷ command.Intersects ∷ command.Nearby
-    ∷ command.Shrink ∷ command.Delchan ∷ command.Pdelchan ∷ command.Chans ∷ command.Subscribe ∷ command.Psubscribe ∷ []
+    ∷ command.Shrink ∷ command.Delchan ∷ command.Pdelchan ∷ command.Chans ∷ command.Subscribe ∷ command.Psubscribe ∷ command.Setchan ∷ []
 
 -- the word is the name of none of these commands
 abbrev pub AreOthers : Bytes → List CommandName → Type 0
@@ -44,7 +46,6 @@ AreOthers called commands = AllByRecursion (λ c. is_word called (name_of c) ≡
 abbrev pub IsNoName : Bytes → Type 0
 IsNoName called = AreOthers called all_names
 
--- the first word is no name of a command whose words are not read yet
-abbrev pub IsRead : List Bytes → Type 0
-IsRead [] = Unit {0}
-IsRead (called ∷ words) = is_word called (codes "SETCHAN") ≡ false
+-- the word that was read is the name of this command
+abbrev pub IsNamed : CommandName → Place → Type 0
+IsNamed command p = (called : Bytes) × (p.read ≡ called ∷ []) × (is_word called (name_of command) ≡ true)

@@ -7,7 +7,7 @@ use Rattle.geo_text.specs.Texts.{shape_of}
 use Rattle.world_data.specs.Filters.{are_fields}
 use Rattle.world_model.specs.Served.{asks}
 use Rattle.world_data.specs.Sound.{is_sound_area, is_sound_query}
-use Rattle.world_model.specs.Sound.{is_sound_reach}
+use Rattle.world_model.specs.Sound.{is_sound_reach, is_sound_setting}
 use Rattle.world_model.specs.declared.commands.AreaWords.{AreaWords}
 use Rattle.world_model.specs.declared.commands.AreaWords.TheVariants.{Given, Of}
 use Rattle.world_model.specs.declared.commands.Command.{Command}
@@ -63,7 +63,8 @@ pub record IsNearby (q : Query) (reach : Option ℕ) : Type 0 where
   pub within : is_sound_reach reach ≡ true
   pub named : IfSome q.glob (λ pattern. is_name pattern ≡ true)
 
--- the command is served: its keys, ids, field names and patterns are names; fields are in order and none is 0; a text has the shape
+-- the command is served: its keys, ids, field names and patterns are names, and so are the channels that it takes out or subscribes to;
+-- fields are in order and none is 0; a text has the shape; a channel that is put is sound
 abbrev pub IsServed : Command → Type 0
 IsServed (command.Set key id fields cleared seconds only text shape) = (is_name key ≡ true) × (is_name id ≡ true) × (are_fields fields ≡ true) × (shape_of text ≡ Ok shape)
 IsServed (command.Get key id with_fields how) = (is_name key ≡ true) × (is_name id ≡ true) × IsOfObject how
@@ -84,7 +85,13 @@ IsServed command.Quit = Unit {0}
 IsServed (command.Scan key q) = (is_name key ≡ true) × IsScan q
 IsServed (command.Search key q from) = (is_name key ≡ true) × IsSearch q from
 IsServed (command.Nearby key q at reach) = (is_name key ≡ true) × IsNearby q reach
-IsServed c = ⊥
+IsServed (command.Setchan c from) = is_sound_setting c from ≡ true
+IsServed (command.Delchan name) = is_name name ≡ true
+IsServed (command.Pdelchan pattern) = IsPattern pattern
+IsServed (command.Chans pattern) = IsPattern pattern
+IsServed (command.Subscribe names) = (0 < length names) × AllByRecursion (λ name. is_name name ≡ true) names
+IsServed (command.Psubscribe patterns) = (0 < length patterns) × AllByRecursion IsPattern patterns
+IsServed command.Shrink = ⊥
 
 -- what words ask for is served
 abbrev pub CommandsAreServed : Type 0

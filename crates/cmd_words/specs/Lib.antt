@@ -1,8 +1,13 @@
 pub mod Progress
 pub mod Sets
+pub mod Options
 pub mod SearchWords
+pub mod FenceWords
 pub mod Scans
 pub mod Areas
+pub mod FenceAreas
+pub mod Channels
+pub mod ListTexts
 pub mod Searches
 pub mod Laws
 pub mod ShortRequests

@@ -2,7 +2,7 @@
 use Rattle.std.specs.Prelude.{◌&&◌, ◌≡◌, ◌⊎◌, ◌<◌, ◌≤◌, Bool, true, false, List, [], ◌∷◌, ◌++◌, length, Option, Some, None, Result, Ok, Err, codes, ℕ, ℤ, take, drop, if◌then◌else◌}
 use Rattle.byte_text.specs.Names.{Bytes, is_word, is_name}
 use Rattle.byte_text.specs.Globs.{is_well_formed}
-use Rattle.world_model.specs.Grammar.{Form, Reading, spells, runs_out, Due, a_word, a_coordinate, a_geojson, ◌>>=◌, ◌>>◌, ◌or◌, done, maybe, repeated, word, live}
+use Rattle.world_model.specs.Grammar.{Form, Reading, spells, runs_out, Due, a_word, a_coordinate, a_geojson, ◌>>=◌, ◌>>◌, ◌or◌, done, maybe, word, live}
 use Rattle.world_model.specs.FormLaws.{Each}
 use Rattle.planar_geom.specs.Points.{Bounds, bounds, pt}
 use Rattle.world_model.specs.Kinds.{name, when, coordinate, coordinate_from}

@@ -7,7 +7,8 @@ use Rattle.world_data.specs.declared.queries.Shown.{Shown}
 use Rattle.world_data.specs.declared.queries.Shown.TheVariants as shown
 use Rattle.world_model.specs.declared.commands.Command.{Command}
 use Rattle.world_model.specs.declared.commands.Command.TheVariants as command
-use Rattle.cmd_words.specs.SearchWords.{options_then}
+use Rattle.cmd_words.specs.Options.{options_then}
+use Rattle.cmd_words.specs.SearchWords.{search_table}
 
 -- the SCAN that a key, the options and an output ask for
 abbrev pub scan_of : Bytes → SearchOptions → Shown → Command
@@ -19,4 +20,4 @@ scan_output key o = maybe shown.Objects output >>= λ how. done (scan_of key o h
 
 -- what stands behind SCAN's key
 abbrev pub behind_scan : Bytes → Form Command
-behind_scan key = options_then true no_search_options (scan_output key)
+behind_scan key = options_then (search_table true) no_search_options (scan_output key)

@@ -2,10 +2,9 @@
 use Rattle.std.specs.Prelude.{◌≡◌, ◌⊎◌, ℕ, false, Option, Some, None, Result, Ok, Err, codes}
 use Rattle.byte_text.specs.Names.{Bytes}
 use Rattle.planar_geom.specs.Points.{Point}
-use Rattle.planar_geom.specs.declared.shapes.Area.TheVariants.{Rect}
 use Rattle.world_model.specs.Grammar.{Form, ◌>>=◌, ◌>>◌, ◌or◌, done, maybe, word}
 use Rattle.world_model.specs.Kinds.{meters, lat_lon, four}
-use Rattle.world_model.specs.Commands.{SearchOptions, no_search_options, output, query_of, reads}
+use Rattle.world_model.specs.Commands.{AreaRead, SearchOptions, no_search_options, output, query_of, reads}
 use Rattle.world_data.specs.declared.channels.Kind.{Kind}
 use Rattle.world_data.specs.declared.queries.Rule.TheVariants.{Kept, Nearest}
 use Rattle.world_data.specs.declared.queries.Shown.{Shown}
@@ -13,29 +12,30 @@ use Rattle.world_data.specs.declared.queries.Shown.TheVariants as shown
 use Rattle.world_model.specs.declared.commands.Command.{Command}
 use Rattle.world_model.specs.declared.commands.Command.TheVariants as command
 use Rattle.cmd_words.specs.Progress.{Place, Follows, all_words, answers}
-use Rattle.cmd_words.specs.SearchWords.{options_then}
-use Rattle.cmd_words.specs.Areas.{Sought, an_area, given}
+use Rattle.cmd_words.specs.Options.{options_then}
+use Rattle.cmd_words.specs.SearchWords.{search_table}
+use Rattle.cmd_words.specs.Areas.{an_area, box_area}
 use Rattle.cmd_words.specs.declared.faults.CommandFault.{CommandFault}
 use Rattle.cmd_words.specs.declared.faults.CommandFault.TheVariants.{Memory}
 
 -- an output or none, and an area
-abbrev pub output_and_area : (Shown × Sought → Form Command) → Form Command
+abbrev pub output_and_area : (Shown × AreaRead → Form Command) → Form Command
 output_and_area next = maybe shown.Objects output >>= λ how. an_area (λ a. next (how, a))
 
 -- behind the word BOUNDS, which is an output where an area is next, and else an area itself
-abbrev pub box_or_area : (Shown × Sought → Form Command) → Form Command
-box_or_area next = (four >>= λ b. next (shown.Objects, given (Rect b))) or an_area (λ a. next (shown.Bounds, a))
+abbrev pub box_or_area : (Shown × AreaRead → Form Command) → Form Command
+box_or_area next = (four >>= λ b. next (shown.Objects, box_area b)) or an_area (λ a. next (shown.Bounds, a))
 
 -- the search of a key that the options, an output and an area ask for
-abbrev pub search_of : Kind → Bytes → SearchOptions → Shown × Sought → Command
-search_of kind key o x = command.Search key (query_of o x.0 (Kept kind x.1.0)) x.1.1
+abbrev pub search_of : Kind → Bytes → SearchOptions → Shown × AreaRead → Command
+search_of kind key o x = command.Search key (query_of o x.0 (Kept kind x.1.area)) x.1.from
 
 -- what stands behind the key of WITHIN or INTERSECTS
 abbrev pub search_area : Kind → Bytes → SearchOptions → Form Command
 search_area kind key o = output_and_area (λ x. done (search_of kind key o x))
 
 abbrev pub behind_search : Kind → Bytes → Form Command
-behind_search kind key = options_then false no_search_options (search_area kind key)
+behind_search kind key = options_then (search_table false) no_search_options (search_area kind key)
 
 -- POINT and a point
 abbrev pub a_point : (Point → Form Command) → Form Command
@@ -63,4 +63,4 @@ abbrev pub nearby_point : Bytes → SearchOptions → Form Command
 nearby_point key o = output_and_point (λ x. reach_of (nearby_of key o x))
 
 abbrev pub behind_nearby : Bytes → Form Command
-behind_nearby key = options_then false no_search_options (nearby_point key)
+behind_nearby key = options_then (search_table false) no_search_options (nearby_point key)

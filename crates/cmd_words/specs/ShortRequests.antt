@@ -7,11 +7,11 @@ use Rattle.byte_text.specs.Requests.{FitsRequest, total}
 pub record AreShort (words : List Bytes) : Type 0 where
   pub short : AllByRecursion (λ w. length w ≤ 255) words
 
-total_short : (words : List Bytes) → AllByRecursion (λ w. length w ≤ 255) words → total words ≤ 255 * length words
+pub total_short : (words : List Bytes) → AllByRecursion (λ w. length w ≤ 255) words → total words ≤ 255 * length words
 total_short [] s = omega arith
 total_short (w ∷ words) s = let rest = total_short words s.1 in omega (arith, s.0)
 
-each_short : (words : List Bytes) → AllByRecursion (λ w. length w ≤ 255) words → AllByRecursion (λ w. length w ≤ 1048576) words
+pub each_short : (words : List Bytes) → AllByRecursion (λ w. length w ≤ 255) words → AllByRecursion (λ w. length w ≤ 1048576) words
 each_short [] s = tt
 each_short (w ∷ words) s = (omega (arith, s.0), each_short words s.1)
 

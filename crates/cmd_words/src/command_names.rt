@@ -33,10 +33,11 @@ pub(crate) enum CommandName {
     Chans,
     Subscribe,
     Psubscribe,
+    Setchan,
 }
 
 // Those that are called most come first.
-const COMMANDS: [CommandName; 26] = [
+const COMMANDS: [CommandName; 27] = [
     CommandName::Set,
     CommandName::Get,
     CommandName::Del,
@@ -63,6 +64,7 @@ const COMMANDS: [CommandName; 26] = [
     CommandName::Chans,
     CommandName::Subscribe,
     CommandName::Psubscribe,
+    CommandName::Setchan,
 ];
 
 impl CommandName {
@@ -97,6 +99,7 @@ impl CommandName {
             CommandName::Chans => b"CHANS",
             CommandName::Subscribe => b"SUBSCRIBE",
             CommandName::Psubscribe => b"PSUBSCRIBE",
+            CommandName::Setchan => b"SETCHAN",
         }
     }
 }

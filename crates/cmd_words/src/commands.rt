@@ -7,7 +7,7 @@ ghost use Rattle.world_model.specs.Grammar.{done};
 ghost use Rattle.world_model.specs.declared.commands.Command.TheVariants as command;
 ghost use Rattle.world_model.specs.Commands.{reads};
 ghost use Rattle.world_model.specs.Served.{asks, is_served, unbuilt};
-ghost use Rattle.cmd_words.specs.CommandNames.{name_of, IsRead};
+ghost use Rattle.cmd_words.specs.CommandNames.{IsNamed};
 ghost use Rattle.cmd_words.specs.Progress.{IfRefused, all_words, Follows, Answers, a_name, key_and_id, get_options};
 
 use crate::command_names::{CommandName, command_named};
@@ -18,6 +18,7 @@ use crate::patterns::{chans_command, keys_command, pdel_command, pdelchan_comman
 use crate::request_reader::Reader;
 use crate::scans::scan_command;
 use crate::searches::{nearby_command, search_command};
+use crate::setchans::setchan_command;
 use crate::sets::set_command;
 use byte_text::Request;
 use std::alloc::Global;
@@ -48,29 +49,13 @@ fn is_served(words: &Request) -> bool
 fn is_unbuilt(called: &[u8]) -> bool
     ensures { result ≡ list_any (is_word called.now) unbuilt }
 {
-    let names: [&[u8]; 7] = [
-        b"AOFSHRINK",
-        b"SETCHAN",
-        b"DELCHAN",
-        b"PDELCHAN",
-        b"CHANS",
-        b"SUBSCRIBE",
-        b"PSUBSCRIBE",
-    ];
-    is_any(called, &names)
-}
-
-// Whether this is one of these names, in any case of its ASCII letters.
-fn is_any(called: &[u8], names: &[&[u8]]) -> bool
-    ensures { result ≡ list_any (λ n. is_word called.now n.now) names.now }
-{
-    names.iter().any(|name| called.eq_ignore_ascii_case(name))
+    called.eq_ignore_ascii_case(b"AOFSHRINK")
 }
 
 /// The command that the words of a request spell, or how they are refused, whether it is served or not.
-pub(crate) fn read_command(alloc: Global, words: &Request) -> Result<Command, CommandFault>
-    ensures ok { IsRead words.now → IfOk result (λ c. reads words.now ≡ Ok c) }
-    ensures err { IsRead words.now → IfErr result (λ why. IfRefused why (λ fault. reads words.now ≡ Err fault)) }
+pub fn read_command(alloc: Global, words: &Request) -> Result<Command, CommandFault>
+    ensures ok { IfOk result (λ c. reads words.now ≡ Ok c) }
+    ensures err { IfErr result (λ why. IfRefused why (λ fault. reads words.now ≡ Err fault)) }
 {
     let mut reader = Reader::new(alloc, words);
     let Some(called) = reader.next() else {
@@ -84,7 +69,8 @@ pub(crate) fn read_command(alloc: Global, words: &Request) -> Result<Command, Co
 
 // Reads the words behind the name of this command.
 fn read_named(reader: &mut Reader, name: CommandName) -> Result<Command, CommandFault>
-    ensures { (called : Bytes) → reader.old.read ≡ called ∷ [] → is_word called (name_of name) ≡ true → Answers (all_words reader.old) result }
+    requires { IsNamed name reader.old }
+    ensures { Answers (all_words reader.old) result }
 {
     match name {
         CommandName::Set => set_command(reader),
@@ -113,6 +99,7 @@ fn read_named(reader: &mut Reader, name: CommandName) -> Result<Command, Command
         CommandName::Chans => chans_command(reader),
         CommandName::Subscribe => subscribe_command(reader),
         CommandName::Psubscribe => psubscribe_command(reader),
+        CommandName::Setchan => setchan_command(reader),
     }
 }
 

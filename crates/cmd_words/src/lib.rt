@@ -2,12 +2,16 @@
 #![tactic(auto)]
 
 mod areas;
+mod channel_words;
 mod command_names;
 mod commands;
 mod conditions;
 mod faults;
+mod fence_areas;
+mod fence_options;
 mod fields;
 mod laws;
+mod listed_names;
 mod name_lists;
 mod object_places;
 mod objects;
@@ -18,11 +22,12 @@ mod scans;
 mod search_options;
 mod searches;
 mod set_options;
+mod setchans;
 mod sets;
 #[cfg(test)]
 mod tests;
 mod word_kinds;
 
-pub use commands::command_of;
+pub use commands::{command_of, read_command};
 pub use faults::CommandFault;
 pub use laws::served_commands;

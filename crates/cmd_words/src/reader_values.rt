@@ -5,9 +5,11 @@ ghost use Rattle.planar_geom.specs.Points.{pt, bounds, IsCoordinate};
 ghost use Rattle.world_data.specs.Limits.{max_coord};
 ghost use Rattle.world_model.specs.Kinds as kinds;
 ghost use Rattle.world_model.specs.Commands.{field as a_field};
+ghost use Rattle.cmd_words.specs.FenceWords.{names_of};
 ghost use Rattle.cmd_words.specs.Progress.{Reads, ReadsBeside, behind_min_lat};
 
 use crate::faults::CommandFault;
+use crate::listed_names::{ListKind, ListedNames};
 use crate::request_reader::Reader;
 use crate::word_kinds::{
     read_between, read_bound, read_coordinate, read_geojson, read_glob, read_integer,
@@ -121,6 +123,16 @@ impl<'a> Reader<'a> {
         let max_lat = self.coordinate_from(min_lat)?;
         let max_lon = self.coordinate_from(min_lon)?;
         Ok(box_between(min_lon, min_lat, max_lon, max_lat))
+    }
+
+    /// Reads a list of DETECT or COMMANDS.
+    pub(crate) fn list_of(&mut self, kind: ListKind) -> Result<ListedNames, CommandFault>
+        ensures { Reads (kinds.list_of (names_of kind)) self.old self.new result }
+    {
+        match self.next() {
+            Some(word) => ListedNames::of(self.alloc(), word, kind),
+            None => Err(self.wrong_count()),
+        }
     }
 
     /// Reads a field's name and value.

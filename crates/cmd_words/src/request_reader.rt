@@ -1,6 +1,7 @@
 //! A reader of a request's words, from left to right: one function a kind of word.
 
-ghost use Rattle.std.specs.Prelude.{◌≡◌, [], MatchOption};
+ghost use Rattle.std.specs.Prelude.{◌≡◌, [], length, MatchOption};
+ghost use Rattle.byte_text.specs.Requests.{FitsRequest};
 ghost use Rattle.world_model.specs.Commands.{wrong_count as count_fault, shown_of};
 ghost use Rattle.world_model.specs.declared.faults.WordFault.TheVariants as fault;
 ghost use Rattle.cmd_words.specs.Progress.{start, all_words, IsBehind, IsFault, Parses, Took, TookDue, a_name, key_and_id, ReadsShown, IsEnd, IsRefusal};
@@ -47,6 +48,14 @@ impl<'a> Reader<'a> {
     /// The allocator of what is read.
     pub(crate) fn alloc(&self) -> Global {
         self.alloc
+    }
+
+    /// How many words there are, read and left, which are within the limits of a request.
+    pub(crate) fn len(&self) -> usize
+        ensures count { result ≡ length (all_words self.now) }
+        ensures fits { FitsRequest (all_words self.now) }
+    {
+        self.words.words()
     }
 
     /// The next word; none where the words have run out.

@@ -3,7 +3,8 @@
 ghost use Rattle.std.specs.Prelude.{◌≡◌, ◌∷◌, [], ◌++◌, Some, IfErr, OnOk};
 ghost use Rattle.world_model.specs.Commands.{no_search_options, query_of};
 ghost use Rattle.cmd_words.specs.Progress.{Reads};
-ghost use Rattle.cmd_words.specs.SearchWords.{behind_word, with_test, TakesOption, ReadsOptions};
+ghost use Rattle.cmd_words.specs.Options.{TakesOption, ReadsOptions};
+ghost use Rattle.cmd_words.specs.SearchWords.{behind_word, with_test, search_table};
 
 use crate::faults::CommandFault;
 use crate::request_reader::Reader;
@@ -104,7 +105,7 @@ pub(crate) fn read_options(
     reader: &mut Reader,
     ordered: bool,
 ) -> Result<SearchOptions, CommandFault>
-    ensures { ReadsOptions ordered no_search_options reader.old reader.new result }
+    ensures { ReadsOptions (search_table ordered) no_search_options reader.old reader.new result }
 {
     let mut options = SearchOptions::new(reader.alloc());
     'options: while let Some(option) = option_word(reader, ordered, &options) {
@@ -115,7 +116,7 @@ pub(crate) fn read_options(
 
 // Reads the word that an option begins with, where such an option is next and may still come.
 fn option_word(reader: &mut Reader, ordered: bool, options: &SearchOptions) -> Option<SearchWord>
-    ensures { TakesOption ordered options.now reader.old reader.new result }
+    ensures { TakesOption (search_table ordered) options.now reader.old reader.new result }
 {
     let may_turn = ordered && options.down.is_none();
     let may_test = options.tests.len() < MAX_TESTS;

@@ -4,14 +4,14 @@ ghost use Rattle.std.specs.Prelude.{◌≡◌};
 ghost use Rattle.cmd_words.specs.Progress.{all_words, Follows, Answers, Parses, ParsesAhead, a_name};
 ghost use Rattle.cmd_words.specs.Searches.{behind_search, behind_nearby, output_and_area, box_or_area, output_and_point, ReadsReach};
 
-use crate::areas::{area_word, read_area, read_behind, rect_area};
+use crate::areas::{SoughtArea, area_word, read_area, read_behind, rect_area};
 use crate::faults::CommandFault;
 use crate::request_reader::Reader;
 use crate::search_options::read_options;
 use crate::word_kinds::read_meters;
-use planar_geom::{Area, Pt};
+use planar_geom::Pt;
 use world_data::Kind;
-use world_model::{AreaWords, Command, Rule, Shown};
+use world_model::{Command, Rule, Shown};
 
 /// `key`, the options, an output, and an area.
 pub(crate) fn search_command(reader: &mut Reader, kind: Kind) -> Result<Command, CommandFault>
@@ -19,17 +19,18 @@ pub(crate) fn search_command(reader: &mut Reader, kind: Kind) -> Result<Command,
 {
     let key = reader.name()?;
     let options = read_options(reader, false)?;
-    let (shown, (sought, from)) = read_output_and_area(reader)?;
+    let (shown, sought) = read_output_and_area(reader)?;
     reader.end()?;
+    let (area, from) = sought.parts();
     Ok(Command::Search {
         key,
-        query: options.query(Rule::Kept(kind, sought), shown),
+        query: options.query(Rule::Kept(kind, area), shown),
         area: from,
     })
 }
 
 // Reads an output or none, and an area. The word BOUNDS may be either.
-fn read_output_and_area(reader: &mut Reader) -> Result<(Shown, (Area, AreaWords)), CommandFault>
+fn read_output_and_area(reader: &mut Reader) -> Result<(Shown, SoughtArea), CommandFault>
     ensures { ParsesAhead output_and_area reader.old reader.new result }
 {
     if reader.takes(b"BOUNDS") {
@@ -41,7 +42,7 @@ fn read_output_and_area(reader: &mut Reader) -> Result<(Shown, (Area, AreaWords)
 }
 
 // Reads what stands behind the word BOUNDS: an area where one is next, so that the word was an output, and else the numbers of a box.
-fn read_box_or_area(reader: &mut Reader) -> Result<(Shown, (Area, AreaWords)), CommandFault>
+fn read_box_or_area(reader: &mut Reader) -> Result<(Shown, SoughtArea), CommandFault>
     ensures { Parses box_or_area reader.old reader.new result }
 {
     match area_word(reader) {

@@ -1,13 +1,12 @@
 //! Lines of words, read.
 
-use crate::commands::read_command;
-use crate::{CommandFault, command_of};
+use crate::{CommandFault, command_of, read_command};
 use byte_text::{Name, NoMemory, Request, Text, push_i64, push_u64};
 use geojson_model::GeoFault;
 use planar_geom::{Area, Pt};
 use std::alloc::Global;
 use std::test::Fail;
-use world_data::Kind;
+use world_data::{Channel, Kind, Watch};
 use world_model::{
     AreaWords, Command, Fields, NameList, Numbers, Only, Query, Rule, Shown, Test, WordFault,
 };
@@ -245,9 +244,49 @@ fn push_one(out: &mut Text, called: &str, name: &Name) -> Result<(), NoMemory> {
     out.push(name.bytes())
 }
 
+fn kind_text(kind: Kind) -> &'static str {
+    match kind {
+        Kind::Within => " within",
+        Kind::Intersects => " intersects",
+        Kind::Near => " near",
+    }
+}
+
+fn push_watch(out: &mut Text, watch: &Watch) -> Result<(), NoMemory> {
+    match watch {
+        Watch::Spot(kind, area) => {
+            out.push(kind_text(*kind).as_bytes())?;
+            push_area(out, area)
+        }
+        Watch::Roam(key, glob, meters, nodwell) => {
+            push_two(out, " roam ", key, glob)?;
+            push_count(out, " ", *meters as u64)?;
+            out.push(if *nodwell { b" once" } else { b" often" })
+        }
+    }
+}
+
+// The normal words of a channel, what it watches, and where its area is from.
+fn push_setchan(
+    out: &mut Text,
+    channel: &Channel,
+    area: &Option<AreaWords>,
+) -> Result<(), NoMemory> {
+    push_one(out, "setchan ", &channel.name)?;
+    for at in 0..channel.words.words() {
+        out.push(b" ")?;
+        out.push(channel.words.word(at))?;
+    }
+    match area {
+        Some(AreaWords::Of(key, id)) => push_two(out, " of ", key, id),
+        _ => push_watch(out, &channel.fence.watch),
+    }
+}
+
 // A command of channels or of subscriptions.
 fn push_channels(out: &mut Text, command: &Command) -> Result<(), NoMemory> {
     match command {
+        Command::Setchan { channel, area } => push_setchan(out, channel, area),
         Command::Delchan { name } => push_one(out, "delchan ", name),
         Command::Pdelchan { glob } => push_one(out, "pdelchan ", glob),
         Command::Chans { glob } => push_one(out, "chans ", glob),
@@ -500,6 +539,72 @@ fn channels_are_read(rt: HostRuntime) -> Result<(), Fail> {
     lines_are_read(rt.alloc(), &table)
 }
 
+#[test]
+fn fences_are_read(rt: HostRuntime) -> Result<(), Fail> {
+    let table = [
+        (
+            "setchan z within fleet detect Exit,enter,EXIT fence match t* bounds 1 2 3 4",
+            "setchan z WITHIN fleet MATCH t* FENCE DETECT enter,exit BOUNDS 1 2 3 4 within box",
+        ),
+        (
+            "SETCHAN z INTERSECTS k FENCE DETECT cross,exit,enter,outside,inside COMMANDS drop,set CIRCLE 1 2 3",
+            "setchan z INTERSECTS k FENCE COMMANDS set,drop CIRCLE 1 2 3 intersects disc 1 2 3",
+        ),
+        (
+            "SETCHAN z WITHIN k FENCE GET fleet truck",
+            "setchan z WITHIN k FENCE of fleet truck",
+        ),
+        (
+            "SETCHAN z WITHIN k FENCE OBJECT {\"type\":\"Point\",\"coordinates\":[1,2]}",
+            "setchan z WITHIN k FENCE OBJECT {\"type\":\"Point\",\"coordinates\":[1,2]} within figure",
+        ),
+        (
+            "SETCHAN z NEARBY k WHERE v inf inf FENCE WHEREIN w 2 -1 4 POINT -1 2 3",
+            "setchan z NEARBY k WHERE v -inf +inf WHEREIN w 2 -1 4 FENCE POINT -1 2 3 near disc -1 2 3",
+        ),
+        (
+            "SETCHAN z NEARBY k nodwell COMMANDS set,del,drop FENCE roam fleet t* 100",
+            "setchan z NEARBY k FENCE NODWELL ROAM fleet t* 100 roam fleet t* 100 once",
+        ),
+        (
+            "SETCHAN z NEARBY k FENCE ROAM k * 0",
+            "setchan z NEARBY k FENCE ROAM k * 0 roam k * 0 often",
+        ),
+    ];
+    lines_are_read(rt.alloc(), &table)
+}
+
+#[test]
+fn fences_are_refused(rt: HostRuntime) -> Result<(), Fail> {
+    let table = [
+        ("SETCHAN z", "wrong count setchan"),
+        ("SETCHAN z NEAR k", "invalid NEAR"),
+        ("SETCHAN z WITHIN k BOUNDS 1 2 3 4", "invalid BOUNDS"),
+        ("SETCHAN z WITHIN k FENCE FENCE", "invalid FENCE"),
+        ("SETCHAN z WITHIN k FENCE", "wrong count setchan"),
+        ("SETCHAN z WITHIN k FENCE NODWELL", "invalid NODWELL"),
+        ("SETCHAN z WITHIN k FENCE POINT 1 2 3", "invalid POINT"),
+        (
+            "SETCHAN z WITHIN k FENCE BOUNDS 1 2 3 4 5",
+            "wrong count setchan",
+        ),
+        ("SETCHAN z WITHIN k DETECT enter,", "invalid enter,"),
+        ("SETCHAN z WITHIN k DETECT Set", "invalid Set"),
+        ("SETCHAN z WITHIN k COMMANDS fset", "invalid fset"),
+        ("SETCHAN z WITHIN k DETECT exit DETECT", "invalid DETECT"),
+        ("SETCHAN z NEARBY k POINT 1 2 3", "invalid POINT"),
+        ("SETCHAN z NEARBY k FENCE POINT 1.5 2", "fraction 1.5"),
+        ("SETCHAN z NEARBY k FENCE POINT 1 2", "wrong count setchan"),
+        ("SETCHAN z NEARBY k FENCE NODWELL POINT", "invalid POINT"),
+        ("SETCHAN z NEARBY k FENCE DETECT exit ROAM", "invalid ROAM"),
+        ("SETCHAN z NEARBY k DETECT exit NODWELL", "invalid NODWELL"),
+        ("SETCHAN z NEARBY k NODWELL DETECT", "invalid DETECT"),
+        ("SETCHAN z NEARBY k FENCE ROAM k [ 1", "invalid ["),
+        ("SETCHAN z NEARBY k FENCE ROAM k * -1", "invalid -1"),
+    ];
+    lines_are_read(rt.alloc(), &table)
+}
+
 // Whether a line asks for what is not served yet.
 fn is_unserved(alloc: Global, line: &str) -> Result<bool, Fail> {
     let words = request(alloc, line)?;
@@ -510,11 +615,11 @@ fn is_unserved(alloc: Global, line: &str) -> Result<bool, Fail> {
 }
 
 #[test]
-fn some_commands_are_not_served(rt: HostRuntime) -> Result<(), Fail> {
-    assert!(rt; is_unserved(rt.alloc(), "Subscribe z")?);
-    assert!(rt; is_unserved(rt.alloc(), "SETCHAN")?);
-    assert!(rt; !is_unserved(rt.alloc(), "PING")?);
-    assert!(rt; !is_unserved(rt.alloc(), "SETS z")?);
+fn one_command_is_not_served(rt: HostRuntime) -> Result<(), Fail> {
+    assert!(rt; is_unserved(rt.alloc(), "AofShrink")?);
+    assert!(rt; is_unserved(rt.alloc(), "AOFSHRINK now")?);
+    assert!(rt; !is_unserved(rt.alloc(), "SUBSCRIBE z")?);
+    assert!(rt; !is_unserved(rt.alloc(), "AOF z")?);
     Ok(())
 }
 

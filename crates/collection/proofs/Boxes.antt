@@ -8,7 +8,7 @@ use Rattle.planar_geom.specs.Points.{Point, Bounds, bounds, with_point, box_roun
 use Rattle.planar_geom.specs.Shapes.{all_vertices, box_of_points}
 use Rattle.world_data.specs.declared.objects.Object.{Object}
 use Rattle.collection.specs.Objects.{bounds_of}
-use Rattle.collection.proofs.Slots.{drop_next}
+use Rattle.byte_text.specs.ListLaws.{drop_next}
 
 least : (b l h p : ℤ) → l ≤ℤ h → int_min (int_min (int_min b l) h) p ≡ int_min (int_min b (int_min l p)) (int_max h p)
 least b l h p le = omega (arith, ints, int_min_is b l, int_min_is (int_min b l) h, int_min_is (int_min (int_min b l) h) p, int_min_is l p, int_max_is h p, int_min_is b (int_min l p), int_min_is (int_min b (int_min l p)) (int_max h p))

@@ -1,5 +1,5 @@
 -- The keys of objects that have a deadline, as an object comes or goes.
-use Rattle.std.proofs.Common.{◌≡◌, ◌≢◌, ◌<◌, ◌≤◌, ◌+◌, ℕ, zero, suc, Bool, true, false, refl, sym, ap, ◌∙◌, subst, List, [], ◌∷◌, length, get_or, arith}
+use Rattle.std.proofs.Common.{◌≡◌, ◌≢◌, ◌<◌, ◌≤◌, ◌+◌, ℕ, Bool, true, false, refl, sym, ap, ◌∙◌, subst, List, [], ◌∷◌, length, get_or, arith}
 use Rattle.std.specs.Prelude.{Option, Some, None, is_some, nat_eq, nat_lt, not, ◌&&◌, ◌||◌}
 use Rattle.std.specs.List.{list_all, insert, remove}
 use Rattle.std.proofs.lemmas.Bool.Decides.{nat_tests}
@@ -10,9 +10,9 @@ use Rattle.ordered_lists.specs.Reading.{both_of}
 use Rattle.world_data.specs.Expiry.{deadline_of}
 use Rattle.world_data.specs.declared.objects.Object.{Object}
 use Rattle.collection.specs.Objects.{id_before, are_by_id}
-use Rattle.collection.specs.Deadlines.{expires_before, slot_before, is_expiring, is_among, due_order, AreDues}
-use Rattle.collection.specs.Slotted.{objects_at, are_stored, are_apart, AreSlotted}
-use Rattle.collection.proofs.Numbers.{itself, all_among, among_all, among_insert, among_remove, fits, apart_of, later_one}
+use Rattle.collection.specs.Deadlines.{slot_before, is_expiring, is_among, due_order, AreDues}
+use Rattle.collection.specs.Slotted.{objects_at, are_stored, are_apart}
+use Rattle.collection.proofs.Numbers.{itself, all_among, among_insert, among_remove, fits, apart_of}
 use Rattle.collection.proofs.Slots.{some_of}
 
 -- numbers, and where they are equal something else, compared

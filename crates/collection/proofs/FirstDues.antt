@@ -1,5 +1,5 @@
 -- The object that expires first, and its place by id.
-use Rattle.std.proofs.Common.{◌≡◌, ◌<◌, ◌≤◌, ℕ, zero, suc, Bool, true, false, refl, sym, ap, ◌∙◌, subst, List, [], ◌∷◌, length, take, drop, get_or, arith}
+use Rattle.std.proofs.Common.{◌≡◌, ◌<◌, ℕ, zero, suc, Bool, true, false, refl, sym, ap, ◌∙◌, subst, List, [], ◌∷◌, length, take, drop, get_or, arith}
 use Rattle.std.specs.Prelude.{Option, Some, None, is_some, nat_eq, nat_lt, nat_le, not, ◌&&◌, ◌||◌, ◌==◌, slice_get, IfSome}
 use Rattle.std.specs.List.{list_all, list_any}
 use Rattle.std.proofs.lemmas.Bool.Decides.{nat_tests}
@@ -7,15 +7,14 @@ use Rattle.byte_text.specs.Names.{before}
 use Rattle.byte_text.specs.ByteOrder.{before_asym, before_self}
 use Rattle.ordered_lists.specs.Lists.{ascends}
 use Rattle.ordered_lists.specs.Reading.{both_of}
-use Rattle.world_data.specs.Expiry.{deadline_of}
 use Rattle.world_data.specs.declared.objects.Object.{Object}
 use Rattle.collection.specs.Objects.{id_before, are_by_id, least_due}
-use Rattle.collection.specs.Deadlines.{has_deadline, IsFirst, FirstDue, expires_before, slot_before, is_expiring, is_among, due_order, AreDues}
+use Rattle.collection.specs.Deadlines.{has_deadline, FirstDue, expires_before, slot_before, is_expiring, is_among, due_order, AreDues}
 use Rattle.collection.specs.Slotted.{objects_at, are_stored}
 use Rattle.collection.proofs.Numbers.{itself, all_among, among_all}
 use Rattle.collection.proofs.Least.{no_sooner, none_least, least_at}
-use Rattle.collection.proofs.Slots.{some_of, get_at}
-use Rattle.collection.proofs.Dues.{passes, slots_all, all_slots}
+use Rattle.collection.proofs.Slots.{get_at}
+use Rattle.collection.proofs.Dues.{passes, all_slots}
 
 index_of : (k : ℕ) (ks : List ℕ) → is_among k ks ≡ true → (i : ℕ) × ((i < length ks) × (k ≡ get_or ks i 0))
 index_of k [] any = absurd (cc)

@@ -1,7 +1,10 @@
 pub mod Boxes
 pub mod Dues
 pub mod FirstDues
+pub mod InTree
 pub mod Least
+pub mod Nearest
 pub mod Numbers
+pub mod Placing
 pub mod Rooms
 pub mod Slots

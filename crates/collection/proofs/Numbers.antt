@@ -1,7 +1,7 @@
 -- Lists of numbers, no number twice: what is among them, and their places in an order.
-use Rattle.std.proofs.Common.{◌≡◌, ◌<◌, ◌≤◌, ◌+◌, ℕ, zero, suc, Bool, true, false, refl, sym, ap, ◌∙◌, subst, List, [], ◌∷◌, length, take, drop, get_or, arith}
+use Rattle.std.proofs.Common.{◌≡◌, ◌<◌, ◌≤◌, ◌+◌, ℕ, zero, suc, Bool, true, false, refl, sym, ap, ◌∙◌, List, [], ◌∷◌, length, take, drop, get_or, arith}
 use Rattle.std.specs.Prelude.{nat_eq, not, ◌&&◌, ◌||◌, filter, slice_get, IfSome, if◌then◌else◌}
-use Rattle.std.specs.List.{list_all, list_any, insert, remove}
+use Rattle.std.specs.List.{list_all, insert, remove}
 use Rattle.std.proofs.lemmas.Bool.Decides.{nat_tests}
 use Rattle.ordered_lists.specs.Lists.{ascends}
 use Rattle.ordered_lists.specs.Reading.{both_of}

@@ -17,6 +17,6 @@ pub room_left : (spare : ℕ) (b : Bool) → (nat_le 1 spare || b) ≡ true → 
 room_left spare b room e = grind (arith, nat_tests)
 
 -- the room where an object was taken out
-pub room_removed : (used left capacity spare spare-after total total-after keys keys-after : ℕ) → left + 1 ≡ used → left + 1 ≤ capacity → spare-after ≡ spare + 1 → total-after ≡ total → keys-after + 1 ≡ keys → keys ≤ total
-    → min (min (capacity - left) spare-after) (total-after - keys-after) ≡ min (min (capacity - used) spare) (total - keys) + 1
-room_removed used left capacity spare spare-after total total-after keys keys-after a b c d e f = omega (arith, a, b, c, d, e, f)
+pub room_removed : (boxes boxes-after used left capacity spare spare-after total total-after keys keys-after : ℕ) → left + 1 ≡ used → left + 1 ≤ capacity → spare-after ≡ spare + 1 → total-after ≡ total → keys-after + 1 ≡ keys → keys ≤ total → boxes-after ≡ boxes + 1
+    → min (min (min (capacity - left) spare-after) (total-after - keys-after)) boxes-after ≡ min (min (min (capacity - used) spare) (total - keys)) boxes + 1
+room_removed boxes boxes-after used left capacity spare spare-after total total-after keys keys-after a b c d e f g = omega (arith, a, b, c, d, e, f, g)

@@ -1,5 +1,5 @@
 -- A list of keys of objects in slots: an edit of the keys and their slots is an edit of the objects.
-use Rattle.std.proofs.Common.{◌≡◌, ◌≢◌, ◌<◌, ◌≤◌, ◌+◌, ℕ, zero, suc, Bool, true, false, refl, sym, ap, ◌∙◌, subst, List, [], ◌∷◌, ◌++◌, length, take, drop, get_or, add-one, arith}
+use Rattle.std.proofs.Common.{◌≡◌, ◌≢◌, ◌<◌, ◌≤◌, ◌+◌, ℕ, zero, suc, Bool, true, false, refl, sym, ap, ◌∙◌, subst, List, [], ◌∷◌, ◌++◌, length, take, drop, get_or, arith}
 use Rattle.std.specs.Prelude.{Option, Some, None, is_some, IsSome, nat_eq, not, ◌&&◌, ◌||◌, slice_get}
 use Rattle.std.specs.List.{list_all, list_any, insert, remove, slice_set}
 use Rattle.std.proofs.lemmas.Bool.Decides.{nat_tests}
@@ -284,15 +284,6 @@ module _ (f : ℕ → Option Object) (id : Bytes) where
   behind_at (k ∷ ks) (suc n) all behind =
       let q = both_of (is_some (f k)) (are_stored f ks) all in
       rw (some_of (f k) q.0).1 (behind_at ks n q.1 behind)
-
--- one object, and those behind it
-pub drop_next : (xs : List Object) (i : ℕ) (x : Object) → slice_get xs i ≡ Some x → drop i xs ≡ x ∷ drop (i + 1) xs
-drop_next xs i x is = rw (add-one i) (next xs i x is)
-  where
-    next : (xs : List Object) (i : ℕ) (x : Object) → slice_get xs i ≡ Some x → drop i xs ≡ x ∷ drop (suc i) xs
-    next [] i x is = absurd (cc)
-    next (y ∷ xs) zero x is = let s : y ≡ x = cc in ap (λ (o : Object). o ∷ xs) s
-    next (y ∷ xs) (suc i) x is = next xs i x is
 
 pub first_behind : (q : Object → Bool) (xs : List Object) (i : ℕ) (x : Object) → slice_get xs i ≡ Some x → list_all (λ o. not (q o)) (drop i xs) ≡ true → q x ≡ false
 first_behind q [] i x is behind = absurd (cc)

@@ -1,4 +1,8 @@
 pub mod Objects
 pub mod Deadlines
 pub mod IdOrder
+pub mod Boxed
 pub mod Slotted
+pub mod Places
+pub mod PlaceLaws
+pub mod Nearing

@@ -4,7 +4,9 @@ use Rattle.std.specs.List.{list_all, list_any}
 use Rattle.byte_text.specs.Names.{Bytes, before}
 use Rattle.world_data.specs.declared.objects.Object.{Object}
 use Rattle.run_list.specs.Runs.{Sequence}
+use Rattle.rtree.specs.Trees.{Seen}
 use Rattle.collection.specs.Deadlines.{AreDues}
+use Rattle.collection.specs.Boxed.{AreInTree}
 
 -- the objects that these keys have
 abbrev pub objects_at : (ℕ → Option Object) → List ℕ → List Object
@@ -29,12 +31,13 @@ abbrev pub stands_before : Bytes → Option Object → Bool
 stands_before id None = false
 stands_before id (Some o) = before o.id id
 
--- keys of objects, those of objects with a deadline once more, and room for all to have one
-pub record AreKept (slots : ℕ → Option Object) (keys : List ℕ) (dues : Sequence) : Type 0 where
+-- keys of objects, those of objects with a deadline once more, and room for all to have one, and a tree of the objects' boxes
+pub record AreKept (slots : ℕ → Option Object) (keys : List ℕ) (dues : Sequence) (boxes : Seen) : Type 0 where
   pub slotted : AreSlotted slots keys
   pub expiring : AreDues slots keys dues.items
   pub room : length keys ≤ length dues.items + dues.spare
+  pub in_tree : AreInTree slots keys boxes.pairs
 
--- for how many objects more there is room, in slots of which so many are used, and in both lists of keys
-abbrev pub room_of : ℕ → ℕ → Sequence → Sequence → ℕ
-room_of used capacity keys dues = min (min (capacity - used) keys.spare) (length dues.items + dues.spare - length keys.items)
+-- for how many objects more there is room, in slots of which so many are used, in both lists of keys, and in the tree
+abbrev pub room_of : ℕ → ℕ → Sequence → Sequence → Seen → ℕ
+room_of used capacity keys dues boxes = min (min (min (capacity - used) keys.spare) (length dues.items + dues.spare - length keys.items)) boxes.spare

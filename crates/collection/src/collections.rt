@@ -1,17 +1,21 @@
 //! The objects of one key.
 
-ghost use Rattle.std.specs.Prelude.{◌≡◌, ◌+◌, ◌<◌, ◌≤◌, ℕ, [], true, not, length, filter, find, is_some, if◌then◌else◌, slice_get, Some, None, IfNone, IfSome, MatchOption, OnOk};
+ghost use Rattle.std.specs.Prelude.{◌≡◌, ◌+◌, ◌<◌, ◌≤◌, ℕ, [], true, not, length, filter, find, is_some, if◌then◌else◌, slice_get, Some, None, All, IfNone, IfSome, IfOk, OnOk};
 ghost use Rattle.std.specs.List.{remove};
 ghost use Rattle.ordered_lists.specs.Lists.{put_in};
 ghost use Rattle.world_data.specs.declared.objects.Object.{Object};
 ghost use Rattle.collection.specs.Objects.{id_before, has_id, are_by_id, has_room, least_due, bounds_of};
+ghost use Rattle.planar_geom.specs.Nearness.{IsWholeShape};
 ghost use Rattle.collection.specs.Deadlines.{FirstDue};
+ghost use Rattle.collection.specs.Places.{places_where, meets_box, ArePlaces, IsListed, IsVisited};
 
 use crate::bounds;
 use crate::id_order::place_of;
+use crate::near_objects::NearObjects;
 use crate::object_lists::ObjectList;
 use byte_text::{Name, NoMemory};
-use planar_geom::BBox;
+use planar_geom::{BBox, Pt};
+use rtree::{Ids, Ledger, Steps};
 use std::alloc::Global;
 use std::marker::Model;
 use world_data::Object;
@@ -137,5 +141,39 @@ impl Collection {
         ensures { result ≡ bounds_of self.now.objects }
     {
         bounds::bounds_of(&self.objects)
+    }
+    /// Lists the places of the objects whose box meets a box, counted from 0 by ascending id. The steps rise by the nodes of the
+    /// tree that are visited, one at least where there is an object. For want of memory the list may hold anything.
+    pub fn met<L: Ledger>(
+        &self,
+        alloc: Global,
+        b: BBox,
+        into: &mut Ids,
+        steps: &mut Steps<L>,
+    ) -> Result<(), NoMemory>
+        ensures places { OnOk result (into.new ≡ places_where (meets_box b) self.now.objects) }
+        ensures whole { All (λ o. IsWholeShape o.shape) self.now.objects }
+        ensures visits { IsVisited self.now.objects steps.old.count steps.new.count }
+    {
+        self.objects.met(alloc, b, into, steps)
+    }
+
+    /// The object at the i-th of these places, which are those of all objects that pass a test.
+    pub fn listed(&self, places: &Ids, i: usize) -> &Object
+        requires within { i < length places.now }
+        requires places { ArePlaces places.now self.now.objects }
+        ensures { IsListed places.now self.now.objects i result.now }
+    {
+        self.objects.at(places.at(i))
+    }
+
+    /// A walk through the objects by rising distance of their boxes from a point, which has given none yet.
+    pub fn near(&self, alloc: Global, from: Pt) -> Result<NearObjects<'_>, NoMemory>
+        ensures objects { IfOk result (λ w. w.objects ≡ self.now.objects) }
+        ensures by_id { are_by_id self.now.objects ≡ true }
+        ensures from { IfOk result (λ w. w.from ≡ from) }
+        ensures given { IfOk result (λ w. w.given ≡ None) }
+    {
+        self.objects.near(alloc, from)
     }
 }

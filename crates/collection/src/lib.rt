@@ -2,13 +2,17 @@
 #![tactic(auto)]
 
 mod bounds;
+mod box_lists;
 mod collections;
 mod due_lists;
 mod id_order;
 mod id_tests;
+mod near_objects;
 mod object_lists;
+mod place_lists;
 
 pub use collections::Collection;
+pub use near_objects::NearObjects;
 
 #[cfg(test)]
 mod tests;

@@ -1,14 +1,21 @@
 //! Objects in slots, in an order of their own: none moves when another is put in or taken out.
 
-ghost use Rattle.std.specs.Prelude.{◌≡◌, ◌<◌, ◌≤◌, ◌+◌, [], true, not, length, take, drop, slice_get, Some, OnOk};
+ghost use Rattle.std.specs.Prelude.{◌≡◌, ◌<◌, ◌≤◌, ◌+◌, [], true, not, length, take, drop, slice_get, Some, None, All, OnOk, IfOk};
 ghost use Rattle.std.specs.List.{insert, remove, slice_set, list_all};
 ghost use Rattle.byte_text.specs.Names.{before};
 ghost use Rattle.collection.specs.Objects.{are_by_id, least_due};
+ghost use Rattle.planar_geom.specs.Nearness.{IsWholeShape};
 ghost use Rattle.collection.specs.Deadlines.{FirstDue};
+ghost use Rattle.collection.specs.Places.{places_where, meets_box, IsVisited};
 
+use crate::box_lists::{move_box, put_box, take_box};
 use crate::due_lists::{put_due, take_due};
 use crate::id_tests::IsBefore;
+use crate::near_objects::NearObjects;
+use crate::place_lists::list_places;
 use byte_text::{Name, NoMemory};
+use planar_geom::{BBox, Pt, box_of};
+use rtree::{Ids, Ledger, Steps, Tree};
 use run_list::RunList;
 use slab::Slab;
 use std::alloc::Global;
@@ -22,6 +29,8 @@ pub(crate) struct ObjectList {
     keys: RunList,
     // Those of objects with a deadline, in order of deadline and id. There is room for all.
     dues: RunList,
+    // Each key beside the box of its object.
+    boxes: Tree,
 }
 
 impl Model for ObjectList {
@@ -31,9 +40,9 @@ impl Model for ObjectList {
 
     ghost Value = { Held };
 
-    ghost view = { λ l. record { objects = objects_at (get l.slots) l.keys.items; spare = room_of (slab_len l.slots) l.slots.capacity l.keys l.dues } };
+    ghost view = { λ l. record { objects = objects_at (get l.slots) l.keys.items; spare = room_of (slab_len l.slots) l.slots.capacity l.keys l.dues l.boxes } };
 
-    ghost invariant = { λ l. AreKept (get l.slots) l.keys.items l.dues };
+    ghost invariant = { λ l. AreKept (get l.slots) l.keys.items l.dues l.boxes };
 }
 
 impl ObjectList {
@@ -45,6 +54,7 @@ impl ObjectList {
             slots: Slab::new(alloc),
             keys: RunList::new(alloc),
             dues: RunList::new(alloc),
+            boxes: Tree::new(alloc),
         }
     }
 
@@ -57,6 +67,9 @@ impl ObjectList {
         match self.slots.reserve(1) {
             Ok(()) => {}
             Err(_) => return Err(NoMemory),
+        }
+        if self.boxes.reserve(1).is_err() {
+            return Err(NoMemory);
         }
         self.keys.reserve(1)?;
         self.dues.reserve(self.keys.len() + 1 - self.dues.len())
@@ -105,6 +118,7 @@ impl ObjectList {
         let key = self.slots.insert_reserved(object);
         self.keys.insert(i, key);
         put_due(&mut self.dues, &self.slots, key);
+        put_box(&mut self.boxes, &self.slots, key);
     }
 
     /// Takes out the object at a place, which is room for another.
@@ -116,6 +130,7 @@ impl ObjectList {
     {
         let key = self.keys.remove(i);
         take_due(&mut self.dues, &self.slots, key);
+        take_box(&mut self.boxes, &self.slots, key);
         self.slots.remove(key)
     }
 
@@ -132,6 +147,7 @@ impl ObjectList {
         let old = self.slots.remove(key);
         let _ = self.slots.insert_reserved(object);
         put_due(&mut self.dues, &self.slots, key);
+        move_box(&mut self.boxes, &self.slots, key, box_of(&old.shape));
         old
     }
 
@@ -160,5 +176,34 @@ impl ObjectList {
             Some(object) => Some(self.count_before(&object.id)),
             None => unreachable!(),
         }
+    }
+    /// Lists the places of the objects whose box meets a box, from the front to the back.
+    pub(crate) fn met<L: Ledger>(
+        &self,
+        alloc: Global,
+        b: BBox,
+        into: &mut Ids,
+        steps: &mut Steps<L>,
+    ) -> Result<(), NoMemory>
+        requires { are_by_id self.now.objects ≡ true }
+        ensures places { OnOk result (into.new ≡ places_where (meets_box b) self.now.objects) }
+        ensures whole { All (λ o. IsWholeShape o.shape) self.now.objects }
+        ensures visits { IsVisited self.now.objects steps.old.count steps.new.count }
+    {
+        let mut numbers = Ids::new(alloc);
+        match self.boxes.search(&b, &mut numbers, steps) {
+            Ok(()) => list_places(&self.slots, &self.keys, &numbers, into),
+            Err(_) => Err(NoMemory),
+        }
+    }
+
+    /// A walk through the objects by rising distance of their boxes from a point, which has given none yet.
+    pub(crate) fn near(&self, alloc: Global, from: Pt) -> Result<NearObjects<'_>, NoMemory>
+        requires { are_by_id self.now.objects ≡ true }
+        ensures objects { IfOk result (λ w. w.objects ≡ self.now.objects) }
+        ensures from { IfOk result (λ w. w.from ≡ from) }
+        ensures given { IfOk result (λ w. w.given ≡ None) }
+    {
+        NearObjects::of(alloc, &self.slots, &self.keys, &self.boxes, from)
     }
 }

@@ -2,7 +2,8 @@
 
 use super::*;
 use byte_text::{Name, NoMemory, Text};
-use planar_geom::{Part, Parts, Pt, Shape};
+use planar_geom::{BBox, Part, Parts, Pt, Shape};
+use rtree::{Ids, NoLedger, Steps, Visits};
 use std::alloc::Global;
 use std::test::Fail;
 use world_data::{Fields, Object};
@@ -127,5 +128,71 @@ fn objects_are_taken_out(rt: HostRuntime) -> Result<(), Fail> {
     assert_eq!(rt; trucks.len(), 1);
     assert_eq!(rt; trucks.take_at(0).deadline, Some(7));
     assert_eq!(rt; trucks.least_due(), None);
+    Ok(())
+}
+
+// How many objects have a box that meets the square of this side from the origin on, and the place of the first of them.
+fn met_in(
+    alloc: Global,
+    trucks: &Collection,
+    side: i64,
+    steps: &mut Steps<Visits>,
+) -> Result<(usize, Option<usize>), NoMemory> {
+    let Some(low) = Pt::of(0, 0) else {
+        return Err(NoMemory);
+    };
+    let Some(high) = Pt::of(side, side) else {
+        return Err(NoMemory);
+    };
+    let Some(square) = BBox::of(low, high) else {
+        return Err(NoMemory);
+    };
+    let mut places = Ids::new(alloc);
+    trucks.met(alloc, square, &mut places, steps)?;
+    let first = if places.is_empty() {
+        None
+    } else {
+        Some(places.at(0))
+    };
+    Ok((places.len(), first))
+}
+
+#[test]
+fn what_meets_a_box_is_found(rt: HostRuntime) -> Result<(), Fail> {
+    let alloc = rt.alloc();
+    let mut trucks = Collection::new(alloc);
+    pair(alloc, &mut trucks)?;
+    let mut steps = Steps::new(Visits::new());
+    assert_eq!(rt; met_in(alloc, &trucks, 2, &mut steps)?, (1, Some(1)));
+    assert_eq!(rt; met_in(alloc, &trucks, 1, &mut steps)?, (0, None));
+    assert_eq!(rt; steps.ledger().count(), 2);
+    Ok(())
+}
+
+// The first distances at which there are objects, seen from the origin, and how many stand at the first.
+fn distances(
+    alloc: Global,
+    trucks: &Collection,
+) -> Result<(Option<u64>, usize, Option<u64>), NoMemory> {
+    let Some(origin) = Pt::of(0, 0) else {
+        return Err(NoMemory);
+    };
+    let mut steps = Steps::new(NoLedger);
+    let mut places = Ids::new(alloc);
+    let mut walk = trucks.near(alloc, origin)?;
+    let first = walk.next(&mut places, &mut steps)?;
+    let count = places.len();
+    let second = walk.next(&mut places, &mut steps)?;
+    Ok((first, count, second))
+}
+
+#[test]
+fn objects_are_walked_by_distance(rt: HostRuntime) -> Result<(), Fail> {
+    let alloc = rt.alloc();
+    let mut trucks = Collection::new(alloc);
+    pair(alloc, &mut trucks)?;
+    assert_eq!(rt; distances(alloc, &trucks)?, (Some(5), 1, Some(25)));
+    two_that_tie(alloc, &mut trucks)?;
+    assert_eq!(rt; distances(alloc, &trucks)?, (Some(5), 3, None));
     Ok(())
 }

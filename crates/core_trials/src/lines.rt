@@ -90,6 +90,18 @@ fn push_word(out: &mut Text, numbers: &mut Numbers, word: &str) -> Result<(), No
     }
 }
 
+// Adds a word to a line.
+fn push_proper(words: &mut Request, word: &[u8]) -> Result<(), Fail> {
+    if words.words() >= 64 {
+        return Err(Fail::from("a line has few words"));
+    }
+    if word.len() > 255 {
+        return Err(Fail::from("a word is short"));
+    }
+    words.push(word)?;
+    Ok(())
+}
+
 /// A line of one of the forms, as a request.
 pub(crate) fn request(alloc: Global, numbers: &mut Numbers) -> Result<Request, Fail> {
     let form = FORMS[numbers.below(24) as usize];
@@ -97,13 +109,16 @@ pub(crate) fn request(alloc: Global, numbers: &mut Numbers) -> Result<Request, F
     for word in form.split(' ') {
         let mut text = Text::new(alloc);
         push_word(&mut text, numbers, word)?;
-        if words.words() >= 64 {
-            return Err(Fail::from("a line has few words"));
-        }
-        if text.len() > 255 {
-            return Err(Fail::from("a word is short"));
-        }
-        words.push(text.bytes())?;
+        push_proper(&mut words, text.bytes())?;
+    }
+    Ok(words)
+}
+
+/// A line as it stands, as a request.
+pub(crate) fn plain_request(alloc: Global, line: &str) -> Result<Request, Fail> {
+    let mut words = Request::new(alloc);
+    for word in line.split(' ') {
+        push_proper(&mut words, word.as_bytes())?;
     }
     Ok(words)
 }

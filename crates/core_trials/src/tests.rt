@@ -4,6 +4,7 @@ use crate::lines::{Numbers, request};
 use crate::plain::Plain;
 use byte_text::{Request, Text};
 use std::alloc::Global;
+use std::process::Abort;
 use std::test::Fail;
 use tile_core::Core;
 use world_data::MAX_MOMENT;
@@ -27,11 +28,13 @@ fn answer(alloc: Global, core: &mut Core, moment: u64, words: Request) -> Result
     Ok(text)
 }
 
-#[test]
-fn four_hundred_commands_are_answered_alike(rt: HostRuntime) -> Result<(), Fail> {
-    let alloc = rt.alloc();
-    let mut core = Core::new(alloc);
-    let mut plain = Plain::new(alloc);
+// Four hundred calls, each answered alike.
+fn ask_both(
+    rt: &impl Abort,
+    alloc: Global,
+    core: &mut Core,
+    plain: &mut Plain,
+) -> Result<(), Fail> {
     assert_eq!(rt; core.enter(), Ok(1));
     let mut numbers = Numbers::new(7);
     let mut moment: u64 = 0;
@@ -40,8 +43,16 @@ fn four_hundred_commands_are_answered_alike(rt: HostRuntime) -> Result<(), Fail>
         let words = request(alloc, &mut numbers)?;
         let plainly = plain.call(moment, &words)?;
         assert!(rt; plainly.len() > 0, "the words of call {i} are refused");
-        let answered = answer(alloc, &mut core, moment, words)?;
+        let answered = answer(alloc, core, moment, words)?;
         assert_eq!(rt; answered.bytes(), plainly.bytes(), "call {i}");
     }
     Ok(())
+}
+
+#[test]
+fn four_hundred_commands_are_answered_alike(rt: HostRuntime) -> Result<(), Fail> {
+    let alloc = rt.alloc();
+    let mut core = Core::new(alloc);
+    let mut plain = Plain::new(alloc);
+    ask_both(&rt, alloc, &mut core, &mut plain)
 }

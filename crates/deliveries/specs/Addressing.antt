@@ -16,7 +16,8 @@ pub to_append : (n : ℕ) (a b : List Delivery) → frames_to n (a ++ b) ≡ fra
 to_append n [] b = refl
 to_append n (d ∷ a) b = by (n == d.0) (to_append n a b)
   where
-    by : (t : Bool) → frames_to n (a ++ b) ≡ frames_to n a ++ frames_to n b → (if t then d.1 ∷ frames_to n (a ++ b) else frames_to n (a ++ b)) ≡ (if t then d.1 ∷ frames_to n a else frames_to n a) ++ frames_to n b
+    by : (t : Bool) → frames_to n (a ++ b) ≡ frames_to n a ++ frames_to n b
+        → (if t then d.1 ∷ frames_to n (a ++ b) else frames_to n (a ++ b)) ≡ (if t then d.1 ∷ frames_to n a else frames_to n a) ++ frames_to n b
     by true e = ap (λ (fs : List Bytes). d.1 ∷ fs) e
     by false e = e
 
@@ -42,7 +43,8 @@ sent_is m s = by (is_live s)
     by false = refl
 
 -- a message that is sent to others
-to_none : (n : ℕ) (m : Message) (sessions : List Session) → AllByRecursion (λ t. is_session n t ≡ false) sessions → frames_to n (flat_map (sent_to m) sessions) ≡ []
+to_none : (n : ℕ) (m : Message) (sessions : List Session) → AllByRecursion (λ t. is_session n t ≡ false) sessions
+    → frames_to n (flat_map (sent_to m) sessions) ≡ []
 to_none n m [] all = refl
 to_none n m (s ∷ sessions) all =
     to_append n (sent_to m s) (flat_map (sent_to m) sessions)
@@ -78,25 +80,30 @@ all_get (s ∷ sessions) own = (
       (both (λ t. is_session s.number t ≡ false) (Gets sessions) sessions own.0 (all_get sessions own.1)),
 )
 
-gets_each : (sessions : List Session) (s : Session) → Gets sessions s → (ms : List Message) → frames_to s.number (deliveries_of ms sessions) ≡ frames_each ms (listens s)
+gets_each : (sessions : List Session) (s : Session) → Gets sessions s → (ms : List Message)
+    → frames_to s.number (deliveries_of ms sessions) ≡ frames_each ms (listens s)
 gets_each sessions s g [] = refl
 gets_each sessions s g (m ∷ ms) =
     to_append s.number (flat_map (sent_to m) sessions) (deliveries_of ms sessions)
     ∙ ap (λ (fs : List Bytes). fs ++ frames_to s.number (deliveries_of ms sessions)) (g m)
     ∙ ap (λ (fs : List Bytes). frames_for m (listens s) ++ fs) (gets_each sessions s g ms)
 
-gets_of : (w : World) (d : Write) (sessions : List Session) (s : Session) → Gets sessions s → frames_to s.number (deliveries w sessions d) ≡ heard_of w d (listens s)
+gets_of : (w : World) (d : Write) (sessions : List Session) (s : Session) → Gets sessions s
+    → frames_to s.number (deliveries w sessions d) ≡ heard_of w d (listens s)
 gets_of w d sessions s g = gets_each sessions s g (messages w d)
 
-pub gets_staged : (w : World) (writes : List Write) (sessions : List Session) (s : Session) → Gets sessions s → frames_to s.number (staged w sessions writes) ≡ heard w writes (listens s)
+pub gets_staged : (w : World) (writes : List Write) (sessions : List Session) (s : Session) → Gets sessions s
+    → frames_to s.number (staged w sessions writes) ≡ heard w writes (listens s)
 gets_staged w [] sessions s g = refl
 gets_staged w (d ∷ writes) sessions s g =
     to_append s.number (deliveries w sessions d) (staged (after w d.change) sessions writes)
     ∙ ap (λ (fs : List Bytes). fs ++ frames_to s.number (staged (after w d.change) sessions writes)) (gets_of w d sessions s g)
     ∙ ap (λ (fs : List Bytes). heard_of w d (listens s) ++ fs) (gets_staged (after w d.change) writes sessions s g)
 
-pub addressed : (w : World) (writes : List Write) (sessions : List Session) → HaveOwnNumbers sessions → AllByRecursion (λ s. frames_to s.number (staged w sessions writes) ≡ heard w writes (listens s)) sessions
+pub addressed : (w : World) (writes : List Write) (sessions : List Session) → HaveOwnNumbers sessions
+    → AllByRecursion (λ s. frames_to s.number (staged w sessions writes) ≡ heard w writes (listens s)) sessions
 addressed w writes sessions own = all_by (Gets sessions) (λ s. frames_to s.number (staged w sessions writes) ≡ heard w writes (listens s)) (gets_staged w writes sessions) sessions (all_get sessions own)
 
-pub addressed_one : (w : World) (d : Write) (sessions : List Session) → HaveOwnNumbers sessions → AllByRecursion (λ s. frames_to s.number (deliveries w sessions d) ≡ heard_of w d (listens s)) sessions
+pub addressed_one : (w : World) (d : Write) (sessions : List Session) → HaveOwnNumbers sessions
+    → AllByRecursion (λ s. frames_to s.number (deliveries w sessions d) ≡ heard_of w d (listens s)) sessions
 addressed_one w d sessions own = all_by (Gets sessions) (λ s. frames_to s.number (deliveries w sessions d) ≡ heard_of w d (listens s)) (gets_of w d sessions) sessions (all_get sessions own)

@@ -29,7 +29,8 @@ module _ (k : Session → Session) (keeps : (s : Session) → (k s).number ≡ s
   own_kept (s ∷ ss) o = (rw (keeps s) (apart s.number ss o.0), own_kept ss o.1)
 
 -- what a session takes that hears as before or is served no more
-pub later : (s : Session) (frames : List Bytes) (sends : List Sub → List Bytes) → placed_each (placed_each s frames) (sends (listens (placed_each s frames))) ≡ placed_each (placed_each s frames) (sends (listens s))
+pub later : (s : Session) (frames : List Bytes) (sends : List Sub → List Bytes)
+    → placed_each (placed_each s frames) (sends (listens (placed_each s frames))) ≡ placed_each (placed_each s frames) (sends (listens s))
 later s frames sends = elim (each_hears s frames) [
   | inl e ↦ ap (λ (subs : List Sub). placed_each (placed_each s frames) (sends subs)) e
   | inr e ↦ dead_takes_none (placed_each s frames) (sends (listens (placed_each s frames))) e ∙ sym (dead_takes_none (placed_each s frames) (sends (listens s)) e)
@@ -83,7 +84,8 @@ no_more_room s (g ∷ fs) (f ∷ frames) e =
     and_false true = refl
     and_false false = refl
 
-    less_room : (a b m k l t : ℕ) (x y : Bool) → nat_le (a + m) cap_frames ≡ x → nat_le (b + l) cap_bytes ≡ y → m ≤ k → l ≤ t → (x && y) ≡ false → (nat_le (a + k) cap_frames && nat_le (b + t) cap_bytes) ≡ false
+    less_room : (a b m k l t : ℕ) (x y : Bool) → nat_le (a + m) cap_frames ≡ x → nat_le (b + l) cap_bytes ≡ y → m ≤ k → l ≤ t → (x && y) ≡ false
+        → (nat_le (a + k) cap_frames && nat_le (b + t) cap_bytes) ≡ false
     less_room a b m k l t true true p q u v e = absurd (cc)
     less_room a b m k l t true false p q u v e = let f : nat_le (b + t) cap_bytes ≡ false = grind (arith, nat_tests) in rw f (and_false (nat_le (a + k) cap_frames))
     less_room a b m k l t false y p q u v e = let f : nat_le (a + k) cap_frames ≡ false = grind (arith, nat_tests) in rw f refl
@@ -93,7 +95,8 @@ all_there [] = refl
 all_there (f ∷ fs) = ap (λ (gs : List Bytes). f ∷ gs) (all_there fs)
 
 -- without room it is cut on the way, and takes nothing more
-cut_behind : (s : Session) (fs some rest : List Bytes) (b : Bool) → is_live s ≡ b → has_room_for s some ≡ false → placed_each (placed_each s fs) (some ++ rest) ≡ placed_each (placed_each s fs) some
+cut_behind : (s : Session) (fs some rest : List Bytes) (b : Bool) → is_live s ≡ b → has_room_for s some ≡ false
+    → placed_each (placed_each s fs) (some ++ rest) ≡ placed_each (placed_each s fs) some
 cut_behind s fs some rest true e no_room =
     let t = placed_each s fs in
     let gone : is_live (placed_each t some) ≡ false = ap is_live (sym (each_append s fs some)) ∙ lives_on s (fs ++ some) e ∙ no_more_room s fs some no_room in
@@ -103,7 +106,8 @@ cut_behind s fs some rest false e no_room =
     let gone : is_live t ≡ false = ap is_live (dead_takes_none s fs e) ∙ e in
     dead_takes_none t (some ++ rest) gone ∙ sym (dead_takes_none t some gone)
 
-pub suffices : (s : Session) (fs all some : List Bytes) → Suffice s.frames all some → placed_each (placed_each s fs) all ≡ placed_each (placed_each s fs) some
+pub suffices : (s : Session) (fs all some : List Bytes) → Suffice s.frames all some
+    → placed_each (placed_each s fs) all ≡ placed_each (placed_each s fs) some
 suffices s fs all some f = ap (placed_each (placed_each s fs)) f.front ∙ elim f.enough [
   | inl none ↦ ap (λ (rest : List Bytes). placed_each (placed_each s fs) (some ++ rest)) none ∙ ap (placed_each (placed_each s fs)) (all_there some)
   | inr no_room ↦ cut_behind s fs some f.rest (is_live s) refl no_room
@@ -114,7 +118,8 @@ module _ (w : World) (writes : List Write) (fs : Session → List Bytes) (ss : L
   abbrev taken : Session → Session
   taken s = placed_each s (fs s)
 
-  same_list : (s : Session) → Suffice s.frames (heard w writes (listens s)) (frames_to s.number list) → placed_each (taken s) (heard w writes (listens (taken s))) ≡ placed_each (taken s) (frames_to (taken s).number list)
+  same_list : (s : Session) → Suffice s.frames (heard w writes (listens s)) (frames_to s.number list)
+      → placed_each (taken s) (heard w writes (listens (taken s))) ≡ placed_each (taken s) (frames_to (taken s).number list)
   same_list s e =
       later s (fs s) (heard w writes) ∙ suffices s (fs s) (heard w writes (listens s)) (frames_to s.number list) e
       ∙ ap (λ (n : ℕ). placed_each (taken s) (frames_to n list)) (sym (each_number s (fs s)))
@@ -132,7 +137,8 @@ module _ (w : World) (writes : List Write) (fs : Session → List Bytes) (ss : L
   taken_own = own_kept taken (λ s. each_number s (fs s)) ss o
 
 -- changes in a hall whose sessions had frames placed on them since the list was staged
-pub apply_staged : (h : Hall) (writes : List Write) (fs : Session → List Bytes) (ss : List Session) → HaveOwnNumbers ss → h.sessions ≡ map (λ s. placed_each s (fs s)) ss → (list : List Delivery) → AreStaged h.world writes ss list
+pub apply_staged : (h : Hall) (writes : List Write) (fs : Session → List Bytes) (ss : List Session) → HaveOwnNumbers ss
+    → h.sessions ≡ map (λ s. placed_each s (fs s)) ss → (list : List Delivery) → AreStaged h.world writes ss list
     → apply_all h writes ≡ record h { world = after_all h.world writes; logged = h.logged + records_len writes; sessions = placed_all h.sessions list }
 apply_staged h writes fs ss o e list has =
     let base : Hall = record h { sessions = map (λ s. placed_each s (fs s)) ss } in
@@ -152,7 +158,8 @@ staging_sound h writes o =
     apply_staged h writes (λ s. []) h.sessions o (sym (map_none (λ s. s) (λ s. refl) h.sessions)) (staged h.world h.sessions writes) (staged_is h.world h.sessions writes o)
     ∙ sym (of_sessions (record h { world = after_all h.world writes; logged = h.logged + records_len writes }) (staged h.world h.sessions writes))
 
-pub lists_serve : (h : Hall) (writes : List Write) (before : List Session) (between list : List Delivery) → HaveOwnNumbers before → h.sessions ≡ placed_all before between → AreStaged h.world writes before list
+pub lists_serve : (h : Hall) (writes : List Write) (before : List Session) (between list : List Delivery) → HaveOwnNumbers before
+    → h.sessions ≡ placed_all before between → AreStaged h.world writes before list
     → apply_all h writes ≡ record h { world = after_all h.world writes; logged = h.logged + records_len writes; sessions = placed_all h.sessions list }
 lists_serve h writes before between list o e has = apply_staged h writes (λ s. frames_to s.number between) before o (e ∙ own before between) list has
 
@@ -160,7 +167,8 @@ append_twice : (a b c : List Bytes) → (a ++ b) ++ c ≡ a ++ (b ++ c)
 append_twice [] b c = refl
 append_twice (x ∷ a) b c = ap (λ (fs : List Bytes). x ∷ fs) (append_twice a b c)
 
-pub enough : (s : Session) (all some more : List Bytes) → Suffice s.frames all some → has_room_for s some ≡ false → Suffice s.frames (all ++ more) some
+pub enough : (s : Session) (all some more : List Bytes) → Suffice s.frames all some → has_room_for s some ≡ false
+    → Suffice s.frames (all ++ more) some
 enough s all some more f no_room = record { rest = f.rest ++ more; front = ap (λ (fs : List Bytes). fs ++ more) f.front ∙ append_twice some f.rest more; enough = inr no_room }
 
 pub all_suffice : (s : Session) (all : List Bytes) → Suffice s.frames all all

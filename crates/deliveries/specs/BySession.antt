@@ -107,7 +107,8 @@ module _ (w : World) (first second : List Write) (subs : List Sub) (n : ℕ) (fr
       by (inr (inl e)) = one_same s k (k.brings_are ∙ ap (λ (writes : List Write). heard (after_all w first) writes (listens s)) e)
       by (inr (inr e)) = one_same s k (k.brings_are ∙ ap (heard (after_all w first) second) (hears_none s e) ∙ heard_none (after_all w first) second)
 
-  each : (ss : List Session) → AllByRecursion Knows ss → map brought_to (map replied (map joins (map due_to ss))) ≡ map replied (map joins (map all_to_it ss))
+  each : (ss : List Session) → AllByRecursion Knows ss
+      → map brought_to (map replied (map joins (map due_to ss))) ≡ map replied (map joins (map all_to_it ss))
   each [] all = refl
   each (s ∷ ss) all =
       ap (λ (t : Session). t ∷ map brought_to (map replied (map joins (map due_to ss)))) (one s all.0)
@@ -127,20 +128,24 @@ module _ (w : World) (first second : List Write) (subs : List Sub) (n : ℕ) (fr
 other_number : (n m k : ℕ) → (m == n) ≡ true → (k == m) ≡ false → (k == n) ≡ false
 other_number n m k e f = grind (arith, nat_tests)
 
-others_rest : (n : ℕ) (s : Session) (ss : List Session) → is_session n s ≡ true → AllByRecursion (λ t. is_session s.number t ≡ false) ss → AllByRecursion (λ t. is_session n t ≡ false) ss
+others_rest : (n : ℕ) (s : Session) (ss : List Session) → is_session n s ≡ true → AllByRecursion (λ t. is_session s.number t ≡ false) ss
+    → AllByRecursion (λ t. is_session n t ≡ false) ss
 others_rest n s [] e all = tt
 others_rest n s (t ∷ ss) e all = (other_number n s.number t.number e all.0, others_rest n s ss e all.1)
 
-left_all : (n : ℕ) (s : Session) (ss : List Session) → AllByRecursion (λ t. is_session n t ≡ false) ss → AllByRecursion (λ t. (is_session n t ≡ false) ⊎ (t ≡ s)) ss
+left_all : (n : ℕ) (s : Session) (ss : List Session) → AllByRecursion (λ t. is_session n t ≡ false) ss
+    → AllByRecursion (λ t. (is_session n t ≡ false) ⊎ (t ≡ s)) ss
 left_all n s [] all = tt
 left_all n s (t ∷ ss) all = (inl all.0, left_all n s ss all.1)
 
 -- each is the caller or has another number
-caller_alone : (n : ℕ) (s : Session) (ss : List Session) → HaveOwnNumbers ss → find (is_session n) ss ≡ Some s → AllByRecursion (λ t. (is_session n t ≡ false) ⊎ (t ≡ s)) ss
+caller_alone : (n : ℕ) (s : Session) (ss : List Session) → HaveOwnNumbers ss → find (is_session n) ss ≡ Some s
+    → AllByRecursion (λ t. (is_session n t ≡ false) ⊎ (t ≡ s)) ss
 caller_alone n s [] o found = tt
 caller_alone n s (t ∷ ss) o found = by (is_session n t) refl (caller_alone n s ss o.1)
   where
-    by : (b : Bool) → is_session n t ≡ b → (find (is_session n) ss ≡ Some s → AllByRecursion (λ t. (is_session n t ≡ false) ⊎ (t ≡ s)) ss) → AllByRecursion (λ t. (is_session n t ≡ false) ⊎ (t ≡ s)) (t ∷ ss)
+    by : (b : Bool) → is_session n t ≡ b → (find (is_session n) ss ≡ Some s → AllByRecursion (λ t. (is_session n t ≡ false) ⊎ (t ≡ s)) ss)
+        → AllByRecursion (λ t. (is_session n t ≡ false) ⊎ (t ≡ s)) (t ∷ ss)
     by true e rest =
         let here : Some t ≡ Some s = sym (ap (λ (b : Bool). if b then Some t else find (is_session n) ss) e) ∙ found in
         let is : t ≡ s = cc in
@@ -190,7 +195,8 @@ module _ (h : Hall) (moment n : ℕ) (asked : Asked) (s : Session) (o : HaveOwnN
   abbrev Known : Session → Type 0
   Known t = Knows h.world dues e.writes e.subs n (map frame_text e.replies) p.dues q.brings t
 
-  known : (t : Session) → frames_to t.number p.dues ≡ heard h.world dues (listens t) → frames_to t.number q.brings ≡ heard later e.writes (listens t) → (is_session n t ≡ false) ⊎ (t ≡ s) → Known t
+  known : (t : Session) → frames_to t.number p.dues ≡ heard h.world dues (listens t)
+      → frames_to t.number q.brings ≡ heard later e.writes (listens t) → (is_session n t ≡ false) ⊎ (t ≡ s) → Known t
   known t a b (inl other) = record { dues_are = a; brings_are = b; either_way = inl other }
   known t a b (inr same) = record { dues_are = a; brings_are = b; either_way = inr (by (hears_or_writes later now s.subs asked)) }
     where
@@ -198,7 +204,8 @@ module _ (h : Hall) (moment n : ℕ) (asked : Asked) (s : Session) (o : HaveOwnN
       by (inl none) = inl none
       by (inr none) = inr (ap (λ (u : Session). u.subs) same ∙ none)
 
-  all_known : (ss : List Session) → AllByRecursion (λ t. frames_to t.number p.dues ≡ heard h.world dues (listens t)) ss → AllByRecursion (λ t. frames_to t.number q.brings ≡ heard later e.writes (listens t)) ss
+  all_known : (ss : List Session) → AllByRecursion (λ t. frames_to t.number p.dues ≡ heard h.world dues (listens t)) ss
+      → AllByRecursion (λ t. frames_to t.number q.brings ≡ heard later e.writes (listens t)) ss
       → AllByRecursion (λ t. (is_session n t ≡ false) ⊎ (t ≡ s)) ss → AllByRecursion Known ss
   all_known [] a b c = tt
   all_known (t ∷ ss) a b c = (known t a.0 b.0 c.0, all_known ss a.1 b.1 c.1)

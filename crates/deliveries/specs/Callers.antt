@@ -33,7 +33,8 @@ plan_of h moment n asked =
     let list = staged h.world h.sessions writes in
     record { dues = list; world = w; length = records_len writes; part = part_if w now h.sessions asked (caller_behind list (session_of h n)) }
 
-part_is : (w : World) (now : ℕ) (ss : List Session) (asked : Asked) (caller : Option Session) → HaveOwnNumbers ss → IsPartOf w now ss asked caller (part_if w now ss asked caller)
+part_is : (w : World) (now : ℕ) (ss : List Session) (asked : Asked) (caller : Option Session) → HaveOwnNumbers ss
+    → IsPartOf w now ss asked caller (part_if w now ss asked caller)
 part_is w now ss asked None o = refl
 part_is w now ss asked (Some s) o = record { replies = refl; subs = refl; brings = staged_is w ss (effect_of_asked w now s.subs asked).writes o; world = refl; length_is = refl; closes = refl }
 
@@ -43,7 +44,8 @@ plan_is h moment n asked o = record { dues = staged_is h.world h.sessions (dels 
 
 -- room behind a queue that is not full
 
-open_room : (a b m t : ℕ) (x y : Bool) → nat_le full_frames a ≡ x → nat_le full_bytes b ≡ y → (x || y) ≡ false → full_frames + m ≤ cap_frames → full_bytes + t ≤ cap_bytes → (nat_le (a + m) cap_frames && nat_le (b + t) cap_bytes) ≡ true
+open_room : (a b m t : ℕ) (x y : Bool) → nat_le full_frames a ≡ x → nat_le full_bytes b ≡ y → (x || y) ≡ false → full_frames + m ≤ cap_frames
+    → full_bytes + t ≤ cap_bytes → (nat_le (a + m) cap_frames && nat_le (b + t) cap_bytes) ≡ true
 open_room a b m t true y p q e u v = absurd (cc)
 open_room a b m t false true p q e u v = absurd (cc)
 open_room a b m t false false p q e u v =
@@ -63,7 +65,8 @@ not_cut s e c = true≢false (sym e ∙ by s.stage c)
     by cut d = refl
     by closing d = refl
 
-ended_frames : (b : Bool) (s : Session) → is_live s ≡ true → ((if b then ending s else s).frames ≡ s.frames) × ((if b then ending s else s).stage ≢ cut)
+ended_frames : (b : Bool) (s : Session) → is_live s ≡ true
+    → ((if b then ending s else s).frames ≡ s.frames) × ((if b then ending s else s).stage ≢ cut)
 ended_frames true s e = (ap (λ (c : Bool). (if c then record s { stage = closing; subs = [] } else s).frames) e, λ d. absurd (wrong (sym (ap (λ (c : Bool). (if c then record s { stage = closing; subs = [] } else s).stage) e) ∙ d)))
   where
     wrong : closing ≡ cut → ⊥
@@ -144,7 +147,8 @@ pub answer_fits : (e : Effect) → IsAnswer e → FitBehind (map frame_text e.re
 answer_fits e a = subst (λ (rs : List (List Piece)). FitBehind (map frame_text rs)) (sym a.one)
     (let short : length (frame_text a.reply) ≤ max_reply = a.short in record { few = lit≤ tt; light = omega (arith, short, sum_by-cons length (frame_text a.reply) []) })
 
-pub own_call : (h : Hall) (moment n : ℕ) (asked : Asked) (s : Session) → HaveOwnNumbers h.sessions → session_of h n ≡ Some s → is_live s ≡ true → is_full s ≡ false → s.subs ≡ []
+pub own_call : (h : Hall) (moment n : ℕ) (asked : Asked) (s : Session) → HaveOwnNumbers h.sessions → session_of h n ≡ Some s → is_live s ≡ true
+    → is_full s ≡ false → s.subs ≡ []
     → FitBehind (map frame_text (effect_of_asked (due h moment).world (max h.now moment) s.subs asked).replies)
     → IsReplied (session_of h n) (session_of (do_call (due h moment) n asked) n) (map frame_text (effect_of_asked (due h moment).world (max h.now moment) s.subs asked).replies)
 own_call h moment n asked s o found lives open_ bare =
@@ -154,7 +158,8 @@ own_call h moment n asked s o found lives open_ bare =
 one_fits : (f : Bytes) → length f ≤ max_reply → FitBehind (f ∷ [])
 one_fits f short = record { few = lit≤ tt; light = omega (arith, short, sum_by-cons length f []) }
 
-pub one_reply : (h : Hall) (moment n : ℕ) (asked : Asked) (s : Session) (reply : List Piece) → HaveOwnNumbers h.sessions → session_of h n ≡ Some s → is_live s ≡ true → is_full s ≡ false → s.subs ≡ []
+pub one_reply : (h : Hall) (moment n : ℕ) (asked : Asked) (s : Session) (reply : List Piece) → HaveOwnNumbers h.sessions → session_of h n ≡ Some s
+    → is_live s ≡ true → is_full s ≡ false → s.subs ≡ []
     → (effect_of_asked (due h moment).world (max h.now moment) s.subs asked).replies ≡ reply ∷ [] → length (frame_text reply) ≤ max_reply
     → IsReplied (session_of h n) (session_of (do_call (due h moment) n asked) n) (frame_text reply ∷ [])
 one_reply h moment n asked s reply o found lives open_ bare one short =

@@ -49,7 +49,8 @@ front_none [] rest e = refl
 front_none (f ∷ some) rest e = absurd (cc)
 
 -- a list that names none of the sessions
-bare_kept : (list : List Delivery) (k : Session → Session) → ((s : Session) → (k s).number ≡ s.number) → (ss : List Session) → AllByRecursion (λ s. frames_to s.number list ≡ []) ss → AllByRecursion (λ s. frames_to s.number list ≡ []) (map k ss)
+bare_kept : (list : List Delivery) (k : Session → Session) → ((s : Session) → (k s).number ≡ s.number) → (ss : List Session)
+    → AllByRecursion (λ s. frames_to s.number list ≡ []) ss → AllByRecursion (λ s. frames_to s.number list ≡ []) (map k ss)
 bare_kept list k keeps [] all = tt
 bare_kept list k keeps (s ∷ ss) all = (ap (λ (m : ℕ). frames_to m list) (keeps s) ∙ all.0, bare_kept list k keeps ss all.1)
 
@@ -89,7 +90,8 @@ module _ (h : Hall) (n : ℕ) (e : Effect) (fs : Session → List Bytes) (ss : L
   effect_told = of_sessions (change_session (subscribing e.subs) n h) (frames_of_replies n e.replies) ∙ ap (λ (l : List Delivery). record h { sessions = placed_all subscribed l }) (replies_are n e.replies)
 
   -- where nothing is brought, nothing is written
-  nothing_written : (brings : List Delivery) → AreStaged h.world [] ss brings → placed_all (placed_all subscribed list) brings ≡ placed_all subscribed list
+  nothing_written : (brings : List Delivery) → AreStaged h.world [] ss brings
+      → placed_all (placed_all subscribed list) brings ≡ placed_all subscribed list
   nothing_written brings has =
       let f : Session → Session = λ s. if is_session n s then subscribing e.subs s else s in
       let g : Session → Session = λ s. placed_each s (frames_to s.number list) in
@@ -99,7 +101,8 @@ module _ (h : Hall) (n : ℕ) (e : Effect) (fs : Session → List Bytes) (ss : L
       let all = bare_kept brings g (λ s. each_number s (frames_to s.number list)) (map f (map taken ss)) (bare_kept brings f (λ s. subscribed_number (is_session n s) e.subs s) (map taken ss) (bare_kept brings taken (λ s. each_number s (fs s)) ss bare)) in
       bare_placed brings (placed_all subscribed list) (subst (λ (xs : List Session). AllByRecursion (λ s. frames_to s.number brings ≡ []) xs) (sym path) all)
 
-  changes_told : SubscribesOrChanges e → (brings : List Delivery) → AreStaged h.world e.writes ss brings → apply_all told e.writes ≡ record told { world = after_all h.world e.writes; logged = h.logged + records_len e.writes; sessions = placed_all (placed_all subscribed list) brings }
+  changes_told : SubscribesOrChanges e → (brings : List Delivery) → AreStaged h.world e.writes ss brings
+      → apply_all told e.writes ≡ record told { world = after_all h.world e.writes; logged = h.logged + records_len e.writes; sessions = placed_all (placed_all subscribed list) brings }
   changes_told (inl none) brings has =
       let same : subscribed ≡ h.sessions = ap (λ (subs : List Sub). changed_at (subscribing subs) n h.sessions) none ∙ none_changed n (subscribing []) h.sessions (λ s. refl) in
       apply_staged told e.writes (λ s. fs s ++ frames_to s.number list) ss o (ap (λ (xs : List Session). placed_all xs list) same ∙ with_replies) brings has
@@ -112,7 +115,8 @@ module _ (h : Hall) (n : ℕ) (e : Effect) (fs : Session → List Bytes) (ss : L
   abbrev pub part_of_ : List Delivery → Part
   part_of_ brings = record { replies = map frame_text e.replies; subs = e.subs; brings = brings; world = after_all h.world e.writes; length = records_len e.writes; closes = e.closes }
 
-  pub effect_done : SubscribesOrChanges e → (brings : List Delivery) → AreStaged h.world e.writes ss brings → do_effect h n e ≡ record h { world = after_all h.world e.writes; logged = h.logged + records_len e.writes; sessions = with_part n (part_of_ brings) h.sessions }
+  pub effect_done : SubscribesOrChanges e → (brings : List Delivery) → AreStaged h.world e.writes ss brings
+      → do_effect h n e ≡ record h { world = after_all h.world e.writes; logged = h.logged + records_len e.writes; sessions = with_part n (part_of_ brings) h.sessions }
   effect_done which brings has =
       ap (λ (k : Hall). closed_if e.closes n (apply_all k e.writes)) effect_told
       ∙ ap (closed_if e.closes n) (changes_told which brings has)
@@ -128,7 +132,8 @@ module _ (h : Hall) (n : ℕ) (e : Effect) (fs : Session → List Bytes) (ss : L
       ∙ ap (λ (x : ℕ). record q { replies = p.replies; subs = p.subs; world = p.world; length = x }) i.length_is
       ∙ ap (λ (x : Bool). record q { replies = p.replies; subs = p.subs; world = p.world; length = p.length; closes = x }) i.closes)
 
-  pub part_done : SubscribesOrChanges e → (q : Part) → IsPart h.world ss e q → do_effect h n e ≡ record h { world = q.world; logged = h.logged + q.length; sessions = with_part n q h.sessions }
+  pub part_done : SubscribesOrChanges e → (q : Part) → IsPart h.world ss e q
+      → do_effect h n e ≡ record h { world = q.world; logged = h.logged + q.length; sessions = with_part n q h.sessions }
   part_done which q i = effect_done which q.brings i.brings ∙ ap (λ (p : Part). record h { world = p.world; logged = h.logged + p.length; sessions = with_part n p h.sessions }) (part_is q i)
 
 -- what is asked has an effect
@@ -156,13 +161,15 @@ module _ (h : Hall) (n : ℕ) (asked : Asked) (dues : List Delivery) (ss : List 
       let more : h.logged ≡ h.logged + 0 = omega arith in
       ap (λ (m : ℕ). record h { logged = m }) more ∙ ap done (sym none)
 
-  part_of_served : (s : Session) (part : Option Part) → IsPartOf h.world h.now ss asked (Some s) part → do_effect h n (effect_of_asked h.world h.now s.subs asked) ≡ done part
+  part_of_served : (s : Session) (part : Option Part) → IsPartOf h.world h.now ss asked (Some s) part
+      → do_effect h n (effect_of_asked h.world h.now s.subs asked) ≡ done part
   part_of_served s None i = absurd i
   part_of_served s (Some q) i =
       let e = effect_of_asked h.world h.now s.subs asked in
       part_done h n e (λ s. frames_to s.number dues) ss o is (either h.world h.now s.subs asked) q i
 
-  served : (s : Session) (part : Option Part) → is_session n s ≡ true → is_live s ≡ true → has_room_for s (frames_to s.number dues) ≡ true → IsPartOf h.world h.now ss asked (Some s) part → do_asked h (got s) asked ≡ done part
+  served : (s : Session) (part : Option Part) → is_session n s ≡ true → is_live s ≡ true → has_room_for s (frames_to s.number dues) ≡ true
+      → IsPartOf h.world h.now ss asked (Some s) part → do_asked h (got s) asked ≡ done part
   served s part found lives room i =
       let e = effect_of_asked h.world h.now s.subs asked in
       ap (λ (t : Session). do_asked h t asked) (takes_all s (frames_to s.number dues) lives room)
@@ -176,13 +183,15 @@ module _ (h : Hall) (n : ℕ) (asked : Asked) (dues : List Delivery) (ss : List 
   when_not : (t : Session) → is_live t ≡ false → do_live h (Some t) asked ≡ h
   when_not t e = rw e refl
 
-  one_caller : (s : Session) (part : Option Part) → is_session n s ≡ true → (a b : Bool) → is_live s ≡ a → has_room_for s (frames_to s.number dues) ≡ b
+  one_caller : (s : Session) (part : Option Part) → is_session n s ≡ true → (a b : Bool) → is_live s ≡ a
+      → has_room_for s (frames_to s.number dues) ≡ b
       → IsPartOf h.world h.now ss asked (if a && b then Some s else None) part → do_live h (Some (got s)) asked ≡ done part
   one_caller s part found true true e r i = when_live (got s) (lives_on s (frames_to s.number dues) e ∙ r) ∙ served s part found e r i
   one_caller s part found true false e r i = when_not (got s) (lives_on s (frames_to s.number dues) e ∙ r) ∙ nothing part i
   one_caller s part found false b e r i = when_not (got s) (ap is_live (dead_takes_none s (frames_to s.number dues) e) ∙ e) ∙ nothing part i
 
-  pub any_caller : (caller : Option Session) (part : Option Part) → ((s : Session) → caller ≡ Some s → is_session n s ≡ true) → IsPartOf h.world h.now ss asked (caller_behind dues caller) part → do_live h (option_map got caller) asked ≡ done part
+  pub any_caller : (caller : Option Session) (part : Option Part) → ((s : Session) → caller ≡ Some s → is_session n s ≡ true)
+      → IsPartOf h.world h.now ss asked (caller_behind dues caller) part → do_live h (option_map got caller) asked ≡ done part
   any_caller None part found i = nothing part i
   any_caller (Some s) part found i = one_caller s part (found s refl) (is_live s) (has_room_for s (frames_to s.number dues)) refl refl i
 
@@ -194,7 +203,8 @@ module _ (h : Hall) (moment : ℕ) (o : HaveOwnNumbers h.sessions) where
   writes = dels (expired h.world now)
 
   -- what is due, staged
-  pub due_by : (list : List Delivery) → AreStaged h.world writes h.sessions list → due h moment ≡ record h { now = now; world = after_all h.world writes; logged = h.logged + records_len writes; sessions = placed_all h.sessions list }
+  pub due_by : (list : List Delivery) → AreStaged h.world writes h.sessions list
+      → due h moment ≡ record h { now = now; world = after_all h.world writes; logged = h.logged + records_len writes; sessions = placed_all h.sessions list }
   due_by list has = apply_staged (record h { now = now }) writes (λ s. []) h.sessions o (sym (map_none (λ s. s) (λ s. refl) h.sessions)) list has
 
   pub due_staged : due h moment ≡ record h { now = now; world = after_all h.world writes; logged = h.logged + records_len writes; sessions = placed_all h.sessions (staged h.world h.sessions writes) }

@@ -32,7 +32,8 @@ bulk_len b lt = let d = digits (length b) lt in omega (arith, d, length-append (
 joined_len : (a b c d : Bytes) → length a ≤ 30 → length b ≤ 40 → length c ≤ 290 → length d ≤ 30 → length (a ++ (b ++ (c ++ (d ++ [])))) ≤ 400
 joined_len a b c d p q r s = omega (arith, p, q, r, s, length-append a (b ++ (c ++ (d ++ []))), length-append b (c ++ (d ++ [])), length-append c (d ++ []), length-append d [])
 
-frame_len : (called word : Bytes) (k : ℕ) → length called ≤ 10 → length word ≤ max_name → k < 2 ^ 64 → length (frame_text (array (bulk called ∷ bulk word ∷ number k ∷ []))) ≤ 400
+frame_len : (called word : Bytes) (k : ℕ) → length called ≤ 10 → length word ≤ max_name → k < 2 ^ 64
+    → length (frame_text (array (bulk called ∷ bulk word ∷ number k ∷ []))) ≤ 400
 frame_len called word k p q r =
     joined_len (line 42 (decimal 3)) (bulk_text called) (bulk_text word) (line 58 (decimal k)) (omega (arith, digits 3 (omega arith), line_len 42 (decimal 3)))
     (omega (arith, p, bulk_len called (omega (arith, p))))
@@ -56,7 +57,8 @@ as_many : (called : Bytes) (held subs : List Sub) → length (frames_of called h
 as_many called held [] = refl
 as_many called held (s ∷ subs) = let ih = as_many called (with_sub held s) subs in omega (arith, ih)
 
-bytes_of : (called : Bytes) (held subs : List Sub) → length called ≤ 10 → AreShort subs → length held + length subs ≤ 100000 → frame_bytes (frames_of called held subs) ≤ 400 * length subs
+bytes_of : (called : Bytes) (held subs : List Sub) → length called ≤ 10 → AreShort subs → length held + length subs ≤ 100000
+    → frame_bytes (frames_of called held subs) ≤ 400 * length subs
 bytes_of called held [] p a b = omega arith
 bytes_of called held (s ∷ subs) p a b =
     let more = with_len held s in
@@ -79,7 +81,8 @@ short_subs : (pattern : Bool) (words : List Bytes) → AllByRecursion (λ w. len
 short_subs pattern [] all = tt
 short_subs pattern (w ∷ words) all = (all.0, short_subs pattern words all.1)
 
-confirmed : (called : Bytes) (held subs : List Sub) → length called ≤ 10 → AreShort subs → length held ≤ max_subs → length subs ≤ max_words → Fits (record { replies = confirmations called held subs; subs = subs; writes = []; closes = false })
+confirmed : (called : Bytes) (held subs : List Sub) → length called ≤ 10 → AreShort subs → length held ≤ max_subs → length subs ≤ max_words
+    → Fits (record { replies = confirmations called held subs; subs = subs; writes = []; closes = false })
 confirmed called held subs p a h l = record {
   fit = record {
     few = omega (arith, as_many called held subs, l);
@@ -87,14 +90,16 @@ confirmed called held subs p a h l = record {
   };
 }
 
-subscribed : (called : Bytes) (held subs : List Sub) → length called ≤ 10 → AreShort subs → length held ≤ max_subs → length subs ≤ max_words → Fits (within_reply (subscribe_effect called held subs))
+subscribed : (called : Bytes) (held subs : List Sub) → length called ≤ 10 → AreShort subs → length held ≤ max_subs → length subs ≤ max_words
+    → Fits (within_reply (subscribe_effect called held subs))
 subscribed called held subs p a h l =
     let e : Effect = subscribe_effect called held subs in
     let one : Fits e = if_fits (nat_lt max_subs (length (with_subs held subs))) (refuses refusal.TooManySubscriptions) (record { replies = confirmations called held subs; subs = subs; writes = []; closes = false })
     (record { fit = record { few = lit≤ tt; light = lit≤ tt } }) (confirmed called held subs p a h l) in
     if_fits (list_all (λ r. nat_le (length (frame_text r)) max_reply) e.replies) e (refuses refusal.ReplyTooLong) one (record { fit = record { few = lit≤ tt; light = lit≤ tt } })
 
-whole : (w : World) (now : ℕ) (held : List Sub) (c : Command) → subscribes c ≡ true → HasShortWords c → length held ≤ max_subs → Fits (effect w now held c)
+whole : (w : World) (now : ℕ) (held : List Sub) (c : Command) → subscribes c ≡ true → HasShortWords c → length held ≤ max_subs
+    → Fits (effect w now held c)
 unfolding effect
 whole w now held (command.Subscribe names) e s h =
     let l : length (subs_of false names) ≤ max_words = omega (arith, s.0, length-map {B = Sub} names (λ n. record { pattern = false; word = n })) in
@@ -106,5 +111,6 @@ whole w now held (command.Psubscribe globs) e s h =
     (record { fit = record { few = lit≤ tt; light = lit≤ tt } }) (subscribed (codes "psubscribe") held (subs_of true globs) (lit≤ tt) (short_subs true globs s.1) h l)
 whole w now held c e s h = absurd (cc)
 
-pub subscribing_fits : (w : World) (now : ℕ) (held : List Sub) (c : Command) → subscribes c ≡ true → HasShortWords c → length held ≤ max_subs → FitBehind (map frame_text (effect w now held c).replies)
+pub subscribing_fits : (w : World) (now : ℕ) (held : List Sub) (c : Command) → subscribes c ≡ true → HasShortWords c → length held ≤ max_subs
+    → FitBehind (map frame_text (effect w now held c).replies)
 subscribing_fits w now held c e s h = (whole w now held c e s h).fit

@@ -69,7 +69,8 @@ with_plain w key id f q = by (object_at w key id) refl
     by None e = rw e (missing_plain w key)
     by (Some o) e = rw e (q o)
 
-resolved_plain : (w : World) (from : AreaWords) (f : Area → List Bytes → Effect) → ((a : Area) (words : List Bytes) → IsPlain (f a words)) → IsPlain (resolved w from f)
+resolved_plain : (w : World) (from : AreaWords) (f : Area → List Bytes → Effect) → ((a : Area) (words : List Bytes) → IsPlain (f a words))
+    → IsPlain (resolved w from f)
 resolved_plain w (Given a) f q = q a []
 resolved_plain w (Of key id) f q = with_plain w key id _ (λ o. q _ _)
 
@@ -139,7 +140,8 @@ command_plain w now held (command.Subscribe names) e = absurd (cc)
 command_plain w now held (command.Psubscribe globs) e = absurd (cc)
 
 -- refused where it is too long
-short_answer : (r : List Piece) (writes : List Write) (closes : Bool) → length (frame_text r) ≤ max_reply → IsAnswer (record { replies = r ∷ []; subs = []; writes = writes; closes = closes })
+short_answer : (r : List Piece) (writes : List Write) (closes : Bool) → length (frame_text r) ≤ max_reply
+    → IsAnswer (record { replies = r ∷ []; subs = []; writes = writes; closes = closes })
 short_answer r writes closes le = record { reply = r; one = refl; none = refl; short = le }
 
 and_left : (n : ℕ) (b : Bool) → nat_le n max_reply ≡ b → (b && true) ≡ true → n ≤ max_reply
@@ -149,7 +151,8 @@ and_left n false e f = absurd (cc)
 within : (e : Effect) → IsPlain e → IsAnswer (within_reply e)
 within e p = by (list_all (λ r. nat_le (length (frame_text r)) max_reply) e.replies) refl
   where
-    by : (b : Bool) → list_all (λ r. nat_le (length (frame_text r)) max_reply) e.replies ≡ b → IsAnswer (if b then e else refuses refusal.ReplyTooLong)
+    by : (b : Bool) → list_all (λ r. nat_le (length (frame_text r)) max_reply) e.replies ≡ b
+        → IsAnswer (if b then e else refuses refusal.ReplyTooLong)
     by true t = record { reply = p.reply; one = p.one; none = p.none; short = and_left (length (frame_text p.reply)) (nat_le (length (frame_text p.reply)) max_reply) refl (sym (ap (list_all (λ r. nat_le (length (frame_text r)) max_reply)) p.one) ∙ t) }
     by false t = short_answer _ [] false (lit≤ tt)
 
@@ -169,7 +172,8 @@ if_keeps : (b : Bool) (e f : Effect) → Keeps e → Keeps f → Keeps (if b the
 if_keeps true e f p q = p
 if_keeps false e f p q = q
 
-no_change : (replies : List (List Piece)) (subs : List Sub) (closes : Bool) → Keeps (record { replies = replies; subs = subs; writes = []; closes = closes })
+no_change : (replies : List (List Piece)) (subs : List Sub) (closes : Bool)
+    → Keeps (record { replies = replies; subs = subs; writes = []; closes = closes })
 no_change replies subs closes = record { same = refl }
 
 subscribe_keeps : (called : Bytes) (held subs : List Sub) → Keeps (within_reply (subscribe_effect called held subs))
@@ -203,7 +207,8 @@ either w now held (Words words) = of_read (asks words)
 either w now held (Broken f) = inl refl
 
 -- a session with subscriptions is served four commands alone
-pub four_alone : (w : World) (now : ℕ) (held : List Sub) (c : Command) → has_subs held ≡ true → is_served_subscribed c ≡ false → effect w now held c ≡ refuses refusal.Subscribed
+pub four_alone : (w : World) (now : ℕ) (held : List Sub) (c : Command) → has_subs held ≡ true → is_served_subscribed c ≡ false
+    → effect w now held c ≡ refuses refusal.Subscribed
 unfolding effect
 four_alone w now held c h f = rw (h, f) refl
 
@@ -219,10 +224,12 @@ pub four_keep : (w : World) (now : ℕ) (held : List Sub) (c : Command) → has_
 unfolding effect
 four_keep w now held c h = by (is_served_subscribed c) refl
   where
-    by : (b : Bool) → is_served_subscribed c ≡ b → (if has_subs held && not b then refuses refusal.Subscribed else within_reply (command_effect w now held c)).writes ≡ []
+    by : (b : Bool) → is_served_subscribed c ≡ b
+        → (if has_subs held && not b then refuses refusal.Subscribed else within_reply (command_effect w now held c)).writes ≡ []
     by true e = let k = four_do w now held c e in both (has_subs held) k.same
       where
-        both : (b : Bool) → (within_reply (command_effect w now held c)).writes ≡ [] → (if b && false then refuses refusal.Subscribed else within_reply (command_effect w now held c)).writes ≡ []
+        both : (b : Bool) → (within_reply (command_effect w now held c)).writes ≡ []
+            → (if b && false then refuses refusal.Subscribed else within_reply (command_effect w now held c)).writes ≡ []
         both true k = k
         both false k = k
     by false e = rw h refl

@@ -46,10 +46,12 @@ all_of Q f (s ∷ ss) = (f s, all_of Q f ss)
 
 -- a list, session by session
 
-one_place : (d : Delivery) (list : List Delivery) (s : Session) → placed_each (if is_session d.0 s then placed d.1 s else s) (frames_to (if is_session d.0 s then placed d.1 s else s).number list) ≡ placed_each s (frames_to s.number (d ∷ list))
+one_place : (d : Delivery) (list : List Delivery) (s : Session)
+    → placed_each (if is_session d.0 s then placed d.1 s else s) (frames_to (if is_session d.0 s then placed d.1 s else s).number list) ≡ placed_each s (frames_to s.number (d ∷ list))
 one_place d list s = by (is_session d.0 s) refl
   where
-    by : (b : Bool) → is_session d.0 s ≡ b → placed_each (if b then placed d.1 s else s) (frames_to (if b then placed d.1 s else s).number list) ≡ placed_each s (if b then d.1 ∷ frames_to s.number list else frames_to s.number list)
+    by : (b : Bool) → is_session d.0 s ≡ b
+        → placed_each (if b then placed d.1 s else s) (frames_to (if b then placed d.1 s else s).number list) ≡ placed_each s (if b then d.1 ∷ frames_to s.number list else frames_to s.number list)
     by true e = ap (λ (n : ℕ). placed_each (placed d.1 s) (frames_to n list)) (placed_number d.1 s)
     by false e = refl
 

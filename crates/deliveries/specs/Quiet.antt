@@ -63,7 +63,8 @@ still_none w change.Flush is e = refl
 still_none w (change.SetChan c) is e = absurd is
 still_none w (change.DelChan name) is e = absurd is
 
-pub without_channels : (w : World) (ss : List Session) (writes : List Write) → w.channels ≡ [] → AllByRecursion (λ d. IsOfObjects d.change) writes → staged w ss writes ≡ []
+pub without_channels : (w : World) (ss : List Session) (writes : List Write) → w.channels ≡ [] → AllByRecursion (λ d. IsOfObjects d.change) writes
+    → staged w ss writes ≡ []
 without_channels w ss [] e are = refl
 without_channels w ss (d ∷ writes) e are =
     ap (λ (list : List Delivery). list ++ staged (after w d.change) ss writes) (no_deliveries w ss d e)

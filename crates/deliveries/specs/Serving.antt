@@ -13,7 +13,8 @@ use Rattle.deliveries.specs.Placing.{own, each_number, takes_it, is_cut, dead_ta
 
 -- the session of a number among sessions that were each changed, but for their numbers
 module _ (g : Session → Session) (keeps : (s : Session) → (g s).number ≡ s.number) where
-  found_test : (n : ℕ) (s : Session) (b : Bool) (rest : List Session) → is_session n s ≡ b → find (is_session n) (map g rest) ≡ option_map g (find (is_session n) rest)
+  found_test : (n : ℕ) (s : Session) (b : Bool) (rest : List Session) → is_session n s ≡ b
+      → find (is_session n) (map g rest) ≡ option_map g (find (is_session n) rest)
       → find (is_session n) (map g (s ∷ rest)) ≡ option_map g (find (is_session n) (s ∷ rest))
   found_test n s true rest e ih = let f : is_session n (g s) ≡ true = ap (λ m. m == n) (keeps s) ∙ e in rw (f, e) refl
   found_test n s false rest e ih = let f : is_session n (g s) ≡ false = ap (λ m. m == n) (keeps s) ∙ e in rw (f, e) ih
@@ -22,7 +23,8 @@ module _ (g : Session → Session) (keeps : (s : Session) → (g s).number ≡ s
   found_map n [] = refl
   found_map n (s ∷ rest) = found_test n s _ rest refl (found_map n rest)
 
-pub found_placed : (n : ℕ) (ss : List Session) (list : List Delivery) → find (is_session n) (placed_all ss list) ≡ option_map (λ s. placed_each s (frames_to s.number list)) (find (is_session n) ss)
+pub found_placed : (n : ℕ) (ss : List Session) (list : List Delivery)
+    → find (is_session n) (placed_all ss list) ≡ option_map (λ s. placed_each s (frames_to s.number list)) (find (is_session n) ss)
 found_placed n ss list = ap (find (is_session n)) (own ss list) ∙ found_map (λ s. placed_each s (frames_to s.number list)) (λ s. each_number s (frames_to s.number list)) n ss
 
 -- what holds of all holds of the one that is found
@@ -39,7 +41,8 @@ pub found_number : (n : ℕ) (s : Session) (ss : List Session) → find (is_sess
 found_number n s [] f = absurd (cc)
 found_number n s (t ∷ rest) f = by (is_session n t) refl (found_number n s rest) f
   where
-    by : (b : Bool) → is_session n t ≡ b → (find (is_session n) rest ≡ Some s → is_session n s ≡ true) → (if b then Some t else find (is_session n) rest) ≡ Some s → is_session n s ≡ true
+    by : (b : Bool) → is_session n t ≡ b → (find (is_session n) rest ≡ Some s → is_session n s ≡ true)
+        → (if b then Some t else find (is_session n) rest) ≡ Some s → is_session n s ≡ true
     by true is ih e = let same : t ≡ s = cc in subst (λ (u : Session). is_session n u ≡ true) same is
     by false is ih e = ih e
 
@@ -48,12 +51,14 @@ number_is n s e = grind (arith, nat_tests)
 
 -- room for all frames
 
-room_one : (a b l : ℕ) (x y : Bool) → nat_lt a cap_frames ≡ x → nat_le (b + l) cap_bytes ≡ y → (x && y) ≡ true → (nat_le (a + 1) cap_frames && nat_le (b + l) cap_bytes) ≡ true
+room_one : (a b l : ℕ) (x y : Bool) → nat_lt a cap_frames ≡ x → nat_le (b + l) cap_bytes ≡ y → (x && y) ≡ true
+    → (nat_le (a + 1) cap_frames && nat_le (b + l) cap_bytes) ≡ true
 room_one a b l true true p q e = let t : nat_le (a + 1) cap_frames ≡ true = grind (arith, nat_tests) in rw (t, q) refl
 room_one a b l true false p q e = absurd (cc)
 room_one a b l false y p q e = absurd (cc)
 
-room_none : (a b l m t : ℕ) (x y : Bool) → nat_lt a cap_frames ≡ x → nat_le (b + l) cap_bytes ≡ y → 1 ≤ m → l ≤ t → (x && y) ≡ false → (nat_le (a + m) cap_frames && nat_le (b + t) cap_bytes) ≡ false
+room_none : (a b l m t : ℕ) (x y : Bool) → nat_lt a cap_frames ≡ x → nat_le (b + l) cap_bytes ≡ y → 1 ≤ m → l ≤ t → (x && y) ≡ false
+    → (nat_le (a + m) cap_frames && nat_le (b + t) cap_bytes) ≡ false
 room_none a b l m t true true p q u v e = absurd (cc)
 room_none a b l m t true false p q u v e = let f : nat_le (b + t) cap_bytes ≡ false = grind (arith, nat_tests) in rw f (and_false (nat_le (a + m) cap_frames))
   where
@@ -62,7 +67,8 @@ room_none a b l m t true false p q u v e = let f : nat_le (b + t) cap_bytes ≡ 
     and_false false = refl
 room_none a b l m t false y p q u v e = let f : nat_le (a + m) cap_frames ≡ false = grind (arith, nat_tests) in rw f refl
 
-step_room : (s : Session) (f : Bytes) (fs : List Bytes) → has_room s f ≡ true → has_room_for (record s { frames = s.frames ++ f ∷ [] }) fs ≡ has_room_for s (f ∷ fs)
+step_room : (s : Session) (f : Bytes) (fs : List Bytes) → has_room s f ≡ true
+    → has_room_for (record s { frames = s.frames ++ f ∷ [] }) fs ≡ has_room_for s (f ∷ fs)
 step_room s f [] r =
     let one : frame_bytes (f ∷ []) ≡ length f = omega (arith, sum_by-cons length f []) in
     sym (ap (λ (l : ℕ). nat_le (length s.frames + 1) cap_frames && nat_le (frame_bytes s.frames + l) cap_bytes) one
@@ -82,7 +88,9 @@ pub lives_on : (s : Session) (fs : List Bytes) → is_live s ≡ true → is_liv
 lives_on s [] e = e
 lives_on s (f ∷ fs) e = by (has_room s f) refl (lives_on (record s { frames = s.frames ++ f ∷ [] }) fs e)
   where
-    by : (b : Bool) → has_room s f ≡ b → is_live (placed_each (record s { frames = s.frames ++ f ∷ [] }) fs) ≡ has_room_for (record s { frames = s.frames ++ f ∷ [] }) fs → is_live (placed_each (placed f s) fs) ≡ has_room_for s (f ∷ fs)
+    by : (b : Bool) → has_room s f ≡ b
+        → is_live (placed_each (record s { frames = s.frames ++ f ∷ [] }) fs) ≡ has_room_for (record s { frames = s.frames ++ f ∷ [] }) fs
+        → is_live (placed_each (placed f s) fs) ≡ has_room_for s (f ∷ fs)
     by true r ih =
         ap (λ (t : Session). is_live (placed_each t fs)) (takes_it s f e r)
         ∙ ih
@@ -101,11 +109,14 @@ one_by_one [] f b = refl
 one_by_one (x ∷ a) f b = ap (λ (gs : List Bytes). x ∷ gs) (one_by_one a f b)
 
 -- its frames then stand behind those that it had
-pub takes_all : (s : Session) (fs : List Bytes) → is_live s ≡ true → has_room_for s fs ≡ true → placed_each s fs ≡ record s { frames = s.frames ++ fs }
+pub takes_all : (s : Session) (fs : List Bytes) → is_live s ≡ true → has_room_for s fs ≡ true
+    → placed_each s fs ≡ record s { frames = s.frames ++ fs }
 takes_all s [] e r = ap (λ (fs : List Bytes). record s { frames = fs }) (sym (all_there s.frames))
 takes_all s (f ∷ fs) e r = by (has_room s f) refl (takes_all (record s { frames = s.frames ++ f ∷ [] }) fs e)
   where
-    by : (b : Bool) → has_room s f ≡ b → (has_room_for (record s { frames = s.frames ++ f ∷ [] }) fs ≡ true → placed_each (record s { frames = s.frames ++ f ∷ [] }) fs ≡ record s { frames = (s.frames ++ f ∷ []) ++ fs }) → placed_each (placed f s) fs ≡ record s { frames = s.frames ++ f ∷ fs }
+    by : (b : Bool) → has_room s f ≡ b
+        → (has_room_for (record s { frames = s.frames ++ f ∷ [] }) fs ≡ true → placed_each (record s { frames = s.frames ++ f ∷ [] }) fs ≡ record s { frames = (s.frames ++ f ∷ []) ++ fs })
+        → placed_each (placed f s) fs ≡ record s { frames = s.frames ++ f ∷ fs }
     by true q ih =
         ap (λ (t : Session). placed_each t fs) (takes_it s f e q)
         ∙ ih (step_room s f fs q ∙ r)

@@ -8,7 +8,7 @@ use Rattle.world_data.specs.Records.{record_len}
 use Rattle.world_model.specs.Subscriptions.{Sub}
 use Rattle.fence_model.specs.Messages.{Message, messages}
 use Rattle.fence_model.specs.Writes.{Write}
-use Rattle.world_model.specs.Halls.{Session, is_live, is_session, placed, frames_for, deliveries}
+use Rattle.world_model.specs.Halls.{Hall, Session, is_live, is_session, placed, frames_for, deliveries}
 use Rattle.world_data.specs.Frames.{frame_bytes}
 use Rattle.world_data.specs.declared.worlds.World.{World}
 
@@ -30,6 +30,10 @@ after_all w (d ∷ writes) = after_all (after w d.change) writes
 abbrev pub records_len : List Write → ℕ
 records_len [] = 0
 records_len (d ∷ writes) = record_len d.change + records_len writes
+
+-- the hall after all changes, with these sessions
+abbrev pub after_writes : Hall → List Write → List Session → Hall
+after_writes h writes sessions = record h { world = after_all h.world writes; logged = h.logged + records_len writes; sessions = sessions }
 
 -- what changes in order bring to sessions: the world goes on, and the sessions stand as they were before the first of them
 abbrev pub staged : World → List Session → List Write → List Delivery

@@ -1,2 +1,3 @@
 pub mod MarkOrder
 pub mod Names
+pub mod Silent

@@ -1,2 +1,3 @@
 pub mod Marks
 pub mod Candidates
+pub mod Silence

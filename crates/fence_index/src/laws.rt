@@ -15,10 +15,11 @@ ghost use Rattle.planar_geom.specs.Points.{boxes_meet};
 ghost use Rattle.planar_geom.specs.Relations.{area_box as box_of_area};
 ghost use Rattle.fence_index.specs.Marks.{mark_of, watched_box};
 ghost use Rattle.fence_index.specs.Candidates.{both_meet, box_if, is_concerned};
+ghost use Rattle.fence_index.specs.Silence.{IsWholeWatch, UnconcernedAreSilent};
 
 use planar_geom::{
-    Area, Shape, area_box, box_of, box_round_both_holds, centre, met_boxes_meet, near_boxes_meet,
-    way_stays_in_both_boxes,
+    Area, Shape, area_box, area_is_whole, box_of, box_round_both_holds, centre, met_boxes_meet,
+    met_is_near, near_boxes_meet, way_stays_in_both_boxes,
 };
 use world_data::{Channel, Object, Watch};
 
@@ -79,4 +80,20 @@ pub fn unconcerned_by_del(channel: &Channel, old: &Object)
         → (w : World) → object_at w old.now.key old.now.id ≡ Some old.now → payloads w (Del old.now.key old.now.id) channel.now ≡ [] }
 {
     watched_is_near(&channel.fence.watch, old);
+}
+
+/// What a channel watches is whole, as every area is.
+pub fn watch_is_whole(watch: &Watch)
+    ensures { IsWholeWatch watch.now }
+{
+    if let Watch::Spot(_, area) = watch {
+        area_is_whole(area);
+    }
+}
+
+/// Of all whole channels and objects: a channel that a put or a del does not concern raises nothing.
+pub fn unconcerned_are_silent()
+    ensures { UnconcernedAreSilent }
+{
+    met_is_near();
 }

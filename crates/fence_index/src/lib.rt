@@ -10,7 +10,7 @@ mod marks;
 mod nearness;
 
 pub use indexes::FenceIndex;
-pub use laws::{unconcerned_by_del, unconcerned_by_put};
+pub use laws::{unconcerned_are_silent, unconcerned_by_del, unconcerned_by_put, watch_is_whole};
 
 #[cfg(test)]
 mod tests;

@@ -1,16 +1,8 @@
 -- What is left of a list behind a place.
-use Rattle.std.proofs.Common.{◌≡◌, ℕ, zero, suc, ◌+◌, ◌<◌, Bool, true, false, List, [], ◌∷◌, length, drop, refl, ap, sym, arith, add-one, ◌∙◌}
+use Rattle.std.proofs.Common.{◌≡◌, ℕ, zero, suc, ◌+◌, ◌<◌, Bool, true, false, List, [], ◌∷◌, length, drop, refl, ap, sym, arith, ◌∙◌}
 use Rattle.std.specs.Prelude.{Some, slice_get, ◌&&◌, ◌||◌}
 use Rattle.std.specs.List.{list_all, list_any}
-
-opened_suc : {A : Type 0} (xs : List A) (i : ℕ) (x : A) → slice_get xs i ≡ Some x → drop i xs ≡ x ∷ drop (suc i) xs
-opened_suc [] i x e = absurd (cc)
-opened_suc (y ∷ xs) zero x e = let s : y ≡ x = cc in ap (λ z. z ∷ xs) s
-opened_suc (y ∷ xs) (suc i) x e = opened_suc xs i x e
-
--- the item at a place, and what is behind it
-pub opened : {A : Type 0} (xs : List A) (i : ℕ) (x : A) → slice_get xs i ≡ Some x → drop i xs ≡ x ∷ drop (i + 1) xs
-opened xs i x e = rw add-one (opened_suc xs i x e)
+use Rattle.byte_text.specs.ListLaws.{drop_next}
 
 pub item : {A : Type 0} (xs : List A) (i : ℕ) → i < length xs → (x : A) × (slice_get xs i ≡ Some x)
 item [] i lt = absurd (omega arith)
@@ -26,14 +18,14 @@ behind_all (y ∷ xs) (suc i) e = let less : length xs ≡ i = omega arith in be
 module _ {A : Type 0} (p : A → Bool) (xs : List A) (i : ℕ) (x : A) (at : slice_get xs i ≡ Some x) where
   -- a test of all fails at an item that fails
   pub all_fails : (w : Bool) → p x ≡ false → list_all p (drop i xs) ≡ w → false ≡ w
-  all_fails w h e = sym (ap (λ (b : Bool). b && list_all p (drop (i + 1) xs)) h) ∙ sym (ap (list_all p) (opened xs i x at)) ∙ e
+  all_fails w h e = sym (ap (λ (b : Bool). b && list_all p (drop (i + 1) xs)) h) ∙ sym (ap (list_all p) (drop_next xs i x at)) ∙ e
 
   pub all_goes : (w : Bool) → p x ≡ true → list_all p (drop i xs) ≡ w → list_all p (drop (i + 1) xs) ≡ w
-  all_goes w h e = sym (ap (λ (b : Bool). b && list_all p (drop (i + 1) xs)) h) ∙ sym (ap (list_all p) (opened xs i x at)) ∙ e
+  all_goes w h e = sym (ap (λ (b : Bool). b && list_all p (drop (i + 1) xs)) h) ∙ sym (ap (list_all p) (drop_next xs i x at)) ∙ e
 
   -- a test of any holds at an item that passes
   pub any_holds : (w : Bool) → p x ≡ true → list_any p (drop i xs) ≡ w → true ≡ w
-  any_holds w h e = sym (ap (λ (b : Bool). b || list_any p (drop (i + 1) xs)) h) ∙ sym (ap (list_any p) (opened xs i x at)) ∙ e
+  any_holds w h e = sym (ap (λ (b : Bool). b || list_any p (drop (i + 1) xs)) h) ∙ sym (ap (list_any p) (drop_next xs i x at)) ∙ e
 
   pub any_goes : (w : Bool) → p x ≡ false → list_any p (drop i xs) ≡ w → list_any p (drop (i + 1) xs) ≡ w
-  any_goes w h e = sym (ap (λ (b : Bool). b || list_any p (drop (i + 1) xs)) h) ∙ sym (ap (list_any p) (opened xs i x at)) ∙ e
+  any_goes w h e = sym (ap (λ (b : Bool). b || list_any p (drop (i + 1) xs)) h) ∙ sym (ap (list_any p) (drop_next xs i x at)) ∙ e

@@ -8,14 +8,14 @@ use Rattle.world_data.specs.Worlds.{object_before, are_objects, is_at, has_key}
 use Rattle.world_data.specs.Expiry.{is_due, due_before}
 use Rattle.world_data.specs.declared.objects.Object.{Object}
 use Rattle.byte_text.specs.ByteOrder.{same_refl, same_equal, other_before, other_behind}
-use Rattle.ordered_lists.specs.Reading.{filter-all, both_of, stands_at}
+use Rattle.ordered_lists.specs.Reading.{all_at, filter-all, both_of, stands_at}
 use Rattle.ordered_lists.specs.NameOrder.{pair_asym}
 use Rattle.collection.specs.Objects.{least_due, are_by_id}
 use Rattle.keyspace.specs.Entries.{Entry, objects_in}
 use Rattle.keyspace.specs.KeyOrder.{is_entry, are_entries}
 use Rattle.keyspace.specs.FirstDue.{is_later, is_no_sooner, IsSoonest, Took}
 use Rattle.keyspace.proofs.Parts.{all_both, filter_both, find_past}
-use Rattle.keyspace.proofs.Keys.{Stands, stands_here, split_at, all_at, all_take, all_drop, objects_around}
+use Rattle.keyspace.proofs.Keys.{Stands, stands_here, split_at, all_take, all_drop, objects_around}
 use Rattle.keyspace.proofs.Dues.{all_as, later, no_sooner, least_all, least_each, none_sooner, others_later}
 
 module _ {A : Type 0} (lt : A → A → Bool) where

@@ -1,6 +1,6 @@
 -- Keys that have an object, and the keys that are left where some are given up.
 use Rattle.std.proofs.Common.{◌≡◌, ℕ, suc, Bool, true, false, not, refl, sym, ap, ◌∙◌, List, [], ◌∷◌, ◌++◌, length, map, subst, arith}
-use Rattle.std.specs.Prelude.{filter, ◌&&◌, ◌||◌, ◌==◌, if◌then◌else◌}
+use Rattle.std.specs.Prelude.{filter, ◌&&◌, ◌||◌, ◌==◌}
 use Rattle.std.specs.List.{list_all, list_any}
 use Rattle.std.proofs.lemmas.Bool.Decides.{nat_tests}
 use Rattle.byte_text.specs.Names.{Bytes, before, same}
@@ -11,10 +11,10 @@ use Rattle.world_data.specs.Worlds.{has_key}
 use Rattle.collection.specs.Objects.{are_by_id}
 use Rattle.world_data.specs.declared.objects.Object.{Object}
 use Rattle.keyspace.specs.Entries.{Entry, objects_in, keys_of, has_objects, is_held, are_held, key_before}
-use Rattle.keyspace.specs.KeyOrder.{is_entry, are_entries}
+use Rattle.keyspace.specs.KeyOrder.{is_entry}
 use Rattle.keyspace.proofs.Keys.{Stands, Lacks, objects_back}
 use Rattle.keyspace.proofs.Orders.{distinct_keys}
-use Rattle.keyspace.proofs.KeyLists.{is_other, is_needed, other_stays, other_needed, none_left_out, needed, given_up, key_left_out}
+use Rattle.keyspace.proofs.KeyLists.{is_other, is_needed, other_stays, none_left_out, needed, given_up, key_left_out}
 use Rattle.keyspace.proofs.Lookups.{of_key_in, none_of_key}
 
 keys_filter : (q : Bytes → Bool) (xs : List Entry) → keys_of (filter (λ e. q e.key) xs) ≡ filter q (keys_of xs)

@@ -9,7 +9,7 @@ use Rattle.world_data.specs.Worlds.{has_key}
 use Rattle.world_data.specs.declared.objects.Object.{Object}
 use Rattle.ordered_lists.specs.Ascending.{ascends-put_in, put_in-insert, put_in-set, all_remove, ascends-remove}
 use Rattle.byte_text.specs.ByteOrder.{before_trans, before_tie, before_asym, before_self, same_equal}
-use Rattle.ordered_lists.specs.Reading.{all-insert, all-set, both_of, stands_at}
+use Rattle.ordered_lists.specs.Reading.{all-insert, all-set, all_at, both_of, stands_at}
 use Rattle.keyspace.specs.Entries.{Entry, key_before, objects_in}
 use Rattle.keyspace.specs.KeyOrder.{is_entry, are_entries}
 use Rattle.keyspace.proofs.Parts.{Apart, all_both}
@@ -76,11 +76,6 @@ module _ {A : Type 0} where
   all_drop q [] (suc at) all = refl
   all_drop q (x ∷ xs) zero all = all
   all_drop q (x ∷ xs) (suc at) all = all_drop q xs at (both_of (q x) (list_all q xs) all).1
-
-  pub all_at : (q : A → Bool) (xs : List A) (at : ℕ) (x : A) → slice_get xs at ≡ Some x → list_all q xs ≡ true → q x ≡ true
-  all_at q [] at x is all = absurd (cc)
-  all_at q (y ∷ xs) zero x is all = let s : y ≡ x = cc in subst (λ (z : A). q z ≡ true) s (both_of (q y) (list_all q xs) all).0
-  all_at q (y ∷ xs) (suc at) x is all = all_at q xs at x is (both_of (q y) (list_all q xs) all).1
 
 behind_one : (xs : List Entry) (at : ℕ) (e : Entry) → ascends key_before xs ≡ true → slice_get xs at ≡ Some e → list_all (key_before e) (drop (suc at) xs) ≡ true
 behind_one [] at e asc is = absurd (cc)

@@ -8,10 +8,10 @@ use Rattle.world_data.specs.Worlds.{is_at}
 use Rattle.world_data.specs.declared.objects.Object.{Object}
 use Rattle.collection.specs.Objects.{has_room as fits}
 use Rattle.byte_text.specs.ByteOrder.{same_refl, same_equal, other_before, other_behind}
-use Rattle.ordered_lists.specs.Reading.{both_of}
+use Rattle.ordered_lists.specs.Reading.{all_at, both_of}
 use Rattle.keyspace.specs.Entries.{Entry, key_before, objects_in, room_for, has_room}
 use Rattle.keyspace.specs.KeyOrder.{held_of}
-use Rattle.keyspace.proofs.Keys.{Stands, Lacks, all_at, halves}
+use Rattle.keyspace.proofs.Keys.{Stands, Lacks, halves}
 use Rattle.keyspace.proofs.Lookups.{any_in, any_not}
 
 -- the entry of a key is the first of that key

@@ -1,9 +1,7 @@
 -- Sides of a log, and words of records.
-use Rattle.std.specs.Prelude.{◌≡◌, ◌+◌, ◌*◌, ◌^◌, ℕ, ℤ, pos, negsuc, Bool, true, false, ◌&&◌, ◌==◌, List, [], ◌∷◌, ◌++◌, length, take, drop, map, replicate, codes, Option, Some, None, if◌then◌else◌}
-use Rattle.std.specs.List.{list_all}
+use Rattle.std.specs.Prelude.{◌≡◌, ◌+◌, ℕ, pos, negsuc, Bool, true, false, ◌==◌, List, [], ◌∷◌, ◌++◌, length, take, drop, codes, Option, Some, None, if◌then◌else◌}
 use Prim.Native.String.{String}
 use Rattle.byte_text.specs.Names.{Bytes}
-use Rattle.byte_text.specs.Requests.{request_text}
 use Rattle.planar_geom.specs.Points.{pt}
 use Rattle.planar_geom.specs.declared.shapes.Part.TheVariants.{Spot}
 use Rattle.world_model.specs.Kinds.{joins_first}
@@ -20,8 +18,7 @@ use Rattle.outside.specs.declared.sides.Side.{Side}
 use Rattle.outside.specs.declared.sides.Side.TheVariants.{A, B}
 use Rattle.outside.specs.Sides.{Sides}
 use Rattle.log_record.specs.Words.{change_of_words, same_words}
-use Rattle.log_record.specs.Batches.{batch_text}
-use Rattle.log_record.specs.Readings.{header, side_text, Reading, fresh, stands, damaged, reading}
+use Rattle.log_record.specs.Readings.{side_text, Reading, fresh, stands, damaged, reading}
 
 abbrev pub split_spaces : Bytes → List Bytes
 split_spaces [] = [] ∷ []

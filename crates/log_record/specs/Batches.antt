@@ -1,21 +1,17 @@
 -- Batches of records: their text, and how they are read.
 use Rattle.std.specs.Prelude.{ℕ, zero, suc, ◌+◌, ◌-◌, ◌^◌, ◌<◌, ◌==◌, nat_le, List, [], ◌∷◌, ◌++◌, length, take, drop, flat_map, Option, Some, None, option_map, if◌then◌else◌, Result, Ok, Err}
 use Rattle.std.specs.List.{AllByRecursion}
-use Rattle.std.specs.Int.{w64, to_be_bytes, from_be_bytes}
+use Rattle.std.specs.Int.{w64, from_be_bytes}
 use Rattle.byte_text.specs.Names.{Bytes}
 use Rattle.byte_text.specs.Streams.{Front, found, begun, broken, request}
+pub use Rattle.outside.specs.Sides.{AreBytes}
+pub use Rattle.log_sides.specs.Texts.{open_gate}
+unfoldable pub use Rattle.log_sides.specs.Texts.{number_bytes}
 use Rattle.world_data.specs.Records.{record_text}
 use Rattle.world_data.specs.declared.worlds.Change.{Change}
 use Rattle.log_record.specs.Words.{change_of_words, IsRecorded}
 
--- each is a byte
-abbrev pub AreBytes : Bytes → Type 0
-AreBytes bytes = AllByRecursion (λ b. b < 256) bytes
-
--- a number of 8 bytes, the highest first
-abbrev pub number_bytes : ℕ → Bytes
-number_bytes n = to_be_bytes w64 n
-
+-- the number that 8 bytes are, the highest first
 abbrev pub number_of : Bytes → ℕ
 number_of bytes = from_be_bytes w64 bytes
 
@@ -36,10 +32,7 @@ all_changes (changes ∷ batches) = changes ++ all_changes batches
 abbrev pub AreRecorded : List (List Change) → Type 0
 AreRecorded batches = AllByRecursion (λ changes. AllByRecursion IsRecorded changes × (length (records_text changes) < 2 ^ 64)) batches
 
--- the gates
-abbrev pub open_gate : ℕ
-open_gate = 1
-
+-- the gate that is written behind a batch
 abbrev pub closed_gate : ℕ
 closed_gate = 0
 

@@ -29,6 +29,7 @@ all_get (b ∷ bytes) are (suc i) = all_get bytes are.1 i
 
 -- a number that is read is the text of its value
 pub number_found : (bytes : Bytes) → length bytes ≡ 8 → AreBytes bytes → number_bytes (number_of bytes) ≡ bytes
+unfolding number_bytes
 number_found bytes long are = be_bytes_8 bytes (number_of bytes) long (all_get bytes are) refl
 
 pub record Found (at : ℕ) (bytes : Bytes) (b : Batches) : Type 0 where
@@ -54,9 +55,11 @@ err_not at b e = cc e
 abbrev Behind : ℕ → Bytes → Batches → Type 0
 Behind at bytes b = Found at (open_gate ∷ bytes) b
 
-with_commas : (at : ℕ) (bytes : Bytes) (changes : List Change) (b others : Batches) → AreBytes bytes → length bytes < 2 ^ 64 → 8 + number_of (take 8 bytes) ≤ length bytes
+with_commas : (at : ℕ) (bytes : Bytes) (changes : List Change) (b others : Batches) → AreBytes bytes → length bytes < 2 ^ 64
+    → 8 + number_of (take 8 bytes) ≤ length bytes
     → AllByRecursion IsRecorded changes × (take (number_of (take 8 bytes)) (drop 8 bytes) ≡ records_text changes)
-    → Found (at + 9 + number_of (take 8 bytes)) (drop (8 + number_of (take 8 bytes)) bytes) others → record { changes = changes ++ others.changes; gate = others.gate } ≡ b → Behind at bytes b
+    → Found (at + 9 + number_of (take 8 bytes)) (drop (8 + number_of (take 8 bytes)) bytes) others
+    → record { changes = changes ++ others.changes; gate = others.gate } ≡ b → Behind at bytes b
 with_commas at bytes changes b others are small within records rest is =
     let n = number_of (take 8 bytes) in
     let number : number_bytes n ≡ take 8 bytes = number_found (take 8 bytes) (omega (arith, length-take 8 bytes, within)) (all_take 8 bytes are) in
@@ -80,28 +83,35 @@ with_commas at bytes changes b others are small within records rest is =
 abbrev Next : (ℕ → Bytes → Result Batches ℕ) → Type 0
 Next next = (k : ℕ) (rest : Bytes) (c : Batches) → AreBytes rest → length rest < 2 ^ 64 → next k rest ≡ Ok c → Found k rest c
 
-by_others : (at : ℕ) (bytes : Bytes) (changes : List Change) (b : Batches) (r : Result Batches ℕ) → AreBytes bytes → length bytes < 2 ^ 64 → 8 + number_of (take 8 bytes) ≤ length bytes
+by_others : (at : ℕ) (bytes : Bytes) (changes : List Change) (b : Batches) (r : Result Batches ℕ) → AreBytes bytes → length bytes < 2 ^ 64
+    → 8 + number_of (take 8 bytes) ≤ length bytes
     → AllByRecursion IsRecorded changes × (take (number_of (take 8 bytes)) (drop 8 bytes) ≡ records_text changes)
-    → ((c : Batches) → r ≡ Ok c → Found (at + 9 + number_of (take 8 bytes)) (drop (8 + number_of (take 8 bytes)) bytes) c) → with_changes (Ok changes) r ≡ Ok b → Behind at bytes b
+    → ((c : Batches) → r ≡ Ok c → Found (at + 9 + number_of (take 8 bytes)) (drop (8 + number_of (take 8 bytes)) bytes) c)
+    → with_changes (Ok changes) r ≡ Ok b → Behind at bytes b
 by_others at bytes changes b (Ok c) are small within records ih e = with_commas at bytes changes b c are small within records (ih c refl) (ok_is (record { changes = changes ++ c.changes; gate = c.gate }) b e)
 by_others at bytes changes b (Err k) are small within records ih e = absurd (err_not k b e)
 
-by_records : (at : ℕ) (bytes : Bytes) (b : Batches) (r : Result (List Change) ℕ) (others : Result Batches ℕ) → AreBytes bytes → length bytes < 2 ^ 64 → 8 + number_of (take 8 bytes) ≤ length bytes
+by_records : (at : ℕ) (bytes : Bytes) (b : Batches) (r : Result (List Change) ℕ) (others : Result Batches ℕ) → AreBytes bytes
+    → length bytes < 2 ^ 64 → 8 + number_of (take 8 bytes) ≤ length bytes
     → records_in (at + 9) (take (number_of (take 8 bytes)) (drop 8 bytes)) ≡ r
-    → ((c : Batches) → others ≡ Ok c → Found (at + 9 + number_of (take 8 bytes)) (drop (8 + number_of (take 8 bytes)) bytes) c) → with_changes r others ≡ Ok b → Behind at bytes b
+    → ((c : Batches) → others ≡ Ok c → Found (at + 9 + number_of (take 8 bytes)) (drop (8 + number_of (take 8 bytes)) bytes) c)
+    → with_changes r others ≡ Ok b → Behind at bytes b
 by_records at bytes b (Err k) others are small within read ih e = absurd (err_not k b e)
 by_records at bytes b (Ok changes) others are small within read ih e =
     by_others at bytes changes b others are small within (records_found (at + 9) (take (number_of (take 8 bytes)) (drop 8 bytes)) changes read) ih e
 
-by_length : (at : ℕ) (bytes : Bytes) (b : Batches) (next : ℕ → Bytes → Result Batches ℕ) (t : Bool) → AreBytes bytes → length bytes < 2 ^ 64 → nat_le (8 + number_of (take 8 bytes)) (length bytes) ≡ t → Next next
-    → (if t then with_changes (records_in (at + 9) (take (number_of (take 8 bytes)) (drop 8 bytes))) (next (at + 9 + number_of (take 8 bytes)) (drop (8 + number_of (take 8 bytes)) bytes)) else Err (at + 1)) ≡ Ok b → Behind at bytes b
+by_length : (at : ℕ) (bytes : Bytes) (b : Batches) (next : ℕ → Bytes → Result Batches ℕ) (t : Bool) → AreBytes bytes → length bytes < 2 ^ 64
+    → nat_le (8 + number_of (take 8 bytes)) (length bytes) ≡ t → Next next
+    → (if t then with_changes (records_in (at + 9) (take (number_of (take 8 bytes)) (drop 8 bytes))) (next (at + 9 + number_of (take 8 bytes)) (drop (8 + number_of (take 8 bytes)) bytes)) else Err (at + 1)) ≡ Ok b
+    → Behind at bytes b
 by_length at bytes b next true are small test ih e =
     let n = number_of (take 8 bytes) in
     by_records at bytes b (records_in (at + 9) (take n (drop 8 bytes))) (next (at + 9 + n) (drop (8 + n) bytes)) are small (leb-true (8 + n) (length bytes) test) refl
     (λ c is. ih (at + 9 + n) (drop (8 + n) bytes) c (all_drop (8 + n) bytes are) (omega (arith, small, length-drop (8 + n) bytes)) is) e
 by_length at bytes b next false are small test ih e = absurd (err_not (at + 1) b e)
 
-by_gate : (at gate : ℕ) (bytes : Bytes) (b : Batches) (next : ℕ → Bytes → Result Batches ℕ) (t : Bool) → AreBytes bytes → length bytes < 2 ^ 64 → (gate == open_gate) ≡ t → Next next
+by_gate : (at gate : ℕ) (bytes : Bytes) (b : Batches) (next : ℕ → Bytes → Result Batches ℕ) (t : Bool) → AreBytes bytes → length bytes < 2 ^ 64
+    → (gate == open_gate) ≡ t → Next next
     → (if t then batch_behind at bytes next else Ok (record { changes = []; gate = at })) ≡ Ok b → Found at (gate ∷ bytes) b
 by_gate at gate bytes b next true are small test ih e =
     subst (λ (g : ℕ). Found at (g ∷ bytes) b) (sym (eqb-true gate open_gate test)) (by_length at bytes b next (nat_le (8 + number_of (take 8 bytes)) (length bytes)) are small refl ih e)

@@ -25,7 +25,8 @@ text_long words = cons_long 42 ((decimal (length words) ++ line_end) ++ flat_map
 front_read : (c : Change) (rest : Bytes) → IsRecorded c → record_front (request (record_text c ++ rest)) ≡ Some (c, rest)
 front_read c rest is = ap record_front (request_read (record_words c) rest is.fits) ∙ ap (option_map (λ (d : Change). (d, rest))) is.read_back
 
-first_read : (n at : ℕ) (changes : List Change) → AllByRecursion IsRecorded changes → length (records_text changes) ≤ n → first_records n at (records_text changes) ≡ Ok changes
+first_read : (n at : ℕ) (changes : List Change) → AllByRecursion IsRecorded changes → length (records_text changes) ≤ n
+    → first_records n at (records_text changes) ≡ Ok changes
 first_read zero at [] are few = refl
 first_read (suc n) at [] are few = refl
 first_read zero at (c ∷ changes) are few = absurd (omega (arith, few, text_long (record_words c), length-append (record_text c) (records_text changes)))
@@ -41,6 +42,7 @@ records_read at changes are = first_read (length (records_text changes)) at chan
 -- batches
 
 pub eight : (n : ℕ) → length (number_bytes n) ≡ 8
+unfolding number_bytes
 eight n = refl
 
 take_front : (xs ys : Bytes) → take (length xs) (xs ++ ys) ≡ xs
@@ -51,8 +53,10 @@ drop_front : (xs ys : Bytes) → drop (length xs) (xs ++ ys) ≡ ys
 drop_front [] ys = refl
 drop_front (x ∷ xs) ys = drop_front xs ys
 
-batch_read : (at : ℕ) (changes : List Change) (rest : Bytes) (next : ℕ → Bytes → Result Batches ℕ) → AllByRecursion IsRecorded changes → length (records_text changes) < 2 ^ 64
+batch_read : (at : ℕ) (changes : List Change) (rest : Bytes) (next : ℕ → Bytes → Result Batches ℕ) → AllByRecursion IsRecorded changes
+    → length (records_text changes) < 2 ^ 64
     → batch_behind at (batch_text changes ++ rest) next ≡ with_changes (Ok changes) (next (at + 9 + length (records_text changes)) rest)
+unfolding number_bytes
 batch_read at changes rest next are small =
     let records = records_text changes in
     let n = length records in
@@ -70,7 +74,8 @@ batch_read at changes rest next are small =
 
 -- batches and a gate that is not open
 
-pub first_batches_read : (n at gate : ℕ) (batches : List (List Change)) (stale : Bytes) → (gate == open_gate) ≡ false → AreRecorded batches → length batches < n
+pub first_batches_read : (n at gate : ℕ) (batches : List (List Change)) (stale : Bytes) → (gate == open_gate) ≡ false → AreRecorded batches
+    → length batches < n
     → first_batches n at (open_batches batches ++ gate ∷ stale) ≡ Ok (record { changes = all_changes batches; gate = at + length (open_batches batches) })
 first_batches_read zero at gate batches stale closed are few = absurd (omega (arith, few))
 first_batches_read (suc n) at gate [] stale closed are few = rw closed (ap (λ (k : ℕ). Ok (record { changes = []; gate = k })) (omega arith))

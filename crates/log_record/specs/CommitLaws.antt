@@ -18,7 +18,8 @@ with_there s A bytes = refl
 with_there s B bytes = refl
 
 -- what the batch's side reads as
-placed_text : (u : InUse) (changes : List Change) (side : Side) (gate : ℕ) (piece : Bytes) (s : Sides) → IsAt u side gate → piece ≡ behind_gate changes → StandsBy u s
+placed_text : (u : InUse) (changes : List Change) (side : Side) (gate : ℕ) (piece : Bytes) (s : Sides) → IsAt u side gate
+    → piece ≡ behind_gate changes → StandsBy u s
     → (g : ℕ) × (rest : Bytes) × (write_over (gate + 1) piece (side_of s side) ≡ side_over u.generation u.batches g (behind_gate changes ++ rest))
 placed_text u changes side gate piece s at batch by =
     let behind = behind_gate changes in
@@ -50,32 +51,40 @@ module _ {D : Type 0} (crashes : D → Bool) (seen : D → Option Sides) (images
       ((two.0, two.1), λ c image. settled c image ∙ bytes)
 
   -- the batch
-  ready_step : (old : D) (u : InUse) (changes : List Change) (side : Side) (gate : ℕ) (piece : Bytes) → IsReady (images old) (seen old) u changes side gate piece
+  ready_step : (old : D) (u : InUse) (changes : List Change) (side : Side) (gate : ℕ) (piece : Bytes)
+      → IsReady (images old) (seen old) u changes side gate piece
       → (d c : Sides) → images old d → On side (Torn (gate + 1) (length piece)) d c → StandsBy u c
   ready_step old u changes side gate piece ready d c image step =
       write_stands u (length piece) d c (subst (λ (k : ℕ). k + 1 + length piece ≤ 4611686018427387904) ready.at.at_gate ready.room) (ready.each d image)
       (subst (λ (k : ℕ). On u.side (Torn (k + 1) (length piece)) d c) ready.at.at_gate (subst (λ (s : Side). On s (Torn (gate + 1) (length piece)) d c) ready.at.on_side step))
 
-  pub batch_leaves : (old mid : D) (u : InUse) (changes : List Change) (side : Side) (gate : ℕ) (piece : Bytes) → IsReady (images old) (seen old) u changes side gate piece
-      → Elapses crashes images moment left_since old mid → Follows (On side (Torn (gate + 1) (length piece))) (images old) (images mid) → LeavesOnly moment left_since old mid (StandsBy u)
+  pub batch_leaves : (old mid : D) (u : InUse) (changes : List Change) (side : Side) (gate : ℕ) (piece : Bytes)
+      → IsReady (images old) (seen old) u changes side gate piece
+      → Elapses crashes images moment left_since old mid → Follows (On side (Torn (gate + 1) (length piece))) (images old) (images mid)
+      → LeavesOnly moment left_since old mid (StandsBy u)
   batch_leaves old mid u changes side gate piece ready time crash =
       write_carries crashes images moment left_since old old mid (StandsBy u) side (gate + 1) (length piece) (begins moment left_since old (StandsBy u)) time crash (ready_step old u changes side gate piece ready)
 
-  pub batch_each : (old mid : D) (u : InUse) (changes : List Change) (side : Side) (gate : ℕ) (piece : Bytes) → IsReady (images old) (seen old) u changes side gate piece
+  pub batch_each : (old mid : D) (u : InUse) (changes : List Change) (side : Side) (gate : ℕ) (piece : Bytes)
+      → IsReady (images old) (seen old) u changes side gate piece
       → Follows (On side (Torn (gate + 1) (length piece))) (images old) (images mid) → EachImage (images mid) (StandsBy u)
   batch_each old mid u changes side gate piece ready crash = followed (On side (Torn (gate + 1) (length piece))) (images old) (images mid) (StandsBy u) crash (ready_step old u changes side gate piece ready)
 
-  pub batch_synced : (old mid new : D) (u : InUse) (changes : List Change) (side : Side) (gate : ℕ) (piece : Bytes) → IsReady (images old) (seen old) u changes side gate piece
+  pub batch_synced : (old mid new : D) (u : InUse) (changes : List Change) (side : Side) (gate : ℕ) (piece : Bytes)
+      → IsReady (images old) (seen old) u changes side gate piece
       → Elapses crashes images moment left_since old mid → Follows (On side (Torn (gate + 1) (length piece))) (images old) (images mid)
-      → Elapses crashes images moment left_since mid new → ((c : Sides) → images new c → images mid c) → LeavesOnly moment left_since old new (StandsBy u)
+      → Elapses crashes images moment left_since mid new → ((c : Sides) → images new c → images mid c)
+      → LeavesOnly moment left_since old new (StandsBy u)
   batch_synced old mid new u changes side gate piece ready time crash then fewer =
       sync_carries crashes images moment left_since old mid new (StandsBy u) (batch_leaves old mid u changes side gate piece ready time crash) then fewer (batch_each old mid u changes side gate piece ready crash)
 
-  pub batch_placed : (old mid new : D) (u : InUse) (changes : List Change) (side : Side) (gate : ℕ) (piece : Bytes) → IsReady (images old) (seen old) u changes side gate piece
+  pub batch_placed : (old mid new : D) (u : InUse) (changes : List Change) (side : Side) (gate : ℕ) (piece : Bytes)
+      → IsReady (images old) (seen old) u changes side gate piece
       → IfTold (seen old) (images old)
       → Follows (On side (Torn (gate + 1) (length piece))) (images old) (images mid)
       → Told (seen old) (seen mid) (λ s t. t ≡ with_side s side (write_over (gate + 1) piece (side_of s side)))
-      → IfTold (seen mid) (λ s. IsSettled (images new) side (side_of s side)) → Told (seen mid) (seen new) (λ s t. t ≡ s) → ((c : Sides) → images new c → images mid c)
+      → IfTold (seen mid) (λ s. IsSettled (images new) side (side_of s side)) → Told (seen mid) (seen new) (λ s t. t ≡ s)
+      → ((c : Sides) → images new c → images mid c)
       → IsPlaced (images new) (seen new) u changes side gate
   batch_placed old mid new u changes side gate piece ready as_read crash written durable same fewer =
       let s = ready.told.0 in
@@ -102,7 +111,8 @@ module _ {D : Type 0} (crashes : D → Bool) (seen : D → Option Sides) (images
       gate_stands u changes d c (placed.each d image) (subst (λ (k : ℕ). On u.side (Torn k 1) d c) placed.at.at_gate (subst (λ (s : Side). On s (Torn gate 1) d c) placed.at.on_side step))
 
   pub gate_leaves : (old mid : D) (u : InUse) (changes : List Change) (side : Side) (gate : ℕ) → IsPlaced (images old) (seen old) u changes side gate
-      → Elapses crashes images moment left_since old mid → Follows (On side (Torn gate 1)) (images old) (images mid) → LeavesOnly moment left_since old mid (StandsByEither u changes)
+      → Elapses crashes images moment left_since old mid → Follows (On side (Torn gate 1)) (images old) (images mid)
+      → LeavesOnly moment left_since old mid (StandsByEither u changes)
   gate_leaves old mid u changes side gate placed time crash =
       write_carries crashes images moment left_since old old mid (StandsByEither u changes) side gate 1 (begins moment left_since old (StandsByEither u changes)) time crash (placed_step old u changes side gate placed)
 
@@ -110,17 +120,21 @@ module _ {D : Type 0} (crashes : D → Bool) (seen : D → Option Sides) (images
       → Follows (On side (Torn gate 1)) (images old) (images mid) → EachImage (images mid) (StandsByEither u changes)
   gate_each old mid u changes side gate placed crash = followed (On side (Torn gate 1)) (images old) (images mid) (StandsByEither u changes) crash (placed_step old u changes side gate placed)
 
-  pub gate_synced : (old mid new : D) (u : InUse) (changes : List Change) (side : Side) (gate : ℕ) → IsPlaced (images old) (seen old) u changes side gate
+  pub gate_synced : (old mid new : D) (u : InUse) (changes : List Change) (side : Side) (gate : ℕ)
+      → IsPlaced (images old) (seen old) u changes side gate
       → Elapses crashes images moment left_since old mid → Follows (On side (Torn gate 1)) (images old) (images mid)
-      → Elapses crashes images moment left_since mid new → ((c : Sides) → images new c → images mid c) → LeavesOnly moment left_since old new (StandsByEither u changes)
+      → Elapses crashes images moment left_since mid new → ((c : Sides) → images new c → images mid c)
+      → LeavesOnly moment left_since old new (StandsByEither u changes)
   gate_synced old mid new u changes side gate placed time crash then fewer =
       sync_carries crashes images moment left_since old mid new (StandsByEither u changes) (gate_leaves old mid u changes side gate placed time crash) then fewer (gate_each old mid u changes side gate placed crash)
 
-  pub gate_committed : (old mid new : D) (u : InUse) (changes : List Change) (side : Side) (gate : ℕ) → IsPlaced (images old) (seen old) u changes side gate
+  pub gate_committed : (old mid new : D) (u : InUse) (changes : List Change) (side : Side) (gate : ℕ)
+      → IsPlaced (images old) (seen old) u changes side gate
       → IfTold (seen old) (images old)
       → Follows (On side (Torn gate 1)) (images old) (images mid)
       → Told (seen old) (seen mid) (λ s t. t ≡ with_side s side (write_over gate (open_gate ∷ []) (side_of s side)))
-      → IfTold (seen mid) (λ s. IsSettled (images new) side (side_of s side)) → Told (seen mid) (seen new) (λ s t. t ≡ s) → ((c : Sides) → images new c → images mid c)
+      → IfTold (seen mid) (λ s. IsSettled (images new) side (side_of s side)) → Told (seen mid) (seen new) (λ s t. t ≡ s)
+      → ((c : Sides) → images new c → images mid c)
       → IsCommitted (images new) (seen new) u changes
   gate_committed old mid new u changes side gate placed as_read crash written durable same fewer =
       let s = placed.told.0 in

@@ -33,9 +33,13 @@ pub record StandsIn {A : Type 0} (x : A) (xs : List A) : Type 0 where
 -- itself; and when all are copied the new side is the world
 pub record PartsGrow : Type 0 where
   pub begin : (all : World) → IsPart (λ o. false) (λ c. false) empty_world all
-  pub follow : (copied : Object → Bool) (copied_channels : Channel → Bool) (part all : World) (c : Change) → is_sorted_world all ≡ true → IsPart copied copied_channels part all → IsPart copied copied_channels (after part c) (after all c)
-  pub object : (copied : Object → Bool) (copied_channels : Channel → Bool) (part all : World) (o : Object) → is_sorted_world all ≡ true → StandsIn o all.objects → IsPart copied copied_channels part all
+  pub follow : (copied : Object → Bool) (copied_channels : Channel → Bool) (part all : World) (c : Change) → is_sorted_world all ≡ true
+      → IsPart copied copied_channels part all → IsPart copied copied_channels (after part c) (after all c)
+  pub object : (copied : Object → Bool) (copied_channels : Channel → Bool) (part all : World) (o : Object) → is_sorted_world all ≡ true
+      → StandsIn o all.objects → IsPart copied copied_channels part all
       → IsPart (λ p. ties object_before p o || copied p) copied_channels (after part (Put o)) all
-  pub channel : (copied : Object → Bool) (copied_channels : Channel → Bool) (part all : World) (c : Channel) → is_sorted_world all ≡ true → StandsIn c all.channels → IsPart copied copied_channels part all
+  pub channel : (copied : Object → Bool) (copied_channels : Channel → Bool) (part all : World) (c : Channel) → is_sorted_world all ≡ true
+      → StandsIn c all.channels → IsPart copied copied_channels part all
       → IsPart copied (λ d. ties channel_before d c || copied_channels d) (after part (SetChan c)) all
-  pub end : (copied : Object → Bool) (copied_channels : Channel → Bool) (part all : World) → list_all copied all.objects ≡ true → list_all copied_channels all.channels ≡ true → IsPart copied copied_channels part all → part ≡ all
+  pub end : (copied : Object → Bool) (copied_channels : Channel → Bool) (part all : World) → list_all copied all.objects ≡ true
+      → list_all copied_channels all.channels ≡ true → IsPart copied copied_channels part all → part ≡ all

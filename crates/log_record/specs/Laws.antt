@@ -40,7 +40,8 @@ TurnsKeepSafe {D} images moment left_since = (old new : D) (o : Opening) (entrie
     → Stood images moment left_since new o (entries ++ e ∷ []) next after
 
 -- a call of a core keeps its disk safe: of any history behind which all stood, all stands behind it with the call's entry
-abbrev pub KeepsSafe : {D : Type 0} → (D → Sides → Type 0) → (D → ℕ) → (D → ℕ → Sides → Type 0) → D → D → Hall → Journal → Event → Outcome → Hall → Journal → Type 0
+abbrev pub KeepsSafe : {D : Type 0} → (D → Sides → Type 0) → (D → ℕ) → (D → ℕ → Sides → Type 0) → D → D → Hall → Journal → Event → Outcome → Hall
+    → Journal → Type 0
 KeepsSafe images moment left_since old new h before event outcome next after = (o : Opening) (entries : List Entry) (e : Entry)
     → Stood images moment left_since old o entries h before
     → e.event ≡ event → e.outcome ≡ outcome → e.moment ≡ moment new → ComesNext o entries e

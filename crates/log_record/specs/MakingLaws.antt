@@ -48,12 +48,14 @@ twice : (side : Side) → other_side (other_side side) ≡ side
 twice A = refl
 twice B = refl
 
-back : (side : Side) (c d : Sides) → side_of c (other_side (other_side side)) ≡ side_of d (other_side (other_side side)) → side_of c side ≡ side_of d side
+back : (side : Side) (c d : Sides) → side_of c (other_side (other_side side)) ≡ side_of d (other_side (other_side side))
+    → side_of c side ≡ side_of d side
 back A c d e = e
 back B c d e = e
 
 -- the log in use stands on while the other side is not open
-pub other_stands : (u : InUse) (P : Bytes → Bytes → Type 0) (d c : Sides) → StandsBy u d → On (other_side u.side) P d c → is_open (side_of c (other_side u.side)) ≡ false → length (side_of c (other_side u.side)) ≤ max_side → StandsBy u c
+pub other_stands : (u : InUse) (P : Bytes → Bytes → Type 0) (d c : Sides) → StandsBy u d → On (other_side u.side) P d c
+    → is_open (side_of c (other_side u.side)) ≡ false → length (side_of c (other_side u.side)) ≤ max_side → StandsBy u c
 other_stands u P d c by step closed there =
     let kept : side_of c u.side ≡ side_of d u.side = back u.side c d (on_keeps (other_side u.side) P d c step) in
     record {
@@ -67,8 +69,10 @@ other_stands u P d c by step closed there =
     }
 
 -- when the new side's gate is written, the old log stands or the new one
-finished : (old new : InUse) (d c : Sides) → IsInUse old → new.side ≡ other_side old.side → old.generation < new.generation → StandsBy old d → (made : IsMade new d) → On (other_side old.side) (Torn 0 1) d c
-    → (b : ℕ) → side_of c (other_side old.side) ≡ b ∷ (header new.generation ++ (open_batches new.batches ++ made.gate ∷ made.stale)) → length (side_of c (other_side old.side)) ≤ max_side → (t : Bool) → (b == open_gate) ≡ t → StandsBy old c ⊎ StandsBy new c
+finished : (old new : InUse) (d c : Sides) → IsInUse old → new.side ≡ other_side old.side → old.generation < new.generation → StandsBy old d
+    → (made : IsMade new d) → On (other_side old.side) (Torn 0 1) d c
+    → (b : ℕ) → side_of c (other_side old.side) ≡ b ∷ (header new.generation ++ (open_batches new.batches ++ made.gate ∷ made.stale))
+    → length (side_of c (other_side old.side)) ≤ max_side → (t : Bool) → (b == open_gate) ≡ t → StandsBy old c ⊎ StandsBy new c
 finished old new d c is there newer by made step b text long false e =
     inl (other_stands old (Torn 0 1) d c by step (ap is_open text ∙ not_open b (header new.generation ++ (open_batches new.batches ++ made.gate ∷ made.stale)) e) long)
 finished old new d c is there newer by made step b text long true e =
@@ -87,7 +91,8 @@ finished old new d c is there newer by made step b text long true e =
     })
 
 -- the finish of a rewriting: each torn outcome of the new side's gate stands by the old log or by the new one
-pub finish_stands : (old new : InUse) (d c : Sides) → IsInUse old → new.side ≡ other_side old.side → old.generation < new.generation → StandsBy old d → IsMade new d → On new.side (Torn 0 1) d c → StandsBy old c ⊎ StandsBy new c
+pub finish_stands : (old new : InUse) (d c : Sides) → IsInUse old → new.side ≡ other_side old.side → old.generation < new.generation
+    → StandsBy old d → IsMade new d → On new.side (Torn 0 1) d c → StandsBy old c ⊎ StandsBy new c
 finish_stands old new d c is there newer by made step =
     let moved = subst (λ (x : Side). On x (Torn 0 1) d c) there step in
     let body = header new.generation ++ (open_batches new.batches ++ made.gate ∷ made.stale) in
@@ -97,14 +102,16 @@ finish_stands old new d c is there newer by made step =
     finished old new d c is there newer by made moved torn.0 torn.1 long (torn.0 == open_gate) refl
 
 -- a write behind the first byte of a side whose own gate is not open: the log in use stands on, and the gate stays as it is
-pub shut_write : (u : InUse) (at n own : ℕ) (more : Bytes) (d c : Sides) → (own == open_gate) ≡ false → suc at + n ≤ max_side → StandsBy u d → side_of d (other_side u.side) ≡ own ∷ more
+pub shut_write : (u : InUse) (at n own : ℕ) (more : Bytes) (d c : Sides) → (own == open_gate) ≡ false → suc at + n ≤ max_side → StandsBy u d
+    → side_of d (other_side u.side) ≡ own ∷ more
     → On (other_side u.side) (Torn (suc at) n) d c → StandsBy u c × ((rest : Bytes) × (side_of c (other_side u.side) ≡ own ∷ rest))
 shut_write u at n own more d c shut room by was step =
     let kept = torn_keeps_first at n own more (side_of c (other_side u.side)) (subst (λ (l : Bytes). Torn (suc at) n l (side_of c (other_side u.side))) was step.how) in
     (other_stands u (Torn (suc at) n) d c by step (ap is_open kept.1 ∙ not_open own kept.0 shut) (omega (arith, step.how.no_longer, by.there, room)), kept)
 
 -- and a cut behind it
-pub shut_cut : (u : InUse) (n own : ℕ) (more : Bytes) (d c : Sides) → (own == open_gate) ≡ false → StandsBy u d → side_of d (other_side u.side) ≡ own ∷ more
+pub shut_cut : (u : InUse) (n own : ℕ) (more : Bytes) (d c : Sides) → (own == open_gate) ≡ false → StandsBy u d
+    → side_of d (other_side u.side) ≡ own ∷ more
     → On (other_side u.side) (CutOrNot (suc n)) d c → StandsBy u c × ((rest : Bytes) × (side_of c (other_side u.side) ≡ own ∷ rest))
 shut_cut u n own more d c shut by was step =
     let kept = cut_keeps_first n own more (side_of c (other_side u.side)) (subst (λ (l : Bytes). CutOrNot (suc n) l (side_of c (other_side u.side))) was step.how) in
@@ -116,5 +123,6 @@ shut_cut u n own more d c shut by was step =
     cut_shorter k old new within (inr cut) = omega (arith, ap length cut, length-take k old, within)
 
 -- the own gate of such a side written closed: whatever byte a crash leaves there, the log in use stands, or what was open stays so
-pub shut_first : (u : InUse) (own b : ℕ) (more : Bytes) (d c : Sides) → StandsBy u d → side_of c (other_side u.side) ≡ b ∷ more → (b == open_gate) ≡ false → length (side_of c (other_side u.side)) ≤ max_side → On (other_side u.side) (Torn 0 1) d c → StandsBy u c
+pub shut_first : (u : InUse) (own b : ℕ) (more : Bytes) (d c : Sides) → StandsBy u d → side_of c (other_side u.side) ≡ b ∷ more
+    → (b == open_gate) ≡ false → length (side_of c (other_side u.side)) ≤ max_side → On (other_side u.side) (Torn 0 1) d c → StandsBy u c
 shut_first u own b more d c by text shut long step = other_stands u (Torn 0 1) d c by step (ap is_open text ∙ not_open b more shut) long

@@ -16,7 +16,8 @@ filter_all : {A : Type 0} (q : A → Bool) (xs : List A) → list_all q xs ≡ t
 filter_all q [] all = refl
 filter_all q (x ∷ xs) all = rw (first (q x) (list_all q xs) all) (ap (λ l. x ∷ l) (filter_all q xs (second (q x) (list_all q xs) all)))
 
-swap_by : {A : Type 0} (p q : A → Bool) (x : A) (xs : List A) (a b : Bool) → p x ≡ a → q x ≡ b → filter p (filter q xs) ≡ filter q (filter p xs) → filter p (filter q (x ∷ xs)) ≡ filter q (filter p (x ∷ xs))
+swap_by : {A : Type 0} (p q : A → Bool) (x : A) (xs : List A) (a b : Bool) → p x ≡ a → q x ≡ b → filter p (filter q xs) ≡ filter q (filter p xs)
+    → filter p (filter q (x ∷ xs)) ≡ filter q (filter p (x ∷ xs))
 swap_by p q x xs true true e f ih = simp (e, f) (ap (λ l. x ∷ l) ih)
 swap_by p q x xs true false e f ih = simp (e, f) ih
 swap_by p q x xs false true e f ih = simp (e, f) ih
@@ -55,7 +56,8 @@ module _ {A : Type 0} (lt : A → A → Bool) (asym : (x y : A) → lt x y ≡ t
   keep_self q x zs = rw (irrefl x (lt x x) refl) refl
 
   -- where the item's place is found
-  put_by : (q : A → Bool) (x y : A) (ys : List A) → list_all (lt y) ys ≡ true → put_in lt x (filter q ys) ≡ filter (λ z. ties lt z x || q z) (put_in lt x ys)
+  put_by : (q : A → Bool) (x y : A) (ys : List A) → list_all (lt y) ys ≡ true
+      → put_in lt x (filter q ys) ≡ filter (λ z. ties lt z x || q z) (put_in lt x ys)
       → (a b c : Bool) → lt x y ≡ a → lt y x ≡ b → q y ≡ c → put_in lt x (filter q (y ∷ ys)) ≡ filter (λ z. ties lt z x || q z) (put_in lt x (y ∷ ys))
   put_by q x y ys all ih true b c e f g =
       let behind : list_all (lt x) (y ∷ ys) ≡ true = rw e (above x y ys (λ z h. trans x y z e h) all) in
@@ -73,7 +75,8 @@ module _ {A : Type 0} (lt : A → A → Bool) (asym : (x y : A) → lt x y ≡ t
       simp (g, e, f, itself) (put_front x (filter q ys) (all_filter (lt x) q ys behind) ∙ ap (λ l. x ∷ l) (sym (same_above q x ys behind)))
 
   -- a put into some of the items is a put into all, with the item among those that are picked
-  pub put_picked : (q : A → Bool) (x : A) (ys : List A) → ascends lt ys ≡ true → put_in lt x (filter q ys) ≡ filter (λ z. ties lt z x || q z) (put_in lt x ys)
+  pub put_picked : (q : A → Bool) (x : A) (ys : List A) → ascends lt ys ≡ true
+      → put_in lt x (filter q ys) ≡ filter (λ z. ties lt z x || q z) (put_in lt x ys)
   put_picked q x [] asc = rw (irrefl x (lt x x) refl) refl
   put_picked q x (y ∷ ys) asc =
       put_by q x y ys (first (list_all (lt y) ys) (ascends lt ys) asc) (put_picked q x ys (second (list_all (lt y) ys) (ascends lt ys) asc)) (lt x y) (lt y x) (q y) refl refl refl
@@ -95,18 +98,21 @@ module _ {A : Type 0} (lt : A → A → Bool) (asym : (x y : A) → lt x y ≡ t
   or_true false = refl
 
   -- the same of parts
-  pub some_put : (copied : A → Bool) (part all : List A) (x : A) → ascends lt all ≡ true → IsPicked copied part all → IsPicked copied (put_in lt x part) (put_in lt x all)
+  pub some_put : (copied : A → Bool) (part all : List A) (x : A) → ascends lt all ≡ true → IsPicked copied part all
+      → IsPicked copied (put_in lt x part) (put_in lt x all)
   some_put copied part all x asc is = record {
     picked = λ z. ties lt z x || is.picked z;
     part_is = ap (put_in lt x) is.part_is ∙ put_picked is.picked x all asc;
     enough = λ z e. ap (λ b. ties lt z x || b) (is.enough z e) ∙ or_true (ties lt z x);
   }
 
-  enough_by : (x z : A) (copied picked : A → Bool) → (copied z ≡ true → picked z ≡ true) → (t : Bool) → ties lt z x ≡ t → (ties lt z x || copied z) ≡ true → (ties lt z x || picked z) ≡ true
+  enough_by : (x z : A) (copied picked : A → Bool) → (copied z ≡ true → picked z ≡ true) → (t : Bool) → ties lt z x ≡ t
+      → (ties lt z x || copied z) ≡ true → (ties lt z x || picked z) ≡ true
   enough_by x z copied picked h true e both = ap (λ b. b || picked z) e
   enough_by x z copied picked h false e both = ap (λ b. b || picked z) e ∙ h (sym (ap (λ b. b || copied z) e) ∙ both)
 
-  pub some_more : (copied : A → Bool) (part all : List A) (x : A) → ascends lt all ≡ true → StandsIn x all → IsPicked copied part all → IsPicked (λ z. ties lt z x || copied z) (put_in lt x part) all
+  pub some_more : (copied : A → Bool) (part all : List A) (x : A) → ascends lt all ≡ true → StandsIn x all → IsPicked copied part all
+      → IsPicked (λ z. ties lt z x || copied z) (put_in lt x part) all
   some_more copied part all x asc stands is = record {
     picked = λ z. ties lt z x || is.picked z;
     part_is = ap (put_in lt x) is.part_is ∙ put_picked is.picked x all asc ∙ ap (filter (λ z. ties lt z x || is.picked z)) (ap (put_in lt x) stands.list_is ∙ put_again x stands.earlier stands.later (subst (λ l. ascends lt l ≡ true) stands.list_is asc) ∙ sym stands.list_is);

@@ -1,5 +1,5 @@
 -- The two sides of a log: the text of a side, and what is read of both.
-use Rattle.std.specs.Prelude.{◌≡◌, ℕ, ◌+◌, ◌<◌, ◌^◌, ◌==◌, Bool, true, false, not, ◌&&◌, ◌||◌, nat_le, nat_lt, List, [], ◌∷◌, ◌++◌, length, take, drop, flat_map, Option, Some, None, option_map, if◌then◌else◌, Result, Ok, Err, codes}
+use Rattle.std.specs.Prelude.{◌≡◌, ℕ, ◌+◌, ◌<◌, ◌==◌, Bool, true, false, not, ◌&&◌, ◌||◌, nat_le, nat_lt, List, [], ◌∷◌, ◌++◌, length, take, drop, flat_map, Option, Some, None, option_map, if◌then◌else◌, Result, Ok, Err, codes}
 use Rattle.byte_text.specs.Names.{Bytes, same}
 use Rattle.world_data.specs.Worlds.{empty_world}
 use Rattle.world_data.specs.declared.worlds.World.{World}
@@ -7,18 +7,11 @@ use Rattle.world_data.specs.declared.worlds.Change.{Change}
 use Rattle.outside.specs.declared.sides.Side.{Side}
 use Rattle.outside.specs.declared.sides.Side.TheVariants.{A, B}
 use Rattle.outside.specs.Sides.{Sides, side_of}
+pub use Rattle.log_sides.specs.Texts.{header, max_side}
 use Rattle.log_record.specs.Folding.{folded}
-use Rattle.log_record.specs.Batches.{number_bytes, number_of, batch_text, open_gate, closed_gate, Batches, batches_in}
+use Rattle.log_record.specs.Batches.{number_of, batch_text, open_gate, closed_gate, Batches, batches_in}
 
 -- the text of a side
-
--- `TFL`, the version, three zeros
-abbrev pub mark : Bytes
-mark = codes "TFL" ++ 1 ∷ 0 ∷ 0 ∷ 0 ∷ []
-
--- the header, behind the side's gate
-abbrev pub header : ℕ → Bytes
-header generation = mark ++ number_bytes generation
 
 -- the length of a gate and the header
 abbrev pub header_len : ℕ
@@ -41,10 +34,6 @@ abbrev pub gate_place : List (List Change) → ℕ
 gate_place batches = header_len + length (open_batches batches)
 
 -- what is read
-
--- the most bytes of a side
-abbrev pub max_side : ℕ
-max_side = 2 ^ 62
 
 abbrev pub has_open_gate : Bytes → Bool
 has_open_gate [] = false

@@ -31,7 +31,8 @@ field_fits f kept =
     both low high (second (is_name f.0) low (first (is_name f.0 && low) high kept)) (second (is_name f.0 && low) high kept)
 
 -- fields at the front of words that begin with no field
-fields_back : (fields : List Field) (rest : List Bytes) → fields_front rest ≡ ([], rest) → list_all is_kept_field fields ≡ true → fields_front (flat_map field_words fields ++ rest) ≡ (fields, rest)
+fields_back : (fields : List Field) (rest : List Bytes) → fields_front rest ≡ ([], rest) → list_all is_kept_field fields ≡ true
+    → fields_front (flat_map field_words fields ++ rest) ≡ (fields, rest)
 fields_back [] rest none kept = none
 fields_back (f ∷ fields) rest none kept =
     let here = first (is_kept_field f) (list_all is_kept_field fields) kept in
@@ -42,17 +43,20 @@ fields_back (f ∷ fields) rest none kept =
 abbrev last_words : Bytes → List Bytes
 last_words text = codes "OBJECT" ∷ text ∷ []
 
-no_field : (deadline : Option ℕ) (text : Bytes) → fields_front (deadline_words deadline ++ last_words text) ≡ ([], deadline_words deadline ++ last_words text)
+no_field : (deadline : Option ℕ) (text : Bytes)
+    → fields_front (deadline_words deadline ++ last_words text) ≡ ([], deadline_words deadline ++ last_words text)
 no_field None text = refl
 no_field (Some d) text = refl
 
-deadline_back : (deadline : Option ℕ) (text : Bytes) → is_kept_deadline deadline ≡ true → deadline_front (deadline_words deadline ++ last_words text) ≡ (deadline, last_words text)
+deadline_back : (deadline : Option ℕ) (text : Bytes) → is_kept_deadline deadline ≡ true
+    → deadline_front (deadline_words deadline ++ last_words text) ≡ (deadline, last_words text)
 deadline_back None text kept = refl
 deadline_back (Some d) text kept =
     let small : d ≤ 18446744073709551615 = leb-true d 18446744073709551615 kept in
     ap (λ (n : ℕ). (Some n, last_words text)) (digits_back d (omega (arith, small)))
 
-put_back : (o : Object) → list_all is_kept_field o.fields ≡ true → is_kept_deadline o.deadline ≡ true → shape_of o.text ≡ Ok o.shape → could_be (record_words (Put o)) ≡ Some (Put o)
+put_back : (o : Object) → list_all is_kept_field o.fields ≡ true → is_kept_deadline o.deadline ≡ true → shape_of o.text ≡ Ok o.shape
+    → could_be (record_words (Put o)) ≡ Some (Put o)
 put_back o fields deadline shape =
     let rest = deadline_words o.deadline ++ last_words o.text in
     ap (λ (l : List Bytes). put_of (o.key ∷ o.id ∷ l)) (append_assoc (flat_map field_words o.fields) (deadline_words o.deadline) (last_words o.text))
@@ -95,10 +99,13 @@ unfolding change_of_words
 delchan_back name kept = recorded_back (record_words (DelChan name)) (DelChan name) refl kept
 
 -- a channel whose normal words spell it is read back
-pub channel_back : (c : Channel) (a : Area) → is_kept (SetChan c) ≡ true → command_spelled (record_words (SetChan c)) ≡ Some (command.Setchan c (Some (Given a))) → change_of_words (record_words (SetChan c)) ≡ Some (SetChan c)
+pub channel_back : (c : Channel) (a : Area) → is_kept (SetChan c) ≡ true
+    → command_spelled (record_words (SetChan c)) ≡ Some (command.Setchan c (Some (Given a)))
+    → change_of_words (record_words (SetChan c)) ≡ Some (SetChan c)
 unfolding change_of_words
 channel_back c a kept spells = ap (λ (o : Option Command). if_recorded (record_words (SetChan c)) (settled o)) spells ∙ recorded_back (record_words (SetChan c)) (SetChan c) refl kept
 
-pub near_back : (c : Channel) → is_kept (SetChan c) ≡ true → command_spelled (record_words (SetChan c)) ≡ Some (command.Setchan c None) → change_of_words (record_words (SetChan c)) ≡ Some (SetChan c)
+pub near_back : (c : Channel) → is_kept (SetChan c) ≡ true → command_spelled (record_words (SetChan c)) ≡ Some (command.Setchan c None)
+    → change_of_words (record_words (SetChan c)) ≡ Some (SetChan c)
 unfolding change_of_words
 near_back c kept spells = ap (λ (o : Option Command). if_recorded (record_words (SetChan c)) (settled o)) spells ∙ recorded_back (record_words (SetChan c)) (SetChan c) refl kept

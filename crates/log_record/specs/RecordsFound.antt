@@ -29,19 +29,23 @@ is_recorded words c fits e = let is = (record_read words c e).0 in record { read
 text_is : (words : List Bytes) (c : Change) → change_of_words words ≡ Some c → request_text words ≡ record_text c
 text_is words c e = ap request_text (sym (record_read words c e).0)
 
-by_rest : (bytes behind : Bytes) (c : Change) (cs : List Change) (r : Result (List Change) ℕ) → IsRecorded c → bytes ≡ record_text c ++ behind → ((ds : List Change) → r ≡ Ok ds → IsText behind ds) → with_record c r ≡ Ok cs → IsText bytes cs
+by_rest : (bytes behind : Bytes) (c : Change) (cs : List Change) (r : Result (List Change) ℕ) → IsRecorded c → bytes ≡ record_text c ++ behind
+    → ((ds : List Change) → r ≡ Ok ds → IsText behind ds) → with_record c r ≡ Ok cs → IsText bytes cs
 by_rest bytes behind c cs (Ok ds) is text ih e = let rest = ih ds refl in subst (IsText bytes) (ok_is (c ∷ ds) cs e) ((is, rest.0), text ∙ ap (λ (l : Bytes). record_text c ++ l) rest.1)
 by_rest bytes behind c cs (Err at) is text ih e = absurd (err_not at cs e)
 
-by_change : (at : ℕ) (bytes behind : Bytes) (words : List Bytes) (cs : List Change) (next : ℕ → Bytes → Result (List Change) ℕ) (o : Option Change) → change_of_words words ≡ o → IsRequest words → bytes ≡ request_text words ++ behind
-    → ((k : ℕ) (ds : List Change) → next k behind ≡ Ok ds → IsText behind ds) → records_behind at bytes (option_map (λ (c : Change). (c, behind)) o) next ≡ Ok cs → IsText bytes cs
+by_change : (at : ℕ) (bytes behind : Bytes) (words : List Bytes) (cs : List Change) (next : ℕ → Bytes → Result (List Change) ℕ) (o : Option Change)
+    → change_of_words words ≡ o → IsRequest words → bytes ≡ request_text words ++ behind
+    → ((k : ℕ) (ds : List Change) → next k behind ≡ Ok ds → IsText behind ds)
+    → records_behind at bytes (option_map (λ (c : Change). (c, behind)) o) next ≡ Ok cs → IsText bytes cs
 by_change at bytes behind words cs next None is fits text ih e = absurd (err_not at cs e)
 by_change at bytes behind words cs next (Some c) is fits text ih e =
     let k = at + (length bytes - length behind) in
     by_rest bytes behind c cs (next k behind) (is_recorded words c fits is) (text ∙ ap (λ (l : Bytes). l ++ behind) (text_is words c is)) (ih k) e
 
 by_front : (at : ℕ) (bytes : Bytes) (cs : List Change) (next : ℕ → Bytes → Result (List Change) ℕ) (x : Front (List Bytes)) → request bytes ≡ x
-    → ((k : ℕ) (behind : Bytes) (ds : List Change) → next k behind ≡ Ok ds → IsText behind ds) → records_behind at bytes (record_front x) next ≡ Ok cs → IsText bytes cs
+    → ((k : ℕ) (behind : Bytes) (ds : List Change) → next k behind ≡ Ok ds → IsText behind ds)
+    → records_behind at bytes (record_front x) next ≡ Ok cs → IsText bytes cs
 by_front at bytes cs next (found words behind) is ih e =
     let read = request_found bytes words behind is in
     by_change at bytes behind words cs next (change_of_words words) refl read.0 read.1 (λ k. ih k behind) e
@@ -55,6 +59,7 @@ first_found zero at (b ∷ bytes) cs e = absurd (err_not at cs e)
 first_found (suc n) at (b ∷ bytes) cs e = by_front at (b ∷ bytes) cs (first_records n) (request (b ∷ bytes)) refl (first_found n) e
 
 -- what is read as records is the text of changes that have records
-pub records_found : (at : ℕ) (bytes : Bytes) (cs : List Change) → records_in at bytes ≡ Ok cs → AllByRecursion IsRecorded cs × (bytes ≡ records_text cs)
+pub records_found : (at : ℕ) (bytes : Bytes) (cs : List Change) → records_in at bytes ≡ Ok cs
+    → AllByRecursion IsRecorded cs × (bytes ≡ records_text cs)
 unfolding records_in
 records_found at bytes cs e = first_found (length bytes) at bytes cs e

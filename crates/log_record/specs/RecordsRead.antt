@@ -48,22 +48,26 @@ same_are_words (w ∷ ws) = rw (same_refl w) (same_are_words ws)
 
 -- what is read is the record of what it is read as, and is kept
 
-recorded_of : (words : List Bytes) (d c : Change) (b : Bool) → (same_words (record_words d) words && is_kept d) ≡ b → (if b then Some d else None) ≡ Some c → (d ≡ c) × (same_words (record_words d) words ≡ true) × (is_kept d ≡ true)
+recorded_of : (words : List Bytes) (d c : Change) (b : Bool) → (same_words (record_words d) words && is_kept d) ≡ b
+    → (if b then Some d else None) ≡ Some c → (d ≡ c) × (same_words (record_words d) words ≡ true) × (is_kept d ≡ true)
 recorded_of words d c true test e = ((cc e), first (same_words (record_words d) words) (is_kept d) test, second (same_words (record_words d) words) (is_kept d) test)
 recorded_of words d c false test e = absurd (cc e)
 
-recorded : (words : List Bytes) (x : Option Change) (c : Change) → if_recorded words x ≡ Some c → (x ≡ Some c) × (record_words c ≡ words) × (is_kept c ≡ true)
+recorded : (words : List Bytes) (x : Option Change) (c : Change) → if_recorded words x ≡ Some c
+    → (x ≡ Some c) × (record_words c ≡ words) × (is_kept c ≡ true)
 recorded words None c e = absurd (cc e)
 recorded words (Some d) c e = let found = recorded_of words d c (same_words (record_words d) words && is_kept d) refl e in
     (ap Some found.0, words_are_same (record_words c) words (subst (λ x. same_words (record_words x) words ≡ true) found.0 found.1), subst (λ x. is_kept x ≡ true) found.0 found.2)
 
 -- the text of an object has its shape, and a channel is sound
 
-shaped_put : (key id text : Bytes) (fields : List Field) (deadline : Option ℕ) (r : Result Shape GeoFault) → shape_of text ≡ r → IfSome (put_with key id fields deadline text r) HasShape
+shaped_put : (key id text : Bytes) (fields : List Field) (deadline : Option ℕ) (r : Result Shape GeoFault) → shape_of text ≡ r
+    → IfSome (put_with key id fields deadline text r) HasShape
 shaped_put key id text fields deadline (Ok shape) e = e
 shaped_put key id text fields deadline (Err fault) e = tt
 
-shaped_text : (key id : Bytes) (fields : List Field) (deadline : Option ℕ) (words : List Bytes) → IfSome (put_text key id fields deadline words) HasShape
+shaped_text : (key id : Bytes) (fields : List Field) (deadline : Option ℕ) (words : List Bytes)
+    → IfSome (put_text key id fields deadline words) HasShape
 shaped_text key id fields deadline (called ∷ text ∷ []) = shaped_put key id text fields deadline (shape_of text) refl
 shaped_text key id fields deadline words = tt
 

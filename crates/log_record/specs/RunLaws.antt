@@ -20,8 +20,10 @@ use Rattle.log_record.specs.TurnLaws.{gave_shows, keeps_log_on}
 
 module _ {D : Type 0} (images : D → Sides → Type 0) (moment : D → ℕ) (left_since : D → ℕ → Sides → Type 0) where
   -- what either world stands for was passed, with all that is acknowledged
-  either_passed : (old : D) (start : ℕ) (entries : List Entry) (Worlds : ℕ → World → Type 0) (h : Hall) (j : Journal) → TellsNow images moment left_since old
-      → ((n : ℕ) → moment_after start (take n entries) ≤ moment old) → IsSafe left_since old start entries Worlds → Worlds (length entries) h.world → IsLogged (images old) h j
+  either_passed : (old : D) (start : ℕ) (entries : List Entry) (Worlds : ℕ → World → Type 0) (h : Hall) (j : Journal)
+      → TellsNow images moment left_since old
+      → ((n : ℕ) → moment_after start (take n entries) ≤ moment old) → IsSafe left_since old start entries Worlds
+      → Worlds (length entries) h.world → IsLogged (images old) h j
       → (c : Sides) → RecoversEither j.committed (whole j) c → RecoversPassed Worlds (acked_count entries) (length entries) c
   either_passed old start entries Worlds h j tells past safe last log c either = ⊎_elim
       (λ first. let found = committed_passed images moment left_since old start entries Worlds j.committed tells.counts_now safe (subst (λ (l : List Entry). moment_after start l ≤ moment old) (take_all (length entries) entries (omega arith)) (past (length entries))) log.durable in
@@ -29,19 +31,25 @@ module _ {D : Type 0} (images : D → Sides → Type 0) (moment : D → ℕ) (le
       (λ second. record { count = length entries; at_least = acked_within entries; at_most = omega arith; world = whole j; passed = subst (Worlds (length entries)) log.world last; recovers = second })
       either
 
-  leaves_passed : (old new : D) (start : ℕ) (entries : List Entry) (e : Entry) (Worlds : ℕ → World → Type 0) (h next : Hall) (before after : Journal) → TellsNow images moment left_since old
-      → ((n : ℕ) → moment_after start (take n entries) ≤ moment old) → IsSafe left_since old start entries Worlds → Worlds (length entries) h.world → KeepsLog (images old) h before
-      → Turn images moment left_since old new h before e.event e.outcome next after → (b : Bool) → h.stopped ≡ b → LeavesOnly moment left_since old new (RecoversPassed Worlds (acked_count entries) (length entries))
+  leaves_passed : (old new : D) (start : ℕ) (entries : List Entry) (e : Entry) (Worlds : ℕ → World → Type 0) (h next : Hall) (before after : Journal)
+      → TellsNow images moment left_since old
+      → ((n : ℕ) → moment_after start (take n entries) ≤ moment old) → IsSafe left_since old start entries Worlds
+      → Worlds (length entries) h.world → KeepsLog (images old) h before
+      → Turn images moment left_since old new h before e.event e.outcome next after → (b : Bool) → h.stopped ≡ b
+      → LeavesOnly moment left_since old new (RecoversPassed Worlds (acked_count entries) (length entries))
   leaves_passed old new start entries e Worlds h next before after tells past safe last log turn true stops =
       subst (λ (d : D). LeavesOnly moment left_since old d (RecoversPassed Worlds (acked_count entries) (length entries))) (sym (turn.stopped stops)) (begins moment left_since old (RecoversPassed Worlds (acked_count entries) (length entries)))
   leaves_passed old new start entries e Worlds h next before after tells past safe last log turn false goes =
       weaker moment left_since old new (RecoversEither before.committed (whole before)) (RecoversPassed Worlds (acked_count entries) (length entries))
       (either_passed old start entries Worlds h before tells past safe last (log goes)) (turn.leaves goes)
 
-  turn_safe : (old new : D) (start : ℕ) (entries : List Entry) (e : Entry) (Worlds More : ℕ → World → Type 0) (h next : Hall) (before after : Journal) → TellsNow images moment left_since old → TellsNow images moment left_since new
-      → ((n : ℕ) → moment_after start (take n entries) ≤ moment old) → IsSafe left_since old start entries Worlds → Worlds (length entries) h.world → KeepsLog (images old) h before
+  turn_safe : (old new : D) (start : ℕ) (entries : List Entry) (e : Entry) (Worlds More : ℕ → World → Type 0) (h next : Hall) (before after : Journal)
+      → TellsNow images moment left_since old → TellsNow images moment left_since new
+      → ((n : ℕ) → moment_after start (take n entries) ≤ moment old) → IsSafe left_since old start entries Worlds
+      → Worlds (length entries) h.world → KeepsLog (images old) h before
       → Turn images moment left_since old new h before e.event e.outcome next after → e.moment ≡ moment new
-      → ((m : ℕ) (w : World) → m ≤ length entries → Worlds m w → More m w) → More (suc (length entries)) next.world → IsSafe left_since new start (entries ++ e ∷ []) More
+      → ((m : ℕ) (w : World) → m ≤ length entries → Worlds m w → More m w) → More (suc (length entries)) next.world
+      → IsSafe left_since new start (entries ++ e ∷ []) More
   turn_safe old new start entries e Worlds More h next before after tells_old tells_new past safe last log turn at_end more further =
       safe_with_one_more images moment left_since old new start entries e Worlds More tells_new.counts_now tells_new.only_now more past safe
       (leaves_passed old new start entries e Worlds h next before after tells_old past safe last log turn h.stopped refl) at_end
@@ -57,7 +65,8 @@ module _ {D : Type 0} (images : D → Sides → Type 0) (moment : D → ℕ) (le
       (λ inside. passed_still Worlds More (acked_count entries) (acked_count (take n entries)) (length entries) (length entries) c (acked_take n entries) (omega arith) more inside)
       (leaves.either (moment_after start (take n entries)) c (past n) left)
 
-  not_later : (old new : D) (h next : Hall) (before after : Journal) (e : Entry) → Turn images moment left_since old new h before e.event e.outcome next after → (b : Bool) → h.stopped ≡ b → moment old ≤ moment new
+  not_later : (old new : D) (h next : Hall) (before after : Journal) (e : Entry)
+      → Turn images moment left_since old new h before e.event e.outcome next after → (b : Bool) → h.stopped ≡ b → moment old ≤ moment new
   not_later old new h next before after e turn true stops = let same = ap moment (turn.stopped stops) in omega (arith, same)
   not_later old new h next before after e turn false goes = (turn.leaves goes).later
 
@@ -67,20 +76,23 @@ entries-last : (run : Run) (o : Opening) (entries : List Entry) → entries_of (
 entries-last [] o entries = append-nil entries
 entries-last ((q, es) ∷ run) o entries = ap (λ (l : List Entry). es ++ l) (entries-last run o entries) ∙ sym (append_assoc es (entries_of run) entries)
 
-entries-more : (run : Run) (o : Opening) (entries : List Entry) (e : Entry) → entries_of (and_then run o (entries ++ e ∷ [])) ≡ entries_of (and_then run o entries) ++ e ∷ []
+entries-more : (run : Run) (o : Opening) (entries : List Entry) (e : Entry)
+    → entries_of (and_then run o (entries ++ e ∷ [])) ≡ entries_of (and_then run o entries) ++ e ∷ []
 entries-more run o entries e = entries-last run o (entries ++ e ∷ []) ∙ sym (append_assoc (entries_of run) entries (e ∷ [])) ∙ ap (λ (l : List Entry). l ++ e ∷ []) (sym (entries-last run o entries))
 
 start-more : (run : Run) (o : Opening) (entries more : List Entry) → start_of (and_then run o entries) ≡ start_of (and_then run o more)
 start-more [] o entries more = refl
 start-more ((q, es) ∷ run) o entries more = refl
 
-start-then : (run : Run) (o p : Opening) (entries : List Entry) → start_of (and_then (and_then run o entries) p []) ≡ start_of (and_then run o entries)
+start-then : (run : Run) (o p : Opening) (entries : List Entry)
+    → start_of (and_then (and_then run o entries) p []) ≡ start_of (and_then run o entries)
 start-then [] o p entries = refl
 start-then ((q, es) ∷ run) o p entries = refl
 
 -- the worlds that a run passes
 
-more_passed : (run : Run) (o : Opening) (entries : List Entry) (e : Entry) (m : ℕ) (w : World) → RunPasses (and_then run o entries) m w → RunPasses (and_then run o (entries ++ e ∷ [])) m w
+more_passed : (run : Run) (o : Opening) (entries : List Entry) (e : Entry) (m : ℕ) (w : World) → RunPasses (and_then run o entries) m w
+    → RunPasses (and_then run o (entries ++ e ∷ [])) m w
 more_passed [] o entries e m w (inl passes) = inl (omega (arith, passes.0, length-append entries (e ∷ [])), passes_still o entries e m w passes.0 passes.1)
 more_passed [] o entries e m w (inr none) = absurd none.1
 more_passed ((q, es) ∷ run) o entries e m w (inl passes) = inl passes
@@ -91,20 +103,23 @@ then_passed [] p m w none = absurd none
 then_passed ((q, es) ∷ run) p m w (inl passes) = inl passes
 then_passed ((q, es) ∷ run) p m w (inr passes) = inr (passes.0, then_passed run p (m - length es) w passes.1)
 
-last_passed : (run : Run) (o : Opening) (entries : List Entry) (h : Hall) (n : ℕ) → n ≡ length (entries_of run ++ entries) → Reaches o entries h → RunPasses (and_then run o entries) n h.world
+last_passed : (run : Run) (o : Opening) (entries : List Entry) (h : Hall) (n : ℕ) → n ≡ length (entries_of run ++ entries) → Reaches o entries h
+    → RunPasses (and_then run o entries) n h.world
 last_passed [] o entries h n is reached = inl (omega (arith, is), passes_all o entries h n h.world (omega (arith, is)) reached refl)
 last_passed ((q, es) ∷ run) o entries h n is reached =
     let long = length-append es (entries_of run ++ entries) in
     let assoc = ap length (append_assoc es (entries_of run) entries) in
     inr (omega (arith, is, long, assoc), last_passed run o entries h (n - length es) (omega (arith, is, long, assoc)) reached)
 
-past_more : (start old new : ℕ) (entries : List Entry) (e : Entry) → ((n : ℕ) → moment_after start (take n entries) ≤ old) → old ≤ new → e.moment ≡ new → (n : ℕ) → moment_after start (take n (entries ++ e ∷ [])) ≤ new
+past_more : (start old new : ℕ) (entries : List Entry) (e : Entry) → ((n : ℕ) → moment_after start (take n entries) ≤ old) → old ≤ new
+    → e.moment ≡ new → (n : ℕ) → moment_after start (take n (entries ++ e ∷ [])) ≤ new
 past_more start old new [] e past later at_end zero = let first = past 0 in omega (arith, first, later)
 past_more start old new [] e past later at_end (suc n) = subst (λ (l : List Entry). moment_after e.moment l ≤ new) (sym (take_all n [] (omega arith))) (omega (arith, at_end))
 past_more start old new (d ∷ entries) e past later at_end zero = let first = past 0 in omega (arith, first, later)
 past_more start old new (d ∷ entries) e past later at_end (suc n) = past_more d.moment old new entries e (λ m. past (suc m)) later at_end n
 
-pub turns_keep_runs_safe : {D : Type 0} (images : D → Sides → Type 0) (moment : D → ℕ) (left_since : D → ℕ → Sides → Type 0) → TurnsKeepRunsSafe images moment left_since
+pub turns_keep_runs_safe : {D : Type 0} (images : D → Sides → Type 0) (moment : D → ℕ) (left_since : D → ℕ → Sides → Type 0)
+    → TurnsKeepRunsSafe images moment left_since
 unfolding SafeRun
 turns_keep_runs_safe {D} images moment left_since old new run o entries e h next before after tells_old tells_new stood step follows turn at_end =
     let on : Reaches o (entries ++ e ∷ []) next = leads_on (opening_hall o.world o.logged) h next o.moment o.count false entries e stood.reached step follows in
@@ -129,7 +144,8 @@ turns_keep_runs_safe {D} images moment left_since old new run o entries e h next
 entries-then : (run : Run) (p : Opening) → entries_of (and_then run p []) ≡ entries_of run
 entries-then run p = entries-last run p [] ∙ append-nil (entries_of run)
 
-pub openings_keep_runs_safe : {D : Type 0} (images : D → Sides → Type 0) (moment : D → ℕ) (left_since : D → ℕ → Sides → Type 0) → OpeningsKeepRunsSafe images moment left_since
+pub openings_keep_runs_safe : {D : Type 0} (images : D → Sides → Type 0) (moment : D → ℕ) (left_since : D → ℕ → Sides → Type 0)
+    → OpeningsKeepRunsSafe images moment left_since
 unfolding SafeRun
 openings_keep_runs_safe {D} images moment left_since old new run o p entries h j stood is leaves holds =
     let one = and_then run o entries in

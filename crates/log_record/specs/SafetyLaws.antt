@@ -52,7 +52,8 @@ safe_with_one_more {D} images moment left_since old new start entries e Worlds M
     long = omega (arith, length-append entries (e ∷ []))
 
     -- since the end of the first m of the old entries
-    earlier : (m : ℕ) → m ≤ length entries → (c : Sides) → left_since new (moment_after start (take m entries)) c → RecoversPassed More (acked_count (take m entries)) (length (entries ++ e ∷ [])) c
+    earlier : (m : ℕ) → m ≤ length entries → (c : Sides) → left_since new (moment_after start (take m entries)) c
+        → RecoversPassed More (acked_count (take m entries)) (length (entries ++ e ∷ [])) c
     earlier m few c left = ⊎_elim
         (λ before. passed_still Worlds More (acked_count (take m entries)) (acked_count (take m entries)) (length entries) (length (entries ++ e ∷ [])) c (omega arith) (omega (arith, long)) more (safe m few c before))
         (λ inside. passed_still Worlds More (acked_count entries) (acked_count (take m entries)) (length entries) (length (entries ++ e ∷ [])) c (acked_take m entries) (omega (arith, long)) more inside)
@@ -61,7 +62,8 @@ safe_with_one_more {D} images moment left_since old new start entries e Worlds M
     all : take (length entries) entries ≡ entries
     all = take_all (length entries) entries (omega arith)
 
-    since_last : (c : Sides) → left_since new (moment_after start entries) c → RecoversPassed More (acked_count entries) (length (entries ++ e ∷ [])) c
+    since_last : (c : Sides) → left_since new (moment_after start entries) c
+        → RecoversPassed More (acked_count entries) (length (entries ++ e ∷ [])) c
     since_last c left = subst (λ (l : List Entry). left_since new (moment_after start l) c → RecoversPassed More (acked_count l) (length (entries ++ e ∷ [])) c) all (earlier (length entries) (omega arith) c) left
 
     -- at the end of the new entry
@@ -77,7 +79,9 @@ safe_with_one_more {D} images moment left_since old new start entries e Worlds M
     now c image false none = subst (λ (k : ℕ). RecoversPassed More k (length (entries ++ e ∷ [])) c) (sym (acked_more entries e none))
         (since_last c (counts_now (moment_after start entries) c (omega (arith, leaves.later, subst (λ (l : List Entry). moment_after start l ≤ moment old) all (past (length entries)))) image))
 
-    by_place : (n ≡ length (entries ++ e ∷ [])) ⊎ (n < length (entries ++ e ∷ [])) → (c : Sides) → left_since new (moment_after start (take n (entries ++ e ∷ []))) c → RecoversPassed More (acked_count (take n (entries ++ e ∷ []))) (length (entries ++ e ∷ [])) c
+    by_place : (n ≡ length (entries ++ e ∷ [])) ⊎ (n < length (entries ++ e ∷ [])) → (c : Sides)
+        → left_since new (moment_after start (take n (entries ++ e ∷ []))) c
+        → RecoversPassed More (acked_count (take n (entries ++ e ∷ []))) (length (entries ++ e ∷ [])) c
     by_place (inl last) c left =
         let whole : take n (entries ++ e ∷ []) ≡ entries ++ e ∷ [] = take_all n (entries ++ e ∷ []) (omega (arith, last)) in
         let since : left_since new (moment new) c = subst (λ (t : ℕ). left_since new t c) (ap (moment_after start) whole ∙ moment_last start entries e ∙ at_end) left in

@@ -75,7 +75,8 @@ record Header (bytes : Bytes) : Type 0 where
 abbrev fault : Bool → Bool → Bool → Bool → Option ℕ
 fault m v z g = if not m then Some 1 else if not v then Some 4 else if not z then Some 5 else if g then Some 8 else None
 
-header_parts : (bytes : Bytes) (m v z g : Bool) → same (take 3 (drop 1 bytes)) (codes "TFL") ≡ m → same (take 1 (drop 4 bytes)) (1 ∷ []) ≡ v → same (take 3 (drop 5 bytes)) (0 ∷ 0 ∷ 0 ∷ []) ≡ z → (generation_of bytes == 0) ≡ g
+header_parts : (bytes : Bytes) (m v z g : Bool) → same (take 3 (drop 1 bytes)) (codes "TFL") ≡ m → same (take 1 (drop 4 bytes)) (1 ∷ []) ≡ v
+    → same (take 3 (drop 5 bytes)) (0 ∷ 0 ∷ 0 ∷ []) ≡ z → (generation_of bytes == 0) ≡ g
     → fault m v z g ≡ None → (m ≡ true) × (v ≡ true) × (z ≡ true) × (g ≡ false)
 header_parts bytes true true true true a b c d e = absurd (cc e)
 header_parts bytes true true true false a b c d e = (refl, refl, refl, refl)
@@ -124,8 +125,10 @@ standing side generation b = record { side = side; generation = generation; gate
 stands_is : (x y : Standing) → stands x ≡ stands y → x ≡ y
 stands_is x y e = cc e
 
-found_of : (s : Sides) (side : Side) (st : Standing) (b : Batches) → Told s side st → AreBytes (side_of s side) → batches_in header_len (drop header_len (side_of s side)) ≡ Ok b
-    → stands (record { side = side; generation = generation_of (side_of s side); gate = b.gate; world = folded empty_world b.changes }) ≡ stands st → IsFound s st
+found_of : (s : Sides) (side : Side) (st : Standing) (b : Batches) → Told s side st → AreBytes (side_of s side)
+    → batches_in header_len (drop header_len (side_of s side)) ≡ Ok b
+    → stands (record { side = side; generation = generation_of (side_of s side); gate = b.gate; world = folded empty_world b.changes }) ≡ stands st
+    → IsFound s st
 found_of s side st b told are read is =
     let bytes = side_of s side in
     let g = generation_of bytes in
@@ -145,7 +148,8 @@ found_of s side st b told are read is =
       world = ap (folded empty_world) (sym found.changes) ∙ ap (λ (x : Standing). x.world) same_standing;
     }
 
-told_a : (s : Sides) (st : Standing) → Fine s → is_open s.a ≡ true → (is_open s.b ≡ true → nat_lt (generation_of s.b) (generation_of s.a) ≡ true) → Told s A st
+told_a : (s : Sides) (st : Standing) → Fine s → is_open s.a ≡ true → (is_open s.b ≡ true → nat_lt (generation_of s.b) (generation_of s.a) ≡ true)
+    → Told s A st
 told_a s st fine opened newer = record {
   opened = opened;
   fault = header_right s A fine.a_header opened;
@@ -159,7 +163,8 @@ differ a b m n opened beside apart le = ⊎_elim
     (λ same. absurd (cc (apart, opened, beside, eq-eqb m n same)))
     (λ less. less) (eq-or-lt_of_le le)
 
-told_b : (s : Sides) (st : Standing) → Fine s → is_open s.b ≡ true → (is_open s.a ≡ true → nat_lt (generation_of s.b) (generation_of s.a) ≡ false) → Told s B st
+told_b : (s : Sides) (st : Standing) → Fine s → is_open s.b ≡ true → (is_open s.a ≡ true → nat_lt (generation_of s.b) (generation_of s.a) ≡ false)
+    → Told s B st
 told_b s st fine opened newer = record {
   opened = opened;
   fault = header_right s B fine.b_header opened;
@@ -181,7 +186,8 @@ told_of s side st fine used = ⊎_elim
 damaged_not : (side : Side) (place : ℕ) (st : Standing) → damaged side place ≡ stands st → ⊥
 damaged_not side place st e = cc e
 
-by_batches : (s : Sides) (side : Side) (st : Standing) (r : Result Batches ℕ) → Told s side st → AreBytes (side_of s side) → batches_in header_len (drop header_len (side_of s side)) ≡ r
+by_batches : (s : Sides) (side : Side) (st : Standing) (r : Result Batches ℕ) → Told s side st → AreBytes (side_of s side)
+    → batches_in header_len (drop header_len (side_of s side)) ≡ r
     → reading_of side (generation_of (side_of s side)) r ≡ stands st → IsFound s st
 by_batches s side st (Ok b) told are read e = found_of s side st b told are read e
 by_batches s side st (Err place) told are read e = absurd (damaged_not side place st e)
@@ -189,12 +195,14 @@ by_batches s side st (Err place) told are read e = absurd (damaged_not side plac
 fresh_not : (st : Standing) → fresh ≡ stands st → ⊥
 fresh_not st e = cc e
 
-by_side : (s : Sides) (st : Standing) (o : Option Side) → AreBytes s.a → AreBytes s.b → Fine s → side_in_use s ≡ o → reading_in_use s o ≡ stands st → IsFound s st
+by_side : (s : Sides) (st : Standing) (o : Option Side) → AreBytes s.a → AreBytes s.b → Fine s → side_in_use s ≡ o
+    → reading_in_use s o ≡ stands st → IsFound s st
 by_side s st None a b fine used e = absurd (fresh_not st e)
 by_side s st (Some A) a b fine used e = by_batches s A st (batches_in header_len (drop header_len s.a)) (told_of s A st fine used) a refl e
 by_side s st (Some B) a b fine used e = by_batches s B st (batches_in header_len (drop header_len s.b)) (told_of s B st fine used) b refl e
 
-by_cause : (s : Sides) (st : Standing) (c : Option (Side × ℕ)) → AreBytes s.a → AreBytes s.b → cause_of s ≡ c → unless_damaged c (reading_in_use s (side_in_use s)) ≡ stands st → IsFound s st
+by_cause : (s : Sides) (st : Standing) (c : Option (Side × ℕ)) → AreBytes s.a → AreBytes s.b → cause_of s ≡ c
+    → unless_damaged c (reading_in_use s (side_in_use s)) ≡ stands st → IsFound s st
 by_cause s st None a b none e = by_side s st (side_in_use s) a b (fine_of s none) refl e
 by_cause s st (Some c) a b cause e = absurd (damaged_not c.0 c.1 st e)
 

@@ -9,7 +9,7 @@ use Rattle.outside.specs.declared.sides.Side.{Side}
 use Rattle.outside.specs.declared.sides.Side.TheVariants.{A, B}
 use Rattle.outside.specs.Sides.{Sides, side_of}
 use Rattle.log_record.specs.Folding.{folded}
-use Rattle.log_record.specs.Batches.{open_gate, batches_in, all_changes, AreRecorded}
+use Rattle.log_record.specs.Batches.{number_bytes, open_gate, batches_in, all_changes, AreRecorded}
 use Rattle.log_record.specs.Readings.{header, open_batches, side_over, gate_place, header_len, max_side, is_open, generation_of, header_fault, too_long, wrong_header, equal_generations, no_header, first_cause, cause_of, side_in_use, reading_of, side_reading, reading_in_use, unless_damaged, reading, Reading, stands, IsOlder}
 use Rattle.log_record.specs.Laws.{SidesStand, EmptyIsFresh}
 use Rattle.log_record.specs.BatchesRead.{batches_read, eight}
@@ -20,15 +20,20 @@ side_open generation gate batches stale =
     let long : nat_le 17 (length bytes) ≡ true = le-leb 17 (length bytes) (omega (arith, length-append (header generation) (open_batches batches ++ gate ∷ stale), length-append (open_batches batches) (gate ∷ stale), eight generation)) in
     rw long refl
 
-pub side_generation : (generation gate : ℕ) (batches : List (List Change)) (stale : Bytes) → generation < 2 ^ 64 → generation_of (side_over generation batches gate stale) ≡ generation
+pub side_generation : (generation gate : ℕ) (batches : List (List Change)) (stale : Bytes) → generation < 2 ^ 64
+    → generation_of (side_over generation batches gate stale) ≡ generation
+unfolding number_bytes
 side_generation generation gate batches stale fits = from_be_bytes-to_be_bytes_8 generation fits
 
-pub side_right : (generation gate : ℕ) (batches : List (List Change)) (stale : Bytes) → 0 < generation → generation < 2 ^ 64 → header_fault (side_over generation batches gate stale) ≡ None
+pub side_right : (generation gate : ℕ) (batches : List (List Change)) (stale : Bytes) → 0 < generation → generation < 2 ^ 64
+    → header_fault (side_over generation batches gate stale) ≡ None
 side_right generation gate batches stale some fits =
     ap (λ (g : ℕ). if g == 0 then Some 8 else None) (side_generation generation gate batches stale fits) ∙ rw (ne_eqb generation 0 (λ e. omega (arith, e, some))) refl
 
-side_read : (side : Side) (generation gate : ℕ) (batches : List (List Change)) (stale : Bytes) → gate ≢ open_gate → generation < 2 ^ 64 → AreRecorded batches
+side_read : (side : Side) (generation gate : ℕ) (batches : List (List Change)) (stale : Bytes) → gate ≢ open_gate → generation < 2 ^ 64
+    → AreRecorded batches
     → side_reading side (side_over generation batches gate stale) ≡ stands (record { side = side; generation = generation; gate = gate_place batches; world = folded empty_world (all_changes batches) })
+unfolding number_bytes
 side_read side generation gate batches stale closed fits are =
     ap (λ (g : ℕ). reading_of side g (batches_in header_len (open_batches batches ++ gate ∷ stale))) (side_generation generation gate batches stale fits)
     ∙ ap (reading_of side generation) (batches_read header_len gate batches stale (ne_eqb gate open_gate closed) are)
@@ -38,7 +43,8 @@ side_read side generation gate batches stale closed fits are =
 short : (s : Sides) (side : Side) → length (side_of s side) ≤ max_side → too_long s side ≡ None
 short s side within = rw (le-ltb max_side (length (side_of s side)) within) refl
 
-right : (s : Sides) (side : Side) (b : Bool) → is_open (side_of s side) ≡ b → (b ≡ true → header_fault (side_of s side) ≡ None) → wrong_header s side ≡ None
+right : (s : Sides) (side : Side) (b : Bool) → is_open (side_of s side) ≡ b → (b ≡ true → header_fault (side_of s side) ≡ None)
+    → wrong_header s side ≡ None
 right s side true e fine = rw e (ap (option_map (λ place. (side, place))) (fine refl))
 right s side false e fine = rw e refl
 
@@ -48,7 +54,8 @@ older_right s generation side older = right s side (is_open (side_of s side)) re
 newer_right : (s : Sides) (side : Side) → header_fault (side_of s side) ≡ None → wrong_header s side ≡ None
 newer_right s side fine = right s side (is_open (side_of s side)) refl (λ opened. fine)
 
-a_in_use : (s : Sides) (generation : ℕ) → is_open s.a ≡ true → generation_of s.a ≡ generation → IsOlder generation s.b → (b : Bool) → is_open s.b ≡ b → (equal_generations s ≡ None) × (side_in_use s ≡ Some A)
+a_in_use : (s : Sides) (generation : ℕ) → is_open s.a ≡ true → generation_of s.a ≡ generation → IsOlder generation s.b → (b : Bool)
+    → is_open s.b ≡ b → (equal_generations s ≡ None) × (side_in_use s ≡ Some A)
 a_in_use s generation opened is older true other =
     let less = (older other).1 in
     let apart : (generation_of s.a == generation_of s.b) ≡ false = ne_eqb (generation_of s.a) (generation_of s.b) (λ e. omega (arith, e, is, less)) in
@@ -56,7 +63,8 @@ a_in_use s generation opened is older true other =
     (rw (opened, other, apart) refl, rw (opened, other, newer) refl)
 a_in_use s generation opened is older false other = (rw (opened, other) refl, rw (opened, other) refl)
 
-b_in_use : (s : Sides) (generation : ℕ) → is_open s.b ≡ true → generation_of s.b ≡ generation → IsOlder generation s.a → (b : Bool) → is_open s.a ≡ b → (equal_generations s ≡ None) × (side_in_use s ≡ Some B)
+b_in_use : (s : Sides) (generation : ℕ) → is_open s.b ≡ true → generation_of s.b ≡ generation → IsOlder generation s.a → (b : Bool)
+    → is_open s.a ≡ b → (equal_generations s ≡ None) × (side_in_use s ≡ Some B)
 b_in_use s generation opened is older true other =
     let less = (older other).1 in
     let apart : (generation_of s.a == generation_of s.b) ≡ false = ne_eqb (generation_of s.a) (generation_of s.b) (λ e. omega (arith, e, is, less)) in
@@ -71,7 +79,8 @@ b_has_header : (s : Sides) (b : Bool) → is_open s.a ≡ b → is_open s.b ≡ 
 b_has_header s true other opened = rw other refl
 b_has_header s false other opened = rw (other, opened) refl
 
-no_cause : (s : Sides) → too_long s A ≡ None → too_long s B ≡ None → wrong_header s A ≡ None → wrong_header s B ≡ None → equal_generations s ≡ None → no_header s ≡ None → cause_of s ≡ None
+no_cause : (s : Sides) → too_long s A ≡ None → too_long s B ≡ None → wrong_header s A ≡ None → wrong_header s B ≡ None
+    → equal_generations s ≡ None → no_header s ≡ None → cause_of s ≡ None
 no_cause s a b c d e f =
     ap (λ x. first_cause (x ∷ too_long s B ∷ wrong_header s A ∷ wrong_header s B ∷ equal_generations s ∷ no_header s ∷ [])) a
     ∙ ap (λ x. first_cause (x ∷ wrong_header s A ∷ wrong_header s B ∷ equal_generations s ∷ no_header s ∷ [])) b
@@ -80,7 +89,8 @@ no_cause s a b c d e f =
     ∙ ap (λ x. first_cause (x ∷ no_header s ∷ [])) e
     ∙ ap (λ x. first_cause (x ∷ [])) f
 
-read_in_use : (s : Sides) (side : Side) (found : Reading) → cause_of s ≡ None → side_in_use s ≡ Some side → side_reading side (side_of s side) ≡ found → reading s ≡ found
+read_in_use : (s : Sides) (side : Side) (found : Reading) → cause_of s ≡ None → side_in_use s ≡ Some side
+    → side_reading side (side_of s side) ≡ found → reading s ≡ found
 unfolding reading
 read_in_use s side found none used is =
     ap (λ (c : Option (Side × ℕ)). unless_damaged c (reading_in_use s (side_in_use s))) none ∙ ap (reading_in_use s) used ∙ is

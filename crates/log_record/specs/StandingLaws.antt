@@ -21,7 +21,8 @@ use Rattle.log_record.specs.EventWriteLaws.{folded-append}
 use Rattle.log_record.specs.SidesRead.{sides_stand}
 
 -- a log that stands is recovered as its world
-a_short : (s : Sides) (side : Side) → length (side_of s side) ≤ max_side → length (side_of s (other_side side)) ≤ max_side → (length s.a ≤ max_side) × (length s.b ≤ max_side)
+a_short : (s : Sides) (side : Side) → length (side_of s side) ≤ max_side → length (side_of s (other_side side)) ≤ max_side
+    → (length s.a ≤ max_side) × (length s.b ≤ max_side)
 a_short s A here there = (here, there)
 a_short s B here there = (there, here)
 
@@ -38,7 +39,8 @@ front generation batches = open_gate ∷ (header generation ++ open_batches batc
 front_long : (generation : ℕ) (batches : List (List Change)) → length (front generation batches) ≡ gate_place batches
 front_long generation batches = omega (arith, length-append (header generation) (open_batches batches), eight generation)
 
-front_text : (generation : ℕ) (batches : List (List Change)) (gate : ℕ) (stale : Bytes) → side_over generation batches gate stale ≡ front generation batches ++ gate ∷ stale
+front_text : (generation : ℕ) (batches : List (List Change)) (gate : ℕ) (stale : Bytes)
+    → side_over generation batches gate stale ≡ front generation batches ++ gate ∷ stale
 front_text generation batches gate stale = ap (λ (l : Bytes). open_gate ∷ l) (sym (append_assoc (header generation) (open_batches batches) (gate ∷ stale)))
 
 take_front : (xs ys : Bytes) → take (length xs) (xs ++ ys) ≡ xs
@@ -58,7 +60,8 @@ one_more : (xs : Bytes) (gate : ℕ) (stale : Bytes) → xs ++ gate ∷ stale �
 one_more xs gate stale = sym (append_assoc xs (gate ∷ []) stale)
 
 -- a torn write behind the gate leaves the batches and the gate as they are
-torn_behind : (generation gate n : ℕ) (batches : List (List Change)) (stale new : Bytes) → Torn (gate_place batches + 1) n (side_over generation batches gate stale) new
+torn_behind : (generation gate n : ℕ) (batches : List (List Change)) (stale new : Bytes)
+    → Torn (gate_place batches + 1) n (side_over generation batches gate stale) new
     → (more : Bytes) × (new ≡ side_over generation batches gate more)
 torn_behind generation gate n batches stale new torn =
     let old = side_over generation batches gate stale in
@@ -79,7 +82,8 @@ one_byte [] e = absurd (omega (arith, e))
 one_byte (b ∷ []) e = (b, refl)
 one_byte (b ∷ c ∷ more) e = absurd (omega (arith, e))
 
-gate_written : (generation gate b : ℕ) (batches : List (List Change)) (stale : Bytes) → write_over (gate_place batches) (b ∷ []) (side_over generation batches gate stale) ≡ side_over generation batches b stale
+gate_written : (generation gate b : ℕ) (batches : List (List Change)) (stale : Bytes)
+    → write_over (gate_place batches) (b ∷ []) (side_over generation batches gate stale) ≡ side_over generation batches b stale
 gate_written generation gate b batches stale =
     let old = side_over generation batches gate stale in
     let p = gate_place batches in
@@ -91,7 +95,8 @@ gate_written generation gate b batches stale =
     ∙ ap (λ (l : Bytes). l ++ (b ∷ []) ++ drop (p + 1) old) before.0 ∙ ap (λ (l : Bytes). front generation batches ++ (b ∷ []) ++ l) after.1
     ∙ append_assoc (front generation batches) (b ∷ []) stale ∙ sym (front_text generation batches b stale)
 
-torn_gate : (generation gate : ℕ) (batches : List (List Change)) (stale new : Bytes) → Torn (gate_place batches) 1 (side_over generation batches gate stale) new
+torn_gate : (generation gate : ℕ) (batches : List (List Change)) (stale new : Bytes)
+    → Torn (gate_place batches) 1 (side_over generation batches gate stale) new
     → (b : ℕ) × (new ≡ side_over generation batches b stale)
 torn_gate generation gate batches stale new torn =
     let old = side_over generation batches gate stale in
@@ -101,11 +106,13 @@ torn_gate generation gate batches stale new torn =
     (byte.0, t.2 ∙ ap (λ (l : Bytes). write_over (gate_place batches) l old) byte.1 ∙ gate_written generation gate byte.0 batches stale)
 
 -- an open gate makes the batch behind it one of the batches
-batches-append : (batches : List (List Change)) (changes : List Change) → open_batches (batches ++ changes ∷ []) ≡ open_batches batches ++ open_gate ∷ batch_text changes
+batches-append : (batches : List (List Change)) (changes : List Change)
+    → open_batches (batches ++ changes ∷ []) ≡ open_batches batches ++ open_gate ∷ batch_text changes
 batches-append [] changes = append-nil (open_gate ∷ batch_text changes)
 batches-append (b ∷ batches) changes = ap (λ (l : Bytes). (open_gate ∷ batch_text b) ++ l) (batches-append batches changes) ∙ sym (append_assoc (open_gate ∷ batch_text b) (open_batches batches) (open_gate ∷ batch_text changes))
 
-gate_opens : (generation : ℕ) (batches : List (List Change)) (changes : List Change) (rest : Bytes) → side_over generation batches open_gate (behind_gate changes ++ rest) ≡ side_over generation (batches ++ changes ∷ []) closed_gate rest
+gate_opens : (generation : ℕ) (batches : List (List Change)) (changes : List Change) (rest : Bytes)
+    → side_over generation batches open_gate (behind_gate changes ++ rest) ≡ side_over generation (batches ++ changes ∷ []) closed_gate rest
 gate_opens generation batches changes rest = ap (λ (l : Bytes). open_gate ∷ (header generation ++ l))
     (ap (λ (l : Bytes). open_batches batches ++ open_gate ∷ l) (append_assoc (batch_text changes) (closed_gate ∷ []) rest)
     ∙ sym (append_assoc (open_batches batches) (open_gate ∷ batch_text changes) (closed_gate ∷ rest))
@@ -119,15 +126,18 @@ all-append (b ∷ batches) changes = ap (λ (l : List Change). b ++ l) (all-appe
 pub batch_world : (u : InUse) (changes : List Change) → world_of (with_batch changes u) ≡ folded (world_of u) changes
 batch_world u changes = ap (folded empty_world) (all-append u.batches changes) ∙ folded-append empty_world (all_changes u.batches) changes
 
-recorded-append : (batches : List (List Change)) (changes : List Change) → AreRecorded batches → AllByRecursion IsRecorded changes → length (records_text changes) < 2 ^ 64 → AreRecorded (batches ++ changes ∷ [])
+recorded-append : (batches : List (List Change)) (changes : List Change) → AreRecorded batches → AllByRecursion IsRecorded changes
+    → length (records_text changes) < 2 ^ 64 → AreRecorded (batches ++ changes ∷ [])
 recorded-append [] changes are more small = ((more, small), tt)
 recorded-append (b ∷ batches) changes are more small = (are.0, recorded-append batches changes are.1 more small)
 
-pub batch_in_use : (u : InUse) (changes : List Change) → IsInUse u → AllByRecursion IsRecorded changes → length (records_text changes) < 2 ^ 64 → IsInUse (with_batch changes u)
+pub batch_in_use : (u : InUse) (changes : List Change) → IsInUse u → AllByRecursion IsRecorded changes → length (records_text changes) < 2 ^ 64
+    → IsInUse (with_batch changes u)
 batch_in_use u changes is more small = record { some = is.some; fits = is.fits; recorded = recorded-append u.batches changes is.recorded more small }
 
 -- first the batch is written: each torn outcome stands by the same
-pub write_stands : (u : InUse) (n : ℕ) (d c : Sides) → gate_place u.batches + 1 + n ≤ max_side → StandsBy u d → On u.side (Torn (gate_place u.batches + 1) n) d c → StandsBy u c
+pub write_stands : (u : InUse) (n : ℕ) (d c : Sides) → gate_place u.batches + 1 + n ≤ max_side → StandsBy u d
+    → On u.side (Torn (gate_place u.batches + 1) n) d c → StandsBy u c
 write_stands u n d c room by step =
     let torn = subst (λ (l : Bytes). Torn (gate_place u.batches + 1) n l (side_of c u.side)) by.text step.how in
     let found = torn_behind u.generation by.gate n u.batches by.stale (side_of c u.side) torn in
@@ -143,7 +153,8 @@ write_stands u n d c room by step =
     }
 
 -- what it reads as then
-pub batch_written : (generation gate : ℕ) (batches : List (List Change)) (stale piece : Bytes) → write_over (gate_place batches + 1) piece (side_over generation batches gate stale) ≡ side_over generation batches gate (piece ++ drop (gate_place batches + 1 + length piece) (side_over generation batches gate stale))
+pub batch_written : (generation gate : ℕ) (batches : List (List Change)) (stale piece : Bytes)
+    → write_over (gate_place batches + 1) piece (side_over generation batches gate stale) ≡ side_over generation batches gate (piece ++ drop (gate_place batches + 1 + length piece) (side_over generation batches gate stale))
 batch_written generation gate batches stale piece =
     let old = side_over generation batches gate stale in
     let at = gate_place batches + 1 in
@@ -155,8 +166,10 @@ batch_written generation gate batches stale piece =
     ∙ ap (λ (l : Bytes). l ++ piece ++ rest) cut.0 ∙ append_assoc (front generation batches ++ gate ∷ []) piece rest
     ∙ append_assoc (front generation batches) (gate ∷ []) (piece ++ rest) ∙ sym (front_text generation batches gate (piece ++ rest))
 
-by_gate : (u : InUse) (changes : List Change) (rest : Bytes) (c : Sides) (b : ℕ) → side_of c u.side ≡ side_over u.generation u.batches b (behind_gate changes ++ rest) → IsOlder u.generation (side_of c (other_side u.side))
-    → length (side_of c u.side) ≤ max_side → length (side_of c (other_side u.side)) ≤ max_side → (t : Bool) → (b == open_gate) ≡ t → StandsBy u c ⊎ StandsBy (with_batch changes u) c
+by_gate : (u : InUse) (changes : List Change) (rest : Bytes) (c : Sides) (b : ℕ)
+    → side_of c u.side ≡ side_over u.generation u.batches b (behind_gate changes ++ rest) → IsOlder u.generation (side_of c (other_side u.side))
+    → length (side_of c u.side) ≤ max_side → length (side_of c (other_side u.side)) ≤ max_side → (t : Bool) → (b == open_gate) ≡ t
+    → StandsBy u c ⊎ StandsBy (with_batch changes u) c
 by_gate u changes rest c b text older here there true e = inr (record {
   gate = closed_gate;
   stale = rest;
@@ -169,7 +182,8 @@ by_gate u changes rest c b text older here there true e = inr (record {
 by_gate u changes rest c b text older here there false e = inl (record { gate = b; stale = behind_gate changes ++ rest; text = text; closed = λ same. absurd (cc (e, ap (λ (k : ℕ). k == open_gate) same)); older = older; here = here; there = there })
 
 -- then the gate is written: each torn outcome stands by the same, or by one batch more
-pub gate_stands : (u : InUse) (changes : List Change) (d c : Sides) → IsWritten u changes d → On u.side (Torn (gate_place u.batches) 1) d c → StandsBy u c ⊎ StandsBy (with_batch changes u) c
+pub gate_stands : (u : InUse) (changes : List Change) (d c : Sides) → IsWritten u changes d → On u.side (Torn (gate_place u.batches) 1) d c
+    → StandsBy u c ⊎ StandsBy (with_batch changes u) c
 gate_stands u changes d c by step =
     let torn = subst (λ (l : Bytes). Torn (gate_place u.batches) 1 l (side_of c u.side)) by.text step.how in
     let found = torn_gate u.generation by.gate u.batches (behind_gate changes ++ by.rest) (side_of c u.side) torn in
@@ -180,13 +194,15 @@ gate_stands u changes d c by step =
     (omega (arith, step.how.no_longer, by.here, ap length by.text, inside)) (omega (arith, ap length kept, by.there)) (found.0 == open_gate) refl
 
 -- and what it reads as is with the batch
-pub gate_is_open : (u : InUse) (changes : List Change) (s : Sides) → IsWritten u changes s → (rest : Bytes) × (write_over (gate_place u.batches) (open_gate ∷ []) (side_of s u.side) ≡ side_over u.generation (u.batches ++ changes ∷ []) closed_gate rest)
+pub gate_is_open : (u : InUse) (changes : List Change) (s : Sides) → IsWritten u changes s
+    → (rest : Bytes) × (write_over (gate_place u.batches) (open_gate ∷ []) (side_of s u.side) ≡ side_over u.generation (u.batches ++ changes ∷ []) closed_gate rest)
 gate_is_open u changes s by = (
   by.rest,
   ap (write_over (gate_place u.batches) (open_gate ∷ [])) by.text ∙ gate_written u.generation by.gate open_gate u.batches (behind_gate changes ++ by.rest) ∙ gate_opens u.generation u.batches changes by.rest,
 )
 
 -- of each of the two logs the rest holds
-pub either_older : (u : InUse) (changes : List Change) (c : Sides) → StandsBy u c ⊎ StandsBy (with_batch changes u) c → IsOlder u.generation (side_of c (other_side u.side)) × (length (side_of c u.side) ≤ max_side) × (length (side_of c (other_side u.side)) ≤ max_side)
+pub either_older : (u : InUse) (changes : List Change) (c : Sides) → StandsBy u c ⊎ StandsBy (with_batch changes u) c
+    → IsOlder u.generation (side_of c (other_side u.side)) × (length (side_of c u.side) ≤ max_side) × (length (side_of c (other_side u.side)) ≤ max_side)
 either_older u changes c (inl by) = (by.older, by.here, by.there)
 either_older u changes c (inr by) = (by.older, by.here, by.there)

@@ -31,7 +31,8 @@ pub gave_shows : (e : Entry) → gave e ≡ true → shows e.event e.outcome ≡
 gave_shows e gives = ap (λ b. b || (settles e.event && is_fine e.outcome)) (sym (gave_given e e.outcome) ∙ gives)
 
 either_passed : {D : Type 0} (images : D → Sides → Type 0) (moment : D → ℕ) (left_since : D → ℕ → Sides → Type 0) (old : D) (o : Opening) (entries : List Entry) (h : Hall) (j : Journal)
-    → TellsNow images moment left_since old → Reaches o entries h → moment_after o.moment entries ≤ moment old → IsSafe left_since old o.moment entries (Passes o entries) → IsLogged (images old) h j
+    → TellsNow images moment left_since old → Reaches o entries h → moment_after o.moment entries ≤ moment old
+    → IsSafe left_since old o.moment entries (Passes o entries) → IsLogged (images old) h j
     → (c : Sides) → RecoversEither j.committed (whole j) c → RecoversPassed (Passes o entries) (acked_count entries) (length entries) c
 either_passed images moment left_since old o entries h j tells reached past safe log c either = ⊎_elim
     (λ first. let found = committed_passed images moment left_since old o.moment entries (Passes o entries) j.committed tells.counts_now safe past log.durable in
@@ -41,8 +42,10 @@ either_passed images moment left_since old o entries h j tells reached past safe
 
 -- what a call leaves, whether the hall had stopped or not
 leaves_passed : {D : Type 0} (images : D → Sides → Type 0) (moment : D → ℕ) (left_since : D → ℕ → Sides → Type 0) (old new : D) (o : Opening) (entries : List Entry) (e : Entry) (h next : Hall) (before after : Journal)
-    → TellsNow images moment left_since old → Reaches o entries h → moment_after o.moment entries ≤ moment old → IsSafe left_since old o.moment entries (Passes o entries) → KeepsLog (images old) h before
-    → Turn images moment left_since old new h before e.event e.outcome next after → (b : Bool) → h.stopped ≡ b → LeavesOnly moment left_since old new (RecoversPassed (Passes o entries) (acked_count entries) (length entries))
+    → TellsNow images moment left_since old → Reaches o entries h → moment_after o.moment entries ≤ moment old
+    → IsSafe left_since old o.moment entries (Passes o entries) → KeepsLog (images old) h before
+    → Turn images moment left_since old new h before e.event e.outcome next after → (b : Bool) → h.stopped ≡ b
+    → LeavesOnly moment left_since old new (RecoversPassed (Passes o entries) (acked_count entries) (length entries))
 leaves_passed {D} images moment left_since old new o entries e h next before after tells reached past safe log turn true stops =
     subst (λ (d : D). LeavesOnly moment left_since old d (RecoversPassed (Passes o entries) (acked_count entries) (length entries))) (sym (turn.stopped stops)) (begins moment left_since old (RecoversPassed (Passes o entries) (acked_count entries) (length entries)))
 leaves_passed images moment left_since old new o entries e h next before after tells reached past safe log turn false goes =
@@ -50,19 +53,22 @@ leaves_passed images moment left_since old new o entries e h next before after t
     (either_passed images moment left_since old o entries h before tells reached past safe (log goes)) (turn.leaves goes)
 
 -- a hall that goes on went on before
-went_on : (h next : Hall) (event : Event) (outcome : Outcome) → Step h event outcome next → next.stopped ≡ false → (b : Bool) → h.stopped ≡ b → h.stopped ≡ false
+went_on : (h next : Hall) (event : Event) (outcome : Outcome) → Step h event outcome next → next.stopped ≡ false → (b : Bool) → h.stopped ≡ b
+    → h.stopped ≡ false
 went_on h next event outcome step goes true stops = absurd (cc (goes, stops, ap (λ (n : Hall). n.stopped) (subst (λ b. StepBy (if b then Some (when_stopped event, h) else refusal_going h event) h event outcome next) stops step).1))
 went_on h next event outcome step goes false goes_on = goes_on
 
 -- a core keeps to its log
 pub keeps_log_on : {D : Type 0} (images : D → Sides → Type 0) (moment : D → ℕ) (left_since : D → ℕ → Sides → Type 0) (old new : D) (event : Event) (outcome : Outcome) (h next : Hall) (before after : Journal)
-    → KeepsLog (images old) h before → Step h event outcome next → Turn images moment left_since old new h before event outcome next after → KeepsLog (images new) next after
+    → KeepsLog (images old) h before → Step h event outcome next → Turn images moment left_since old new h before event outcome next after
+    → KeepsLog (images new) next after
 keeps_log_on images moment left_since old new event outcome h next before after log step turn goes = record {
   world = (steps_make_their_writes h next event outcome step).world ∙ ap (λ w. folded w (changes_of (writes_by h event outcome))) (log (went_on h next event outcome step goes h.stopped refl)).world ∙ sym (turn.logs goes);
   durable = turn.durable goes;
 }
 
-pub turns_keep_safe : {D : Type 0} (images : D → Sides → Type 0) (moment : D → ℕ) (left_since : D → ℕ → Sides → Type 0) → TurnsKeepSafe images moment left_since
+pub turns_keep_safe : {D : Type 0} (images : D → Sides → Type 0) (moment : D → ℕ) (left_since : D → ℕ → Sides → Type 0)
+    → TurnsKeepSafe images moment left_since
 unfolding Safe
 turns_keep_safe images moment left_since old new o entries e h next before after tells_old tells_new stood step follows turn at_end =
     let on : Reaches o (entries ++ e ∷ []) next = leads_on (opening_hall o.world o.logged) h next o.moment o.count false entries e stood.reached step follows in
@@ -79,7 +85,8 @@ turns_keep_safe images moment left_since old new o entries e h next before after
       log = keeps_log_on images moment left_since old new e.event e.outcome h next before after stood.log step turn;
     }
 
-opening_safe : {D : Type 0} (left_since : D → ℕ → Sides → Type 0) (disk : D) (o : Opening) → EachSince left_since disk o.moment (λ image. Recovers image o.world) → Safe left_since disk o []
+opening_safe : {D : Type 0} (left_since : D → ℕ → Sides → Type 0) (disk : D) (o : Opening)
+    → EachSince left_since disk o.moment (λ image. Recovers image o.world) → Safe left_since disk o []
 unfolding Safe
 opening_safe left_since disk o each zero few c left = record {
   count = 0;
@@ -91,7 +98,8 @@ opening_safe left_since disk o each zero few c left = record {
 }
 opening_safe left_since disk o each (suc n) few c left = absurd (omega (arith, few))
 
-pub openings_stand : {D : Type 0} (images : D → Sides → Type 0) (moment : D → ℕ) (left_since : D → ℕ → Sides → Type 0) → OpeningsStand images moment left_since
+pub openings_stand : {D : Type 0} (images : D → Sides → Type 0) (moment : D → ℕ) (left_since : D → ℕ → Sides → Type 0)
+    → OpeningsStand images moment left_since
 openings_stand images moment left_since disk o past each holds = record {
   reached = refl;
   past = past;
@@ -100,7 +108,8 @@ openings_stand images moment left_since disk o past each holds = record {
 }
 
 pub turn_keeps_safe : {D : Type 0} (images : D → Sides → Type 0) (moment : D → ℕ) (left_since : D → ℕ → Sides → Type 0) (old new : D) (h next : Hall) (before after : Journal) (event : Event) (outcome : Outcome)
-    → TellsNow images moment left_since old → TellsNow images moment left_since new → Step h event outcome next → Turn images moment left_since old new h before event outcome next after
+    → TellsNow images moment left_since old → TellsNow images moment left_since new → Step h event outcome next
+    → Turn images moment left_since old new h before event outcome next after
     → KeepsSafe images moment left_since old new h before event outcome next after
 turn_keeps_safe images moment left_since old new h next before after event outcome tells_old tells_new step turn o entries e stood is_event is_outcome at_end follows =
     turns_keep_safe images moment left_since old new o entries e h next before after tells_old tells_new stood

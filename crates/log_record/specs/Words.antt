@@ -131,7 +131,10 @@ pub record IsRecorded (c : Change) : Type 0 where
 
 -- a setting's normal words spell the setting itself
 pub record SettingsAreNormal : Type 0 where
-  pub given : (words : List Bytes) (c : Channel) (a : Area) → command_spelled words ≡ Some (command.Setchan c (Some (Given a))) → command_spelled (record_words (SetChan c)) ≡ Some (command.Setchan c (Some (Given a)))
-  pub near : (words : List Bytes) (c : Channel) → command_spelled words ≡ Some (command.Setchan c None) → command_spelled (record_words (SetChan c)) ≡ Some (command.Setchan c None)
-  pub stored : (words : List Bytes) (c : Channel) (key id text : Bytes) (shape : Shape) → command_spelled words ≡ Some (command.Setchan c (Some (Of key id))) → shape_of text ≡ Ok shape
+  pub given : (words : List Bytes) (c : Channel) (a : Area) → command_spelled words ≡ Some (command.Setchan c (Some (Given a)))
+      → command_spelled (record_words (SetChan c)) ≡ Some (command.Setchan c (Some (Given a)))
+  pub near : (words : List Bytes) (c : Channel) → command_spelled words ≡ Some (command.Setchan c None)
+      → command_spelled (record_words (SetChan c)) ≡ Some (command.Setchan c None)
+  pub stored : (words : List Bytes) (c : Channel) (key id text : Bytes) (shape : Shape)
+      → command_spelled words ≡ Some (command.Setchan c (Some (Of key id))) → shape_of text ≡ Ok shape
       → let d = settled_channel c (Figure shape) (codes "OBJECT" ∷ text ∷ []) in command_spelled (record_words (SetChan d)) ≡ Some (command.Setchan d (Some (Given (Figure shape))))

@@ -8,7 +8,7 @@ use Rattle.byte_text.specs.Names.{Bytes}
 use Rattle.log_sides.specs.Texts.{StandsFor, IsGeneration, open_gate, header, batches_text, framed, sealed, with_batch, committed, written, gate_place, max_side}
 use Rattle.log_sides.specs.Making.{IsShut, IsBare, head_text}
 use Rattle.log_sides.specs.Closing.{head_written}
-use Rattle.log_sides.specs.Torn.{one_byte, gate_written, batches_text-append, length-number_bytes}
+use Rattle.log_sides.specs.Torn.{one_byte, gate_written, batches_text-append}
 use Rattle.log_sides.specs.Sealing.{length-sealed}
 use Rattle.log_rewrite.specs.NewSides.{IsPart, rear_text, ShutOrStands}
 

@@ -24,6 +24,10 @@ pub record IsNewSide (crashes : Bool) (seen : Option Sides) (images : Sides → 
   pub now : HasNow seen side (IsPart generation batches)
   pub shut : IsHeld crashes seen images side IsShut
 
+-- the same of a side of this disk, for clauses
+abbrev pub NewSideOn : {D : Type 0} → (D → Bool) → (D → Option Sides) → (D → Sides → Type 0) → D → Side → ℕ → ℕ → List Bytes → Type 0
+NewSideOn crashes seen images disk side generation gate batches = IsNewSide (crashes disk) (seen disk) (images disk) side generation gate batches
+
 -- the side is not open, or stands for these batches
 abbrev pub ShutOrStands : ℕ → List Bytes → Bytes → Type 0
 ShutOrStands generation batches side = IsShut side ⊎ StandsFor generation batches side

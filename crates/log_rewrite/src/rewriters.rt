@@ -4,9 +4,9 @@ ghost use Rattle.std.specs.Prelude.{◌≡◌, ◌+◌, ◌-◌, ◌≤◌, ◌^
 ghost use Rattle.byte_text.specs.Names.{Bytes};
 ghost use Rattle.outside.specs.Causes.{HasCause};
 ghost use Rattle.log_sides.specs.Texts.{IsGeneration, committed, written};
-ghost use Rattle.log_sides.specs.States.{SideIsSafe, SideLeads, IsHeld, IsLog};
+ghost use Rattle.log_sides.specs.States.{HeldOn, ReadsAs, SideLeads, LogOn};
 ghost use Rattle.log_sides.specs.Making.{IsShut, WhileShut};
-ghost use Rattle.log_rewrite.specs.NewSides.{IsNewSide, ShutOrStands};
+ghost use Rattle.log_rewrite.specs.NewSides.{NewSideOn, ShutOrStands};
 
 use crate::writes::{settle, write_piece};
 use log_sides::{Batch, FIRST_GATE, head_of, shut_side};
@@ -35,8 +35,10 @@ impl Rewriter {
     /// side is as it was, or not open, and the other one stays.
     pub fn begin<D: Disk>(disk: &mut D, side: Side, generation: u64) -> Result<Rewriter, Failed>
         requires { IsGeneration generation }
-        ensures begun { (before : Bytes) → SideIsSafe (D.crashes disk.old) (D.seen disk.old) (D.images disk.old) side (λ x. x ≡ before) → IfOk result (λ r. IsNewSide (D.crashes disk.new) (D.seen disk.new) (D.images disk.new) side generation r.gate []) }
-        ensures either { (before : Bytes) → SideIsSafe (D.crashes disk.old) (D.seen disk.old) (D.images disk.old) side (λ x. x ≡ before) → SideLeads D.crashes D.seen D.images D.moment D.left_since side (WhileShut before) disk.old disk.new }
+        ensures begun { (before : Bytes) → ReadsAs D.crashes D.seen D.images disk.old side before
+            → IfOk result (λ r. NewSideOn D.crashes D.seen D.images disk.new side generation r.gate []) }
+        ensures either { (before : Bytes) → ReadsAs D.crashes D.seen D.images disk.old side before
+            → SideLeads D.crashes D.seen D.images D.moment D.left_since side (WhileShut before) disk.old disk.new }
         ensures told { D.crashes disk.new ≡ D.crashes disk.old }
         ensures cause { HasCause (D.faults disk.old) (D.faults disk.new) result }
         ensures side { IfOk result (λ r. r.side ≡ side) }
@@ -63,8 +65,12 @@ impl Rewriter {
     /// Writes the records of some items as one batch, and nothing where there are none. It is not synced.
     pub fn copy_piece<D: Disk>(&mut self, disk: &mut D, piece: &Batch) -> Result<(), Failed>
         requires { self.old.gate + length piece.now + 10 ≤ 2 ^ 62 }
-        ensures grown { (batches : List Bytes) → IsNewSide (D.crashes disk.old) (D.seen disk.old) (D.images disk.old) self.old.side self.old.generation self.old.gate batches → OnOk result (IsNewSide (D.crashes disk.new) (D.seen disk.new) (D.images disk.new) self.old.side self.old.generation self.new.gate (committed batches piece.now)) }
-        ensures either { IsHeld (D.crashes disk.old) (D.seen disk.old) (D.images disk.old) self.old.side IsShut → SideLeads D.crashes D.seen D.images D.moment D.left_since self.old.side IsShut disk.old disk.new }
+        ensures grown { (batches : List Bytes)
+            → NewSideOn D.crashes D.seen D.images disk.old self.old.side self.old.generation self.old.gate batches
+            → OnOk result (NewSideOn D.crashes D.seen D.images disk.new self.old.side self.old.generation self.new.gate
+            (committed batches piece.now)) }
+        ensures either { HeldOn D.crashes D.seen D.images disk.old self.old.side IsShut
+            → SideLeads D.crashes D.seen D.images D.moment D.left_since self.old.side IsShut disk.old disk.new }
         ensures told { D.crashes disk.new ≡ D.crashes disk.old }
         ensures cause { HasCause (D.faults disk.old) (D.faults disk.new) result }
         ensures side { self.new.side ≡ self.old.side }
@@ -77,8 +83,11 @@ impl Rewriter {
     /// Writes a batch as the log's last commit wrote it, gates and all, and nothing where that wrote none. It is not synced.
     pub fn mirror<D: Disk>(&mut self, disk: &mut D, batch: &[u8]) -> Result<(), Failed>
         requires { self.old.gate + length batch.now ≤ 2 ^ 62 }
-        ensures grown { (batches : List Bytes) (records : Bytes) → batch.now ≡ written records → IsNewSide (D.crashes disk.old) (D.seen disk.old) (D.images disk.old) self.old.side self.old.generation self.old.gate batches → OnOk result (IsNewSide (D.crashes disk.new) (D.seen disk.new) (D.images disk.new) self.old.side self.old.generation self.new.gate (committed batches records)) }
-        ensures either { IsHeld (D.crashes disk.old) (D.seen disk.old) (D.images disk.old) self.old.side IsShut → SideLeads D.crashes D.seen D.images D.moment D.left_since self.old.side IsShut disk.old disk.new }
+        ensures grown { (batches : List Bytes) (records : Bytes) → batch.now ≡ written records
+            → NewSideOn D.crashes D.seen D.images disk.old self.old.side self.old.generation self.old.gate batches
+            → OnOk result (NewSideOn D.crashes D.seen D.images disk.new self.old.side self.old.generation self.new.gate (committed batches records)) }
+        ensures either { HeldOn D.crashes D.seen D.images disk.old self.old.side IsShut
+            → SideLeads D.crashes D.seen D.images D.moment D.left_since self.old.side IsShut disk.old disk.new }
         ensures told { D.crashes disk.new ≡ D.crashes disk.old }
         ensures cause { HasCause (D.faults disk.old) (D.faults disk.new) result }
         ensures side { self.new.side ≡ self.old.side }
@@ -99,8 +108,10 @@ impl Rewriter {
 
     /// Makes all that was written safe, and opens the side. Until its gate is open the side is shut, and the other one stays.
     pub fn finish<D: Disk>(self, disk: &mut D) -> Result<NewSide, Failed>
-        ensures stands { (batches : List Bytes) → IsNewSide (D.crashes disk.old) (D.seen disk.old) (D.images disk.old) self.side self.generation self.gate batches → IfOk result (λ made. IsLog (D.crashes disk.new) (D.seen disk.new) (D.images disk.new) self.side self.generation made.gate batches) }
-        ensures either { (batches : List Bytes) → IsNewSide (D.crashes disk.old) (D.seen disk.old) (D.images disk.old) self.side self.generation self.gate batches → SideLeads D.crashes D.seen D.images D.moment D.left_since self.side (ShutOrStands self.generation batches) disk.old disk.new }
+        ensures stands { (batches : List Bytes) → NewSideOn D.crashes D.seen D.images disk.old self.side self.generation self.gate batches
+            → IfOk result (λ made. LogOn D.crashes D.seen D.images disk.new self.side self.generation made.gate batches) }
+        ensures either { (batches : List Bytes) → NewSideOn D.crashes D.seen D.images disk.old self.side self.generation self.gate batches
+            → SideLeads D.crashes D.seen D.images D.moment D.left_since self.side (ShutOrStands self.generation batches) disk.old disk.new }
         ensures told { D.crashes disk.new ≡ D.crashes disk.old }
         ensures cause { HasCause (D.faults disk.old) (D.faults disk.new) result }
         ensures side { IfOk result (λ made. made.side ≡ self.side) }
@@ -121,8 +132,10 @@ impl Rewriter {
 // Leaves of a side a closed gate with a header behind it.
 fn begin_side<D: Disk>(disk: &mut D, side: Side, generation: u64) -> Result<(), Failed>
     requires { IsGeneration generation }
-    ensures begun { (before : Bytes) → SideIsSafe (D.crashes disk.old) (D.seen disk.old) (D.images disk.old) side (λ x. x ≡ before) → OnOk result (IsNewSide (D.crashes disk.new) (D.seen disk.new) (D.images disk.new) side generation 16 []) }
-    ensures either { (before : Bytes) → SideIsSafe (D.crashes disk.old) (D.seen disk.old) (D.images disk.old) side (λ x. x ≡ before) → SideLeads D.crashes D.seen D.images D.moment D.left_since side (WhileShut before) disk.old disk.new }
+    ensures begun { (before : Bytes) → ReadsAs D.crashes D.seen D.images disk.old side before
+        → OnOk result (NewSideOn D.crashes D.seen D.images disk.new side generation 16 []) }
+    ensures either { (before : Bytes) → ReadsAs D.crashes D.seen D.images disk.old side before
+        → SideLeads D.crashes D.seen D.images D.moment D.left_since side (WhileShut before) disk.old disk.new }
     ensures told { D.crashes disk.new ≡ D.crashes disk.old }
     ensures cause { HasCause (D.faults disk.old) (D.faults disk.new) result }
 {
@@ -134,8 +147,12 @@ fn begin_side<D: Disk>(disk: &mut D, side: Side, generation: u64) -> Result<(), 
 
 // Makes all of a side safe, and then opens its gate.
 fn open_side<D: Disk>(disk: &mut D, side: Side) -> Result<(), Failed>
-    ensures stands { (generation gate : ℕ) (batches : List Bytes) → gate + 1 ≤ 2 ^ 62 → IsNewSide (D.crashes disk.old) (D.seen disk.old) (D.images disk.old) side generation gate batches → OnOk result (IsLog (D.crashes disk.new) (D.seen disk.new) (D.images disk.new) side generation gate batches) }
-    ensures either { (generation gate : ℕ) (batches : List Bytes) → gate + 1 ≤ 2 ^ 62 → IsNewSide (D.crashes disk.old) (D.seen disk.old) (D.images disk.old) side generation gate batches → SideLeads D.crashes D.seen D.images D.moment D.left_since side (ShutOrStands generation batches) disk.old disk.new }
+    ensures stands { (generation gate : ℕ) (batches : List Bytes) → gate + 1 ≤ 2 ^ 62
+        → NewSideOn D.crashes D.seen D.images disk.old side generation gate batches
+        → OnOk result (LogOn D.crashes D.seen D.images disk.new side generation gate batches) }
+    ensures either { (generation gate : ℕ) (batches : List Bytes) → gate + 1 ≤ 2 ^ 62
+        → NewSideOn D.crashes D.seen D.images disk.old side generation gate batches
+        → SideLeads D.crashes D.seen D.images D.moment D.left_since side (ShutOrStands generation batches) disk.old disk.new }
     ensures told { D.crashes disk.new ≡ D.crashes disk.old }
     ensures cause { HasCause (D.faults disk.old) (D.faults disk.new) result }
 {

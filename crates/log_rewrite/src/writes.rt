@@ -6,9 +6,9 @@ ghost use Rattle.outside.specs.Causes.{HasCause};
 ghost use Rattle.outside.specs.Sides.{side_of, with_side, Told, On};
 ghost use Rattle.outside.specs.Disks.{write_over, Torn, Follows};
 ghost use Rattle.outside.specs.Crashes.{LeavesOnly, After};
-ghost use Rattle.log_sides.specs.States.{SideIsSafe, SideLeads, IsHeld};
+ghost use Rattle.log_sides.specs.States.{HeldOn, SafeOn, SideLeads};
 ghost use Rattle.log_sides.specs.Making.{IsShut};
-ghost use Rattle.log_rewrite.specs.NewSides.{IsPart, IsNewSide};
+ghost use Rattle.log_rewrite.specs.NewSides.{IsPart, NewSideOn};
 
 use outside::{Disk, Failed, Side};
 
@@ -21,7 +21,8 @@ pub(crate) fn write_piece<D: Disk>(
     piece: &[u8],
 ) -> Result<(), Failed>
     requires { at + length piece.now ≤ 2 ^ 63 }
-    ensures written { OnOk result (Told (D.seen disk.old) (D.seen disk.new) (λ s t. t ≡ with_side s side (write_over at piece.now (side_of s side)))) }
+    ensures written { OnOk result (Told (D.seen disk.old) (D.seen disk.new)
+        (λ s t. t ≡ with_side s side (write_over at piece.now (side_of s side)))) }
     ensures torn { Told (D.seen disk.old) (D.seen disk.new) (On side (Torn at (length piece.now))) }
     ensures told { D.crashes disk.new ≡ D.crashes disk.old }
     ensures crash { Follows (On side (Torn at (length piece.now))) (D.images disk.old) (D.images disk.new) }
@@ -33,8 +34,10 @@ pub(crate) fn write_piece<D: Disk>(
 
 /// Makes safe what was written of the side.
 pub(crate) fn settle<D: Disk>(disk: &mut D, side: Side) -> Result<(), Failed>
-    ensures safe { (generation gate : ℕ) (batches : List Bytes) → IsNewSide (D.crashes disk.old) (D.seen disk.old) (D.images disk.old) side generation gate batches → OnOk result (SideIsSafe (D.crashes disk.new) (D.seen disk.new) (D.images disk.new) side (IsPart generation batches)) }
-    ensures same { IsHeld (D.crashes disk.old) (D.seen disk.old) (D.images disk.old) side IsShut → SideLeads D.crashes D.seen D.images D.moment D.left_since side IsShut disk.old disk.new }
+    ensures safe { (generation gate : ℕ) (batches : List Bytes) → NewSideOn D.crashes D.seen D.images disk.old side generation gate batches
+        → OnOk result (SafeOn D.crashes D.seen D.images disk.new side (IsPart generation batches)) }
+    ensures same { HeldOn D.crashes D.seen D.images disk.old side IsShut
+        → SideLeads D.crashes D.seen D.images D.moment D.left_since side IsShut disk.old disk.new }
     ensures told { D.crashes disk.new ≡ D.crashes disk.old }
     ensures cause { HasCause (D.faults disk.old) (D.faults disk.new) result }
 {

@@ -67,7 +67,8 @@ length-head : (generation : ℕ) → length (head_text generation) ≡ 16
 length-head generation = omega (arith, length-append (header generation) (0 ∷ []), length-number_bytes generation)
 
 -- the gate was opened, whole or torn
-pub made_opened : (generation : ℕ) (side : Bytes) (b : ℕ) → IsGeneration generation → b ≡ open_gate → side ≡ b ∷ head_text generation → StandsFor generation [] side
+pub made_opened : (generation : ℕ) (side : Bytes) (b : ℕ) → IsGeneration generation → b ≡ open_gate → side ≡ b ∷ head_text generation
+    → StandsFor generation [] side
 made_opened generation side b numbered opened text = record {
   numbered = numbered;
   within = omega (arith, ap length text, length-head generation);
@@ -77,10 +78,12 @@ made_opened generation side b numbered opened text = record {
   text = text ∙ ap (λ (j : ℕ). j ∷ head_text generation) opened ∙ ap (λ (l : Bytes). open_gate ∷ (l ++ 0 ∷ [])) (sym (append-nil (header generation)));
 }
 
-pub made_written : (generation : ℕ) (old : Bytes) → IsGeneration generation → IsMade generation old → StandsFor generation [] (write_over 0 (1 ∷ []) old)
+pub made_written : (generation : ℕ) (old : Bytes) → IsGeneration generation → IsMade generation old
+    → StandsFor generation [] (write_over 0 (1 ∷ []) old)
 made_written generation old numbered made = made_opened generation (write_over 0 (1 ∷ []) old) 1 numbered refl (gate_written [] (head_text generation) old made.gate 1 made.is)
 
-pub made_torn : (generation : ℕ) (before old new : Bytes) → IsGeneration generation → IsMade generation old → Torn 0 1 old new → WhileMade generation before new
+pub made_torn : (generation : ℕ) (before old new : Bytes) → IsGeneration generation → IsMade generation old → Torn 0 1 old new
+    → WhileMade generation before new
 made_torn generation before old new numbered made torn =
     let other = torn_within 0 1 old new (omega (arith, ap length made.is)) torn in
     let byte = one_byte other.0 other.1 in

@@ -22,7 +22,8 @@ told_settled : (o : Option Sides) (s : Sides) (side : Side) → o ≡ Some s →
 told_settled o s side told t e = let same : t ≡ s = cc in ap (λ (u : Sides). side_of u side) same
 
 -- a step on a side that had P
-stepped : (side : Side) (step : Bytes → Bytes → Type 0) (before : Sides → Type 0) (P Q : Bytes → Type 0) → EachImage before (λ c. P (side_of c side)) → ((x y : Bytes) → P x → step x y → Q y)
+stepped : (side : Side) (step : Bytes → Bytes → Type 0) (before : Sides → Type 0) (P Q : Bytes → Type 0)
+    → EachImage before (λ c. P (side_of c side)) → ((x y : Bytes) → P x → step x y → Q y)
     → (c : Sides) → After (On side step) before c → IsLeft before side Q c
 stepped side step before P Q each has c after = record {
   here = has (side_of after.0 side) (side_of c side) (each after.0 after.1) after.2.how;
@@ -32,16 +33,19 @@ stepped side step before P Q each has c after = record {
 }
 
 -- a side that is safe
-pub safe_now : (crashes : Bool) (seen : Option Sides) (images : Sides → Type 0) (side : Side) (P : Bytes → Type 0) → SideIsSafe crashes seen images side P → HasNow seen side P
+pub safe_now : (crashes : Bool) (seen : Option Sides) (images : Sides → Type 0) (side : Side) (P : Bytes → Type 0)
+    → SideIsSafe crashes seen images side P → HasNow seen side P
 safe_now crashes seen images side P safe = record { contents = safe.contents; told = safe.told; has = safe.has }
 
-pub safe_held : (crashes : Bool) (seen : Option Sides) (images : Sides → Type 0) (side : Side) (P : Bytes → Type 0) → SideIsSafe crashes seen images side P → IsHeld crashes seen images side P
+pub safe_held : (crashes : Bool) (seen : Option Sides) (images : Sides → Type 0) (side : Side) (P : Bytes → Type 0)
+    → SideIsSafe crashes seen images side P → IsHeld crashes seen images side P
 safe_held crashes seen images side P safe = record {
   now = record { contents = safe.contents; told = safe.told; has = safe.has };
   each = λ yes c image. subst P (sym (safe.settled yes c image)) safe.has;
 }
 
-pub safe_weaker : (crashes : Bool) (seen : Option Sides) (images : Sides → Type 0) (side : Side) (P Q : Bytes → Type 0) → ((x : Bytes) → P x → Q x) → SideIsSafe crashes seen images side P → SideIsSafe crashes seen images side Q
+pub safe_weaker : (crashes : Bool) (seen : Option Sides) (images : Sides → Type 0) (side : Side) (P Q : Bytes → Type 0)
+    → ((x : Bytes) → P x → Q x) → SideIsSafe crashes seen images side P → SideIsSafe crashes seen images side Q
 safe_weaker crashes seen images side P Q f safe = record { contents = safe.contents; told = safe.told; has = f (side_of safe.contents side) safe.has; settled = safe.settled }
 
 -- what is held at the end of calls
@@ -54,7 +58,8 @@ leads_held crashes seen images moment left_since side P old new same leads = rec
 
 -- the other side stays safe
 pub leads_other : {D : Type 0} (crashes : D → Bool) (seen : D → Option Sides) (images : D → Sides → Type 0) (moment : D → ℕ) (left_since : D → ℕ → Sides → Type 0) (side : Side) (P Q : Bytes → Type 0) (old new : D)
-    → crashes new ≡ crashes old → SideLeads crashes seen images moment left_since side P old new → SideIsSafe (crashes old) (seen old) (images old) (other_side side) Q → SideIsSafe (crashes new) (seen new) (images new) (other_side side) Q
+    → crashes new ≡ crashes old → SideLeads crashes seen images moment left_since side P old new
+    → SideIsSafe (crashes old) (seen old) (images old) (other_side side) Q → SideIsSafe (crashes new) (seen new) (images new) (other_side side) Q
 leads_other crashes seen images moment left_since side P Q old new same leads safe =
     let left = leads.contents.2 in
     let bytes : side_of leads.contents.0 (other_side side) ≡ side_of safe.contents (other_side side) = left.there ∙ told_settled (seen old) safe.contents (other_side side) safe.told left.earlier left.could in
@@ -65,17 +70,20 @@ leads_other crashes seen images moment left_since side P Q old new same leads sa
       settled = λ yes c image. let l = leads.images_now (sym same ∙ yes) c image in l.there ∙ safe.settled (sym same ∙ yes) l.earlier l.could ∙ sym bytes;
     }
 
-left_weaker : (before : Sides → Type 0) (side : Side) (P Q : Bytes → Type 0) → ((x : Bytes) → P x → Q x) → (c : Sides) → IsLeft before side P c → IsLeft before side Q c
+left_weaker : (before : Sides → Type 0) (side : Side) (P Q : Bytes → Type 0) → ((x : Bytes) → P x → Q x) → (c : Sides) → IsLeft before side P c
+    → IsLeft before side Q c
 left_weaker before side P Q f c left = record { here = f (side_of c side) left.here; earlier = left.earlier; could = left.could; there = left.there }
 
-left_then : (before mid : Sides → Type 0) (side : Side) (P Q : Bytes → Type 0) → ((d : Sides) → mid d → IsLeft before side P d) → (c : Sides) → IsLeft mid side Q c → IsLeft before side Q c
+left_then : (before mid : Sides → Type 0) (side : Side) (P Q : Bytes → Type 0) → ((d : Sides) → mid d → IsLeft before side P d) → (c : Sides)
+    → IsLeft mid side Q c → IsLeft before side Q c
 left_then before mid side P Q one c left =
     let first = one left.earlier left.could in
     record { here = left.here; earlier = first.earlier; could = first.could; there = left.there ∙ first.there }
 
 -- a fact that follows
 pub leads_weaker : {D : Type 0} (crashes : D → Bool) (seen : D → Option Sides) (images : D → Sides → Type 0) (moment : D → ℕ) (left_since : D → ℕ → Sides → Type 0) (side : Side) (P Q : Bytes → Type 0) (old new : D)
-    → ((x : Bytes) → P x → Q x) → SideLeads crashes seen images moment left_since side P old new → SideLeads crashes seen images moment left_since side Q old new
+    → ((x : Bytes) → P x → Q x) → SideLeads crashes seen images moment left_since side P old new
+    → SideLeads crashes seen images moment left_since side Q old new
 leads_weaker crashes seen images moment left_since side P Q old new f leads = record {
   contents = (leads.contents.0, leads.contents.1, left_weaker (λ s. seen old ≡ Some s) side P Q f leads.contents.0 leads.contents.2);
   images_now = λ told c image. left_weaker (images old) side P Q f c (leads.images_now told c image);
@@ -84,7 +92,8 @@ leads_weaker crashes seen images moment left_since side P Q old new f leads = re
 
 -- one run of calls and then another
 pub leads_then : {D : Type 0} (crashes : D → Bool) (seen : D → Option Sides) (images : D → Sides → Type 0) (moment : D → ℕ) (left_since : D → ℕ → Sides → Type 0) (side : Side) (P : Bytes → Type 0) (old mid new : D)
-    → crashes mid ≡ crashes old → SideLeads crashes seen images moment left_since side P old mid → SideLeads crashes seen images moment left_since side P mid new → SideLeads crashes seen images moment left_since side P old new
+    → crashes mid ≡ crashes old → SideLeads crashes seen images moment left_since side P old mid
+    → SideLeads crashes seen images moment left_since side P mid new → SideLeads crashes seen images moment left_since side P old new
 leads_then crashes seen images moment left_since side P old mid new same one two = record {
   contents = (
     two.contents.0,
@@ -100,7 +109,8 @@ leads_then crashes seen images moment left_since side P old mid new same one two
 -- a step on a side, of which each outcome has Q
 pub leads_step : {D : Type 0} (crashes : D → Bool) (seen : D → Option Sides) (images : D → Sides → Type 0) (moment : D → ℕ) (left_since : D → ℕ → Sides → Type 0) (side : Side) (P Q : Bytes → Type 0) (step : Bytes → Bytes → Type 0) (old new : D)
     → IsHeld (crashes old) (seen old) (images old) side P → ((x y : Bytes) → P x → step x y → Q y)
-    → Told (seen old) (seen new) (On side step) → Follows (On side step) (images old) (images new) → LeavesOnly moment left_since old new (After (On side step) (images old))
+    → Told (seen old) (seen new) (On side step) → Follows (On side step) (images old) (images new)
+    → LeavesOnly moment left_since old new (After (On side step) (images old))
     → SideLeads crashes seen images moment left_since side Q old new
 leads_step crashes seen images moment left_since side P Q step old new held has told crash moments =
     let s = held.now.contents in
@@ -140,7 +150,8 @@ safe_written (Ok x) crashes crashes' seen seen' images' side at piece P Q safe h
 
 -- a look at the disk
 pub leads_look : {D : Type 0} (crashes : D → Bool) (seen : D → Option Sides) (images : D → Sides → Type 0) (moment : D → ℕ) (left_since : D → ℕ → Sides → Type 0) (side : Side) (P : Bytes → Type 0) (old new : D)
-    → SideIsSafe (crashes old) (seen old) (images old) side P → Told (seen old) (seen new) (λ s t. t ≡ s) → ((c : Sides) → images new c → images old c) → Elapses crashes images moment left_since old new
+    → SideIsSafe (crashes old) (seen old) (images old) side P → Told (seen old) (seen new) (λ s t. t ≡ s)
+    → ((c : Sides) → images new c → images old c) → Elapses crashes images moment left_since old new
     → SideLeads crashes seen images moment left_since side P old new
 leads_look crashes seen images moment left_since side P old new safe told crash time =
     let s = safe.contents in
@@ -153,7 +164,8 @@ leads_look crashes seen images moment left_since side P old new safe told crash 
     }
 
 pub safe_look : (crashes crashes' : Bool) (seen seen' : Option Sides) (images images' : Sides → Type 0) (side : Side) (P : Bytes → Type 0)
-    → SideIsSafe crashes seen images side P → crashes' ≡ crashes → Told seen seen' (λ s t. t ≡ s) → ((c : Sides) → images' c → images c) → SideIsSafe crashes' seen' images' side P
+    → SideIsSafe crashes seen images side P → crashes' ≡ crashes → Told seen seen' (λ s t. t ≡ s) → ((c : Sides) → images' c → images c)
+    → SideIsSafe crashes' seen' images' side P
 safe_look crashes crashes' seen seen' images images' side P safe same told crash =
     let s = safe.contents in
     let after = told_next seen seen' s (λ s t. t ≡ s) safe.told told in

@@ -9,7 +9,8 @@ use Rattle.byte_text.specs.Names.{Bytes}
 use Rattle.log_sides.specs.Texts.{StandsFor, IsGeneration, front_text, batches_text, framed, gate_place, header, open_gate, max_side, number_bytes, IsReady, with_batch, StandsWithin, committed}
 
 -- a torn write behind the closed gate leaves the batches
-pub torn_behind : (generation : ℕ) (batches : List Bytes) (n : ℕ) (old new : Bytes) → StandsFor generation batches old → gate_place generation batches + 1 + n ≤ max_side
+pub torn_behind : (generation : ℕ) (batches : List Bytes) (n : ℕ) (old new : Bytes) → StandsFor generation batches old
+    → gate_place generation batches + 1 + n ≤ max_side
     → Torn (gate_place generation batches + 1) n old new → StandsFor generation batches new
 torn_behind generation batches n old new stands room torn =
     let front = front_text generation batches in
@@ -34,20 +35,24 @@ pub length-framed : (batch : Bytes) → length (framed batch) ≡ 8 + length bat
 length-framed batch = length-append (number_bytes (length batch)) batch ∙ ap (λ (j : ℕ). j + length batch) (length-number_bytes (length batch))
 
 -- one batch more goes behind the text
-pub batches_text-append : (batches : List Bytes) (batch : Bytes) → batches_text (with_batch batches batch) ≡ batches_text batches ++ open_gate ∷ framed batch
+pub batches_text-append : (batches : List Bytes) (batch : Bytes)
+    → batches_text (with_batch batches batch) ≡ batches_text batches ++ open_gate ∷ framed batch
 batches_text-append [] batch = ap (λ (l : Bytes). open_gate ∷ l) (append-nil (framed batch))
 batches_text-append (first ∷ later) batch = ap (λ (l : Bytes). open_gate ∷ l) (ap (λ (l : Bytes). framed first ++ l) (batches_text-append later batch) ∙ sym (append_assoc (framed first) (batches_text later) (open_gate ∷ framed batch)))
 
-pub front_text-append : (generation : ℕ) (batches : List Bytes) (batch : Bytes) → front_text generation (with_batch batches batch) ≡ front_text generation batches ++ open_gate ∷ framed batch
+pub front_text-append : (generation : ℕ) (batches : List Bytes) (batch : Bytes)
+    → front_text generation (with_batch batches batch) ≡ front_text generation batches ++ open_gate ∷ framed batch
 front_text-append generation batches batch =
     ap (λ (l : Bytes). open_gate ∷ (header generation ++ l)) (batches_text-append batches batch) ∙ ap (λ (l : Bytes). open_gate ∷ l) (sym (append_assoc (header generation) (batches_text batches) (open_gate ∷ framed batch)))
 
-pub gate_place-append : (generation : ℕ) (batches : List Bytes) (batch : Bytes) → gate_place generation (with_batch batches batch) ≡ gate_place generation batches + 9 + length batch
+pub gate_place-append : (generation : ℕ) (batches : List Bytes) (batch : Bytes)
+    → gate_place generation (with_batch batches batch) ≡ gate_place generation batches + 9 + length batch
 gate_place-append generation batches batch =
     ap length (front_text-append generation batches batch) ∙ length-append (front_text generation batches) (open_gate ∷ framed batch) ∙ omega (arith, length-framed batch)
 
 -- the batch and the next gate were written
-pub written_behind : (generation : ℕ) (batches : List Bytes) (batch old : Bytes) → StandsFor generation batches old → gate_place generation batches + 10 + length batch ≤ max_side
+pub written_behind : (generation : ℕ) (batches : List Bytes) (batch old : Bytes) → StandsFor generation batches old
+    → gate_place generation batches + 10 + length batch ≤ max_side
     → IsReady generation batches batch (write_over (gate_place generation batches + 1) (framed batch ++ 0 ∷ []) old)
 written_behind generation batches batch old stands room =
     let front = front_text generation batches in
@@ -71,7 +76,8 @@ written_behind generation batches batch old stands room =
     }
 
 -- a side with a batch that is ready, and any gate in front of it
-gate_chosen : (generation : ℕ) (batches : List Bytes) (batch stale side : Bytes) (gate : ℕ) → IsGeneration generation → length side ≤ max_side → side ≡ front_text generation batches ++ gate ∷ (framed batch ++ 0 ∷ stale)
+gate_chosen : (generation : ℕ) (batches : List Bytes) (batch stale side : Bytes) (gate : ℕ) → IsGeneration generation → length side ≤ max_side
+    → side ≡ front_text generation batches ++ gate ∷ (framed batch ++ 0 ∷ stale)
     → (gate ≡ open_gate) ⊎ (gate ≢ open_gate) → StandsWithin generation batches batch side
 gate_chosen generation batches batch stale side gate numbered within text (inl opened) = inr (record {
   numbered = numbered;
@@ -89,7 +95,8 @@ one_byte (b ∷ []) long = (b, refl)
 one_byte (a ∷ b ∷ bytes) long = absurd (omega (arith, long))
 
 -- a byte written at the gate
-pub gate_written : (front behind old : Bytes) (gate b : ℕ) → old ≡ front ++ gate ∷ behind → write_over (length front) (b ∷ []) old ≡ front ++ b ∷ behind
+pub gate_written : (front behind old : Bytes) (gate b : ℕ) → old ≡ front ++ gate ∷ behind
+    → write_over (length front) (b ∷ []) old ≡ front ++ b ∷ behind
 gate_written front behind old gate b text =
     let inside : length front ≤ length old = omega (arith, ap length text, length-append front (gate ∷ behind)) in
     let kept : take (length front) old ≡ front = ap (λ (l : Bytes). take (length front) l) text ∙ take_at front (gate ∷ behind) (length front) refl in
@@ -97,7 +104,8 @@ gate_written front behind old gate b text =
     write_over-within (length front) (b ∷ []) old inside ∙ ap (λ (l : Bytes). l ++ b ∷ [] ++ drop (length front + 1) old) kept ∙ ap (λ (l : Bytes). front ++ b ∷ [] ++ l) rest ∙ append_assoc front (b ∷ []) behind
 
 -- a torn write of the gate leaves the batches without or with the one that is ready
-pub torn_gate : (generation : ℕ) (batches : List Bytes) (batch old new : Bytes) → IsReady generation batches batch old → Torn (gate_place generation batches) 1 old new → StandsWithin generation batches batch new
+pub torn_gate : (generation : ℕ) (batches : List Bytes) (batch old new : Bytes) → IsReady generation batches batch old
+    → Torn (gate_place generation batches) 1 old new → StandsWithin generation batches batch new
 torn_gate generation batches batch old new ready torn =
     let front = front_text generation batches in
     let behind = framed batch ++ 0 ∷ ready.stale in
@@ -108,7 +116,8 @@ torn_gate generation batches batch old new ready torn =
     gate_chosen generation batches batch ready.stale new byte.0 ready.numbered (omega (arith, torn.no_longer, ready.within, inside)) text (cases_eq byte.0 open_gate)
 
 -- and one that was done leaves them with it
-pub gate_opened : (generation : ℕ) (batches : List Bytes) (batch old : Bytes) → IsReady generation batches batch old → StandsFor generation (with_batch batches batch) (write_over (gate_place generation batches) (open_gate ∷ []) old)
+pub gate_opened : (generation : ℕ) (batches : List Bytes) (batch old : Bytes) → IsReady generation batches batch old
+    → StandsFor generation (with_batch batches batch) (write_over (gate_place generation batches) (open_gate ∷ []) old)
 gate_opened generation batches batch old ready =
     let front = front_text generation batches in
     let behind = framed batch ++ 0 ∷ ready.stale in
@@ -128,7 +137,8 @@ committed_some batches [] some = absurd (some refl)
 committed_some batches (byte ∷ bytes) some = refl
 
 -- the bytes of a batch were written behind the gate
-pub is_ready : (generation : ℕ) (batches : List Bytes) (batch : Bytes) (at gate : ℕ) (piece old : Bytes) → StandsFor generation batches old → gate ≡ gate_place generation batches → at ≡ gate + 1 → piece ≡ framed batch ++ 0 ∷ []
+pub is_ready : (generation : ℕ) (batches : List Bytes) (batch : Bytes) (at gate : ℕ) (piece old : Bytes) → StandsFor generation batches old
+    → gate ≡ gate_place generation batches → at ≡ gate + 1 → piece ≡ framed batch ++ 0 ∷ []
     → gate + 10 + length batch ≤ max_side → IsReady generation batches batch (write_over at piece old)
 is_ready generation batches batch at gate piece old stands place behind is room =
     let here : at ≡ gate_place generation batches + 1 = omega (arith, place, behind) in

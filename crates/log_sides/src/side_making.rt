@@ -5,7 +5,7 @@ ghost use Rattle.byte_text.specs.Names.{Bytes};
 ghost use Rattle.outside.specs.Causes.{HasCause};
 ghost use Rattle.log_sides.specs.Texts.{StandsFor, IsGeneration};
 ghost use Rattle.log_sides.specs.Making.{is_shut, IsShut, IsBare, IsMade, WhileShut, WhileMade, head_text};
-ghost use Rattle.log_sides.specs.States.{HasNow, IsHeld, SideIsSafe, SideLeads};
+ghost use Rattle.log_sides.specs.States.{HasNow, HeldOn, SafeOn, ReadsAs, SideLeads};
 
 use outside::{Disk, Failed, Side, write_durably};
 
@@ -15,8 +15,10 @@ pub const FIRST_GATE: u64 = 16;
 /// Makes a side of this generation, without a batch. Its gate is closed first, and opened when all else is safe.
 pub fn make_side<D: Disk>(disk: &mut D, side: Side, generation: u64) -> Result<(), Failed>
     requires { IsGeneration generation }
-    ensures stands { (before : Bytes) → SideIsSafe (D.crashes disk.old) (D.seen disk.old) (D.images disk.old) side (λ x. x ≡ before) → OnOk result (SideIsSafe (D.crashes disk.new) (D.seen disk.new) (D.images disk.new) side (StandsFor generation [])) }
-    ensures either { (before : Bytes) → SideIsSafe (D.crashes disk.old) (D.seen disk.old) (D.images disk.old) side (λ x. x ≡ before) → SideLeads D.crashes D.seen D.images D.moment D.left_since side (WhileMade generation before) disk.old disk.new }
+    ensures stands { (before : Bytes) → ReadsAs D.crashes D.seen D.images disk.old side before
+        → OnOk result (SafeOn D.crashes D.seen D.images disk.new side (StandsFor generation [])) }
+    ensures either { (before : Bytes) → ReadsAs D.crashes D.seen D.images disk.old side before
+        → SideLeads D.crashes D.seen D.images D.moment D.left_since side (WhileMade generation before) disk.old disk.new }
     ensures told { D.crashes disk.new ≡ D.crashes disk.old }
     ensures cause { HasCause (D.faults disk.old) (D.faults disk.new) result }
 {
@@ -28,8 +30,10 @@ pub fn make_side<D: Disk>(disk: &mut D, side: Side, generation: u64) -> Result<(
 
 // All of a new side but its open gate.
 fn make_closed<D: Disk>(disk: &mut D, side: Side, generation: u64) -> Result<(), Failed>
-    ensures made { (before : Bytes) → SideIsSafe (D.crashes disk.old) (D.seen disk.old) (D.images disk.old) side (λ x. x ≡ before) → OnOk result (SideIsSafe (D.crashes disk.new) (D.seen disk.new) (D.images disk.new) side (IsMade generation)) }
-    ensures either { (before : Bytes) → SideIsSafe (D.crashes disk.old) (D.seen disk.old) (D.images disk.old) side (λ x. x ≡ before) → SideLeads D.crashes D.seen D.images D.moment D.left_since side (WhileShut before) disk.old disk.new }
+    ensures made { (before : Bytes) → ReadsAs D.crashes D.seen D.images disk.old side before
+        → OnOk result (SafeOn D.crashes D.seen D.images disk.new side (IsMade generation)) }
+    ensures either { (before : Bytes) → ReadsAs D.crashes D.seen D.images disk.old side before
+        → SideLeads D.crashes D.seen D.images D.moment D.left_since side (WhileShut before) disk.old disk.new }
     ensures told { D.crashes disk.new ≡ D.crashes disk.old }
     ensures cause { HasCause (D.faults disk.old) (D.faults disk.new) result }
 {
@@ -50,9 +54,11 @@ pub fn head_of(generation: u64) -> [u8; 16]
 
 /// Leaves of a side a closed gate alone, which is not synced.
 pub fn shut_side<D: Disk>(disk: &mut D, side: Side) -> Result<(), Failed>
-    ensures bare { (before : Bytes) → SideIsSafe (D.crashes disk.old) (D.seen disk.old) (D.images disk.old) side (λ x. x ≡ before) → OnOk result (HasNow (D.seen disk.new) side IsBare) }
-    ensures shut { (before : Bytes) → SideIsSafe (D.crashes disk.old) (D.seen disk.old) (D.images disk.old) side (λ x. x ≡ before) → OnOk result (IsHeld (D.crashes disk.new) (D.seen disk.new) (D.images disk.new) side IsShut) }
-    ensures either { (before : Bytes) → SideIsSafe (D.crashes disk.old) (D.seen disk.old) (D.images disk.old) side (λ x. x ≡ before) → SideLeads D.crashes D.seen D.images D.moment D.left_since side (WhileShut before) disk.old disk.new }
+    ensures bare { (before : Bytes) → ReadsAs D.crashes D.seen D.images disk.old side before → OnOk result (HasNow (D.seen disk.new) side IsBare) }
+    ensures shut { (before : Bytes) → ReadsAs D.crashes D.seen D.images disk.old side before
+        → OnOk result (HeldOn D.crashes D.seen D.images disk.new side IsShut) }
+    ensures either { (before : Bytes) → ReadsAs D.crashes D.seen D.images disk.old side before
+        → SideLeads D.crashes D.seen D.images D.moment D.left_since side (WhileShut before) disk.old disk.new }
     ensures told { D.crashes disk.new ≡ D.crashes disk.old }
     ensures cause { HasCause (D.faults disk.old) (D.faults disk.new) result }
 {
@@ -64,8 +70,9 @@ pub fn shut_side<D: Disk>(disk: &mut D, side: Side) -> Result<(), Failed>
 
 // Cuts what stands behind a closed gate.
 fn cut_to_gate<D: Disk>(disk: &mut D, side: Side) -> Result<(), Failed>
-    ensures bare { IsHeld (D.crashes disk.old) (D.seen disk.old) (D.images disk.old) side IsShut → OnOk result (HasNow (D.seen disk.new) side IsBare) }
-    ensures either { IsHeld (D.crashes disk.old) (D.seen disk.old) (D.images disk.old) side IsShut → SideLeads D.crashes D.seen D.images D.moment D.left_since side IsShut disk.old disk.new }
+    ensures bare { HeldOn D.crashes D.seen D.images disk.old side IsShut → OnOk result (HasNow (D.seen disk.new) side IsBare) }
+    ensures either { HeldOn D.crashes D.seen D.images disk.old side IsShut
+        → SideLeads D.crashes D.seen D.images D.moment D.left_since side IsShut disk.old disk.new }
     ensures told { D.crashes disk.new ≡ D.crashes disk.old }
     ensures cause { HasCause (D.faults disk.old) (D.faults disk.new) result }
 {
@@ -77,8 +84,10 @@ fn cut_to_gate<D: Disk>(disk: &mut D, side: Side) -> Result<(), Failed>
 
 // Closes the gate of a side, where it has none or an open one.
 fn shut_gate<D: Disk>(disk: &mut D, side: Side) -> Result<(), Failed>
-    ensures shut { (before : Bytes) → SideIsSafe (D.crashes disk.old) (D.seen disk.old) (D.images disk.old) side (λ x. x ≡ before) → OnOk result (SideIsSafe (D.crashes disk.new) (D.seen disk.new) (D.images disk.new) side IsShut) }
-    ensures either { (before : Bytes) → SideIsSafe (D.crashes disk.old) (D.seen disk.old) (D.images disk.old) side (λ x. x ≡ before) → SideLeads D.crashes D.seen D.images D.moment D.left_since side (WhileShut before) disk.old disk.new }
+    ensures shut { (before : Bytes) → ReadsAs D.crashes D.seen D.images disk.old side before
+        → OnOk result (SafeOn D.crashes D.seen D.images disk.new side IsShut) }
+    ensures either { (before : Bytes) → ReadsAs D.crashes D.seen D.images disk.old side before
+        → SideLeads D.crashes D.seen D.images D.moment D.left_since side (WhileShut before) disk.old disk.new }
     ensures told { D.crashes disk.new ≡ D.crashes disk.old }
     ensures cause { HasCause (D.faults disk.old) (D.faults disk.new) result }
 {
@@ -91,9 +100,11 @@ fn shut_gate<D: Disk>(disk: &mut D, side: Side) -> Result<(), Failed>
 
 // Whether the side has a gate, and it is closed.
 fn has_shut_gate<D: Disk>(disk: &mut D, side: Side) -> Result<bool, Failed>
-    ensures value { (before : Bytes) → SideIsSafe (D.crashes disk.old) (D.seen disk.old) (D.images disk.old) side (λ x. x ≡ before) → IfOk result (λ b. b ≡ is_shut before) }
-    ensures safe { (before : Bytes) → SideIsSafe (D.crashes disk.old) (D.seen disk.old) (D.images disk.old) side (λ x. x ≡ before) → SideIsSafe (D.crashes disk.new) (D.seen disk.new) (D.images disk.new) side (λ x. x ≡ before) }
-    ensures same { (before : Bytes) → SideIsSafe (D.crashes disk.old) (D.seen disk.old) (D.images disk.old) side (λ x. x ≡ before) → SideLeads D.crashes D.seen D.images D.moment D.left_since side (λ x. x ≡ before) disk.old disk.new }
+    ensures value { (before : Bytes) → ReadsAs D.crashes D.seen D.images disk.old side before → IfOk result (λ b. b ≡ is_shut before) }
+    ensures safe { (before : Bytes) → ReadsAs D.crashes D.seen D.images disk.old side before
+        → ReadsAs D.crashes D.seen D.images disk.new side before }
+    ensures same { (before : Bytes) → ReadsAs D.crashes D.seen D.images disk.old side before
+        → SideLeads D.crashes D.seen D.images D.moment D.left_since side (λ x. x ≡ before) disk.old disk.new }
     ensures told { D.crashes disk.new ≡ D.crashes disk.old }
     ensures cause { HasCause (D.faults disk.old) (D.faults disk.new) result }
 {

@@ -1,2 +1,3 @@
-pub mod Sorting
 pub mod Nearest
+pub mod Noted
+pub mod Sorting

@@ -1,126 +1,134 @@
--- A stable sort is the sorting of the definitions.
-use Rattle.std.proofs.Common.{◌≡◌, ℕ, zero, suc, ◌+◌, ◌<◌, ◌≤◌, Bool, true, false, not, refl, sym, ap, ◌∙◌, subst, List, [], ◌∷◌, length, get_or, map, arith}
-use Rattle.std.specs.Prelude.{filter, ◌&&◌}
+-- Sorted lists in parts.
+use Rattle.std.proofs.Common.{◌≡◌, Bool, true, false, not, refl, sym, ap, ◌∙◌, List, [], ◌∷◌, ◌++◌, arith, true≢false}
+use Rattle.std.specs.Prelude.{filter}
 use Rattle.std.specs.List.{list_all}
-use Rattle.std.specs.Cmp.{IsStrictWeakOrder}
-use Rattle.std.specs.List.Sorted.{IsSortedBy, IsStableBy, ties}
-use Rattle.std.proofs.lemmas.List.Sorted.{sorted_far}
 use Rattle.ordered_lists.specs.Lists.{sorted_by, insert_by, ascends}
 use Rattle.ordered_lists.specs.Reading.{both_of}
 
-module _ {A : Type 0} (lt : A → A → Bool) (o : IsStrictWeakOrder lt) where
-  -- no item is less than an earlier one
-  abbrev rises : List A → Bool
-  rises [] = true
-  rises (x ∷ xs) = list_all (λ y. not (lt y x)) xs && rises xs
+module _ {A : Type 0} where
+  pub all_weaker : (t u : A → Bool) (xs : List A) → list_all t xs ≡ true → ((x : A) → t x ≡ true → u x ≡ true) → list_all u xs ≡ true
+  all_weaker t u [] all each = refl
+  all_weaker t u (x ∷ xs) all each = let p = both_of (t x) (list_all t xs) all in rw (each x p.0, all_weaker t u xs p.1 each) refl
 
-  none_less : (x : A) (xs : List A) → ((k : ℕ) (d : A) → k < length xs → lt (get_or xs k d) x ≡ false) → list_all (λ y. not (lt y x)) xs ≡ true
-  none_less x [] h = refl
-  none_less x (y ∷ xs) h =
-      let here : lt y x ≡ false = h zero x (omega arith) in
-      let rest = none_less x xs (λ k d w. h (suc k) d (omega arith)) in
-      rw (here, rest) refl
+  pub all_filter : (t u : A → Bool) (xs : List A) → list_all t xs ≡ true → list_all t (filter u xs) ≡ true
+  all_filter t u [] all = refl
+  all_filter t u (x ∷ xs) all = let p = both_of (t x) (list_all t xs) all in chosen (u x) refl p.0 (all_filter t u xs p.1)
+    where
+      chosen : (b : Bool) → u x ≡ b → t x ≡ true → list_all t (filter u xs) ≡ true → list_all t (filter u (x ∷ xs)) ≡ true
+      chosen true e here ih = rw (e, here) ih
+      chosen false e here ih = rw e ih
 
-  rises_far : (xs : List A) → ((i j : ℕ) (d : A) → i ≤ j → j < length xs → lt (get_or xs j d) (get_or xs i d) ≡ false) → rises xs ≡ true
-  rises_far [] far = refl
-  rises_far (x ∷ xs) far =
-      let here = none_less x xs (λ k d w. far zero (suc k) d (omega arith) (omega arith)) in
-      let rest = rises_far xs (λ i j d le w. far (suc i) (suc j) d (omega arith) (omega arith)) in
-      rw (here, rest) refl
+  pub passing : (t : A → Bool) (xs : List A) → list_all t (filter t xs) ≡ true
+  passing t [] = refl
+  passing t (x ∷ xs) = chosen (t x) refl (passing t xs)
+    where
+      chosen : (b : Bool) → t x ≡ b → list_all t (filter t xs) ≡ true → list_all t (filter t (x ∷ xs)) ≡ true
+      chosen true e ih = rw (e, e) ih
+      chosen false e ih = rw e ih
 
-  all_insert : (p : A → Bool) (x : A) (ys : List A) → list_all p ys ≡ true → p x ≡ true → list_all p (insert_by lt x ys) ≡ true
-  all_insert p x [] all here = rw here refl
-  all_insert p x (y ∷ ys) all here = let ih = all_insert p x ys in grind arith
+  -- what passes both of two tests, told by one
+  pub filter_both : (t u v : A → Bool) (xs : List A) → ((x : A) → t x ≡ false → v x ≡ false) → ((x : A) → t x ≡ true → u x ≡ v x) → filter u (filter t xs) ≡ filter v xs
+  filter_both t u v [] none same = refl
+  filter_both t u v (x ∷ xs) none same = chosen (t x) refl (v x) refl (filter_both t u v xs none same)
+    where
+      chosen : (b : Bool) → t x ≡ b → (d : Bool) → v x ≡ d → filter u (filter t xs) ≡ filter v xs → filter u (filter t (x ∷ xs)) ≡ filter v (x ∷ xs)
+      chosen true e true f ih = let g : u x ≡ true = same x e ∙ f in rw (e, g, f) (ap (λ (l : List A). x ∷ l) ih)
+      chosen true e false f ih = let g : u x ≡ false = same x e ∙ f in rw (e, g, f) ih
+      chosen false e true f ih = absurd (true≢false (sym f ∙ none x e))
+      chosen false e false f ih = rw (e, f) ih
 
-  all_less : (x y : A) (zs : List A) → lt y x ≡ false → list_all (λ z. not (lt z y)) zs ≡ true → list_all (λ z. not (lt z x)) zs ≡ true
-  all_less x y [] h all = refl
-  all_less x y (z ∷ zs) h all = let ih = all_less x y zs h in let chain = o.chain z y x in grind arith
+  -- the same where each of the items has a property
+  pub filter_both_of : (h t u v : A → Bool) (xs : List A) → list_all h xs ≡ true → ((x : A) → h x ≡ true → t x ≡ false → v x ≡ false) → ((x : A) → h x ≡ true → t x ≡ true → u x ≡ v x) → filter u (filter t xs) ≡ filter v xs
+  filter_both_of h t u v [] all none same = refl
+  filter_both_of h t u v (x ∷ xs) all none same =
+      let p = both_of (h x) (list_all h xs) all in
+      chosen (t x) refl (v x) refl p.0 (filter_both_of h t u v xs p.1 none same)
+    where
+      chosen : (b : Bool) → t x ≡ b → (d : Bool) → v x ≡ d → h x ≡ true → filter u (filter t xs) ≡ filter v xs → filter u (filter t (x ∷ xs)) ≡ filter v (x ∷ xs)
+      chosen true e true f i ih = let g : u x ≡ true = same x i e ∙ f in rw (e, g, f) (ap (λ (l : List A). x ∷ l) ih)
+      chosen true e false f i ih = let g : u x ≡ false = same x i e ∙ f in rw (e, g, f) ih
+      chosen false e true f i ih = absurd (true≢false (sym f ∙ none x i e))
+      chosen false e false f i ih = rw (e, f) ih
 
-  rises_insert : (x : A) (ys : List A) → rises ys ≡ true → rises (insert_by lt x ys) ≡ true
-  rises_insert x [] up = refl
-  rises_insert x (y ∷ ys) up =
-      let ih = rises_insert x ys in
-      let other = o.one_way y x in
-      let behind = all_insert (λ z. not (lt z y)) x ys in
-      let before = all_less x y ys in
-      grind arith
+  pub filter_all : (t : A → Bool) (xs : List A) → list_all t xs ≡ true → filter t xs ≡ xs
+  filter_all t [] all = refl
+  filter_all t (x ∷ xs) all = let p = both_of (t x) (list_all t xs) all in rw p.0 (ap (λ (l : List A). x ∷ l) (filter_all t xs p.1))
 
-  rises_sorted : (xs : List A) → rises (sorted_by lt xs) ≡ true
-  rises_sorted [] = refl
-  rises_sorted (x ∷ xs) = rises_insert x (sorted_by lt xs) (rises_sorted xs)
+module _ {A : Type 0} (lt : A → A → Bool) where
+  insert_first : (x : A) (zs : List A) → list_all (λ z. not (lt z x)) zs ≡ true → insert_by lt x zs ≡ x ∷ zs
+  insert_first x [] all = refl
+  insert_first x (z ∷ zs) all = chosen (lt z x) refl (both_of (not (lt z x)) (list_all (λ z. not (lt z x)) zs) all).0
+    where
+      chosen : (b : Bool) → lt z x ≡ b → not (lt z x) ≡ true → insert_by lt x (z ∷ zs) ≡ x ∷ z ∷ zs
+      chosen true e n = absurd (true≢false (sym n ∙ ap not e))
+      chosen false e n = rw e refl
 
-  stable_insert : (w x : A) (ys : List A) → filter (ties lt w) (insert_by lt x ys) ≡ filter (ties lt w) (x ∷ ys)
-  stable_insert w x [] = refl
-  stable_insert w x (y ∷ ys) =
-      let ih = stable_insert w x ys in
-      let chain = o.chain y w x in
-      grind arith
+  insert_low : (x : A) (ys zs : List A) → list_all (λ z. not (lt z x)) zs ≡ true → insert_by lt x (ys ++ zs) ≡ insert_by lt x ys ++ zs
+  insert_low x [] zs all = insert_first x zs all
+  insert_low x (y ∷ ys) zs all = chosen (lt y x) refl (insert_low x ys zs all)
+    where
+      chosen : (b : Bool) → lt y x ≡ b → insert_by lt x (ys ++ zs) ≡ insert_by lt x ys ++ zs → insert_by lt x ((y ∷ ys) ++ zs) ≡ insert_by lt x (y ∷ ys) ++ zs
+      chosen true e ih = rw e (ap (λ (l : List A). y ∷ l) ih)
+      chosen false e ih = rw e refl
 
-  stable_sorted : (w : A) (xs : List A) → filter (ties lt w) (sorted_by lt xs) ≡ filter (ties lt w) xs
-  stable_sorted w [] = refl
-  stable_sorted w (x ∷ xs) = let ih = stable_sorted w xs in let one = stable_insert w x (sorted_by lt xs) in grind arith
+  insert_high : (x : A) (ys zs : List A) → list_all (λ y. lt y x) ys ≡ true → insert_by lt x (ys ++ zs) ≡ ys ++ insert_by lt x zs
+  insert_high x [] zs all = refl
+  insert_high x (y ∷ ys) zs all = let p = both_of (lt y x) (list_all (λ y. lt y x) ys) all in rw p.0 (ap (λ (l : List A). y ∷ l) (insert_high x ys zs p.1))
 
-  irreflexive : (x : A) → lt x x ≡ false
-  irreflexive x = let h = o.one_way x x in grind arith
+  all_insert : (t : A → Bool) (x : A) (ys : List A) → t x ≡ true → list_all t ys ≡ true → list_all t (insert_by lt x ys) ≡ true
+  all_insert t x [] here all = rw here refl
+  all_insert t x (y ∷ ys) here all = let p = both_of (t y) (list_all t ys) all in chosen (lt y x) refl p.0 p.1 (all_insert t x ys here p.1)
+    where
+      chosen : (b : Bool) → lt y x ≡ b → t y ≡ true → list_all t ys ≡ true → list_all t (insert_by lt x ys) ≡ true → list_all t (insert_by lt x (y ∷ ys)) ≡ true
+      chosen true e first rest ih = rw (e, first) ih
+      chosen false e first rest ih = rw (e, here, first) rest
 
-  tied_itself : (x : A) → ties lt x x ≡ true
-  tied_itself x = rw irreflexive refl
+  all_sorted : (t : A → Bool) (xs : List A) → list_all t xs ≡ true → list_all t (sorted_by lt xs) ≡ true
+  all_sorted t [] all = refl
+  all_sorted t (x ∷ xs) all = let p = both_of (t x) (list_all t xs) all in all_insert t x (sorted_by lt xs) p.0 (all_sorted t xs p.1)
 
-  -- none of them ties with one that is less than all
-  none_tie : (x y : A) (zs : List A) → lt x y ≡ true → list_all (λ z. not (lt z y)) zs ≡ true → filter (ties lt x) zs ≡ []
-  none_tie x y [] h all = refl
-  none_tie x y (z ∷ zs) h all =
-      let ih = none_tie x y zs h in
-      let chain = o.chain x z y in
-      grind arith
+  -- a sorted list where each of a kind is less than each of the others: those of the kind, sorted, and the others, sorted
+  pub sorted_split : (low : A → Bool) → ((x y : A) → low x ≡ true → low y ≡ false → (lt x y ≡ true) × (lt y x ≡ false)) → (xs : List A)
+      → sorted_by lt xs ≡ sorted_by lt (filter low xs) ++ sorted_by lt (filter (λ x. not (low x)) xs)
+  sorted_split low apart [] = refl
+  sorted_split low apart (x ∷ xs) = chosen (low x) refl (sorted_split low apart xs)
+    where
+      lows : List A
+      lows = sorted_by lt (filter low xs)
 
-  tail_of : (w x : A) (xs ys : List A) → filter (ties lt w) (x ∷ xs) ≡ filter (ties lt w) (x ∷ ys) → filter (ties lt w) xs ≡ filter (ties lt w) ys
-  tail_of w x xs ys e = grind arith
+      highs : List A
+      highs = sorted_by lt (filter (λ x. not (low x)) xs)
 
-  -- lists that rise and in which what ties stands in one order
-  same_head : (x y : A) (xs ys : List A) → rises (x ∷ xs) ≡ true → rises (y ∷ ys) ≡ true → ((w : A) → filter (ties lt w) (x ∷ xs) ≡ filter (ties lt w) (y ∷ ys)) → x ≡ y
-  same_head x y xs ys up up' same =
-      let at_x = same x in
-      let at_y = same y in
-      let tx = tied_itself x in
-      let ty = tied_itself y in
-      let none_y = none_tie x y ys in
-      let none_x = none_tie y x xs in
-      grind arith
+      not_true : (b : Bool) → not b ≡ true → b ≡ false
+      not_true false e = refl
+      not_true true e = absurd (true≢false (sym e))
 
-  pub same_order : (xs ys : List A) → rises xs ≡ true → rises ys ≡ true → ((w : A) → filter (ties lt w) xs ≡ filter (ties lt w) ys) → xs ≡ ys
-  same_order [] [] up up' same = refl
-  same_order [] (y ∷ ys) up up' same = let at = same y in let t = tied_itself y in absurd (grind arith)
-  same_order (x ∷ xs) [] up up' same = let at = same x in let t = tied_itself x in absurd (grind arith)
-  same_order (x ∷ xs) (y ∷ ys) up up' same =
-      let head = same_head x y xs ys up up' same in
-      let rest = same_order xs ys (both_of _ _ up).1 (both_of _ _ up').1 (λ w. tail_of w x xs ys (subst (λ z. filter (ties lt w) (x ∷ xs) ≡ filter (ties lt w) (z ∷ ys)) (sym head) (same w))) in
-      ap (λ z. z ∷ xs) head ∙ ap (λ zs. y ∷ zs) rest
+      chosen : (b : Bool) → low x ≡ b → sorted_by lt xs ≡ sorted_by lt (filter low xs) ++ sorted_by lt (filter (λ x. not (low x)) xs)
+          → sorted_by lt (x ∷ xs) ≡ sorted_by lt (filter low (x ∷ xs)) ++ sorted_by lt (filter (λ x. not (low x)) (x ∷ xs))
+      chosen true e ih =
+          let behind : list_all (λ z. not (lt z x)) (sorted_by lt (filter (λ x. not (low x)) xs)) ≡ true =
+          all_weaker (λ z. not (low z)) (λ z. not (lt z x)) (sorted_by lt (filter (λ x. not (low x)) xs)) (all_sorted (λ z. not (low z)) (filter (λ x. not (low x)) xs) (passing (λ x. not (low x)) xs)) (λ z n. ap not ((apart x z e (not_true (low z) n)).1)) in
+          ap (insert_by lt x) ih ∙ insert_low x (sorted_by lt (filter low xs)) (sorted_by lt (filter (λ x. not (low x)) xs)) behind ∙ shape
+        where
+          shape : insert_by lt x (sorted_by lt (filter low xs)) ++ sorted_by lt (filter (λ x. not (low x)) xs) ≡ sorted_by lt (filter low (x ∷ xs)) ++ sorted_by lt (filter (λ x. not (low x)) (x ∷ xs))
+          shape = rw e refl
+      chosen false e ih =
+          let front : list_all (λ y. lt y x) (sorted_by lt (filter low xs)) ≡ true =
+          all_weaker low (λ y. lt y x) (sorted_by lt (filter low xs)) (all_sorted low (filter low xs) (passing low xs)) (λ y l. (apart y x l e).0) in
+          ap (insert_by lt x) ih ∙ insert_high x (sorted_by lt (filter low xs)) (sorted_by lt (filter (λ x. not (low x)) xs)) front ∙ shape
+        where
+          shape : sorted_by lt (filter low xs) ++ insert_by lt x (sorted_by lt (filter (λ x. not (low x)) xs)) ≡ sorted_by lt (filter low (x ∷ xs)) ++ sorted_by lt (filter (λ x. not (low x)) (x ∷ xs))
+          shape = rw e refl
 
-  -- what a stable sort ensures
-  pub stable_sort : (xs ys : List A) → IsSortedBy lt ys → IsStableBy lt xs ys → ys ≡ sorted_by lt xs
-  stable_sort xs ys up stable = same_order ys (sorted_by lt xs) (rises_far ys (sorted_far lt o ys up)) (rises_sorted xs) (λ w. stable w ∙ sym (stable_sorted w xs))
-
-module _ {A B : Type 0} (f : A → B) (lt : B → B → Bool) where
-  map_insert : (x : A) (ys : List A) → map f (insert_by (λ a b. lt (f a) (f b)) x ys) ≡ insert_by lt (f x) (map f ys)
-  map_insert x [] = refl
-  map_insert x (y ∷ ys) = let ih = map_insert x ys in grind arith
-
-  -- items sorted by what a function gives of them
-  pub map_sorted : (xs : List A) → map f (sorted_by (λ a b. lt (f a) (f b)) xs) ≡ sorted_by lt (map f xs)
-  map_sorted [] = refl
-  map_sorted (x ∷ xs) = let ih = map_sorted xs in let one = map_insert x (sorted_by (λ a b. lt (f a) (f b)) xs) in one ∙ ap (insert_by lt (f x)) ih
+  -- items of which none is less than another
+  pub sorted_tied : (t : A → Bool) → ((x y : A) → t x ≡ true → t y ≡ true → lt y x ≡ false) → (xs : List A) → list_all t xs ≡ true → sorted_by lt xs ≡ xs
+  sorted_tied t tied [] all = refl
+  sorted_tied t tied (x ∷ xs) all =
+      let p = both_of (t x) (list_all t xs) all in
+      ap (insert_by lt x) (sorted_tied t tied xs p.1) ∙ insert_first x xs (all_weaker t (λ z. not (lt z x)) xs p.1 (λ z h. ap not (tied x z p.0 h)))
 
 -- of items in front of which none of a later one stands by an order, those that tie are in that order already
 module _ {A : Type 0} (less by : A → A → Bool) (nearer : A → A → Bool) (is : (x y : A) → by x y ≡ true → nearer y x ≡ less y x) where
-  all_insert_by : (lt : A → A → Bool) (p : A → Bool) (x : A) (ys : List A) → list_all p ys ≡ true → p x ≡ true → list_all p (insert_by lt x ys) ≡ true
-  all_insert_by lt p x [] all here = rw here refl
-  all_insert_by lt p x (y ∷ ys) all here = let ih = all_insert_by lt p x ys in grind arith
-
-  all_sorted : (p : A → Bool) (xs : List A) → list_all p xs ≡ true → list_all p (sorted_by less xs) ≡ true
-  all_sorted p [] all = refl
-  all_sorted p (x ∷ xs) all = let b = both_of (p x) (list_all p xs) all in all_insert_by less p x (sorted_by less xs) (all_sorted p xs b.1) b.0
-
   same_insert : (x : A) (ys : List A) → list_all (by x) ys ≡ true → insert_by nearer x ys ≡ insert_by less x ys
   same_insert x [] all = refl
   same_insert x (y ∷ ys) all = let ih = same_insert x ys in let here = is x y in grind arith
@@ -129,4 +137,4 @@ module _ {A : Type 0} (less by : A → A → Bool) (nearer : A → A → Bool) (
   same_sorted [] asc = refl
   same_sorted (x ∷ xs) asc =
       let b = both_of (list_all (by x) xs) (ascends by xs) asc in
-      ap (insert_by nearer x) (same_sorted xs b.1) ∙ same_insert x (sorted_by less xs) (all_sorted (by x) xs b.0)
+      ap (insert_by nearer x) (same_sorted xs b.1) ∙ same_insert x (sorted_by less xs) (all_sorted less (by x) xs b.0)

@@ -1,1 +1,1 @@
-pub mod Hits
+pub mod Found

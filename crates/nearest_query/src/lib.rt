@@ -1,7 +1,6 @@
 //! Queries over the objects of one key by distance from a point: NEARBY.
 #![tactic(auto)]
 
-mod hits;
 mod pages;
 
 pub use pages::near_page;

@@ -1,85 +1,106 @@
 //! Pages of what a query finds, the nearest first.
 
-ghost use Rattle.std.specs.Prelude.{◌≡◌, List, [], true, map, OnOk};
+ghost use Rattle.std.specs.Prelude.{◌≡◌, ◌<◌, ◌+◌, ◌^◌, List, [], true, not, length, IfOk, OnOk};
 ghost use Rattle.byte_text.specs.Globs.{is_sound_glob};
-ghost use Rattle.planar_geom.specs.Points.{Point};
-ghost use Rattle.ordered_lists.specs.Lists.{sorted_by};
-ghost use Rattle.fence_model.specs.Queries.{IsPageOf, near_matches, page_ids, page_items};
+ghost use Rattle.fence_model.specs.Queries.{IsPageOf, near_matches, page_ids};
 ghost use Rattle.world_data.specs.declared.objects.Object.{Object};
-ghost use Rattle.nearest_query.specs.Hits.{nearer_box, AreHits, AreOfObjects};
+ghost use Rattle.search_query.specs.Pages.{IsEnough};
+ghost use Rattle.collection.specs.Places.{ArePlaces};
+ghost use Rattle.nearest_query.specs.Found.{is_reached, IsCountBehind, AreIdsBehind};
 
-use crate::hits::{Hit, near_hits, sort_by_distance};
 use byte_text::NoMemory;
 use collection::Collection;
 use planar_geom::Pt;
-use search_query::{add_id, end_page, is_count};
+use rtree::{Ids, Ledger, Steps};
+use search_query::{end_page, is_past, note};
 use std::alloc::Global;
 use world_data::{NameList, Page, Query};
 
 /// The page of what the query finds among the objects of a key no further from the point than the reach, where there is one: the
 /// nearest first, by the distance to their boxes, and of those that are as near the lesser id; their ids from place `cursor` on,
-/// at most `limit`, and where the next page begins; of a count the number of all that is found. For want of memory the page may
+/// at most `limit`, and where the next page begins; of a count the number of all that is found. The objects are walked by distance,
+/// until one is found behind the page, and the steps rise by the nodes of the tree that are visited. For want of memory the page may
 /// hold anything.
-pub fn near_page(
+pub fn near_page<L: Ledger>(
     alloc: Global,
     collection: &Collection,
     at: Pt,
     reach: Option<u32>,
     query: &Query,
     into: &mut Page,
+    steps: &mut Steps<L>,
 ) -> Result<(), NoMemory>
     requires { is_sound_glob query.now.glob ≡ true }
     ensures { OnOk result (IsPageOf query.now (near_matches query.now at reach collection.now.objects) into.new) }
 {
     into.ids.clear();
-    let hits = near_hits(alloc, collection, at, reach, query)?;
-    let found = hits.len() as u64;
-    list_nearest(alloc, collection, hits, query, &mut into.ids)?;
+    let found = list_nearest(alloc, collection, at, reach, query, &mut into.ids, steps)?;
     end_page(query, found, into);
     Ok(())
 }
 
-// Lists the ids of a page of the hits, the nearest first; none of a count.
-fn list_nearest(
+// Lists the ids of a page, the nearest first, none of a count, and gives the number of all that is found; once one is found behind
+// the page, or what is left is out of reach, the rest is not looked at.
+fn list_nearest<L: Ledger>(
     alloc: Global,
     collection: &Collection,
-    mut hits: Vec<Hit>,
+    at: Pt,
+    reach: Option<u32>,
     query: &Query,
     ids: &mut NameList,
-) -> Result<(), NoMemory>
-    requires places { AreOfObjects collection.now.objects hits.items }
+    steps: &mut Steps<L>,
+) -> Result<u64, NoMemory>
+    requires pattern { is_sound_glob query.now.glob ≡ true }
     requires empty { ids.old ≡ [] }
-    ensures { (p : Point) (found : List Object) → AreHits p collection.now.objects found hits.items → OnOk result (ids.new ≡ page_ids query.now (sorted_by (nearer_box p) found)) }
+    ensures count { IfOk result (λ n. IsEnough query.now (near_matches query.now at reach collection.now.objects) n) }
+    ensures ids { OnOk result (ids.new ≡ page_ids query.now (near_matches query.now at reach collection.now.objects)) }
 {
-    if is_count(query.shown) {
-        return Ok(());
+    // That objects can be counted is what their number says.
+    let _count = collection.len();
+    let mut walk = collection.near(alloc, at)?;
+    let mut places = Ids::new(alloc);
+    let mut found = 0;
+    while let Some(distance) = walk.next(&mut places, steps)? {
+        if is_beyond(reach, distance) {
+            return Ok(found);
+        }
+        found = note_all(alloc, collection, &places, query, found, ids)?;
+        if is_past(query, found) {
+            return Ok(found);
+        }
     }
-    sort_by_distance(&mut hits)?;
-    list_ids(alloc, collection, on_page(hits.as_slice(), query), ids)
+    Ok(found)
 }
 
-// The hits from place `cursor` on, at most `limit`.
-fn on_page<'a>(hits: &'a [Hit], query: &Query) -> &'a [Hit]
-    ensures { result.now ≡ page_items query.now hits.now }
+// Whether what is this far away, squared, is further than the reach, where there is one.
+fn is_beyond(reach: Option<u32>, squared: u64) -> bool
+    ensures { result ≡ not (is_reached reach squared) }
 {
-    let first = hits.len().min(query.cursor as usize);
-    let rest = &hits[first..];
-    &rest[..rest.len().min(query.limit as usize)]
+    match reach {
+        Some(meters) => u64::from(meters) * u64::from(meters) < squared,
+        None => false,
+    }
 }
 
-// Lists the ids of the objects at these places.
-fn list_ids(
+// Notes the objects at these places, which are those of all objects that pass a test, behind those that were found.
+fn note_all(
     alloc: Global,
     collection: &Collection,
-    hits: &[Hit],
+    places: &Ids,
+    query: &Query,
+    found: u64,
     ids: &mut NameList,
-) -> Result<(), NoMemory>
-    requires places { AreOfObjects collection.now.objects hits.now }
-    requires empty { ids.old ≡ [] }
-    ensures { (p : Point) (found : List Object) → AreHits p collection.now.objects found hits.now → OnOk result (ids.new ≡ map (λ o. o.id) found) }
+) -> Result<u64, NoMemory>
+    requires pattern { is_sound_glob query.now.glob ≡ true }
+    requires places { ArePlaces places.now collection.now.objects }
+    requires seen { (seen : List Object) × (found ≡ length seen) }
+    requires room { found + length places.now < 2 ^ 64 }
+    ensures count { IfOk result (IsCountBehind query.now collection.now.objects places.now found) }
+    ensures ids { OnOk result (AreIdsBehind query.now collection.now.objects places.now found ids.old ids.new) }
 {
-    for hit in hits {
-        add_id(alloc, ids, &collection.at(hit.place).id)?;
+    let mut all = found;
+    for i in 0..places.len() {
+        all = note(alloc, query, collection.listed(places, i), all, ids)?;
     }
-    Ok(())
+    Ok(all)
 }

@@ -4,6 +4,7 @@ use super::*;
 use byte_text::{Name, NoMemory, Text, push_u64};
 use collection::Collection;
 use planar_geom::{Part, Parts, Pt, Shape};
+use rtree::{NoLedger, Steps};
 use std::alloc::Global;
 use std::test::Fail;
 use world_data::{Fields, Object, Page, Query, Rule, Shown, Tests};
@@ -76,7 +77,15 @@ fn answer(
         return Err(NoMemory);
     };
     let mut found = Page::new(alloc);
-    near_page(alloc, trucks, origin, reach, &query, &mut found)?;
+    near_page(
+        alloc,
+        trucks,
+        origin,
+        reach,
+        &query,
+        &mut found,
+        &mut Steps::new(NoLedger),
+    )?;
     for i in 0..found.ids.len() {
         text.push(found.ids.at(i).bytes())?;
     }

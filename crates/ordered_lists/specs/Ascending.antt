@@ -1,8 +1,8 @@
 -- Ascending lists stay ascending: when an item is put in, when some are left out, and at their beginning.
-use Rattle.std.proofs.Common.{◌≡◌, ◌<◌, ℕ, zero, suc, Bool, true, false, refl, List, [], ◌∷◌, ◌++◌, length, take, arith}
+use Rattle.std.proofs.Common.{◌≡◌, ◌<◌, ℕ, zero, suc, Bool, true, false, refl, sym, List, [], ◌∷◌, ◌++◌, length, take, arith}
 use Rattle.std.specs.Prelude.{filter, IfSome}
 use Rattle.std.specs.List.{list_all, slice_get, slice_set, insert, remove}
-use Rattle.ordered_lists.specs.Lists.{ascends, put_in}
+use Rattle.ordered_lists.specs.Lists.{ascends, put_in, IsHeld, IsFree}
 use Rattle.ordered_lists.specs.Reading.{both_of}
 
 module _ {A : Type 0} (lt : A → A → Bool) (asym : (x y : A) → lt x y ≡ true → lt y x ≡ false) where
@@ -32,6 +32,13 @@ module _ {A : Type 0} (lt : A → A → Bool) (asym : (x y : A) → lt x y ≡ t
       let ih : list_all (λ z. lt z x) (take p ys) ≡ true → put_in lt x ys ≡ slice_set ys p x = λ more. put_in-set x ys p more (omega arith) tie in
       let fails = asym y x in
       grind arith
+
+  -- an item put at the place that was found for it
+  pub set_held : (x : A) (xs : List A) (at : ℕ) → IsHeld (λ y. lt y x) (lt x) xs at → slice_set xs at x ≡ put_in lt x xs
+  set_held x xs at h = sym (put_in-set x xs at h.front h.within h.tie)
+
+  pub insert_free : (x : A) (xs : List A) (at : ℕ) → IsFree (λ y. lt y x) (lt x) xs at → insert xs at x ≡ put_in lt x xs
+  insert_free x xs at f = sym (put_in-insert x xs at f.front f.behind)
 
 module _ {A : Type 0} (lt : A → A → Bool) (trans : (x y z : A) → lt x y ≡ true → lt y z ≡ true → lt x z ≡ true) (tie : (x y z : A) → lt x y ≡ false → lt y x ≡ false → lt y z ≡ true → lt x z ≡ true) where
   all_above : (x y : A) (zs : List A) → ((z : A) → lt y z ≡ true → lt x z ≡ true) → list_all (lt y) zs ≡ true → list_all (lt x) zs ≡ true

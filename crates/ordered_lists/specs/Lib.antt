@@ -1,4 +1,5 @@
 pub mod Lists
 pub mod Reading
 pub mod Ascending
+pub mod Places
 pub mod NameOrder

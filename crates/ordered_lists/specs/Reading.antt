@@ -11,6 +11,11 @@ all_get q [] j d lt all = absurd (omega arith)
 all_get q (x ∷ xs) zero d lt all = (both_of (q x) (list_all q xs) all).0
 all_get q (x ∷ xs) (suc j) d lt all = all_get q xs j d (omega arith) (both_of (q x) (list_all q xs) all).1
 
+pub all_at : {A : Type 0} (q : A → Bool) (xs : List A) (i : ℕ) (x : A) → slice_get xs i ≡ Some x → list_all q xs ≡ true → q x ≡ true
+all_at q [] i x is all = absurd (cc)
+all_at q (y ∷ xs) zero x is all = let s : y ≡ x = cc in subst (λ z. q z ≡ true) s (both_of (q y) (list_all q xs) all).0
+all_at q (y ∷ xs) (suc i) x is all = all_at q xs i x is (both_of (q y) (list_all q xs) all).1
+
 pub front_all : {A : Type 0} (q : A → Bool) (xs : List A) (at : ℕ) → at ≤ length xs → ((k : ℕ) (d : A) → 0 ≤ k → k < at → q (get_or xs k d) ≡ true) → list_all q (take at xs) ≡ true
 front_all q [] zero le f = refl
 front_all q [] (suc at) le f = refl

@@ -12,3 +12,4 @@ pub mod SideLaws
 pub mod Sides
 pub mod Spawners
 pub mod WriteLaws
+pub mod Writing

@@ -20,6 +20,7 @@ mod memory_streams;
 mod plain_disks;
 mod sides;
 mod streams;
+mod writes;
 
 pub use bells::{Bell, PlainBell};
 pub use clocks::{Clock, HandClock, MAX_MOMENT};
@@ -36,3 +37,4 @@ pub use memory_streams::{BytesSink, BytesSource};
 pub use plain_disks::PlainDisk;
 pub use sides::Side;
 pub use streams::{Sink, Source};
+pub use writes::write_all;

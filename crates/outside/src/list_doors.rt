@@ -1,6 +1,6 @@
 //! A door in memory, with a list of callers.
 
-ghost use Rattle.std.specs.Prelude.{◌≡◌, ◌<◌, ◌≤◌, ◌↔◌, None, length, map, reverse, ◌++◌, if◌then◌else◌, IsErr, IsTrue, OnOk, OnErr, IfOk, MatchResult};
+ghost use Rattle.std.specs.Prelude.{◌≡◌, ◌<◌, ◌≤◌, ◌↔◌, None, length, map, reverse, ◌++◌, if◌then◌else◌, IsErr, IsSome, IsTrue, OnOk, OnErr, IfOk, MatchResult};
 ghost use Rattle.outside.specs.Causes.{HasCause, next_count};
 ghost use Rattle.outside.specs.Memory.{fails_at};
 ghost use Rattle.outside.specs.Listed.{Listed};
@@ -83,12 +83,20 @@ impl ListDoor {
         })
     }
 
-    /// What was written to a caller, counted from 0. It waits for the caller's sink.
-    pub fn written<R: Wait>(&self, rt: &R, alloc: Global, link: usize) -> Result<Vec<u8>, NoMemory>
-        requires { link < self.now.all }
+    /// What was written to a caller, counted from 0, or none where the list has fewer. It waits for the caller's sink.
+    pub fn written<R: Wait>(
+        &self,
+        rt: &R,
+        alloc: Global,
+        link: usize,
+    ) -> Result<Option<Vec<u8>>, NoMemory>
+        ensures { IfOk result (λ written. IsSome written ↔ (link < self.now.all)) }
     {
-        match self.written[link].lock(rt).to_vec(alloc) {
-            Ok(written) => Ok(written),
+        let Some(written) = self.written.get(link) else {
+            return Ok(None);
+        };
+        match written.lock(rt).to_vec(alloc) {
+            Ok(written) => Ok(Some(written)),
             Err(_) => Err(NoMemory),
         }
     }
@@ -202,9 +210,7 @@ mod tests {
     use std::test::Fail;
 
     // The next caller sends this text, and gets it and a mark behind it.
-    fn answer(rt: &impl Abort, door: &mut ListDoor, text: &[u8])
-        ensures { door.new.all ≡ door.old.all }
-    {
+    fn answer(rt: &impl Abort, door: &mut ListDoor, text: &[u8]) {
         let accepted = door.accept();
         assert!(rt; matches!(accepted, Ok(Accepted::Joined(_))));
         if let Ok(
@@ -223,6 +229,20 @@ mod tests {
         }
     }
 
+    // Whether the caller of this number was written this text.
+    fn was_written<R: Wait>(
+        rt: &R,
+        alloc: Global,
+        door: &ListDoor,
+        link: usize,
+        text: &[u8],
+    ) -> bool {
+        match door.written(rt, alloc, link) {
+            Ok(Some(written)) => written.as_slice() == text,
+            _ => false,
+        }
+    }
+
     #[test]
     fn callers_come_in_order(rt: HostRuntime) -> Result<(), Fail> {
         let alloc = rt.alloc();
@@ -236,10 +256,9 @@ mod tests {
             answer(&rt, &mut door, b"ab");
             answer(&rt, &mut door, b"c");
             assert!(rt; matches!(door.accept(), Ok(Accepted::Over)));
-            let first = door.written(&rt, alloc, 0);
-            assert!(rt; first.is_ok_and(|written| written.as_slice() == b"ab!".as_slice()));
-            let second = door.written(&rt, alloc, 1);
-            assert!(rt; second.is_ok_and(|written| written.as_slice() == b"c!".as_slice()));
+            assert!(rt; was_written(&rt, alloc, &door, 0, b"ab!"));
+            assert!(rt; was_written(&rt, alloc, &door, 1, b"c!"));
+            assert!(rt; matches!(door.written(&rt, alloc, 2), Ok(None)));
         }
         Ok(())
     }

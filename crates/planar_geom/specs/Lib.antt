@@ -3,3 +3,4 @@ pub mod Figures
 pub mod Standings
 pub mod Shapes
 pub mod Relations
+pub mod Nearness

@@ -6,6 +6,7 @@ ghost use Rattle.planar_geom.specs.Figures.{meets as segments_meet, segment};
 ghost use Rattle.planar_geom.specs.Shapes.{box_of as box_of_shape};
 ghost use Rattle.planar_geom.specs.Relations.{intersects as is_met, within as is_inside, way_meets as is_on_way, area_box as box_of_area, face_of, IsArea};
 ghost use Rattle.planar_geom.specs.declared.shapes.Part.TheVariants.{Chain};
+ghost use Rattle.planar_geom.specs.Nearness.{IsWholeShape, MetIsNear};
 
 use crate::points::{BBox, Pt, Seg, centre};
 use crate::shapes::{Area, Shape};
@@ -26,7 +27,7 @@ pub fn within_intersects(shape: &Shape, area: &Area)
     ensures { is_inside shape.now area.now ≡ true → is_met shape.now area.now ≡ true }
 {
     let _parts = shape.parts();
-    is_whole(area);
+    area_is_whole(area);
 }
 
 /// Two shapes whose boxes do not meet do not meet.
@@ -41,7 +42,7 @@ pub fn way_stays_in_box(from: Pt, to: Pt, area: &Area)
     ensures area { is_on_way from to area.now ≡ true → boxes_meet (box_round from (to ∷ [])) (box_of_area area.now) ≡ true }
 {
     let _east = from.x();
-    is_whole(area);
+    area_is_whole(area);
 }
 
 /// The way between the centres of two boxes stays in the least box round both: an area that it meets has
@@ -61,7 +62,7 @@ pub fn met_boxes_meet(shape: &Shape, area: &Area)
 {
     let _low = shape.bounds().min();
     within_intersects(shape, area);
-    is_whole(area);
+    area_is_whole(area);
 }
 
 /// A box that is at most a distance away from a point, or whose centre is, meets the box round the disc of
@@ -109,8 +110,20 @@ pub fn box_is_nearest(_p: Pt, _b: BBox, _q: Pt)
     ensures nearest { in_box _b _q ≡ true → distance_to_box _p _b ≤ distance _p _q }
 {}
 
-// Every area is made of a box, of points of the plane or of a shape.
-fn is_whole(area: &Area)
+/// Every shape is whole, with a box of the plane.
+pub fn shape_is_whole(shape: &Shape)
+    ensures { IsWholeShape shape.now }
+{
+    let _low = shape.bounds().min();
+}
+
+/// Of all whole shapes and areas: what is met is near.
+pub fn met_is_near()
+    ensures { MetIsNear }
+{}
+
+/// Every area is whole: made of a box, of points of the plane or of a shape.
+pub fn area_is_whole(area: &Area)
     ensures { IsArea area.now }
 {
     match area {

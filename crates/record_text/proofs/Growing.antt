@@ -3,22 +3,10 @@ use Rattle.std.proofs.Common.{◌≡◌, ◌∙◌, ◌+◌, ◌<◌, ℕ, ℤ, 
 use Rattle.std.specs.Prelude.{Option, Some, slice_get, IfSome}
 use Rattle.byte_text.specs.Names.{Bytes}
 use Rattle.byte_text.specs.Lines.{bulk_text}
+use Rattle.byte_text.specs.ListLaws.{one_more}
 use Rattle.world_data.specs.Filters.{Field}
 use Rattle.world_data.specs.Records.{field_words}
 use Rattle.record_text.specs.Texts.{words_text, field_text}
-
-next : {A : Type 0} (xs : List A) (i : ℕ) (x : A) → slice_get xs i ≡ Some x → drop i xs ≡ x ∷ drop (suc i) xs
-next [] i x at = absurd (cc)
-next (y ∷ xs) zero x at = let is : y ≡ x = cc in ap (λ z. z ∷ xs) is
-next (y ∷ xs) (suc i) x at = next xs i x at
-
--- the part at a place was written
-pub one_more : {A : Type 0} (text : A → Bytes) (xs : List A) (i : ℕ) (x : A) (into grown whole : Bytes) → slice_get xs i ≡ Some x → grown ≡ into ++ text x
-    → into ++ flat_map text (drop i xs) ≡ whole → grown ++ flat_map text (drop (i + 1) xs) ≡ whole
-one_more text xs i x into grown whole at is before =
-    let one : suc i ≡ i + 1 = omega arith in
-    let here : drop i xs ≡ x ∷ drop (i + 1) xs = next xs i x at ∙ ap (λ (n : ℕ). x ∷ drop n xs) one in
-    ap (λ (l : Bytes). l ++ flat_map text (drop (i + 1) xs)) is ∙ append_assoc into (text x) (flat_map text (drop (i + 1) xs)) ∙ ap (λ l. into ++ flat_map text l) (sym here) ∙ before
 
 -- the field at a place was written
 pub one_field : (fs : List Field) (i : ℕ) (name : Bytes) (value : ℤ) (into grown whole : Bytes) → i < length fs → IfSome (slice_get fs i) (λ f. name ≡ f.0) → IfSome (slice_get fs i) (λ f. value ≡ f.1)

@@ -4,8 +4,8 @@ ghost use Rattle.std.specs.Prelude.{◌≡◌, ◌++◌, ◌∷◌, [], ◌+◌,
 ghost use Rattle.world_data.specs.Records.{deadline_words, record_text, record_words};
 ghost use Rattle.world_data.specs.declared.worlds.Change.TheVariants as change;
 
-use crate::parts::{push_deadline, push_fields, push_head, push_word, push_words};
-use byte_text::{Name, NoMemory, Text};
+use crate::parts::{push_deadline, push_fields};
+use byte_text::{Name, NoMemory, Text, push_array_head, push_bulk, push_words};
 use world_data::{Change, Channel, Object};
 
 // How many words tell a deadline: `AT moment`, or none.
@@ -32,14 +32,14 @@ fn push_put(into: &mut Text, object: &Object) -> Result<(), NoMemory>
     ensures ok { OnOk result (into.new ≡ into.old ++ record_text (change.Put object.now)) }
     ensures kept { take (length into.old) into.new ≡ into.old }
 {
-    push_head(into, put_count(object))?;
-    push_word(into, b"SET")?;
-    push_word(into, object.key.bytes())?;
-    push_word(into, object.id.bytes())?;
+    push_array_head(into, put_count(object))?;
+    push_bulk(into, b"SET")?;
+    push_bulk(into, object.key.bytes())?;
+    push_bulk(into, object.id.bytes())?;
     push_fields(into, &object.fields)?;
     push_deadline(into, object.deadline)?;
-    push_word(into, b"OBJECT")?;
-    push_word(into, object.text.bytes())
+    push_bulk(into, b"OBJECT")?;
+    push_bulk(into, object.text.bytes())
 }
 
 #[tactic(auto, using(byte_text::specs::TextLaws::kept))]
@@ -47,10 +47,10 @@ fn push_del(into: &mut Text, key: &Name, id: &Name) -> Result<(), NoMemory>
     ensures ok { OnOk result (into.new ≡ into.old ++ record_text (change.Del key.now id.now)) }
     ensures kept { take (length into.old) into.new ≡ into.old }
 {
-    push_head(into, 3)?;
-    push_word(into, b"DEL")?;
-    push_word(into, key.bytes())?;
-    push_word(into, id.bytes())
+    push_array_head(into, 3)?;
+    push_bulk(into, b"DEL")?;
+    push_bulk(into, key.bytes())?;
+    push_bulk(into, id.bytes())
 }
 
 #[tactic(auto, using(byte_text::specs::TextLaws::kept))]
@@ -58,9 +58,9 @@ fn push_drop(into: &mut Text, key: &Name) -> Result<(), NoMemory>
     ensures ok { OnOk result (into.new ≡ into.old ++ record_text (change.Drop key.now)) }
     ensures kept { take (length into.old) into.new ≡ into.old }
 {
-    push_head(into, 2)?;
-    push_word(into, b"DROP")?;
-    push_word(into, key.bytes())
+    push_array_head(into, 2)?;
+    push_bulk(into, b"DROP")?;
+    push_bulk(into, key.bytes())
 }
 
 #[tactic(auto, using(byte_text::specs::TextLaws::kept))]
@@ -68,8 +68,8 @@ fn push_flush(into: &mut Text) -> Result<(), NoMemory>
     ensures ok { OnOk result (into.new ≡ into.old ++ record_text change.Flush) }
     ensures kept { take (length into.old) into.new ≡ into.old }
 {
-    push_head(into, 1)?;
-    push_word(into, b"FLUSHDB")
+    push_array_head(into, 1)?;
+    push_bulk(into, b"FLUSHDB")
 }
 
 #[tactic(auto, using(byte_text::specs::TextLaws::kept))]
@@ -77,9 +77,9 @@ fn push_setchan(into: &mut Text, channel: &Channel) -> Result<(), NoMemory>
     ensures ok { OnOk result (into.new ≡ into.old ++ record_text (change.SetChan channel.now)) }
     ensures kept { take (length into.old) into.new ≡ into.old }
 {
-    push_head(into, 2 + channel.words.words() as u128)?;
-    push_word(into, b"SETCHAN")?;
-    push_word(into, channel.name.bytes())?;
+    push_array_head(into, 2 + channel.words.words() as u128)?;
+    push_bulk(into, b"SETCHAN")?;
+    push_bulk(into, channel.name.bytes())?;
     push_words(into, &channel.words)
 }
 
@@ -88,9 +88,9 @@ fn push_delchan(into: &mut Text, name: &Name) -> Result<(), NoMemory>
     ensures ok { OnOk result (into.new ≡ into.old ++ record_text (change.DelChan name.now)) }
     ensures kept { take (length into.old) into.new ≡ into.old }
 {
-    push_head(into, 2)?;
-    push_word(into, b"DELCHAN")?;
-    push_word(into, name.bytes())
+    push_array_head(into, 2)?;
+    push_bulk(into, b"DELCHAN")?;
+    push_bulk(into, name.bytes())
 }
 
 fn push_change(into: &mut Text, change: &Change) -> Result<(), NoMemory>
@@ -113,11 +113,6 @@ pub fn push_record(into: &mut Text, change: &Change) -> Result<(), NoMemory>
     ensures err { OnErr result (into.new ≡ into.old) }
 {
     let before = into.len();
-    match push_change(into, change) {
-        Ok(()) => Ok(()),
-        Err(NoMemory) => {
-            into.truncate(before);
-            Err(NoMemory)
-        }
-    }
+    let pushed = push_change(into, change);
+    into.keep_if(pushed, before)
 }

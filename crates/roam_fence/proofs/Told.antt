@@ -1,6 +1,6 @@
 -- What is told object by object is what the definition lists.
-use Rattle.std.proofs.Common.{◌≡◌, ℕ, zero, suc, ◌+◌, Bool, true, false, List, [], ◌∷◌, ◌++◌, map, flat_map, drop, refl, sym, ap, ◌∙◌, append_assoc, add-one}
-use Rattle.std.specs.Prelude.{Option, Some, None, option_map, slice_get, filter_map, if◌then◌else◌}
+use Rattle.std.proofs.Common.{◌≡◌, ℕ, Bool, true, false, List, [], ◌∷◌, ◌++◌, map, refl, ap, ◌∙◌}
+use Rattle.std.specs.Prelude.{Option, Some, None, option_map, filter_map, if◌then◌else◌}
 use Rattle.std.specs.List.{cons_option}
 use Rattle.byte_text.specs.Names.{Bytes}
 use Rattle.fence_model.specs.Fences.{is_near, was_near, roamed, pair_of, targets, meets_fence}
@@ -8,7 +8,7 @@ use Rattle.world_data.specs.declared.channels.Fence.{Fence}
 use Rattle.world_data.specs.declared.channels.Watch.TheVariants.{Roam}
 use Rattle.world_data.specs.declared.objects.Object.{Object}
 use Rattle.world_data.specs.declared.channels.Detect.{Detect}
-use Rattle.roam_fence.specs.Pairs.{is_near_now, is_target, noted, shown, shown_pairs, told, told_of_all}
+use Rattle.roam_fence.specs.Pairs.{is_near_now, is_target, noted, shown, shown_pairs, told_of_all}
 
 one_noted : (t : Object) (d : Option Detect) (rest : List (Object × Detect)) → map shown (cons_option (option_map (λ e. (t, e)) d) rest) ≡ noted t (option_map is_near_now d) ++ map shown rest
 one_noted t None rest = refl
@@ -27,17 +27,6 @@ told_is pattern meters nodwell old new (t ∷ ts) = by_test (told_is pattern met
         ≡ noted t (if b then option_map is_near_now detect else None) ++ told_of_all pattern meters nodwell old new ts
     by_test rest true = one_noted t detect (filter_map (pair_of meters nodwell old new) (targets pattern new ts)) ∙ ap (λ (x : List (Bytes × Bool)). noted t (option_map is_near_now detect) ++ x) rest
     by_test rest false = rest
-
--- what is told from a place on: of the object there, and then from the next place on
-from_place : (f : Object → List (Bytes × Bool)) (objects : List Object) (i : ℕ) (t : Object) → slice_get objects i ≡ Some t → flat_map f (drop i objects) ≡ f t ++ flat_map f (drop (suc i) objects)
-from_place f [] i t is = absurd (cc)
-from_place f (o ∷ objects) zero t is = let e : o ≡ t = cc in rw e refl
-from_place f (o ∷ objects) (suc i) t is = from_place f objects i t is
-
--- one object is noted, and the rest is as it was
-pub noted_one : (f : Object → List (Bytes × Bool)) (objects : List Object) (i : ℕ) (t : Object) (before after whole : List (Bytes × Bool)) → slice_get objects i ≡ Some t
-    → after ≡ before ++ f t → before ++ flat_map f (drop i objects) ≡ whole → after ++ flat_map f (drop (i + 1) objects) ≡ whole
-noted_one f objects i t before after whole is made w = rw (made, add-one, append_assoc, ← from_place f objects i t is) w
 
 -- of an object that meets the fence, for a fence that roams
 pub roam_pairs : (f : Fence) (key pattern : Bytes) (meters : ℕ) (nodwell : Bool) (old : Option Object) (new : Object) (objects : List Object)

@@ -15,7 +15,7 @@ use std::marker::Model;
 pub(crate) struct Entry {
     place: u64,
     bounds: BBox,
-    id: u32,
+    id: usize,
 }
 
 impl Model for Entry {
@@ -37,7 +37,7 @@ impl Model for Entry {
 
 impl Entry {
     /// The entry of a box and a number.
-    pub(crate) fn of(bounds: BBox, id: u32) -> Entry
+    pub(crate) fn of(bounds: BBox, id: usize) -> Entry
         ensures { result ≡ pair bounds id }
     {
         Entry {
@@ -54,7 +54,7 @@ impl Entry {
         self.bounds
     }
 
-    pub(crate) fn id(&self) -> u32
+    pub(crate) fn id(&self) -> usize
         ensures { result ≡ self.now.id }
     {
         self.id

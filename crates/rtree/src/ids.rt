@@ -1,6 +1,8 @@
 //! Lists of numbers.
 
 ghost use Rattle.std.specs.Prelude.{◌≡◌, ◌<◌, ◌++◌, [], ◌∷◌, length, slice_index, OnOk, OnErr, IsTrue, ◌↔◌};
+ghost use Rattle.std.specs.List.Sorted.{IsPermutation, IsSorted};
+ghost use Rattle.std.specs.Ordering.{nat_cmp};
 
 use planar_geom::NoMemory;
 use std::alloc::Global;
@@ -9,7 +11,7 @@ use std::marker::Model;
 /// A list of numbers.
 #[derive(Drop)]
 pub struct Ids {
-    list: Vec<u32>,
+    list: Vec<usize>,
 }
 
 impl Model for Ids {
@@ -45,7 +47,7 @@ impl Ids {
     }
 
     /// The number at a place.
-    pub fn at(&self, i: usize) -> u32
+    pub fn at(&self, i: usize) -> usize
         requires { i < length self.now }
         ensures { result ≡ slice_index self.now i }
     {
@@ -59,8 +61,16 @@ impl Ids {
         self.list.clear();
     }
 
+    /// Puts the lesser numbers first. It takes no memory.
+    pub fn sort(&mut self)
+        ensures order { IsSorted nat_cmp self.new }
+        ensures numbers { IsPermutation self.old self.new }
+    {
+        self.list.sort_unstable();
+    }
+
     /// Puts a number last.
-    pub(crate) fn push(&mut self, id: u32) -> Result<(), NoMemory>
+    pub fn push(&mut self, id: usize) -> Result<(), NoMemory>
         ensures ok { OnOk result (self.new ≡ self.old ++ id ∷ []) }
         ensures err { OnErr result (self.new ≡ self.old) }
     {

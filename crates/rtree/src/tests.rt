@@ -23,7 +23,7 @@ fn is_same(a: BBox, b: BBox) -> bool {
 }
 
 // The plain program: takes one such pair out of a list.
-fn take_out(list: &mut Vec<(BBox, u32)>, b: BBox, id: u32) -> bool {
+fn take_out(list: &mut Vec<(BBox, usize)>, b: BBox, id: usize) -> bool {
     for i in 0..list.len() {
         let (bounds, number) = list[i];
         if number == id && is_same(bounds, b) {
@@ -35,13 +35,13 @@ fn take_out(list: &mut Vec<(BBox, u32)>, b: BBox, id: u32) -> bool {
 }
 
 // How many pairs meet a box, and the sum of their numbers.
-fn met(list: &Vec<(BBox, u32)>, b: BBox) -> (usize, u64) {
+fn met(list: &Vec<(BBox, usize)>, b: BBox) -> (usize, u64) {
     let mut count = 0usize;
     let mut sum = 0u64;
     for (bounds, id) in list {
         if bounds.meets(b) {
             count = count.wrapping_add(1);
-            sum = sum.wrapping_add(u64::from(*id));
+            sum = sum.wrapping_add(*id as u64);
         }
     }
     (count, sum)
@@ -53,13 +53,13 @@ fn found(rt: &impl Abort, alloc: Global, tree: &Tree, b: BBox) -> (usize, u64) {
     assert!(rt; searched.is_ok(), "searched");
     let mut sum = 0u64;
     for i in 0..ids.len() {
-        sum = sum.wrapping_add(u64::from(ids.at(i)));
+        sum = sum.wrapping_add(ids.at(i) as u64);
     }
     (ids.len(), sum)
 }
 
 // How many pairs stand at a squared distance from a point.
-fn standing_at(list: &Vec<(BBox, u32)>, p: Pt, distance: u64) -> usize {
+fn standing_at(list: &Vec<(BBox, usize)>, p: Pt, distance: u64) -> usize {
     let mut count = 0usize;
     for (bounds, _) in list {
         if box_dist2(p, *bounds) == distance {
@@ -77,7 +77,7 @@ fn keeps_a_list(rt: HostRuntime) {
     let mut steps = Steps::new(NoLedger);
     for n in 0..600u32 {
         let b = square(&rt, n * 7 % 40, n * 11 % 30, (n % 3) as u16);
-        let id = n % 5;
+        let id = (n % 5) as usize;
         if n % 3 == 2 {
             let other = square(&rt, n * 5 % 40, n * 3 % 30, (n % 2) as u16);
             let removed = tree.remove(other, id, &mut steps);
@@ -91,8 +91,9 @@ fn keeps_a_list(rt: HostRuntime) {
     }
     for n in 0..600u32 {
         let b = square(&rt, n * 7 % 40, n * 11 % 30, (n % 3) as u16);
-        let removed = tree.remove(b, n % 5, &mut steps);
-        assert_eq!(rt; removed, take_out(&mut list, b, n % 5));
+        let id = (n % 5) as usize;
+        let removed = tree.remove(b, id, &mut steps);
+        assert_eq!(rt; removed, take_out(&mut list, b, id));
     }
     assert_eq!(rt; list.len(), 0);
     assert_eq!(rt; found(&rt, alloc, &tree, square(&rt, 0, 0, 100)), (0, 0));
@@ -106,8 +107,8 @@ fn walks_by_distance(rt: HostRuntime) {
     let mut steps = Steps::new(NoLedger);
     for n in 0..80u32 {
         let b = square(&rt, n * 7 % 40, n * 11 % 30, (n % 3) as u16);
-        if tree.reserve(1).is_ok() && list.push((b, n)).is_ok() {
-            tree.insert(b, n, &mut steps);
+        if tree.reserve(1).is_ok() && list.push((b, n as usize)).is_ok() {
+            tree.insert(b, n as usize, &mut steps);
         }
     }
     let from = square(&rt, 17, 11, 0).min();
@@ -133,7 +134,8 @@ fn grid<L: Ledger>(rt: &impl Abort, alloc: Global, steps: &mut Steps<L>) -> Tree
     for i in 0..100u32 {
         for j in 0..100u32 {
             if tree.reserve(1).is_ok() {
-                tree.insert(square(rt, 10 * i, 10 * j, 0), 100 * i + j, steps);
+                let place = square(rt, 10 * i, 10 * j, 0);
+                tree.insert(place, (100 * i + j) as usize, steps);
             }
         }
     }
@@ -187,7 +189,7 @@ fn changes_visit_each_level(rt: HostRuntime) {
     for i in 0..100u32 {
         for j in 0..100u32 {
             let place = square(&rt, 10 * i, 10 * j, 0);
-            assert!(rt; tree.remove(place, 100 * i + j, &mut visits));
+            assert!(rt; tree.remove(place, (100 * i + j) as usize, &mut visits));
         }
     }
     let count = visits.ledger().count();

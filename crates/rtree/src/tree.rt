@@ -78,7 +78,7 @@ impl Tree {
 
     /// Adds a pair, for which there is room, so that one less fits then. It visits at most
     /// 40 times one node more than there are levels.
-    pub fn insert<L: Ledger>(&mut self, b: BBox, id: u32, steps: &mut Steps<L>)
+    pub fn insert<L: Ledger>(&mut self, b: BBox, id: usize, steps: &mut Steps<L>)
         requires { 1 ≤ self.old.spare }
         ensures pairs { IsWith (pair b id) self.old.pairs self.new.pairs }
         ensures spare { self.new.spare + 1 ≡ self.old.spare }
@@ -96,7 +96,7 @@ impl Tree {
 
     /// Takes one such pair out; false exactly where there is none, and all is then as before. It visits at
     /// most 40 times one node more than there are levels.
-    pub fn remove<L: Ledger>(&mut self, b: BBox, id: u32, steps: &mut Steps<L>) -> bool
+    pub fn remove<L: Ledger>(&mut self, b: BBox, id: usize, steps: &mut Steps<L>) -> bool
         ensures taken { IsTaken result (pair b id) self.old.pairs self.new.pairs }
         ensures spare { self.new.spare ≡ (if result then self.old.spare + 1 else self.old.spare) }
         ensures levels { 2 ^ self.old.depth ≤ 2 * length self.old.pairs + 1 }

@@ -1,2 +1,2 @@
+pub mod InArea
 pub mod InOrder
-pub mod PageLaws

@@ -3,7 +3,7 @@
 
 mod pages;
 
-pub use pages::{add_id, end_page, is_count, page};
+pub use pages::{end_page, is_past, note, page};
 
 #[cfg(test)]
 mod tests;

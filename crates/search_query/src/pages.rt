@@ -4,28 +4,42 @@ ghost use Rattle.std.specs.Prelude.{◌≡◌, ◌<◌, ◌≤◌, ◌+◌, ◌^
 ghost use Rattle.fence_model.specs.Queries.{IsPageOf, matches, meets_query, page_ids, is_count};
 ghost use Rattle.world_data.specs.declared.objects.Object.{Object};
 ghost use Rattle.byte_text.specs.Globs.{is_sound_glob};
-ghost use Rattle.search_query.specs.Directions.{is_down};
+ghost use Rattle.world_data.specs.declared.channels.Kind.{Kind};
+ghost use Rattle.world_data.specs.declared.queries.Rule.TheVariants.{Kept};
+ghost use Rattle.collection.specs.Places.{IsVisited};
+ghost use Rattle.search_query.specs.Directions.{is_down, has_area};
 ghost use Rattle.search_query.specs.Pages.{is_past, IsEnough};
 
 use byte_text::{Name, NoMemory};
 use collection::Collection;
 use object_match::meets_query;
+use planar_geom::{Area, area_box, area_is_whole, met_is_near};
+use rtree::{Ids, Ledger, Steps};
 use std::alloc::Global;
 use world_data::{NameList, Object, Page, Query, Rule, Shown};
 
 /// The page of what the query finds among the objects of a key: their ids from place `cursor` on, at most `limit`, and where the
-/// next page begins; of a count the number of all that is found. For want of memory the page may hold anything.
-pub fn page(
+/// next page begins; of a count the number of all that is found. Where the query has an area only objects are looked at whose box
+/// meets the area's box, and the steps rise by the nodes of the tree that are visited, one at least where there is an object. For
+/// want of memory the page may hold anything.
+pub fn page<L: Ledger>(
     alloc: Global,
     collection: &Collection,
     query: &Query,
     into: &mut Page,
+    steps: &mut Steps<L>,
 ) -> Result<(), NoMemory>
     requires pattern { is_sound_glob query.now.glob ≡ true }
-    ensures { OnOk result (IsPageOf query.now (matches query.now collection.now.objects) into.new) }
+    ensures page { OnOk result (IsPageOf query.now (matches query.now collection.now.objects) into.new) }
+    ensures visits { has_area query.now.rule ≡ true → IsVisited collection.now.objects steps.old.count steps.new.count }
 {
     into.ids.clear();
-    let found = list_ids(alloc, collection, query, &mut into.ids)?;
+    let found = match &query.rule {
+        Rule::Kept(_, area) => list_met(alloc, collection, area, query, &mut into.ids, steps)?,
+        Rule::All | Rule::Down | Rule::Nearest => {
+            list_ids(alloc, collection, query, &mut into.ids)?
+        }
+    };
     end_page(query, found, into);
     Ok(())
 }
@@ -68,8 +82,39 @@ fn list_ids(
     Ok(found)
 }
 
-// Whether a page is asked for, and of so many that were found one is behind it.
-fn is_past(query: &Query, found: u64) -> bool
+// The same where the query has an area: objects are looked at whose box meets the area's box.
+fn list_met<L: Ledger>(
+    alloc: Global,
+    collection: &Collection,
+    area: &Area,
+    query: &Query,
+    ids: &mut NameList,
+    steps: &mut Steps<L>,
+) -> Result<u64, NoMemory>
+    requires pattern { is_sound_glob query.now.glob ≡ true }
+    requires empty { ids.old ≡ [] }
+    requires area { (kind : Kind) × (query.now.rule ≡ Kept kind area.now) }
+    ensures count { IfOk result (λ n. IsEnough query.now (matches query.now collection.now.objects) n) }
+    ensures ids { OnOk result (ids.new ≡ page_ids query.now (matches query.now collection.now.objects)) }
+    ensures visits { IsVisited collection.now.objects steps.old.count steps.new.count }
+{
+    // Laws, of which nothing is left at run time.
+    met_is_near();
+    area_is_whole(area);
+    let mut places = Ids::new(alloc);
+    collection.met(alloc, area_box(area), &mut places, steps)?;
+    let mut found = 0;
+    for i in 0..places.len() {
+        found = note(alloc, query, collection.listed(&places, i), found, ids)?;
+        if is_past(query, found) {
+            return Ok(found);
+        }
+    }
+    Ok(found)
+}
+
+/// Whether a page is asked for, and of so many that were found one is behind it.
+pub fn is_past(query: &Query, found: u64) -> bool
     ensures { result ≡ is_past query.now found }
 {
     !is_count(query.shown) && u64::from(query.cursor) + u64::from(query.limit) < found
@@ -93,9 +138,9 @@ fn is_down(rule: &Rule) -> bool
     matches!(rule, Rule::Down)
 }
 
-// Notes the next object behind those that were found: where it meets the query it is found too, and its id is listed where it is
-// on the page. Gives the number of all that is found.
-fn note(
+/// Notes the next object behind those that were found: where it meets the query it is found too, and its id is listed where it is
+/// on the page. Gives the number of all that is found.
+pub fn note(
     alloc: Global,
     query: &Query,
     object: &Object,
@@ -124,15 +169,15 @@ fn is_on_page(query: &Query, place: u64) -> bool
     !is_count(query.shown) && first <= place && place < first + u64::from(query.limit)
 }
 
-/// Whether the number alone is asked for.
-pub fn is_count(shown: Shown) -> bool
+// Whether the number alone is asked for.
+fn is_count(shown: Shown) -> bool
     ensures { result ≡ is_count shown }
 {
     matches!(shown, Shown::Count)
 }
 
-/// Puts an id last.
-pub fn add_id(alloc: Global, ids: &mut NameList, id: &Name) -> Result<(), NoMemory>
+// Puts an id last.
+fn add_id(alloc: Global, ids: &mut NameList, id: &Name) -> Result<(), NoMemory>
     ensures { OnOk result (ids.new ≡ ids.old ++ id.now ∷ []) }
 {
     match ids.push(id.copy(alloc)?) {

@@ -3,10 +3,11 @@
 use super::*;
 use byte_text::{Name, NoMemory, Text, push_u64};
 use collection::Collection;
-use planar_geom::{Part, Parts, Pt, Shape};
+use planar_geom::{Area, BBox, Part, Parts, Pt, Shape};
+use rtree::{NoLedger, Steps};
 use std::alloc::Global;
 use std::test::Fail;
-use world_data::{Fields, Object, Page, Query, Rule, Shown, Tests};
+use world_data::{Fields, Kind, Object, Page, Query, Rule, Shown, Tests};
 
 fn spot(alloc: Global) -> Result<Shape, NoMemory> {
     let mut parts = Parts::new(alloc);
@@ -64,7 +65,7 @@ fn answer(
         shown,
     };
     let mut found = Page::new(alloc);
-    page(alloc, trucks, &query, &mut found)?;
+    page(alloc, trucks, &query, &mut found, &mut Steps::new(NoLedger))?;
     for i in 0..found.ids.len() {
         text.push(found.ids.at(i).bytes())?;
     }
@@ -103,5 +104,39 @@ fn pages(rt: HostRuntime) -> Result<(), Fail> {
     let mut trucks = Collection::new(alloc);
     let text = pages_of(alloc, &mut trucks)?;
     assert_eq!(rt; text.bytes(), b"ab 2 0;e 1 0;de 0 0; 0 4;".as_slice());
+    Ok(())
+}
+
+// The square between two corners.
+fn square(low: i64, high: i64) -> Result<Area, NoMemory> {
+    let Some(low) = Pt::of(low, low) else {
+        return Err(NoMemory);
+    };
+    let Some(high) = Pt::of(high, high) else {
+        return Err(NoMemory);
+    };
+    match BBox::of(low, high) {
+        Some(square) => Ok(Area::Rect(square)),
+        None => Err(NoMemory),
+    }
+}
+
+// Pages of what meets a square, and of what lies in another.
+fn pages_over(alloc: Global, trucks: &Collection) -> Result<Text, NoMemory> {
+    let mut text = Text::new(alloc);
+    let around = Rule::Kept(Kind::Intersects, square(-1, 0)?);
+    answer(alloc, trucks, around, (1, 2), Shown::Ids, &mut text)?;
+    let beside = Rule::Kept(Kind::Within, square(1, 2)?);
+    answer(alloc, trucks, beside, (0, 9), Shown::Ids, &mut text)?;
+    Ok(text)
+}
+
+#[test]
+fn pages_of_areas(rt: HostRuntime) -> Result<(), Fail> {
+    let alloc = rt.alloc();
+    let mut trucks = Collection::new(alloc);
+    fill(alloc, &mut trucks)?;
+    let text = pages_over(alloc, &trucks)?;
+    assert_eq!(rt; text.bytes(), b"bc 3 0; 0 0;".as_slice());
     Ok(())
 }

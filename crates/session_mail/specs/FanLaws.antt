@@ -1,7 +1,7 @@
 -- Laws of what was done to sessions, and of what is staged in them.
 use Rattle.std.proofs.Common.{◌≡◌, inl, inr, ℕ, zero, suc, ◌+◌, ◌≤◌, refl, sym, ◌∙◌, ap, subst, List, [], ◌∷◌, ◌++◌, length, arith}
 use Rattle.std.specs.List.{list_any}
-use Rattle.std.specs.Prelude.{Bool, true, false, Some, if◌then◌else◌, map, flat_map, slice_get, slice_set}
+use Rattle.std.specs.Prelude.{Bool, true, false, Some, if◌then◌else◌, map, slice_get, slice_set}
 use Rattle.byte_text.specs.Names.{Bytes}
 use Rattle.fence_model.specs.Messages.{Message, messages}
 use Rattle.fence_model.specs.Writes.{Write}
@@ -41,7 +41,8 @@ pub done_start : (R : State → State → Type 0) (ss : List State) → DoneTo R
 done_start R [] = tt
 done_start R (s ∷ ss) = (refl, done_start R ss)
 
-pub done_step : (R : State → State → Type 0) (n : ℕ) (old new : List State) (s v : State) → DoneTo R n old new → slice_get new n ≡ Some s → R s v → DoneTo R (suc n) old (slice_set new n v)
+pub done_step : (R : State → State → Type 0) (n : ℕ) (old new : List State) (s v : State) → DoneTo R n old new → slice_get new n ≡ Some s → R s v
+    → DoneTo R (suc n) old (slice_set new n v)
 done_step R n [] [] s v d at r = absurd (cc)
 done_step R n [] (y ∷ new) s v d at r = absurd d
 done_step R n (x ∷ old) [] s v d at r = absurd (cc)
@@ -54,7 +55,8 @@ done_step R (suc n) (x ∷ old) (y ∷ new) s v d at r = (d.0, done_step R n old
 plus_one : (n : ℕ) → suc n ≡ n + 1
 plus_one n = omega arith
 
-pub done_next : (R : State → State → Type 0) (n : ℕ) (old new : List State) (s v : State) → DoneTo R n old new → slice_get new n ≡ Some s → R s v → DoneTo R (n + 1) old (slice_set new n v)
+pub done_next : (R : State → State → Type 0) (n : ℕ) (old new : List State) (s v : State) → DoneTo R n old new → slice_get new n ≡ Some s → R s v
+    → DoneTo R (n + 1) old (slice_set new n v)
 done_next R n old new s v d at r = subst (λ (k : ℕ). DoneTo R k old (slice_set new n v)) (plus_one n) (done_step R n old new s v d at r)
 
 pub done_length : (R : State → State → Type 0) (n : ℕ) (old new : List State) → DoneTo R n old new → length new ≡ length old
@@ -73,7 +75,8 @@ done_all R (suc n) (x ∷ old) (y ∷ new) le d = (d.0, done_all R n old new (om
 
 -- the sessions of the hall stay where each does
 
-pub same_set : (ss : List State) (n : ℕ) (s v : State) → slice_get ss n ≡ Some s → session_of v ≡ session_of s → map session_of (slice_set ss n v) ≡ map session_of ss
+pub same_set : (ss : List State) (n : ℕ) (s v : State) → slice_get ss n ≡ Some s → session_of v ≡ session_of s
+    → map session_of (slice_set ss n v) ≡ map session_of ss
 same_set [] n s v at e = absurd (cc)
 same_set (x ∷ ss) zero s v at e =
     let is : x ≡ s = cc in
@@ -126,7 +129,8 @@ pub bare_staged : (w : World) (ss : List State) → AreBare ss → HaveStaged w 
 bare_staged w [] all = tt
 bare_staged w (s ∷ ss) all = (bare_suffice s.mail all.0, bare_staged w ss all.1)
 
-one_more : (w : World) (a : List Write) (d : Write) (s t : State) → IsStaged s.mail (heard w a (listens (session_of s))) → IsBrought (messages (after_all w a) d) s t → IsStaged t.mail (heard w (a ++ d ∷ []) (listens (session_of t)))
+one_more : (w : World) (a : List Write) (d : Write) (s t : State) → IsStaged s.mail (heard w a (listens (session_of s)))
+    → IsBrought (messages (after_all w a) d) s t → IsStaged t.mail (heard w (a ++ d ∷ []) (listens (session_of t)))
 one_more w a d s t is b =
     let subs = listens (session_of s) in
     let last = frames_each (messages (after_all w a) d) subs in
@@ -135,13 +139,15 @@ one_more w a d s t is b =
     (subst (λ (fs : List Bytes). IsStaged t.mail fs) (sym whole) (b.staged.behind (heard w a subs) is))
 
 -- one write more
-pub staged_more : (w : World) (a : List Write) (d : Write) (old new : List State) → HaveStaged w a old → AreBrought (messages (after_all w a) d) old new → HaveStaged w (a ++ d ∷ []) new
+pub staged_more : (w : World) (a : List Write) (d : Write) (old new : List State) → HaveStaged w a old
+    → AreBrought (messages (after_all w a) d) old new → HaveStaged w (a ++ d ∷ []) new
 staged_more w a d [] [] all b = tt
 staged_more w a d [] (t ∷ new) all b = absurd b
 staged_more w a d (s ∷ old) [] all b = absurd b
 staged_more w a d (s ∷ old) (t ∷ new) all b = (one_more w a d s t all.0 b.0, staged_more w a d old new all.1 b.1)
 
-placed_one : (w : World) (writes : List Write) (s t : State) → IsPlaced s t → IsStaged s.mail (heard w writes (listens (session_of s))) → session_of t ≡ placed_each (session_of s) (heard w writes (listens (session_of s)))
+placed_one : (w : World) (writes : List Write) (s t : State) → IsPlaced s t → IsStaged s.mail (heard w writes (listens (session_of s)))
+    → session_of t ≡ placed_each (session_of s) (heard w writes (listens (session_of s)))
 placed_one w writes s t p is = p.same ∙ sym (suffices (session_of s) [] (heard w writes (listens (session_of s))) s.mail.staged is)
 
 pub placed_are : (w : World) (writes : List Write) (old new : List State) → ArePlaced old new → HaveStaged w writes old
@@ -154,7 +160,8 @@ placed_are w writes (s ∷ old) (t ∷ new) p all =
     ∙ ap (λ (hs : List halls.Session). placed_each (session_of s) (heard w writes (listens (session_of s))) ∷ hs) (placed_are w writes old new p.1 all.1)
 
 -- so the hall is as the writes leave it
-pub hall_placed : (h : Hall) (writes : List Write) (old new : List State) → HaveOwnNumbers h.sessions → h.sessions ≡ map session_of old → ArePlaced old new → HaveStaged h.world writes old
+pub hall_placed : (h : Hall) (writes : List Write) (old new : List State) → HaveOwnNumbers h.sessions → h.sessions ≡ map session_of old
+    → ArePlaced old new → HaveStaged h.world writes old
     → apply_all h writes ≡ record h { world = after_all h.world writes; logged = h.logged + records_len writes; sessions = map session_of new }
 hall_placed h writes old new own is p all =
     apply_hears h writes own
@@ -168,7 +175,8 @@ bare_all R bare (s ∷ old) [] d = absurd d
 bare_all R bare (s ∷ old) (t ∷ new) d = (bare s t d.0, bare_all R bare old new d.1)
 
 -- one message alone
-pub one_brought : (m : Message) (s t : State) → session_of t ≡ session_of s → Stages (halls.frames_for m (listens (session_of s))) s.mail t.mail → IsBrought (m ∷ []) s t
+pub one_brought : (m : Message) (s t : State) → session_of t ≡ session_of s → Stages (halls.frames_for m (listens (session_of s))) s.mail t.mail
+    → IsBrought (m ∷ []) s t
 one_brought m s t same staged = record { same = same; staged = subst (λ (fs : List Bytes). Stages fs s.mail t.mail) (sym (all_there (halls.frames_for m (listens (session_of s))))) staged }
 
 -- subscriptions stay sound with one more

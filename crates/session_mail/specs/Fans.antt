@@ -1,5 +1,5 @@
 -- Sessions before and after something that was done to each of them.
-use Rattle.std.specs.Prelude.{◌≡◌, ℕ, zero, suc, List, [], ◌∷◌, ◌++◌, map}
+use Rattle.std.specs.Prelude.{◌≡◌, ◌≤◌, ℕ, zero, suc, List, [], ◌∷◌, ◌++◌, map}
 use Rattle.std.specs.List.{AllByRecursion}
 use Rattle.fence_model.specs.Messages.{Message, messages}
 use Rattle.fence_model.specs.Writes.{Write}
@@ -36,6 +36,7 @@ AreBrought ms old new = Done (IsBrought ms) old new
 pub record IsPlaced (s t : State) : Type 0 where
   pub same : session_of t ≡ placed_each (session_of s) s.mail.staged
   pub bare : t.mail.staged ≡ []
+  pub spare : s.mail.spare ≤ t.mail.spare
 
 abbrev pub ArePlaced : List State → List State → Type 0
 ArePlaced old new = Done IsPlaced old new

@@ -1,8 +1,7 @@
 -- What a contract sees of a session, and the session of the hall that it stands for.
-use Rattle.std.specs.Prelude.{◌≡◌, ℕ, true, Bool, ◌||◌, nat_le, List, length, if◌then◌else◌}
+use Rattle.std.specs.Prelude.{◌≡◌, ℕ, true, Bool, List, if◌then◌else◌}
 use Rattle.std.specs.List.{AllByRecursion}
 use Rattle.byte_text.specs.Globs.{is_well_formed}
-use Rattle.byte_text.specs.Names.{Bytes}
 use Rattle.world_model.specs.Subscriptions.{Sub}
 use Rattle.world_model.specs.Halls as halls
 use Rattle.session_mail.specs.declared.sessions.Stage.{Stage}

@@ -1,10 +1,10 @@
 //! Messages to all sessions that hear them, staged and then placed.
 
-ghost use Rattle.std.specs.Prelude.{◌≡◌, ◌+◌, ◌∷◌, [], List, map, OnOk};
+ghost use Rattle.std.specs.Prelude.{◌≡◌, ◌∷◌, [], List, map, OnOk};
 ghost use Rattle.fence_model.specs.Writes.{Write};
 ghost use Rattle.world_model.specs.Halls.{Hall, apply_all};
 ghost use Rattle.world_data.specs.declared.worlds.World.{World};
-ghost use Rattle.deliveries.specs.Staging.{HaveOwnNumbers, after_all, records_len};
+ghost use Rattle.deliveries.specs.Staging.{HaveOwnNumbers, after_writes};
 ghost use Rattle.session_mail.specs.Sessions.{session_of};
 ghost use Rattle.session_mail.specs.Fans.{AreBrought, ArePlaced, AreBare, HaveStaged};
 
@@ -32,8 +32,9 @@ pub fn stage_message(
 /// bring, the hall is then as the writes leave it.
 pub fn place_staged(sessions: &mut Vec<Session>)
     ensures placed { ArePlaced sessions.old.items sessions.new.items }
-    ensures hall { (h : Hall) (writes : List Write) → HaveOwnNumbers h.sessions → h.sessions ≡ map session_of sessions.old.items → HaveStaged h.world writes sessions.old.items
-        → apply_all h writes ≡ record h { world = after_all h.world writes; logged = h.logged + records_len writes; sessions = map session_of sessions.new.items } }
+    ensures hall { (h : Hall) (writes : List Write) → HaveOwnNumbers h.sessions → h.sessions ≡ map session_of sessions.old.items
+        → HaveStaged h.world writes sessions.old.items
+        → apply_all h writes ≡ after_writes h writes (map session_of sessions.new.items) }
 {
     for i in 0..sessions.len() {
         sessions[i].place_staged();

@@ -1,38 +1,17 @@
 //! The frames of messages.
 
-ghost use Rattle.std.specs.Prelude.{◌≡◌, ◌++◌, decimal, IfOk, OnOk};
-ghost use Rattle.byte_text.specs.Lines.{bulk_text, line};
+ghost use Rattle.std.specs.Prelude.{◌≡◌, IfOk};
 ghost use Rattle.world_model.specs.Halls.{message_frame as frame_of_message, pattern_frame as frame_of_pattern};
 
-use byte_text::{Name, NoMemory, Text, push_u64};
+use byte_text::{Name, NoMemory, Text, push_array_head, push_bulk};
 use std::alloc::Global;
-
-// Appends a bulk string.
-fn push_bulk(into: &mut Text, bytes: &[u8]) -> Result<(), NoMemory>
-    ensures { OnOk result (into.new ≡ into.old ++ bulk_text bytes.now) }
-{
-    into.push(b"$")?;
-    push_u64(into, bytes.len() as u64)?;
-    into.push(b"\r\n")?;
-    into.push(bytes)?;
-    into.push(b"\r\n")
-}
-
-// Appends the head of an array.
-fn push_head(into: &mut Text, items: u64) -> Result<(), NoMemory>
-    ensures { OnOk result (into.new ≡ into.old ++ line 42 (decimal items)) }
-{
-    into.push(b"*")?;
-    push_u64(into, items)?;
-    into.push(b"\r\n")
-}
 
 /// The frame of a message to those that hold the channel's name.
 pub(crate) fn message_frame(alloc: Global, name: &Name, payload: &Text) -> Result<Text, NoMemory>
     ensures { IfOk result (λ t. t ≡ frame_of_message (name.now, payload.now)) }
 {
     let mut frame = Text::new(alloc);
-    push_head(&mut frame, 3)?;
+    push_array_head(&mut frame, 3)?;
     push_bulk(&mut frame, b"message")?;
     push_bulk(&mut frame, name.bytes())?;
     push_bulk(&mut frame, payload.bytes())?;
@@ -49,7 +28,7 @@ pub(crate) fn pattern_frame(
     ensures { IfOk result (λ t. t ≡ frame_of_pattern pattern.now (name.now, payload.now)) }
 {
     let mut frame = Text::new(alloc);
-    push_head(&mut frame, 4)?;
+    push_array_head(&mut frame, 4)?;
     push_bulk(&mut frame, b"pmessage")?;
     push_bulk(&mut frame, pattern.bytes())?;
     push_bulk(&mut frame, name.bytes())?;

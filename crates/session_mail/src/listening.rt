@@ -37,7 +37,8 @@ fn stage_name(
     mail: &mut Mailbox,
 ) -> Result<(), NoMemory>
     ensures frames { mail.new.frames ≡ mail.old.frames }
-    ensures staged { OnOk result (Stages (if list_any (holds_name name.now) subs.now then frame_of_message (name.now, payload.now) ∷ [] else []) mail.old mail.new) }
+    ensures staged { OnOk result (Stages (if list_any (holds_name name.now) subs.now then frame_of_message (name.now, payload.now) ∷ [] else [])
+        mail.old mail.new) }
 {
     if !has_name(subs, name) {
         return Ok(());
@@ -55,7 +56,8 @@ fn stage_pattern(
 ) -> Result<(), NoMemory>
     requires { is_sound_sub sub.now ≡ true }
     ensures frames { mail.new.frames ≡ mail.old.frames }
-    ensures staged { OnOk result (Stages (if pattern_meets name.now sub.now then frame_of_pattern sub.now.word (name.now, payload.now) ∷ [] else []) mail.old mail.new) }
+    ensures staged { OnOk result (Stages (if pattern_meets name.now sub.now then frame_of_pattern sub.now.word (name.now, payload.now) ∷ [] else [])
+        mail.old mail.new) }
 {
     if !pattern_meets(sub, name) {
         return Ok(());
@@ -73,7 +75,8 @@ fn stage_patterns(
 ) -> Result<(), NoMemory>
     requires { AreSoundSubs subs.now }
     ensures frames { mail.new.frames ≡ mail.old.frames }
-    ensures staged { OnOk result (Stages (map (λ s. frame_of_pattern s.word (name.now, payload.now)) (filter (pattern_meets name.now) subs.now)) mail.old mail.new) }
+    ensures staged { OnOk result (Stages (map (λ s. frame_of_pattern s.word (name.now, payload.now)) (filter (pattern_meets name.now) subs.now))
+        mail.old mail.new) }
 {
     for i in 0..subs.len() {
         stage_pattern(alloc, subs.at(i), name, payload, mail)?;

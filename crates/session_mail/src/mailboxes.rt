@@ -65,13 +65,15 @@ impl Mailbox {
 
     /// Takes room for `count` more frames behind all that is staged. The frames stay, and no room is lost, also for want of memory.
     pub fn reserve(&mut self, count: usize) -> Result<(), NoMemory>
-        requires { length self.old.staged + count ≤ usize.MAX }
         ensures frames { self.new.frames ≡ self.old.frames }
         ensures staged { self.new.staged ≡ self.old.staged }
         ensures room { OnOk result (count ≤ self.new.spare) }
         ensures kept { self.old.spare ≤ self.new.spare }
     {
-        self.outbox.reserve(self.staged.len() + count)
+        match self.staged.len().checked_add(count) {
+            Some(places) => self.outbox.reserve(places),
+            None => Err(NoMemory),
+        }
     }
 
     /// Stages a frame behind the others. Where there is no room left already it lets it go: what is staged is more than the queue will

@@ -1,13 +1,13 @@
 //! Sessions: their mailboxes and subscriptions, and whether they are served.
 
-ghost use Rattle.std.specs.Prelude.{◌≡◌, ◌≤◌, ◌+◌, [], length, take, drop, min, OnOk};
+ghost use Rattle.std.specs.Prelude.{◌≡◌, ◌≢◌, ◌≤◌, ◌+◌, [], true, false, length, take, drop, min, OnOk};
 ghost use Rattle.world_data.specs.Limits.{take_frames};
 ghost use Rattle.world_model.specs.Halls.{live, is_live, placed, placed_each, frames_for};
 ghost use Rattle.world_model.specs.Histories.{is_full};
 ghost use Rattle.deliveries.specs.Staging.{listens};
 ghost use Rattle.deliveries.specs.Plans.{ending};
 ghost use Rattle.session_mail.specs.Sessions.{AreSoundSubs, session_of, stage_of};
-ghost use Rattle.session_mail.specs.Mail.{Stages};
+ghost use Rattle.session_mail.specs.Mail.{Stages, has_room_left};
 
 use crate::listening::stage_heard;
 use crate::mailboxes::Mailbox;
@@ -97,9 +97,30 @@ impl Session {
         self.subs = subs;
     }
 
+    /// How many frames wait for it.
+    pub fn frames(&self) -> usize
+        ensures { result ≡ length self.now.mail.frames }
+    {
+        self.mail.frames()
+    }
+
+    /// Whether something is staged for it.
+    pub fn is_told(&self) -> bool
+        ensures told { result ≡ true → self.now.mail.staged ≢ [] }
+        ensures quiet { result ≡ false → self.now.mail.staged ≡ [] }
+    {
+        self.mail.staged() > 0
+    }
+
+    /// Whether its queue has room for all that is staged for it.
+    pub fn has_room_left(&self) -> bool
+        ensures { result ≡ has_room_left self.now.mail }
+    {
+        self.mail.has_room_left()
+    }
+
     /// Takes room for `count` more frames behind all that is staged. Else all stays, also for want of memory.
     pub fn reserve(&mut self, count: usize) -> Result<(), NoMemory>
-        requires { length self.old.mail.staged + count ≤ usize.MAX }
         ensures same { session_of self.new ≡ session_of self.old }
         ensures staged { self.new.mail.staged ≡ self.old.mail.staged }
         ensures room { OnOk result (count ≤ self.new.mail.spare) }
@@ -136,16 +157,18 @@ impl Session {
     fn place_first(&mut self)
         ensures same { session_of self.new ≡ placed_each (session_of self.old) (take 1 self.old.mail.staged) }
         ensures staged { self.new.mail.staged ≡ drop 1 self.old.mail.staged }
+        ensures spare { self.old.mail.spare ≤ self.new.mail.spare }
     {
         if let Some(frame) = self.mail.take_staged() {
             self.place(frame);
         }
     }
 
-    /// Places all that is staged for it, in order. It takes no memory.
+    /// Places all that is staged for it, in order. It takes no memory, and leaves the room for more.
     pub fn place_staged(&mut self)
         ensures same { session_of self.new ≡ placed_each (session_of self.old) self.old.mail.staged }
         ensures staged { self.new.mail.staged ≡ [] }
+        ensures spare { self.old.mail.spare ≤ self.new.mail.spare }
     {
         for _ in 0..self.mail.staged() {
             self.place_first();

@@ -49,6 +49,16 @@ impl Model for Subscription {
 }
 
 impl Subscription {
+    // The same subscription in memory of its own.
+    fn copy(&self, alloc: Global) -> Result<Subscription, NoMemory>
+        ensures { IfOk result (λ s. s ≡ self.now) }
+    {
+        Ok(Subscription {
+            word: self.word.copy(alloc)?,
+            pattern: self.pattern,
+        })
+    }
+
     /// The name, or the pattern.
     pub fn word(&self) -> &Name
         ensures { result.now ≡ self.now.word }
@@ -98,6 +108,19 @@ impl Subscriptions {
         Subscriptions {
             held: Vec::new(alloc),
         }
+    }
+
+    /// The same subscriptions in memory of their own.
+    pub fn copy(&self, alloc: Global) -> Result<Subscriptions, NoMemory>
+        ensures { IfOk result (λ s. s ≡ self.now) }
+    {
+        let mut held = Vec::new(alloc);
+        for subscription in &self.held {
+            if held.push(subscription.copy(alloc)?).is_err() {
+                return Err(NoMemory);
+            }
+        }
+        Ok(Subscriptions { held })
     }
 
     /// How many there are.

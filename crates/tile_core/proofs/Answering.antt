@@ -32,14 +32,13 @@ count_fits n lt = sizes (decimal n) (length-decimal-le 20 n (omega arith) (omega
 
 -- the plan of a reply and no change
 pub replies_alone : (objects : List Object) (total : ℕ) → AreKept objects total → (e : Effect) (r : List Piece) (frame : Bytes) (closes : Bool) → e ≡ record { replies = r ∷ []; subs = []; writes = []; closes = closes } → frame ≡ frame_text r → length frame ≤ max_reply
-    → IsPlan objects e (record { frame = frame; action = Stay; length = 0; weight = total; closes = closes })
+    → IsPlan objects e (record { frame = frame; action = Stay; loud = false; length = 0; weight = total; closes = closes })
 replies_alone objects total kept e r frame closes is text short = record {
   reply = r;
-  writes = [];
   is = is;
   frame = text;
   short = short;
-  does = record { objects_only = tt; world = refl };
+  there = tt;
   length_is = refl;
   small = lit≤ tt;
   weight_is = kept.weighed;

@@ -1,108 +1,165 @@
--- Calls, in the words of the parts of a core.
-use Rattle.std.proofs.Common.{◌≡◌, ℕ, ◌+◌, ◌<◌, ◌≤◌, Bool, true, false, refl, sym, ap, ◌∙◌, subst, inl, inr, List, [], ◌∷◌, ◌++◌, length, max, arith, add-zero}
-use Rattle.std.specs.Prelude.{Some, Result, Ok, Err, slice_get, slice_set, map, nat_le, nat_lt, if◌then◌else◌}
-use Rattle.std.specs.List.{AllByRecursion}
+-- Calls and ticks, in the words of the parts of a core.
+use Rattle.std.proofs.Common.{◌≡◌, ◌≢◌, ℕ, zero, suc, ◌+◌, ◌<◌, ◌≤◌, Bool, true, false, refl, sym, ap, ◌∙◌, subst, inl, inr, List, [], ◌∷◌, ◌++◌, length, max, map, arith}
+use Rattle.std.specs.Prelude.{Some, None, Option, Result, Ok, Err, slice_get, slice_set, filter, ◌⊎◌, if◌then◌else◌}
 use Rattle.std.proofs.lemmas.Bool.Decides.{nat_tests}
 use Rattle.byte_text.specs.Names.{Bytes}
 use Rattle.byte_text.specs.Replies.{frame_text}
-use Rattle.world_data.specs.Limits.{most_logged, full_frames, full_bytes, cap_frames, cap_bytes, max_reply}
+use Rattle.byte_text.specs.declared.replies.Piece.{Piece}
+use Rattle.world_data.specs.Limits.{most_logged}
 use Rattle.ordered_lists.specs.Lists.{sorted_by}
-use Rattle.world_data.specs.Expiry.{expired, due_before}
-use Rattle.fence_model.specs.Messages.{Message, messages, loud_messages}
-use Rattle.world_data.specs.Records.{record_len}
+use Rattle.world_data.specs.Expiry.{expired, is_due, due_before}
 use Rattle.world_data.specs.Worlds.{after}
-use Rattle.world_model.specs.Served.{asks}
-use Rattle.world_model.specs.Refusals.{broken_reply}
+use Rattle.world_data.specs.declared.objects.Object.{Object}
+use Rattle.world_data.specs.declared.channels.Channel.{Channel}
+use Rattle.world_data.specs.declared.worlds.World.{World}
+use Rattle.world_data.specs.declared.worlds.Change.TheVariants as change
 use Rattle.fence_model.specs.Writes.{Write, dels}
 use Rattle.world_model.specs.Effects.{Effect}
-use Rattle.world_model.specs.Halls.{Hall, due, apply, apply_all, deliveries, deliveries_of, do_call, do_asked, do_words, do_effect, place, place_all, placed, change_session, close_session, closed_if, is_session}
-use Rattle.world_data.specs.Frames.{frame_bytes}
+use Rattle.world_model.specs.Subscriptions.{Sub, with_subs}
 use Rattle.world_model.specs.Halls as halls
+use Rattle.world_model.specs.Halls.{Hall, apply_all, due, do_call, is_live, is_session, placed, placed_each}
 use Rattle.world_model.specs.Histories.{Step}
-use Rattle.world_model.specs.declared.commands.Command.{Command}
-use Rattle.world_model.specs.declared.faults.WordFault.{WordFault}
-use Rattle.world_data.specs.declared.objects.Object.{Object}
-use Rattle.world_data.specs.declared.worlds.World.{World}
-use Rattle.world_data.specs.declared.worlds.Change.{Change}
-use Rattle.world_data.specs.declared.worlds.Change.TheVariants as change
 use Rattle.world_model.specs.declared.events.Asked.{Asked}
-use Rattle.world_model.specs.declared.events.Asked.TheVariants.{Words, Broken}
 use Rattle.world_model.specs.declared.events.Called.{Called}
 use Rattle.world_model.specs.declared.events.Called.TheVariants as called
 use Rattle.world_model.specs.declared.events.Event.TheVariants.{Call, Tick}
 use Rattle.world_model.specs.declared.events.Outcome.TheVariants.{Answered}
-use Rattle.tile_core.specs.declared.sessions.Session.{Session}
-use Rattle.tile_core.specs.declared.plans.Plan.{Plan}
-use Rattle.tile_core.specs.Moves.{world_of, moved}
+use Rattle.keyspace.specs.Entries.{objects_in}
+use Rattle.deliveries.specs.Staging.{HaveOwnNumbers, Rise, after_all, all_to, changed_at, has_room_for, heard, listens, placed_all, records_len}
+use Rattle.deliveries.specs.Plans.{answered, brought, effect_of_asked, ended_if, ending, subscribing}
+use Rattle.deliveries.specs.BySession.{by_sessions}
+use Rattle.deliveries.specs.Placing.{each_number, map_none, map_twice, placed_number}
+use Rattle.deliveries.specs.Quiet.{heard_append}
+use Rattle.deliveries.specs.Rising.{rising}
+use Rattle.deliveries.specs.Serving.{lives_on, takes_all}
+use Rattle.deliveries.specs.Touched.{ending_number}
+use Rattle.session_mail.specs.Mail.{has_room_left}
+use Rattle.session_mail.specs.Sessions.{State, session_of}
+use Rattle.session_mail.specs.Fans.{ArePlaced, HaveStaged, IsPlaced}
+use Rattle.session_mail.specs.FanLaws.{hall_placed, placed_are}
 use Rattle.tile_core.specs.declared.dues.Expired.{Expired}
+use Rattle.tile_core.specs.declared.planned.Planned.{Planned}
+use Rattle.tile_core.specs.declared.planned.Planned.TheVariants.{Objects, Channels, Subscribed}
+use Rattle.tile_core.specs.declared.ready.Ready.{Ready}
+use Rattle.tile_core.specs.declared.stores.Store.{Store}
+use Rattle.tile_core.specs.Moves.{world_of, world_with}
 use Rattle.tile_core.specs.Dues.{IsExpired}
-use Rattle.tile_core.specs.Sessions.{session_of, is_open, is_full, answered, Rises, AreOthers, IsServed}
-use Rattle.tile_core.specs.CoreStates.{hall_of}
-use Rattle.tile_core.specs.Plans.{effect_of_read, effect_of_asked, after_all, records_len, IsOfObjects, IsPlan}
-use Rattle.tile_core.proofs.Present.{found, none_found, changed, rises_set, get_set, set_twice}
+use Rattle.tile_core.specs.Planned.{IsPlanned}
+use Rattle.tile_core.specs.Ready.{IsReady, IsRequestReady, ending_if, planned_length, planned_writes, replied}
+use Rattle.tile_core.specs.Sessions.{is_open, is_full, Rises, AreOthers, IsServed}
+use Rattle.tile_core.specs.Stores.{hall_of, world_at}
+use Rattle.tile_core.proofs.Present.{found, none_found, changed}
 use Rattle.tile_core.proofs.Steps.{call_spent, call_gone, call_closed, call_full, call_lacks, call_done, tick_spent, tick_lacks, tick_done}
-use Rattle.tile_core.proofs.Takes.{closing}
 
--- no channel, no message
+-- numbers of their own
 
-no_messages : (w : World) (d : Write) → w.channels ≡ [] → messages w d ≡ []
-unfolding messages
-no_messages w d e = by d.loud
+rise : (low d : ℕ) (ss : List State) → Rises low d ss → Rise low (map session_of ss)
+rise low d [] r = tt
+rise low d (s ∷ ss) r = (r.0, rise s.number d ss r.1)
+
+pub own_numbers : (d : ℕ) (ss : List State) → Rises 0 d ss → HaveOwnNumbers (map session_of ss)
+own_numbers d ss r = rising 0 (map session_of ss) (rise 0 d ss r)
+
+-- what was placed at a place
+
+pub placed_at : (old new : List State) (i : ℕ) (s : State) → ArePlaced old new → slice_get old i ≡ Some s → (t : State) × (slice_get new i ≡ Some t) × IsPlaced s t
+placed_at [] [] i s p at = absurd (cc)
+placed_at [] (t ∷ new) i s p at = absurd p
+placed_at (x ∷ old) [] i s p at = absurd p
+placed_at (x ∷ old) (t ∷ new) zero s p at = let is : x ≡ s = cc in (t, refl, subst (λ (y : State). IsPlaced y t) is p.0)
+placed_at (x ∷ old) (t ∷ new) (suc i) s p at = placed_at old new i s p.1 at
+
+number_kept : (s t : State) → IsPlaced s t → t.number ≡ s.number
+number_kept s t p = ap (λ (h : halls.Session). h.number) p.same ∙ each_number (session_of s) s.mail.staged
+
+pub rises_placed : (low d : ℕ) (old new : List State) → ArePlaced old new → Rises low d old → Rises low d new
+rises_placed low d [] [] p r = r
+rises_placed low d [] (t ∷ new) p r = absurd p
+rises_placed low d (s ∷ old) [] p r = absurd p
+rises_placed low d (s ∷ old) (t ∷ new) p r =
+    let same = number_kept s t p.0 in
+    (subst (λ (n : ℕ). low < n) (sym same) r.0, rises_placed t.number d old new p.1 (subst (λ (n : ℕ). Rises n d old) (sym same) r.1))
+
+pub as_many : (old new : List State) → ArePlaced old new → length new ≡ length old
+as_many [] [] p = refl
+as_many [] (t ∷ new) p = absurd p
+as_many (s ∷ old) [] p = absurd p
+as_many (s ∷ old) (t ∷ new) p = ap suc (as_many old new p.1)
+
+pub rises_as : (low d : ℕ) (xs ys : List State) → map session_of xs ≡ map session_of ys → Rises low d ys → Rises low d xs
+rises_as low d [] [] e r = r
+rises_as low d [] (y ∷ ys) e r = absurd (cc)
+rises_as low d (x ∷ xs) [] e r = absurd (cc)
+rises_as low d (x ∷ xs) (y ∷ ys) e r =
+    let first : session_of x ≡ session_of y = cc in
+    let rest : map session_of xs ≡ map session_of ys = cc in
+    let num : x.number ≡ y.number = ap (λ (h : halls.Session). h.number) first in
+    (subst (λ (m : ℕ). low < m) (sym num) r.0, rises_as x.number d xs ys rest (subst (λ (m : ℕ). Rises m d ys) (sym num) r.1))
+
+-- a session is changed at its number
+
+fused : (f g : halls.Session → halls.Session) → ((s : halls.Session) → (f s).number ≡ s.number) → (n : ℕ) (ss : List halls.Session) → changed_at g n (changed_at f n ss) ≡ changed_at (λ s. g (f s)) n ss
+fused f g keeps n ss = map_twice (λ s. if is_session n s then g s else s) (λ s. if is_session n s then f s else s) (λ s. if is_session n s then g (f s) else s) each ss
   where
-    by : (b : Bool) → (if b then loud_messages w d.change else []) ≡ []
-    by true = rw e refl
-    by false = refl
+    each : (s : halls.Session) → (if is_session n (if is_session n s then f s else s) then g (if is_session n s then f s else s) else (if is_session n s then f s else s)) ≡ (if is_session n s then g (f s) else s)
+    each s = by (is_session n s) refl
+      where
+        by : (b : Bool) → is_session n s ≡ b → (if is_session n (if b then f s else s) then g (if b then f s else s) else (if b then f s else s)) ≡ (if b then g (f s) else s)
+        by true e = ap (λ (k : Bool). if k then g (f s) else f s) (ap (λ (m : ℕ). is_session n (record s { number = m })) (keeps s) ∙ e)
+        by false e = ap (λ (k : Bool). if k then g s else s) e
 
-no_deliveries : (w : World) (sessions : List halls.Session) (d : Write) → w.channels ≡ [] → deliveries w sessions d ≡ []
-no_deliveries w sessions d e = ap (λ (ms : List Message). deliveries_of ms sessions) (no_messages w d e)
-
-apply_one : (h : Hall) (d : Write) → h.world.channels ≡ [] → apply h d ≡ record h { world = after h.world d.change; logged = h.logged + record_len d.change }
-unfolding apply
-apply_one h d e = ap (place_all (record h { world = after h.world d.change; logged = h.logged + record_len d.change })) (no_deliveries h.world h.sessions d e)
-
-still_none : (w : World) (c : Change) → IsOfObjects c → w.channels ≡ [] → (after w c).channels ≡ []
-still_none w (change.Put o) is e = e
-still_none w (change.Del key id) is e = e
-still_none w (change.Drop key) is e = e
-still_none w change.Flush is e = refl
-still_none w (change.SetChan c) is e = absurd is
-still_none w (change.DelChan name) is e = absurd is
-
--- changes of objects in a world without channels place no frame
-apply_each : (h : Hall) (writes : List Write) → AllByRecursion (λ d. IsOfObjects d.change) writes → h.world.channels ≡ [] → apply_all h writes ≡ record h { world = after_all h.world writes; logged = h.logged + records_len writes }
-apply_each h [] are e = ap (λ (m : ℕ). record h { logged = m }) (sym (add-zero h.logged))
-apply_each h (d ∷ writes) are e =
-    let next : Hall = record h { world = after h.world d.change; logged = h.logged + record_len d.change } in
-    let sum : (h.logged + record_len d.change) + records_len writes ≡ h.logged + (record_len d.change + records_len writes) = omega arith in
-    ap (λ (k : Hall). apply_all k writes) (apply_one h d e) ∙ apply_each next writes are.1 (still_none h.world d.change are.0 e)
-    ∙ ap (λ (m : ℕ). record h { world = after_all (after h.world d.change) writes; logged = m }) sum
-
--- a change that leaves each session as it is
-same_if : (b : Bool) (f : halls.Session → halls.Session) (s : halls.Session) → f s ≡ s → (if b then f s else s) ≡ s
-same_if true f s e = e
-same_if false f s e = refl
-
-all_same : (n : ℕ) (f : halls.Session → halls.Session) (ss : List halls.Session) → ((s : halls.Session) → f s ≡ s) → map (λ s. if is_session n s then f s else s) ss ≡ ss
-all_same n f [] e = refl
-all_same n f (s ∷ ss) e = ap (λ (z : halls.Session). z ∷ map (λ s. if is_session n s then f s else s) ss) (same_if (is_session n s) f s (e s)) ∙ ap (λ (zs : List halls.Session). s ∷ zs) (all_same n f ss e)
-
--- the frame is placed on a session that is served and not full
-fits : (s : Session) (frame : Bytes) → is_open s ≡ true → is_full s ≡ false → length frame ≤ max_reply → placed frame (session_of s) ≡ session_of (answered frame false s)
-fits s frame lives room_ short =
-    let few : length s.outbox.frames < full_frames = grind (arith, nat_tests) in
-    let light : frame_bytes s.outbox.frames < full_bytes = grind (arith, nat_tests) in
-    let t : nat_lt (length s.outbox.frames) cap_frames ≡ true = room (length s.outbox.frames) few in
-    let u : nat_le (frame_bytes s.outbox.frames + length frame) cap_bytes ≡ true = bytes (frame_bytes s.outbox.frames) (length frame) light short in
-    rw (lives, t, u) refl
+same_session : (f : halls.Session → halls.Session) → ((s : halls.Session) → f s ≡ s) → (n : ℕ) (ss : List halls.Session) → changed_at f n ss ≡ ss
+same_session f same n ss = map_none (λ s. if is_session n s then f s else s) each ss
   where
-    room : (a : ℕ) → a < full_frames → nat_lt a cap_frames ≡ true
-    room a p = grind (arith, nat_tests)
+    each : (s : halls.Session) → (if is_session n s then f s else s) ≡ s
+    each s = by (is_session n s)
+      where
+        by : (b : Bool) → (if b then f s else s) ≡ s
+        by true = same s
+        by false = refl
 
-    bytes : (a b : ℕ) → a < full_bytes → b ≤ max_reply → nat_le (a + b) cap_bytes ≡ true
-    bytes a b p q = grind (arith, nat_tests)
+own_frames : (n : ℕ) (frames : List Bytes) (ss : List halls.Session) → placed_all ss (all_to n frames) ≡ changed_at (λ s. placed_each s frames) n ss
+own_frames n [] ss = sym (same_session (λ s. s) (λ s. refl) n ss)
+own_frames n (f ∷ frames) ss = own_frames n frames (changed_at (placed f) n ss) ∙ fused (placed f) (λ s. placed_each s frames) (placed_number f) n ss
 
-closes_it : (s : Session) (frame : Bytes) → is_open s ≡ true → closing (session_of (answered frame false s)) ≡ session_of (answered frame true s)
-closes_it s frame lives = rw lives refl
+-- what an answer does to its session
+abbrev answers_with : Effect → halls.Session → halls.Session
+answers_with e s = ending_if e.closes (placed_each (subscribing e.subs s) (map frame_text e.replies))
+
+answered_is : (n : ℕ) (e : Effect) (ss : List halls.Session) → answered n e ss ≡ changed_at (answers_with e) n ss
+answered_is n e ss =
+    let frames = map frame_text e.replies in
+    let placing : halls.Session → halls.Session = λ s. placed_each (subscribing e.subs s) frames in
+    let both : placed_all (changed_at (subscribing e.subs) n ss) (all_to n frames) ≡ changed_at placing n ss =
+    own_frames n frames (changed_at (subscribing e.subs) n ss) ∙ fused (subscribing e.subs) (λ s. placed_each s frames) (λ s. refl) n ss in
+    ap (ended_if e.closes n) both ∙ by e.closes placing (λ s. each_number (subscribing e.subs s) frames)
+  where
+    by : (b : Bool) (placing : halls.Session → halls.Session) → ((s : halls.Session) → (placing s).number ≡ s.number) → ended_if b n (changed_at placing n ss) ≡ changed_at (λ s. ending_if b (placing s)) n ss
+    by true placing keeps = fused placing ending keeps n ss
+    by false placing keeps = refl
+
+-- for the session of a plan it is what the plan says
+replies_as : (w : World) (total : ℕ) (held : List Sub) (e : Effect) (p : Planned) (s : halls.Session) → IsPlanned w total held e p → ((held ≡ s.subs) ⊎ (e.writes ≢ [])) → answers_with e s ≡ replied p s
+replies_as w total held e (Objects p) s is either =
+    ap (λ (d : Effect). answers_with d s) is.0.is ∙ ap (λ (f : Bytes). ending_if p.closes (placed f s)) (sym is.0.frame)
+replies_as w total held e (Channels p) s is either =
+    ap (λ (d : Effect). answers_with d s) is.0.is ∙ ap (λ (f : Bytes). placed f s) (sym is.0.frame)
+replies_as w total held e (Subscribed p) s is (inr none) = absurd (none is.no_writes)
+replies_as w total held e (Subscribed p) s is (inl same) =
+    ap (λ (b : Bool). ending_if b (placed_each (subscribing e.subs s) (map frame_text e.replies))) is.goes_on
+    ∙ ap (λ (subs : List Sub). placed_each (record s { subs = with_subs subs e.subs }) (map frame_text e.replies)) (sym same)
+    ∙ ap (λ (subs : List Sub). placed_each (record s { subs = subs }) (map frame_text e.replies)) (sym is.subs)
+    ∙ ap (placed_each (record s { subs = p.subs })) (sym is.frames)
+
+writes_as : (w : World) (total : ℕ) (held : List Sub) (e : Effect) (p : Planned) → IsPlanned w total held e p → e.writes ≡ planned_writes p
+writes_as w total held e (Objects p) is = ap (λ (d : Effect). d.writes) is.0.is
+writes_as w total held e (Channels p) is = ap (λ (d : Effect). d.writes) is.0.is
+writes_as w total held e (Subscribed p) is = is.no_writes
+
+length_as : (w : World) (total : ℕ) (held : List Sub) (e : Effect) (p : Planned) → IsPlanned w total held e p → planned_length p ≡ records_len (planned_writes p)
+length_as w total held e (Objects p) is = is.0.length_is
+length_as w total held e (Channels p) is = is.0.length_is
+length_as w total held e (Subscribed p) is = refl
 
 -- the clock
 
@@ -110,125 +167,215 @@ all_there : (os : List Object) → os ++ [] ≡ os
 all_there [] = refl
 all_there (o ∷ os) = ap (λ (ps : List Object). o ∷ ps) (all_there os)
 
-are_dels : (os : List Object) → AllByRecursion (λ d. IsOfObjects d.change) (dels os)
-are_dels [] = tt
-are_dels (o ∷ os) = (tt, are_dels os)
-
 -- what was taken out is what is due
-gone_are : (objects : List Object) (now total : ℕ) (rest : List Object) (g : Expired) → IsExpired objects now total rest g → expired (world_of objects) now ≡ g.held.items
+gone_are : (objects : List Object) (now total : ℕ) (rest : List Object) (g : Expired) → IsExpired objects now total rest g → sorted_by due_before (filter (is_due now) objects) ≡ g.held.items
 gone_are objects now total rest g e =
     sym (sym (all_there g.held.items) ∙ ap (λ (os : List Object). g.held.items ++ sorted_by due_before os) (sym e.none) ∙ e.taken.order)
 
-module _ (objects : List Object) (now logged drawn : ℕ) (sessions : List Session) (moment total : ℕ) (rest : List Object) (g : Expired) (e : IsExpired objects (max now moment) total rest g) where
-  pub clock : due (hall_of objects now logged drawn sessions) moment ≡ hall_of rest (max now moment) (logged + g.length) drawn sessions
-  clock =
-      let m = max now moment in
-      let held = g.held.items in
-      ap (λ (os : List Object). apply_all (hall_of objects m logged drawn sessions) (dels os)) (gone_are objects m total rest g e)
-      ∙ apply_each (hall_of objects m logged drawn sessions) (dels held) (are_dels held) refl
-      ∙ ap (λ (w : World). record (hall_of objects m logged drawn sessions) { world = w; logged = logged + records_len (dels held) }) e.taken.world
-      ∙ ap (λ (n : ℕ). hall_of rest m (logged + n) drawn sessions) (sym e.taken.length_is)
+pub with_channels : (cs : List Channel) (xs held : List Object) → after_all (world_with cs xs) (dels held) ≡ world_with cs (after_all (world_of xs) (dels held)).objects
+with_channels cs xs [] = refl
+with_channels cs xs (h ∷ held) = with_channels cs (after (world_of xs) (change.Del h.key h.id)).objects held
 
-  pub ticked : logged < most_logged → Step (hall_of objects now logged drawn sessions) (Tick moment) (Answered called.Ok) (hall_of rest (max now moment) (logged + g.length) drawn sessions)
-  ticked unspent = subst (λ (h : Hall). Step (hall_of objects now logged drawn sessions) (Tick moment) (Answered called.Ok) h) clock (tick_done (hall_of objects now logged drawn sessions) moment refl unspent)
+module _ (before : Store) (now logged drawn : ℕ) (ss mid new : List State) (moment : ℕ) (store : Store) (g : Expired) (rises : Rises 0 drawn ss) (same : map session_of mid ≡ map session_of ss) (e : IsExpired (objects_in before.objects) (max now moment) before.weight (objects_in store.objects) g) (channels : store.hub.channels ≡ before.hub.channels) where
+  abbrev moment_now : ℕ
+  moment_now = max now moment
 
-module _ (objects : List Object) (now logged drawn : ℕ) (sessions : List Session) (moment : ℕ) where
-  pub not_ticked : most_logged ≤ logged → Step (hall_of objects now logged drawn sessions) (Tick moment) (Answered called.Spent) (hall_of objects now logged drawn sessions)
-  not_ticked le = tick_spent (hall_of objects now logged drawn sessions) moment refl le
+  abbrev held : List Object
+  held = g.held.items
 
-  pub tick_refused : logged < most_logged → Step (hall_of objects now logged drawn sessions) (Tick moment) (Answered called.Memory) (hall_of objects now logged drawn sessions)
-  tick_refused unspent = tick_lacks (hall_of objects now logged drawn sessions) moment refl unspent
-
--- a call that is made of a session that is served, in the hall after the objects that were due are taken out
-module _ (objects : List Object) (now logged drawn : ℕ) (sessions : List Session) (n : ℕ) (i : ℕ) (s : Session) (rises : Rises 0 drawn sessions) (at : slice_get sessions i ≡ Some s) (numbered : s.number ≡ n) (lives : is_open s ≡ true) (open_ : is_full s ≡ false) where
-  abbrev later : Hall
-  later = hall_of objects now logged drawn sessions
-
-  calls : (asked : Asked) → do_call later n asked ≡ do_asked later (session_of s) asked
-  unfolding do_call
-  calls asked = rw (found 0 drawn sessions i n s rises at numbered, lives) refl
-
-  same_subs : change_session (λ t. record t { subs = t.subs }) s.number later ≡ later
-  same_subs = ap (λ (ss : List halls.Session). record later { sessions = ss }) (all_same s.number (λ t. record t { subs = t.subs }) (map session_of sessions) (λ t. refl))
-
-  -- the effect is that of what is asked, for a session without subscriptions
-  effects : (a : Asked) → do_asked later (session_of s) a ≡ do_effect later s.number (effect_of_asked (world_of objects) now a)
-  effects (Words words) = of_read (asks words)
-    where
-      of_read : (r : Result Command WordFault) → do_words later (session_of s) r ≡ do_effect later s.number (effect_of_read (world_of objects) now r)
-      of_read (Ok c) = refl
-      of_read (Err f) = refl
-  effects (Broken f) = ap (λ (h : Hall). close_session s.number (place h (s.number, frame_text (broken_reply f)))) (sym same_subs)
-
-  -- the hall with the session answered
-  abbrev pub answered_hall : List Object → ℕ → Bytes → Bool → Hall
-  answered_hall next more frame closes = hall_of next now more drawn (slice_set sessions i (answered frame closes s))
-
-  put_frame : (frame : Bytes) → length frame ≤ max_reply → place later (s.number, frame) ≡ answered_hall objects logged frame false
-  put_frame frame short = ap (λ (ss : List halls.Session). record later { sessions = ss }) (changed (placed frame) 0 drawn sessions i s.number s (answered frame false s) rises at refl (fits s frame lives open_ short))
-
-  ends : (next : List Object) (more : ℕ) (frame : Bytes) (closes : Bool) → closed_if closes s.number (answered_hall next more frame false) ≡ answered_hall next more frame closes
-  ends next more frame false = refl
-  ends next more frame true =
-      let one = answered frame false s in
-      let two = answered frame true s in
-      let set = slice_set sessions i one in
-      ap (λ (ss : List halls.Session). record (answered_hall next more frame false) { sessions = ss })
-      (changed closing 0 drawn set i s.number one two (rises_set 0 drawn sessions i s one rises at refl) (get_set sessions i s one at) refl (closes_it s frame lives)
-      ∙ ap (map session_of) (set_twice sessions i one two))
-
-  finishes : (e : Effect) (p : Plan) → IsPlan objects e p → do_effect later s.number e ≡ answered_hall (moved objects p.action) (logged + p.length) p.frame p.closes
-  finishes e p is =
-      let writes = is.writes in
-      ap (do_effect later s.number) is.is
-      ∙ ap (λ (h : Hall). closed_if p.closes s.number (apply_all (place h (s.number, frame_text is.reply)) writes)) same_subs
-      ∙ ap (λ (f : Bytes). closed_if p.closes s.number (apply_all (place later (s.number, f)) writes)) (sym is.frame)
-      ∙ ap (λ (h : Hall). closed_if p.closes s.number (apply_all h writes)) (put_frame p.frame is.short)
-      ∙ ap (closed_if p.closes s.number) (apply_each (answered_hall objects logged p.frame false) writes is.does.objects_only refl)
-      ∙ ap (λ (w : World). closed_if p.closes s.number (record (answered_hall objects logged p.frame false) { world = w; logged = logged + records_len writes })) is.does.world
-      ∙ ap (λ (m : ℕ). closed_if p.closes s.number (answered_hall (moved objects p.action) (logged + m) p.frame false)) (sym is.length_is)
-      ∙ ends (moved objects p.action) (logged + p.length) p.frame p.closes
-
-  made : (asked : Asked) (p : Plan) → IsPlan objects (effect_of_asked (world_of objects) now asked) p → do_call later n asked ≡ answered_hall (moved objects p.action) (logged + p.length) p.frame p.closes
-  made asked p is = calls asked ∙ effects asked ∙ finishes (effect_of_asked (world_of objects) now asked) p is
-
-module _ (objects : List Object) (now logged drawn : ℕ) (sessions : List Session) (n moment : ℕ) (asked : Asked) where
   abbrev hall : Hall
-  hall = hall_of objects now logged drawn sessions
+  hall = hall_of before now logged drawn ss
 
-  pub spent : most_logged ≤ logged → Step hall (Call n moment asked) (Answered called.Spent) hall
-  spent le = call_spent hall n moment asked refl le
+  pub due_are : expired (world_at before) moment_now ≡ held
+  due_are = gone_are (objects_in before.objects) moment_now before.weight (objects_in store.objects) g e
+
+  pub later_world : after_all (world_at before) (dels held) ≡ world_at store
+  later_world =
+      with_channels before.hub.channels (objects_in before.objects) held
+      ∙ ap (λ (w : World). world_with before.hub.channels w.objects) e.taken.world
+      ∙ ap (λ (cs : List Channel). world_with cs (objects_in store.objects)) (sym channels)
+
+  module _ (placed_ : ArePlaced mid new) (staged : HaveStaged (world_at before) (dels held) mid) where
+    pub clock : due hall moment ≡ hall_of store moment_now (logged + g.length) drawn new
+    clock =
+        ap (λ (os : List Object). apply_all (hall_of before moment_now logged drawn ss) (dels os)) due_are
+        ∙ hall_placed (hall_of before moment_now logged drawn ss) (dels held) mid new (own_numbers drawn ss rises) (sym same) placed_ staged
+        ∙ ap (λ (w : World). record (hall_of store moment_now (logged + records_len (dels held)) drawn new) { world = w }) later_world
+        ∙ ap (λ (n : ℕ). hall_of store moment_now (logged + n) drawn new) (sym e.taken.length_is)
+
+    pub ticked : logged < most_logged → Step hall (Tick moment) (Answered called.Ok) (hall_of store moment_now (logged + g.length) drawn new)
+    ticked unspent = subst (λ (h : Hall). Step hall (Tick moment) (Answered called.Ok) h) clock (tick_done hall moment refl unspent)
+
+  -- a call of the session at a place, which is served and not full
+  module _ (n i : ℕ) (asked : Asked) (s : State) (at : slice_get ss i ≡ Some s) (numbered : s.number ≡ n) (lives : is_open s ≡ true) (open_ : is_full s ≡ false) (unspent : logged < most_logged) (placed_ : ArePlaced mid new)
+      (caller : State) (here : slice_get mid i ≡ Some caller) (as_was : session_of caller ≡ session_of s) where
+    abbrev p : (t : State) × (slice_get new i ≡ Some t) × IsPlaced caller t
+    p = placed_at mid new i caller placed_ here
+
+    number_is : caller.number ≡ n
+    number_is = ap (λ (h : halls.Session). h.number) as_was ∙ numbered
+
+    mid_rises : Rises 0 drawn mid
+    mid_rises = rises_as 0 drawn mid ss same rises
+
+    new_rises : Rises 0 drawn new
+    new_rises = rises_placed 0 drawn mid new placed_ mid_rises
+
+    last_number : p.0.number ≡ n
+    last_number = number_kept caller p.0 p.2 ∙ number_is
+
+    live_caller : is_live (session_of caller) ≡ true
+    live_caller = ap is_live as_was ∙ lives
+
+    -- it is cut by what is due
+    pub cut_done : HaveStaged (world_at before) (dels held) mid → has_room_left caller.mail ≡ false → Step hall (Call n moment asked) (Answered called.Ok) (hall_of store moment_now (logged + g.length) drawn new)
+    unfolding do_call
+    cut_done staged room =
+        let dead : is_live (session_of p.0) ≡ false = ap is_live p.2.same ∙ lives_on (session_of caller) caller.mail.staged live_caller ∙ room in
+        subst (λ (h : Hall). Step hall (Call n moment asked) (Answered called.Ok) h) (ap (λ (h : Hall). do_call h n asked) (clock placed_ staged) ∙ not_done dead)
+        (call_done hall n moment asked refl unspent (session_of s) (found 0 drawn ss i n s rises at numbered) lives open_)
+      where
+        not_done : is_live (session_of p.0) ≡ false → do_call (hall_of store moment_now (logged + g.length) drawn new) n asked ≡ hall_of store moment_now (logged + g.length) drawn new
+        not_done dead = rw (found 0 drawn new i n p.0 new_rises p.1 last_number, dead) refl
+
+    -- its request is done
+    module _ (q : Planned) (ready : IsRequestReady before store g moment_now asked caller mid q) (last : Store) (lasting : world_at last ≡ after_all (world_at store) (planned_writes q)) (v : State) (answer : session_of v ≡ replied q (session_of p.0)) where
+      abbrev e_of : Effect
+      e_of = effect_of_asked (world_at store) moment_now s.subs asked
+
+      subs_are : caller.subs ≡ s.subs
+      subs_are = ap (λ (h : halls.Session). h.subs) as_was
+
+      plan : IsPlanned (world_at store) store.weight s.subs e_of q
+      plan = subst (λ (subs : List Sub). IsPlanned (world_at store) store.weight subs (effect_of_asked (world_at store) moment_now subs asked) q) subs_are ready.plan
+
+      room : has_room_for (session_of s) (heard (world_at before) (dels held) (listens (session_of s))) ≡ true
+      room = subst (λ (h : halls.Session). has_room_for h (heard (world_at before) (dels held) (listens h)) ≡ true) as_was ready.roomy
+
+      in_hall : halls.session_of hall n ≡ Some (session_of s)
+      in_hall = found 0 drawn ss i n s rises at numbered
+
+      writes_are : e_of.writes ≡ planned_writes q
+      writes_are = writes_as (world_at store) store.weight s.subs e_of q plan
+
+      -- by sessions
+      whole : do_call (due hall moment) n asked ≡ record hall { now = moment_now; world = after_all (world_at store) e_of.writes; logged = (logged + records_len (dels held)) + records_len e_of.writes; sessions = answered n e_of (brought (world_at before) (dels held ++ e_of.writes) (map session_of ss)) }
+      whole = through (expired (world_at before) moment_now) due_are (after_all (world_at before) (dels held)) later_world
+        where
+          through : (os : List Object) → os ≡ held → (w : World) → w ≡ world_at store → do_call (due hall moment) n asked ≡ record hall { now = moment_now; world = after_all (world_at store) e_of.writes; logged = (logged + records_len (dels held)) + records_len e_of.writes; sessions = answered n e_of (brought (world_at before) (dels held ++ e_of.writes) (map session_of ss)) }
+          through os a w b =
+              by_sessions hall moment n asked (session_of s) (own_numbers drawn ss rises) in_hall lives
+              (subst (λ (xs : List Object). has_room_for (session_of s) (heard (world_at before) (dels xs) (listens (session_of s))) ≡ true) (sym due_are) room)
+              ∙ ap (λ (xs : List Object). let u = after_all (world_at before) (dels xs) in let d = effect_of_asked u moment_now s.subs asked in record hall { now = moment_now; world = after_all u d.writes; logged = (logged + records_len (dels xs)) + records_len d.writes; sessions = answered n d (brought (world_at before) (dels xs ++ d.writes) (map session_of ss)) }) due_are
+              ∙ ap (λ (u : World). let d = effect_of_asked u moment_now s.subs asked in record hall { now = moment_now; world = after_all u d.writes; logged = (logged + records_len (dels held)) + records_len d.writes; sessions = answered n d (brought (world_at before) (dels held ++ d.writes) (map session_of ss)) }) later_world
+
+      brought_are : brought (world_at before) (dels held ++ planned_writes q) (map session_of ss) ≡ map session_of new
+      brought_are = ap (map (λ h. placed_each h (heard (world_at before) (dels held ++ planned_writes q) (listens h)))) (sym same) ∙ sym (placed_are (world_at before) (dels held ++ planned_writes q) mid new placed_ ready.staged)
+
+      -- a caller that subscribes has the subscriptions that it had
+      still : (s.subs ≡ p.0.subs) ⊎ (e_of.writes ≢ [])
+      still = by e_of.writes refl
+        where
+          by : (ws : List Write) → e_of.writes ≡ ws → (s.subs ≡ p.0.subs) ⊎ (e_of.writes ≢ [])
+          by (d ∷ ws) is = inr (λ none. absurd (let f : (d ∷ ws) ≡ [] = sym is ∙ none in cc))
+          by [] is = inl (sym subs_are ∙ sym kept)
+            where
+              none : planned_writes q ≡ []
+              none = sym writes_are ∙ is
+
+              all_heard : HaveStaged (world_at before) (dels held) mid
+              all_heard = subst (λ (ws : List Write). HaveStaged (world_at before) ws mid) (ap (λ (ws : List Write). dels held ++ ws) none ∙ nothing_more (dels held)) ready.staged
+                where
+                  nothing_more : (ws : List Write) → ws ++ [] ≡ ws
+                  nothing_more [] = refl
+                  nothing_more (w ∷ ws) = ap (λ (vs : List Write). w ∷ vs) (nothing_more ws)
+
+              frames : List Bytes
+              frames = heard (world_at before) (dels held) (listens (session_of caller))
+
+              taken : map session_of new ≡ map (λ h. placed_each h (heard (world_at before) (dels held) (listens h))) (map session_of mid)
+              taken = placed_are (world_at before) (dels held) mid new placed_ all_heard
+
+              stands : Some (session_of p.0) ≡ Some (placed_each (session_of caller) frames)
+              stands = sym (mapped new i p.0 p.1) ∙ ap (λ (hs : List halls.Session). slice_get hs i) taken ∙ mapped_twice mid i caller here
+                where
+                  mapped : (xs : List State) (k : ℕ) (x : State) → slice_get xs k ≡ Some x → slice_get (map session_of xs) k ≡ Some (session_of x)
+                  mapped [] k x e = absurd (cc)
+                  mapped (y ∷ ys) zero x e = let is : y ≡ x = cc in ap (λ (z : State). Some (session_of z)) is
+                  mapped (y ∷ ys) (suc k) x e = mapped ys k x e
+
+                  mapped_twice : (xs : List State) (k : ℕ) (x : State) → slice_get xs k ≡ Some x → slice_get (map (λ h. placed_each h (heard (world_at before) (dels held) (listens h))) (map session_of xs)) k ≡ Some (placed_each (session_of x) (heard (world_at before) (dels held) (listens (session_of x))))
+                  mapped_twice [] k x e = absurd (cc)
+                  mapped_twice (y ∷ ys) zero x e = let is : y ≡ x = cc in ap (λ (z : State). Some (placed_each (session_of z) (heard (world_at before) (dels held) (listens (session_of z))))) is
+                  mapped_twice (y ∷ ys) (suc k) x e = mapped_twice ys k x e
+
+              one : session_of p.0 ≡ placed_each (session_of caller) frames
+              one = some_is (session_of p.0) (placed_each (session_of caller) frames) stands
+                where
+                  some_is : (a b : halls.Session) → Some a ≡ Some b → a ≡ b
+                  some_is a b e = cc
+
+              kept : p.0.subs ≡ caller.subs
+              kept = ap (λ (h : halls.Session). h.subs) (one ∙ takes_all (session_of caller) frames live_caller ready.roomy)
+
+      last_sessions : answered n e_of (map session_of new) ≡ map session_of (slice_set new i v)
+      last_sessions =
+          answered_is n e_of (map session_of new)
+          ∙ changed (answers_with e_of) 0 drawn new i n p.0 v new_rises p.1 last_number (replies_as (world_at store) store.weight s.subs e_of q (session_of p.0) plan still ∙ sym answer)
+
+      total : (logged + records_len (dels held)) + records_len e_of.writes ≡ (logged + g.length) + planned_length q
+      total = ap (λ (k : ℕ). (logged + k) + records_len e_of.writes) (sym e.taken.length_is) ∙ ap (λ (ws : List Write). (logged + g.length) + records_len ws) writes_are ∙ ap (λ (k : ℕ). (logged + g.length) + k) (sym (length_as (world_at store) store.weight s.subs e_of q plan))
+
+      pub made : do_call (due hall moment) n asked ≡ hall_of last moment_now ((logged + g.length) + planned_length q) drawn (slice_set new i v)
+      made =
+          whole
+          ∙ ap (λ (ws : List Write). record hall { now = moment_now; world = after_all (world_at store) ws; logged = (logged + records_len (dels held)) + records_len e_of.writes; sessions = answered n e_of (brought (world_at before) (dels held ++ ws) (map session_of ss)) }) writes_are
+          ∙ ap (λ (hs : List halls.Session). record hall { now = moment_now; world = after_all (world_at store) (planned_writes q); logged = (logged + records_len (dels held)) + records_len e_of.writes; sessions = answered n e_of hs }) brought_are
+          ∙ ap (λ (hs : List halls.Session). record hall { now = moment_now; world = after_all (world_at store) (planned_writes q); logged = (logged + records_len (dels held)) + records_len e_of.writes; sessions = hs }) last_sessions
+          ∙ ap (λ (k : ℕ). record hall { now = moment_now; world = after_all (world_at store) (planned_writes q); logged = k; sessions = map session_of (slice_set new i v) }) total
+          ∙ ap (λ (w : World). record hall { now = moment_now; world = w; logged = (logged + g.length) + planned_length q; sessions = map session_of (slice_set new i v) }) (sym lasting)
+
+      pub done : Step hall (Call n moment asked) (Answered called.Ok) (hall_of last moment_now ((logged + g.length) + planned_length q) drawn (slice_set new i v))
+      done = subst (λ (h : Hall). Step hall (Call n moment asked) (Answered called.Ok) h) made
+          (call_done hall n moment asked refl unspent (session_of s) in_hall lives open_)
+
+module _ (store : Store) (now logged drawn : ℕ) (sessions : List State) (moment : ℕ) where
+  pub not_ticked : most_logged ≤ logged → Step (hall_of store now logged drawn sessions) (Tick moment) (Answered called.Spent) (hall_of store now logged drawn sessions)
+  not_ticked le = tick_spent (hall_of store now logged drawn sessions) moment refl le
+
+  pub tick_refused : logged < most_logged → Step (hall_of store now logged drawn sessions) (Tick moment) (Answered called.Memory) (hall_of store now logged drawn sessions)
+  tick_refused unspent = tick_lacks (hall_of store now logged drawn sessions) moment refl unspent
+
+module _ (store : Store) (now logged drawn : ℕ) (sessions : List State) (n moment : ℕ) (asked : Asked) where
+  abbrev this_hall : Hall
+  this_hall = hall_of store now logged drawn sessions
+
+  pub spent : most_logged ≤ logged → Step this_hall (Call n moment asked) (Answered called.Spent) this_hall
+  spent le = call_spent this_hall n moment asked refl le
 
   module _ (unspent : logged < most_logged) where
-    pub gone : AreOthers n sessions → Step hall (Call n moment asked) (Answered called.Gone) hall
-    gone o = call_gone hall n moment asked refl unspent (none_found sessions n o)
+    pub gone : AreOthers n sessions → Step this_hall (Call n moment asked) (Answered called.Gone) this_hall
+    gone o = call_gone this_hall n moment asked refl unspent (none_found sessions n o)
 
-    module _ (i : ℕ) (s : Session) (rises : Rises 0 drawn sessions) (at : slice_get sessions i ≡ Some s) (numbered : s.number ≡ n) where
-      pub not_served : is_open s ≡ false → Step hall (Call n moment asked) (Answered called.Gone) hall
-      not_served l = call_closed hall n moment asked refl unspent (session_of s) (found 0 drawn sessions i n s rises at numbered) l
+    module _ (i : ℕ) (s : State) (rises : Rises 0 drawn sessions) (at : slice_get sessions i ≡ Some s) (numbered : s.number ≡ n) where
+      pub not_served : is_open s ≡ false → Step this_hall (Call n moment asked) (Answered called.Gone) this_hall
+      not_served l = call_closed this_hall n moment asked refl unspent (session_of s) (found 0 drawn sessions i n s rises at numbered) l
 
       module _ (lives : is_open s ≡ true) where
-        pub full : is_full s ≡ true → Step hall (Call n moment asked) (Answered called.Full) hall
-        full f = call_full hall n moment asked refl unspent (session_of s) (found 0 drawn sessions i n s rises at numbered) lives f
+        pub full : is_full s ≡ true → Step this_hall (Call n moment asked) (Answered called.Full) this_hall
+        full f = call_full this_hall n moment asked refl unspent (session_of s) (found 0 drawn sessions i n s rises at numbered) lives f
 
-        module _ (open_ : is_full s ≡ false) where
-          pub lacks : Step hall (Call n moment asked) (Answered called.Memory) hall
-          lacks = call_lacks hall n moment asked refl unspent (session_of s) (found 0 drawn sessions i n s rises at numbered) lives open_
-
-          pub done : (total : ℕ) (rest : List Object) (g : Expired) (e : IsExpired objects (max now moment) total rest g) (p : Plan) → IsPlan rest (effect_of_asked (world_of rest) (max now moment) asked) p
-              → Step hall (Call n moment asked) (Answered called.Ok) (hall_of (moved rest p.action) (max now moment) ((logged + g.length) + p.length) drawn (slice_set sessions i (answered p.frame p.closes s)))
-          done total rest g e p is = subst (λ (h : Hall). Step hall (Call n moment asked) (Answered called.Ok) h)
-              (ap (λ (h : Hall). do_call h n asked) (clock objects now logged drawn sessions moment total rest g e) ∙ made rest (max now moment) (logged + g.length) drawn sessions n i s rises at numbered lives open_ asked p is)
-              (call_done hall n moment asked refl unspent (session_of s) (found 0 drawn sessions i n s rises at numbered) lives open_)
+        pub lacks : is_full s ≡ false → Step this_hall (Call n moment asked) (Answered called.Memory) this_hall
+        lacks open_ = call_lacks this_hall n moment asked refl unspent (session_of s) (found 0 drawn sessions i n s rises at numbered) lives open_
 
 -- a call that is not served
-pub refused : (objects : List Object) (now logged drawn : ℕ) (sessions : List Session) (n moment : ℕ) (asked : Asked) → logged < most_logged → Rises 0 drawn sessions → (answer : Called) → IsServed sessions n (Err answer)
-    → Step (hall_of objects now logged drawn sessions) (Call n moment asked) (Answered answer) (hall_of objects now logged drawn sessions)
-refused objects now logged drawn sessions n moment asked u r called.Gone e =
-    elim e [ inl o ↦ gone objects now logged drawn sessions n moment asked u o | inr p ↦ not_served objects now logged drawn sessions n moment asked u p.0 p.1.session r p.1.here p.1.numbered p.2 ]
-refused objects now logged drawn sessions n moment asked u r called.Full e = full objects now logged drawn sessions n moment asked u e.0 e.1.session r e.1.here e.1.numbered e.2 e.3
-refused objects now logged drawn sessions n moment asked u r called.Ok e = absurd e
-refused objects now logged drawn sessions n moment asked u r called.LogFault e = absurd e
-refused objects now logged drawn sessions n moment asked u r called.Stopped e = absurd e
-refused objects now logged drawn sessions n moment asked u r called.Spent e = absurd e
-refused objects now logged drawn sessions n moment asked u r called.Memory e = lacks objects now logged drawn sessions n moment asked u e.0 e.1.session r e.1.here e.1.numbered e.2 e.3
+pub refused : (store : Store) (now logged drawn : ℕ) (sessions : List State) (n moment : ℕ) (asked : Asked) → logged < most_logged → Rises 0 drawn sessions → (answer : Called) → IsServed sessions n (Err answer)
+    → Step (hall_of store now logged drawn sessions) (Call n moment asked) (Answered answer) (hall_of store now logged drawn sessions)
+refused store now logged drawn sessions n moment asked u r called.Gone e =
+    elim e [ inl o ↦ gone store now logged drawn sessions n moment asked u o | inr p ↦ not_served store now logged drawn sessions n moment asked u p.0 p.1.session r p.1.here p.1.numbered p.2 ]
+refused store now logged drawn sessions n moment asked u r called.Full e = full store now logged drawn sessions n moment asked u e.0 e.1.session r e.1.here e.1.numbered e.2 e.3
+refused store now logged drawn sessions n moment asked u r called.Ok e = absurd e
+refused store now logged drawn sessions n moment asked u r called.LogFault e = absurd e
+refused store now logged drawn sessions n moment asked u r called.Stopped e = absurd e
+refused store now logged drawn sessions n moment asked u r called.Spent e = absurd e
+refused store now logged drawn sessions n moment asked u r called.Memory e = absurd e

@@ -1,6 +1,6 @@
 mod Halving
-mod Naming
-mod Places
+mod NamedChanges
+mod Behind
 mod Named
 mod Present
 mod Steps
@@ -24,3 +24,14 @@ mod Removing
 mod Sweeping
 mod Reading
 mod Faults
+mod BesideLaws
+mod Asked
+mod There
+mod ChannelSums
+mod Planning
+mod ChannelEffects
+mod Confirmed
+mod Readying
+mod Completing
+mod Called
+mod Ticked

@@ -1,24 +1,17 @@
--- The hall where room was taken for a frame is the hall as it was.
-use Rattle.std.proofs.Common.{◌≡◌, ◌≢◌, ◌≤◌, ℕ, List, length, map, sym, ap, ◌∙◌, subst, arith}
-use Rattle.world_data.specs.Limits.{max_sessions}
-use Rattle.world_data.specs.declared.objects.Object.{Object}
+-- The hall whose store and sessions are as they were is the hall as it was.
+use Rattle.std.proofs.Common.{◌≡◌, ◌≢◌, ℕ, List, length, map, sym, ap, ◌∙◌, subst}
+use Rattle.world_data.specs.declared.worlds.World.{World}
 use Rattle.world_model.specs.Halls as halls
 use Rattle.world_model.specs.Halls.{Hall, NamesChanged}
-use Rattle.tile_core.specs.declared.sessions.Session.{Session}
-use Rattle.tile_core.specs.Sessions.{session_of}
-use Rattle.tile_core.specs.CoreStates.{hall_of, ArePresent}
+use Rattle.session_mail.specs.Sessions.{State, session_of}
+use Rattle.tile_core.specs.declared.stores.Store.{Store}
+use Rattle.tile_core.specs.Stores.{hall_of, world_at}
 use Rattle.tile_core.specs.Answered.{AreSessions}
-use Rattle.tile_core.proofs.Places.{rises_same, long_same}
 
-module _ (objects : List Object) (now logged drawn : ℕ) (old new : List Session) (same : map session_of new ≡ map session_of old) where
-  pub same_hall : hall_of objects now logged drawn new ≡ hall_of objects now logged drawn old
-  same_hall = ap (λ (ss : List halls.Session). record (hall_of objects now logged drawn new) { sessions = ss }) same
-
-  pub still_present : ArePresent drawn old → ArePresent drawn new
-  still_present present = record {
-    rises = rises_same 0 drawn old new same present.rises;
-    few = let long = long_same old new same in let few = present.few in omega (arith, long, few);
-  }
+pub same_hall : (before store : Store) (now logged drawn : ℕ) (old new : List State) → world_at store ≡ world_at before → map session_of new ≡ map session_of old → hall_of store now logged drawn new ≡ hall_of before now logged drawn old
+same_hall before store now logged drawn old new world same =
+    ap (λ (w : World). record (hall_of store now logged drawn new) { world = w }) world
+    ∙ ap (λ (ss : List halls.Session). record (hall_of before now logged drawn old) { sessions = ss }) same
 
 -- in the same hall nobody has to be named
 pub none_named : (named : List ℕ) (old new : Hall) → new ≡ old → NamesChanged named old new

@@ -14,7 +14,7 @@ use Rattle.world_data.specs.declared.worlds.World.{World}
 use Rattle.world_model.specs.declared.commands.Command.TheVariants as command
 use Rattle.world_data.specs.declared.queries.Shown.{Shown}
 use Rattle.reply_text.specs.Gets.{get_pieces}
-use Rattle.tile_core.specs.Plans.{ends_with}
+use Rattle.deliveries.specs.Plans.{ends_with}
 
 module _ (w : World) (now : ℕ) where
   pub got : (key id : Bytes) (o : Object) (with_fields : Bool) (how : Shown) → object_at w key id ≡ Some o → effect w now [] (command.Get key id with_fields how) ≡ within_reply (says (get_pieces with_fields how o))

@@ -1,11 +1,14 @@
 -- The lengths of records, word by word.
 use Rattle.std.proofs.Common.{◌≡◌, ℕ, ℤ, zero, suc, ◌+◌, ◌*◌, ◌^◌, ◌<◌, ◌≤◌, lit<, refl, ap, subst, ◌∙◌, List, [], ◌∷◌, ◌++◌, length, take, length-append, arith}
-use Rattle.std.specs.Prelude.{Option, Some, None, IfSome, codes, decimal, flat_map, slice_get}
+use Rattle.std.proofs.lemmas.Bool.Decides.{nat_tests}
+use Rattle.std.specs.Prelude.{true, nat_le, Option, Some, None, IfSome, codes, decimal, flat_map, slice_get}
 use Rattle.std.proofs.lemmas.Fmt.{length-decimal-le, decimal_nonempty}
 use Rattle.byte_text.specs.Names.{Bytes}
 use Rattle.byte_text.specs.Lines.{line, bulk_text}
 use Rattle.world_data.specs.Filters.{Field}
 use Rattle.world_data.specs.Records.{record_len, record_words, field_words, deadline_words}
+use Rattle.byte_text.specs.Requests.{AreShort, FitsRequest, max_request, max_word, max_words, total}
+use Rattle.world_data.specs.declared.channels.Channel.{Channel}
 use Rattle.world_data.specs.declared.objects.Object.{Object}
 use Rattle.world_data.specs.declared.worlds.Change.TheVariants as change
 use Rattle.tile_core.specs.Moves.{HasFewFields}
@@ -114,3 +117,75 @@ bare_short o m is few =
     let size : length (bulk_text (codes "AT")) ≡ length (line 36 (decimal 2)) + 4 = bulk_size (codes "AT") in
     let words : words_len (deadline_words o.deadline) ≡ words_len (codes "AT" ∷ decimal m ∷ []) = ap (λ (d : Option ℕ). words_len (deadline_words d)) is in
     omega (arith, put_record x count refl, put_record o more refl, head, bulk_size (decimal m), words_cons (decimal m) [], length-append (decimal 2) (13 ∷ 10 ∷ []), length-append (decimal (length (decimal m))) (13 ∷ 10 ∷ []), length-append (decimal count) (13 ∷ 10 ∷ []), length-append (decimal more) (13 ∷ 10 ∷ []), size, words, words_cons (codes "AT") (decimal m ∷ []))
+
+-- the record of a channel
+pub setchan_sum : (c : Channel) (count head set name words : ℕ) → count ≡ 2 + length c.words → head ≡ length (line 42 (decimal count)) → set ≡ length (bulk_text (codes "SETCHAN")) → name ≡ length (bulk_text c.name) → words ≡ words_len c.words
+    → head + set + name + words ≡ record_len (change.SetChan c)
+setchan_sum c count head set name words is a b d e =
+    let many = length (record_words (change.SetChan c)) in
+    let count_is : count ≡ many = omega (arith, is) in
+    let line_is : length (line 42 (decimal count)) ≡ length (line 42 (decimal many)) = ap (λ (n : ℕ). length (line 42 (decimal n))) count_is in
+    omega (arith, line_is, length-append (line 42 (decimal many)) (flat_map bulk_text (record_words (change.SetChan c))), words_cons (codes "SETCHAN") (c.name ∷ c.words), words_cons c.name c.words, a, b, d, e)
+
+-- that of the change that takes a channel out is no longer
+pub delchan_short : (c : Channel) → length c.words < 2 ^ 32 → record_len (change.DelChan c.name) ≤ record_len (change.SetChan c)
+delchan_short c few =
+    let count = length (record_words (change.SetChan c)) in
+    let small : count < 2 ^ 64 = omega (arith, few) in
+    let all = length-append (line 42 (decimal 2)) (flat_map bulk_text (codes "DELCHAN" ∷ c.name ∷ [])) in
+    let whole = length-append (line 42 (decimal count)) (flat_map bulk_text (record_words (change.SetChan c))) in
+    let head : length (line 42 (decimal 2)) ≤ length (line 42 (decimal count)) = omega (arith, length-append (decimal 2) (13 ∷ 10 ∷ []), length-append (decimal count) (13 ∷ 10 ∷ []), one, decimal_nonempty count small) in
+    let del : length (bulk_text (codes "DELCHAN")) ≡ length (line 36 (decimal 7)) + 9 = bulk_size (codes "DELCHAN") in
+    let set : length (bulk_text (codes "SETCHAN")) ≡ length (line 36 (decimal 7)) + 9 = bulk_size (codes "SETCHAN") in
+    omega (arith, all, whole, head, del, set, words_cons (codes "DELCHAN") (c.name ∷ []), words_cons c.name [], words_cons (codes "SETCHAN") (c.name ∷ c.words), words_cons c.name c.words)
+  where
+    one : length (decimal 2) ≤ 1
+    one = length-decimal-le 1 2 (omega arith) (lit< tt) (lit< tt)
+
+-- one word more
+pub next_word : (words : List Bytes) (i : ℕ) (w : Bytes) → slice_get words i ≡ Some w → words_len (take (i + 1) words) ≡ words_len (take i words) + length (bulk_text w)
+next_word words i w at = let one : i + 1 ≡ suc i = omega arith in ap (λ (n : ℕ). words_len (take n words)) one ∙ go words i w at
+  where
+    go : (ws : List Bytes) (i : ℕ) (w : Bytes) → slice_get ws i ≡ Some w → words_len (take (suc i) ws) ≡ words_len (take i ws) + length (bulk_text w)
+    go [] i w at = absurd (cc)
+    go (v ∷ ws) zero w at = let is : v ≡ w = cc in words_cons v [] ∙ ap (λ (u : Bytes). length (bulk_text u) + 0) is ∙ (omega arith)
+    go (v ∷ ws) (suc i) w at = let ih = go ws i w at in omega (arith, ih, words_cons v (take (suc i) ws), words_cons v (take i ws))
+
+-- a word of a request is short
+pub word_short : (words : List Bytes) (i : ℕ) (w : Bytes) → AreShort words → slice_get words i ≡ Some w → length w ≤ max_word
+word_short [] i w all at = absurd (cc)
+word_short (v ∷ words) zero w all at = let is : v ≡ w = cc in subst (λ (u : Bytes). length u ≤ max_word) is all.0
+word_short (v ∷ words) (suc i) w all at = word_short words i w all.1 at
+
+-- the bytes of words so far, and of the next one
+pub next_bytes : (words : List Bytes) (i : ℕ) (w : Bytes) → slice_get words i ≡ Some w → total (take (i + 1) words) ≡ total (take i words) + length w
+next_bytes words i w at = let one : i + 1 ≡ suc i = omega arith in ap (λ (n : ℕ). total (take n words)) one ∙ go words i w at
+  where
+    go : (ws : List Bytes) (i : ℕ) (w : Bytes) → slice_get ws i ≡ Some w → total (take (suc i) ws) ≡ total (take i ws) + length w
+    go [] i w at = absurd (cc)
+    go (v ∷ ws) zero w at = let is : v ≡ w = cc in ap (λ (u : Bytes). length u + 0) is ∙ (omega arith)
+    go (v ∷ ws) (suc i) w at = let ih = go ws i w at in omega (arith, ih)
+
+pub bytes_within : (words : List Bytes) (i : ℕ) (w : Bytes) → slice_get words i ≡ Some w → total (take i words) + length w ≤ total words
+bytes_within [] i w at = absurd (cc)
+bytes_within (v ∷ words) zero w at = let is : v ≡ w = cc in let long : length v ≡ length w = ap (λ (u : Bytes). length u) is in omega (arith, long)
+bytes_within (v ∷ words) (suc i) w at = let ih = bytes_within words i w at in omega (arith, ih)
+
+-- one word more is within the limits of a request
+pub fits_one_more : (words : List Bytes) (w : Bytes) → FitsRequest words → length words < max_words → length w ≤ max_word → total words + length w ≤ max_request → FitsRequest (words ++ w ∷ [])
+fits_one_more words w fits few short small = record {
+  few = omega (arith, few, length-append words (w ∷ []));
+  short = all words fits.short;
+  small = let sum = sums words in omega (arith, sum, small);
+}
+  where
+    all : (ws : List Bytes) → AreShort ws → AreShort (ws ++ w ∷ [])
+    all [] s = (short, tt)
+    all (v ∷ ws) s = (s.0, all ws s.1)
+
+    sums : (ws : List Bytes) → total (ws ++ w ∷ []) ≡ total ws + length w
+    sums [] = omega arith
+    sums (v ∷ ws) = let ih = sums ws in omega (arith, ih)
+
+pub within_limit : (n : ℕ) → nat_le n max_request ≡ true → n ≤ max_request
+within_limit n e = grind (arith, nat_tests)

@@ -8,12 +8,13 @@ use Rattle.std.proofs.lemmas.List.Sums.{sum_by-cons, sum_by-append}
 use Rattle.byte_text.specs.Names.{Bytes, same}
 use Rattle.byte_text.specs.Globs.{glob_meets}
 use Rattle.world_data.specs.Worlds.{is_at, has_key}
-use Rattle.fence_model.specs.Writes.{Write, dels}
+use Rattle.fence_model.specs.Writes.{Write, loud, dels}
+use Rattle.world_data.specs.declared.worlds.Change.TheVariants as change
 use Rattle.world_data.specs.declared.objects.Object.{Object}
 use Rattle.byte_text.specs.ByteOrder.{same_refl, same_equal}
 use Rattle.tile_core.specs.declared.deletes.Swept.{Swept}
-use Rattle.tile_core.specs.Moves.{world_of, len_of, HaveFewFields, without_each}
-use Rattle.tile_core.specs.Plans.{after_all, records_len, IsOfObjects}
+use Rattle.tile_core.specs.Moves.{len_of, HaveFewFields, without_each}
+use Rattle.deliveries.specs.Staging.{records_len}
 use Rattle.tile_core.specs.Sweeps.{met, IsSwept, IsSweptOf}
 use Rattle.tile_core.proofs.RecordWords.{del_short}
 use Rattle.tile_core.proofs.Weights.{next_take}
@@ -58,10 +59,6 @@ dels_short (x ∷ xs) few = let ih = dels_short xs few.1 in let one = del_short 
 
 -- the dels, one after another
 
-pub of_objects : (xs : List Object) → AllByRecursion (λ (d : Write). IsOfObjects d.change) (dels xs)
-of_objects [] = tt
-of_objects (x ∷ xs) = (tt, of_objects xs)
-
 -- all are of the key
 abbrev pub HaveKey : Bytes → List Object → Type 0
 HaveKey key xs = AllByRecursion (λ o. o.key ≡ key) xs
@@ -74,10 +71,9 @@ keyed key (x ∷ xs) = by (has_key key x) refl (keyed key xs)
     by true e ih = (same_equal x.key key e, ih)
     by false e ih = ih
 
-pub dels_do : (key : Bytes) (gone xs : List Object) → HaveKey key gone → after_all (world_of xs) (dels gone) ≡ world_of (without_each key (map (λ o. o.id) gone) xs)
-dels_do key [] xs all = refl
-dels_do key (g ∷ gone) xs all =
-    ap (λ (k : Bytes). after_all (world_of (filter (λ o. not (is_at k g.id o)) xs)) (dels gone)) all.0 ∙ dels_do key gone (filter (λ o. not (is_at key g.id o)) xs) all.1
+pub dels_of : (key : Bytes) (gone : List Object) → HaveKey key gone → dels gone ≡ map (λ id. loud (change.Del key id)) (map (λ o. o.id) gone)
+dels_of key [] all = refl
+dels_of key (g ∷ gone) all = ap (λ (k : Bytes). loud (change.Del k g.id) ∷ dels gone) all.0 ∙ ap (λ (ws : List Write). loud (change.Del key g.id) ∷ ws) (dels_of key gone all.1)
 
 -- what is left
 

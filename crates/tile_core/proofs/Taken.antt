@@ -5,7 +5,7 @@ use Rattle.std.proofs.lemmas.Bool.Decides.{nat_tests}
 use Rattle.std.proofs.lemmas.List.Sums.{sum_by-cons}
 use Rattle.byte_text.specs.Names.{Bytes, same}
 use Rattle.ordered_lists.specs.Lists.{put_in, sorted_by}
-use Rattle.world_data.specs.Worlds.{after, object_before, has_key, is_at}
+use Rattle.world_data.specs.Worlds.{after, object_at, object_before, has_key, is_at}
 use Rattle.world_data.specs.Records.{record_len, weight}
 use Rattle.world_data.specs.Expiry.{is_due, due_before}
 use Rattle.fence_model.specs.Writes.{dels}
@@ -17,8 +17,8 @@ use Rattle.world_data.specs.declared.worlds.Change.TheVariants as change
 use Rattle.keyspace.specs.Entries.{Entry, objects_in, room_for, has_room}
 use Rattle.tile_core.specs.CoreStates.{AreKept}
 use Rattle.tile_core.specs.Moves.{world_of, len_of, HasFewFields}
-use Rattle.tile_core.specs.Plans.{after_all, records_len}
-use Rattle.tile_core.specs.Dues.{AreDueFrom, IsTaken, IsTakenOut, HaveRoom, with_back}
+use Rattle.deliveries.specs.Staging.{after_all, records_len}
+use Rattle.tile_core.specs.Dues.{AllStand, AreDueFrom, IsTaken, IsTakenOut, HaveRoom, with_back}
 use Rattle.tile_core.proofs.Moving.{all_filtered}
 use Rattle.tile_core.proofs.RecordWords.{del_short}
 use Rattle.tile_core.proofs.Standing.{back_there, found_holds, found_sum, shorter}
@@ -56,6 +56,10 @@ order_last (g ∷ hs) h os = ap (λ (ps : List Object). g ∷ ps) (order_last hs
 world_last : (w : World) (hs : List Object) (h : Object) → after_all w (dels (hs ++ h ∷ [])) ≡ after (after_all w (dels hs)) (change.Del h.key h.id)
 world_last w [] h = refl
 world_last w (g ∷ hs) h = world_last (after w (change.Del g.key g.id)) hs h
+
+stand_last : (w : World) (hs : List Object) (h : Object) → AllStand w hs → object_at (after_all w (dels hs)) h.key h.id ≡ Some h → AllStand w (hs ++ h ∷ [])
+stand_last w [] h all is = (is, tt)
+stand_last w (g ∷ hs) h all is = (all.0, stand_last (after w (change.Del g.key g.id)) hs h all.1 is)
 
 length_last : (hs : List Object) (h : Object) → records_len (dels (hs ++ h ∷ [])) ≡ records_len (dels hs) + record_len (change.Del h.key h.id)
 length_last [] h = omega arith
@@ -114,7 +118,7 @@ none_due due_from now (x ∷ xs) ps lt = rw (far x.deadline refl) (none_due due_
 -- the taking
 
 pub taken_none : (old : List Object) (now total : ℕ) → AreKept old total → IsTaken old now total old [] 0 total
-taken_none old now total kept = record { back = refl; order = refl; world = refl; sorted = kept.sorted; few = have_few old total kept; length_is = refl; rest_is = kept.weighed; small = omega arith; count = omega arith }
+taken_none old now total kept = record { back = refl; order = refl; world = refl; stand = tt; sorted = kept.sorted; few = have_few old total kept; length_is = refl; rest_is = kept.weighed; small = omega arith; count = omega arith }
 
 module _ (old : List Object) (now total : ℕ) (xs held : List Object) (len rest : ℕ) (t : IsTaken old now total xs held len rest) where
   one_more : (o : Object) (longer less : ℕ) → find (is_at o.key o.id) xs ≡ Some o
@@ -128,6 +132,7 @@ module _ (old : List Object) (now total : ℕ) (xs held : List Object) (len rest
         back = back_last left held o ∙ ap (λ (ys : List Object). with_back ys held) (back_there o xs t.sorted here) ∙ t.back;
         order = order_last held o (sorted_by due_before (filter (is_due now) left)) ∙ ap (λ (os : List Object). held ++ os) (sym first) ∙ t.order;
         world = world_last (world_of old) held o ∙ ap (λ (w : World). after w (change.Del o.key o.id)) t.world;
+        stand = stand_last (world_of old) held o t.stand (subst (λ (w : World). object_at w o.key o.id ≡ Some o) (sym t.world) here);
         sorted = ascends-filter object_before others xs t.sorted;
         few = all_filtered HasFewFields others xs t.few;
         length_is = let all = length_last held o in omega (arith, all, long, t.length_is);

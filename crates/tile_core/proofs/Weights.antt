@@ -46,7 +46,7 @@ before_none : (o : Object) → object_before o o ≡ false
 before_none o = let k = before_self o.key in let i = before_self o.id in grind arith
 
 -- one at its place does not stand before it
-other_at : (o p : Object) → is_at o.key o.id p ≡ true → object_before p o ≡ false
+pub other_at : (o p : Object) → is_at o.key o.id p ≡ true → object_before p o ≡ false
 other_at o p e =
     let s = at_is o.key o.id p e in
     ap (λ (m : Bytes). before m o.key || (same m o.key && before p.id o.id)) s.0 ∙ ap (λ (m : Bytes). before o.key o.key || (same o.key o.key && before m o.id)) s.1 ∙ before_none o

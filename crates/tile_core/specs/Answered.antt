@@ -1,23 +1,21 @@
--- What a call brings to the session that makes it.
-use Rattle.std.specs.Prelude.{◌≡◌, ◌≢◌, ◌≤◌, ◌==◌, ℕ, true, false, List, [], ◌∷◌, ◌++◌, length, filter, Bool, Some}
-use Rattle.std.specs.List.{list_any}
-use Rattle.byte_text.specs.Names.{Bytes}
-use Rattle.world_model.specs.Halls.{Hall, Session, cut, session_of}
+-- What a call brings to the session that makes it, and who is to be told of it.
+use Rattle.std.specs.Prelude.{◌≡◌, ◌⊎◌, ◌≤◌, ◌==◌, ℕ, true, false, max, List, [], length, filter, map, Bool, Some}
+use Rattle.std.specs.List.{AllByRecursion, list_any}
+use Rattle.byte_text.specs.Replies.{frame_text}
+use Rattle.world_model.specs.Halls.{Hall, Session, due, session_of}
 use Rattle.world_model.specs.Histories.{is_spent, gone, full}
+use Rattle.world_model.specs.declared.events.Asked.{Asked}
+use Rattle.deliveries.specs.Plans.{IsReplied, effect_of_asked}
+use Rattle.session_mail.specs.Sessions as mail
 
 -- the session is served and not full, and the log is not at its greatest length
 abbrev pub MayCall : Hall → ℕ → Type 0
 MayCall h n = (is_spent h ≡ false) × (gone (session_of h n) ≡ false) × (full (session_of h n) ≡ false)
 
--- one frame more stands last in the queue of the session, which was not cut
-pub record IsAnswered (old new : Hall) (n : ℕ) : Type 0 where
-  pub before : Session
-  pub after : Session
-  pub frame : Bytes
-  pub was : session_of old n ≡ Some before
-  pub is : session_of new n ≡ Some after
-  pub placed : after.frames ≡ before.frames ++ frame ∷ []
-  pub uncut : after.stage ≢ cut
+-- a session without subscriptions is not cut by its own call, and has the frames of the reply last in its queue
+abbrev pub IsAnswered : Hall → Hall → ℕ → ℕ → Asked → Type 0
+IsAnswered old new moment n asked = (s : Session) → session_of old n ≡ Some s → s.subs ≡ []
+    → IsReplied (session_of old n) (session_of new n) (map frame_text (effect_of_asked (due old moment).world (max old.now moment) s.subs asked).replies)
 
 abbrev pub is_named : List ℕ → ℕ → Bool
 is_named named n = list_any (λ m. m == n) named
@@ -25,6 +23,14 @@ is_named named n = list_any (λ m. m == n) named
 -- no more names than sessions that they name, so that there is room to name all others
 abbrev pub AreSessions : List ℕ → Hall → Type 0
 AreSessions named h = length named ≤ length (filter (λ s. is_named named s.number) h.sessions)
+
+-- the same, of the sessions that a core keeps
+abbrev pub AreRoomy : List ℕ → List mail.State → Type 0
+AreRoomy named sessions = length named ≤ length (filter (λ s. is_named named s.number) (map mail.session_of sessions))
+
+-- each session for which something is staged is named
+abbrev pub AreNamed : List ℕ → List mail.State → Type 0
+AreNamed named sessions = AllByRecursion (λ s. (s.mail.staged ≡ []) ⊎ (is_named named s.number ≡ true)) sessions
 
 -- what was named is
 abbrev pub StayNamed : List ℕ → List ℕ → Type 0

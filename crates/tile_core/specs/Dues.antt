@@ -3,16 +3,17 @@ use Rattle.std.specs.Prelude.{◌≡◌, ℕ, ◌+◌, ◌≤◌, true, not, Lis
 use Rattle.std.specs.List.{AllByRecursion}
 use Rattle.byte_text.specs.Names.{Bytes}
 use Rattle.ordered_lists.specs.Lists.{sorted_by, put_in}
-use Rattle.world_data.specs.Worlds.{object_before, are_objects, has_key, is_at}
+use Rattle.world_data.specs.Worlds.{object_at, object_before, are_objects, has_key, is_at, after}
 use Rattle.world_data.specs.Records.{weight, record_len}
 use Rattle.world_data.specs.Expiry.{is_due, due_before}
 use Rattle.fence_model.specs.Writes.{dels}
 use Rattle.world_data.specs.declared.objects.Object.{Object}
 use Rattle.world_data.specs.declared.worlds.Change.TheVariants as change
+use Rattle.world_data.specs.declared.worlds.World.{World}
 use Rattle.keyspace.specs.Entries.{Entry, room_for}
 use Rattle.tile_core.specs.declared.dues.Expired.{Expired}
 use Rattle.tile_core.specs.Moves.{world_of, HaveFewFields}
-use Rattle.tile_core.specs.Plans.{after_all, records_len}
+use Rattle.deliveries.specs.Staging.{after_all, records_len}
 
 -- no deadline comes before this moment
 abbrev pub IsDueFrom : ℕ → Object → Type 0
@@ -30,11 +31,17 @@ with_back objects (h ∷ held) = put_in object_before h (with_back objects held)
 abbrev pub HaveRoom : List Entry → List Object → Type 0
 HaveRoom entries held = (key : Bytes) → length (filter (has_key key) held) ≤ room_for entries key
 
+-- each of these objects stands in the world when it is deleted, after those before it
+abbrev pub AllStand : World → List Object → Type 0
+AllStand w [] = Unit {0}
+AllStand w (o ∷ held) = (object_at w o.key o.id ≡ Some o) × AllStand (after w (change.Del o.key o.id)) held
+
 -- these were taken out of objects of this weight in the order in which they expire, with dels whose records have this length, and this is left of them
 pub record IsTaken (old : List Object) (now total : ℕ) (objects held : List Object) (len rest : ℕ) : Type 0 where
   pub back : with_back objects held ≡ old
   pub order : held ++ sorted_by due_before (filter (is_due now) objects) ≡ sorted_by due_before (filter (is_due now) old)
   pub world : after_all (world_of old) (dels held) ≡ world_of objects
+  pub stand : AllStand (world_of old) held
   pub sorted : are_objects objects ≡ true
   pub few : HaveFewFields objects
   pub length_is : len ≡ records_len (dels held)

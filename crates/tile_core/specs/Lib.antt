@@ -2,8 +2,16 @@ pub mod Records
 pub mod Moves
 pub mod Sessions
 pub mod Plans
+pub mod Planned
 pub mod Sweeps
 pub mod Listings
 pub mod Dues
 pub mod CoreStates
+pub mod Stores
+pub mod Staged
+pub mod Ready
 pub mod Answered
+pub mod Beside
+pub mod Dropping
+pub mod Subscribing
+pub mod Asking

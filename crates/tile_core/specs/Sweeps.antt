@@ -6,7 +6,7 @@ use Rattle.fence_model.specs.Writes.{dels}
 use Rattle.world_data.specs.declared.objects.Object.{Object}
 use Rattle.tile_core.specs.declared.deletes.Swept.{Swept}
 use Rattle.tile_core.specs.Moves.{len_of}
-use Rattle.tile_core.specs.Plans.{records_len}
+use Rattle.deliveries.specs.Staging.{records_len}
 
 -- those of the objects that meet the pattern
 abbrev pub met : Bytes → List Object → List Object

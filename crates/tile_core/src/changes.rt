@@ -120,6 +120,7 @@ pub(crate) fn plan_fset(
         total,
         Some(old),
         object,
+        false,
         count_frame(alloc, count)?,
     )
 }

@@ -44,6 +44,7 @@ pub(crate) fn plan_expire(
         total,
         Some(old),
         object,
+        false,
         count_frame(alloc, 1)?,
     )
 }
@@ -115,6 +116,7 @@ pub(crate) fn plan_persist(
             total,
             Some(old),
             object,
+            false,
             count_frame(alloc, 1)?,
         ),
         None => say_count(alloc, total, 0),

@@ -40,6 +40,7 @@ pub(crate) fn plan_del(
             length: del_len(&key, &id),
             weight: total - put_len(object),
             action: Move::Delete(key, id),
+            loud: true,
             closes: false,
         }),
         None => say_count(alloc, total, 0),
@@ -117,6 +118,7 @@ pub(crate) fn plan_pdel(
     Ok(Plan {
         frame: count_frame(alloc, count)?,
         action: Move::DeleteEach(key, swept.ids),
+        loud: true,
         length: swept.length,
         weight: swept.weight,
         closes: false,
@@ -157,6 +159,7 @@ pub(crate) fn plan_drop(
         frame: count_frame(alloc, 1)?,
         length: drop_len(&key),
         action: Move::Leave(key),
+        loud: true,
         weight,
         closes: false,
     })
@@ -169,6 +172,7 @@ pub(crate) fn plan_flush(alloc: Global, _objects: &Keyspace) -> Result<Plan, NoM
     Ok(Plan {
         frame: fine_frame(alloc)?,
         action: Move::Clear,
+        loud: false,
         length: flush_len(),
         weight: 0,
         closes: false,

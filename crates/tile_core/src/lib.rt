@@ -2,13 +2,17 @@
 #![tactic(auto)]
 
 mod answers;
+mod beside;
 mod changes;
+mod channel_plans;
 mod cores;
 mod deadlines;
 mod deletes;
 mod dues;
 mod fields;
+mod finish;
 mod moves;
+mod planned;
 mod plans;
 mod puts;
 mod reads;
@@ -18,6 +22,11 @@ mod requests;
 mod scans;
 mod searches;
 mod sessions;
+mod setchans;
+mod staging;
+mod stores;
+mod subscribing;
+mod touching;
 
 pub use cores::Core;
 

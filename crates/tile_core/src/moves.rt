@@ -3,8 +3,10 @@
 ghost use Rattle.std.specs.Prelude.{◌≡◌, ◌<◌, ◌≤◌, ◌^◌, length, OnOk};
 ghost use Rattle.byte_text.specs.Names.{Bytes};
 ghost use Rattle.keyspace.specs.Entries.{objects_in, room_for};
-ghost use Rattle.tile_core.specs.Moves.{HasRoom, moved, without_each};
+ghost use Rattle.tile_core.specs.Dues.{IsDueFrom};
+ghost use Rattle.tile_core.specs.Moves.{HasRoom, HoldsOfPut, moved, without_each};
 
+use crate::dues::earlier;
 use byte_text::{Name, NoMemory};
 use keyspace::Keyspace;
 use world_model::{NameList, Object};
@@ -67,5 +69,16 @@ pub(crate) fn make_move(objects: &mut Keyspace, action: Move)
         }
         Move::Leave(key) => objects.drop_key(&key),
         Move::Clear => objects.clear(),
+    }
+}
+
+/// No deadline comes before this moment after what is done to objects of which none came before `due_from`.
+pub(crate) fn due_from_after(due_from: u64, action: &Move) -> u64
+    ensures least { result ≤ due_from }
+    ensures put { HoldsOfPut (IsDueFrom result) action.now }
+{
+    match action {
+        Move::Put(object) => earlier(due_from, object),
+        _ => due_from,
     }
 }

@@ -9,6 +9,8 @@ pub(crate) struct Plan {
     /// The frame of its reply.
     pub(crate) frame: Text,
     pub(crate) action: Move,
+    /// Whether a put is told to those who watch.
+    pub(crate) loud: bool,
     /// The bytes of the records of the changes.
     pub(crate) length: u64,
     /// The weight of the world after them.
@@ -23,11 +25,12 @@ impl Plan {
 
     /// A reply and no change, in a world of this weight.
     pub(crate) fn reply(frame: Text, weight: u64) -> Plan
-        ensures { result ≡ record { frame = frame; action = Stay; length = 0; weight = weight; closes = false } }
+        ensures { result ≡ record { frame = frame; action = Stay; loud = false; length = 0; weight = weight; closes = false } }
     {
         Plan {
             frame,
             action: Move::Stay,
+            loud: false,
             length: 0,
             weight,
             closes: false,
@@ -36,11 +39,12 @@ impl Plan {
 
     /// The same, and the session ends behind it.
     pub(crate) fn last_reply(frame: Text, weight: u64) -> Plan
-        ensures { result ≡ record { frame = frame; action = Stay; length = 0; weight = weight; closes = true } }
+        ensures { result ≡ record { frame = frame; action = Stay; loud = false; length = 0; weight = weight; closes = true } }
     {
         Plan {
             frame,
             action: Move::Stay,
+            loud: false,
             length: 0,
             weight,
             closes: true,

@@ -59,14 +59,15 @@ fn weight_after(
     }
 }
 
-/// An object is put in its place, where `old` stands if one does, and this frame is the reply, where the world will not be too
-/// heavy.
+/// An object is put in its place, where `old` stands if one does, told to those who watch where it is loud, and this frame is the reply,
+/// where the world will not be too heavy.
 pub(crate) fn plan_put(
     alloc: Global,
     objects: &Keyspace,
     total: u64,
     old: Option<&Object>,
     object: Object,
+    loud: bool,
     frame: Text,
 ) -> Result<Plan, NoMemory>
     requires kept { AreKept (objects_in objects.now) total }
@@ -75,7 +76,7 @@ pub(crate) fn plan_put(
     requires few { HasFewFields object }
     requires short { length frame ≤ max_reply }
     ensures { (reply : List Piece) → frame ≡ frame_text reply
-        → IfOk result (λ p. (is_loud : Bool) → IsPlan (objects_in objects.now) (put_or_full (world_in objects.now) object reply is_loud) p) }
+        → IfOk result (λ p. IsPlan (objects_in objects.now) (put_or_full (world_in objects.now) object reply loud) p) }
 {
     let length = put_len(&object);
     let weight = weight_after(objects, total, old, &object, length);
@@ -85,6 +86,7 @@ pub(crate) fn plan_put(
     Ok(Plan {
         frame,
         action: Move::Put(object),
+        loud,
         length,
         weight,
         closes: false,
@@ -147,5 +149,5 @@ pub(crate) fn plan_set(
     if is_new && objects.len() >= MAX_OBJECTS {
         return say_refusal(alloc, total, Refusal::TooManyObjects);
     }
-    plan_put(alloc, objects, total, old, whole, fine_frame(alloc)?)
+    plan_put(alloc, objects, total, old, whole, true, fine_frame(alloc)?)
 }

@@ -1,85 +1,202 @@
-//! A call is made ready: what is due is taken out, and what is asked is planned in the world after that. Where that cannot be,
-//! all is put back.
+//! A call is made ready: what is due is taken out, and what is asked is planned in the world after that, each with the messages that it
+//! brings staged. Where that cannot be, all is as before.
 
-ghost use Rattle.std.specs.Prelude.{◌≡◌, ◌≤◌, IfOk, OnErr};
-ghost use Rattle.byte_text.specs.Names.{Bytes};
+ghost use Rattle.std.specs.Prelude.{◌≡◌, ◌≤◌, ◌<◌, map, length, IfOk, OnErr, OnOk};
 ghost use Rattle.world_data.specs.Limits.{max_moment};
-ghost use Rattle.keyspace.specs.Entries.{objects_in, room_for};
-ghost use Rattle.tile_core.specs.Dues.{IsDueFrom, AreDueFrom, IsExpired};
-ghost use Rattle.tile_core.specs.CoreStates.{AreKept};
-ghost use Rattle.tile_core.specs.Moves.{world_in, HasRoom, HoldsOfPut};
-ghost use Rattle.tile_core.specs.Plans.{IsPlan, effect_of_asked};
+ghost use Rattle.session_mail.specs.Sessions.{session_of};
+ghost use Rattle.session_mail.specs.Fans.{AreBare};
+ghost use Rattle.tile_core.specs.Dues.{HaveRoom};
+ghost use Rattle.tile_core.specs.Ready.{HasRoomFor, IsAsBefore, IsDueTaken, IsPlannedBehind, IsReady, IsRestBehind, IsRoomier, reply_count};
+ghost use Rattle.tile_core.specs.Stores.{IsStore};
 
-use crate::dues::{Expired, earlier, expire, put_back};
-use crate::moves::{Move, make_room};
-use crate::plans::Plan;
+use crate::dues::{Expired, expire, put_back};
+use crate::moves::make_room;
+use crate::planned::{ChannelMove, Planned};
 use crate::requests::plan_asked;
+use crate::staging::{stage_dels, stage_planned};
+use crate::stores::Store;
 use byte_text::NoMemory;
-use keyspace::Keyspace;
+use session_mail::{Session, unstage};
 use std::alloc::Global;
 use world_model::Asked;
 
-/// What was taken out, and what is to be done after that.
+/// What was taken out, and what is to be done after that, but where its session is cut by what is due.
 #[derive(Drop)]
 pub(crate) struct Ready {
     pub(crate) gone: Expired,
-    pub(crate) plan: Plan,
+    pub(crate) planned: Option<Planned>,
 }
 
-// What is asked will do this, and there is room for it.
-fn plan_with_room(
+/// Takes out what is due, and stages what its dels bring. For want of memory the world is as before, and a part may be staged.
+pub(crate) fn take_out_due(
     alloc: Global,
-    objects: &mut Keyspace,
-    total: u64,
+    store: &mut Store,
+    sessions: &mut Vec<Session>,
     now: u64,
-    asked: &Asked,
-) -> Result<Plan, NoMemory>
-    requires kept { AreKept (objects_in objects.old) total }
-    requires moment { now ≤ max_moment }
-    ensures objects { objects_in objects.new ≡ objects_in objects.old }
-    ensures kept { (key : Bytes) → room_for objects.old key ≤ room_for objects.new key }
-    ensures plan { IfOk result (λ p. IsPlan (objects_in objects.old) (effect_of_asked (world_in objects.old) now asked.now) p) }
-    ensures room { IfOk result (λ p. HasRoom objects.new p.action) }
+) -> Result<Expired, NoMemory>
+    requires kept { IsStore store.old }
+    requires bare { AreBare sessions.old.items }
+    ensures taken { IfOk result (λ g. IsDueTaken store.old now store.new g sessions.new.items) }
+    ensures room { IfOk result (λ g. HaveRoom store.new.objects g.held.items) }
+    ensures rest { IfOk result (λ g. store.new ≡ record store.old { objects = store.new.objects; weight = g.weight; due_from = g.due_from }) }
+    ensures same { map session_of sessions.new.items ≡ map session_of sessions.old.items }
+    ensures err { OnErr result (IsAsBefore store.old store.new) }
 {
-    let plan = plan_asked(alloc, objects, total, now, asked)?;
-    make_room(objects, &plan.action)?;
-    Ok(plan)
-}
-
-/// Makes a call ready. For want of memory the objects are as before.
-pub(crate) fn make_ready(
-    alloc: Global,
-    objects: &mut Keyspace,
-    total: u64,
-    due_from: u64,
-    now: u64,
-    asked: &Asked,
-) -> Result<Ready, NoMemory>
-    requires kept { AreKept (objects_in objects.old) total }
-    requires moment { now ≤ max_moment }
-    requires due_from { AreDueFrom due_from (objects_in objects.old) }
-    ensures expired { IfOk result (λ r. IsExpired (objects_in objects.old) now total (objects_in objects.new) r.gone) }
-    ensures plan { IfOk result (λ r. IsPlan (objects_in objects.new) (effect_of_asked (world_in objects.new) now asked.now) r.plan) }
-    ensures room { IfOk result (λ r. HasRoom objects.new r.plan.action) }
-    ensures err { OnErr result (objects_in objects.new ≡ objects_in objects.old) }
-{
-    let gone = expire(alloc, objects, total, due_from, now)?;
-    match plan_with_room(alloc, objects, gone.weight, now, asked) {
-        Ok(plan) => Ok(Ready { gone, plan }),
+    let gone = expire(
+        alloc,
+        &mut store.objects,
+        store.weight,
+        store.due_from,
+        now,
+    )?;
+    match stage_dels(alloc, &store.hub, gone.held.as_slice(), sessions) {
+        Ok(()) => {
+            store.weight = gone.weight;
+            store.due_from = gone.due_from;
+            Ok(gone)
+        }
         Err(NoMemory) => {
-            put_back(objects, gone.held);
+            put_back(&mut store.objects, gone.held);
             Err(NoMemory)
         }
     }
 }
 
-/// No deadline comes before this moment after what is done to objects of which none came before `due_from`.
-pub(crate) fn due_from_after(due_from: u64, action: &Move) -> u64
-    ensures least { result ≤ due_from }
-    ensures put { HoldsOfPut (IsDueFrom result) action.now }
+// Takes room for what is put.
+fn make_room_for(alloc: Global, store: &mut Store, planned: &Planned) -> Result<(), NoMemory>
+    ensures kept { IsRoomier store.old store.new }
+    ensures room { OnOk result (HasRoomFor store.new planned.now) }
 {
-    match action {
-        Move::Put(object) => earlier(due_from, object),
-        _ => due_from,
+    match planned {
+        Planned::Objects(plan) => make_room(&mut store.objects, &plan.action),
+        Planned::Channels(plan) => match &plan.action {
+            ChannelMove::Set(channel) => store.hub.prepare(alloc, channel),
+            ChannelMove::Drop(_) => Ok(()),
+        },
+        Planned::Subscribed(_) => Ok(()),
+    }
+}
+
+// How many frames the reply has.
+fn reply_count(planned: &Planned) -> usize
+    ensures { result ≡ reply_count planned.now }
+{
+    match planned {
+        Planned::Objects(_) | Planned::Channels(_) => 1,
+        Planned::Subscribed(confirmed) => confirmed.frames.len(),
+    }
+}
+
+// What is asked is planned for the session at a place, with the messages that it brings and with room for all of it.
+fn plan_request(
+    alloc: Global,
+    store: &mut Store,
+    sessions: &mut Vec<Session>,
+    at: usize,
+    now: u64,
+    asked: &Asked,
+) -> Result<Planned, NoMemory>
+    requires kept { IsStore store.old }
+    requires at { at < length sessions.old.items }
+    requires moment { now ≤ max_moment }
+    ensures room { IsRoomier store.old store.new }
+    ensures same { map session_of sessions.new.items ≡ map session_of sessions.old.items }
+    ensures planned { IfOk result (λ p. IsPlannedBehind store.old now asked.now at store.new sessions.old.items sessions.new.items p) }
+{
+    let planned = plan_asked(
+        alloc,
+        &store.objects,
+        &store.hub,
+        sessions[at].subscriptions(),
+        store.weight,
+        store.channel_weight,
+        now,
+        asked,
+    )?;
+    make_room_for(alloc, store, &planned)?;
+    stage_planned(alloc, &store.hub, &store.objects, &planned, sessions)?;
+    sessions[at].reserve(reply_count(&planned))?;
+    Ok(planned)
+}
+
+// The same, but where the session has no room for what is staged for it: it will be cut, and its request not done.
+fn plan_rest(
+    alloc: Global,
+    store: &mut Store,
+    sessions: &mut Vec<Session>,
+    at: usize,
+    now: u64,
+    asked: &Asked,
+) -> Result<Option<Planned>, NoMemory>
+    requires kept { IsStore store.old }
+    requires at { at < length sessions.old.items }
+    requires moment { now ≤ max_moment }
+    ensures room { IsRoomier store.old store.new }
+    ensures same { map session_of sessions.new.items ≡ map session_of sessions.old.items }
+    ensures planned { IfOk result (λ p. IsRestBehind store.old now asked.now at store.new sessions.old.items sessions.new.items p) }
+{
+    if !sessions[at].has_room_left() {
+        return Ok(None);
+    }
+    match plan_request(alloc, store, sessions, at, now, asked) {
+        Ok(planned) => Ok(Some(planned)),
+        Err(NoMemory) => Err(NoMemory),
+    }
+}
+
+// Makes a call of the session at a place ready. For want of memory the world is as before, and a part may be staged.
+fn make_ready_in_part(
+    alloc: Global,
+    store: &mut Store,
+    sessions: &mut Vec<Session>,
+    at: usize,
+    now: u64,
+    asked: &Asked,
+) -> Result<Ready, NoMemory>
+    requires kept { IsStore store.old }
+    requires bare { AreBare sessions.old.items }
+    requires at { at < length sessions.old.items }
+    requires moment { now ≤ max_moment }
+    ensures ready { IfOk result (λ r. IsReady store.old now asked.now at store.new sessions.new.items r) }
+    ensures same { map session_of sessions.new.items ≡ map session_of sessions.old.items }
+    ensures err { OnErr result (IsAsBefore store.old store.new) }
+{
+    let (weight, due_from) = (store.weight, store.due_from);
+    let gone = take_out_due(alloc, store, sessions, now)?;
+    match plan_rest(alloc, store, sessions, at, now, asked) {
+        Ok(planned) => Ok(Ready { gone, planned }),
+        Err(NoMemory) => {
+            put_back(&mut store.objects, gone.held);
+            store.weight = weight;
+            store.due_from = due_from;
+            Err(NoMemory)
+        }
+    }
+}
+
+/// Makes a call of the session at a place ready. For want of memory the world is as before, and nothing is staged.
+pub(crate) fn make_ready(
+    alloc: Global,
+    store: &mut Store,
+    sessions: &mut Vec<Session>,
+    at: usize,
+    now: u64,
+    asked: &Asked,
+) -> Result<Ready, NoMemory>
+    requires kept { IsStore store.old }
+    requires bare { AreBare sessions.old.items }
+    requires at { at < length sessions.old.items }
+    requires moment { now ≤ max_moment }
+    ensures ready { IfOk result (λ r. IsReady store.old now asked.now at store.new sessions.new.items r) }
+    ensures same { map session_of sessions.new.items ≡ map session_of sessions.old.items }
+    ensures err { OnErr result (IsAsBefore store.old store.new) }
+    ensures bare { OnErr result (AreBare sessions.new.items) }
+{
+    match make_ready_in_part(alloc, store, sessions, at, now, asked) {
+        Ok(ready) => Ok(ready),
+        Err(NoMemory) => {
+            unstage(sessions);
+            Err(NoMemory)
+        }
     }
 }

@@ -8,9 +8,9 @@ ghost use Rattle.world_data.specs.declared.worlds.Change.TheVariants as change;
 ghost use Rattle.tile_core.specs.Moves.{HasFewFields};
 ghost use Rattle.tile_core.specs.Records.{words_len};
 
-use byte_text::Name;
+use byte_text::{Name, Request};
 use itoa::Buffer;
-use world_model::{Fields, Object};
+use world_model::{Channel, Fields, Object};
 
 // How many digits a number has.
 fn digits_of(n: u64) -> u64
@@ -128,4 +128,34 @@ pub(crate) fn flush_len() -> u64
     ensures short { result ≤ 1000 }
 {
     line_len(1) + bulk_len(b"FLUSHDB")
+}
+
+// The bytes of all words of a request.
+fn words_len(words: &Request) -> u64
+    ensures value { result ≡ words_len words.now }
+    ensures short { result ≤ 2 ^ 36 }
+{
+    let mut sum = 0;
+    for at in 0..words.words() {
+        sum += bulk_len(words.word(at));
+    }
+    sum
+}
+
+/// The length of the record of a channel: the request `SETCHAN name` and its words. That of the change that takes it out is no longer.
+pub(crate) fn channel_len(channel: &Channel) -> u64
+    ensures value { result ≡ record_len (change.SetChan channel.now) }
+    ensures short { result ≤ 2 ^ 40 }
+    ensures drop { record_len (change.DelChan channel.now.name) ≤ result }
+{
+    let count = 2 + channel.words.words() as u64;
+    line_len(count) + bulk_len(b"SETCHAN") + name_len(&channel.name) + words_len(&channel.words)
+}
+
+/// The length of the record of a change that takes a channel out: the request `DELCHAN name`.
+pub(crate) fn delchan_len(name: &Name) -> u64
+    ensures value { result ≡ record_len (change.DelChan name.now) }
+    ensures short { result ≤ 1000 }
+{
+    line_len(2) + bulk_len(b"DELCHAN") + name_len(name)
 }

@@ -1,33 +1,47 @@
 //! What a request will do.
 
-ghost use Rattle.std.specs.Prelude.{◌≤◌, ℕ, [], length, IfOk};
+ghost use Rattle.std.specs.Prelude.{◌≡◌, ◌+◌, ◌*◌, ◌≤◌, ◌&&◌, ℕ, List, [], true, false, not, length, IfOk};
 ghost use Rattle.byte_text.specs.Replies.{frame_text};
-ghost use Rattle.world_data.specs.Limits.{max_moment, max_reply};
-ghost use Rattle.world_model.specs.Effects.{effect, says};
+ghost use Rattle.byte_text.specs.Requests.{max_words};
+ghost use Rattle.world_data.specs.Limits.{max_moment, max_reply, max_weight};
+ghost use Rattle.world_data.specs.declared.channels.Channel.{Channel};
+ghost use Rattle.world_model.specs.Effects.{effect, is_served_subscribed, says};
 ghost use Rattle.world_model.specs.Refusals.{fault_reply as fault_pieces, broken_reply as broken_pieces};
 ghost use Rattle.world_model.specs.Served.{asks};
+ghost use Rattle.world_model.specs.Subscriptions.{Sub, has_subs};
 ghost use Rattle.world_model.specs.declared.commands.Command.TheVariants as command;
-ghost use Rattle.cmd_words.specs.Laws.{IsServed};
-ghost use Rattle.tile_core.specs.CoreStates.{AreKept};
+ghost use Rattle.deliveries.specs.Plans.{ends_with, effect_of_read, effect_of_asked, subscribes};
+ghost use Rattle.session_mail.specs.Sessions.{AreSoundSubs};
 ghost use Rattle.keyspace.specs.Entries.{objects_in};
-ghost use Rattle.tile_core.specs.Moves.{world_in};
-ghost use Rattle.tile_core.specs.Plans.{IsPlan, ends_with, effect_of_read, effect_of_asked};
+ghost use Rattle.tile_core.specs.Asking.{IsAsked};
+ghost use Rattle.tile_core.specs.Beside.{is_of_channels, is_of_objects, IsCounted};
+ghost use Rattle.tile_core.specs.CoreStates.{AreKept};
+ghost use Rattle.tile_core.specs.Moves.{world_in, world_with};
+ghost use Rattle.tile_core.specs.Planned.{channels_weight, IsPlanned};
+ghost use Rattle.tile_core.specs.Plans.{IsPlan};
 
-use crate::answers::{say_frame, short_frame};
+use crate::answers::{say_frame, say_refusal, short_frame};
+use crate::beside::beside_channels;
 use crate::changes::{plan_fget, plan_fset};
+use crate::channel_plans::{plan_chans, plan_delchan, plan_pdelchan};
 use crate::deadlines::{plan_expire, plan_persist, plan_ttl};
 use crate::deletes::{plan_del, plan_drop, plan_flush, plan_pdel};
+use crate::planned::Planned;
 use crate::plans::Plan;
 use crate::puts::plan_set;
 use crate::reads::{plan_bounds, plan_get, plan_stats};
 use crate::scans::{plan_keys, plan_scan};
 use crate::searches::{plan_nearby, plan_search};
-use byte_text::{NoMemory, Request, RespFault};
+use crate::setchans::plan_setchan;
+use crate::subscribing::plan_subscribe;
+use byte_text::{MAX_WORDS, NoMemory, Request, RespFault};
+use channel_hub::Hub;
 use cmd_words::{CommandFault, command_of, served_commands};
 use keyspace::Keyspace;
 use reply_text::{broken_reply, fault_reply, fine_frame, pong_frame};
 use std::alloc::Global;
-use world_model::{Asked, Command, Object, WordFault};
+use subscriptions::Subscriptions;
+use world_model::{Asked, Command, Fields, NameList, Object, Refusal, WordFault};
 
 // What PING will do.
 fn plan_ping(alloc: Global, _objects: &Keyspace, total: u64) -> Result<Plan, NoMemory>
@@ -46,7 +60,7 @@ fn plan_quit(alloc: Global, _objects: &Keyspace, total: u64) -> Result<Plan, NoM
     Ok(Plan::last_reply(frame, total))
 }
 
-// What a command that is served will do.
+// What a command on objects will do in a world without channels.
 fn plan_command(
     alloc: Global,
     objects: &Keyspace,
@@ -56,7 +70,8 @@ fn plan_command(
 ) -> Result<Plan, NoMemory>
     requires kept { AreKept (objects_in objects.now) total }
     requires moment { now ≤ max_moment }
-    requires served { IsServed command }
+    requires asked { IsAsked command }
+    requires of_objects { is_of_objects command ≡ true }
     ensures { IfOk result (λ p. IsPlan (objects_in objects.now) (effect (world_in objects.now) now [] command) p) }
 {
     match command {
@@ -150,42 +165,276 @@ fn plan_broken(
     Ok(Plan::last_reply(refusal, total))
 }
 
+// Whether so few values are given and cleared that they are words of one request.
+fn are_few(given: &Fields, cleared: &NameList) -> bool
+    ensures { result ≡ true → length given.now + length cleared.now ≤ 2 * max_words }
+{
+    if given.len() > MAX_WORDS {
+        return false;
+    }
+    cleared.len() <= MAX_WORDS
+}
+
+// Whether the values that FSET changes are few.
+fn is_counted(_objects: &Keyspace, command: &Command) -> bool
+    ensures { result ≡ true → IsCounted (objects_in _objects.now) command.now }
+{
+    match command {
+        Command::Fset {
+            fields,
+            cleared,
+            ..
+        } => are_few(fields, cleared),
+        _ => true,
+    }
+}
+
+// What a command on objects will do beside channels of this weight.
+fn plan_beside(
+    alloc: Global,
+    objects: &Keyspace,
+    total: u64,
+    channels: u64,
+    now: u64,
+    command: Command,
+) -> Result<Planned, NoMemory>
+    requires kept { AreKept (objects_in objects.now) total }
+    requires light { total + channels ≤ max_weight }
+    requires moment { now ≤ max_moment }
+    requires asked { IsAsked command }
+    requires of_objects { is_of_objects command ≡ true }
+    ensures { IfOk result (λ p. (cs : List Channel) (held : List Sub) → channels ≡ channels_weight cs
+        → IsPlanned (world_with cs (objects_in objects.now)) total held (effect (world_with cs (objects_in objects.now)) now [] command) p) }
+{
+    // More values than a request has words have room in no memory.
+    if !is_counted(objects, &command) {
+        return Err(NoMemory);
+    }
+    let plan = plan_command(alloc, objects, total, now, command)?;
+    let plan = beside_channels(alloc, objects, total, channels, plan)?;
+    Ok(Planned::Objects(plan))
+}
+
+// Whether the command looks at objects alone, and at no channel and no subscription.
+fn is_of_objects(command: &Command) -> bool
+    ensures { result ≡ is_of_objects command.now }
+{
+    !matches!(
+        command,
+        Command::Shrink
+            | Command::Setchan { .. }
+            | Command::Delchan { .. }
+            | Command::Pdelchan { .. }
+            | Command::Chans { .. }
+            | Command::Subscribe { .. }
+            | Command::Psubscribe { .. }
+    )
+}
+
+// Whether the command puts channels, takes them out or shows them.
+fn is_of_channels(command: &Command) -> bool
+    ensures { result ≡ is_of_channels command.now }
+{
+    matches!(
+        command,
+        Command::Setchan { .. }
+            | Command::Delchan { .. }
+            | Command::Pdelchan { .. }
+            | Command::Chans { .. }
+    )
+}
+
+// What a command on channels will do.
+fn plan_of_channels(
+    alloc: Global,
+    objects: &Keyspace,
+    hub: &Hub,
+    total: u64,
+    channels: u64,
+    command: Command,
+) -> Result<Planned, NoMemory>
+    requires kept { AreKept (objects_in objects.now) total }
+    requires channels { channels ≡ channels_weight hub.now.channels }
+    requires light { total + channels ≤ max_weight }
+    requires asked { IsAsked command }
+    requires of_channels { is_of_channels command ≡ true }
+    ensures { IfOk result (λ p. (now : ℕ) (held : List Sub) → IsPlanned (world_with hub.now.channels (objects_in objects.now)) total held
+        (effect (world_with hub.now.channels (objects_in objects.now)) now [] command) p) }
+{
+    match command {
+        Command::Setchan { channel, area } => {
+            plan_setchan(alloc, objects, hub, total, channels, channel, area)
+        }
+        Command::Delchan { name } => plan_delchan(alloc, objects, hub, total, channels, name),
+        Command::Pdelchan { glob } => plan_pdelchan(alloc, objects, hub, total, channels, &glob),
+        Command::Chans { glob } => plan_chans(alloc, objects, hub, total, &glob),
+        _ => unreachable!(),
+    }
+}
+
+// What a command that subscribes will do, of a session with these subscriptions.
+fn plan_of_subs(
+    alloc: Global,
+    objects: &Keyspace,
+    total: u64,
+    subs: &Subscriptions,
+    command: Command,
+) -> Result<Planned, NoMemory>
+    requires kept { AreKept (objects_in objects.now) total }
+    requires sound { AreSoundSubs subs.now }
+    requires asked { IsAsked command }
+    requires subscribes { subscribes command ≡ true }
+    ensures { IfOk result (λ p. (cs : List Channel) (now : ℕ) → total + channels_weight cs ≤ max_weight
+        → IsPlanned (world_with cs (objects_in objects.now)) total subs.now
+        (effect (world_with cs (objects_in objects.now)) now subs.now command) p) }
+{
+    match command {
+        Command::Subscribe { names } => {
+            plan_subscribe(alloc, objects, total, subs, false, &names)
+        }
+        Command::Psubscribe { globs } => {
+            plan_subscribe(alloc, objects, total, subs, true, &globs)
+        }
+        _ => unreachable!(),
+    }
+}
+
+// What a command will do that the session may ask, which has these subscriptions.
+fn plan_open(
+    alloc: Global,
+    objects: &Keyspace,
+    hub: &Hub,
+    subs: &Subscriptions,
+    total: u64,
+    channels: u64,
+    now: u64,
+    command: Command,
+) -> Result<Planned, NoMemory>
+    requires kept { AreKept (objects_in objects.now) total }
+    requires channels { channels ≡ channels_weight hub.now.channels }
+    requires light { total + channels ≤ max_weight }
+    requires sound { AreSoundSubs subs.now }
+    requires moment { now ≤ max_moment }
+    requires asked { IsAsked command }
+    requires may_ask { (has_subs subs.now && not (is_served_subscribed command)) ≡ false }
+    ensures { IfOk result (λ p. IsPlanned (world_with hub.now.channels (objects_in objects.now)) total subs.now
+        (effect (world_with hub.now.channels (objects_in objects.now)) now subs.now command) p) }
+{
+    if is_of_objects(&command) {
+        return plan_beside(alloc, objects, total, channels, now, command);
+    }
+    if is_of_channels(&command) {
+        return plan_of_channels(alloc, objects, hub, total, channels, command);
+    }
+    plan_of_subs(alloc, objects, total, subs, command)
+}
+
+// Whether a session with subscriptions may ask it.
+fn is_served_subscribed(command: &Command) -> bool
+    ensures { result ≡ is_served_subscribed command.now }
+{
+    matches!(
+        command,
+        Command::Subscribe { .. } | Command::Psubscribe { .. } | Command::Ping | Command::Quit
+    )
+}
+
+// Whether there are any.
+fn has_any(subs: &Subscriptions) -> bool
+    ensures { result ≡ has_subs subs.now }
+{
+    subs.len() > 0
+}
+
+// Whether the session has subscriptions, and may not ask the command.
+fn is_refused(subs: &Subscriptions, command: &Command) -> bool
+    ensures { result ≡ (has_subs subs.now && not (is_served_subscribed command.now)) }
+{
+    has_any(subs) && !is_served_subscribed(command)
+}
+
+// What a command will do, of a session with these subscriptions.
+fn plan_served(
+    alloc: Global,
+    objects: &Keyspace,
+    hub: &Hub,
+    subs: &Subscriptions,
+    total: u64,
+    channels: u64,
+    now: u64,
+    command: Command,
+) -> Result<Planned, NoMemory>
+    requires kept { AreKept (objects_in objects.now) total }
+    requires channels { channels ≡ channels_weight hub.now.channels }
+    requires light { total + channels ≤ max_weight }
+    requires sound { AreSoundSubs subs.now }
+    requires moment { now ≤ max_moment }
+    requires asked { IsAsked command }
+    ensures { IfOk result (λ p. IsPlanned (world_with hub.now.channels (objects_in objects.now)) total subs.now
+        (effect (world_with hub.now.channels (objects_in objects.now)) now subs.now command) p) }
+{
+    if is_refused(subs, &command) {
+        let refusal = say_refusal(alloc, total, Refusal::Subscribed)?;
+        return Ok(Planned::Objects(refusal));
+    }
+    plan_open(alloc, objects, hub, subs, total, channels, now, command)
+}
+
 // What words will do.
 fn plan_words(
     alloc: Global,
     objects: &Keyspace,
+    hub: &Hub,
+    subs: &Subscriptions,
     total: u64,
+    channels: u64,
     now: u64,
     words: &Request,
-) -> Result<Plan, NoMemory>
+) -> Result<Planned, NoMemory>
     requires kept { AreKept (objects_in objects.now) total }
+    requires channels { channels ≡ channels_weight hub.now.channels }
+    requires light { total + channels ≤ max_weight }
+    requires sound { AreSoundSubs subs.now }
     requires moment { now ≤ max_moment }
-    ensures { IfOk result (λ p. IsPlan (objects_in objects.now) (effect_of_read (world_in objects.now) now (asks words.now)) p) }
+    ensures { IfOk result (λ p. IsPlanned (world_with hub.now.channels (objects_in objects.now)) total subs.now
+        (effect_of_read (world_with hub.now.channels (objects_in objects.now)) now subs.now (asks words.now)) p) }
 {
     served_commands();
     // A request is within its limits, and so is what a refusal shows of it.
     let _count = words.words();
     match command_of(alloc, words) {
-        Ok(command) => plan_command(alloc, objects, total, now, command),
-        Err(CommandFault::Refused(fault)) => plan_fault(alloc, objects, total, &fault),
+        Ok(command) => plan_served(alloc, objects, hub, subs, total, channels, now, command),
+        Err(CommandFault::Refused(fault)) => {
+            Ok(Planned::Objects(plan_fault(alloc, objects, total, &fault)?))
+        }
         Err(CommandFault::Memory) => Err(NoMemory),
     }
 }
 
-/// What is asked will do this at a moment in the world of these objects, whose weight is `total`.
+/// What is asked will do this at a moment, by a session with these subscriptions, in the world of these objects, whose weight is `total`,
+/// and of these channels, whose weight is `channels`.
 pub(crate) fn plan_asked(
     alloc: Global,
     objects: &Keyspace,
+    hub: &Hub,
+    subs: &Subscriptions,
     total: u64,
+    channels: u64,
     now: u64,
     asked: &Asked,
-) -> Result<Plan, NoMemory>
+) -> Result<Planned, NoMemory>
     requires kept { AreKept (objects_in objects.now) total }
+    requires channels { channels ≡ channels_weight hub.now.channels }
+    requires light { total + channels ≤ max_weight }
+    requires sound { AreSoundSubs subs.now }
     requires moment { now ≤ max_moment }
-    ensures { IfOk result (λ p. IsPlan (objects_in objects.now) (effect_of_asked (world_in objects.now) now asked.now) p) }
+    ensures { IfOk result (λ p. IsPlanned (world_with hub.now.channels (objects_in objects.now)) total subs.now
+        (effect_of_asked (world_with hub.now.channels (objects_in objects.now)) now subs.now asked.now) p) }
 {
     match asked {
-        Asked::Words(words) => plan_words(alloc, objects, total, now, words),
-        Asked::Broken(fault) => plan_broken(alloc, objects, total, *fault),
+        Asked::Words(words) => {
+            plan_words(alloc, objects, hub, subs, total, channels, now, words)
+        }
+        Asked::Broken(fault) => Ok(Planned::Objects(plan_broken(alloc, objects, total, *fault)?)),
     }
 }

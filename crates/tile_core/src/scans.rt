@@ -25,12 +25,13 @@ use keyspace::Keyspace;
 use nearest_query::near_page;
 use planar_geom::Pt;
 use reply_text::{ItemFrames, ReplyFault, refusal_reply};
+use rtree::{NoLedger, Steps};
 use search_query::page;
 use std::alloc::Global;
 use world_model::{Page, Query, Refusal, Shown};
 
-// The frame of a reply, or of the refusal where it would be too long.
-fn or_refusal(alloc: Global, frame: Result<Text, ReplyFault>) -> Result<Text, NoMemory>
+/// The frame of a reply, or of the refusal where it would be too long.
+pub(crate) fn or_refusal(alloc: Global, frame: Result<Text, ReplyFault>) -> Result<Text, NoMemory>
     ensures { (reply : List Piece) → IfOk frame (λ t. (t ≡ frame_text reply) × (length t ≤ max_reply)) → IfErr frame (IsTooLong reply) → IfOk result (Replies (within_reply (says reply))) }
 {
     match frame {
@@ -162,7 +163,7 @@ pub(crate) fn plan_page(
     // What stands by id is known where the objects are counted.
     let _count = objects.len();
     let mut found = Page::new(alloc);
-    page(alloc, objects, query, &mut found)?;
+    page(alloc, objects, query, &mut found, &mut Steps::new(NoLedger))?;
     say_page(alloc, objects, total, query, &found)
 }
 
@@ -181,7 +182,8 @@ pub(crate) fn plan_near_page(
     // What stands by id is known where the objects are counted.
     let _count = objects.len();
     let mut found = Page::new(alloc);
-    near_page(alloc, objects, at, reach, query, &mut found)?;
+    let steps = &mut Steps::new(NoLedger);
+    near_page(alloc, objects, at, reach, query, &mut found, steps)?;
     say_page(alloc, objects, total, query, &found)
 }
 

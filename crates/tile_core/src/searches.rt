@@ -43,8 +43,8 @@ fn query_over(query: Query, area: Area) -> Query
     }
 }
 
-// A shape as an area, in memory of its own.
-fn figure_of(alloc: Global, shape: &Shape) -> Result<Area, NoMemory>
+/// A shape as an area, in memory of its own.
+pub(crate) fn figure_of(alloc: Global, shape: &Shape) -> Result<Area, NoMemory>
     ensures { IfOk result (λ area. area ≡ Area.Figure shape.now) }
 {
     match shape.copy(alloc) {

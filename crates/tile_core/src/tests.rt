@@ -3,6 +3,7 @@
 use super::*;
 use byte_text::{Request, RespFault, Text};
 use std::alloc::Global;
+use std::process::Abort;
 use std::test::Fail;
 use world_data::MAX_MOMENT;
 use world_model::{Asked, Called, Frames, Taken, Touched};
@@ -53,10 +54,8 @@ fn taken(alloc: Global, core: &mut Core, session: u32) -> Result<Text, Fail> {
     Ok(text)
 }
 
-#[test]
-fn commands_are_answered(rt: HostRuntime) -> Result<(), Fail> {
-    let alloc = rt.alloc();
-    let mut core = Core::new(alloc);
+// A core that lives over many calls that may fail is held by the test alone.
+fn answer_commands(rt: &impl Abort, alloc: Global, core: &mut Core) -> Result<(), Fail> {
     assert_eq!(rt; core.enter(), Ok(1));
     for (line, reply) in [
         ("PING", "+PONG\r\n"),
@@ -97,11 +96,11 @@ fn commands_are_answered(rt: HostRuntime) -> Result<(), Fail> {
             "-ERR wrong number of arguments for 'del' command\r\n",
         ),
         ("NOPE k", "-ERR unknown command 'NOPE'\r\n"),
-        ("CHANS *", "-ERR not served yet\r\n"),
+        ("AOFSHRINK", "-ERR not served yet\r\n"),
     ] {
-        assert_eq!(rt; called(alloc, &mut core, 1, 0, line)?, Called::Ok, "{line}");
+        assert_eq!(rt; called(alloc, core, 1, 0, line)?, Called::Ok, "{line}");
         assert_eq!(rt;
-            taken(alloc, &mut core, 1)?.bytes(),
+            taken(alloc, core, 1)?.bytes(),
             reply.as_bytes(),
             "{line}"
         );
@@ -110,9 +109,13 @@ fn commands_are_answered(rt: HostRuntime) -> Result<(), Fail> {
 }
 
 #[test]
-fn fields_and_deadlines_are_kept(rt: HostRuntime) -> Result<(), Fail> {
+fn commands_are_answered(rt: HostRuntime) -> Result<(), Fail> {
     let alloc = rt.alloc();
     let mut core = Core::new(alloc);
+    answer_commands(&rt, alloc, &mut core)
+}
+
+fn keep_fields_and_deadlines(rt: &impl Abort, alloc: Global, core: &mut Core) -> Result<(), Fail> {
     assert_eq!(rt; core.enter(), Ok(1));
     for (moment, line, reply) in [
         (0, "SET k a FIELD speed 5 EX 9 POINT 1 2", "+OK\r\n"),
@@ -137,12 +140,12 @@ fn fields_and_deadlines_are_kept(rt: HostRuntime) -> Result<(), Fail> {
         (5000, "SET m c POINT 0 0", "+OK\r\n"),
     ] {
         assert_eq!(rt;
-            called(alloc, &mut core, 1, moment, line)?,
+            called(alloc, core, 1, moment, line)?,
             Called::Ok,
             "{line}"
         );
         assert_eq!(rt;
-            taken(alloc, &mut core, 1)?.bytes(),
+            taken(alloc, core, 1)?.bytes(),
             reply.as_bytes(),
             "{line}"
         );
@@ -153,22 +156,87 @@ fn fields_and_deadlines_are_kept(rt: HostRuntime) -> Result<(), Fail> {
 }
 
 #[test]
-fn sessions_end_behind_their_frames(rt: HostRuntime) -> Result<(), Fail> {
+fn fields_and_deadlines_are_kept(rt: HostRuntime) -> Result<(), Fail> {
     let alloc = rt.alloc();
-    let mut touched = Touched::new(alloc)?;
     let mut core = Core::new(alloc);
+    keep_fields_and_deadlines(&rt, alloc, &mut core)
+}
+
+fn tell_those_who_subscribed(rt: &impl Abort, alloc: Global, core: &mut Core) -> Result<(), Fail> {
+    assert_eq!(rt; core.enter(), Ok(1));
+    assert_eq!(rt; core.enter(), Ok(2));
+    for (session, line, frame) in [
+        (1, "CHANS *", "*0\r\n"),
+        (
+            1,
+            "SETCHAN yard WITHIN k FENCE DETECT enter GET k a",
+            "-ERR key not found\r\n",
+        ),
+        (
+            1,
+            "SETCHAN yard WITHIN k FENCE DETECT enter CIRCLE 0 0 9",
+            ":1\r\n",
+        ),
+        (
+            1,
+            "CHANS y*",
+            "*1\r\n*3\r\n$4\r\nyard\r\n$1\r\nk\r\n*9\r\n$6\r\nWITHIN\r\n$1\r\nk\r\n$5\r\nFENCE\r\n\
+             $6\r\nDETECT\r\n$5\r\nenter\r\n$6\r\nCIRCLE\r\n$1\r\n0\r\n$1\r\n0\r\n$1\r\n9\r\n",
+        ),
+        (
+            2,
+            "SUBSCRIBE yard",
+            "*3\r\n$9\r\nsubscribe\r\n$4\r\nyard\r\n:1\r\n",
+        ),
+        (
+            2,
+            "PSUBSCRIBE y*",
+            "*3\r\n$10\r\npsubscribe\r\n$2\r\ny*\r\n:2\r\n",
+        ),
+        (
+            2,
+            "CHANS *",
+            "-ERR only SUBSCRIBE, PSUBSCRIBE, PING and QUIT are served while subscribed\r\n",
+        ),
+        (1, "SET k a POINT 1 2", "+OK\r\n"),
+        (1, "DELCHAN z", ":0\r\n"),
+        (1, "PDELCHAN y*", ":1\r\n"),
+    ] {
+        assert_eq!(rt; called(alloc, core, session, 0, line)?, Called::Ok, "{line}");
+        assert_eq!(rt;
+            taken(alloc, core, session)?.bytes(),
+            frame.as_bytes(),
+            "{line}"
+        );
+    }
+    assert_eq!(rt; core.channels(), 0);
+    let told = "*3\r\n$7\r\nmessage\r\n$4\r\nyard\r\n$113\r\n{\"command\":\"set\",\"detect\":\"enter\",\"hook\":\"yard\",\
+         \"key\":\"k\",\"id\":\"a\",\"object\":{\"type\":\"Point\",\"coordinates\":[2,1]}}\r\n";
+    assert_eq!(rt; taken(alloc, core, 2)?.bytes(), told.as_bytes());
+    Ok(())
+}
+
+#[test]
+fn channels_tell_those_who_subscribed(rt: HostRuntime) -> Result<(), Fail> {
+    let alloc = rt.alloc();
+    let mut core = Core::new(alloc);
+    tell_those_who_subscribed(&rt, alloc, &mut core)
+}
+
+fn end_sessions(rt: &impl Abort, alloc: Global, core: &mut Core) -> Result<(), Fail> {
+    let mut touched = Touched::new(alloc)?;
     for session in 1..=4 {
         assert_eq!(rt; core.enter(), Ok(session));
     }
-    assert_eq!(rt; called(alloc, &mut core, 1, 0, "QUIT")?, Called::Ok);
-    assert_eq!(rt; called(alloc, &mut core, 1, 0, "PING")?, Called::Gone);
-    assert_eq!(rt; taken(alloc, &mut core, 1)?.bytes(), "+OK\r\n".as_bytes());
+    assert_eq!(rt; called(alloc, core, 1, 0, "QUIT")?, Called::Ok);
+    assert_eq!(rt; called(alloc, core, 1, 0, "PING")?, Called::Gone);
+    assert_eq!(rt; taken(alloc, core, 1)?.bytes(), "+OK\r\n".as_bytes());
     let broken = Asked::Broken(RespFault::BadType);
     assert_eq!(rt; core.call(2, 0, &broken, &mut touched), Called::Ok);
     touched.clear();
     assert_eq!(rt; core.call(2, 0, &broken, &mut touched), Called::Gone);
     assert_eq!(rt;
-        taken(alloc, &mut core, 2)?.bytes(),
+        taken(alloc, core, 2)?.bytes(),
         "-ERR protocol error: bad type\r\n".as_bytes()
     );
     core.close_session(3);
@@ -183,4 +251,11 @@ fn sessions_end_behind_their_frames(rt: HostRuntime) -> Result<(), Fail> {
     assert_eq!(rt; core.enter(), Ok(5));
     assert_eq!(rt; core.take(5, &mut frames), Taken::Empty);
     Ok(())
+}
+
+#[test]
+fn sessions_end_behind_their_frames(rt: HostRuntime) -> Result<(), Fail> {
+    let alloc = rt.alloc();
+    let mut core = Core::new(alloc);
+    end_sessions(&rt, alloc, &mut core)
 }

@@ -16,4 +16,6 @@ pub use laws::{feeds_are_one_stream, scripts_have_one_output};
 pub use tops::{Ended, out_of_memory, top};
 
 #[cfg(test)]
+mod fence_tests;
+#[cfg(test)]
 mod tests;

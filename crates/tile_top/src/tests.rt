@@ -50,7 +50,7 @@ fn asked<R: Wait + Threads + Copy + Send + Sync + 'static>(
 
 // Plays the script, which is read in pieces of 7 bytes and whose output is written in pieces of 5. The reads and writes of these
 // numbers fail.
-fn played<R: Wait + Threads + Copy + Send + Sync + 'static>(
+pub(crate) fn played<R: Wait + Threads + Copy + Send + Sync + 'static>(
     rt: &R,
     alloc: Global,
     word: &str,
@@ -66,25 +66,32 @@ fn played<R: Wait + Threads + Copy + Send + Sync + 'static>(
     Ok((status, sink))
 }
 
+// A line that feeds a session these bytes.
+pub(crate) fn push_feed(lines: &mut Text, session: &str, bytes: &[u8]) -> Result<(), NoMemory> {
+    lines.push(b"feed ")?;
+    lines.push(session.as_bytes())?;
+    lines.push(b" 0 ")?;
+    for byte in bytes {
+        match byte {
+            b'\r' => lines.push(b"%0D")?,
+            b'\n' => lines.push(b"%0A")?,
+            other => lines.push(&[*other])?,
+        }
+    }
+    lines.push(b"\n")
+}
+
 // The lines that feed session 1 these bytes, cut into pieces of this size.
 fn feeds(alloc: Global, bytes: &[u8], size: usize) -> Result<Text, NoMemory> {
     let mut lines = Text::new(alloc);
     for piece in bytes.chunks(size.max(1)) {
-        lines.push(b"feed 1 0 ")?;
-        for byte in piece {
-            match byte {
-                b'\r' => lines.push(b"%0D")?,
-                b'\n' => lines.push(b"%0A")?,
-                other => lines.push(&[*other])?,
-            }
-        }
-        lines.push(b"\n")?;
+        push_feed(&mut lines, "1", piece)?;
     }
     Ok(lines)
 }
 
 // The request of these words, which spaces separate.
-fn request(alloc: Global, words: &str) -> Result<Text, NoMemory> {
+pub(crate) fn request(alloc: Global, words: &str) -> Result<Text, NoMemory> {
     let mut text = Text::new(alloc);
     text.push(b"*")?;
     push_u64(&mut text, words.split(' ').count() as u64)?;
@@ -247,7 +254,7 @@ fn commands_and_their_answers(rt: HostRuntime) -> Result<(), Fail> {
             "*2\r\n*2\r\n$1\r\n0\r\n$1\r\n0\r\n*2\r\n$2\r\n10\r\n$2\r\n10\r\n",
         ),
         ("GET k h POINT", "*2\r\n$1\r\n5\r\n$1\r\n5\r\n"),
-        ("SUBSCRIBE z", "-ERR not served yet\r\n"),
+        ("AOFSHRINK", "-ERR not served yet\r\n"),
         ("NOSUCH k", "-ERR unknown command 'NOSUCH'\r\n"),
         (
             "GET k",

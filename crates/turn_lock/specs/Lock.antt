@@ -17,7 +17,8 @@ module _ {T O E W A : Type 0} where
   -- the seat is this lock's, and no turn of it is under way
   abbrev pub IsSeatOf : (T → O) → TurnLock T O E W A → Seat (Option (Held T W A)) (View O E W) → Type 0
   IsSeatOf open_of lock s =
-      (s.table_id ≡ lock.table.shared.table_id) × (s.me.0.known.opening ≡ Some (opening_of open_of lock)) × (s.me.0.stage ≡ Idle) × (s.me.0.merged ≡ []) × (s.me.1 ≡ []) × (s.me.0.hand ≡ Empty) × (s.me.0.post ≡ Nowhere)
+      (s.table_id ≡ lock.table.shared.table_id) × (s.me.0.known.opening ≡ Some (opening_of open_of lock)) × (s.me.0.stage ≡ Idle)
+      × (s.me.0.merged ≡ []) × (s.me.1 ≡ []) × (s.me.0.hand ≡ Empty) × (s.me.0.post ≡ Nowhere)
 
   -- the seat has the lock, and this value of it, which stands for the history
   abbrev pub IsAtWork : (T → O) → (T → O → List E → Type 0) → TurnLock T O E W A → Seat (Option (Held T W A)) (View O E W) → T → Type 0
@@ -38,9 +39,11 @@ module _ {T O E W A : Type 0} where
   -- the seat has claimed a place, and nothing is in its slot yet
   abbrev pub ClaimsPlace : (T → O) → TurnLock T O E W A → Seat (Option (Held T W A)) (View O E W) → ℕ → Type 0
   ClaimsPlace open_of lock s p =
-      (s.table_id ≡ lock.table.shared.table_id) × (s.me.0.known.opening ≡ Some (opening_of open_of lock)) × (s.me.0.stage ≡ Idle) × (s.me.0.merged ≡ []) × (s.me.1 ≡ (p, None) ∷ []) × (s.me.0.hand ≡ Empty) × (s.me.0.post ≡ Claims p)
+      (s.table_id ≡ lock.table.shared.table_id) × (s.me.0.known.opening ≡ Some (opening_of open_of lock)) × (s.me.0.stage ≡ Idle)
+      × (s.me.0.merged ≡ []) × (s.me.1 ≡ (p, None) ∷ []) × (s.me.0.hand ≡ Empty) × (s.me.0.post ≡ Claims p)
 
   -- the seat waits for the answer to its work
   abbrev pub WaitsAt : (T → O) → TurnLock T O E W A → Seat (Option (Held T W A)) (View O E W) → ℕ → W → Type 0
   WaitsAt open_of lock s p w =
-      (s.table_id ≡ lock.table.shared.table_id) × (s.me.0.known.opening ≡ Some (opening_of open_of lock)) × (s.me.0.stage ≡ Idle) × (s.me.0.merged ≡ []) × (s.me.1 ≡ []) × (s.me.0.hand ≡ Empty) × (s.me.0.post ≡ Posts p w)
+      (s.table_id ≡ lock.table.shared.table_id) × (s.me.0.known.opening ≡ Some (opening_of open_of lock)) × (s.me.0.stage ≡ Idle)
+      × (s.me.0.merged ≡ []) × (s.me.1 ≡ []) × (s.me.0.hand ≡ Empty) × (s.me.0.post ≡ Posts p w)

@@ -59,7 +59,8 @@ module _ {T O E W A : Type 0} (kept : E → Bool) (entries : W → A → T → L
     pub works : (H : List E) → v.stage ≡ Works H → (H ≡ g.log) × (j ≡ g.holder) × (word 0 ≡ 0)
     pub hand : (p : ℕ) (w : W) → v.hand ≡ Holds p w → (j ≡ g.holder) × (word 0 ≡ 0) × IsPlace g.size p × IsPosted (word p) × (home p ≡ some none)
     pub claims : (p : ℕ) → v.post ≡ Claims p → IsPlace g.size p × (g.poster p ≡ j) × (word p ≡ 1)
-    pub posts : (p : ℕ) (w : W) → v.post ≡ Posts p w → IsPlace g.size p × (g.poster p ≡ j) × (2 ≤ word p) × (v.known.first ≡ false → NeverKept kept entries gives w)
+    pub posts : (p : ℕ) (w : W) → v.post ≡ Posts p w → IsPlace g.size p × (g.poster p ≡ j) × (2 ≤ word p)
+        × (v.known.first ≡ false → NeverKept kept entries gives w)
 
 module _ {T O E W A : Type 0} (stands : T → List E → Type 0) (entries : W → A → T → List E) (gives : W → T → A → T → Type 0) where
   -- a place: empty with nothing in its slot; claimed by a seat; posted with its seat's work, in the slot or with the seat that has the value;
@@ -70,7 +71,8 @@ module _ {T O E W A : Type 0} (stands : T → List E → Type 0) (entries : W �
     pub posted : IsPosted (word p) → (v : View O E W) × (w : W) × (get_elem? views (g.poster p) ≡ some v) × (v.post ≡ Posts p w)
         × ((home p ≡ some (some (Some (Asked w)))) ⊎ ((u : View O E W) × (get_elem? views g.holder ≡ some u) × (u.hand ≡ Holds p w)))
     pub done : word p ≡ 6 → (v : View O E W) × (w : W) × (a : A) × (get_elem? views (g.poster p) ≡ some v) × (v.post ≡ Posts p w)
-        × (home p ≡ some (some (Some (Answered a)))) × Made stands entries gives g.log v.known.seen w a (g.numbers p) × ((k : ℕ) → IsAmong k (g.numbers p) → g.owner k ≡ g.poster p)
+        × (home p ≡ some (some (Some (Answered a)))) × Made stands entries gives g.log v.known.seen w a (g.numbers p)
+        × ((k : ℕ) → IsAmong k (g.numbers p) → g.owner k ≡ g.poster p)
 
 module _ {O E W : Type 0} where
   -- the seat has the lock, and the value but for the time before it was put in
@@ -89,8 +91,10 @@ module _ {T O E W A : Type 0} (stands : T → List E → Type 0) (kept : E → B
     pub story : Story E
     pub wide : length s.words ≡ story.size
     pub deep : length s.homes ≡ story.size
-    pub each : (j : ℕ) (v : View O E W) → get_elem? s.views j ≡ some v → Fits kept entries gives story (λ p. slice_index s.words p) (λ p. get_elem? s.homes p) j v
+    pub each : (j : ℕ) (v : View O E W) → get_elem? s.views j ≡ some v
+        → Fits kept entries gives story (λ p. slice_index s.words p) (λ p. get_elem? s.homes p) j v
     pub place : (p : ℕ) → IsPlace story.size p → Place stands entries gives story (λ p. slice_index s.words p) (λ p. get_elem? s.homes p) s.views p
     pub value : slice_index s.words 0 ≡ 1 → (x : T) × (get_elem? s.homes 0 ≡ some (some (Some (Value x)))) × stands x story.log
     pub held : slice_index s.words 0 ≡ 0 → (v : View O E W) × (get_elem? s.views story.holder ≡ some v) × HasLock story.log v
-    pub first : (k : ℕ) (e : E) → slice_get story.log k ≡ Some e → kept e ≡ true → (v : View O E W) × (get_elem? s.views story.chief ≡ some v) × Has story (λ p. slice_index s.words p) v k
+    pub first : (k : ℕ) (e : E) → slice_get story.log k ≡ Some e → kept e ≡ true → (v : View O E W)
+        × (get_elem? s.views story.chief ≡ some v) × Has story (λ p. slice_index s.words p) v k

@@ -17,14 +17,17 @@ module _ {T O E W A : Type 0} where
   opened st m n m' = m' ≡ (at_stage m.0 (Works []), (0, None) ∷ m.1)
 
   -- the lock is taken, where it was free, and the value is out with the seat
-  abbrev pub locked : (T → O → List E → Type 0) → Step (Option (Held T W A)) → Me (Option (Held T W A)) (View O E W) → ℕ → Me (Option (Held T W A)) (View O E W) → Type 0
+  abbrev pub locked : (T → O → List E → Type 0) → Step (Option (Held T W A)) → Me (Option (Held T W A)) (View O E W) → ℕ
+      → Me (Option (Held T W A)) (View O E W) → Type 0
   locked stands st m n m' =
       (n ≢ 1 → m' ≡ m)
       × (n ≡ 1 → (x : T) × (log : List E) × (m' ≡ (at_stage m.0 (Works log), (0, Some (Value x)) ∷ m.1)) × IfSome m.0.known.opening (λ o. stands x o log))
 
   -- the history has more entries, which are the seat's own
-  abbrev pub added : (E → Bool) → List E → Step (Option (Held T W A)) → Me (Option (Held T W A)) (View O E W) → ℕ → Me (Option (Held T W A)) (View O E W) → Type 0
-  added kept es st m n m' = (log : List E) → m.0.stage ≡ Works log → (m' ≡ (worked m.0 log es, m.1)) × IsPrefix m.0.known.seen log × OwnsKept kept m'.0.known × OwnPlaces m'.0.known
+  abbrev pub added : (E → Bool) → List E → Step (Option (Held T W A)) → Me (Option (Held T W A)) (View O E W) → ℕ
+      → Me (Option (Held T W A)) (View O E W) → Type 0
+  added kept es st m n m' = (log : List E) → m.0.stage ≡ Works log → (m' ≡ (worked m.0 log es, m.1)) × IsPrefix m.0.known.seen log
+      × OwnsKept kept m'.0.known × OwnPlaces m'.0.known
 
   -- the value is home again
   abbrev pub freed : Step (Option (Held T W A)) → Me (Option (Held T W A)) (View O E W) → ℕ → Me (Option (Held T W A)) (View O E W) → Type 0
@@ -51,17 +54,22 @@ module _ {T O E W A : Type 0} where
   done es st m n m' = (log : List E) → m.0.stage ≡ Works log → m' ≡ (served m.0 log es, rest m.1)
 
   -- the answer is taken, where there is one
-  abbrev pub collected : (T → O → List E → Type 0) → (E → Bool) → (W → A → T → List E) → (W → T → A → T → Type 0) → Step (Option (Held T W A)) → Me (Option (Held T W A)) (View O E W) → ℕ → Me (Option (Held T W A)) (View O E W) → Type 0
+  abbrev pub collected : (T → O → List E → Type 0) → (E → Bool) → (W → A → T → List E) → (W → T → A → T → Type 0)
+      → Step (Option (Held T W A)) → Me (Option (Held T W A)) (View O E W) → ℕ → Me (Option (Held T W A)) (View O E W) → Type 0
   collected stands kept entries gives st m n m' =
       (n ≢ 6 → m' ≡ m)
       × (n ≡ 6 → (w : W) → m.0.post ≡ Posts st.word w → (a : A) × (old : T) × (new : T) × (log : List E)
       × (m' ≡ (answered m.0 st.word log (entries w a new), (st.word, Some (Answered a)) ∷ m.1))
-      × IsPrefix m.0.known.seen log × gives w old a new × IfSome m.0.known.opening (λ o. stands old o log × stands new o (log ++ entries w a new)) × OwnsKept kept m'.0.known × OwnPlaces m'.0.known)
+      × IsPrefix m.0.known.seen log × gives w old a new
+      × IfSome m.0.known.opening (λ o. stands old o log × stands new o (log ++ entries w a new)) × OwnsKept kept m'.0.known
+      × OwnPlaces m'.0.known)
 
   -- the place is empty again
   abbrev pub left : Step (Option (Held T W A)) → Me (Option (Held T W A)) (View O E W) → ℕ → Me (Option (Held T W A)) (View O E W) → Type 0
   left st m n m' = m' ≡ (at_post m.0 Nowhere, rest m.1)
 
   -- a look that compares the two beginnings that a join has put together
-  abbrev pub compared : (E → Bool) → Step (Option (Held T W A)) → Me (Option (Held T W A)) (View O E W) → ℕ → Me (Option (Held T W A)) (View O E W) → Type 0
-  compared kept st m n m' = (m' ≡ (record { known = m.0.known; merged = []; stage = m.0.stage; hand = m.0.hand; post = m.0.post }, m.1)) × (length m.0.merged ≤ length m.0.known.seen → IsPrefix m.0.merged m.0.known.seen) × OwnsKept kept m'.0.known × OwnPlaces m'.0.known
+  abbrev pub compared : (E → Bool) → Step (Option (Held T W A)) → Me (Option (Held T W A)) (View O E W) → ℕ
+      → Me (Option (Held T W A)) (View O E W) → Type 0
+  compared kept st m n m' = (m' ≡ (record { known = m.0.known; merged = []; stage = m.0.stage; hand = m.0.hand; post = m.0.post }, m.1))
+      × (length m.0.merged ≤ length m.0.known.seen → IsPrefix m.0.merged m.0.known.seen) × OwnsKept kept m'.0.known × OwnPlaces m'.0.known

@@ -65,7 +65,8 @@ impl<T: Turned> TurnLock<T> {
         ensures work { IsAtWork T.opening T.stands self.now seat.new value.new }
         ensures view { (seat.new.me.0.post ≡ seat.old.me.0.post) × (seat.new.me.0.merged ≡ seat.old.me.0.merged) }
         ensures turn { (old : T) × (log : List T.Entry) × T.stands old (opening_of T.opening self.now) log × T.Work.gives work old result value.new
-            × T.stands value.new (opening_of T.opening self.now) (log ++ T.Work.entries work result value.new) × Turn (known_of seat.old) (known_of seat.new) log (T.Work.entries work result value.new) }
+            × T.stands value.new (opening_of T.opening self.now) (log ++ T.Work.entries work result value.new)
+            × Turn (known_of seat.old) (known_of seat.new) log (T.Work.entries work result value.new) }
         ensures kept { OwnsKept T.kept (known_of seat.new) }
         ensures own { OwnPlaces (known_of seat.new) }
     {
@@ -78,7 +79,8 @@ impl<T: Turned> TurnLock<T> {
 
     // Takes the work of the place out of the slot that is out with the seat.
     fn take_work(&self, seat: &mut Seat<T>, place: usize) -> T::Work
-        requires { (seat.old.table_id ≡ self.now.table.shared.table_id) × ((w : T.Work) × (seat.old.me.1 ≡ (place, Some (Asked w)) ∷ (0, None) ∷ [])) }
+        requires { (seat.old.table_id ≡ self.now.table.shared.table_id)
+            × ((w : T.Work) × (seat.old.me.1 ≡ (place, Some (Asked w)) ∷ (0, None) ∷ [])) }
         ensures table { seat.new.table_id ≡ seat.old.table_id }
         ensures work { seat.old.me.1 ≡ (place, Some (Asked result)) ∷ (0, None) ∷ [] }
         ensures slot { seat.new.me ≡ (seat.old.me.0, (place, None) ∷ (0, None) ∷ []) }
@@ -206,11 +208,14 @@ impl<T: Turned> TurnLock<T> {
     // Does the seat's own work and what was posted, and frees the lock.
     pub(crate) fn lead(&self, seat: &mut Seat<T>, work: T::Work) -> Out<T>
         requires locked { IsLocked T.opening T.stands self.now seat.old }
-        requires rest { (seat.old.me.0.merged ≡ []) × (seat.old.me.0.post ≡ Nowhere) × ((known_of seat.old).opening ≡ Some (opening_of T.opening self.now)) }
+        requires rest { (seat.old.me.0.merged ≡ []) × (seat.old.me.0.post ≡ Nowhere)
+            × ((known_of seat.old).opening ≡ Some (opening_of T.opening self.now)) }
         requires may { (known_of seat.old).first ≡ false → NeverKept T.kept T.Work.entries T.Work.gives work }
         ensures seat { IsSeatOf T.opening self.now seat.new }
-        ensures turn { (old : T) × (new : T) × (log : List T.Entry) × T.stands old (opening_of T.opening self.now) log × T.Work.gives work old result new
-            × T.stands new (opening_of T.opening self.now) (log ++ T.Work.entries work result new) × Turn (known_of seat.old) (known_of seat.new) log (T.Work.entries work result new) }
+        ensures turn { (old : T) × (new : T) × (log : List T.Entry) × T.stands old (opening_of T.opening self.now) log
+            × T.Work.gives work old result new
+            × T.stands new (opening_of T.opening self.now) (log ++ T.Work.entries work result new)
+            × Turn (known_of seat.old) (known_of seat.new) log (T.Work.entries work result new) }
         ensures kept { OwnsKept T.kept (known_of seat.new) }
         ensures own { OwnPlaces (known_of seat.new) }
     {

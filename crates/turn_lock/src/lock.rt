@@ -115,8 +115,10 @@ impl<T: Turned> TurnLock<T> {
         requires seat { IsSeatOf T.opening self.now seat.old }
         requires may { (known_of seat.old).first ≡ false → NeverKept T.kept T.Work.entries T.Work.gives work }
         ensures seat { IsSeatOf T.opening self.now seat.new }
-        ensures turn { (old : T) × (new : T) × (log : List T.Entry) × T.stands old (opening_of T.opening self.now) log × T.Work.gives work old result new
-            × T.stands new (opening_of T.opening self.now) (log ++ T.Work.entries work result new) × Turn (known_of seat.old) (known_of seat.new) log (T.Work.entries work result new) }
+        ensures turn { (old : T) × (new : T) × (log : List T.Entry) × T.stands old (opening_of T.opening self.now) log
+            × T.Work.gives work old result new
+            × T.stands new (opening_of T.opening self.now) (log ++ T.Work.entries work result new)
+            × Turn (known_of seat.old) (known_of seat.new) log (T.Work.entries work result new) }
         ensures kept { OwnsKept T.kept (known_of seat.new) }
         ensures own { OwnPlaces (known_of seat.new) }
     {
@@ -162,8 +164,10 @@ impl<T: Turned> TurnLock<T> {
         requires place { (0 < place) × (place < 256) }
         requires waits { WaitsAt T.opening self.now seat.old place work.now.value }
         ensures seat { IsSeatOf T.opening self.now seat.new }
-        ensures turn { (old : T) × (new : T) × (log : List T.Entry) × T.stands old (opening_of T.opening self.now) log × T.Work.gives work.now.value old result new
-            × T.stands new (opening_of T.opening self.now) (log ++ T.Work.entries work.now.value result new) × Turn (known_of seat.old) (known_of seat.new) log (T.Work.entries work.now.value result new) }
+        ensures turn { (old : T) × (new : T) × (log : List T.Entry) × T.stands old (opening_of T.opening self.now) log
+            × T.Work.gives work.now.value old result new
+            × T.stands new (opening_of T.opening self.now) (log ++ T.Work.entries work.now.value result new)
+            × Turn (known_of seat.old) (known_of seat.new) log (T.Work.entries work.now.value result new) }
         ensures kept { OwnsKept T.kept (known_of seat.new) }
         ensures own { OwnPlaces (known_of seat.new) }
     {

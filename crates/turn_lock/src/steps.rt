@@ -40,7 +40,8 @@ pub(crate) const DONE: u64 = 6;
 impl<T: Turned> TurnLock<T> {
     // The slot of the value goes out to the first seat, when the lock is made.
     pub(crate) fn open(&self, seat: &mut Seat<T>)
-        requires { (seat.old.table_id ≡ self.now.table.shared.table_id) × (seat.old.me.0.stage ≡ Opens) × (seat.old.me.0.hand ≡ Empty) × (seat.old.me.0.post ≡ Nowhere) }
+        requires { (seat.old.table_id ≡ self.now.table.shared.table_id) × (seat.old.me.0.stage ≡ Opens) × (seat.old.me.0.hand ≡ Empty)
+            × (seat.old.me.0.post ≡ Nowhere) }
         ensures table { seat.new.table_id ≡ seat.old.table_id }
         ensures me { seat.new.me ≡ (at_stage seat.old.me.0 (Works []), (0, None) ∷ seat.old.me.1) }
     {
@@ -50,10 +51,12 @@ impl<T: Turned> TurnLock<T> {
     // Takes the lock if it is free. The slot of the value then goes out to the seat.
     pub(crate) fn try_lock(&self, seat: &mut Seat<T>) -> bool
         requires table { (seat.old.table_id ≡ self.now.table.shared.table_id) × (seat.old.me.1 ≡ []) }
-        requires aside { (seat.old.me.0.stage ≡ Idle) × (seat.old.me.0.hand ≡ Empty) × ((known_of seat.old).opening ≡ Some (opening_of T.opening self.now)) }
+        requires aside { (seat.old.me.0.stage ≡ Idle) × (seat.old.me.0.hand ≡ Empty)
+            × ((known_of seat.old).opening ≡ Some (opening_of T.opening self.now)) }
         ensures table { seat.new.table_id ≡ seat.old.table_id }
         ensures missed { result ≡ false → seat.new.me ≡ seat.old.me }
-        ensures locked { IsTrue result → (value : T) × (log : List T.Entry) × (seat.new.me ≡ (at_stage seat.old.me.0 (Works log), (0, Some (Value value)) ∷ []))
+        ensures locked { IsTrue result → (value : T) × (log : List T.Entry)
+            × (seat.new.me ≡ (at_stage seat.old.me.0 (Works log), (0, Some (Value value)) ∷ []))
             × T.stands value (opening_of T.opening self.now) log }
     {
         self.table
@@ -77,7 +80,8 @@ impl<T: Turned> TurnLock<T> {
         requires may { (known_of seat.old).first ≡ false → NoneKept T.kept (T.Work.entries work.now.value out.now after.now.value) }
         ensures table { seat.new.table_id ≡ seat.old.table_id }
         ensures turn { (log : List T.Entry) → seat.old.me.0.stage ≡ Works log
-            → (seat.new.me ≡ (worked seat.old.me.0 log (T.Work.entries work.now.value out.now after.now.value), seat.old.me.1)) × IsPrefix (known_of seat.old).seen log }
+            → (seat.new.me ≡ (worked seat.old.me.0 log (T.Work.entries work.now.value out.now after.now.value), seat.old.me.1))
+            × IsPrefix (known_of seat.old).seen log }
         ensures kept { OwnsKept T.kept (known_of seat.new) }
         ensures own { OwnPlaces (known_of seat.new) }
     {
@@ -116,7 +120,8 @@ impl<T: Turned> TurnLock<T> {
         requires place { (0 < place) × (place < 256) }
         requires word { IsPosted word }
         requires table { seat.old.table_id ≡ self.now.table.shared.table_id }
-        requires claims { (seat.old.me.0.stage ≡ Idle) × (seat.old.me.0.hand ≡ Empty) × (seat.old.me.0.post ≡ Claims place) × (seat.old.me.1 ≡ (place, Some (Asked work.now.value)) ∷ []) }
+        requires claims { (seat.old.me.0.stage ≡ Idle) × (seat.old.me.0.hand ≡ Empty) × (seat.old.me.0.post ≡ Claims place)
+            × (seat.old.me.1 ≡ (place, Some (Asked work.now.value)) ∷ []) }
         requires may { (known_of seat.old).first ≡ false → NeverKept T.kept T.Work.entries T.Work.gives work.now.value }
         ensures table { seat.new.table_id ≡ seat.old.table_id }
         ensures me { seat.new.me ≡ (at_post seat.old.me.0 (Posts place work.now.value), []) }
@@ -146,7 +151,8 @@ impl<T: Turned> TurnLock<T> {
         requires works { (seat.old.me.0.hand ≡ Empty) × ((log : List T.Entry) × (seat.old.me.0.stage ≡ Works log)) }
         ensures table { seat.new.table_id ≡ seat.old.table_id }
         ensures none { result ≡ false → seat.new.me ≡ seat.old.me }
-        ensures work { IsTrue result → (w : T.Work) × (seat.new.me ≡ (with_hand seat.old.me.0 (Holds place w), (place, Some (Asked w)) ∷ seat.old.me.1)) }
+        ensures work { IsTrue result → (w : T.Work)
+            × (seat.new.me ≡ (with_hand seat.old.me.0 (Holds place w), (place, Some (Asked w)) ∷ seat.old.me.1)) }
     {
         let found = self.table.shared.load::<Fetch>(seat, place);
         POSTED <= found && found < DONE
@@ -166,7 +172,8 @@ impl<T: Turned> TurnLock<T> {
         requires table { seat.old.table_id ≡ self.now.table.shared.table_id }
         requires slots { seat.old.me.1 ≡ (place, Some (Answered out.now.value)) ∷ (0, None) ∷ [] }
         requires hand { seat.old.me.0.hand ≡ Holds place work.now.value }
-        requires ran { (old : T) × (log : List T.Entry) × (seat.old.me.0.stage ≡ Works log) × T.stands old (opening_of T.opening self.now) log × T.Work.gives work.now.value old out.now.value after.now.value
+        requires ran { (old : T) × (log : List T.Entry) × (seat.old.me.0.stage ≡ Works log)
+            × T.stands old (opening_of T.opening self.now) log × T.Work.gives work.now.value old out.now.value after.now.value
             × T.stands after.now.value (opening_of T.opening self.now) (log ++ T.Work.entries work.now.value out.now.value after.now.value) }
         ensures table { seat.new.table_id ≡ seat.old.table_id }
         ensures me { (log : List T.Entry) → seat.old.me.0.stage ≡ Works log
@@ -185,7 +192,8 @@ impl<T: Turned> TurnLock<T> {
         ensures turn { IsTrue result → (out : T.Work.Out) × (old : T) × (new : T) × (log : List T.Entry)
             × (seat.new.me ≡ (answered seat.old.me.0 place log (T.Work.entries work.now.value out new), (place, Some (Answered out)) ∷ seat.old.me.1))
             × IsPrefix (known_of seat.old).seen log × T.stands old (opening_of T.opening self.now) log × T.Work.gives work.now.value old out new
-            × T.stands new (opening_of T.opening self.now) (log ++ T.Work.entries work.now.value out new) × OwnsKept T.kept (known_of seat.new) × OwnPlaces (known_of seat.new) }
+            × T.stands new (opening_of T.opening self.now) (log ++ T.Work.entries work.now.value out new)
+            × OwnsKept T.kept (known_of seat.new) × OwnPlaces (known_of seat.new) }
     {
         self.table
             .shared
@@ -197,7 +205,8 @@ impl<T: Turned> TurnLock<T> {
     pub(crate) fn leave(&self, seat: &mut Seat<T>, place: usize)
         requires place { (0 < place) × (place < 256) }
         requires table { seat.old.table_id ≡ self.now.table.shared.table_id }
-        requires claims { (seat.old.me.0.stage ≡ Idle) × (seat.old.me.0.hand ≡ Empty) × (seat.old.me.0.post ≡ Claims place) × (seat.old.me.1 ≡ (place, None) ∷ []) }
+        requires claims { (seat.old.me.0.stage ≡ Idle) × (seat.old.me.0.hand ≡ Empty) × (seat.old.me.0.post ≡ Claims place)
+            × (seat.old.me.1 ≡ (place, None) ∷ []) }
         ensures table { seat.new.table_id ≡ seat.old.table_id }
         ensures me { seat.new.me ≡ (at_post seat.old.me.0 Nowhere, []) }
     {

@@ -9,7 +9,7 @@ use Rattle.world_model.specs.declared.faults.WordFault.TheVariants.{Unserved}
 
 -- the names of the commands that are not built yet
 abbrev pub unbuilt : List Bytes
-unbuilt = codes "AOFSHRINK" ∷ codes "SETCHAN" ∷ codes "DELCHAN" ∷ codes "PDELCHAN" ∷ codes "CHANS" ∷ codes "SUBSCRIBE" ∷ codes "PSUBSCRIBE" ∷ []
+unbuilt = codes "AOFSHRINK" ∷ []
 
 -- the first word is no name of a command that is not built yet
 abbrev pub is_served : List Bytes → Bool

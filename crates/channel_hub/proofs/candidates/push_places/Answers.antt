@@ -2,11 +2,12 @@ use Rattle.std.proofs.Common.{◌∷◌, [], ◌++◌, ap, ◌∙◌, map}
 use Rattle.std.specs.List.{list_any}
 use Rattle.world_data.specs.Worlds.{is_named}
 use Rattle.channel_hub.specs.Places.{place_named}
-use Rattle.channel_hub.proofs.Placing.{all_at, one_placed}
+use Rattle.ordered_lists.specs.Reading.{all_at}
+use Rattle.channel_hub.proofs.Placing.{one_placed}
 use Rattle.channel_hub.proofs.candidates.push_places.Goals as goal
 
 pub place_in-requires-clause-held : goal.place_in-requires-clause-held
-place_in-requires-clause-held c = all_at (λ name. list_any (is_named name) c.args.list.now) c.args.names.now c.loop-i.i c.at.result.now c.requires.held c.at.ensures
+place_in-requires-clause-held c = all_at (λ name. list_any (is_named name) c.args.list.now) c.args.names.now c.loop-i.i c.at.result.now c.at.ensures c.requires.held
 
 pub loop-i-preserved : goal.loop-i-preserved
 loop-i-preserved c =

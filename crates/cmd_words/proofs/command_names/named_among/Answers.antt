@@ -1,4 +1,4 @@
-use Rattle.std.proofs.Common.{rules, ◌≡◌, false, subst, List, ℕ}
+use Rattle.std.proofs.Common.{rules, ◌≡◌, false, subst}
 use Rattle.byte_text.specs.Names.{Bytes, is_word}
 use Rattle.cmd_words.specs.declared.command_names.CommandName.TheVariants as command
 use Rattle.cmd_words.proofs.Others.{others_more}

@@ -4,7 +4,10 @@ use Rattle.std.proofs.lemmas.Result.{err_from_is_err_and}
 use Rattle.cmd_words.specs.Progress.{a_name}
 use Rattle.cmd_words.specs.Scans.{scan_output, behind_scan}
 use Rattle.cmd_words.proofs.Ends.{begun_fails}
-use Rattle.cmd_words.proofs.SearchWords.{options_refused}
+use Rattle.world_model.specs.Commands.{no_search_options}
+use Rattle.cmd_words.specs.SearchWords.{search_table}
+use Rattle.cmd_words.proofs.Options.{options_refused}
+use Rattle.cmd_words.proofs.SearchWords.{search_laws}
 use Rattle.cmd_words.proofs.ScanWords.{no_option_word, bare_read, more_refused, output_refused, output_read}
 use Rattle.cmd_words.proofs.scans.scan_command.Goals as goal
 
@@ -16,7 +19,7 @@ returns-in_err-key c =
 pub returns-in_err-options : goal.returns-in_err-options
 returns-in_err-options c =
     let p = err_from_is_err_and c.from_residual-in_err-options.result c.from_residual-in_err-options.ensures.1 in
-    rw (p.1, p.2) (λ h. options_refused true scan_output no_option_word c.args.reader.now c.name.new.self _ c.in_ok-key.ensures h _ c.in_err-options.ensures)
+    rw (p.1, p.2) (λ h. options_refused (search_table true) (search_laws true) no_search_options scan_output no_option_word c.args.reader.now c.name.new.self _ c.in_ok-key.ensures h _ c.in_err-options.ensures)
 
 pub returns-in_err-stop : goal.returns-in_err-stop
 returns-in_err-stop c =

@@ -6,7 +6,7 @@ use Rattle.world_model.specs.Grammar.{done}
 use Rattle.world_model.specs.Kinds.{glob, between}
 use Rattle.cmd_words.specs.SearchWords.{range_test, among_test, with_test}
 use Rattle.cmd_words.proofs.Binds.{bind_fails}
-use Rattle.cmd_words.proofs.SearchWords.{value_read}
+use Rattle.cmd_words.proofs.Options.{value_read}
 use Rattle.cmd_words.proofs.search_options.with_option.Goals as goal
 
 pub returns-in_err-glob-in-Match : goal.returns-in_err-glob-in-Match

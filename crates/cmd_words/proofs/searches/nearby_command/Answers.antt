@@ -3,7 +3,10 @@ use Rattle.std.proofs.lemmas.Result.{err_from_is_err_and}
 use Rattle.cmd_words.specs.Progress.{a_name}
 use Rattle.cmd_words.specs.Searches.{nearby_point, behind_nearby}
 use Rattle.cmd_words.proofs.Ends.{begun_fails}
-use Rattle.cmd_words.proofs.SearchWords.{options_refused}
+use Rattle.world_model.specs.Commands.{no_search_options}
+use Rattle.cmd_words.specs.SearchWords.{search_table}
+use Rattle.cmd_words.proofs.Options.{options_refused}
+use Rattle.cmd_words.proofs.SearchWords.{search_laws}
 use Rattle.cmd_words.proofs.SearchCommands.{no_option_point, nearby_refused, nearby_not_ended, nearby_read}
 use Rattle.cmd_words.proofs.searches.nearby_command.Goals as goal
 
@@ -15,7 +18,7 @@ returns-in_err-key c =
 pub returns-in_err-options : goal.returns-in_err-options
 returns-in_err-options c =
     let p = err_from_is_err_and c.from_residual-in_err-options.result c.from_residual-in_err-options.ensures.1 in
-    rw (p.1, p.2) (λ h. options_refused false nearby_point no_option_point c.args.reader.now c.name.new.self _ c.in_ok-key.ensures h _ c.in_err-options.ensures)
+    rw (p.1, p.2) (λ h. options_refused (search_table false) (search_laws false) no_search_options nearby_point no_option_point c.args.reader.now c.name.new.self _ c.in_ok-key.ensures h _ c.in_err-options.ensures)
 
 pub returns-in_err-shown : goal.returns-in_err-shown
 returns-in_err-shown c =

@@ -1,6 +1,5 @@
 use Rattle.std.proofs.Common.{◌≡◌, ◌∙◌, true, sym, subst, ap, ℕ, Bool, List, arith}
 use Rattle.std.specs.Prelude.{nat_eq, ◌||◌, ◌&&◌}
-use Rattle.std.specs.List.{insert}
 use Rattle.slab.specs.Slab.{get}
 use Rattle.ordered_lists.specs.Lists.{ascends}
 use Rattle.ordered_lists.specs.Ascending.{put_in-insert, ascends-put_in}

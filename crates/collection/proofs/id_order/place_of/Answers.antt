@@ -2,7 +2,8 @@ use Rattle.std.proofs.Common.{◌≡◌, ◌<◌, true, false, rules, length, sy
 use Rattle.std.specs.Prelude.{Option, IfSome}
 use Rattle.byte_text.specs.Names.{before, same}
 use Rattle.world_data.specs.declared.objects.Object.{Object}
-use Rattle.collection.specs.IdOrder.{tied, is_behind}
+use Rattle.byte_text.specs.ByteOrder.{behind_others}
+use Rattle.collection.specs.IdOrder.{tied}
 use Rattle.collection.proofs.Slots.{first_behind}
 use Rattle.collection.proofs.id_order.place_of.Goals as goal
 
@@ -32,5 +33,5 @@ returns-else-is_same-clause-free c =
     record {
       front = c.count_before-at.ensures.front;
       within = c.count_before-at.ensures.within;
-      behind = subst (λ (o : Option Object). IfSome o (λ o. before id o.id ≡ true)) (sym c.at.ensures) (is_behind id x fails other);
+      behind = subst (λ (o : Option Object). IfSome o (λ o. before id o.id ≡ true)) (sym c.at.ensures) (behind_others x.id id fails other);
     }

@@ -1,10 +1,10 @@
-use Rattle.std.proofs.Common.{◌≡◌, true, not, rules}
+use Rattle.std.proofs.Common.{not, rules}
 use Rattle.std.proofs.lemmas.List.Sorted.{IsPartitionPoint-from_clause}
 use Rattle.byte_text.specs.Names.{before}
-use Rattle.ordered_lists.specs.Reading.{front_all}
+use Rattle.ordered_lists.specs.Places.{partitioned_by, split_front}
 use Rattle.fence_index.specs.declared.marks.Mark.{Mark}
 use Rattle.fence_index.specs.Marks.{mark_before}
-use Rattle.fence_index.proofs.MarkOrder.{back_all, front_is, key_up, partitioned_by}
+use Rattle.fence_index.proofs.MarkOrder.{key_up}
 use Rattle.fence_index.proofs.mark_order.up_to_key.Goals as goal
 
 pub returns : goal.returns
@@ -13,6 +13,4 @@ returns c =
     let list = c.args.list.now in
     let end = c.partition_point-end.result in
     let parts = IsPartitionPoint-from_clause (λ (m : Mark). not (before key m.key)) list end c.partition_point-end.ensures.partitioned (partitioned_by mark_before (λ (m : Mark). not (before key m.key)) (key_up key) list c.requires) (λ a r f' called. search rules) in
-    let front = front_all (λ (m : Mark). not (before key m.key)) list end c.partition_point-end.ensures.bound parts.0 in
-    let back = back_all (λ (m : Mark). not (before key m.key)) list end parts.1 in
-    front_is (λ (m : Mark). not (before key m.key)) list end front back
+    split_front (λ (m : Mark). not (before key m.key)) list end c.partition_point-end.ensures.bound parts

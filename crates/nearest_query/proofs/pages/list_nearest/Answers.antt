@@ -1,23 +1,150 @@
-use Rattle.std.proofs.Common.{◌≡◌, false, sym, ◌∙◌}
-use Rattle.ordered_lists.specs.Lists.{sorted_by}
-use Rattle.fence_model.specs.Queries.{is_count, page_items}
-use Rattle.nearest_query.specs.Hits.{nearer_box}
-use Rattle.nearest_query.proofs.Nearest.{page_of_sorted}
+use Rattle.std.proofs.Common.{◌≡◌, ◌≤◌, ◌∙◌, ℕ, true, refl, sym, ap, subst, length, arith}
+use Rattle.std.specs.Prelude.{Some, nat_eq}
+use Rattle.fence_model.specs.Queries.{distance, near_matches, page_ids}
+use Rattle.collection.specs.Nearing.{IsNext}
+use Rattle.collection.specs.PlaceLaws.{count_places}
+use Rattle.search_query.specs.Pages.{is_past}
+use Rattle.search_query.specs.PageLaws.{ids_first, enough_first, count_all}
+use Rattle.nearest_query.specs.Found.{is_reached, found_so_far}
+use Rattle.nearest_query.proofs.Nearest.{none_given, no_page, only_none, is_out, is_in, split_given, all_found, given_all, all_given, none_reached, next_given, fewer_left, few_given}
 use Rattle.nearest_query.proofs.pages.list_nearest.Goals as goal
 
-pub list_ids-requires-clause-places : goal.list_ids-requires-clause-places
-list_ids-requires-clause-places c =
-    let r = c.requires.places in
+pub loop-places-init : goal.loop-places-init
+loop-places-init g c =
     let q = c.args.query.now in
+    let objects = c.args.collection.now.objects in
     record {
-      point = r.point;
-      found = page_items q (sorted_by (nearer_box r.point) r.found);
-      are = page_of_sorted r.point c.args.collection.now.objects r.found q c.args.hits.items _ _ _ r.are c.in_ok-sort_by_distance.ensures c.as_slice.ensures.value c.on_page.ensures;
+      objects = c.in_ok-walk.ensures.objects;
+      from = c.in_ok-walk.ensures.from;
+      count = rw (c.in_ok-walk.ensures.given, none_given q c.args.at c.args.reach objects) refl;
+      ids = rw (c.in_ok-walk.ensures.given, none_given q c.args.at c.args.reach objects, no_page q) c.requires.empty;
     }
 
-pub returns : goal.returns
-returns c = λ p found are.
+pub returns-then-is_beyond-clause-count : goal.returns-then-is_beyond-clause-count
+returns-then-is_beyond-clause-count g c =
     let q = c.args.query.now in
-    let paged : is_count q.shown ≡ false = sym c.is_count.ensures ∙ c.if-is_count.false in
-    let on_page = page_of_sorted p c.args.collection.now.objects found q c.args.hits.items _ _ _ are c.in_ok-sort_by_distance.ensures c.as_slice.ensures.value c.on_page.ensures in
-    rw paged (c.list_ids.ensures p (page_items q (sorted_by (nearer_box p) found)) on_page)
+    let objects = c.args.collection.now.objects in
+    let l = c.loop-places in
+    let next : IsNext c.in-Some.distance c.loop-places.walk c.next.new.self c.next.new.into = rw c.in-Some.is at c.in_ok-distance.ensures.ok in
+    let least = rw (l.invariant.from, l.invariant.objects) at next.least in
+    let out = is_out (is_reached c.args.reach c.in-Some.distance) (sym c.is_beyond.ensures ∙ c.if-is_beyond.true) in
+    let all = given_all q c.args.at c.args.reach objects l.walk.given c.in_ok-walk.ensures.by_id (none_reached q c.args.at c.args.reach objects l.walk.given c.in-Some.distance out least) in
+    count_all q (near_matches q c.args.at c.args.reach objects) l.found (l.invariant.count ∙ ap length all)
+
+pub returns-then-is_beyond-clause-ids : goal.returns-then-is_beyond-clause-ids
+returns-then-is_beyond-clause-ids g c =
+    let q = c.args.query.now in
+    let objects = c.args.collection.now.objects in
+    let l = c.loop-places in
+    let next : IsNext c.in-Some.distance c.loop-places.walk c.next.new.self c.next.new.into = rw c.in-Some.is at c.in_ok-distance.ensures.ok in
+    let least = rw (l.invariant.from, l.invariant.objects) at next.least in
+    let out = is_out (is_reached c.args.reach c.in-Some.distance) (sym c.is_beyond.ensures ∙ c.if-is_beyond.true) in
+    let all = given_all q c.args.at c.args.reach objects l.walk.given c.in_ok-walk.ensures.by_id (none_reached q c.args.at c.args.reach objects l.walk.given c.in-Some.distance out least) in
+    l.invariant.ids ∙ ap (page_ids q) all
+
+pub note_all-requires-clause-places : goal.note_all-requires-clause-places
+note_all-requires-clause-places g c =
+    let l = c.loop-places in
+    let d = c.in-Some.distance in
+    let next : IsNext c.in-Some.distance c.loop-places.walk c.next.new.self c.next.new.into = rw c.in-Some.is at c.in_ok-distance.ensures.ok in
+    (λ o. nat_eq (distance c.args.at o) d, rw (l.invariant.from, l.invariant.objects) at next.listed)
+
+pub note_all-requires-clause-seen : goal.note_all-requires-clause-seen
+note_all-requires-clause-seen g c = (found_so_far c.args.query.now c.args.at c.args.reach c.loop-places.walk.given c.args.collection.now.objects, c.loop-places.invariant.count)
+
+pub note_all-requires-clause-room : goal.note_all-requires-clause-room
+note_all-requires-clause-room g c =
+    let q = c.args.query.now in
+    let objects = c.args.collection.now.objects in
+    let l = c.loop-places in
+    let d = c.in-Some.distance in
+    let next : IsNext c.in-Some.distance c.loop-places.walk c.next.new.self c.next.new.into = rw c.in-Some.is at c.in_ok-distance.ensures.ok in
+    let least = rw (l.invariant.from, l.invariant.objects) at next.least in
+    let listed = rw (l.invariant.from, l.invariant.objects) at next.listed in
+    let few = few_given q c.args.at c.args.reach objects l.walk.given d next.farther least in
+    let long = ap length listed ∙ count_places (λ o. nat_eq (distance c.args.at o) d) 0 objects in
+    omega (arith, few, long, l.invariant.count, c.len-count.ensures.count)
+
+pub loop-places-preserved : goal.loop-places-preserved
+loop-places-preserved g c =
+    let q = c.args.query.now in
+    let objects = c.args.collection.now.objects in
+    let l = c.loop-places in
+    let d = c.in-Some.distance in
+    let next : IsNext c.in-Some.distance c.loop-places.walk c.next.new.self c.next.new.into = rw c.in-Some.is at c.in_ok-distance.ensures.ok in
+    let least = rw (l.invariant.from, l.invariant.objects) at next.least in
+    let listed = rw (l.invariant.from, l.invariant.objects) at next.listed in
+    let seen = found_so_far q c.args.at c.args.reach l.walk.given objects in
+    let near = is_in (is_reached c.args.reach d) (sym c.is_beyond.ensures ∙ c.if-is_beyond.false) in
+    let step = next_given q c.args.at c.args.reach objects l.walk.given d next.farther least near in
+    record {
+      objects = c.next.ensures.objects ∙ l.invariant.objects;
+      from = c.next.ensures.from ∙ l.invariant.from;
+      count = rw next.given (c.in_ok-found.ensures.count (λ o. nat_eq (distance c.args.at o) d) seen listed l.invariant.count ∙ ap length (sym step));
+      ids = rw next.given (c.in_ok-found.ensures.ids (λ o. nat_eq (distance c.args.at o) d) seen listed l.invariant.count l.invariant.ids ∙ ap (page_ids q) (sym step));
+    }
+
+pub returns-then-is_past-clause-count : goal.returns-then-is_past-clause-count
+returns-then-is_past-clause-count g c =
+    let q = c.args.query.now in
+    let objects = c.args.collection.now.objects in
+    let l = c.loop-places in
+    let d = c.in-Some.distance in
+    let next : IsNext c.in-Some.distance c.loop-places.walk c.next.new.self c.next.new.into = rw c.in-Some.is at c.in_ok-distance.ensures.ok in
+    let least = rw (l.invariant.from, l.invariant.objects) at next.least in
+    let listed = rw (l.invariant.from, l.invariant.objects) at next.listed in
+    let seen = found_so_far q c.args.at c.args.reach l.walk.given objects in
+    let near = is_in (is_reached c.args.reach d) (sym c.is_beyond.ensures ∙ c.if-is_beyond.false) in
+    let step = next_given q c.args.at c.args.reach objects l.walk.given d next.farther least near in
+    let count = c.in_ok-found.ensures.count (λ o. nat_eq (distance c.args.at o) d) seen listed l.invariant.count ∙ ap length (sym step) in
+    let are = sym (all_found q c.args.at c.args.reach objects c.in_ok-walk.ensures.by_id) ∙ split_given q c.args.at c.args.reach objects (Some d) in
+    enough_first q (near_matches q c.args.at c.args.reach objects) _ _ c.in_ok-found.found are count (sym c.is_past.ensures ∙ c.if-is_past.true)
+
+pub returns-then-is_past-clause-ids : goal.returns-then-is_past-clause-ids
+returns-then-is_past-clause-ids g c =
+    let q = c.args.query.now in
+    let objects = c.args.collection.now.objects in
+    let l = c.loop-places in
+    let d = c.in-Some.distance in
+    let next : IsNext c.in-Some.distance c.loop-places.walk c.next.new.self c.next.new.into = rw c.in-Some.is at c.in_ok-distance.ensures.ok in
+    let least = rw (l.invariant.from, l.invariant.objects) at next.least in
+    let listed = rw (l.invariant.from, l.invariant.objects) at next.listed in
+    let seen = found_so_far q c.args.at c.args.reach l.walk.given objects in
+    let near = is_in (is_reached c.args.reach d) (sym c.is_beyond.ensures ∙ c.if-is_beyond.false) in
+    let step = next_given q c.args.at c.args.reach objects l.walk.given d next.farther least near in
+    let count = c.in_ok-found.ensures.count (λ o. nat_eq (distance c.args.at o) d) seen listed l.invariant.count ∙ ap length (sym step) in
+    let are = sym (all_found q c.args.at c.args.reach objects c.in_ok-walk.ensures.by_id) ∙ split_given q c.args.at c.args.reach objects (Some d) in
+    let past = subst (λ (n : ℕ). is_past q n ≡ true) count (sym c.is_past.ensures ∙ c.if-is_past.true) in
+    c.in_ok-found.ensures.ids (λ o. nat_eq (distance c.args.at o) d) seen listed l.invariant.count l.invariant.ids ∙ ap (page_ids q) (sym step) ∙ ids_first q (near_matches q c.args.at c.args.reach objects) _ _ are past
+
+pub loop-places-smaller : goal.loop-places-smaller
+loop-places-smaller g c =
+    let q = c.args.query.now in
+    let objects = c.args.collection.now.objects in
+    let l = c.loop-places in
+    let d = c.in-Some.distance in
+    let next : IsNext c.in-Some.distance c.loop-places.walk c.next.new.self c.next.new.into = rw c.in-Some.is at c.in_ok-distance.ensures.ok in
+    let least = rw (l.invariant.from, l.invariant.objects) at next.least in
+    let listed = rw (l.invariant.from, l.invariant.objects) at next.listed in
+    let long = ap length listed ∙ count_places (λ o. nat_eq (distance c.args.at o) d) 0 objects in
+    rw next.given (fewer_left q c.args.at c.args.reach objects l.walk.given d next.farther least (subst (λ (n : ℕ). 1 ≤ n) long next.some))
+
+pub returns-clause-count : goal.returns-clause-count
+returns-clause-count g c =
+    let q = c.args.query.now in
+    let objects = c.args.collection.now.objects in
+    let l = c.loop-places in
+    let left = rw (only_none _ c.in_default.not-Some) at c.in_ok-distance.ensures.ok in
+    let none = rw (l.invariant.from, l.invariant.objects) at left.0 in
+    let all = given_all q c.args.at c.args.reach objects l.walk.given c.in_ok-walk.ensures.by_id (all_given q c.args.at c.args.reach objects l.walk.given none) in
+    count_all q (near_matches q c.args.at c.args.reach objects) l.found (l.invariant.count ∙ ap length all)
+
+pub returns-clause-ids : goal.returns-clause-ids
+returns-clause-ids g c =
+    let q = c.args.query.now in
+    let objects = c.args.collection.now.objects in
+    let l = c.loop-places in
+    let left = rw (only_none _ c.in_default.not-Some) at c.in_ok-distance.ensures.ok in
+    let none = rw (l.invariant.from, l.invariant.objects) at left.0 in
+    let all = given_all q c.args.at c.args.reach objects l.walk.given c.in_ok-walk.ensures.by_id (all_given q c.args.at c.args.reach objects l.walk.given none) in
+    l.invariant.ids ∙ ap (page_ids q) all

@@ -10,5 +10,5 @@ returns c =
     let shape = c.args.shape.now in
     let area = c.args.area.now in
     let is_box : IsBox (box_of shape) = subst (λ (b : Bounds). IsBox b) c.bounds.ensures.value c.min-low.ensures.is_box in
-    let met : intersects shape area ≡ true → boxes_meet (box_of shape) (area_box area) ≡ true = λ e. met-boxes shape area c.bounds.ensures.is_shape is_box c.is_whole.ensures e in
+    let met : intersects shape area ≡ true → boxes_meet (box_of shape) (area_box area) ≡ true = λ e. met-boxes shape area c.bounds.ensures.is_shape is_box c.area_is_whole.ensures e in
     record { met = met; inside = λ e. met (c.within_intersects.ensures e) }

@@ -6,7 +6,7 @@ use Rattle.record_text.proofs.writing.push_put.Goals as goal
 pub returns-clause-ok : goal.returns-clause-ok
 returns-clause-ok c =
     let o = c.args.object.now in
-    on_ok_weaker c.push_word-5.result
-    (λ last. put_text o c.put_count.result c.args.into.now c.push_head.new.into c.push_word.new.into c.push_word-2.new.into c.push_word-3.new.into c.push_fields.new.into c.push_deadline.new.into c.push_word-4.new.into c.push_word-5.new.into
-    c.put_count.ensures c.in_ok-push_head.ensures.ok (search rules) (search rules) (search rules) (search rules) (search rules) (search rules) last)
+    on_ok_weaker c.push_bulk-5.result
+    (λ last. put_text o c.put_count.result c.args.into.now c.push_array_head.new.into c.push_bulk.new.into c.push_bulk-2.new.into c.push_bulk-3.new.into c.push_fields.new.into c.push_deadline.new.into c.push_bulk-4.new.into c.push_bulk-5.new.into
+    c.put_count.ensures c.in_ok-push_array_head.ensures.ok (search rules) (search rules) (search rules) (search rules) (search rules) (search rules) last)
     (search rules)

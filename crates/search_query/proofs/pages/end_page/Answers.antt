@@ -1,8 +1,8 @@
 use Rattle.std.proofs.Common.{◌≡◌, ◌+◌, ◌<◌, ◌≤◌, ℕ, false, refl, sym, ◌∙◌, arith}
 use Rattle.std.specs.Prelude.{nat_lt, if◌then◌else◌}
 use Rattle.std.proofs.lemmas.Bool.Decides.{nat_tests}
-use Rattle.fence_model.specs.Queries.{is_count, page_cursor}
-use Rattle.search_query.proofs.PageLaws.{next_page}
+use Rattle.fence_model.specs.Queries.{is_count}
+use Rattle.search_query.specs.PageLaws.{next_page}
 use Rattle.search_query.proofs.pages.end_page.Goals as goal
 use Rattle.search_query.proofs.pages.end_page.Goals.{then-next-found, else-next-found}
 

@@ -3,8 +3,8 @@ use Rattle.std.specs.Prelude.{filter, slice_get, Some}
 use Rattle.std.proofs.lemmas.List.{length-take}
 use Rattle.fence_model.specs.Queries.{in_order, matches, meets_query, page_ids}
 use Rattle.search_query.specs.Pages.{is_past}
-use Rattle.search_query.proofs.InOrder.{all_found, by_direction, no_more, noted}
-use Rattle.search_query.proofs.PageLaws.{ids_enough, count_enough, count_all}
+use Rattle.search_query.proofs.InOrder.{all_found, by_direction, filter_in_order, no_more, noted}
+use Rattle.search_query.specs.PageLaws.{ids_first, enough_first, read_first, count_all}
 use Rattle.search_query.proofs.pages.list_ids.Goals as goal
 
 pub note-requires-clause-room : goal.note-requires-clause-room
@@ -47,7 +47,7 @@ returns-then-is_past-clause-count c =
     let is : slice_get ordered c.loop-i.i ≡ Some c.in_turn-object.result.now = rw (← by_direction q.rule objects, ← c.is_down.ensures) c.in_turn-object.ensures in
     let more = noted (meets_query q) ordered c.loop-i.i c.in_turn-object.result.now is in
     let count = c.in_ok-found.ensures.count before c.loop-i.invariant.count ∙ ap length (sym more) in
-    count_enough q objects (c.loop-i.i + 1) c.in_ok-found.found count (sym c.is_past.ensures ∙ c.if-is_past.true)
+    enough_first q (matches q objects) _ _ c.in_ok-found.found (read_first q (matches q objects) ordered (c.loop-i.i + 1) (filter_in_order (meets_query q) q.rule objects)) count (sym c.is_past.ensures ∙ c.if-is_past.true)
 
 pub returns-then-is_past-clause-ids : goal.returns-then-is_past-clause-ids
 returns-then-is_past-clause-ids c =
@@ -59,4 +59,4 @@ returns-then-is_past-clause-ids c =
     let more = noted (meets_query q) ordered c.loop-i.i c.in_turn-object.result.now is in
     let count = c.in_ok-found.ensures.count before c.loop-i.invariant.count ∙ ap length (sym more) in
     let past = subst (λ (n : ℕ). is_past q n ≡ true) count (sym c.is_past.ensures ∙ c.if-is_past.true) in
-    c.in_ok-found.ensures.ids before c.loop-i.invariant.count c.loop-i.invariant.ids ∙ ap (page_ids q) (sym more) ∙ ids_enough q objects (c.loop-i.i + 1) past
+    c.in_ok-found.ensures.ids before c.loop-i.invariant.count c.loop-i.invariant.ids ∙ ap (page_ids q) (sym more) ∙ ids_first q (matches q objects) _ _ (read_first q (matches q objects) ordered (c.loop-i.i + 1) (filter_in_order (meets_query q) q.rule objects)) past

@@ -1,4 +1,4 @@
-use Rattle.std.proofs.Common.{◌≡◌, ◌<◌, ◌≤◌, length, refl, sym, ◌∙◌, [], ◌∷◌, arith, rules}
+use Rattle.std.proofs.Common.{◌≡◌, length, refl, arith, rules}
 use Rattle.std.specs.Prelude.{Some, slice_get, vec_len}
 use Rattle.std.proofs.lemmas.Option.{slice_get_read}
 use Rattle.session_mail.specs.Sessions.{State}

@@ -1,4 +1,4 @@
-use Rattle.std.proofs.Common.{◌∙◌, sym, List, [], ◌∷◌}
+use Rattle.std.proofs.Common.{◌∙◌, sym, [], ◌∷◌}
 use Rattle.std.specs.Prelude.{if◌then◌else◌}
 use Rattle.std.specs.List.{list_any}
 use Rattle.std.proofs.lemmas.Result.{on_ok_weaker}

@@ -1,5 +1,5 @@
-use Rattle.std.proofs.Common.{◌≡◌, List, take, sym, ◌∙◌, subst, arith}
-use Rattle.std.specs.Prelude.{Bool, [], ◌∷◌, if◌then◌else◌}
+use Rattle.std.proofs.Common.{List, take, sym, ◌∙◌, subst, arith}
+use Rattle.std.specs.Prelude.{[], ◌∷◌, if◌then◌else◌}
 use Rattle.std.proofs.lemmas.List.{take_all}
 use Rattle.byte_text.specs.Names.{Bytes}
 use Rattle.world_model.specs.Subscriptions.{Sub}

@@ -59,4 +59,4 @@ returns c =
     let same = ap (λ (z : Object). put_or_full w (record z { fields = with_values o.fields all }) (number n) false) (sym c.in_ok-object.ensures)
     ∙ ap (λ (fs : List Field). put_or_full w (record c.in_ok-object.object { fields = fs }) (number n) false) (sym fields_are) in
     IfOk-weaker c.plan_put.result _ _ (λ q s. λ (now : ℕ). subst (λ (e : Effect). IsPlan (objects_in c.args.objects.now) e q)
-    (sym (fset_put w now c.args.key.now c.args.id.now o c.in-Some.ensures.some c.args.given.now c.args.cleared.now n c.in_ok-count.ensures c.if-count-eq0.false less ∙ same)) (s false)) (c.plan_put.ensures (number n) c.in_ok-count_frame.ensures)
+    (sym (fset_put w now c.args.key.now c.args.id.now o c.in-Some.ensures.some c.args.given.now c.args.cleared.now n c.in_ok-count.ensures c.if-count-eq0.false less ∙ same)) s) (c.plan_put.ensures (number n) c.in_ok-count_frame.ensures)

@@ -44,4 +44,4 @@ returns c =
     let put = expired_some w c.args.now c.args.key.now c.args.id.now o c.in-Some.ensures.some c.args.seconds
     ∙ ap (λ (z : Object). put_or_full w (record z { deadline = Some at }) (number 1) false) (sym c.in_ok-object.ensures)
     ∙ ap (λ (d : Option ℕ). put_or_full w (record c.in_ok-object.object { deadline = d }) (number 1) false) (sym c.deadline_after-object.ensures) in
-    IfOk-weaker c.plan_put.result _ _ (λ q s. subst (λ (e : Effect). IsPlan (objects_in c.args.objects.now) e q) (sym put) (s false)) (c.plan_put.ensures (number 1) c.in_ok-count_frame.ensures)
+    IfOk-weaker c.plan_put.result _ _ (λ q s. subst (λ (e : Effect). IsPlan (objects_in c.args.objects.now) e q) (sym put) s) (c.plan_put.ensures (number 1) c.in_ok-count_frame.ensures)

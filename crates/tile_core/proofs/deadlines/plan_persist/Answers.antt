@@ -48,7 +48,7 @@ returns-in_ok-count_frame-in-Some-2 c =
     let b = bare_is o x (sym c.in_ok-object.ensures ∙ c.in-Some-2.is) in
     let fits = bare_fits xs c.args.total c.requires c.args.key.now c.args.id.now o b.0 here b.1 in
     IfOk-weaker c.plan_put.result _ _ (λ q s. λ (now : ℕ). subst (λ (e : Effect). IsPlan xs e q)
-    (sym (persisted_some w now c.args.key.now c.args.id.now o here b.0 b.1 fits ∙ ap (λ (z : Object). put_or_full w z (number 1) false) b.2)) (s false)) (c.plan_put.ensures (number 1) c.in_ok-count_frame-in-Some-2.ensures)
+    (sym (persisted_some w now c.args.key.now c.args.id.now o here b.0 b.1 fits ∙ ap (λ (z : Object). put_or_full w z (number 1) false) b.2)) s) (c.plan_put.ensures (number 1) c.in_ok-count_frame-in-Some-2.ensures)
 
 pub returns-in-None : goal.returns-in-None
 returns-in-None c =

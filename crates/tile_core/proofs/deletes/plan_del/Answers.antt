@@ -6,6 +6,7 @@ use Rattle.byte_text.specs.declared.replies.Piece.{Piece}
 use Rattle.world_data.specs.Limits.{max_reply}
 use Rattle.world_data.specs.Worlds.{is_at}
 use Rattle.fence_model.specs.Writes.{loud}
+use Rattle.world_model.specs.Effects.{changes}
 use Rattle.world_data.specs.Records.{record_len}
 use Rattle.world_data.specs.declared.worlds.Change.TheVariants as change
 use Rattle.keyspace.specs.Entries.{objects_in}
@@ -33,20 +34,18 @@ returns-in_ok-count_frame-in-Some c =
     let o = c.in-Some.object.now in
     let here = c.in-Some.ensures.some in
     let own = found_at key id xs o here in
-    let named : record_len (change.Del key id) ≡ record_len (change.Del o.key o.id) = ap (λ (m : Bytes). record_len (change.Del m id)) (sym own.0) ∙ ap (λ (m : Bytes). record_len (change.Del o.key m)) (sym own.1) in
-    let left : filter (λ p. not (is_at o.key o.id p)) xs ≡ filter (λ p. not (is_at key id p)) xs =
-    ap (λ (m : Bytes). filter (λ p. not (is_at m o.id p)) xs) own.0 ∙ ap (λ (m : Bytes). filter (λ p. not (is_at key m p)) xs) own.1 in
+    let told : changes (number 1) (loud (change.Del o.key o.id) ∷ []) ≡ changes (number 1) (loud (change.Del key id) ∷ []) =
+    ap (λ (m : Bytes). changes (number 1) (loud (change.Del m o.id) ∷ [])) own.0 ∙ ap (λ (m : Bytes). changes (number 1) (loud (change.Del key m) ∷ [])) own.1 in
     let frame_is : c.in_ok-count_frame-in-Some.field-0 ≡ frame_text (number 1) = c.in_ok-count_frame-in-Some.ensures in
     let sum = taken_sum len_of key id xs o c.requires.sorted here in
     let one = count_fits 1 (lit< tt) in
     λ (now : ℕ). record {
       reply = number 1;
-      writes = loud (change.Del o.key o.id) ∷ [];
-      is = del_some (world_in c.args.objects.now) now key id o here ∙ within_changes (number 1) (loud (change.Del o.key o.id) ∷ []) one;
+      is = del_some (world_in c.args.objects.now) now key id o here ∙ within_changes (number 1) (loud (change.Del o.key o.id) ∷ []) one ∙ told;
       frame = frame_is;
       short = subst (λ (f : Bytes). length f ≤ max_reply) (sym frame_is) one;
-      does = record { objects_only = (tt, tt); world = ap world_of left };
-      length_is = c.del_len.ensures.value ∙ named ∙ sym (add-zero (record_len (change.Del o.key o.id)));
+      there = ((o, here), tt);
+      length_is = c.del_len.ensures.value ∙ sym (add-zero (record_len (change.Del key id)));
       small = omega (arith, c.del_len.ensures.short);
       weight_is = omega (arith, sum, weight_sum xs, weight_sum (filter (λ p. not (is_at key id p)) xs), c.put_len.ensures.value, c.requires.weighed);
       light = omega (arith, c.requires.light);

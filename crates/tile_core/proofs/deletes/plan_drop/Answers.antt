@@ -55,11 +55,10 @@ returns c =
     let one = count_fits 1 (lit< tt) in
     λ (now : ℕ). record {
       reply = number 1;
-      writes = loud (change.Drop key) ∷ [];
       is = drop_some (world_in c.args.objects.now) now key some ∙ within_changes (number 1) (loud (change.Drop key) ∷ []) one;
       frame = frame_is;
       short = subst (λ (f : Bytes). length f ≤ max_reply) (sym frame_is) one;
-      does = record { objects_only = (tt, tt); world = refl };
+      there = tt;
       length_is = c.drop_len.ensures.value ∙ sym (add-zero (record_len (change.Drop key)));
       small = omega (arith, c.drop_len.ensures.short);
       weight_is = omega (arith, c.weight_without-weight.ensures, same, parts, weight_sum rest, weight_sum xs, c.requires.weighed);

@@ -14,11 +14,10 @@ returns c =
     let frame_is : c.in_ok-fine_frame.field-0 ≡ frame_text fine = c.in_ok-fine_frame.ensures in
     λ (now : ℕ). record {
       reply = fine;
-      writes = quiet change.Flush ∷ [];
       is = flushed (world_in c.args._objects.now) now;
       frame = frame_is;
       short = subst (λ (f : Bytes). length f ≤ max_reply) (sym frame_is) (lit≤ tt);
-      does = record { objects_only = (tt, tt); world = refl };
+      there = tt;
       length_is = c.flush_len.ensures.value ∙ sym (add-zero (record_len change.Flush));
       small = omega (arith, c.flush_len.ensures.short);
       weight_is = refl;

@@ -7,16 +7,20 @@ use Rattle.byte_text.specs.Replies.{number, frame_text}
 use Rattle.byte_text.specs.declared.replies.Piece.{Piece}
 use Rattle.world_data.specs.Limits.{max_reply}
 use Rattle.world_data.specs.Worlds.{has_key}
-use Rattle.fence_model.specs.Writes.{dels}
+use Rattle.fence_model.specs.Writes.{Write, loud, dels}
+use Rattle.world_data.specs.declared.worlds.Change.TheVariants as change
+use Rattle.world_model.specs.Effects.{changes}
+use Rattle.deliveries.specs.Staging.{records_len}
 use Rattle.world_data.specs.declared.objects.Object.{Object}
 use Rattle.keyspace.specs.Entries.{objects_in}
-use Rattle.tile_core.specs.Moves.{world_in, world_of, len_of, HasFewFields, HaveFewFields, without_each}
+use Rattle.tile_core.specs.Moves.{AllThere, world_in, len_of, HasFewFields, HaveFewFields, without_each}
 use Rattle.tile_core.specs.Sweeps.{met, IsSweptOf}
 use Rattle.tile_core.proofs.Answering.{answers_ever, count_fits, within_changes}
 use Rattle.tile_core.proofs.Weights.{have_few, weight_sum, some_sum}
 use Rattle.tile_core.proofs.Moving.{all_filtered}
 use Rattle.tile_core.proofs.Removing.{swept, swept_none}
-use Rattle.tile_core.proofs.Sweeping.{dels_short, of_objects, keyed, dels_do, left_sum}
+use Rattle.tile_core.proofs.Sweeping.{dels_short, keyed, dels_of, left_sum}
+use Rattle.tile_core.proofs.There.{met_there}
 use Rattle.tile_core.proofs.deletes.plan_pdel.Goals as goal
 
 pub returns-in_default : goal.returns-in_default
@@ -48,17 +52,15 @@ returns c =
     ap (λ (ids : List Bytes). sum_by len_of (without_each key ids xs) + sum_by len_of gone) s.ids ∙ left_sum pattern key xs in
     let few = all_filtered HasFewFields (λ o. glob_meets pattern o.id) held (all_filtered HasFewFields (has_key key) xs (have_few xs c.args.total c.requires.kept)) in
     let short = dels_short gone few in
+    let told : dels gone ≡ map (λ id. loud (change.Del key id)) c.in_ok-swept.swept.ids =
+    dels_of key gone (all_filtered (λ o. o.key ≡ key) (λ o. glob_meets pattern o.id) held (keyed key xs)) ∙ ap (map (λ (id : Bytes). loud (change.Del key id))) (sym s.ids) in
     λ (now : ℕ). record {
       reply = number (length gone);
-      writes = dels gone;
-      is = swept (world_in c.args.objects.now) now key pattern ∙ within_changes (number (length gone)) (dels gone) fits;
+      is = swept (world_in c.args.objects.now) now key pattern ∙ within_changes (number (length gone)) (dels gone) fits ∙ ap (changes (number (length gone))) told;
       frame = frame_is;
       short = subst (λ (f : Bytes). length f ≤ max_reply) (sym frame_is) fits;
-      does = record {
-        objects_only = of_objects gone;
-        world = dels_do key gone xs (all_filtered (λ o. o.key ≡ key) (λ o. glob_meets pattern o.id) held (keyed key xs)) ∙ ap (λ (ids : List Bytes). world_of (without_each key ids xs)) (sym s.ids);
-      };
-      length_is = s.length_is;
+      there = subst (λ (ids : List Bytes). AllThere key ids xs) (sym s.ids) (met_there pattern key xs c.requires.kept.sorted);
+      length_is = s.length_is ∙ ap records_len told;
       small = omega (arith, short, left, weight_sum xs, s.length_is, c.requires.kept.weighed, c.requires.kept.light);
       weight_is = omega (arith, left, weight_sum xs, weight_sum (without_each key c.in_ok-swept.swept.ids xs), s.weight_is, c.requires.kept.weighed);
       light = omega (arith, s.weight_is, c.requires.kept.light);

@@ -21,8 +21,8 @@ pub returns-then-weight-gt-MAX_WEIGHT : goal.returns-then-weight-gt-MAX_WEIGHT
 returns-then-weight-gt-MAX_WEIGHT c = λ reply is.
     let xs = objects_in c.args.objects.now in
     let more : max_weight < weight (world_of (put_in object_before c.args.object xs)) = subst (λ (n : ℕ). max_weight < n) c.weight_after-weight.ensures c.if-weight-gt-MAX_WEIGHT.true in
-    let full = λ (is_loud : Bool). heavy xs c.args.object reply is_loud more in
-    IfOk-weaker c.say_refusal.result _ _ (λ p s. λ (is_loud : Bool). said xs c.args.total c.requires.kept _ (refusal_reply refusal.DatabaseFull) p (full is_loud) s) c.say_refusal.ensures
+    let full = heavy xs c.args.object reply c.args.loud more in
+    IfOk-weaker c.say_refusal.result _ _ (λ p s. said xs c.args.total c.requires.kept _ (refusal_reply refusal.DatabaseFull) p full s) c.say_refusal.ensures
 
 pub returns : goal.returns
 returns c = λ reply is.
@@ -30,13 +30,12 @@ returns c = λ reply is.
     let x = c.args.object in
     let light : c.weight_after-weight.result ≤ max_weight = c.if-weight-gt-MAX_WEIGHT.false in
     let less : weight (world_of (put_in object_before x xs)) ≤ max_weight = subst (λ (n : ℕ). n ≤ max_weight) c.weight_after-weight.ensures light in
-    λ (is_loud : Bool). record {
+    record {
       reply = reply;
-      writes = record { change = change.Put x; loud = is_loud } ∷ [];
-      is = done xs x reply is_loud less (subst (λ (f : Bytes). length f ≤ max_reply) is c.requires.short);
+      is = done xs x reply c.args.loud less (subst (λ (f : Bytes). length f ≤ max_reply) is c.requires.short);
       frame = is;
       short = c.requires.short;
-      does = record { objects_only = (tt, tt); world = refl };
+      there = tt;
       length_is = c.put_len-length.ensures.value ∙ sym (add-zero (len_of x));
       small = let part = put_weighs xs x in omega (arith, part, less, c.put_len-length.ensures.value);
       weight_is = c.weight_after-weight.ensures;

@@ -71,4 +71,4 @@ returns c =
       | else-is_new-via-else-is_new b ↦
           put_over xs o o.fields c.args.cleared.now c.args.seconds c.args.only c.args.now r c.get-old.ensures.none c.get-old.ensures.some free fs d fields c.deadline_after.ensures less (new_is r _ c.is_none-is_new.ensures ∙ b.if-is_new.false)
     ] in
-    IfOk-weaker c.plan_put.result _ _ (λ p s. subst (λ (e : Effect). IsPlan xs e p) (sym put) (s true)) (c.plan_put.ensures fine c.in_ok-fine_frame.ensures)
+    IfOk-weaker c.plan_put.result _ _ (λ p s. subst (λ (e : Effect). IsPlan xs e p) (sym put) s) (c.plan_put.ensures fine c.in_ok-fine_frame.ensures)

@@ -1,12 +1,39 @@
-use Rattle.std.proofs.Common.{◌≡◌, subst}
-use Rattle.std.specs.Prelude.{Err}
+use Rattle.std.proofs.Common.{◌≡◌, ◌+◌, ◌≤◌, refl, sym, subst, arith}
+use Rattle.std.specs.Prelude.{Err, Result}
+use Rattle.world_model.specs.Effects.{says}
+use Rattle.world_model.specs.Refusals.{fault_reply}
 use Rattle.world_model.specs.Served.{asks}
+use Rattle.world_model.specs.declared.commands.Command.{Command}
+use Rattle.world_model.specs.declared.faults.WordFault.{WordFault}
 use Rattle.cmd_words.specs.Progress.{IfRefused}
 use Rattle.cmd_words.specs.declared.faults.CommandFault.{CommandFault}
+use Rattle.deliveries.specs.Plans.{effect_of_read}
+use Rattle.keyspace.specs.Entries.{objects_in}
+use Rattle.tile_core.specs.declared.planned.Planned.TheVariants.{Objects}
+use Rattle.tile_core.specs.Moves.{world_with}
+use Rattle.world_data.specs.Limits.{max_weight}
+use Rattle.tile_core.specs.Planned.{channels_weight, IsPlanned}
+use Rattle.tile_core.proofs.Asked.{served_asked}
 use Rattle.tile_core.proofs.Faults.{answer_fits}
+use Rattle.tile_core.proofs.Planning.{still_planned}
 use Rattle.tile_core.proofs.requests.plan_words.Goals as goal
+
+pub plan_served-requires-clause-asked : goal.plan_served-requires-clause-asked
+plan_served-requires-clause-asked c = served_asked c.in-Ok.command (c.served_commands.ensures c.args.words.now c.in-Ok.command c.in-Ok.ensures.ok)
 
 pub plan_fault-requires-clause-short : goal.plan_fault-requires-clause-short
 plan_fault-requires-clause-short c =
     let refused = subst (λ (why : CommandFault). IfRefused why (λ fault. asks c.args.words.now ≡ Err fault)) c.in-Err-Refused.field-0-is c.in-Err-Refused.ensures.err in
     answer_fits c.args.words.now c.in-Err-Refused.fault c.words-count.ensures.fits refused
+
+pub returns-in_ok-plan_fault-in-Err-Refused : goal.returns-in_ok-plan_fault-in-Err-Refused
+returns-in_ok-plan_fault-in-Err-Refused c =
+    let os = objects_in c.args.objects.now in
+    let cs = c.args.hub.now.channels in
+    let w = world_with cs os in
+    let fault = c.in-Err-Refused.fault in
+    let p = c.in_ok-plan_fault-in-Err-Refused.field-0 in
+    let refused : asks c.args.words.now ≡ Err fault = subst (λ (why : CommandFault). IfRefused why (λ fault. asks c.args.words.now ≡ Err fault)) c.in-Err-Refused.field-0-is c.in-Err-Refused.ensures.err in
+    let light : c.args.total + channels_weight cs ≤ max_weight = omega (arith, c.requires.light, c.requires.channels) in
+    subst (λ (r : Result Command WordFault). IsPlanned w c.args.total c.args.subs.now (effect_of_read w c.args.now c.args.subs.now r) (Objects p)) (sym refused)
+    (still_planned cs os c.args.total c.requires.kept light c.args.subs.now (says (fault_reply fault)) p refl c.in_ok-plan_fault-in-Err-Refused.ensures)

@@ -6,4 +6,4 @@ pub returns : goal.returns
 returns c =
     let q = c.args.query.now in
     let objects = c.args.objects.now.objects in
-    c.say_page.ensures (matches q objects) (matches_first q objects c.len-count.ensures.by_id) c.in_ok-page.ensures
+    c.say_page.ensures (matches q objects) (matches_first q objects c.len-count.ensures.by_id) c.in_ok-page.ensures.page

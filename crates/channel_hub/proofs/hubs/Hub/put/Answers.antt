@@ -1,7 +1,7 @@
 use Rattle.std.proofs.Common.{sym, ◌∙◌}
 use Rattle.ordered_lists.specs.Reading.{stands_at}
 use Rattle.channel_hub.proofs.ChannelsByName.{found, lacking, put_held, put_free, put_by_name}
-use Rattle.channel_hub.proofs.Index.{none_prepared, put_new, put_over}
+use Rattle.channel_hub.proofs.Index.{none_prepared, put_new, put_over, whole_put}
 use Rattle.channel_hub.proofs.hubs.Hub.put.Goals as goal
 
 pub invariant_of-self : goal.invariant_of-self
@@ -17,6 +17,7 @@ invariant_of-self c =
     record {
       by_name = rw made (put_by_name channel items kept.by_name);
       indexed = rw (c.put.ensures.marks, c.take_out.ensures.marks, made) (put_over channel old marks items kept.indexed kept.by_name here);
+      whole = rw made (whole_put channel items kept.whole c.watch_is_whole.ensures);
       room = λ some. none_prepared c.put.new.self.prepared c.put.ensures.prepared some;
     }
 
@@ -32,6 +33,7 @@ invariant_of-self-in-Err c =
     record {
       by_name = rw made (put_by_name channel items kept.by_name);
       indexed = rw (c.put-in-Err.ensures.marks, made) (put_new channel marks items kept.indexed kept.by_name none);
+      whole = rw made (whole_put channel items kept.whole c.watch_is_whole.ensures);
       room = λ some. none_prepared c.put-in-Err.new.self.prepared c.put-in-Err.ensures.prepared some;
     }
 

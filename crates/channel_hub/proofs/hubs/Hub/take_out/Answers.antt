@@ -1,9 +1,9 @@
-use Rattle.std.proofs.Common.{◌≡◌, true, subst, sym, ◌∙◌, List, arith}
+use Rattle.std.proofs.Common.{◌≡◌, true, not, subst, sym, ◌∙◌, List, arith}
 use Rattle.world_data.specs.declared.channels.Channel.{Channel}
-use Rattle.world_data.specs.Worlds.{are_channels}
+use Rattle.world_data.specs.Worlds.{are_channels, is_named}
 use Rattle.ordered_lists.specs.Reading.{stands_at}
 use Rattle.channel_hub.proofs.ChannelsByName.{found, lacking, left, none_left, removed_by_name}
-use Rattle.channel_hub.proofs.Index.{taken_out}
+use Rattle.channel_hub.proofs.Index.{taken_out, whole_left}
 use Rattle.channel_hub.proofs.hubs.Hub.take_out.Goals as goal
 
 pub invariant_of-self : goal.invariant_of-self
@@ -15,11 +15,12 @@ invariant_of-self c =
     let held = rw c.as_slice.ensures.value at c.in-Ok.ensures.held in
     let is = stands_at items c.in-Ok.at old held.within c.remove-channel.ensures.value in
     let here = found name items c.in-Ok.at old held is in
-    let made = c.remove-channel.ensures.items ∙ sym (left name items c.in-Ok.at old kept.by_name held is) in
+    let made = c.remove-channel.ensures.items ∙ sym (left name items c.in-Ok.at kept.by_name held) in
     let index = taken_out name old c.self.inside.index.marks items kept.indexed kept.by_name here in
     record {
       by_name = subst (λ (l : List Channel). are_channels l ≡ true) (sym c.remove-channel.ensures.items) (removed_by_name items c.in-Ok.at kept.by_name);
       indexed = rw (made, c.take_out.ensures.marks) index;
+      whole = rw made (whole_left (λ d. not (is_named name d)) items kept.whole);
       room = λ some. let room = kept.room (rw (← c.take_out.ensures.prepared) some) in omega (arith, room, c.remove-channel.ensures.len, c.remove-channel.ensures.capacity);
     }
 
@@ -28,7 +29,7 @@ returns-in-Ok-clause-channels c =
     let items = c.self.inside.channels.items in
     let held = rw c.as_slice.ensures.value at c.in-Ok.ensures.held in
     let is = stands_at items c.in-Ok.at c.remove-channel.result held.within c.remove-channel.ensures.value in
-    rw (← c.self.view_is) (c.remove-channel.ensures.items ∙ sym (left c.args.name.now items c.in-Ok.at c.remove-channel.result c.self.invariant.by_name held is))
+    rw (← c.self.view_is) (c.remove-channel.ensures.items ∙ sym (left c.args.name.now items c.in-Ok.at c.self.invariant.by_name held))
 
 pub returns-in-Ok-clause-taken : goal.returns-in-Ok-clause-taken
 returns-in-Ok-clause-taken c =

@@ -1,10 +1,8 @@
-use Rattle.std.proofs.Common.{◌≡◌, true, false, subst, sym, ◌∙◌, List}
-use Rattle.std.specs.Prelude.{Option, IfSome}
+use Rattle.std.proofs.Common.{◌≡◌, true, subst, sym, ◌∙◌, List}
 use Rattle.std.specs.List.{list_any}
-use Rattle.byte_text.specs.Names.{before}
 use Rattle.world_data.specs.declared.objects.Object.{Object}
 use Rattle.collection.specs.Objects.{Held, are_by_id, has_id, has_room}
-use Rattle.collection.specs.IdOrder.{found_held, found_free, put_held, put_free, put_by_id, ties}
+use Rattle.collection.specs.IdOrder.{found_held, found_free, put_held, put_free, put_by_id}
 use Rattle.collection.proofs.Rooms.{none_any, room_left}
 use Rattle.collection.proofs.collections.Collection.put.Goals as goal
 
@@ -26,7 +24,7 @@ insert-requires-clause-room c =
     let id = c.args.object.id in
     let items = c.self.inside.objects.objects in
     let free = c.in-Err.ensures.free in
-    let none = none_any (has_id id) items (found_free id items c.in-Err.at c.self.invariant free.front free.behind) in
+    let none = none_any (has_id id) items (found_free id items c.in-Err.at c.self.invariant free) in
     let room = subst (λ (h : Held). has_room h id ≡ true) (sym c.self.view_is) c.requires in
     room_left c.self.inside.objects.spare (list_any (has_id id) items) room none
 
@@ -53,8 +51,7 @@ returns-in-Ok-clause-replaced c =
     let x = c.exchange.result in
     let held = c.in-Ok.ensures.held in
     let is = c.exchange.ensures.taken in
-    let tie = subst (λ (o : Option Object). IfSome o (λ o. (before id o.id ≡ false) × (before o.id id ≡ false))) is held.tie in
-    rw (← c.self.view_is) (sym (found_held id items c.in-Ok.at x is held.front (ties id x tie)))
+    rw (← c.self.view_is) (sym (found_held id items c.in-Ok.at x held is))
 
 pub returns-in-Err-clause-objects : goal.returns-in-Err-clause-objects
 returns-in-Err-clause-objects c = rw (← c.self.view_is) (c.insert.ensures.objects ∙ put_free c.args.object c.self.inside.objects.objects c.in-Err.at c.in-Err.ensures.free)
@@ -64,4 +61,4 @@ returns-in-Err-clause-replaced c =
     let id = c.args.object.id in
     let items = c.self.inside.objects.objects in
     let free = c.in-Err.ensures.free in
-    rw (← c.self.view_is) (sym (found_free id items c.in-Err.at c.self.invariant free.front free.behind))
+    rw (← c.self.view_is) (sym (found_free id items c.in-Err.at c.self.invariant free))

@@ -1,5 +1,8 @@
 use Rattle.std.proofs.Common.{◌≡◌, ◌≢◌, ◌∙◌, ℕ, List, true, ap, sym, subst, arith}
-use Rattle.std.specs.Prelude.{Some, is_some}
+use Rattle.std.specs.Prelude.{Some, is_some, Contains}
+use Rattle.planar_geom.specs.Points.{Bounds}
+use Rattle.rtree.specs.Pairs.{Pair, pair}
+use Rattle.collection.specs.Boxed.{box_in, pair_at, IsMoved}
 use Rattle.slab.specs.Slab.{get}
 use Rattle.world_data.specs.declared.objects.Object.{Object}
 use Rattle.collection.specs.Objects.{are_by_id}
@@ -7,6 +10,7 @@ use Rattle.collection.specs.Deadlines.{is_expiring}
 use Rattle.collection.proofs.Numbers.{among_at}
 use Rattle.collection.proofs.Slots.{within_keys, stored_at, get_at, has_one, set_at, slotted_set}
 use Rattle.collection.proofs.Dues.{AreOthers, others_taken, others_kept, others_apart, others_fewer, dues_put, listed}
+use Rattle.collection.proofs.InTree.{pair_there, tree_set}
 use Rattle.collection.proofs.object_lists.ObjectList.exchange.Goals as goal
 
 pub at-key-requires : goal.at-key-requires
@@ -74,6 +78,23 @@ put_due-requires-clause-room c =
     let fewer = others_fewer f keys key dues o (among_at key keys c.args.i 0 lt c.at-key.ensures) in
     λ e. omega (arith, fewer, c.self.invariant.room, c.take_due.ensures.room)
 
+pub move_box-requires-clause-there : goal.move_box-requires-clause-there
+move_box-requires-clause-there c =
+    let g = get c.insert_reserved.new.self in
+    let key = c.at-key.result in
+    let same : c.insert_reserved.result ≡ key = c.insert_reserved.ensures.key ∙ c.remove-old.ensures.key_is_next in
+    has_one g key (ap (λ (n : ℕ). is_some (g n)) (sym same) ∙ ap is_some c.insert_reserved.ensures.updates.changed)
+
+pub move_box-requires-clause-boxed : goal.move_box-requires-clause-boxed
+move_box-requires-clause-boxed c =
+    let f = get c.self.inside.slots in
+    let keys = c.self.inside.keys.items in
+    let key = c.at-key.result in
+    let within = rw (← c.self.view_is) at c.requires.within in
+    let lt = within_keys f keys c.args.i c.self.invariant.slotted.stored within in
+    let was : pair c.box_of.result key ≡ pair_at f key = ap (λ (b : Bounds). pair b key) (c.box_of.ensures ∙ ap box_in (sym c.remove-old.ensures.value)) in
+    subst (Contains c.self.inside.boxes.pairs) (sym was) (pair_there f keys c.self.inside.boxes.pairs key c.self.invariant.in_tree.boxed (among_at key keys c.args.i 0 lt c.at-key.ensures))
+
 pub invariant_of-self : goal.invariant_of-self
 invariant_of-self c =
     let f = get c.self.inside.slots in
@@ -88,10 +109,12 @@ invariant_of-self c =
     let others : (other : ℕ) → other ≢ key → g other ≡ f other = λ other ne. c.insert_reserved.ensures.updates.others other (λ e. ne (e ∙ same)) ∙ c.remove-old.ensures.updates.others other ne in
     let o = others_taken f keys c.self.inside.dues.items dues key c.self.invariant.expiring c.take_due.ensures.order c.take_due.ensures.among in
     let kept = others_kept f g key others keys dues o in
+    let was : pair c.box_of.result key ≡ pair_at f key = ap (λ (b : Bounds). pair b key) (c.box_of.ensures ∙ ap box_in (sym c.remove-old.ensures.value)) in
     record {
       slotted = slotted_set f g key others keys c.self.invariant.slotted c.args.object c.args.i 0 lt c.at-key.ensures new;
       expiring = dues_put g keys key dues kept c.put_due.new.dues.items (among_at key keys c.args.i 0 lt c.at-key.ensures) c.put_due.ensures.order c.put_due.ensures.among;
       room = omega (arith, c.self.invariant.room, c.take_due.ensures.room, c.put_due.ensures.room);
+      in_tree = tree_set f g key others keys c.args.i 0 c.self.inside.boxes.pairs c.move_box.new.boxes.pairs c.self.invariant.slotted.apart lt c.at-key.ensures c.self.invariant.in_tree (subst (λ (p : Pair). IsMoved p (pair_at g key) c.self.inside.boxes.pairs c.move_box.new.boxes.pairs) was c.move_box.ensures.pairs) c.move_box.ensures.whole;
     }
 
 pub returns-clause-objects : goal.returns-clause-objects

@@ -1,14 +1,14 @@
-use Rattle.std.proofs.Common.{◌≡◌, ◌≤◌, ◌∙◌, ℕ, true, subst, sym, length, List, arith}
+use Rattle.std.proofs.Common.{◌≡◌, ◌≤◌, ℕ, true, subst, sym, List, arith}
 use Rattle.std.specs.List.{insert}
 use Rattle.std.proofs.lemmas.List.Edits.{length-insert}
 use Rattle.slab.specs.Slab.{get}
 use Rattle.world_data.specs.declared.objects.Object.{Object}
 use Rattle.collection.specs.Objects.{are_by_id}
-use Rattle.collection.specs.Deadlines.{is_among, AreDues}
-use Rattle.collection.specs.Slotted.{AreSlotted, AreKept}
+use Rattle.collection.specs.Slotted.{AreKept}
 use Rattle.collection.proofs.Numbers.{among_new}
 use Rattle.collection.proofs.Slots.{length_at, free_key, insert_at, slotted_insert}
 use Rattle.collection.proofs.Dues.{others_insert, others_kept, others_apart, others_fewer, dues_put}
+use Rattle.collection.proofs.InTree.{tree_insert}
 use Rattle.collection.proofs.object_lists.ObjectList.insert.Goals as goal
 
 pub insert-requires-clause-within : goal.insert-requires-clause-within
@@ -74,8 +74,10 @@ invariant_of-self c =
     let le = subst (λ (n : ℕ). c.args.i ≤ n) (length_at f keys c.self.invariant.slotted.stored) within in
     let longer = length-insert keys c.args.i key le in
     let room = rw (← c.self.view_is) at c.requires.room in
-    let made : AreKept g (insert keys c.args.i key) c.put_due.new.dues = record { slotted = slotted; expiring = expiring; room = omega (arith, longer, room, c.put_due.ensures.room) } in
-    subst (λ (l : List ℕ). AreKept g l c.put_due.new.dues) (sym c.insert.ensures.items) made
+    let none = free_key f key keys vacant c.self.invariant.slotted.stored in
+    let in_tree = tree_insert f g key done.others keys c.args.i c.self.inside.boxes.pairs c.put_box.new.boxes.pairs none c.self.invariant.in_tree c.put_box.ensures.pairs c.put_box.ensures.whole in
+    let made : AreKept g (insert keys c.args.i key) c.put_due.new.dues c.put_box.new.boxes = record { slotted = slotted; expiring = expiring; room = omega (arith, longer, room, c.put_due.ensures.room); in_tree = in_tree } in
+    subst (λ (l : List ℕ). AreKept g l c.put_due.new.dues c.put_box.new.boxes) (sym c.insert.ensures.items) made
 
 pub returns-clause-objects : goal.returns-clause-objects
 returns-clause-objects c =

@@ -1,5 +1,4 @@
-use Rattle.std.proofs.Common.{◌≡◌, ◌<◌, ◌∙◌, length, ap, sym, get_or, arith}
-use Rattle.std.specs.Prelude.{Some}
+use Rattle.std.proofs.Common.{◌<◌, ◌∙◌, length, ap, sym, get_or, arith}
 use Rattle.slab.specs.Slab.{get}
 use Rattle.collection.proofs.Slots.{gone}
 use Rattle.collection.proofs.FirstDues.{due_stored, least_of_first, no_first}

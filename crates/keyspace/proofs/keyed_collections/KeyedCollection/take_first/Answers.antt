@@ -1,5 +1,3 @@
-use Rattle.std.proofs.Common.{◌≡◌}
-use Rattle.collection.specs.Objects.{least_due}
 use Rattle.keyspace.proofs.Dues.{no_first, took_first}
 use Rattle.keyspace.proofs.keyed_collections.KeyedCollection.take_first.Goals as goal
 

@@ -1,4 +1,4 @@
-use Rattle.std.proofs.Common.{◌≡◌, inl, inr, true, false, sym, ap, ◌∙◌}
+use Rattle.std.proofs.Common.{inl, inr, sym, ap, ◌∙◌}
 use Rattle.world_model.specs.Halls.{is_live}
 use Rattle.session_mail.specs.Sessions.{State, session_of, stage_of}
 use Rattle.session_mail.specs.declared.sessions.Stage.{Stage}

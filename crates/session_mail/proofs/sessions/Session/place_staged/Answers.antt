@@ -1,4 +1,4 @@
-use Rattle.std.proofs.Common.{List, take, drop, sym, ap, ◌∙◌}
+use Rattle.std.proofs.Common.{List, take, drop, sym, ap, ◌∙◌, arith}
 use Rattle.std.proofs.Math.Seq.{take-add}
 use Rattle.std.proofs.lemmas.List.{drop-drop}
 use Rattle.byte_text.specs.Names.{Bytes}
@@ -19,4 +19,5 @@ loop-preserved c =
           ∙ sym (each_append was (take l.counter all) (take 1 (drop l.counter all)))
           ∙ ap (placed_each was) (sym (take-add l.counter 1 all));
       left = c.place_first.ensures.staged ∙ ap (drop 1) l.invariant.left ∙ drop-drop 1 l.counter all;
+      spare = let was = l.invariant.spare in let now = c.place_first.ensures.spare in omega (arith, was, now);
     }

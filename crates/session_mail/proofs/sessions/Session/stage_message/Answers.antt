@@ -1,4 +1,4 @@
-use Rattle.std.proofs.Common.{◌≡◌, OnOk, Bool, true, List, [], sym, ◌∙◌, subst}
+use Rattle.std.proofs.Common.{◌≡◌, OnOk, Bool, true, [], sym, ◌∙◌, subst}
 use Rattle.std.specs.Prelude.{if◌then◌else◌}
 use Rattle.world_model.specs.Halls.{is_live, frames_for}
 use Rattle.deliveries.specs.Staging.{listens}

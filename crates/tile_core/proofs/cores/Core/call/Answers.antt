@@ -1,255 +1,230 @@
-use Rattle.std.proofs.Common.{◌≡◌, ◌≤◌, ◌<◌, ◌+◌, inr, ℕ, true, false, List, length, max, map, sym, ap, ◌∙◌, subst, arith}
-use Rattle.std.specs.Prelude.{Result, Ok, Err, slice_set}
-use Rattle.world_data.specs.Limits.{full_frames, full_bytes, max_sessions}
-use Rattle.world_data.specs.Frames.{frame_bytes}
+use Rattle.std.proofs.Common.{◌≡◌, ◌≤◌, ◌<◌, ◌+◌, ◌*◌, inl, ℕ, true, false, List, length, max, map, refl, sym, ap, ◌∙◌, subst, arith}
+use Rattle.std.specs.Prelude.{Result, Ok, Err, filter}
+use Rattle.world_data.specs.Limits.{max_sessions, max_weight}
 use Rattle.world_model.specs.Halls.{Hall, NamesChanged}
+use Rattle.world_model.specs.Halls as halls
 use Rattle.world_model.specs.Histories.{Step}
 use Rattle.world_model.specs.declared.events.Event.TheVariants as event
 use Rattle.world_model.specs.declared.events.Outcome.TheVariants as outcome
 use Rattle.world_model.specs.declared.events.Called.{Called}
 use Rattle.world_model.specs.declared.events.Called.TheVariants as called
-use Rattle.world_data.specs.declared.objects.Object.{Object}
-use Rattle.tile_core.specs.declared.sessions.Session.{Session}
 use Rattle.keyspace.specs.Entries.{objects_in}
-use Rattle.tile_core.specs.CoreStates.{CoreState, IsSound, hall_of, AreKept}
-use Rattle.tile_core.specs.Answered.{MayCall, IsAnswered, AreSessions, StayNamed, is_named}
-use Rattle.tile_core.specs.Moves.{world_of, moved}
-use Rattle.tile_core.specs.Dues.{AreDueFrom, IsExpired}
-use Rattle.tile_core.specs.Plans.{IsPlan, effect_of_asked}
-use Rattle.tile_core.specs.Sessions.{IsServed, answered}
-use Rattle.tile_core.proofs.Answered.{may_not, has_answer}
-use Rattle.tile_core.proofs.Calls.{refused, lacks, done}
-use Rattle.tile_core.proofs.Finishing.{few_frames, few_bytes, served_is, kept_after, rest_kept, present_set}
+use Rattle.session_mail.specs.Sessions.{State, session_of}
+use Rattle.tile_core.specs.declared.ready.Ready.{Ready}
+use Rattle.tile_core.specs.declared.stores.Store.{Store}
+use Rattle.tile_core.specs.CoreStates.{CoreState}
+use Rattle.tile_core.specs.Answered.{AreNamed, AreRoomy, AreSessions, IsAnswered, MayCall, StayNamed, is_named}
+use Rattle.tile_core.specs.Ready.{IsCompleted, IsReady}
+use Rattle.tile_core.specs.Sessions.{IsServed, are_rising}
+use Rattle.tile_core.specs.Stores.{IsSound, hall_of}
+use Rattle.tile_core.proofs.Answered.{may_not}
+use Rattle.tile_core.proofs.Called.{all_named, answered_, can, room_left, short, sound, step}
+use Rattle.tile_core.proofs.Calls.{lacks, refused, rises_as}
 use Rattle.tile_core.proofs.Halving.{rising}
-use Rattle.tile_core.proofs.Moving.{due_from_moved}
-use Rattle.tile_core.proofs.Named.{same_hall, still_present, none_named, same_room}
-use Rattle.tile_core.proofs.Naming.{with_name, stay, room_for_one, one_changed, still_sessions}
-use Rattle.tile_core.proofs.Places.{placed_there}
+use Rattle.tile_core.proofs.Named.{none_named, same_hall, same_room}
+use Rattle.tile_core.proofs.NamedChanges.{is_it, named_more, room_for_one, stay, still_roomy, with_name}
+use Rattle.tile_core.proofs.Readying.{as_before, as_long, same_at, same_world}
 use Rattle.tile_core.proofs.Taken.{are_few}
 use Rattle.tile_core.proofs.cores.Core.call.Goals as goal
 
-pub ready_session-requires : goal.ready_session-requires
-ready_session-requires c =
+pub served-requires : goal.served-requires
+served-requires c =
     let k = c.self.inside in
-    rising 0 k.drawn k.sessions.items c.self.invariant.present.rises
-
-pub invariant_of-self : goal.invariant_of-self
-invariant_of-self c =
-    let k = c.self.inside in
-    let same = c.ready_session.ensures.same in
-    record { kept = c.self.invariant.kept; due_from = c.self.invariant.due_from; early = c.self.invariant.early; present = still_present (objects_in k.objects) k.clock k.logged k.drawn k.sessions.items c.ready_session.new.sessions.items same c.self.invariant.present }
+    subst (λ (ss : List State). are_rising ss ≡ true) (sym c.as_slice.ensures.value) (rising 0 k.drawn k.sessions.items c.self.invariant.present.rises)
 
 pub returns-in-Err-clause-step : goal.returns-in-Err-clause-step
 returns-in-Err-clause-step c =
     let k = c.self.inside in
-    let ss = c.ready_session.new.sessions.items in
-    let same = c.ready_session.ensures.same in
-    let present = still_present (objects_in k.objects) k.clock k.logged k.drawn k.sessions.items ss same c.self.invariant.present in
-    let hall = same_hall (objects_in k.objects) k.clock k.logged k.drawn k.sessions.items ss same ∙ ap (λ (n : CoreState). n.hall) c.self.view_is in
-    subst (λ (h : Hall). Step h (event.Call c.args.session c.args.moment c.args.asked.now) (outcome.Answered c.in-Err.answer) (hall_of (objects_in k.objects) k.clock k.logged k.drawn ss)) hall
-    (refused (objects_in k.objects) k.clock k.logged k.drawn ss c.args.session c.args.moment c.args.asked.now c.if-self-ge-MOST_LOGGED.false present.rises c.in-Err.answer (subst (λ (r : Result ℕ Called). IsServed ss c.args.session r) c.in-Err.is c.ready_session.ensures.served))
-
-pub returns-in-Err-clause-named : goal.returns-in-Err-clause-named
-returns-in-Err-clause-named c =
-    let k = c.self.inside in
-    let same = c.ready_session.ensures.same in
-    none_named c.args.touched.now _ _ (same_hall (objects_in k.objects) k.clock k.logged k.drawn k.sessions.items c.ready_session.new.sessions.items same ∙ ap (λ (n : CoreState). n.hall) c.self.view_is)
-
-pub returns-in-Err-clause-room : goal.returns-in-Err-clause-room
-returns-in-Err-clause-room c =
-    let k = c.self.inside in
-    let same = c.ready_session.ensures.same in
-    same_room c.args.touched.now _ _ (same_hall (objects_in k.objects) k.clock k.logged k.drawn k.sessions.items c.ready_session.new.sessions.items same ∙ ap (λ (n : CoreState). n.hall) c.self.view_is) c.requires.room
+    let e : IsServed k.sessions.items c.args.session (Err c.in-Err.answer) = subst (λ (r : Result ℕ Called). IsServed k.sessions.items c.args.session r) c.in-Err.is (subst (λ (ss : List State). IsServed ss c.args.session c.served.result) c.as_slice.ensures.value c.served.ensures) in
+    subst (λ (n : CoreState). Step n.hall (event.Call c.args.session c.args.moment c.args.asked.now) (outcome.Answered c.in-Err.answer) n.hall) c.self.view_is
+    (refused k.store k.clock k.logged k.drawn k.sessions.items c.args.session c.args.moment c.args.asked.now c.if-self-ge-MOST_LOGGED.false c.self.invariant.present.rises c.in-Err.answer e)
 
 pub returns-in-Err-clause-done : goal.returns-in-Err-clause-done
-returns-in-Err-clause-done c =
+returns-in-Err-clause-done c = λ may.
     let k = c.self.inside in
-    let ss = c.ready_session.new.sessions.items in
-    let same = c.ready_session.ensures.same in
-    let present = still_present (objects_in k.objects) k.clock k.logged k.drawn k.sessions.items ss same c.self.invariant.present in
-    let hall = same_hall (objects_in k.objects) k.clock k.logged k.drawn k.sessions.items ss same ∙ ap (λ (n : CoreState). n.hall) c.self.view_is in
-    λ may.
-    let m = subst (λ (h : Hall). MayCall h c.args.session) (sym hall) may in
-    inr (may_not k.drawn ss c.args.session present.rises c.in-Err.answer (subst (λ (r : Result ℕ Called). IsServed ss c.args.session r) c.in-Err.is c.ready_session.ensures.served) m.1 m.2)
+    let e : IsServed k.sessions.items c.args.session (Err c.in-Err.answer) = subst (λ (r : Result ℕ Called). IsServed k.sessions.items c.args.session r) c.in-Err.is (subst (λ (ss : List State). IsServed ss c.args.session c.served.result) c.as_slice.ensures.value c.served.ensures) in
+    let here = subst (λ (n : CoreState). MayCall n.hall c.args.session) (sym c.self.view_is) may in
+    absurd (may_not k.drawn k.sessions.items c.args.session c.self.invariant.present.rises c.in-Err.answer e here.1 here.2)
+
+pub returns-in-Err-clause-answered : goal.returns-in-Err-clause-answered
+returns-in-Err-clause-answered c = λ fine.
+    let k = c.self.inside in
+    let e : IsServed k.sessions.items c.args.session (Err c.in-Err.answer) = subst (λ (r : Result ℕ Called). IsServed k.sessions.items c.args.session r) c.in-Err.is (subst (λ (ss : List State). IsServed ss c.args.session c.served.result) c.as_slice.ensures.value c.served.ensures) in
+    absurd (subst (λ (a : Called). IsServed k.sessions.items c.args.session (Err a)) fine e)
+
+pub make_ready-ready-requires-clause-at : goal.make_ready-ready-requires-clause-at
+make_ready-ready-requires-clause-at c =
+    let sv = subst (λ (ss : List State). IsServed ss c.args.session (Ok c.in-Ok.at)) c.as_slice.ensures.value c.in-Ok.ensures in
+    sv.3
+
+pub make_ready-ready-requires-clause-moment : goal.make_ready-ready-requires-clause-moment
+make_ready-ready-requires-clause-moment c = let early = c.self.invariant.early in omega (arith, c.max-now.ensures, early, c.requires.moment)
+
+pub invariant_of-self : goal.invariant_of-self
+invariant_of-self c =
+    let k = c.self.inside in
+    let new = c.make_ready-ready.new.sessions.items in
+    let same = c.make_ready-ready.ensures.same in
+    record {
+      kept = as_before k.store c.make_ready-ready.new.store c.in_default.ensures.err c.self.invariant.kept;
+      early = c.self.invariant.early;
+      present = record {
+        rises = rises_as 0 k.drawn new k.sessions.items same c.self.invariant.present.rises;
+        few = let long = as_long new k.sessions.items same in let few = c.self.invariant.present.few in omega (arith, long, few);
+      };
+      bare = c.in_default.ensures.bare;
+    }
 
 pub returns-in_default-clause-step : goal.returns-in_default-clause-step
 returns-in_default-clause-step c =
     let k = c.self.inside in
-    let ss = c.ready_session.new.sessions.items in
-    let same = c.ready_session.ensures.same in
-    let present = still_present (objects_in k.objects) k.clock k.logged k.drawn k.sessions.items ss same c.self.invariant.present in
-    let hall = same_hall (objects_in k.objects) k.clock k.logged k.drawn k.sessions.items ss same ∙ ap (λ (n : CoreState). n.hall) c.self.view_is in
-    let sv = c.in-Ok.ensures.served in
-    let step = lacks (objects_in k.objects) k.clock k.logged k.drawn ss c.args.session c.args.moment c.args.asked.now c.if-self-ge-MOST_LOGGED.false c.in-Ok.at sv.0.session present.rises sv.0.here sv.0.numbered sv.1 sv.2 in
-    subst (λ (os : List Object). Step c.args.self.now.hall (event.Call c.args.session c.args.moment c.args.asked.now) (outcome.Answered called.Memory) (hall_of os k.clock k.logged k.drawn ss)) (sym c.in_default.ensures.err)
-    (subst (λ (h : Hall). Step h (event.Call c.args.session c.args.moment c.args.asked.now) (outcome.Answered called.Memory) (hall_of (objects_in k.objects) k.clock k.logged k.drawn ss)) hall step)
+    let sv = subst (λ (ss : List State). IsServed ss c.args.session (Ok c.in-Ok.at)) c.as_slice.ensures.value c.in-Ok.ensures in
+    let new = c.make_ready-ready.new.sessions.items in
+    let hall = same_hall k.store c.make_ready-ready.new.store k.clock k.logged k.drawn k.sessions.items new (same_world k.store c.make_ready-ready.new.store c.in_default.ensures.err) c.make_ready-ready.ensures.same in
+    let call = event.Call c.args.session c.args.moment c.args.asked.now in
+    subst (λ (n : CoreState). Step n.hall call (outcome.Answered called.Memory) (hall_of c.make_ready-ready.new.store k.clock k.logged k.drawn new)) c.self.view_is
+    (subst (λ (h : Hall). Step (hall_of k.store k.clock k.logged k.drawn k.sessions.items) call (outcome.Answered called.Memory) h) (sym hall)
+    (lacks k.store k.clock k.logged k.drawn k.sessions.items c.args.session c.args.moment c.args.asked.now c.if-self-ge-MOST_LOGGED.false c.in-Ok.at sv.0.session c.self.invariant.present.rises sv.0.here sv.0.numbered sv.1 sv.2))
 
-pub answer-requires-clause-frames : goal.answer-requires-clause-frames
-answer-requires-clause-frames c =
+pub returns-in_default-clause-named : goal.returns-in_default-clause-named
+returns-in_default-clause-named c =
     let k = c.self.inside in
-    let ss = c.ready_session.new.sessions.items in
-    let same_list = c.ready_session.ensures.same in
-    let present = still_present (objects_in k.objects) k.clock k.logged k.drawn k.sessions.items ss same_list c.self.invariant.present in
-    let hall = same_hall (objects_in k.objects) k.clock k.logged k.drawn k.sessions.items ss same_list ∙ ap (λ (n : CoreState). n.hall) c.self.view_is in
-    let sv = c.in-Ok.ensures.served in
-    let is = served_is ss c.args.session c.in-Ok.at sv c.index_mut.result.now c.index_mut.ensures.value in
-    subst (λ (s : Session). length s.outbox.frames < full_frames) (sym is) (few_frames sv.0.session sv.2)
+    let new = c.make_ready-ready.new.sessions.items in
+    none_named c.args.touched.now _ _ (same_hall k.store c.make_ready-ready.new.store k.clock k.logged k.drawn k.sessions.items new (same_world k.store c.make_ready-ready.new.store c.in_default.ensures.err) c.make_ready-ready.ensures.same ∙ ap (λ (n : CoreState). n.hall) c.self.view_is)
 
-pub answer-requires-clause-bytes : goal.answer-requires-clause-bytes
-answer-requires-clause-bytes c =
+pub returns-in_default-clause-room : goal.returns-in_default-clause-room
+returns-in_default-clause-room c =
     let k = c.self.inside in
-    let ss = c.ready_session.new.sessions.items in
-    let same_list = c.ready_session.ensures.same in
-    let present = still_present (objects_in k.objects) k.clock k.logged k.drawn k.sessions.items ss same_list c.self.invariant.present in
-    let hall = same_hall (objects_in k.objects) k.clock k.logged k.drawn k.sessions.items ss same_list ∙ ap (λ (n : CoreState). n.hall) c.self.view_is in
-    let sv = c.in-Ok.ensures.served in
-    let is = served_is ss c.args.session c.in-Ok.at sv c.index_mut.result.now c.index_mut.ensures.value in
-    subst (λ (s : Session). frame_bytes s.outbox.frames < full_bytes) (sym is) (few_bytes sv.0.session sv.2)
+    let new = c.make_ready-ready.new.sessions.items in
+    same_room c.args.touched.now c.args.self.now.hall (hall_of c.make_ready-ready.new.store k.clock k.logged k.drawn new)
+    (same_hall k.store c.make_ready-ready.new.store k.clock k.logged k.drawn k.sessions.items new (same_world k.store c.make_ready-ready.new.store c.in_default.ensures.err) c.make_ready-ready.ensures.same ∙ ap (λ (n : CoreState). n.hall) c.self.view_is) c.requires.room
 
-pub answer-requires-clause-room : goal.answer-requires-clause-room
-answer-requires-clause-room c =
+pub name_told-requires-clause-few : goal.name_told-requires-clause-few
+name_told-requires-clause-few c =
     let k = c.self.inside in
-    let ss = c.ready_session.new.sessions.items in
-    let same_list = c.ready_session.ensures.same in
-    let present = still_present (objects_in k.objects) k.clock k.logged k.drawn k.sessions.items ss same_list c.self.invariant.present in
-    let hall = same_hall (objects_in k.objects) k.clock k.logged k.drawn k.sessions.items ss same_list ∙ ap (λ (n : CoreState). n.hall) c.self.view_is in
-    let sv = c.in-Ok.ensures.served in
-    let is = served_is ss c.args.session c.in-Ok.at sv c.index_mut.result.now c.index_mut.ensures.value in
-    subst (λ (s : Session). 1 ≤ s.outbox.spare) (sym is) (placed_there ss c.in-Ok.at sv.0.session sv.0.here c.in-Ok.ensures.room)
+    let mid = c.make_ready-ready.new.sessions.items in
+    let long = as_long mid k.sessions.items c.make_ready-ready.ensures.same in
+    let few = c.self.invariant.present.few in
+    let shown = ap (λ (ss : List State). length ss) c.as_slice-2.ensures.value in
+    omega (arith, long, few, shown)
 
-pub answer-requires-clause-short : goal.answer-requires-clause-short
-answer-requires-clause-short c = let plan = c.in-Ok-ready.ensures.plan in plan.short
-
-pub make_move-requires-clause-few : goal.make_move-requires-clause-few
-make_move-requires-clause-few c =
+pub name_told-requires-clause-room : goal.name_told-requires-clause-room
+name_told-requires-clause-room c =
     let k = c.self.inside in
-    let e : IsExpired (objects_in k.objects) c.max-now.result k.weight (objects_in c.make_ready-ready.new.objects) c.in-Ok-ready.field-0.gone = c.in-Ok-ready.ensures.expired in
-    omega (arith, e.taken.count, are_few (objects_in k.objects) k.weight c.self.invariant.kept)
+    let mid = c.make_ready-ready.new.sessions.items in
+    let room = subst (λ (n : CoreState). AreSessions c.args.touched.now n.hall) (sym c.self.view_is) c.requires.room in
+    subst (AreRoomy c.args.touched.now) (sym c.as_slice-2.ensures.value)
+    (subst (λ (hs : List halls.Session). length c.args.touched.now ≤ length (filter (λ h. is_named c.args.touched.now h.number) hs)) (sym c.make_ready-ready.ensures.same) room)
 
 pub name_session-requires : goal.name_session-requires
-name_session-requires c =
+name_session-requires c = λ was.
     let k = c.self.inside in
-    let ss = c.ready_session.new.sessions.items in
-    let same_list = c.ready_session.ensures.same in
-    let present = still_present (objects_in k.objects) k.clock k.logged k.drawn k.sessions.items ss same_list c.self.invariant.present in
-    let hall = same_hall (objects_in k.objects) k.clock k.logged k.drawn k.sessions.items ss same_list ∙ ap (λ (n : CoreState). n.hall) c.self.view_is in
-    let sv = c.in-Ok.ensures.served in
-    let is = served_is ss c.args.session c.in-Ok.at sv c.index_mut.result.now c.index_mut.ensures.value in
-    λ was.
-    let room = subst (AreSessions c.args.touched.now) (sym hall) c.requires.room in
-    let less = room_for_one (objects_in k.objects) k.clock k.logged k.drawn ss c.args.touched.now room c.in-Ok.at sv.0.session sv.0.here (subst (λ (n : ℕ). is_named c.args.touched.now n ≡ false) (sym sv.0.numbered) was) in
-    let few = present.few in
-    omega (arith, less, few)
+    let sv = subst (λ (ss : List State). IsServed ss c.args.session (Ok c.in-Ok.at)) c.as_slice.ensures.value c.in-Ok.ensures in
+    let mid = c.make_ready-ready.new.sessions.items in
+    let ready = c.in-Ok-ready.ensures.ready in
+    let number : ready.caller.number ≡ c.args.session = ap (λ (h : halls.Session). h.number) (same_at mid k.sessions.items c.in-Ok.at ready.caller sv.0.session c.make_ready-ready.ensures.same ready.here sv.0.here) ∙ sv.0.numbered in
+    let room = subst (AreRoomy c.name_told.new.touched) c.as_slice-2.ensures.value c.name_told.ensures.room in
+    let lt = room_for_one c.name_told.new.touched mid room c.in-Ok.at ready.caller ready.here (ap (is_named c.name_told.new.touched) number ∙ was) in
+    let long = as_long mid k.sessions.items c.make_ready-ready.ensures.same in
+    let few = c.self.invariant.present.few in
+    omega (arith, lt, long, few)
+
+pub complete-requires-clause-few : goal.complete-requires-clause-few
+complete-requires-clause-few c =
+    let ready = c.in-Ok-ready.ensures.ready in
+    are_few (objects_in c.make_ready-ready.new.store.objects) c.make_ready-ready.new.store.weight ready.kept.kept
+
+pub complete-requires-clause-at : goal.complete-requires-clause-at
+complete-requires-clause-at c =
+    let k = c.self.inside in
+    let sv = subst (λ (ss : List State). IsServed ss c.args.session (Ok c.in-Ok.at)) c.as_slice.ensures.value c.in-Ok.ensures in
+    let long = as_long c.make_ready-ready.new.sessions.items k.sessions.items c.make_ready-ready.ensures.same in
+    let lt = sv.3 in
+    omega (arith, long, lt)
+
+pub complete-requires-clause-can : goal.complete-requires-clause-can
+complete-requires-clause-can c =
+    let k = c.self.inside in
+    let sv = subst (λ (ss : List State). IsServed ss c.args.session (Ok c.in-Ok.at)) c.as_slice.ensures.value c.in-Ok.ensures in
+    can k.store k.clock k.logged k.drawn k.sessions.items c.make_ready-ready.new.sessions.items c.args.session c.in-Ok.at c.args.moment c.max-now.result c.args.asked.now c.make_ready-ready.new.store c.in-Ok-ready.ready
+    c.self.invariant.kept c.self.invariant.present sv c.max-now.ensures c.make_ready-ready.ensures.same c.in-Ok-ready.ensures.ready
+
+pub complete-requires-clause-short : goal.complete-requires-clause-short
+complete-requires-clause-short c =
+    let k = c.self.inside in
+    let sv = subst (λ (ss : List State). IsServed ss c.args.session (Ok c.in-Ok.at)) c.as_slice.ensures.value c.in-Ok.ensures in
+    let le = short k.store k.clock k.logged k.drawn k.sessions.items c.make_ready-ready.new.sessions.items c.args.session c.in-Ok.at c.args.moment c.max-now.result c.args.asked.now c.make_ready-ready.new.store c.in-Ok-ready.ready
+        c.self.invariant.kept c.self.invariant.present sv c.max-now.ensures c.make_ready-ready.ensures.same c.in-Ok-ready.ensures.ready in
+    omega (arith, le)
 
 pub invariant_of-self-2 : goal.invariant_of-self-2
 invariant_of-self-2 c =
     let k = c.self.inside in
-    let ss = c.ready_session.new.sessions.items in
-    let same_list = c.ready_session.ensures.same in
-    let present = still_present (objects_in k.objects) k.clock k.logged k.drawn k.sessions.items ss same_list c.self.invariant.present in
-    let hall = same_hall (objects_in k.objects) k.clock k.logged k.drawn k.sessions.items ss same_list ∙ ap (λ (n : CoreState). n.hall) c.self.view_is in
-    let sv = c.in-Ok.ensures.served in
-    let is = served_is ss c.args.session c.in-Ok.at sv c.index_mut.result.now c.index_mut.ensures.value in
-    let g = c.in-Ok-ready.field-0.gone in
-    let p = c.in-Ok-ready.field-0.plan in
-    let rest = objects_in c.make_ready-ready.new.objects in
-    let now = c.max-now.result in
-    let e : IsExpired (objects_in k.objects) now k.weight rest g = c.in-Ok-ready.ensures.expired in
-    let plan : IsPlan rest (effect_of_asked (world_of rest) now c.args.asked.now) p = c.in-Ok-ready.ensures.plan in
-    let items : objects_in c.release.new.objects ≡ moved rest p.action = c.release.ensures ∙ c.make_move.ensures in
-    let same : c.answer.new.self.number ≡ sv.0.session.number = ap (λ (s : Session). s.number) c.answer.ensures ∙ ap (λ (s : Session). s.number) is in
-    let left = rest_kept (objects_in k.objects) now k.weight rest g.held.items g.length g.weight c.self.invariant.kept.light e.taken in
-    let due_from = c.due_from_after-self-inside.result in
-    record {
-      kept = subst (λ (os : List Object). AreKept os p.weight) (sym items) (kept_after rest g.weight left (effect_of_asked (world_of rest) now c.args.asked.now) p plan);
-      due_from = subst (λ (os : List Object). AreDueFrom due_from os) (sym items) (due_from_moved g.due_from due_from rest p.action c.due_from_after-self-inside.ensures.least c.due_from_after-self-inside.ensures.put e.due_from);
-      early = omega (arith, c.max-now.ensures, c.self.invariant.early, c.requires.moment);
-      present = present_set k.drawn ss c.in-Ok.at sv.0.session c.answer.new.self present sv.0.here same;
-    }
+    let sv = subst (λ (ss : List State). IsServed ss c.args.session (Ok c.in-Ok.at)) c.as_slice.ensures.value c.in-Ok.ensures in
+    let early = c.self.invariant.early in
+    sound k.store k.clock k.logged k.drawn k.sessions.items c.make_ready-ready.new.sessions.items c.args.session c.in-Ok.at c.args.moment c.max-now.result c.args.asked.now c.make_ready-ready.new.store c.in-Ok-ready.ready
+    c.self.invariant.kept c.self.invariant.present sv c.max-now.ensures c.make_ready-ready.ensures.same c.in-Ok-ready.ensures.ready
+    c.if-self-ge-MOST_LOGGED.false c.complete.new.store c.complete.new.sessions.items c.complete.result c.complete.ensures (omega (arith, c.max-now.ensures, early, c.requires.moment))
 
 pub returns-clause-step : goal.returns-clause-step
 returns-clause-step c =
     let k = c.self.inside in
-    let ss = c.ready_session.new.sessions.items in
-    let same_list = c.ready_session.ensures.same in
-    let present = still_present (objects_in k.objects) k.clock k.logged k.drawn k.sessions.items ss same_list c.self.invariant.present in
-    let hall = same_hall (objects_in k.objects) k.clock k.logged k.drawn k.sessions.items ss same_list ∙ ap (λ (n : CoreState). n.hall) c.self.view_is in
-    let sv = c.in-Ok.ensures.served in
-    let is = served_is ss c.args.session c.in-Ok.at sv c.index_mut.result.now c.index_mut.ensures.value in
-    let g = c.in-Ok-ready.field-0.gone in
-    let p = c.in-Ok-ready.field-0.plan in
-    let rest = objects_in c.make_ready-ready.new.objects in
-    let m = max k.clock c.args.moment in
-    let e : IsExpired (objects_in k.objects) m k.weight rest g = subst (λ (n : ℕ). IsExpired (objects_in k.objects) n k.weight rest g) c.max-now.ensures c.in-Ok-ready.ensures.expired in
-    let plan : IsPlan rest (effect_of_asked (world_of rest) m c.args.asked.now) p = subst (λ (n : ℕ). IsPlan rest (effect_of_asked (world_of rest) n c.args.asked.now) p) c.max-now.ensures c.in-Ok-ready.ensures.plan in
-    let items : objects_in c.release.new.objects ≡ moved rest p.action = c.release.ensures ∙ c.make_move.ensures in
-    let now_ : c.answer.new.self ≡ answered p.frame p.closes sv.0.session = c.answer.ensures ∙ ap (answered p.frame p.closes) is in
-    let sum : (k.logged + g.length) + p.length ≡ k.logged + (g.length + p.length) = omega arith in
-    let step = done (objects_in k.objects) k.clock k.logged k.drawn ss c.args.session c.args.moment c.args.asked.now c.if-self-ge-MOST_LOGGED.false c.in-Ok.at sv.0.session present.rises sv.0.here sv.0.numbered sv.1 sv.2 k.weight rest g e p plan in
-    let call = event.Call c.args.session c.args.moment c.args.asked.now in
-    let ok = outcome.Answered called.Ok in
-    let at = c.in-Ok.at in
-    subst (λ (os : List Object). Step c.args.self.now.hall call ok (hall_of os c.max-now.result (k.logged + (g.length + p.length)) k.drawn (slice_set ss at c.answer.new.self))) (sym items)
-    (subst (λ (now : ℕ). Step c.args.self.now.hall call ok (hall_of (moved rest p.action) now (k.logged + (g.length + p.length)) k.drawn (slice_set ss at c.answer.new.self))) (sym c.max-now.ensures)
-    (subst (λ (s : Session). Step c.args.self.now.hall call ok (hall_of (moved rest p.action) m (k.logged + (g.length + p.length)) k.drawn (slice_set ss at s))) (sym now_)
-    (subst (λ (n : ℕ). Step c.args.self.now.hall call ok (hall_of (moved rest p.action) m n k.drawn (slice_set ss at (answered p.frame p.closes sv.0.session)))) sum
-    (subst (λ (h : Hall). Step h call ok (hall_of (moved rest p.action) m ((k.logged + g.length) + p.length) k.drawn (slice_set ss at (answered p.frame p.closes sv.0.session)))) hall step))))
+    let sv = subst (λ (ss : List State). IsServed ss c.args.session (Ok c.in-Ok.at)) c.as_slice.ensures.value c.in-Ok.ensures in
+    subst (λ (n : CoreState). Step n.hall (event.Call c.args.session c.args.moment c.args.asked.now) (outcome.Answered called.Ok) (hall_of c.complete.new.store c.max-now.result (k.logged + c.complete.result) k.drawn c.complete.new.sessions.items)) c.self.view_is
+    (step k.store k.clock k.logged k.drawn k.sessions.items c.make_ready-ready.new.sessions.items c.args.session c.in-Ok.at c.args.moment c.max-now.result c.args.asked.now c.make_ready-ready.new.store c.in-Ok-ready.ready
+    c.self.invariant.kept c.self.invariant.present sv c.max-now.ensures c.make_ready-ready.ensures.same c.in-Ok-ready.ensures.ready
+    c.if-self-ge-MOST_LOGGED.false c.complete.new.store c.complete.new.sessions.items c.complete.result c.complete.ensures)
 
 pub returns-clause-named : goal.returns-clause-named
 returns-clause-named c =
     let k = c.self.inside in
-    let ss = c.ready_session.new.sessions.items in
-    let same_list = c.ready_session.ensures.same in
-    let present = still_present (objects_in k.objects) k.clock k.logged k.drawn k.sessions.items ss same_list c.self.invariant.present in
-    let hall = same_hall (objects_in k.objects) k.clock k.logged k.drawn k.sessions.items ss same_list ∙ ap (λ (n : CoreState). n.hall) c.self.view_is in
-    let sv = c.in-Ok.ensures.served in
-    let is = served_is ss c.args.session c.in-Ok.at sv c.index_mut.result.now c.index_mut.ensures.value in
-    let room = subst (AreSessions c.args.touched.now) (sym hall) c.requires.room in
-    let same : c.answer.new.self.number ≡ sv.0.session.number = ap (λ (s : Session). s.number) c.answer.ensures ∙ ap (λ (s : Session). s.number) is in
-    let named = one_changed (objects_in k.objects) k.clock k.logged k.drawn ss c.args.touched.now room c.in-Ok.at sv.0.session sv.0.here c.answer.new.self same (objects_in c.release.new.objects) c.max-now.result (k.logged + (c.in-Ok-ready.field-0.gone.length + c.in-Ok-ready.field-0.plan.length)) in
-    let with_it : c.name_session.new.touched ≡ with_name c.args.touched.now sv.0.session.number = c.name_session.ensures ∙ ap (with_name c.args.touched.now) (sym sv.0.numbered) in
-    subst (λ (h : Hall). NamesChanged c.name_session.new.touched h (hall_of (objects_in c.release.new.objects) c.max-now.result (k.logged + (c.in-Ok-ready.field-0.gone.length + c.in-Ok-ready.field-0.plan.length)) k.drawn (slice_set ss c.in-Ok.at c.answer.new.self))) hall
-    (subst (λ (t : List ℕ). NamesChanged t (hall_of (objects_in k.objects) k.clock k.logged k.drawn ss) (hall_of (objects_in c.release.new.objects) c.max-now.result (k.logged + (c.in-Ok-ready.field-0.gone.length + c.in-Ok-ready.field-0.plan.length)) k.drawn (slice_set ss c.in-Ok.at c.answer.new.self))) (sym with_it) named)
+    let sv = subst (λ (ss : List State). IsServed ss c.args.session (Ok c.in-Ok.at)) c.as_slice.ensures.value c.in-Ok.ensures in
+    let mid = c.make_ready-ready.new.sessions.items in
+    let named : c.name_session.new.touched ≡ with_name c.name_told.new.touched c.args.session = c.name_session.ensures in
+    let told = subst (AreNamed c.name_told.new.touched) c.as_slice-2.ensures.value c.name_told.ensures.named in
+    subst (λ (n : CoreState). NamesChanged c.name_session.new.touched n.hall (hall_of c.complete.new.store c.max-now.result (k.logged + c.complete.result) k.drawn c.complete.new.sessions.items)) c.self.view_is
+    (subst (λ (t : List ℕ). NamesChanged t (hall_of k.store k.clock k.logged k.drawn k.sessions.items) (hall_of c.complete.new.store c.max-now.result (k.logged + c.complete.result) k.drawn c.complete.new.sessions.items)) (sym named)
+    (all_named k.store k.clock k.logged k.drawn k.sessions.items mid c.args.session c.in-Ok.at c.args.moment c.max-now.result c.args.asked.now c.make_ready-ready.new.store c.in-Ok-ready.ready
+    c.self.invariant.kept c.self.invariant.present sv c.max-now.ensures c.make_ready-ready.ensures.same c.in-Ok-ready.ensures.ready
+    c.if-self-ge-MOST_LOGGED.false c.complete.new.store c.complete.new.sessions.items c.complete.result c.complete.ensures
+    (with_name c.name_told.new.touched c.args.session) (named_more c.name_told.new.touched (with_name c.name_told.new.touched c.args.session) mid (stay c.name_told.new.touched c.args.session) told) (is_it c.name_told.new.touched c.args.session)))
+
+pub returns-clause-kept : goal.returns-clause-kept
+returns-clause-kept c = λ n was.
+    subst (λ (t : List ℕ). is_named t n ≡ true) (sym c.name_session.ensures) (stay c.name_told.new.touched c.args.session n (c.name_told.ensures.kept n was))
 
 pub returns-clause-room : goal.returns-clause-room
 returns-clause-room c =
     let k = c.self.inside in
-    let ss = c.ready_session.new.sessions.items in
-    let same_list = c.ready_session.ensures.same in
-    let present = still_present (objects_in k.objects) k.clock k.logged k.drawn k.sessions.items ss same_list c.self.invariant.present in
-    let hall = same_hall (objects_in k.objects) k.clock k.logged k.drawn k.sessions.items ss same_list ∙ ap (λ (n : CoreState). n.hall) c.self.view_is in
-    let sv = c.in-Ok.ensures.served in
-    let is = served_is ss c.args.session c.in-Ok.at sv c.index_mut.result.now c.index_mut.ensures.value in
-    let room = subst (AreSessions c.args.touched.now) (sym hall) c.requires.room in
-    let same : c.answer.new.self.number ≡ sv.0.session.number = ap (λ (s : Session). s.number) c.answer.ensures ∙ ap (λ (s : Session). s.number) is in
-    let still = still_sessions (objects_in k.objects) k.clock k.logged k.drawn ss c.args.touched.now room c.in-Ok.at sv.0.session sv.0.here c.answer.new.self same (objects_in c.release.new.objects) c.max-now.result (k.logged + (c.in-Ok-ready.field-0.gone.length + c.in-Ok-ready.field-0.plan.length)) in
-    let with_it : c.name_session.new.touched ≡ with_name c.args.touched.now sv.0.session.number = c.name_session.ensures ∙ ap (with_name c.args.touched.now) (sym sv.0.numbered) in
-    subst (λ (t : List ℕ). AreSessions t (hall_of (objects_in c.release.new.objects) c.max-now.result (k.logged + (c.in-Ok-ready.field-0.gone.length + c.in-Ok-ready.field-0.plan.length)) k.drawn (slice_set ss c.in-Ok.at c.answer.new.self))) (sym with_it) still
+    let sv = subst (λ (ss : List State). IsServed ss c.args.session (Ok c.in-Ok.at)) c.as_slice.ensures.value c.in-Ok.ensures in
+    let mid = c.make_ready-ready.new.sessions.items in
+    let ready = c.in-Ok-ready.ensures.ready in
+    let number : ready.caller.number ≡ c.args.session = ap (λ (h : halls.Session). h.number) (same_at mid k.sessions.items c.in-Ok.at ready.caller sv.0.session c.make_ready-ready.ensures.same ready.here sv.0.here) ∙ sv.0.numbered in
+    let named : c.name_session.new.touched ≡ with_name c.name_told.new.touched c.args.session = c.name_session.ensures in
+    let told = subst (AreNamed c.name_told.new.touched) c.as_slice-2.ensures.value c.name_told.ensures.named in
+    let room = subst (AreRoomy c.name_told.new.touched) c.as_slice-2.ensures.value c.name_told.ensures.room in
+    let left : AreRoomy (with_name c.name_told.new.touched c.args.session) mid = subst (λ (n : ℕ). AreRoomy (with_name c.name_told.new.touched n) mid) number (still_roomy c.name_told.new.touched mid room c.in-Ok.at ready.caller ready.here) in
+    subst (λ (t : List ℕ). AreSessions t (hall_of c.complete.new.store c.max-now.result (k.logged + c.complete.result) k.drawn c.complete.new.sessions.items)) (sym named)
+    (room_left k.store k.clock k.logged k.drawn k.sessions.items mid c.args.session c.in-Ok.at c.args.moment c.max-now.result c.args.asked.now c.make_ready-ready.new.store c.in-Ok-ready.ready
+    c.self.invariant.kept c.self.invariant.present sv c.max-now.ensures c.make_ready-ready.ensures.same c.in-Ok-ready.ensures.ready
+    c.if-self-ge-MOST_LOGGED.false c.complete.new.store c.complete.new.sessions.items c.complete.result c.complete.ensures
+    (with_name c.name_told.new.touched c.args.session) (named_more c.name_told.new.touched (with_name c.name_told.new.touched c.args.session) mid (stay c.name_told.new.touched c.args.session) told) (is_it c.name_told.new.touched c.args.session) left)
 
-pub returns-clause-kept : goal.returns-clause-kept
-returns-clause-kept c = subst (StayNamed c.args.touched.now) (sym c.name_session.ensures) (stay c.args.touched.now c.args.session)
+pub returns-clause-logged : goal.returns-clause-logged
+returns-clause-logged c =
+    let k = c.self.inside in
+    let sv = subst (λ (ss : List State). IsServed ss c.args.session (Ok c.in-Ok.at)) c.as_slice.ensures.value c.in-Ok.ensures in
+    let le = short k.store k.clock k.logged k.drawn k.sessions.items c.make_ready-ready.new.sessions.items c.args.session c.in-Ok.at c.args.moment c.max-now.result c.args.asked.now c.make_ready-ready.new.store c.in-Ok-ready.ready
+        c.self.invariant.kept c.self.invariant.present sv c.max-now.ensures c.make_ready-ready.ensures.same c.in-Ok-ready.ensures.ready in
+    let was : c.args.self.now.hall.logged ≡ k.logged = sym (ap (λ (n : CoreState). n.hall.logged) c.self.view_is) in
+    let long = c.complete.ensures.length_is in
+    omega (arith, le, was, long)
 
 pub returns-clause-answered : goal.returns-clause-answered
-returns-clause-answered c =
+returns-clause-answered c = λ fine.
     let k = c.self.inside in
-    let ss = c.ready_session.new.sessions.items in
-    let same_list = c.ready_session.ensures.same in
-    let present = still_present (objects_in k.objects) k.clock k.logged k.drawn k.sessions.items ss same_list c.self.invariant.present in
-    let hall = same_hall (objects_in k.objects) k.clock k.logged k.drawn k.sessions.items ss same_list ∙ ap (λ (n : CoreState). n.hall) c.self.view_is in
-    let sv = c.in-Ok.ensures.served in
-    let is = served_is ss c.args.session c.in-Ok.at sv c.index_mut.result.now c.index_mut.ensures.value in
-    let p = c.in-Ok-ready.field-0.plan in
-    let now_ : c.answer.new.self ≡ answered p.frame p.closes sv.0.session = c.answer.ensures ∙ ap (answered p.frame p.closes) is in
-    let later = objects_in c.release.new.objects in
-    let longer = k.logged + (c.in-Ok-ready.field-0.gone.length + p.length) in
-    let is_answered = has_answer (objects_in k.objects) later k.clock c.max-now.result k.logged longer k.drawn ss c.args.session c.in-Ok.at sv.0.session p.frame p.closes present.rises sv.0.here sv.0.numbered in
-    λ _.
-    subst (λ (h : Hall). IsAnswered h (hall_of later c.max-now.result longer k.drawn (slice_set ss c.in-Ok.at c.answer.new.self)) c.args.session) hall
-    (subst (λ (s : Session). IsAnswered (hall_of (objects_in k.objects) k.clock k.logged k.drawn ss) (hall_of later c.max-now.result longer k.drawn (slice_set ss c.in-Ok.at s)) c.args.session) (sym now_) is_answered)
-
-pub invariant_of-self-in_default : goal.invariant_of-self-in_default
-invariant_of-self-in_default c =
-    let k = c.self.inside in
-    let present = still_present (objects_in k.objects) k.clock k.logged k.drawn k.sessions.items c.ready_session.new.sessions.items c.ready_session.ensures.same c.self.invariant.present in
-    subst (λ (os : List Object). IsSound os k.weight k.due_from k.clock k.drawn c.ready_session.new.sessions.items) (sym c.in_default.ensures.err)
-    (record { kept = c.self.invariant.kept; due_from = c.self.invariant.due_from; early = c.self.invariant.early; present = present })
+    let sv = subst (λ (ss : List State). IsServed ss c.args.session (Ok c.in-Ok.at)) c.as_slice.ensures.value c.in-Ok.ensures in
+    subst (λ (n : CoreState). IsAnswered n.hall (hall_of c.complete.new.store c.max-now.result (k.logged + c.complete.result) k.drawn c.complete.new.sessions.items) c.args.moment c.args.session c.args.asked.now) c.self.view_is
+    (answered_ k.store k.clock k.logged k.drawn k.sessions.items c.make_ready-ready.new.sessions.items c.args.session c.in-Ok.at c.args.moment c.max-now.result c.args.asked.now c.make_ready-ready.new.store c.in-Ok-ready.ready
+    c.self.invariant.kept c.self.invariant.present sv c.max-now.ensures c.make_ready-ready.ensures.same c.in-Ok-ready.ensures.ready
+    c.if-self-ge-MOST_LOGGED.false c.complete.new.store c.complete.new.sessions.items c.complete.result c.complete.ensures)

@@ -1,35 +1,105 @@
-use Rattle.std.proofs.Common.{ℕ, ◌≤◌, ◌+◌, List, max, sym, subst, arith}
-use Rattle.world_model.specs.Halls.{NamesChanged}
+use Rattle.std.proofs.Common.{◌≡◌, ◌≤◌, ◌<◌, ◌+◌, ℕ, List, length, max, map, refl, sym, ap, ◌∙◌, subst, arith}
+use Rattle.std.specs.Prelude.{filter}
+use Rattle.world_model.specs.Halls.{Hall, NamesChanged}
+use Rattle.world_model.specs.Halls as halls
 use Rattle.world_model.specs.Histories.{Step}
 use Rattle.world_model.specs.declared.events.Event.TheVariants as event
 use Rattle.world_model.specs.declared.events.Outcome.TheVariants as outcome
 use Rattle.world_model.specs.declared.events.Called.TheVariants as called
-use Rattle.world_data.specs.declared.objects.Object.{Object}
-use Rattle.tile_core.specs.Dues.{IsExpired}
-use Rattle.keyspace.specs.Entries.{objects_in}
-use Rattle.tile_core.specs.CoreStates.{CoreState, hall_of}
-use Rattle.tile_core.specs.Answered.{AreSessions}
-use Rattle.tile_core.proofs.Calls.{ticked}
-use Rattle.tile_core.proofs.Naming.{none_changed}
+use Rattle.session_mail.specs.Sessions.{State, session_of}
+use Rattle.tile_core.specs.CoreStates.{CoreState}
+use Rattle.tile_core.specs.Answered.{AreNamed, AreRoomy, AreSessions, is_named}
+use Rattle.tile_core.specs.Stores.{hall_of}
+use Rattle.tile_core.proofs.Calls.{rises_as, tick_refused}
+use Rattle.tile_core.proofs.Named.{none_named, same_hall, same_room}
+use Rattle.tile_core.proofs.Readying.{as_before, as_long, same_world}
+use Rattle.tile_core.proofs.Ticked.{tick_named, tick_room, tick_sound, tick_step}
 use Rattle.tile_core.proofs.cores.Core.tick.Goals as goal
+
+pub invariant_of-self : goal.invariant_of-self
+invariant_of-self c =
+    let k = c.self.inside in
+    let new = c.unstage.new.sessions.items in
+    let same : map session_of new ≡ map session_of k.sessions.items = c.unstage.ensures.same ∙ c.take_out_due.ensures.same in
+    record {
+      kept = as_before k.store c.take_out_due.new.store c.in_default.ensures.err c.self.invariant.kept;
+      early = c.self.invariant.early;
+      present = record {
+        rises = rises_as 0 k.drawn new k.sessions.items same c.self.invariant.present.rises;
+        few = let long = as_long new k.sessions.items same in let few = c.self.invariant.present.few in omega (arith, long, few);
+      };
+      bare = c.unstage.ensures.bare;
+    }
+
+pub returns-in_default-clause-step : goal.returns-in_default-clause-step
+returns-in_default-clause-step c =
+    let k = c.self.inside in
+    let new = c.unstage.new.sessions.items in
+    let same : map session_of new ≡ map session_of k.sessions.items = c.unstage.ensures.same ∙ c.take_out_due.ensures.same in
+    let hall = same_hall k.store c.take_out_due.new.store k.clock k.logged k.drawn k.sessions.items new (same_world k.store c.take_out_due.new.store c.in_default.ensures.err) same in
+    subst (λ (n : CoreState). Step n.hall (event.Tick c.args.moment) (outcome.Answered called.Memory) (hall_of c.take_out_due.new.store k.clock k.logged k.drawn new)) c.self.view_is
+    (subst (λ (h : Hall). Step (hall_of k.store k.clock k.logged k.drawn k.sessions.items) (event.Tick c.args.moment) (outcome.Answered called.Memory) h) (sym hall)
+    (tick_refused k.store k.clock k.logged k.drawn k.sessions.items c.args.moment c.if-self-ge-MOST_LOGGED.false))
+
+pub returns-in_default-clause-named : goal.returns-in_default-clause-named
+returns-in_default-clause-named c =
+    let k = c.self.inside in
+    let new = c.unstage.new.sessions.items in
+    let same : map session_of new ≡ map session_of k.sessions.items = c.unstage.ensures.same ∙ c.take_out_due.ensures.same in
+    none_named c.args.touched.now _ _ (same_hall k.store c.take_out_due.new.store k.clock k.logged k.drawn k.sessions.items new (same_world k.store c.take_out_due.new.store c.in_default.ensures.err) same ∙ ap (λ (n : CoreState). n.hall) c.self.view_is)
+
+pub returns-in_default-clause-room : goal.returns-in_default-clause-room
+returns-in_default-clause-room c =
+    let k = c.self.inside in
+    let new = c.unstage.new.sessions.items in
+    let same : map session_of new ≡ map session_of k.sessions.items = c.unstage.ensures.same ∙ c.take_out_due.ensures.same in
+    same_room c.args.touched.now c.args.self.now.hall (hall_of c.take_out_due.new.store k.clock k.logged k.drawn new)
+    (same_hall k.store c.take_out_due.new.store k.clock k.logged k.drawn k.sessions.items new (same_world k.store c.take_out_due.new.store c.in_default.ensures.err) same ∙ ap (λ (n : CoreState). n.hall) c.self.view_is) c.requires.room
+
+pub name_told-requires-clause-few : goal.name_told-requires-clause-few
+name_told-requires-clause-few c =
+    let k = c.self.inside in
+    let mid = c.take_out_due.new.sessions.items in
+    let long = as_long mid k.sessions.items c.take_out_due.ensures.same in
+    let few = c.self.invariant.present.few in
+    let shown = ap (λ (ss : List State). length ss) c.as_slice.ensures.value in
+    omega (arith, long, few, shown)
+
+pub name_told-requires-clause-room : goal.name_told-requires-clause-room
+name_told-requires-clause-room c =
+    let k = c.self.inside in
+    let room = subst (λ (n : CoreState). AreSessions c.args.touched.now n.hall) (sym c.self.view_is) c.requires.room in
+    subst (AreRoomy c.args.touched.now) (sym c.as_slice.ensures.value)
+    (subst (λ (hs : List halls.Session). length c.args.touched.now ≤ length (filter (λ h. is_named c.args.touched.now h.number) hs)) (sym c.take_out_due.ensures.same) room)
+
+pub invariant_of-self-2 : goal.invariant_of-self-2
+invariant_of-self-2 c =
+    let k = c.self.inside in
+    let early = c.self.invariant.early in
+    tick_sound k.store k.clock k.logged k.drawn k.sessions.items c.take_out_due.new.sessions.items c.place_staged.new.sessions.items c.args.moment c.max-now.result c.take_out_due.new.store (record c.take_out_due.new.store { objects = c.release.new.objects }) c.in-Ok.gone
+    c.self.invariant.kept c.self.invariant.present c.max-now.ensures c.take_out_due.ensures.same c.in-Ok.ensures.taken c.in-Ok.ensures.rest c.place_staged.ensures.placed c.release.ensures refl
+    (omega (arith, c.max-now.ensures, early, c.requires.moment))
 
 pub returns-clause-step : goal.returns-clause-step
 returns-clause-step c =
     let k = c.self.inside in
-    let m = max k.clock c.args.moment in
-    let g = c.in-Ok.gone in
-    let rest = objects_in c.expire-expired.new.objects in
-    let e : IsExpired (objects_in k.objects) m k.weight rest g = subst (λ (n : ℕ). IsExpired (objects_in k.objects) n k.weight rest g) c.max-now.ensures c.in-Ok.ensures.expired in
-    let step = ticked (objects_in k.objects) k.clock k.logged k.drawn k.sessions.items c.args.moment k.weight rest g e c.if-self-ge-MOST_LOGGED.false in
-    subst (λ (os : List Object). Step c.args.self.now.hall (event.Tick c.args.moment) (outcome.Answered called.Ok) (hall_of os c.max-now.result (k.logged + g.length) k.drawn k.sessions.items)) (sym c.release.ensures)
-    (subst (λ (now : ℕ). Step c.args.self.now.hall (event.Tick c.args.moment) (outcome.Answered called.Ok) (hall_of rest now (k.logged + g.length) k.drawn k.sessions.items)) (sym c.max-now.ensures)
-    (subst (λ (n : CoreState). Step n.hall (event.Tick c.args.moment) (outcome.Answered called.Ok) (hall_of rest m (k.logged + g.length) k.drawn k.sessions.items)) c.self.view_is step))
+    subst (λ (n : CoreState). Step n.hall (event.Tick c.args.moment) (outcome.Answered called.Ok) (hall_of (record c.take_out_due.new.store { objects = c.release.new.objects }) c.max-now.result (k.logged + c.in-Ok.gone.length) k.drawn c.place_staged.new.sessions.items)) c.self.view_is
+    (tick_step k.store k.clock k.logged k.drawn k.sessions.items c.take_out_due.new.sessions.items c.place_staged.new.sessions.items c.args.moment c.max-now.result c.take_out_due.new.store (record c.take_out_due.new.store { objects = c.release.new.objects }) c.in-Ok.gone
+    c.self.invariant.kept c.self.invariant.present c.max-now.ensures c.take_out_due.ensures.same c.in-Ok.ensures.taken c.in-Ok.ensures.rest c.place_staged.ensures.placed c.release.ensures refl
+    c.if-self-ge-MOST_LOGGED.false)
 
 pub returns-clause-named : goal.returns-clause-named
 returns-clause-named c =
     let k = c.self.inside in
-    subst (λ (n : CoreState). NamesChanged c.args._touched.now n.hall (hall_of (objects_in c.release.new.objects) c.max-now.result (k.logged + c.in-Ok.gone.length) k.drawn k.sessions.items)) c.self.view_is
-    (none_changed (objects_in k.objects) k.clock k.logged k.drawn k.sessions.items (objects_in c.release.new.objects) c.max-now.result (k.logged + c.in-Ok.gone.length) c.args._touched.now)
+    subst (λ (n : CoreState). NamesChanged c.name_told.new.touched n.hall (hall_of (record c.take_out_due.new.store { objects = c.release.new.objects }) c.max-now.result (k.logged + c.in-Ok.gone.length) k.drawn c.place_staged.new.sessions.items)) c.self.view_is
+    (tick_named k.store k.clock k.logged k.drawn k.sessions.items c.take_out_due.new.sessions.items c.place_staged.new.sessions.items c.args.moment c.max-now.result c.take_out_due.new.store (record c.take_out_due.new.store { objects = c.release.new.objects }) c.in-Ok.gone
+    c.self.invariant.kept c.self.invariant.present c.max-now.ensures c.take_out_due.ensures.same c.in-Ok.ensures.taken c.in-Ok.ensures.rest c.place_staged.ensures.placed c.release.ensures refl
+    c.name_told.new.touched (subst (AreNamed c.name_told.new.touched) c.as_slice.ensures.value c.name_told.ensures.named))
 
 pub returns-clause-room : goal.returns-clause-room
-returns-clause-room c = subst (λ (n : CoreState). AreSessions c.args._touched.now n.hall) (sym c.self.view_is) c.requires.room
+returns-clause-room c =
+    let k = c.self.inside in
+    tick_room k.store k.clock k.logged k.drawn k.sessions.items c.take_out_due.new.sessions.items c.place_staged.new.sessions.items c.args.moment c.max-now.result c.take_out_due.new.store (record c.take_out_due.new.store { objects = c.release.new.objects }) c.in-Ok.gone
+    c.self.invariant.kept c.self.invariant.present c.max-now.ensures c.take_out_due.ensures.same c.in-Ok.ensures.taken c.in-Ok.ensures.rest c.place_staged.ensures.placed c.release.ensures refl
+    c.name_told.new.touched (subst (AreNamed c.name_told.new.touched) c.as_slice.ensures.value c.name_told.ensures.named)
+    (subst (AreRoomy c.name_told.new.touched) c.as_slice.ensures.value c.name_told.ensures.room)

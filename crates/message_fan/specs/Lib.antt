@@ -1,0 +1,3 @@
+pub mod Raises
+pub mod Stagings
+pub mod Laws

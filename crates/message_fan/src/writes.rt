@@ -1,0 +1,143 @@
+//! What a write raises, staged for the sessions that hear it: on the channels alone that it may concern, in order of their names.
+
+ghost use Rattle.std.specs.Prelude.{◌≡◌, true, filter, flat_map, map, option_map, Some, OnOk};
+ghost use Rattle.std.specs.List.{list_all};
+ghost use Rattle.world_data.specs.Sound.{is_sound_channel};
+ghost use Rattle.world_data.specs.Worlds.{object_at};
+ghost use Rattle.world_data.specs.declared.worlds.World.{World};
+ghost use Rattle.world_data.specs.declared.worlds.Change.TheVariants.{Put, Del, Drop};
+ghost use Rattle.fence_model.specs.Messages.{watches};
+ghost use Rattle.fence_model.specs.Writes.{loud};
+ghost use Rattle.channel_hub.specs.Hubs.{put_may_concern, del_may_concern};
+ghost use Rattle.channel_hub.specs.MessageLaws.{messages_on};
+ghost use Rattle.channel_hub.specs.Places.{places_of};
+ghost use Rattle.keyspace.specs.Entries.{objects_in};
+ghost use Rattle.session_mail.specs.Sessions.{session_of};
+ghost use Rattle.session_mail.specs.Fans.{AreBrought};
+ghost use Rattle.message_fan.specs.Stagings.{IsBeforePut, IsBeforeDel, IsBeforeDrop, IsStagedIn};
+
+use crate::raises::{stage_del_on, stage_drop_on, stage_put_on};
+use byte_text::{Name, NoMemory};
+use channel_hub::{Candidates, Hub};
+use keyspace::Keyspace;
+use session_mail::Session;
+use std::alloc::Global;
+use world_data::Object;
+
+// Stages what a put raises on the channels at these places.
+fn stage_put_at(
+    alloc: Global,
+    hub: &Hub,
+    candidates: &Candidates,
+    objects: &Keyspace,
+    sessions: &mut Vec<Session>,
+    old: Option<&Object>,
+    new: &Object,
+) -> Result<(), NoMemory>
+    requires sound { list_all is_sound_channel hub.now.channels ≡ true }
+    requires places { candidates.now ≡ places_of (put_may_concern (option_map (λ o. o.now) old) new.now) hub.now.channels }
+    ensures same { map session_of sessions.new.items ≡ map session_of sessions.old.items }
+    ensures staged { OnOk result ((w : World) → w.objects ≡ objects_in objects.now
+        → object_at w new.now.key new.now.id ≡ option_map (λ o. o.now) old.entry
+        → AreBrought (flat_map (messages_on w (Put new.now)) (filter (put_may_concern (option_map (λ o. o.now) old.entry) new.now) hub.now.channels))
+        sessions.old.items sessions.new.items) }
+{
+    for i in 0..candidates.len() {
+        let channel = hub.at(candidates.at(i));
+        stage_put_on(alloc, channel, objects, sessions, old, new)?;
+    }
+    Ok(())
+}
+
+/// Stages all that the put of an object raises, behind what is staged: `old` is the object of its key and id before it, and `objects` are all
+/// objects then, so that it is asked before the object is put. For want of memory a part may be staged.
+pub fn stage_put(
+    alloc: Global,
+    hub: &Hub,
+    objects: &Keyspace,
+    sessions: &mut Vec<Session>,
+    old: Option<&Object>,
+    new: &Object,
+) -> Result<(), NoMemory>
+    requires { list_all is_sound_channel hub.now.channels ≡ true }
+    ensures same { map session_of sessions.new.items ≡ map session_of sessions.old.items }
+    ensures staged { OnOk result (IsStagedIn (IsBeforePut hub.now.channels (objects_in objects.now) (option_map (λ o. o.now) old.entry) new.now)
+        (loud (Put new.now)) sessions.old.items sessions.new.items) }
+{
+    let candidates = hub.candidates_of_put(alloc, old, new)?;
+    stage_put_at(alloc, hub, &candidates, objects, sessions, old, new)
+}
+
+// Stages what a del raises on the channels at these places.
+fn stage_del_at(
+    alloc: Global,
+    hub: &Hub,
+    concerned: &Candidates,
+    sessions: &mut Vec<Session>,
+    old: &Object,
+) -> Result<(), NoMemory>
+    requires sound { list_all is_sound_channel hub.now.channels ≡ true }
+    requires places { concerned.now ≡ places_of (del_may_concern old.now) hub.now.channels }
+    ensures same { map session_of sessions.new.items ≡ map session_of sessions.old.items }
+    ensures staged { OnOk result ((w : World) → object_at w old.now.key old.now.id ≡ Some old.now
+        → AreBrought (flat_map (messages_on w (Del old.now.key old.now.id)) (filter (del_may_concern old.now) hub.now.channels))
+        sessions.old.items sessions.new.items) }
+{
+    for i in 0..concerned.len() {
+        let channel = hub.at(concerned.at(i));
+        stage_del_on(alloc, channel, sessions, old)?;
+    }
+    Ok(())
+}
+
+/// Stages all that the del of an object raises, behind what is staged. It asks for the object alone, which may be taken out of the objects
+/// before or after: a channel that roams raises nothing at a del. For want of memory a part may be staged.
+pub fn stage_del(
+    alloc: Global,
+    hub: &Hub,
+    sessions: &mut Vec<Session>,
+    old: &Object,
+) -> Result<(), NoMemory>
+    requires { list_all is_sound_channel hub.now.channels ≡ true }
+    ensures same { map session_of sessions.new.items ≡ map session_of sessions.old.items }
+    ensures staged { OnOk result (IsStagedIn (IsBeforeDel hub.now.channels old.now) (loud (Del old.now.key old.now.id))
+        sessions.old.items sessions.new.items) }
+{
+    let concerned = hub.candidates_of_del(alloc, old)?;
+    stage_del_at(alloc, hub, &concerned, sessions, old)
+}
+
+// Stages what the drop of its key raises on each of the channels at these places.
+fn stage_drop_at(
+    alloc: Global,
+    hub: &Hub,
+    watching: &Candidates,
+    sessions: &mut Vec<Session>,
+    key: &Name,
+) -> Result<(), NoMemory>
+    requires { watching.now ≡ places_of (watches (Some key.now)) hub.now.channels }
+    ensures same { map session_of sessions.new.items ≡ map session_of sessions.old.items }
+    ensures staged { OnOk result ((w : World)
+        → AreBrought (flat_map (λ c. messages_on w (Drop c.fence.key) c) (filter (watches (Some key.now)) hub.now.channels))
+        sessions.old.items sessions.new.items) }
+{
+    for i in 0..watching.len() {
+        let channel = hub.at(watching.at(i));
+        stage_drop_on(alloc, channel, sessions)?;
+    }
+    Ok(())
+}
+
+/// Stages all that the drop of a key raises, behind what is staged. It asks for no object. For want of memory a part may be staged.
+pub fn stage_drop(
+    alloc: Global,
+    hub: &Hub,
+    sessions: &mut Vec<Session>,
+    key: &Name,
+) -> Result<(), NoMemory>
+    ensures same { map session_of sessions.new.items ≡ map session_of sessions.old.items }
+    ensures staged { OnOk result (IsStagedIn (IsBeforeDrop hub.now.channels) (loud (Drop key.now)) sessions.old.items sessions.new.items) }
+{
+    let watching = hub.of_key(alloc, key)?;
+    stage_drop_at(alloc, hub, &watching, sessions, key)
+}

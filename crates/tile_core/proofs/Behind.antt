@@ -1,0 +1,181 @@
+-- What is staged write by write, behind what was staged before.
+use Rattle.std.proofs.Common.{◌≡◌, ℕ, zero, suc, ◌+◌, Bool, true, false, not, refl, sym, ap, ◌∙◌, subst, List, [], ◌∷◌, ◌++◌, take, map, arith}
+use Rattle.std.specs.Prelude.{Some, None, Option, Result, Ok, Err, OnOk, find, filter, slice_get, if◌then◌else◌, ◌&&◌}
+use Rattle.std.proofs.lemmas.List.{map-append}
+use Rattle.byte_text.specs.Names.{Bytes, same}
+use Rattle.byte_text.specs.ByteOrder.{same_equal}
+use Rattle.fence_model.specs.Writes.{Write, loud, quiet, dels}
+use Rattle.world_data.specs.Worlds.{after, has_key, is_at, object_at}
+use Rattle.world_data.specs.declared.channels.Channel.{Channel}
+use Rattle.world_data.specs.declared.objects.Object.{Object}
+use Rattle.world_data.specs.declared.worlds.World.{World}
+use Rattle.world_data.specs.declared.worlds.Change.TheVariants as change
+use Rattle.deliveries.specs.Staging.{after_all}
+use Rattle.deliveries.specs.Quiet.{after_append}
+use Rattle.session_mail.specs.Sessions.{State}
+use Rattle.session_mail.specs.Fans.{HaveStaged}
+use Rattle.message_fan.specs.Laws.{QuietBringsNothing}
+use Rattle.message_fan.specs.Stagings.{IsStagedIn, IsBeforeDel}
+use Rattle.tile_core.specs.declared.planned.ChannelMove.{ChannelMove}
+use Rattle.tile_core.specs.declared.planned.ChannelMove.TheVariants.{Set, Drop}
+use Rattle.tile_core.specs.Planned.{channel_writes}
+use Rattle.tile_core.specs.Dues.{AllStand}
+use Rattle.tile_core.specs.Moves.{AllThere, world_with}
+use Rattle.tile_core.specs.Staged.{StagesBehind, dels_of}
+use Rattle.tile_core.proofs.Weights.{found_at}
+
+all_there : {A : Type 0} (xs : List A) → xs ++ [] ≡ xs
+all_there [] = refl
+all_there {A} (x ∷ xs) = ap (λ (ys : List A). x ∷ ys) (all_there xs)
+
+in_turn : {A : Type 0} (a b c : List A) → (a ++ b) ++ c ≡ a ++ (b ++ c)
+in_turn [] b c = refl
+in_turn {A} (x ∷ a) b c = ap (λ (ys : List A). x ∷ ys) (in_turn a b c)
+
+-- nothing is staged behind
+pub behind_none : (w : World) (ss : List State) → StagesBehind w [] ss ss
+behind_none w ss first writes is staged = subst (λ (ws : List Write). HaveStaged first ws ss) (sym (all_there writes)) staged
+
+-- one more write
+pub behind_more : (w : World) (more : List Write) (d : Write) (IsSuch : World → Type 0) (old mid new : List State) → StagesBehind w more old mid → IsSuch (after_all w more) → IsStagedIn IsSuch d mid new → StagesBehind w (more ++ d ∷ []) old new
+behind_more w more d IsSuch old mid new behind such staged first writes is before =
+    let there : after_all first (writes ++ more) ≡ after_all w more = after_append first writes more ∙ ap (λ (v : World). after_all v more) is in
+    subst (λ (ws : List Write). HaveStaged first ws new) (in_turn writes more (d ∷ []))
+    (staged.behind first (writes ++ more) (subst IsSuch (sym there) such) (behind first writes is before))
+
+-- one write alone
+pub behind_one : (w : World) (d : Write) (IsSuch : World → Type 0) (old new : List State) → IsSuch w → IsStagedIn IsSuch d old new → StagesBehind w (d ∷ []) old new
+behind_one w d IsSuch old new such staged first writes is before = staged.behind first writes (subst IsSuch (sym is) such) before
+
+next_take : {A : Type 0} (xs : List A) (i : ℕ) (x : A) → slice_get xs i ≡ Some x → take (suc i) xs ≡ take i xs ++ x ∷ []
+next_take [] i x at = absurd (cc)
+next_take {A} (y ∷ ys) zero x at = let is : y ≡ x = cc in ap (λ (z : A). z ∷ []) is
+next_take {A} (y ∷ ys) (suc i) x at = ap (λ (zs : List A). y ∷ zs) (next_take ys i x at)
+
+pub take_next : {A : Type 0} (xs : List A) (i : ℕ) (x : A) → slice_get xs i ≡ Some x → take (i + 1) xs ≡ take i xs ++ x ∷ []
+take_next {A} xs i x at = let one : i + 1 ≡ suc i = omega arith in ap (λ (n : ℕ). take n xs) one ∙ next_take xs i x at
+
+pub take_none : {A : Type 0} (xs : List A) → take 0 xs ≡ []
+take_none [] = refl
+take_none (x ∷ xs) = refl
+
+-- the dels of objects that stand
+
+dels_more : (xs : List Object) (o : Object) → dels (xs ++ o ∷ []) ≡ dels xs ++ loud (change.Del o.key o.id) ∷ []
+dels_more [] o = refl
+dels_more (x ∷ xs) o = ap (λ (ws : List Write). loud (change.Del x.key x.id) ∷ ws) (dels_more xs o)
+
+channels_stay : (w : World) (xs : List Object) → (after_all w (dels xs)).channels ≡ w.channels
+channels_stay w [] = refl
+channels_stay w (x ∷ xs) = channels_stay (after w (change.Del x.key x.id)) xs
+
+stands : (w : World) (xs : List Object) (i : ℕ) (o : Object) → AllStand w xs → slice_get xs i ≡ Some o → object_at (after_all w (dels (take i xs))) o.key o.id ≡ Some o
+stands w [] i o all at = absurd (cc)
+stands w (x ∷ xs) zero o all at = let is : x ≡ o = cc in subst (λ (p : Object). object_at w p.key p.id ≡ Some p) is all.0
+stands w (x ∷ xs) (suc i) o all at = stands (after w (change.Del x.key x.id)) xs i o all.1 at
+
+pub dels_next : (w : World) (xs : List Object) (i : ℕ) (o : Object) (cs : List Channel) (old mid new : List State) → AllStand w xs → w.channels ≡ cs → slice_get xs i ≡ Some o → StagesBehind w (dels (take i xs)) old mid
+    → IsStagedIn (IsBeforeDel cs o) (loud (change.Del o.key o.id)) mid new → StagesBehind w (dels (take (i + 1) xs)) old new
+dels_next w xs i o cs old mid new all is at behind staged =
+    subst (λ (ws : List Write). StagesBehind w ws old new) (sym (dels_more (take i xs) o) ∙ ap dels (sym (take_next xs i o at)))
+    (behind_more w (dels (take i xs)) (loud (change.Del o.key o.id)) (IsBeforeDel cs o) old mid new behind
+    (record { channels_are = channels_stay w (take i xs) ∙ is; stands = stands w xs i o all at }) staged)
+
+-- the dels of the objects of a key that have these ids
+
+each_more : (key : Bytes) (ids : List Bytes) (id : Bytes) → dels_of key (ids ++ id ∷ []) ≡ dels_of key ids ++ loud (change.Del key id) ∷ []
+each_more key [] id = refl
+each_more key (x ∷ ids) id = ap (λ (ws : List Write). loud (change.Del key x) ∷ ws) (each_more key ids id)
+
+-- of the world these are done to
+each_stay : (w : World) (key : Bytes) (ids : List Bytes) → (after_all w (dels_of key ids)).channels ≡ w.channels
+each_stay w key [] = refl
+each_stay w key (x ∷ ids) = each_stay (after w (change.Del key x)) key ids
+
+each_there : (w : World) (key : Bytes) (ids : List Bytes) (i : ℕ) (id : Bytes) → AllThere key ids w.objects → slice_get ids i ≡ Some id → (o : Object) × (object_at (after_all w (dels_of key (take i ids))) key id ≡ Some o)
+each_there w key [] i id all at = absurd (cc)
+each_there w key (x ∷ ids) zero id all at = let is : x ≡ id = cc in (all.0.0, subst (λ (j : Bytes). find (is_at key j) w.objects ≡ Some all.0.0) is all.0.1)
+each_there w key (x ∷ ids) (suc i) id all at = each_there (after w (change.Del key x)) key ids i id all.1 at
+
+-- what is found where another id was taken out stands there before
+still_there : (key j id : Bytes) (xs : List Object) (o : Object) → find (is_at key id) (filter (λ p. not (is_at key j p)) xs) ≡ Some o → find (is_at key id) xs ≡ Some o
+still_there key j id [] o e = e
+still_there key j id (x ∷ xs) o e = by (is_at key j x) refl (is_at key id x) refl (still_there key j id xs o)
+  where
+    by : (a : Bool) → is_at key j x ≡ a → (b : Bool) → is_at key id x ≡ b → (find (is_at key id) (filter (λ p. not (is_at key j p)) xs) ≡ Some o → find (is_at key id) xs ≡ Some o) → find (is_at key id) (x ∷ xs) ≡ Some o
+    by true p true q ih = absurd (gone x p q (rw p at e))
+      where
+        id_of : (k i : Bytes) → is_at k i x ≡ true → x.id ≡ i
+        id_of k i t = same_equal x.id i (right (has_key k x) (same x.id i) t)
+          where
+            right : (a b : Bool) → (a && b) ≡ true → b ≡ true
+            right a b t = grind arith
+
+        none_left : (i : Bytes) (ys : List Object) → find (is_at key i) (filter (λ p. not (is_at key i p)) ys) ≡ None
+        none_left i [] = refl
+        none_left i (y ∷ ys) = here (is_at key i y) refl (none_left i ys)
+          where
+            here : (a : Bool) → is_at key i y ≡ a → find (is_at key i) (filter (λ p. not (is_at key i p)) ys) ≡ None → find (is_at key i) (filter (λ p. not (is_at key i p)) (y ∷ ys)) ≡ None
+            here true t ih = rw t ih
+            here false t ih = rw (t, t) ih
+
+        gone : (y : Object) → is_at key j x ≡ true → is_at key id x ≡ true → find (is_at key id) (filter (λ p. not (is_at key j p)) xs) ≡ Some o → ⊥
+        gone y p q f =
+            let one : j ≡ id = sym (id_of key j p) ∙ id_of key id q in
+            let none : find (is_at key id) (filter (λ p. not (is_at key j p)) xs) ≡ None = subst (λ (i : Bytes). find (is_at key id) (filter (λ p. not (is_at key i p)) xs) ≡ None) (sym one) (none_left id xs) in
+            cc
+    by true p false q ih = rw q (ih (rw p at e))
+    by false p true q ih = rw q (let f : (if true then Some x else find (is_at key id) (filter (λ p. not (is_at key j p)) xs)) ≡ Some o = rw (p, q) at e in f)
+    by false p false q ih = rw q (ih (rw (p, q) at e))
+
+-- so each is found before any is taken out
+each_found : (w : World) (key : Bytes) (ids : List Bytes) (i : ℕ) (id : Bytes) (o : Object) → AllThere key ids w.objects → slice_get ids i ≡ Some id → object_at (after_all w (dels_of key (take i ids))) key id ≡ Some o → find (is_at key id) w.objects ≡ Some o
+each_found w key [] i id o all at e = absurd (cc)
+each_found w key (x ∷ ids) zero id o all at e = e
+each_found w key (x ∷ ids) (suc i) id o all at e = still_there key x id w.objects o (each_found (after w (change.Del key x)) key ids i id o all.1 at e)
+
+module _ (cs : List Channel) (xs : List Object) (key : Bytes) (ids : List Bytes) (i : ℕ) (id : Bytes) (there : AllThere key ids xs) (at : slice_get ids i ≡ Some id) where
+  abbrev here : World
+  here = after_all (world_with cs xs) (dels_of key (take i ids))
+
+  -- none is missing
+  pub each_some : find (is_at key id) xs ≡ None → ⊥
+  each_some none =
+      let e = each_there (world_with cs xs) key ids i id there at in
+      let f = each_found (world_with cs xs) key ids i id e.0 there at e.1 in
+      cc
+
+  pub each_next : (o : Object) (old mid new : List State) → find (is_at key id) xs ≡ Some o → StagesBehind (world_with cs xs) (dels_of key (take i ids)) old mid
+      → IsStagedIn (IsBeforeDel cs o) (loud (change.Del o.key o.id)) mid new → StagesBehind (world_with cs xs) (dels_of key (take (i + 1) ids)) old new
+  each_next o old mid new found behind staged =
+      let w = world_with cs xs in
+      let e = each_there w key ids i id there at in
+      let f = each_found w key ids i id e.0 there at e.1 in
+      let is : e.0 ≡ o = some_is e.0 o (sym f ∙ found) in
+      let own = found_at key id xs o found in
+      let stands : object_at here o.key o.id ≡ Some o =
+      ap (λ (k : Bytes). object_at here k o.id) own.0 ∙ ap (λ (k : Bytes). object_at here key k) own.1 ∙ e.1 ∙ ap (λ (p : Object). Some p) is in
+      let named : loud (change.Del o.key o.id) ≡ loud (change.Del key id) = ap (λ (k : Bytes). loud (change.Del k o.id)) own.0 ∙ ap (λ (k : Bytes). loud (change.Del key k)) own.1 in
+      let such : IsBeforeDel cs o here = record { channels_are = each_stay w key (take i ids); stands = stands } in
+      let one = behind_more w (dels_of key (take i ids)) (loud (change.Del o.key o.id)) (IsBeforeDel cs o) old mid new behind such staged in
+      subst (λ (ws : List Write). StagesBehind w ws old new)
+      (ap (λ (d : Write). dels_of key (take i ids) ++ d ∷ []) named ∙ sym (each_more key (take i ids) id) ∙ ap (dels_of key) (sym (take_next ids i id at))) one
+    where
+      some_is : (a b : Object) → Some a ≡ Some b → a ≡ b
+      some_is a b e = cc
+
+-- quiet writes stage nothing
+
+quiet_names : QuietBringsNothing → (names : List Bytes) (first : World) (writes : List Write) (ss : List State) → HaveStaged first writes ss → HaveStaged first (writes ++ map (λ n. quiet (change.DelChan n)) names) ss
+quiet_names law [] first writes ss staged = subst (λ (ws : List Write). HaveStaged first ws ss) (sym (all_there writes)) staged
+quiet_names law (name ∷ names) first writes ss staged =
+    subst (λ (ws : List Write). HaveStaged first ws ss) (in_turn writes (quiet (change.DelChan name) ∷ []) (map (λ n. quiet (change.DelChan n)) names))
+    (quiet_names law names first (writes ++ quiet (change.DelChan name) ∷ []) ss (law first writes (change.DelChan name) ss staged))
+
+pub behind_channels : QuietBringsNothing → (w : World) (action : ChannelMove) (ss : List State) → StagesBehind w (channel_writes action) ss ss
+behind_channels law w (Set c) ss first writes is staged = law first writes (change.SetChan c) ss staged
+behind_channels law w (Drop names) ss first writes is staged = quiet_names law names first writes ss staged
+
+pub on_ok : {A E : Type 0} (r : Result A E) (P Q : Type 0) → (P → Q) → OnOk r P → OnOk r Q
+on_ok (Ok a) P Q f p = f p
+on_ok (Err e) P Q f p = tt

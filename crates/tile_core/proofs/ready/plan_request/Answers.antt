@@ -1,0 +1,66 @@
+use Rattle.std.proofs.Common.{◌≡◌, ◌≤◌, ◌<◌, ℕ, List, length, map, refl, sym, ap, ◌∙◌, subst, arith}
+use Rattle.std.specs.Prelude.{Some, slice_get, slice_set}
+use Rattle.std.proofs.lemmas.Option.{slice_get_read}
+use Rattle.world_data.specs.declared.worlds.World.{World}
+use Rattle.fence_model.specs.Writes.{Write}
+use Rattle.world_model.specs.Subscriptions.{Sub}
+use Rattle.keyspace.specs.Entries.{objects_in}
+use Rattle.deliveries.specs.Plans.{effect_of_asked}
+use Rattle.deliveries.specs.Staging.{after_all}
+use Rattle.session_mail.specs.Sessions.{State, session_of}
+use Rattle.session_mail.specs.Fans.{HaveStaged}
+use Rattle.session_mail.specs.FanLaws.{same_set}
+use Rattle.tile_core.specs.Moves.{world_with}
+use Rattle.tile_core.specs.Planned.{IsPlanned}
+use Rattle.tile_core.specs.Ready.{planned_writes, reply_count}
+use Rattle.tile_core.specs.Staged.{StagesBehind}
+use Rattle.tile_core.specs.Stores.{world_at}
+use Rattle.tile_core.proofs.Finishing.{read_at}
+use Rattle.tile_core.proofs.Present.{get_set}
+use Rattle.tile_core.proofs.Readying.{as_long, same_world, staged_set}
+use Rattle.tile_core.proofs.ready.plan_request.Goals as goal
+
+same_is : (a b : State) → Some a ≡ Some b → a ≡ b
+same_is a b e = cc
+
+-- the place is within the list, whatever was staged
+read_there : (old new : List State) (i : ℕ) (s : State) → map session_of new ≡ map session_of old → i < length old → (i < length new → slice_get new i ≡ Some s) → slice_get new i ≡ Some s
+read_there old new i s same lt f = let long = as_long new old same in f (omega (arith, long, lt))
+
+pub returns-in_err-reserve-clause-same : goal.returns-in_err-reserve-clause-same
+returns-in_err-reserve-clause-same c =
+    let old = c.args.sessions.now.items in
+    let mid = c.stage_planned.new.sessions.items in
+    let s = c.index_mut.result.now in
+    let at = read_there old mid c.args.at s c.stage_planned.ensures.same c.requires.at (λ lt. slice_get_read mid (length mid) c.args.at s refl lt c.index_mut.ensures.value) in
+    same_set mid c.args.at s c.reserve.new.self at c.reserve.ensures.same ∙ c.stage_planned.ensures.same
+
+pub returns-clause-same : goal.returns-clause-same
+returns-clause-same c =
+    let old = c.args.sessions.now.items in
+    let mid = c.stage_planned.new.sessions.items in
+    let s = c.index_mut.result.now in
+    let at = read_there old mid c.args.at s c.stage_planned.ensures.same c.requires.at (λ lt. slice_get_read mid (length mid) c.args.at s refl lt c.index_mut.ensures.value) in
+    same_set mid c.args.at s c.reserve.new.self at c.reserve.ensures.same ∙ c.stage_planned.ensures.same
+
+pub returns-clause-planned : goal.returns-clause-planned
+returns-clause-planned c =
+    let store = c.args.store.now in
+    let old = c.args.sessions.now.items in
+    let mid = c.stage_planned.new.sessions.items in
+    let s = c.index_mut.result.now in
+    let v = c.reserve.new.self in
+    let p = c.in_ok-planned.planned in
+    let at = read_there old mid c.args.at s c.stage_planned.ensures.same c.requires.at (λ lt. slice_get_read mid (length mid) c.args.at s refl lt c.index_mut.ensures.value) in
+    let world : world_with c.make_room_for.new.store.hub.channels (objects_in c.make_room_for.new.store.objects) ≡ world_at store = same_world store c.make_room_for.new.store c.make_room_for.ensures.kept.before in
+    let behind : StagesBehind (world_at store) (planned_writes p) old mid = subst (λ (w : World). StagesBehind w (planned_writes p) old mid) world c.in_ok-stage_planned.ensures.staged in
+    record {
+      plan = λ t here.
+          let subs : c.subscriptions.result.now ≡ t.subs = c.subscriptions.ensures.same ∙ ap (λ (x : State). x.subs) (c.index.ensures ∙ read_at old c.args.at t c.index.result.now here) in
+          subst (λ (held : List Sub). IsPlanned (world_at store) store.weight held (effect_of_asked (world_at store) c.args.now held c.args.asked.now) p) subs c.in_ok-planned.ensures;
+      staged = λ first writes is staged. staged_set first _ mid c.args.at s v at c.reserve.ensures.same c.reserve.ensures.staged (behind first writes is staged);
+      room = c.in_ok-make_room_for.ensures.room;
+      spare = λ t here.
+          let is : v ≡ t = same_is v t (sym (get_set mid c.args.at s v at) ∙ here) in
+          subst (λ (x : State). reply_count p ≤ x.mail.spare) is (subst (λ (n : ℕ). n ≤ v.mail.spare) c.reply_count.ensures c.in_ok-reserve.ensures.room);
+    }

@@ -1,0 +1,22 @@
+use Rattle.std.proofs.Common.{◌≡◌, ◌+◌, ◌≤◌, ℕ, true, subst, sym, List, [], arith}
+use Rattle.world_data.specs.declared.channels.Channel.{Channel}
+use Rattle.world_model.specs.Effects.{Effect, effect}
+use Rattle.world_model.specs.Subscriptions.{Sub}
+use Rattle.keyspace.specs.Entries.{objects_in}
+use Rattle.tile_core.specs.Moves.{world_of}
+use Rattle.tile_core.specs.Plans.{IsPlan}
+use Rattle.tile_core.proofs.BesideLaws.{beside}
+use Rattle.tile_core.proofs.requests.plan_beside.Goals as goal
+
+pub beside_channels-requires-clause-plan_light : goal.beside_channels-requires-clause-plan_light
+beside_channels-requires-clause-plan_light c = c.in_ok-plan.ensures.light
+
+pub returns : goal.returns
+returns c = λ (cs : List Channel) (held : List Sub) weighed.
+    let os = objects_in c.args.objects.now in
+    let e = effect (world_of os) c.args.now [] c.args.command in
+    let both = c.in_ok-plan-2.ensures cs e weighed c.in_ok-plan.ensures in
+    let passed = c.if-not-is_counted.false in
+    let counted : c.is_counted.result ≡ true = grind arith in
+    let is = beside cs os c.args.total c.requires.kept (omega (arith, c.requires.light, weighed)) c.args.now c.args.command c.requires.of_objects (c.is_counted.ensures counted) in
+    (subst (λ (f : Effect). IsPlan os f c.in_ok-plan-2.plan) (sym is) both.0, both.1)

@@ -1,0 +1,33 @@
+use Rattle.std.proofs.Common.{◌≡◌, ◌+◌, ◌≤◌, sym, ◌∙◌, subst, arith}
+use Rattle.std.proofs.lemmas.Result.{IfOk-weaker}
+use Rattle.world_data.specs.Limits.{max_weight}
+use Rattle.world_model.specs.Effects.{Effect}
+use Rattle.keyspace.specs.Entries.{objects_in}
+use Rattle.tile_core.specs.Moves.{world_with}
+use Rattle.tile_core.specs.Planned.{channels_weight, IsPlanned}
+use Rattle.tile_core.proofs.Asked.{channels_only, rest_subscribes}
+use Rattle.tile_core.proofs.BesideLaws.{none_subscribes, served_alike}
+use Rattle.tile_core.proofs.requests.plan_open.Goals as goal
+
+pub returns-then-is_of_objects : goal.returns-then-is_of_objects
+returns-then-is_of_objects c =
+    let cs = c.args.hub.now.channels in
+    let w = world_with cs (objects_in c.args.objects.now) in
+    let held = c.args.subs.now in
+    let is = served_alike w c.args.now held c.args.command (none_subscribes c.args.command (sym c.is_of_objects.ensures ∙ c.if-is_of_objects.true)) c.requires.may_ask in
+    IfOk-weaker c.plan_beside.result _ _ (λ p s. subst (λ (e : Effect). IsPlanned w c.args.total held e p) (sym is) (s cs held c.requires.channels)) c.plan_beside.ensures
+
+pub returns-then-is_of_channels : goal.returns-then-is_of_channels
+returns-then-is_of_channels c =
+    let w = world_with c.args.hub.now.channels (objects_in c.args.objects.now) in
+    let held = c.args.subs.now in
+    let is = served_alike w c.args.now held c.args.command (channels_only c.args.command (sym c.is_of_channels.ensures ∙ c.if-is_of_channels.true)) c.requires.may_ask in
+    IfOk-weaker c.plan_of_channels.result _ _ (λ p s. subst (λ (e : Effect). IsPlanned w c.args.total held e p) (sym is) (s c.args.now held)) c.plan_of_channels.ensures
+
+pub plan_of_subs-requires-clause-subscribes : goal.plan_of_subs-requires-clause-subscribes
+plan_of_subs-requires-clause-subscribes c = rest_subscribes c.args.command c.requires.asked (sym c.is_of_objects.ensures ∙ c.if-is_of_objects.false) (sym c.is_of_channels.ensures ∙ c.if-is_of_channels.false)
+
+pub returns : goal.returns
+returns c =
+    let light : c.args.total + channels_weight c.args.hub.now.channels ≤ max_weight = omega (arith, c.requires.light, c.requires.channels) in
+    IfOk-weaker c.plan_of_subs.result _ _ (λ p s. s c.args.hub.now.channels c.args.now light) c.plan_of_subs.ensures

@@ -1,0 +1,164 @@
+-- A call made ready, and what its finish does.
+use Rattle.std.specs.Prelude.{◌≡◌, ℕ, Bool, ◌≤◌, true, false, List, [], ◌++◌, ◌+◌, length, slice_get, slice_set, Option, Some, None, if◌then◌else◌}
+use Rattle.byte_text.specs.Names.{Bytes}
+use Rattle.fence_model.specs.Writes.{Write, dels}
+use Rattle.world_data.specs.declared.worlds.World.{World}
+use Rattle.world_model.specs.Halls as halls
+use Rattle.world_model.specs.Halls.{placed, placed_each}
+use Rattle.world_model.specs.declared.events.Asked.{Asked}
+use Rattle.keyspace.specs.Entries.{objects_in, room_for}
+use Rattle.channel_hub.specs.Hubs.{Held, IsPrepared}
+use Rattle.world_model.specs.Effects.{Effect}
+use Rattle.world_model.specs.Subscriptions.{Sub}
+use Rattle.deliveries.specs.Staging.{after_all, has_room_for, heard, listens}
+use Rattle.deliveries.specs.Plans.{effect_of_asked, ending}
+use Rattle.session_mail.specs.Mail.{has_room_left}
+use Rattle.session_mail.specs.Sessions.{AreSoundSubs, State, session_of}
+use Rattle.session_mail.specs.Fans.{ArePlaced, HaveStaged}
+use Rattle.tile_core.specs.declared.dues.Expired.{Expired}
+use Rattle.tile_core.specs.declared.moves.Move.{Move}
+use Rattle.tile_core.specs.declared.planned.ChannelMove.{ChannelMove}
+use Rattle.tile_core.specs.declared.planned.ChannelMove.TheVariants.{Set, Drop}
+use Rattle.tile_core.specs.declared.planned.Planned.{Planned}
+use Rattle.tile_core.specs.declared.planned.Planned.TheVariants.{Objects, Channels, Subscribed}
+use Rattle.tile_core.specs.declared.ready.Ready.{Ready}
+use Rattle.tile_core.specs.declared.stores.Store.{Store}
+use Rattle.tile_core.specs.Dues.{IsExpired}
+use Rattle.tile_core.specs.Moves.{HasRoom}
+use Rattle.tile_core.specs.Planned.{IsPlanned, channel_writes}
+use Rattle.tile_core.specs.Plans.{writes_of}
+use Rattle.tile_core.specs.Staged.{StagesBehind}
+use Rattle.tile_core.specs.Stores.{IsStore, world_at}
+
+-- the writes that a request will do
+abbrev pub planned_writes : Planned → List Write
+planned_writes (Objects p) = writes_of p.action p.loud
+planned_writes (Channels p) = channel_writes p.action
+planned_writes (Subscribed p) = []
+
+-- it holds of what is done to the objects
+abbrev pub HoldsOfObjects : (Move → Type 0) → Planned → Type 0
+HoldsOfObjects P (Objects p) = P p.action
+HoldsOfObjects P (Channels p) = Unit {0}
+HoldsOfObjects P (Subscribed p) = Unit {0}
+
+-- the bytes of their records
+abbrev pub planned_length : Planned → ℕ
+planned_length (Objects p) = p.length
+planned_length (Channels p) = p.length
+planned_length (Subscribed p) = 0
+
+-- how many frames its reply has
+abbrev pub reply_count : Planned → ℕ
+reply_count (Objects p) = 1
+reply_count (Channels p) = 1
+reply_count (Subscribed p) = length p.frames.items
+
+-- what is put among the channels is prepared there
+abbrev pub IsPreparedFor : Held → ChannelMove → Type 0
+IsPreparedFor hub (Set c) = IsPrepared hub c
+IsPreparedFor hub (Drop names) = Unit {0}
+
+-- the subscriptions that a session is given are sound
+abbrev pub IsSoundAnswer : Planned → Type 0
+IsSoundAnswer (Objects p) = Unit {0}
+IsSoundAnswer (Channels p) = Unit {0}
+IsSoundAnswer (Subscribed p) = AreSoundSubs p.subs
+
+-- there is room for what is put
+abbrev pub HasRoomFor : Store → Planned → Type 0
+HasRoomFor store (Objects p) = HasRoom store.objects p.action
+HasRoomFor store (Channels p) = IsPreparedFor store.hub p.action
+HasRoomFor store (Subscribed p) = Unit {0}
+
+-- the store is as it was, but for room
+pub record IsAsBefore (old new : Store) : Type 0 where
+  pub rest : new ≡ record old { objects = new.objects; hub = new.hub }
+  pub objects : objects_in new.objects ≡ objects_in old.objects
+  pub channels : new.hub.channels ≡ old.hub.channels
+
+-- and none was lost among the objects
+pub record IsRoomier (old new : Store) : Type 0 where
+  pub before : IsAsBefore old new
+  pub room : (key : Bytes) → room_for old.objects key ≤ room_for new.objects key
+
+-- what is due is taken out of the objects of a store, and what the dels bring is staged
+pub record IsDueTaken (old : Store) (now : ℕ) (store : Store) (gone : Expired) (sessions : List State) : Type 0 where
+  pub expired : IsExpired (objects_in old.objects) now old.weight (objects_in store.objects) gone
+  pub staged : HaveStaged (world_at old) (dels gone.held.items) sessions
+
+-- what a request will do is planned for the session at a place, what it brings is staged, and there is room for all of it
+pub record IsPlannedBehind (before : Store) (now : ℕ) (asked : Asked) (at : ℕ) (store : Store) (old new : List State) (p : Planned) : Type 0 where
+  pub plan : (s : State) → slice_get old at ≡ Some s → IsPlanned (world_at before) before.weight s.subs (effect_of_asked (world_at before) now s.subs asked) p
+  pub staged : StagesBehind (world_at before) (planned_writes p) old new
+  pub room : HasRoomFor store p
+  pub spare : (s : State) → slice_get new at ≡ Some s → reply_count p ≤ s.mail.spare
+
+-- a session without room for what is staged has no request done
+abbrev pub IsRestBehind : Store → ℕ → Asked → ℕ → Store → List State → List State → Option Planned → Type 0
+IsRestBehind before now asked at store old new None = (new ≡ old) × ((s : State) → slice_get old at ≡ Some s → has_room_left s.mail ≡ false)
+IsRestBehind before now asked at store old new (Some p) = IsPlannedBehind before now asked at store old new p × ((s : State) → slice_get old at ≡ Some s → has_room_left s.mail ≡ true)
+
+-- behind what is due, what a request will do is planned for its session, and what it brings is staged, with room for all that it needs
+pub record IsRequestReady (before store : Store) (gone : Expired) (now : ℕ) (asked : Asked) (caller : State) (sessions : List State) (p : Planned) : Type 0 where
+  pub roomy : has_room_for (session_of caller) (heard (world_at before) (dels gone.held.items) (listens (session_of caller))) ≡ true
+  pub plan : IsPlanned (world_at store) store.weight caller.subs (effect_of_asked (world_at store) now caller.subs asked) p
+  pub staged : HaveStaged (world_at before) (dels gone.held.items ++ planned_writes p) sessions
+  pub room : HasRoomFor store p
+  pub spare : reply_count p ≤ caller.mail.spare
+
+-- the request of a session that what is due will cut is not done
+abbrev pub IsRestReady : Store → Store → Expired → ℕ → Asked → State → List State → Option Planned → Type 0
+IsRestReady before store gone now asked caller sessions None = HaveStaged (world_at before) (dels gone.held.items) sessions × (has_room_left caller.mail ≡ false)
+IsRestReady before store gone now asked caller sessions (Some p) = IsRequestReady before store gone now asked caller sessions p
+
+-- a call of the session at a place is ready
+pub record IsReady (before : Store) (now : ℕ) (asked : Asked) (at : ℕ) (store : Store) (sessions : List State) (r : Ready) : Type 0 where
+  pub expired : IsExpired (objects_in before.objects) now before.weight (objects_in store.objects) r.gone
+  pub kept : IsStore store
+  pub channels : store.hub.channels ≡ before.hub.channels
+  pub caller : State
+  pub here : slice_get sessions at ≡ Some caller
+  pub rest : IsRestReady before store r.gone now asked caller sessions r.planned
+
+-- the finish
+
+abbrev pub ending_if : Bool → halls.Session → halls.Session
+ending_if closes s = if closes then ending s else s
+
+-- its session with the replies, and with the subscriptions that it has then
+abbrev pub replied : Planned → halls.Session → halls.Session
+replied (Objects p) s = ending_if p.closes (placed p.frame s)
+replied (Channels p) s = placed p.frame s
+replied (Subscribed p) s = placed_each (record s { subs = p.subs }) p.frames.items
+
+abbrev pub length_if : Option Planned → ℕ
+length_if None = 0
+length_if (Some p) = planned_length p
+
+-- what is planned for the session at a place can be done without memory
+abbrev pub CanComplete : Store → List State → ℕ → Option Planned → Type 0
+CanComplete store sessions at None = Unit {0}
+CanComplete store sessions at (Some p) = IsSoundAnswer p × HasRoomFor store p × ((s : State) → slice_get sessions at ≡ Some s → reply_count p ≤ s.mail.spare)
+
+-- the plan is done behind what is placed, and the session at the place is answered
+pub record IsDone (before : Store) (placed_ : List State) (at : ℕ) (p : Planned) (store : Store) (new : List State) : Type 0 where
+  pub caller : State
+  pub here : slice_get placed_ at ≡ Some caller
+  pub answered : State
+  pub set : new ≡ slice_set placed_ at answered
+  pub reply : session_of answered ≡ replied p (session_of caller)
+  pub staged : answered.mail.staged ≡ caller.mail.staged
+  pub world : world_at store ≡ after_all (world_at before) (planned_writes p)
+  pub kept : (held : List Sub) (e : Effect) → IsPlanned (world_at before) before.weight held e p → IsStore before → IsStore store
+
+abbrev pub IsDoneIf : Store → List State → ℕ → Option Planned → Store → List State → Type 0
+IsDoneIf before placed_ at None store new = (new ≡ placed_) × (world_at store ≡ world_at before) × (IsStore before → IsStore store)
+IsDoneIf before placed_ at (Some p) store new = IsDone before placed_ at p store new
+
+-- all that was staged is placed, and what was made ready is done
+pub record IsCompleted (before : Store) (old : List State) (at : ℕ) (r : Ready) (store : Store) (new : List State) (logged : ℕ) : Type 0 where
+  pub placed_ : List State
+  pub are_placed : ArePlaced old placed_
+  pub done : IsDoneIf before placed_ at r.planned store new
+  pub length_is : logged ≡ r.gone.length + length_if r.planned

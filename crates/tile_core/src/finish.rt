@@ -1,0 +1,181 @@
+//! The finish of a call that was made ready. It takes no memory.
+
+ghost use Rattle.std.specs.Prelude.{◌≡◌, ◌≤◌, ◌<◌, ◌+◌, ◌^◌, List, length};
+ghost use Rattle.world_model.specs.Halls.{placed, placed_each};
+ghost use Rattle.world_model.specs.Subscriptions.{Sub};
+ghost use Rattle.world_model.specs.Effects.{Effect};
+ghost use Rattle.keyspace.specs.Entries.{objects_in};
+ghost use Rattle.deliveries.specs.Staging.{after_all};
+ghost use Rattle.session_mail.specs.Sessions.{AreSoundSubs, session_of};
+ghost use Rattle.tile_core.specs.Dues.{IsDueFrom};
+ghost use Rattle.tile_core.specs.Moves.{HasRoom, HoldsOfPut, moved};
+ghost use Rattle.tile_core.specs.Planned.{IsPlanned, channels_left, channels_moved, weight_left, without_names};
+ghost use Rattle.tile_core.specs.Ready.{CanComplete, HasRoomFor, IsCompleted, IsDoneIf, IsPreparedFor, IsSoundAnswer, ending_if, length_if, planned_length, planned_writes, replied, reply_count};
+ghost use Rattle.tile_core.specs.Stores.{IsStore, world_at};
+
+use crate::dues::release;
+use crate::moves::{Move, due_from_after, make_move};
+use crate::planned::{ChannelMove, ChannelPlan, Confirmed, Planned};
+use crate::plans::Plan;
+use crate::ready::Ready;
+use crate::stores::Store;
+use byte_text::Text;
+use channel_hub::Hub;
+use session_mail::{Session, place_staged};
+use world_model::NameList;
+
+// Takes out the channels of these names.
+fn drop_channels(hub: &mut Hub, names: &NameList)
+    ensures { hub.new.channels ≡ without_names names.now hub.old.channels }
+{
+    for i in 0..names.len() {
+        hub.take_out(names.at(i));
+    }
+}
+
+// Does this to the channels.
+fn move_channels(hub: &mut Hub, action: ChannelMove)
+    requires { IsPreparedFor hub.old action }
+    ensures { hub.new.channels ≡ channels_moved action hub.old.channels }
+{
+    match action {
+        ChannelMove::Set(channel) => {
+            hub.put(channel);
+        }
+        ChannelMove::Drop(names) => drop_channels(hub, &names),
+    }
+}
+
+// Places the frames of a reply.
+fn place_each(caller: &mut Session, frames: Vec<Text>)
+    requires { length frames.items ≤ caller.old.mail.spare }
+    ensures same { session_of caller.new ≡ placed_each (session_of caller.old) frames.items }
+    ensures staged { caller.new.mail.staged ≡ caller.old.mail.staged }
+{
+    for frame in frames {
+        caller.place(frame);
+    }
+}
+
+// Does what a plan of objects says, and answers its session.
+fn finish_objects(store: &mut Store, caller: &mut Session, plan: Plan)
+    requires room { HasRoom store.old.objects plan.action }
+    requires few { length (objects_in store.old.objects) < 2 ^ 32 }
+    requires spare { 1 ≤ caller.old.mail.spare }
+    ensures objects { objects_in store.new.objects ≡ moved (objects_in store.old.objects) plan.action }
+    ensures channels { store.new.hub.channels ≡ channels_left plan.action store.old.hub.channels }
+    ensures weight { store.new.weight ≡ plan.weight }
+    ensures least { store.new.due_from ≤ store.old.due_from }
+    ensures put { HoldsOfPut (IsDueFrom store.new.due_from) plan.action }
+    ensures channel_weight { store.new.channel_weight ≡ weight_left plan.action store.old.channel_weight }
+    ensures caller { session_of caller.new ≡ ending_if plan.closes (placed plan.frame (session_of caller.old)) }
+    ensures staged { caller.new.mail.staged ≡ caller.old.mail.staged }
+{
+    store.due_from = due_from_after(store.due_from, &plan.action);
+    store.weight = plan.weight;
+    if let Move::Clear = plan.action {
+        store.hub.clear();
+        store.channel_weight = 0;
+    }
+    make_move(&mut store.objects, plan.action);
+    caller.place(plan.frame);
+    if plan.closes {
+        caller.close();
+    }
+}
+
+// Does what a plan of channels says, and answers its session.
+fn finish_channels(store: &mut Store, caller: &mut Session, plan: ChannelPlan)
+    requires room { IsPreparedFor store.old.hub plan.action }
+    requires spare { 1 ≤ caller.old.mail.spare }
+    ensures rest { store.new ≡ record store.old { hub = store.new.hub; channel_weight = plan.weight } }
+    ensures channels { store.new.hub.channels ≡ channels_moved plan.action store.old.hub.channels }
+    ensures caller { session_of caller.new ≡ placed plan.frame (session_of caller.old) }
+    ensures staged { caller.new.mail.staged ≡ caller.old.mail.staged }
+{
+    store.channel_weight = plan.weight;
+    move_channels(&mut store.hub, plan.action);
+    caller.place(plan.frame);
+}
+
+// Gives a session its new subscriptions, and confirms them.
+fn finish_subscribing(caller: &mut Session, confirmed: Confirmed)
+    requires sound { AreSoundSubs confirmed.subs }
+    requires spare { length confirmed.frames.items ≤ caller.old.mail.spare }
+    ensures caller { session_of caller.new ≡ placed_each (record (session_of caller.old) { subs = confirmed.subs }) confirmed.frames.items }
+    ensures staged { caller.new.mail.staged ≡ caller.old.mail.staged }
+{
+    caller.set_subscriptions(confirmed.subs);
+    place_each(caller, confirmed.frames);
+}
+
+// Does what was planned for a session, and answers it. The bytes of the records are answered.
+fn finish(store: &mut Store, caller: &mut Session, planned: Planned) -> u64
+    requires plan { IsSoundAnswer planned }
+    requires room { HasRoomFor store.old planned }
+    requires few { length (objects_in store.old.objects) < 2 ^ 32 }
+    requires spare { reply_count planned ≤ caller.old.mail.spare }
+    ensures length { result ≡ planned_length planned }
+    ensures world { world_at store.new ≡ after_all (world_at store.old) (planned_writes planned) }
+    ensures kept { (held : List Sub) (e : Effect) → IsPlanned (world_at store.old) store.old.weight held e planned → IsStore store.old → IsStore store.new }
+    ensures caller { session_of caller.new ≡ replied planned (session_of caller.old) }
+    ensures staged { caller.new.mail.staged ≡ caller.old.mail.staged }
+{
+    match planned {
+        Planned::Objects(plan) => {
+            let length = plan.length;
+            finish_objects(store, caller, plan);
+            length
+        }
+        Planned::Channels(plan) => {
+            let length = plan.length;
+            finish_channels(store, caller, plan);
+            length
+        }
+        Planned::Subscribed(confirmed) => {
+            finish_subscribing(caller, confirmed);
+            0
+        }
+    }
+}
+
+// Does what was planned for the session at a place, where its request is done. The bytes of the records are answered.
+fn finish_planned(
+    store: &mut Store,
+    sessions: &mut Vec<Session>,
+    at: usize,
+    planned: Option<Planned>,
+) -> u64
+    requires few { length (objects_in store.old.objects) < 2 ^ 32 }
+    requires at { at < length sessions.old.items }
+    requires can { CanComplete store.old sessions.old.items at planned }
+    ensures done { IsDoneIf store.old sessions.old.items at planned store.new sessions.new.items }
+    ensures length { result ≡ length_if planned }
+{
+    match planned {
+        Some(planned) => finish(store, &mut sessions[at], planned),
+        None => 0,
+    }
+}
+
+/// Places all that is staged, does what was made ready, and answers the session at the place. It takes no memory. The bytes of the
+/// records of all changes are answered.
+pub(crate) fn complete(
+    store: &mut Store,
+    sessions: &mut Vec<Session>,
+    at: usize,
+    ready: Ready,
+) -> u64
+    requires few { length (objects_in store.old.objects) < 2 ^ 32 }
+    requires at { at < length sessions.old.items }
+    requires can { CanComplete store.old sessions.old.items at ready.planned }
+    requires short { ready.gone.length + length_if ready.planned < 2 ^ 64 }
+    ensures { IsCompleted store.old sessions.old.items at ready store.new sessions.new.items result }
+{
+    place_staged(sessions);
+    let Ready { gone, planned } = ready;
+    let length = finish_planned(store, sessions, at, planned);
+    // Only now, since a key that has no object left may be that of the object that is put.
+    release(&mut store.objects, gone.held);
+    gone.length + length
+}

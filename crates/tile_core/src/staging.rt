@@ -1,0 +1,152 @@
+//! What writes bring to the sessions that listen, staged before anything is placed.
+
+ghost use Rattle.std.specs.Prelude.{◌≡◌, ◌∷◌, [], true, map, OnOk};
+ghost use Rattle.std.specs.List.{list_all};
+ghost use Rattle.world_data.specs.Sound.{is_sound_channel};
+ghost use Rattle.world_data.specs.declared.worlds.Change.TheVariants as change;
+ghost use Rattle.world_data.specs.declared.worlds.World.{World};
+ghost use Rattle.fence_model.specs.Writes.{loud, dels};
+ghost use Rattle.keyspace.specs.Entries.{objects_in};
+ghost use Rattle.session_mail.specs.Sessions.{session_of};
+ghost use Rattle.tile_core.specs.Dues.{AllStand};
+ghost use Rattle.tile_core.specs.Moves.{AllThere, HaveAllThere, world_with};
+ghost use Rattle.tile_core.specs.Plans.{writes_of};
+ghost use Rattle.tile_core.specs.Ready.{HoldsOfObjects, planned_writes};
+ghost use Rattle.tile_core.specs.Staged.{StagesBehind, dels_of};
+
+use crate::moves::Move;
+use crate::planned::Planned;
+use byte_text::{Name, NoMemory};
+use channel_hub::Hub;
+use keyspace::Keyspace;
+use message_fan::{stage_del, stage_drop, stage_put, turn_laws};
+use session_mail::Session;
+use std::alloc::Global;
+use world_model::{NameList, Object};
+
+/// Stages what the dels of objects bring, one after another. For want of memory a part may be staged.
+pub(crate) fn stage_dels(
+    alloc: Global,
+    hub: &Hub,
+    held: &[Object],
+    sessions: &mut Vec<Session>,
+) -> Result<(), NoMemory>
+    requires { list_all is_sound_channel hub.now.channels ≡ true }
+    ensures same { map session_of sessions.new.items ≡ map session_of sessions.old.items }
+    ensures staged { OnOk result ((w : World) → w.channels ≡ hub.now.channels → AllStand w held.now → StagesBehind w (dels held.now) sessions.old.items sessions.new.items) }
+{
+    for i in 0..held.len() {
+        stage_del(alloc, hub, sessions, &held[i])?;
+    }
+    Ok(())
+}
+
+// Stages what the dels of the objects of a key that have these ids bring.
+fn stage_each(
+    alloc: Global,
+    hub: &Hub,
+    objects: &Keyspace,
+    key: &Name,
+    ids: &NameList,
+    sessions: &mut Vec<Session>,
+) -> Result<(), NoMemory>
+    requires sound { list_all is_sound_channel hub.now.channels ≡ true }
+    requires there { AllThere key.now ids.now (objects_in objects.now) }
+    ensures same { map session_of sessions.new.items ≡ map session_of sessions.old.items }
+    ensures staged { OnOk result (StagesBehind (world_with hub.now.channels (objects_in objects.now)) (dels_of key.now ids.now) sessions.old.items sessions.new.items) }
+{
+    for i in 0..ids.len() {
+        if let Some(object) = objects.get(key, ids.at(i)) {
+            stage_del(alloc, hub, sessions, object)?;
+        }
+    }
+    Ok(())
+}
+
+// Stages what the del of the object of a key and an id brings.
+fn stage_one(
+    alloc: Global,
+    hub: &Hub,
+    objects: &Keyspace,
+    key: &Name,
+    id: &Name,
+    sessions: &mut Vec<Session>,
+) -> Result<(), NoMemory>
+    requires sound { list_all is_sound_channel hub.now.channels ≡ true }
+    requires there { AllThere key.now (id.now ∷ []) (objects_in objects.now) }
+    ensures same { map session_of sessions.new.items ≡ map session_of sessions.old.items }
+    ensures staged { OnOk result (StagesBehind (world_with hub.now.channels (objects_in objects.now)) (loud (change.Del key.now id.now) ∷ []) sessions.old.items sessions.new.items) }
+{
+    match objects.get(key, id) {
+        Some(object) => stage_del(alloc, hub, sessions, object),
+        None => Ok(()),
+    }
+}
+
+// Stages what the put of an object brings, told to those who watch where it is loud.
+fn stage_object(
+    alloc: Global,
+    hub: &Hub,
+    objects: &Keyspace,
+    object: &Object,
+    loud: bool,
+    sessions: &mut Vec<Session>,
+) -> Result<(), NoMemory>
+    requires { list_all is_sound_channel hub.now.channels ≡ true }
+    ensures same { map session_of sessions.new.items ≡ map session_of sessions.old.items }
+    ensures staged { OnOk result (StagesBehind (world_with hub.now.channels (objects_in objects.now)) (record { change = change.Put object.now; loud = loud } ∷ []) sessions.old.items sessions.new.items) }
+{
+    turn_laws();
+    if !loud {
+        return Ok(());
+    }
+    let old = objects.get(&object.key, &object.id);
+    stage_put(alloc, hub, objects, sessions, old, object)
+}
+
+// Stages what a move of the objects brings.
+fn stage_move(
+    alloc: Global,
+    hub: &Hub,
+    objects: &Keyspace,
+    action: &Move,
+    loud: bool,
+    sessions: &mut Vec<Session>,
+) -> Result<(), NoMemory>
+    requires sound { list_all is_sound_channel hub.now.channels ≡ true }
+    requires there { HaveAllThere (objects_in objects.now) action.now }
+    ensures same { map session_of sessions.new.items ≡ map session_of sessions.old.items }
+    ensures staged { OnOk result (StagesBehind (world_with hub.now.channels (objects_in objects.now)) (writes_of action.now loud) sessions.old.items sessions.new.items) }
+{
+    turn_laws();
+    match action {
+        Move::Stay | Move::Clear => Ok(()),
+        Move::Put(object) => stage_object(alloc, hub, objects, object, loud, sessions),
+        Move::Delete(key, id) => stage_one(alloc, hub, objects, key, id, sessions),
+        Move::DeleteEach(key, ids) => stage_each(alloc, hub, objects, key, ids, sessions),
+        Move::Leave(key) => stage_drop(alloc, hub, sessions, key),
+    }
+}
+
+/// Stages what a request brings, behind what is due. Changes of channels bring nothing. For want of memory a part may be staged.
+pub(crate) fn stage_planned(
+    alloc: Global,
+    hub: &Hub,
+    objects: &Keyspace,
+    planned: &Planned,
+    sessions: &mut Vec<Session>,
+) -> Result<(), NoMemory>
+    requires sound { list_all is_sound_channel hub.now.channels ≡ true }
+    requires there { HoldsOfObjects (HaveAllThere (objects_in objects.now)) planned.now }
+    ensures same { map session_of sessions.new.items ≡ map session_of sessions.old.items }
+    ensures staged { OnOk result (StagesBehind (world_with hub.now.channels (objects_in objects.now)) (planned_writes planned.now) sessions.old.items sessions.new.items) }
+{
+    turn_laws();
+    match planned {
+        Planned::Objects(plan) => {
+            stage_move(alloc, hub, objects, &plan.action, plan.loud, sessions)
+        }
+        Planned::Channels(_plan) => Ok(()),
+        Planned::Subscribed(_) => Ok(()),
+    }
+}

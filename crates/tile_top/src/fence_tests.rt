@@ -1,0 +1,231 @@
+//! Scripts of two sessions: what the one does, and what the other, which subscribed, is told of it.
+
+use super::tests::{played, push_feed, request};
+use byte_text::{NoMemory, Text};
+use script_text::push_frame_line;
+use std::alloc::Global;
+use std::sync::Wait;
+use std::test::Fail;
+use std::thread::Threads;
+
+// A line of the script and what it prints: a request of a session, or where the session is left out the line as it stands.
+fn push_asked(alloc: Global, script: &mut Text, session: &str, line: &str) -> Result<(), NoMemory> {
+    if session.is_empty() {
+        script.push(line.as_bytes())?;
+        return script.push(b"\n");
+    }
+    let text = request(alloc, line)?;
+    push_feed(script, session, text.bytes())
+}
+
+// What is printed of a frame: of a message its words are given, with spaces between them, of all else its bytes.
+fn push_told(alloc: Global, output: &mut Text, frame: &str) -> Result<(), NoMemory> {
+    if !frame.starts_with("message ") && !frame.starts_with("pmessage ") {
+        return push_frame_line(output, frame.as_bytes());
+    }
+    let text = request(alloc, frame)?;
+    push_frame_line(output, text.bytes())
+}
+
+// A script of two sessions that ask for all of this, and then the second takes what waits.
+fn script_of(alloc: Global, asked: &[(&str, &str)]) -> Result<Text, NoMemory> {
+    let mut script = Text::new(alloc);
+    script.push(b"open\nopen\n")?;
+    for (session, line) in asked {
+        push_asked(alloc, &mut script, session, line)?;
+    }
+    script.push(b"take 2\n")?;
+    Ok(script)
+}
+
+// What such a script of so many lines prints, where the second session is told this.
+fn output_of(alloc: Global, lines: usize, told: &[&str]) -> Result<Text, NoMemory> {
+    let mut output = Text::new(alloc);
+    output.push(b"session 1\nsession 2\n")?;
+    for _ in 0..lines {
+        output.push(b"ok\n")?;
+    }
+    for frame in told {
+        push_told(alloc, &mut output, frame)?;
+    }
+    Ok(output)
+}
+
+// Plays such a script. The output, and that which is due.
+fn heard<R: Wait + Threads + Copy + Send + Sync + 'static>(
+    rt: &R,
+    alloc: Global,
+    asked: &[(&str, &str)],
+    told: &[&str],
+) -> Result<(Vec<u8>, Text), Fail> {
+    let script = script_of(alloc, asked)?;
+    let (_, sink) = played(rt, alloc, "replay", script.bytes(), &[], &[])?;
+    Ok((
+        sink.written().to_vec(alloc)?,
+        output_of(alloc, asked.len(), told)?,
+    ))
+}
+
+const YARD: &str = "*3\r\n$9\r\nsubscribe\r\n$4\r\nyard\r\n:1\r\n";
+
+// A square is jumped over in one step, and neither place is in it.
+#[test]
+fn a_square_is_jumped_over(rt: HostRuntime) -> Result<(), Fail> {
+    let asked = [
+        ("2", "SUBSCRIBE yard"),
+        (
+            "1",
+            "SETCHAN yard WITHIN k FENCE DETECT exit,cross BOUNDS 0 0 10 10",
+        ),
+        ("1", "SET k a POINT 5 -5"),
+        ("1", "SET k a POINT 5 15"),
+        ("1", "SET k a POINT 11 15"),
+        ("1", "SET k a POINT 11 -5"),
+    ];
+    let told = [
+        YARD,
+        "message yard {\"command\":\"set\",\"detect\":\"cross\",\"hook\":\"yard\",\"key\":\"k\",\"id\":\"a\",\
+         \"object\":{\"type\":\"Point\",\"coordinates\":[15,5]}}",
+    ];
+    let (written, output) = heard(&rt, rt.alloc(), &asked, &told)?;
+    assert_eq!(rt; written.as_slice(), output.bytes());
+    Ok(())
+}
+
+// An object comes in, gets a field in silence, goes out, is deleted outside in silence, comes in again and expires. Then the key is
+// dropped, and all is flushed in silence.
+#[test]
+fn an_object_comes_and_goes(rt: HostRuntime) -> Result<(), Fail> {
+    let asked = [
+        ("2", "SUBSCRIBE yard"),
+        ("1", "SETCHAN yard WITHIN k FENCE BOUNDS 0 0 10 10"),
+        ("1", "SET k a POINT 5 6"),
+        ("1", "FSET k a v 7"),
+        ("1", "SET k a POINT 5 15"),
+        ("1", "DEL k a"),
+        ("1", "SET k a EX 1 POINT 10 10"),
+        ("", "tick 1000"),
+        ("1", "SET k b POINT 0 -1"),
+        ("1", "DROP k"),
+        ("1", "DROP k"),
+        ("1", "FLUSHDB"),
+        ("1", "SET k a POINT 5 5"),
+    ];
+    let told = [
+        YARD,
+        "message yard {\"command\":\"set\",\"detect\":\"enter\",\"hook\":\"yard\",\"key\":\"k\",\"id\":\"a\",\
+         \"object\":{\"type\":\"Point\",\"coordinates\":[6,5]}}",
+        "message yard {\"command\":\"set\",\"detect\":\"inside\",\"hook\":\"yard\",\"key\":\"k\",\"id\":\"a\",\
+         \"object\":{\"type\":\"Point\",\"coordinates\":[6,5]}}",
+        "message yard {\"command\":\"set\",\"detect\":\"exit\",\"hook\":\"yard\",\"key\":\"k\",\"id\":\"a\",\
+         \"object\":{\"type\":\"Point\",\"coordinates\":[15,5]},\"fields\":{\"v\":7}}",
+        "message yard {\"command\":\"set\",\"detect\":\"outside\",\"hook\":\"yard\",\"key\":\"k\",\"id\":\"a\",\
+         \"object\":{\"type\":\"Point\",\"coordinates\":[15,5]},\"fields\":{\"v\":7}}",
+        "message yard {\"command\":\"set\",\"detect\":\"enter\",\"hook\":\"yard\",\"key\":\"k\",\"id\":\"a\",\
+         \"object\":{\"type\":\"Point\",\"coordinates\":[10,10]}}",
+        "message yard {\"command\":\"set\",\"detect\":\"inside\",\"hook\":\"yard\",\"key\":\"k\",\"id\":\"a\",\
+         \"object\":{\"type\":\"Point\",\"coordinates\":[10,10]}}",
+        "message yard {\"command\":\"del\",\"hook\":\"yard\",\"key\":\"k\",\"id\":\"a\"}",
+        "message yard {\"command\":\"set\",\"detect\":\"outside\",\"hook\":\"yard\",\"key\":\"k\",\"id\":\"b\",\
+         \"object\":{\"type\":\"Point\",\"coordinates\":[-1,0]}}",
+        "message yard {\"command\":\"drop\",\"hook\":\"yard\",\"key\":\"k\"}",
+    ];
+    let (written, output) = heard(&rt, rt.alloc(), &asked, &told)?;
+    assert_eq!(rt; written.as_slice(), output.bytes());
+    Ok(())
+}
+
+// Two channels tell in the order of their names; of each a session hears by its name first, and then by patterns in the order of
+// subscribing.
+#[test]
+fn channels_tell_by_name_and_pattern(rt: HostRuntime) -> Result<(), Fail> {
+    let asked = [
+        ("2", "PSUBSCRIBE z* ????"),
+        ("2", "SUBSCRIBE zone"),
+        (
+            "1",
+            "SETCHAN zone WITHIN k FENCE DETECT enter COMMANDS set BOUNDS 0 0 10 10",
+        ),
+        (
+            "1",
+            "SETCHAN area INTERSECTS k FENCE DETECT inside CIRCLE 0 0 10",
+        ),
+        ("1", "SETCHAN else WITHIN other FENCE BOUNDS 0 0 10 10"),
+        ("1", "SET k a POINT 6 8"),
+        ("1", "DEL k a"),
+    ];
+    let told = [
+        "*3\r\n$10\r\npsubscribe\r\n$2\r\nz*\r\n:1\r\n",
+        "*3\r\n$10\r\npsubscribe\r\n$4\r\n????\r\n:2\r\n",
+        "*3\r\n$9\r\nsubscribe\r\n$4\r\nzone\r\n:3\r\n",
+        "pmessage ???? area {\"command\":\"set\",\"detect\":\"inside\",\"hook\":\"area\",\"key\":\"k\",\"id\":\"a\",\
+         \"object\":{\"type\":\"Point\",\"coordinates\":[8,6]}}",
+        "message zone {\"command\":\"set\",\"detect\":\"enter\",\"hook\":\"zone\",\"key\":\"k\",\"id\":\"a\",\
+         \"object\":{\"type\":\"Point\",\"coordinates\":[8,6]}}",
+        "pmessage z* zone {\"command\":\"set\",\"detect\":\"enter\",\"hook\":\"zone\",\"key\":\"k\",\"id\":\"a\",\
+         \"object\":{\"type\":\"Point\",\"coordinates\":[8,6]}}",
+        "pmessage ???? zone {\"command\":\"set\",\"detect\":\"enter\",\"hook\":\"zone\",\"key\":\"k\",\"id\":\"a\",\
+         \"object\":{\"type\":\"Point\",\"coordinates\":[8,6]}}",
+        "pmessage ???? area {\"command\":\"del\",\"hook\":\"area\",\"key\":\"k\",\"id\":\"a\"}",
+    ];
+    let (written, output) = heard(&rt, rt.alloc(), &asked, &told)?;
+    assert_eq!(rt; written.as_slice(), output.bytes());
+    Ok(())
+}
+
+// A person comes near a dog, at the square root of 25, stays near in silence at that of 32, and goes away, to that of 153.
+#[test]
+fn a_person_meets_a_dog(rt: HostRuntime) -> Result<(), Fail> {
+    let asked = [
+        ("2", "SUBSCRIBE meet"),
+        (
+            "1",
+            "SETCHAN meet NEARBY people FENCE NODWELL ROAM dogs r* 10",
+        ),
+        ("1", "SET dogs rex POINT 0 0"),
+        ("1", "SET dogs ace POINT 0 0"),
+        ("1", "SET people ann POINT 3 4"),
+        ("1", "SET people ann POINT 4 4"),
+        ("1", "SET people ann POINT 3 12"),
+        ("1", "SET dogs rex POINT 3 12"),
+        ("1", "DEL people ann"),
+    ];
+    let told = [
+        "*3\r\n$9\r\nsubscribe\r\n$4\r\nmeet\r\n:1\r\n",
+        "message meet {\"command\":\"set\",\"detect\":\"roam\",\"hook\":\"meet\",\"key\":\"people\",\"id\":\"ann\",\
+         \"object\":{\"type\":\"Point\",\"coordinates\":[4,3]},\
+         \"nearby\":{\"key\":\"dogs\",\"id\":\"rex\",\"object\":{\"type\":\"Point\",\"coordinates\":[0,0]},\"meters\":5}}",
+        "message meet {\"command\":\"set\",\"detect\":\"roam\",\"hook\":\"meet\",\"key\":\"people\",\"id\":\"ann\",\
+         \"object\":{\"type\":\"Point\",\"coordinates\":[12,3]},\
+         \"faraway\":{\"key\":\"dogs\",\"id\":\"rex\",\"object\":{\"type\":\"Point\",\"coordinates\":[0,0]},\"meters\":12}}",
+    ];
+    let (written, output) = heard(&rt, rt.alloc(), &asked, &told)?;
+    assert_eq!(rt; written.as_slice(), output.bytes());
+    Ok(())
+}
+
+// A name that is held is confirmed with the count as it is; a pattern of its text is another subscription.
+#[test]
+fn a_subscriber_is_served_four_commands(rt: HostRuntime) -> Result<(), Fail> {
+    let asked = [
+        ("2", "GET k a"),
+        ("2", "SUBSCRIBE yard gate yard"),
+        ("2", "PSUBSCRIBE yard"),
+        ("2", "GET k a"),
+        ("2", "PING"),
+        ("2", "QUIT"),
+    ];
+    let told = [
+        "$-1\r\n",
+        YARD,
+        "*3\r\n$9\r\nsubscribe\r\n$4\r\ngate\r\n:2\r\n",
+        "*3\r\n$9\r\nsubscribe\r\n$4\r\nyard\r\n:2\r\n",
+        "*3\r\n$10\r\npsubscribe\r\n$4\r\nyard\r\n:3\r\n",
+        "-ERR only SUBSCRIBE, PSUBSCRIBE, PING and QUIT are served while subscribed\r\n",
+        "+PONG\r\n",
+        "+OK\r\n",
+    ];
+    let (written, output) = heard(&rt, rt.alloc(), &asked, &told)?;
+    assert_eq!(rt; written.as_slice(), output.bytes());
+    Ok(())
+}
