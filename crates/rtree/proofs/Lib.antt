@@ -13,3 +13,4 @@ pub mod Mended
 pub mod Shrinks
 pub mod Swaps
 pub mod Nears
+pub mod Crosses
