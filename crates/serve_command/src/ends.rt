@@ -4,8 +4,7 @@ ghost use Rattle.std.specs.Prelude.{◌≡◌, ◌≤◌, ◌⊎◌};
 ghost use Rattle.outside.specs.Causes.{Rose};
 ghost use Rattle.serve_command.specs.Ends.{IsEnd};
 
-use crate::streams::write_all;
-use outside::{Failed, Sink};
+use outside::{Failed, Sink, write_all};
 
 pub(crate) const DISK_FAULT: &[u8] = b"disk fault\n";
 

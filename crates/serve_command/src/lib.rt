@@ -3,10 +3,8 @@
 
 mod ends;
 mod serves;
-mod streams;
 mod words;
 
 pub use ends::{OUT_OF_MEMORY, SPENT, end};
 pub use serves::serve_links;
-pub use streams::write_all;
 pub use words::{ServeWords, serve_words};

@@ -7,10 +7,9 @@ ghost use Rattle.world_model.specs.Histories.{IsLegal};
 ghost use Rattle.serve_command.specs.Serves.{Finishes, IsServed, Serves, counted, listening_line, served_lines};
 
 use crate::ends::{DISK_FAULT, DOOR_FAULT, OUT_OF_MEMORY, SPENT, end};
-use crate::streams::write_all;
 use crate::words::ServeWords;
 use byte_text::{NoMemory, Text, push_u64};
-use outside::{Clock, Door, Failed, NoGate, PlainBell, Sink, Spawner};
+use outside::{Clock, Door, Failed, NoGate, PlainBell, Sink, Spawner, write_all};
 use serve_run::{Jobs, ServeEnd, Served, Shared, serve};
 use std::alloc::Global;
 use std::sync::{Arc, Wait};

@@ -7,7 +7,7 @@ use Rattle.std.proofs.lemmas.List.{append-nil, take_more}
 use Rattle.std.proofs.lemmas.Option.{slice_get_within, get_or_from_slice_get}
 use Rattle.std.specs.Io.KnownBytes.{Appends}
 use mathlib.Core.List.{IsPrefix}
-use Rattle.session_run.proofs.Writing.{appends_more}
+use Rattle.outside.specs.Writing.{appends_more}
 
 take_next : (frames : List (List ℕ)) (i : ℕ) (x : List ℕ) → slice_get frames i ≡ Some x → take (i + 1) frames ≡ take i frames ++ x ∷ []
 take_next frames i x at = take_more frames i x (slice_get_within frames i x at) ∙ ap (λ y. take i frames ++ y ∷ []) (get_or_from_slice_get frames i x x at)

@@ -15,8 +15,8 @@ use Rattle.session_run.specs.Gains.{Gains}
 use Rattle.session_run.specs.Gains.{gains_more, gains_last, gains_one, made}
 use Rattle.session_run.specs.declared.outs.OutEnd.{OutEnd}
 use Rattle.session_run.specs.declared.outs.OutEnd.TheVariants.{Ended, WriteFault, LogFault, Stopped}
-use Rattle.session_run.specs.Outs.{AppendsPart, goes_on, given_bytes, bytes_given, take_act, remove_acts, IsLast, Wrote, WritesSession, TakesOn, TakesLast}
-use Rattle.session_run.proofs.Writing.{appends_more, appends_nothing}
+use Rattle.session_run.specs.Outs.{goes_on, given_bytes, bytes_given, take_act, remove_acts, IsLast, Wrote, WritesSession, TakesOn, TakesLast}
+use Rattle.outside.specs.Writing.{AppendsPart, appends_more, appends_nothing}
 
 -- the takes so far
 pub record Going (n : ℕ) (old now : Knows) (held held' : Option (List ℕ)) (faults faults' : ℕ) : Type 0 where

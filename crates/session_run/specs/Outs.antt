@@ -3,7 +3,7 @@ use Rattle.std.specs.Prelude.{◌≡◌, ◌≤◌, ℕ, Bool, true, false, List
 use Rattle.std.specs.List.{concat, list_all}
 use Rattle.std.specs.Io.KnownBytes.{Appends}
 use Rattle.outside.specs.Causes.{Rose}
-use mathlib.Core.List.{IsPrefix}
+use Rattle.outside.specs.Writing.{AppendsPart}
 use Rattle.byte_text.specs.Names.{Bytes}
 use Rattle.world_model.specs.declared.events.Called.TheVariants as called
 use Rattle.world_model.specs.declared.events.Event.TheVariants as event
@@ -43,10 +43,6 @@ IsLast Ended o = o ≡ outcome.Ended
 IsLast WriteFault o = (frames : List Bytes) × (o ≡ outcome.Given frames)
 IsLast LogFault o = o ≡ outcome.Answered called.LogFault
 IsLast Stopped o = o ≡ outcome.Answered called.Stopped
-
--- a first part of the bytes was written
-abbrev pub AppendsPart : Option Bytes → Option Bytes → Bytes → Type 0
-AppendsPart held held' bytes = (part : Bytes) × IsPrefix part bytes × Appends held held' part
 
 -- the bytes were written, or a first part of them at a write fault
 abbrev pub Wrote : OutEnd → Option Bytes → Option Bytes → Bytes → Type 0

@@ -1,33 +1,16 @@
-//! Pieces that are written whole.
+//! Frames that are written whole.
 
 ghost use Rattle.std.specs.Prelude.{◌≡◌, ◌≤◌, true, IfErr, OnOk};
 ghost use Rattle.std.specs.List.{concat};
 ghost use Rattle.std.specs.Io.KnownBytes.{Appends};
 ghost use Rattle.outside.specs.Causes.{HasCause};
-ghost use Rattle.session_run.specs.Outs.{AppendsPart};
+ghost use Rattle.outside.specs.Writing.{AppendsPart};
 
-use outside::{Failed, Sink};
+use outside::{Failed, Sink, write_all};
 use world_model::Frames;
 
 /// Frames of at most so many bytes together are written in one piece.
 const MOST_GATHERED: usize = 16_384;
-
-/// Writes the whole piece. At an error some first part of it was written.
-pub(crate) fn write_all<K: Sink>(sink: &mut K, piece: &[u8]) -> Result<(), Failed>
-    ensures done { OnOk result (Appends (K.held sink.old) (K.held sink.new) piece.now) }
-    ensures part { IfErr result (λ _. AppendsPart (K.held sink.old) (K.held sink.new) piece.now) }
-    ensures cause { HasCause (K.faults sink.old) (K.faults sink.new) result }
-{
-    let mut rest = piece;
-    while !rest.is_empty() {
-        let count = match sink.write(rest) {
-            Ok(count) => count,
-            Err(Failed) => return Err(Failed),
-        };
-        rest = &rest[count..];
-    }
-    Ok(())
-}
 
 // Gathers the bytes of all frames, where they are few. `false` where they are not, or there is no memory for them.
 fn gather(frames: &Frames, text: &mut Vec<u8>) -> bool

@@ -10,7 +10,7 @@ use Rattle.tile_top.specs.Scripts.{opening}
 use Rattle.tile_top.specs.Plays.{IsDone, IsFaulty, IsBefore, IsAtSpent}
 use Rattle.serve_command.specs.Ends.{IsEnd, memory_line, spent_line}
 use Rattle.tile_top.specs.Tops.{IsStopped, Replays, script_line, read_line}
-use Rattle.serve_command.specs.Writing.{appends_more, appends_nothing}
+use Rattle.outside.specs.Writing.{appends_more, appends_nothing}
 
 -- nothing was read, and nothing done
 pub before_none : (left0 held0 : Option Bytes) → IsBefore left0 left0 held0 held0 []

@@ -14,7 +14,7 @@ use Rattle.tile_top.specs.Reads.{OnLine, IsOneLine, IsFirstLine, HasNoLine}
 use Rattle.tile_top.specs.Scripts.{opening, ActsOn, IsLine, Does, Runs}
 use Rattle.tile_top.specs.Spent.{EndsSpent}
 use Rattle.tile_top.specs.Plays.{IsReadOf, IsBefore, IsWithinLine, IsAtSpent, OnTurn, OnPlay, OnLineDone}
-use Rattle.serve_command.specs.Writing.{appends_more, appends_nothing}
+use Rattle.outside.specs.Writing.{appends_more, appends_nothing}
 
 -- the first line of what is left, where the source tells it
 first_line_of : (left left' : Option Bytes) (l : TextLine) (xs : Bytes) → IsFirstLine left left' l → left ≡ Some xs → (rest : Bytes) × (lines xs ≡ l ∷ lines rest) × (left' ≡ Some rest)

@@ -10,8 +10,7 @@ ghost use Rattle.tile_top.specs.Plays.{OnTurn, OnPlay, OnLineDone};
 use crate::acts::Player;
 use crate::halts::Halt;
 use crate::streams::{LineEnd, read_line};
-use outside::{Failed, Sink, Source};
-use serve_command::write_all;
+use outside::{Failed, Sink, Source, write_all};
 use std::alloc::Global;
 
 /// How a line of a script ended.

@@ -2,7 +2,7 @@ use Rattle.std.proofs.Common.{refl}
 use Rattle.world_model.specs.declared.events.Called.TheVariants as called
 use Rattle.world_model.specs.declared.events.Outcome.TheVariants as outcome
 use Rattle.session_run.specs.declared.outs.OutEnd.TheVariants as end
-use Rattle.session_run.proofs.Writing.{appends_nothing}
+use Rattle.outside.specs.Writing.{appends_nothing}
 use Rattle.session_run.proofs.Outing.{takes_given, takes_fault, takes_none, takes_last}
 use Rattle.session_run.proofs.outs.write_turn.Goals as goal
 

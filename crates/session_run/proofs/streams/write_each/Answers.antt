@@ -2,7 +2,7 @@ use Rattle.std.proofs.Common.{◌≤◌, List, ℕ, take, subst, sym, arith}
 use Rattle.std.specs.List.{concat}
 use Rattle.std.specs.Io.KnownBytes.{Appends}
 use Rattle.session_run.proofs.Framing.{concat_next, part_of_frames}
-use Rattle.session_run.proofs.Writing.{appends_more}
+use Rattle.outside.specs.Writing.{appends_more}
 use Rattle.session_run.proofs.streams.write_each.Goals as goal
 
 pub returns-in-Err-clause-part : goal.returns-in-Err-clause-part
