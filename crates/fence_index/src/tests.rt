@@ -7,6 +7,7 @@ use super::*;
 use byte_text::{Name, NoMemory, Request, Text};
 use planar_geom::{Area, BBox, Pt};
 use std::alloc::Global;
+use std::process::Abort;
 use std::test::Fail;
 use world_data::{Channel, Fence, Kind, NameList, Tests, Wanted, Watch};
 
@@ -91,64 +92,61 @@ fn named(
 }
 
 // On `fleet`: `a` on 0 to 9, `b` on 20 to 29, which wants `outside`, `c`, which roams, and `d` on 40 to 49. On `gulls`: `e` on 0 to 9.
-fn filled(alloc: Global) -> Result<FenceIndex, NoMemory> {
-    let mut index = FenceIndex::new(alloc);
+fn fill(alloc: Global, index: &mut FenceIndex) -> Result<(), NoMemory> {
     put(
         alloc,
-        &mut index,
+        index,
         &channel(alloc, b"gulls", b"e", false, spot(0, 9)?)?,
     )?;
     put(
         alloc,
-        &mut index,
+        index,
         &channel(alloc, b"fleet", b"d", false, spot(40, 49)?)?,
     )?;
     put(
         alloc,
-        &mut index,
+        index,
         &channel(alloc, b"fleet", b"b", true, spot(20, 29)?)?,
     )?;
     put(
         alloc,
-        &mut index,
+        index,
         &channel(alloc, b"fleet", b"a", false, spot(0, 9)?)?,
     )?;
     put(
         alloc,
-        &mut index,
+        index,
         &channel(alloc, b"fleet", b"c", false, roam(alloc)?)?,
-    )?;
-    Ok(index)
+    )
 }
 
-#[test]
-fn names(rt: HostRuntime) -> Result<(), Fail> {
-    let alloc = rt.alloc();
-    let index = filled(alloc)?;
+// What is named of the channels of two keys.
+fn names_of(rt: &impl Abort, alloc: Global, index: &mut FenceIndex) -> Result<(), Fail> {
+    fill(alloc, index)?;
     let (west, east) = (strip(5, 5)?, strip(45, 45)?);
     let away = strip(70, 70)?;
     assert_eq!(rt;
-        named(alloc, &index, b"fleet", None, Some(west))?.bytes(),
+        named(alloc, index, b"fleet", None, Some(west))?.bytes(),
         b"a b c ".as_slice()
     );
     assert_eq!(rt;
-        named(alloc, &index, b"fleet", Some(west), Some(east))?.bytes(),
+        named(alloc, index, b"fleet", Some(west), Some(east))?.bytes(),
         b"a b c d ".as_slice()
     );
     assert_eq!(rt;
-        named(alloc, &index, b"fleet", Some(west), None)?.bytes(),
+        named(alloc, index, b"fleet", Some(west), None)?.bytes(),
         b"a ".as_slice()
     );
     assert_eq!(rt;
-        named(alloc, &index, b"fleet", Some(away), Some(away))?.bytes(),
+        named(alloc, index, b"fleet", Some(away), Some(away))?.bytes(),
         b"b c ".as_slice()
     );
     assert_eq!(rt;
-        named(alloc, &index, b"gulls", None, Some(west))?.bytes(),
+        named(alloc, index, b"gulls", None, Some(west))?.bytes(),
         b"e ".as_slice()
     );
     assert_eq!(rt;
-        named(alloc, &index, b"herd", None, Some(west))?.bytes(),
+        named(alloc, index, b"herd", None, Some(west))?.bytes(),
         b"".as_slice()
     );
     Ok(())
@@ -175,21 +173,32 @@ fn take_out(
     Ok(())
 }
 
-#[test]
-fn a_channel_is_replaced(rt: HostRuntime) -> Result<(), Fail> {
-    let alloc = rt.alloc();
-    let mut index = filled(alloc)?;
-    replace(alloc, &mut index)?;
-    take_out(alloc, &mut index, b"fleet", b"d")?;
-    take_out(alloc, &mut index, b"gulls", b"a")?;
+// What is named where a channel was replaced and another taken out.
+fn names_behind(rt: &impl Abort, alloc: Global, index: &mut FenceIndex) -> Result<(), Fail> {
+    fill(alloc, index)?;
+    replace(alloc, index)?;
+    take_out(alloc, index, b"fleet", b"d")?;
+    take_out(alloc, index, b"gulls", b"a")?;
     let (west, wide) = (strip(5, 5)?, strip(9, 60)?);
     assert_eq!(rt;
-        named(alloc, &index, b"fleet", Some(west), None)?.bytes(),
+        named(alloc, index, b"fleet", Some(west), None)?.bytes(),
         b"".as_slice()
     );
     assert_eq!(rt;
-        named(alloc, &index, b"fleet", Some(wide), None)?.bytes(),
+        named(alloc, index, b"fleet", Some(wide), None)?.bytes(),
         b"a b ".as_slice()
     );
     Ok(())
+}
+
+#[test]
+fn names(rt: HostRuntime) -> Result<(), Fail> {
+    let alloc = rt.alloc();
+    names_of(&rt, alloc, &mut FenceIndex::new(alloc))
+}
+
+#[test]
+fn a_channel_is_replaced(rt: HostRuntime) -> Result<(), Fail> {
+    let alloc = rt.alloc();
+    names_behind(&rt, alloc, &mut FenceIndex::new(alloc))
 }
