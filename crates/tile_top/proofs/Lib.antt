@@ -8,3 +8,4 @@ mod Feeding
 mod Acting
 mod Cutting
 mod OneOutput
+mod Crosses
