@@ -1,6 +1,7 @@
 //! Lines of words that are made by a generator of numbers, so that a table of them is the same in each run.
 
 ghost use Rattle.std.specs.Prelude.{◌<◌};
+ghost use Rattle.cmd_words.specs.ShortRequests.{AreShort};
 
 use byte_text::{NoMemory, Request, Text, push_u64};
 use std::alloc::Global;
@@ -91,7 +92,10 @@ fn push_word(out: &mut Text, numbers: &mut Numbers, word: &str) -> Result<(), No
 }
 
 // Adds a word to a line.
-fn push_proper(words: &mut Request, word: &[u8]) -> Result<(), Fail> {
+fn push_proper(words: &mut Request, word: &[u8]) -> Result<(), Fail>
+    requires short { AreShort words.old }
+    ensures short { AreShort words.new }
+{
     if words.words() >= 64 {
         return Err(Fail::from("a line has few words"));
     }
