@@ -3,6 +3,7 @@
 use super::*;
 use byte_text::{Name, NoMemory, Request, Text};
 use planar_geom::{Area, BBox, Pt, area_box};
+use rtree::{NoLedger, Steps};
 use std::alloc::Global;
 use std::test::Fail;
 use world_data::{Channel, Fence, Kind, Tests, Wanted, Watch};
@@ -91,7 +92,13 @@ fn digits(alloc: Global, candidates: &Candidates) -> Result<Text, NoMemory> {
 fn near(alloc: Global, hub: &Hub, old: Option<BBox>, new: Option<BBox>) -> Result<Text, NoMemory> {
     digits(
         alloc,
-        &hub.candidates(alloc, &name(alloc, b"fleet")?, old, new)?,
+        &hub.candidates(
+            alloc,
+            &name(alloc, b"fleet")?,
+            old,
+            new,
+            &mut Steps::new(NoLedger),
+        )?,
     )
 }
 

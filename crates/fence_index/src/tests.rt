@@ -6,6 +6,7 @@ ghost use Rattle.fence_index.specs.Marks.{mark_of};
 use super::*;
 use byte_text::{Name, NoMemory, Request, Text};
 use planar_geom::{Area, BBox, Pt};
+use rtree::{NoLedger, Steps, Visits};
 use std::alloc::Global;
 use std::test::Fail;
 use world_data::{Channel, Fence, Kind, NameList, Tests, Wanted, Watch};
@@ -81,7 +82,14 @@ fn named(
     new: Option<BBox>,
 ) -> Result<Text, NoMemory> {
     let mut names = NameList::new(alloc);
-    index.candidates(alloc, &name(alloc, key)?, old, new, &mut names)?;
+    index.candidates(
+        alloc,
+        &name(alloc, key)?,
+        old,
+        new,
+        &mut names,
+        &mut Steps::new(NoLedger),
+    )?;
     let mut text = Text::new(alloc);
     for i in 0..names.len() {
         text.push(names.at(i).bytes())?;
@@ -191,5 +199,48 @@ fn a_channel_is_replaced(rt: HostRuntime) -> Result<(), Fail> {
         named(alloc, &index, b"fleet", Some(wide), None)?.bytes(),
         b"a b ".as_slice()
     );
+    Ok(())
+}
+
+// The channel of this number, on 20 times as far east.
+fn numbered(alloc: Global, i: u32) -> Result<Channel, NoMemory> {
+    let called = [
+        b'0' + (i / 100 % 10) as u8,
+        b'0' + (i / 10 % 10) as u8,
+        b'0' + (i % 10) as u8,
+    ];
+    let low = i64::from(i) * 20;
+    channel(alloc, b"fleet", &called, false, spot(low, low + 9)?)
+}
+
+fn thousand(alloc: Global) -> Result<FenceIndex, NoMemory> {
+    let mut index = FenceIndex::new(alloc);
+    for i in 0..1000u32 {
+        put(alloc, &mut index, &numbered(alloc, i)?)?;
+    }
+    Ok(index)
+}
+
+// 1,000 boxes need three levels of nodes of at most 16, and each of 1,000 changes that names a channel visits a node of each level.
+const LEAST_VISITS: u64 = 3_000;
+
+#[test]
+fn few_nodes_are_visited(rt: HostRuntime) -> Result<(), Fail> {
+    let alloc = rt.alloc();
+    let index = thousand(alloc)?;
+    let key = name(alloc, b"fleet")?;
+    let mut names = NameList::new(alloc);
+    let mut steps = Steps::new(Visits::new());
+    for i in 0..1000u32 {
+        let east = i64::from(i) * 20 + 5;
+        let place = Some(strip(east, east)?);
+        index.candidates(alloc, &key, place, place, &mut names, &mut steps)?;
+    }
+    assert_eq!(rt; names.len(), 1000);
+    assert_eq!(rt; names.at(0).bytes(), b"000".as_slice());
+    assert_eq!(rt; names.at(999).bytes(), b"999".as_slice());
+    let count = steps.ledger().count();
+    assert!(rt; LEAST_VISITS <= count && count <= 30_000);
+    let _ = rt.println(count);
     Ok(())
 }

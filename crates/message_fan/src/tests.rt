@@ -12,6 +12,7 @@ use channel_hub::Hub;
 use glob_match::well_formed;
 use keyspace::Keyspace;
 use planar_geom::{Area, BBox, Pt, Shape};
+use rtree::{NoLedger, Steps};
 use session_mail::{Session, place_staged};
 use std::alloc::Global;
 use std::test::Fail;
@@ -209,12 +210,13 @@ fn moved(
 {
     let new = object(alloc, b"fleet", b"t", to)?;
     let mut sessions = hearer(alloc)?;
+    let mut steps = Steps::new(NoLedger);
     match from {
         Some(from) => {
             let old = object(alloc, b"fleet", b"t", from)?;
-            stage_put(alloc, hub, objects, &mut sessions, Some(&old), &new)?;
+            stage_put(alloc, hub, objects, &mut sessions, Some(&old), &new, &mut steps)?;
         }
-        None => stage_put(alloc, hub, objects, &mut sessions, None, &new)?,
+        None => stage_put(alloc, hub, objects, &mut sessions, None, &new, &mut steps)?,
     }
     taken(alloc, &mut sessions)
 }
@@ -299,7 +301,7 @@ fn deleted(alloc: Global) -> Result<Text, NoMemory> {
     let hub = strips(alloc)?;
     let old = object(alloc, b"fleet", b"t", 5)?;
     let mut sessions = hearer(alloc)?;
-    stage_del(alloc, &hub, &mut sessions, &old)?;
+    stage_del(alloc, &hub, &mut sessions, &old, &mut Steps::new(NoLedger))?;
     taken(alloc, &mut sessions)
 }
 

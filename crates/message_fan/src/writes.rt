@@ -12,6 +12,7 @@ ghost use Rattle.channel_hub.specs.Hubs.{put_may_concern, del_may_concern};
 ghost use Rattle.channel_hub.specs.MessageLaws.{messages_on};
 ghost use Rattle.channel_hub.specs.Places.{places_of};
 ghost use Rattle.keyspace.specs.Entries.{objects_in};
+ghost use Rattle.rtree.specs.Ledgers.{IsRead};
 ghost use Rattle.session_mail.specs.Sessions.{session_of};
 ghost use Rattle.session_mail.specs.Fans.{AreBrought};
 ghost use Rattle.message_fan.specs.Stagings.{IsBeforePut, IsBeforeDel, IsBeforeDrop, IsStagedIn};
@@ -20,6 +21,7 @@ use crate::raises::{stage_del_on, stage_drop_on, stage_put_on};
 use byte_text::{Name, NoMemory};
 use channel_hub::{Candidates, Hub};
 use keyspace::Keyspace;
+use rtree::{Ledger, Steps};
 use session_mail::Session;
 use std::alloc::Global;
 use world_data::Object;
@@ -50,21 +52,24 @@ fn stage_put_at(
 }
 
 /// Stages all that the put of an object raises, behind what is staged: `old` is the object of its key and id before it, and `objects` are all
-/// objects then, so that it is asked before the object is put. For want of memory a part may be staged.
-pub fn stage_put(
+/// objects then, so that it is asked before the object is put. For want of memory a part may be staged. The steps rise by the nodes that are
+/// visited to find the channels.
+pub fn stage_put<L: Ledger>(
     alloc: Global,
     hub: &Hub,
     objects: &Keyspace,
     sessions: &mut Vec<Session>,
     old: Option<&Object>,
     new: &Object,
+    steps: &mut Steps<L>,
 ) -> Result<(), NoMemory>
     requires { list_all is_sound_channel hub.now.channels ≡ true }
     ensures same { map session_of sessions.new.items ≡ map session_of sessions.old.items }
     ensures staged { OnOk result (IsStagedIn (IsBeforePut hub.now.channels (objects_in objects.now) (option_map (λ o. o.now) old.entry) new.now)
         (loud (Put new.now)) sessions.old.items sessions.new.items) }
+    ensures counted { IsRead 0 0 steps.old.count steps.new.count }
 {
-    let candidates = hub.candidates_of_put(alloc, old, new)?;
+    let candidates = hub.candidates_of_put(alloc, old, new, steps)?;
     stage_put_at(alloc, hub, &candidates, objects, sessions, old, new)
 }
 
@@ -91,19 +96,22 @@ fn stage_del_at(
 }
 
 /// Stages all that the del of an object raises, behind what is staged. It asks for the object alone, which may be taken out of the objects
-/// before or after: a channel that roams raises nothing at a del. For want of memory a part may be staged.
-pub fn stage_del(
+/// before or after: a channel that roams raises nothing at a del. For want of memory a part may be staged. The steps rise by the nodes that
+/// are visited to find the channels.
+pub fn stage_del<L: Ledger>(
     alloc: Global,
     hub: &Hub,
     sessions: &mut Vec<Session>,
     old: &Object,
+    steps: &mut Steps<L>,
 ) -> Result<(), NoMemory>
     requires { list_all is_sound_channel hub.now.channels ≡ true }
     ensures same { map session_of sessions.new.items ≡ map session_of sessions.old.items }
     ensures staged { OnOk result (IsStagedIn (IsBeforeDel hub.now.channels old.now) (loud (Del old.now.key old.now.id))
         sessions.old.items sessions.new.items) }
+    ensures counted { IsRead 0 0 steps.old.count steps.new.count }
 {
-    let concerned = hub.candidates_of_del(alloc, old)?;
+    let concerned = hub.candidates_of_del(alloc, old, steps)?;
     stage_del_at(alloc, hub, &concerned, sessions, old)
 }
 

@@ -20,6 +20,7 @@ use byte_text::{Name, NoMemory};
 use channel_hub::Hub;
 use keyspace::Keyspace;
 use message_fan::{stage_del, stage_drop, stage_put, turn_laws};
+use rtree::{NoLedger, Steps};
 use session_mail::Session;
 use std::alloc::Global;
 use world_model::{NameList, Object};
@@ -36,7 +37,7 @@ pub(crate) fn stage_dels(
     ensures staged { OnOk result ((w : World) → w.channels ≡ hub.now.channels → AllStand w held.now → StagesBehind w (dels held.now) sessions.old.items sessions.new.items) }
 {
     for i in 0..held.len() {
-        stage_del(alloc, hub, sessions, &held[i])?;
+        stage_del(alloc, hub, sessions, &held[i], &mut Steps::new(NoLedger))?;
     }
     Ok(())
 }
@@ -57,7 +58,7 @@ fn stage_each(
 {
     for i in 0..ids.len() {
         if let Some(object) = objects.get(key, ids.at(i)) {
-            stage_del(alloc, hub, sessions, object)?;
+            stage_del(alloc, hub, sessions, object, &mut Steps::new(NoLedger))?;
         }
     }
     Ok(())
@@ -78,7 +79,7 @@ fn stage_one(
     ensures staged { OnOk result (StagesBehind (world_with hub.now.channels (objects_in objects.now)) (loud (change.Del key.now id.now) ∷ []) sessions.old.items sessions.new.items) }
 {
     match objects.get(key, id) {
-        Some(object) => stage_del(alloc, hub, sessions, object),
+        Some(object) => stage_del(alloc, hub, sessions, object, &mut Steps::new(NoLedger)),
         None => Ok(()),
     }
 }
@@ -101,7 +102,8 @@ fn stage_object(
         return Ok(());
     }
     let old = objects.get(&object.key, &object.id);
-    stage_put(alloc, hub, objects, sessions, old, object)
+    let mut steps = Steps::new(NoLedger);
+    stage_put(alloc, hub, objects, sessions, old, object, &mut steps)
 }
 
 // Stages what a move of the objects brings.
