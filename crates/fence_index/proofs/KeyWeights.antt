@@ -2,7 +2,7 @@
 use Rattle.std.proofs.Common.{◌≡◌, ◌≤◌, ◌<◌, ◌+◌, ℕ, zero, suc, Bool, true, false, cond, refl, sym, ap, ◌∙◌, subst, List, [], ◌∷◌, length, take, get_or, arith}
 use Rattle.std.specs.Prelude.{Option, Some, None, slice_get, IfSome, ◌&&◌}
 use Rattle.std.specs.List.{list_all, sum_by, slice_set, insert, remove, AllByRecursion}
-use Rattle.std.proofs.lemmas.List.Sums.{sum_by-cons}
+use Rattle.std.proofs.lemmas.List.Sums.{sum_by-append, sum_by-cons}
 use Rattle.byte_text.specs.Names.{Bytes, before, same}
 use Rattle.byte_text.specs.ByteOrder.{before_trans, same_refl, same_equal, other_before, other_behind}
 use Rattle.ordered_lists.specs.Lists.{IsHeld, IsFree, put_in}
@@ -10,17 +10,18 @@ use Rattle.ordered_lists.specs.Reading.{both_of}
 use Rattle.ordered_lists.specs.Ascending.{set_held, insert_free, ascends-put_in, ascends-remove}
 use Rattle.ordered_lists.specs.NameOrder.{name_trans, name_tie, name_asym, is_named_so}
 use Rattle.planar_geom.specs.Points.{Bounds}
-use Rattle.rtree.specs.Pairs.{Pair}
+use Rattle.rtree.specs.Pairs.{Pair, ids_meeting}
 use Rattle.fence_index.specs.declared.marks.Mark.{Mark}
 use Rattle.fence_index.specs.declared.key_boxes.KeyBoxes.{KeyBoxes}
 use Rattle.fence_index.specs.Held.{Fits, weight_of}
-use Rattle.fence_index.specs.Reasons.{Reason, box_for}
-use Rattle.fence_index.specs.Boxed.{HasRoom, HasRoomIn, IsFresh, are_by_key, key_before, part, weight_in, weight_on}
+use Rattle.fence_index.specs.Reasons.{Reason, Near, Wide, Always, box_for, spot}
+use Rattle.fence_index.specs.Boxed.{AreFound, HasRoom, HasRoomIn, IsFresh, are_by_key, found, key_before, met_weight, other_box, other_reason, part, weight_in, weight_on}
+use Rattle.fence_index.proofs.Sums.{sum_met}
 
-abbrev IsKeyHeld : Bytes → List KeyBoxes → ℕ → Type 0
+abbrev pub IsKeyHeld : Bytes → List KeyBoxes → ℕ → Type 0
 IsKeyHeld key boxes at = IsHeld (λ s. before s.key key) (λ s. before key s.key) boxes at
 
-abbrev IsKeyFree : Bytes → List KeyBoxes → ℕ → Type 0
+abbrev pub IsKeyFree : Bytes → List KeyBoxes → ℕ → Type 0
 IsKeyFree key boxes at = IsFree (λ s. before s.key key) (λ s. before key s.key) boxes at
 
 -- what one item of the list weighs
@@ -107,7 +108,8 @@ sum_set f (z ∷ xs) (suc i) x y is =
 weight_more : (r : Reason) (key : Bytes) (w : Pair → ℕ) (m : Mark) (n : ℕ) (s t : KeyBoxes) → s.key ≡ m.key → t.key ≡ m.key
     → sum_by w (part r t).pairs ≡ sum_by w (part r s).pairs + weight_of w (box_for r m) n → weight_at r key w t ≡ weight_at r key w s + weight_on r key w m n
 weight_more r key w m n s t sk tk more =
-    rw (sk, tk) (by_test (same m.key key))
+    ap (λ (k : Bytes). cond (same k key) (sum_by w (part r t).pairs) 0) tk ∙ by_test (same m.key key)
+    ∙ ap (λ (k : Bytes). cond (same k key) (sum_by w (part r s).pairs) 0 + cond (same m.key key) (weight_of w (box_for r m) n) 0) (sym sk)
   where
     by_test : (b : Bool) → cond b (sum_by w (part r t).pairs) 0 ≡ cond b (sum_by w (part r s).pairs) 0 + cond b (weight_of w (box_for r m) n) 0
     by_test true = more
@@ -286,9 +288,10 @@ own_weight r w m n = rw (same_refl m.key) refl
 
 pub weights_same : (r : Reason) (key : Bytes) (w : Pair → ℕ) (boxes : List KeyBoxes) (at : ℕ) (s t : KeyBoxes) → slice_get boxes at ≡ Some s → t.key ≡ s.key → (part r t).pairs ≡ (part r s).pairs
     → weight_in r key w (slice_set boxes at t) ≡ weight_in r key w boxes
-weights_same r key w boxes at s t is tk same =
+weights_same r key w boxes at s t is tk pairs =
     let a = sum_set (weight_at r key w) boxes at s t is in
-    let b : weight_at r key w t ≡ weight_at r key w s = rw (tk, same) refl in
+    let b : weight_at r key w t ≡ weight_at r key w s =
+        ap (λ (k : Bytes). cond (same k key) (sum_by w (part r t).pairs) 0) tk ∙ ap (λ (ps : List Pair). cond (same s.key key) (sum_by w ps) 0) pairs in
     omega (arith, a, b)
 
 pub got_set : {A : Type 0} (xs : List A) (at : ℕ) (x : A) → at < length xs → slice_get (slice_set xs at x) at ≡ Some x
@@ -301,3 +304,35 @@ length_set [] zero x = refl
 length_set [] (suc at) x = refl
 length_set (y ∷ xs) zero x = refl
 length_set (y ∷ xs) (suc at) x = ap suc (length_set xs at x)
+
+-- the numbers that a search finds
+
+sum_found : (v : ℕ → ℕ) (round : Bounds) (put : Bool) (s : KeyBoxes)
+    → sum_by v (found round put s) ≡ sum_by (met_weight round v) (part Near s).pairs + sum_by (met_weight (other_box put round) v) (part (other_reason put) s).pairs
+sum_found v round true s =
+    let a = sum_by-append v (ids_meeting round s.near.pairs) (ids_meeting spot s.always.pairs) in
+    omega (arith, a, sum_met v round s.near.pairs, sum_met v spot s.always.pairs)
+sum_found v round false s =
+    let a = sum_by-append v (ids_meeting round s.near.pairs) (ids_meeting round s.wide.pairs) in
+    omega (arith, a, sum_met v round s.near.pairs, sum_met v round s.wide.pairs)
+
+pub found_there : (key : Bytes) (round : Bounds) (put : Bool) (boxes : List KeyBoxes) (at : ℕ) (s : KeyBoxes) (ns : List ℕ) → are_by_key boxes ≡ true → IsKeyHeld key boxes at → slice_get boxes at ≡ Some s → ns ≡ found round put s → AreFound key round put boxes ns
+found_there key round put boxes at s ns asc h is made = λ v.
+    let b : sum_by v ns ≡ sum_by v (found round put s) = ap (sum_by v) made in
+    let c = sum_found v round put s in
+    let d = weight_held Near key (met_weight round v) boxes at s asc h is in
+    let e = weight_held (other_reason put) key (met_weight (other_box put round) v) boxes at s asc h is in
+    omega (arith, b, c, d, e)
+
+pub found_missing : (key : Bytes) (round : Bounds) (put : Bool) (boxes : List KeyBoxes) (at : ℕ) (ns : List ℕ) → are_by_key boxes ≡ true → IsKeyFree key boxes at → ns ≡ [] → AreFound key round put boxes ns
+found_missing key round put boxes at ns asc free none = λ v.
+    let a : sum_by v ns ≡ 0 = rw none refl in
+    let d = weight_free Near key (met_weight round v) boxes at asc free in
+    let e = weight_free (other_reason put) key (met_weight (other_box put round) v) boxes at asc free in
+    omega (arith, a, d, e)
+
+-- one for each reason
+pub each_reason : (P : Reason → Type 0) → P Near → P Wide → P Always → (r : Reason) → P r
+each_reason P near wide always Near = near
+each_reason P near wide always Wide = wide
+each_reason P near wide always Always = always

@@ -6,3 +6,4 @@ pub mod NamesInOrder
 pub mod OnePair
 pub mod KeyWeights
 pub mod Lists
+pub mod Prepared

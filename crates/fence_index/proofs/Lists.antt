@@ -1,30 +1,30 @@
 -- A list of marks with numbers, as a mark comes or goes, and the names that it gives.
 use Rattle.std.proofs.Common.{◌≡◌, ◌≢◌, ◌≤◌, ◌<◌, ◌+◌, ℕ, ℤ, zero, suc, Bool, true, false, cond, refl, sym, ap, ◌∙◌, subst, List, [], ◌∷◌, ◌++◌, length, map, get_or, arith}
-use Rattle.std.specs.Prelude.{Option, Some, None, filter, filter_map, is_some, is_none, int_le, nat_eq, not, slice_get, if◌then◌else◌, ◌&&◌, ◌||◌}
+use Rattle.std.specs.Prelude.{Option, Some, None, IsSome, filter, filter_map, is_some, is_none, int_le, nat_eq, not, slice_get, if◌then◌else◌, ◌&&◌, ◌||◌}
 use Rattle.std.specs.List.{list_all, sum_by, insert, remove}
 use Rattle.std.proofs.lemmas.Bool.Decides.{nat_tests}
 use Rattle.std.proofs.lemmas.List.Folds.{list_all-map}
-use Rattle.std.proofs.lemmas.List.Sums.{sum_by-append, sum_by-cons}
+use Rattle.std.proofs.lemmas.List.Sums.{sum_by-cons}
 use Rattle.byte_text.specs.Names.{Bytes, before, same}
 use Rattle.byte_text.specs.ByteOrder.{before_self, same_refl, same_equal}
 use Rattle.ordered_lists.specs.Lists.{ascends, IsHeld, IsFree}
 use Rattle.ordered_lists.specs.Reading.{both_of, all_at, all-insert}
 use Rattle.ordered_lists.specs.Ascending.{all_remove, ascends-remove}
 use Rattle.planar_geom.specs.Points.{Point, Bounds, boxes_meet, ranges_meet}
-use Rattle.rtree.specs.Pairs.{Pair, ids_meeting}
+use Rattle.rtree.specs.Pairs.{Pair}
 use Rattle.fence_index.specs.declared.marks.Mark.{Mark}
 use Rattle.fence_index.specs.declared.marks.NumberedMark.{NumberedMark}
 use Rattle.fence_index.specs.declared.key_boxes.KeyBoxes.{KeyBoxes}
 use Rattle.fence_index.specs.Held.{weight_of}
 use Rattle.fence_index.specs.Reasons.{Reason, Near, Wide, Always, box_for, spot}
-use Rattle.fence_index.specs.Boxed.{are_by_key, found, part, weight_in, weight_on}
+use Rattle.fence_index.specs.Boxed.{AreFound, are_by_key, met_weight, other_box, other_reason, weight_in, weight_on}
 use Rattle.fence_index.specs.Numbered.{AreBoxed, IsList, are_named, have_numbers_apart, is_name_of, marks_of}
 use Rattle.fence_index.specs.Marks.{are_marks, is_of_key, is_twin, mark_at, mark_before}
-use Rattle.fence_index.specs.Candidates.{both_meet, concerns, named_near}
-use Rattle.fence_index.proofs.KeyWeights.{IsKeyHeld, IsKeyFree, sum_insert, sum_remove, weight_held, weight_free}
+use Rattle.fence_index.specs.Candidates.{both_meet, candidates_of, concerns, is_concerned, named_near, round_of}
+use Rattle.fence_index.proofs.KeyWeights.{sum_insert, sum_remove}
 use Rattle.fence_index.proofs.Mapped.{map_insert, map_remove}
 use Rattle.fence_index.proofs.MarkOrder.{put_free, put_ascends, without_ascends, without_held}
-use Rattle.fence_index.proofs.Sums.{met_weight, same_sums, sum_both, sum_met, sum_passing, sum_there, weight_if}
+use Rattle.fence_index.proofs.Sums.{same_sums, sum_both, sum_passing, sum_there, weight_if}
 
 abbrev IsMarkFree : Mark → List NumberedMark → ℕ → Type 0
 IsMarkFree m list at = IsFree (λ n. mark_before n m) (mark_before m) (marks_of list) at
@@ -198,13 +198,6 @@ module _ (round : Bounds) (v : ℕ → ℕ) (n : ℕ) where
   del_weighs true false None = omega arith
   del_weighs true false (Some b) = rw (meet_turned b round) (omega arith)
 
--- the reason beside nearness, and the box that is asked with, at a put or a del
-abbrev other_reason : Bool → Reason
-other_reason put = if put then Always else Wide
-
-abbrev other_box : Bool → Bounds → Bounds
-other_box put round = if put then spot else round
-
 weighs : (round : Bounds) (v : ℕ → ℕ) (put : Bool) (key : Bytes) (m : Mark) (n : ℕ)
     → weight_on Near key (met_weight round v) m n + weight_on (other_reason put) key (met_weight (other_box put round) v) m n ≡ cond (is_of_key key m && concerns (Some round) put m) (v n) 0
 weighs round v true key m n = put_weighs round v n (is_of_key key m) m.outside m.area
@@ -213,15 +206,6 @@ weighs round v false key m n = del_weighs round v n (is_of_key key m) m.outside 
 name_weight : (w : Bytes → ℕ) (m : Mark) (o : Option Bytes) → is_name_of m o ≡ true → weight_if w o ≡ w m.name
 name_weight w m None is = absurd (cc)
 name_weight w m (Some name) is = ap w (same_equal name m.name is)
-
-sum_found : (v : ℕ → ℕ) (round : Bounds) (put : Bool) (s : KeyBoxes)
-    → sum_by v (found round put s) ≡ sum_by (met_weight round v) (part Near s).pairs + sum_by (met_weight (other_box put round) v) (part (other_reason put) s).pairs
-sum_found v round true s =
-    let a = sum_by-append v (ids_meeting round s.near.pairs) (ids_meeting spot s.always.pairs) in
-    omega (arith, a, sum_met v round s.near.pairs, sum_met v spot s.always.pairs)
-sum_found v round false s =
-    let a = sum_by-append v (ids_meeting round s.near.pairs) (ids_meeting round s.wide.pairs) in
-    omega (arith, a, sum_met v round s.near.pairs, sum_met v round s.wide.pairs)
 
 module _ (f : ℕ → Option Bytes) (list : List NumberedMark) (boxes : List KeyBoxes) (l : IsList f list boxes) (key : Bytes) (round : Bounds) (put : Bool) (w : Bytes → ℕ) where
   abbrev v : ℕ → ℕ
@@ -249,22 +233,9 @@ module _ (f : ℕ → Option Bytes) (list : List NumberedMark) (boxes : List Key
           let b = sum_by-cons (λ x. u (h x)) x xs in
           omega (arith, a, b, sum_mapped h u xs)
 
-  pub names_there : (at : ℕ) (s : KeyBoxes) (ns : List ℕ) → IsKeyHeld key boxes at → slice_get boxes at ≡ Some s → ns ≡ found round put s
-      → sum_by w (filter_map f ns) ≡ sum_by w (named_near key round put (marks_of list))
-  names_there at s ns h is made =
-      let a = sum_there w f ns in
-      let b : sum_by v ns ≡ sum_by v (found round put s) = ap (sum_by v) made in
-      let c = sum_found v round put s in
-      let d = weight_held Near key (met_weight round v) boxes at s l.by_key h is in
-      let e = weight_held (other_reason put) key (met_weight (other_box put round) v) boxes at s l.by_key h is in
-      omega (arith, a, b, c, d, e, named_sum)
-
-  pub names_missing : (at : ℕ) (ns : List ℕ) → IsKeyFree key boxes at → ns ≡ [] → sum_by w (filter_map f ns) ≡ sum_by w (named_near key round put (marks_of list))
-  names_missing at ns free none =
-      let a : sum_by w (filter_map f ns) ≡ 0 = rw none refl in
-      let d = weight_free Near key (met_weight round v) boxes at l.by_key free in
-      let e = weight_free (other_reason put) key (met_weight (other_box put round) v) boxes at l.by_key free in
-      omega (arith, a, d, e, named_sum)
+  -- the names of the numbers that a search finds
+  pub names_found : (ns : List ℕ) → AreFound key round put boxes ns → sum_by w (filter_map f ns) ≡ sum_by w (named_near key round put (marks_of list))
+  names_found ns are = sum_there w f ns ∙ are v ∙ named_sum
 
 -- the names of the marks of a key ascend
 
@@ -303,3 +274,29 @@ names_ascend key q (m ∷ ms) asc =
 
 pub near_ascend : (key : Bytes) (round : Bounds) (put : Bool) (ms : List Mark) → are_marks ms ≡ true → ascends before (named_near key round put ms) ≡ true
 near_ascend key round put ms asc = names_ascend key (concerns (Some round) put) ms asc
+
+-- the channels that are concerned, by the box round what a change moves
+
+pub near_is : (key : Bytes) (old new : Option Bounds) (round : Bounds) (put : Bool) (ms : List Mark) → round_of old new ≡ Some round → put ≡ is_some new → named_near key round put ms ≡ candidates_of key old new ms
+near_is key old new round put ms r p =
+    ap (λ (o : Option Bounds). map (λ (m : Mark). m.name) (filter (concerns o put) (filter (is_of_key key) ms))) (sym r)
+    ∙ ap (λ (b : Bool). map (λ (m : Mark). m.name) (filter (concerns (round_of old new) b) (filter (is_of_key key) ms))) p
+
+none_concerned : (ms : List Mark) → filter (is_concerned None None) ms ≡ []
+none_concerned [] = refl
+none_concerned (m ∷ ms) = none_concerned ms
+
+-- a change that moves nothing concerns none
+pub none_near : (key : Bytes) (old new : Option Bounds) (ms : List Mark) → round_of old new ≡ None → candidates_of key old new ms ≡ []
+none_near key None None ms none = ap (map (λ (m : Mark). m.name)) (none_concerned (filter (is_of_key key) ms))
+none_near key None (Some b) ms none = absurd (cc)
+none_near key (Some b) None ms none = absurd (cc)
+none_near key (Some b) (Some c) ms none = absurd (cc)
+
+-- a mark's number has a name
+pub has_name : (f : ℕ → Option Bytes) (list : List NumberedMark) (at : ℕ) (n : NumberedMark) → slice_get list at ≡ Some n → are_named f list ≡ true → IsSome (f n.number)
+has_name f list at n is named = by_case (f n.number) (named_at f list at n is named)
+  where
+    by_case : (o : Option Bytes) → is_name_of n.mark o ≡ true → IsSome o
+    by_case None e = absurd (cc)
+    by_case (Some name) e = refl

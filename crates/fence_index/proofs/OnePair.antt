@@ -1,13 +1,14 @@
 -- A pair that weighs on a list stands in it.
-use Rattle.std.proofs.Common.{◌≡◌, ◌≤◌, ◌+◌, ℕ, suc, Bool, true, false, cond, refl, sym, ap, ◌∙◌, subst, List, [], ◌∷◌, length, length-append, arith}
-use Rattle.std.specs.Prelude.{nat_eq, ◌&&◌}
+use Rattle.std.proofs.Common.{◌≡◌, ◌≤◌, ◌+◌, ℕ, suc, Bool, true, false, true≢false, cond, refl, sym, ap, ◌∙◌, subst, List, [], ◌∷◌, length, length-append, arith}
+use Rattle.std.specs.Prelude.{Option, Some, None, nat_eq, ◌&&◌}
 use Rattle.std.specs.List.{sum_by, Contains}
 use Rattle.std.specs.Ordering.{int_eq}
 use Rattle.std.proofs.lemmas.Bool.Decides.{nat_tests, Decides-int_eq}
 use Rattle.std.proofs.lemmas.List.Sums.{sum_by-append, sum_by-cons}
 use Rattle.ordered_lists.specs.Reading.{both_of}
 use Rattle.planar_geom.specs.Points.{Point, Bounds}
-use Rattle.rtree.specs.Pairs.{Pair, IsWith, IsTaken}
+use Rattle.rtree.specs.Pairs.{Pair, pair, IsWith, IsTaken}
+use Rattle.fence_index.specs.Held.{weight_of}
 
 abbrev is_point : Point → Point → Bool
 is_point p q = int_eq p.x q.x && int_eq p.y q.y
@@ -85,3 +86,20 @@ length_with p few many is =
 pub none_left : (ps : List Pair) → length ps ≡ 0 → ps ≡ []
 none_left [] e = refl
 none_left (p ∷ ps) e = absurd (omega (arith, e))
+
+-- a box that weighs on a list stands in it
+pub box_stands : (b : Option Bounds) (x : Bounds) (n : ℕ) (ps : List Pair) → b ≡ Some x → ((w : Pair → ℕ) → weight_of w b n ≤ sum_by w ps) → Contains ps (pair x n)
+box_stands b x n ps is weighs = stands (pair x n) ps (λ w. subst (λ (o : Option Bounds). weight_of w o n ≤ sum_by w ps) is (weighs w))
+
+-- a list without a box weighs as much as before
+pub none_weighs : (b : Option Bounds) (n : ℕ) (w : Pair → ℕ) → b ≡ None → weight_of w b n ≡ 0
+none_weighs None n w is = refl
+none_weighs (Some b) n w is = absurd (cc)
+
+pub some_weighs : (b : Option Bounds) (x : Bounds) (n : ℕ) (w : Pair → ℕ) → b ≡ Some x → weight_of w b n ≡ w (pair x n)
+some_weighs b x n w is = rw is refl
+
+-- what was taken out is one less
+pub length_taken : (b : Bool) (p : Pair) (old new : List Pair) → b ≡ true → IsTaken b p old new → length old ≡ length new + 1
+length_taken true p old new e t = length_with p new old t
+length_taken false p old new e t = absurd (true≢false (sym e))

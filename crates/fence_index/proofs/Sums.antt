@@ -1,11 +1,12 @@
 -- Sums of what passes a test, and of what a search finds.
-use Rattle.std.proofs.Common.{◌≡◌, ◌≤◌, ◌+◌, ℕ, Bool, true, false, cond, refl, sym, ap, ◌∙◌, List, [], ◌∷◌, map, arith}
+use Rattle.std.proofs.Common.{◌≡◌, ◌≤◌, ◌+◌, ℕ, Bool, true, false, cond, refl, sym, ap, ◌∙◌, List, [], ◌∷◌, length, map, arith}
 use Rattle.std.specs.Prelude.{Option, Some, None, filter, filter_map, ◌&&◌}
-use Rattle.std.specs.List.{list_all, sum_by}
+use Rattle.std.specs.List.{cons_option, list_all, sum_by}
 use Rattle.std.proofs.lemmas.List.Sums.{sum_by-cons}
 use Rattle.ordered_lists.specs.Reading.{both_of}
 use Rattle.planar_geom.specs.Points.{Bounds, boxes_meet}
 use Rattle.rtree.specs.Pairs.{Pair, ids_meeting}
+use Rattle.fence_index.specs.Boxed.{met_weight}
 
 module _ {A : Type 0} where
   -- sums of which each weight is the same
@@ -73,10 +74,6 @@ module _ {A : Type 0} (w : A → ℕ) (f : ℕ → Option A) where
           let c = sum_by-cons w x (filter_map f ns) in
           omega (arith, s, ih, one, shape, c)
 
--- what the number of a pair weighs where its box meets another
-abbrev pub met_weight : Bounds → (ℕ → ℕ) → Pair → ℕ
-met_weight b v p = cond (boxes_meet p.bounds b) (v p.id) 0
-
 pub sum_met : (v : ℕ → ℕ) (b : Bounds) (ps : List Pair) → sum_by v (ids_meeting b ps) ≡ sum_by (met_weight b v) ps
 sum_met v b [] = refl
 sum_met v b (p ∷ ps) = chosen (boxes_meet p.bounds b) refl (sum_by-cons (met_weight b v) p ps) (sum_met v b ps)
@@ -92,3 +89,13 @@ sum_met v b (p ∷ ps) = chosen (boxes_meet p.bounds b) refl (sum_by-cons (met_w
         let shape : ids_meeting b (p ∷ ps) ≡ ids_meeting b ps = rw e refl in
         let weight : cond (boxes_meet p.bounds b) (v p.id) 0 ≡ 0 = ap (λ (t : Bool). cond t (v p.id) 0) e in
         ap (sum_by v) shape ∙ omega (arith, s, ih, weight)
+
+-- no more items than numbers
+module _ {A : Type 0} (f : ℕ → Option A) where
+  pub at_most_as_many : (ns : List ℕ) → length (filter_map f ns) ≤ length ns
+  at_most_as_many [] = omega arith
+  at_most_as_many (n ∷ ns) = by_case (f n) (at_most_as_many ns)
+    where
+      by_case : (o : Option A) → length (filter_map f ns) ≤ length ns → length (cons_option o (filter_map f ns)) ≤ length (n ∷ ns)
+      by_case None le = omega (arith, le)
+      by_case (Some x) le = omega (arith, le)

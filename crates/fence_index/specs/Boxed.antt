@@ -1,8 +1,8 @@
 -- The boxes of the channels of each key, beside the numbers of the channels.
-use Rattle.std.specs.Prelude.{ℕ, ◌≡◌, Bool, true, cond, List, [], ◌++◌, if◌then◌else◌}
+use Rattle.std.specs.Prelude.{ℕ, ◌≡◌, ◌+◌, Bool, true, cond, List, [], ◌++◌, if◌then◌else◌}
 use Rattle.std.specs.List.{AllByRecursion, sum_by}
 use Rattle.byte_text.specs.Names.{Bytes, before, same}
-use Rattle.planar_geom.specs.Points.{Bounds}
+use Rattle.planar_geom.specs.Points.{Bounds, boxes_meet}
 use Rattle.ordered_lists.specs.Lists.{ascends}
 use Rattle.rtree.specs.Pairs.{Pair, ids_meeting}
 use Rattle.fence_index.specs.declared.marks.Mark.{Mark}
@@ -49,3 +49,19 @@ weight_in r key w boxes = sum_by (λ s. cond (same s.key key) (sum_by w (part r 
 -- what the box of a channel weighs, where it is on the key and is named for this reason
 abbrev pub weight_on : Reason → Bytes → (Pair → ℕ) → Mark → ℕ → ℕ
 weight_on r key w m n = cond (is_of_key key m) (weight_of w (box_for r m) n) 0
+
+-- what the number of a pair weighs where its box meets another
+abbrev pub met_weight : Bounds → (ℕ → ℕ) → Pair → ℕ
+met_weight b v p = cond (boxes_meet p.bounds b) (v p.id) 0
+
+-- the reason beside nearness for which a put or a del names a channel, and the box that is asked with
+abbrev pub other_reason : Bool → Reason
+other_reason put = if put then Always else Wide
+
+abbrev pub other_box : Bool → Bounds → Bounds
+other_box put round = if put then spot else round
+
+-- the numbers are those of the key's channels that the change names, each once: whatever is summed over both is the same
+abbrev pub AreFound : Bytes → Bounds → Bool → List KeyBoxes → List ℕ → Type 0
+AreFound key round put boxes numbers = (v : ℕ → ℕ)
+    → sum_by v numbers ≡ weight_in Near key (met_weight round v) boxes + weight_in (other_reason put) key (met_weight (other_box put round) v) boxes

@@ -1,18 +1,22 @@
 //! The boxes of each key, in byte order of the keys.
 
-ghost use Rattle.std.specs.Prelude.{◌≡◌, ◌+◌, ◌<◌, ◌≤◌, ℕ, true, vec_len, vec_capacity, IfOk, IfErr, OnOk};
+ghost use Rattle.std.specs.Prelude.{◌≡◌, ◌+◌, ◌<◌, ◌≤◌, ℕ, true, length, vec_len, vec_capacity, IfOk, IfErr, OnOk};
 ghost use Rattle.std.specs.List.{insert};
 ghost use Rattle.byte_text.specs.Names.{Bytes, before};
 ghost use Rattle.ordered_lists.specs.Lists.{IsHeld, IsFree};
 ghost use Rattle.rtree.specs.Pairs.{Pair};
+ghost use Rattle.rtree.specs.Ledgers.{IsRead};
 ghost use Rattle.fence_index.specs.declared.marks.Mark.{Mark};
 ghost use Rattle.fence_index.specs.Reasons.{Reason};
-ghost use Rattle.fence_index.specs.Boxed.{HasRoomIn, IsFresh, are_by_key, weight_in, weight_on};
+ghost use Rattle.fence_index.specs.Boxed.{AreFound, HasRoomIn, IsFresh, are_by_key, weight_in, weight_on};
 
 use crate::key_boxes::KeyBoxes;
 use crate::marks::Mark;
 use byte_text::{Name, NoMemory};
 use ordered_lists::{is_before, is_same};
+use planar_geom::BBox;
+use rtree::{Ids, Ledger, Steps};
+use std::alloc::Global;
 
 /// The place of this key, or, where it is not there, the place where it would go.
 pub(crate) fn place_of_key(list: &[KeyBoxes], key: &Name) -> Result<usize, usize>
@@ -32,6 +36,31 @@ pub(crate) fn place_of_key(list: &[KeyBoxes], key: &Name) -> Result<usize, usize
         Ok(at)
     } else {
         Err(at)
+    }
+}
+
+/// The numbers of the channels of a key that a change names, in no order: `round` is the box round what it moves, and `put` says that an
+/// object stands there after it.
+pub(crate) fn numbers_near<L: Ledger>(
+    alloc: Global,
+    boxes: &[KeyBoxes],
+    key: &Name,
+    round: &BBox,
+    put: bool,
+    steps: &mut Steps<L>,
+) -> Result<Ids, NoMemory>
+    requires { are_by_key boxes.now ≡ true }
+    ensures found { IfOk result (λ numbers. AreFound key.now round.now put boxes.now numbers) }
+    ensures read { IfOk result (λ numbers. IsRead 0 (length numbers) steps.old.count steps.new.count) }
+    ensures counted { IsRead 0 0 steps.old.count steps.new.count }
+{
+    let mut numbers = Ids::new(alloc);
+    match place_of_key(boxes, key) {
+        Ok(at) => {
+            boxes[at].search(round, put, &mut numbers, steps)?;
+            Ok(numbers)
+        }
+        Err(_) => Ok(numbers),
     }
 }
 

@@ -6,20 +6,20 @@ ghost use Rattle.ordered_lists.specs.Lists.{put_in};
 ghost use Rattle.planar_geom.specs.Points.{Bounds};
 ghost use Rattle.rtree.specs.Ledgers.{IsRead};
 ghost use Rattle.fence_index.specs.declared.marks.Mark.{Mark};
-ghost use Rattle.fence_index.specs.Marks.{is_twin, mark_at, mark_before};
+ghost use Rattle.fence_index.specs.Marks.{are_marks, is_twin, mark_at, mark_before};
 ghost use Rattle.fence_index.specs.Candidates.{named_near};
 ghost use Rattle.fence_index.specs.Boxed.{HasRoomIn};
 ghost use Rattle.fence_index.specs.Numbered.{IsReadyFor, marks_of};
 
 use crate::key_boxes::KeyBoxes;
-use crate::key_lists::{place_of_key, put_boxes, reserve_boxes, take_boxes};
+use crate::key_lists::{numbers_near, put_boxes, reserve_boxes, take_boxes};
 use crate::mark_order::{insert_reserved, place_of};
 use crate::marks::{Mark, NumberedMark};
 use crate::name_lists::{names_of, push_in_order};
 use crate::ready::Ready;
 use byte_text::{Name, NoMemory};
 use planar_geom::BBox;
-use rtree::{Ids, Ledger, Steps};
+use rtree::{Ledger, Steps};
 use slab::Slab;
 use std::alloc::Global;
 use std::marker::Model;
@@ -67,7 +67,11 @@ impl MarkList {
         ensures spare_kept { self.old.spare ≤ self.new.spare }
         ensures room_kept { (m : Mark) → HasRoomIn m self.old.boxes → HasRoomIn m self.new.boxes }
     {
-        if self.marks.reserve(1).is_err() || self.names.reserve(1).is_err() {
+        match self.names.reserve(1) {
+            Ok(()) => {}
+            Err(_) => return Err(NoMemory),
+        }
+        if self.marks.reserve(1).is_err() {
             return Err(NoMemory);
         }
         reserve_boxes(&mut self.boxes, mark)
@@ -93,6 +97,7 @@ impl MarkList {
     /// Takes out the mark of this key and name, where there is one. No room is lost.
     pub(crate) fn take_out(&mut self, key: &Name, name: &Name)
         ensures marks { marks_of self.new.marks ≡ filter (λ m. not (is_twin (mark_at key.now name.now) m)) (marks_of self.old.marks) }
+        ensures sorted { are_marks (marks_of self.old.marks) ≡ true }
         ensures spare { self.old.spare ≤ self.new.spare }
         ensures room { (m : Mark) → HasRoomIn m self.old.boxes → HasRoomIn m self.new.boxes }
     {
@@ -129,10 +134,7 @@ impl MarkList {
         ensures read { OnOk result (IsRead (length into.old) (length into.new) steps.old.count steps.new.count) }
         ensures counted { IsRead 0 0 steps.old.count steps.new.count }
     {
-        let mut numbers = Ids::new(alloc);
-        if let Ok(at) = place_of_key(self.boxes.as_slice(), key) {
-            self.boxes[at].search(round, put, &mut numbers, steps)?;
-        }
+        let numbers = numbers_near(alloc, self.boxes.as_slice(), key, round, put, steps)?;
         push_in_order(names_of(alloc, &self.names, &numbers)?, into)
     }
 }

@@ -26,7 +26,7 @@ returns-then-is_at-clause-held c =
     let asc = sym (ascends_map (λ (n : NumberedMark). n.mark) mark_before list) ∙ c.requires in
     let parts = IsPartitionPoint-from_clause (λ (n : NumberedMark). mark_before n.mark m) list at c.partition_point-at.ensures.partitioned (partitioned_by (λ (a b : NumberedMark). mark_before a.mark b.mark) (λ (n : NumberedMark). mark_before n.mark m) (λ x y. mark_trans x.mark y.mark m) list asc) (λ a r f' called. search rules) in
     let within : at < length list = omega (arith, c.partition_point-at.ensures.bound) in
-    let is : is_twin m x.mark ≡ true = sym c.is_at.ensures ∙ c.if-is_at.true in
+    let is : is_twin m x.mark ≡ true = subst (λ (n : NumberedMark). is_twin m n.mark ≡ true) (sym c.index-list-at.is) (sym c.is_at.ensures ∙ c.if-is_at.true) in
     held_map (λ (n : NumberedMark). n.mark) (λ n. mark_before n m) (mark_before m) list at
     (held_there (λ (n : NumberedMark). mark_before n.mark m) (λ n. mark_before m n.mark) list at c.partition_point-at.ensures.bound parts x within c.index-list-at.is (tied m x.mark is).0)
 
@@ -39,6 +39,6 @@ returns-else-is_at-clause-free c =
     let asc = sym (ascends_map (λ (n : NumberedMark). n.mark) mark_before list) ∙ c.requires in
     let parts = IsPartitionPoint-from_clause (λ (n : NumberedMark). mark_before n.mark m) list at c.partition_point-at.ensures.partitioned (partitioned_by (λ (a b : NumberedMark). mark_before a.mark b.mark) (λ (n : NumberedMark). mark_before n.mark m) (λ x y. mark_trans x.mark y.mark m) list asc) (λ a r f' called. search rules) in
     let within : at < length list = omega (arith, c.partition_point-at.ensures.bound) in
-    let other : is_twin m x.mark ≡ false = sym c.is_at.ensures ∙ c.if-is_at.false in
+    let other : is_twin m x.mark ≡ false = subst (λ (n : NumberedMark). is_twin m n.mark ≡ false) (sym c.index-list-at.is) (sym c.is_at.ensures ∙ c.if-is_at.false) in
     free_map (λ (n : NumberedMark). n.mark) (λ n. mark_before n m) (mark_before m) list at
     (free_there (λ (n : NumberedMark). mark_before n.mark m) (λ n. mark_before m n.mark) list at c.partition_point-at.ensures.bound parts x within c.index-list-at.is (λ fails. stands_behind m x.mark fails other))
