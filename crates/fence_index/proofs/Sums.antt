@@ -1,5 +1,7 @@
 -- Sums of what passes a test, and of what a search finds.
-use Rattle.std.proofs.Common.{◌≡◌, ◌≤◌, ◌+◌, ℕ, Bool, true, false, cond, refl, sym, ap, ◌∙◌, List, [], ◌∷◌, length, map, arith}
+use Rattle.std.proofs.Common.{◌≡◌, ◌≤◌, ◌<◌, ◌+◌, ℕ, Bool, true, false, cond, refl, sym, ap, ◌∙◌, List, [], ◌∷◌, ◌++◌, length, get_or, map, take, arith}
+use Rattle.std.proofs.lemmas.List.{take_more}
+use Rattle.std.proofs.lemmas.List.Elements.{filter_map-append}
 use Rattle.std.specs.Prelude.{Option, Some, None, filter, filter_map, ◌&&◌}
 use Rattle.std.specs.List.{cons_option, list_all, sum_by}
 use Rattle.std.proofs.lemmas.List.Sums.{sum_by-cons}
@@ -99,3 +101,7 @@ module _ {A : Type 0} (f : ℕ → Option A) where
       by_case : (o : Option A) → length (filter_map f ns) ≤ length ns → length (cons_option o (filter_map f ns)) ≤ length (n ∷ ns)
       by_case None le = omega (arith, le)
       by_case (Some x) le = omega (arith, le)
+
+  -- what one number more gives
+  pub there_more : (ns : List ℕ) (i d : ℕ) → i < length ns → filter_map f (take (i + 1) ns) ≡ filter_map f (take i ns) ++ cons_option (f (get_or ns i d)) []
+  there_more ns i d lt = ap (filter_map f) (take_more ns i d lt) ∙ filter_map-append f (take i ns) (get_or ns i d ∷ [])

@@ -1,7 +1,8 @@
 //! Names of numbers, in order.
 
-ghost use Rattle.std.specs.Prelude.{◌≡◌, ◌+◌, ◌++◌, ℕ, List, true, filter_map, length, IfOk, OnOk};
-ghost use Rattle.std.specs.List.{sum_by};
+ghost use Rattle.std.specs.Prelude.{◌≡◌, ◌+◌, ◌++◌, ◌∷◌, [], ℕ, List, true, filter_map, length, IfOk, OnOk};
+ghost use Rattle.std.specs.List.{cons_option, sum_by};
+ghost use Rattle.std.specs.Option.{option_copied};
 ghost use Rattle.byte_text.specs.Names.{Bytes, before};
 ghost use Rattle.ordered_lists.specs.Lists.{ascends};
 ghost use Rattle.slab.specs.Slab.{get};
@@ -22,13 +23,22 @@ pub(crate) fn names_of(
 {
     let mut list = Vec::new(alloc);
     for i in 0..numbers.len() {
-        if let Some(name) = names.get(numbers.at(i)) {
-            if list.push(name.copy(alloc)?).is_err() {
-                return Err(NoMemory);
-            }
-        }
+        push_copy(alloc, &mut list, names.get(numbers.at(i)))?;
     }
     Ok(list)
+}
+
+// Puts a name last in memory of its own, where there is one.
+fn push_copy(alloc: Global, list: &mut Vec<Name>, name: Option<&Name>) -> Result<(), NoMemory>
+    ensures { OnOk result (list.new.items ≡ list.old.items ++ cons_option (option_copied name.entry) []) }
+{
+    let Some(name) = name else {
+        return Ok(());
+    };
+    match list.push(name.copy(alloc)?) {
+        Ok(()) => Ok(()),
+        Err(_) => Err(NoMemory),
+    }
 }
 
 /// Appends these names in byte order. After want of memory some of them are appended.
@@ -39,9 +49,16 @@ pub(crate) fn push_in_order(mut found: Vec<Name>, into: &mut NameList) -> Result
 {
     found.sort_unstable();
     for name in found {
-        if into.push(name).is_err() {
-            return Err(NoMemory);
-        }
+        push_last(into, name)?;
     }
     Ok(())
+}
+
+fn push_last(into: &mut NameList, name: Name) -> Result<(), NoMemory>
+    ensures { OnOk result (into.new ≡ into.old ++ name ∷ []) }
+{
+    match into.push(name) {
+        Ok(()) => Ok(()),
+        Err(_) => Err(NoMemory),
+    }
 }
