@@ -291,7 +291,7 @@ pub weights_same : (r : Reason) (key : Bytes) (w : Pair → ℕ) (boxes : List K
 weights_same r key w boxes at s t is tk pairs =
     let a = sum_set (weight_at r key w) boxes at s t is in
     let b : weight_at r key w t ≡ weight_at r key w s =
-        ap (λ (k : Bytes). cond (same k key) (sum_by w (part r t).pairs) 0) tk ∙ ap (λ (ps : List Pair). cond (same s.key key) (sum_by w ps) 0) pairs in
+    ap (λ (k : Bytes). cond (same k key) (sum_by w (part r t).pairs) 0) tk ∙ ap (λ (ps : List Pair). cond (same s.key key) (sum_by w ps) 0) pairs in
     omega (arith, a, b)
 
 pub got_set : {A : Type 0} (xs : List A) (at : ℕ) (x : A) → at < length xs → slice_get (slice_set xs at x) at ≡ Some x

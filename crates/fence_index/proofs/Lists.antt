@@ -221,7 +221,7 @@ module _ (f : ℕ → Option Bytes) (list : List NumberedMark) (boxes : List Key
       let b = l.boxed (other_reason put) key (met_weight (other_box put round) v) in
       let c = sum_both near other list in
       let d = same_sums (λ x. is_name_of x.mark (f x.number)) (λ x. near x + other x) one list
-          (λ x named. weighs round v put key x.mark x.number ∙ ap (λ k. cond (is_of_key key x.mark && concerns (Some round) put x.mark) k 0) (name_weight w x.mark (f x.number) named)) l.named in
+      (λ x named. weighs round v put key x.mark x.number ∙ ap (λ k. cond (is_of_key key x.mark && concerns (Some round) put x.mark) k 0) (name_weight w x.mark (f x.number) named)) l.named in
       let e = sum_passing (is_of_key key) (concerns (Some round) put) (λ m. m.name) w (marks_of list) in
       let g = sum_mapped (λ (x : NumberedMark). x.mark) (λ m. cond (is_of_key key m && concerns (Some round) put m) (w m.name) 0) list in
       omega (arith, a, b, c, d, e, g)

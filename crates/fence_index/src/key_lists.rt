@@ -85,12 +85,7 @@ pub(crate) fn reserve_boxes(boxes: &mut Vec<KeyBoxes>, mark: &Mark) -> Result<()
 }
 
 /// Puts the boxes of a channel among those of its key; where there are none, `fresh` are the first.
-pub(crate) fn put_boxes(
-    boxes: &mut Vec<KeyBoxes>,
-    mut fresh: KeyBoxes,
-    mark: &Mark,
-    number: usize,
-)
+pub(crate) fn put_boxes(boxes: &mut Vec<KeyBoxes>, mut fresh: KeyBoxes, mark: &Mark, number: usize)
     requires by_key { are_by_key boxes.old.items ≡ true }
     requires places { vec_len boxes.old < vec_capacity boxes.old }
     requires room { HasRoomIn mark.now boxes.old.items }

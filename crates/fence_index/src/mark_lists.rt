@@ -41,8 +41,11 @@ impl Model for MarkList {
 
     ghost Value = { Listed };
 
-    ghost view = { λ l. record { marks = l.marks.items; boxes = l.boxes.items;
-        spare = min (min (vec_capacity l.marks - vec_len l.marks) (l.names.capacity - slab_len l.names)) (vec_capacity l.boxes - vec_len l.boxes) } };
+    ghost view = { λ l. record {
+      marks = l.marks.items;
+      boxes = l.boxes.items;
+      spare = min (min (vec_capacity l.marks - vec_len l.marks) (l.names.capacity - slab_len l.names)) (vec_capacity l.boxes - vec_len l.boxes);
+    } };
 
     ghost invariant = { λ l. IsList (get l.names) l.marks.items l.boxes.items };
 }

@@ -14,8 +14,7 @@ loop-name-preserved c =
     let at = c.loop-name in
     let x = c.in-Some.name in
     let steps : into_iter_items at.name-iterator ≡ x ∷ into_iter_items c.next.new.self = c.in-Some.ensures.steps.0 in
-    let long = ap length steps in
-    (
+    let long = ap length steps in (
       append_assoc at.yielded (x ∷ []) _ ∙ rw (← steps) at.invariant.0,
       c.in_ok-push_last.ensures ∙ ap (λ (l : List Bytes). l ++ x ∷ []) at.invariant.1 ∙ append_assoc c.args.into.now at.yielded (x ∷ []),
       (let was = at.invariant.2 in let gone = c.in-Some.ensures.steps.1 in omega (arith, long, was, gone)),

@@ -23,7 +23,7 @@ returns-clause-pairs c =
     let n = c.args.number in
     each_reason
     (λ r. (w : Pair → ℕ) → sum_by w (part r (record c.args.self.now { near = c.put.new.self; wide = c.put-2.new.self; always = c.put-3.new.self })).pairs
-        ≡ sum_by w (part r c.args.self.now).pairs + weight_of w (box_for r c.args.mark.now) n)
+    ≡ sum_by w (part r c.args.self.now).pairs + weight_of w (box_for r c.args.mark.now) n)
     (λ w. c.put.ensures w ∙ ap (λ (b : Option Bounds). sum_by w c.args.self.now.near.pairs + weight_of w b n) c.near_box.ensures)
     (λ w. c.put-2.ensures w ∙ ap (λ (b : Option Bounds). sum_by w c.args.self.now.wide.pairs + weight_of w b n) c.wide_box.ensures)
     (λ w. c.put-3.ensures w ∙ ap (λ (b : Option Bounds). sum_by w c.args.self.now.always.pairs + weight_of w b n) c.always_box.ensures)

@@ -23,7 +23,7 @@ returns-clause-pairs c =
     let n = c.args.number in
     each_reason
     (λ r. (w : Pair → ℕ) → sum_by w (part r (record c.args.self.now { near = c.take.new.self; wide = c.take-2.new.self; always = c.take-3.new.self })).pairs + weight_of w (box_for r c.args.mark.now) n
-        ≡ sum_by w (part r c.args.self.now).pairs)
+    ≡ sum_by w (part r c.args.self.now).pairs)
     (λ w. ap (λ (b : Option Bounds). sum_by w c.take.new.self.pairs + weight_of w b n) (sym c.near_box.ensures) ∙ c.take.ensures.pairs w)
     (λ w. ap (λ (b : Option Bounds). sum_by w c.take-2.new.self.pairs + weight_of w b n) (sym c.wide_box.ensures) ∙ c.take-2.ensures.pairs w)
     (λ w. ap (λ (b : Option Bounds). sum_by w c.take-3.new.self.pairs + weight_of w b n) (sym c.always_box.ensures) ∙ c.take-3.ensures.pairs w)
