@@ -214,7 +214,15 @@ fn moved(
     match from {
         Some(from) => {
             let old = object(alloc, b"fleet", b"t", from)?;
-            stage_put(alloc, hub, objects, &mut sessions, Some(&old), &new, &mut steps)?;
+            stage_put(
+                alloc,
+                hub,
+                objects,
+                &mut sessions,
+                Some(&old),
+                &new,
+                &mut steps,
+            )?;
         }
         None => stage_put(alloc, hub, objects, &mut sessions, None, &new, &mut steps)?,
     }
