@@ -28,4 +28,3 @@ may_not drawn sessions n r called.LogFault e here room = e
 may_not drawn sessions n r called.Stopped e here room = e
 may_not drawn sessions n r called.Spent e here room = e
 may_not drawn sessions n r called.Memory e here room = e
-

@@ -1,5 +1,6 @@
-use Rattle.std.proofs.Common.{◌≡◌, ◌++◌, ◌∙◌, ap, ℕ, List, length, arith}
+use Rattle.std.proofs.Common.{◌≡◌, ◌++◌, ◌∙◌, ap, subst, sym, ℕ, List, length, arith}
 use Rattle.ordered_lists.specs.Reading.{stands_at}
+use Rattle.fence_index.specs.declared.key_boxes.KeyBoxes.{KeyBoxes}
 use Rattle.fence_index.specs.Boxed.{found}
 use Rattle.fence_index.proofs.KeyWeights.{found_there, found_missing}
 use Rattle.fence_index.proofs.key_lists.numbers_near.Goals as goal
@@ -7,11 +8,14 @@ use Rattle.fence_index.proofs.key_lists.numbers_near.Goals as goal
 pub returns-in-Ok-clause-found : goal.returns-in-Ok-clause-found
 returns-in-Ok-clause-found g c =
     let xs = c.args.boxes.now in
-    let s = c.index.result.now in
+    let s = c.index-boxes-at.result in
+    let round = c.args.round.now in
+    let put = c.args.put in
     let held = c.in-Ok.ensures.held in
-    let is = stands_at xs c.in-Ok.at s held.within c.index.is in
-    let made = c.in_ok-search.ensures.found ∙ ap (λ (l : List ℕ). l ++ found c.args.round.now c.args.put s) c.new-numbers.ensures in
-    found_there c.args.key.now c.args.round.now c.args.put xs c.in-Ok.at s c.search.new.into c.requires held is made
+    let is = stands_at xs c.in-Ok.at s held.within c.index-boxes-at.is in
+    let made = subst (λ (x : KeyBoxes). c.search.new.into ≡ c.new-numbers.result ++ found round put x) (sym c.index-boxes-at.is) c.in_ok-search.ensures.found
+    ∙ ap (λ (l : List ℕ). l ++ found round put s) c.new-numbers.ensures in
+    found_there c.args.key.now round put xs c.in-Ok.at s c.search.new.into c.requires held is made
 
 pub returns-in-Ok-clause-read : goal.returns-in-Ok-clause-read
 returns-in-Ok-clause-read g c = λ lt.
