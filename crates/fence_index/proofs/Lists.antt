@@ -300,3 +300,14 @@ has_name f list at n is named = by_case (f n.number) (named_at f list at n is na
     by_case : (o : Option Bytes) → is_name_of n.mark o ≡ true → IsSome o
     by_case None e = absurd (cc)
     by_case (Some name) e = refl
+
+-- the same marks, where room was taken
+pub list_same : (f g : ℕ → Option Bytes) (list : List NumberedMark) (boxes made : List KeyBoxes) → g ≡ f → IsList f list boxes → are_by_key made ≡ true
+    → ((r : Reason) (key : Bytes) (w : Pair → ℕ) → weight_in r key w made ≡ weight_in r key w boxes) → IsList g list made
+list_same f g list boxes made e l by_key weights = record {
+  sorted = l.sorted;
+  apart = l.apart;
+  named = subst (λ (h : ℕ → Option Bytes). are_named h list ≡ true) (sym e) l.named;
+  by_key = by_key;
+  boxed = λ r key w. weights r key w ∙ l.boxed r key w;
+}
