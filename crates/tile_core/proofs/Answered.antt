@@ -28,3 +28,4 @@ may_not drawn sessions n r called.LogFault e here room = e
 may_not drawn sessions n r called.Stopped e here room = e
 may_not drawn sessions n r called.Spent e here room = e
 may_not drawn sessions n r called.Memory e here room = e
+

@@ -121,11 +121,9 @@ module _ (before : Store) (now logged drawn : ℕ) (ss mid : List State) (n i mo
     where
       by : (p : Option Planned) → IsRestReady before store g moment_now asked ready.caller mid p → CanComplete store mid i p
       by None q = tt
-      by (Some p) q = (
-        sound_answer (world_at store) store.weight ready.caller.subs (effect_of_asked (world_at store) moment_now ready.caller.subs asked) p q.plan,
-        q.room,
-        λ t at. subst (λ (u : State). reply_count p ≤ u.mail.spare) (same_is ready.caller t (sym ready.here ∙ at)) q.spare,
-      )
+      by (Some p) q =
+          (sound_answer (world_at store) store.weight ready.caller.subs (effect_of_asked (world_at store) moment_now ready.caller.subs asked) p q.plan, q.room,
+          λ t at. subst (λ (u : State). reply_count p ≤ u.mail.spare) (same_is ready.caller t (sym ready.here ∙ at)) q.spare)
 
   pub short : g.length + length_if r.planned ≤ 2 * max_weight
   short = by r.planned ready.rest
@@ -300,12 +298,12 @@ module _ (before : Store) (now logged drawn : ℕ) (ss mid : List State) (n i mo
             let whole = made before now logged drawn ss mid placed_ moment store g present.rises same ready_m.expired ready_m.channels n i asked s sv.0.here sv.0.numbered sv.1 sv.2 unspent completed.are_placed ready_m.caller ready_m.here was p q last d.world d.answered reply in
             let subs_are : ready_m.caller.subs ≡ h_s.subs = ap (λ (h : halls.Session). h.subs) (was ∙ sym is_s) in
             let plan : IsPlanned (world_at store) store.weight h_s.subs (effect_of_asked (world_at store) m h_s.subs asked) p =
-            subst (λ (held : List Sub). IsPlanned (world_at store) store.weight held (effect_of_asked (world_at store) m held asked) p) subs_are q.plan in
+                subst (λ (held : List Sub). IsPlanned (world_at store) store.weight held (effect_of_asked (world_at store) m held asked) p) subs_are q.plan in
             let fit = subst (λ (w : World). FitBehind (map frame_text (effect_of_asked w m h_s.subs asked).replies)) (sym world_is)
-            (fits (world_at store) store.weight h_s.subs (effect_of_asked (world_at store) m h_s.subs asked) p plan) in
+                (fits (world_at store) store.weight h_s.subs (effect_of_asked (world_at store) m h_s.subs asked) p plan) in
             let live = ap halls.is_live is_s ∙ sv.1 in
             let open_ = ap histories.is_full is_s ∙ sv.2 in
             let said = own_call hall moment n asked h_s (own_numbers drawn ss present.rises) in_hall live open_ bare fit in
             let last_sessions : halls.session_of (do_call (due hall moment) n asked) n ≡ halls.session_of after n =
-            ap (λ (k : Hall). halls.session_of k n) whole ∙ ap (λ (xs : List State). find (halls.is_session n) (map session_of xs)) (sym d.set) in
+                ap (λ (k : Hall). halls.session_of k n) whole ∙ ap (λ (xs : List State). find (halls.is_session n) (map session_of xs)) (sym d.set) in
             subst (λ (o : Option halls.Session). IsReplied (halls.session_of hall n) o (map frame_text (effect_of_asked (due hall moment).world m h_s.subs asked).replies)) last_sessions said

@@ -107,11 +107,9 @@ pub staged_set : (w : World) (writes : List Write) (ss : List State) (i : ℕ) (
 staged_set w writes [] i s v at same staged all = absurd (cc)
 staged_set w writes (x ∷ ss) zero s v at same staged all =
     let is : x ≡ s = cc in
-    let here : Suffice s.mail.frames (heard w writes (listens (session_of s))) s.mail.staged = subst (λ (t : State). Suffice t.mail.frames (heard w writes (listens (session_of t))) t.mail.staged) is all.0 in (
-      subst (λ (h : halls.Session). Suffice h.frames (heard w writes (listens h)) v.mail.staged) (sym same)
-          (subst (λ (fs : List Bytes). Suffice s.mail.frames (heard w writes (listens (session_of s))) fs) (sym staged) here),
-      all.1,
-    )
+    let here : Suffice s.mail.frames (heard w writes (listens (session_of s))) s.mail.staged = subst (λ (t : State). Suffice t.mail.frames (heard w writes (listens (session_of t))) t.mail.staged) is all.0 in
+    (subst (λ (h : halls.Session). Suffice h.frames (heard w writes (listens h)) v.mail.staged) (sym same)
+    (subst (λ (fs : List Bytes). Suffice s.mail.frames (heard w writes (listens (session_of s))) fs) (sym staged) here), all.1)
 staged_set w writes (x ∷ ss) (suc i) s v at same staged all = (all.0, staged_set w writes ss i s v at same staged all.1)
 
 -- where there is room for what is staged, it is all

@@ -13,10 +13,10 @@ ghost use Rattle.tile_core.specs.Answered.{MayCall, IsAnswered, AreSessions, Sta
 
 use crate::dues::release;
 use crate::finish::complete;
+use crate::touching::{name_session, name_told};
 use crate::ready::{make_ready, take_out_due};
 use crate::sessions::{position_of, served};
 use crate::stores::Store;
-use crate::touching::{name_session, name_told};
 use session_mail::{Session, place_staged, unstage};
 use std::alloc::Global;
 use std::marker::Model;

@@ -42,7 +42,13 @@ pub(crate) fn take_out_due(
     ensures same { map session_of sessions.new.items ≡ map session_of sessions.old.items }
     ensures err { OnErr result (IsAsBefore store.old store.new) }
 {
-    let gone = expire(alloc, &mut store.objects, store.weight, store.due_from, now)?;
+    let gone = expire(
+        alloc,
+        &mut store.objects,
+        store.weight,
+        store.due_from,
+        now,
+    )?;
     match stage_dels(alloc, &store.hub, gone.held.as_slice(), sessions) {
         Ok(()) => {
             store.weight = gone.weight;

@@ -99,7 +99,11 @@ fn answer_commands(rt: &impl Abort, alloc: Global, core: &mut Core) -> Result<()
         ("AOFSHRINK", "-ERR not served yet\r\n"),
     ] {
         assert_eq!(rt; called(alloc, core, 1, 0, line)?, Called::Ok, "{line}");
-        assert_eq!(rt; taken(alloc, core, 1)?.bytes(), reply.as_bytes(), "{line}");
+        assert_eq!(rt;
+            taken(alloc, core, 1)?.bytes(),
+            reply.as_bytes(),
+            "{line}"
+        );
     }
     Ok(())
 }
@@ -135,8 +139,16 @@ fn keep_fields_and_deadlines(rt: &impl Abort, alloc: Global, core: &mut Core) ->
         (5000, "KEYS *", "*0\r\n"),
         (5000, "SET m c POINT 0 0", "+OK\r\n"),
     ] {
-        assert_eq!(rt; called(alloc, core, 1, moment, line)?, Called::Ok, "{line}");
-        assert_eq!(rt; taken(alloc, core, 1)?.bytes(), reply.as_bytes(), "{line}");
+        assert_eq!(rt;
+            called(alloc, core, 1, moment, line)?,
+            Called::Ok,
+            "{line}"
+        );
+        assert_eq!(rt;
+            taken(alloc, core, 1)?.bytes(),
+            reply.as_bytes(),
+            "{line}"
+        );
     }
     assert_eq!(rt; core.objects(), 1);
     assert_eq!(rt; core.channels(), 0);
@@ -190,11 +202,7 @@ fn tell_those_who_subscribed(rt: &impl Abort, alloc: Global, core: &mut Core) ->
         (1, "DELCHAN z", ":0\r\n"),
         (1, "PDELCHAN y*", ":1\r\n"),
     ] {
-        assert_eq!(rt;
-            called(alloc, core, session, 0, line)?,
-            Called::Ok,
-            "{line}"
-        );
+        assert_eq!(rt; called(alloc, core, session, 0, line)?, Called::Ok, "{line}");
         assert_eq!(rt;
             taken(alloc, core, session)?.bytes(),
             frame.as_bytes(),
@@ -202,8 +210,7 @@ fn tell_those_who_subscribed(rt: &impl Abort, alloc: Global, core: &mut Core) ->
         );
     }
     assert_eq!(rt; core.channels(), 0);
-    let told =
-        "*3\r\n$7\r\nmessage\r\n$4\r\nyard\r\n$113\r\n{\"command\":\"set\",\"detect\":\"enter\",\"hook\":\"yard\",\
+    let told = "*3\r\n$7\r\nmessage\r\n$4\r\nyard\r\n$113\r\n{\"command\":\"set\",\"detect\":\"enter\",\"hook\":\"yard\",\
          \"key\":\"k\",\"id\":\"a\",\"object\":{\"type\":\"Point\",\"coordinates\":[2,1]}}\r\n";
     assert_eq!(rt; taken(alloc, core, 2)?.bytes(), told.as_bytes());
     Ok(())

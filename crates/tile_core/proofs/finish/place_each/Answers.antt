@@ -23,7 +23,8 @@ loop-frame-preserved c =
     let at = c.loop-frame in
     let x = c.in-Some.frame in
     let steps : into_iter_items at.frame-iterator ≡ x ∷ into_iter_items c.next.new.self = c.in-Some.ensures.steps.0 in
-    let long = ap length steps in (
+    let long = ap length steps in
+    (
       append_assoc at.yielded (x ∷ []) _ ∙ rw (← steps) at.invariant.0,
       c.place.ensures.same ∙ ap (placed x) at.invariant.1 ∙ sym (each_append (session_of c.args.caller.now) at.yielded (x ∷ [])),
       c.place.ensures.staged ∙ at.invariant.2,

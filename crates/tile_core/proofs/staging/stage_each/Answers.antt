@@ -19,10 +19,9 @@ loop-i-preserved c =
     let first = c.args.sessions.now.items in
     elim c.match-get.branch [
       | in-Some+in_ok-stage_del w ↦
-          let items : c.match-get.sessions.items ≡ w.stage_del.new.sessions.items = ap (λ s. s.items) w.sessions-is in (
-            ap (map session_of) items ∙ w.stage_del.ensures.same ∙ l.invariant.0,
-            subst (λ (ss : List State). StagesBehind (world_with cs xs) (dels_of key (take (l.i + 1) ids)) first ss) (sym items)
-                (each_next cs xs key ids l.i id c.requires.there c.at.ensures w.in-Some.object.now first l.sessions.items w.stage_del.new.sessions.items w.in-Some.ensures.some l.invariant.1 w.in_ok-stage_del.ensures.staged),
-          )
+          let items : c.match-get.sessions.items ≡ w.stage_del.new.sessions.items = ap (λ s. s.items) w.sessions-is in
+          (ap (map session_of) items ∙ w.stage_del.ensures.same ∙ l.invariant.0,
+          subst (λ (ss : List State). StagesBehind (world_with cs xs) (dels_of key (take (l.i + 1) ids)) first ss) (sym items)
+          (each_next cs xs key ids l.i id c.requires.there c.at.ensures w.in-Some.object.now first l.sessions.items w.stage_del.new.sessions.items w.in-Some.ensures.some l.invariant.1 w.in_ok-stage_del.ensures.staged))
       | in_default w ↦ absurd (each_some cs xs key ids l.i id c.requires.there c.at.ensures w.in_default.ensures.none)
     ]

@@ -32,11 +32,10 @@ loop-i-preserved c =
           let at : slice_get xs l.i ≡ Some s = stands_at xs l.i s (omega (arith, c.loop-i-test.true)) w.index-sessions-i-then-is_told.is in
           let is : c.if-is_told.touched ≡ with_name l.touched s.number = w.touched-is ∙ w.name_session.ensures ∙ ap (with_name l.touched) w.number.ensures in
           let kept = stay l.touched s.number in
-          subst (Keeps xs old (l.i + 1)) (sym is) (
-            λ n e. kept n (l.invariant.0 n e),
-            still_roomy l.touched xs l.invariant.1 l.i s at,
-            named_next l.touched (with_name l.touched s.number) xs l.i s at kept l.invariant.2 (inr (is_it l.touched s.number)),
-          )
+          subst (Keeps xs old (l.i + 1)) (sym is)
+          (λ n e. kept n (l.invariant.0 n e),
+          still_roomy l.touched xs l.invariant.1 l.i s at,
+          named_next l.touched (with_name l.touched s.number) xs l.i s at kept l.invariant.2 (inr (is_it l.touched s.number)))
       | else-is_told w ↦
           let s = c.index-sessions-i.result in
           let at : slice_get xs l.i ≡ Some s = stands_at xs l.i s (omega (arith, c.loop-i-test.true)) c.index-sessions-i.is in

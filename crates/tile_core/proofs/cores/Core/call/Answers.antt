@@ -154,7 +154,7 @@ complete-requires-clause-short c =
     let k = c.self.inside in
     let sv = subst (λ (ss : List State). IsServed ss c.args.session (Ok c.in-Ok.at)) c.as_slice.ensures.value c.in-Ok.ensures in
     let le = short k.store k.clock k.logged k.drawn k.sessions.items c.make_ready-ready.new.sessions.items c.args.session c.in-Ok.at c.args.moment c.max-now.result c.args.asked.now c.make_ready-ready.new.store c.in-Ok-ready.ready
-    c.self.invariant.kept c.self.invariant.present sv c.max-now.ensures c.make_ready-ready.ensures.same c.in-Ok-ready.ensures.ready in
+        c.self.invariant.kept c.self.invariant.present sv c.max-now.ensures c.make_ready-ready.ensures.same c.in-Ok-ready.ensures.ready in
     omega (arith, le)
 
 pub invariant_of-self-2 : goal.invariant_of-self-2
@@ -215,7 +215,7 @@ returns-clause-logged c =
     let k = c.self.inside in
     let sv = subst (λ (ss : List State). IsServed ss c.args.session (Ok c.in-Ok.at)) c.as_slice.ensures.value c.in-Ok.ensures in
     let le = short k.store k.clock k.logged k.drawn k.sessions.items c.make_ready-ready.new.sessions.items c.args.session c.in-Ok.at c.args.moment c.max-now.result c.args.asked.now c.make_ready-ready.new.store c.in-Ok-ready.ready
-    c.self.invariant.kept c.self.invariant.present sv c.max-now.ensures c.make_ready-ready.ensures.same c.in-Ok-ready.ensures.ready in
+        c.self.invariant.kept c.self.invariant.present sv c.max-now.ensures c.make_ready-ready.ensures.same c.in-Ok-ready.ensures.ready in
     let was : c.args.self.now.hall.logged ≡ k.logged = sym (ap (λ (n : CoreState). n.hall.logged) c.self.view_is) in
     let long = c.complete.ensures.length_is in
     omega (arith, le, was, long)
