@@ -1,6 +1,6 @@
 -- A field goes behind all others where it may be last.
 use Rattle.std.proofs.Common.{◌≡◌, ◌<◌, ◌-◌, Bool, true, false, not, List, [], ◌∷◌, ◌++◌, length, refl, sym, ap, subst, ◌∙◌, arith}
-use Rattle.std.specs.Prelude.{Some, IfSome, ◌&&◌, slice_get}
+use Rattle.std.specs.Prelude.{Some, IfSome, ◌&&◌, filter, if◌then◌else◌, slice_get}
 use Rattle.std.specs.List.{list_all}
 use Rattle.byte_text.specs.Names.{Bytes, before}
 use Rattle.ordered_lists.specs.Lists.{ascends, put_in}
@@ -8,15 +8,13 @@ use Rattle.ordered_lists.specs.NameOrder.{name_trans}
 use Rattle.ordered_lists.specs.Reading.{both_of, filter-all}
 use Rattle.world_data.specs.Filters.{Field, field_before, is_zero, with_values, are_fields}
 use Rattle.world_data.specs.FieldLaws.{field_asym}
+use Rattle.record_words.proofs.Parts.{both}
 
 abbrev nonzero : Field → Bool
 nonzero f = not (is_zero f)
 
 field_trans : (f g h : Field) → field_before f g ≡ true → field_before g h ≡ true → field_before f h ≡ true
 field_trans = name_trans (λ (f : Field). f.0)
-
-both : (a b : Bool) → a ≡ true → b ≡ true → (a && b) ≡ true
-both a b e f = rw (e, f) refl
 
 not_second : (a b : Bool) → b ≡ false → (a && b) ≡ false
 not_second true b e = e
@@ -26,13 +24,26 @@ with_true : (a b : Bool) → b ≡ true → (a && b) ≡ a
 with_true true b e = e
 with_true false b e = refl
 
+and_true : (a : Bool) → (a && true) ≡ a
+and_true true = refl
+and_true false = refl
+
+and_assoc : (a b c : Bool) → (a && (b && c)) ≡ ((a && b) && c)
+and_assoc true b c = refl
+and_assoc false b c = refl
+
+second_branch : {A : Type 0} (a b : Bool) (x y z : A) → a ≡ false → b ≡ true → (if a then x else if b then y else z) ≡ y
+second_branch true b x y z e f = absurd (cc e)
+second_branch false true x y z e f = refl
+second_branch false false x y z e f = absurd (cc f)
+
 last_passes : (q : Field → Bool) (fs : List Field) (f : Field) → list_all q (fs ++ f ∷ []) ≡ true → q f ≡ true
 last_passes q [] f all = (both_of (q f) true all).0
 last_passes q (g ∷ fs) f all = last_passes q fs f (both_of (q g) (list_all q (fs ++ f ∷ [])) all).1
 
 all_snoc : (q : Field → Bool) (fs : List Field) (f : Field) → list_all q (fs ++ f ∷ []) ≡ (list_all q fs && q f)
-all_snoc q [] f = grind arith
-all_snoc q (g ∷ fs) f = let ih = all_snoc q fs f in grind arith
+all_snoc q [] f = and_true (q f)
+all_snoc q (g ∷ fs) f = ap (λ b. q g && b) (all_snoc q fs f) ∙ and_assoc (q g) (list_all q fs) (q f)
 
 put_last : (fs : List Field) (f : Field) → ascends field_before (fs ++ f ∷ []) ≡ true → put_in field_before f fs ≡ fs ++ f ∷ []
 put_last [] f asc = refl
@@ -40,13 +51,13 @@ put_last (g ∷ fs) f asc =
     let parts = both_of (list_all (field_before g) (fs ++ f ∷ [])) (ascends field_before (fs ++ f ∷ [])) asc in
     let above : field_before g f ≡ true = last_passes (field_before g) fs f parts.0 in
     let ih = put_last fs f parts.1 in
-    rw (field_asym g f above, above) (ap (λ l. g ∷ l) ih)
+    second_branch (field_before f g) (field_before g f) (f ∷ g ∷ fs) (g ∷ put_in field_before f fs) (f ∷ fs) (field_asym g f above) above ∙ ap (λ l. g ∷ l) ih
 
 -- what `set` makes of a field that may be last
 pub set_last : (fs : List Field) (f : Field) → are_fields (fs ++ f ∷ []) ≡ true → with_values fs (f ∷ []) ≡ fs ++ f ∷ []
 set_last fs f are =
     let parts = both_of (ascends field_before (fs ++ f ∷ [])) (list_all nonzero (fs ++ f ∷ [])) are in
-    rw (put_last fs f parts.0) (filter-all nonzero (fs ++ f ∷ []) parts.1)
+    ap (λ l. filter nonzero l) (put_last fs f parts.0) ∙ filter-all nonzero (fs ++ f ∷ []) parts.1
 
 -- the last of a field and those behind it
 abbrev last_of : Field → List Field → Field
@@ -54,7 +65,7 @@ last_of g [] = g
 last_of g (h ∷ fs) = last_of h fs
 
 ascends_last : (g : Field) (fs : List Field) (f : Field) → ascends field_before (g ∷ fs) ≡ true → ascends field_before ((g ∷ fs) ++ f ∷ []) ≡ field_before (last_of g fs) f
-ascends_last g [] f asc = grind arith
+ascends_last g [] f asc = and_true (field_before g f && true) ∙ and_true (field_before g f)
 ascends_last g (h ∷ fs) f asc = by (field_before (last_of h fs) f) (ascends_last h fs f parts.1)
   where
     parts : (list_all (field_before g) (h ∷ fs) ≡ true) × (ascends field_before (h ∷ fs) ≡ true)

@@ -6,13 +6,14 @@ use Rattle.byte_text.specs.ByteOrder.{same_equal}
 use Rattle.world_data.specs.Records.{record_words}
 use Rattle.world_data.specs.declared.worlds.Change.{Change}
 use Rattle.world_data.specs.declared.worlds.Change.TheVariants.{Del, Drop, Flush, DelChan}
-use Rattle.log_record.specs.Words.{change_of_words, is_kept, if_recorded, same_words}
+use Rattle.log_record.specs.Words.{change_of_words, is_kept, if_recorded, same_words, put_of, del_of, drop_of, flush_of, setchan_of, delchan_of}
 use Rattle.log_record.specs.RecordsRead.{first, second}
 use Rattle.log_record.specs.RecordsBack.{del_back, drop_back, flush_back, delchan_back}
 use Rattle.record_words.specs.declared.faults.RecordFault.{RecordFault}
 use Rattle.record_words.specs.declared.faults.RecordFault.TheVariants.{NotRecord, Memory}
 use Rattle.record_words.specs.Reading.{BeginsNot, Reads, name_words, IsName, IsEnd, IsChangeOf}
-use Rattle.record_words.proofs.LeftWords.{rests_same, nothing_is}
+use Rattle.record_words.proofs.LeftWords.{rests_same}
+use Rattle.record_words.proofs.Parts.{both}
 
 -- a change that is not kept has no record
 not_kept : (words : List Bytes) (c : Change) → (is_kept c ≡ true → ⊥) → if_recorded words (Some c) ≡ None
@@ -50,7 +51,7 @@ module _ (old : List Bytes) where
 
       pub del_found : two ≡ [] → IsChangeOf (codes "DEL" ∷ old) (Ok (Del key id))
       del_found end =
-          let kept : is_kept (Del key id) ≡ true = rw (key_read.1, id_read.1) refl in
+          let kept : is_kept (Del key id) ≡ true = both (is_name key) (is_name id) key_read.1 id_read.1 in
           let words : old ≡ key ∷ id ∷ [] = key_read.0 ∙ ap (λ l. key ∷ l) (id_read.0 ∙ ap (λ l. id ∷ l) end) in
           subst (λ l. change_of_words (codes "DEL" ∷ l) ≡ Some (Del key id)) (sym words) (del_back key id kept)
 
@@ -120,13 +121,19 @@ differs called w old b = by (same w called) refl
     by true e = absurd (b.other old (ap (λ v. v ∷ old) (same_equal w called e)))
     by false e = e
 
+none_of_six : (words : List Bytes) (a b c d e f : Bool) (p q r s t u : Option Change) → a ≡ false → b ≡ false → c ≡ false → d ≡ false → e ≡ false → f ≡ false
+    → if_recorded words (if a then p else if b then q else if c then r else if d then s else if e then t else if f then u else None) ≡ None
+none_of_six words a b c d e f p q r s t u ea eb ec ed ee ef = rw (ea, eb, ec, ed, ee, ef) refl
+
 pub no_name : (words : List Bytes) → BeginsNot (codes "SET") words → BeginsNot (codes "DEL") words → BeginsNot (codes "DROP") words
     → BeginsNot (codes "FLUSHDB") words → BeginsNot (codes "SETCHAN") words → BeginsNot (codes "DELCHAN") words → change_of_words words ≡ None
 unfolding change_of_words
 no_name [] set del drop flush setchan delchan = refl
 no_name (w ∷ old) set del drop flush setchan delchan =
-    rw (differs (codes "SET") w old set, differs (codes "DEL") w old del, differs (codes "DROP") w old drop,
-      differs (codes "FLUSHDB") w old flush, differs (codes "SETCHAN") w old setchan, differs (codes "DELCHAN") w old delchan) refl
+    none_of_six (w ∷ old) (same w (codes "SET")) (same w (codes "DEL")) (same w (codes "DROP")) (same w (codes "FLUSHDB")) (same w (codes "SETCHAN")) (same w (codes "DELCHAN"))
+    (put_of old) (del_of old) (drop_of old) (flush_of old) (setchan_of old) (delchan_of old)
+    (differs (codes "SET") w old set) (differs (codes "DEL") w old del) (differs (codes "DROP") w old drop)
+    (differs (codes "FLUSHDB") w old flush) (differs (codes "SETCHAN") w old setchan) (differs (codes "DELCHAN") w old delchan)
 
 -- the answer to a reader whose words are all those of the record
 pub read_from : (words begun : List Bytes) (r : Result Change RecordFault) → words ≡ begun → IsChangeOf begun r → IsChangeOf words r

@@ -35,7 +35,7 @@ high z = int_le z (pos (2 ^ 63 - 1))
 pub name_kept : (f : Field) → IsValue f → IsName f.0
 name_kept f kept = first (is_name f.0) (low f.1) (first (is_name f.0 && low f.1) (high f.1) kept)
 
-both : (a b : Bool) → a ≡ true → b ≡ true → (a && b) ≡ true
+pub both : (a b : Bool) → a ≡ true → b ≡ true → (a && b) ≡ true
 both a b e f = rw e f
 
 pub number_kept : (f : Field) → IsValue f → IsNumber f.1

@@ -19,7 +19,7 @@ use Rattle.record_words.specs.declared.faults.RecordFault.{RecordFault}
 use Rattle.record_words.specs.declared.faults.RecordFault.TheVariants.{NotRecord, Memory}
 use Rattle.record_words.specs.Reading.{BeginsNot, Reads, name_words, IsName, moment_words, IsMoment, AreKept, ReadsFields, ReadsDeadline, IsNotOne, ReadsText, IsPlaceOf, IsChangeOf, one_word, text_words}
 use Rattle.record_words.proofs.LeftWords.{heads_same, rests_same}
-use Rattle.record_words.proofs.Parts.{le_true}
+use Rattle.record_words.proofs.Parts.{both, le_true}
 use Rattle.record_words.proofs.FieldLists.{texts, fields_same}
 
 -- words that are written out
@@ -139,6 +139,12 @@ module _ (o : Object) (kept : is_kept (Put o) ≡ true) where
   pub deadline_kept : is_kept_deadline o.deadline ≡ true
   deadline_kept = second fielded (is_kept_deadline o.deadline) kept
 
+pub all_kept : (o : Object) → IsName o.key → IsName o.id → AreKept o.fields → is_kept_deadline o.deadline ≡ true → is_kept (Put o) ≡ true
+all_kept o key id fields deadline =
+    both (is_name o.key && is_name o.id && are_fields o.fields && list_all is_kept_field o.fields) (is_kept_deadline o.deadline)
+    (both (is_name o.key && is_name o.id && are_fields o.fields) (list_all is_kept_field o.fields)
+    (both (is_name o.key && is_name o.id) (are_fields o.fields) (both (is_name o.key) (is_name o.id) key id) fields.ordered) fields.kept) deadline
+
 -- what is behind the fields begins with no field, and what is behind the deadline with none
 no_field_behind : (d : Option ℕ) (text : Bytes) → BeginsNot (codes "FIELD") (deadline_words d ++ text_words text)
 no_field_behind None text = begins_other (codes "FIELD") (codes "OBJECT") (one_word text) refl
@@ -192,7 +198,7 @@ module _ (old : List Bytes) where
               → IsChangeOf (codes "SET" ∷ old) (Ok (Put (record { key = key; id = id; text = text; shape = shape; fields = fields; deadline = deadline })))
           put_found text shape text_is =
               let o : Object = record { key = key; id = id; text = text; shape = shape; fields = fields; deadline = deadline } in
-              let kept : is_kept (Put o) ≡ true = rw (key_read.1, id_read.1, fields_read.1.ordered, fields_read.1.kept, deadline_read.1) refl in
+              let kept : is_kept (Put o) ≡ true = all_kept o key_read.1 id_read.1 fields_read.1 deadline_read.1 in
               let behind : four ≡ text_words text = text_is.0 in
               let words : codes "SET" ∷ old ≡ record_words (Put o) =
                   ap (λ l. codes "SET" ∷ l) (key_read.0 ∙ ap (λ l. key ∷ l) (id_read.0 ∙ ap (λ l. id ∷ l) (fields_read.0

@@ -1,6 +1,6 @@
 -- A setting is the command that its words spell, where its record has these words.
 use Rattle.std.proofs.Common.{◌≡◌, Bool, true, false, List, [], ◌∷◌, refl, sym, ap, subst, ◌∙◌}
-use Rattle.std.specs.Prelude.{Option, Some, None, Result, Ok, Err, codes, ◌&&◌}
+use Rattle.std.specs.Prelude.{Option, Some, None, Result, Ok, Err, codes, ◌&&◌, if◌then◌else◌}
 use Rattle.byte_text.specs.Names.{Bytes, is_name}
 use Rattle.world_data.specs.declared.channels.Channel.{Channel}
 use Rattle.world_data.specs.declared.worlds.Change.{Change}
@@ -51,14 +51,26 @@ pub other_command : (words : List Bytes) (c : Command) → ((channel : Channel) 
 other_command words (command.Setchan channel area) no = absurd (no channel area refl)
 other_command words c no = refl
 
+if_both : {A : Type 0} (a b : Bool) (x y : A) → a ≡ true → b ≡ true → (if a && b then x else y) ≡ x
+if_both true true x y e f = refl
+if_both true false x y e f = absurd (cc f)
+if_both false b x y e f = absurd (cc e)
+
+if_first : {A : Type 0} (a b : Bool) (x y : A) → a ≡ false → (if a && b then x else y) ≡ y
+if_first true b x y e = absurd (cc e)
+if_first false b x y e = refl
+
 module _ (behind : List Bytes) (channel : Channel) where
   abbrev words : List Bytes
   words = codes "SETCHAN" ∷ behind
 
+  abbrev same_behind : Bool
+  same_behind = same_words (channel.name ∷ channel.words) behind
+
   pub is_recorded : (area : Option AreaWords) → stands_in_words area ≡ true → is_name channel.name ≡ true → same_words (channel.name ∷ channel.words) behind ≡ true
       → if_recorded words (settled (Some (command.Setchan channel area))) ≡ Some (SetChan channel)
-  is_recorded None stands named e = rw (e, named) refl
-  is_recorded (Some (Given a)) stands named e = rw (e, named) refl
+  is_recorded None stands named e = if_both same_behind (is_name channel.name) (Some (SetChan channel)) None e named
+  is_recorded (Some (Given a)) stands named e = if_both same_behind (is_name channel.name) (Some (SetChan channel)) None e named
   is_recorded (Some (Of key id)) stands named e = absurd (cc stands)
 
   pub of_object : (area : Option AreaWords) → stands_in_words area ≡ false → if_recorded words (settled (Some (command.Setchan channel area))) ≡ None
@@ -67,6 +79,6 @@ module _ (behind : List Bytes) (channel : Channel) where
   of_object (Some (Of key id)) stands = refl
 
   pub other_words : (area : Option AreaWords) → same_words (channel.name ∷ channel.words) behind ≡ false → if_recorded words (settled (Some (command.Setchan channel area))) ≡ None
-  other_words None e = rw e refl
-  other_words (Some (Given a)) e = rw e refl
+  other_words None e = if_first same_behind (is_name channel.name) (Some (SetChan channel)) None e
+  other_words (Some (Given a)) e = if_first same_behind (is_name channel.name) (Some (SetChan channel)) None e
   other_words (Some (Of key id)) e = refl

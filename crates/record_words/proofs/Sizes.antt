@@ -18,7 +18,7 @@ use Rattle.record_words.specs.Reading.{IsName, IsNumber, IsValue, AreKept}
 use Rattle.record_words.specs.Fitting.{RecordsFit, most_fields}
 use Rattle.record_words.proofs.Parts.{name_kept, number_kept}
 use Rattle.record_words.proofs.FieldLists.{texts}
-use Rattle.record_words.proofs.PutParts.{key_kept, id_kept, fields_kept, deadline_kept}
+use Rattle.record_words.proofs.PutParts.{key_kept, id_kept, fields_kept, deadline_kept, all_kept}
 
 abbrev IsSmall : Bytes → Type 0
 IsSmall w = length w ≤ 255
@@ -138,17 +138,12 @@ put_within o request =
     let few = fits.few in
     (omega (arith, n, m, few), (short_back (front o) (o.text ∷ []) fits.short).0)
 
-other_deadline : (o : Object) (deadline : Option ℕ) → is_kept (Put o) ≡ true → is_kept_deadline deadline ≡ true → is_kept (Put (record o { deadline = deadline })) ≡ true
-other_deadline o deadline kept also =
-    let fields = fields_kept o kept in
-    rw (key_kept o kept, id_kept o kept, fields.ordered, fields.kept, also) refl
-
 pub records_fit : RecordsFit
 records_fit = record {
   puts = put_fits;
   deadlines = λ o deadline kept request also.
       let within = put_within o request in
-      put_fits (record o { deadline = deadline }) (other_deadline o deadline kept also) within.0 within.1;
+      put_fits (record o { deadline = deadline }) (all_kept (record o { deadline = deadline }) (key_kept o kept) (id_kept o kept) (fields_kept o kept) also) within.0 within.1;
   dels = λ key id kept.
       let parts = both_of (is_name key) (is_name id) kept in
       all_small (record_words (Del key id)) (small (codes "DEL") refl, small_name key parts.0, small_name id parts.1, tt) refl refl;

@@ -3,7 +3,7 @@
 ghost use Rattle.std.specs.Prelude.{◌≡◌, ◌∷◌, codes, true};
 ghost use Rattle.byte_text.specs.Names.{is_name};
 ghost use Rattle.log_record.specs.Words.{same_words};
-ghost use Rattle.world_model.specs.declared.commands.Command.TheVariants as command;
+ghost use Rattle.world_model.specs.declared.commands.Command.TheVariants as commands;
 ghost use Rattle.record_words.specs.Reading.{IsChangeOf, IsSettingIn, stands_in_words as is_in_words};
 
 use crate::faults::RecordFault;
@@ -46,7 +46,7 @@ fn recorded(
     channel: Channel,
     area: &Option<AreaWords>,
 ) -> Result<Change, RecordFault>
-    ensures { IsSettingIn (codes "SETCHAN" ∷ reader.old) (command.Setchan channel area.now) result }
+    ensures { IsSettingIn (codes "SETCHAN" ∷ reader.old) (commands.Setchan channel area.now) result }
 {
     if !stands_in_words(area) {
         return Err(RecordFault::NotRecord);

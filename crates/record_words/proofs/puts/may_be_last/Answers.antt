@@ -10,4 +10,4 @@ returns-then-count-eq0 c = sym (only_one c.args.fields.now (c.args.name.now, c.a
 
 pub returns : goal.returns
 returns c = c.is_before.ensures ∙ behind_last c.args.fields.now c.name.result.now (c.args.name.now, c.args.value) c.len-count.ensures.fields
-    (sym c.is_nothing.ensures ∙ c.if-is_nothing.false) (omega arith) ?
+    (sym c.is_nothing.ensures ∙ c.if-is_nothing.false) (omega arith) (rw c.len-count.ensures.count at c.name.ensures)
