@@ -1,5 +1,5 @@
 -- Fields are read one by one.
-use Rattle.std.proofs.Common.{◌≡◌, ℤ, true, false, not, List, [], ◌∷◌, ◌++◌, refl, sym, ap, subst, ◌∙◌, append_assoc}
+use Rattle.std.proofs.Common.{◌≡◌, ◌<◌, ℤ, true, false, not, List, [], ◌∷◌, ◌++◌, length, refl, sym, ap, subst, ◌∙◌, append_assoc, arith}
 use Rattle.std.specs.Prelude.{Result, Ok, Err, codes, flat_map}
 use Rattle.std.specs.Fmt.{signed_decimal}
 use Rattle.std.specs.List.{list_all}
@@ -129,3 +129,10 @@ fields_same fs gs x y kf kg ends_x ends_y e = let o = split fs gs x y kf.kept kg
     by : (hs : List Field) → x ≡ texts hs ++ y → x ≡ y
     by [] l = l
     by (h ∷ hs) l = absurd (ends_x.other (value_words h ++ (texts hs ++ y)) l)
+
+-- a field that is read leaves fewer words
+pub shorter : (left behind new : List Bytes) (f : Field) → left ≡ codes "FIELD" ∷ behind → Reads value_words IsValue behind new (Ok f) → length new < length left
+shorter left behind new f begins read =
+    let more : length left ≡ length (codes "FIELD" ∷ behind) = ap length begins in
+    let two : length behind ≡ length (value_words f ++ new) = ap length read.0 in
+    omega (arith, more, two)

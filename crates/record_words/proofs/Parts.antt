@@ -5,7 +5,9 @@ use Rattle.std.specs.Fmt.{signed_decimal}
 use Rattle.std.proofs.lemmas.Bool.Decides.{nat_tests}
 use Rattle.byte_text.specs.Names.{Bytes, is_name, name_fault, IsNameOf}
 use Rattle.byte_text.specs.declared.texts.TextFault.{TextFault}
+use Rattle.byte_text.specs.declared.texts.NameFault.{NameFault}
 use Rattle.byte_text.specs.declared.texts.NameFault.TheVariants.{Refused}
+use Rattle.byte_text.specs.declared.texts.NameFault.TheVariants as name
 use Rattle.world_data.specs.Filters.{Field}
 use Rattle.log_record.specs.Words.{is_kept_field}
 use Rattle.log_record.specs.RecordsRead.{first, second, fits_of}
@@ -84,8 +86,9 @@ pub named_of : (w name : Bytes) (o : Option TextFault) → name_fault w ≡ o �
 named_of w name None e same = (ap one_word (sym same), subst IsName (sym same) (is_named w e))
 named_of w name (Some f) e same = absurd (cc same)
 
-pub unnamed_of : (w : Bytes) (f : TextFault) (o : Option TextFault) → name_fault w ≡ o → IsNameOf o w (Err (Refused f)) → Reads name_words IsName (one_word w) [] (Err NotRecord)
-unnamed_of w f None e same = absurd (cc same)
-unnamed_of w f (Some g) e same = λ n behind is v.
-    let none : Some g ≡ None = sym e ∙ ap name_fault (heads_same w n [] behind v) ∙ no_fault n is in
+pub unnamed_of : (w : Bytes) (why : NameFault) (f : TextFault) (o : Option TextFault) → name_fault w ≡ o → why ≡ Refused f → IsNameOf o w (Err why)
+    → Reads name_words IsName (one_word w) [] (Err NotRecord)
+unnamed_of w why f None e is same = let both_ways : Refused f ≡ name.Memory = sym is ∙ same in absurd (cc both_ways)
+unnamed_of w why f (Some g) e is same = λ n behind named v.
+    let none : Some g ≡ None = sym e ∙ ap name_fault (heads_same w n [] behind v) ∙ no_fault n named in
     cc none

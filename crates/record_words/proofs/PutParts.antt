@@ -7,6 +7,9 @@ use Rattle.byte_text.specs.Names.{Bytes, is_name, same}
 use Rattle.byte_text.specs.ByteOrder.{same_refl}
 use Rattle.geo_text.specs.Texts.{Shape, shape_of}
 use Rattle.geo_text.specs.declared.faults.GeoFault.{GeoFault}
+use Rattle.geojson_model.specs.Answers.{Fails, Gives}
+use Rattle.geojson_model.specs.declared.faults.ShapeFault.{ShapeFault}
+use Rattle.geojson_model.specs.declared.faults.ShapeFault.TheVariants.{Refused}
 use Rattle.world_data.specs.Filters.{Field, are_fields}
 use Rattle.world_data.specs.Records.{field_words, deadline_words, record_words}
 use Rattle.world_data.specs.declared.objects.Object.{Object}
@@ -194,20 +197,23 @@ module _ (old : List Bytes) where
           text_refused Memory none = tt
 
           -- all parts were read
-          pub put_found : (text : Bytes) (shape : Shape) → ReadsText four (Ok (text, shape))
-              → IsChangeOf (codes "SET" ∷ old) (Ok (Put (record { key = key; id = id; text = text; shape = shape; fields = fields; deadline = deadline })))
-          put_found text shape text_is =
-              let o : Object = record { key = key; id = id; text = text; shape = shape; fields = fields; deadline = deadline } in
+          pub put_found : (t : Bytes × Shape) → ReadsText four (Ok t)
+              → IsChangeOf (codes "SET" ∷ old) (Ok (Put (record { key = key; id = id; text = t.0; shape = t.1; fields = fields; deadline = deadline })))
+          put_found t text_is =
+              let o : Object = record { key = key; id = id; text = t.0; shape = t.1; fields = fields; deadline = deadline } in
               let kept : is_kept (Put o) ≡ true = all_kept o key_read.1 id_read.1 fields_read.1 deadline_read.1 in
-              let behind : four ≡ text_words text = text_is.0 in
+              let behind : four ≡ text_words t.0 = text_is.0 in
               let words : codes "SET" ∷ old ≡ record_words (Put o) =
                   ap (λ l. codes "SET" ∷ l) (key_read.0 ∙ ap (λ l. key ∷ l) (id_read.0 ∙ ap (λ l. id ∷ l) (fields_read.0
                   ∙ ap (λ l. texts fields ++ l) (deadline_read.0 ∙ ap (λ l. deadline_words deadline ++ l) behind)))) ∙ sym (said o) in
               subst (λ w. change_of_words w ≡ Some (Put o)) (sym words) (object_back o kept text_is.1)
 
 -- a text that is refused has no shape
-pub no_shape : (text : Bytes) (fault : GeoFault) → shape_of text ≡ Err fault → (shape : Shape) → shape_of text ≡ Ok shape → ⊥
-no_shape text fault e shape f = by (shape_of text) e f
+pub no_shape : (text : Bytes) (why : ShapeFault) (fault : GeoFault) → why ≡ Refused fault → Gives (λ s. s) (Err why) (shape_of text)
+    → (shape : Shape) → shape_of text ≡ Ok shape → ⊥
+no_shape text why fault is gives shape f =
+    let e : shape_of text ≡ Err fault = subst (λ (x : ShapeFault). Fails x (shape_of text)) is gives in
+    by (shape_of text) e f
   where
     by : (r : Result Shape GeoFault) → r ≡ Err fault → r ≡ Ok shape → ⊥
     by (Ok s) e f = cc e

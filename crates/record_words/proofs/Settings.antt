@@ -11,6 +11,9 @@ use Rattle.world_model.specs.declared.commands.AreaWords.TheVariants.{Given, Of}
 use Rattle.world_model.specs.declared.commands.Command.{Command}
 use Rattle.world_model.specs.declared.commands.Command.TheVariants as command
 use Rattle.world_model.specs.declared.faults.WordFault.{WordFault}
+use Rattle.cmd_words.specs.Progress.{IfRefused}
+use Rattle.cmd_words.specs.declared.faults.CommandFault.{CommandFault}
+use Rattle.cmd_words.specs.declared.faults.CommandFault.TheVariants.{Refused}
 use Rattle.log_record.specs.Words.{change_of_words, if_recorded, settled, same_words}
 use Rattle.record_words.specs.declared.faults.RecordFault.{RecordFault}
 use Rattle.record_words.specs.declared.faults.RecordFault.TheVariants.{NotRecord, Memory}
@@ -43,8 +46,10 @@ module _ (words behind : List Bytes) (is : words ≡ codes "SETCHAN" ∷ behind)
   setting_read c (Err NotRecord) e none = by_command c e ∙ same_here c ∙ none
   setting_read c (Err Memory) e none = tt
 
-  pub setting_refused : (f : WordFault) → reads words ≡ Err f → IsChangeOf words (Err NotRecord)
-  setting_refused f e = spelled words behind is ∙ ap (λ o. if_recorded words (settled o)) (none_spelled words (command_spelled words) f e)
+  pub setting_refused : (why : CommandFault) (f : WordFault) → why ≡ Refused f → IfRefused why (λ fault. reads words ≡ Err fault) → IsChangeOf words (Err NotRecord)
+  setting_refused why f is_refused refused =
+      let e : reads words ≡ Err f = subst (λ (x : CommandFault). IfRefused x (λ fault. reads words ≡ Err fault)) is_refused refused in
+      spelled words behind is ∙ ap (λ o. if_recorded words (settled o)) (none_spelled words (command_spelled words) f e)
 
 -- another command sets no channel
 pub other_command : (words : List Bytes) (c : Command) → ((channel : Channel) (area : Option AreaWords) → c ≡ command.Setchan channel area → ⊥) → if_recorded words (settled (Some c)) ≡ None

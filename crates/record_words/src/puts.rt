@@ -37,19 +37,20 @@ fn read_fields(reader: &mut RecordReader) -> Result<Fields, RecordFault>
     ensures { ReadsFields reader.old reader.new result }
 {
     let mut fields = Fields::new(reader.alloc());
-    'fields: while reader.takes(b"FIELD") {
-        let (name, value) = reader.field()?;
-        push_last(&mut fields, name, value)?;
+    'each: while reader.takes(b"FIELD") {
+        let field = reader.field()?;
+        push_last(&mut fields, field)?;
     }
     Ok(fields)
 }
 
 // Puts a field last, if it may stand there.
-fn push_last(fields: &mut Fields, name: Name, value: i64) -> Result<(), RecordFault>
-    ensures ok { OnOk result (fields.new ≡ fields.old ++ (name, value) ∷ []) }
+fn push_last(fields: &mut Fields, field: (Name, i64)) -> Result<(), RecordFault>
+    ensures ok { OnOk result (fields.new ≡ fields.old ++ field ∷ []) }
     ensures ordered { OnOk result (are_fields fields.new ≡ true) }
-    ensures refused { IfErr result (λ why. why ≡ RecordFault.NotRecord → are_fields (fields.old ++ (name, value) ∷ []) ≡ false) }
+    ensures refused { IfErr result (λ why. why ≡ RecordFault.NotRecord → are_fields (fields.old ++ field ∷ []) ≡ false) }
 {
+    let (name, value) = field;
     if !may_be_last(fields, &name, value) {
         return Err(RecordFault::NotRecord);
     }

@@ -34,4 +34,4 @@ pub returns : goal.returns
 returns c =
     put_found c.args.reader.now c.in_ok-key.key c.name.new.reader c.in_ok-key.ensures c.in_ok-id.id c.name-2.new.reader c.in_ok-id.ensures
     c.in_ok-fields.fields c.read_fields.new.reader c.in_ok-fields.ensures c.in_ok-deadline.deadline c.read_deadline.new.reader c.in_ok-deadline.ensures
-    c.in_ok-text.text c.in_ok-text.shape c.in_ok-text.ensures
+    (c.in_ok-text.text, c.in_ok-text.shape) c.in_ok-text.ensures

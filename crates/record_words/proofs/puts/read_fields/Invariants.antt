@@ -2,8 +2,8 @@ use Rattle.std.proofs.Common.{length}
 use Rattle.record_words.proofs.FieldLists.{Goes}
 use Rattle.record_words.proofs.puts.read_fields.Given as goal
 
-abbrev pub invariant-fields : goal.invariant-fields
-invariant-fields l = Goes l.fn.reader l.fields l.reader
+abbrev pub invariant-each : goal.invariant-each
+invariant-each l = Goes l.fn.reader l.fields l.reader
 
-abbrev pub decreases-fields : goal.decreases-fields
-decreases-fields l = length l.reader
+abbrev pub decreases-each : goal.decreases-each
+decreases-each l = length l.reader

@@ -7,4 +7,4 @@ pub returns-in-Ok : goal.returns-in-Ok
 returns-in-Ok c = named_of c.args.word.now c.in-Ok.name (name_fault c.args.word.now) refl c.in-Ok.ensures
 
 pub returns-in-Err-Refused : goal.returns-in-Err-Refused
-returns-in-Err-Refused c = unnamed_of c.args.word.now _ (name_fault c.args.word.now) refl c.in-Err-Refused.ensures
+returns-in-Err-Refused c = unnamed_of c.args.word.now _ _ (name_fault c.args.word.now) refl c.in-Err-Refused.field-0-is c.in-Err-Refused.ensures
