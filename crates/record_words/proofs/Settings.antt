@@ -53,8 +53,8 @@ module _ (words behind : List Bytes) (is : words ≡ codes "SETCHAN" ∷ behind)
 
 -- another command sets no channel
 pub other_command : (words : List Bytes) (c : Command) → ((channel : Channel) (area : Option AreaWords) → c ≡ command.Setchan channel area → ⊥) → if_recorded words (settled (Some c)) ≡ None
-other_command words (command.Setchan channel area) no = absurd (no channel area refl)
-other_command words c no = refl
+other_command words (command.Setchan channel area) other = absurd (other channel area refl)
+other_command words c other = refl
 
 if_both : {A : Type 0} (a b : Bool) (x y : A) → a ≡ true → b ≡ true → (if a && b then x else y) ≡ x
 if_both true true x y e f = refl

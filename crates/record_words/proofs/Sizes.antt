@@ -55,7 +55,7 @@ small_texts : (fields : List Field) → list_all is_kept_field fields ≡ true �
 small_texts [] kept = tt
 small_texts (f ∷ fields) kept =
     let parts = both_of (is_kept_field f) (list_all is_kept_field fields) kept in
-    (small (codes "FIELD") refl, small_name f.0 (name_kept f parts.0), small_number f.1 (number_kept f parts.0), small_texts fields parts.1)
+    (small (codes "FIELD") refl, (small_name f.0 (name_kept f parts.0), (small_number f.1 (number_kept f parts.0), small_texts fields parts.1)))
 
 texts_count : (fields : List Field) → length (texts fields) ≡ 3 * length fields
 texts_count [] = refl
@@ -63,7 +63,7 @@ texts_count (f ∷ fields) = let ih = texts_count fields in omega (arith, ih)
 
 small_deadline : (d : Option ℕ) → is_kept_deadline d ≡ true → AreSmall (deadline_words d)
 small_deadline None kept = tt
-small_deadline (Some n) kept = let l : n ≤ 18446744073709551615 = leb-true n 18446744073709551615 kept in (small (codes "AT") refl, small_decimal n (omega (arith, l)), tt)
+small_deadline (Some n) kept = let l : n ≤ 18446744073709551615 = leb-true n 18446744073709551615 kept in (small (codes "AT") refl, (small_decimal n (omega (arith, l)), tt))
 
 deadline_count : (d : Option ℕ) → length (deadline_words d) ≤ 2
 deadline_count None = omega arith
@@ -119,10 +119,10 @@ front_count o =
 
 front_small : (o : Object) → is_kept (Put o) ≡ true → AreSmall (front o)
 front_small o kept =
-    (small (codes "SET") refl, small_name o.key (key_kept o kept), small_name o.id (id_kept o kept),
+    (small (codes "SET") refl, (small_name o.key (key_kept o kept), (small_name o.id (id_kept o kept),
       small_append (texts o.fields ++ deadline_words o.deadline) (codes "OBJECT" ∷ [])
       (small_append (texts o.fields) (deadline_words o.deadline) (small_texts o.fields (fields_kept o kept).kept) (small_deadline o.deadline (deadline_kept o kept)))
-      (small (codes "OBJECT") refl, tt))
+      (small (codes "OBJECT") refl, tt))))
 
 put_fits : (o : Object) → is_kept (Put o) ≡ true → length o.fields ≤ most_fields → length o.text ≤ max_word → IsRequest (record_words (Put o))
 put_fits o kept few short =
@@ -146,8 +146,8 @@ records_fit = record {
       put_fits (record o { deadline = deadline }) (all_kept (record o { deadline = deadline }) (key_kept o kept) (id_kept o kept) (fields_kept o kept) also) within.0 within.1;
   dels = λ key id kept.
       let parts = both_of (is_name key) (is_name id) kept in
-      all_small (record_words (Del key id)) (small (codes "DEL") refl, small_name key parts.0, small_name id parts.1, tt) refl refl;
-  drops = λ key kept. all_small (record_words (Drop key)) (small (codes "DROP") refl, small_name key kept, tt) refl refl;
+      all_small (record_words (Del key id)) (small (codes "DEL") refl, (small_name key parts.0, (small_name id parts.1, tt))) refl refl;
+  drops = λ key kept. all_small (record_words (Drop key)) (small (codes "DROP") refl, (small_name key kept, tt)) refl refl;
   flush = all_small (record_words Flush) (small (codes "FLUSHDB") refl, tt) refl refl;
-  channel_ends = λ name kept. all_small (record_words (DelChan name)) (small (codes "DELCHAN") refl, small_name name kept, tt) refl refl;
+  channel_ends = λ name kept. all_small (record_words (DelChan name)) (small (codes "DELCHAN") refl, (small_name name kept, tt)) refl refl;
 }
