@@ -1,0 +1,64 @@
+-- Takes, one behind another.
+use Rattle.std.proofs.Common.{◌≡◌, ◌⊎◌, ℕ, ◌+◌, Bool, true, false, List, [], ◌∷◌, ◌++◌, refl, sym, ap, ◌∙◌, subst, arith, append_assoc}
+use Rattle.std.specs.Prelude.{map, Some}
+use Rattle.std.proofs.lemmas.List.{map-append}
+use Rattle.byte_text.specs.Names.{Bytes}
+use Rattle.world_data.specs.Frames.{frame_bytes}
+use Rattle.world_model.specs.declared.events.Event.TheVariants as event
+use Rattle.world_model.specs.declared.events.Outcome.{Outcome}
+use Rattle.world_model.specs.declared.events.Outcome.TheVariants as outcome
+use Rattle.world_model.specs.Seats.{Knows, Act, Adds}
+use Rattle.session_run.specs.Gains.{Gains, SeesLegal, gains_last, made}
+use Rattle.work_gen.specs.Frames.{all_of, messages_in, capped}
+use Rattle.work_gen.specs.Rounds.{gives, drains, fault_by}
+use Rattle.work_gen.specs.Asking.{TakesOn, TakeStops, Drained, DrainStops}
+use Rattle.work_gen.specs.declared.hands.DriveFault.{DriveFault}
+use Rattle.work_gen.specs.declared.tallies.Tally.{Tally}
+use Rattle.work_gen.proofs.Sums.{cap_left, messages_snoc, bytes_snoc}
+
+-- the takes so far
+pub record Draining (n : ℕ) (old now : Knows) (t : Tally) : Type 0 where
+  pub takes : List (List Bytes)
+  pub gains : Gains old now (gives n takes)
+  pub heard : t.messages ≡ capped (messages_in (all_of takes))
+  pub given : t.bytes ≡ capped (frame_bytes (all_of takes))
+
+pub draining_start : (n : ℕ) (old : Knows) (t : Tally) → t ≡ record { messages = 0; bytes = 0 } → Draining n old old t
+draining_start n old t none = record {
+  takes = [];
+  gains = refl;
+  heard = ap (λ (u : Tally). u.messages) none;
+  given = ap (λ (u : Tally). u.bytes) none;
+}
+
+gives_snoc : (n : ℕ) (takes : List (List Bytes)) (frames : List Bytes) → gives n (takes ++ frames ∷ []) ≡ gives n takes ++ (event.Take n, outcome.Given frames) ∷ []
+gives_snoc n takes frames = map-append (λ (f : List Bytes). let a : Act = (event.Take n, outcome.Given f) in a) takes (frames ∷ [])
+
+pub draining_on : (n : ℕ) (old mid new : Knows) (t u : Tally) → Draining n old mid t → TakesOn true n mid new t u → Draining n old new u
+draining_on n old mid new t u d (frames, adds, messages, bytes) =
+    record {
+      takes = d.takes ++ frames ∷ [];
+      gains = subst (λ (l : List Act). Gains old new l) (sym (gives_snoc n d.takes frames)) (gains_last old mid new (gives n d.takes) (event.Take n, outcome.Given frames) d.gains (made (event.Take n) (outcome.Given frames) mid new adds));
+      heard = messages ∙ ap (λ (k : ℕ). capped (k + messages_in frames)) d.heard ∙ cap_left (messages_in (all_of d.takes)) (messages_in frames) ∙ ap (λ (k : ℕ). capped k) (sym (messages_snoc d.takes frames));
+      given = bytes ∙ ap (λ (k : ℕ). capped (k + frame_bytes frames)) d.given ∙ cap_left (frame_bytes (all_of d.takes)) (frame_bytes frames) ∙ ap (λ (k : ℕ). capped k) (sym (bytes_snoc d.takes frames));
+    }
+
+pub drained : (n : ℕ) (old mid new : Knows) (t u : Tally) → Draining n old mid t → TakesOn false n mid new t u → Drained n old new u
+drained n old mid new t u d (adds, same) =
+    record {
+      takes = d.takes;
+      gains = gains_last old mid new (gives n d.takes) (event.Take n, outcome.Empty) d.gains (made (event.Take n) outcome.Empty mid new adds);
+      heard = ap (λ (v : Tally). v.messages) same ∙ d.heard;
+      given = ap (λ (v : Tally). v.bytes) same ∙ d.given;
+      legal = adds.legal;
+    }
+
+pub drain_stops : (n : ℕ) (old mid new : Knows) (t : Tally) (f : DriveFault) → Draining n old mid t → TakeStops n mid new f → DrainStops n old new f
+drain_stops n old mid new t f d (o, cause, adds) =
+    record {
+      takes = d.takes;
+      last = o;
+      gains = gains_last old mid new (gives n d.takes) (event.Take n, o) d.gains (made (event.Take n) o mid new adds);
+      cause = cause;
+      legal = adds.legal;
+    }

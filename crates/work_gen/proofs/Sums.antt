@@ -1,0 +1,50 @@
+-- Counts that stop at their end, and what lists of frames come to.
+use Rattle.std.proofs.Common.{◌≡◌, ◌≤◌, ℕ, ◌+◌, Bool, true, false, List, [], ◌∷◌, ◌++◌, refl, sym, ap, ◌∙◌, arith, add_assoc}
+use Rattle.std.specs.Prelude.{count_by, flat_map, length}
+use Rattle.std.proofs.lemmas.List.Sums.{sum_by-append}
+use Rattle.std.proofs.lemmas.Grind.{flat_map-append}
+use Rattle.std.proofs.lemmas.List.{append-nil}
+use Rattle.byte_text.specs.Names.{Bytes}
+use Rattle.world_data.specs.Frames.{frame_bytes}
+use Rattle.work_gen.specs.Frames.{is_message, all_of, messages_in, capped}
+
+-- what was cut off is cut off from the sum too
+pub cap_right : (a b : ℕ) → capped (a + capped b) ≡ capped (a + b)
+cap_right a b = omega arith
+
+pub cap_left : (a b : ℕ) → capped (capped a + b) ≡ capped (a + b)
+cap_left a b = omega arith
+
+pub cap_both : (a b : ℕ) → capped (capped a + capped b) ≡ capped (a + b)
+cap_both a b = omega arith
+
+pub cap_three : (a b c : ℕ) → capped (capped (capped a + capped b) + capped c) ≡ capped (a + (b + c))
+cap_three a b c = omega arith
+
+pub cap_assoc : (a b c : ℕ) → capped ((a + b) + c) ≡ capped (a + (b + c))
+cap_assoc a b c = omega arith
+
+count_cons : (p : Bytes → Bool) (x : Bytes) (xs : List Bytes) → count_by p (x ∷ xs) ≡ count_by p (x ∷ []) + count_by p xs
+count_cons p x xs = by (p x) refl
+  where
+    by : (b : Bool) → p x ≡ b → count_by p (x ∷ xs) ≡ count_by p (x ∷ []) + count_by p xs
+    by true e = grind (arith, e)
+    by false e = grind (arith, e)
+
+pub count_more : (p : Bytes → Bool) (xs ys : List Bytes) → count_by p (xs ++ ys) ≡ count_by p xs + count_by p ys
+count_more p [] ys = omega arith
+count_more p (x ∷ xs) ys =
+    let rest = count_more p xs ys in
+    let first = count_cons p x (xs ++ ys) in
+    let last = count_cons p x xs in
+    omega (arith, first, last, rest)
+
+pub all_snoc : (takes : List (List Bytes)) (frames : List Bytes) → all_of (takes ++ frames ∷ []) ≡ all_of takes ++ frames
+all_snoc takes frames =
+    flat_map-append (λ (f : List Bytes). f) takes (frames ∷ []) ∙ ap (λ (l : List Bytes). all_of takes ++ l) (append-nil frames)
+
+pub messages_snoc : (takes : List (List Bytes)) (frames : List Bytes) → messages_in (all_of (takes ++ frames ∷ [])) ≡ messages_in (all_of takes) + messages_in frames
+messages_snoc takes frames = ap (λ (l : List Bytes). messages_in l) (all_snoc takes frames) ∙ count_more is_message (all_of takes) frames
+
+pub bytes_snoc : (takes : List (List Bytes)) (frames : List Bytes) → frame_bytes (all_of (takes ++ frames ∷ [])) ≡ frame_bytes (all_of takes) + frame_bytes frames
+bytes_snoc takes frames = ap (λ (l : List Bytes). frame_bytes l) (all_snoc takes frames) ∙ sum_by-append (λ (f : Bytes). length f) (all_of takes) frames

@@ -1,0 +1,144 @@
+//! One request, and the frames that follow it.
+
+ghost use Rattle.std.specs.Prelude.{◌≡◌, [], ◌∷◌, true, IfOk, IfErr};
+ghost use Rattle.world_data.specs.Limits.{take_frames};
+ghost use Rattle.world_model.specs.Outcomes.{is_proper};
+ghost use Rattle.world_model.specs.declared.events.Asked.TheVariants.{Words};
+ghost use Rattle.world_model.specs.declared.events.Called.TheVariants as called;
+ghost use Rattle.work_gen.specs.Asking.{CallsBy, CallStops, TakesOn, TakeStops, Drained, DrainStops};
+ghost use Rattle.work_gen.specs.Rounds.{Goes, Stops};
+
+use crate::hands::{DriveFault, Hand, Pair, asker, fault_of};
+use crate::tallies::Tally;
+use byte_text::Request;
+use std::sync::Wait;
+use world_model::{Asked, AskedList, Frames, HallApi, Taken, Touched};
+
+/// Makes the call of a request at moment 0.
+pub(crate) fn call_one<H: HallApi, R: Wait>(
+    rt: &R,
+    hall: &H,
+    seat: &mut H::Seat,
+    session: u32,
+    words: Request,
+    asked: AskedList,
+    touched: Touched,
+) -> Result<(AskedList, Touched), DriveFault>
+    requires seat { H.is_of hall.now seat.old }
+    requires none { asked ≡ [] }
+    requires proper { is_proper (Words words) ≡ true }
+    ensures seat { H.is_of hall.now seat.new }
+    ensures none { IfOk result (λ r. r.0 ≡ []) }
+    ensures ok { IfOk result (λ _. CallsBy session words called.Ok (H.knows seat.old) (H.knows seat.new)) }
+    ensures err { IfErr result (λ f. CallStops session words (H.knows seat.old) (H.knows seat.new) f) }
+{
+    let mut asked = asked;
+    let Ok(()) = asked.push(Asked::Words(words)) else {
+        return Err(DriveFault::Memory);
+    };
+    let (answers, back, touched) = hall.calls(rt, seat, session, 0, asked, touched);
+    match fault_of(answers.end) {
+        Some(fault) => Err(fault),
+        None => {
+            let mut asked = back;
+            asked.clear();
+            Ok((asked, touched))
+        }
+    }
+}
+
+// Takes once, and counts what was given. `false` where there was no frame.
+fn take_turn<H: HallApi, R: Wait>(
+    rt: &R,
+    hall: &H,
+    seat: &mut H::Seat,
+    session: u32,
+    frames: &mut Frames,
+    tally: &mut Tally,
+) -> Result<bool, DriveFault>
+    requires seat { H.is_of hall.now seat.old }
+    requires bare { frames.old.list ≡ [] }
+    requires places { frames.old.places ≡ take_frames }
+    ensures seat { H.is_of hall.now seat.new }
+    ensures bare { IfOk result (λ _. frames.new.list ≡ []) }
+    ensures places { IfOk result (λ _. frames.new.places ≡ take_frames) }
+    ensures ok { IfOk result (λ more. TakesOn more session (H.knows seat.old) (H.knows seat.new) tally.old tally.new) }
+    ensures err { IfErr result (λ f. TakeStops session (H.knows seat.old) (H.knows seat.new) f) }
+{
+    match hall.take(rt, seat, session, frames) {
+        Taken::Some(_) => {
+            tally.add_all(frames);
+            frames.clear();
+            Ok(true)
+        }
+        Taken::Empty => {
+            frames.clear();
+            Ok(false)
+        }
+        Taken::Ended => Err(DriveFault::Gone),
+        Taken::LogFault => Err(DriveFault::LogFault),
+        Taken::Stopped => Err(DriveFault::Stopped),
+    }
+}
+
+/// Takes a session's frames until there is none, and counts them.
+pub(crate) fn drain<H: HallApi, R: Wait>(
+    rt: &R,
+    hall: &H,
+    seat: &mut H::Seat,
+    session: u32,
+    frames: &mut Frames,
+) -> Result<Tally, DriveFault>
+    requires seat { H.is_of hall.now seat.old }
+    requires bare { frames.old.list ≡ [] }
+    requires places { frames.old.places ≡ take_frames }
+    ensures seat { H.is_of hall.now seat.new }
+    ensures bare { IfOk result (λ _. frames.new.list ≡ []) }
+    ensures places { IfOk result (λ _. frames.new.places ≡ take_frames) }
+    ensures ok { IfOk result (λ t. Drained session (H.knows seat.old) (H.knows seat.new) t) }
+    ensures err { IfErr result (λ f. DrainStops session (H.knows seat.old) (H.knows seat.new) f) }
+{
+    let mut tally = Tally::new();
+    for _ in rt.forever() {
+        let more = take_turn(rt, hall, seat, session, frames, &mut tally)?;
+        if !more {
+            return Ok(tally);
+        }
+    }
+    unreachable!()
+}
+
+/// Makes the call of a request, takes the frames of both sessions, and counts them: the messages of the listener's, and the bytes of
+/// all.
+pub(crate) fn ask<H: HallApi, R: Wait>(
+    rt: &R,
+    hall: &H,
+    seat: &mut H::Seat,
+    pair: &Pair,
+    listens: bool,
+    words: Request,
+    hand: Hand,
+) -> Result<Hand, DriveFault>
+    requires seat { H.is_of hall.now seat.old }
+    requires proper { is_proper (Words words) ≡ true }
+    ensures seat { H.is_of hall.now seat.new }
+    ensures ok { IfOk result (λ h. Goes pair.now (record { listens = listens; words = words } ∷ []) (H.knows seat.old) (H.knows seat.new) hand.tally h.tally) }
+    ensures err { IfErr result (λ f. Stops pair.now (record { listens = listens; words = words } ∷ []) (H.knows seat.old) (H.knows seat.new) f) }
+{
+    let Hand {
+        asked,
+        touched,
+        mut frames,
+        tally,
+    } = hand;
+    let session = asker(pair, listens);
+    let (asked, touched) = call_one(rt, hall, seat, session, words, asked, touched)?;
+    let heard = drain(rt, hall, seat, pair.listener, &mut frames)?;
+    let told = drain(rt, hall, seat, pair.sender, &mut frames)?;
+    Ok(Hand {
+        asked,
+        touched,
+        frames,
+        tally: tally.with(heard, told),
+    })
+}
