@@ -1,7 +1,5 @@
 //! A hall of an empty world is driven, and the summary is compared with worked values.
 
-ghost use Rattle.std.specs.Prelude.{◌≡◌};
-
 use byte_text::Text;
 use shared_hall::SharedHall;
 use std::alloc::{AllocError, Global};

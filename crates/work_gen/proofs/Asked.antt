@@ -18,31 +18,34 @@ use Rattle.work_gen.specs.Asking.{CallsBy, CallStops, Drained, DrainStops}
 use Rattle.work_gen.specs.declared.hands.Pair.{Pair}
 use Rattle.work_gen.specs.declared.hands.DriveFault.{DriveFault}
 use Rattle.work_gen.specs.declared.tallies.Tally.{Tally}
-use Rattle.work_gen.proofs.Sums.{cap_both, cap_three}
+use Rattle.work_gen.proofs.Sums.{cap_both, cap_none, cap_three}
 
 module _ (p : Pair) (l : Line) (old : Knows) where
   -- a call that was made is an entry
   is_call : (answer : Called) (new : Knows) → CallsBy (asker p l.listens) l.words answer old new → Gains old new (call_of p l answer ∷ [])
   is_call answer new adds = gains_one old new (call_of p l answer) (made (event.Call (asker p l.listens) 0 (Words l.words)) (outcome.Answered answer) old new adds)
 
-  pub goes_round : (one two new : Knows) (t h s u : Tally)
+  pub goes_round : (one two new : Knows) (t h s a b u : Tally)
       → CallsBy (asker p l.listens) l.words called.Ok old one → Drained p.listener one two h → Drained p.sender two new s
-      → u.messages ≡ capped (t.messages + h.messages) → u.bytes ≡ capped (capped (t.bytes + h.bytes) + s.bytes)
+      → a.messages ≡ capped (t.messages + h.messages) → a.bytes ≡ capped (t.bytes + h.bytes) → b ≡ record { messages = 0; bytes = s.bytes }
+      → u.messages ≡ capped (a.messages + b.messages) → u.bytes ≡ capped (a.bytes + b.bytes)
       → Goes p (l ∷ []) old new t u
-  goes_round one two new t h s u call heard told messages bytes =
+  goes_round one two new t h s a b u call heard told am ab bs um ub =
       let r : Round = record { line = l; heard = heard.takes; told = told.takes } in
       let m = messages_in (all_of heard.takes) in
-      let b = frame_bytes (all_of heard.takes) in
-      let c = frame_bytes (all_of told.takes) in
+      let messages : u.messages ≡ capped (capped (t.messages + h.messages) + 0) = um ∙ ap (λ (k : ℕ). capped (k + b.messages)) am ∙ ap (λ (v : Tally). capped (capped (t.messages + h.messages) + v.messages)) bs in
+      let bytes : u.bytes ≡ capped (capped (t.bytes + h.bytes) + s.bytes) = ub ∙ ap (λ (k : ℕ). capped (k + b.bytes)) ab ∙ ap (λ (v : Tally). capped (capped (t.bytes + h.bytes) + v.bytes)) bs in
+      let hb = frame_bytes (all_of heard.takes) in
+      let tb = frame_bytes (all_of told.takes) in
       record {
         rounds = r ∷ [];
         asked = refl;
         gains = subst (λ (a : List Act). Gains old new a) (sym (append-nil (round_acts p r)))
             (gains_more old one new (call_of p l called.Ok ∷ []) (drains p.listener heard.takes ++ drains p.sender told.takes) (is_call called.Ok one call)
             (gains_more one two new (drains p.listener heard.takes) (drains p.sender told.takes) heard.gains told.gains));
-        heard = λ n e. messages ∙ ap (λ (k : ℕ). capped (k + h.messages)) e ∙ ap (λ (k : ℕ). capped (capped n + k)) heard.heard ∙ cap_both n m ∙ ap (λ (k : ℕ). capped (n + k)) (omega arith);
+        heard = λ n e. messages ∙ cap_none (t.messages + h.messages) ∙ ap (λ (k : ℕ). capped (k + h.messages)) e ∙ ap (λ (k : ℕ). capped (capped n + k)) heard.heard ∙ cap_both n m ∙ ap (λ (k : ℕ). capped (n + k)) (omega arith);
         given = λ n e. bytes ∙ ap (λ (k : ℕ). capped (capped (k + h.bytes) + s.bytes)) e ∙ ap (λ (k : ℕ). capped (capped (capped n + k) + s.bytes)) heard.given
-            ∙ ap (λ (k : ℕ). capped (capped (capped n + capped b) + k)) told.given ∙ cap_three n b c ∙ ap (λ (k : ℕ). capped (n + k)) (omega arith);
+            ∙ ap (λ (k : ℕ). capped (capped (capped n + capped hb) + k)) told.given ∙ cap_three n hb tb ∙ ap (λ (k : ℕ). capped (n + k)) (omega arith);
         kept = λ _. told.legal;
       }
 

@@ -1,10 +1,11 @@
 -- The one call of a turn.
-use Rattle.std.proofs.Common.{◌≡◌, ℕ, List, [], ◌∷◌, refl, sym, ap, ◌∙◌, subst, arith}
-use Rattle.std.specs.Prelude.{Option, Some, None}
+use Rattle.std.proofs.Common.{◌≡◌, ℕ, ◌<◌, ◌≤◌, Bool, true, List, [], ◌∷◌, length, refl, sym, ap, ◌∙◌, subst, arith, lit<, lit≤}
+use Rattle.std.specs.Prelude.{Option, Some, None, ◌&&◌}
+use Rattle.std.specs.List.{list_all}
 use Rattle.world_model.specs.declared.events.Asked.{Asked}
 use Rattle.world_model.specs.declared.events.Called.{Called}
 use Rattle.world_model.specs.declared.events.Called.TheVariants as called
-use Rattle.world_model.specs.Outcomes.{call_act, call_acts, IsCount}
+use Rattle.world_model.specs.Outcomes.{is_proper, call_act, call_acts, IsCount}
 use Rattle.world_model.specs.Seats.{Knows, Act, AddsCalls}
 use Rattle.work_gen.specs.Rounds.{fault_of}
 
@@ -19,9 +20,19 @@ one_answer n served a called.Spent c = let z : served ≡ 0 = omega (arith, c) i
 one_answer n served a called.Memory c = let z : served ≡ 0 = omega (arith, c) in ap (λ (k : ℕ). call_acts n 0 (a ∷ []) k called.Memory) z
 
 -- the answer of the one call stands in the history
-pub one_added : (n served : ℕ) (asked : List Asked) (a : Asked) (end : Called) (old new : Knows) → asked ≡ a ∷ [] → IsCount served end 1 → AddsCalls (call_acts n 0 asked served end) old new → AddsCalls (call_act n 0 end a ∷ []) old new
+pub one_added : (n served : ℕ) (asked : List Asked) (a : Asked) (end : Called) (old new : Knows) → asked ≡ a ∷ [] → IsCount served end (length asked) → AddsCalls (call_acts n 0 asked served end) old new → AddsCalls (call_act n 0 end a ∷ []) old new
 one_added n served asked a end old new is count adds =
-    subst (λ (l : List Act). AddsCalls l old new) (ap (λ (l : List Asked). call_acts n 0 l served end) is ∙ one_answer n served a end count) adds
+    let one = subst (λ (l : List Asked). IsCount served end (length l)) is count in
+    subst (λ (l : List Act). AddsCalls l old new) (ap (λ (l : List Asked). call_acts n 0 l served end) is ∙ one_answer n served a end one) adds
+
+pub one_some : (asked : List Asked) (a : Asked) → asked ≡ a ∷ [] → 0 < length asked
+one_some asked a is = subst (λ (l : List Asked). 0 < length l) (sym is) (lit< tt)
+
+pub one_few : (asked : List Asked) (a : Asked) → asked ≡ a ∷ [] → length asked ≤ 64
+one_few asked a is = subst (λ (l : List Asked). length l ≤ 64) (sym is) (lit≤ tt)
+
+pub one_proper : (asked : List Asked) (a : Asked) → asked ≡ a ∷ [] → is_proper a ≡ true → list_all is_proper asked ≡ true
+one_proper asked a is proper = ap (λ (l : List Asked). list_all is_proper l) is ∙ ap (λ (b : Bool). b && true) proper
 
 pub is_ok : (end : Called) → fault_of end ≡ None → end ≡ called.Ok
 is_ok called.Ok e = refl

@@ -1,6 +1,6 @@
 -- Takes, one behind another.
 use Rattle.std.proofs.Common.{◌≡◌, ◌⊎◌, ℕ, ◌+◌, Bool, true, false, List, [], ◌∷◌, ◌++◌, refl, sym, ap, ◌∙◌, subst, arith, append_assoc}
-use Rattle.std.specs.Prelude.{map, Some}
+use Rattle.std.specs.Prelude.{map, Option, Some, None}
 use Rattle.std.proofs.lemmas.List.{map-append}
 use Rattle.byte_text.specs.Names.{Bytes}
 use Rattle.world_data.specs.Frames.{frame_bytes}
@@ -14,7 +14,7 @@ use Rattle.work_gen.specs.Rounds.{gives, drains, fault_by}
 use Rattle.work_gen.specs.Asking.{TakesOn, TakeStops, Drained, DrainStops}
 use Rattle.work_gen.specs.declared.hands.DriveFault.{DriveFault}
 use Rattle.work_gen.specs.declared.tallies.Tally.{Tally}
-use Rattle.work_gen.proofs.Sums.{cap_left, messages_snoc, bytes_snoc}
+use Rattle.work_gen.proofs.Sums.{cap_both, messages_snoc, bytes_snoc}
 
 -- the takes so far
 pub record Draining (n : ℕ) (old now : Knows) (t : Tally) : Type 0 where
@@ -34,22 +34,24 @@ draining_start n old t none = record {
 gives_snoc : (n : ℕ) (takes : List (List Bytes)) (frames : List Bytes) → gives n (takes ++ frames ∷ []) ≡ gives n takes ++ (event.Take n, outcome.Given frames) ∷ []
 gives_snoc n takes frames = map-append (λ (f : List Bytes). let a : Act = (event.Take n, outcome.Given f) in a) takes (frames ∷ [])
 
-pub draining_on : (n : ℕ) (old mid new : Knows) (t u : Tally) → Draining n old mid t → TakesOn true n mid new t u → Draining n old new u
-draining_on n old mid new t u d (frames, adds, messages, bytes) =
+pub draining_on : (n : ℕ) (old mid new : Knows) (t v u : Tally) → Draining n old mid t → TakesOn (Some v) n mid new → u.messages ≡ capped (t.messages + v.messages) → u.bytes ≡ capped (t.bytes + v.bytes) → Draining n old new u
+draining_on n old mid new t v u d (frames, adds, heard, given) messages bytes =
+    let m = messages_in (all_of d.takes) in
+    let b = frame_bytes (all_of d.takes) in
     record {
       takes = d.takes ++ frames ∷ [];
       gains = subst (λ (l : List Act). Gains old new l) (sym (gives_snoc n d.takes frames)) (gains_last old mid new (gives n d.takes) (event.Take n, outcome.Given frames) d.gains (made (event.Take n) (outcome.Given frames) mid new adds));
-      heard = messages ∙ ap (λ (k : ℕ). capped (k + messages_in frames)) d.heard ∙ cap_left (messages_in (all_of d.takes)) (messages_in frames) ∙ ap (λ (k : ℕ). capped k) (sym (messages_snoc d.takes frames));
-      given = bytes ∙ ap (λ (k : ℕ). capped (k + frame_bytes frames)) d.given ∙ cap_left (frame_bytes (all_of d.takes)) (frame_bytes frames) ∙ ap (λ (k : ℕ). capped k) (sym (bytes_snoc d.takes frames));
+      heard = messages ∙ ap (λ (k : ℕ). capped (k + v.messages)) d.heard ∙ ap (λ (k : ℕ). capped (capped m + k)) heard ∙ cap_both m (messages_in frames) ∙ ap (λ (k : ℕ). capped k) (sym (messages_snoc d.takes frames));
+      given = bytes ∙ ap (λ (k : ℕ). capped (k + v.bytes)) d.given ∙ ap (λ (k : ℕ). capped (capped b + k)) given ∙ cap_both b (frame_bytes frames) ∙ ap (λ (k : ℕ). capped k) (sym (bytes_snoc d.takes frames));
     }
 
-pub drained : (n : ℕ) (old mid new : Knows) (t u : Tally) → Draining n old mid t → TakesOn false n mid new t u → Drained n old new u
-drained n old mid new t u d (adds, same) =
+pub drained : (n : ℕ) (old mid new : Knows) (t : Tally) → Draining n old mid t → TakesOn None n mid new → Drained n old new t
+drained n old mid new t d adds =
     record {
       takes = d.takes;
       gains = gains_last old mid new (gives n d.takes) (event.Take n, outcome.Empty) d.gains (made (event.Take n) outcome.Empty mid new adds);
-      heard = ap (λ (v : Tally). v.messages) same ∙ d.heard;
-      given = ap (λ (v : Tally). v.bytes) same ∙ d.given;
+      heard = d.heard;
+      given = d.given;
       legal = adds.legal;
     }
 

@@ -8,13 +8,14 @@ use Rattle.byte_text.specs.Names.{Bytes}
 use Rattle.world_model.specs.Seats.{Knows, Act}
 use Rattle.session_run.specs.Gains.{Gains, SeesLegal, gains_more}
 use Rattle.work_gen.specs.Frames.{all_of, messages_in, capped}
-use Rattle.work_gen.specs.Workload.{Line}
+use Rattle.work_gen.specs.Workload.{Line, heard, subscribing, channels, commands, lines}
 use Rattle.work_gen.specs.Rounds.{Round, Goes, Stops, IsCut, IsCause, round_acts, rounds_acts, lines_of, messages, bytes, round_bytes}
 use Rattle.work_gen.specs.declared.hands.Pair.{Pair}
 use Rattle.work_gen.specs.declared.hands.DriveFault.{DriveFault}
 use Rattle.work_gen.specs.declared.hands.DriveFault.TheVariants as fault
 use Rattle.work_gen.specs.declared.tallies.Tally.{Tally}
 use Rattle.work_gen.proofs.Sums.{cap_assoc}
+use Rattle.work_gen.proofs.Lined.{lines_are}
 
 lines_more : (a b : List Round) → lines_of (a ++ b) ≡ lines_of a ++ lines_of b
 lines_more a b = map-append (λ (r : Round). r.line) a b
@@ -117,3 +118,24 @@ module _ (p : Pair) where
   pub to_memory : (whole rest : List Line) (old mid : Knows) (t u : Tally) (f : DriveFault) → f ≡ fault.Memory → GoesTo whole rest old mid t u → Stops p whole old mid f
   to_memory whole rest old mid t u f memory g =
       subst (λ (m : List Line). Stops p m old mid f) g.is (stops_more g.front rest old mid mid t u f g.goes (stops_memory rest mid f memory))
+
+  -- the three parts of the workload
+
+  module _ (n seed : ℕ) (old one two new : Knows) (t u v : Tally) where
+    pub goes_lines : (w : Tally) → Goes p (heard subscribing ∷ []) old one t u → Goes p (channels 0 16) one two u v → Goes p (commands n n seed) two new v w → Goes p (lines n seed) old new t w
+    goes_lines w a b c =
+        subst (λ (l : List Line). Goes p l old new t w) (lines_are n seed)
+        (goes_more (heard subscribing ∷ []) (channels 0 16 ++ commands n n seed) old one new t u w a (goes_more (channels 0 16) (commands n n seed) one two new u v w b c))
+
+    pub stops_first : (f : DriveFault) → Stops p (heard subscribing ∷ []) old new f → Stops p (lines n seed) old new f
+    stops_first f s = subst (λ (l : List Line). Stops p l old new f) (lines_are n seed) (stops_within (heard subscribing ∷ []) (channels 0 16 ++ commands n n seed) old new f s)
+
+    pub stops_channels : (f : DriveFault) → Goes p (heard subscribing ∷ []) old one t u → Stops p (channels 0 16) one new f → Stops p (lines n seed) old new f
+    stops_channels f a s =
+        subst (λ (l : List Line). Stops p l old new f) (lines_are n seed)
+        (stops_more (heard subscribing ∷ []) (channels 0 16 ++ commands n n seed) old one new t u f a (stops_within (channels 0 16) (commands n n seed) one new f s))
+
+    pub stops_commands : (f : DriveFault) → Goes p (heard subscribing ∷ []) old one t u → Goes p (channels 0 16) one two u v → Stops p (commands n n seed) two new f → Stops p (lines n seed) old new f
+    stops_commands f a b s =
+        subst (λ (l : List Line). Stops p l old new f) (lines_are n seed)
+        (stops_more (heard subscribing ∷ []) (channels 0 16 ++ commands n n seed) old one new t u f a (stops_more (channels 0 16) (commands n n seed) one two new u v f b s))

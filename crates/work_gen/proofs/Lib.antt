@@ -6,3 +6,4 @@ pub mod Draining
 pub mod Asked
 pub mod Going
 pub mod Driving
+pub mod Told

@@ -1,5 +1,5 @@
 -- The calls and takes of a round, one by one.
-use Rattle.std.specs.Prelude.{◌≡◌, ◌≢◌, ◌⊎◌, ℕ, ◌+◌, ◌<◌, ◌^◌, Bool, true, false, List, [], ◌∷◌, ◌++◌, Option, Some, None}
+use Rattle.std.specs.Prelude.{◌≡◌, ◌⊎◌, ℕ, List, [], ◌∷◌, ◌++◌, Option, Some, None}
 use Rattle.byte_text.specs.Names.{Bytes}
 use Rattle.world_data.specs.Frames.{frame_bytes}
 use Rattle.world_model.specs.declared.events.Asked.TheVariants.{Words}
@@ -24,13 +24,13 @@ CallsBy n words answer old new = Adds (event.Call n 0 (Words words)) (outcome.An
 abbrev pub CallStops : ℕ → List Bytes → Knows → Knows → DriveFault → Type 0
 CallStops n words old new f = ((f ≡ fault.Memory) × (new ≡ old)) ⊎ ((answer : Called) × (fault_of answer ≡ Some f) × CallsBy n words answer old new)
 
--- a take gave frames, which were counted, or there was none
-abbrev pub TakesOn : Bool → ℕ → Knows → Knows → Tally → Tally → Type 0
-TakesOn true n old new t t' = (frames : List Bytes)
+-- a take gave frames, which come to this, or there was none
+abbrev pub TakesOn : Option Tally → ℕ → Knows → Knows → Type 0
+TakesOn (Some t) n old new = (frames : List Bytes)
     × Adds (event.Take n) (outcome.Given frames) old new
-    × (t'.messages ≡ capped (t.messages + messages_in frames))
-    × (t'.bytes ≡ capped (t.bytes + frame_bytes frames))
-TakesOn false n old new t t' = Adds (event.Take n) outcome.Empty old new × (t' ≡ t)
+    × (t.messages ≡ capped (messages_in frames))
+    × (t.bytes ≡ capped (frame_bytes frames))
+TakesOn None n old new = Adds (event.Take n) outcome.Empty old new
 
 -- a take was answered otherwise
 abbrev pub TakeStops : ℕ → Knows → Knows → DriveFault → Type 0

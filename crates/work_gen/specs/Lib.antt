@@ -1,4 +1,5 @@
 pub mod Draws
+pub mod Brief
 pub mod Words
 pub mod Workload
 pub mod Frames

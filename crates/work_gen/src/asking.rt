@@ -47,33 +47,32 @@ pub(crate) fn call_one<H: HallApi, R: Wait>(
     }
 }
 
-// Takes once, and counts what was given. `false` where there was no frame.
+// Takes once. What the frames come to; none where there was no frame.
 fn take_turn<H: HallApi, R: Wait>(
     rt: &R,
     hall: &H,
     seat: &mut H::Seat,
     session: u32,
     frames: &mut Frames,
-    tally: &mut Tally,
-) -> Result<bool, DriveFault>
+) -> Result<Option<Tally>, DriveFault>
     requires seat { H.is_of hall.now seat.old }
     requires bare { frames.old.list ≡ [] }
     requires places { frames.old.places ≡ take_frames }
     ensures seat { H.is_of hall.now seat.new }
     ensures bare { IfOk result (λ _. frames.new.list ≡ []) }
     ensures places { IfOk result (λ _. frames.new.places ≡ take_frames) }
-    ensures ok { IfOk result (λ more. TakesOn more session (H.knows seat.old) (H.knows seat.new) tally.old tally.new) }
+    ensures ok { IfOk result (λ given. TakesOn given session (H.knows seat.old) (H.knows seat.new)) }
     ensures err { IfErr result (λ f. TakeStops session (H.knows seat.old) (H.knows seat.new) f) }
 {
     match hall.take(rt, seat, session, frames) {
         Taken::Some(_) => {
-            tally.add_all(frames);
+            let given = Tally::of(frames);
             frames.clear();
-            Ok(true)
+            Ok(Some(given))
         }
         Taken::Empty => {
             frames.clear();
-            Ok(false)
+            Ok(None)
         }
         Taken::Ended => Err(DriveFault::Gone),
         Taken::LogFault => Err(DriveFault::LogFault),
@@ -81,7 +80,7 @@ fn take_turn<H: HallApi, R: Wait>(
     }
 }
 
-/// Takes a session's frames until there is none, and counts them.
+/// Takes a session's frames until there is none. What they come to.
 pub(crate) fn drain<H: HallApi, R: Wait>(
     rt: &R,
     hall: &H,
@@ -100,9 +99,10 @@ pub(crate) fn drain<H: HallApi, R: Wait>(
 {
     let mut tally = Tally::new();
     for _ in rt.forever() {
-        let more = take_turn(rt, hall, seat, session, frames, &mut tally)?;
-        if !more {
-            return Ok(tally);
+        let given = take_turn(rt, hall, seat, session, frames)?;
+        match given {
+            Some(more) => tally = tally.plus(more),
+            None => return Ok(tally),
         }
     }
     unreachable!()
@@ -135,10 +135,13 @@ pub(crate) fn ask<H: HallApi, R: Wait>(
     let (asked, touched) = call_one(rt, hall, seat, session, words, asked, touched)?;
     let heard = drain(rt, hall, seat, pair.listener, &mut frames)?;
     let told = drain(rt, hall, seat, pair.sender, &mut frames)?;
+    let first = tally.plus(heard);
+    let bytes = told.unheard();
+    let tally = first.plus(bytes);
     Ok(Hand {
         asked,
         touched,
         frames,
-        tally: tally.with(heard, told),
+        tally,
     })
 }

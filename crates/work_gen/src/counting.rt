@@ -19,12 +19,20 @@ fn number_before_end(rest: &[u8]) -> Option<u64>
         ((n : ℕ) → n < 2 ^ 64 → rest.now ≢ decimal n ++ line_end)
         (λ n. rest.now ≡ decimal n ++ line_end) }
 {
-    let (digits, end) = rest.split_last_chunk::<2>()?;
+    let Some((digits, end)) = rest.split_last_chunk::<2>() else {
+        return None;
+    };
     let [cr, lf] = *end;
-    if cr != b'\r' || lf != b'\n' {
+    if cr != b'\r' {
         return None;
     }
-    read_u64(digits).ok()
+    if lf != b'\n' {
+        return None;
+    }
+    match read_u64(digits) {
+        Ok(n) => Some(n),
+        Err(_) => None,
+    }
 }
 
 // The number that a frame tells.
@@ -109,6 +117,6 @@ pub(crate) fn count_objects<H: HallApi, R: Wait>(
     let Ok(words) = counting(alloc) else {
         return Err(DriveFault::Memory);
     };
-    let _called = call_one(rt, hall, seat, session, words, asked, touched)?;
+    call_one(rt, hall, seat, session, words, asked, touched)?;
     take_number(rt, hall, seat, session, frames)
 }

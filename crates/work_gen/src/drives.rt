@@ -71,7 +71,8 @@ fn set_channels<H: HallApi, R: Wait>(
         let Ok(words) = channel(alloc, i) else {
             return Err(DriveFault::Memory);
         };
-        hand = ask(rt, hall, seat, pair, false, words, hand)?;
+        let next = ask(rt, hall, seat, pair, false, words, hand)?;
+        hand = next;
     }
     Ok(hand)
 }
@@ -99,7 +100,8 @@ fn send_commands<H: HallApi, R: Wait>(
         let Ok(words) = command(alloc, n, &mut draws) else {
             return Err(DriveFault::Memory);
         };
-        hand = ask(rt, hall, seat, pair, false, words, hand)?;
+        let next = ask(rt, hall, seat, pair, false, words, hand)?;
+        hand = next;
         left -= 1;
     }
     Ok(hand)

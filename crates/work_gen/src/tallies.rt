@@ -27,38 +27,47 @@ impl Tally {
         }
     }
 
-    /// The messages of the first, and the bytes of both, on top of these.
-    pub(crate) fn with(self, heard: Tally, told: Tally) -> Tally
-        ensures messages { result.messages ≡ capped (self.messages + heard.messages) }
-        ensures bytes { result.bytes ≡ capped (capped (self.bytes + heard.bytes) + told.bytes) }
+    // Of one frame.
+    fn of_one(frame: &[u8]) -> Tally
+        ensures messages { result.messages ≡ messages_in (frame.now ∷ []) }
+        ensures bytes { result.bytes ≡ length frame.now }
     {
         Tally {
-            messages: self.messages.saturating_add(heard.messages),
-            bytes: self
-                .bytes
-                .saturating_add(heard.bytes)
-                .saturating_add(told.bytes),
+            messages: if frame.starts_with(MESSAGE) { 1 } else { 0 },
+            bytes: frame.len() as u64,
         }
     }
 
-    // Counts a frame.
-    fn add(&mut self, frame: &[u8])
-        ensures messages { self.new.messages ≡ capped (self.old.messages + messages_in (frame.now ∷ [])) }
-        ensures bytes { self.new.bytes ≡ capped (self.old.bytes + length frame.now) }
+    /// Of these frames.
+    pub(crate) fn of(frames: &Frames) -> Tally
+        ensures messages { result.messages ≡ capped (messages_in frames.now.list) }
+        ensures bytes { result.bytes ≡ capped (frame_bytes frames.now.list) }
     {
-        if frame.starts_with(MESSAGE) {
-            self.messages = self.messages.saturating_add(1);
-        }
-        self.bytes = self.bytes.saturating_add(frame.len() as u64);
-    }
-
-    /// Counts these frames.
-    pub(crate) fn add_all(&mut self, frames: &Frames)
-        ensures messages { self.new.messages ≡ capped (self.old.messages + messages_in frames.now.list) }
-        ensures bytes { self.new.bytes ≡ capped (self.old.bytes + frame_bytes frames.now.list) }
-    {
+        let mut tally = Tally::new();
         for i in 0..frames.len() {
-            self.add(frames.at(i));
+            tally = tally.plus(Tally::of_one(frames.at(i)));
+        }
+        tally
+    }
+
+    /// The bytes alone.
+    pub(crate) fn unheard(self) -> Tally
+        ensures { result ≡ record { messages = 0; bytes = self.bytes } }
+    {
+        Tally {
+            messages: 0,
+            bytes: self.bytes,
+        }
+    }
+
+    /// Both together.
+    pub(crate) fn plus(self, other: Tally) -> Tally
+        ensures messages { result.messages ≡ capped (self.messages + other.messages) }
+        ensures bytes { result.bytes ≡ capped (self.bytes + other.bytes) }
+    {
+        Tally {
+            messages: self.messages.saturating_add(other.messages),
+            bytes: self.bytes.saturating_add(other.bytes),
         }
     }
 }

@@ -1,8 +1,9 @@
 //! The words of the workload, and requests of them.
 
-ghost use Rattle.std.specs.Prelude.{◌≡◌, ◌<◌, ◌≤◌, ◌++◌, OnOk, IfOk, length, decimal, true};
+ghost use Rattle.std.specs.Prelude.{◌≡◌, ◌<◌, ◌≤◌, ◌+◌, ◌++◌, ◌∷◌, [], OnOk, IfOk, length, decimal, true};
 ghost use Rattle.world_model.specs.Outcomes.{is_proper};
 ghost use Rattle.world_model.specs.declared.events.Asked.TheVariants.{Words};
+ghost use Rattle.work_gen.specs.Brief.{AreBrief};
 ghost use Rattle.work_gen.specs.Words.{word_text, texts};
 
 use byte_text::{NoMemory, Request, Text, push_u64};
@@ -78,7 +79,37 @@ fn push_word(into: &mut Text, word: Word) -> Result<(), NoMemory>
     }
 }
 
+// Adds a word to few brief ones.
+#[tactic(auto, using(crate::specs::Brief::brief_fits, crate::specs::Brief::brief_more))]
+fn add(alloc: Global, made: &mut Request, word: Word) -> Result<(), NoMemory>
+    requires brief { AreBrief made.old }
+    requires few { length made.old ≤ 16 }
+    ensures word { OnOk result (made.new ≡ made.old ++ word_text word ∷ []) }
+    ensures brief { OnOk result (AreBrief made.new) }
+{
+    let mut text = Text::new(alloc);
+    push_word(&mut text, word)?;
+    made.push(text.bytes())
+}
+
+// Adds words to few brief ones.
+#[tactic(auto, using(crate::proofs::Fitting::texts_none, crate::proofs::Fitting::texts_more))]
+fn add_all(alloc: Global, made: &mut Request, words: &[Word]) -> Result<(), NoMemory>
+    requires brief { AreBrief made.old }
+    requires few { length made.old + length words.now ≤ 16 }
+    ensures { OnOk result (made.new ≡ made.old ++ texts words.now) }
+{
+    match words {
+        [] => Ok(()),
+        [first, rest @ ..] => {
+            add(alloc, made, *first)?;
+            add_all(alloc, made, rest)
+        }
+    }
+}
+
 /// The request of these words.
+#[tactic(auto, using(crate::specs::Brief::brief_none, crate::proofs::Fitting::proper_some))]
 pub(crate) fn request(alloc: Global, words: &[Word]) -> Result<Request, NoMemory>
     requires some { 0 < length words.now }
     requires few { length words.now ≤ 16 }
@@ -86,10 +117,6 @@ pub(crate) fn request(alloc: Global, words: &[Word]) -> Result<Request, NoMemory
     ensures proper { IfOk result (λ r. is_proper (Words r) ≡ true) }
 {
     let mut made = Request::new(alloc);
-    for word in words {
-        let mut text = Text::new(alloc);
-        push_word(&mut text, *word)?;
-        made.push(text.bytes())?;
-    }
+    add_all(alloc, &mut made, words)?;
     Ok(made)
 }

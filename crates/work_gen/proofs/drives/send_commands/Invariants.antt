@@ -1,0 +1,12 @@
+use Rattle.work_gen.specs.Workload.{commands}
+use Rattle.work_gen.proofs.Going.{GoesTo}
+use Rattle.work_gen.proofs.drives.send_commands.Given as goal
+
+abbrev pub invariant-sending : goal.invariant-sending
+invariant-sending g l = record {
+  seat : g.H.HallApi.is_of l.hall l.seat;
+  going : GoesTo l.pair (commands l.fn.n l.fn.n l.fn.seed) (commands l.fn.n l.left l.draws.state) (g.H.HallApi.knows l.initial.seat) (g.H.HallApi.knows l.seat) l.initial.hand.tally l.hand.tally;
+}
+
+abbrev pub decreases-sending : goal.decreases-sending
+decreases-sending g l = l.left
