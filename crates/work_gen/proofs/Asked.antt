@@ -13,7 +13,7 @@ use Rattle.world_model.specs.Seats.{Knows, Act}
 use Rattle.session_run.specs.Gains.{Gains, SeesLegal, gains_more, gains_one, made}
 use Rattle.work_gen.specs.Frames.{all_of, messages_in, capped}
 use Rattle.work_gen.specs.Workload.{Line}
-use Rattle.work_gen.specs.Rounds.{Round, Goes, Stops, IsCut, Cut, at_call, at_heard, at_told, asker, gives, drains, call_of, round_acts, rounds_acts, round_bytes, cut_acts, fault_of}
+use Rattle.work_gen.specs.Rounds.{Round, Goes, Stops, IsCut, Cut, at_call, at_heard, at_told, asker, gives, drains, call_of, round_acts, rounds_acts, messages, bytes, round_bytes, cut_acts, fault_of}
 use Rattle.work_gen.specs.Asking.{CallsBy, CallStops, Drained, DrainStops}
 use Rattle.work_gen.specs.declared.hands.Pair.{Pair}
 use Rattle.work_gen.specs.declared.hands.DriveFault.{DriveFault}
@@ -33,8 +33,8 @@ module _ (p : Pair) (l : Line) (old : Knows) where
   goes_round one two new t h s a b u call heard told am ab bs um ub =
       let r : Round = record { line = l; heard = heard.takes; told = told.takes } in
       let m = messages_in (all_of heard.takes) in
-      let messages : u.messages ≡ capped (capped (t.messages + h.messages) + 0) = um ∙ ap (λ (k : ℕ). capped (k + b.messages)) am ∙ ap (λ (v : Tally). capped (capped (t.messages + h.messages) + v.messages)) bs in
-      let bytes : u.bytes ≡ capped (capped (t.bytes + h.bytes) + s.bytes) = ub ∙ ap (λ (k : ℕ). capped (k + b.bytes)) ab ∙ ap (λ (v : Tally). capped (capped (t.bytes + h.bytes) + v.bytes)) bs in
+      let mine : u.messages ≡ capped (capped (t.messages + h.messages) + 0) = um ∙ ap (λ (k : ℕ). capped (k + b.messages)) am ∙ ap (λ (v : Tally). capped (capped (t.messages + h.messages) + v.messages)) bs in
+      let ours : u.bytes ≡ capped (capped (t.bytes + h.bytes) + s.bytes) = ub ∙ ap (λ (k : ℕ). capped (k + b.bytes)) ab ∙ ap (λ (v : Tally). capped (capped (t.bytes + h.bytes) + v.bytes)) bs in
       let hb = frame_bytes (all_of heard.takes) in
       let tb = frame_bytes (all_of told.takes) in
       record {
@@ -43,9 +43,9 @@ module _ (p : Pair) (l : Line) (old : Knows) where
         gains = subst (λ (a : List Act). Gains old new a) (sym (append-nil (round_acts p r)))
             (gains_more old one new (call_of p l called.Ok ∷ []) (drains p.listener heard.takes ++ drains p.sender told.takes) (is_call called.Ok one call)
             (gains_more one two new (drains p.listener heard.takes) (drains p.sender told.takes) heard.gains told.gains));
-        heard = λ n e. messages ∙ cap_none (t.messages + h.messages) ∙ ap (λ (k : ℕ). capped (k + h.messages)) e ∙ ap (λ (k : ℕ). capped (capped n + k)) heard.heard ∙ cap_both n m ∙ ap (λ (k : ℕ). capped (n + k)) (omega arith);
-        given = λ n e. bytes ∙ ap (λ (k : ℕ). capped (capped (k + h.bytes) + s.bytes)) e ∙ ap (λ (k : ℕ). capped (capped (capped n + k) + s.bytes)) heard.given
-            ∙ ap (λ (k : ℕ). capped (capped (capped n + capped hb) + k)) told.given ∙ cap_three n hb tb ∙ ap (λ (k : ℕ). capped (n + k)) (omega arith);
+        heard = λ n e. let sum : n + m ≡ n + messages (r ∷ []) = omega arith in mine ∙ cap_none (t.messages + h.messages) ∙ ap (λ (k : ℕ). capped (k + h.messages)) e ∙ ap (λ (k : ℕ). capped (capped n + k)) heard.heard ∙ cap_both n m ∙ ap (λ (k : ℕ). capped k) sum;
+        given = λ n e. let sum : n + (hb + tb) ≡ n + bytes (r ∷ []) = omega arith in ours ∙ ap (λ (k : ℕ). capped (capped (k + h.bytes) + s.bytes)) e ∙ ap (λ (k : ℕ). capped (capped (capped n + k) + s.bytes)) heard.given
+            ∙ ap (λ (k : ℕ). capped (capped (capped n + capped hb) + k)) told.given ∙ cap_three n hb tb ∙ ap (λ (k : ℕ). capped k) sum;
         kept = λ _. told.legal;
       }
 

@@ -96,8 +96,8 @@ drives n seed objects p old one two new t u none e g c = record {
   gains = gains_more old two new (entering p ++ rounds_acts p g.rounds) (count_acts p.sender objects)
       (gains_more old one two (entering p) (rounds_acts p g.rounds) e.gains g.gains) c.gains;
   commands = refl;
-  messages = g.heard 0 (ap (λ (v : Tally). v.messages) none) ∙ ap (λ (k : ℕ). capped k) (omega arith);
-  bytes = g.given 0 (ap (λ (v : Tally). v.bytes) none) ∙ ap (λ (k : ℕ). capped k) (omega arith);
+  messages = let sum : 0 + messages g.rounds ≡ messages g.rounds = omega arith in g.heard 0 (ap (λ (v : Tally). v.messages) none) ∙ ap (λ (k : ℕ). capped k) sum;
+  bytes = let sum : 0 + bytes g.rounds ≡ bytes g.rounds = omega arith in g.given 0 (ap (λ (v : Tally). v.bytes) none) ∙ ap (λ (k : ℕ). capped k) sum;
   legal = c.legal;
 }
 

@@ -35,8 +35,8 @@ module _ (p : Pair) where
     rounds = [];
     asked = refl;
     gains = refl;
-    heard = λ n e. e ∙ ap (λ (k : ℕ). capped k) (omega arith);
-    given = λ n e. e ∙ ap (λ (k : ℕ). capped k) (omega arith);
+    heard = λ n e. let none : n ≡ n + messages [] = omega arith in e ∙ ap (λ (k : ℕ). capped k) none;
+    given = λ n e. let none : n ≡ n + bytes [] = omega arith in e ∙ ap (λ (k : ℕ). capped k) none;
     kept = λ legal. legal;
   }
 

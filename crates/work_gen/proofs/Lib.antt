@@ -1,3 +1,4 @@
+pub mod Drawing
 pub mod Sums
 pub mod Fitting
 pub mod Lined

@@ -11,6 +11,7 @@ pub(crate) struct Draws {
 
 impl Draws {
     /// The next number, under a bound that is not 0.
+    #[tactic(auto, using(crate::proofs::Drawing::next_is, crate::proofs::Drawing::drawn_is))]
     pub(crate) fn draw(&mut self, bound: u32) -> u32
         requires { 0 < bound }
         ensures state { self.new.state ≡ next self.old.state }

@@ -2,7 +2,7 @@
 
 ghost use Rattle.std.specs.Prelude.{◌≡◌, ◌+◌, [], ◌∷◌, length};
 ghost use Rattle.world_data.specs.Frames.{frame_bytes};
-ghost use Rattle.work_gen.specs.Frames.{messages_in, capped};
+ghost use Rattle.work_gen.specs.Frames.{message_count, messages_in, capped};
 
 use world_model::Frames;
 
@@ -14,6 +14,14 @@ const MESSAGE: &[u8] = b"*4\r\n$8\r\npmessage\r\n";
 pub(crate) struct Tally {
     pub(crate) messages: u64,
     pub(crate) bytes: u64,
+}
+
+// One for a message, and nothing for another frame.
+#[tactic(auto, unfolding(crate::specs::Frames::is_message))]
+fn message_count(frame: &[u8]) -> u64
+    ensures { result ≡ message_count frame.now }
+{
+    if frame.starts_with(MESSAGE) { 1 } else { 0 }
 }
 
 impl Tally {
@@ -33,7 +41,7 @@ impl Tally {
         ensures bytes { result.bytes ≡ length frame.now }
     {
         Tally {
-            messages: if frame.starts_with(MESSAGE) { 1 } else { 0 },
+            messages: message_count(frame),
             bytes: frame.len() as u64,
         }
     }
