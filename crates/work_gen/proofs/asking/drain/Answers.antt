@@ -21,10 +21,10 @@ returns-in_err-given-clause-err g c =
     let p = err_from_is_err_and c.from_residual.result c.from_residual.ensures.1 in
     rw (p.1, p.2) (drain_stops c.args.session (g.H.HallApi.knows c.args.seat.now) (g.H.HallApi.knows c.loop.seat) (g.H.HallApi.knows c.take_turn.new.seat) c.loop.tally _ c.loop.invariant.draining c.in_err-given.ensures.err)
 
-pub returns-in-None-clause-ok : goal.returns-in-None-clause-ok
-returns-in-None-clause-ok g c =
+pub returns-in-None-given-clause-ok : goal.returns-in-None-given-clause-ok
+returns-in-None-given-clause-ok g c =
     drained c.args.session (g.H.HallApi.knows c.args.seat.now) (g.H.HallApi.knows c.loop.seat) (g.H.HallApi.knows c.take_turn.new.seat) c.loop.tally c.loop.invariant.draining
-    (subst (λ (r : Option Tally). TakesOn r c.args.session (g.H.HallApi.knows c.loop.seat) (g.H.HallApi.knows c.take_turn.new.seat)) c.in-None.is c.in_ok-given.ensures.ok)
+    (subst (λ (r : Option Tally). TakesOn r c.args.session (g.H.HallApi.knows c.loop.seat) (g.H.HallApi.knows c.take_turn.new.seat)) c.in-None-given.is c.in_ok-given.ensures.ok)
 
 pub loop-preserved : goal.loop-preserved
 loop-preserved g c = record {
@@ -33,6 +33,6 @@ loop-preserved g c = record {
   seat = c.take_turn.ensures.seat;
   bare = c.in_ok-given.ensures.bare;
   places = c.in_ok-given.ensures.places;
-  draining = draining_on c.args.session (g.H.HallApi.knows c.args.seat.now) (g.H.HallApi.knows c.loop.seat) (g.H.HallApi.knows c.take_turn.new.seat) c.loop.tally c.in-Some.more c.plus.result c.loop.invariant.draining
-      (subst (λ (r : Option Tally). TakesOn r c.args.session (g.H.HallApi.knows c.loop.seat) (g.H.HallApi.knows c.take_turn.new.seat)) c.in-Some.is c.in_ok-given.ensures.ok) c.plus.ensures.messages c.plus.ensures.bytes;
+  draining = draining_on c.args.session (g.H.HallApi.knows c.args.seat.now) (g.H.HallApi.knows c.loop.seat) (g.H.HallApi.knows c.take_turn.new.seat) c.loop.tally c.in-Some-given.more c.plus-tally.result c.loop.invariant.draining
+      (subst (λ (r : Option Tally). TakesOn r c.args.session (g.H.HallApi.knows c.loop.seat) (g.H.HallApi.knows c.take_turn.new.seat)) c.in-Some-given.is c.in_ok-given.ensures.ok) c.plus-tally.ensures.messages c.plus-tally.ensures.bytes;
 }
