@@ -1,0 +1,5 @@
+pub mod Standing
+pub mod Steps
+pub mod Looking
+pub mod Found
+pub mod Opens
