@@ -1,5 +1,5 @@
 -- How a side is read on, and what of it is no record.
-use Rattle.std.specs.Prelude.{Result, Ok, Err, OnOk}
+use Rattle.std.specs.Prelude.{Result, Ok, Err, OnOk, IfErr}
 use Rattle.std.proofs.Common.{◌≡◌, ◌∙◌, ◌+◌, ◌-◌, ◌≤◌, ◌^◌, ℕ, Bool, List, [], ◌∷◌, ◌++◌, length, take, drop, Option, None, Some, refl, sym, ap, subst, arith, length-append, length-take, length-drop, append_assoc, append-nil, take-append-drop}
 use Rattle.byte_text.specs.Names.{Bytes}
 use Rattle.outside.specs.declared.sides.Side.{Side}
@@ -153,3 +153,8 @@ module _ {R D : Type 0} (took : R → List Bytes → Bytes → Type 0) (fault : 
         (one.read g bytes (subst (λ (s : Side). SideIsSafe (crashes later) (seen later) (images later) s (λ x. x ≡ bytes)) (sym is) (again.safe bytes (looked.safe bytes safe)))
         (gate g bytes (looked.safe bytes safe) (some.read g bytes safe first)));
   }
+
+-- a fact that follows of a failure
+pub if_err_weaker : {T E : Type 0} (r : Result T E) (P Q : E → Type 0) → ((x : E) → P x → Q x) → IfErr r P → IfErr r Q
+if_err_weaker (Ok x) P Q f p = tt
+if_err_weaker (Err e) P Q f p = f e p

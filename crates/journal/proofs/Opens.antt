@@ -1,4 +1,5 @@
 -- What an opening leaves of the disk.
+use Rattle.std.specs.Prelude.{Result, Ok, Err, IfOk}
 use Rattle.std.proofs.Common.{◌≡◌, ◌⊎◌, ◌∙◌, ◌≤◌, ℕ, Bool, true, List, [], Option, None, Some, refl, sym, ap, subst, inl, inr}
 use Rattle.byte_text.specs.Names.{Bytes}
 use Rattle.outside.specs.declared.sides.Side.{Side}
@@ -13,7 +14,7 @@ use Rattle.log_sides.specs.Crashing.{leads_other, safe_weaker}
 use Rattle.append_log.specs.Heads.{head_of, start_of, IsHeaded, IsHeadedIn}
 use Rattle.append_log.specs.Logs.{IsFresh}
 use Rattle.append_log.specs.declared.side_heads.Start.{Start}
-use Rattle.append_log.specs.declared.side_heads.Start.TheVariants.{Standing}
+use Rattle.append_log.specs.declared.side_heads.Start.TheVariants.{Fresh, Standing}
 use Rattle.append_log.specs.declared.append_logs.AppendLog.{AppendLog}
 use Rattle.journal.specs.Logs.{IsBehind, HoldsLog}
 use Rattle.journal.specs.Keeping.{IsKept}
@@ -112,7 +113,48 @@ module _ {D : Type 0} (crashes : D → Bool) (seen : D → Option Sides) (images
       by_case c (inl same) = inl (subst (images old) (sym same) (if_told (seen old) s (images old) told as_read))
       by_case c (inr holds) = inr holds
 
+  -- a log was read
+  pub opened_read : {R : Type 0} (took : R → List Bytes → Bytes → Type 0) (fault : Bytes → Option ℕ) (old mid new : D) (side : Side) (g len : ℕ) (replay : R) (kept : List Bytes → Type 0)
+      → moment old ≤ moment mid → crashes mid ≡ crashes old
+      → ((s : Sides) → seen old ≡ Some s → IsAllSafe (crashes mid) (seen mid) (images mid) s) → ((s : Sides) → seen old ≡ Some s → IsUsed s side g len)
+      → ((s : Sides) → IsAllSafe (crashes mid) (seen mid) (images mid) s → crashes mid ≡ true → LeavesOnly moment left_since mid new (λ c. c ≡ s))
+      → ((c : Sides) → left_since mid (moment mid) c → images mid c)
+      → LogRead took fault crashes seen images mid side g len replay kept → Opened took fault crashes seen moment left_since old new replay kept
+  opened_read took fault old mid new side g len replay kept later same all used leaves only_now read = record {
+    batches = read.batches;
+    taken = read.taken;
+    whole = read.whole;
+    holds = λ s told. read.holds s (all s told) (used s told);
+    keeps = λ s told. read.keeps s (all s told) (used s told);
+    since = λ s told yes.
+        let holds = read.holds s (all s told) (used s told) in
+        holds_since old mid new s read.batches (λ c. c ≡ s) later (leaves s (all s told) (same ∙ yes)) (λ c is. subst (HoldsLog read.batches) (sym is) holds) ((all s told).settled (same ∙ yes)) holds only_now;
+  }
+
+  -- or one was begun
+  pub opened_fresh : {R T E : Type 0} (r : Result T E) (took : R → List Bytes → Bytes → Type 0) (fault : Bytes → Option ℕ) (old mid new : D) (replay : R) (kept : T → List Bytes → Type 0)
+      → moment old ≤ moment mid → crashes mid ≡ crashes old → took replay [] []
+      → ((s : Sides) → seen old ≡ Some s → IsAllSafe (crashes mid) (seen mid) (images mid) s) → ((s : Sides) → seen old ≡ Some s → IsFresh s)
+      → ((s : Sides) → IsAllSafe (crashes mid) (seen mid) (images mid) s → IsFresh s → crashes mid ≡ true → LeavesOnly moment left_since mid new (HoldsLog []))
+      → ((c : Sides) → left_since mid (moment mid) c → images mid c)
+      → ((s : Sides) → IsAllSafe (crashes mid) (seen mid) (images mid) s → IsFresh s → IfOk r (λ x. kept x []))
+      → IfOk r (λ x. Opened took fault crashes seen moment left_since old new replay (kept x))
+  opened_fresh (Err e) took fault old mid new replay kept later same taken all fresh leaves only_now keeps = tt
+  opened_fresh (Ok x) took fault old mid new replay kept later same taken all fresh leaves only_now keeps = record {
+    batches = [];
+    taken = taken;
+    whole = tt;
+    holds = λ s told. inr (fresh s told, refl);
+    keeps = λ s told. keeps s (all s told) (fresh s told);
+    since = λ s told yes.
+        holds_since old mid new s [] (HoldsLog []) later (leaves s (all s told) (fresh s told) (same ∙ yes)) (λ c holds. holds) ((all s told).settled (same ∙ yes)) (inr (fresh s told, refl)) only_now;
+  }
+
 -- a side in use, as a start tells it
 pub used_start : (s : Sides) (side : Side) (g len : ℕ) (start : Start) → Standing side g len ≡ start → (start ≡ start_of (head_of s.a) (head_of s.b)) × IsHeadedIn s start
     → IsUsed s side g len
 used_start s side g len start is found = record { used = sym (is ∙ found.0); headed = subst (IsHeadedIn s) (sym is) found.1 }
+
+pub if_ok_weaker : {T E : Type 0} (r : Result T E) (P Q : T → Type 0) → ((x : T) → P x → Q x) → IfOk r P → IfOk r Q
+if_ok_weaker (Ok x) P Q f p = f x p
+if_ok_weaker (Err e) P Q f p = tt

@@ -112,7 +112,10 @@ fn take_piece<D: Disk, R: Replay>(
     match reader.next_piece(disk, block) {
         Ok(count) => {
             // A disk that tells what it holds does not read nothing here.
-            if count == 0 { Err(Stop::Broken(start)) } else { take_read(replay, &block[..count], start) }
+            if count == 0 {
+                return Err(Stop::Broken(start));
+            }
+            take_read(replay, &block[..count], start)
         }
         Err(Failed) => Err(Stop::Disk),
     }

@@ -11,7 +11,7 @@ use Rattle.journal.proofs.disk_steps.copy_records.Goals as goal
 pub returns-in-Some-clause-kept : goal.returns-in-Some-clause-kept
 returns-in-Some-clause-kept g c side generation gate batches copied all =
     let D = g.D.Disk in
-    let r = c.in-Some.new_side.now in
+    let r = c.in-Some.new_side in
     let kept = rw c.in-Some.is at all in
     on_ok_weaker c.copy_piece.result
     (λ grown. kept_copied D.crashes D.seen D.images D.moment D.left_since side generation gate r c.copy_piece.new.self batches copied (committed copied c.args.records.now) c.args.disk.now c.copy_piece.new.disk
@@ -21,7 +21,7 @@ returns-in-Some-clause-kept g c side generation gate batches copied all =
 pub returns-in-Some-clause-leaves : goal.returns-in-Some-clause-leaves
 returns-in-Some-clause-leaves g c side generation gate batches copied all told =
     let D = g.D.Disk in
-    let r = c.in-Some.new_side.now in
+    let r = c.in-Some.new_side in
     let kept = rw c.in-Some.is at all in
     leaves_beside D.crashes D.seen D.images D.moment D.left_since side r.side IsShut (StandsFor generation batches) (HoldsLog batches) c.args.disk.now c.copy_piece.new.disk told kept.beside.beside kept.log.safe
     (c.copy_piece.ensures.either kept.beside.new.shut)

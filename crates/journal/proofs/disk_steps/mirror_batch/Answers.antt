@@ -11,7 +11,7 @@ use Rattle.journal.proofs.disk_steps.mirror_batch.Goals as goal
 pub returns-in-Some-clause-kept : goal.returns-in-Some-clause-kept
 returns-in-Some-clause-kept g c side generation gate batches copied records is all =
     let D = g.D.Disk in
-    let r = c.in-Some.new_side.now in
+    let r = c.in-Some.new_side in
     let kept = rw c.in-Some.is at all in
     on_ok_weaker c.mirror.result
     (λ grown. kept_copied D.crashes D.seen D.images D.moment D.left_since side generation gate r c.mirror.new.self batches copied (committed copied records) c.args.disk.now c.mirror.new.disk
@@ -21,7 +21,7 @@ returns-in-Some-clause-kept g c side generation gate batches copied records is a
 pub returns-in-Some-clause-leaves : goal.returns-in-Some-clause-leaves
 returns-in-Some-clause-leaves g c side generation gate batches copied all told =
     let D = g.D.Disk in
-    let r = c.in-Some.new_side.now in
+    let r = c.in-Some.new_side in
     let kept = rw c.in-Some.is at all in
     leaves_beside D.crashes D.seen D.images D.moment D.left_since side r.side IsShut (StandsFor generation batches) (HoldsLog batches) c.args.disk.now c.mirror.new.disk told kept.beside.beside kept.log.safe
     (c.mirror.ensures.either kept.beside.new.shut)
