@@ -1,10 +1,16 @@
-use Rattle.std.proofs.Common.{◌∙◌, refl, ap, inr}
+use Rattle.std.proofs.Common.{◌∙◌, length, refl, ap, arith, inr}
 use Rattle.std.proofs.lemmas.Result.{on_ok_weaker}
 use Rattle.outside.specs.CrashLaws.{then, weaker}
 use Rattle.log_sides.specs.Texts.{committed, written}
 use Rattle.journal.specs.Logs.{HoldsLog, HoldsEither}
-use Rattle.journal.proofs.Steps.{kept_same}
+use Rattle.journal.specs.Keeping.{new_gate}
+use Rattle.journal.proofs.Steps.{kept_same, new_gate_small, written_fits}
 use Rattle.journal.proofs.journals.Journal.commit_both.Goals as goal
+
+pub mirror_batch-requires : goal.mirror_batch-requires
+mirror_batch-requires g c =
+    let j = c.args.self.now in
+    omega (arith, written_fits j.log.pending (new_gate j.rewriter) (new_gate_small j.rewriter) j.fits, ap length (c.last_batch.ensures ∙ ap written c.in-Ok.ensures.last))
 
 pub returns-in-Ok-clause-kept : goal.returns-in-Ok-clause-kept
 returns-in-Ok-clause-kept g c batches copied kept =
