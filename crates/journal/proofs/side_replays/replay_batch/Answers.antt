@@ -1,4 +1,7 @@
-use Rattle.std.proofs.Common.{◌∙◌, refl, arith}
+use Rattle.std.proofs.Common.{◌≡◌, ◌∙◌, ℕ, refl, sym, subst, arith}
+use Rattle.outside.specs.declared.sides.Side.{Side}
+use Rattle.log_sides.specs.States.{SideIsSafe}
+use Rattle.append_log.specs.Reading.{IsInBatch}
 use Rattle.journal.proofs.Looking.{looked_self, looked_on, piece_none, piece_then}
 use Rattle.journal.proofs.side_replays.replay_batch.Goals as goal
 
@@ -33,3 +36,20 @@ pieces-preserved g c =
           piece_then R.took R.fault D.crashes D.seen D.images D.moment D.left_since D.faults start.side now.reader.side batches start.len now.reader.len start.left start.at now.reader.left now.reader.at next.left next.at c.args.disk.now now.disk now.replay c.take_piece.new.replay
           before.side before.len before.looked one (c.in-Ok.ensures.took batches one.more one.taken);
     }
+
+pub returns-in-Err-clause-looked : goal.returns-in-Err-clause-looked
+returns-in-Err-clause-looked g c =
+    let D = g.D.Disk in
+    let now = c.pieces in
+    looked_on D.crashes D.seen D.images D.moment D.left_since D.faults c.args.reader.now.side now.reader.side c.args.disk.now now.disk c.take_piece.new.disk now.invariant.side now.invariant.looked c.take_piece.ensures.looked
+
+pub returns-in-Err-clause-broken : goal.returns-in-Err-clause-broken
+returns-in-Err-clause-broken g c batches n bytes taken safe inside =
+    let D = g.D.Disk in
+    let now = c.pieces in
+    let before = now.invariant in
+    let one = before.took batches taken in
+    c.in-Err.ensures.broken batches one.more n bytes one.taken
+    (subst (λ (s : Side). SideIsSafe (D.crashes now.disk) (D.seen now.disk) (D.images now.disk) s (λ x. x ≡ bytes)) (sym before.side) (before.looked.safe bytes safe))
+    (subst (λ (k : ℕ). IsInBatch n batches one.more k now.reader.left now.reader.at bytes) (sym before.len) (one.read n bytes safe inside))
+    (omega (arith, c.place-start.ensures, inside.place))
