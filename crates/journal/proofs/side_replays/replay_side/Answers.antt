@@ -45,3 +45,34 @@ batches-preserved g c =
             (subst (λ (x : Gate). IsGateOf n before.some.batches bytes mid.len mid.left mid.at x) c.in-Ok-Open.field-0-is (c.in-Ok-Open.ensures.gate n before.some.batches bytes here gate)).1)
           (c.in-Ok.ensures.took before.some.batches before.some.taken);
     }
+
+pub returns-in-Ok-Closed-clause-looked : goal.returns-in-Ok-Closed-clause-looked
+returns-in-Ok-Closed-clause-looked g c =
+    let D = g.D.Disk in
+    let now = c.batches in
+    looked_on D.crashes D.seen D.images D.moment D.left_since D.faults c.args.reader.side now.reader.side c.args.disk.now now.disk c.next_batch.new.disk now.invariant.side now.invariant.looked
+    (record { told = c.next_batch.ensures.told; later = c.next_batch.ensures.cause.later; safe = c.next_batch.ensures.safe; same = c.next_batch.ensures.same })
+
+pub returns-in-Ok-Damaged-clause-looked : goal.returns-in-Ok-Damaged-clause-looked
+returns-in-Ok-Damaged-clause-looked g c =
+    let D = g.D.Disk in
+    let now = c.batches in
+    looked_on D.crashes D.seen D.images D.moment D.left_since D.faults c.args.reader.side now.reader.side c.args.disk.now now.disk c.next_batch.new.disk now.invariant.side now.invariant.looked
+    (record { told = c.next_batch.ensures.told; later = c.next_batch.ensures.cause.later; safe = c.next_batch.ensures.safe; same = c.next_batch.ensures.same })
+
+pub returns-in-Err-clause-looked : goal.returns-in-Err-clause-looked
+returns-in-Err-clause-looked g c =
+    let D = g.D.Disk in
+    let now = c.batches in
+    looked_on D.crashes D.seen D.images D.moment D.left_since D.faults c.args.reader.side now.reader.side c.args.disk.now now.disk c.next_batch.new.disk now.invariant.side now.invariant.looked
+    (record { told = c.next_batch.ensures.told; later = c.next_batch.ensures.cause.later; safe = c.next_batch.ensures.safe; same = c.next_batch.ensures.same })
+
+pub returns-in-Err-replay_batch-clause-looked : goal.returns-in-Err-replay_batch-clause-looked
+returns-in-Err-replay_batch-clause-looked g c =
+    let D = g.D.Disk in
+    let now = c.batches in
+    let disk = c.next_batch.new.disk in
+    looked_on D.crashes D.seen D.images D.moment D.left_since D.faults c.args.reader.side c.next_batch.new.self.side c.args.disk.now disk c.replay_batch.new.disk (c.next_batch.ensures.side ∙ now.invariant.side)
+    (looked_on D.crashes D.seen D.images D.moment D.left_since D.faults c.args.reader.side now.reader.side c.args.disk.now now.disk disk now.invariant.side now.invariant.looked
+    (record { told = c.next_batch.ensures.told; later = c.next_batch.ensures.cause.later; safe = c.next_batch.ensures.safe; same = c.next_batch.ensures.same }))
+    c.replay_batch.ensures.looked

@@ -1,6 +1,6 @@
 use Rattle.std.proofs.Common.{◌++◌, List, take, drop, length, arith, length-append}
 use Rattle.journal.specs.Openings.{IsRefused}
-use Rattle.journal.proofs.Looking.{piece_taken, no_record, if_err_weaker}
+use Rattle.journal.proofs.Looking.{no_record, if_err_weaker}
 use Rattle.journal.proofs.side_replays.take_piece.Goals as goal
 
 pub returns-then-count-eq0-clause-broken : goal.returns-then-count-eq0-clause-broken
@@ -8,18 +8,8 @@ returns-then-count-eq0-clause-broken g c batches part n bytes taken safe inside 
     let read = c.in-Ok.ensures.piece n batches part bytes safe inside in
     absurd (omega (arith, read.0, c.if-count-eq0.true, c.requires.some, c.requires.block))
 
-pub returns-in-Ok-clause-took : goal.returns-in-Ok-clause-took
-returns-in-Ok-clause-took g c batches part taken =
-    let D = g.D.Disk in
-    let R = g.R.Replay in
-    let reader = c.args.reader.now in
-    let next = c.next_piece.new.self in
-    let piece = take c.in-Ok.count c.next_piece.new.into in
-    piece_taken c.take_read.result R.took R.fault D.crashes D.seen D.images c.args.disk.now reader.side batches part piece reader.len reader.left reader.at next.len next.left next.at c.take_read.new.replay c.next_piece.ensures.len
-    (λ n bytes safe inside. (c.in-Ok.ensures.piece n batches part bytes safe inside).1) (c.take_read.ensures.took batches part taken)
-
-pub returns-in-Ok-clause-broken : goal.returns-in-Ok-clause-broken
-returns-in-Ok-clause-broken g c batches part n bytes taken safe inside begun =
+pub returns-else-count-eq0-clause-broken : goal.returns-else-count-eq0-clause-broken
+returns-else-count-eq0-clause-broken g c batches part n bytes taken safe inside begun =
     let R = g.R.Replay in
     let next = c.next_piece.new.self in
     let piece = take c.in-Ok.count c.next_piece.new.into in
