@@ -1,8 +1,8 @@
-use Rattle.std.proofs.Common.{◌≡◌, ◌∙◌, ℕ, refl, sym, subst, arith}
+use Rattle.std.proofs.Common.{◌≡◌, ◌∙◌, ◌+◌, ℕ, refl, sym, subst, arith}
 use Rattle.outside.specs.declared.sides.Side.{Side}
 use Rattle.log_sides.specs.States.{SideIsSafe}
 use Rattle.append_log.specs.Reading.{IsInBatch}
-use Rattle.journal.proofs.Looking.{looked_self, looked_on, piece_none, piece_then}
+use Rattle.journal.proofs.Looking.{looked_self, looked_on, piece_none, piece_then, no_record, refused_end, if_err_weaker}
 use Rattle.journal.proofs.side_replays.replay_batch.Goals as goal
 
 pub pieces-init : goal.pieces-init
@@ -53,3 +53,16 @@ returns-in-Err-clause-broken g c batches n bytes taken safe inside =
     (subst (λ (s : Side). SideIsSafe (D.crashes now.disk) (D.seen now.disk) (D.images now.disk) s (λ x. x ≡ bytes)) (sym before.side) (before.looked.safe bytes safe))
     (subst (λ (k : ℕ). IsInBatch n batches one.more k now.reader.left now.reader.at bytes) (sym before.len) (one.read n bytes safe inside))
     (omega (arith, c.place-start.ensures, inside.place))
+
+pub returns-clause-broken : goal.returns-clause-broken
+returns-clause-broken g c batches n bytes taken safe inside =
+    let R = g.R.Replay in
+    let now = c.pieces in
+    let one = now.invariant.took batches taken in
+    let read = subst (λ (k : ℕ). IsInBatch n batches one.more k now.reader.left now.reader.at bytes) (sym now.invariant.len) (one.read n bytes safe inside) in
+    let none : now.reader.left ≡ 0 = omega (arith, c.pieces-test.false, c.left.ensures) in
+    let start = c.place-start.result in
+    if_err_weaker c.end_batch.result _ _
+    (λ stop refused place is. no_record R.fault n batches one.more now.reader.len now.reader.left now.reader.at start place bytes read (omega (arith, c.place-start.ensures, inside.place))
+      (refused_end R.fault start place now.reader.left now.reader.at one.more bytes none (refused place is)))
+    (c.end_batch.ensures.broken batches one.more one.taken (omega (arith, c.place-start.ensures, inside.place, read.place, read.within, now.reader.short)))
