@@ -1,13 +1,12 @@
 -- How a side is passed over.
 use Rattle.std.specs.Prelude.{Bool, Option}
-use Rattle.std.proofs.Common.{◌≡◌, ◌≤◌, ℕ, List, [], refl, sym, subst, arith}
+use Rattle.std.proofs.Common.{◌≡◌, ◌≤◌, ℕ, List, [], refl, subst, arith}
 use Rattle.outside.specs.declared.sides.Side.{Side}
 use Rattle.outside.specs.Sides.{Sides}
-use Rattle.outside.specs.CrashLaws.{begins}
 use Rattle.byte_text.specs.Names.{Bytes}
-use Rattle.log_sides.specs.States.{SideIsSafe, IsLeft, SideLeads}
+use Rattle.log_sides.specs.States.{SideIsSafe, SideLeads}
 use Rattle.append_log.specs.Reading.{IsAtGate}
-use Rattle.log_sides.specs.Crashing.{leads_then}
+use Rattle.log_sides.specs.Crashing.{leads_self, leads_then}
 
 -- from an old disk, and a place, to what is read now
 pub record Passes {D : Type 0} (crashes : D → Bool) (seen : D → Option Sides) (images : D → Sides → Type 0) (moment : D → ℕ) (left_since : D → ℕ → Sides → Type 0) (faults : D → ℕ) (side : Side) (len from : ℕ) (old now : D) (at : ℕ) : Type 0 where
@@ -18,14 +17,6 @@ pub record Passes {D : Type 0} (crashes : D → Bool) (seen : D → Option Sides
   pub gate : (g : ℕ) (bytes : Bytes) → SideIsSafe (crashes old) (seen old) (images old) side (λ x. x ≡ bytes) → IsAtGate g [] len from bytes → (bs : List Bytes) × IsAtGate g bs len at bytes
 
 -- no call was made
-pub leads_self : {D : Type 0} (crashes : D → Bool) (seen : D → Option Sides) (images : D → Sides → Type 0) (moment : D → ℕ) (left_since : D → ℕ → Sides → Type 0) (side : Side) (P : Bytes → Type 0) (disk : D)
-    → SideIsSafe (crashes disk) (seen disk) (images disk) side P → SideLeads crashes seen images moment left_since side P disk disk
-leads_self crashes seen images moment left_since side P disk safe = record {
-  contents = (safe.contents, safe.told, record { here = safe.has; earlier = safe.contents; could = safe.told; there = refl });
-  images_now = λ told c image. record { here = subst P (sym (safe.settled told c image)) safe.has; earlier = c; could = image; there = refl };
-  moments = λ told. begins moment left_since disk (IsLeft (images disk) side P);
-}
-
 pub passes_none : {D : Type 0} (crashes : D → Bool) (seen : D → Option Sides) (images : D → Sides → Type 0) (moment : D → ℕ) (left_since : D → ℕ → Sides → Type 0) (faults : D → ℕ) (side : Side) (len from : ℕ) (disk : D)
     → Passes crashes seen images moment left_since faults side len from disk disk from
 passes_none crashes seen images moment left_since faults side len from disk = record {

@@ -1,3 +1,4 @@
 pub mod Heads
 pub mod Logs
+pub mod Once
 pub mod Reading

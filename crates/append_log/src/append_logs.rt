@@ -69,9 +69,9 @@ impl AppendLog {
         generation: u64,
     ) -> Result<AppendLog, LogFault>
         requires { IsGeneration generation }
-        ensures stands { (before : Bytes) → ReadsAs D.crashes D.seen D.images disk.old side before
+        ensures stands { (before : Bytes) → length before ≤ 2 ^ 62 → ReadsAs D.crashes D.seen D.images disk.old side before
             → IfOk result (λ log. LogOn D.crashes D.seen D.images disk.new side generation log.gate []) }
-        ensures either { (before : Bytes) → ReadsAs D.crashes D.seen D.images disk.old side before
+        ensures either { (before : Bytes) → length before ≤ 2 ^ 62 → ReadsAs D.crashes D.seen D.images disk.old side before
             → MatchResult result
             (λ log. SideLeads D.crashes D.seen D.images D.moment D.left_since side (WhileMade generation before) disk.old disk.new)
             (λ fault. fault ≡ LogFault.Disk
@@ -188,6 +188,7 @@ impl AppendLog {
         ensures generation { self.new.generation ≡ self.old.generation }
         ensures gate { OnOk result (self.new.gate ≤ self.old.gate + length self.old.pending + 9) }
         ensures pending { OnOk result (self.new.pending ≡ []) }
+        ensures err { OnErr result (self.new.pending ≡ self.old.pending) }
         ensures last { OnOk result (self.new.last ≡ self.old.pending) }
     {
         if self.pending.len() == 0 {

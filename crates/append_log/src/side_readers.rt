@@ -149,6 +149,8 @@ impl Reader {
         ensures side { self.new.side ≡ self.old.side }
         ensures len { self.new.len ≡ self.old.len }
         ensures bound { IfOk result (λ n. n ≤ length into.new) }
+        ensures on { IfOk result (λ n. self.new.at ≡ self.old.at + n) }
+        ensures left { IfOk result (λ n. self.new.left + n ≡ self.old.left) }
     {
         let room = into.len().min(self.left as usize);
         match disk.read(self.side, self.at, &mut into[..room]) {

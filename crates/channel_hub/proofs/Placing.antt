@@ -1,5 +1,6 @@
 -- Places that are appended one by one.
-use Rattle.std.proofs.Common.{◌≡◌, ◌+◌, ℕ, Bool, true, false, refl, sym, ◌∙◌, ap, List, [], ◌∷◌, ◌++◌, map, drop, append_assoc}
+use Rattle.std.proofs.Common.{◌≡◌, ◌+◌, ℕ, Bool, true, false, refl, sym, ◌∙◌, ap, List, [], ◌∷◌, ◌++◌, length, map, drop, append_assoc}
+use Rattle.std.proofs.lemmas.List.{length-map}
 use Rattle.std.specs.Prelude.{Some, slice_get}
 use Rattle.byte_text.specs.ListLaws.{drop_next}
 use Rattle.channel_hub.specs.Places.{places_from}
@@ -29,3 +30,7 @@ pub one_left_out : {A : Type 0} (test : A → Bool) (xs : List A) (i : ℕ) (x :
 one_left_out test xs i x before whole is fails w =
     let here = ap (places_from i test) (drop_next xs i x is) ∙ passed_by test x i false fails (drop (i + 1) xs) refl in
     ap (λ (l : List ℕ). before ++ l) (sym here) ∙ w
+
+-- as many places as names
+pub as_many : {A B : Type 0} (f : A → B) (xs : List A) (none made : List B) → none ≡ [] → made ≡ none ++ map f xs → length made ≡ length xs
+as_many {B = B} f xs none made e is = ap length (is ∙ ap (λ (l : List B). l ++ map f xs) e) ∙ length-map xs f

@@ -12,12 +12,14 @@ ghost use Rattle.fence_index.specs.Candidates.{box_if};
 ghost use Rattle.channel_hub.specs.Hubs.{IsPrepared, del_may_concern, may_concern, put_may_concern};
 ghost use Rattle.channel_hub.specs.MessageLaws.{messages_on};
 ghost use Rattle.channel_hub.specs.Places.{places_of};
+ghost use Rattle.rtree.specs.Ledgers.{IsRead};
 
 use crate::candidates::{Candidates, push_of_key, push_places};
 use crate::channel_order::{exchange, insert_reserved, place_of};
 use byte_text::{Name, NoMemory};
 use fence_index::{FenceIndex, unconcerned_are_silent, watch_is_whole};
 use planar_geom::{BBox, box_of, shape_is_whole};
+use rtree::{Ledger, Steps};
 use std::alloc::Global;
 use std::marker::Model;
 use world_data::{Channel, NameList, Object};
@@ -143,54 +145,75 @@ impl Hub {
     }
 
     /// The places, ascending, of the channels of the key which a change may concern that moves an object from one box, where it was there, to
-    /// another, where it is there after it.
-    pub fn candidates(
+    /// another, where it is there after it. The steps do not fall, and rise by enough nodes to hold these places, at most 16 each.
+    pub fn candidates<L: Ledger>(
         &self,
         alloc: Global,
         key: &Name,
         old: Option<BBox>,
         new: Option<BBox>,
+        steps: &mut Steps<L>,
     ) -> Result<Candidates, NoMemory>
-        ensures { IfOk result (λ p. p ≡ places_of (may_concern key.now old new) self.now.channels) }
+        ensures places { IfOk result (λ p. p ≡ places_of (may_concern key.now old new) self.now.channels) }
+        ensures read { IfOk result (λ p. IsRead 0 (length p) steps.old.count steps.new.count) }
+        ensures counted { IsRead 0 0 steps.old.count steps.new.count }
     {
         let mut names = NameList::new(alloc);
-        self.index.candidates(alloc, key, old, new, &mut names)?;
+        self.index
+            .candidates(alloc, key, old, new, &mut names, steps)?;
         let mut candidates = Candidates::new(alloc);
         push_places(self.channels.as_slice(), &names, &mut candidates)?;
         Ok(candidates)
     }
 
     /// The places, ascending, of the channels that a put may concern of an object in the place of the old one, where there is one. Every
-    /// other raises nothing: the messages are those of these channels alone.
-    pub fn candidates_of_put(
+    /// other raises nothing: the messages are those of these channels alone. The steps rise by enough nodes to hold these places, at most
+    /// 16 each.
+    pub fn candidates_of_put<L: Ledger>(
         &self,
         alloc: Global,
         old: Option<&Object>,
         new: &Object,
+        steps: &mut Steps<L>,
     ) -> Result<Candidates, NoMemory>
         ensures places { IfOk result (λ p. p ≡ places_of (put_may_concern (option_map (λ o. o.now) old.entry) new.now) self.now.channels) }
         ensures messages { (w : World) → w.channels ≡ self.now.channels → object_at w new.now.key new.now.id ≡ option_map (λ o. o.now) old.entry
             → loud_messages w (Put new.now)
             ≡ flat_map (messages_on w (Put new.now)) (filter (put_may_concern (option_map (λ o. o.now) old.entry) new.now) w.channels) }
+        ensures read { IfOk result (λ p. IsRead 0 (length p) steps.old.count steps.new.count) }
+        ensures counted { IsRead 0 0 steps.old.count steps.new.count }
     {
         // The law speaks of whole shapes and of the channels that are kept here.
         shape_is_whole(&new.shape);
         unconcerned_are_silent();
         let _kept = &self.channels;
-        self.candidates(alloc, &new.key, whole_box(old), Some(box_of(&new.shape)))
+        self.candidates(
+            alloc,
+            &new.key,
+            whole_box(old),
+            Some(box_of(&new.shape)),
+            steps,
+        )
     }
 
     /// The places, ascending, of the channels that a del of an object may concern. Every other raises nothing: the messages are those of
-    /// these channels alone.
-    pub fn candidates_of_del(&self, alloc: Global, old: &Object) -> Result<Candidates, NoMemory>
+    /// these channels alone. The steps rise by enough nodes to hold these places, at most 16 each.
+    pub fn candidates_of_del<L: Ledger>(
+        &self,
+        alloc: Global,
+        old: &Object,
+        steps: &mut Steps<L>,
+    ) -> Result<Candidates, NoMemory>
         ensures places { IfOk result (λ p. p ≡ places_of (del_may_concern old.now) self.now.channels) }
         ensures messages { (w : World) → w.channels ≡ self.now.channels → object_at w old.now.key old.now.id ≡ Some old.now
             → loud_messages w (Del old.now.key old.now.id)
             ≡ flat_map (messages_on w (Del old.now.key old.now.id)) (filter (del_may_concern old.now) w.channels) }
+        ensures read { IfOk result (λ p. IsRead 0 (length p) steps.old.count steps.new.count) }
+        ensures counted { IsRead 0 0 steps.old.count steps.new.count }
     {
         unconcerned_are_silent();
         let _kept = &self.channels;
-        self.candidates(alloc, &old.key, whole_box(Some(old)), None)
+        self.candidates(alloc, &old.key, whole_box(Some(old)), None, steps)
     }
 
     /// The places, ascending, of all channels of the key: a drop of it may concern each.

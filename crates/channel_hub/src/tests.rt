@@ -3,7 +3,9 @@
 use super::*;
 use byte_text::{Name, NoMemory, Request, Text};
 use planar_geom::{Area, BBox, Pt, area_box};
+use rtree::{NoLedger, Steps};
 use std::alloc::Global;
+use std::process::Abort;
 use std::test::Fail;
 use world_data::{Channel, Fence, Kind, Tests, Wanted, Watch};
 
@@ -91,7 +93,13 @@ fn digits(alloc: Global, candidates: &Candidates) -> Result<Text, NoMemory> {
 fn near(alloc: Global, hub: &Hub, old: Option<BBox>, new: Option<BBox>) -> Result<Text, NoMemory> {
     digits(
         alloc,
-        &hub.candidates(alloc, &name(alloc, b"fleet")?, old, new)?,
+        &hub.candidates(
+            alloc,
+            &name(alloc, b"fleet")?,
+            old,
+            new,
+            &mut Steps::new(NoLedger),
+        )?,
     )
 }
 
@@ -129,23 +137,17 @@ fn starts(alloc: Global, hub: &mut Hub) -> Result<(i32, i32, i32), NoMemory> {
     Ok((old, then, start(hub.take_out(&c).as_ref())))
 }
 
-#[test]
-fn a_channel_is_replaced_and_taken_out(rt: HostRuntime) -> Result<(), Fail> {
-    let alloc = rt.alloc();
-    let mut hub = Hub::new(alloc);
-    fill(alloc, &mut hub)?;
-    assert_eq!(rt; starts(alloc, &mut hub)?, (0, 20, 20));
+fn replaced(rt: &impl Abort, alloc: Global, hub: &mut Hub) -> Result<(), Fail> {
+    fill(alloc, hub)?;
+    assert_eq!(rt; starts(alloc, hub)?, (0, 20, 20));
     assert_eq!(rt; hub.len(), 3);
     Ok(())
 }
 
-#[test]
-fn those_that_are_near_are_named(rt: HostRuntime) -> Result<(), Fail> {
-    let alloc = rt.alloc();
-    let mut hub = Hub::new(alloc);
-    fill(alloc, &mut hub)?;
-    assert_eq!(rt; come(alloc, &hub)?.bytes(), b"23".as_slice());
-    assert_eq!(rt; gone_east(alloc, &hub)?.bytes(), b"023".as_slice());
+fn named(rt: &impl Abort, alloc: Global, hub: &mut Hub) -> Result<(), Fail> {
+    fill(alloc, hub)?;
+    assert_eq!(rt; come(alloc, hub)?.bytes(), b"23".as_slice());
+    assert_eq!(rt; gone_east(alloc, hub)?.bytes(), b"023".as_slice());
     Ok(())
 }
 
@@ -156,13 +158,28 @@ fn moved(alloc: Global, hub: &mut Hub) -> Result<(), NoMemory> {
     Ok(())
 }
 
+fn named_after(rt: &impl Abort, alloc: Global, hub: &mut Hub) -> Result<(), Fail> {
+    fill(alloc, hub)?;
+    moved(alloc, hub)?;
+    assert_eq!(rt; gone_east(alloc, hub)?.bytes(), b"0".as_slice());
+    assert_eq!(rt; of_gulls(alloc, hub)?.bytes(), b"12".as_slice());
+    Ok(())
+}
+
+#[test]
+fn a_channel_is_replaced_and_taken_out(rt: HostRuntime) -> Result<(), Fail> {
+    let alloc = rt.alloc();
+    replaced(&rt, alloc, &mut Hub::new(alloc))
+}
+
+#[test]
+fn those_that_are_near_are_named(rt: HostRuntime) -> Result<(), Fail> {
+    let alloc = rt.alloc();
+    named(&rt, alloc, &mut Hub::new(alloc))
+}
+
 #[test]
 fn the_index_goes_with_the_channels(rt: HostRuntime) -> Result<(), Fail> {
     let alloc = rt.alloc();
-    let mut hub = Hub::new(alloc);
-    fill(alloc, &mut hub)?;
-    moved(alloc, &mut hub)?;
-    assert_eq!(rt; gone_east(alloc, &hub)?.bytes(), b"0".as_slice());
-    assert_eq!(rt; of_gulls(alloc, &hub)?.bytes(), b"12".as_slice());
-    Ok(())
+    named_after(&rt, alloc, &mut Hub::new(alloc))
 }

@@ -1,4 +1,5 @@
 pub mod Boxes
+pub mod Cheap
 pub mod Dues
 pub mod FirstDues
 pub mod InTree

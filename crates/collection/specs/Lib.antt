@@ -6,3 +6,4 @@ pub mod Slotted
 pub mod Places
 pub mod PlaceLaws
 pub mod Nearing
+pub mod Costs

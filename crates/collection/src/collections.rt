@@ -6,6 +6,7 @@ ghost use Rattle.ordered_lists.specs.Lists.{put_in};
 ghost use Rattle.world_data.specs.declared.objects.Object.{Object};
 ghost use Rattle.collection.specs.Objects.{id_before, has_id, are_by_id, has_room, least_due, bounds_of};
 ghost use Rattle.planar_geom.specs.Nearness.{IsWholeShape};
+ghost use Rattle.collection.specs.Costs.{IsCheap};
 ghost use Rattle.collection.specs.Deadlines.{FirstDue};
 ghost use Rattle.collection.specs.Places.{places_where, meets_box, ArePlaces, IsListed, IsVisited};
 
@@ -56,42 +57,46 @@ impl Collection {
         self.objects.prepare()
     }
 
-    /// Puts an object at its place, and gives out the one of its id that stood there. A new one takes one place of the room.
-    pub fn put(&mut self, object: Object) -> Option<Object>
+    /// Puts an object at its place, and gives out the one of its id that stood there. A new one takes one place of the room. The steps
+    /// rise by the nodes of the tree that are visited, at most a number of times the logarithm of the number of objects.
+    pub fn put<L: Ledger>(&mut self, object: Object, steps: &mut Steps<L>) -> Option<Object>
         requires { has_room self.old object.id ≡ true }
         ensures objects { self.new.objects ≡ put_in id_before object self.old.objects }
         ensures replaced { result ≡ find (has_id object.id) self.old.objects }
         ensures spare { self.new.spare + (if is_some result then 0 else 1) ≡ self.old.spare }
+        ensures cost { IsCheap (length self.old.objects) steps.old.count steps.new.count }
     {
         match place_of(&self.objects, &object.id) {
-            Ok(at) => Some(self.objects.exchange(at, object)),
+            Ok(at) => Some(self.objects.exchange(at, object, steps)),
             Err(at) => {
-                self.objects.insert(at, object);
+                self.objects.insert(at, object, steps);
                 None
             }
         }
     }
 
-    /// Takes out the object of this id, where there is one. Its place is room for another.
-    pub fn take_out(&mut self, id: &Name) -> Option<Object>
+    /// Takes out the object of this id, where there is one. Its place is room for another. The steps rise as with `put`.
+    pub fn take_out<L: Ledger>(&mut self, id: &Name, steps: &mut Steps<L>) -> Option<Object>
         ensures objects { self.new.objects ≡ filter (λ o. not (has_id id.now o)) self.old.objects }
         ensures taken { result ≡ find (has_id id.now) self.old.objects }
         ensures spare { self.new.spare ≡ self.old.spare + (if is_some result then 1 else 0) }
+        ensures cost { IsCheap (length self.old.objects) steps.old.count steps.new.count }
     {
         match place_of(&self.objects, id) {
-            Ok(at) => Some(self.take_at(at)),
+            Ok(at) => Some(self.take_at(at, steps)),
             Err(_) => None,
         }
     }
 
-    /// Takes out the object at this place, counted from 0 by ascending id. Its place is room for another.
-    pub fn take_at(&mut self, i: usize) -> Object
+    /// Takes out the object at this place, counted from 0 by ascending id. Its place is room for another. The steps rise as with `put`.
+    pub fn take_at<L: Ledger>(&mut self, i: usize, steps: &mut Steps<L>) -> Object
         requires { i < length self.old.objects }
         ensures objects { self.new.objects ≡ remove self.old.objects i }
         ensures taken { slice_get self.old.objects i ≡ Some result }
         ensures spare { self.new.spare ≡ self.old.spare + 1 }
+        ensures cost { IsCheap (length self.old.objects) steps.old.count steps.new.count }
     {
-        self.objects.remove(i)
+        self.objects.remove(i, steps)
     }
 
     /// The object of this id, where there is one.

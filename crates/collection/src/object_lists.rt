@@ -5,6 +5,7 @@ ghost use Rattle.std.specs.List.{insert, remove, slice_set, list_all};
 ghost use Rattle.byte_text.specs.Names.{before};
 ghost use Rattle.collection.specs.Objects.{are_by_id, least_due};
 ghost use Rattle.planar_geom.specs.Nearness.{IsWholeShape};
+ghost use Rattle.collection.specs.Costs.{IsCheap};
 ghost use Rattle.collection.specs.Deadlines.{FirstDue};
 ghost use Rattle.collection.specs.Places.{places_where, meets_box, IsVisited};
 
@@ -108,46 +109,54 @@ impl ObjectList {
     }
 
     /// Puts an object at a place, for which there is room, where all are in order then. It takes no memory.
-    pub(crate) fn insert(&mut self, i: usize, object: Object)
+    pub(crate) fn insert<L: Ledger>(&mut self, i: usize, object: Object, steps: &mut Steps<L>)
         requires within { i ≤ length self.old.objects }
         requires room { 1 ≤ self.old.spare }
         requires by_id { are_by_id (insert self.old.objects i object) ≡ true }
         ensures objects { self.new.objects ≡ insert self.old.objects i object }
         ensures spare { self.new.spare + 1 ≡ self.old.spare }
+        ensures cost { IsCheap (length self.old.objects) steps.old.count steps.new.count }
     {
         let key = self.slots.insert_reserved(object);
         self.keys.insert(i, key);
         put_due(&mut self.dues, &self.slots, key);
-        put_box(&mut self.boxes, &self.slots, key);
+        put_box(&mut self.boxes, &self.slots, key, steps);
     }
 
     /// Takes out the object at a place, which is room for another.
-    pub(crate) fn remove(&mut self, i: usize) -> Object
+    pub(crate) fn remove<L: Ledger>(&mut self, i: usize, steps: &mut Steps<L>) -> Object
         requires { i < length self.old.objects }
         ensures objects { self.new.objects ≡ remove self.old.objects i }
         ensures taken { slice_get self.old.objects i ≡ Some result }
         ensures spare { self.new.spare ≡ self.old.spare + 1 }
+        ensures cost { IsCheap (length self.old.objects) steps.old.count steps.new.count }
     {
         let key = self.keys.remove(i);
         take_due(&mut self.dues, &self.slots, key);
-        take_box(&mut self.boxes, &self.slots, key);
+        take_box(&mut self.boxes, &self.slots, key, steps);
         self.slots.remove(key)
     }
 
     /// Puts an object in the place of another, which it gives out, where all are in order then.
-    pub(crate) fn exchange(&mut self, i: usize, object: Object) -> Object
+    pub(crate) fn exchange<L: Ledger>(
+        &mut self,
+        i: usize,
+        object: Object,
+        steps: &mut Steps<L>,
+    ) -> Object
         requires within { i < length self.old.objects }
         requires by_id { are_by_id (slice_set self.old.objects i object) ≡ true }
         ensures objects { self.new.objects ≡ slice_set self.old.objects i object }
         ensures taken { slice_get self.old.objects i ≡ Some result }
         ensures spare { self.new.spare ≡ self.old.spare }
+        ensures cost { IsCheap (length self.old.objects) steps.old.count steps.new.count }
     {
         let key = self.keys.at(i);
         take_due(&mut self.dues, &self.slots, key);
         let old = self.slots.remove(key);
         let _ = self.slots.insert_reserved(object);
         put_due(&mut self.dues, &self.slots, key);
-        move_box(&mut self.boxes, &self.slots, key, box_of(&old.shape));
+        move_box(&mut self.boxes, &self.slots, key, box_of(&old.shape), steps);
         old
     }
 

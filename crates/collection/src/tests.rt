@@ -5,6 +5,7 @@ use byte_text::{Name, NoMemory, Text};
 use planar_geom::{BBox, Part, Parts, Pt, Shape};
 use rtree::{Ids, NoLedger, Steps, Visits};
 use std::alloc::Global;
+use std::process::Abort;
 use std::test::Fail;
 use world_data::{Fields, Object};
 
@@ -40,7 +41,7 @@ fn put(
         deadline,
     };
     collection.prepare()?;
-    match collection.put(object) {
+    match collection.put(object, &mut Steps::new(NoLedger)) {
         Some(old) => Ok(Some(old.deadline.unwrap_or(0))),
         None => Ok(None),
     }
@@ -60,16 +61,23 @@ fn pair(alloc: Global, trucks: &mut Collection) -> Result<(), Fail> {
     Ok(())
 }
 
+fn see_that_objects_stand_by_id(
+    rt: &impl Abort,
+    alloc: Global,
+    trucks: &mut Collection,
+) -> Result<(), Fail> {
+    assert_eq!(rt; corners(trucks), None);
+    pair(alloc, trucks)?;
+    assert_eq!(rt; trucks.len(), 2);
+    assert_eq!(rt; trucks.at(0).id.bytes(), b"a".as_slice());
+    assert_eq!(rt; corners(trucks), Some((-3, 2, 1, 4)));
+    Ok(())
+}
+
 #[test]
 fn objects_stand_by_id(rt: HostRuntime) -> Result<(), Fail> {
     let alloc = rt.alloc();
-    let mut trucks = Collection::new(alloc);
-    assert_eq!(rt; corners(&trucks), None);
-    pair(alloc, &mut trucks)?;
-    assert_eq!(rt; trucks.len(), 2);
-    assert_eq!(rt; trucks.at(0).id.bytes(), b"a".as_slice());
-    assert_eq!(rt; corners(&trucks), Some((-3, 2, 1, 4)));
-    Ok(())
+    see_that_objects_stand_by_id(&rt, alloc, &mut Collection::new(alloc))
 }
 
 // Three of which two expire first, at one moment.
@@ -80,15 +88,22 @@ fn two_that_tie(alloc: Global, trucks: &mut Collection) -> Result<(), Fail> {
     Ok(())
 }
 
-#[test]
-fn the_first_to_expire_is_found(rt: HostRuntime) -> Result<(), Fail> {
-    let alloc = rt.alloc();
-    let mut trucks = Collection::new(alloc);
+fn see_that_the_first_to_expire_is_found(
+    rt: &impl Abort,
+    alloc: Global,
+    trucks: &mut Collection,
+) -> Result<(), Fail> {
     assert_eq!(rt; trucks.first_due(), None);
-    two_that_tie(alloc, &mut trucks)?;
+    two_that_tie(alloc, trucks)?;
     assert_eq!(rt; trucks.least_due(), Some(7));
     assert_eq!(rt; trucks.first_due(), Some(1));
     Ok(())
+}
+
+#[test]
+fn the_first_to_expire_is_found(rt: HostRuntime) -> Result<(), Fail> {
+    let alloc = rt.alloc();
+    see_that_the_first_to_expire_is_found(&rt, alloc, &mut Collection::new(alloc))
 }
 
 // What stood there when one is put, and when another takes its place.
@@ -98,15 +113,22 @@ fn replaced(alloc: Global, trucks: &mut Collection) -> Result<(Option<u64>, Opti
     Ok((none, old))
 }
 
+fn see_that_an_object_takes_the_place_of_another(
+    rt: &impl Abort,
+    alloc: Global,
+    trucks: &mut Collection,
+) -> Result<(), Fail> {
+    assert_eq!(rt; replaced(alloc, trucks)?, (None, Some(9)));
+    assert_eq!(rt; trucks.len(), 1);
+    assert_eq!(rt; trucks.least_due(), None);
+    assert_eq!(rt; corners(trucks), Some((0, 3, 0, 3)));
+    Ok(())
+}
+
 #[test]
 fn an_object_takes_the_place_of_another(rt: HostRuntime) -> Result<(), Fail> {
     let alloc = rt.alloc();
-    let mut trucks = Collection::new(alloc);
-    assert_eq!(rt; replaced(alloc, &mut trucks)?, (None, Some(9)));
-    assert_eq!(rt; trucks.len(), 1);
-    assert_eq!(rt; trucks.least_due(), None);
-    assert_eq!(rt; corners(&trucks), Some((0, 3, 0, 3)));
-    Ok(())
+    see_that_an_object_takes_the_place_of_another(&rt, alloc, &mut Collection::new(alloc))
 }
 
 // Whether `b` is there, is taken out, is taken out again, and is there then.
@@ -114,21 +136,32 @@ fn taken(alloc: Global, trucks: &mut Collection) -> Result<(bool, bool, bool, bo
     pair(alloc, trucks)?;
     let b = Name::of(alloc, b"b")?;
     let before = trucks.get(&b).is_some();
-    let first = trucks.take_out(&b).is_some();
-    let again = trucks.take_out(&b).is_some();
+    let mut steps = Steps::new(Visits::new());
+    let first = trucks.take_out(&b, &mut steps).is_some();
+    let again = trucks.take_out(&b, &mut steps).is_some();
     let after = trucks.get(&b).is_some();
     Ok((before, first, again, after))
+}
+
+fn see_that_objects_are_taken_out(
+    rt: &impl Abort,
+    alloc: Global,
+    trucks: &mut Collection,
+) -> Result<(), Fail> {
+    assert_eq!(rt; taken(alloc, trucks)?, (true, true, false, false));
+    assert_eq!(rt; trucks.len(), 1);
+    assert_eq!(rt;
+        trucks.take_at(0, &mut Steps::new(NoLedger)).deadline,
+        Some(7)
+    );
+    assert_eq!(rt; trucks.least_due(), None);
+    Ok(())
 }
 
 #[test]
 fn objects_are_taken_out(rt: HostRuntime) -> Result<(), Fail> {
     let alloc = rt.alloc();
-    let mut trucks = Collection::new(alloc);
-    assert_eq!(rt; taken(alloc, &mut trucks)?, (true, true, false, false));
-    assert_eq!(rt; trucks.len(), 1);
-    assert_eq!(rt; trucks.take_at(0).deadline, Some(7));
-    assert_eq!(rt; trucks.least_due(), None);
-    Ok(())
+    see_that_objects_are_taken_out(&rt, alloc, &mut Collection::new(alloc))
 }
 
 // How many objects have a box that meets the square of this side from the origin on, and the place of the first of them.
@@ -157,16 +190,23 @@ fn met_in(
     Ok((places.len(), first))
 }
 
+fn see_that_what_meets_a_box_is_found(
+    rt: &impl Abort,
+    alloc: Global,
+    trucks: &mut Collection,
+) -> Result<(), Fail> {
+    pair(alloc, trucks)?;
+    let mut steps = Steps::new(Visits::new());
+    assert_eq!(rt; met_in(alloc, trucks, 2, &mut steps)?, (1, Some(1)));
+    assert_eq!(rt; met_in(alloc, trucks, 1, &mut steps)?, (0, None));
+    assert_eq!(rt; steps.ledger().count(), 2);
+    Ok(())
+}
+
 #[test]
 fn what_meets_a_box_is_found(rt: HostRuntime) -> Result<(), Fail> {
     let alloc = rt.alloc();
-    let mut trucks = Collection::new(alloc);
-    pair(alloc, &mut trucks)?;
-    let mut steps = Steps::new(Visits::new());
-    assert_eq!(rt; met_in(alloc, &trucks, 2, &mut steps)?, (1, Some(1)));
-    assert_eq!(rt; met_in(alloc, &trucks, 1, &mut steps)?, (0, None));
-    assert_eq!(rt; steps.ledger().count(), 2);
-    Ok(())
+    see_that_what_meets_a_box_is_found(&rt, alloc, &mut Collection::new(alloc))
 }
 
 // The first distances at which there are objects, seen from the origin, and how many stand at the first.
@@ -186,13 +226,20 @@ fn distances(
     Ok((first, count, second))
 }
 
+fn see_that_objects_are_walked_by_distance(
+    rt: &impl Abort,
+    alloc: Global,
+    trucks: &mut Collection,
+) -> Result<(), Fail> {
+    pair(alloc, trucks)?;
+    assert_eq!(rt; distances(alloc, trucks)?, (Some(5), 1, Some(25)));
+    two_that_tie(alloc, trucks)?;
+    assert_eq!(rt; distances(alloc, trucks)?, (Some(5), 3, None));
+    Ok(())
+}
+
 #[test]
 fn objects_are_walked_by_distance(rt: HostRuntime) -> Result<(), Fail> {
     let alloc = rt.alloc();
-    let mut trucks = Collection::new(alloc);
-    pair(alloc, &mut trucks)?;
-    assert_eq!(rt; distances(alloc, &trucks)?, (Some(5), 1, Some(25)));
-    two_that_tie(alloc, &mut trucks)?;
-    assert_eq!(rt; distances(alloc, &trucks)?, (Some(5), 3, None));
-    Ok(())
+    see_that_objects_are_walked_by_distance(&rt, alloc, &mut Collection::new(alloc))
 }

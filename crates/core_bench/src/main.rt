@@ -53,15 +53,21 @@ fn main(rt: HostRuntime) -> io::Result<()> {
     };
     let ids = number(words.next());
     let count = number(words.next());
+    let filling = texts(alloc, "set", ids)?;
+    let all = texts(alloc, kind.as_str(), ids)?;
     let Ok(mut driver) = Driver::new(alloc) else {
         return Ok(());
     };
-    let filling = texts(alloc, "set", ids)?;
     driver.drive(filling.as_slice(), ids);
-    let all = texts(alloc, kind.as_str(), ids)?;
-    let begun = Instant::now(&rt)?;
+    // No way out while the driver is held: what drops a core is part of each.
+    let begun = Instant::now(&rt);
     let answered = driver.drive(all.as_slice(), count);
-    let took = begun.elapsed(&rt)?.as_nanos();
+    let took = match begun {
+        Ok(begun) => begun.elapsed(&rt),
+        Err(fault) => Err(fault),
+    };
+    drop(driver);
+    let took = took?.as_nanos();
     let each = took.checked_div(u128::from(answered)).unwrap_or(0);
     println!(rt; "{} {} {} {}", kind, ids, answered, each)?;
     Ok(())

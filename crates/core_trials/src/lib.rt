@@ -1,8 +1,12 @@
-//! The core beside a plain machine over a list: both are asked the same, and have to answer the same.
+//! The core beside plain programs over lists: both are asked the same, and have to answer and to tell the same.
 #![tactic(auto)]
 
 #[cfg(test)]
+mod board;
+#[cfg(test)]
 mod cuts;
+#[cfg(test)]
+mod fences;
 #[cfg(test)]
 mod frames;
 #[cfg(test)]
@@ -11,3 +15,5 @@ mod lines;
 mod plain;
 #[cfg(test)]
 mod tests;
+#[cfg(test)]
+mod visits;

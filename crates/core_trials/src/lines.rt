@@ -68,8 +68,30 @@ fn push_choice(out: &mut Text, numbers: &mut Numbers, words: &[&[u8]]) -> Result
     out.push(words[at])
 }
 
+/// What the words of a form stand for.
+pub(crate) trait Fill {
+    /// Appends the word that one of a form stands for.
+    fn push_word(&mut self, out: &mut Text, word: &str) -> Result<(), NoMemory>;
+}
+
+/// Each word stands for itself.
+#[derive(Drop)]
+pub(crate) struct AsItStands;
+
+impl Fill for AsItStands {
+    fn push_word(&mut self, out: &mut Text, word: &str) -> Result<(), NoMemory> {
+        out.push(word.as_bytes())
+    }
+}
+
+impl Fill for Numbers {
+    fn push_word(&mut self, out: &mut Text, word: &str) -> Result<(), NoMemory> {
+        push_chosen(out, self, word)
+    }
+}
+
 // The word that one of a form stands for.
-fn push_word(out: &mut Text, numbers: &mut Numbers, word: &str) -> Result<(), NoMemory> {
+fn push_chosen(out: &mut Text, numbers: &mut Numbers, word: &str) -> Result<(), NoMemory> {
     match word {
         "k" => push_choice(out, numbers, &[b"fleet".as_slice(), b"site", b"van"]),
         "i" => push_choice(
@@ -106,23 +128,24 @@ fn push_proper(words: &mut Request, word: &[u8]) -> Result<(), Fail>
     Ok(())
 }
 
-/// A line of one of the forms, as a request.
-pub(crate) fn request(alloc: Global, numbers: &mut Numbers) -> Result<Request, Fail> {
-    let form = FORMS[numbers.below(24) as usize];
+/// A line, as a request.
+pub(crate) fn filled<F: Fill>(alloc: Global, form: &str, fill: &mut F) -> Result<Request, Fail> {
     let mut words = Request::new(alloc);
     for word in form.split(' ') {
         let mut text = Text::new(alloc);
-        push_word(&mut text, numbers, word)?;
+        fill.push_word(&mut text, word)?;
         push_proper(&mut words, text.bytes())?;
     }
     Ok(words)
 }
 
+/// A line of one of the forms, as a request.
+pub(crate) fn request(alloc: Global, numbers: &mut Numbers) -> Result<Request, Fail> {
+    let form = FORMS[numbers.below(24) as usize];
+    filled(alloc, form, numbers)
+}
+
 /// A line as it stands, as a request.
 pub(crate) fn plain_request(alloc: Global, line: &str) -> Result<Request, Fail> {
-    let mut words = Request::new(alloc);
-    for word in line.split(' ') {
-        push_proper(&mut words, word.as_bytes())?;
-    }
-    Ok(words)
+    filled(alloc, line, &mut AsItStands)
 }

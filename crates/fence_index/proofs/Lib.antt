@@ -1,3 +1,9 @@
 pub mod MarkOrder
-pub mod Names
 pub mod Silent
+pub mod Mapped
+pub mod Sums
+pub mod NamesInOrder
+pub mod OnePair
+pub mod KeyWeights
+pub mod Lists
+pub mod Prepared

@@ -1,5 +1,5 @@
 -- The channels that a change may concern, by boxes alone.
-use Rattle.std.specs.Prelude.{Bool, false, ◌&&◌, ◌||◌, List, [], ◌∷◌, filter, map, flat_map, Option, Some, None, is_some, is_none, option_map, if◌then◌else◌}
+use Rattle.std.specs.Prelude.{Bool, false, ◌&&◌, ◌||◌, List, filter, map, Option, Some, None, is_some, is_none, option_map}
 use Rattle.byte_text.specs.Names.{Bytes}
 use Rattle.planar_geom.specs.Points.{Bounds, boxes_meet, box_round_both}
 use Rattle.planar_geom.specs.Shapes.{box_of}
@@ -24,16 +24,13 @@ both_meet (Some b) (Some c) = boxes_meet b c
 abbrev pub concerns : Option Bounds → Bool → Mark → Bool
 concerns round put m = (put && (is_none m.area || m.outside)) || both_meet round m.area
 
+-- the names of the channels of the key that are concerned, where a change moves something in this box
+abbrev pub named_near : Bytes → Bounds → Bool → List Mark → List Bytes
+named_near key round put marks = map (λ m. m.name) (filter (concerns (Some round) put) (filter (is_of_key key) marks))
+
 -- the change moves an object from the old box, where it was there, to the new one, where it is there after it
 abbrev pub is_concerned : Option Bounds → Option Bounds → Mark → Bool
 is_concerned old new m = concerns (round_of old new) (is_some new) m
-
--- the names of those that are concerned, one by one
-abbrev pub noted : Bool → Mark → List Bytes
-noted concerned m = if concerned then m.name ∷ [] else []
-
-abbrev pub concerned_names : Option Bounds → Bool → List Mark → List Bytes
-concerned_names round put marks = flat_map (λ m. noted (concerns round put m) m) marks
 
 -- the names of the channels of the key that are concerned
 abbrev pub candidates_of : Bytes → Option Bounds → Option Bounds → List Mark → List Bytes

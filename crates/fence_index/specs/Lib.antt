@@ -1,3 +1,7 @@
 pub mod Marks
 pub mod Candidates
 pub mod Silence
+pub mod Held
+pub mod Reasons
+pub mod Boxed
+pub mod Numbered

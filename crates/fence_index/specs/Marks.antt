@@ -1,5 +1,5 @@
 -- What an index keeps of channels, by key and name.
-use Rattle.std.specs.Prelude.{Bool, ◌&&◌, ◌||◌, List, Option, Some, None}
+use Rattle.std.specs.Prelude.{Bool, false, ◌&&◌, ◌||◌, List, Option, Some, None}
 use Rattle.byte_text.specs.Names.{Bytes, same, before}
 use Rattle.planar_geom.specs.Points.{Bounds}
 use Rattle.planar_geom.specs.Relations.{area_box}
@@ -33,6 +33,14 @@ are_marks marks = ascends mark_before marks
 abbrev pub is_of_key : Bytes → Mark → Bool
 is_of_key key m = same m.key key
 
+-- both are kept of channels of one key and name
+abbrev pub is_twin : Mark → Mark → Bool
+is_twin m n = same n.key m.key && same n.name m.name
+
 -- it is kept of a channel of this one's key and name
 abbrev pub is_mark_of : Channel → Mark → Bool
-is_mark_of c m = same m.key c.fence.key && same m.name c.name
+is_mark_of c m = is_twin (mark_of c) m
+
+-- a mark of this key and name
+abbrev pub mark_at : Bytes → Bytes → Mark
+mark_at key name = record { key = key; name = name; area = None; outside = false }

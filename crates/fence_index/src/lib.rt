@@ -1,13 +1,18 @@
 //! Which channels of a key a change may concern: those that are named raise what there is to raise, and the others raise nothing.
-//! What is kept of the channels stands in one sorted list, and the channels of the key are gone over one by one; a tree of the boxes of
-//! each key can stand behind the same contract.
+//! The boxes of the areas stand in trees, those of each key by themselves, so that a change visits few nodes where few channels are near.
 #![tactic(auto)]
 
+mod box_sets;
 mod indexes;
+mod key_boxes;
+mod key_lists;
 mod laws;
+mod mark_lists;
 mod mark_order;
 mod marks;
+mod name_lists;
 mod nearness;
+mod ready;
 
 pub use indexes::FenceIndex;
 pub use laws::{unconcerned_are_silent, unconcerned_by_del, unconcerned_by_put, watch_is_whole};

@@ -17,6 +17,13 @@ pub struct Mark {
     pub outside: bool,
 }
 
+/// What is kept of a channel, and the number under which trees have it.
+#[derive(Drop)]
+pub(crate) struct NumberedMark {
+    pub(crate) number: usize,
+    pub(crate) mark: Mark,
+}
+
 impl Mark {
     /// What is kept of the channel, in memory of its own.
     pub(crate) fn of(alloc: Global, channel: &Channel) -> Result<Mark, NoMemory>

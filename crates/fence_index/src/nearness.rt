@@ -1,10 +1,11 @@
-//! Whether a change concerns a channel, by boxes alone.
+//! Boxes that decide whether a change concerns a channel.
 
 ghost use Rattle.std.specs.Prelude.{◌≡◌};
-ghost use Rattle.fence_index.specs.Candidates.{both_meet, concerns, round_of};
+ghost use Rattle.fence_index.specs.Candidates.{round_of};
+ghost use Rattle.fence_index.specs.Reasons.{Near, Wide, Always, box_for, spot as spot_box};
 
 use crate::marks::Mark;
-use planar_geom::BBox;
+use planar_geom::{BBox, Pt};
 
 /// The least box round what is there of the two.
 pub(crate) fn round_of(old: Option<BBox>, new: Option<BBox>) -> Option<BBox>
@@ -17,19 +18,40 @@ pub(crate) fn round_of(old: Option<BBox>, new: Option<BBox>) -> Option<BBox>
     }
 }
 
-fn both_meet(round: &Option<BBox>, area: &Option<BBox>) -> bool
-    ensures { result ≡ both_meet round.now area.now }
+/// The box of a channel that is named where its area is near, and for no other reason.
+pub(crate) fn near_box(mark: &Mark) -> Option<BBox>
+    ensures { result ≡ box_for Near mark.now }
 {
-    match (round, area) {
-        (Some(round), Some(area)) => round.meets(*area),
-        _ => false,
+    if mark.outside { None } else { mark.area }
+}
+
+/// The box of a channel that is named where its area is near, and where an object was put.
+pub(crate) fn wide_box(mark: &Mark) -> Option<BBox>
+    ensures { result ≡ box_for Wide mark.now }
+{
+    if mark.outside { mark.area } else { None }
+}
+
+/// The box under which a channel stands that is named where an object was put: one that roams or wants `outside`.
+pub(crate) fn always_box(mark: &Mark) -> Option<BBox>
+    ensures { result ≡ box_for Always mark.now }
+{
+    if mark.area.is_none() || mark.outside {
+        Some(spot())
+    } else {
+        None
     }
 }
 
-/// Whether a change concerns the channel: `round` is the box round what it moves, and `put` says that an object stands there after it.
-/// A put concerns those that roam or want `outside`.
-pub(crate) fn concerns(round: &Option<BBox>, put: bool, mark: &Mark) -> bool
-    ensures { result ≡ concerns round.now put mark.now }
+/// The one box of all that are named where an object was put: it meets itself.
+pub(crate) fn spot() -> BBox
+    ensures { result ≡ spot_box }
 {
-    (put && (mark.area.is_none() || mark.outside)) || both_meet(round, &mark.area)
+    let Some(origin) = Pt::of(0, 0) else {
+        unreachable!();
+    };
+    match BBox::of(origin, origin) {
+        Some(spot) => spot,
+        None => unreachable!(),
+    }
 }

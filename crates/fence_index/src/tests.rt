@@ -6,6 +6,7 @@ ghost use Rattle.fence_index.specs.Marks.{mark_of};
 use super::*;
 use byte_text::{Name, NoMemory, Request, Text};
 use planar_geom::{Area, BBox, Pt};
+use rtree::{NoLedger, Steps, Visits};
 use std::alloc::Global;
 use std::process::Abort;
 use std::test::Fail;
@@ -82,7 +83,14 @@ fn named(
     new: Option<BBox>,
 ) -> Result<Text, NoMemory> {
     let mut names = NameList::new(alloc);
-    index.candidates(alloc, &name(alloc, key)?, old, new, &mut names)?;
+    index.candidates(
+        alloc,
+        &name(alloc, key)?,
+        old,
+        new,
+        &mut names,
+        &mut Steps::new(NoLedger),
+    )?;
     let mut text = Text::new(alloc);
     for i in 0..names.len() {
         text.push(names.at(i).bytes())?;
@@ -201,4 +209,64 @@ fn names(rt: HostRuntime) -> Result<(), Fail> {
 fn a_channel_is_replaced(rt: HostRuntime) -> Result<(), Fail> {
     let alloc = rt.alloc();
     names_behind(&rt, alloc, &mut FenceIndex::new(alloc))
+}
+
+// The channel of this number, on 20 times as far east.
+fn numbered(alloc: Global, i: u32) -> Result<Channel, NoMemory> {
+    let called = [
+        b'0' + (i / 100 % 10) as u8,
+        b'0' + (i / 10 % 10) as u8,
+        b'0' + (i % 10) as u8,
+    ];
+    let low = i64::from(i) * 20;
+    channel(alloc, b"fleet", &called, false, spot(low, low + 9)?)
+}
+
+// 1,000 channels of `fleet`, from `000` to `999`.
+fn put_thousand(alloc: Global, index: &mut FenceIndex) -> Result<(), NoMemory> {
+    for i in 0..1000u32 {
+        put(alloc, index, &numbered(alloc, i)?)?;
+    }
+    Ok(())
+}
+
+// Asks for 1,000 changes, each within the area of one channel, and appends what is named.
+fn ask_thousand(
+    alloc: Global,
+    index: &FenceIndex,
+    names: &mut NameList,
+    steps: &mut Steps<Visits>,
+) -> Result<(), NoMemory> {
+    let key = name(alloc, b"fleet")?;
+    for i in 0..1000u32 {
+        let east = i64::from(i) * 20 + 5;
+        let place = Some(strip(east, east)?);
+        index.candidates(alloc, &key, place, place, names, steps)?;
+    }
+    Ok(())
+}
+
+// 1,000 boxes need three levels of nodes of at most 16, and each of 1,000 changes that names a channel visits a node of each level.
+const LEAST_VISITS: u64 = 3_000;
+
+// Some nodes more are visited, as boxes of nodes overlap; a walk over all of them visits 63 for each change.
+const MOST_VISITS: u64 = 30_000;
+
+fn names_of_thousand(rt: &impl Abort, alloc: Global, index: &mut FenceIndex) -> Result<(), Fail> {
+    put_thousand(alloc, index)?;
+    let mut names = NameList::new(alloc);
+    let mut steps = Steps::new(Visits::new());
+    ask_thousand(alloc, index, &mut names, &mut steps)?;
+    assert_eq!(rt; names.len(), 1000);
+    assert_eq!(rt; names.at(0).bytes(), b"000".as_slice());
+    assert_eq!(rt; names.at(999).bytes(), b"999".as_slice());
+    let count = steps.ledger().count();
+    assert!(rt; LEAST_VISITS <= count && count <= MOST_VISITS);
+    Ok(())
+}
+
+#[test]
+fn few_nodes_are_visited(rt: HostRuntime) -> Result<(), Fail> {
+    let alloc = rt.alloc();
+    names_of_thousand(&rt, alloc, &mut FenceIndex::new(alloc))
 }

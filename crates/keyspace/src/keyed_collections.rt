@@ -9,6 +9,7 @@ ghost use Rattle.keyspace.specs.FirstDue.{Took};
 
 use byte_text::{Name, NoMemory};
 use collection::Collection;
+use rtree::{Ledger, Steps};
 use std::alloc::Global;
 use std::marker::Model;
 use world_data::Object;
@@ -66,35 +67,35 @@ impl KeyedCollection {
     }
 
     /// Puts an object at its place, and gives out the one of its id that stood there. A new one takes one place of the room.
-    pub(crate) fn put(&mut self, object: Object) -> Option<Object>
+    pub(crate) fn put<L: Ledger>(&mut self, object: Object, steps: &mut Steps<L>) -> Option<Object>
         requires { has_room (held_of self.old) object.id ≡ true }
         ensures key { self.new.key ≡ self.old.key }
         ensures objects { self.new.objects ≡ put_in id_before object self.old.objects }
         ensures replaced { result ≡ find (has_id object.id) self.old.objects }
         ensures spare { self.new.spare + (if is_some result then 0 else 1) ≡ self.old.spare }
     {
-        self.objects.put(object)
+        self.objects.put(object, steps)
     }
 
     /// Takes out the object of this id, where there is one. Its place is room for another.
-    pub(crate) fn take_out(&mut self, id: &Name) -> Option<Object>
+    pub(crate) fn take_out<L: Ledger>(&mut self, id: &Name, steps: &mut Steps<L>) -> Option<Object>
         ensures key { self.new.key ≡ self.old.key }
         ensures objects { self.new.objects ≡ filter (λ o. not (has_id id.now o)) self.old.objects }
         ensures taken { result ≡ find (has_id id.now) self.old.objects }
         ensures spare { self.new.spare ≡ self.old.spare + (if is_some result then 1 else 0) }
     {
-        self.objects.take_out(id)
+        self.objects.take_out(id, steps)
     }
 
     /// Takes out the first object of the least deadline. Its place is room for another.
-    pub(crate) fn take_first(&mut self, due: u64) -> Object
+    pub(crate) fn take_first<L: Ledger>(&mut self, due: u64, steps: &mut Steps<L>) -> Object
         requires { least_due self.old.objects ≡ Some due }
         ensures key { self.new.key ≡ self.old.key }
         ensures took { Took due self.old.objects self.new.objects result }
         ensures spare { self.new.spare ≡ self.old.spare + 1 }
     {
         match self.objects.first_due() {
-            Some(at) => self.objects.take_at(at),
+            Some(at) => self.objects.take_at(at, steps),
             None => unreachable!(),
         }
     }

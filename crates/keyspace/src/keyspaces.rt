@@ -15,6 +15,7 @@ use crate::key_order::place_of;
 use crate::keyed_collections::KeyedCollection;
 use byte_text::{Name, NoMemory};
 use collection::Collection;
+use rtree::{Ledger, Steps};
 use std::alloc::Global;
 use std::marker::Model;
 use world_data::Object;
@@ -133,8 +134,8 @@ impl Keyspace {
     }
 
     /// Puts an object at its place, and gives out the one of its key and id that stood there. A new one takes one place of the
-    /// room of its key.
-    pub fn put(&mut self, object: Object) -> Option<Object>
+    /// room of its key. The steps rise by the nodes of its key's tree that are visited.
+    pub fn put<L: Ledger>(&mut self, object: Object, steps: &mut Steps<L>) -> Option<Object>
         requires room { has_room self.old object ≡ true }
         requires few { length (objects_in self.old) < 2 ^ 32 }
         ensures objects { objects_in self.new ≡ put_in object_before object (objects_in self.old) }
@@ -145,7 +146,7 @@ impl Keyspace {
     {
         match place_of(self.collections.as_slice(), &object.key) {
             Ok(at) => {
-                let old = self.collections[at].put(object);
+                let old = self.collections[at].put(object, steps);
                 self.count += usize::from(old.is_none());
                 old
             }
@@ -154,8 +155,13 @@ impl Keyspace {
     }
 
     /// Takes out the object of this key and this id, where there is one. Its place is room for another of its key, which stays
-    /// also without an object.
-    pub fn take_out(&mut self, key: &Name, id: &Name) -> Option<Object>
+    /// also without an object. The steps rise as with `put`.
+    pub fn take_out<L: Ledger>(
+        &mut self,
+        key: &Name,
+        id: &Name,
+        steps: &mut Steps<L>,
+    ) -> Option<Object>
         ensures objects { objects_in self.new ≡ filter (λ o. not (is_at key.now id.now o)) (objects_in self.old) }
         ensures keys { keys_of self.new ≡ keys_of self.old }
         ensures taken { result ≡ find (is_at key.now id.now) (objects_in self.old) }
@@ -163,7 +169,7 @@ impl Keyspace {
     {
         match place_of(self.collections.as_slice(), key) {
             Ok(at) => {
-                let taken = self.collections[at].take_out(id);
+                let taken = self.collections[at].take_out(id, steps);
                 self.count -= usize::from(taken.is_some());
                 taken
             }
@@ -172,8 +178,8 @@ impl Keyspace {
     }
 
     /// Takes out the object that expires first, where one is due: the one of the least deadline, then key, then id. Its place is
-    /// room for another of its key, which stays also without an object.
-    pub fn take_due(&mut self, now: u64) -> Option<Object>
+    /// room for another of its key, which stays also without an object. The steps rise as with `put`.
+    pub fn take_due<L: Ledger>(&mut self, now: u64, steps: &mut Steps<L>) -> Option<Object>
         ensures none { IfNone result (filter (is_due now) (objects_in self.old) ≡ []) }
         ensures stays { IfNone result (self.new ≡ self.old) }
         ensures first { IfSome result (λ o. sorted_by due_before (filter (is_due now) (objects_in self.old)) ≡ o ∷ sorted_by due_before (filter (is_due now) (objects_in self.new))) }
@@ -187,7 +193,7 @@ impl Keyspace {
                 if due > now {
                     return None;
                 }
-                let object = self.collections[at].take_first(due);
+                let object = self.collections[at].take_first(due, steps);
                 self.count -= 1;
                 Some(object)
             }

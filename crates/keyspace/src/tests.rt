@@ -3,7 +3,9 @@
 use super::*;
 use byte_text::{Name, NoMemory, Text};
 use planar_geom::{Part, Parts, Pt, Shape};
+use rtree::{NoLedger, Steps, Visits};
 use std::alloc::Global;
+use std::process::Abort;
 use std::test::Fail;
 use world_data::{Fields, Object};
 
@@ -42,17 +44,18 @@ fn put(
     if all.len() > 9 {
         return Ok(false);
     }
-    Ok(all.put(object).is_some())
+    Ok(all.put(object, &mut Steps::new(NoLedger)).is_some())
 }
 
-#[test]
-fn objects_are_put_and_found(rt: HostRuntime) -> Result<(), Fail> {
-    let alloc = rt.alloc();
-    let mut all = Keyspace::new(alloc);
-    assert!(rt; !put(alloc, &mut all, b"fleet", b"b", Some(7))?);
-    assert!(rt; !put(alloc, &mut all, b"fleet", b"a", None)?);
-    assert!(rt; !put(alloc, &mut all, b"depot", b"c", Some(9))?);
-    assert!(rt; put(alloc, &mut all, b"fleet", b"b", Some(9))?);
+fn see_that_objects_are_put_and_found(
+    rt: &impl Abort,
+    alloc: Global,
+    all: &mut Keyspace,
+) -> Result<(), Fail> {
+    assert!(rt; !put(alloc, all, b"fleet", b"b", Some(7))?);
+    assert!(rt; !put(alloc, all, b"fleet", b"a", None)?);
+    assert!(rt; !put(alloc, all, b"depot", b"c", Some(9))?);
+    assert!(rt; put(alloc, all, b"fleet", b"b", Some(9))?);
     assert_eq!(rt; all.len(), 3);
     assert_eq!(rt; all.least_due(), Some(9));
     assert_eq!(rt; all.keys(), 2);
@@ -66,15 +69,23 @@ fn objects_are_put_and_found(rt: HostRuntime) -> Result<(), Fail> {
 }
 
 #[test]
-fn objects_are_taken_out(rt: HostRuntime) -> Result<(), Fail> {
+fn objects_are_put_and_found(rt: HostRuntime) -> Result<(), Fail> {
     let alloc = rt.alloc();
-    let mut all = Keyspace::new(alloc);
-    put(alloc, &mut all, b"fleet", b"b", Some(9))?;
-    put(alloc, &mut all, b"fleet", b"a", None)?;
-    put(alloc, &mut all, b"depot", b"c", Some(9))?;
-    assert!(rt; all.take_due(8).is_none());
+    see_that_objects_are_put_and_found(&rt, alloc, &mut Keyspace::new(alloc))
+}
+
+fn see_that_objects_are_taken_out(
+    rt: &impl Abort,
+    alloc: Global,
+    all: &mut Keyspace,
+) -> Result<(), Fail> {
+    put(alloc, all, b"fleet", b"b", Some(9))?;
+    put(alloc, all, b"fleet", b"a", None)?;
+    put(alloc, all, b"depot", b"c", Some(9))?;
+    let mut steps = Steps::new(Visits::new());
+    assert!(rt; all.take_due(8, &mut steps).is_none());
     let depot = Name::of(alloc, b"depot")?;
-    match all.take_due(9) {
+    match all.take_due(9, &mut steps) {
         Some(object) => assert_eq!(rt; object.key.bytes(), depot.bytes()),
         None => assert!(rt; false),
     }
@@ -82,12 +93,19 @@ fn objects_are_taken_out(rt: HostRuntime) -> Result<(), Fail> {
     assert_eq!(rt; all.keys(), 1);
     let fleet = Name::of(alloc, b"fleet")?;
     let a = Name::of(alloc, b"a")?;
-    assert!(rt; all.take_out(&fleet, &a).is_some());
+    assert!(rt; all.take_out(&fleet, &a, &mut steps).is_some());
     assert_eq!(rt; all.len(), 1);
+    assert!(rt; steps.ledger().count() > 0);
     all.drop_key(&fleet);
     assert_eq!(rt; all.len(), 0);
-    put(alloc, &mut all, b"fleet", b"a", None)?;
+    put(alloc, all, b"fleet", b"a", None)?;
     all.clear();
     assert_eq!(rt; all.keys(), 0);
     Ok(())
+}
+
+#[test]
+fn objects_are_taken_out(rt: HostRuntime) -> Result<(), Fail> {
+    let alloc = rt.alloc();
+    see_that_objects_are_taken_out(&rt, alloc, &mut Keyspace::new(alloc))
 }

@@ -53,24 +53,29 @@ drop_front : (xs ys : Bytes) → drop (length xs) (xs ++ ys) ≡ ys
 drop_front [] ys = refl
 drop_front (x ∷ xs) ys = drop_front xs ys
 
-batch_read : (at : ℕ) (changes : List Change) (rest : Bytes) (next : ℕ → Bytes → Result Batches ℕ) → AllByRecursion IsRecorded changes
-    → length (records_text changes) < 2 ^ 64
-    → batch_behind at (batch_text changes ++ rest) next ≡ with_changes (Ok changes) (next (at + 9 + length (records_text changes)) rest)
+-- whatever a batch holds, so many bytes of it are read as records
+pub framed_read : (at : ℕ) (batch rest : Bytes) (next : ℕ → Bytes → Result Batches ℕ) → length batch < 2 ^ 64
+    → batch_behind at ((number_bytes (length batch) ++ batch) ++ rest) next ≡ with_changes (records_in (at + 9) batch) (next (at + 9 + length batch) rest)
 unfolding number_bytes
-batch_read at changes rest next are small =
-    let records = records_text changes in
-    let n = length records in
-    let bytes = number_bytes n ++ (records ++ rest) in
-    let assoc : batch_text changes ++ rest ≡ bytes = append_assoc (number_bytes n) records rest in
+framed_read at batch rest next small =
+    let n = length batch in
+    let bytes = number_bytes n ++ (batch ++ rest) in
+    let assoc : (number_bytes n ++ batch) ++ rest ≡ bytes = append_assoc (number_bytes n) batch rest in
     let number : number_of (take 8 bytes) ≡ n = from_be_bytes-to_be_bytes_8 n small in
-    let long : nat_le (8 + n) (length bytes) ≡ true = le-leb (8 + n) (length bytes) (omega (arith, length-append (number_bytes n) (records ++ rest), length-append records rest, eight n)) in
-    let inside : take n (drop 8 bytes) ≡ records = take_front records rest in
-    let behind : drop (8 + n) bytes ≡ rest = sym (drop-drop n 8 bytes) ∙ drop_front records rest in
+    let long : nat_le (8 + n) (length bytes) ≡ true = le-leb (8 + n) (length bytes) (omega (arith, length-append (number_bytes n) (batch ++ rest), length-append batch rest, eight n)) in
+    let inside : take n (drop 8 bytes) ≡ batch = take_front batch rest in
+    let behind : drop (8 + n) bytes ≡ rest = sym (drop-drop n 8 bytes) ∙ drop_front batch rest in
     ap (λ (l : Bytes). batch_behind at l next) assoc
     ∙ ap (λ (m : ℕ). if nat_le (8 + m) (length bytes) then with_changes (records_in (at + 9) (take m (drop 8 bytes))) (next (at + 9 + m) (drop (8 + m) bytes)) else Err (at + 1)) number
     ∙ rw long (ap (λ (l : Bytes). with_changes (records_in (at + 9) l) (next (at + 9 + n) (drop (8 + n) bytes))) inside
-    ∙ ap (λ (l : Bytes). with_changes (records_in (at + 9) records) (next (at + 9 + n) l)) behind
-    ∙ ap (λ (r : Result (List Change) ℕ). with_changes r (next (at + 9 + n) rest)) (records_read (at + 9) changes are))
+    ∙ ap (λ (l : Bytes). with_changes (records_in (at + 9) batch) (next (at + 9 + n) l)) behind)
+
+batch_read : (at : ℕ) (changes : List Change) (rest : Bytes) (next : ℕ → Bytes → Result Batches ℕ) → AllByRecursion IsRecorded changes
+    → length (records_text changes) < 2 ^ 64
+    → batch_behind at (batch_text changes ++ rest) next ≡ with_changes (Ok changes) (next (at + 9 + length (records_text changes)) rest)
+batch_read at changes rest next are small =
+    let records = records_text changes in
+    framed_read at records rest next small ∙ ap (λ (r : Result (List Change) ℕ). with_changes r (next (at + 9 + length records) rest)) (records_read (at + 9) changes are)
 
 -- batches and a gate that is not open
 

@@ -6,15 +6,11 @@ use Rattle.outside.specs.Disks.{write_over, Torn}
 use Rattle.outside.specs.WriteLaws.{write_over-within, torn_within}
 use Rattle.byte_text.specs.Names.{Bytes}
 use Rattle.log_sides.specs.Texts.{StandsFor, IsGeneration, open_gate, header, batches_text, framed, sealed, with_batch, committed, written, gate_place, max_side}
-use Rattle.log_sides.specs.Making.{IsShut, IsBare, head_text}
+use Rattle.log_sides.specs.Making.{IsBare, head_text}
 use Rattle.log_sides.specs.Closing.{head_written}
 use Rattle.log_sides.specs.Torn.{one_byte, gate_written, batches_text-append}
 use Rattle.log_sides.specs.Sealing.{length-sealed}
 use Rattle.log_rewrite.specs.NewSides.{IsPart, rear_text, ShutOrStands}
-
--- such a side is shut
-pub part_shut : (generation : ℕ) (batches : List Bytes) (side : Bytes) → IsPart generation batches side → IsShut side
-part_shut generation batches side part = record { gate = part.gate; closed = part.closed; rest = rear_text generation batches ++ 0 ∷ []; is = part.is }
 
 -- the header was written behind a gate that stood alone
 pub part_begun : (generation : ℕ) (piece old : Bytes) → piece ≡ head_text generation → IsBare old → IsPart generation [] (write_over 1 piece old)
@@ -85,7 +81,7 @@ part_torn generation batches old new numbered room part torn =
   where
     by_gate : (b : ℕ) → new ≡ b ∷ (rear_text generation batches ++ 0 ∷ []) → (b ≡ open_gate) ⊎ (b ≢ open_gate) → ShutOrStands generation batches new
     by_gate b text (inl is) = inr (opened generation batches new b numbered room is text)
-    by_gate b text (inr closed) = inl (record { gate = b; closed = closed; rest = rear_text generation batches ++ 0 ∷ []; is = text })
+    by_gate b text (inr closed) = inl (record { gate = b; closed = closed; rest = rear_text generation batches ++ 0 ∷ []; is = text; short = omega (arith, room, ap length text, length-append (rear_text generation batches) (0 ∷ [])) })
 
 pub written_short : (records : Bytes) → length (written records) ≤ length records + 10
 written_short [] = omega arith

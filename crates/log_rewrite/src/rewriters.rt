@@ -35,9 +35,9 @@ impl Rewriter {
     /// side is as it was, or not open, and the other one stays.
     pub fn begin<D: Disk>(disk: &mut D, side: Side, generation: u64) -> Result<Rewriter, Failed>
         requires { IsGeneration generation }
-        ensures begun { (before : Bytes) → ReadsAs D.crashes D.seen D.images disk.old side before
+        ensures begun { (before : Bytes) → length before ≤ 2 ^ 62 → ReadsAs D.crashes D.seen D.images disk.old side before
             → IfOk result (λ r. NewSideOn D.crashes D.seen D.images disk.new side generation r.gate []) }
-        ensures either { (before : Bytes) → ReadsAs D.crashes D.seen D.images disk.old side before
+        ensures either { (before : Bytes) → length before ≤ 2 ^ 62 → ReadsAs D.crashes D.seen D.images disk.old side before
             → SideLeads D.crashes D.seen D.images D.moment D.left_since side (WhileShut before) disk.old disk.new }
         ensures told { D.crashes disk.new ≡ D.crashes disk.old }
         ensures cause { HasCause (D.faults disk.old) (D.faults disk.new) result }
@@ -132,9 +132,9 @@ impl Rewriter {
 // Leaves of a side a closed gate with a header behind it.
 fn begin_side<D: Disk>(disk: &mut D, side: Side, generation: u64) -> Result<(), Failed>
     requires { IsGeneration generation }
-    ensures begun { (before : Bytes) → ReadsAs D.crashes D.seen D.images disk.old side before
+    ensures begun { (before : Bytes) → length before ≤ 2 ^ 62 → ReadsAs D.crashes D.seen D.images disk.old side before
         → OnOk result (NewSideOn D.crashes D.seen D.images disk.new side generation 16 []) }
-    ensures either { (before : Bytes) → ReadsAs D.crashes D.seen D.images disk.old side before
+    ensures either { (before : Bytes) → length before ≤ 2 ^ 62 → ReadsAs D.crashes D.seen D.images disk.old side before
         → SideLeads D.crashes D.seen D.images D.moment D.left_since side (WhileShut before) disk.old disk.new }
     ensures told { D.crashes disk.new ≡ D.crashes disk.old }
     ensures cause { HasCause (D.faults disk.old) (D.faults disk.new) result }

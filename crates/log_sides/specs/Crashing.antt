@@ -148,6 +148,15 @@ pub safe_written : {T E : Type 0} (r : Result T E) (crashes crashes' : Bool) (se
 safe_written (Err x) crashes crashes' seen seen' images' side at piece P Q safe has same written durable = tt
 safe_written (Ok x) crashes crashes' seen seen' images' side at piece P Q safe has same written durable = safe_write crashes crashes' seen seen' images' side at piece P Q safe has same written durable
 
+-- no call was made
+pub leads_self : {D : Type 0} (crashes : D → Bool) (seen : D → Option Sides) (images : D → Sides → Type 0) (moment : D → ℕ) (left_since : D → ℕ → Sides → Type 0) (side : Side) (P : Bytes → Type 0) (disk : D)
+    → SideIsSafe (crashes disk) (seen disk) (images disk) side P → SideLeads crashes seen images moment left_since side P disk disk
+leads_self crashes seen images moment left_since side P disk safe = record {
+  contents = (safe.contents, safe.told, record { here = safe.has; earlier = safe.contents; could = safe.told; there = refl });
+  images_now = λ told c image. record { here = subst P (sym (safe.settled told c image)) safe.has; earlier = c; could = image; there = refl };
+  moments = λ told. begins moment left_since disk (IsLeft (images disk) side P);
+}
+
 -- a look at the disk
 pub leads_look : {D : Type 0} (crashes : D → Bool) (seen : D → Option Sides) (images : D → Sides → Type 0) (moment : D → ℕ) (left_since : D → ℕ → Sides → Type 0) (side : Side) (P : Bytes → Type 0) (old new : D)
     → SideIsSafe (crashes old) (seen old) (images old) side P → Told (seen old) (seen new) (λ s t. t ≡ s)

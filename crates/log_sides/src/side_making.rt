@@ -1,6 +1,6 @@
 //! A new side is made: its gate is closed until all behind it is safe.
 
-ghost use Rattle.std.specs.Prelude.{◌≡◌, [], ◌∷◌, IfOk, OnOk};
+ghost use Rattle.std.specs.Prelude.{◌≡◌, ◌≤◌, ◌^◌, [], ◌∷◌, length, IfOk, OnOk};
 ghost use Rattle.byte_text.specs.Names.{Bytes};
 ghost use Rattle.outside.specs.Causes.{HasCause};
 ghost use Rattle.log_sides.specs.Texts.{StandsFor, IsGeneration};
@@ -15,9 +15,9 @@ pub const FIRST_GATE: u64 = 16;
 /// Makes a side of this generation, without a batch. Its gate is closed first, and opened when all else is safe.
 pub fn make_side<D: Disk>(disk: &mut D, side: Side, generation: u64) -> Result<(), Failed>
     requires { IsGeneration generation }
-    ensures stands { (before : Bytes) → ReadsAs D.crashes D.seen D.images disk.old side before
+    ensures stands { (before : Bytes) → length before ≤ 2 ^ 62 → ReadsAs D.crashes D.seen D.images disk.old side before
         → OnOk result (SafeOn D.crashes D.seen D.images disk.new side (StandsFor generation [])) }
-    ensures either { (before : Bytes) → ReadsAs D.crashes D.seen D.images disk.old side before
+    ensures either { (before : Bytes) → length before ≤ 2 ^ 62 → ReadsAs D.crashes D.seen D.images disk.old side before
         → SideLeads D.crashes D.seen D.images D.moment D.left_since side (WhileMade generation before) disk.old disk.new }
     ensures told { D.crashes disk.new ≡ D.crashes disk.old }
     ensures cause { HasCause (D.faults disk.old) (D.faults disk.new) result }
@@ -30,9 +30,9 @@ pub fn make_side<D: Disk>(disk: &mut D, side: Side, generation: u64) -> Result<(
 
 // All of a new side but its open gate.
 fn make_closed<D: Disk>(disk: &mut D, side: Side, generation: u64) -> Result<(), Failed>
-    ensures made { (before : Bytes) → ReadsAs D.crashes D.seen D.images disk.old side before
+    ensures made { (before : Bytes) → length before ≤ 2 ^ 62 → ReadsAs D.crashes D.seen D.images disk.old side before
         → OnOk result (SafeOn D.crashes D.seen D.images disk.new side (IsMade generation)) }
-    ensures either { (before : Bytes) → ReadsAs D.crashes D.seen D.images disk.old side before
+    ensures either { (before : Bytes) → length before ≤ 2 ^ 62 → ReadsAs D.crashes D.seen D.images disk.old side before
         → SideLeads D.crashes D.seen D.images D.moment D.left_since side (WhileShut before) disk.old disk.new }
     ensures told { D.crashes disk.new ≡ D.crashes disk.old }
     ensures cause { HasCause (D.faults disk.old) (D.faults disk.new) result }
@@ -54,10 +54,10 @@ pub fn head_of(generation: u64) -> [u8; 16]
 
 /// Leaves of a side a closed gate alone, which is not synced.
 pub fn shut_side<D: Disk>(disk: &mut D, side: Side) -> Result<(), Failed>
-    ensures bare { (before : Bytes) → ReadsAs D.crashes D.seen D.images disk.old side before → OnOk result (HasNow (D.seen disk.new) side IsBare) }
-    ensures shut { (before : Bytes) → ReadsAs D.crashes D.seen D.images disk.old side before
+    ensures bare { (before : Bytes) → length before ≤ 2 ^ 62 → ReadsAs D.crashes D.seen D.images disk.old side before → OnOk result (HasNow (D.seen disk.new) side IsBare) }
+    ensures shut { (before : Bytes) → length before ≤ 2 ^ 62 → ReadsAs D.crashes D.seen D.images disk.old side before
         → OnOk result (HeldOn D.crashes D.seen D.images disk.new side IsShut) }
-    ensures either { (before : Bytes) → ReadsAs D.crashes D.seen D.images disk.old side before
+    ensures either { (before : Bytes) → length before ≤ 2 ^ 62 → ReadsAs D.crashes D.seen D.images disk.old side before
         → SideLeads D.crashes D.seen D.images D.moment D.left_since side (WhileShut before) disk.old disk.new }
     ensures told { D.crashes disk.new ≡ D.crashes disk.old }
     ensures cause { HasCause (D.faults disk.old) (D.faults disk.new) result }
@@ -84,9 +84,9 @@ fn cut_to_gate<D: Disk>(disk: &mut D, side: Side) -> Result<(), Failed>
 
 // Closes the gate of a side, where it has none or an open one.
 fn shut_gate<D: Disk>(disk: &mut D, side: Side) -> Result<(), Failed>
-    ensures shut { (before : Bytes) → ReadsAs D.crashes D.seen D.images disk.old side before
+    ensures shut { (before : Bytes) → length before ≤ 2 ^ 62 → ReadsAs D.crashes D.seen D.images disk.old side before
         → OnOk result (SafeOn D.crashes D.seen D.images disk.new side IsShut) }
-    ensures either { (before : Bytes) → ReadsAs D.crashes D.seen D.images disk.old side before
+    ensures either { (before : Bytes) → length before ≤ 2 ^ 62 → ReadsAs D.crashes D.seen D.images disk.old side before
         → SideLeads D.crashes D.seen D.images D.moment D.left_since side (WhileShut before) disk.old disk.new }
     ensures told { D.crashes disk.new ≡ D.crashes disk.old }
     ensures cause { HasCause (D.faults disk.old) (D.faults disk.new) result }

@@ -26,6 +26,7 @@ use fence_table::{Pair, raised};
 use keyspace::Keyspace;
 use message_text::push_message;
 use roam_fence::{RoamList, near_pairs};
+use rtree::{Ledger, Steps};
 use session_mail::{Session, stage_message};
 use std::alloc::Global;
 use world_data::{Channel, Detect, Object, Raised, Watch};
@@ -163,13 +164,14 @@ fn stage_pairs(
 }
 
 // Stages what a put raises on a channel that roams over the targets.
-fn stage_roams(
+fn stage_roams<L: Ledger>(
     alloc: Global,
     channel: &Channel,
     targets: &Collection,
     sessions: &mut Vec<Session>,
     old: Option<&Object>,
     new: &Object,
+    steps: &mut Steps<L>,
 ) -> Result<(), NoMemory>
     requires glob { is_sound_glob channel.now.fence.glob ≡ true }
     requires pattern { is_sound_watch channel.now.fence.watch ≡ true }
@@ -182,7 +184,7 @@ fn stage_roams(
         return Ok(());
     }
     let mut pairs = RoamList::new(alloc);
-    near_pairs(alloc, &channel.fence, targets, old, new, &mut pairs)?;
+    near_pairs(alloc, &channel.fence, targets, old, new, &mut pairs, steps)?;
     // The targets stand by id, so that each is found by its own.
     let _by_id = targets.len();
     stage_pairs(alloc, channel, targets, &pairs, sessions, new)
@@ -190,13 +192,14 @@ fn stage_roams(
 
 /// Stages what the put of an object raises on a channel: `old` is the object of its key and id before it, and `objects` are all objects then.
 /// For want of memory a part may be staged.
-pub(crate) fn stage_put_on(
+pub(crate) fn stage_put_on<L: Ledger>(
     alloc: Global,
     channel: &Channel,
     objects: &Keyspace,
     sessions: &mut Vec<Session>,
     old: Option<&Object>,
     new: &Object,
+    steps: &mut Steps<L>,
 ) -> Result<(), NoMemory>
     requires glob { is_sound_glob channel.now.fence.glob ≡ true }
     requires pattern { is_sound_watch channel.now.fence.watch ≡ true }
@@ -207,7 +210,7 @@ pub(crate) fn stage_put_on(
 {
     match &channel.fence.watch {
         Watch::Roam(key, _, _, _) => match objects.collection(key) {
-            Some(targets) => stage_roams(alloc, channel, targets, sessions, old, new),
+            Some(targets) => stage_roams(alloc, channel, targets, sessions, old, new, steps),
             None => Ok(()),
         },
         Watch::Spot(_, _) => stage_area(alloc, channel, sessions, old, new),

@@ -12,6 +12,7 @@ use channel_hub::Hub;
 use glob_match::well_formed;
 use keyspace::Keyspace;
 use planar_geom::{Area, BBox, Pt, Shape};
+use rtree::{NoLedger, Steps};
 use session_mail::{Session, place_staged};
 use std::alloc::Global;
 use std::test::Fail;
@@ -113,21 +114,12 @@ fn put(alloc: Global, hub: &mut Hub, channel: Channel) -> Result<(), NoMemory>
 }
 
 // `west` from 0 to 9, and then `east` from 20 to 29.
-fn strips(alloc: Global) -> Result<Hub, NoMemory>
-    ensures { IfOk result (λ h. list_all is_sound_channel h.channels ≡ true) }
+fn put_strips(alloc: Global, hub: &mut Hub) -> Result<(), NoMemory>
+    requires { list_all is_sound_channel hub.old.channels ≡ true }
+    ensures { list_all is_sound_channel hub.new.channels ≡ true }
 {
-    let mut hub = Hub::new(alloc);
-    put(alloc, &mut hub, channel(alloc, b"west", strip(0, 9)?)?)?;
-    put(alloc, &mut hub, channel(alloc, b"east", strip(20, 29)?)?)?;
-    Ok(hub)
-}
-
-fn roaming(alloc: Global) -> Result<Hub, NoMemory>
-    ensures { IfOk result (λ h. list_all is_sound_channel h.channels ≡ true) }
-{
-    let mut hub = Hub::new(alloc);
-    put(alloc, &mut hub, channel(alloc, b"near", gulls(alloc)?)?)?;
-    Ok(hub)
+    put(alloc, hub, channel(alloc, b"west", strip(0, 9)?)?)?;
+    put(alloc, hub, channel(alloc, b"east", strip(20, 29)?)?)
 }
 
 // A subscription to a pattern.
@@ -209,18 +201,34 @@ fn moved(
 {
     let new = object(alloc, b"fleet", b"t", to)?;
     let mut sessions = hearer(alloc)?;
+    let mut steps = Steps::new(NoLedger);
     match from {
         Some(from) => {
             let old = object(alloc, b"fleet", b"t", from)?;
-            stage_put(alloc, hub, objects, &mut sessions, Some(&old), &new)?;
+            stage_put(
+                alloc,
+                hub,
+                objects,
+                &mut sessions,
+                Some(&old),
+                &new,
+                &mut steps,
+            )?;
         }
-        None => stage_put(alloc, hub, objects, &mut sessions, None, &new)?,
+        None => stage_put(alloc, hub, objects, &mut sessions, None, &new, &mut steps)?,
     }
     taken(alloc, &mut sessions)
 }
 
+fn moved_among(alloc: Global, hub: &mut Hub, from: Option<i64>, to: i64) -> Result<Text, NoMemory>
+    requires { list_all is_sound_channel hub.old.channels ≡ true }
+{
+    put_strips(alloc, hub)?;
+    moved(alloc, hub, &Keyspace::new(alloc), from, to)
+}
+
 fn moved_by_strips(alloc: Global, from: Option<i64>, to: i64) -> Result<Text, NoMemory> {
-    moved(alloc, &strips(alloc)?, &Keyspace::new(alloc), from, to)
+    moved_among(alloc, &mut Hub::new(alloc), from, to)
 }
 
 const OBJECT: &[u8] = b",\"id\":\"t\",\"object\":{}";
@@ -295,20 +303,32 @@ fn puts(rt: HostRuntime) -> Result<(), Fail> {
 }
 
 // What it hears where `t` at 5 is deleted.
-fn deleted(alloc: Global) -> Result<Text, NoMemory> {
-    let hub = strips(alloc)?;
+fn deleted_among(alloc: Global, hub: &mut Hub) -> Result<Text, NoMemory>
+    requires { list_all is_sound_channel hub.old.channels ≡ true }
+{
+    put_strips(alloc, hub)?;
     let old = object(alloc, b"fleet", b"t", 5)?;
     let mut sessions = hearer(alloc)?;
-    stage_del(alloc, &hub, &mut sessions, &old)?;
+    stage_del(alloc, hub, &mut sessions, &old, &mut Steps::new(NoLedger))?;
     taken(alloc, &mut sessions)
 }
 
 // What it hears where a key is dropped.
-fn dropped(alloc: Global, key: &[u8]) -> Result<Text, NoMemory> {
-    let hub = strips(alloc)?;
+fn dropped_among(alloc: Global, hub: &mut Hub, key: &[u8]) -> Result<Text, NoMemory>
+    requires { list_all is_sound_channel hub.old.channels ≡ true }
+{
+    put_strips(alloc, hub)?;
     let mut sessions = hearer(alloc)?;
-    stage_drop(alloc, &hub, &mut sessions, &name(alloc, key)?)?;
+    stage_drop(alloc, hub, &mut sessions, &name(alloc, key)?)?;
     taken(alloc, &mut sessions)
+}
+
+fn deleted(alloc: Global) -> Result<Text, NoMemory> {
+    deleted_among(alloc, &mut Hub::new(alloc))
+}
+
+fn dropped(alloc: Global, key: &[u8]) -> Result<Text, NoMemory> {
+    dropped_among(alloc, &mut Hub::new(alloc), key)
 }
 
 fn del_of_west(alloc: Global) -> Result<Text, NoMemory> {
@@ -340,18 +360,23 @@ fn settle(alloc: Global, objects: &mut Keyspace, id: &[u8], x: i64) -> Result<()
     let gull = object(alloc, b"gulls", id, x)?;
     objects.prepare(&gull.key)?;
     if objects.len() < 9 {
-        objects.put(gull);
+        objects.put(gull, &mut Steps::new(NoLedger));
     }
     Ok(())
 }
 
 // What it hears where `t` goes from 108 to 7 and gulls stand at 5 and 105.
+fn roamed_among(alloc: Global, hub: &mut Hub, objects: &mut Keyspace) -> Result<Text, NoMemory>
+    requires { list_all is_sound_channel hub.old.channels ≡ true }
+{
+    put(alloc, hub, channel(alloc, b"near", gulls(alloc)?)?)?;
+    settle(alloc, objects, b"v", 105)?;
+    settle(alloc, objects, b"u", 5)?;
+    moved(alloc, hub, objects, Some(108), 7)
+}
+
 fn roamed(alloc: Global) -> Result<Text, NoMemory> {
-    let hub = roaming(alloc)?;
-    let mut objects = Keyspace::new(alloc);
-    settle(alloc, &mut objects, b"v", 105)?;
-    settle(alloc, &mut objects, b"u", 5)?;
-    moved(alloc, &hub, &objects, Some(108), 7)
+    roamed_among(alloc, &mut Hub::new(alloc), &mut Keyspace::new(alloc))
 }
 
 const NEARBY: &[u8] =

@@ -20,12 +20,13 @@ use crate::raises::{stage_del_on, stage_drop_on, stage_put_on};
 use byte_text::{Name, NoMemory};
 use channel_hub::{Candidates, Hub};
 use keyspace::Keyspace;
+use rtree::{Ledger, Steps};
 use session_mail::Session;
 use std::alloc::Global;
 use world_data::Object;
 
 // Stages what a put raises on the channels at these places.
-fn stage_put_at(
+fn stage_put_at<L: Ledger>(
     alloc: Global,
     hub: &Hub,
     candidates: &Candidates,
@@ -33,6 +34,7 @@ fn stage_put_at(
     sessions: &mut Vec<Session>,
     old: Option<&Object>,
     new: &Object,
+    steps: &mut Steps<L>,
 ) -> Result<(), NoMemory>
     requires sound { list_all is_sound_channel hub.now.channels ≡ true }
     requires places { candidates.now ≡ places_of (put_may_concern (option_map (λ o. o.now) old) new.now) hub.now.channels }
@@ -44,28 +46,30 @@ fn stage_put_at(
 {
     for i in 0..candidates.len() {
         let channel = hub.at(candidates.at(i));
-        stage_put_on(alloc, channel, objects, sessions, old, new)?;
+        stage_put_on(alloc, channel, objects, sessions, old, new, steps)?;
     }
     Ok(())
 }
 
 /// Stages all that the put of an object raises, behind what is staged: `old` is the object of its key and id before it, and `objects` are all
-/// objects then, so that it is asked before the object is put. For want of memory a part may be staged.
-pub fn stage_put(
+/// objects then, so that it is asked before the object is put. For want of memory a part may be staged. The steps rise by the nodes that are
+/// visited to find the channels, and what is near for those that roam.
+pub fn stage_put<L: Ledger>(
     alloc: Global,
     hub: &Hub,
     objects: &Keyspace,
     sessions: &mut Vec<Session>,
     old: Option<&Object>,
     new: &Object,
+    steps: &mut Steps<L>,
 ) -> Result<(), NoMemory>
     requires { list_all is_sound_channel hub.now.channels ≡ true }
     ensures same { map session_of sessions.new.items ≡ map session_of sessions.old.items }
     ensures staged { OnOk result (IsStagedIn (IsBeforePut hub.now.channels (objects_in objects.now) (option_map (λ o. o.now) old.entry) new.now)
         (loud (Put new.now)) sessions.old.items sessions.new.items) }
 {
-    let candidates = hub.candidates_of_put(alloc, old, new)?;
-    stage_put_at(alloc, hub, &candidates, objects, sessions, old, new)
+    let candidates = hub.candidates_of_put(alloc, old, new, steps)?;
+    stage_put_at(alloc, hub, &candidates, objects, sessions, old, new, steps)
 }
 
 // Stages what a del raises on the channels at these places.
@@ -91,19 +95,21 @@ fn stage_del_at(
 }
 
 /// Stages all that the del of an object raises, behind what is staged. It asks for the object alone, which may be taken out of the objects
-/// before or after: a channel that roams raises nothing at a del. For want of memory a part may be staged.
-pub fn stage_del(
+/// before or after: a channel that roams raises nothing at a del. For want of memory a part may be staged. The steps rise by the nodes that
+/// are visited to find the channels.
+pub fn stage_del<L: Ledger>(
     alloc: Global,
     hub: &Hub,
     sessions: &mut Vec<Session>,
     old: &Object,
+    steps: &mut Steps<L>,
 ) -> Result<(), NoMemory>
     requires { list_all is_sound_channel hub.now.channels ≡ true }
     ensures same { map session_of sessions.new.items ≡ map session_of sessions.old.items }
     ensures staged { OnOk result (IsStagedIn (IsBeforeDel hub.now.channels old.now) (loud (Del old.now.key old.now.id))
         sessions.old.items sessions.new.items) }
 {
-    let concerned = hub.candidates_of_del(alloc, old)?;
+    let concerned = hub.candidates_of_del(alloc, old, steps)?;
     stage_del_at(alloc, hub, &concerned, sessions, old)
 }
 

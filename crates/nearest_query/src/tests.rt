@@ -41,7 +41,7 @@ fn put(alloc: Global, trucks: &mut Collection, id: &[u8], x: i64, y: i64) -> Res
         deadline: None,
     };
     trucks.prepare()?;
-    trucks.put(object);
+    trucks.put(object, &mut Steps::new(NoLedger));
     Ok(())
 }
 

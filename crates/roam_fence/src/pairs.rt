@@ -1,10 +1,14 @@
 //! The pairs that a put raises on a channel that roams.
 
-ghost use Rattle.std.specs.Prelude.{◌≡◌, ◌++◌, true, option_map, OnOk};
+ghost use Rattle.std.specs.Prelude.{◌≡◌, ◌++◌, Bool, true, filter, option_map, OnOk};
+ghost use Rattle.planar_geom.specs.Points.{IsBox, box_of_disc};
 ghost use Rattle.byte_text.specs.Globs.{is_sound_glob, is_well_formed};
-ghost use Rattle.fence_model.specs.Fences.{is_near, was_near, roamed};
+ghost use Rattle.collection.specs.Places.{ArePlaces, IsVisited, places_where};
+ghost use Rattle.fence_model.specs.Fences.{is_near, place_of, was_near, roamed};
 ghost use Rattle.world_data.specs.Sound.{is_sound_watch};
+ghost use Rattle.world_data.specs.declared.objects.Object.{Object};
 ghost use Rattle.roam_fence.specs.Pairs.{is_near_now, is_target, noted, shown_pairs, told, told_of_all};
+ghost use Rattle.roam_fence.specs.Reaches.{HoldsNear};
 
 use crate::lists::RoamList;
 use byte_text::{Name, NoMemory};
@@ -12,13 +16,15 @@ use collection::Collection;
 use glob_match::glob_meets;
 use object_match::meets_fence;
 use ordered_lists::is_same;
-use planar_geom::{box_of, centre, dist2};
+use planar_geom::{Area, BBox, area_box, box_of, centre, dist2, met_is_near};
+use rtree::{Ids, Ledger, Steps};
 use std::alloc::Global;
 use world_data::{Fence, Object, Watch};
 
-// How near two objects are held to be, and whether those that were near before are left out.
+// Which objects a channel compares with, how near two are held to be, and whether those that were near before are left out.
 #[derive(Clone, Copy)]
-struct Reach {
+struct Reach<'a> {
+    pattern: &'a Name,
     meters: u32,
     nodwell: bool,
 }
@@ -65,17 +71,11 @@ fn is_target(pattern: &Name, new: &Object, target: &Object) -> bool
 }
 
 // What is told of one object of the key.
-fn told(
-    pattern: &Name,
-    reach: Reach,
-    old: Option<&Object>,
-    new: &Object,
-    target: &Object,
-) -> Option<bool>
-    requires { is_well_formed pattern.now ≡ true }
-    ensures { result ≡ told pattern.now reach.meters reach.nodwell (option_map (λ o. o.now) old.entry) new.now target.now }
+fn told(reach: Reach<'_>, old: Option<&Object>, new: &Object, target: &Object) -> Option<bool>
+    requires { is_well_formed reach.pattern.now ≡ true }
+    ensures { result ≡ told reach.entry.pattern.now reach.entry.meters reach.entry.nodwell (option_map (λ o. o.now) old.entry) new.now target.now }
 {
-    if !is_target(pattern, new, target) {
+    if !is_target(reach.pattern, new, target) {
         return None;
     }
     roamed(
@@ -100,37 +100,84 @@ fn note(
     }
 }
 
-// Appends what is told of all targets, by ascending id.
-fn push_pairs(
+// The box round all that is no further from the object than so many meters.
+fn reach_of(meters: u32, object: &Object) -> BBox
+    ensures value { result ≡ box_of_disc (place_of object.now) meters }
+    ensures is_box { IsBox result }
+{
+    let reach = area_box(&Area::Disc(centre(box_of(&object.shape)), meters));
+    let _low = reach.min();
+    reach
+}
+
+// The box round all that is near the object, or was near it where it stood before.
+fn round_reach(meters: u32, old: Option<&Object>, new: &Object) -> BBox
+    ensures { HoldsNear meters (option_map (λ o. o.now) old.entry) new.now result }
+{
+    // A law, of which nothing is left at run time.
+    met_is_near();
+    let reach = reach_of(meters, new);
+    match old {
+        Some(old) => reach.with_box(reach_of(meters, old)),
+        None => reach,
+    }
+}
+
+// Appends what is told of the targets at these places.
+fn push_listed(
     alloc: Global,
-    pattern: &Name,
-    reach: Reach,
+    reach: Reach<'_>,
     targets: &Collection,
+    places: &Ids,
     old: Option<&Object>,
     new: &Object,
     into: &mut RoamList,
 ) -> Result<(), NoMemory>
-    requires { is_well_formed pattern.now ≡ true }
-    ensures { OnOk result (into.new ≡ into.old ++ told_of_all pattern.now reach.meters reach.nodwell (option_map (λ o. o.now) old.entry) new.now targets.now.objects) }
+    requires pattern { is_well_formed reach.pattern.now ≡ true }
+    requires places { ArePlaces places.now targets.now.objects }
+    ensures { OnOk result ((test : Object → Bool) → places.now ≡ places_where test targets.now.objects
+        → into.new ≡ into.old ++ told_of_all reach.entry.pattern.now reach.entry.meters reach.entry.nodwell (option_map (λ o. o.now) old.entry) new.now (filter test targets.now.objects)) }
 {
-    for i in 0..targets.len() {
-        let target = targets.at(i);
-        note(alloc, told(pattern, reach, old, new, target), target, into)?;
+    for i in 0..places.len() {
+        let target = targets.listed(places, i);
+        note(alloc, told(reach, old, new, target), target, into)?;
     }
     Ok(())
+}
+
+// Appends what is told of all targets, by ascending id. Those alone are looked at that may be near, or were.
+fn push_pairs<L: Ledger>(
+    alloc: Global,
+    reach: Reach<'_>,
+    targets: &Collection,
+    old: Option<&Object>,
+    new: &Object,
+    into: &mut RoamList,
+    steps: &mut Steps<L>,
+) -> Result<(), NoMemory>
+    requires { is_well_formed reach.pattern.now ≡ true }
+    ensures pairs { OnOk result (into.new ≡ into.old ++ told_of_all reach.entry.pattern.now reach.entry.meters reach.entry.nodwell (option_map (λ o. o.now) old.entry) new.now targets.now.objects) }
+    ensures visits { IsVisited targets.now.objects steps.old.count steps.new.count }
+{
+    let round = round_reach(reach.meters, old, new);
+    let mut places = Ids::new(alloc);
+    targets.met(alloc, round, &mut places, steps)?;
+    push_listed(alloc, reach, targets, &places, old, new, into)
 }
 
 /// Appends the pairs that a put of an object raises on a channel that roams: of the objects of the channel's second key (`targets`), by
 /// ascending id, those whose id meets the pattern and that are near now (with NODWELL: and were not near before), and those that were
 /// near before and are not. Without an old object nothing was near. Where the object does not meet the channel's MATCH and tests, or the
-/// channel does not roam, there is none. After want of memory the list holds its old items and some of these.
-pub fn near_pairs(
+/// channel does not roam, there is none. After want of memory the list holds its old items and some of these. Targets are looked at whose
+/// box meets the box round what is near the object, or was, and the steps rise by the nodes of the tree that are visited.
+pub fn near_pairs<L: Ledger>(
     alloc: Global,
     fence: &Fence,
     targets: &Collection,
     old: Option<&Object>,
     new: &Object,
     into: &mut RoamList,
+    steps: &mut Steps<L>,
 ) -> Result<(), NoMemory>
     requires glob { is_sound_glob fence.now.glob ≡ true }
     requires pattern { is_sound_watch fence.now.watch ≡ true }
@@ -143,8 +190,9 @@ pub fn near_pairs(
         return Ok(());
     }
     let reach = Reach {
+        pattern,
         meters: *meters,
         nodwell: *nodwell,
     };
-    push_pairs(alloc, pattern, reach, targets, old, new, into)
+    push_pairs(alloc, reach, targets, old, new, into, steps)
 }

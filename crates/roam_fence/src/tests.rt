@@ -8,6 +8,7 @@ use byte_text::{Name, NoMemory, Text};
 use collection::Collection;
 use glob_match::well_formed;
 use planar_geom::{Pt, Shape};
+use rtree::{NoLedger, Steps};
 use std::alloc::Global;
 use std::test::Fail;
 use world_data::{Fence, Fields, Object, Tests, Wanted, Watch};
@@ -75,29 +76,39 @@ fn fence(alloc: Global, nodwell: bool) -> Result<Fence, NoMemory>
 fn settle(alloc: Global, people: &mut Collection) -> Result<(), NoMemory> {
     let a = person(alloc, b"a", 0)?;
     people.prepare()?;
-    people.put(a);
+    people.put(a, &mut Steps::new(NoLedger));
     Ok(())
 }
 
-// What is told of people where one person is put, who stood at a place before or nowhere: `+` and the id of each that is near, `-` of
+// What is told of `a` at 0 where one person is put, who stood at a place before or nowhere: `+` and the id of each that is near, `-` of
 // each that is not any more.
 fn told_of(
     alloc: Global,
-    people: &Collection,
+    people: &mut Collection,
     nodwell: bool,
     id: &[u8],
     from: Option<i64>,
     to: i64,
 ) -> Result<Text, NoMemory> {
+    settle(alloc, people)?;
     let fence = fence(alloc, nodwell)?;
     let new = person(alloc, id, to)?;
     let mut pairs = RoamList::new(alloc);
+    let mut steps = Steps::new(NoLedger);
     match from {
         Some(from) => {
             let old = person(alloc, id, from)?;
-            near_pairs(alloc, &fence, people, Some(&old), &new, &mut pairs)?;
+            near_pairs(
+                alloc,
+                &fence,
+                people,
+                Some(&old),
+                &new,
+                &mut pairs,
+                &mut steps,
+            )?;
         }
-        None => near_pairs(alloc, &fence, people, None, &new, &mut pairs)?,
+        None => near_pairs(alloc, &fence, people, None, &new, &mut pairs, &mut steps)?,
     }
     let mut text = Text::new(alloc);
     for i in 0..pairs.len() {
@@ -115,9 +126,7 @@ fn told(
     from: Option<i64>,
     to: i64,
 ) -> Result<Text, NoMemory> {
-    let mut people = Collection::new(alloc);
-    settle(alloc, &mut people)?;
-    told_of(alloc, &people, nodwell, id, from, to)
+    told_of(alloc, &mut Collection::new(alloc), nodwell, id, from, to)
 }
 
 #[test]

@@ -41,7 +41,7 @@ fn put(alloc: Global, trucks: &mut Collection, id: &[u8]) -> Result<(), NoMemory
         deadline: None,
     };
     trucks.prepare()?;
-    trucks.put(object);
+    trucks.put(object, &mut Steps::new(NoLedger));
     Ok(())
 }
 
@@ -91,7 +91,7 @@ fn pages_of(alloc: Global, trucks: &mut Collection) -> Result<Text, NoMemory> {
     answer(alloc, trucks, Rule::All, (0, 2), Shown::Ids, &mut text)?;
     answer(alloc, trucks, Rule::Down, (0, 1), Shown::Ids, &mut text)?;
     if let Ok(a) = Name::of(alloc, b"a") {
-        trucks.take_out(&a);
+        trucks.take_out(&a, &mut Steps::new(NoLedger));
     }
     answer(alloc, trucks, Rule::All, (2, 2), Shown::Ids, &mut text)?;
     answer(alloc, trucks, Rule::All, (1, 2), Shown::Count, &mut text)?;

@@ -1,6 +1,7 @@
 mod Adding
 mod AnswerKinds
 mod Calling
+pub mod Crosses
 mod Fine
 mod Joining
 mod Leading

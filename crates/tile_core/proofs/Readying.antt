@@ -13,7 +13,8 @@ use Rattle.fence_model.specs.Writes.{Write, dels}
 use Rattle.world_model.specs.Halls as halls
 use Rattle.world_model.specs.declared.events.Asked.{Asked}
 use Rattle.world_model.specs.Subscriptions.{Sub}
-use Rattle.keyspace.specs.Entries.{Entry, objects_in}
+use Rattle.keyspace.specs.Entries.{Entry, objects_in, room_for}
+use Rattle.channel_hub.specs.Hubs.{Held}
 use Rattle.deliveries.specs.Staging.{Suffice, after_all, has_room_for, have_room, heard, listens}
 use Rattle.deliveries.specs.Plans.{effect_of_asked}
 use Rattle.session_mail.specs.Mail.{has_room_left}
@@ -29,7 +30,7 @@ use Rattle.tile_core.specs.Dues.{AllStand, AreDueFrom, IsExpired}
 use Rattle.tile_core.specs.Moves.{world_of, world_with}
 use Rattle.world_data.specs.Sound.{is_sound_channel}
 use Rattle.tile_core.specs.Planned.{IsPlanned, channels_weight}
-use Rattle.tile_core.specs.Ready.{IsAsBefore, IsDueTaken, IsPlannedBehind, IsReady, IsRestBehind, IsRestReady, planned_writes}
+use Rattle.tile_core.specs.Ready.{IsAsBefore, IsRoomier, IsDueTaken, IsPlannedBehind, IsReady, IsRestBehind, IsRestReady, planned_writes}
 use Rattle.tile_core.specs.Staged.{StagesBehind}
 use Rattle.tile_core.specs.Stores.{IsStore, world_at}
 use Rattle.tile_core.proofs.Calls.{with_channels}
@@ -49,9 +50,9 @@ due_staged store held old new bare stand behind =
     behind w refl (stand_with store.hub.channels (objects_in store.objects) held stand) w [] refl (bare_staged w old bare)
 
 -- the store without what is due
-pub expired_store : (s : Store) (entries : List Entry) (now : ℕ) (g : Expired) → IsStore s → IsExpired (objects_in s.objects) now s.weight (objects_in entries) g → IsStore (record s { objects = entries; weight = g.weight; due_from = g.due_from })
-expired_store s entries now g is e = record {
-  kept = rest_kept (objects_in s.objects) now s.weight (objects_in entries) g.held.items g.length g.weight is.kept.light e.taken;
+pub expired_store : (s left : Store) (now : ℕ) (g : Expired) → IsStore s → IsExpired (objects_in s.objects) now s.weight (objects_in left.objects) g → IsStore (record s { objects = left.objects; weight = g.weight; due_from = g.due_from; steps = left.steps })
+expired_store s left now g is e = record {
+  kept = rest_kept (objects_in s.objects) now s.weight (objects_in left.objects) g.held.items g.length g.weight is.kept.light e.taken;
   sound = is.sound;
   weighed = is.weighed;
   light = let small = e.taken.small in let light = is.light in omega (arith, small, light);
@@ -70,6 +71,22 @@ as_good s t objects channels weight due_from heavy is = record {
 
 pub as_before : (s t : Store) → IsAsBefore s t → IsStore s → IsStore t
 as_before s t b is = as_good s t b.objects b.channels (ap (λ (u : Store). u.weight) b.rest) (ap (λ (u : Store). u.due_from) b.rest) (ap (λ (u : Store). u.channel_weight) b.rest) is
+
+-- room is made between two counts of the nodes that were visited
+pub roomier : (old mid last new : Store) → mid ≡ record old { steps = mid.steps } → IsRoomier mid last → new ≡ record last { steps = new.steps } → IsRoomier old new
+roomier old mid last new begun is ended =
+    let objects = ap (λ (u : Store). u.objects) ended in
+    let hub = ap (λ (u : Store). u.hub) ended in
+    let before = ap (λ (u : Store). objects_in u.objects) begun in
+    record {
+      before = record {
+        rest = ended ∙ ap (λ (u : Store). record u { steps = new.steps }) is.before.rest ∙ ap (λ (u : Store). record u { objects = last.objects; hub = last.hub; steps = new.steps }) begun
+            ∙ ap (λ (xs : List Entry). record old { objects = xs; hub = last.hub; steps = new.steps }) (sym objects) ∙ ap (λ (h : Held). record old { objects = new.objects; hub = h; steps = new.steps }) (sym hub);
+        objects = ap objects_in objects ∙ is.before.objects ∙ before;
+        channels = ap (λ (h : Held). h.channels) hub ∙ is.before.channels ∙ ap (λ (u : Store). u.hub.channels) begun;
+      };
+      room = λ key. rw (objects, ← ap (λ (u : Store). room_for u.objects key) begun) (is.room key);
+    }
 
 pub same_world : (s t : Store) → IsAsBefore s t → world_at t ≡ world_at s
 same_world s t b = ap (λ (cs : List Channel). world_with cs (objects_in t.objects)) b.channels ∙ ap (world_with s.hub.channels) b.objects
@@ -127,11 +144,11 @@ roomy frames all some f room = elim f.enough [
 
 -- the whole
 module _ (before mid store : Store) (now : ℕ) (asked : Asked) (at : ℕ) (g : Expired) (ss one two : List State)
-    (is_mid : mid ≡ record before { objects = mid.objects; weight = g.weight; due_from = g.due_from })
+    (is_mid : mid ≡ record before { objects = mid.objects; weight = g.weight; due_from = g.due_from; steps = mid.steps })
     (taken : IsDueTaken before now mid g one) (kept : IsStore before) (within : at < length ss)
     (same_one : map session_of one ≡ map session_of ss) (same_two : map session_of two ≡ map session_of one) (as_mid : IsAsBefore mid store) where
   mid_kept : IsStore mid
-  mid_kept = subst IsStore (sym is_mid) (expired_store before mid.objects now g kept taken.expired)
+  mid_kept = subst IsStore (sym is_mid) (expired_store before mid now g kept taken.expired)
 
   mid_channels : mid.hub.channels ≡ before.hub.channels
   mid_channels = ap (λ (s : Store). s.hub.channels) is_mid

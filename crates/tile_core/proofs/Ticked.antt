@@ -27,7 +27,7 @@ use Rattle.tile_core.proofs.Readying.{as_good, as_long, expired_store}
 
 module _ (before : Store) (now logged drawn : ℕ) (ss mid new : List State) (moment moment_now : ℕ) (store last : Store) (g : Expired)
     (kept : IsStore before) (present : ArePresent drawn ss) (is_now : moment_now ≡ max now moment) (same : map session_of mid ≡ map session_of ss) (taken : IsDueTaken before moment_now store g mid)
-    (rest : store ≡ record before { objects = store.objects; weight = g.weight; due_from = g.due_from }) (placed_ : ArePlaced mid new)
+    (rest : store ≡ record before { objects = store.objects; weight = g.weight; due_from = g.due_from; steps = store.steps }) (placed_ : ArePlaced mid new)
     (objects : objects_in last.objects ≡ objects_in store.objects) (others : last ≡ record store { objects = last.objects }) where
   abbrev hall : Hall
   hall = hall_of before now logged drawn ss
@@ -42,7 +42,7 @@ module _ (before : Store) (now logged drawn : ℕ) (ss mid new : List State) (mo
   same_channels = ap (λ (s : Store). s.hub.channels) others
 
   mid_kept : IsStore store
-  mid_kept = subst IsStore (sym rest) (expired_store before store.objects moment_now g kept taken.expired)
+  mid_kept = subst IsStore (sym rest) (expired_store before store moment_now g kept taken.expired)
 
   pub tick_sound : moment_now ≤ max_moment → IsSound last moment_now drawn new
   tick_sound early = record {

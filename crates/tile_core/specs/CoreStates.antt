@@ -7,9 +7,10 @@ use Rattle.world_model.specs.Halls.{Hall}
 use Rattle.world_data.specs.declared.objects.Object.{Object}
 use Rattle.tile_core.specs.Moves.{world_of}
 
--- what contracts see: the hall
+-- what contracts see: the hall, and how many nodes of trees were visited, up to the greatest u64
 pub record CoreState : Type 0 where
   pub hall : Hall
+  pub visited : ℕ
 
 -- objects in order, their weight at hand and within its limit
 pub record AreKept (objects : List Object) (total : ℕ) : Type 0 where

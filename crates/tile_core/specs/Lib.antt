@@ -15,3 +15,4 @@ pub mod Beside
 pub mod Dropping
 pub mod Subscribing
 pub mod Asking
+pub mod Contexts

@@ -71,9 +71,9 @@ HasRoomFor store (Objects p) = HasRoom store.objects p.action
 HasRoomFor store (Channels p) = IsPreparedFor store.hub p.action
 HasRoomFor store (Subscribed p) = Unit {0}
 
--- the store is as it was, but for room
+-- the store is as it was, but for room and the count of nodes that were visited
 pub record IsAsBefore (old new : Store) : Type 0 where
-  pub rest : new ≡ record old { objects = new.objects; hub = new.hub }
+  pub rest : new ≡ record old { objects = new.objects; hub = new.hub; steps = new.steps }
   pub objects : objects_in new.objects ≡ objects_in old.objects
   pub channels : new.hub.channels ≡ old.hub.channels
 

@@ -40,7 +40,7 @@ impl Model for Core {
 
     ghost Value = { CoreState };
 
-    ghost view = { λ c. record { hall = hall_of c.store c.clock c.logged c.drawn c.sessions.items } };
+    ghost view = { λ c. record { hall = hall_of c.store c.clock c.logged c.drawn c.sessions.items; visited = c.store.steps.count } };
 
     ghost invariant = { λ c. IsSound c.store c.clock c.drawn c.sessions.items };
 }
@@ -72,6 +72,14 @@ impl Core {
         ensures { result ≡ length self.now.hall.world.channels }
     {
         self.store.hub.len() as u64
+    }
+
+    /// How many nodes of trees were visited since the start, to find objects and channels, to put them and to take them out; it stops at the
+    /// greatest u64.
+    pub fn visited(&self) -> u64
+        ensures { result ≡ self.now.visited }
+    {
+        self.store.steps.ledger().count()
     }
 
     /// Lets a session in and answers its number. It is refused where 512 sessions are present or 4,294,967,295 numbers were

@@ -12,6 +12,7 @@ ghost use Rattle.tile_core.specs.Dues.{IsDueFrom, AreDueFrom, HaveRoom, IsTaken,
 use crate::records::{del_len, put_len};
 use byte_text::NoMemory;
 use keyspace::Keyspace;
+use rtree::{Steps, Visits};
 use std::alloc::Global;
 use world_model::Object;
 
@@ -28,7 +29,12 @@ pub(crate) struct Expired {
 }
 
 // Takes the object out that expires first, and says whether one is due. For want of memory all is as before.
-fn take_next(objects: &mut Keyspace, gone: &mut Expired, now: u64) -> Result<bool, NoMemory>
+fn take_next(
+    objects: &mut Keyspace,
+    gone: &mut Expired,
+    now: u64,
+    steps: &mut Steps<Visits>,
+) -> Result<bool, NoMemory>
     requires few { HaveFewFields (objects_in objects.old) }
     requires rest { gone.old.weight ≡ weight (world_of (objects_in objects.old)) }
     requires short { gone.old.length ≤ max_weight }
@@ -43,7 +49,7 @@ fn take_next(objects: &mut Keyspace, gone: &mut Expired, now: u64) -> Result<boo
     if gone.held.reserve(1).is_err() {
         return Err(NoMemory);
     }
-    let Some(object) = objects.take_due(now) else {
+    let Some(object) = objects.take_due(now, steps) else {
         return Ok(false);
     };
     gone.length += del_len(&object.key, &object.id);
@@ -53,14 +59,14 @@ fn take_next(objects: &mut Keyspace, gone: &mut Expired, now: u64) -> Result<boo
 }
 
 /// Puts back what was taken out, for which there is room.
-pub(crate) fn put_back(objects: &mut Keyspace, held: Vec<Object>)
+pub(crate) fn put_back(objects: &mut Keyspace, held: Vec<Object>, steps: &mut Steps<Visits>)
     requires room { HaveRoom objects.old held.items }
     requires few { length (objects_in objects.old) + length held.items < 2 ^ 32 }
     ensures { objects_in objects.new ≡ with_back (objects_in objects.old) held.items }
 {
     let mut held = held;
     while let Some(last) = held.pop() {
-        objects.put(last);
+        objects.put(last, steps);
     }
 }
 
@@ -79,6 +85,7 @@ fn take_due(
     objects: &mut Keyspace,
     total: u64,
     now: u64,
+    steps: &mut Steps<Visits>,
 ) -> Result<Expired, NoMemory>
     requires { AreKept (objects_in objects.old) total }
     ensures taken { IfOk result (λ g. IsTaken (objects_in objects.old) now total (objects_in objects.new) g.held.items g.length g.weight) }
@@ -93,11 +100,11 @@ fn take_due(
         due_from: 0,
     };
     loop {
-        match take_next(objects, &mut gone, now) {
+        match take_next(objects, &mut gone, now, steps) {
             Ok(true) => {}
             Ok(false) => return Ok(gone),
             Err(NoMemory) => {
-                put_back(objects, gone.held);
+                put_back(objects, gone.held, steps);
                 return Err(NoMemory);
             }
         }
@@ -130,6 +137,7 @@ pub(crate) fn expire(
     total: u64,
     due_from: u64,
     now: u64,
+    steps: &mut Steps<Visits>,
 ) -> Result<Expired, NoMemory>
     requires kept { AreKept (objects_in objects.old) total }
     requires due_from { AreDueFrom due_from (objects_in objects.old) }
@@ -145,7 +153,7 @@ pub(crate) fn expire(
             due_from,
         });
     }
-    let mut gone = take_due(alloc, objects, total, now)?;
+    let mut gone = take_due(alloc, objects, total, now, steps)?;
     gone.due_from = least_deadline(objects);
     Ok(gone)
 }

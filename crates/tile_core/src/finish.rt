@@ -77,7 +77,7 @@ fn finish_objects(store: &mut Store, caller: &mut Session, plan: Plan)
         store.hub.clear();
         store.channel_weight = 0;
     }
-    make_move(&mut store.objects, plan.action);
+    make_move(&mut store.objects, plan.action, &mut store.steps);
     caller.place(plan.frame);
     if plan.closes {
         caller.close();

@@ -5,6 +5,7 @@ mod answers;
 mod beside;
 mod changes;
 mod channel_plans;
+mod contexts;
 mod cores;
 mod deadlines;
 mod deletes;

@@ -9,6 +9,7 @@ ghost use Rattle.tile_core.specs.Moves.{HasRoom, HoldsOfPut, moved, without_each
 use crate::dues::earlier;
 use byte_text::{Name, NoMemory};
 use keyspace::Keyspace;
+use rtree::{Steps, Visits};
 use world_model::{NameList, Object};
 
 /// What is done to the objects.
@@ -40,16 +41,16 @@ pub(crate) fn make_room(objects: &mut Keyspace, action: &Move) -> Result<(), NoM
 }
 
 // Takes out the objects of a key that have these ids.
-fn delete_each(objects: &mut Keyspace, key: &Name, ids: &NameList)
+fn delete_each(objects: &mut Keyspace, key: &Name, ids: &NameList, steps: &mut Steps<Visits>)
     ensures { objects_in objects.new ≡ without_each key.now ids.now (objects_in objects.old) }
 {
     for i in 0..ids.len() {
-        objects.take_out(key, ids.at(i));
+        objects.take_out(key, ids.at(i), steps);
     }
 }
 
-/// Does this to the objects, and gives up a key that has none left. It takes no memory.
-pub(crate) fn make_move(objects: &mut Keyspace, action: Move)
+/// Does this to the objects, and gives up a key that has none left. It takes no memory. The steps count the nodes that it visits.
+pub(crate) fn make_move(objects: &mut Keyspace, action: Move, steps: &mut Steps<Visits>)
     requires room { HasRoom objects.old action }
     requires few { length (objects_in objects.old) < 2 ^ 32 }
     ensures { objects_in objects.new ≡ moved (objects_in objects.old) action }
@@ -57,14 +58,14 @@ pub(crate) fn make_move(objects: &mut Keyspace, action: Move)
     match action {
         Move::Stay => {}
         Move::Put(object) => {
-            objects.put(object);
+            objects.put(object, steps);
         }
         Move::Delete(key, id) => {
-            objects.take_out(&key, &id);
+            objects.take_out(&key, &id, steps);
             objects.give_up(&key);
         }
         Move::DeleteEach(key, ids) => {
-            delete_each(objects, &key, &ids);
+            delete_each(objects, &key, &ids, steps);
             objects.give_up(&key);
         }
         Move::Leave(key) => objects.drop_key(&key),

@@ -9,6 +9,7 @@ ghost use Rattle.tile_core.specs.Dues.{HaveRoom};
 ghost use Rattle.tile_core.specs.Ready.{HasRoomFor, IsAsBefore, IsDueTaken, IsPlannedBehind, IsReady, IsRestBehind, IsRoomier, reply_count};
 ghost use Rattle.tile_core.specs.Stores.{IsStore};
 
+use crate::contexts::Context;
 use crate::dues::{Expired, expire, put_back};
 use crate::moves::make_room;
 use crate::planned::{ChannelMove, Planned};
@@ -38,19 +39,32 @@ pub(crate) fn take_out_due(
     requires bare { AreBare sessions.old.items }
     ensures taken { IfOk result (λ g. IsDueTaken store.old now store.new g sessions.new.items) }
     ensures room { IfOk result (λ g. HaveRoom store.new.objects g.held.items) }
-    ensures rest { IfOk result (λ g. store.new ≡ record store.old { objects = store.new.objects; weight = g.weight; due_from = g.due_from }) }
+    ensures rest { IfOk result (λ g. store.new ≡ record store.old { objects = store.new.objects; weight = g.weight; due_from = g.due_from; steps = store.new.steps }) }
     ensures same { map session_of sessions.new.items ≡ map session_of sessions.old.items }
     ensures err { OnErr result (IsAsBefore store.old store.new) }
 {
-    let gone = expire(alloc, &mut store.objects, store.weight, store.due_from, now)?;
-    match stage_dels(alloc, &store.hub, gone.held.as_slice(), sessions) {
+    let gone = expire(
+        alloc,
+        &mut store.objects,
+        store.weight,
+        store.due_from,
+        now,
+        &mut store.steps,
+    )?;
+    match stage_dels(
+        alloc,
+        &store.hub,
+        gone.held.as_slice(),
+        sessions,
+        &mut store.steps,
+    ) {
         Ok(()) => {
             store.weight = gone.weight;
             store.due_from = gone.due_from;
             Ok(gone)
         }
         Err(NoMemory) => {
-            put_back(&mut store.objects, gone.held);
+            put_back(&mut store.objects, gone.held, &mut store.steps);
             Err(NoMemory)
         }
     }
@@ -97,18 +111,24 @@ fn plan_request(
     ensures same { map session_of sessions.new.items ≡ map session_of sessions.old.items }
     ensures planned { IfOk result (λ p. IsPlannedBehind store.old now asked.now at store.new sessions.old.items sessions.new.items p) }
 {
-    let planned = plan_asked(
-        alloc,
-        &store.objects,
-        &store.hub,
-        sessions[at].subscriptions(),
-        store.weight,
-        store.channel_weight,
+    let context = Context {
+        objects: &store.objects,
+        total: store.weight,
+        hub: &store.hub,
+        channels: store.channel_weight,
+        subs: sessions[at].subscriptions(),
         now,
-        asked,
-    )?;
+    };
+    let planned = plan_asked(alloc, context, asked, &mut store.steps)?;
     make_room_for(alloc, store, &planned)?;
-    stage_planned(alloc, &store.hub, &store.objects, &planned, sessions)?;
+    stage_planned(
+        alloc,
+        &store.hub,
+        &store.objects,
+        &planned,
+        sessions,
+        &mut store.steps,
+    )?;
     sessions[at].reserve(reply_count(&planned))?;
     Ok(planned)
 }
@@ -160,7 +180,7 @@ fn make_ready_in_part(
     match plan_rest(alloc, store, sessions, at, now, asked) {
         Ok(planned) => Ok(Ready { gone, planned }),
         Err(NoMemory) => {
-            put_back(&mut store.objects, gone.held);
+            put_back(&mut store.objects, gone.held, &mut store.steps);
             store.weight = weight;
             store.due_from = due_from;
             Err(NoMemory)

@@ -15,6 +15,7 @@ ghost use Rattle.session_mail.specs.Sessions.{AreSoundSubs};
 ghost use Rattle.keyspace.specs.Entries.{objects_in};
 ghost use Rattle.tile_core.specs.Asking.{IsAsked};
 ghost use Rattle.tile_core.specs.Beside.{is_of_channels, is_of_objects, IsCounted};
+ghost use Rattle.tile_core.specs.Contexts.{IsContext};
 ghost use Rattle.tile_core.specs.CoreStates.{AreKept};
 ghost use Rattle.tile_core.specs.Moves.{world_in, world_with};
 ghost use Rattle.tile_core.specs.Planned.{channels_weight, IsPlanned};
@@ -24,6 +25,7 @@ use crate::answers::{say_frame, say_refusal, short_frame};
 use crate::beside::beside_channels;
 use crate::changes::{plan_fget, plan_fset};
 use crate::channel_plans::{plan_chans, plan_delchan, plan_pdelchan};
+use crate::contexts::Context;
 use crate::deadlines::{plan_expire, plan_persist, plan_ttl};
 use crate::deletes::{plan_del, plan_drop, plan_flush, plan_pdel};
 use crate::planned::Planned;
@@ -35,10 +37,10 @@ use crate::searches::{plan_nearby, plan_search};
 use crate::setchans::plan_setchan;
 use crate::subscribing::plan_subscribe;
 use byte_text::{MAX_WORDS, NoMemory, Request, RespFault};
-use channel_hub::Hub;
 use cmd_words::{CommandFault, command_of, served_commands};
 use keyspace::Keyspace;
 use reply_text::{broken_reply, fault_reply, fine_frame, pong_frame};
+use rtree::{Steps, Visits};
 use std::alloc::Global;
 use subscriptions::Subscriptions;
 use world_model::{Asked, Command, Fields, NameList, Object, Refusal, WordFault};
@@ -63,17 +65,22 @@ fn plan_quit(alloc: Global, _objects: &Keyspace, total: u64) -> Result<Plan, NoM
 // What a command on objects will do in a world without channels.
 fn plan_command(
     alloc: Global,
-    objects: &Keyspace,
-    total: u64,
-    now: u64,
+    context: Context<'_>,
     command: Command,
+    steps: &mut Steps<Visits>,
 ) -> Result<Plan, NoMemory>
-    requires kept { AreKept (objects_in objects.now) total }
-    requires moment { now ≤ max_moment }
+    requires kept { AreKept (objects_in context.objects.now) context.total }
+    requires moment { context.now ≤ max_moment }
     requires asked { IsAsked command }
     requires of_objects { is_of_objects command ≡ true }
-    ensures { IfOk result (λ p. IsPlan (objects_in objects.now) (effect (world_in objects.now) now [] command) p) }
+    ensures { IfOk result (λ p. IsPlan (objects_in context.entry.objects.now) (effect (world_in context.entry.objects.now) context.entry.now [] command) p) }
 {
+    let Context {
+        objects,
+        total,
+        now,
+        ..
+    } = context;
     match command {
         Command::Set {
             key,
@@ -119,16 +126,16 @@ fn plan_command(
         Command::Bounds { key } => plan_bounds(alloc, objects, total, &key),
         Command::Stats { keys } => plan_stats(alloc, objects, total, &keys),
         Command::Keys { glob } => plan_keys(alloc, objects, total, &glob),
-        Command::Scan { key, query } => plan_scan(alloc, objects, total, &key, &query),
+        Command::Scan { key, query } => plan_scan(alloc, objects, total, &key, &query, steps),
         Command::Search { key, query, area } => {
-            plan_search(alloc, objects, total, &key, query, area)
+            plan_search(alloc, context, &key, query, area, steps)
         }
         Command::Nearby {
             key,
             query,
             at,
             reach,
-        } => plan_nearby(alloc, objects, total, &key, &query, at, reach),
+        } => plan_nearby(alloc, context, &key, &query, at, reach, steps),
         Command::Flush => plan_flush(alloc, objects),
         Command::Ping => plan_ping(alloc, objects, total),
         Command::Quit => plan_quit(alloc, objects, total),
@@ -189,29 +196,31 @@ fn is_counted(_objects: &Keyspace, command: &Command) -> bool
     }
 }
 
-// What a command on objects will do beside channels of this weight.
+// What a command on objects will do beside the channels.
 fn plan_beside(
     alloc: Global,
-    objects: &Keyspace,
-    total: u64,
-    channels: u64,
-    now: u64,
+    context: Context<'_>,
     command: Command,
+    steps: &mut Steps<Visits>,
 ) -> Result<Planned, NoMemory>
-    requires kept { AreKept (objects_in objects.now) total }
-    requires light { total + channels ≤ max_weight }
-    requires moment { now ≤ max_moment }
+    requires context { IsContext context }
     requires asked { IsAsked command }
     requires of_objects { is_of_objects command ≡ true }
-    ensures { IfOk result (λ p. (cs : List Channel) (held : List Sub) → channels ≡ channels_weight cs
-        → IsPlanned (world_with cs (objects_in objects.now)) total held (effect (world_with cs (objects_in objects.now)) now [] command) p) }
+    ensures { IfOk result (λ p. (cs : List Channel) (held : List Sub) → context.entry.channels ≡ channels_weight cs
+        → IsPlanned (world_with cs (objects_in context.entry.objects.now)) context.entry.total held (effect (world_with cs (objects_in context.entry.objects.now)) context.entry.now [] command) p) }
 {
     // More values than a request has words have room in no memory.
-    if !is_counted(objects, &command) {
+    if !is_counted(context.objects, &command) {
         return Err(NoMemory);
     }
-    let plan = plan_command(alloc, objects, total, now, command)?;
-    let plan = beside_channels(alloc, objects, total, channels, plan)?;
+    let plan = plan_command(alloc, context, command, steps)?;
+    let plan = beside_channels(
+        alloc,
+        context.objects,
+        context.total,
+        context.channels,
+        plan,
+    )?;
     Ok(Planned::Objects(plan))
 }
 
@@ -247,20 +256,24 @@ fn is_of_channels(command: &Command) -> bool
 // What a command on channels will do.
 fn plan_of_channels(
     alloc: Global,
-    objects: &Keyspace,
-    hub: &Hub,
-    total: u64,
-    channels: u64,
+    context: Context<'_>,
     command: Command,
 ) -> Result<Planned, NoMemory>
-    requires kept { AreKept (objects_in objects.now) total }
-    requires channels { channels ≡ channels_weight hub.now.channels }
-    requires light { total + channels ≤ max_weight }
+    requires kept { AreKept (objects_in context.objects.now) context.total }
+    requires channels { context.channels ≡ channels_weight context.hub.now.channels }
+    requires light { context.total + context.channels ≤ max_weight }
     requires asked { IsAsked command }
     requires of_channels { is_of_channels command ≡ true }
-    ensures { IfOk result (λ p. (now : ℕ) (held : List Sub) → IsPlanned (world_with hub.now.channels (objects_in objects.now)) total held
-        (effect (world_with hub.now.channels (objects_in objects.now)) now [] command) p) }
+    ensures { IfOk result (λ p. (now : ℕ) (held : List Sub) → IsPlanned (world_with context.entry.hub.now.channels (objects_in context.entry.objects.now)) context.entry.total held
+        (effect (world_with context.entry.hub.now.channels (objects_in context.entry.objects.now)) now [] command) p) }
 {
+    let Context {
+        objects,
+        total,
+        hub,
+        channels,
+        ..
+    } = context;
     match command {
         Command::Setchan { channel, area } => {
             plan_setchan(alloc, objects, hub, total, channels, channel, area)
@@ -272,22 +285,22 @@ fn plan_of_channels(
     }
 }
 
-// What a command that subscribes will do, of a session with these subscriptions.
-fn plan_of_subs(
-    alloc: Global,
-    objects: &Keyspace,
-    total: u64,
-    subs: &Subscriptions,
-    command: Command,
-) -> Result<Planned, NoMemory>
-    requires kept { AreKept (objects_in objects.now) total }
-    requires sound { AreSoundSubs subs.now }
+// What a command that subscribes will do.
+fn plan_of_subs(alloc: Global, context: Context<'_>, command: Command) -> Result<Planned, NoMemory>
+    requires kept { AreKept (objects_in context.objects.now) context.total }
+    requires sound { AreSoundSubs context.subs.now }
     requires asked { IsAsked command }
     requires subscribes { subscribes command ≡ true }
-    ensures { IfOk result (λ p. (cs : List Channel) (now : ℕ) → total + channels_weight cs ≤ max_weight
-        → IsPlanned (world_with cs (objects_in objects.now)) total subs.now
-        (effect (world_with cs (objects_in objects.now)) now subs.now command) p) }
+    ensures { IfOk result (λ p. (cs : List Channel) (now : ℕ) → context.entry.total + channels_weight cs ≤ max_weight
+        → IsPlanned (world_with cs (objects_in context.entry.objects.now)) context.entry.total context.entry.subs.now
+        (effect (world_with cs (objects_in context.entry.objects.now)) now context.entry.subs.now command) p) }
 {
+    let Context {
+        objects,
+        total,
+        subs,
+        ..
+    } = context;
     match command {
         Command::Subscribe { names } => {
             plan_subscribe(alloc, objects, total, subs, false, &names)
@@ -299,34 +312,26 @@ fn plan_of_subs(
     }
 }
 
-// What a command will do that the session may ask, which has these subscriptions.
+// What a command will do that the session may ask.
 fn plan_open(
     alloc: Global,
-    objects: &Keyspace,
-    hub: &Hub,
-    subs: &Subscriptions,
-    total: u64,
-    channels: u64,
-    now: u64,
+    context: Context<'_>,
     command: Command,
+    steps: &mut Steps<Visits>,
 ) -> Result<Planned, NoMemory>
-    requires kept { AreKept (objects_in objects.now) total }
-    requires channels { channels ≡ channels_weight hub.now.channels }
-    requires light { total + channels ≤ max_weight }
-    requires sound { AreSoundSubs subs.now }
-    requires moment { now ≤ max_moment }
+    requires context { IsContext context }
     requires asked { IsAsked command }
-    requires may_ask { (has_subs subs.now && not (is_served_subscribed command)) ≡ false }
-    ensures { IfOk result (λ p. IsPlanned (world_with hub.now.channels (objects_in objects.now)) total subs.now
-        (effect (world_with hub.now.channels (objects_in objects.now)) now subs.now command) p) }
+    requires may_ask { (has_subs context.subs.now && not (is_served_subscribed command)) ≡ false }
+    ensures { IfOk result (λ p. IsPlanned (world_with context.entry.hub.now.channels (objects_in context.entry.objects.now)) context.entry.total context.entry.subs.now
+        (effect (world_with context.entry.hub.now.channels (objects_in context.entry.objects.now)) context.entry.now context.entry.subs.now command) p) }
 {
     if is_of_objects(&command) {
-        return plan_beside(alloc, objects, total, channels, now, command);
+        return plan_beside(alloc, context, command, steps);
     }
     if is_of_channels(&command) {
-        return plan_of_channels(alloc, objects, hub, total, channels, command);
+        return plan_of_channels(alloc, context, command);
     }
-    plan_of_subs(alloc, objects, total, subs, command)
+    plan_of_subs(alloc, context, command)
 }
 
 // Whether a session with subscriptions may ask it.
@@ -353,88 +358,66 @@ fn is_refused(subs: &Subscriptions, command: &Command) -> bool
     has_any(subs) && !is_served_subscribed(command)
 }
 
-// What a command will do, of a session with these subscriptions.
+// What a command will do.
 fn plan_served(
     alloc: Global,
-    objects: &Keyspace,
-    hub: &Hub,
-    subs: &Subscriptions,
-    total: u64,
-    channels: u64,
-    now: u64,
+    context: Context<'_>,
     command: Command,
+    steps: &mut Steps<Visits>,
 ) -> Result<Planned, NoMemory>
-    requires kept { AreKept (objects_in objects.now) total }
-    requires channels { channels ≡ channels_weight hub.now.channels }
-    requires light { total + channels ≤ max_weight }
-    requires sound { AreSoundSubs subs.now }
-    requires moment { now ≤ max_moment }
+    requires context { IsContext context }
     requires asked { IsAsked command }
-    ensures { IfOk result (λ p. IsPlanned (world_with hub.now.channels (objects_in objects.now)) total subs.now
-        (effect (world_with hub.now.channels (objects_in objects.now)) now subs.now command) p) }
+    ensures { IfOk result (λ p. IsPlanned (world_with context.entry.hub.now.channels (objects_in context.entry.objects.now)) context.entry.total context.entry.subs.now
+        (effect (world_with context.entry.hub.now.channels (objects_in context.entry.objects.now)) context.entry.now context.entry.subs.now command) p) }
 {
-    if is_refused(subs, &command) {
-        let refusal = say_refusal(alloc, total, Refusal::Subscribed)?;
+    if is_refused(context.subs, &command) {
+        let refusal = say_refusal(alloc, context.total, Refusal::Subscribed)?;
         return Ok(Planned::Objects(refusal));
     }
-    plan_open(alloc, objects, hub, subs, total, channels, now, command)
+    plan_open(alloc, context, command, steps)
 }
 
 // What words will do.
 fn plan_words(
     alloc: Global,
-    objects: &Keyspace,
-    hub: &Hub,
-    subs: &Subscriptions,
-    total: u64,
-    channels: u64,
-    now: u64,
+    context: Context<'_>,
     words: &Request,
+    steps: &mut Steps<Visits>,
 ) -> Result<Planned, NoMemory>
-    requires kept { AreKept (objects_in objects.now) total }
-    requires channels { channels ≡ channels_weight hub.now.channels }
-    requires light { total + channels ≤ max_weight }
-    requires sound { AreSoundSubs subs.now }
-    requires moment { now ≤ max_moment }
-    ensures { IfOk result (λ p. IsPlanned (world_with hub.now.channels (objects_in objects.now)) total subs.now
-        (effect_of_read (world_with hub.now.channels (objects_in objects.now)) now subs.now (asks words.now)) p) }
+    requires context { IsContext context }
+    ensures { IfOk result (λ p. IsPlanned (world_with context.entry.hub.now.channels (objects_in context.entry.objects.now)) context.entry.total context.entry.subs.now
+        (effect_of_read (world_with context.entry.hub.now.channels (objects_in context.entry.objects.now)) context.entry.now context.entry.subs.now (asks words.now)) p) }
 {
     served_commands();
     // A request is within its limits, and so is what a refusal shows of it.
     let _count = words.words();
     match command_of(alloc, words) {
-        Ok(command) => plan_served(alloc, objects, hub, subs, total, channels, now, command),
+        Ok(command) => plan_served(alloc, context, command, steps),
         Err(CommandFault::Refused(fault)) => {
-            Ok(Planned::Objects(plan_fault(alloc, objects, total, &fault)?))
+            Ok(Planned::Objects(plan_fault(alloc, context.objects, context.total, &fault)?))
         }
         Err(CommandFault::Memory) => Err(NoMemory),
     }
 }
 
-/// What is asked will do this at a moment, by a session with these subscriptions, in the world of these objects, whose weight is `total`,
-/// and of these channels, whose weight is `channels`.
+/// What is asked will do this in its context. The steps count the nodes of trees that are visited.
 pub(crate) fn plan_asked(
     alloc: Global,
-    objects: &Keyspace,
-    hub: &Hub,
-    subs: &Subscriptions,
-    total: u64,
-    channels: u64,
-    now: u64,
+    context: Context<'_>,
     asked: &Asked,
+    steps: &mut Steps<Visits>,
 ) -> Result<Planned, NoMemory>
-    requires kept { AreKept (objects_in objects.now) total }
-    requires channels { channels ≡ channels_weight hub.now.channels }
-    requires light { total + channels ≤ max_weight }
-    requires sound { AreSoundSubs subs.now }
-    requires moment { now ≤ max_moment }
-    ensures { IfOk result (λ p. IsPlanned (world_with hub.now.channels (objects_in objects.now)) total subs.now
-        (effect_of_asked (world_with hub.now.channels (objects_in objects.now)) now subs.now asked.now) p) }
+    requires context { IsContext context }
+    ensures { IfOk result (λ p. IsPlanned (world_with context.entry.hub.now.channels (objects_in context.entry.objects.now)) context.entry.total context.entry.subs.now
+        (effect_of_asked (world_with context.entry.hub.now.channels (objects_in context.entry.objects.now)) context.entry.now context.entry.subs.now asked.now) p) }
 {
     match asked {
-        Asked::Words(words) => {
-            plan_words(alloc, objects, hub, subs, total, channels, now, words)
-        }
-        Asked::Broken(fault) => Ok(Planned::Objects(plan_broken(alloc, objects, total, *fault)?)),
+        Asked::Words(words) => { plan_words(alloc, context, words, steps) }
+        Asked::Broken(fault) => Ok(Planned::Objects(plan_broken(
+            alloc,
+            context.objects,
+            context.total,
+            *fault,
+        )?)),
     }
 }

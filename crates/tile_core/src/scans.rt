@@ -25,7 +25,7 @@ use keyspace::Keyspace;
 use nearest_query::near_page;
 use planar_geom::Pt;
 use reply_text::{ItemFrames, ReplyFault, refusal_reply};
-use rtree::{NoLedger, Steps};
+use rtree::{Steps, Visits};
 use search_query::page;
 use std::alloc::Global;
 use world_model::{Page, Query, Refusal, Shown};
@@ -150,12 +150,13 @@ fn say_page(
     Ok(Plan::reply(frame, total))
 }
 
-/// What a query by id or by area will answer over the objects of its key.
+/// What a query by id or by area will answer over the objects of its key. The steps count the nodes that are visited.
 pub(crate) fn plan_page(
     alloc: Global,
     objects: &Collection,
     total: u64,
     query: &Query,
+    steps: &mut Steps<Visits>,
 ) -> Result<Plan, NoMemory>
     requires pattern { is_sound_glob query.now.glob ≡ true }
     ensures { IfOk result (Says (within_reply (says (page_reply query.now (matches query.now objects.now.objects)))) total) }
@@ -163,11 +164,11 @@ pub(crate) fn plan_page(
     // What stands by id is known where the objects are counted.
     let _count = objects.len();
     let mut found = Page::new(alloc);
-    page(alloc, objects, query, &mut found, &mut Steps::new(NoLedger))?;
+    page(alloc, objects, query, &mut found, steps)?;
     say_page(alloc, objects, total, query, &found)
 }
 
-/// What a query by distance will answer over the objects of its key.
+/// What a query by distance will answer over the objects of its key. The steps count the nodes that are visited.
 pub(crate) fn plan_near_page(
     alloc: Global,
     objects: &Collection,
@@ -175,6 +176,7 @@ pub(crate) fn plan_near_page(
     query: &Query,
     at: Pt,
     reach: Option<u32>,
+    steps: &mut Steps<Visits>,
 ) -> Result<Plan, NoMemory>
     requires pattern { is_sound_glob query.now.glob ≡ true }
     ensures { IfOk result (Says (within_reply (says (page_reply query.now (near_matches query.now at reach objects.now.objects)))) total) }
@@ -182,7 +184,6 @@ pub(crate) fn plan_near_page(
     // What stands by id is known where the objects are counted.
     let _count = objects.len();
     let mut found = Page::new(alloc);
-    let steps = &mut Steps::new(NoLedger);
     near_page(alloc, objects, at, reach, query, &mut found, steps)?;
     say_page(alloc, objects, total, query, &found)
 }
@@ -194,13 +195,14 @@ pub(crate) fn plan_scan(
     total: u64,
     key: &Name,
     query: &Query,
+    steps: &mut Steps<Visits>,
 ) -> Result<Plan, NoMemory>
     requires kept { AreKept (objects_in objects.now) total }
     requires pattern { is_sound_glob query.now.glob ≡ true }
     ensures { IfOk result (λ p. (now : ℕ) → IsPlan (objects_in objects.now) (effect (world_in objects.now) now [] (command.Scan key.now query.now)) p) }
 {
     match objects.collection(key) {
-        Some(found) => plan_page(alloc, found, total, query),
-        None => plan_page(alloc, &Collection::new(alloc), total, query),
+        Some(found) => plan_page(alloc, found, total, query, steps),
+        None => plan_page(alloc, &Collection::new(alloc), total, query, steps),
     }
 }

@@ -14,12 +14,13 @@ ghost use Rattle.tile_core.specs.Moves.{world_in};
 ghost use Rattle.tile_core.specs.Plans.{IsPlan, Says};
 
 use crate::changes::plan_missing;
+use crate::contexts::Context;
 use crate::plans::Plan;
 use crate::scans::{plan_near_page, plan_page};
 use byte_text::{Name, NoMemory};
 use collection::Collection;
-use keyspace::Keyspace;
 use planar_geom::{Area, Pt, Shape};
+use rtree::{Steps, Visits};
 use std::alloc::Global;
 use world_model::{AreaWords, Query, Rule};
 
@@ -56,94 +57,102 @@ pub(crate) fn figure_of(alloc: Global, shape: &Shape) -> Result<Area, NoMemory>
 // What a search over an area will answer.
 fn plan_over(
     alloc: Global,
-    objects: &Keyspace,
-    total: u64,
+    context: Context<'_>,
     key: &Name,
     query: Query,
     area: Area,
+    steps: &mut Steps<Visits>,
 ) -> Result<Plan, NoMemory>
     requires pattern { is_sound_glob query.glob ≡ true }
-    ensures { IfOk result (Says (within_reply (says (page_reply query (matches (record query { rule = rule_over query.rule area }) (objects_of (world_in objects.now) key.now))))) total) }
+    ensures { IfOk result (Says (within_reply (says (page_reply query (matches (record query { rule = rule_over query.rule area }) (objects_of (world_in context.entry.objects.now) key.now))))) context.entry.total) }
 {
     let query = query_over(query, area);
-    match objects.collection(key) {
-        Some(found) => plan_page(alloc, found, total, &query),
-        None => plan_page(alloc, &Collection::new(alloc), total, &query),
+    match context.objects.collection(key) {
+        Some(found) => plan_page(alloc, found, context.total, &query, steps),
+        None => plan_page(alloc, &Collection::new(alloc), context.total, &query, steps),
     }
 }
 
 // What WITHIN and INTERSECTS will do over an area that their words give.
 fn plan_given(
     alloc: Global,
-    objects: &Keyspace,
-    total: u64,
+    context: Context<'_>,
     key: &Name,
     query: Query,
     area: Area,
+    steps: &mut Steps<Visits>,
 ) -> Result<Plan, NoMemory>
-    requires kept { AreKept (objects_in objects.now) total }
+    requires kept { AreKept (objects_in context.objects.now) context.total }
     requires pattern { is_sound_glob query.glob ≡ true }
-    ensures { IfOk result (λ p. (now : ℕ) → IsPlan (objects_in objects.now) (effect (world_in objects.now) now [] (command.Search key.now query (area_words.Given area))) p) }
+    ensures { IfOk result (λ p. (now : ℕ) → IsPlan (objects_in context.entry.objects.now) (effect (world_in context.entry.objects.now) now [] (command.Search key.now query (area_words.Given area))) p) }
 {
-    plan_over(alloc, objects, total, key, query, area)
+    plan_over(alloc, context, key, query, area, steps)
 }
 
 // What WITHIN and INTERSECTS will do over the shape of an object, which has to be there.
 fn plan_figure(
     alloc: Global,
-    objects: &Keyspace,
-    total: u64,
+    context: Context<'_>,
     key: &Name,
     query: Query,
     of_key: &Name,
     id: &Name,
+    steps: &mut Steps<Visits>,
 ) -> Result<Plan, NoMemory>
-    requires kept { AreKept (objects_in objects.now) total }
+    requires kept { AreKept (objects_in context.objects.now) context.total }
     requires pattern { is_sound_glob query.glob ≡ true }
-    ensures { IfOk result (λ p. (now : ℕ) → IsPlan (objects_in objects.now) (effect (world_in objects.now) now [] (command.Search key.now query (area_words.Of of_key.now id.now))) p) }
+    ensures { IfOk result (λ p. (now : ℕ) → IsPlan (objects_in context.entry.objects.now) (effect (world_in context.entry.objects.now) now [] (command.Search key.now query (area_words.Of of_key.now id.now))) p) }
 {
-    let Some(object) = objects.get(of_key, id) else {
-        return plan_missing(alloc, objects, total, of_key);
+    let Some(object) = context.objects.get(of_key, id) else {
+        return plan_missing(alloc, context.objects, context.total, of_key);
     };
     let area = figure_of(alloc, &object.shape)?;
-    plan_over(alloc, objects, total, key, query, area)
+    plan_over(alloc, context, key, query, area, steps)
 }
 
 /// What WITHIN and INTERSECTS will do.
 pub(crate) fn plan_search(
     alloc: Global,
-    objects: &Keyspace,
-    total: u64,
+    context: Context<'_>,
     key: &Name,
     query: Query,
     area: AreaWords,
+    steps: &mut Steps<Visits>,
 ) -> Result<Plan, NoMemory>
-    requires kept { AreKept (objects_in objects.now) total }
+    requires kept { AreKept (objects_in context.objects.now) context.total }
     requires pattern { is_sound_glob query.glob ≡ true }
-    ensures { IfOk result (λ p. (now : ℕ) → IsPlan (objects_in objects.now) (effect (world_in objects.now) now [] (command.Search key.now query area)) p) }
+    ensures { IfOk result (λ p. (now : ℕ) → IsPlan (objects_in context.entry.objects.now) (effect (world_in context.entry.objects.now) now [] (command.Search key.now query area)) p) }
 {
     match area {
-        AreaWords::Given(area) => plan_given(alloc, objects, total, key, query, area),
-        AreaWords::Of(of_key, id) => plan_figure(alloc, objects, total, key, query, &of_key, &id),
+        AreaWords::Given(area) => plan_given(alloc, context, key, query, area, steps),
+        AreaWords::Of(of_key, id) => plan_figure(alloc, context, key, query, &of_key, &id, steps),
     }
 }
 
 /// What NEARBY will do.
 pub(crate) fn plan_nearby(
     alloc: Global,
-    objects: &Keyspace,
-    total: u64,
+    context: Context<'_>,
     key: &Name,
     query: &Query,
     at: Pt,
     reach: Option<u32>,
+    steps: &mut Steps<Visits>,
 ) -> Result<Plan, NoMemory>
-    requires kept { AreKept (objects_in objects.now) total }
+    requires kept { AreKept (objects_in context.objects.now) context.total }
     requires pattern { is_sound_glob query.now.glob ≡ true }
-    ensures { IfOk result (λ p. (now : ℕ) → IsPlan (objects_in objects.now) (effect (world_in objects.now) now [] (command.Nearby key.now query.now at reach)) p) }
+    ensures { IfOk result (λ p. (now : ℕ) → IsPlan (objects_in context.entry.objects.now) (effect (world_in context.entry.objects.now) now [] (command.Nearby key.now query.now at reach)) p) }
 {
-    match objects.collection(key) {
-        Some(found) => plan_near_page(alloc, found, total, query, at, reach),
-        None => plan_near_page(alloc, &Collection::new(alloc), total, query, at, reach),
+    match context.objects.collection(key) {
+        Some(found) => plan_near_page(alloc, found, context.total, query, at, reach, steps),
+        None => plan_near_page(
+            alloc,
+            &Collection::new(alloc),
+            context.total,
+            query,
+            at,
+            reach,
+            steps,
+        ),
     }
 }

@@ -1,4 +1,5 @@
-//! What writes bring to the sessions that listen, staged before anything is placed.
+//! What writes bring to the sessions that listen, staged before anything is placed. The steps count the nodes of trees that are visited to
+//! find out.
 
 ghost use Rattle.std.specs.Prelude.{◌≡◌, ◌∷◌, [], true, map, OnOk};
 ghost use Rattle.std.specs.List.{list_all};
@@ -20,6 +21,7 @@ use byte_text::{Name, NoMemory};
 use channel_hub::Hub;
 use keyspace::Keyspace;
 use message_fan::{stage_del, stage_drop, stage_put, turn_laws};
+use rtree::{Steps, Visits};
 use session_mail::Session;
 use std::alloc::Global;
 use world_model::{NameList, Object};
@@ -30,13 +32,14 @@ pub(crate) fn stage_dels(
     hub: &Hub,
     held: &[Object],
     sessions: &mut Vec<Session>,
+    steps: &mut Steps<Visits>,
 ) -> Result<(), NoMemory>
     requires { list_all is_sound_channel hub.now.channels ≡ true }
     ensures same { map session_of sessions.new.items ≡ map session_of sessions.old.items }
     ensures staged { OnOk result ((w : World) → w.channels ≡ hub.now.channels → AllStand w held.now → StagesBehind w (dels held.now) sessions.old.items sessions.new.items) }
 {
     for i in 0..held.len() {
-        stage_del(alloc, hub, sessions, &held[i])?;
+        stage_del(alloc, hub, sessions, &held[i], steps)?;
     }
     Ok(())
 }
@@ -49,6 +52,7 @@ fn stage_each(
     key: &Name,
     ids: &NameList,
     sessions: &mut Vec<Session>,
+    steps: &mut Steps<Visits>,
 ) -> Result<(), NoMemory>
     requires sound { list_all is_sound_channel hub.now.channels ≡ true }
     requires there { AllThere key.now ids.now (objects_in objects.now) }
@@ -57,7 +61,7 @@ fn stage_each(
 {
     for i in 0..ids.len() {
         if let Some(object) = objects.get(key, ids.at(i)) {
-            stage_del(alloc, hub, sessions, object)?;
+            stage_del(alloc, hub, sessions, object, steps)?;
         }
     }
     Ok(())
@@ -71,6 +75,7 @@ fn stage_one(
     key: &Name,
     id: &Name,
     sessions: &mut Vec<Session>,
+    steps: &mut Steps<Visits>,
 ) -> Result<(), NoMemory>
     requires sound { list_all is_sound_channel hub.now.channels ≡ true }
     requires there { AllThere key.now (id.now ∷ []) (objects_in objects.now) }
@@ -78,7 +83,7 @@ fn stage_one(
     ensures staged { OnOk result (StagesBehind (world_with hub.now.channels (objects_in objects.now)) (loud (change.Del key.now id.now) ∷ []) sessions.old.items sessions.new.items) }
 {
     match objects.get(key, id) {
-        Some(object) => stage_del(alloc, hub, sessions, object),
+        Some(object) => stage_del(alloc, hub, sessions, object, steps),
         None => Ok(()),
     }
 }
@@ -91,6 +96,7 @@ fn stage_object(
     object: &Object,
     loud: bool,
     sessions: &mut Vec<Session>,
+    steps: &mut Steps<Visits>,
 ) -> Result<(), NoMemory>
     requires { list_all is_sound_channel hub.now.channels ≡ true }
     ensures same { map session_of sessions.new.items ≡ map session_of sessions.old.items }
@@ -101,7 +107,7 @@ fn stage_object(
         return Ok(());
     }
     let old = objects.get(&object.key, &object.id);
-    stage_put(alloc, hub, objects, sessions, old, object)
+    stage_put(alloc, hub, objects, sessions, old, object, steps)
 }
 
 // Stages what a move of the objects brings.
@@ -112,6 +118,7 @@ fn stage_move(
     action: &Move,
     loud: bool,
     sessions: &mut Vec<Session>,
+    steps: &mut Steps<Visits>,
 ) -> Result<(), NoMemory>
     requires sound { list_all is_sound_channel hub.now.channels ≡ true }
     requires there { HaveAllThere (objects_in objects.now) action.now }
@@ -121,9 +128,9 @@ fn stage_move(
     turn_laws();
     match action {
         Move::Stay | Move::Clear => Ok(()),
-        Move::Put(object) => stage_object(alloc, hub, objects, object, loud, sessions),
-        Move::Delete(key, id) => stage_one(alloc, hub, objects, key, id, sessions),
-        Move::DeleteEach(key, ids) => stage_each(alloc, hub, objects, key, ids, sessions),
+        Move::Put(object) => stage_object(alloc, hub, objects, object, loud, sessions, steps),
+        Move::Delete(key, id) => stage_one(alloc, hub, objects, key, id, sessions, steps),
+        Move::DeleteEach(key, ids) => stage_each(alloc, hub, objects, key, ids, sessions, steps),
         Move::Leave(key) => stage_drop(alloc, hub, sessions, key),
     }
 }
@@ -135,6 +142,7 @@ pub(crate) fn stage_planned(
     objects: &Keyspace,
     planned: &Planned,
     sessions: &mut Vec<Session>,
+    steps: &mut Steps<Visits>,
 ) -> Result<(), NoMemory>
     requires sound { list_all is_sound_channel hub.now.channels ≡ true }
     requires there { HoldsOfObjects (HaveAllThere (objects_in objects.now)) planned.now }
@@ -144,7 +152,15 @@ pub(crate) fn stage_planned(
     turn_laws();
     match planned {
         Planned::Objects(plan) => {
-            stage_move(alloc, hub, objects, &plan.action, plan.loud, sessions)
+            stage_move(
+                alloc,
+                hub,
+                objects,
+                &plan.action,
+                plan.loud,
+                sessions,
+                steps,
+            )
         }
         Planned::Channels(_plan) => Ok(()),
         Planned::Subscribed(_) => Ok(()),

@@ -2,6 +2,7 @@
 
 use channel_hub::Hub;
 use keyspace::Keyspace;
+use rtree::{Steps, Visits};
 use std::alloc::Global;
 
 /// A world as it is kept.
@@ -15,6 +16,8 @@ pub(crate) struct Store {
     pub(crate) hub: Hub,
     /// The bytes of the records of all channels.
     pub(crate) channel_weight: u64,
+    /// Counts the nodes of trees that are visited.
+    pub(crate) steps: Steps<Visits>,
 }
 
 impl Store {
@@ -33,6 +36,7 @@ impl Store {
             due_from: u64::MAX,
             hub: Hub::new(alloc),
             channel_weight: 0,
+            steps: Steps::new(Visits::new()),
         }
     }
 }

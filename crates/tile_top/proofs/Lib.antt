@@ -8,4 +8,3 @@ mod Feeding
 mod Acting
 mod Cutting
 mod OneOutput
-mod Crosses

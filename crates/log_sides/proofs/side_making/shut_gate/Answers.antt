@@ -7,17 +7,17 @@ use Rattle.log_sides.specs.Crashing.{leads_step, leads_then, leads_weaker, safe_
 use Rattle.log_sides.proofs.side_making.shut_gate.Goals as goal
 
 pub returns-in-Ok-true-clause-either : goal.returns-in-Ok-true-clause-either
-returns-in-Ok-true-clause-either g c before safe =
+returns-in-Ok-true-clause-either g c before short safe =
     let D = g.D.Disk in
     leads_weaker D.crashes D.seen D.images D.moment D.left_since c.args.side (λ x. x ≡ before) (WhileShut before) c.args.disk.now c.has_shut_gate.new.disk (λ x same. inl same) (c.in-Ok-true.ensures.same before safe)
 
 pub returns-in-Err-clause-either : goal.returns-in-Err-clause-either
-returns-in-Err-clause-either g c before safe =
+returns-in-Err-clause-either g c before short safe =
     let D = g.D.Disk in
     leads_weaker D.crashes D.seen D.images D.moment D.left_since c.args.side (λ x. x ≡ before) (WhileShut before) c.args.disk.now c.has_shut_gate.new.disk (λ x same. inl same) (c.in-Err.ensures.same before safe)
 
 pub returns-in-Ok-false-clause-either : goal.returns-in-Ok-false-clause-either
-returns-in-Ok-false-clause-either g c before safe =
+returns-in-Ok-false-clause-either g c before short safe =
     let D = g.D.Disk in
     let side = c.args.side in
     let old = c.args.disk.now in
@@ -28,4 +28,4 @@ returns-in-Ok-false-clause-either g c before safe =
     (leads_weaker D.crashes D.seen D.images D.moment D.left_since side (λ x. x ≡ before) (WhileShut before) old mid (λ x same. inl same) (c.in-Ok-false.ensures.same before safe))
     (leads_step D.crashes D.seen D.images D.moment D.left_since side (λ x. x ≡ before) (WhileShut before) (Torn 0 1) mid new
     (safe_held (D.crashes mid) (D.seen mid) (D.images mid) side (λ x. x ≡ before) (c.in-Ok-false.ensures.safe before safe))
-    (λ x y same torn. gate_torn before y unshut (subst (λ (l : Bytes). Torn 0 1 l y) same torn)) c.write_durably.ensures.torn c.write_durably.ensures.crash c.write_durably.ensures.moments)
+    (λ x y same torn. gate_torn before y short unshut (subst (λ (l : Bytes). Torn 0 1 l y) same torn)) c.write_durably.ensures.torn c.write_durably.ensures.crash c.write_durably.ensures.moments)

@@ -10,7 +10,7 @@ use Rattle.message_fan.proofs.Payloads.{put_over_area, put_roams, roams_over_non
 use Rattle.message_fan.proofs.raises.stage_put_on.Goals as goal
 
 pub returns-in-Some-clause-staged : goal.returns-in-Some-clause-staged
-returns-in-Some-clause-staged c =
+returns-in-Some-clause-staged g c =
     let ch = c.args.channel.now in
     on_ok_weaker c.stage_roams.result
     (λ staged w is stands. subst (λ (ps : List Bytes). AreBrought (sent ch ps) c.args.sessions.now.items c.stage_roams.new.sessions.items)
@@ -19,7 +19,7 @@ returns-in-Some-clause-staged c =
     c.stage_roams.ensures.staged
 
 pub returns-in-None-clause-staged : goal.returns-in-None-clause-staged
-returns-in-None-clause-staged c =
+returns-in-None-clause-staged g c =
     let ch = c.args.channel.now in
     let old = option_map (λ o. o.now) c.args.old in
     λ w is stands. subst (λ (ps : List Bytes). AreBrought (sent ch ps) c.args.sessions.now.items c.args.sessions.now.items)
@@ -27,7 +27,7 @@ returns-in-None-clause-staged c =
     (brought_none c.args.sessions.now.items)
 
 pub returns-in-Spot-clause-staged : goal.returns-in-Spot-clause-staged
-returns-in-Spot-clause-staged c =
+returns-in-Spot-clause-staged g c =
     let ch = c.args.channel.now in
     on_ok_weaker c.stage_area.result
     (λ staged w is stands. subst (λ (ps : List Bytes). AreBrought (sent ch ps) c.args.sessions.now.items c.stage_area.new.sessions.items)

@@ -11,14 +11,14 @@ use Rattle.message_fan.proofs.Payloads.{near_found}
 use Rattle.message_fan.proofs.raises.stage_roams.Goals as goal
 
 pub returns-then-not-channel-clause-staged : goal.returns-then-not-channel-clause-staged
-returns-then-not-channel-clause-staged c =
+returns-then-not-channel-clause-staged g c =
     let ch = c.args.channel.now in
     let pairs = near_pairs ch.fence (option_map (λ o. o.now) c.args.old) c.args.new.now c.args.targets.now.objects in
     subst (λ (b : Bool). AreBrought (sent ch (if b then map (roam_payload ch.name c.args.new.now) pairs else [])) c.args.sessions.now.items c.args.sessions.now.items) (sym c.if-not-channel.true)
     (brought_none c.args.sessions.now.items)
 
 pub returns-clause-staged : goal.returns-clause-staged
-returns-clause-staged c =
+returns-clause-staged g c =
     let ch = c.args.channel.now in
     let old = option_map (λ o. o.now) c.args.old in
     let pairs = near_pairs ch.fence old c.args.new.now c.args.targets.now.objects in

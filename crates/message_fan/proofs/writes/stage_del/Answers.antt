@@ -11,7 +11,7 @@ use Rattle.message_fan.proofs.Turns.{staged_in}
 use Rattle.message_fan.proofs.writes.stage_del.Goals as goal
 
 pub returns-clause-staged : goal.returns-clause-staged
-returns-clause-staged c =
+returns-clause-staged g c =
     let old = c.args.old.now in
     let a = c.args.sessions.now.items in
     let b = c.stage_del_at.new.sessions.items in

@@ -13,7 +13,7 @@ use Rattle.message_fan.proofs.Turns.{staged_in}
 use Rattle.message_fan.proofs.writes.stage_put.Goals as goal
 
 pub returns-clause-staged : goal.returns-clause-staged
-returns-clause-staged c =
+returns-clause-staged g c =
     let old = option_map (λ o. o.now) c.args.old in
     let new = c.args.new.now in
     let a = c.args.sessions.now.items in

@@ -12,25 +12,25 @@ use Rattle.message_fan.proofs.Going.{at_all_places, passes_at, place_more}
 use Rattle.message_fan.proofs.writes.stage_put_at.Goals as goal
 
 pub loop-i-init : goal.loop-i-init
-loop-i-init c = record { same = refl; staged = λ w is stands. brought_none c.args.sessions.now.items }
+loop-i-init g c = record { same = refl; staged = λ w is stands. brought_none c.args.sessions.now.items }
 
 pub at-channel-requires : goal.at-channel-requires
-at-channel-requires c =
+at-channel-requires g c =
     place_within (put_may_concern (option_map (λ o. o.now) c.args.old) c.args.new.now) c.args.hub.now.channels c.loop-i.i c.at.result
     (subst (λ (ps : List ℕ). slice_get ps c.loop-i.i ≡ Some c.at.result) c.requires.places c.at.ensures)
 
 pub stage_put_on-requires-clause-glob : goal.stage_put_on-requires-clause-glob
-stage_put_on-requires-clause-glob c =
+stage_put_on-requires-clause-glob g c =
     let ch = c.at-channel.result.now in
     (both_of (is_sound_glob ch.fence.glob) (is_sound_watch ch.fence.watch) (passes_at is_sound_channel c.args.hub.now.channels c.at.result ch c.requires.sound c.at-channel.ensures)).0
 
 pub stage_put_on-requires-clause-pattern : goal.stage_put_on-requires-clause-pattern
-stage_put_on-requires-clause-pattern c =
+stage_put_on-requires-clause-pattern g c =
     let ch = c.at-channel.result.now in
     (both_of (is_sound_glob ch.fence.glob) (is_sound_watch ch.fence.watch) (passes_at is_sound_channel c.args.hub.now.channels c.at.result ch c.requires.sound c.at-channel.ensures)).1
 
 pub loop-i-preserved : goal.loop-i-preserved
-loop-i-preserved c =
+loop-i-preserved g c =
     let l = c.loop-i in
     record {
       same = c.stage_put_on.ensures.same ∙ l.invariant.same;
@@ -40,6 +40,6 @@ loop-i-preserved c =
     }
 
 pub returns-clause-staged : goal.returns-clause-staged
-returns-clause-staged c = λ w is stands.
+returns-clause-staged g c = λ w is stands.
     at_all_places (messages_on w (Put c.args.new.now)) c.args.hub.now.channels (put_may_concern (option_map (λ o. o.now) c.args.old) c.args.new.now)
     c.args.sessions.now.items c.loop-i.sessions.items c.args.candidates.now c.loop-i.i (omega (arith, c.loop-i-test.false, c.len-i-end.ensures)) c.requires.places (c.loop-i.invariant.staged w is stands)

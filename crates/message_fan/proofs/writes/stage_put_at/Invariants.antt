@@ -11,7 +11,7 @@ use Rattle.message_fan.proofs.writes.stage_put_at.Given as goal
 
 -- what the first channels raise was staged
 abbrev pub invariant-loop-i : goal.invariant-loop-i
-invariant-loop-i l = record {
+invariant-loop-i g l = record {
   same : map session_of l.sessions.items ≡ map session_of l.initial.sessions.items;
   staged : (w : World) → w.objects ≡ objects_in l.fn.objects → object_at w l.fn.new.key l.fn.new.id ≡ option_map (λ o. o.now) l.fn.old
       → AreBrought (flat_map (messages_on w (Put l.fn.new)) (filter_map (slice_get l.fn.hub.channels) (take l.i l.fn.candidates))) l.initial.sessions.items l.sessions.items;

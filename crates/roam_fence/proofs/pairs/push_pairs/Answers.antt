@@ -1,11 +1,16 @@
-use Rattle.std.proofs.Common.{◌++◌, ap, ◌∙◌, option_map}
-use Rattle.roam_fence.specs.Pairs.{noted, told, told_of_all}
-use Rattle.byte_text.specs.ListLaws.{one_more}
+use Rattle.std.proofs.Common.{◌++◌, ap, ◌∙◌}
+use Rattle.std.specs.Prelude.{option_map}
+use Rattle.std.proofs.lemmas.Result.{on_ok_weaker}
+use Rattle.collection.specs.Places.{meets_box}
+use Rattle.roam_fence.proofs.Reached.{told_near}
 use Rattle.roam_fence.proofs.pairs.push_pairs.Goals as goal
 
-pub loop-i-preserved : goal.loop-i-preserved
-loop-i-preserved c =
-    let old = option_map (λ o. o.now) c.args.old in
-    let made = c.in_ok-note.ensures ∙ ap (λ t. c.loop-i.into ++ noted c.at-target.result.now t) c.told.ensures in
-    one_more (λ t. noted t (told c.args.pattern.now c.args.reach.meters c.args.reach.nodwell old c.args.new.now t)) c.args.targets.now.objects c.loop-i.i c.at-target.result.now
-    c.loop-i.into c.note.new.into (c.args.into.now ++ told_of_all c.args.pattern.now c.args.reach.meters c.args.reach.nodwell old c.args.new.now c.args.targets.now.objects) c.at-target.ensures made c.loop-i.invariant
+pub push_listed-requires-clause-places : goal.push_listed-requires-clause-places
+push_listed-requires-clause-places g c = (meets_box c.round_reach-round.result, c.in_ok-met.ensures.places)
+
+pub returns-clause-pairs : goal.returns-clause-pairs
+returns-clause-pairs g c =
+    let r = c.args.reach in
+    let b = c.round_reach-round.result in
+    let same = told_near r.pattern.now r.meters r.nodwell (option_map (λ o. o.now) c.args.old) c.args.new.now b c.round_reach-round.ensures c.args.targets.now.objects c.met.ensures.whole in
+    on_ok_weaker c.push_listed.result (λ told. told (meets_box b) c.in_ok-met.ensures.places ∙ ap (λ l. c.args.into.now ++ l) same) c.push_listed.ensures

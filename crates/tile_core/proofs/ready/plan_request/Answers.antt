@@ -17,7 +17,7 @@ use Rattle.tile_core.specs.Staged.{StagesBehind}
 use Rattle.tile_core.specs.Stores.{world_at}
 use Rattle.tile_core.proofs.Finishing.{read_at}
 use Rattle.tile_core.proofs.Present.{get_set}
-use Rattle.tile_core.proofs.Readying.{as_long, same_world, staged_set}
+use Rattle.tile_core.proofs.Readying.{as_long, roomier, same_world, staged_set}
 use Rattle.tile_core.proofs.ready.plan_request.Goals as goal
 
 same_is : (a b : State) → Some a ≡ Some b → a ≡ b
@@ -52,7 +52,7 @@ returns-clause-planned c =
     let v = c.reserve.new.self in
     let p = c.in_ok-planned.planned in
     let at = read_there old mid c.args.at s c.stage_planned.ensures.same c.requires.at (λ lt. slice_get_read mid (length mid) c.args.at s refl lt c.index_mut.ensures.value) in
-    let world : world_with c.make_room_for.new.store.hub.channels (objects_in c.make_room_for.new.store.objects) ≡ world_at store = same_world store c.make_room_for.new.store c.make_room_for.ensures.kept.before in
+    let world : world_with c.make_room_for.new.store.hub.channels (objects_in c.make_room_for.new.store.objects) ≡ world_at store = same_world (record store { steps = c.plan_asked.new.steps }) c.make_room_for.new.store c.make_room_for.ensures.kept.before in
     let behind : StagesBehind (world_at store) (planned_writes p) old mid = subst (λ (w : World). StagesBehind w (planned_writes p) old mid) world c.in_ok-stage_planned.ensures.staged in
     record {
       plan = λ t here.
@@ -64,3 +64,26 @@ returns-clause-planned c =
           let is : v ≡ t = same_is v t (sym (get_set mid c.args.at s v at) ∙ here) in
           subst (λ (x : State). reply_count p ≤ x.mail.spare) is (subst (λ (n : ℕ). n ≤ v.mail.spare) c.reply_count.ensures c.in_ok-reserve.ensures.room);
     }
+
+pub returns-clause-room : goal.returns-clause-room
+returns-clause-room c =
+    let store = c.args.store.now in
+    let room = c.make_room_for.new.store in
+    roomier store (record store { steps = c.plan_asked.new.steps }) room (record room { steps = c.stage_planned.new.steps }) refl c.make_room_for.ensures.kept refl
+
+pub returns-in_err-reserve-clause-room : goal.returns-in_err-reserve-clause-room
+returns-in_err-reserve-clause-room c =
+    let store = c.args.store.now in
+    let room = c.make_room_for.new.store in
+    roomier store (record store { steps = c.plan_asked.new.steps }) room (record room { steps = c.stage_planned.new.steps }) refl c.make_room_for.ensures.kept refl
+
+pub returns-in_err-stage_planned-clause-room : goal.returns-in_err-stage_planned-clause-room
+returns-in_err-stage_planned-clause-room c =
+    let store = c.args.store.now in
+    let room = c.make_room_for.new.store in
+    roomier store (record store { steps = c.plan_asked.new.steps }) room (record room { steps = c.stage_planned.new.steps }) refl c.make_room_for.ensures.kept refl
+
+pub returns-in_err-make_room_for-clause-room : goal.returns-in_err-make_room_for-clause-room
+returns-in_err-make_room_for-clause-room c =
+    let store = c.args.store.now in
+    roomier store (record store { steps = c.plan_asked.new.steps }) c.make_room_for.new.store c.make_room_for.new.store refl c.make_room_for.ensures.kept refl

@@ -12,11 +12,11 @@ use Rattle.tile_core.proofs.requests.plan_asked.Goals as goal
 
 pub returns-in_ok-plan_broken-in-Broken : goal.returns-in_ok-plan_broken-in-Broken
 returns-in_ok-plan_broken-in-Broken c =
-    let os = objects_in c.args.objects.now in
-    let cs = c.args.hub.now.channels in
+    let os = objects_in c.args.context.objects.now in
+    let cs = c.args.context.hub.now.channels in
     let w = world_with cs os in
-    let held = c.args.subs.now in
+    let held = c.args.context.subs.now in
     let p = c.in_ok-plan_broken-in-Broken.field-0 in
-    let light : c.args.total + channels_weight cs ≤ max_weight = omega (arith, c.requires.light, c.requires.channels) in
-    subst (λ (a : Asked). IsPlanned w c.args.total held (effect_of_asked w c.args.now held a) (Objects p)) (sym c.in-Broken.is)
-    (still_planned cs os c.args.total c.requires.kept light held (ends_with (broken_reply c.in-Broken.fault)) p refl c.in_ok-plan_broken-in-Broken.ensures)
+    let light : c.args.context.total + channels_weight cs ≤ max_weight = omega (arith, c.requires.context.light, c.requires.context.channels) in
+    subst (λ (a : Asked). IsPlanned w c.args.context.total held (effect_of_asked w c.args.context.now held a) (Objects p)) (sym c.in-Broken.is)
+    (still_planned cs os c.args.context.total c.requires.context.kept light held (ends_with (broken_reply c.in-Broken.fault)) p refl c.in_ok-plan_broken-in-Broken.ensures)

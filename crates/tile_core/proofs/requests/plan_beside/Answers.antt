@@ -13,10 +13,16 @@ beside_channels-requires-clause-plan_light c = c.in_ok-plan.ensures.light
 
 pub returns : goal.returns
 returns c = λ (cs : List Channel) (held : List Sub) weighed.
-    let os = objects_in c.args.objects.now in
-    let e = effect (world_of os) c.args.now [] c.args.command in
+    let os = objects_in c.args.context.objects.now in
+    let e = effect (world_of os) c.args.context.now [] c.args.command in
     let both = c.in_ok-plan-2.ensures cs e weighed c.in_ok-plan.ensures in
     let passed = c.if-not-is_counted.false in
     let counted : c.is_counted.result ≡ true = grind arith in
-    let is = beside cs os c.args.total c.requires.kept (omega (arith, c.requires.light, weighed)) c.args.now c.args.command c.requires.of_objects (c.is_counted.ensures counted) in
+    let is = beside cs os c.args.context.total c.requires.context.kept (omega (arith, c.requires.context.light, weighed)) c.args.context.now c.args.command c.requires.of_objects (c.is_counted.ensures counted) in
     (subst (λ (f : Effect). IsPlan os f c.in_ok-plan-2.plan) (sym is) both.0, both.1)
+
+pub plan_command-requires-clause-kept : goal.plan_command-requires-clause-kept
+plan_command-requires-clause-kept c = c.requires.context.kept
+
+pub plan_command-requires-clause-moment : goal.plan_command-requires-clause-moment
+plan_command-requires-clause-moment c = c.requires.context.moment

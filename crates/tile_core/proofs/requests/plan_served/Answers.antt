@@ -9,10 +9,10 @@ use Rattle.tile_core.proofs.requests.plan_served.Goals as goal
 
 pub returns-then-is_refused : goal.returns-then-is_refused
 returns-then-is_refused c =
-    let os = objects_in c.args.objects.now in
-    let cs = c.args.hub.now.channels in
-    says_planned cs os c.args.total c.requires.kept (omega (arith, c.requires.light, c.requires.channels)) c.args.subs.now _ (refusal_reply refusal.Subscribed) c.in_ok-refusal.refusal
-    (kept_out (world_with cs os) c.args.now c.args.subs.now c.args.command (sym c.is_refused.ensures ∙ c.if-is_refused.true)) c.in_ok-refusal.ensures
+    let os = objects_in c.args.context.objects.now in
+    let cs = c.args.context.hub.now.channels in
+    says_planned cs os c.args.context.total c.requires.context.kept (omega (arith, c.requires.context.light, c.requires.context.channels)) c.args.context.subs.now _ (refusal_reply refusal.Subscribed) c.in_ok-refusal.refusal
+    (kept_out (world_with cs os) c.args.context.now c.args.context.subs.now c.args.command (sym c.is_refused.ensures ∙ c.if-is_refused.true)) c.in_ok-refusal.ensures
 
 pub plan_open-requires-clause-may_ask : goal.plan_open-requires-clause-may_ask
 plan_open-requires-clause-may_ask c = sym c.is_refused.ensures ∙ c.if-is_refused.false

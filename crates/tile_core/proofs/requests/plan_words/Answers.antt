@@ -28,12 +28,12 @@ plan_fault-requires-clause-short c =
 
 pub returns-in_ok-plan_fault-in-Err-Refused : goal.returns-in_ok-plan_fault-in-Err-Refused
 returns-in_ok-plan_fault-in-Err-Refused c =
-    let os = objects_in c.args.objects.now in
-    let cs = c.args.hub.now.channels in
+    let os = objects_in c.args.context.objects.now in
+    let cs = c.args.context.hub.now.channels in
     let w = world_with cs os in
     let fault = c.in-Err-Refused.fault in
     let p = c.in_ok-plan_fault-in-Err-Refused.field-0 in
     let refused : asks c.args.words.now ≡ Err fault = subst (λ (why : CommandFault). IfRefused why (λ fault. asks c.args.words.now ≡ Err fault)) c.in-Err-Refused.field-0-is c.in-Err-Refused.ensures.err in
-    let light : c.args.total + channels_weight cs ≤ max_weight = omega (arith, c.requires.light, c.requires.channels) in
-    subst (λ (r : Result Command WordFault). IsPlanned w c.args.total c.args.subs.now (effect_of_read w c.args.now c.args.subs.now r) (Objects p)) (sym refused)
-    (still_planned cs os c.args.total c.requires.kept light c.args.subs.now (says (fault_reply fault)) p refl c.in_ok-plan_fault-in-Err-Refused.ensures)
+    let light : c.args.context.total + channels_weight cs ≤ max_weight = omega (arith, c.requires.context.light, c.requires.context.channels) in
+    subst (λ (r : Result Command WordFault). IsPlanned w c.args.context.total c.args.context.subs.now (effect_of_read w c.args.context.now c.args.context.subs.now r) (Objects p)) (sym refused)
+    (still_planned cs os c.args.context.total c.requires.context.kept light c.args.context.subs.now (says (fault_reply fault)) p refl c.in_ok-plan_fault-in-Err-Refused.ensures)

@@ -7,5 +7,5 @@ use Rattle.tile_core.proofs.searches.plan_given.Goals as goal
 
 pub returns : goal.returns
 returns c =
-    answers_ever (objects_in c.args.objects.now) c.args.total c.requires.kept _ _ c.plan_over.result refl c.plan_over.ensures
-    _ (λ (now : ℕ). searched (world_in c.args.objects.now) now c.args.key.now c.args.query c.args.area)
+    answers_ever (objects_in c.args.context.objects.now) c.args.context.total c.requires.kept _ _ c.plan_over.result refl c.plan_over.ensures
+    _ (λ (now : ℕ). searched (world_in c.args.context.objects.now) now c.args.key.now c.args.query c.args.area)

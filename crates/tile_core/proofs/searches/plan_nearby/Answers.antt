@@ -10,11 +10,11 @@ use Rattle.tile_core.proofs.searches.plan_nearby.Goals as goal
 pub returns-in-Some : goal.returns-in-Some
 returns-in-Some c =
     let q = c.args.query.now in
-    answers_ever (objects_in c.args.objects.now) c.args.total c.requires.kept _ _ c.plan_near_page.result (ap (λ os. page_reply q (near_matches q c.args.at c.args.reach os)) c.in-Some.ensures.some) c.plan_near_page.ensures
-    _ (λ (now : ℕ). neared (world_in c.args.objects.now) now c.args.key.now q c.args.at c.args.reach)
+    answers_ever (objects_in c.args.context.objects.now) c.args.context.total c.requires.kept _ _ c.plan_near_page.result (ap (λ os. page_reply q (near_matches q c.args.at c.args.reach os)) c.in-Some.ensures.some) c.plan_near_page.ensures
+    _ (λ (now : ℕ). neared (world_in c.args.context.objects.now) now c.args.key.now q c.args.at c.args.reach)
 
 pub returns-in-None : goal.returns-in-None
 returns-in-None c =
     let q = c.args.query.now in
-    answers_ever (objects_in c.args.objects.now) c.args.total c.requires.kept _ _ c.plan_near_page-in-None-2.result (ap (λ os. page_reply q (near_matches q c.args.at c.args.reach os)) (c.new.ensures ∙ sym c.in-None.ensures.none)) c.plan_near_page-in-None-2.ensures
-    _ (λ (now : ℕ). neared (world_in c.args.objects.now) now c.args.key.now q c.args.at c.args.reach)
+    answers_ever (objects_in c.args.context.objects.now) c.args.context.total c.requires.kept _ _ c.plan_near_page-in-None-2.result (ap (λ os. page_reply q (near_matches q c.args.at c.args.reach os)) (c.new.ensures ∙ sym c.in-None.ensures.none)) c.plan_near_page-in-None-2.ensures
+    _ (λ (now : ℕ). neared (world_in c.args.context.objects.now) now c.args.key.now q c.args.at c.args.reach)

@@ -12,10 +12,10 @@ use Rattle.tile_core.proofs.searches.plan_over.Goals as goal
 
 pub returns-in-Some : goal.returns-in-Some
 returns-in-Some c =
-    subst (λ (q : Query). IfOk c.plan_page.result (Says (within_reply (says (page_reply q (matches q (objects_of (world_in c.args.objects.now) c.args.key.now))))) c.args.total)) c.query_over-query.ensures
-    (subst (λ (os : List Object). IfOk c.plan_page.result (Says (within_reply (says (page_reply c.query_over-query.result (matches c.query_over-query.result os)))) c.args.total)) c.in-Some.ensures.some c.plan_page.ensures)
+    subst (λ (q : Query). IfOk c.plan_page.result (Says (within_reply (says (page_reply q (matches q (objects_of (world_in c.args.context.objects.now) c.args.key.now))))) c.args.context.total)) c.query_over-query.ensures
+    (subst (λ (os : List Object). IfOk c.plan_page.result (Says (within_reply (says (page_reply c.query_over-query.result (matches c.query_over-query.result os)))) c.args.context.total)) c.in-Some.ensures.some c.plan_page.ensures)
 
 pub returns : goal.returns
 returns c =
-    subst (λ (q : Query). IfOk c.plan_page-in-None-2.result (Says (within_reply (says (page_reply q (matches q (objects_of (world_in c.args.objects.now) c.args.key.now))))) c.args.total)) c.query_over-query.ensures
-    (subst (λ (os : List Object). IfOk c.plan_page-in-None-2.result (Says (within_reply (says (page_reply c.query_over-query.result (matches c.query_over-query.result os)))) c.args.total)) (c.new.ensures ∙ sym c.in-None.ensures.none) c.plan_page-in-None-2.ensures)
+    subst (λ (q : Query). IfOk c.plan_page-in-None-2.result (Says (within_reply (says (page_reply q (matches q (objects_of (world_in c.args.context.objects.now) c.args.key.now))))) c.args.context.total)) c.query_over-query.ensures
+    (subst (λ (os : List Object). IfOk c.plan_page-in-None-2.result (Says (within_reply (says (page_reply c.query_over-query.result (matches c.query_over-query.result os)))) c.args.context.total)) (c.new.ensures ∙ sym c.in-None.ensures.none) c.plan_page-in-None-2.ensures)

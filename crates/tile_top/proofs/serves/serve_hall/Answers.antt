@@ -1,7 +1,7 @@
 use denote.Param.Send.{sendable}
 use Rattle.std.proofs.Crossing.{crosses}
 use Rattle.atomic_table.proofs.shared.Seat.TheSendSync as seat
-use Rattle.tile_top.proofs.Crosses.{hall_core_send, shared_hall_send, shared_hall_sync}
+use Rattle.shared_hall.proofs.Crosses.{hall_core_send, shared_hall_send, shared_hall_sync}
 use Rattle.tile_top.proofs.serves.serve_hall.Goals as goal
 
 pub serve_links-status-requires-send-H : goal.serve_links-status-requires-send-H

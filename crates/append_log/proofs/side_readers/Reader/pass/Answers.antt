@@ -14,7 +14,7 @@ returns-then-n-saturating_sub-clause-gate c generation batches bytes gate count 
     let s = c.args.self.now in
     let head = c.args.head.now in
     let whole : c.args.count ≡ 9 = omega arith in
-    inr (too_long generation batches s.len s.at c.saturating_add-place.result c.from_be_bytes-n.result head bytes gate s.short (omega (arith, count, whole)) (ap (λ (j : ℕ). take j head) (sym whole) ∙ same ∙ ap (λ (j : ℕ). take j (drop s.at bytes)) whole)
+    inr (too_long generation batches s.len s.at c.saturating_add-place.result c.from_be_bytes-n.result head bytes gate (omega (arith, count, whole)) (ap (λ (j : ℕ). take j head) (sym whole) ∙ same ∙ ap (λ (j : ℕ). take j (drop s.at bytes)) whole)
     c.told-head c.if-head-ne1.false (c.from_be_bytes-n.ensures ∙ ap (λ (l : List ℕ). from_be_bytes w64 l) (nine head c.told-head)) (omega (arith, c.if-n-saturating_sub.true, c.saturating_sub.ensures, c.saturating_add-from.ensures, gate.whole, count, whole)) (omega (arith, c.saturating_add-place.ensures, gate.whole, count, whole)))
 
 pub returns-clause-gate : goal.returns-clause-gate

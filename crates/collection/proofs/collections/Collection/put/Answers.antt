@@ -7,20 +7,20 @@ use Rattle.collection.proofs.Rooms.{none_any, room_left}
 use Rattle.collection.proofs.collections.Collection.put.Goals as goal
 
 pub exchange-requires-clause-by_id : goal.exchange-requires-clause-by_id
-exchange-requires-clause-by_id c =
+exchange-requires-clause-by_id g c =
     let items = c.self.inside.objects.objects in
     let x = c.args.object in
     subst (λ (l : List Object). are_by_id l ≡ true) (sym (put_held x items c.in-Ok.at c.in-Ok.ensures.held)) (put_by_id x items c.self.invariant)
 
 pub invariant_of-self : goal.invariant_of-self
-invariant_of-self c =
+invariant_of-self g c =
     let items = c.self.inside.objects.objects in
     let x = c.args.object in
     let made = c.exchange.ensures.objects ∙ put_held x items c.in-Ok.at c.in-Ok.ensures.held in
     subst (λ (l : List Object). are_by_id l ≡ true) (sym made) (put_by_id x items c.self.invariant)
 
 pub insert-requires-clause-room : goal.insert-requires-clause-room
-insert-requires-clause-room c =
+insert-requires-clause-room g c =
     let id = c.args.object.id in
     let items = c.self.inside.objects.objects in
     let free = c.in-Err.ensures.free in
@@ -29,23 +29,23 @@ insert-requires-clause-room c =
     room_left c.self.inside.objects.spare (list_any (has_id id) items) room none
 
 pub insert-requires-clause-by_id : goal.insert-requires-clause-by_id
-insert-requires-clause-by_id c =
+insert-requires-clause-by_id g c =
     let items = c.self.inside.objects.objects in
     let x = c.args.object in
     subst (λ (l : List Object). are_by_id l ≡ true) (sym (put_free x items c.in-Err.at c.in-Err.ensures.free)) (put_by_id x items c.self.invariant)
 
 pub invariant_of-self-in-Err : goal.invariant_of-self-in-Err
-invariant_of-self-in-Err c =
+invariant_of-self-in-Err g c =
     let items = c.self.inside.objects.objects in
     let x = c.args.object in
     let made = c.insert.ensures.objects ∙ put_free x items c.in-Err.at c.in-Err.ensures.free in
     subst (λ (l : List Object). are_by_id l ≡ true) (sym made) (put_by_id x items c.self.invariant)
 
 pub returns-in-Ok-clause-objects : goal.returns-in-Ok-clause-objects
-returns-in-Ok-clause-objects c = rw (← c.self.view_is) (c.exchange.ensures.objects ∙ put_held c.args.object c.self.inside.objects.objects c.in-Ok.at c.in-Ok.ensures.held)
+returns-in-Ok-clause-objects g c = rw (← c.self.view_is) (c.exchange.ensures.objects ∙ put_held c.args.object c.self.inside.objects.objects c.in-Ok.at c.in-Ok.ensures.held)
 
 pub returns-in-Ok-clause-replaced : goal.returns-in-Ok-clause-replaced
-returns-in-Ok-clause-replaced c =
+returns-in-Ok-clause-replaced g c =
     let id = c.args.object.id in
     let items = c.self.inside.objects.objects in
     let x = c.exchange.result in
@@ -54,10 +54,10 @@ returns-in-Ok-clause-replaced c =
     rw (← c.self.view_is) (sym (found_held id items c.in-Ok.at x held is))
 
 pub returns-in-Err-clause-objects : goal.returns-in-Err-clause-objects
-returns-in-Err-clause-objects c = rw (← c.self.view_is) (c.insert.ensures.objects ∙ put_free c.args.object c.self.inside.objects.objects c.in-Err.at c.in-Err.ensures.free)
+returns-in-Err-clause-objects g c = rw (← c.self.view_is) (c.insert.ensures.objects ∙ put_free c.args.object c.self.inside.objects.objects c.in-Err.at c.in-Err.ensures.free)
 
 pub returns-in-Err-clause-replaced : goal.returns-in-Err-clause-replaced
-returns-in-Err-clause-replaced c =
+returns-in-Err-clause-replaced g c =
     let id = c.args.object.id in
     let items = c.self.inside.objects.objects in
     let free = c.in-Err.ensures.free in

@@ -11,15 +11,16 @@ use Rattle.collection.proofs.Numbers.{among_at}
 use Rattle.collection.proofs.Slots.{within_keys, stored_at, get_at, has_one, set_at, slotted_set}
 use Rattle.collection.proofs.Dues.{AreOthers, others_taken, others_kept, others_apart, others_fewer, dues_put, listed}
 use Rattle.collection.proofs.InTree.{pair_there, tree_set}
+use Rattle.collection.proofs.Cheap.{as_many}
 use Rattle.collection.proofs.object_lists.ObjectList.exchange.Goals as goal
 
 pub at-key-requires : goal.at-key-requires
-at-key-requires c =
+at-key-requires g c =
     let within = rw (← c.self.view_is) at c.requires.within in
     within_keys (get c.self.inside.slots) c.self.inside.keys.items c.args.i c.self.invariant.slotted.stored within
 
 pub take_due-requires-clause-there : goal.take_due-requires-clause-there
-take_due-requires-clause-there c =
+take_due-requires-clause-there g c =
     let f = get c.self.inside.slots in
     let keys = c.self.inside.keys.items in
     let key = c.at-key.result in
@@ -28,7 +29,7 @@ take_due-requires-clause-there c =
     listed f keys c.self.inside.dues.items key c.self.invariant.expiring (among_at key keys c.args.i 0 lt c.at-key.ensures)
 
 pub remove-old-requires : goal.remove-old-requires
-remove-old-requires c =
+remove-old-requires g c =
     let f = get c.self.inside.slots in
     let keys = c.self.inside.keys.items in
     let within = rw (← c.self.view_is) at c.requires.within in
@@ -36,7 +37,7 @@ remove-old-requires c =
     has_one f c.at-key.result (ap (λ n. is_some (f n)) c.at-key.ensures ∙ stored_at f keys c.args.i 0 lt c.self.invariant.slotted.stored)
 
 pub put_due-requires-clause-order : goal.put_due-requires-clause-order
-put_due-requires-clause-order c =
+put_due-requires-clause-order g c =
     let f = get c.self.inside.slots in
     let g = get c.insert_reserved.new.self in
     let key = c.at-key.result in
@@ -48,7 +49,7 @@ put_due-requires-clause-order c =
     (others_kept f g key others keys dues o).order
 
 pub put_due-requires-clause-apart : goal.put_due-requires-clause-apart
-put_due-requires-clause-apart c =
+put_due-requires-clause-apart g c =
     let f = get c.self.inside.slots in
     let g = get c.insert_reserved.new.self in
     let key = c.at-key.result in
@@ -67,7 +68,7 @@ put_due-requires-clause-apart c =
     others_apart g keys key dues kept slotted.stored (subst (λ (l : List Object). are_by_id l ≡ true) (sym objects) asc) (among_at key keys c.args.i 0 lt c.at-key.ensures)
 
 pub put_due-requires-clause-room : goal.put_due-requires-clause-room
-put_due-requires-clause-room c =
+put_due-requires-clause-room g c =
     let f = get c.self.inside.slots in
     let key = c.at-key.result in
     let keys = c.self.inside.keys.items in
@@ -79,14 +80,14 @@ put_due-requires-clause-room c =
     λ e. omega (arith, fewer, c.self.invariant.room, c.take_due.ensures.room)
 
 pub move_box-requires-clause-there : goal.move_box-requires-clause-there
-move_box-requires-clause-there c =
+move_box-requires-clause-there g c =
     let g = get c.insert_reserved.new.self in
     let key = c.at-key.result in
     let same : c.insert_reserved.result ≡ key = c.insert_reserved.ensures.key ∙ c.remove-old.ensures.key_is_next in
     has_one g key (ap (λ (n : ℕ). is_some (g n)) (sym same) ∙ ap is_some c.insert_reserved.ensures.updates.changed)
 
 pub move_box-requires-clause-boxed : goal.move_box-requires-clause-boxed
-move_box-requires-clause-boxed c =
+move_box-requires-clause-boxed g c =
     let f = get c.self.inside.slots in
     let keys = c.self.inside.keys.items in
     let key = c.at-key.result in
@@ -96,7 +97,7 @@ move_box-requires-clause-boxed c =
     subst (Contains c.self.inside.boxes.pairs) (sym was) (pair_there f keys c.self.inside.boxes.pairs key c.self.invariant.in_tree.boxed (among_at key keys c.args.i 0 lt c.at-key.ensures))
 
 pub invariant_of-self : goal.invariant_of-self
-invariant_of-self c =
+invariant_of-self g c =
     let f = get c.self.inside.slots in
     let g = get c.insert_reserved.new.self in
     let key = c.at-key.result in
@@ -118,7 +119,7 @@ invariant_of-self c =
     }
 
 pub returns-clause-objects : goal.returns-clause-objects
-returns-clause-objects c =
+returns-clause-objects g c =
     let f = get c.self.inside.slots in
     let g = get c.insert_reserved.new.self in
     let key = c.at-key.result in
@@ -131,9 +132,14 @@ returns-clause-objects c =
     rw (← c.self.view_is) (set_at f g key others c.args.object keys c.args.i 0 c.self.invariant.slotted.stored c.self.invariant.slotted.apart lt c.at-key.ensures new)
 
 pub returns-clause-taken : goal.returns-clause-taken
-returns-clause-taken c =
+returns-clause-taken g c =
     let f = get c.self.inside.slots in
     let keys = c.self.inside.keys.items in
     let within = rw (← c.self.view_is) at c.requires.within in
     let lt = within_keys f keys c.args.i c.self.invariant.slotted.stored within in
     rw (← c.self.view_is) (get_at f keys c.args.i 0 lt c.self.invariant.slotted.stored ∙ ap f (sym c.at-key.ensures) ∙ c.remove-old.ensures.value)
+
+pub returns-clause-cost : goal.returns-clause-cost
+returns-clause-cost g c =
+    let many = as_many (get c.self.inside.slots) c.self.inside.keys.items c.self.inside.boxes.pairs c.self.invariant.in_tree.boxed c.self.invariant.slotted.stored in
+    rw (← c.self.view_is, ← many) c.move_box.ensures.cost

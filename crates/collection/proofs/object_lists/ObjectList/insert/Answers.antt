@@ -9,16 +9,17 @@ use Rattle.collection.proofs.Numbers.{among_new}
 use Rattle.collection.proofs.Slots.{length_at, free_key, insert_at, slotted_insert}
 use Rattle.collection.proofs.Dues.{others_insert, others_kept, others_apart, others_fewer, dues_put}
 use Rattle.collection.proofs.InTree.{tree_insert}
+use Rattle.collection.proofs.Cheap.{as_many}
 use Rattle.collection.proofs.object_lists.ObjectList.insert.Goals as goal
 
 pub insert-requires-clause-within : goal.insert-requires-clause-within
-insert-requires-clause-within c =
+insert-requires-clause-within g c =
     let len = length_at (get c.self.inside.slots) c.self.inside.keys.items c.self.invariant.slotted.stored in
     let within = rw (← c.self.view_is) at c.requires.within in
     subst (λ (n : ℕ). c.args.i ≤ n) len within
 
 pub put_due-requires-clause-order : goal.put_due-requires-clause-order
-put_due-requires-clause-order c =
+put_due-requires-clause-order g c =
     let f = get c.self.inside.slots in
     let g = get c.insert_reserved-key.new.self in
     let key = c.insert_reserved-key.result in
@@ -27,7 +28,7 @@ put_due-requires-clause-order c =
     (others_kept f g key c.insert_reserved-key.ensures.updates.others (insert keys c.args.i key) c.self.inside.dues.items o).order
 
 pub put_due-requires-clause-apart : goal.put_due-requires-clause-apart
-put_due-requires-clause-apart c =
+put_due-requires-clause-apart g c =
     let f = get c.self.inside.slots in
     let g = get c.insert_reserved-key.new.self in
     let key = c.insert_reserved-key.result in
@@ -45,7 +46,7 @@ put_due-requires-clause-apart c =
     others_apart g (insert keys c.args.i key) key c.self.inside.dues.items kept slotted.stored (subst (λ (l : List Object). are_by_id l ≡ true) (sym objects) asc) (among_new key keys c.args.i)
 
 pub put_due-requires-clause-room : goal.put_due-requires-clause-room
-put_due-requires-clause-room c =
+put_due-requires-clause-room g c =
     let f = get c.self.inside.slots in
     let g = get c.insert_reserved-key.new.self in
     let key = c.insert_reserved-key.result in
@@ -59,7 +60,7 @@ put_due-requires-clause-room c =
     λ e. omega (arith, fewer, longer, room)
 
 pub invariant_of-self : goal.invariant_of-self
-invariant_of-self c =
+invariant_of-self g c =
     let f = get c.self.inside.slots in
     let g = get c.insert_reserved-key.new.self in
     let key = c.insert_reserved-key.result in
@@ -80,7 +81,7 @@ invariant_of-self c =
     subst (λ (l : List ℕ). AreKept g l c.put_due.new.dues c.put_box.new.boxes) (sym c.insert.ensures.items) made
 
 pub returns-clause-objects : goal.returns-clause-objects
-returns-clause-objects c =
+returns-clause-objects g c =
     let f = get c.self.inside.slots in
     let g = get c.insert_reserved-key.new.self in
     let key = c.insert_reserved-key.result in
@@ -90,3 +91,8 @@ returns-clause-objects c =
     let within = rw (← c.self.view_is) at c.requires.within in
     let le = subst (λ (n : ℕ). c.args.i ≤ n) (length_at f keys c.self.invariant.slotted.stored) within in
     rw (← c.self.view_is, c.insert.ensures.items) (insert_at f g key done.others c.args.object keys c.args.i c.self.invariant.slotted.stored none done.changed le)
+
+pub returns-clause-cost : goal.returns-clause-cost
+returns-clause-cost g c =
+    let many = as_many (get c.self.inside.slots) c.self.inside.keys.items c.self.inside.boxes.pairs c.self.invariant.in_tree.boxed c.self.invariant.slotted.stored in
+    rw (← c.self.view_is, ← many) c.put_box.ensures.cost

@@ -1,50 +1,44 @@
-use Rattle.std.proofs.Common.{◌≡◌, ◌∙◌, true, sym, subst, List}
-use Rattle.std.specs.Prelude.{Some}
-use Rattle.std.specs.List.{insert, slice_set}
+use Rattle.std.proofs.Common.{◌≡◌, ◌∙◌, ap, sym, subst}
+use Rattle.std.specs.Prelude.{Some, None, find, option_map}
 use Rattle.ordered_lists.specs.Lists.{put_in}
 use Rattle.fence_index.specs.declared.marks.Mark.{Mark}
-use Rattle.fence_index.specs.Marks.{Indexed, are_marks, mark_before, mark_of}
-use Rattle.fence_index.proofs.MarkOrder.{none_left, put_ascends, put_free, put_held, the_prepared}
+use Rattle.fence_index.specs.declared.ready.Ready.{Ready}
+use Rattle.fence_index.specs.Marks.{Indexed, is_twin, mark_before, mark_of}
+use Rattle.fence_index.specs.Numbered.{marks_of}
+use Rattle.fence_index.proofs.MarkOrder.{none_left}
+use Rattle.fence_index.proofs.Prepared.{is_ready, mark_is, none_prepared, none_there, put_again, still_ready}
 use Rattle.fence_index.proofs.indexes.FenceIndex.put.Goals as goal
 
+pub unreachable-requires : goal.unreachable-requires
+unreachable-requires c =
+    let asked = subst (λ (h : Indexed). h.prepared ≡ Some (mark_of c.args.channel.now)) (sym c.self.view_is) c.requires in
+    none_there c.self.inside.prepared (mark_of c.args.channel.now) (sym c.take.ensures.value ∙ c.in_default.is) asked
+
+pub put-requires-clause-absent : goal.put-requires-clause-absent
+put-requires-clause-absent c =
+    let m = mark_of c.args.channel.now in
+    let asked = subst (λ (h : Indexed). h.prepared ≡ Some m) (sym c.self.view_is) c.requires in
+    let is = mark_is c.self.inside.prepared c.in-Some.ready m (sym c.take.ensures.value ∙ c.in-Some.is) asked in
+    let left : find (is_twin m) (marks_of c.take_out.new.self.marks) ≡ None = ap (find (is_twin m)) c.take_out.ensures.marks ∙ none_left m (marks_of c.self.inside.list.marks) in
+    subst (λ (k : Mark). find (is_twin k) (marks_of c.take_out.new.self.marks) ≡ None) (sym is) left
+
+pub put-requires-clause-ready : goal.put-requires-clause-ready
+put-requires-clause-ready c =
+    let r = c.in-Some.ready in
+    still_ready c.self.inside.list c.take_out.new.self r.mark r.name r.boxes c.take_out.ensures.spare c.take_out.ensures.room
+    (is_ready c.self.inside.list c.self.inside.prepared r (sym c.take.ensures.value ∙ c.in-Some.is) c.self.invariant)
+
 pub invariant_of-self : goal.invariant_of-self
-invariant_of-self c =
-    let mark = mark_of c.args.channel.now in
-    let items = c.self.inside.marks.items in
-    let held = rw c.as_slice.ensures.value at c.in-Ok.ensures.held in
-    let prepared = subst (λ (h : Indexed). h.prepared ≡ Some mark) (sym c.self.view_is) c.requires in
-    let is : c.in-Some.mark ≡ mark = the_prepared c.take.result c.self.inside.prepared c.in-Some.mark mark c.in-Some.is c.take.ensures.value prepared in
-    let made = put_held mark items c.in-Ok.at held in
-    let sorted = subst (λ (l : List Mark). are_marks l ≡ true) (sym made) (put_ascends mark items c.self.invariant.0) in
-    (subst (λ (m : Mark). are_marks (slice_set items c.in-Ok.at m) ≡ true) (sym is) sorted, λ some. none_left c.take.new.self c.take.ensures.after some)
+invariant_of-self c = none_prepared c.put.new.self c.take.new.self c.take.ensures.after
 
-pub invariant_of-self-in-Err : goal.invariant_of-self-in-Err
-invariant_of-self-in-Err c =
-    let mark = mark_of c.args.channel.now in
-    let items = c.self.inside.marks.items in
-    let free = rw c.as_slice.ensures.value at c.in-Err.ensures.free in
-    let prepared = subst (λ (h : Indexed). h.prepared ≡ Some mark) (sym c.self.view_is) c.requires in
-    let is : c.in-Some.mark ≡ mark = the_prepared c.take.result c.self.inside.prepared c.in-Some.mark mark c.in-Some.is c.take.ensures.value prepared in
-    let made = put_free mark items c.in-Err.at free in
-    let sorted = subst (λ (l : List Mark). are_marks l ≡ true) (sym made) (put_ascends mark items c.self.invariant.0) in
-    let put = subst (λ (m : Mark). are_marks (insert items c.in-Err.at m) ≡ true) (sym is) sorted in
-    (subst (λ (l : List Mark). are_marks l ≡ true) (sym c.insert_reserved.ensures.items) put, λ some. none_left c.take.new.self c.take.ensures.after some)
+pub returns-clause-marks : goal.returns-clause-marks
+returns-clause-marks c =
+    let m = mark_of c.args.channel.now in
+    let old = marks_of c.self.inside.list.marks in
+    let asked = subst (λ (h : Indexed). h.prepared ≡ Some m) (sym c.self.view_is) c.requires in
+    let is = mark_is c.self.inside.prepared c.in-Some.ready m (sym c.take.ensures.value ∙ c.in-Some.is) asked in
+    let made = subst (λ (k : Mark). marks_of c.put.new.self.marks ≡ put_in mark_before k (marks_of c.take_out.new.self.marks)) is c.put.ensures in
+    rw (← c.self.view_is) (put_again m old (marks_of c.take_out.new.self.marks) (marks_of c.put.new.self.marks) c.take_out.ensures.sorted c.take_out.ensures.marks made)
 
-pub returns-in-Ok-clause-marks : goal.returns-in-Ok-clause-marks
-returns-in-Ok-clause-marks c =
-    let mark = mark_of c.args.channel.now in
-    let items = c.self.inside.marks.items in
-    let held = rw c.as_slice.ensures.value at c.in-Ok.ensures.held in
-    let prepared = subst (λ (h : Indexed). h.prepared ≡ Some mark) (sym c.self.view_is) c.requires in
-    let is : c.in-Some.mark ≡ mark = the_prepared c.take.result c.self.inside.prepared c.in-Some.mark mark c.in-Some.is c.take.ensures.value prepared in
-    rw (← c.self.view_is) (subst (λ (m : Mark). slice_set items c.in-Ok.at m ≡ put_in mark_before mark items) (sym is) (put_held mark items c.in-Ok.at held))
-
-pub returns-in-Err-clause-marks : goal.returns-in-Err-clause-marks
-returns-in-Err-clause-marks c =
-    let mark = mark_of c.args.channel.now in
-    let items = c.self.inside.marks.items in
-    let free = rw c.as_slice.ensures.value at c.in-Err.ensures.free in
-    let prepared = subst (λ (h : Indexed). h.prepared ≡ Some mark) (sym c.self.view_is) c.requires in
-    let is : c.in-Some.mark ≡ mark = the_prepared c.take.result c.self.inside.prepared c.in-Some.mark mark c.in-Some.is c.take.ensures.value prepared in
-    let made = subst (λ (m : Mark). insert items c.in-Err.at m ≡ put_in mark_before mark items) (sym is) (put_free mark items c.in-Err.at free) in
-    rw (← c.self.view_is) (c.insert_reserved.ensures.items ∙ made)
+pub returns-clause-prepared : goal.returns-clause-prepared
+returns-clause-prepared c = ap (option_map (λ (r : Ready). r.mark)) c.take.ensures.after

@@ -9,7 +9,7 @@ use Rattle.keyspace.proofs.KeyLists.{same_keys}
 use Rattle.keyspace.proofs.keyspaces.Keyspace.put.Goals as goal
 
 pub put-old-requires : goal.put-old-requires
-put-old-requires c =
+put-old-requires g c =
     let o = c.args.object in
     let xs = c.self.inside.collections.items in
     let e = c.index_mut.result.now in
@@ -18,7 +18,7 @@ put-old-requires c =
     room_in o xs c.in-Ok.at e s (subst (λ (l : List Entry). has_room l o ≡ true) (sym c.self.view_is) c.requires.room)
 
 pub invariant_of-self : goal.invariant_of-self
-invariant_of-self c =
+invariant_of-self g c =
     let o = c.args.object in
     let xs = c.self.inside.collections.items in
     let at = c.in-Ok.at in
@@ -33,14 +33,14 @@ invariant_of-self c =
     (set_entries o.key xs at e s f held.within (c.put-old.ensures.key ∙ s.key_is) here, count)
 
 pub unreachable-requires : goal.unreachable-requires
-unreachable-requires c =
+unreachable-requires g c =
     let o = c.args.object in
     let xs = c.self.inside.collections.items in
     let free = rw c.as_slice.ensures.value at c.in-Err.ensures.free in
     room_not o xs c.in-Err.field-0 (lacks o.key xs c.in-Err.field-0 c.self.invariant.0 free) (subst (λ (l : List Entry). has_room l o ≡ true) (sym c.self.view_is) c.requires.room)
 
 pub returns-clause-objects : goal.returns-clause-objects
-returns-clause-objects c =
+returns-clause-objects g c =
     let o = c.args.object in
     let xs = c.self.inside.collections.items in
     let at = c.in-Ok.at in
@@ -50,7 +50,7 @@ returns-clause-objects c =
     rw (← c.self.view_is) (put_there o.key xs at e s o c.put-old.new.self refl c.put-old.ensures.objects)
 
 pub returns-clause-replaced : goal.returns-clause-replaced
-returns-clause-replaced c =
+returns-clause-replaced g c =
     let o = c.args.object in
     let xs = c.self.inside.collections.items in
     let e = c.index_mut.result.now in
@@ -59,7 +59,7 @@ returns-clause-replaced c =
     rw (← c.self.view_is) (c.put-old.ensures.replaced ∙ sym (found_in o.key xs c.in-Ok.at e s o.id))
 
 pub returns-clause-len : goal.returns-clause-len
-returns-clause-len c =
+returns-clause-len g c =
     let o = c.args.object in
     let xs = c.self.inside.collections.items in
     let at = c.in-Ok.at in
@@ -75,7 +75,7 @@ returns-clause-len c =
     at_most_one n m e f t p q = omega arith
 
 pub returns-clause-kept : goal.returns-clause-kept
-returns-clause-kept c =
+returns-clause-kept g c =
     let o = c.args.object in
     let xs = c.self.inside.collections.items in
     let e = c.index_mut.result.now in
@@ -84,7 +84,7 @@ returns-clause-kept c =
     rw (← c.self.view_is) (kept_put o.key xs c.in-Ok.at e c.put-old.new.self s (c.put-old.ensures.key ∙ s.key_is) c.put-old.result c.put-old.ensures.spare)
 
 pub returns-clause-keys : goal.returns-clause-keys
-returns-clause-keys c =
+returns-clause-keys g c =
     let o = c.args.object in
     let xs = c.self.inside.collections.items in
     let e = c.index_mut.result.now in

@@ -13,18 +13,18 @@ use Rattle.keyspace.proofs.KeyLists.{same_keys}
 use Rattle.keyspace.proofs.keyspaces.Keyspace.take_due.Goals as goal
 
 pub returns-then-due-now-clause-none : goal.returns-then-due-now-clause-none
-returns-then-due-now-clause-none c =
+returns-then-due-now-clause-none g c =
     let xs = c.self.inside.collections.items in
     let s = rw c.as_slice.ensures.value at c.in-Some.ensures in
     rw (← c.self.view_is) (nothing_due_yet c.args.now c.in-Some.due (objects_in xs) c.if-due-now.true (least_found xs c.in-Some.at c.in-Some.due s))
 
 pub returns-in-None-clause-none : goal.returns-in-None-clause-none
-returns-in-None-clause-none c =
+returns-in-None-clause-none g c =
     let none = rw c.as_slice.ensures.value at c.in-None.ensures in
     rw (← c.self.view_is) (nothing_due_ever c.args.now (objects_in c.self.inside.collections.items) none)
 
 pub invariant_of-self : goal.invariant_of-self
-invariant_of-self c =
+invariant_of-self g c =
     let xs = c.self.inside.collections.items in
     let at = c.in-Some.at in
     let due = c.in-Some.due in
@@ -44,7 +44,7 @@ invariant_of-self c =
     count_less count m n p q = omega arith
 
 pub returns-else-due-now-clause-first : goal.returns-else-due-now-clause-first
-returns-else-due-now-clause-first c =
+returns-else-due-now-clause-first g c =
     let xs = c.self.inside.collections.items in
     let at = c.in-Some.at in
     let due = c.in-Some.due in
@@ -56,7 +56,7 @@ returns-else-due-now-clause-first c =
     rw (← c.self.view_is) (expires_first due (objects_in xs) (objects_in (slice_set xs at f)) o all (entries_sorted xs c.self.invariant.0) c.args.now c.if-due-now.false)
 
 pub returns-else-due-now-clause-taken : goal.returns-else-due-now-clause-taken
-returns-else-due-now-clause-taken c =
+returns-else-due-now-clause-taken g c =
     let xs = c.self.inside.collections.items in
     let at = c.in-Some.at in
     let due = c.in-Some.due in
@@ -68,7 +68,7 @@ returns-else-due-now-clause-taken c =
     rw (← c.self.view_is) (found_first due (objects_in xs) (objects_in (slice_set xs at f)) o all (entries_sorted xs c.self.invariant.0))
 
 pub returns-else-due-now-clause-objects : goal.returns-else-due-now-clause-objects
-returns-else-due-now-clause-objects c =
+returns-else-due-now-clause-objects g c =
     let xs = c.self.inside.collections.items in
     let at = c.in-Some.at in
     let due = c.in-Some.due in
@@ -80,7 +80,7 @@ returns-else-due-now-clause-objects c =
     rw (← c.self.view_is) (left_first due (objects_in xs) (objects_in (slice_set xs at f)) o all (entries_sorted xs c.self.invariant.0))
 
 pub returns-else-due-now-clause-kept : goal.returns-else-due-now-clause-kept
-returns-else-due-now-clause-kept c =
+returns-else-due-now-clause-kept g c =
     let xs = c.self.inside.collections.items in
     let at = c.in-Some.at in
     let due = c.in-Some.due in
@@ -94,7 +94,7 @@ returns-else-due-now-clause-kept c =
     rw (← c.self.view_is) (subst (λ (n : Bytes). (k : Bytes) → room_for xs k + (if same n k then 1 else 0) ≤ room_for (slice_set xs at f) k) k kept)
 
 pub returns-else-due-now-clause-keys : goal.returns-else-due-now-clause-keys
-returns-else-due-now-clause-keys c =
+returns-else-due-now-clause-keys g c =
     let xs = c.self.inside.collections.items in
     let at = c.in-Some.at in
     let due = c.in-Some.due in

@@ -10,7 +10,7 @@ use Rattle.keyspace.proofs.KeyLists.{same_keys}
 use Rattle.keyspace.proofs.keyspaces.Keyspace.take_out.Goals as goal
 
 pub overflow_sub-self : goal.overflow_sub-self
-overflow_sub-self c =
+overflow_sub-self g c =
     let key = c.args.key.now in
     let xs = c.self.inside.collections.items in
     let e = c.index_mut.result.now in
@@ -20,7 +20,7 @@ overflow_sub-self c =
     count_covers c.self.inside.count c.from.result (length (objects_in xs)) (length e.objects) _ c.take_out-taken.result c.self.invariant.1 (from_some c.from.result c.is_some.result c.take_out-taken.result c.from.ensures c.is_some.ensures) (at_most_all key xs c.in-Ok.at e s) less
 
 pub invariant_of-self : goal.invariant_of-self
-invariant_of-self c =
+invariant_of-self g c =
     let key = c.args.key.now in
     let xs = c.self.inside.collections.items in
     let at = c.in-Ok.at in
@@ -35,7 +35,7 @@ invariant_of-self c =
     (set_entries key xs at e s f held.within (c.take_out-taken.ensures.key ∙ s.key_is) here, count)
 
 pub returns-in-Ok-clause-objects : goal.returns-in-Ok-clause-objects
-returns-in-Ok-clause-objects c =
+returns-in-Ok-clause-objects g c =
     let key = c.args.key.now in
     let xs = c.self.inside.collections.items in
     let e = c.index_mut.result.now in
@@ -44,7 +44,7 @@ returns-in-Ok-clause-objects c =
     rw (← c.self.view_is) (left_in key xs c.in-Ok.at e s c.args.id.now c.take_out-taken.new.self c.take_out-taken.ensures.objects)
 
 pub returns-in-Ok-clause-taken : goal.returns-in-Ok-clause-taken
-returns-in-Ok-clause-taken c =
+returns-in-Ok-clause-taken g c =
     let key = c.args.key.now in
     let xs = c.self.inside.collections.items in
     let e = c.index_mut.result.now in
@@ -53,7 +53,7 @@ returns-in-Ok-clause-taken c =
     rw (← c.self.view_is) (c.take_out-taken.ensures.taken ∙ sym (found_in key xs c.in-Ok.at e s c.args.id.now))
 
 pub returns-in-Ok-clause-kept : goal.returns-in-Ok-clause-kept
-returns-in-Ok-clause-kept c =
+returns-in-Ok-clause-kept g c =
     let key = c.args.key.now in
     let xs = c.self.inside.collections.items in
     let e = c.index_mut.result.now in
@@ -62,21 +62,21 @@ returns-in-Ok-clause-kept c =
     rw (← c.self.view_is) (kept_taken key xs c.in-Ok.at e c.take_out-taken.new.self s (c.take_out-taken.ensures.key ∙ s.key_is) (is_some c.take_out-taken.result) c.take_out-taken.ensures.spare)
 
 pub returns-in-Err-clause-objects : goal.returns-in-Err-clause-objects
-returns-in-Err-clause-objects c =
+returns-in-Err-clause-objects g c =
     let key = c.args.key.now in
     let xs = c.self.inside.collections.items in
     let free = rw c.as_slice.ensures.value at c.in-Err.ensures.free in
     rw (← c.self.view_is) (all_left key xs c.in-Err.field-0 (lacks key xs c.in-Err.field-0 c.self.invariant.0 free) c.args.id.now)
 
 pub returns-in-Err-clause-taken : goal.returns-in-Err-clause-taken
-returns-in-Err-clause-taken c =
+returns-in-Err-clause-taken g c =
     let key = c.args.key.now in
     let xs = c.self.inside.collections.items in
     let free = rw c.as_slice.ensures.value at c.in-Err.ensures.free in
     rw (← c.self.view_is) (sym (found_not key xs c.in-Err.field-0 (lacks key xs c.in-Err.field-0 c.self.invariant.0 free) c.args.id.now))
 
 pub returns-in-Ok-clause-keys : goal.returns-in-Ok-clause-keys
-returns-in-Ok-clause-keys c =
+returns-in-Ok-clause-keys g c =
     let key = c.args.key.now in
     let xs = c.self.inside.collections.items in
     let e = c.index_mut.result.now in

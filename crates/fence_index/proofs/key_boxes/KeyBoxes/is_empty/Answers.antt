@@ -1,0 +1,13 @@
+use Rattle.std.proofs.Common.{◌≡◌, ◌∙◌, [], true≢false, sym}
+use Rattle.fence_index.specs.Boxed.{part}
+use Rattle.fence_index.proofs.KeyWeights.{each_reason}
+use Rattle.fence_index.proofs.key_boxes.KeyBoxes.is_empty.Goals.{then-is_empty, else-is_empty}
+use Rattle.fence_index.proofs.key_boxes.KeyBoxes.is_empty.Goals as goal
+
+pub returns-then-is_empty-2 : goal.returns-then-is_empty-2
+returns-then-is_empty-2 c = λ empty.
+    elim c.if-is_empty.branch [
+      | then-is_empty w ↦ each_reason (λ r. (part r c.args.self.now).pairs ≡ []) (c.is_empty.ensures w.if-is_empty.true)
+          (w.is_empty-then-is_empty.ensures (sym w.value-is ∙ c.if-is_empty-2.true)) (c.is_empty-then-is_empty-2.ensures empty)
+      | else-is_empty w ↦ absurd (true≢false (sym c.if-is_empty-2.true ∙ w.value-is ∙ w.if-is_empty.false))
+    ]

@@ -1,0 +1,4 @@
+pub mod Steps
+pub mod Looking
+pub mod Found
+pub mod Opens

@@ -1,0 +1,9 @@
+pub mod Logs
+pub mod Keeping
+pub mod Standing
+pub mod Starts
+pub mod KeptLaws
+pub mod Openings
+pub mod Replaying
+pub mod Opened
+pub mod Journals

@@ -1,0 +1,115 @@
+-- Which side is in use, beside what stands on the other one.
+use Rattle.std.specs.Prelude.{nat_lt, if◌then◌else◌}
+use Rattle.std.proofs.Common.{◌≡◌, ◌⊎◌, ◌+◌, ◌≤◌, ◌<◌, ◌∙◌, ◌==◌, ◌||◌, ℕ, Bool, true, false, not, List, [], ◌∷◌, length, refl, sym, ap, subst, inl, inr, arith, eqb-true}
+use Rattle.std.proofs.lemmas.Bool.Decides.{nat_tests}
+use Rattle.byte_text.specs.Names.{Bytes}
+use Rattle.outside.specs.declared.sides.Side.{Side}
+use Rattle.outside.specs.declared.sides.Side.TheVariants.{A, B}
+use Rattle.outside.specs.Sides.{Sides, side_of, other_side}
+use Rattle.log_sides.specs.Texts.{StandsFor, open_gate, max_side}
+use Rattle.log_sides.specs.Making.{IsShut, IsNotOpen}
+use Rattle.log_sides.specs.Closing.{shut_closed}
+use Rattle.append_log.specs.Heads.{head_of, start_of}
+use Rattle.append_log.specs.Once.{stands_head}
+use Rattle.append_log.specs.Logs.{StandsIn}
+use Rattle.append_log.specs.declared.side_heads.Head.{Head}
+use Rattle.append_log.specs.declared.side_heads.Head.TheVariants.{TooLong, Shut, Wrong, Open}
+use Rattle.append_log.specs.declared.side_heads.Start.TheVariants.{Standing, Damaged}
+use Rattle.journal.specs.Logs.{leaves_in_use, IsBehind, HoldsLog, HoldsEither}
+
+if_false : {X : Type 0} (b : Bool) (x y : X) → b ≡ false → (if b then x else y) ≡ y
+if_false true x y e = absurd (let clash : true ≡ false = e in cc)
+if_false false x y e = refl
+
+if_true : {X : Type 0} (b : Bool) (x y : X) → b ≡ true → (if b then x else y) ≡ x
+if_true true x y e = refl
+if_true false x y e = absurd (let clash : false ≡ true = e in cc)
+
+not_equal : (x y : ℕ) → nat_lt y x ≡ true → (x == y) ≡ false
+not_equal x y e = grind (arith, nat_tests)
+
+not_equal_too : (x y : ℕ) → nat_lt y x ≡ true → (y == x) ≡ false
+not_equal_too x y e = grind (arith, nat_tests)
+
+not_after : (x y : ℕ) → nat_lt y x ≡ true → nat_lt x y ≡ false
+not_after x y e = grind (arith, nat_tests)
+
+below : (x y : ℕ) → x < y → nat_lt x y ≡ true
+below x y e = grind (arith, nat_tests)
+
+not_below : (a b : ℕ) → b ≤ a → nat_lt a b ≡ false
+not_below a b le = grind (arith, nat_tests)
+
+at_most : (a b : ℕ) → nat_lt a b ≡ false → b ≤ a
+at_most a b e = grind (arith, nat_tests)
+
+first : (b : Head) (g n : ℕ) → leaves_in_use g b ≡ true → start_of (Open g n) b ≡ Standing A g n
+first TooLong g n e = absurd (let clash : false ≡ true = e in cc)
+first (Shut m) g n e = refl
+first (Wrong place) g n e = absurd (let clash : false ≡ true = e in cc)
+first (Open h m) g n e = if_false (g == h) (Damaged B 8) _ (not_equal g h e) ∙ if_true (nat_lt h g) (Standing A g n) (Standing B h m) e
+
+second : (a : Head) (g n : ℕ) → leaves_in_use g a ≡ true → start_of a (Open g n) ≡ Standing B g n
+second TooLong g n e = absurd (let clash : false ≡ true = e in cc)
+second (Shut m) g n e = refl
+second (Wrong place) g n e = absurd (let clash : false ≡ true = e in cc)
+second (Open h m) g n e = if_false (h == g) (Damaged B 8) _ (not_equal_too g h e) ∙ if_false (nat_lt g h) (Standing A h m) (Standing B g n) (not_after g h e)
+
+-- a side that stands, beside one that leaves it in use
+pub stands_in : (c : Sides) (side : Side) (g : ℕ) (batches : List Bytes) → StandsFor g batches (side_of c side) → IsBehind g (side_of c (other_side side))
+    → StandsIn c side g batches
+stands_in c A g batches stands behind = record { used = ap (λ (h : Head). start_of h (head_of c.b)) (stands_head g batches c.a stands) ∙ first (head_of c.b) g (length c.a) behind; stands = stands }
+stands_in c B g batches stands behind = record { used = ap (λ (h : Head). start_of (head_of c.a) h) (stands_head g batches c.b stands) ∙ second (head_of c.a) g (length c.b) behind; stands = stands }
+
+pub other_other : (side : Side) → other_side (other_side side) ≡ side
+other_other A = refl
+other_other B = refl
+
+closed_by : (t u : Bool) → (t ≡ false → u ≡ true → ⊥) → (t || not u) ≡ true
+closed_by true u f = refl
+closed_by false false f = refl
+closed_by false true f = absurd (f refl refl)
+
+-- a side that is not open leaves any other one in use
+pub not_open_head : (side : Bytes) → IsNotOpen side → head_of side ≡ Shut (length side)
+not_open_head [] closed = refl
+not_open_head (b ∷ bytes) closed =
+    let len = length (b ∷ bytes) in
+    let shut : (nat_lt len 17 || not (b == open_gate)) ≡ true = closed_by (nat_lt len 17) (b == open_gate) (λ long opened. closed.shut (record { long = at_most len 17 long; gate = eqb-true b open_gate opened })) in
+    if_false (nat_lt max_side len) TooLong _ (not_below max_side len closed.short) ∙ if_true (nat_lt len 17 || not (b == open_gate)) (Shut len) _ shut
+
+pub not_open_behind : (g : ℕ) (side : Bytes) → IsNotOpen side → IsBehind g side
+not_open_behind g side closed = ap (leaves_in_use g) (not_open_head side closed)
+
+pub shut_behind : (g : ℕ) (side : Bytes) → IsShut side → IsBehind g side
+shut_behind g side shut = not_open_behind g side (shut_closed side shut)
+
+-- an older side does
+pub older_behind : (g h : ℕ) (batches : List Bytes) (side : Bytes) → g < h → StandsFor g batches side → IsBehind h side
+older_behind g h batches side less stands = ap (leaves_in_use h) (stands_head g batches side stands) ∙ below g h less
+
+not_long : (t : Bool) (h : Head) (g : ℕ) → leaves_in_use g (if t then TooLong else h) ≡ true → t ≡ false
+not_long true h g e = sym e
+not_long false h g e = refl
+
+-- and none that does is too long
+pub behind_short : (g : ℕ) (side : Bytes) → IsBehind g side → length side ≤ max_side
+behind_short g side behind = at_most max_side (length side) (not_long (nat_lt max_side (length side)) _ g behind)
+
+-- so the sides hold its batches
+pub holds : (c : Sides) (side : Side) (g : ℕ) (batches : List Bytes) → StandsFor g batches (side_of c side) → IsBehind g (side_of c (other_side side))
+    → HoldsLog batches c
+holds c side g batches stands behind = inl (side, g, stands_in c side g batches stands behind)
+
+pub holds_round : (c : Sides) (side : Side) (g : ℕ) (batches others : List Bytes) → StandsFor g batches (side_of c side) ⊎ StandsFor g others (side_of c side)
+    → IsBehind g (side_of c (other_side side)) → HoldsEither batches others c
+holds_round c side g batches others (inl stands) behind = inl (holds c side g batches stands behind)
+holds_round c side g batches others (inr stands) behind = inr (holds c side g others stands behind)
+
+-- the new side is not open yet, or is in use
+pub holds_opened : (c : Sides) (side : Side) (g n : ℕ) (batches copied : List Bytes) → n ≡ g + 1 → StandsFor g batches (side_of c side)
+    → IsShut (side_of c (other_side side)) ⊎ StandsFor n copied (side_of c (other_side side)) → HoldsEither batches copied c
+holds_opened c side g n batches copied next stands (inl shut) = inl (holds c side g batches stands (shut_behind g (side_of c (other_side side)) shut))
+holds_opened c side g n batches copied next stands (inr opened) =
+    inr (holds c (other_side side) n copied opened
+    (older_behind g n batches (side_of c (other_side (other_side side))) (omega (arith, next)) (subst (λ (s : Side). StandsFor g batches (side_of c s)) (sym (other_other side)) stands)))

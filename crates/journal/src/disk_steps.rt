@@ -1,0 +1,132 @@
+//! The steps of a journal on its disk: a commit, its mirror, and those of a rewriting.
+
+ghost use Rattle.std.specs.Prelude.{◌≡◌, ◌+◌, ◌≤◌, ◌<◌, ◌^◌, ℕ, List, [], Option, None, Some, true, is_some, length, OnOk, OnErr, IfOk};
+ghost use Rattle.byte_text.specs.Names.{Bytes};
+ghost use Rattle.outside.specs.Causes.{HasCause};
+ghost use Rattle.outside.specs.Crashes.{LeavesOnly};
+ghost use Rattle.outside.specs.declared.sides.Side.{Side};
+ghost use Rattle.outside.specs.Sides.{other_side};
+ghost use Rattle.log_sides.specs.Texts.{committed, written};
+ghost use Rattle.log_rewrite.specs.declared.rewriters.Rewriter.{Rewriter};
+ghost use Rattle.journal.specs.Logs.{HoldsLog, HoldsEither};
+ghost use Rattle.journal.specs.Keeping.{KeptOn, new_gate, next_generation};
+
+use append_log::AppendLog;
+use log_rewrite::{NewSide, Rewriter};
+use log_sides::Batch;
+use outside::{Disk, Failed, Side};
+
+/// Makes the pending batch stand on the side in use.
+pub(crate) fn commit_log<D: Disk>(disk: &mut D, log: &mut AppendLog) -> Result<(), Failed>
+    ensures kept { (rewriter : Option Rewriter) (batches copied : List Bytes)
+        → KeptOn D.crashes D.seen D.images disk.old log.old.side log.old.generation log.old.gate rewriter batches copied
+        → OnOk result (KeptOn D.crashes D.seen D.images disk.new log.old.side log.old.generation log.new.gate rewriter (committed batches log.old.pending) copied) }
+    ensures leaves { (rewriter : Option Rewriter) (batches copied : List Bytes)
+        → KeptOn D.crashes D.seen D.images disk.old log.old.side log.old.generation log.old.gate rewriter batches copied → D.crashes disk.old ≡ true
+        → LeavesOnly D.moment D.left_since disk.old disk.new (HoldsEither batches (committed batches log.old.pending)) }
+    ensures told { D.crashes disk.new ≡ D.crashes disk.old }
+    ensures cause { HasCause (D.faults disk.old) (D.faults disk.new) result }
+    ensures side { log.new.side ≡ log.old.side }
+    ensures generation { log.new.generation ≡ log.old.generation }
+    ensures pending { OnOk result (log.new.pending ≡ []) }
+    ensures err { OnErr result (log.new.pending ≡ log.old.pending) }
+    ensures last { OnOk result (log.new.last ≡ log.old.pending) }
+    ensures gate { OnOk result (log.new.gate ≤ log.old.gate + length log.old.pending + 9) }
+{
+    log.commit(disk)
+}
+
+/// Writes what the last commit wrote to the new side, where there is one.
+pub(crate) fn mirror_batch<D: Disk>(
+    disk: &mut D,
+    rewriter: &mut Option<Rewriter>,
+    batch: &[u8],
+) -> Result<(), Failed>
+    requires { new_gate rewriter.old + length batch.now ≤ 2 ^ 62 }
+    ensures kept { (side : Side) (generation gate : ℕ) (batches copied : List Bytes) (records : Bytes) → batch.now ≡ written records
+        → KeptOn D.crashes D.seen D.images disk.old side generation gate rewriter.old batches copied
+        → OnOk result (KeptOn D.crashes D.seen D.images disk.new side generation gate rewriter.new batches (committed copied records)) }
+    ensures leaves { (side : Side) (generation gate : ℕ) (batches copied : List Bytes)
+        → KeptOn D.crashes D.seen D.images disk.old side generation gate rewriter.old batches copied → D.crashes disk.old ≡ true
+        → LeavesOnly D.moment D.left_since disk.old disk.new (HoldsLog batches) }
+    ensures told { D.crashes disk.new ≡ D.crashes disk.old }
+    ensures cause { HasCause (D.faults disk.old) (D.faults disk.new) result }
+    ensures goes_on { is_some rewriter.new ≡ is_some rewriter.old }
+    ensures generation { (n : ℕ) → next_generation rewriter.new n ≡ next_generation rewriter.old n }
+    ensures gate { OnOk result (new_gate rewriter.new ≤ new_gate rewriter.old + length batch.now) }
+{
+    match rewriter {
+        Some(new_side) => new_side.mirror(disk, batch),
+        None => Ok(()),
+    }
+}
+
+/// Begins a new side beside the one in use.
+pub(crate) fn begin_beside<D: Disk>(disk: &mut D, log: &AppendLog) -> Result<Rewriter, Failed>
+    requires { log.now.generation < 2 ^ 63 }
+    ensures kept { (batches copied : List Bytes)
+        → KeptOn D.crashes D.seen D.images disk.old log.now.side log.now.generation log.now.gate None batches copied
+        → IfOk result (λ r. KeptOn D.crashes D.seen D.images disk.new log.now.side log.now.generation log.now.gate (Some r) batches []) }
+    ensures leaves { (batches copied : List Bytes)
+        → KeptOn D.crashes D.seen D.images disk.old log.now.side log.now.generation log.now.gate None batches copied → D.crashes disk.old ≡ true
+        → LeavesOnly D.moment D.left_since disk.old disk.new (HoldsLog batches) }
+    ensures told { D.crashes disk.new ≡ D.crashes disk.old }
+    ensures cause { HasCause (D.faults disk.old) (D.faults disk.new) result }
+    ensures generation { IfOk result (λ r. r.generation ≡ log.now.generation + 1) }
+    ensures gate { IfOk result (λ r. r.gate ≡ 16) }
+{
+    Rewriter::begin(disk, beside(log.side()), log.generation() + 1)
+}
+
+// The other side.
+fn beside(side: Side) -> Side
+    ensures { result ≡ other_side side }
+{
+    match side {
+        Side::A => Side::B,
+        Side::B => Side::A,
+    }
+}
+
+/// Copies the records of a piece to the new side, where there is one.
+pub(crate) fn copy_records<D: Disk>(
+    disk: &mut D,
+    rewriter: &mut Option<Rewriter>,
+    records: &Batch,
+) -> Result<(), Failed>
+    requires { new_gate rewriter.old + length records.now + 10 ≤ 2 ^ 62 }
+    ensures kept { (side : Side) (generation gate : ℕ) (batches copied : List Bytes)
+        → KeptOn D.crashes D.seen D.images disk.old side generation gate rewriter.old batches copied
+        → OnOk result (KeptOn D.crashes D.seen D.images disk.new side generation gate rewriter.new batches (committed copied records.now)) }
+    ensures leaves { (side : Side) (generation gate : ℕ) (batches copied : List Bytes)
+        → KeptOn D.crashes D.seen D.images disk.old side generation gate rewriter.old batches copied → D.crashes disk.old ≡ true
+        → LeavesOnly D.moment D.left_since disk.old disk.new (HoldsLog batches) }
+    ensures told { D.crashes disk.new ≡ D.crashes disk.old }
+    ensures cause { HasCause (D.faults disk.old) (D.faults disk.new) result }
+    ensures goes_on { is_some rewriter.new ≡ is_some rewriter.old }
+    ensures generation { (n : ℕ) → next_generation rewriter.new n ≡ next_generation rewriter.old n }
+    ensures gate { OnOk result (new_gate rewriter.new ≤ new_gate rewriter.old + length records.now + 10) }
+{
+    match rewriter {
+        Some(new_side) => new_side.copy_piece(disk, records),
+        None => Ok(()),
+    }
+}
+
+/// Opens the new side, which is in use from then on.
+pub(crate) fn open_new<D: Disk>(disk: &mut D, rewriter: Rewriter) -> Result<NewSide, Failed>
+    ensures kept { (side : Side) (generation gate : ℕ) (batches copied any : List Bytes)
+        → KeptOn D.crashes D.seen D.images disk.old side generation gate (Some rewriter) batches copied
+        → IfOk result (λ made. KeptOn D.crashes D.seen D.images disk.new made.side made.generation made.gate None copied any) }
+    ensures leaves { (side : Side) (generation gate : ℕ) (batches copied : List Bytes)
+        → KeptOn D.crashes D.seen D.images disk.old side generation gate (Some rewriter) batches copied → D.crashes disk.old ≡ true
+        → LeavesOnly D.moment D.left_since disk.old disk.new (HoldsEither batches copied) }
+    ensures told { D.crashes disk.new ≡ D.crashes disk.old }
+    ensures cause { HasCause (D.faults disk.old) (D.faults disk.new) result }
+    ensures side { IfOk result (λ made. made.side ≡ rewriter.side) }
+    ensures generation { IfOk result (λ made. made.generation ≡ rewriter.generation) }
+    ensures gate { IfOk result (λ made. made.gate ≡ rewriter.gate) }
+    ensures placed { IfOk result (λ made. made.gate ≤ 2 ^ 62) }
+{
+    rewriter.finish(disk)
+}

@@ -1,0 +1,333 @@
+//! A journal over a disk: changes are pushed, and a commit makes them stand, also while the log is rewritten.
+
+ghost use Rattle.std.specs.Prelude.{◌≡◌, ◌+◌, ◌≤◌, ◌<◌, ◌^◌, ◌++◌, ◌⊎◌, ℕ, true, false, List, [], Some, None, is_some, take, length, Decides, OnOk, OnErr, IfOk, IfErr};
+ghost use Rattle.byte_text.specs.Names.{Bytes};
+ghost use Rattle.outside.specs.Causes.{HasCause, Rose};
+ghost use Rattle.outside.specs.declared.sides.Side.{Side};
+ghost use Rattle.outside.specs.Sides.{Sides};
+ghost use Rattle.outside.specs.Crashes.{LeavesOnly};
+ghost use Rattle.log_sides.specs.Texts.{committed};
+ghost use Rattle.journal.specs.Logs.{HoldsLog, HoldsEither};
+ghost use Rattle.journal.specs.Keeping.{new_gate, next_generation};
+
+use crate::disk_steps::{begin_beside, commit_log, copy_records, mirror_batch, open_new};
+use crate::openings::{BLOCK, OpenFault, Unopened, UsedLog, open_log};
+use crate::pieces::Piece;
+use crate::replays::Replay;
+use append_log::AppendLog;
+use byte_text::NoMemory;
+use log_rewrite::Rewriter;
+use outside::{Disk, Failed};
+use std::alloc::Global;
+
+/// A log on a disk, the records that wait for the next commit, and the new side where the log is rewritten.
+#[derive(Drop)]
+pub struct Journal<D> {
+    disk: D,
+    log: AppendLog,
+    rewriter: Option<Rewriter>,
+    failed: bool,
+    ghost fits: { 0 < length log.pending → new_gate rewriter + length log.pending + 10 ≤ 2 ^ 62 },
+    ghost next: { next_generation rewriter log.generation ≡ log.generation + 1 },
+}
+
+/// A journal that was opened.
+#[derive(Drop)]
+pub struct Opened<D> {
+    pub journal: Journal<D>,
+    /// How many bytes the side in use has.
+    pub len: u64,
+}
+
+/// Why a journal did not do what was asked.
+#[derive(Clone, Copy, Debug, PartialEq, Eq)]
+pub enum JournalFault {
+    /// A call of the disk failed in this call. The journal has failed.
+    Disk,
+    /// An earlier call failed. Nothing was done.
+    Failed,
+}
+
+impl<D: Disk> Journal<D> {
+    ghost use Rattle.journal.specs.Journals.{Keeps, HasRoom, SameBut, Ends, pending, disk_of};
+    ghost use Rattle.journal.specs.Openings.{IsDamaged, IsLeftByOpening, IsUnopened, opened_len};
+    ghost use Rattle.journal.specs.Opened.{IsReplayed};
+
+    /// Opens the log on a disk: both sides are synced, and the batches of the side in use are replayed. On a fresh disk a log is begun.
+    pub fn open<R: Replay>(alloc: Global, disk: D, replay: &mut R) -> Result<Opened<D>, Unopened<D>>
+        requires { R.took replay.old [] [] }
+        ensures opened { IfOk result (λ o. IsReplayed R.took R.fault D.crashes D.seen D.moment D.left_since disk o.journal.disk replay.new
+            (λ batches. Keeps D.crashes D.seen D.images o.journal batches [])) }
+        ensures leaves { (s : Sides) → D.seen disk ≡ Some s → D.crashes disk ≡ true
+            → LeavesOnly D.moment D.left_since disk (disk_of result) (IsLeftByOpening (D.images disk) s) }
+        ensures same { (s : Sides) → D.seen disk ≡ Some s → IfErr result (λ u. IsUnopened (D.seen u.disk) s u.why) }
+        ensures damaged { (s : Sides) → D.seen disk ≡ Some s
+            → IfErr result (λ u. (side : Side) (place : ℕ) → u.why ≡ OpenFault.Damaged side place → IsDamaged R.fault s side place) }
+        ensures told { D.crashes (disk_of result) ≡ D.crashes disk }
+        ensures later { D.faults disk ≤ D.faults (disk_of result) }
+        ensures cause { IfErr result (λ u. u.why ≡ OpenFault.Disk → Rose (D.faults disk) (D.faults u.disk)) }
+        ensures len { (s : Sides) → D.seen disk ≡ Some s → IfOk result (λ o. o.len ≡ opened_len s) }
+        ensures short { IfOk result (λ o. o.len ≤ 2 ^ 62) }
+        ensures gate { IfOk result (λ o. o.journal.log.gate ≤ o.len) }
+        ensures pending { IfOk result (λ o. pending o.journal ≡ []) }
+        ensures idle { IfOk result (λ o. is_some o.journal.rewriter ≡ false) }
+        ensures works { IfOk result (λ o. o.journal.failed ≡ false) }
+    {
+        let Ok(mut block) = vec![in alloc; 0u8; BLOCK] else {
+            return Err(Unopened {
+                disk,
+                why: OpenFault::Memory,
+            });
+        };
+        let mut disk = disk;
+        match open_log(alloc, &mut disk, replay, &mut block) {
+            Ok(UsedLog { log, len }) => Ok(Opened {
+                journal: Journal {
+                    disk,
+                    log,
+                    rewriter: None,
+                    failed: false,
+                },
+                len,
+            }),
+            Err(why) => Err(Unopened { disk, why }),
+        }
+    }
+
+    /// Whether an earlier call failed.
+    pub fn has_failed(&self) -> bool
+        ensures { result ≡ self.now.failed }
+    {
+        self.failed
+    }
+
+    /// Whether the log is rewritten.
+    pub fn is_rewriting(&self) -> bool
+        ensures { result ≡ is_some self.now.rewriter }
+    {
+        self.rewriter.is_some()
+    }
+
+    /// How many bytes are pending.
+    pub fn pending(&self) -> u64
+        ensures { result ≡ length (pending self.now) }
+    {
+        self.log.pending()
+    }
+
+    /// The generation of the side in use.
+    pub fn generation(&self) -> u64
+        ensures { result ≡ self.now.log.generation }
+    {
+        self.log.generation()
+    }
+
+    /// Whether both sides have room for so many bytes more in the pending batch.
+    pub fn has_room(&self, bytes: usize) -> bool
+        ensures { Decides result (HasRoom self.now bytes) }
+    {
+        self.log.has_room(bytes) && self.new_has_room(bytes)
+    }
+
+    // Whether the new side has, where there is one.
+    fn new_has_room(&self, bytes: usize) -> bool
+        requires { self.now.log.gate + length self.now.log.pending + bytes + 10 ≤ 2 ^ 62 }
+        ensures { Decides result (new_gate self.now.rewriter + length self.now.log.pending + bytes + 10 ≤ 2 ^ 62) }
+    {
+        match &self.rewriter {
+            Some(rewriter) => rewriter.has_room(bytes + self.log.pending() as usize),
+            None => true,
+        }
+    }
+
+    /// Puts the record of one change last into the pending batch. At want of memory the batch is as before.
+    pub fn push(&mut self, entry: &[u8]) -> Result<(), NoMemory>
+        requires { HasRoom self.old (length entry.now) }
+        ensures ok { OnOk result (pending self.new ≡ pending self.old ++ entry.now) }
+        ensures err { OnErr result (pending self.new ≡ pending self.old) }
+        ensures same { SameBut self.old self.new }
+        ensures kept { (batches copied : List Bytes) → Keeps D.crashes D.seen D.images self.old batches copied
+            → Keeps D.crashes D.seen D.images self.new batches copied }
+    {
+        self.log.push(entry)
+    }
+
+    /// Forgets what is pending behind the first `len` bytes, which are the records of whole changes.
+    pub fn cut_to(&mut self, len: u64)
+        requires { len ≤ length (pending self.old) }
+        ensures pending { pending self.new ≡ take len (pending self.old) }
+        ensures same { SameBut self.old self.new }
+        ensures kept { (batches copied : List Bytes) → Keeps D.crashes D.seen D.images self.old batches copied
+            → Keeps D.crashes D.seen D.images self.new batches copied }
+    {
+        self.log.cut_to(len);
+    }
+
+    /// Makes the pending batch stand, with two syncs; where the log is rewritten it is written to the new side, too, which is not
+    /// synced. With nothing pending the disk is left alone. At each moment inside a crash leaves the committed batches, or those with
+    /// the pending one.
+    pub fn commit(&mut self) -> Result<(), JournalFault>
+        ensures kept { (batches copied : List Bytes) → Keeps D.crashes D.seen D.images self.old batches copied
+            → OnOk result (Keeps D.crashes D.seen D.images self.new (committed batches (pending self.old)) (committed copied (pending self.old))) }
+        ensures leaves { (batches copied : List Bytes) → Keeps D.crashes D.seen D.images self.old batches copied → D.crashes self.old.disk ≡ true
+            → LeavesOnly D.moment D.left_since self.old.disk self.new.disk (HoldsEither batches (committed batches (pending self.old))) }
+        ensures ends { Ends D.faults self.old self.new result }
+        ensures told { D.crashes self.new.disk ≡ D.crashes self.old.disk }
+        ensures pending { OnOk result (pending self.new ≡ []) }
+        ensures side { self.new.log.side ≡ self.old.log.side }
+        ensures generation { self.new.log.generation ≡ self.old.log.generation }
+        ensures rewriting { is_some self.new.rewriter ≡ is_some self.old.rewriter }
+        ensures gate { OnOk result (self.new.log.gate ≤ self.old.log.gate + length (pending self.old) + 9) }
+        ensures new_gate { OnOk result (new_gate self.new.rewriter ≤ new_gate self.old.rewriter + length (pending self.old) + 10) }
+    {
+        if self.failed {
+            return Err(JournalFault::Failed);
+        }
+        match self.commit_both() {
+            Ok(()) => Ok(()),
+            Err(Failed) => {
+                self.failed = true;
+                Err(JournalFault::Disk)
+            }
+        }
+    }
+
+    // The commit on the side in use, and then on the new one.
+    fn commit_both(&mut self) -> Result<(), Failed>
+        ensures kept { (batches copied : List Bytes) → Keeps D.crashes D.seen D.images self.old batches copied
+            → OnOk result (Keeps D.crashes D.seen D.images self.new (committed batches (pending self.old)) (committed copied (pending self.old))) }
+        ensures leaves { (batches copied : List Bytes) → Keeps D.crashes D.seen D.images self.old batches copied → D.crashes self.old.disk ≡ true
+            → LeavesOnly D.moment D.left_since self.old.disk self.new.disk (HoldsEither batches (committed batches (pending self.old))) }
+        ensures pending { OnOk result (pending self.new ≡ []) }
+        ensures told { D.crashes self.new.disk ≡ D.crashes self.old.disk }
+        ensures cause { HasCause (D.faults self.old.disk) (D.faults self.new.disk) result }
+        ensures failed { self.new.failed ≡ self.old.failed }
+        ensures side { self.new.log.side ≡ self.old.log.side }
+        ensures generation { self.new.log.generation ≡ self.old.log.generation }
+        ensures rewriting { is_some self.new.rewriter ≡ is_some self.old.rewriter }
+        ensures gate { OnOk result (self.new.log.gate ≤ self.old.log.gate + length (pending self.old) + 9) }
+        ensures new_gate { OnOk result (new_gate self.new.rewriter ≤ new_gate self.old.rewriter + length (pending self.old) + 10) }
+    {
+        match commit_log(&mut self.disk, &mut self.log) {
+            Ok(()) => mirror_batch(&mut self.disk, &mut self.rewriter, self.log.last_batch()),
+            Err(Failed) => Err(Failed),
+        }
+    }
+
+    /// Begins to rewrite the log: a new side of the next generation, which holds nothing yet. It is not open, whatever a crash leaves.
+    pub fn begin(&mut self) -> Result<(), JournalFault>
+        requires idle { is_some self.old.rewriter ≡ false }
+        requires committed { pending self.old ≡ [] }
+        requires generation { self.old.log.generation < 2 ^ 63 }
+        ensures kept { (batches copied : List Bytes) → Keeps D.crashes D.seen D.images self.old batches copied
+            → OnOk result (Keeps D.crashes D.seen D.images self.new batches []) }
+        ensures leaves { (batches copied : List Bytes) → Keeps D.crashes D.seen D.images self.old batches copied → D.crashes self.old.disk ≡ true
+            → LeavesOnly D.moment D.left_since self.old.disk self.new.disk (HoldsLog batches) }
+        ensures ends { Ends D.faults self.old self.new result }
+        ensures told { D.crashes self.new.disk ≡ D.crashes self.old.disk }
+        ensures pending { pending self.new ≡ [] }
+        ensures generation { self.new.log.generation ≡ self.old.log.generation }
+        ensures rewriting { OnOk result (is_some self.new.rewriter ≡ true) }
+        ensures gate { self.new.log.gate ≡ self.old.log.gate }
+        ensures new_gate { OnOk result (new_gate self.new.rewriter ≡ 16) }
+    {
+        if self.failed {
+            return Err(JournalFault::Failed);
+        }
+        match begin_beside(&mut self.disk, &self.log) {
+            Ok(rewriter) => {
+                self.rewriter = Some(rewriter);
+                Ok(())
+            }
+            Err(Failed) => {
+                self.failed = true;
+                Err(JournalFault::Disk)
+            }
+        }
+    }
+
+    /// Whether the new side has room for a piece. It has where there is none.
+    pub fn has_room_for(&self, piece: &Piece) -> bool
+        ensures { Decides result (new_gate self.now.rewriter + length piece.now.records + 10 ≤ 2 ^ 62) }
+    {
+        match &self.rewriter {
+            Some(rewriter) => rewriter.has_room(piece.len()),
+            None => piece.len() <= (1 << 62) - 10,
+        }
+    }
+
+    /// Copies a piece to the new side, which is not synced. Where the log is not rewritten nothing is done.
+    pub fn copy(&mut self, piece: &Piece) -> Result<(), JournalFault>
+        requires committed { pending self.old ≡ [] }
+        requires room { new_gate self.old.rewriter + length piece.now.records + 10 ≤ 2 ^ 62 }
+        ensures kept { (batches copied : List Bytes) → Keeps D.crashes D.seen D.images self.old batches copied
+            → OnOk result (Keeps D.crashes D.seen D.images self.new batches (committed copied piece.now.records)) }
+        ensures leaves { (batches copied : List Bytes) → Keeps D.crashes D.seen D.images self.old batches copied → D.crashes self.old.disk ≡ true
+            → LeavesOnly D.moment D.left_since self.old.disk self.new.disk (HoldsLog batches) }
+        ensures ends { Ends D.faults self.old self.new result }
+        ensures told { D.crashes self.new.disk ≡ D.crashes self.old.disk }
+        ensures pending { pending self.new ≡ [] }
+        ensures generation { self.new.log.generation ≡ self.old.log.generation }
+        ensures rewriting { is_some self.new.rewriter ≡ is_some self.old.rewriter }
+        ensures gate { self.new.log.gate ≡ self.old.log.gate }
+        ensures new_gate { OnOk result (new_gate self.new.rewriter ≤ new_gate self.old.rewriter + length piece.now.records + 10) }
+    {
+        if self.failed {
+            return Err(JournalFault::Failed);
+        }
+        match copy_records(&mut self.disk, &mut self.rewriter, piece.records()) {
+            Ok(()) => Ok(()),
+            Err(Failed) => {
+                self.failed = true;
+                Err(JournalFault::Disk)
+            }
+        }
+    }
+
+    /// Ends a rewriting: the new side is made safe and then opened, and is the one in use from then on. At each moment inside a crash
+    /// leaves the committed batches, or those that were copied.
+    pub fn finish(&mut self) -> Result<(), JournalFault>
+        requires going { is_some self.old.rewriter ≡ true }
+        requires committed { pending self.old ≡ [] }
+        ensures kept { (batches copied any : List Bytes) → Keeps D.crashes D.seen D.images self.old batches copied
+            → OnOk result (Keeps D.crashes D.seen D.images self.new copied any) }
+        ensures leaves { (batches copied : List Bytes) → Keeps D.crashes D.seen D.images self.old batches copied → D.crashes self.old.disk ≡ true
+            → LeavesOnly D.moment D.left_since self.old.disk self.new.disk (HoldsEither batches copied) }
+        ensures ends { Ends D.faults self.old self.new result }
+        ensures told { D.crashes self.new.disk ≡ D.crashes self.old.disk }
+        ensures pending { pending self.new ≡ [] }
+        ensures generation { OnOk result (self.new.log.generation ≡ self.old.log.generation + 1) }
+        ensures rewriting { OnOk result (is_some self.new.rewriter ≡ false) }
+        ensures gate { OnOk result (self.new.log.gate ≡ new_gate self.old.rewriter) }
+    {
+        if self.failed {
+            return Err(JournalFault::Failed);
+        }
+        match self.rewriter.take() {
+            Some(rewriter) => match open_new(&mut self.disk, rewriter) {
+                Ok(made) => {
+                    self.log.turn_to(made.side, made.generation, made.gate);
+                    Ok(())
+                }
+                Err(Failed) => {
+                    self.failed = true;
+                    Err(JournalFault::Disk)
+                }
+            },
+            None => unreachable!(),
+        }
+    }
+
+    /// Gives the disk back. What is pending is forgotten.
+    pub fn retire(self) -> D
+        ensures { result ≡ self.disk }
+    {
+        let Journal {
+            disk,
+            log: _,
+            rewriter: _,
+            failed: _,
+        } = self;
+        disk
+    }
+}

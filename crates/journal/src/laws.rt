@@ -1,0 +1,31 @@
+//! Laws of journals. Each is the contract of a function that does nothing.
+
+ghost use Rattle.std.specs.Prelude.{◌≡◌, true, List, Some};
+ghost use Rattle.byte_text.specs.Names.{Bytes};
+ghost use Rattle.outside.specs.Sides.{Sides};
+ghost use Rattle.outside.specs.Crashes.{EachImage};
+ghost use Rattle.journal.specs.Logs.{HoldsLog};
+ghost use Rattle.journal.specs.Journals.{Keeps};
+
+use crate::journals::Journal;
+use append_log::logs_read_once;
+use outside::Disk;
+
+/// What a journal keeps of its disk, an opening would find there: the disk tells its contents, which hold the committed batches, and so
+/// does whatever a crash may leave.
+pub fn kept_logs_hold<D: Disk>(journal: &Journal<D>)
+    ensures told { (batches copied : List Bytes) → Keeps D.crashes D.seen D.images journal.now batches copied → (s : Sides) × (D.seen journal.now.disk ≡ Some s) }
+    ensures now { (batches copied : List Bytes) → Keeps D.crashes D.seen D.images journal.now batches copied
+        → (s : Sides) → D.seen journal.now.disk ≡ Some s → HoldsLog batches s }
+    ensures images { (batches copied : List Bytes) → Keeps D.crashes D.seen D.images journal.now batches copied → D.crashes journal.now.disk ≡ true
+        → EachImage (D.images journal.now.disk) (HoldsLog batches) }
+{
+    let _kept = journal;
+}
+
+/// The sides of a disk hold the batches of one log at most.
+pub fn logs_hold_once()
+    ensures { (batches others : List Bytes) (s : Sides) → HoldsLog batches s → HoldsLog others s → batches ≡ others }
+{
+    logs_read_once();
+}

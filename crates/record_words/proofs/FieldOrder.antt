@@ -1,0 +1,113 @@
+-- A field goes behind all others where it may be last.
+use Rattle.std.proofs.Common.{◌≡◌, ◌<◌, ◌-◌, Bool, true, false, not, List, [], ◌∷◌, ◌++◌, length, refl, sym, ap, subst, ◌∙◌, arith}
+use Rattle.std.specs.Prelude.{Some, IfSome, ◌&&◌, filter, if◌then◌else◌, slice_get}
+use Rattle.std.specs.List.{list_all}
+use Rattle.byte_text.specs.Names.{Bytes, before}
+use Rattle.ordered_lists.specs.Lists.{ascends, put_in}
+use Rattle.ordered_lists.specs.NameOrder.{name_trans}
+use Rattle.ordered_lists.specs.Reading.{both_of, filter-all}
+use Rattle.world_data.specs.Filters.{Field, field_before, is_zero, with_values, are_fields}
+use Rattle.world_data.specs.FieldLaws.{field_asym}
+use Rattle.record_words.proofs.Parts.{both}
+
+abbrev nonzero : Field → Bool
+nonzero f = not (is_zero f)
+
+field_trans : (f g h : Field) → field_before f g ≡ true → field_before g h ≡ true → field_before f h ≡ true
+field_trans = name_trans (λ (f : Field). f.0)
+
+not_second : (a b : Bool) → b ≡ false → (a && b) ≡ false
+not_second true b e = e
+not_second false b e = refl
+
+with_true : (a b : Bool) → b ≡ true → (a && b) ≡ a
+with_true true b e = e
+with_true false b e = refl
+
+and_true : (a : Bool) → (a && true) ≡ a
+and_true true = refl
+and_true false = refl
+
+and_assoc : (a b c : Bool) → (a && (b && c)) ≡ ((a && b) && c)
+and_assoc true b c = refl
+and_assoc false b c = refl
+
+second_branch : {A : Type 0} (a b : Bool) (x y z : A) → a ≡ false → b ≡ true → (if a then x else if b then y else z) ≡ y
+second_branch true b x y z e f = absurd (cc e)
+second_branch false true x y z e f = refl
+second_branch false false x y z e f = absurd (cc f)
+
+last_passes : (q : Field → Bool) (fs : List Field) (f : Field) → list_all q (fs ++ f ∷ []) ≡ true → q f ≡ true
+last_passes q [] f all = (both_of (q f) true all).0
+last_passes q (g ∷ fs) f all = last_passes q fs f (both_of (q g) (list_all q (fs ++ f ∷ [])) all).1
+
+all_snoc : (q : Field → Bool) (fs : List Field) (f : Field) → list_all q (fs ++ f ∷ []) ≡ (list_all q fs && q f)
+all_snoc q [] f = and_true (q f)
+all_snoc q (g ∷ fs) f = ap (λ b. q g && b) (all_snoc q fs f) ∙ and_assoc (q g) (list_all q fs) (q f)
+
+put_last : (fs : List Field) (f : Field) → ascends field_before (fs ++ f ∷ []) ≡ true → put_in field_before f fs ≡ fs ++ f ∷ []
+put_last [] f asc = refl
+put_last (g ∷ fs) f asc =
+    let parts = both_of (list_all (field_before g) (fs ++ f ∷ [])) (ascends field_before (fs ++ f ∷ [])) asc in
+    let above : field_before g f ≡ true = last_passes (field_before g) fs f parts.0 in
+    let ih = put_last fs f parts.1 in
+    second_branch (field_before f g) (field_before g f) (f ∷ g ∷ fs) (g ∷ put_in field_before f fs) (f ∷ fs) (field_asym g f above) above ∙ ap (λ l. g ∷ l) ih
+
+-- what `set` makes of a field that may be last
+pub set_last : (fs : List Field) (f : Field) → are_fields (fs ++ f ∷ []) ≡ true → with_values fs (f ∷ []) ≡ fs ++ f ∷ []
+set_last fs f are =
+    let parts = both_of (ascends field_before (fs ++ f ∷ [])) (list_all nonzero (fs ++ f ∷ [])) are in
+    ap (λ l. filter nonzero l) (put_last fs f parts.0) ∙ filter-all nonzero (fs ++ f ∷ []) parts.1
+
+-- the last of a field and those behind it
+abbrev last_of : Field → List Field → Field
+last_of g [] = g
+last_of g (h ∷ fs) = last_of h fs
+
+ascends_last : (g : Field) (fs : List Field) (f : Field) → ascends field_before (g ∷ fs) ≡ true → ascends field_before ((g ∷ fs) ++ f ∷ []) ≡ field_before (last_of g fs) f
+ascends_last g [] f asc = and_true (field_before g f && true) ∙ and_true (field_before g f)
+ascends_last g (h ∷ fs) f asc = by (field_before (last_of h fs) f) (ascends_last h fs f parts.1)
+  where
+    parts : (list_all (field_before g) (h ∷ fs) ≡ true) × (ascends field_before (h ∷ fs) ≡ true)
+    parts = both_of (list_all (field_before g) (h ∷ fs)) (ascends field_before (h ∷ fs)) asc
+
+    above : ascends field_before ((h ∷ fs) ++ f ∷ []) ≡ true → field_before g f ≡ true
+    above e =
+        let under : field_before g h ≡ true = (both_of (field_before g h) (list_all (field_before g) fs) parts.0).0 in
+        let over = (both_of (list_all (field_before h) (fs ++ f ∷ [])) (ascends field_before (fs ++ f ∷ [])) e).0 in
+        field_trans g h f under (last_passes (field_before h) fs f over)
+
+    by : (b : Bool) → ascends field_before ((h ∷ fs) ++ f ∷ []) ≡ b → ascends field_before ((g ∷ h ∷ fs) ++ f ∷ []) ≡ b
+    by true e =
+        let all : list_all (field_before g) ((h ∷ fs) ++ f ∷ []) ≡ true = all_snoc (field_before g) (h ∷ fs) f ∙ both (list_all (field_before g) (h ∷ fs)) (field_before g f) parts.0 (above e) in
+        both (list_all (field_before g) ((h ∷ fs) ++ f ∷ [])) (ascends field_before ((h ∷ fs) ++ f ∷ [])) all e
+    by false e = not_second (list_all (field_before g) ((h ∷ fs) ++ f ∷ [])) (ascends field_before ((h ∷ fs) ++ f ∷ [])) e
+
+last_there : (g : Field) (fs : List Field) → slice_get (g ∷ fs) (length fs) ≡ Some (last_of g fs)
+last_there g [] = refl
+last_there g (h ∷ fs) = last_there h fs
+
+pub zero_last : (fs : List Field) (f : Field) → is_zero f ≡ true → are_fields (fs ++ f ∷ []) ≡ false
+zero_last fs f e = not_second (ascends field_before (fs ++ f ∷ [])) (list_all nonzero (fs ++ f ∷ []))
+    (all_snoc nonzero fs f ∙ not_second (list_all nonzero fs) (nonzero f) (ap not e))
+
+-- a field that is not zero may be last exactly where the last of the others, if any, stands before it
+
+nonzero_last : (fs : List Field) (f : Field) → are_fields fs ≡ true → is_zero f ≡ false → list_all nonzero (fs ++ f ∷ []) ≡ true
+nonzero_last fs f are other = all_snoc nonzero fs f
+    ∙ both (list_all nonzero fs) (nonzero f) (both_of (ascends field_before fs) (list_all nonzero fs) are).1 (ap not other)
+
+pub only_one : (fs : List Field) (f : Field) → is_zero f ≡ false → length fs ≡ 0 → are_fields (fs ++ f ∷ []) ≡ true
+only_one [] f other none = nonzero_last [] f refl other
+only_one (g ∷ fs) f other none = absurd (omega (arith, none))
+
+pub behind_last : (fs : List Field) (last : Bytes) (f : Field) → are_fields fs ≡ true → is_zero f ≡ false → 0 < length fs
+    → IfSome (slice_get fs (length fs - 1)) (λ g. last ≡ g.0) → before last f.0 ≡ are_fields (fs ++ f ∷ [])
+behind_last [] last f are other some named = absurd (omega (arith, some))
+behind_last (h ∷ fs) last f are other some named =
+    let at : length (h ∷ fs) - 1 ≡ length fs = omega arith in
+    let there : slice_get (h ∷ fs) (length (h ∷ fs) - 1) ≡ Some (last_of h fs) = ap (slice_get (h ∷ fs)) at ∙ last_there h fs in
+    let is : last ≡ (last_of h fs).0 = subst (λ o. IfSome o (λ g. last ≡ g.0)) there named in
+    let asc = (both_of (ascends field_before (h ∷ fs)) (list_all nonzero (h ∷ fs)) are).0 in
+    ap (λ n. before n f.0) is ∙ sym (ascends_last h fs f asc)
+    ∙ sym (with_true (ascends field_before ((h ∷ fs) ++ f ∷ [])) (list_all nonzero ((h ∷ fs) ++ f ∷ [])) (nonzero_last (h ∷ fs) f are other))

@@ -1,0 +1,201 @@
+-- How long the records of objects and of deletions are, so that they fit a request.
+use Rattle.std.proofs.Common.{◌≡◌, ℕ, ℤ, pos, negsuc, suc, ◌+◌, ◌*◌, ◌^◌, ◌<◌, ◌≤◌, true, List, [], ◌∷◌, ◌++◌, length, refl, sym, ap, subst, arith, append_assoc, length-append}
+use Rattle.std.specs.Prelude.{Option, Some, None, Ok, codes, decimal, nat_le}
+use Rattle.std.specs.Fmt.{signed_decimal}
+use Rattle.std.specs.List.{AllByRecursion, list_all}
+use Rattle.std.proofs.lemmas.Bool.{leb-true}
+use Rattle.std.proofs.lemmas.Fmt.{length-decimal-le}
+use Rattle.byte_text.specs.Names.{Bytes, is_name}
+use Rattle.byte_text.specs.Requests.{IsRequest, AreShort, total, max_word}
+use Rattle.geo_text.specs.Texts.{shape_of}
+use Rattle.ordered_lists.specs.Reading.{both_of}
+use Rattle.world_data.specs.Filters.{Field}
+use Rattle.world_data.specs.Records.{deadline_words, record_words}
+use Rattle.world_data.specs.declared.objects.Object.{Object}
+use Rattle.world_data.specs.declared.worlds.Change.TheVariants.{Put, Del, Drop, Flush, DelChan}
+use Rattle.log_record.specs.Words.{IsRecorded, is_kept, is_kept_field, is_kept_deadline}
+use Rattle.log_record.specs.RecordsRead.{record_read}
+use Rattle.log_record.specs.RecordsBack.{object_back, del_back, drop_back, flush_back, delchan_back}
+use Rattle.cmd_words.specs.ShortRequests.{total_short, each_short}
+use Rattle.record_words.specs.Reading.{IsName, IsNumber}
+use Rattle.record_words.specs.Recorded.{ChangesAreRecorded, most_fields}
+use Rattle.record_words.proofs.Parts.{name_kept, number_kept}
+use Rattle.record_words.proofs.FieldLists.{texts}
+use Rattle.record_words.proofs.PutParts.{key_kept, id_kept, fields_kept, deadline_kept, all_kept}
+
+abbrev pub IsSmall : Bytes → Type 0
+IsSmall w = length w ≤ 255
+
+abbrev pub AreSmall : List Bytes → Type 0
+AreSmall words = AllByRecursion IsSmall words
+
+pub small_append : (xs ys : List Bytes) → AreSmall xs → AreSmall ys → AreSmall (xs ++ ys)
+small_append [] ys p q = q
+small_append (x ∷ xs) ys p q = (p.0, small_append xs ys p.1 q)
+
+-- a word that is written out
+pub small : (w : Bytes) → nat_le (length w) 255 ≡ true → IsSmall w
+small w e = leb-true (length w) 255 e
+
+pub small_name : (w : Bytes) → IsName w → IsSmall w
+small_name w e =
+    let h = both_of _ _ e in
+    let k = both_of _ _ h.0 in
+    small w k.1
+
+pub small_decimal : (n : ℕ) → n < 2 ^ 64 → IsSmall (decimal n)
+small_decimal n lt = let l = length-decimal-le 20 n (omega arith) (omega (arith, lt)) (omega (arith, lt)) in omega (arith, l)
+
+pub small_number : (z : ℤ) → IsNumber z → IsSmall (signed_decimal z)
+small_number (pos n) fits = let limit = fits.sfits in let lt : n < 2 ^ 64 = grind arith in small_decimal n lt
+small_number (negsuc n) fits =
+    let limit = fits.sfits in
+    let lt : suc n < 2 ^ 64 = grind arith in
+    let l = length-decimal-le 20 (suc n) (omega arith) (omega (arith, lt)) (omega (arith, lt)) in
+    omega (arith, l)
+
+small_texts : (fields : List Field) → list_all is_kept_field fields ≡ true → AreSmall (texts fields)
+small_texts [] kept = tt
+small_texts (f ∷ fields) kept =
+    let parts = both_of (is_kept_field f) (list_all is_kept_field fields) kept in
+    (small (codes "FIELD") refl, (small_name f.0 (name_kept f parts.0), (small_number f.1 (number_kept f parts.0), small_texts fields parts.1)))
+
+texts_count : (fields : List Field) → length (texts fields) ≡ 3 * length fields
+texts_count [] = refl
+texts_count (f ∷ fields) = let ih = texts_count fields in omega (arith, ih)
+
+small_deadline : (d : Option ℕ) → is_kept_deadline d ≡ true → AreSmall (deadline_words d)
+small_deadline None kept = tt
+small_deadline (Some n) kept = let l : n ≤ 18446744073709551615 = leb-true n 18446744073709551615 kept in (small (codes "AT") refl, (small_decimal n (omega (arith, l)), tt))
+
+deadline_count : (d : Option ℕ) → length (deadline_words d) ≤ 2
+deadline_count None = omega arith
+deadline_count (Some n) = omega arith
+
+total_append : (xs ys : List Bytes) → total (xs ++ ys) ≡ total xs + total ys
+total_append [] ys = omega arith
+total_append (x ∷ xs) ys = let ih = total_append xs ys in omega (arith, ih)
+
+short_append : (xs ys : List Bytes) → AreShort xs → AreShort ys → AreShort (xs ++ ys)
+short_append [] ys p q = q
+short_append (x ∷ xs) ys p q = (p.0, short_append xs ys p.1 q)
+
+short_back : (xs ys : List Bytes) → AreShort (xs ++ ys) → AreShort ys
+short_back [] ys s = s
+short_back (x ∷ xs) ys s = short_back xs ys s.1
+
+-- words of at most 255 bytes, and one that may be longer
+pub behind_small : (front : List Bytes) (text : Bytes) → AreSmall front → length front ≤ 4095 → length text ≤ max_word → IsRequest (front ++ text ∷ [])
+behind_small front text s few short =
+    let n = length-append front (text ∷ []) in
+    let t = total_append front (text ∷ []) in
+    let m = total_short front s in
+    record {
+      some = omega (arith, n);
+      fits = record {
+        few = omega (arith, n, few);
+        short = short_append front (text ∷ []) (each_short front s) (short, tt);
+        small = omega (arith, t, m, few, short);
+      };
+    }
+
+-- words of which one may be as long as a word can be, and the others small
+abbrev pub AreLight : List Bytes → Type 0
+AreLight words = AreShort words × (total words ≤ 255 * length words + max_word)
+
+pub light_of : (words : List Bytes) → AreSmall words → AreLight words
+light_of words s = let t = total_short words s in (each_short words s, omega (arith, t))
+
+pub light_append : (xs ys : List Bytes) → AreSmall xs → AreLight ys → AreLight (xs ++ ys)
+light_append xs ys s light =
+    let t = total_append xs ys in
+    let m = total_short xs s in
+    let n = length-append xs ys in
+    let l = light.1 in
+    (short_append xs ys (each_short xs s) light.0, omega (arith, t, m, n, l))
+
+pub light_text : (called text : Bytes) → IsSmall called → length text ≤ max_word → AreLight (called ∷ text ∷ [])
+light_text called text s short = ((omega (arith, s), (short, tt)), omega (arith, s, short))
+
+pub light_fits : (words : List Bytes) → AreLight words → 0 < length words → length words ≤ 4096 → IsRequest words
+light_fits words light some few = let l = light.1 in record { some = some; fits = record { few = few; short = light.0; small = omega (arith, l, few) } }
+
+all_small : (words : List Bytes) → AreSmall words → nat_le 1 (length words) ≡ true → nat_le (length words) 4096 ≡ true → IsRequest words
+all_small words s some few =
+    let low = leb-true 1 (length words) some in
+    let high = leb-true (length words) 4096 few in
+    let m = total_short words s in
+    record { some = omega (arith, low); fits = record { few = high; short = each_short words s; small = omega (arith, m, high) } }
+
+-- the words of a put before its text
+abbrev front : Object → List Bytes
+front o = codes "SET" ∷ o.key ∷ o.id ∷ (texts o.fields ++ deadline_words o.deadline) ++ codes "OBJECT" ∷ []
+
+fronted : (o : Object) → record_words (Put o) ≡ front o ++ o.text ∷ []
+fronted o = ap (λ l. codes "SET" ∷ o.key ∷ o.id ∷ l) (sym (append_assoc (texts o.fields ++ deadline_words o.deadline) (codes "OBJECT" ∷ []) (o.text ∷ [])))
+
+front_count : (o : Object) → length (front o) ≡ 4 + 3 * length o.fields + length (deadline_words o.deadline)
+front_count o =
+    let a = length-append (texts o.fields ++ deadline_words o.deadline) (codes "OBJECT" ∷ []) in
+    let b = length-append (texts o.fields) (deadline_words o.deadline) in
+    let c = texts_count o.fields in
+    omega (arith, a, b, c)
+
+front_small : (o : Object) → is_kept (Put o) ≡ true → AreSmall (front o)
+front_small o kept = (
+  small (codes "SET") refl,
+  (
+    small_name o.key (key_kept o kept),
+    (
+      small_name o.id (id_kept o kept),
+      small_append (texts o.fields ++ deadline_words o.deadline) (codes "OBJECT" ∷ [])
+          (small_append (texts o.fields) (deadline_words o.deadline) (small_texts o.fields (fields_kept o kept).kept) (small_deadline o.deadline (deadline_kept o kept)))
+          (small (codes "OBJECT") refl, tt),
+    ),
+  ),
+)
+
+put_recorded : (o : Object) → is_kept (Put o) ≡ true → shape_of o.text ≡ Ok o.shape → length o.fields ≤ most_fields → length o.text ≤ max_word → IsRecorded (Put o)
+put_recorded o kept shape few short =
+    let n = front_count o in
+    let d = deadline_count o.deadline in
+    record {
+      read_back = object_back o kept shape;
+      fits = subst IsRequest (sym (fronted o)) (behind_small (front o) o.text (front_small o kept) (omega (arith, n, d, few)) short);
+    }
+
+put_within : (o : Object) → IsRequest (record_words (Put o)) → (length o.fields ≤ most_fields) × (length o.text ≤ max_word)
+put_within o request =
+    let fits = (subst IsRequest (fronted o) request).fits in
+    let n = front_count o in
+    let m = length-append (front o) (o.text ∷ []) in
+    let few = fits.few in
+    (omega (arith, n, m, few), (short_back (front o) (o.text ∷ []) fits.short).0)
+
+with_deadline : (o : Object) (deadline : Option ℕ) → IsRecorded (Put o) → is_kept_deadline deadline ≡ true → IsRecorded (Put (record o { deadline = deadline }))
+with_deadline o deadline recorded also =
+    let read = record_read (record_words (Put o)) (Put o) recorded.read_back in
+    let within = put_within o recorded.fits in
+    let d : Object = record o { deadline = deadline } in
+    put_recorded d (all_kept d (key_kept o read.1) (id_kept o read.1) (fields_kept o read.1) also) read.2 within.0 within.1
+
+pub changes_are_recorded : ChangesAreRecorded
+changes_are_recorded = record {
+  puts = put_recorded;
+  deadlines = with_deadline;
+  dels = λ key id kept.
+      let parts = both_of (is_name key) (is_name id) kept in
+      record {
+        read_back = del_back key id kept;
+        fits = all_small (record_words (Del key id)) (small (codes "DEL") refl, (small_name key parts.0, (small_name id parts.1, tt))) refl refl;
+      };
+  drops = λ key kept. record {
+    read_back = drop_back key kept;
+    fits = all_small (record_words (Drop key)) (small (codes "DROP") refl, (small_name key kept, tt)) refl refl;
+  };
+  flush = record { read_back = flush_back; fits = all_small (record_words Flush) (small (codes "FLUSHDB") refl, tt) refl refl };
+  channel_ends = λ name kept. record {
+    read_back = delchan_back name kept;
+    fits = all_small (record_words (DelChan name)) (small (codes "DELCHAN") refl, (small_name name kept, tt)) refl refl;
+  };
+}

@@ -1,0 +1,38 @@
+-- The records of changes fit a request, and are read back.
+use Rattle.std.specs.Prelude.{◌≡◌, ℕ, ◌≤◌, true, length, List, [], ◌∷◌, codes, Option, Some, None, Ok}
+use Rattle.byte_text.specs.Names.{Bytes}
+use Rattle.byte_text.specs.Requests.{FitsRequest, max_word}
+use Rattle.geo_text.specs.Texts.{Shape, shape_of}
+use Rattle.planar_geom.specs.declared.shapes.Area.{Area}
+use Rattle.planar_geom.specs.declared.shapes.Area.TheVariants.{Figure}
+use Rattle.world_data.specs.declared.channels.Channel.{Channel}
+use Rattle.world_data.specs.declared.objects.Object.{Object}
+use Rattle.world_data.specs.declared.worlds.Change.TheVariants.{Put, Del, Drop, Flush, SetChan, DelChan}
+use Rattle.world_model.specs.Commands.{command_spelled}
+use Rattle.world_model.specs.Effects.{settled_channel}
+use Rattle.world_model.specs.declared.commands.AreaWords.TheVariants.{Given, Of}
+use Rattle.world_model.specs.declared.commands.Command.TheVariants as command
+use Rattle.log_record.specs.Words.{IsRecorded, is_kept, is_kept_deadline}
+
+-- the most fields of an object whose record fits a request, with a deadline as without: `SET key id`, three words a field,
+-- `AT deadline` and `OBJECT text` are 4,096 words then
+abbrev pub most_fields : ℕ
+most_fields = 1363
+
+pub record ChangesAreRecorded : Type 0 where
+  -- the text is no longer than a word may be, as that of each object that a command or a record gave
+  pub puts : (o : Object) → is_kept (Put o) ≡ true → shape_of o.text ≡ Ok o.shape → length o.fields ≤ most_fields → length o.text ≤ max_word → IsRecorded (Put o)
+  -- an object with another deadline, or with none
+  pub deadlines : (o : Object) (deadline : Option ℕ) → IsRecorded (Put o) → is_kept_deadline deadline ≡ true → IsRecorded (Put (record o { deadline = deadline }))
+  pub dels : (key id : Bytes) → is_kept (Del key id) ≡ true → IsRecorded (Del key id)
+  pub drops : (key : Bytes) → is_kept (Drop key) ≡ true → IsRecorded (Drop key)
+  pub flush : IsRecorded Flush
+  pub channel_ends : (name : Bytes) → is_kept (DelChan name) ≡ true → IsRecorded (DelChan name)
+
+-- the setting of a channel that the words of a request ask for; where its area is an object's, with the object's text in its place
+pub record SettingsAreRecorded : Type 0 where
+  pub given : (words : List Bytes) (c : Channel) (a : Area) → FitsRequest words → command_spelled words ≡ Some (command.Setchan c (Some (Given a))) → IsRecorded (SetChan c)
+  pub near : (words : List Bytes) (c : Channel) → FitsRequest words → command_spelled words ≡ Some (command.Setchan c None) → IsRecorded (SetChan c)
+  pub stored : (words : List Bytes) (c : Channel) (key id text : Bytes) (shape : Shape) → FitsRequest words
+      → command_spelled words ≡ Some (command.Setchan c (Some (Of key id))) → shape_of text ≡ Ok shape → length text ≤ max_word
+      → IsRecorded (SetChan (settled_channel c (Figure shape) (codes "OBJECT" ∷ text ∷ [])))

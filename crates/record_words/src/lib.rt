@@ -1,0 +1,17 @@
+//! The records of the log read back: the change that the words of a record stand for.
+//!
+//! Which words are the record of which change stands in `log_record`.
+#![tactic(auto)]
+
+mod changes;
+mod channels;
+mod faults;
+mod laws;
+mod puts;
+mod record_reader;
+#[cfg(test)]
+mod tests;
+
+pub use changes::change_of;
+pub use faults::RecordFault;
+pub use laws::changes_are_recorded;

@@ -1,0 +1,16 @@
+-- What the plan of a request may rely on.
+use Rattle.std.specs.Prelude.{◌≡◌, ◌+◌, ◌≤◌}
+use Rattle.world_data.specs.Limits.{max_moment, max_weight}
+use Rattle.keyspace.specs.Entries.{objects_in}
+use Rattle.session_mail.specs.Sessions.{AreSoundSubs}
+use Rattle.tile_core.specs.CoreStates.{AreKept}
+use Rattle.tile_core.specs.Planned.{channels_weight}
+use Rattle.tile_core.specs.declared.contexts.Context.{Context}
+
+-- both weights are at hand and not too much together, the session's subscriptions are sound, and the moment is within its limit
+pub record IsContext (c : Context) : Type 0 where
+  pub kept : AreKept (objects_in c.objects.now) c.total
+  pub channels : c.channels ≡ channels_weight c.hub.now.channels
+  pub light : c.total + c.channels ≤ max_weight
+  pub sound : AreSoundSubs c.subs.now
+  pub moment : c.now ≤ max_moment

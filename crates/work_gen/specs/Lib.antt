@@ -1,0 +1,9 @@
+pub mod Draws
+pub mod Brief
+pub mod Words
+pub mod Workload
+pub mod Frames
+pub mod Rounds
+pub mod Asking
+pub mod Drives
+pub mod Summaries
