@@ -13,6 +13,3 @@ pub use laws::{logs_read_once, used_sides_stay};
 pub use side_ends::End;
 pub use side_heads::{Head, Start, start_log};
 pub use side_readers::{Gate, Reader};
-
-#[cfg(test)]
-mod tests;

@@ -22,6 +22,3 @@ pub use requests::{
 };
 pub use streams::{requests_are_read, streams_read_once};
 pub use texts::{NameFault, NoMemory, Text, TextFault};
-
-#[cfg(test)]
-mod tests;

@@ -7,6 +7,3 @@ mod hubs;
 
 pub use candidates::Candidates;
 pub use hubs::Hub;
-
-#[cfg(test)]
-mod tests;

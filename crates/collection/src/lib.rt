@@ -13,6 +13,3 @@ mod place_lists;
 
 pub use collections::Collection;
 pub use near_objects::NearObjects;
-
-#[cfg(test)]
-mod tests;

@@ -16,6 +16,3 @@ mod ready;
 
 pub use indexes::FenceIndex;
 pub use laws::{unconcerned_are_silent, unconcerned_by_del, unconcerned_by_put, watch_is_whole};
-
-#[cfg(test)]
-mod tests;

@@ -9,10 +9,7 @@ mod members;
 mod parts;
 mod positions;
 mod shapes;
-mod stored;
-#[cfg(test)]
-mod tests;
-mod texts;
+mod stored;mod texts;
 
 pub use faults::ShapeFault;
 pub use geo_text::GeoFault;

@@ -14,6 +14,3 @@ pub use laws::{kept_logs_hold, logs_hold_once};
 pub use openings::{OpenFault, Unopened};
 pub use pieces::{PIECE, Piece};
 pub use replays::{Refusal, Replay};
-
-#[cfg(test)]
-mod tests;

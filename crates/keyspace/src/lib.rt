@@ -7,6 +7,3 @@ mod keyed_collections;
 mod keyspaces;
 
 pub use keyspaces::Keyspace;
-
-#[cfg(test)]
-mod tests;

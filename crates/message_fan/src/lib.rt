@@ -7,6 +7,3 @@ mod writes;
 
 pub use laws::turn_laws;
 pub use writes::{stage_del, stage_drop, stage_put};
-
-#[cfg(test)]
-mod tests;

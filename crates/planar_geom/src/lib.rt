@@ -31,6 +31,3 @@ pub use polygons::in_poly;
 pub use relations::{intersects, way_meets, within};
 pub use segments::{meets, orient};
 pub use shapes::{Area, MAX_POSITIONS, Part, Shape};
-
-#[cfg(test)]
-mod tests;

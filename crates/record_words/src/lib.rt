@@ -9,9 +9,6 @@ mod faults;
 mod laws;
 mod puts;
 mod record_reader;
-#[cfg(test)]
-mod tests;
-
 pub use changes::change_of;
 pub use faults::RecordFault;
 pub use laws::changes_are_recorded;

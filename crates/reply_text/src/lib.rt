@@ -19,6 +19,3 @@ pub use objects::{bounds_reply, get_frame, stats_reply};
 pub use ready_frames::{count_frame, fine_frame, null_frame, pong_frame, text_frame};
 pub use refusals::{broken_reply, error_reply, fault_reply, refusal_reply};
 pub use replies::{number_reply, value_reply};
-
-#[cfg(test)]
-mod tests;

@@ -12,6 +12,3 @@ mod short_requests;
 pub use byte_text::{Piece, Reply, Request, RespFault, push_frame, push_request};
 pub use faults::FeedFault;
 pub use request_reader::{Fed, Requests};
-
-#[cfg(test)]
-mod tests;

@@ -15,6 +15,3 @@ pub use ids::Ids;
 pub use near::NearWalk;
 pub use steps::{Ledger, NoLedger, Steps, Visits};
 pub use tree::Tree;
-
-#[cfg(test)]
-mod tests;

@@ -14,6 +14,3 @@ mod walks;
 pub use lists::RunList;
 pub use numbers::Numbers;
 pub use searches::Before;
-
-#[cfg(test)]
-mod tests;

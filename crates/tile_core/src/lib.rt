@@ -30,6 +30,3 @@ mod subscribing;
 mod touching;
 
 pub use cores::Core;
-
-#[cfg(test)]
-mod tests;

@@ -12,10 +12,7 @@ mod lock;
 mod seat;
 mod sleepers;
 mod steps;
-mod tells;
-#[cfg(test)]
-mod tests;
-mod turned;
+mod tells;mod turned;
 
 pub use lock::TurnLock;
 pub use seat::{Hand, Held, Known, Post, Seat, Stage, View};

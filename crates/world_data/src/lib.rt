@@ -27,6 +27,3 @@ pub use lists::{NameList, Numbers};
 pub use objects::{Object, Objects};
 pub use queries::{Page, Query, Rule, Shown};
 pub use worlds::{Change, World};
-
-#[cfg(test)]
-mod tests;

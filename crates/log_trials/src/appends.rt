@@ -1,0 +1,174 @@
+//! Tests of a log over a disk in memory: each call fails once, each crash is opened.
+
+use append_log::{AppendLog, Gate, LogFault, Reader, Start, start_log};
+use outside::{Disk, MemoryDisk, PlainDisk, Side};
+use std::alloc::Global;
+use std::test::Fail;
+
+// A disk of which these calls fail.
+fn disk_failing(alloc: Global, failing: &[u64]) -> Result<MemoryDisk, Fail> {
+    let failing = failing.to_vec(alloc)?;
+    Ok(MemoryDisk::new(alloc, Vec::new(alloc), Vec::new(alloc), failing))
+}
+
+// What a disk holds: how many batches, the sum of their lengths and where the last gate is, or a negative number.
+fn held<D: Disk>(disk: &mut D) -> i64 {
+    let Ok(start) = start_log(disk) else {
+        return -1
+    };
+    match start {
+        Start::Fresh => 0,
+        Start::Damaged { .. } => -2,
+        Start::Standing { side, len, .. } => {
+            if len > 1000 {
+                return -3;
+            }
+            batches(disk, Reader::new(side, len))
+        }
+    }
+}
+
+fn batches<D: Disk>(disk: &mut D, mut reader: Reader) -> i64 {
+    let mut all = 0i64;
+    let mut piece = [0u8; 2];
+    for _ in 0..100 {
+        match reader.next_batch(disk) {
+            Ok(Gate::Open(_)) => {
+                all = all.saturating_add(1000);
+                for _ in 0..100 {
+                    if reader.left() == 0 {
+                        break;
+                    }
+                    match reader.next_piece(disk, &mut piece) {
+                        Ok(count) => {
+                            for byte in piece.iter().take(count) {
+                                all = all.saturating_add(i64::from(*byte));
+                            }
+                        }
+                        Err(_) => return -4,
+                    }
+                }
+            }
+            Ok(Gate::Closed) => return all.saturating_add(1),
+            Ok(Gate::Damaged(_)) => return -5,
+            Err(_) => return -6,
+        }
+    }
+    -7
+}
+
+#[test]
+fn a_fresh_side_and_two_batches(rt: HostRuntime) -> Result<(), Fail> {
+    let alloc = rt.alloc();
+    let mut disk = disk_failing(alloc, &[])?;
+    let Ok(mut log) = AppendLog::make(alloc, &mut disk, Side::A, 1) else {
+        return Err(Fail::from("no log"));
+    };
+    assert!(rt; log.has_room(3));
+    assert_eq!(rt; log.push(b"xyz"), Ok(()));
+    assert_eq!(rt; log.commit(&mut disk), Ok(()));
+    assert_eq!(rt; log.last_batch(), b"\x01\0\0\0\0\0\0\0\x03xyz\0".as_slice());
+    assert!(rt; log.has_room(1));
+    assert_eq!(rt; log.push(b"a"), Ok(()));
+    assert!(rt; log.has_room(2));
+    assert_eq!(rt; log.push(b"bc"), Ok(()));
+    log.cut_to(1);
+    assert_eq!(rt; log.pending(), 1);
+    assert_eq!(rt; log.commit(&mut disk), Ok(()));
+    assert_eq!(rt; log.commit(&mut disk), Ok(()));
+    assert_eq!(rt; log.last_batch(), b"".as_slice());
+    let mut bytes = [b'.'; 41];
+    assert_eq!(rt; disk.read(Side::A, 0, &mut bytes), Ok(39));
+    assert_eq!(rt;
+        bytes.as_slice(),
+        b"\x01TFL\x01\0\0\0\0\0\0\0\0\0\0\x01\x01\0\0\0\0\0\0\0\x03xyz\x01\0\0\0\0\0\0\0\x01a\0..".as_slice()
+    );
+    assert_eq!(rt; held(&mut disk), 2461);
+    Ok(())
+}
+
+#[test]
+fn each_image_of_a_commit_holds_the_batches_before_or_after(rt: HostRuntime) -> Result<(), Fail> {
+    let alloc = rt.alloc();
+    // Making the side takes 8 calls, the first commit 4. Of the second one the first to the last fails, or none.
+    for failing in 13u64..18 {
+        let mut disk = disk_failing(alloc, &[failing])?;
+        let Ok(mut log) = AppendLog::make(alloc, &mut disk, Side::A, 1) else {
+            return Err(Fail::from("no log"));
+        };
+        assert!(rt; log.has_room(3));
+        assert_eq!(rt; log.push(b"xyz"), Ok(()));
+        assert_eq!(rt; log.commit(&mut disk), Ok(()));
+        assert!(rt; log.has_room(4));
+        assert_eq!(rt; log.push(b"abcd"), Ok(()));
+        let done = log.commit(&mut disk).is_ok();
+        assert_eq!(rt; done, failing == 17);
+        for moment in 12u64..=disk.moment() {
+            for choice in 0u64..9 {
+                assert!(rt; moment <= disk.moment());
+                let mut image = disk.image(moment, choice)?;
+                let found = held(&mut image);
+                assert!(rt;
+                    found == 1364 || found == 2758,
+                    "{failing} {moment} {choice} {found}"
+                );
+                assert!(rt; !(done && moment == disk.moment()) || found == 2758);
+            }
+        }
+    }
+    Ok(())
+}
+
+#[test]
+fn each_image_of_a_new_side_is_fresh_or_stands(rt: HostRuntime) -> Result<(), Fail> {
+    let alloc = rt.alloc();
+    for failing in 1u64..10 {
+        let mut disk = disk_failing(alloc, &[failing])?;
+        let made = match AppendLog::make(alloc, &mut disk, Side::A, 1) {
+            Ok(_) => true,
+            Err(fault) => {
+                assert_eq!(rt; fault, LogFault::Disk);
+                false
+            }
+        };
+        assert_eq!(rt; made, failing == 9);
+        for moment in 0u64..=disk.moment() {
+            for choice in 0u64..9 {
+                assert!(rt; moment <= disk.moment());
+                let mut image = disk.image(moment, choice)?;
+                let found = held(&mut image);
+                assert!(rt;
+                    found == 0 || found == 1,
+                    "{failing} {moment} {choice} {found}"
+                );
+                assert!(rt; !(made && moment == disk.moment()) || found == 1);
+            }
+        }
+    }
+    Ok(())
+}
+
+#[test]
+fn a_log_over_a_plain_disk(rt: HostRuntime) -> Result<(), Fail> {
+    let alloc = rt.alloc();
+    let mut disk = PlainDisk::new(alloc);
+    let Ok(mut log) = AppendLog::make(alloc, &mut disk, Side::B, 7) else {
+        return Err(Fail::from("no log"));
+    };
+    assert!(rt; log.has_room(1));
+    assert_eq!(rt; log.push(b"a"), Ok(()));
+    assert_eq!(rt; log.commit(&mut disk), Ok(()));
+    assert_eq!(rt; log.generation(), 7);
+    assert_eq!(rt;
+        start_log(&mut disk),
+        Ok(Start::Standing {
+            side: Side::B,
+            generation: 7,
+            len: 27
+        })
+    );
+    assert_eq!(rt; held(&mut disk), 1098);
+    assert_eq!(rt; disk.cut(Side::B, 26), Ok(()));
+    assert_eq!(rt; held(&mut disk), -5);
+    Ok(())
+}

@@ -1,0 +1,236 @@
+//! Tests of a journal over a disk in memory: each call fails once, each image is opened.
+
+ghost use Rattle.std.specs.Prelude.{◌≡◌, true, None};
+
+use journal::{Journal, JournalFault, OpenFault, PIECE, Piece, Refusal, Replay};
+use outside::{Disk, MemoryDisk, Side};
+use std::alloc::Global;
+use std::test::Fail;
+
+// How many batches were taken, and the sum of their bytes.
+#[derive(Drop)]
+struct Counts {
+    batches: i64,
+    sum: i64,
+}
+
+impl Replay for Counts {
+    ghost took = { λ _ _ _. true ≡ true };
+
+    ghost fault = { λ _. None };
+
+    fn take(&mut self, piece: &[u8]) -> Result<(), Refusal> {
+        for byte in piece {
+            self.sum = self.sum.saturating_add(i64::from(*byte));
+        }
+        Ok(())
+    }
+
+    fn end(&mut self) -> Result<(), Refusal> {
+        self.batches = self.batches.saturating_add(1);
+        Ok(())
+    }
+}
+
+// Opens a disk: a journal, and a number for what it holds.
+fn open(
+    alloc: Global,
+    disk: MemoryDisk,
+) -> (Result<Journal<MemoryDisk>, (MemoryDisk, OpenFault)>, i64) {
+    let mut counts = Counts { batches: 0, sum: 0 };
+    match Journal::open(alloc, disk, &mut counts) {
+        Ok(opened) => (
+            Ok(opened.journal),
+            counts
+                .batches
+                .saturating_mul(1000)
+                .saturating_add(counts.sum),
+        ),
+        Err(unopened) => (Err((unopened.disk, unopened.why)), -1),
+    }
+}
+
+fn disk_failing(alloc: Global, a: &[u8], b: &[u8], failing: &[u64]) -> Result<MemoryDisk, Fail> {
+    Ok(MemoryDisk::new(
+        alloc,
+        a.to_vec(alloc)?,
+        b.to_vec(alloc)?,
+        failing.to_vec(alloc)?,
+    ))
+}
+
+fn write(journal: &mut Journal<MemoryDisk>, entry: &[u8]) -> bool {
+    if !journal.has_room(entry.len()) || journal.push(entry).is_err() {
+        return false;
+    }
+    journal.commit().is_ok()
+}
+
+fn begins(journal: &mut Journal<MemoryDisk>) -> bool {
+    if journal.is_rewriting() || journal.pending() > 0 || journal.generation() >= 1 << 63 {
+        return false;
+    }
+    journal.begin().is_ok()
+}
+
+fn copies(journal: &mut Journal<MemoryDisk>, piece: &Piece) -> bool {
+    if journal.pending() > 0 || !journal.has_room_for(piece) {
+        return false;
+    }
+    journal.copy(piece).is_ok()
+}
+
+fn finishes(journal: &mut Journal<MemoryDisk>) -> bool {
+    if !journal.is_rewriting() || journal.pending() > 0 {
+        return false;
+    }
+    journal.finish().is_ok()
+}
+
+// Three writes, with a whole rewriting round the second. Answers how many were acknowledged.
+fn script(journal: &mut Journal<MemoryDisk>, piece: &Piece) -> i64 {
+    if !write(journal, b"a") {
+        return 0;
+    }
+    if !begins(journal) || !copies(journal, piece) || !write(journal, b"b") {
+        return 1;
+    }
+    if !finishes(journal) || !write(journal, b"c") {
+        return 2;
+    }
+    3
+}
+
+// What the first writes make.
+fn worth(writes: i64) -> i64 {
+    match writes {
+        0 => 0,
+        1 => 1097,
+        2 => 2195,
+        _ => 3294,
+    }
+}
+
+#[test]
+fn each_call_fails_once_and_nothing_acknowledged_is_lost(rt: HostRuntime) -> Result<(), Fail> {
+    let alloc = rt.alloc();
+    let mut piece = Piece::new(alloc)?;
+    assert!(rt; !piece.is_full());
+    piece.push(b"a")?;
+    // The opening makes 14 calls, the rest 22.
+    for failing in 1u64..38 {
+        let disk = disk_failing(alloc, b"", b"", &[failing])?;
+        let (disk, acked) = match open(alloc, disk).0 {
+            Ok(mut journal) => {
+                let acked = script(&mut journal, &piece);
+                assert_eq!(rt; journal.has_failed(), failing < 37);
+                (journal.retire(), acked)
+            }
+            Err((disk, why)) => {
+                assert_eq!(rt; why, OpenFault::Disk);
+                (disk, 0)
+            }
+        };
+        assert_eq!(rt; acked == 3, failing == 37);
+        for choice in 0u64..27 {
+            let image = disk.image(disk.moment(), choice)?;
+            let found = open(alloc, image).1;
+            assert!(rt;
+                found == worth(acked) || found == worth(acked.saturating_add(1)),
+                "{failing} {choice} {found}"
+            );
+        }
+    }
+    Ok(())
+}
+
+#[test]
+fn a_log_is_rewritten(rt: HostRuntime) -> Result<(), Fail> {
+    let alloc = rt.alloc();
+    let mut piece = Piece::new(alloc)?;
+    piece.push(b"a")?;
+    assert_eq!(rt; (piece.items(), piece.len()), (1, 1));
+    let (opened, held) = open(alloc, disk_failing(alloc, b"", b"", &[])?);
+    assert_eq!(rt; held, 0);
+    let Ok(mut journal) = opened else {
+        return Err(Fail::from("not opened"));
+    };
+    assert_eq!(rt; script(&mut journal, &piece), 3);
+    assert_eq!(rt; journal.generation(), 2);
+    assert!(rt; journal.has_room(2));
+    assert_eq!(rt; journal.push(b"de"), Ok(()));
+    assert_eq!(rt; journal.pending(), 2);
+    journal.cut_to(1);
+    assert_eq!(rt; journal.commit(), Ok(()));
+    let mut disk = journal.retire();
+    let mut bytes = [b'.'; 60];
+    assert_eq!(rt; disk.read(Side::B, 0, &mut bytes), Ok(57));
+    assert_eq!(rt;
+        bytes.as_slice(),
+        b"\x01TFL\x01\0\0\0\0\0\0\0\0\0\0\x02\x01\0\0\0\0\0\0\0\x01a\x01\0\0\0\0\0\0\0\x01b\x01\0\0\0\0\0\0\0\x01c\x01\0\0\0\0\0\0\0\x01d\0...".as_slice()
+    );
+    assert_eq!(rt; open(alloc, disk).1, 4394);
+    Ok(())
+}
+
+#[test]
+fn a_journal_that_has_failed_says_so(rt: HostRuntime) -> Result<(), Fail> {
+    let alloc = rt.alloc();
+    let Ok(mut journal) = open(alloc, disk_failing(alloc, b"", b"", &[15])?).0 else {
+        return Err(Fail::from("not opened"));
+    };
+    assert!(rt; journal.has_room(1));
+    assert_eq!(rt; journal.push(b"a"), Ok(()));
+    assert_eq!(rt; journal.commit(), Err(JournalFault::Disk));
+    assert_eq!(rt; journal.commit(), Err(JournalFault::Failed));
+    Ok(())
+}
+
+#[test]
+fn damage_is_found_where_it_stands(rt: HostRuntime) -> Result<(), Fail> {
+    let alloc = rt.alloc();
+    let cases: [(&[u8], &[u8], Side, u64); 4] = [
+        (
+            b"\x01TFL\x01\0\0\0\0\0\0\0\0\0\0\x01\x01\0\0\0\0\0\0\0\x01a",
+            b"",
+            Side::A,
+            26,
+        ),
+        (
+            b"\x01TFL\x01\0\0\0\0\0\0\0\0\0\0\x01\x01\0\0\0\0\0\0\0\x03a\0",
+            b"",
+            Side::A,
+            17,
+        ),
+        (b"\x01TFL\x02\0\0\0\0\0\0\0\0\0\0\x01\0", b"", Side::A, 4),
+        (b"", b"x", Side::A, 0),
+    ];
+    for (a, b, side, place) in cases {
+        match open(alloc, disk_failing(alloc, a, b, &[])?).0 {
+            Ok(_) => return Err(Fail::from("opened")),
+            Err((_, why)) => assert_eq!(rt; why, OpenFault::Damaged { side, place }),
+        }
+    }
+    assert_eq!(rt; PIECE, 256);
+    Ok(())
+}
+
+#[test]
+fn the_length_of_the_side_in_use_is_told(rt: HostRuntime) -> Result<(), Fail> {
+    let alloc = rt.alloc();
+    let text: &[u8] = b"\x01TFL\x01\0\0\0\0\0\0\0\0\0\0\x07\x01\0\0\0\0\0\0\0\x01a\0";
+    let cases: [(&[u8], u64, u64); 2] = [(b"", 17, 1), (text, 27, 7)];
+    for (b, len, generation) in cases {
+        let mut counts = Counts { batches: 0, sum: 0 };
+        match Journal::open(alloc, disk_failing(alloc, b"", b, &[])?, &mut counts) {
+            Ok(opened) => {
+                assert_eq!(rt;
+                    (opened.len, opened.journal.generation()),
+                    (len, generation)
+                );
+            }
+            Err(_) => return Err(Fail::from("not opened")),
+        }
+    }
+    Ok(())
+}

@@ -1,0 +1,7 @@
+//! Tests of the append log and of the journal.
+#![tactic(auto)]
+
+#[cfg(test)]
+mod appends;
+#[cfg(test)]
+mod journals_kept;

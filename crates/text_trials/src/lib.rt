@@ -1,0 +1,7 @@
+//! Tests of texts, requests, replies and the frames of a stream.
+#![tactic(auto)]
+
+#[cfg(test)]
+mod frames;
+#[cfg(test)]
+mod texts;
