@@ -12,7 +12,10 @@ mod lock;
 mod seat;
 mod sleepers;
 mod steps;
-mod tells;mod turned;
+mod tells;
+#[cfg(test)]
+mod tests;
+mod turned;
 
 pub use lock::TurnLock;
 pub use seat::{Hand, Held, Known, Post, Seat, Stage, View};

@@ -4,12 +4,12 @@ ghost use Rattle.std.specs.Prelude.{◌≡◌, ◌<◌, IfOk};
 ghost use Rattle.std.specs.Arc.{arc_value};
 ghost use Rattle.turn_lock.specs.Lock.{IsSeatOf};
 
+use crate::{Seat, TurnLock, Turned, Work};
 use std::alloc::{AllocError, Global};
 use std::sync::{Arc, Wait};
 use std::test::Fail;
 use std::thread;
 use std::thread::{JoinHandle, Threads};
-use turn_lock::{Seat, TurnLock, Turned, Work};
 
 const CALLERS: usize = 8;
 

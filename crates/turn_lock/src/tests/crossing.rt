@@ -3,10 +3,10 @@
 ghost use Rattle.std.specs.Prelude.{IfOk};
 ghost use Rattle.turn_lock.specs.Lock.{IsSeatOf};
 
+use crate::{Seat, TurnLock, Turned, Work};
 use std::alloc::{AllocError, Global};
 use std::collections::{BTreeMap, VecDeque};
 use std::test::Fail;
-use turn_lock::{Seat, TurnLock, Turned, Work};
 
 // Rings, vectors and a tree.
 #[derive(Drop)]

@@ -5,11 +5,11 @@ ghost use Rattle.turn_lock.specs.Lock.{IsSeatOf};
 ghost use Rattle.turn_lock.specs.Seats.{known_of};
 ghost use Rattle.turn_lock.specs.Places.{IsAmong};
 
+use crate::{Seat, TurnLock, Turned, Work};
 use std::alloc::{AllocError, Global};
 use std::process::Abort;
 use std::sync::Wait;
 use std::test::Fail;
-use turn_lock::{Seat, TurnLock, Turned, Work};
 
 #[derive(Drop)]
 struct Counter {

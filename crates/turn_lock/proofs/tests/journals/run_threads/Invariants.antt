@@ -1,6 +1,6 @@
 use Rattle.std.proofs.Common.{length}
 use Rattle.turn_lock.specs.Lock.{IsSeatOf}
-use Rattle.lock_trials.proofs.turns.journals.run_threads.Given as goal
+use Rattle.turn_lock.proofs.tests.journals.run_threads.Given as goal
 
 abbrev pub invariant-loop-caller : goal.invariant-loop-caller
 invariant-loop-caller g l = IsSeatOf (λ _. tt) l.lock.value l.seat

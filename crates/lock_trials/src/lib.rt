@@ -1,5 +1,0 @@
-//! Tests of the lock that is taken in turn.
-#![tactic(auto)]
-
-#[cfg(test)]
-mod turns;
