@@ -23,7 +23,8 @@ mod search_options;
 mod searches;
 mod set_options;
 mod setchans;
-mod sets;mod word_kinds;
+mod sets;
+mod word_kinds;
 
 pub use commands::{command_of, read_command};
 pub use faults::CommandFault;

@@ -9,7 +9,8 @@ mod members;
 mod parts;
 mod positions;
 mod shapes;
-mod stored;mod texts;
+mod stored;
+mod texts;
 
 pub use faults::ShapeFault;
 pub use geo_text::GeoFault;

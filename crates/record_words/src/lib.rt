@@ -9,6 +9,7 @@ mod faults;
 mod laws;
 mod puts;
 mod record_reader;
+
 pub use changes::change_of;
 pub use faults::RecordFault;
 pub use laws::changes_are_recorded;
