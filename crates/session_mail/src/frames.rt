@@ -13,10 +13,7 @@ const FRAMING: usize = 64;
 fn roomy(alloc: Global, names: usize, payload: &Text) -> Result<Text, NoMemory>
     ensures { IfOk result (λ t. t ≡ []) }
 {
-    let room = payload
-        .len()
-        .saturating_add(names)
-        .saturating_add(FRAMING);
+    let room = payload.len().saturating_add(names).saturating_add(FRAMING);
     Text::with_room(alloc, room)
 }
 
