@@ -1,3 +1,4 @@
 pub mod WordLaws
 pub mod EscapeLaws
 pub mod Moments
+pub mod RunLaws

@@ -5,6 +5,7 @@ ghost use Rattle.world_data.specs.Limits.{max_sessions};
 ghost use Rattle.tile_core.specs.Answered.{AreNamed, AreRoomy, StayNamed, is_named};
 
 use session_mail::Session;
+use world_data::MAX_SESSIONS;
 use world_model::Touched;
 
 /// Names a session, where it is not named yet and there is room.
@@ -12,7 +13,8 @@ pub(crate) fn name_session(touched: &mut Touched, session: u32)
     requires { is_named touched.old session ≡ false → length touched.old < max_sessions }
     ensures { touched.new ≡ (if is_named touched.old session then touched.old else touched.old ++ session ∷ []) }
 {
-    if !touched.names(session) {
+    // Where there is no room left, it is named.
+    if touched.len() < MAX_SESSIONS {
         touched.add(session);
     }
 }

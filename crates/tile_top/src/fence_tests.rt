@@ -52,7 +52,7 @@ fn output_of(alloc: Global, lines: usize, told: &[&str]) -> Result<Text, NoMemor
 }
 
 // Plays such a script. The output, and that which is due.
-fn heard<R: Wait + Threads + Copy + Send + Sync + 'static>(
+pub(crate) fn heard<R: Wait + Threads + Copy + Send + Sync + 'static>(
     rt: &R,
     alloc: Global,
     asked: &[(&str, &str)],
@@ -67,6 +67,9 @@ fn heard<R: Wait + Threads + Copy + Send + Sync + 'static>(
 }
 
 const YARD: &str = "*3\r\n$9\r\nsubscribe\r\n$4\r\nyard\r\n:1\r\n";
+
+const INSIDE: &str =
+    "message yard {\"command\":\"set\",\"detect\":\"inside\",\"hook\":\"yard\",\"key\":\"k\",\"id\":\"a\",\"object\":{\"type\":\"Point\",\"coordinates\":[1,1]}}";
 
 // A square is jumped over in one step, and neither place is in it.
 #[test]
@@ -227,5 +230,110 @@ fn a_subscriber_is_served_four_commands(rt: HostRuntime) -> Result<(), Fail> {
     ];
     let (written, output) = heard(&rt, rt.alloc(), &asked, &told)?;
     assert_eq!(rt; written.as_slice(), output.bytes());
+    Ok(())
+}
+
+// Outside, across and outside again; at once enter and inside, and inside at rest. An object at rest crosses nothing.
+#[test]
+fn a_change_is_told_in_order(rt: HostRuntime) -> Result<(), Fail> {
+    let asked = [
+        ("2", "SUBSCRIBE yard"),
+        ("1", "SETCHAN yard WITHIN k FENCE BOUNDS 0 0 10 10"),
+        ("1", "SET k a POINT 5 -5"),
+        ("1", "SET k a POINT 5 15"),
+        ("1", "SET k b POINT 1 1"),
+        ("1", "SET k b POINT 1 1"),
+        ("1", "SETCHAN yard WITHIN k FENCE CIRCLE 0 0 5"),
+        ("1", "SET k c POINT 50 50"),
+        ("1", "SET k c POINT 50 50"),
+    ];
+    let told = [
+        YARD,
+        "message yard {\"command\":\"set\",\"detect\":\"outside\",\"hook\":\"yard\",\"key\":\"k\",\"id\":\"a\",\"object\":{\"type\":\"Point\",\"coordinates\":[-5,5]}}",
+        "message yard {\"command\":\"set\",\"detect\":\"cross\",\"hook\":\"yard\",\"key\":\"k\",\"id\":\"a\",\"object\":{\"type\":\"Point\",\"coordinates\":[15,5]}}",
+        "message yard {\"command\":\"set\",\"detect\":\"outside\",\"hook\":\"yard\",\"key\":\"k\",\"id\":\"a\",\"object\":{\"type\":\"Point\",\"coordinates\":[15,5]}}",
+        "message yard {\"command\":\"set\",\"detect\":\"enter\",\"hook\":\"yard\",\"key\":\"k\",\"id\":\"b\",\"object\":{\"type\":\"Point\",\"coordinates\":[1,1]}}",
+        "message yard {\"command\":\"set\",\"detect\":\"inside\",\"hook\":\"yard\",\"key\":\"k\",\"id\":\"b\",\"object\":{\"type\":\"Point\",\"coordinates\":[1,1]}}",
+        "message yard {\"command\":\"set\",\"detect\":\"inside\",\"hook\":\"yard\",\"key\":\"k\",\"id\":\"b\",\"object\":{\"type\":\"Point\",\"coordinates\":[1,1]}}",
+        "message yard {\"command\":\"set\",\"detect\":\"outside\",\"hook\":\"yard\",\"key\":\"k\",\"id\":\"c\",\"object\":{\"type\":\"Point\",\"coordinates\":[50,50]}}",
+        "message yard {\"command\":\"set\",\"detect\":\"outside\",\"hook\":\"yard\",\"key\":\"k\",\"id\":\"c\",\"object\":{\"type\":\"Point\",\"coordinates\":[50,50]}}",
+    ];
+    let (written, output) = heard(&rt, rt.alloc(), &asked, &told)?;
+    assert_eq!(rt; written.as_slice(), output.bytes());
+    Ok(())
+}
+
+// Each object that goes is told of by itself, in byte order of the ids, where it was in: at expiry, and where a pattern takes out several. A
+// put and a drop are not told where COMMANDS leaves them out.
+#[test]
+fn each_del_is_told_by_id(rt: HostRuntime) -> Result<(), Fail> {
+    let asked = [
+        ("2", "SUBSCRIBE yard"),
+        (
+            "1",
+            "SETCHAN yard WITHIN k FENCE COMMANDS del BOUNDS 0 0 10 10",
+        ),
+        ("1", "SET k b EX 1 POINT 1 1"),
+        ("1", "SET k a EX 1 POINT 2 2"),
+        ("", "tick 999"),
+        ("1", "SET k d POINT 3 3"),
+        ("", "tick 1000"),
+        ("1", "SET k c POINT 2 2"),
+        ("1", "SET k cc POINT 2 2"),
+        ("1", "SET k e POINT 11 11"),
+        ("1", "PDEL k ?"),
+        ("1", "DROP k"),
+    ];
+    let told = [
+        YARD,
+        "message yard {\"command\":\"del\",\"hook\":\"yard\",\"key\":\"k\",\"id\":\"a\"}",
+        "message yard {\"command\":\"del\",\"hook\":\"yard\",\"key\":\"k\",\"id\":\"b\"}",
+        "message yard {\"command\":\"del\",\"hook\":\"yard\",\"key\":\"k\",\"id\":\"c\"}",
+        "message yard {\"command\":\"del\",\"hook\":\"yard\",\"key\":\"k\",\"id\":\"d\"}",
+    ];
+    let (written, output) = heard(&rt, rt.alloc(), &asked, &told)?;
+    assert_eq!(rt; written.as_slice(), output.bytes());
+    Ok(())
+}
+
+// A script in which the second session subscribes and takes nothing while the first sets an object in the square so often, and then takes so
+// often; and what it prints, where all that it is told fits but the last message.
+fn overflow(alloc: Global, sets: usize, takes: usize) -> Result<(Text, Text), NoMemory> {
+    let mut script = Text::new(alloc);
+    let mut output = Text::new(alloc);
+    script.push(b"open\nopen\n")?;
+    output.push(b"session 1\nsession 2\n")?;
+    push_asked(alloc, &mut script, "2", "SUBSCRIBE yard")?;
+    push_asked(
+        alloc,
+        &mut script,
+        "1",
+        "SETCHAN yard WITHIN k FENCE DETECT inside BOUNDS 0 0 10 10",
+    )?;
+    script.push(b"take 1\n")?;
+    output.push(b"ok\nok\nframe :1%0D%0A\n")?;
+    for _ in 0..sets {
+        push_asked(alloc, &mut script, "1", "SET k a POINT 1 1")?;
+        script.push(b"take 1\n")?;
+        output.push(b"ok\nframe +OK%0D%0A\n")?;
+    }
+    push_told(alloc, &mut output, YARD)?;
+    for _ in 1..sets {
+        push_told(alloc, &mut output, INSIDE)?;
+    }
+    for _ in 0..takes {
+        script.push(b"take 2\n")?;
+    }
+    output.push(b"ended\n")?;
+    Ok((script, output))
+}
+
+// A session that does not take keeps the first 16,384 frames. The next message cuts it, and is not told of; each SET is answered.
+#[test]
+fn a_listener_that_takes_nothing_is_cut(rt: HostRuntime) -> Result<(), Fail> {
+    let alloc = rt.alloc();
+    let (script, output) = overflow(alloc, 16_384, 257)?;
+    let (_, sink) = played(&rt, alloc, "replay", script.bytes(), &[], &[])?;
+    assert_eq!(rt; sink.written(), output.bytes());
     Ok(())
 }

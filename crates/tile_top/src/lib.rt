@@ -18,4 +18,6 @@ pub use tops::{Ended, out_of_memory, top};
 #[cfg(test)]
 mod fence_tests;
 #[cfg(test)]
+mod moving_area_tests;
+#[cfg(test)]
 mod tests;
