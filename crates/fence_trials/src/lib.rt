@@ -1,8 +1,6 @@
-//! Tests of the index of channels, of the hub and of what it sends.
+//! Tests of the index of channels and of the hub.
 #![tactic(auto)]
 
-#[cfg(test)]
-mod fans;
 #[cfg(test)]
 mod hubs;
 #[cfg(test)]

@@ -3,7 +3,7 @@ use Rattle.std.specs.List.{list_all}
 use Rattle.world_data.specs.Sound.{is_sound_channel}
 use Rattle.world_data.specs.Worlds.{channel_before}
 use Rattle.message_fan.proofs.Payloads.{all_put}
-use Rattle.fence_trials.proofs.fans.put.Goals as goal
+use Rattle.message_trials.proofs.fans.put.Goals as goal
 
 pub returns : goal.returns
 returns c =
