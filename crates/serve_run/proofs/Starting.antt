@@ -11,7 +11,7 @@ use Rattle.world_model.specs.declared.events.Event.TheVariants as event
 use Rattle.world_model.specs.declared.events.Outcome.TheVariants as outcome
 use Rattle.session_run.specs.Gains.{Gains, gains_more, gains_one, made}
 use Rattle.serve_run.specs.declared.starts.Fate.{Fate}
-use Rattle.serve_run.specs.declared.starts.Fate.TheVariants.{Refused, Closed, Dropped, Starved}
+use Rattle.serve_run.specs.declared.starts.Fate.TheVariants.{Refused, Unread, Dropped, Starved}
 use Rattle.serve_run.specs.Links.{Starts, Joins, start_acts}
 
 none_refused : (faults : ℕ) → min (faults + 0) most_count ≤ faults
@@ -39,9 +39,9 @@ starts_dropped n old mid new jobs jobs' faults faults' same a j r = record {
 }
 
 -- the second job was refused
-pub starts_closed : (n : ℕ) (old mid new : Knows) (jobs j1 j2 faults f1 f2 : ℕ) → mid ≡ old → Adds (event.Close n) outcome.Done mid new → j1 ≡ next_count jobs → j2 ≡ j1 → faults ≤ f1 → Rose f1 f2 → Starts n old new jobs j2 faults f2 Closed
-starts_closed n old mid new jobs j1 j2 faults f1 f2 same a j k h r = record {
-  gains = subst (λ (k : Knows). Gains k new ((event.Close n, outcome.Done) ∷ [])) same (gains_one mid new (event.Close n, outcome.Done) (made (event.Close n) outcome.Done mid new a));
+pub starts_unread : (n : ℕ) (old mid new : Knows) (jobs j1 j2 faults f1 f2 : ℕ) → mid ≡ old → Adds (event.Remove n) outcome.Done mid new → j1 ≡ next_count jobs → j2 ≡ j1 → faults ≤ f1 → Rose f1 f2 → Starts n old new jobs j2 faults f2 Unread
+starts_unread n old mid new jobs j1 j2 faults f1 f2 same a j k h r = record {
+  gains = subst (λ (k : Knows). Gains k new ((event.Remove n, outcome.Done) ∷ [])) same (gains_one mid new (event.Remove n, outcome.Done) (made (event.Remove n) outcome.Done mid new a));
   entered = refl;
   jobs_are = k ∙ j;
   refused = one_refused faults f1 f2 h r;

@@ -9,7 +9,7 @@ use Rattle.world_model.specs.declared.events.Outcome.TheVariants as outcome
 use Rattle.world_model.specs.Seats.{Knows, Act}
 use Rattle.session_run.specs.Gains.{Gains}
 use Rattle.serve_run.specs.declared.starts.Fate.{Fate}
-use Rattle.serve_run.specs.declared.starts.Fate.TheVariants.{Refused, Served, Closed, Dropped, Starved}
+use Rattle.serve_run.specs.declared.starts.Fate.TheVariants.{Refused, Served, Unread, Dropped, Starved}
 use Rattle.serve_run.specs.declared.tends.ServeEnd.{ServeEnd}
 use Rattle.serve_run.specs.declared.tends.ServeEnd.TheVariants as end
 
@@ -17,19 +17,19 @@ use Rattle.serve_run.specs.declared.tends.ServeEnd.TheVariants as end
 abbrev pub start_acts : ℕ → Fate → List Act
 start_acts n Refused = []
 start_acts n Served = []
-start_acts n Closed = (event.Close n, outcome.Done) ∷ []
+start_acts n Unread = (event.Remove n, outcome.Done) ∷ []
 start_acts n Dropped = (event.Remove n, outcome.Done) ∷ []
 start_acts n Starved = (event.Remove n, outcome.Done) ∷ []
 
 -- the number of jobs, behind those that were started for a link
 abbrev pub jobs_after : Fate → ℕ → ℕ
 jobs_after Served n = next_count (next_count n)
-jobs_after Closed n = next_count n
+jobs_after Unread n = next_count n
 jobs_after fate n = n
 
 -- how many jobs of a link were refused
 abbrev pub refusals : Fate → ℕ
-refusals Closed = 1
+refusals Unread = 1
 refusals Dropped = 1
 refusals fate = 0
 
@@ -53,7 +53,7 @@ abbrev pub IsFate : Outcome → Fate → Type 0
 IsFate (outcome.Entered n) fate = was_entered fate ≡ true
 IsFate o fate = fate ≡ Refused
 
--- a link: one Enter, and at most one Close or Remove of the session that was entered
+-- a link: one Enter, and at most one Remove of the session that was entered
 pub record Joins (old new : Knows) (jobs jobs' faults faults' : ℕ) (fate : Fate) : Type 0 where
   pub entered : Outcome
   pub gains : Gains old new ((event.Enter, entered) ∷ fate_acts entered fate)

@@ -42,7 +42,7 @@ abbrev pub link_acts : Option Came → List Act
 link_acts None = []
 link_acts (Some l) = (event.Enter, l.entered) ∷ fate_acts l.entered l.fate
 
--- the entries of a group: a Tick, a Rewrite, and for a link one Enter and at most one Close or Remove of the session entered
+-- the entries of a group: a Tick, a Rewrite, and for a link one Enter and at most one Remove of the session entered
 abbrev pub group_acts : Group → List Act
 group_acts g = tick_act g.moment called.Ok ∷ rewrite_act called.Ok ∷ link_acts g.link
 

@@ -6,7 +6,7 @@ ghost use Rattle.serve_run.specs.Links.{Starts, Joins};
 
 use crate::shared::{Parts, Shared};
 use outside::{Bell, Clock, Door, Failed, Gate, Link, Sink, Source, Spawner};
-use session_run::{InJob, OutJob, SessionJob};
+use session_run::{InJob, OutJob, Outlet, SessionJob};
 use std::alloc::Global;
 use std::sync::Wait;
 use std::thread::Threads;
@@ -22,8 +22,8 @@ pub enum Fate {
     Refused,
     /// Both jobs were started.
     Served,
-    /// The second job was refused, and the session closed.
-    Closed,
+    /// The second job was refused, and the session removed.
+    Unread,
     /// The first job was refused, and the session removed.
     Dropped,
     /// The session was removed for want of memory.
@@ -65,16 +65,20 @@ where
         writes,
         reads,
         frames,
+        own,
+        writer,
+        sinks,
     } = parts;
     let Link { incoming, outgoing } = link;
-    let writer = shared.hall.split(seat);
-    let reader = shared.hall.split(seat);
+    let writes_by = shared.hall.split(seat);
+    let takes_by = shared.hall.split(seat);
+    let calls_by = shared.hall.split(seat);
     let job = SessionJob::Writes(OutJob {
         alloc,
         hall: writes.hall,
-        seat: writer,
+        seat: writes_by,
         session,
-        sink: outgoing,
+        sinks,
         bell: writes.bell,
         room: writes.room,
         frames,
@@ -86,18 +90,25 @@ where
     let job = SessionJob::Reads(InJob {
         alloc,
         hall: reads.hall,
-        seat: reader,
+        seat: calls_by,
         session,
         source: incoming,
         clock: clock.twin(),
         bell: reads.bell,
         room: reads.room,
         gate: reads.gate,
+        outlet: Outlet {
+            seat: takes_by,
+            sink: outgoing,
+            frames: own,
+            text: Vec::new(alloc),
+            writer,
+        },
     });
+    // The job is dropped with the sink and the way to the writer, which so ends.
     if let Err(Failed) = spawner.start(rt, job) {
-        shared.hall.close(rt, seat, session);
-        shared.bell.ring(session);
-        return Fate::Closed;
+        shared.hall.remove(rt, seat, session);
+        return Fate::Unread;
     }
     Fate::Served
 }

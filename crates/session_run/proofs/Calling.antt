@@ -1,7 +1,7 @@
 -- Calls one behind another.
-use Rattle.std.proofs.Common.{◌≡◌, ◌≤◌, ◌<◌, ℕ, zero, suc, Bool, true, false, List, [], ◌∷◌, ◌++◌, length, take, drop, refl, sym, ap, ◌∙◌, subst, arith, append_assoc, length-drop}
-use Rattle.std.specs.Prelude.{Option, Some, None, MatchOption, map, ◌&&◌}
-use Rattle.std.specs.List.{list_all}
+use Rattle.std.proofs.Common.{◌≡◌, ◌≤◌, ◌<◌, ◌+◌, ℕ, zero, suc, Bool, true, false, List, [], ◌∷◌, ◌++◌, length, take, drop, refl, sym, ap, ◌∙◌, subst, arith, append_assoc, length-drop}
+use Rattle.std.specs.Prelude.{Option, Some, None, MatchOption, map, slice_get, ◌&&◌, ◌||◌}
+use Rattle.std.specs.List.{list_all, list_any}
 use Rattle.world_model.specs.Outcomes.{is_proper}
 use Rattle.world_model.specs.declared.events.Asked.{Asked}
 use Rattle.world_model.specs.declared.events.Called.{Called}
@@ -173,6 +173,23 @@ module _ (n m : ℕ) (told : Option ℕ) (old new : Knows) (asks : List Asked) (
 
   pub turn_waits : IsCount served called.Full (length asks) → AddsCalls (call_acts n m asks served called.Full) old new → ServesOn n told old new asks (drop served asks)
   turn_waits count adds = turn_full count adds
+
+same_asked : (a b : Asked) → Some a ≡ Some b → a ≡ b
+same_asked a b e = cc
+
+-- the requests from a place on, of which the first is at hand
+pub any_next : (p : Asked → Bool) (asks : List Asked) (i : ℕ) (a : Asked) → slice_get asks i ≡ Some a → list_any p (drop i asks) ≡ (p a || list_any p (drop (i + 1) asks))
+any_next p [] i a at = absurd (cc)
+any_next p (b ∷ asks) zero a at = ap (λ (x : Asked). p x || list_any p asks) (same_asked b a at)
+any_next p (b ∷ asks) (suc i) a at =
+    let same : suc (i + 1) ≡ suc i + 1 = omega arith in
+    any_next p asks i a at ∙ ap (λ (n : ℕ). p a || list_any p (drop n (b ∷ asks))) same
+
+pub any_past : (p : Asked → Bool) (asks : List Asked) (i : ℕ) → length asks ≤ i → list_any p (drop i asks) ≡ false
+any_past p [] zero h = refl
+any_past p [] (suc i) h = refl
+any_past p (a ∷ asks) zero h = absurd (omega (arith, h))
+any_past p (a ∷ asks) (suc i) h = any_past p asks i (omega (arith, h))
 
 -- the turns so far
 pub record Serving (n : ℕ) (told : Option ℕ) (old now : Knows) (asks left : List Asked) : Type 0 where

@@ -15,16 +15,8 @@ use Rattle.session_run.specs.Gains.{Gains}
 use Rattle.session_run.specs.Gains.{gains_more, gains_last, gains_one, made}
 use Rattle.session_run.specs.declared.outs.OutEnd.{OutEnd}
 use Rattle.session_run.specs.declared.outs.OutEnd.TheVariants.{Ended, WriteFault, LogFault, Stopped}
-use Rattle.session_run.specs.Outs.{goes_on, given_bytes, bytes_given, take_act, remove_acts, IsLast, Wrote, WritesSession, TakesOn, TakesLast}
+use Rattle.session_run.specs.Outs.{goes_on, given_bytes, bytes_given, take_act, remove_acts, IsLast, Wrote, WritesSession, Going, TakesOn, TakesLast}
 use Rattle.outside.specs.Writing.{AppendsPart, appends_more, appends_nothing}
-
--- the takes so far
-pub record Going (n : ℕ) (old now : Knows) (held held' : Option (List ℕ)) (faults faults' : ℕ) : Type 0 where
-  pub takes : List Outcome
-  pub gains : Gains old now (map (take_act n) takes)
-  pub went_on : list_all goes_on takes ≡ true
-  pub wrote : Appends held held' (bytes_given takes)
-  pub later : faults ≤ faults'
 
 pub going_start : (n : ℕ) (old : Knows) (held : Option (List ℕ)) (faults : ℕ) → Going n old old held held faults faults
 going_start n old held faults = record { takes = []; gains = refl; went_on = refl; wrote = appends_nothing held; later = omega arith }
@@ -76,6 +68,50 @@ going_last n old mid new held0 held held' faults0 faults faults' end g t =
       went_on = g.went_on;
       is_last = t.is_last;
       wrote = subst (λ (l : List ℕ). Wrote end held0 held' l) (sym (bytes_snoc g.takes t.taken)) (wrote_more end held0 held held' (bytes_given g.takes) (given_bytes t.taken) g.wrote t.wrote);
+      cause = λ is. rose faults0 faults faults' a (t.cause is);
+      later = omega (arith, a, b);
+      legal = t.legal;
+    }
+
+takes_more : (n : ℕ) (xs ys : List Outcome) → map (take_act n) (xs ++ ys) ≡ map (take_act n) xs ++ map (take_act n) ys
+takes_more n [] ys = refl
+takes_more n (x ∷ xs) ys = ap (λ (l : List Act). take_act n x ∷ l) (takes_more n xs ys)
+
+all_more : (test : Outcome → Bool) (xs ys : List Outcome) → list_all test xs ≡ true → list_all test ys ≡ true → list_all test (xs ++ ys) ≡ true
+all_more test xs ys h k = list_all-append test xs ys ∙ ap (λ (b : Bool). b && list_all test ys) h ∙ k
+
+pub going_more : (n : ℕ) (old mid new : Knows) (held0 held held' : Option (List ℕ)) (faults0 faults faults' : ℕ)
+    → Going n old mid held0 held faults0 faults → Going n mid new held held' faults faults' → Going n old new held0 held' faults0 faults'
+going_more n old mid new held0 held held' faults0 faults faults' g t =
+    let a : faults0 ≤ faults = g.later in
+    let b : faults ≤ faults' = t.later in
+    record {
+      takes = g.takes ++ t.takes;
+      gains = subst (λ (l : List Act). Gains old new l) (sym (takes_more n g.takes t.takes)) (gains_more old mid new (map (take_act n) g.takes) (map (take_act n) t.takes) g.gains t.gains);
+      went_on = all_more goes_on g.takes t.takes g.went_on t.went_on;
+      wrote = subst (λ (l : List ℕ). Appends held0 held' l) (sym (flat_map-append given_bytes g.takes t.takes)) (appends_more held0 held held' (bytes_given g.takes) (bytes_given t.takes) g.wrote t.wrote);
+      later = omega (arith, a, b);
+    }
+
+-- and takes up to an end behind them
+pub going_session : (n : ℕ) (old mid new : Knows) (held0 held held' : Option (List ℕ)) (faults0 faults faults' : ℕ) (end : OutEnd)
+    → Going n old mid held0 held faults0 faults → WritesSession n mid new held held' faults faults' end → WritesSession n old new held0 held' faults0 faults' end
+going_session n old mid new held0 held held' faults0 faults faults' end g t =
+    let a : faults0 ≤ faults = g.later in
+    let b : faults ≤ faults' = t.later in
+    let all = t.takes ++ t.last ∷ [] in
+    let same : (g.takes ++ t.takes) ++ t.last ∷ [] ≡ g.takes ++ all = append_assoc g.takes t.takes (t.last ∷ []) in
+    record {
+      takes = g.takes ++ t.takes;
+      last = t.last;
+      gains = subst (λ (l : List Act). Gains old new l)
+          (sym (ap (λ (l : List Outcome). map (take_act n) l ++ remove_acts n end) same ∙ ap (λ (l : List Act). l ++ remove_acts n end) (takes_more n g.takes all)
+          ∙ append_assoc (map (take_act n) g.takes) (map (take_act n) all) (remove_acts n end)))
+          (gains_more old mid new (map (take_act n) g.takes) (map (take_act n) all ++ remove_acts n end) g.gains t.gains);
+      went_on = all_more goes_on g.takes t.takes g.went_on t.went_on;
+      is_last = t.is_last;
+      wrote = subst (λ (l : List ℕ). Wrote end held0 held' l) (sym (ap bytes_given same ∙ flat_map-append given_bytes g.takes all))
+          (wrote_more end held0 held held' (bytes_given g.takes) (bytes_given all) g.wrote t.wrote);
       cause = λ is. rose faults0 faults faults' a (t.cause is);
       later = omega (arith, a, b);
       legal = t.legal;

@@ -1,5 +1,5 @@
 -- Parts and blocks one behind another.
-use Rattle.std.proofs.Common.{◌≡◌, ◌≤◌, ℕ, ◌+◌, ◌-◌, true, List, [], ◌∷◌, ◌++◌, length, take, drop, refl, sym, ap, ◌∙◌, subst, inl, inr, arith, append_assoc, length-drop}
+use Rattle.std.proofs.Common.{◌≡◌, ◌≤◌, ℕ, ◌+◌, ◌-◌, true, false, List, [], ◌∷◌, ◌++◌, length, take, drop, refl, sym, ap, ◌∙◌, subst, inl, inr, arith, append_assoc, length-drop}
 use Rattle.std.specs.Prelude.{Option, Some, None, map}
 use Rattle.std.specs.Io.KnownBytes.{Keeps, Consumes, IsAtEnd}
 use Rattle.std.proofs.lemmas.List.{append-nil, take_all, drop-drop}
@@ -21,8 +21,8 @@ use Rattle.session_run.specs.Feeds.{asked_by, asked_behind, Feeds, EndsBroken, I
 use Rattle.session_run.specs.declared.batches.Fill.{Fill}
 use Rattle.session_run.specs.declared.batches.Fill.TheVariants as fill
 use Rattle.session_run.specs.declared.ends.InEnd.{InEnd}
-use Rattle.session_run.specs.declared.ends.InEnd.TheVariants.{Over, Broken, ClosedByHall, ReadFault, LogFault, Stopped, Spent, Memory}
-use Rattle.session_run.specs.Ends.{end_of, EndsAt, ReadsOn, ReadsSession, PartOn, PartLast, is_of_calls, BlockOn, BlockLast}
+use Rattle.session_run.specs.declared.ends.InEnd.TheVariants.{Over, Broken, ClosedByHall, OutEnded, ReadFault, LogFault, Stopped, Spent, Memory}
+use Rattle.session_run.specs.Ends.{end_of, EndsAt, ReadsOn, ReadsSession, PartOn, PartLast, is_of_calls, ServesBlock, BlockOn, BlockLast, BlockTurn}
 use Rattle.session_run.proofs.Calling.{map_more, serves_more, serves_before, stop_before}
 use Rattle.session_run.proofs.Feeding.{feeds_none, feeds_more}
 
@@ -39,6 +39,7 @@ same_end a b e = cc
 ends_behind : (told : Option ℕ) (end : InEnd) (stop : List Call) (front asks left : List Asked) → EndsAt told end stop asks left → EndsAt told end stop (front ++ asks) left
 ends_behind told Over stop front asks left e = e
 ends_behind told ReadFault stop front asks left e = e
+ends_behind told OutEnded stop front asks left e = e
 ends_behind told Broken stop front asks left e = (e.0, e.1, (front ++ e.2.0, e.2.1, ap (λ (l : List Asked). front ++ l) e.2.2 ∙ sym (append_assoc front e.2.0 (asked.Broken e.2.1 ∷ []))))
 ends_behind told ClosedByHall stop front asks left e = e
 ends_behind told LogFault stop front asks left e = e
@@ -224,6 +225,25 @@ reading_last n told old mid new a b c x y z held end r t =
       later = omega (arith, before, now);
     }
 
+-- all blocks so far were served, and no frame is written any more
+pub reading_over : (n : ℕ) (told : Option ℕ) (old now : Knows) (left left' : Option Bytes) (faults faults' : ℕ) (held : Held) → Reading n told old now left left' faults faults' held → ReadsOn n told old now left left' faults faults' OutEnded
+reading_over n told old now left left' faults faults' held r =
+    let p = r.served in
+    let all = all_bytes (Some []) held r.read [] p.asks p.feeds ∙ ap (λ (l : List Asked). p.asks ++ l) r.dry ∙ append-nil p.asks in
+    record {
+      read = r.read;
+      consumed = r.consumed;
+      calls = p.calls;
+      stop = [];
+      unasked = [];
+      gains = subst (λ (l : List Call). Gains old now (map (call_of n) l)) (sym (append-nil p.calls)) p.gains;
+      serves = subst (λ (l : List Asked). Serves told p.calls l []) (sym all) p.serves;
+      ends = (refl, refl);
+      at_end = λ e. absurd (cc);
+      cause = λ e. absurd (cc);
+      later = r.later;
+    }
+
 -- the rest of some bytes from a place on
 abbrev pub rest_from : ℕ → Bytes → Bytes
 rest_from taken bytes = take (length bytes - taken) (drop taken bytes)
@@ -286,6 +306,7 @@ block_none n told old left left' faults faults' held dry keeps later rose = reco
   at_end = λ e. absurd (cc);
   cause = λ e. rose;
   later = later;
+  own = λ e. absurd (cc);
 }
 
 pub block_over : (n : ℕ) (told : Option ℕ) (old : Knows) (left left' : Option Bytes) (faults faults' : ℕ) (held : Held) → asked_behind held [] ≡ [] → Consumes left left' [] → IsAtEnd left' → faults ≤ faults'
@@ -302,6 +323,30 @@ block_over n told old left left' faults faults' held dry consumed at later = rec
   at_end = λ e. at;
   cause = λ e. absurd (cc);
   later = later;
+  own = λ e. absurd (cc);
+}
+
+-- an end that calls bring is no other
+other_end : (a b : InEnd) → is_of_calls a ≡ true → is_of_calls b ≡ false → a ≡ b → ⊥
+other_end a b h k e = absurd (cc)
+
+-- the calls of a block that was read
+pub block_served : (n : ℕ) (told : Option ℕ) (old new : Knows) (left left' : Option Bytes) (faults faults' : ℕ) (held held' : Held) (block : Bytes) (end : Option InEnd) → Consumes left left' block → faults ≤ faults'
+    → ServesBlock n told old new held block held' end → BlockTurn n told old new left left' faults faults' held held' end
+block_served n told old new left left' faults faults' held held' block None consumed later s = record { block = block; consumed = consumed; served = s.0; dry = s.1; later = later }
+block_served n told old new left left' faults faults' held held' block (Some end) consumed later s = record {
+  block = block;
+  consumed = consumed;
+  calls = s.calls;
+  stop = s.stop;
+  unasked = s.unasked;
+  gains = s.gains;
+  serves = s.serves;
+  ends = s.ends;
+  at_end = λ e. absurd (other_end end Over s.own refl e);
+  cause = λ e. absurd (other_end end ReadFault s.own refl e);
+  later = later;
+  own = other_end end OutEnded s.own refl;
 }
 
 -- and then the close

@@ -2,12 +2,20 @@
 use Rattle.std.specs.Prelude.{◌≡◌, ◌≤◌, ◌<◌, ℕ, Bool, true, false, List, [], ◌∷◌, ◌++◌, length, map, Option, Some, None, MatchOption}
 use Rattle.std.specs.List.{list_all}
 use Rattle.world_model.specs.Outcomes.{is_proper}
+use Rattle.byte_text.specs.Names.{Bytes, is_word}
 use Rattle.world_model.specs.declared.events.Asked.{Asked}
+use Rattle.world_model.specs.declared.events.Asked.TheVariants.{Words, Broken}
 use Rattle.world_model.specs.declared.events.Called.{Called}
 use Rattle.world_model.specs.declared.events.Called.TheVariants as called
 use Rattle.world_model.specs.Seats.{Knows, Act}
 use Rattle.session_run.specs.Gains.{Gains}
 use Rattle.world_model.specs.Outcomes.{call_act}
+
+-- the request calls the command of this name
+abbrev pub is_named : Bytes → Asked → Bool
+is_named name (Words (called ∷ words)) = is_word called name
+is_named name (Words []) = false
+is_named name (Broken fault) = false
 
 -- a call: at which moment, of what, and its answer
 pub record Call : Type 0 where

@@ -15,7 +15,7 @@ use Rattle.session_run.specs.Gains.{Gains, SeesLegal}
 use Rattle.session_run.specs.Calls.{Call, call_of, Serves, IsStop}
 use Rattle.session_run.specs.Feeds.{asked_by, asked_behind, Feeds, EndsBroken}
 use Rattle.session_run.specs.declared.ends.InEnd.{InEnd}
-use Rattle.session_run.specs.declared.ends.InEnd.TheVariants.{Over, Broken, ClosedByHall, ReadFault, LogFault, Stopped, Spent, Memory}
+use Rattle.session_run.specs.declared.ends.InEnd.TheVariants.{Over, Broken, ClosedByHall, OutEnded, ReadFault, LogFault, Stopped, Spent, Memory}
 use Rattle.session_run.specs.declared.blocks.Part.{Part}
 use Rattle.session_run.specs.declared.blocks.Part.TheVariants as part
 
@@ -29,11 +29,12 @@ end_of called.Stopped = Some Stopped
 end_of called.Spent = Some Spent
 end_of called.Memory = Some Memory
 
--- why it ended: all that is asked for was answered Ok, and it is the end of the input, or its last is a fault's, or reading failed;
--- or one call more was answered otherwise. Memory is free
+-- why it ended: all that is asked for was answered Ok, and it is the end of the input, or its last is a fault's, or reading failed, or
+-- no frame of the session is written any more; or one call more was answered otherwise. Memory is free
 abbrev pub EndsAt : Option ℕ → InEnd → List Call → List Asked → List Asked → Type 0
 EndsAt told Over stop asks left = (stop ≡ []) × (left ≡ [])
 EndsAt told ReadFault stop asks left = (stop ≡ []) × (left ≡ [])
+EndsAt told OutEnded stop asks left = (stop ≡ []) × (left ≡ [])
 EndsAt told Broken stop asks left = (stop ≡ []) × (left ≡ []) × EndsBroken asks
 EndsAt told ClosedByHall stop asks left = IsStop told called.Gone stop left
 EndsAt told LogFault stop asks left = IsStop told called.LogFault stop left
@@ -83,6 +84,7 @@ pub record PartOn (n : ℕ) (told : Option ℕ) (old new : Knows) (held : Held) 
 abbrev pub is_of_calls : InEnd → Bool
 is_of_calls Over = false
 is_of_calls ReadFault = false
+is_of_calls OutEnded = false
 is_of_calls end = true
 
 -- what some bytes ask for was served up to an end
@@ -124,6 +126,7 @@ pub record BlockLast (n : ℕ) (told : Option ℕ) (old new : Knows) (left left'
   pub at_end : end ≡ Over → IsAtEnd left'
   pub cause : end ≡ ReadFault → Rose faults faults'
   pub later : faults ≤ faults'
+  pub own : end ≡ OutEnded → ⊥
 
 abbrev pub BlockTurn : ℕ → Option ℕ → Knows → Knows → Option Bytes → Option Bytes → ℕ → ℕ → Held → Held → Option InEnd → Type 0
 BlockTurn n told old new left left' faults faults' held held' None = BlockOn n told old new left left' faults faults' held held'

@@ -13,6 +13,8 @@ use Rattle.world_model.specs.Seats.{Knows, Act}
 use Rattle.session_run.specs.Gains.{Makes, Gains, SeesLegal}
 use Rattle.session_run.specs.declared.outs.OutEnd.{OutEnd}
 use Rattle.session_run.specs.declared.outs.OutEnd.TheVariants.{Ended, WriteFault, LogFault, Stopped}
+use Rattle.session_run.specs.declared.outs.Took.{Took}
+use Rattle.session_run.specs.declared.outs.Took.TheVariants as took
 
 -- the take gave frames, or there was none yet
 abbrev pub goes_on : Outcome → Bool
@@ -62,6 +64,18 @@ pub record WritesSession (n : ℕ) (old new : Knows) (held held' : Option Bytes)
   pub later : faults ≤ faults'
   pub legal : SeesLegal new
 
+-- frames were taken and written, and the session goes on: the same without an end
+pub record Going (n : ℕ) (old new : Knows) (held held' : Option Bytes) (faults faults' : ℕ) : Type 0 where
+  pub takes : List Outcome
+  pub gains : Gains old new (map (take_act n) takes)
+  pub went_on : list_all goes_on takes ≡ true
+  pub wrote : Appends held held' (bytes_given takes)
+  pub later : faults ≤ faults'
+
+abbrev pub TakesSome : ℕ → Knows → Knows → Option Bytes → Option Bytes → ℕ → ℕ → Option OutEnd → Type 0
+TakesSome n old new held held' faults faults' None = Going n old new held held' faults faults'
+TakesSome n old new held held' faults faults' (Some end) = WritesSession n old new held held' faults faults' end
+
 -- one take, and what it gave was written
 pub record TakesOn (n : ℕ) (old new : Knows) (held held' : Option Bytes) (faults faults' : ℕ) : Type 0 where
   pub taken : Outcome
@@ -82,3 +96,8 @@ pub record TakesLast (n : ℕ) (old new : Knows) (held held' : Option Bytes) (fa
 abbrev pub WritesTurn : ℕ → Knows → Knows → Option Bytes → Option Bytes → ℕ → ℕ → Option OutEnd → Type 0
 WritesTurn n old new held held' faults faults' None = TakesOn n old new held held' faults faults'
 WritesTurn n old new held held' faults faults' (Some end) = TakesLast n old new held held' faults faults' end
+
+-- the end that a take brings
+abbrev pub took_end : Took → Option OutEnd
+took_end (took.End end) = Some end
+took_end t = None

@@ -3,11 +3,12 @@
 ghost use Rattle.std.specs.Prelude.{◌≡◌, ◌≤◌, ◌<◌, [], ℕ, length};
 ghost use Rattle.session_run.specs.Feeds.{asked_behind};
 ghost use Rattle.session_run.specs.Ends.{ServesPart, ServesBlock, BlockTurn};
+ghost use Rattle.session_run.specs.Writings.{IsFit, Goes};
 
 use crate::batches::{Fill, collect};
 use crate::calls::{Hand, serve_list};
 use crate::ends::{InEnd, end_of};
-use outside::{Bell, Clock, Failed, Gate, Source};
+use outside::{Bell, Clock, Failed, Gate, Sink, Source};
 use std::sync::Wait;
 use world_model::HallApi;
 
@@ -22,7 +23,7 @@ enum Part {
 }
 
 // Collects as many requests as one turn carries, and makes their calls.
-fn serve_part<H: HallApi, C: Clock, B: Bell, G: Gate, R: Wait>(
+fn serve_part<H: HallApi, K: Sink, C: Clock, B: Bell, G: Gate, R: Wait>(
     rt: &R,
     hall: &H,
     seat: &mut H::Seat,
@@ -31,11 +32,14 @@ fn serve_part<H: HallApi, C: Clock, B: Bell, G: Gate, R: Wait>(
     bell: &B,
     room: &B,
     gate: &G,
-    hand: Hand,
+    hand: Hand<H, K>,
     piece: &[u8],
-) -> (Part, Hand)
+) -> (Part, Hand<H, K>)
     requires seat { H.is_of hall.now seat.old }
+    requires fit { IsFit (H.is_of hall.now) hand.writing }
     ensures seat { H.is_of hall.now seat.new }
+    ensures fit { IsFit (H.is_of hall.now) result.1.writing }
+    ensures goes { Goes H.knows K.held K.faults session hand.writing result.1.writing }
     ensures part { ServesPart session (C.told clock.now) (H.knows seat.old) (H.knows seat.new) hand.reader piece.now result.1.reader result.0 }
 {
     let mut hand = hand;
@@ -53,7 +57,7 @@ fn serve_part<H: HallApi, C: Clock, B: Bell, G: Gate, R: Wait>(
 }
 
 // Serves the requests that end in the bytes, and the fault that they make. None where the session goes on.
-fn serve_block<H: HallApi, C: Clock, B: Bell, G: Gate, R: Wait>(
+fn serve_block<H: HallApi, K: Sink, C: Clock, B: Bell, G: Gate, R: Wait>(
     rt: &R,
     hall: &H,
     seat: &mut H::Seat,
@@ -62,11 +66,14 @@ fn serve_block<H: HallApi, C: Clock, B: Bell, G: Gate, R: Wait>(
     bell: &B,
     room: &B,
     gate: &G,
-    hand: Hand,
+    hand: Hand<H, K>,
     piece: &[u8],
-) -> (Option<InEnd>, Hand)
+) -> (Option<InEnd>, Hand<H, K>)
     requires seat { H.is_of hall.now seat.old }
+    requires fit { IsFit (H.is_of hall.now) hand.writing }
     ensures seat { H.is_of hall.now seat.new }
+    ensures fit { IsFit (H.is_of hall.now) result.1.writing }
+    ensures goes { Goes H.knows K.held K.faults session hand.writing result.1.writing }
     ensures block { ServesBlock session (C.told clock.now) (H.knows seat.old) (H.knows seat.new) hand.reader piece.now result.1.reader result.0 }
 {
     let mut hand = hand;
@@ -95,7 +102,7 @@ fn serve_block<H: HallApi, C: Clock, B: Bell, G: Gate, R: Wait>(
 }
 
 /// Reads a block and serves its requests. None where the session goes on.
-pub(crate) fn read_block<H: HallApi, S: Source, C: Clock, B: Bell, G: Gate, R: Wait>(
+pub(crate) fn read_block<H: HallApi, S: Source, K: Sink, C: Clock, B: Bell, G: Gate, R: Wait>(
     rt: &R,
     hall: &H,
     seat: &mut H::Seat,
@@ -105,13 +112,16 @@ pub(crate) fn read_block<H: HallApi, S: Source, C: Clock, B: Bell, G: Gate, R: W
     bell: &B,
     room: &B,
     gate: &G,
-    hand: Hand,
+    hand: Hand<H, K>,
     block: &mut [u8],
-) -> (Option<InEnd>, Hand)
+) -> (Option<InEnd>, Hand<H, K>)
     requires seat { H.is_of hall.now seat.old }
+    requires fit { IsFit (H.is_of hall.now) hand.writing }
     requires some { 0 < length block.old }
     requires dry { asked_behind hand.reader [] ≡ [] }
     ensures seat { H.is_of hall.now seat.new }
+    ensures fit { IsFit (H.is_of hall.now) result.1.writing }
+    ensures goes { Goes H.knows K.held K.faults session hand.writing result.1.writing }
     ensures turn { BlockTurn session (C.told clock.now)
         (H.knows seat.old) (H.knows seat.new)
         (S.left source.old) (S.left source.new) (S.faults source.old) (S.faults source.new)

@@ -4,15 +4,18 @@ ghost use Rattle.std.specs.Prelude.{◌≡◌, ◌≤◌, ◌<◌, ℕ, length, 
 ghost use Rattle.std.specs.List.{list_all};
 ghost use Rattle.world_model.specs.Outcomes.{is_proper};
 ghost use Rattle.session_run.specs.Calls.{CallsTurn, ServesList};
+ghost use Rattle.session_run.specs.Writings.{IsFit, Goes};
 
-use outside::{Bell, Clock, Gate};
+use crate::names::any_named;
+use crate::writings::{Writing, write_on};
+use outside::{Bell, Clock, Gate, Sink};
 use resp_frames::Requests;
 use std::sync::Wait;
 use world_model::{AskedList, Called, HallApi, Touched};
 
 /// What a session has in hand.
 #[derive(Drop)]
-pub(crate) struct Hand {
+pub(crate) struct Hand<H: HallApi, K> {
     /// The reader of its requests.
     pub(crate) reader: Requests,
     /// The requests that wait for their calls.
@@ -21,6 +24,10 @@ pub(crate) struct Hand {
     pub(crate) touched: Touched,
     /// How often it has passed the gate.
     pub(crate) passes: u64,
+    /// Whether it has asked to subscribe.
+    pub(crate) listens: bool,
+    /// Who writes its frames.
+    pub(crate) writing: Writing<H, K>,
 }
 
 /// Rings for each session that is named.
@@ -31,7 +38,7 @@ pub fn ring_touched<B: Bell>(bell: &B, touched: &Touched) {
 }
 
 // Makes the calls of one turn. None where the session had no room, after a wait for room.
-fn call_turn<H: HallApi, C: Clock, B: Bell, G: Gate, R: Wait>(
+fn call_turn<H: HallApi, K: Sink, C: Clock, B: Bell, G: Gate, R: Wait>(
     rt: &R,
     hall: &H,
     seat: &mut H::Seat,
@@ -40,14 +47,17 @@ fn call_turn<H: HallApi, C: Clock, B: Bell, G: Gate, R: Wait>(
     bell: &B,
     room: &B,
     gate: &G,
-    hand: Hand,
-) -> (Option<Called>, Hand)
+    hand: Hand<H, K>,
+) -> (Option<Called>, Hand<H, K>)
     requires seat { H.is_of hall.now seat.old }
     requires some { 0 < length hand.asked }
     requires few { length hand.asked ≤ 64 }
     requires proper { list_all is_proper hand.asked ≡ true }
+    requires fit { IsFit (H.is_of hall.now) hand.writing }
     ensures seat { H.is_of hall.now seat.new }
     ensures reader { result.1.reader ≡ hand.reader }
+    ensures fit { IsFit (H.is_of hall.now) result.1.writing }
+    ensures goes { Goes H.knows K.held K.faults session hand.writing result.1.writing }
     ensures turn { CallsTurn session (C.told clock.now) (H.knows seat.old) (H.knows seat.new) hand.asked result.1.asked result.0 }
 {
     let Hand {
@@ -55,23 +65,33 @@ fn call_turn<H: HallApi, C: Clock, B: Bell, G: Gate, R: Wait>(
         asked,
         touched,
         passes,
+        listens,
+        writing,
     } = hand;
     let passes = passes.saturating_add(1);
     gate.pass(rt, session, passes);
+    let listens = listens || any_named(&asked, b"SUBSCRIBE") || any_named(&asked, b"PSUBSCRIBE");
+    let quits = any_named(&asked, b"QUIT");
     let mark = room.mark(session);
     let moment = clock.now();
     let (answers, mut asked, touched) = hall.calls(rt, seat, session, moment, asked, touched);
     ring_touched(bell, &touched);
     asked.pass(answers.served);
+    let writing = write_on(rt, hall, session, room, writing, quits);
+    let handed = writing.is_handed();
     let hand = Hand {
         reader,
         asked,
         touched,
         passes,
+        listens,
+        writing,
     };
     match answers.end {
         Called::Full => {
-            room.wait(rt, session, mark);
+            if handed {
+                room.wait(rt, session, mark);
+            }
             (None, hand)
         }
         end => (Some(end), hand),
@@ -80,7 +100,7 @@ fn call_turn<H: HallApi, C: Clock, B: Bell, G: Gate, R: Wait>(
 
 /// Makes the calls of the requests that wait, in order, and again those that are answered Full, up to the first that is answered
 /// neither so nor Ok. That answer, or Ok.
-pub(crate) fn serve_list<H: HallApi, C: Clock, B: Bell, G: Gate, R: Wait>(
+pub(crate) fn serve_list<H: HallApi, K: Sink, C: Clock, B: Bell, G: Gate, R: Wait>(
     rt: &R,
     hall: &H,
     seat: &mut H::Seat,
@@ -89,13 +109,16 @@ pub(crate) fn serve_list<H: HallApi, C: Clock, B: Bell, G: Gate, R: Wait>(
     bell: &B,
     room: &B,
     gate: &G,
-    hand: Hand,
-) -> (Called, Hand)
+    hand: Hand<H, K>,
+) -> (Called, Hand<H, K>)
     requires seat { H.is_of hall.now seat.old }
     requires few { length hand.asked ≤ 64 }
     requires proper { list_all is_proper hand.asked ≡ true }
+    requires fit { IsFit (H.is_of hall.now) hand.writing }
     ensures seat { H.is_of hall.now seat.new }
     ensures reader { result.1.reader ≡ hand.reader }
+    ensures fit { IsFit (H.is_of hall.now) result.1.writing }
+    ensures goes { Goes H.knows K.held K.faults session hand.writing result.1.writing }
     ensures serves { ServesList session (C.told clock.now) (H.knows seat.old) (H.knows seat.new) hand.asked result.1.asked result.0 }
 {
     let mut hand = hand;

@@ -14,6 +14,8 @@ pub enum InEnd {
     Broken,
     /// The hall serves the session no more.
     ClosedByHall,
+    /// The session had ended, or its frames could not be taken or written.
+    OutEnded,
     /// The source failed.
     ReadFault,
     /// The log could not be written; the hall has stopped.

@@ -1,13 +1,16 @@
 //! The requests of a session, from a source to the hall.
 
-ghost use Rattle.std.specs.Prelude.{◌≡◌, ◌<◌, [], ℕ, length, Some, IfOk};
+ghost use Rattle.std.specs.Prelude.{◌≡◌, ◌<◌, [], ℕ, length, Some, true};
 ghost use Rattle.session_run.specs.Ends.{ReadsOn, ReadsSession};
+ghost use Rattle.session_run.specs.Writings.{IsFit, Goes, Writes, is_over};
+ghost use Rattle.session_run.specs.declared.ends.InEnd.TheVariants as ended;
+ghost use Rattle.session_run.specs.declared.writings.Writing.TheVariants as writing;
 
 use crate::blocks::read_block;
 use crate::calls::Hand;
 use crate::ends::InEnd;
-use byte_text::NoMemory;
-use outside::{Bell, Clock, Gate, Source};
+use crate::writings::{Outlet, Writing, hand_over, write_last};
+use outside::{Bell, Clock, Gate, Sink, Source};
 use resp_frames::Requests;
 use std::alloc::Global;
 use std::sync::Wait;
@@ -16,23 +19,27 @@ use world_model::{AskedList, HallApi, Touched};
 /// The bytes of one read.
 const BLOCK: usize = 65_536;
 
-// What a session has in hand before the first byte.
-fn new_hand(alloc: Global) -> Result<Hand, NoMemory>
-    ensures { IfOk result (λ h. h.reader ≡ Some []) }
+// Hands the sink over where the session has asked to subscribe.
+fn pass_on<H: HallApi, K: Sink + Drop, R: Wait>(
+    rt: &R,
+    hall: &H,
+    session: u32,
+    hand: Hand<H, K>,
+) -> Hand<H, K>
+    requires fit { IsFit (H.is_of hall.now) hand.writing }
+    ensures reader { result.reader ≡ hand.reader }
+    ensures fit { IsFit (H.is_of hall.now) result.writing }
+    ensures goes { Goes H.knows K.held K.faults session hand.writing result.writing }
 {
-    match Touched::new(alloc) {
-        Ok(touched) => Ok(Hand {
-            reader: Requests::new(alloc),
-            asked: AskedList::new(alloc),
-            touched,
-            passes: 0,
-        }),
-        Err(NoMemory) => Err(NoMemory),
+    let mut hand = hand;
+    if hand.listens {
+        hand.writing = hand_over(rt, hall, session, hand.writing);
     }
+    hand
 }
 
 // Reads blocks and serves their requests, up to an end.
-fn read_on<H: HallApi, S: Source, C: Clock, B: Bell, G: Gate, R: Wait>(
+fn read_on<H: HallApi, S: Source, K: Sink + Drop, C: Clock, B: Bell, G: Gate, R: Wait>(
     rt: &R,
     hall: &H,
     seat: &mut H::Seat,
@@ -42,16 +49,20 @@ fn read_on<H: HallApi, S: Source, C: Clock, B: Bell, G: Gate, R: Wait>(
     bell: &B,
     room: &B,
     gate: &G,
-    hand: Hand,
+    hand: Hand<H, K>,
     block: &mut [u8],
-) -> InEnd
+) -> (InEnd, Writing<H, K>)
     requires seat { H.is_of hall.now seat.old }
+    requires fit { IsFit (H.is_of hall.now) hand.writing }
     requires some { 0 < length block.old }
     requires fresh { hand.reader ≡ Some [] }
     ensures seat { H.is_of hall.now seat.new }
+    ensures fit { IsFit (H.is_of hall.now) result.1 }
+    ensures goes { Goes H.knows K.held K.faults session hand.writing result.1 }
+    ensures over { result.0 ≡ ended.OutEnded → is_over result.1 ≡ true }
     ensures reads { ReadsOn session (C.told clock.now)
         (H.knows seat.old) (H.knows seat.new)
-        (S.left source.old) (S.left source.new) (S.faults source.old) (S.faults source.new) result }
+        (S.left source.old) (S.left source.new) (S.faults source.old) (S.faults source.new) result.0 }
 {
     let mut hand = hand;
     for _ in rt.forever() {
@@ -60,14 +71,18 @@ fn read_on<H: HallApi, S: Source, C: Clock, B: Bell, G: Gate, R: Wait>(
         );
         hand = back;
         if let Some(end) = end {
-            return end;
+            return (end, hand.writing);
         }
+        if hand.writing.is_over() {
+            return (InEnd::OutEnded, hand.writing);
+        }
+        hand = pass_on(rt, hall, session, hand);
     }
     unreachable!()
 }
 
 // The same, with what it takes made first.
-fn read_all<H: HallApi, S: Source, C: Clock, B: Bell, G: Gate, R: Wait>(
+fn read_all<H: HallApi, S: Source, K: Sink + Drop, C: Clock, B: Bell, G: Gate, R: Wait>(
     rt: &R,
     alloc: Global,
     hall: &H,
@@ -78,27 +93,41 @@ fn read_all<H: HallApi, S: Source, C: Clock, B: Bell, G: Gate, R: Wait>(
     bell: &B,
     room: &B,
     gate: &G,
-) -> InEnd
+    writing: Writing<H, K>,
+) -> (InEnd, Writing<H, K>)
     requires seat { H.is_of hall.now seat.old }
+    requires fit { IsFit (H.is_of hall.now) writing }
     ensures seat { H.is_of hall.now seat.new }
+    ensures fit { IsFit (H.is_of hall.now) result.1 }
+    ensures goes { Goes H.knows K.held K.faults session writing result.1 }
+    ensures over { result.0 ≡ ended.OutEnded → is_over result.1 ≡ true }
     ensures reads { ReadsOn session (C.told clock.now)
         (H.knows seat.old) (H.knows seat.new)
-        (S.left source.old) (S.left source.new) (S.faults source.old) (S.faults source.new) result }
+        (S.left source.old) (S.left source.new) (S.faults source.old) (S.faults source.new) result.0 }
 {
-    let Ok(hand) = new_hand(alloc) else {
-        return InEnd::Memory;
+    let Ok(touched) = Touched::new(alloc) else {
+        return (InEnd::Memory, writing);
     };
     let Ok(mut block) = vec![in alloc; 0u8; BLOCK] else {
-        return InEnd::Memory;
+        return (InEnd::Memory, writing);
+    };
+    let hand = Hand {
+        reader: Requests::new(alloc),
+        asked: AskedList::new(alloc),
+        touched,
+        passes: 0,
+        listens: false,
+        writing,
     };
     read_on(
         rt, hall, seat, session, source, clock, bell, room, gate, hand, &mut block,
     )
 }
 
-/// Reads a session's requests and makes their calls in order, up to an end, and closes the session. `bell` is rung for each session
-/// on whose queue frames were placed, and at the close; `room` rings where frames of the session were taken.
-pub fn session_in<H: HallApi, S: Source, C: Clock, B: Bell, G: Gate, R: Wait>(
+/// Reads a session's requests and makes their calls in order, up to an end, and closes the session. Behind each turn of calls it takes
+/// the frames and writes them, until the session has asked to subscribe: then the sink goes over to the session's writer. `bell` is
+/// rung for each session on whose queue frames were placed, and at the close; `room` rings where the writer took frames of the session.
+pub fn session_in<H: HallApi, S: Source, K: Sink + Drop, C: Clock, B: Bell, G: Gate, R: Wait>(
     rt: &R,
     alloc: Global,
     hall: &H,
@@ -109,17 +138,31 @@ pub fn session_in<H: HallApi, S: Source, C: Clock, B: Bell, G: Gate, R: Wait>(
     bell: &B,
     room: &B,
     gate: &G,
-) -> InEnd
+    outlet: Outlet<H, K>,
+) -> (InEnd, Writing<H, K>)
     requires seat { H.is_of hall.now seat.old }
+    requires fit { IsFit (H.is_of hall.now) (writing.Alone outlet) }
     ensures seat { H.is_of hall.now seat.new }
+    ensures writes { Writes H.knows K.held K.faults session outlet result.1 }
+    ensures over { result.0 ≡ ended.OutEnded → is_over result.1 ≡ true }
     ensures reads { ReadsSession session (C.told clock.now)
         (H.knows seat.old) (H.knows seat.new)
-        (S.left source.old) (S.left source.new) (S.faults source.old) (S.faults source.new) result }
+        (S.left source.old) (S.left source.new) (S.faults source.old) (S.faults source.new) result.0 }
 {
-    let end = read_all(
-        rt, alloc, hall, seat, session, source, clock, bell, room, gate,
+    let (end, writing) = read_all(
+        rt,
+        alloc,
+        hall,
+        seat,
+        session,
+        source,
+        clock,
+        bell,
+        room,
+        gate,
+        Writing::Alone(outlet),
     );
     hall.close(rt, seat, session);
     bell.ring(session);
-    end
+    (end, write_last(rt, hall, session, bell, room, writing))
 }

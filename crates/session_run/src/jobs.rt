@@ -3,14 +3,16 @@
 use crate::ends::InEnd;
 use crate::ins::session_in;
 use crate::outs::{OutEnd, session_out};
+use crate::writings::{Outlet, Writing};
+use crossbeam_channel::Receiver;
 use outside::{Bell, Clock, Gate, Job, Sink, Source};
 use std::alloc::Global;
 use std::sync::{Arc, Wait};
 use world_model::{Frames, HallApi};
 
-/// The requests of a session are to be read and served.
+/// The requests of a session are to be read and served, and its frames written up to its first subscription.
 #[derive(Drop)]
-pub struct InJob<H: HallApi, S, C, B, G> {
+pub struct InJob<H: HallApi, S, K, C, B, G> {
     /// Where its memory comes from.
     pub alloc: Global,
     /// The hall that the session is of.
@@ -29,9 +31,11 @@ pub struct InJob<H: HallApi, S, C, B, G> {
     pub room: Arc<B, Global>,
     /// What the session passes before each turn of its calls.
     pub gate: Arc<G, Global>,
+    /// What takes the session's frames and writes them, by a seat of that hall.
+    pub outlet: Outlet<H, K>,
 }
 
-/// The frames of a session are to be taken and written.
+/// The frames of a session are to be taken and written from its first subscription on.
 #[derive(Drop)]
 pub struct OutJob<H: HallApi, K, B> {
     /// Where its memory comes from.
@@ -42,8 +46,8 @@ pub struct OutJob<H: HallApi, K, B> {
     pub seat: H::Seat,
     /// The session's number.
     pub session: u32,
-    /// Where the frames go to.
-    pub sink: K,
+    /// Where the sink comes from that the frames go to.
+    pub sinks: Receiver<K>,
     /// It rings where frames wait.
     pub bell: Arc<B, Global>,
     /// It is rung where there is room for frames again.
@@ -56,7 +60,7 @@ pub struct OutJob<H: HallApi, K, B> {
 #[derive(Drop)]
 pub enum SessionJob<H: HallApi, S, K, C, B, G> {
     /// Read requests and serve them.
-    Reads(InJob<H, S, C, B, G>),
+    Reads(InJob<H, S, K, C, B, G>),
     /// Take frames and write them.
     Writes(OutJob<H, K, B>),
 }
@@ -64,17 +68,22 @@ pub enum SessionJob<H: HallApi, S, K, C, B, G> {
 /// What a job leaves behind.
 #[derive(Drop)]
 pub enum SessionDone<H: HallApi, S, K> {
-    /// Requests were read and served.
+    /// Requests were read and served, and frames written.
     Read {
         seat: H::Seat,
         source: S,
         end: InEnd,
+        writing: Writing<H, K>,
     },
     /// Frames were taken and written.
     Wrote {
         seat: H::Seat,
         sink: K,
         end: OutEnd,
+    },
+    /// No sink was handed over.
+    Idle {
+        seat: H::Seat,
     },
 }
 
@@ -110,8 +119,9 @@ where
                     bell,
                     room,
                     gate,
+                    outlet,
                 } = job;
-                let end = session_in(
+                let (end, writing) = session_in(
                     rt,
                     alloc,
                     &*hall,
@@ -122,8 +132,14 @@ where
                     &*bell,
                     &*room,
                     &*gate,
+                    outlet,
                 );
-                SessionDone::Read { seat, source, end }
+                SessionDone::Read {
+                    seat,
+                    source,
+                    end,
+                    writing,
+                }
             }
             SessionJob::Writes(job) => {
                 let OutJob {
@@ -131,14 +147,16 @@ where
                     hall,
                     mut seat,
                     session,
-                    mut sink,
+                    sinks,
                     bell,
                     room,
                     mut frames,
                 } = job;
+                let Ok(mut sink) = sinks.recv(rt) else {
+                    return SessionDone::Idle { seat };
+                };
                 let end = session_out(
                     rt,
-                    alloc,
                     &*hall,
                     &mut seat,
                     session,
@@ -146,6 +164,7 @@ where
                     &*bell,
                     &*room,
                     &mut frames,
+                    &mut Vec::new(alloc),
                 );
                 SessionDone::Wrote { seat, sink, end }
             }

@@ -2,12 +2,12 @@
 
 ghost use Rattle.std.specs.Prelude.{◌≡◌, ◌≤◌, [], ℕ};
 ghost use Rattle.world_data.specs.Limits.{take_frames};
-ghost use Rattle.session_run.specs.Outs.{WritesTurn, WritesSession};
+ghost use Rattle.session_run.specs.Outs.{WritesTurn, WritesSession, took_end};
 
 use crate::streams::write_frames;
 use outside::{Bell, Failed, Sink};
-use std::alloc::Global;
 use std::sync::Wait;
+use world_data::TAKE;
 use world_model::{Frames, HallApi, Taken};
 
 /// How the writing of a session's frames ended.
@@ -23,7 +23,87 @@ pub enum OutEnd {
     Stopped,
 }
 
-// Takes once and writes what was given. None where the session goes on.
+// How one take went.
+#[derive(Clone, Copy, Debug, PartialEq, Eq)]
+pub(crate) enum Took {
+    /// As many frames as a take may give were written.
+    Many,
+    /// Fewer frames were written.
+    Few,
+    /// There was no frame.
+    Dry,
+    /// It was the last take.
+    End(OutEnd),
+}
+
+/// The end that a take brings.
+pub(crate) fn took_end(took: Took) -> Option<OutEnd>
+    ensures { result ≡ took_end took }
+{
+    match took {
+        Took::End(end) => Some(end),
+        _ => None,
+    }
+}
+
+/// Takes once and writes what was given. `room` is rung where frames were taken, before they are written. At a write fault the session
+/// is removed.
+pub(crate) fn take_turn<H: HallApi, K: Sink, B: Bell, R: Wait>(
+    rt: &R,
+    hall: &H,
+    seat: &mut H::Seat,
+    session: u32,
+    sink: &mut K,
+    room: &B,
+    frames: &mut Frames,
+    text: &mut Vec<u8>,
+) -> Took
+    requires seat { H.is_of hall.now seat.old }
+    requires bare { frames.old.list ≡ [] }
+    requires places { frames.old.places ≡ take_frames }
+    ensures seat { H.is_of hall.now seat.new }
+    ensures bare { frames.new.list ≡ [] }
+    ensures places { frames.new.places ≡ take_frames }
+    ensures turn { WritesTurn session
+        (H.knows seat.old) (H.knows seat.new)
+        (K.held sink.old) (K.held sink.new) (K.faults sink.old) (K.faults sink.new) (took_end result) }
+{
+    match hall.take(rt, seat, session, frames) {
+        Taken::Some(_) => {
+            room.ring(session);
+            let written = write_frames(sink, frames, text);
+            let whole = frames.len() == TAKE;
+            frames.clear();
+            if let Err(Failed) = written {
+                hall.remove(rt, seat, session);
+                room.ring(session);
+                return Took::End(OutEnd::WriteFault);
+            }
+            if whole { Took::Many } else { Took::Few }
+        }
+        Taken::Empty => {
+            frames.clear();
+            Took::Dry
+        }
+        Taken::Ended => {
+            frames.clear();
+            room.ring(session);
+            Took::End(OutEnd::Ended)
+        }
+        Taken::LogFault => {
+            frames.clear();
+            room.ring(session);
+            Took::End(OutEnd::LogFault)
+        }
+        Taken::Stopped => {
+            frames.clear();
+            room.ring(session);
+            Took::End(OutEnd::Stopped)
+        }
+    }
+}
+
+// Takes once, and waits for the bell where there was no frame. None where the session goes on.
 fn write_turn<H: HallApi, K: Sink, B: Bell, R: Wait>(
     rt: &R,
     hall: &H,
@@ -46,48 +126,19 @@ fn write_turn<H: HallApi, K: Sink, B: Bell, R: Wait>(
         (K.held sink.old) (K.held sink.new) (K.faults sink.old) (K.faults sink.new) result }
 {
     let mark = bell.mark(session);
-    match hall.take(rt, seat, session, frames) {
-        Taken::Some(_) => {
-            room.ring(session);
-            let written = write_frames(sink, frames, text);
-            frames.clear();
-            if let Err(Failed) = written {
-                hall.remove(rt, seat, session);
-                room.ring(session);
-                return Some(OutEnd::WriteFault);
-            }
-            // It is taken from again before the writer waits, as the session may have ended behind these frames, and nobody rings
-            // for that any more.
-            None
-        }
-        Taken::Empty => {
-            frames.clear();
-            bell.wait(rt, session, mark);
-            None
-        }
-        Taken::Ended => {
-            frames.clear();
-            room.ring(session);
-            Some(OutEnd::Ended)
-        }
-        Taken::LogFault => {
-            frames.clear();
-            room.ring(session);
-            Some(OutEnd::LogFault)
-        }
-        Taken::Stopped => {
-            frames.clear();
-            room.ring(session);
-            Some(OutEnd::Stopped)
-        }
+    let took = take_turn(rt, hall, seat, session, sink, room, frames, text);
+    // Where frames were given it is taken from again before the writer waits: another's call may have cut the session behind them, and
+    // nobody rings for that any more.
+    if let Took::Dry = took {
+        bell.wait(rt, session, mark);
     }
+    took_end(took)
 }
 
 /// Takes a session's frames and writes them, until the session has ended. `bell` rings where frames were placed, `room` is rung
 /// where frames were taken. At WriteFault the session is removed.
 pub fn session_out<H: HallApi, K: Sink, B: Bell, R: Wait>(
     rt: &R,
-    alloc: Global,
     hall: &H,
     seat: &mut H::Seat,
     session: u32,
@@ -95,6 +146,7 @@ pub fn session_out<H: HallApi, K: Sink, B: Bell, R: Wait>(
     bell: &B,
     room: &B,
     frames: &mut Frames,
+    text: &mut Vec<u8>,
 ) -> OutEnd
     requires seat { H.is_of hall.now seat.old }
     requires bare { frames.old.list ≡ [] }
@@ -106,11 +158,8 @@ pub fn session_out<H: HallApi, K: Sink, B: Bell, R: Wait>(
         (H.knows seat.old) (H.knows seat.new)
         (K.held sink.old) (K.held sink.new) (K.faults sink.old) (K.faults sink.new) result }
 {
-    let mut text = Vec::new(alloc);
     for _ in rt.forever() {
-        if let Some(end) = write_turn(
-            rt, hall, seat, session, sink, bell, room, frames, &mut text,
-        ) {
+        if let Some(end) = write_turn(rt, hall, seat, session, sink, bell, room, frames, text) {
             return end;
         }
     }

@@ -9,8 +9,8 @@ use Rattle.session_run.proofs.Calling.{turn_ends, turn_waits, timely}
 use Rattle.std.proofs.Common.{length}
 use Rattle.session_run.proofs.calls.call_turn.Goals as goal
 
-pub returns-in-Full-clause-turn : goal.returns-in-Full-clause-turn
-returns-in-Full-clause-turn g c =
+pub returns-after-handed-clause-turn : goal.returns-after-handed-clause-turn
+returns-after-handed-clause-turn g c =
     let asks = c.args.hand.asked in
     let n = c.args.session in
     let m = c.now-moment.result in
@@ -37,6 +37,8 @@ returns-in_default g c =
     record {
       seat = c.calls-asked.ensures.seat;
       reader = refl;
+      fit = c.write_on-writing.ensures.fit;
+      goes = c.write_on-writing.ensures.goes;
       turn = subst (λ (l : List Asked). ServesList n told old new asks l end) (sym (c.pass-2.ensures ∙ ap (λ (l : List Asked). drop served l) c.calls-asked.ensures.back))
           (turn_ends n m told old new asks served c.requires.some (timely told m c.now-moment.ensures.told) end c.in_default.not-Full c.calls-asked.ensures.count c.calls-asked.ensures.entries.adds);
     }

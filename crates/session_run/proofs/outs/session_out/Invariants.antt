@@ -1,6 +1,6 @@
 use Rattle.std.proofs.Common.{◌≡◌, []}
 use Rattle.world_data.specs.Limits.{take_frames}
-use Rattle.session_run.proofs.Outing.{Going}
+use Rattle.session_run.specs.Outs.{Going}
 use Rattle.session_run.proofs.outs.session_out.Given as goal
 
 abbrev pub invariant-loop : goal.invariant-loop
