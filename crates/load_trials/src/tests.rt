@@ -36,8 +36,10 @@ fn one_command_of_seed_zero_deletes_nothing(rt: HostRuntime) -> Result<(), Fail>
 #[test]
 fn twenty_thousand_commands_of_seed_seven(rt: HostRuntime) -> Result<(), Fail> {
     let lines = b"commands 20000\nobjects 1750\nmessages 991\nbytes 491862\n".as_slice();
-    let text = driven(&rt, rt.alloc(), 20_000, 7)?;
-    assert_eq!(rt; text.bytes(), lines);
+    for _ in 0..2 {
+        let text = driven(&rt, rt.alloc(), 20_000, 7)?;
+        assert_eq!(rt; text.bytes(), lines);
+    }
     Ok(())
 }
 

@@ -6,7 +6,8 @@ ghost use Rattle.serve_command.specs.Ends.{IsEnd};
 
 use outside::{Failed, Sink, write_all};
 
-pub(crate) const DISK_FAULT: &[u8] = b"disk fault\n";
+/// The last line of status 5.
+pub const DISK_FAULT: &[u8] = b"disk fault\n";
 
 /// The last line of status 7.
 pub const OUT_OF_MEMORY: &[u8] = b"out of memory\n";

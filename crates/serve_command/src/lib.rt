@@ -5,6 +5,6 @@ mod ends;
 mod serves;
 mod words;
 
-pub use ends::{OUT_OF_MEMORY, SPENT, end};
+pub use ends::{DISK_FAULT, OUT_OF_MEMORY, SPENT, end};
 pub use serves::serve_links;
 pub use words::{ServeWords, serve_words};

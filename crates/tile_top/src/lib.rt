@@ -5,6 +5,7 @@ mod acts;
 mod feeds;
 mod halts;
 mod laws;
+mod loads;
 mod outputs;
 mod plays;
 mod readers;

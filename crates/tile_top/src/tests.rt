@@ -742,15 +742,43 @@ fn a_door_that_fails_ends_the_server(rt: HostRuntime) -> Result<(), Fail> {
     Ok(())
 }
 
+// The one command of seed 0 deletes a vehicle that is not there.
+#[test]
+fn the_workload_is_summed_up(rt: HostRuntime) -> Result<(), Fail> {
+    let alloc = rt.alloc();
+    let words = ["load", "1", "0"];
+    let lines = b"commands 1\nobjects 0\nmessages 0\nbytes 100\n".as_slice();
+    let (status, written) = served(&rt, alloc, &words, &[])?;
+    assert_eq!(rt; status, 0);
+    assert_eq!(rt; written.as_slice(), lines);
+    Ok(())
+}
+
+#[test]
+fn a_workload_has_one_summary(rt: HostRuntime) -> Result<(), Fail> {
+    let alloc = rt.alloc();
+    let words = ["load", "500", "7"];
+    let (status, lines) = served(&rt, alloc, &words, &[])?;
+    let (again, others) = served(&rt, alloc, &words, &[])?;
+    assert_eq!(rt; (status, again), (0, 0));
+    assert!(rt; lines.starts_with(b"commands 500\nobjects "));
+    assert_eq!(rt; lines.as_slice(), others.as_slice());
+    Ok(())
+}
+
 #[test]
 fn other_words_show_the_usage(rt: HostRuntime) -> Result<(), Fail> {
     let alloc = rt.alloc();
-    let table: [&[&str]; 5] = [
+    let table: [&[&str]; 9] = [
         &["serve", "--help"],
         &["serve", "door", "--sessions"],
         &["serve", "door", "--sessions", "0"],
         &["serve", "door", "--sessions", "01"],
         &["serve", "door", "--sessions", "1000000001"],
+        &["load", "--help"],
+        &["load", "1"],
+        &["load", "0", "7"],
+        &["load", "1", "7", "7"],
     ];
     for words in table {
         let (status, lines) = served(&rt, alloc, words, &[])?;

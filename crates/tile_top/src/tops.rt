@@ -8,13 +8,16 @@ ghost use Rattle.byte_text.specs.Names.{Bytes};
 ghost use Rattle.serve_command.specs.Ends.{IsEnd, memory_line};
 ghost use Rattle.serve_command.specs.Words.{serve_of};
 ghost use Rattle.serve_command.specs.Serves.{counted};
+ghost use Rattle.load_command.specs.Words.{load_of};
 ghost use Rattle.shared_hall.specs.Seats.{knows_of};
-ghost use Rattle.tile_top.specs.Tops.{IsReplay, Replays, ServesFront, usage_line, script_line};
+ghost use Rattle.tile_top.specs.Tops.{IsReplay, LoadsFront, Replays, ServesFront, usage_line, script_line};
 
 use crate::acts::Player;
+use crate::loads::drive_hall;
 use crate::plays::{Turn, play};
 use crate::serves::serve_hall;
 use byte_text::{NoMemory, Text, push_u64};
+use load_command::load_words;
 use outside::{Clock, Door, NoGate, PlainBell, Sink, Source, Spawner};
 use serve_command::{OUT_OF_MEMORY, SPENT, end, serve_words};
 use serve_run::Jobs;
@@ -32,9 +35,9 @@ const READ_FAULT: &[u8] = b"read fault\n";
 #[derive(Drop)]
 pub struct Ended {
     /// 0 done, 1 usage, 2 script fault, 3 read fault, 4 write fault, 5 a hall that has stopped, 7 out of memory, 8 door fault, 9 log at
-    /// its greatest length.
+    /// its greatest length, 10 a hall that refused the workload.
     pub status: u8,
-    /// The server's seat, where a shared hall was made.
+    /// The seat of the server or of the workload, where a shared hall was made.
     pub front: Option<HallSeat>,
 }
 
@@ -108,8 +111,9 @@ pub fn out_of_memory<K: Sink>(sink: &mut K) -> Ended
 
 /// Does what the words ask for, the words after the program's name: `replay` plays the script that the source gives, and writes
 /// its output to the sink. `serve ADDR`, which `--sessions N` may follow, opens the door at the address and serves callers on one
-/// shared hall, up to N of them, from 1 to 1,000,000,000, or up to an end. Every other list of words is answered by a line on the usage
-/// and status 1, and nothing is read.
+/// shared hall, up to N of them, from 1 to 1,000,000,000, or up to an end. `load N SEED` drives a shared hall with the generated
+/// workload of N commands, from 1 to 1,000,000, and writes its summary. Every other list of words is answered by a line on the usage
+/// and status 1. Nothing is read but with `replay`.
 ///
 /// With `replay`. Status 0: the source was read to its end, and the bytes written are the script's output. Status 2: this line is the
 /// first that is none of a script, and the bytes written are the whole output of the lines before it and then the status's line. At
@@ -129,6 +133,14 @@ pub fn out_of_memory<K: Sink>(sink: &mut K) -> Ended
 /// Status 0: the door told its end, or N callers came; the bytes written are the lines `listening ADDR`, `served N`, and `starved M`
 /// where sessions were removed for want of memory. Status 8 comes only where the door has failed, 5 where a tick or rewriting found the
 /// hall stopped, 9 where one found the machine's log at its greatest length, 7 where memory wanted, 4 where the sink failed.
+///
+/// With `load`. All entries that the seat has seen are a legal history that opens with the empty world. Status 0: its own are two
+/// sessions that were entered, then for each line of the workload a call answered Ok and the takes of both sessions up to the first
+/// that gave no frame, and at last the question for the number of objects with its answer; the bytes written are the four lines of
+/// the summary, whose numbers are what those frames come to. At 5, 7, 9 and 10 they are the status's line, and the seat's own entries
+/// are a beginning of the workload's up to the one that broke it off, whose answer is of that status: 5 where the hall has stopped,
+/// 9 where the machine's log is at its greatest length, 10 where a session was refused, was gone or had a full queue, or no number
+/// of objects was told, each with a line of its own. 7 stands for want of memory alone, 4 comes only where the sink failed.
 pub fn top<
     S: Source,
     K: Sink,
@@ -154,10 +166,12 @@ where
         (counted (P.jobs spawner.old) (P.faults spawner.old) (L.links door.old) (L.ends door.old) (L.faults door.old))
         (counted (P.jobs spawner.new) (P.faults spawner.new) (L.links door.new) (L.ends door.new) (L.faults door.new))
         (K.held sink.old) (K.held sink.new) result.status) }
-    ensures usage { (IsReplay (map string_bytes words.now) → ⊥) → serve_of (map string_bytes words.now) ≡ None
+    ensures load { IfSome (load_of (map string_bytes words.now)) (λ w. LoadsFront w (option_map knows_of result.front) (K.held sink.old) (K.held sink.new) result.status) }
+    ensures usage { (IsReplay (map string_bytes words.now) → ⊥) → serve_of (map string_bytes words.now) ≡ None → load_of (map string_bytes words.now) ≡ None
         → IsEnd (K.held sink.old) (K.held sink.new) 1 usage_line result.status }
     ensures unread { (IsReplay (map string_bytes words.now) → ⊥) → source.new ≡ source.old }
-    ensures apart { serve_of (map string_bytes words.now) ≡ None → (door.new ≡ door.old) × (spawner.new ≡ spawner.old) × (result.front ≡ None) }
+    ensures apart { serve_of (map string_bytes words.now) ≡ None → (door.new ≡ door.old) × (spawner.new ≡ spawner.old) }
+    ensures alone { serve_of (map string_bytes words.now) ≡ None → load_of (map string_bytes words.now) ≡ None → result.front ≡ None }
     ensures source { S.faults source.old ≤ S.faults source.new }
     ensures sink { K.faults sink.old ≤ K.faults sink.new }
     ensures door { L.faults door.old ≤ L.faults door.new }
@@ -168,6 +182,9 @@ where
     match serve_words(words) {
         Some(asked) => serve_hall(rt, alloc, asked, sink, door, clock, spawner),
         None if is_replay(words) => without_hall(replay(alloc, source, sink)),
-        None => without_hall(end(sink, 1, USAGE)),
+        None => match load_words(words) {
+            Some(asked) => drive_hall(rt, alloc, asked, sink),
+            None => without_hall(end(sink, 1, USAGE)),
+        },
     }
 }

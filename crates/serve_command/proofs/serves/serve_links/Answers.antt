@@ -1,5 +1,6 @@
 use Rattle.std.proofs.Common.{refl, inl, inr}
-use Rattle.serve_command.proofs.Serving.{gains_opening, only_faults}
+use Rattle.serve_command.specs.Openings.{gains_opening}
+use Rattle.serve_command.proofs.Serving.{only_faults}
 use Rattle.serve_command.proofs.serves.serve_links.Goals as goal
 
 pub returns-in-Err-clause-serves : goal.returns-in-Err-clause-serves
