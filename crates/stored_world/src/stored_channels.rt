@@ -117,7 +117,7 @@ fn take_one(hub: &mut Hub, weight: u64, name: &Name) -> u64
 {
     let _count = hub.len();
     match hub.take_out(name) {
-        Some(old) => weight - channel_len(&old),
+        Some(taken) => weight - channel_len(&taken),
         None => weight,
     }
 }

@@ -129,12 +129,7 @@ fn may_count(objects: &Keyspace, weight: u64, len: u64) -> bool
 }
 
 // Puts an object for which there is room, where the objects and it have this weight. The weight of all is answered.
-fn exchange(
-    objects: &mut Keyspace,
-    weight: u64,
-    object: Object,
-    steps: &mut Steps<Visits>,
-) -> u64
+fn exchange(objects: &mut Keyspace, weight: u64, object: Object, steps: &mut Steps<Visits>) -> u64
     requires sorted { are_objects (objects_in objects.old) ≡ true }
     requires room { has_room objects.old object ≡ true }
     requires few { length (objects_in objects.old) < 2 ^ 32 }
@@ -166,7 +161,7 @@ fn take_one(
     // Objects stand in order, so there is no second one of this key and this id.
     let _count = objects.len();
     match objects.take_out(key, id, steps) {
-        Some(old) => weight - put_len(&old),
+        Some(taken) => weight - put_len(&taken),
         None => weight,
     }
 }

@@ -75,16 +75,29 @@ fn the_records_of_batches_are_folded(rt: HostRuntime) -> Result<(), Fail> {
     let alloc = rt.alloc();
     let a = "SET k a OBJECT {\"type\":\"Point\",\"coordinates\":[2,1]}";
     let later = "SET k a AT 1000 OBJECT {\"type\":\"Point\",\"coordinates\":[2,1]}";
-    let b = "SET k b FIELD b -5 FIELD c 7 AT 1000 OBJECT {\"type\":\"Point\",\"coordinates\":[2,1]}";
+    let b =
+        "SET k b FIELD b -5 FIELD c 7 AT 1000 OBJECT {\"type\":\"Point\",\"coordinates\":[2,1]}";
     let f = "SETCHAN f NEARBY k FENCE POINT 1 2 300";
     let g = "SETCHAN g NEARBY k FENCE NODWELL ROAM k * 300";
     let table = [
         (format!(in alloc; "")?, (0, 0, 0, 0, u64::MAX)),
         (format!(in alloc; "{a}")?, (1, 82, 0, 0, u64::MAX)),
-        (format!(in alloc; "{a}|{later}\n{b}|{f}")?, (2, 252, 1, 88, 1000)),
-        (format!(in alloc; "{a}\n{b}\n{f}\n{g}\nDEL k b\nDEL k b")?, (1, 82, 2, 189, u64::MAX)),
-        (format!(in alloc; "{a}\n{b}\n{f}\n{g}||DROP k|DELCHAN f")?, (0, 0, 1, 101, u64::MAX)),
-        (format!(in alloc; "{b}\n{f}\nFLUSHDB\n{a}")?, (1, 82, 0, 0, u64::MAX)),
+        (
+            format!(in alloc; "{a}|{later}\n{b}|{f}")?,
+            (2, 252, 1, 88, 1000),
+        ),
+        (
+            format!(in alloc; "{a}\n{b}\n{f}\n{g}\nDEL k b\nDEL k b")?,
+            (1, 82, 2, 189, u64::MAX),
+        ),
+        (
+            format!(in alloc; "{a}\n{b}\n{f}\n{g}||DROP k|DELCHAN f")?,
+            (0, 0, 1, 101, u64::MAX),
+        ),
+        (
+            format!(in alloc; "{b}\n{f}\nFLUSHDB\n{a}")?,
+            (1, 82, 0, 0, u64::MAX),
+        ),
     ];
     for (text, numbers) in table {
         assert_eq!(rt; opened(alloc, side_of_lines(alloc, &text)?), Ok(numbers));
@@ -95,7 +108,8 @@ fn the_records_of_batches_are_folded(rt: HostRuntime) -> Result<(), Fail> {
 #[test]
 fn a_worked_side_is_opened(rt: HostRuntime) -> Result<(), Fail> {
     let alloc = rt.alloc();
-    let side = b"\x01TFL\x01\0\0\0\0\0\0\0\0\0\0\x01\x01\0\0\0\0\0\0\0\x52*5\r\n$3\r\nSET\r\n$1\r\nk\r\n$1\r\na\r\n$6\r\nOBJECT\r\n$36\r\n{\"type\":\"Point\",\"coordinates\":[2,1]}\r\n\0";
+    let side =
+        b"\x01TFL\x01\0\0\0\0\0\0\0\0\0\0\x01\x01\0\0\0\0\0\0\0\x52*5\r\n$3\r\nSET\r\n$1\r\nk\r\n$1\r\na\r\n$6\r\nOBJECT\r\n$36\r\n{\"type\":\"Point\",\"coordinates\":[2,1]}\r\n\0";
     assert_eq!(rt; side.len(), 108);
     let numbers = (1, 82, 0, 0, u64::MAX);
     assert_eq!(rt; opened(alloc, side.to_vec(alloc)?), Ok(numbers));
@@ -165,7 +179,10 @@ fn bytes_that_are_no_record_are_refused_where_they_stand(rt: HostRuntime) -> Res
         ("PING", 25),
         ("DEL k a\nSET k a POINT 1 2", 52),
         ("DEL k a|DEL k a\nDEL k", 88),
-        ("DEL k a|SET k a FIELD b 0 OBJECT {\"type\":\"Point\",\"coordinates\":[2,1]}", 61),
+        (
+            "DEL k a|SET k a FIELD b 0 OBJECT {\"type\":\"Point\",\"coordinates\":[2,1]}",
+            61,
+        ),
     ];
     for (text, place) in table {
         let damage = OpenFault::Damaged {
@@ -200,7 +217,10 @@ fn a_record_that_a_batch_cuts_off_is_refused(rt: HostRuntime) -> Result<(), Fail
 #[test]
 fn a_batch_behind_the_closed_gate_is_not_read(rt: HostRuntime) -> Result<(), Fail> {
     let alloc = rt.alloc();
-    let mut side = side_of_lines(alloc, "SET k a OBJECT {\"type\":\"Point\",\"coordinates\":[2,1]}")?;
+    let mut side = side_of_lines(
+        alloc,
+        "SET k a OBJECT {\"type\":\"Point\",\"coordinates\":[2,1]}",
+    )?;
     push_batch(&mut side, records(alloc, "FLUSHDB")?.bytes())?;
     assert_eq!(rt; opened(alloc, side), Ok((1, 82, 0, 0, u64::MAX)));
     Ok(())
