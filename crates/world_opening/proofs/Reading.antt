@@ -1,5 +1,5 @@
 -- Records behind one another, and what stands behind the last of them.
-use Rattle.std.proofs.Common.{◌≡◌, ℕ, zero, suc, ◌+◌, ◌-◌, ◌≤◌, ◌<◌, List, [], ◌∷◌, ◌++◌, length, take, drop, flat_map, Option, Some, None, Result, Ok, Err, option_map, decimal, refl, sym, ap, ◌∙◌, arith, append_assoc, append-nil, length-append}
+use Rattle.std.proofs.Common.{◌≡◌, ℕ, zero, suc, ◌+◌, ◌-◌, ◌≤◌, ◌<◌, List, [], ◌∷◌, ◌++◌, length, take, drop, flat_map, Option, Some, None, Result, Ok, Err, option_map, decimal, refl, sym, ap, subst, ◌∙◌, arith, append_assoc, append-nil, length-append}
 use Rattle.std.specs.List.{AllByRecursion}
 use Rattle.std.proofs.lemmas.List.{append_cancel_right, take-append-drop}
 use Rattle.byte_text.specs.Names.{Bytes}
@@ -91,7 +91,7 @@ ends_there held bytes words n is =
 pub is_recorded : (words : List Bytes) (c : Change) → IsRequest words → change_of_words words ≡ Some c → IsRecorded c
 is_recorded words c fits is =
     let same = (record_read words c is).0 in
-    record { read_back = ap change_of_words same ∙ is; fits = rw (sym same) at fits }
+    record { read_back = ap change_of_words same ∙ is; fits = subst IsRequest (sym same) fits }
 
 -- refused bytes
 
