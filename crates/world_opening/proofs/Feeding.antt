@@ -1,6 +1,5 @@
 -- What a reader of requests answers to bytes, for a replay.
 use Rattle.std.proofs.Common.{◌≡◌, ℕ, ◌+◌, ◌≤◌, ◌<◌, List, [], ◌++◌, length, take, drop, Option, Some, None, sym, ap, subst, ◌∙◌, arith}
-use Rattle.std.specs.Prelude.{IfSome}
 use Rattle.std.proofs.lemmas.List.{take_all}
 use Rattle.byte_text.specs.Names.{Bytes}
 use Rattle.byte_text.specs.Requests.{IsRequest}
@@ -13,13 +12,9 @@ use Rattle.world_data.specs.Worlds.{after}
 use Rattle.world_data.specs.declared.worlds.Change.{Change}
 use Rattle.world_data.specs.declared.worlds.World.{World}
 use Rattle.log_record.specs.Words.{change_of_words}
-use Rattle.world_opening.specs.Replayed.{Stands, IsNoRecord}
+use Rattle.world_opening.specs.Replayed.{Begins, Stands, IsNoRecord}
 use Rattle.world_opening.proofs.Reading.{nothing_begun, some_end}
 use Rattle.world_opening.proofs.Steps.{goes_on, stands_on, stands_behind, refuses_words, refuses_bytes}
-
--- what is held begins a request
-abbrev pub Begins : Held → Type 0
-Begins held = IfSome held (λ bytes. request bytes ≡ begun)
 
 -- nothing is held, and that begins one
 pub begins_first : Begins (Some [])

@@ -11,8 +11,7 @@ use Rattle.log_record.specs.Folding.{folded}
 use Rattle.log_record.specs.Recovery.{Recovers}
 use Rattle.log_worlds.specs.Recorded.{record_fault, world_in}
 use Rattle.log_worlds.specs.BatchesHeld.{held_recovers}
-use Rattle.world_opening.specs.declared.world_replays.WorldReplay.{WorldReplay}
-use Rattle.world_opening.specs.Replayed.{Stands}
+use Rattle.world_opening.specs.Replayed.{Replayed, Stands, StandsFor}
 use Rattle.world_opening.specs.Opened.{IsOpened}
 use Rattle.world_opening.proofs.Reading.{text_long}
 
@@ -28,14 +27,11 @@ pub world_of_batches : (world : World) (waiting : Option Bytes) (taken place : �
 world_of_batches world waiting taken place batches stands =
     stands.world_is ∙ ap (λ (l : List Change). folded (world_in batches) l) (no_changes stands.changes stands.beginning stands.text)
 
-abbrev pub took : WorldReplay → List Bytes → Bytes → Type 0
-took r batches part = Stands r.world r.records r.taken r.place batches part
-
-pub opens : {D : Type 0} (crashes : D → Bool) (seen : D → Option Sides) (moment : D → ℕ) (left_since : D → ℕ → Sides → Type 0) (old new : D) (r : WorldReplay) (kept : List Bytes → Type 0)
-    → IsReplayed took record_fault crashes seen moment left_since old new r kept → IsOpened crashes seen moment left_since old new r.world kept
+pub opens : {D : Type 0} (crashes : D → Bool) (seen : D → Option Sides) (moment : D → ℕ) (left_since : D → ℕ → Sides → Type 0) (old new : D) (r : Replayed) (kept : List Bytes → Type 0)
+    → IsReplayed StandsFor record_fault crashes seen moment left_since old new r kept → IsOpened crashes seen moment left_since old new r.world kept
 opens crashes seen moment left_since old new r kept replayed =
     let batches = replayed.batches in
-    let is = world_of_batches r.world r.records r.taken r.place batches replayed.taken in
+    let is = world_of_batches r.world r.waiting r.taken r.place batches replayed.taken in
     record {
       batches = batches;
       whole = replayed.whole;

@@ -1,5 +1,5 @@
 -- What the opening of a world answers for.
-use Rattle.std.specs.Prelude.{◌≡◌, ℕ, Bool, true, List, Option, Some, Result, Ok, Err}
+use Rattle.std.specs.Prelude.{◌≡◌, ◌≤◌, ℕ, Bool, true, List, Option, Some, Result, Ok, Err}
 use Rattle.std.specs.List.{AllByRecursion}
 use Rattle.byte_text.specs.Names.{Bytes}
 use Rattle.outside.specs.Sides.{Sides}
@@ -34,3 +34,8 @@ pub record IsOpened {D : Type 0} (crashes : D → Bool) (seen : D → Option Sid
 pub record AreRecorded (w : World) : Type 0 where
   pub objects : AllByRecursion (λ o. IsRecorded (Put o)) w.objects
   pub channels : AllByRecursion (λ c. IsRecorded (SetChan c)) w.channels
+
+-- the disk of what an opening gave
+abbrev pub disk_of : {D : Type 0} → Result (OpenedWorld D) (Unopened D) → D
+disk_of (Ok o) = o.journal.disk
+disk_of (Err u) = u.disk

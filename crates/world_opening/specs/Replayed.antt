@@ -1,5 +1,5 @@
 -- What a replay stands for, and how it refuses bytes.
-use Rattle.std.specs.Prelude.{◌≡◌, ◌≤◌, ℕ, List, ◌++◌, length, Option, Some}
+use Rattle.std.specs.Prelude.{◌≡◌, ◌≤◌, ℕ, List, ◌++◌, length, Option, Some, IfSome}
 use Rattle.std.specs.List.{AllByRecursion}
 use Rattle.byte_text.specs.Names.{Bytes}
 use Rattle.byte_text.specs.Streams.{begun, request}
@@ -11,6 +11,18 @@ use Rattle.log_record.specs.Words.{IsRecorded}
 use Rattle.log_record.specs.Folding.{folded}
 use Rattle.log_record.specs.Batches.{records_text}
 use Rattle.log_worlds.specs.Recorded.{record_fault, world_in}
+
+-- What contracts see of a replay: its world, the bytes that wait for the end of their record, how many bytes of the batch were taken, and how
+-- many of these are whole records.
+pub record Replayed : Type 0 where
+  pub world : World
+  pub waiting : Option Bytes
+  pub taken : ℕ
+  pub place : ℕ
+
+-- the bytes that wait begin a record
+abbrev pub Begins : Option Bytes → Type 0
+Begins waiting = IfSome waiting (λ bytes. request bytes ≡ begun)
 
 -- A world, the bytes that wait, and how many bytes of a batch were taken and how many of these are whole records: they stand for these
 -- batches and this part of the next one. The part is the records of some changes, which are made of the batches' world, and the
@@ -30,6 +42,10 @@ pub record Stands (world : World) (waiting : Option Bytes) (taken place : ℕ) (
 pub record IsNoRecord (bytes : Bytes) (place : ℕ) : Type 0 where
   pub within : place ≤ length bytes
   pub none : (rest : Bytes) → record_fault (bytes ++ rest) ≡ Some place
+
+-- the same of a replay
+abbrev pub StandsFor : Replayed → List Bytes → Bytes → Type 0
+StandsFor r batches part = Stands r.world r.waiting r.taken r.place batches part
 
 -- a refusal of bytes that names a place
 abbrev pub IsRefused : Bytes → Refusal → Type 0

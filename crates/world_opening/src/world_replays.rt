@@ -3,18 +3,18 @@
 ghost use Rattle.std.specs.Prelude.{◌≡◌, ◌+◌, ◌≤◌, ◌<◌, ◌++◌, ◌∷◌, ℕ, List, [], true, length, take, None, Some, OnOk, IfOk, IfErr, IfSome};
 ghost use Rattle.byte_text.specs.Names.{Bytes};
 ghost use Rattle.byte_text.specs.Requests.{IsRequest};
-ghost use Rattle.byte_text.specs.Streams.{begun, request};
 ghost use Rattle.world_data.specs.Worlds.{after, empty_world};
 ghost use Rattle.world_data.specs.declared.worlds.Change.{Change};
 ghost use Rattle.log_record.specs.Words.{change_of_words};
 ghost use Rattle.log_worlds.specs.Recorded.{record_fault};
-ghost use Rattle.world_opening.specs.Replayed.{Stands, IsRefused};
+ghost use Rattle.world_opening.specs.Replayed.{StandsFor, IsRefused};
 
 use byte_text::{NoMemory, Request};
 use journal::{Refusal, Replay};
 use record_words::{RecordFault, change_of};
 use resp_frames::{Fed, FeedFault, Requests};
 use std::alloc::Global;
+use std::marker::Model;
 use stored_world::StoredWorld;
 
 /// The world of the batches that were taken so far, and what was taken of the next one. The beginning of a record waits for the bytes
@@ -28,13 +28,22 @@ pub struct WorldReplay {
     taken: u64,
     // The place in it behind the last whole record.
     place: u64,
-    ghost begins: { IfSome records (λ held. request held ≡ begun) },
+}
+
+impl Model for WorldReplay {
+    ghost use Rattle.world_opening.specs.Replayed.{Replayed, Begins};
+
+    ghost Value = { Replayed };
+
+    ghost view = { λ r. record { world = r.world; waiting = r.records; taken = r.taken; place = r.place } };
+
+    ghost invariant = { λ r. Begins r.records };
 }
 
 impl WorldReplay {
     /// No batch was taken: the world is empty.
     pub fn new(alloc: Global) -> WorldReplay
-        ensures { Stands result.world result.records result.taken result.place [] [] }
+        ensures { StandsFor result [] [] }
     {
         WorldReplay {
             alloc,
@@ -62,9 +71,9 @@ impl WorldReplay {
     // Takes bytes up to the end of the next record, or all where none ends in them. How many were taken is answered.
     fn take_next(&mut self, bytes: &[u8]) -> Result<usize, Refusal>
         requires { 0 < length bytes.now }
-        ensures took { (batches : List Bytes) (part : Bytes) → Stands self.old.world self.old.records self.old.taken self.old.place batches part
-            → IfOk result (λ n. Stands self.new.world self.new.records self.new.taken self.new.place batches (part ++ take n bytes.now)) }
-        ensures refused { (batches : List Bytes) (part : Bytes) → Stands self.old.world self.old.records self.old.taken self.old.place batches part
+        ensures took { (batches : List Bytes) (part : Bytes) → StandsFor self.old batches part
+            → IfOk result (λ n. StandsFor self.new batches (part ++ take n bytes.now)) }
+        ensures refused { (batches : List Bytes) (part : Bytes) → StandsFor self.old batches part
             → IfErr result (IsRefused (part ++ bytes.now)) }
         ensures some { IfOk result (λ n. 0 < n) }
         ensures within { IfOk result (λ n. n ≤ length bytes.now) }
@@ -111,7 +120,7 @@ fn take_record(
 }
 
 impl Replay for WorldReplay {
-    ghost took = { λ r. Stands r.world r.records r.taken r.place };
+    ghost took = { StandsFor };
 
     ghost fault = { record_fault };
 
