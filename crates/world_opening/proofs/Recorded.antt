@@ -1,5 +1,5 @@
 -- The objects and channels of a world that recorded changes made have records.
-use Rattle.std.proofs.Common.{◌≡◌, not, List, [], ◌∷◌, ◌++◌, flat_map, sym, subst}
+use Rattle.std.proofs.Common.{◌≡◌, not, List, [], ◌∷◌, ◌++◌, length, flat_map, Some, ap, sym, subst, arith}
 use Rattle.std.specs.List.{AllByRecursion}
 use Rattle.byte_text.specs.Names.{Bytes}
 use Rattle.world_data.specs.Worlds.{after, empty_world, object_before, channel_before, is_at, has_key, is_named}
@@ -9,7 +9,11 @@ use Rattle.world_data.specs.declared.worlds.Change.{Change}
 use Rattle.world_data.specs.declared.worlds.World.{World}
 use Rattle.world_data.specs.declared.worlds.Change.TheVariants.{Put, Del, Drop, Flush, SetChan, DelChan}
 use Rattle.journal.specs.Openings.{AreWhole}
-use Rattle.log_record.specs.Words.{IsRecorded}
+use Rattle.byte_text.specs.Requests.{IsRequest}
+use Rattle.log_record.specs.Words.{IsRecorded, change_of_words}
+use Rattle.log_record.specs.RecordsRead.{record_read}
+use Rattle.record_lengths.specs.LengthLaws.{put_count}
+use Rattle.stored_world.specs.Stored.{HasFew}
 use Rattle.log_record.specs.Folding.{folded}
 use Rattle.log_record.specs.RecordsFound.{records_found}
 use Rattle.log_worlds.specs.BatchesHeld.{read_whole}
@@ -49,3 +53,14 @@ all_recorded (batch ∷ batches) whole =
 
 pub world_recorded : (batches : List Bytes) (w : World) → AreWhole record_fault batches → w ≡ world_in batches → AreRecorded w
 world_recorded batches w whole is = subst AreRecorded (sym is) (after_each empty_world (flat_map changes_in batches) (all_recorded batches whole) (record { objects = tt; channels = tt }))
+
+-- what a record puts has no more fields than a request has words
+pub few_of : (words : List Bytes) (c : Change) → IsRequest words → change_of_words words ≡ Some c → HasFew c
+few_of words (Put o) is read =
+    let same = ap (λ (l : List Bytes). length l) (record_read words (Put o) read).0 in
+    omega (arith, put_count o, same, is.fits.few)
+few_of words (Del key id) is read = tt
+few_of words (Drop key) is read = tt
+few_of words Flush is read = tt
+few_of words (SetChan c) is read = tt
+few_of words (DelChan name) is read = tt

@@ -1,7 +1,8 @@
 -- What a replay stands for after the next bytes, and where it refuses them.
-use Rattle.std.proofs.Common.{◌≡◌, ℕ, ◌+◌, ◌≤◌, ◌<◌, List, [], ◌∷◌, ◌++◌, length, take, drop, flat_map, Option, Some, None, refl, sym, ap, subst, ◌∙◌, arith, append_assoc, append-nil, length-append}
+use Rattle.std.proofs.Common.{◌≡◌, ℕ, ◌+◌, ◌-◌, ◌≤◌, ◌<◌, List, [], ◌∷◌, ◌++◌, length, take, drop, flat_map, Option, Some, None, refl, sym, ap, subst, ◌∙◌, arith, append_assoc, append-nil, length-append}
 use Rattle.std.specs.List.{AllByRecursion}
-use Rattle.std.proofs.lemmas.List.{length-take}
+use Rattle.std.proofs.lemmas.List.{length-take, length-drop, take_all, take-append-drop}
+use Rattle.std.proofs.Math.Seq.{take-add}
 use Rattle.byte_text.specs.Names.{Bytes}
 use Rattle.byte_text.specs.Requests.{IsRequest, request_text}
 use Rattle.byte_text.specs.Streams.{found, begun, broken, request}
@@ -152,3 +153,14 @@ module _ (world : World) (waiting : Option Bytes) (taken place : ℕ) (batches :
         world_is = stands.world_is ∙ ap (λ (l : List Change). folded (world_in batches) l) (sym same)
             ∙ sym (folded-append empty_world (flat_map changes_in batches) (changes_in part)) ∙ ap (λ (l : List Change). folded empty_world l) (sym (one_batch batches));
       }
+
+-- a piece that is taken part by part
+
+pub behind : (piece : Bytes) (at : ℕ) → take (length piece - at) (drop at piece) ≡ drop at piece
+behind piece at = take_all (length piece - at) (drop at piece) (omega (arith, length-drop at piece))
+
+pub more_taken : (part piece : Bytes) (at n : ℕ) → (part ++ take at piece) ++ take n (drop at piece) ≡ part ++ take (at + n) piece
+more_taken part piece at n = append_assoc part (take at piece) (take n (drop at piece)) ∙ ap (λ (l : Bytes). part ++ l) (sym (take-add at n piece))
+
+pub all_taken : (part piece : Bytes) (at : ℕ) → (part ++ take at piece) ++ drop at piece ≡ part ++ piece
+all_taken part piece at = append_assoc part (take at piece) (drop at piece) ∙ ap (λ (l : Bytes). part ++ l) (take-append-drop at piece)

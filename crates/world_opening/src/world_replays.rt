@@ -9,7 +9,7 @@ ghost use Rattle.log_record.specs.Words.{change_of_words};
 ghost use Rattle.log_worlds.specs.Recorded.{record_fault};
 ghost use Rattle.world_opening.specs.Replayed.{StandsFor, IsRefused};
 
-use byte_text::{NoMemory, Request};
+use byte_text::{NoMemory, Request, requests_are_read};
 use journal::{Refusal, Replay};
 use record_words::{RecordFault, change_of};
 use resp_frames::{Fed, FeedFault, Requests};
@@ -78,23 +78,30 @@ impl WorldReplay {
         ensures some { IfOk result (λ n. 0 < n) }
         ensures within { IfOk result (λ n. n ≤ length bytes.now) }
     {
+        // The law that a refusal stands on: behind a broken request nothing mends it.
+        requests_are_read();
         let (taken, request) = match self.records.feed(bytes) {
             Ok(Fed { taken, request }) => (taken, request),
             Err(FeedFault::Memory) => return Err(Refusal::Memory),
-            Err(FeedFault::Broken(_) | FeedFault::Dead) => {
-                return Err(Refusal::NoRecord(self.place));
-            }
+            Err(FeedFault::Broken(_)) => return Err(Refusal::NoRecord(self.place)),
+            Err(FeedFault::Dead) => return Err(Refusal::NoRecord(self.place)),
         };
         // No batch has more bytes than can be counted.
         let Some(end) = self.taken.checked_add(taken as u64) else {
             return Err(Refusal::Memory);
         };
-        if let Some(words) = request {
-            take_record(self.alloc, &mut self.world, &words, self.place)?;
-            self.place = end;
+        let Some(words) = request else {
+            self.taken = end;
+            return Ok(taken);
+        };
+        match take_record(self.alloc, &mut self.world, &words, self.place) {
+            Ok(()) => {
+                self.taken = end;
+                self.place = end;
+                Ok(taken)
+            }
+            Err(refusal) => Err(refusal),
         }
-        self.taken = end;
-        Ok(taken)
     }
 }
 
