@@ -1,9 +1,9 @@
 -- What a reader of requests answers to bytes, for a replay.
-use Rattle.std.proofs.Common.{◌≡◌, ℕ, ◌+◌, ◌≤◌, ◌<◌, List, [], ◌++◌, length, take, drop, Option, Some, None, sym, ap, subst, ◌∙◌, arith}
+use Rattle.std.proofs.Common.{◌≡◌, ℕ, ◌+◌, ◌≤◌, ◌<◌, List, [], ◌++◌, length, take, drop, Option, Some, None, sym, subst, arith}
 use Rattle.std.proofs.lemmas.List.{take_all}
 use Rattle.byte_text.specs.Names.{Bytes}
 use Rattle.byte_text.specs.Requests.{IsRequest}
-use Rattle.byte_text.specs.Streams.{begun, broken, request}
+use Rattle.byte_text.specs.Streams.{broken, request}
 use Rattle.byte_text.specs.declared.faults.RespFault.{RespFault}
 use Rattle.resp_frames.specs.RequestReader.{Held, IsFed, IsNotFed}
 use Rattle.resp_frames.specs.declared.faults.FeedFault.{FeedFault}
@@ -14,7 +14,7 @@ use Rattle.world_data.specs.declared.worlds.World.{World}
 use Rattle.log_record.specs.Words.{change_of_words}
 use Rattle.world_opening.specs.Replayed.{Begins, Stands, IsNoRecord}
 use Rattle.world_opening.proofs.Reading.{nothing_begun, some_end}
-use Rattle.world_opening.proofs.Steps.{goes_on, stands_on, stands_behind, refuses_words, refuses_bytes}
+use Rattle.world_opening.proofs.Steps.{stands_on, stands_behind, refuses_words, refuses_bytes}
 
 -- nothing is held, and that begins one
 pub begins_first : Begins (Some [])

@@ -1,4 +1,4 @@
-use Rattle.std.proofs.Common.{◌≡◌, ◌≤◌, ◌<◌, ◌+◌, ◌^◌, length, subst, sym, ℕ, arith}
+use Rattle.std.proofs.Common.{◌≤◌, subst, sym, ℕ, arith}
 use Rattle.world_data.specs.Records.{record_len}
 use Rattle.world_data.specs.declared.worlds.Change.TheVariants as change
 use Rattle.record_lengths.specs.LengthLaws.{setchan_sum, delchan_short}

@@ -1,4 +1,4 @@
-use Rattle.std.proofs.Common.{◌≡◌, ap, sym, ◌∙◌, take, arith}
+use Rattle.std.proofs.Common.{◌≡◌, ap, ◌∙◌, take, arith}
 use Rattle.std.proofs.lemmas.List.{take_all}
 use Rattle.record_lengths.specs.Lengths.{words_len}
 use Rattle.record_lengths.specs.LengthLaws.{next_word, word_short}

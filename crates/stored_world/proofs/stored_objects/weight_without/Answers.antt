@@ -1,7 +1,6 @@
-use Rattle.std.proofs.Common.{◌≡◌, ◌+◌, not, List, ap, ◌∙◌, subst, sym, arith}
-use Rattle.std.specs.Prelude.{sum_by, filter}
+use Rattle.std.proofs.Common.{ap, subst, sym, arith}
+use Rattle.std.specs.Prelude.{sum_by}
 use Rattle.world_data.specs.Worlds.{has_key}
-use Rattle.world_data.specs.declared.objects.Object.{Object}
 use Rattle.keyspace.specs.Entries.{objects_in}
 use Rattle.record_lengths.specs.Lengths.{HasFewFields, len_of}
 use Rattle.record_lengths.specs.ObjectSums.{parts_sum}

@@ -1,4 +1,4 @@
-use Rattle.std.proofs.Common.{◌≡◌, List, [], subst, sym}
+use Rattle.std.proofs.Common.{List, [], subst, sym}
 use Rattle.byte_text.specs.Names.{Bytes}
 use Rattle.world_data.specs.declared.worlds.World.{World}
 use Rattle.journal.specs.Journals.{Keeps}

@@ -1,4 +1,4 @@
-use Rattle.std.proofs.Common.{◌≡◌, ◌+◌, ◌<◌, ◌^◌, refl, ap, sym, subst, List, length, arith}
+use Rattle.std.proofs.Common.{◌+◌, ◌<◌, ◌^◌, refl, ap, sym, subst, List, length, arith}
 use Rattle.world_data.specs.Worlds.{object_before}
 use Rattle.world_data.specs.declared.objects.Object.{Object}
 use Rattle.keyspace.specs.Entries.{objects_in}

@@ -1,4 +1,4 @@
-use Rattle.std.proofs.Common.{◌≡◌, ◌∙◌, not, ap, sym, subst, List, length, arith}
+use Rattle.std.proofs.Common.{◌∙◌, not, ap, sym, subst, List, length, arith}
 use Rattle.std.specs.Prelude.{sum_by}
 use Rattle.world_data.specs.Worlds.{is_at}
 use Rattle.world_data.specs.declared.objects.Object.{Object}

@@ -1,4 +1,4 @@
-use Rattle.std.proofs.Common.{◌≡◌, Some, [], subst, sym}
+use Rattle.std.proofs.Common.{[], subst, sym}
 use Rattle.world_data.specs.Worlds.{empty_world}
 use Rattle.world_data.specs.declared.worlds.World.{World}
 use Rattle.resp_frames.specs.RequestReader.{Held}

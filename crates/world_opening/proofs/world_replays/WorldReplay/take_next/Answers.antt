@@ -1,9 +1,8 @@
-use Rattle.std.proofs.Common.{◌≡◌, List, Some, subst, sym, arith}
+use Rattle.std.proofs.Common.{◌≡◌, List, subst, sym, arith}
 use Rattle.std.specs.Prelude.{Option}
 use Rattle.byte_text.specs.Names.{Bytes}
 use Rattle.resp_frames.specs.RequestReader.{IsFed, IsNotFed}
 use Rattle.resp_frames.specs.declared.faults.FeedFault.{FeedFault}
-use Rattle.resp_frames.specs.declared.faults.FeedFault.TheVariants.{Broken, Dead}
 use Rattle.world_opening.specs.Replayed.{Replayed, StandsFor, IsNoRecord}
 use Rattle.world_opening.proofs.Feeding.{begins_fed, begins_not_fed, fed_some, fed_within, fed_request, fed_on, fed_record, fed_no_record, not_fed, not_dead}
 use Rattle.world_opening.proofs.world_replays.WorldReplay.take_next.Goals as goal

@@ -1,5 +1,4 @@
-use Rattle.std.proofs.Common.{◌≡◌, ◌≤◌, ℕ, List, length, Some, subst, sym, arith}
-use Rattle.byte_text.specs.Names.{Bytes}
+use Rattle.std.proofs.Common.{◌≡◌, ◌≤◌, ℕ, length, Some, subst, sym, arith}
 use Rattle.log_worlds.specs.Recorded.{record_fault}
 use Rattle.world_opening.specs.Replayed.{Replayed, StandsFor}
 use Rattle.world_opening.proofs.Steps.{cut_there, whole_there, stands_ended}

@@ -1,4 +1,4 @@
-use Rattle.std.proofs.Common.{◌≡◌, ◌∙◌, ◌++◌, length, take, length-append, ap, subst, arith}
+use Rattle.std.proofs.Common.{◌∙◌, ◌++◌, length, take, length-append, ap, subst, arith}
 use Rattle.std.proofs.lemmas.List.{take_all, length-drop}
 use Rattle.byte_text.specs.Names.{Bytes}
 use Rattle.world_opening.specs.Replayed.{StandsFor, IsNoRecord}
