@@ -1,0 +1,4 @@
+pub mod Lengths
+pub mod LengthLaws
+pub mod ObjectSums
+pub mod ChannelSums

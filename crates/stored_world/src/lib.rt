@@ -1,0 +1,11 @@
+//! A world as it is kept: objects and channels with their indexes and their weights, which takes one change after another.
+#![tactic(auto)]
+
+mod stored_channels;
+mod stored_objects;
+mod stored_worlds;
+
+pub use stored_worlds::{StoreParts, StoredWorld};
+
+#[cfg(test)]
+mod tests;

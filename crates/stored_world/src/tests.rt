@@ -1,0 +1,145 @@
+//! A world that takes one change after another, and what its parts weigh.
+
+use super::*;
+use byte_text::{Name, NoMemory, Request, Text};
+use planar_geom::{Area, Part, Parts, Pt, Shape};
+use std::alloc::Global;
+use std::test::Fail;
+use world_data::{Change, Channel, Fence, Fields, Kind, Object, Tests, Wanted, Watch};
+
+fn name(alloc: Global, bytes: &[u8]) -> Result<Name, NoMemory> {
+    match Name::of(alloc, bytes) {
+        Ok(name) => Ok(name),
+        Err(_) => Err(NoMemory),
+    }
+}
+
+fn spot(alloc: Global) -> Result<Shape, NoMemory> {
+    let mut parts = Parts::new(alloc);
+    let Some(p) = Pt::of(1, 2) else {
+        return Err(NoMemory);
+    };
+    if parts.push(Part::Spot(p)).is_err() {
+        return Err(NoMemory);
+    }
+    match Shape::of(parts) {
+        Ok(shape) => Ok(shape),
+        Err(_) => Err(NoMemory),
+    }
+}
+
+fn put(
+    alloc: Global,
+    key: &[u8],
+    id: &[u8],
+    text: &[u8],
+    deadline: Option<u64>,
+) -> Result<Change, NoMemory> {
+    Ok(Change::Put(Object {
+        key: name(alloc, key)?,
+        id: name(alloc, id)?,
+        text: Text::of(alloc, text)?,
+        shape: spot(alloc)?,
+        fields: Fields::new(alloc),
+        deadline,
+    }))
+}
+
+fn setting(alloc: Global, called: &[u8], words: usize) -> Result<Change, NoMemory> {
+    let Some(centre) = Pt::of(0, 0) else {
+        return Err(NoMemory);
+    };
+    let wanted = Wanted {
+        inside: true,
+        outside: false,
+        enter: true,
+        exit: true,
+        cross: false,
+        set: true,
+        del: true,
+        drop: true,
+    };
+    let mut normal = Request::new(alloc);
+    for _ in 0..words.min(2) {
+        if normal.words() < 2 {
+            normal.push(b"ab")?;
+        }
+    }
+    Ok(Change::SetChan(Channel {
+        name: name(alloc, called)?,
+        fence: Fence {
+            key: name(alloc, b"k")?,
+            glob: None,
+            tests: Tests::new(alloc),
+            wanted,
+            watch: Watch::Spot(Kind::Near, Area::Disc(centre, 5)),
+        },
+        words: normal,
+    }))
+}
+
+// The changes of a letter each, from a list that some tests begin.
+fn change(alloc: Global, letter: u8) -> Result<Change, NoMemory> {
+    match letter {
+        b'a' => put(alloc, b"k", b"a", b"x", None),
+        b'A' => put(alloc, b"k", b"a", b"xyz", Some(7)),
+        b'b' => put(alloc, b"k", b"b", b"x", Some(9)),
+        b'c' => put(alloc, b"l", b"c", b"x", None),
+        b'd' => Ok(Change::Del(name(alloc, b"k")?, name(alloc, b"a")?)),
+        b'p' => Ok(Change::Drop(name(alloc, b"k")?)),
+        b'f' => setting(alloc, b"f", 0),
+        b'F' => setting(alloc, b"f", 2),
+        b'g' => setting(alloc, b"g", 0),
+        b'e' => Ok(Change::DelChan(name(alloc, b"f")?)),
+        _ => Ok(Change::Flush),
+    }
+}
+
+// How many objects and channels the world after these changes has, their weights, and its least deadline.
+fn after(alloc: Global, letters: &[u8]) -> Result<(usize, u64, usize, u64, u64), Fail> {
+    let mut world = StoredWorld::new(alloc);
+    for letter in letters {
+        world.fold(change(alloc, *letter)?)?;
+    }
+    let counts = (world.objects(), world.channels());
+    let parts = world.into_parts();
+    assert_counts(&parts, counts)?;
+    Ok((
+        counts.0,
+        parts.weight,
+        counts.1,
+        parts.channel_weight,
+        parts.due_from,
+    ))
+}
+
+fn assert_counts(parts: &StoreParts, counts: (usize, usize)) -> Result<(), Fail> {
+    if (parts.objects.len(), parts.hub.len()) == counts {
+        Ok(())
+    } else {
+        Err(Fail::from("the parts have as many objects and channels"))
+    }
+}
+
+#[test]
+fn each_change_is_weighed(rt: HostRuntime) -> Result<(), Fail> {
+    let alloc = rt.alloc();
+    let table: [(&[u8], (usize, u64, usize, u64, u64)); 12] = [
+        (b"", (0, 0, 0, 0, u64::MAX)),
+        (b"a", (1, 46, 0, 0, u64::MAX)),
+        (b"aA", (1, 63, 0, 0, 7)),
+        (b"Aab", (2, 107, 0, 0, 9)),
+        (b"Abd", (1, 61, 0, 0, 9)),
+        (b"dbd", (1, 61, 0, 0, 9)),
+        (b"abcp", (1, 46, 0, 0, u64::MAX)),
+        (b"cf", (1, 46, 1, 24, u64::MAX)),
+        (b"fF", (0, 0, 1, 40, u64::MAX)),
+        (b"Fgef", (0, 0, 2, 48, u64::MAX)),
+        (b"Fge", (0, 0, 1, 24, u64::MAX)),
+        (b"aFg!b", (1, 61, 0, 0, 9)),
+    ];
+    for (letters, numbers) in table {
+        assert_eq!(rt; after(alloc, letters)?, numbers);
+    }
+    Ok(())
+}

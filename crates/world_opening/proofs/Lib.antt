@@ -1,0 +1,5 @@
+mod Reading
+mod Steps
+mod Feeding
+mod Recorded
+mod Opens
