@@ -1,0 +1,250 @@
+//! Sessions without threads of their own.
+
+ghost use Rattle.std.specs.Prelude.{◌≡◌, [], IfOk, IfSome, length, true};
+ghost use Rattle.std.specs.Arc.{arc_value};
+ghost use Rattle.std.specs.List.{list_all};
+ghost use Rattle.world_data.specs.Limits.{take_frames};
+ghost use Rattle.world_model.specs.Outcomes.{is_proper};
+ghost use Rattle.shared_hall.specs.Seats.{IsOf};
+
+use crate::halls::{hall_at, shared_by};
+use crate::texts::{MESSAGE, PING, PONG, SET, SETCHAN, SUBSCRIBED, push_line, push_times};
+use byte_text::Text;
+use crossbeam_channel::bounded;
+use outside::{BytesSink, BytesSource, HandClock, NoGate, PlainBell};
+use resp_frames::Requests;
+use serve_run::Shared;
+use session_run::{InEnd, OutEnd, Outlet, Writing, session_in, session_out};
+use shared_hall::{HallSeat, SharedHall};
+use std::alloc::{AllocError, Global};
+use std::sync::Wait;
+use std::test::Fail;
+use world_model::{Answers, Asked, AskedList, Called, Frames, HallApi, HallSplit, Touched};
+
+// How the reading of a session ended and its writing, and what was written.
+#[derive(Drop)]
+struct Ended {
+    reading: InEnd,
+    writing: Option<OutEnd>,
+    written: Vec<u8>,
+}
+
+// What takes the frames of a session into a sink that fails at one call.
+fn outlet_of(
+    alloc: Global,
+    hall: &SharedHall,
+    seat: &mut HallSeat,
+    failing: u64,
+) -> Result<Outlet<SharedHall, BytesSink>, Fail>
+    requires { IsOf hall.now seat.old }
+    ensures lent { IsOf hall.now seat.new }
+    ensures seat { IfOk result (λ o. IsOf hall.now o.seat) }
+    ensures list { IfOk result (λ o. o.frames.list ≡ []) }
+    ensures places { IfOk result (λ o. o.frames.places ≡ take_frames) }
+{
+    let (writer, _sinks) = bounded(alloc, 1)?;
+    let sink = BytesSink::new(alloc, 4096, [failing].to_vec(alloc)?);
+    let frames = Frames::new(alloc)?;
+    Ok(Outlet {
+        seat: hall.split(seat),
+        sink,
+        frames,
+        text: Vec::new(alloc),
+        writer,
+    })
+}
+
+// Serves a session alone, which asks for this, and whose sink fails at one call.
+fn alone<R: Wait>(
+    rt: &R,
+    alloc: Global,
+    shared: &Shared<SharedHall, PlainBell, NoGate>,
+    seat: &mut HallSeat,
+    text: &Text,
+    failing: u64,
+) -> Result<Ended, Fail>
+    requires { IsOf (arc_value shared.now.hall) seat.old }
+    ensures { IsOf (arc_value shared.now.hall) seat.new }
+{
+    let Ok(session) = shared.hall.enter(rt, seat) else {
+        return Err(Fail::from(AllocError));
+    };
+    let outlet = outlet_of(alloc, &*shared.hall, seat, failing)?;
+    let mut source = BytesSource::new(text.bytes().to_vec(alloc)?, 1000, Vec::new(alloc));
+    let (reading, writing) = session_in(
+        rt,
+        alloc,
+        &*shared.hall,
+        seat,
+        session,
+        &mut source,
+        &HandClock::at(0),
+        &*shared.bell,
+        &*shared.room,
+        &*shared.gate,
+        outlet,
+    );
+    left_by(alloc, reading, writing)
+}
+
+// What is left of a session that wrote its frames itself.
+fn left_by(
+    alloc: Global,
+    reading: InEnd,
+    writing: Writing<SharedHall, BytesSink>,
+) -> Result<Ended, Fail> {
+    match writing {
+        Writing::Ended(outlet, end) => Ok(Ended {
+            reading,
+            writing: Some(end),
+            written: outlet.sink.written().to_vec(alloc)?,
+        }),
+        _ => Ok(Ended {
+            reading,
+            writing: None,
+            written: Vec::new(alloc),
+        }),
+    }
+}
+
+// The same on a hall of an empty world.
+fn alone_anew<R: Wait>(rt: &R, alloc: Global, text: &Text, failing: u64) -> Result<Ended, Fail> {
+    let (hall, mut seat) = hall_at(alloc)?;
+    let shared = shared_by(alloc, hall, NoGate)?;
+    alone(rt, alloc, &shared, &mut seat, text, failing)
+}
+
+#[test]
+fn a_source_ends_in_the_middle_of_a_request(rt: HostRuntime) -> Result<(), Fail> {
+    let alloc = rt.alloc();
+    let mut text = Text::of(alloc, PING)?;
+    text.push(&PING[..10])?;
+    let ended = alone_anew(&rt, alloc, &text, 0)?;
+    assert_eq!(rt; ended.reading, InEnd::Over);
+    assert_eq!(rt; ended.writing, Some(OutEnd::Ended));
+    assert_eq!(rt; ended.written.as_slice(), PONG);
+    Ok(())
+}
+
+#[test]
+fn a_sink_fails(rt: HostRuntime) -> Result<(), Fail> {
+    let alloc = rt.alloc();
+    let mut text = Text::new(alloc);
+    push_times(&mut text, PING, 100)?;
+    let ended = alone_anew(&rt, alloc, &text, 2)?;
+    assert_eq!(rt; ended.reading, InEnd::OutEnded);
+    assert_eq!(rt; ended.writing, Some(OutEnd::WriteFault));
+    let mut written = Text::new(alloc);
+    push_times(&mut written, PONG, 64)?;
+    assert_eq!(rt; ended.written.as_slice(), written.bytes());
+    Ok(())
+}
+
+// The one request of a line.
+fn asked_by(alloc: Global, line: &str) -> Option<AskedList>
+    ensures one { IfSome result (λ a. length a ≡ 1) }
+    ensures proper { IfSome result (λ a. list_all is_proper a ≡ true) }
+{
+    let mut text = Text::new(alloc);
+    push_line(&mut text, line).ok()?;
+    let words = Requests::new(alloc).feed(text.bytes()).ok()?.request?;
+    if words.words() == 0 {
+        return None;
+    }
+    let mut asked = AskedList::new(alloc);
+    match asked.push(Asked::Words(words)) {
+        Ok(()) => Some(asked),
+        Err(_) => None,
+    }
+}
+
+// A session that subscribes to the yard.
+fn listener<R: Wait>(rt: &R, alloc: Global, hall: &SharedHall, seat: &mut HallSeat) -> Option<u32>
+    requires { IsOf hall.now seat.old }
+    ensures { IsOf hall.now seat.new }
+{
+    let session = hall.enter(rt, seat).ok()?;
+    let asked = asked_by(alloc, "SUBSCRIBE yard")?;
+    let touched = Touched::new(alloc).ok()?;
+    let (answers, _asked, _touched) = hall.calls(rt, seat, session, 0, asked, touched);
+    let whole = Answers {
+        served: 1,
+        end: Called::Ok,
+    };
+    if answers == whole {
+        Some(session)
+    } else {
+        None
+    }
+}
+
+// Writes the frames of a session up to its end. How that ended, and what was written.
+fn heard<R: Wait>(
+    rt: &R,
+    alloc: Global,
+    shared: &Shared<SharedHall, PlainBell, NoGate>,
+    seat: &mut HallSeat,
+    session: u32,
+) -> Result<(OutEnd, Vec<u8>), Fail>
+    requires { IsOf (arc_value shared.now.hall) seat.old }
+    ensures { IsOf (arc_value shared.now.hall) seat.new }
+{
+    let mut sink = BytesSink::new(alloc, 4096, Vec::new(alloc));
+    let mut frames = Frames::new(alloc)?;
+    let end = session_out(
+        rt,
+        &*shared.hall,
+        seat,
+        session,
+        &mut sink,
+        &*shared.bell,
+        &*shared.room,
+        &mut frames,
+        &mut Vec::new(alloc),
+    );
+    Ok((end, sink.written().to_vec(alloc)?))
+}
+
+// What a listener to the yard is written who takes nothing while another session does this.
+fn told<R: Wait>(
+    rt: &R,
+    alloc: Global,
+    shared: &Shared<SharedHall, PlainBell, NoGate>,
+    seat: &mut HallSeat,
+    text: &Text,
+) -> Result<(OutEnd, Vec<u8>), Fail>
+    requires { IsOf (arc_value shared.now.hall) seat.old }
+    ensures { IsOf (arc_value shared.now.hall) seat.new }
+{
+    let Some(session) = listener(rt, alloc, &*shared.hall, seat) else {
+        return Err(Fail::from(AllocError));
+    };
+    alone(rt, alloc, shared, seat, text, 0)?;
+    heard(rt, alloc, shared, seat, session)
+}
+
+// The same on a hall of an empty world.
+fn told_anew<R: Wait>(rt: &R, alloc: Global, text: &Text) -> Result<(OutEnd, Vec<u8>), Fail> {
+    let (hall, mut seat) = hall_at(alloc)?;
+    let shared = shared_by(alloc, hall, NoGate)?;
+    told(rt, alloc, &shared, &mut seat, text)
+}
+
+// A queue has room for 16384 frames, of which the first tells of the subscription.
+#[test]
+fn a_session_that_overflows_is_written_what_it_has(rt: HostRuntime) -> Result<(), Fail> {
+    let alloc = rt.alloc();
+    let mut set = Text::new(alloc);
+    push_line(&mut set, SET)?;
+    let mut text = Text::new(alloc);
+    push_line(&mut text, SETCHAN)?;
+    push_times(&mut text, set.bytes(), 16_400)?;
+    let (end, written) = told_anew(&rt, alloc, &text)?;
+    assert_eq!(rt; end, OutEnd::Ended);
+    let mut message = Text::new(alloc);
+    push_line(&mut message, MESSAGE)?;
+    let mut all = Text::of(alloc, SUBSCRIBED)?;
+    push_times(&mut all, message.bytes(), 16_383)?;
+    assert!(rt; written.as_slice() == all.bytes());
+    Ok(())
+}
