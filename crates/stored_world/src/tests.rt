@@ -60,10 +60,9 @@ fn setting(alloc: Global, called: &[u8], words: usize) -> Result<Change, NoMemor
         drop: true,
     };
     let mut normal = Request::new(alloc);
-    for _ in 0..words.min(2) {
-        if normal.words() < 2 {
-            normal.push(b"ab")?;
-        }
+    if words == 2 {
+        normal.push(b"ab")?;
+        normal.push(b"ab")?;
     }
     Ok(Change::SetChan(Channel {
         name: name(alloc, called)?,
