@@ -117,6 +117,14 @@ fn a_worked_side_is_opened(rt: HostRuntime) -> Result<(), Fail> {
     Ok(())
 }
 
+fn push_field(alloc: Global, record: &mut Text, field: usize) -> Result<(), Fail> {
+    let name = format!(in alloc; "f{field}")?;
+    push_bulk(record, b"FIELD")?;
+    push_bulk(record, name.as_bytes())?;
+    push_bulk(record, b"7")?;
+    Ok(())
+}
+
 // The record of a put whose text has so many spaces in front, and so many fields.
 fn large_put(alloc: Global, spaces: usize, fields: usize) -> Result<Text, Fail> {
     let mut record = Text::new(alloc);
@@ -125,9 +133,7 @@ fn large_put(alloc: Global, spaces: usize, fields: usize) -> Result<Text, Fail> 
         push_bulk(&mut record, word.as_bytes())?;
     }
     for field in 1000..1000usize.saturating_add(fields) {
-        for word in ["FIELD", &format!(in alloc; "f{field}")?, "7"] {
-            push_bulk(&mut record, word.as_bytes())?;
-        }
+        push_field(alloc, &mut record, field)?;
     }
     push_bulk(&mut record, b"OBJECT")?;
     let mut text = vec![in alloc; b' '; spaces]?;
