@@ -1,5 +1,8 @@
 //! A world that takes one change after another, and what its parts weigh.
 
+ghost use Rattle.std.specs.Prelude.{IfOk};
+ghost use Rattle.stored_world.specs.Stored.{HasFew};
+
 use super::*;
 use byte_text::{Name, NoMemory, Request, Text};
 use planar_geom::{Area, Part, Parts, Pt, Shape};
@@ -34,7 +37,9 @@ fn put(
     id: &[u8],
     text: &[u8],
     deadline: Option<u64>,
-) -> Result<Change, NoMemory> {
+) -> Result<Change, NoMemory>
+    ensures { IfOk result HasFew }
+{
     Ok(Change::Put(Object {
         key: name(alloc, key)?,
         id: name(alloc, id)?,
@@ -45,7 +50,10 @@ fn put(
     }))
 }
 
-fn setting(alloc: Global, called: &[u8], words: usize) -> Result<Change, NoMemory> {
+// A channel of this name on a disc of this radius, with no words.
+fn setting(alloc: Global, called: &[u8], radius: u32) -> Result<Change, NoMemory>
+    ensures { IfOk result HasFew }
+{
     let Some(centre) = Pt::of(0, 0) else {
         return Err(NoMemory);
     };
@@ -59,11 +67,6 @@ fn setting(alloc: Global, called: &[u8], words: usize) -> Result<Change, NoMemor
         del: true,
         drop: true,
     };
-    let mut normal = Request::new(alloc);
-    if words == 2 {
-        normal.push(b"ab")?;
-        normal.push(b"ab")?;
-    }
     Ok(Change::SetChan(Channel {
         name: name(alloc, called)?,
         fence: Fence {
@@ -71,14 +74,16 @@ fn setting(alloc: Global, called: &[u8], words: usize) -> Result<Change, NoMemor
             glob: None,
             tests: Tests::new(alloc),
             wanted,
-            watch: Watch::Spot(Kind::Near, Area::Disc(centre, 5)),
+            watch: Watch::Spot(Kind::Near, Area::Disc(centre, radius)),
         },
-        words: normal,
+        words: Request::new(alloc),
     }))
 }
 
 // The changes of a letter each, from a list that some tests begin.
-fn change(alloc: Global, letter: u8) -> Result<Change, NoMemory> {
+fn change(alloc: Global, letter: u8) -> Result<Change, NoMemory>
+    ensures { IfOk result HasFew }
+{
     match letter {
         b'a' => put(alloc, b"k", b"a", b"x", None),
         b'A' => put(alloc, b"k", b"a", b"xyz", Some(7)),
@@ -86,9 +91,9 @@ fn change(alloc: Global, letter: u8) -> Result<Change, NoMemory> {
         b'c' => put(alloc, b"l", b"c", b"x", None),
         b'd' => Ok(Change::Del(name(alloc, b"k")?, name(alloc, b"a")?)),
         b'p' => Ok(Change::Drop(name(alloc, b"k")?)),
-        b'f' => setting(alloc, b"f", 0),
-        b'F' => setting(alloc, b"f", 2),
-        b'g' => setting(alloc, b"g", 0),
+        b'f' => setting(alloc, b"f", 5),
+        b'F' => setting(alloc, b"f", 7),
+        b'g' => setting(alloc, b"gg", 5),
         b'e' => Ok(Change::DelChan(name(alloc, b"f")?)),
         _ => Ok(Change::Flush),
     }
@@ -132,9 +137,9 @@ fn each_change_is_weighed(rt: HostRuntime) -> Result<(), Fail> {
         (b"dbd", (1, 61, 0, 0, 9)),
         (b"abcp", (1, 46, 0, 0, u64::MAX)),
         (b"cf", (1, 46, 1, 24, u64::MAX)),
-        (b"fF", (0, 0, 1, 40, u64::MAX)),
-        (b"Fgef", (0, 0, 2, 48, u64::MAX)),
-        (b"Fge", (0, 0, 1, 24, u64::MAX)),
+        (b"fF", (0, 0, 1, 24, u64::MAX)),
+        (b"Fgef", (0, 0, 2, 49, u64::MAX)),
+        (b"Fge", (0, 0, 1, 25, u64::MAX)),
         (b"aFg!b", (1, 61, 0, 0, 9)),
     ];
     for (letters, numbers) in table {
