@@ -9,44 +9,12 @@ use Rattle.std.proofs.lemmas.List.Sums.{sum_by-append, sum_by-cons, sum_by-inser
 use Rattle.ordered_lists.specs.Reading.{both_of}
 use Rattle.planar_geom.specs.Points.{Point, Bounds}
 use Rattle.rtree.specs.Pairs.{Pair, pair, IsWith, IsTaken}
+use Rattle.tree_pairs.specs.OnePair.{stands}
 use Rattle.world_data.specs.declared.objects.Object.{Object}
 use Rattle.collection.specs.Deadlines.{is_among}
 use Rattle.collection.specs.Boxed.{box_in, pair_at, AreBoxed, IsMore, IsMoved, IsWholeIn, AreInTree}
 use Rattle.collection.specs.Slotted.{are_apart}
 use Rattle.collection.proofs.Numbers.{itself, among_remove}
-
--- ---- one pair, told by a test
-
-abbrev is_point : Point → Point → Bool
-is_point p q = int_eq p.x q.x && int_eq p.y q.y
-
-abbrev is_box : Bounds → Bounds → Bool
-is_box b c = is_point b.min c.min && is_point b.max c.max
-
-abbrev is_pair : Pair → Pair → Bool
-is_pair p q = nat_eq p.id q.id && is_box p.bounds q.bounds
-
-pub point_is : (p q : Point) → is_point p q ≡ true → p ≡ q
-point_is p q e =
-    let h = both_of (int_eq p.x q.x) (int_eq p.y q.y) e in
-    rw ((Decides-int_eq p.x q.x).0 h.0, (Decides-int_eq p.y q.y).0 h.1) refl
-
-box_is : (b c : Bounds) → is_box b c ≡ true → b ≡ c
-box_is b c e =
-    let h = both_of (is_point b.min c.min) (is_point b.max c.max) e in
-    rw (point_is b.min c.min h.0, point_is b.max c.max h.1) refl
-
-pair_is : (p q : Pair) → is_pair p q ≡ true → p ≡ q
-pair_is p q e =
-    let h = both_of (nat_eq p.id q.id) (is_box p.bounds q.bounds) e in
-    let n : p.id ≡ q.id = grind (arith, nat_tests) in
-    rw (n, box_is p.bounds q.bounds h.1) refl
-
-point_itself : (p : Point) → is_point p p ≡ true
-point_itself p = rw ((Decides-int_eq p.x p.x).1 refl, (Decides-int_eq p.y p.y).1 refl) refl
-
-pair_itself : (p : Pair) → is_pair p p ≡ true
-pair_itself p = rw (itself p.id, point_itself p.bounds.min, point_itself p.bounds.max) refl
 
 -- ---- sums over lists
 
@@ -61,27 +29,11 @@ among_sum h (k ∷ ks) key any =
     this_one true e s ih = let same : h key ≡ h k = ap h (grind (arith, nat_tests)) in omega (arith, s, same)
     this_one false e s ih = let le = ih (rw e at any) in omega (arith, s, le)
 
--- where something passes a test, the list contains what passes
-one_passes : (t : Pair → Bool) (ps : List Pair) → 1 ≤ sum_by (λ r. cond (t r) 1 0) ps → (r : Pair) × (t r ≡ true) × Contains ps r
-one_passes t [] some = absurd (omega arith)
-one_passes t (p ∷ ps) some = this_one (t p) refl (sum_by-cons (λ r. cond (t r) 1 0) p ps) (one_passes t ps)
-  where
-    this_one : (b : Bool) → t p ≡ b → sum_by (λ r. cond (t r) 1 0) (p ∷ ps) ≡ cond (t p) 1 0 + sum_by (λ r. cond (t r) 1 0) ps → (1 ≤ sum_by (λ r. cond (t r) 1 0) ps → (r : Pair) × (t r ≡ true) × Contains ps r) → (r : Pair) × (t r ≡ true) × Contains (p ∷ ps) r
-    this_one true e s ih = (p, e, (0, omega arith, refl))
-    this_one false e s ih =
-        let none : cond {A = ℕ} (t p) 1 0 ≡ 0 = ap (λ (b : Bool). cond {A = ℕ} b 1 0) e in
-        let h = ih (omega (arith, some, s, none)) in
-        (h.0, h.1, (suc h.2.0, omega (arith, h.2.1), h.2.2))
-
 -- a key's pair is in the tree
 pub pair_there : (f : ℕ → Option Object) (keys : List ℕ) (pairs : List Pair) (key : ℕ) → AreBoxed f keys pairs → is_among key keys ≡ true → Contains pairs (pair_at f key)
 pair_there f keys pairs key boxed there =
-    let p = pair_at f key in
-    let w : Pair → ℕ = λ r. cond (is_pair p r) 1 0 in
-    let one : w p ≡ 1 = rw (pair_itself p) refl in
-    let le : w p ≤ sum_by (λ k. w (pair_at f k)) keys = among_sum (λ k. w (pair_at f k)) keys key there in
-    let h = one_passes (is_pair p) pairs (omega (arith, boxed w, one, le)) in
-    subst (Contains pairs) (sym (pair_is p h.0 h.1)) h.2
+    let weighs : (w : Pair → ℕ) → w (pair_at f key) ≤ sum_by w pairs = λ w. omega (arith, boxed w, among_sum (λ k. w (pair_at f k)) keys key there) in
+    stands (pair_at f key) pairs weighs
 
 -- ---- a key whose slot changes
 
@@ -177,17 +129,3 @@ module _ (f g : ℕ → Option Object) (key : ℕ) (others : (other : ℕ) → o
             omega (arith, a, b, c, c', e, here, here');
         whole = whole_set keys t.whole whole;
       }
-
--- ---- what the tree's calls say, as sums
-
-pub more_with : (p : Pair) (few many : List Pair) → IsWith p few many → IsMore p few many
-more_with p few many is = λ w.
-    let a : sum_by w few ≡ sum_by w is.front + sum_by w is.back = ap (sum_by w) is.without ∙ sum_by-append w is.front is.back in
-    let b : sum_by w many ≡ sum_by w is.front + sum_by w (p ∷ is.back) = ap (sum_by w) is.with ∙ sum_by-append w is.front (p ∷ is.back) in
-    let c = sum_by-cons w p is.back in
-    omega (arith, a, b, c)
-
--- what is there is taken out
-pub taken_out : (b : Bool) (p : Pair) (old new : List Pair) → Contains old p → IsTaken b p old new → (b ≡ true) × IsMore p new old
-taken_out true p old new there t = (refl, more_with p new old t)
-taken_out false p old new there t = absurd (t.0 there)

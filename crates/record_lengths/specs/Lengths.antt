@@ -1,5 +1,6 @@
 -- The lengths of records, by their words.
 use Rattle.std.specs.Prelude.{ℕ, ◌≤◌, List, length, flat_map}
+use Rattle.std.specs.List.{AllByRecursion}
 use Rattle.byte_text.specs.Names.{Bytes}
 use Rattle.byte_text.specs.Lines.{bulk_text}
 use Rattle.world_data.specs.Limits.{max_weight}
@@ -23,3 +24,6 @@ len_of_channel c = record_len (change.SetChan c)
 -- of one that has more fields than a command may give it
 abbrev pub HasFewFields : Object → Type 0
 HasFewFields o = length o.fields ≤ max_weight
+
+abbrev pub HaveFewFields : List Object → Type 0
+HaveFewFields objects = AllByRecursion HasFewFields objects

@@ -142,15 +142,15 @@ module _ (f : Object → ℕ) where
       by false false p q behind ih true s e = let is : y ≡ o = cc in let same : f y ≡ f o = ap f is in omega (arith, same, sum_by-cons f y ys, sum_by-cons f x ys)
       by false false p q behind ih false s e = let t = tied x y p q in absurd (cc)
 
--- objects that are looked at from the first on
+-- what is looked at from the first on
 
-take_more : (xs : List Object) (i : ℕ) (x : Object) → slice_get xs i ≡ Some x → take i xs ++ x ∷ [] ≡ take (suc i) xs
+pub take_more : {A : Type 0} (xs : List A) (i : ℕ) (x : A) → slice_get xs i ≡ Some x → take i xs ++ x ∷ [] ≡ take (suc i) xs
 take_more [] i x at = absurd (cc)
-take_more (y ∷ ys) zero x at = let is : y ≡ x = cc in ap (λ (z : Object). z ∷ []) (sym is)
-take_more (y ∷ ys) (suc i) x at = ap (λ (zs : List Object). y ∷ zs) (take_more ys i x at)
+take_more (y ∷ ys) zero x at = let is : y ≡ x = cc in ap (λ z. z ∷ []) (sym is)
+take_more {A = A} (y ∷ ys) (suc i) x at = ap (λ (zs : List A). y ∷ zs) (take_more ys i x at)
 
-next_take : (xs : List Object) (i : ℕ) (o : Object) → slice_get xs i ≡ Some o → take i xs ++ o ∷ [] ≡ take (i + 1) xs
-next_take xs i o at = let one : suc i ≡ i + 1 = omega arith in take_more xs i o at ∙ ap (λ (n : ℕ). take n xs) one
+pub next_take : {A : Type 0} (xs : List A) (i : ℕ) (x : A) → slice_get xs i ≡ Some x → take i xs ++ x ∷ [] ≡ take (i + 1) xs
+next_take xs i x at = let one : suc i ≡ i + 1 = omega arith in take_more xs i x at ∙ ap (λ (n : ℕ). take n xs) one
 
 -- what is looked at so far, and the next object, weigh no more than all
 pub next_weighs : (xs : List Object) (i : ℕ) (o : Object) → slice_get xs i ≡ Some o → sum_by len_of (take i xs) + len_of o ≤ sum_by len_of xs

@@ -1,16 +1,12 @@
 -- What holds of a stored world, and the world that its parts are.
 use Rattle.std.specs.Prelude.{◌≡◌, ℕ, ◌<◌, ◌^◌, List, length, sum_by}
-use Rattle.std.specs.List.{AllByRecursion}
 use Rattle.world_data.specs.declared.objects.Object.{Object}
 use Rattle.world_data.specs.declared.worlds.World.{World}
 use Rattle.world_data.specs.declared.worlds.Change.{Change}
 use Rattle.world_data.specs.declared.worlds.Change.TheVariants.{Put, Del, Drop, Flush, SetChan, DelChan}
-use Rattle.record_lengths.specs.Lengths.{HasFewFields, len_of}
+use Rattle.record_lengths.specs.Lengths.{HasFewFields, HaveFewFields, len_of}
 use Rattle.keyspace.specs.Entries.{objects_in}
 use Rattle.stored_world.specs.declared.stored_worlds.StoreParts.{StoreParts}
-
-abbrev pub HaveFewFields : List Object → Type 0
-HaveFewFields objects = AllByRecursion HasFewFields objects
 
 -- an object that is put has few fields
 abbrev pub HasFew : Change → Type 0

@@ -3,9 +3,8 @@
 ghost use Rattle.std.specs.Prelude.{◌≡◌, ◌+◌, ◌≤◌, ◌<◌, ◌^◌, [], true, not, length, filter, sum_by, OnOk, OnErr};
 ghost use Rattle.ordered_lists.specs.Lists.{put_in};
 ghost use Rattle.world_data.specs.Worlds.{are_objects, has_key, is_at, object_before};
-ghost use Rattle.record_lengths.specs.Lengths.{HasFewFields, len_of};
+ghost use Rattle.record_lengths.specs.Lengths.{HasFewFields, len_of, HaveFewFields};
 ghost use Rattle.keyspace.specs.Entries.{has_room, objects_in};
-ghost use Rattle.stored_world.specs.Stored.{HaveFewFields};
 
 use byte_text::{Name, NoMemory};
 use collection::Collection;

@@ -2,9 +2,9 @@
 
 ghost use Rattle.std.specs.Prelude.{◌≡◌, ◌-◌, ◌<◌, ◌^◌, length, sum_by, unwrap_or, OnOk, OnErr};
 ghost use Rattle.world_data.specs.Worlds.{empty_world, after};
-ghost use Rattle.record_lengths.specs.Lengths.{len_of, len_of_channel};
+ghost use Rattle.record_lengths.specs.Lengths.{len_of, len_of_channel, HaveFewFields};
 ghost use Rattle.collection.specs.Objects.{least_due};
-ghost use Rattle.stored_world.specs.Stored.{HasFew, HaveFewFields, world_of};
+ghost use Rattle.stored_world.specs.Stored.{HasFew, world_of};
 
 use crate::stored_channels::StoredChannels;
 use crate::stored_objects::StoredObjects;

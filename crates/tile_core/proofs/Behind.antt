@@ -23,6 +23,7 @@ use Rattle.tile_core.specs.Dues.{AllStand}
 use Rattle.tile_core.specs.Moves.{AllThere, world_with}
 use Rattle.tile_core.specs.Staged.{StagesBehind, dels_of}
 use Rattle.tile_core.proofs.Weights.{found_at}
+use Rattle.record_lengths.specs.ObjectSums.{next_take}
 
 all_there : {A : Type 0} (xs : List A) → xs ++ [] ≡ xs
 all_there [] = refl
@@ -47,13 +48,8 @@ behind_more w more d IsSuch old mid new behind such staged first writes is befor
 pub behind_one : (w : World) (d : Write) (IsSuch : World → Type 0) (old new : List State) → IsSuch w → IsStagedIn IsSuch d old new → StagesBehind w (d ∷ []) old new
 behind_one w d IsSuch old new such staged first writes is before = staged.behind first writes (subst IsSuch (sym is) such) before
 
-next_take : {A : Type 0} (xs : List A) (i : ℕ) (x : A) → slice_get xs i ≡ Some x → take (suc i) xs ≡ take i xs ++ x ∷ []
-next_take [] i x at = absurd (cc)
-next_take {A} (y ∷ ys) zero x at = let is : y ≡ x = cc in ap (λ (z : A). z ∷ []) is
-next_take {A} (y ∷ ys) (suc i) x at = ap (λ (zs : List A). y ∷ zs) (next_take ys i x at)
-
 pub take_next : {A : Type 0} (xs : List A) (i : ℕ) (x : A) → slice_get xs i ≡ Some x → take (i + 1) xs ≡ take i xs ++ x ∷ []
-take_next {A} xs i x at = let one : i + 1 ≡ suc i = omega arith in ap (λ (n : ℕ). take n xs) one ∙ next_take xs i x at
+take_next xs i x at = sym (next_take xs i x at)
 
 pub take_none : {A : Type 0} (xs : List A) → take 0 xs ≡ []
 take_none [] = refl

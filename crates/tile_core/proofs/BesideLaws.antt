@@ -37,14 +37,16 @@ use Rattle.tile_core.specs.declared.moves.Move.TheVariants.{Stay, Put, Delete, D
 use Rattle.tile_core.specs.declared.plans.Plan.{Plan}
 use Rattle.tile_core.specs.Beside.{is_of_channels, is_of_objects, is_too_heavy, or_full, IsCounted}
 use Rattle.tile_core.specs.CoreStates.{AreKept}
-use Rattle.tile_core.specs.Moves.{world_of, world_with, len_of, HasFewFields, moved, without_each}
+use Rattle.tile_core.specs.Moves.{world_of, world_with, moved, without_each}
+use Rattle.record_lengths.specs.Lengths.{len_of, HasFewFields}
 use Rattle.tile_core.specs.Planned.{channels_left, channels_weight}
 use Rattle.tile_core.specs.Plans.{IsPlan, Says, put_or_full, writes_of}
 use Rattle.tile_core.proofs.Answering.{said, count_fits}
 use Rattle.tile_core.proofs.Changing.{one_at_most}
-use Rattle.tile_core.proofs.RecordWords.{bare_short}
+use Rattle.record_lengths.specs.LengthLaws.{bare_short}
 use Rattle.tile_core.proofs.Standing.{found_holds}
-use Rattle.tile_core.proofs.Weights.{have_few, weight_sum, changed_sum, found_own, some_sum}
+use Rattle.tile_core.proofs.Weights.{have_few, weight_sum, found_own, some_sum}
+use Rattle.record_lengths.specs.ObjectSums.{changed_sum}
 
 module _ (cs : List Channel) (os : List Object) where
   abbrev w : World

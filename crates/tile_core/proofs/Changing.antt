@@ -17,7 +17,8 @@ use Rattle.world_data.specs.declared.worlds.World.{World}
 use Rattle.world_model.specs.declared.faults.Refusal.TheVariants as refusal
 use Rattle.world_model.specs.declared.commands.Command.TheVariants as command
 use Rattle.tile_core.specs.Plans.{put_or_full}
-use Rattle.tile_core.proofs.FieldOrder.{there, take_more, zero_more}
+use Rattle.tile_core.proofs.FieldOrder.{there, zero_more}
+use Rattle.record_lengths.specs.ObjectSums.{take_more}
 
 -- an object that is not there
 

@@ -7,6 +7,7 @@ use Rattle.byte_text.specs.Names.{Bytes, before}
 use Rattle.ordered_lists.specs.Lists.{ascends, put_in}
 use Rattle.world_data.specs.Filters.{Field, field_before, is_zero, are_fields, last_values, with_values}
 use Rattle.byte_text.specs.ByteOrder.{before_tie}
+use Rattle.record_lengths.specs.ObjectSums.{take_more}
 
 -- the order of names
 
@@ -131,11 +132,6 @@ pub one_given : (fields given : List Field) (x : Field) → are_fields fields �
 one_given fields given x are =
     let asc : ascends field_before fields ≡ true = grind arith in
     shown_put x (last_values fields given) (ascends_last fields given asc) ∙ ap (λ (ys : List Field). filter (λ f. not (is_zero f)) ys) (sym (last_one fields given x))
-
-pub take_more : {A : Type 0} (xs : List A) (i : ℕ) (x : A) → slice_get xs i ≡ Some x → take i xs ++ x ∷ [] ≡ take (suc i) xs
-take_more [] i x at = absurd (cc)
-take_more (y ∷ ys) zero x at = let is : y ≡ x = cc in ap (λ z. z ∷ []) (sym is)
-take_more {A = A} (y ∷ ys) (suc i) x at = ap (λ (zs : List A). y ∷ zs) (take_more ys i x at)
 
 pub there : {A : Type 0} (xs : List A) (i : ℕ) → i < length xs → (x : A) × (slice_get xs i ≡ Some x)
 there [] i lt = absurd (omega (arith, lt))

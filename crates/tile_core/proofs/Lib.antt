@@ -12,7 +12,6 @@ mod Calls
 mod Answered
 mod Finishing
 mod Taken
-mod RecordWords
 mod FieldOrder
 mod Timing
 mod Weights

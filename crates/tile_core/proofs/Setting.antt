@@ -18,7 +18,8 @@ use Rattle.world_data.specs.declared.worlds.Change.TheVariants as change
 use Rattle.world_model.specs.declared.commands.Command.TheVariants as command
 use Rattle.world_model.specs.declared.faults.Refusal.TheVariants as refusal
 use Rattle.world_model.specs.declared.commands.Only.{Only}
-use Rattle.tile_core.specs.Moves.{world_of, len_of}
+use Rattle.tile_core.specs.Moves.{world_of}
+use Rattle.record_lengths.specs.Lengths.{len_of}
 use Rattle.tile_core.specs.Plans.{put_or_full}
 use Rattle.tile_core.proofs.Answering.{within_changes}
 use Rattle.tile_core.proofs.Weights.{weight_sum, put_sum}

@@ -7,7 +7,7 @@ use Rattle.ordered_lists.specs.Lists.{put_in}
 use Rattle.world_data.specs.Worlds.{object_before, are_objects, is_at}
 use Rattle.ordered_lists.specs.NameOrder.{pair_asym}
 use Rattle.world_data.specs.declared.objects.Object.{Object}
-use Rattle.tile_core.proofs.Weights.{same_stay}
+use Rattle.record_lengths.specs.ObjectSums.{same_stay}
 
 -- what is found
 

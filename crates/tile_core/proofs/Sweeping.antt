@@ -13,11 +13,12 @@ use Rattle.world_data.specs.declared.worlds.Change.TheVariants as change
 use Rattle.world_data.specs.declared.objects.Object.{Object}
 use Rattle.byte_text.specs.ByteOrder.{same_refl, same_equal}
 use Rattle.tile_core.specs.declared.deletes.Swept.{Swept}
-use Rattle.tile_core.specs.Moves.{len_of, HaveFewFields, without_each}
+use Rattle.tile_core.specs.Moves.{without_each}
+use Rattle.record_lengths.specs.Lengths.{HaveFewFields, len_of}
 use Rattle.deliveries.specs.Staging.{records_len}
 use Rattle.tile_core.specs.Sweeps.{met, IsSwept, IsSweptOf}
-use Rattle.tile_core.proofs.RecordWords.{del_short}
-use Rattle.tile_core.proofs.Weights.{next_take}
+use Rattle.record_lengths.specs.LengthLaws.{del_short}
+use Rattle.record_lengths.specs.ObjectSums.{next_take}
 
 -- one more object is looked at
 

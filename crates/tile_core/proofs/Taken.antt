@@ -16,13 +16,15 @@ use Rattle.world_data.specs.declared.worlds.World.{World}
 use Rattle.world_data.specs.declared.worlds.Change.TheVariants as change
 use Rattle.keyspace.specs.Entries.{Entry, objects_in, room_for, has_room}
 use Rattle.tile_core.specs.CoreStates.{AreKept}
-use Rattle.tile_core.specs.Moves.{world_of, len_of, HasFewFields}
+use Rattle.tile_core.specs.Moves.{world_of}
+use Rattle.record_lengths.specs.Lengths.{len_of, HasFewFields}
 use Rattle.deliveries.specs.Staging.{after_all, records_len}
 use Rattle.tile_core.specs.Dues.{AllStand, AreDueFrom, IsTaken, IsTakenOut, HaveRoom, with_back}
 use Rattle.tile_core.proofs.Moving.{all_filtered}
-use Rattle.tile_core.proofs.RecordWords.{del_short}
+use Rattle.record_lengths.specs.LengthLaws.{del_short}
 use Rattle.tile_core.proofs.Standing.{back_there, found_holds, found_sum, shorter}
-use Rattle.tile_core.proofs.Weights.{have_few, weight_sum, taken_sum}
+use Rattle.tile_core.proofs.Weights.{have_few, weight_sum}
+use Rattle.record_lengths.specs.ObjectSums.{taken_sum}
 
 -- each record has a byte at least
 pub as_heavy : (xs : List Object) → length xs ≤ weight (world_of xs)

@@ -11,7 +11,7 @@ use Rattle.tile_core.specs.Moves.{AllThere}
 use Rattle.tile_core.specs.Sweeps.{met}
 use Rattle.tile_core.proofs.Moving.{all_filtered}
 use Rattle.tile_core.proofs.Sweeping.{HaveKey, keyed}
-use Rattle.tile_core.proofs.Weights.{at_is, other_at}
+use Rattle.record_lengths.specs.ObjectSums.{at_is, other_at}
 
 -- what is found among all is found among those that have what it has
 find_among : (p q : Object → Bool) (xs : List Object) → ((o : Object) → p o ≡ true → q o ≡ true) → find p (filter q xs) ≡ find p xs

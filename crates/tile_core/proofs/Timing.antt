@@ -15,10 +15,12 @@ use Rattle.world_data.specs.declared.objects.Object.{Object}
 use Rattle.world_data.specs.declared.worlds.World.{World}
 use Rattle.world_model.specs.declared.commands.Command.TheVariants as command
 use Rattle.tile_core.specs.CoreStates.{AreKept}
-use Rattle.tile_core.specs.Moves.{world_of, len_of, HasFewFields}
+use Rattle.tile_core.specs.Moves.{world_of}
+use Rattle.record_lengths.specs.Lengths.{len_of, HasFewFields}
 use Rattle.tile_core.specs.Plans.{put_or_full, without_deadline}
-use Rattle.tile_core.proofs.RecordWords.{bare_short}
-use Rattle.tile_core.proofs.Weights.{have_few, weight_sum, changed_sum, found_own}
+use Rattle.record_lengths.specs.LengthLaws.{bare_short}
+use Rattle.tile_core.proofs.Weights.{have_few, weight_sum, found_own}
+use Rattle.record_lengths.specs.ObjectSums.{changed_sum}
 use Rattle.tile_core.proofs.Standing.{found_holds}
 
 module _ (w : World) (now : ℕ) (key id : Bytes) where

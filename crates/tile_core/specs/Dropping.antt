@@ -3,16 +3,11 @@ use Rattle.std.specs.Prelude.{◌≡◌, ℕ, ◌+◌, ◌≤◌, List, [], ◌�
 use Rattle.byte_text.specs.Names.{Bytes}
 use Rattle.byte_text.specs.Globs.{glob_meets}
 use Rattle.fence_model.specs.Writes.{Write, quiet}
-use Rattle.world_data.specs.Records.{record_len}
 use Rattle.world_data.specs.declared.channels.Channel.{Channel}
 use Rattle.world_data.specs.declared.worlds.Change.TheVariants as change
 use Rattle.deliveries.specs.Staging.{records_len}
 use Rattle.tile_core.specs.declared.channel_plans.Dropped.{Dropped}
 use Rattle.tile_core.specs.Planned.{channels_weight}
-
--- the length of the record of a channel
-abbrev pub len_of_channel : Channel → ℕ
-len_of_channel c = record_len (change.SetChan c)
 
 -- those of the channels whose names meet the pattern
 abbrev pub met_channels : Bytes → List Channel → List Channel

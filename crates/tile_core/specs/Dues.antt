@@ -12,7 +12,8 @@ use Rattle.world_data.specs.declared.worlds.Change.TheVariants as change
 use Rattle.world_data.specs.declared.worlds.World.{World}
 use Rattle.keyspace.specs.Entries.{Entry, room_for}
 use Rattle.tile_core.specs.declared.dues.Expired.{Expired}
-use Rattle.tile_core.specs.Moves.{world_of, HaveFewFields}
+use Rattle.tile_core.specs.Moves.{world_of}
+use Rattle.record_lengths.specs.Lengths.{HaveFewFields}
 use Rattle.deliveries.specs.Staging.{after_all, records_len}
 
 -- no deadline comes before this moment

@@ -1,4 +1,3 @@
-pub mod Records
 pub mod Moves
 pub mod Sessions
 pub mod Plans

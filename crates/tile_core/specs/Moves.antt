@@ -1,12 +1,8 @@
 -- What is done to the objects of a world.
-use Rattle.std.specs.Prelude.{◌≡◌, ℕ, ◌≤◌, true, not, List, [], ◌∷◌, length, filter, find, Some}
-use Rattle.std.specs.List.{AllByRecursion}
+use Rattle.std.specs.Prelude.{◌≡◌, true, not, List, [], ◌∷◌, filter, find, Some}
 use Rattle.byte_text.specs.Names.{Bytes}
-use Rattle.world_data.specs.Limits.{max_weight}
 use Rattle.ordered_lists.specs.Lists.{put_in}
 use Rattle.world_data.specs.Worlds.{object_before, has_key, is_at}
-use Rattle.world_data.specs.Records.{record_len}
-use Rattle.world_data.specs.declared.worlds.Change.TheVariants as change
 use Rattle.world_data.specs.declared.objects.Object.{Object}
 use Rattle.world_data.specs.declared.channels.Channel.{Channel}
 use Rattle.world_data.specs.declared.worlds.World.{World}
@@ -25,18 +21,6 @@ world_of objects = world_with [] objects
 -- the world of the objects of all keys
 abbrev pub world_in : List Entry → World
 world_in entries = world_of (objects_in entries)
-
--- the length of the record of an object
-abbrev pub len_of : Object → ℕ
-len_of o = record_len (change.Put o)
-
--- an object has no more fields than all records of a world may have bytes; so it is of each object of a world that is not too heavy, also
--- of one that has more fields than a command may give it
-abbrev pub HasFewFields : Object → Type 0
-HasFewFields o = length o.fields ≤ max_weight
-
-abbrev pub HaveFewFields : List Object → Type 0
-HaveFewFields objects = AllByRecursion HasFewFields objects
 
 -- the objects without those of these ids of a key, which go one after another
 abbrev pub without_each : Bytes → List Bytes → List Object → List Object

@@ -7,7 +7,7 @@ use Rattle.ordered_lists.specs.Lists.{put_in}
 use Rattle.world_data.specs.Limits.{max_reply, max_weight}
 use Rattle.world_data.specs.Sound.{is_sound_channel}
 use Rattle.world_data.specs.Worlds.{channel_before, is_named}
-use Rattle.world_data.specs.Records.{record_len}
+use Rattle.record_lengths.specs.Lengths.{len_of_channel}
 use Rattle.world_data.specs.declared.channels.Channel.{Channel}
 use Rattle.world_data.specs.declared.worlds.World.{World}
 use Rattle.world_data.specs.declared.worlds.Change.TheVariants as change
@@ -29,7 +29,7 @@ use Rattle.tile_core.specs.Plans.{IsPlan}
 
 -- the bytes of the records of channels
 abbrev pub channels_weight : List Channel → ℕ
-channels_weight channels = sum_by (λ c. record_len (change.SetChan c)) channels
+channels_weight channels = sum_by len_of_channel channels
 
 -- the channels without those of these names, which go one after another
 abbrev pub without_names : List Bytes → List Channel → List Channel

@@ -5,7 +5,7 @@ use Rattle.byte_text.specs.Globs.{glob_meets}
 use Rattle.fence_model.specs.Writes.{dels}
 use Rattle.world_data.specs.declared.objects.Object.{Object}
 use Rattle.tile_core.specs.declared.deletes.Swept.{Swept}
-use Rattle.tile_core.specs.Moves.{len_of}
+use Rattle.record_lengths.specs.Lengths.{len_of}
 use Rattle.deliveries.specs.Staging.{records_len}
 
 -- those of the objects that meet the pattern

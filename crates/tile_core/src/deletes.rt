@@ -7,14 +7,15 @@ ghost use Rattle.world_model.specs.Effects.{effect};
 ghost use Rattle.world_model.specs.declared.commands.Command.TheVariants as command;
 ghost use Rattle.keyspace.specs.Entries.{objects_in};
 ghost use Rattle.tile_core.specs.CoreStates.{AreKept};
-ghost use Rattle.tile_core.specs.Moves.{world_in, HasFewFields, HaveFewFields, len_of};
+ghost use Rattle.tile_core.specs.Moves.{world_in};
+ghost use Rattle.record_lengths.specs.Lengths.{HaveFewFields, HasFewFields, len_of};
 ghost use Rattle.tile_core.specs.Plans.{IsPlan};
 ghost use Rattle.tile_core.specs.Sweeps.{IsSwept, IsSweptOf};
 
 use crate::answers::say_count;
 use crate::moves::Move;
 use crate::plans::Plan;
-use crate::records::{del_len, drop_len, flush_len, put_len};
+use record_lengths::{del_len, drop_len, flush_len, put_len};
 use byte_text::{Name, NoMemory};
 use collection::Collection;
 use glob_match::glob_meets;

@@ -6,10 +6,11 @@ ghost use Rattle.world_data.specs.Expiry.{is_due};
 ghost use Rattle.world_data.specs.Records.{weight};
 ghost use Rattle.keyspace.specs.Entries.{objects_in};
 ghost use Rattle.tile_core.specs.CoreStates.{AreKept};
-ghost use Rattle.tile_core.specs.Moves.{world_of, HaveFewFields};
+ghost use Rattle.tile_core.specs.Moves.{world_of};
+ghost use Rattle.record_lengths.specs.Lengths.{HaveFewFields};
 ghost use Rattle.tile_core.specs.Dues.{IsDueFrom, AreDueFrom, HaveRoom, IsTaken, IsTakenOut, IsExpired, with_back};
 
-use crate::records::{del_len, put_len};
+use record_lengths::{del_len, put_len};
 use byte_text::NoMemory;
 use keyspace::Keyspace;
 use rtree::{Steps, Visits};

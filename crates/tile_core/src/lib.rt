@@ -18,7 +18,6 @@ mod plans;
 mod puts;
 mod reads;
 mod ready;
-mod records;
 mod requests;
 mod scans;
 mod searches;

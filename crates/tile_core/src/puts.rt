@@ -12,14 +12,15 @@ ghost use Rattle.world_model.specs.declared.commands.Command.TheVariants as comm
 ghost use Rattle.world_data.specs.declared.objects.Object.{Object};
 ghost use Rattle.keyspace.specs.Entries.{objects_in};
 ghost use Rattle.tile_core.specs.CoreStates.{AreKept};
-ghost use Rattle.tile_core.specs.Moves.{world_in, world_of, HasFewFields, len_of};
+ghost use Rattle.tile_core.specs.Moves.{world_in, world_of};
+ghost use Rattle.record_lengths.specs.Lengths.{HasFewFields, len_of};
 ghost use Rattle.tile_core.specs.Plans.{IsPlan, put_or_full};
 
 use crate::answers::{say_frame, say_refusal};
 use crate::fields::with_values;
 use crate::moves::Move;
 use crate::plans::Plan;
-use crate::records::put_len;
+use record_lengths::put_len;
 use byte_text::{NoMemory, Text};
 use keyspace::Keyspace;
 use reply_text::{fine_frame, null_frame};

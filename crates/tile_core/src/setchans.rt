@@ -16,14 +16,14 @@ ghost use Rattle.world_model.specs.declared.commands.AreaWords.TheVariants as ar
 ghost use Rattle.world_model.specs.declared.commands.Command.TheVariants as command;
 ghost use Rattle.keyspace.specs.Entries.{objects_in};
 ghost use Rattle.tile_core.specs.CoreStates.{AreKept};
-ghost use Rattle.tile_core.specs.Dropping.{len_of_channel};
+ghost use Rattle.record_lengths.specs.Lengths.{len_of_channel};
 ghost use Rattle.tile_core.specs.Moves.{world_with};
 ghost use Rattle.tile_core.specs.Planned.{channels_weight, IsPlanned};
 
 use crate::answers::say_refusal;
 use crate::changes::plan_missing;
 use crate::planned::{ChannelMove, ChannelPlan, Planned};
-use crate::records::channel_len;
+use record_lengths::channel_len;
 use crate::searches::figure_of;
 use byte_text::{MAX_REQUEST, MAX_WORD, MAX_WORDS, Name, NoMemory, Request};
 use channel_hub::Hub;

@@ -1,6 +1,6 @@
 use Rattle.std.proofs.Common.{ap, arith}
 use Rattle.rtree.specs.Pairs.{pair}
-use Rattle.collection.proofs.InTree.{more_with, taken_out}
+use Rattle.tree_pairs.specs.OnePair.{more_with, more_taken}
 use Rattle.collection.proofs.Cheap.{no_more, twice, unchanged}
 use Rattle.collection.proofs.box_lists.move_box.Goals as goal
 
@@ -8,7 +8,7 @@ pub returns-clause-pairs : goal.returns-clause-pairs
 returns-clause-pairs g c = λ w.
     let old = pair c.args.old c.args.key in
     let new = pair c.box_at-new.result c.args.key in
-    let left = (taken_out c.remove.result old c.args.boxes.now.pairs c.remove.new.self.pairs c.requires.boxed c.remove.ensures.taken).1 w in
+    let left = (more_taken c.remove.result old c.args.boxes.now.pairs c.remove.new.self.pairs c.requires.boxed c.remove.ensures.taken).1 w in
     let made = more_with new c.remove.new.self.pairs c.insert.new.self.pairs c.insert.ensures.pairs w in
     let is = ap w c.box_at-new.ensures.value in
     omega (arith, left, made, is)

@@ -2,9 +2,8 @@ use Rattle.std.proofs.Common.{ap, subst, sym, arith}
 use Rattle.std.specs.Prelude.{sum_by}
 use Rattle.world_data.specs.Worlds.{has_key}
 use Rattle.keyspace.specs.Entries.{objects_in}
-use Rattle.record_lengths.specs.Lengths.{HasFewFields, len_of}
+use Rattle.record_lengths.specs.Lengths.{HasFewFields, len_of, HaveFewFields}
 use Rattle.record_lengths.specs.ObjectSums.{parts_sum}
-use Rattle.stored_world.specs.Stored.{HaveFewFields}
 use Rattle.stored_world.specs.ListLaws.{all_left}
 use Rattle.stored_world.proofs.stored_objects.weight_without.Goals as goal
 

@@ -10,12 +10,12 @@ use Rattle.world_model.specs.Effects.{changes}
 use Rattle.world_model.specs.Subscriptions.{Sub}
 use Rattle.deliveries.specs.Staging.{records_len}
 use Rattle.keyspace.specs.Entries.{objects_in}
-use Rattle.tile_core.specs.Dropping.{len_of_channel}
+use Rattle.record_lengths.specs.Lengths.{len_of_channel}
 use Rattle.tile_core.specs.Moves.{world_with}
 use Rattle.tile_core.specs.Planned.{channels_weight, without_names}
 use Rattle.tile_core.proofs.Answering.{count_fits}
 use Rattle.tile_core.proofs.ChannelEffects.{dropped_some, dropped_none}
-use Rattle.tile_core.proofs.ChannelSums.{taken_weight}
+use Rattle.record_lengths.specs.ChannelSums.{taken_weight}
 use Rattle.tile_core.proofs.Planning.{says_planned}
 use Rattle.tile_core.proofs.channel_plans.plan_delchan.Goals as goal
 

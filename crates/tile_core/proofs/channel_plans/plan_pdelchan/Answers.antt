@@ -11,7 +11,8 @@ use Rattle.world_model.specs.Effects.{changes}
 use Rattle.world_model.specs.Subscriptions.{Sub}
 use Rattle.deliveries.specs.Staging.{records_len}
 use Rattle.keyspace.specs.Entries.{objects_in}
-use Rattle.tile_core.specs.Dropping.{len_of_channel, met_channels, drops}
+use Rattle.tile_core.specs.Dropping.{met_channels, drops}
+use Rattle.record_lengths.specs.Lengths.{len_of_channel}
 use Rattle.tile_core.specs.Moves.{world_with}
 use Rattle.tile_core.specs.Planned.{without_names}
 use Rattle.tile_core.proofs.Answering.{count_fits, within_changes}

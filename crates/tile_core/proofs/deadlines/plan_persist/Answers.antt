@@ -7,7 +7,8 @@ use Rattle.world_data.specs.Worlds.{is_at}
 use Rattle.world_model.specs.Effects.{Effect}
 use Rattle.world_data.specs.declared.objects.Object.{Object}
 use Rattle.keyspace.specs.Entries.{objects_in}
-use Rattle.tile_core.specs.Moves.{world_in, HasFewFields}
+use Rattle.tile_core.specs.Moves.{world_in}
+use Rattle.record_lengths.specs.Lengths.{HasFewFields}
 use Rattle.tile_core.specs.Plans.{IsPlan, put_or_full}
 use Rattle.tile_core.proofs.Weights.{have_few, found_place}
 use Rattle.tile_core.proofs.Answering.{answers_ever, count_fits}

@@ -10,9 +10,11 @@ use Rattle.world_model.specs.Effects.{changes}
 use Rattle.world_data.specs.Records.{record_len}
 use Rattle.world_data.specs.declared.worlds.Change.TheVariants as change
 use Rattle.keyspace.specs.Entries.{objects_in}
-use Rattle.tile_core.specs.Moves.{world_in, world_of, len_of, HasFewFields}
+use Rattle.tile_core.specs.Moves.{world_in, world_of}
+use Rattle.record_lengths.specs.Lengths.{len_of, HasFewFields}
 use Rattle.tile_core.proofs.Answering.{answers_ever, count_fits, within_changes}
-use Rattle.tile_core.proofs.Weights.{have_few, weight_sum, found_at, taken_sum}
+use Rattle.tile_core.proofs.Weights.{have_few, weight_sum, found_at}
+use Rattle.record_lengths.specs.ObjectSums.{taken_sum}
 use Rattle.tile_core.proofs.Standing.{found_holds, found_sum}
 use Rattle.tile_core.proofs.Removing.{del_some, del_none}
 use Rattle.tile_core.proofs.deletes.plan_del.Goals as goal

@@ -12,9 +12,11 @@ use Rattle.world_data.specs.Records.{record_len}
 use Rattle.world_data.specs.declared.worlds.Change.TheVariants as change
 use Rattle.world_data.specs.declared.objects.Object.{Object}
 use Rattle.keyspace.specs.Entries.{objects_in}
-use Rattle.tile_core.specs.Moves.{world_in, len_of, HasFewFields, HaveFewFields}
+use Rattle.tile_core.specs.Moves.{world_in}
+use Rattle.record_lengths.specs.Lengths.{HaveFewFields, len_of, HasFewFields}
 use Rattle.tile_core.proofs.Answering.{answers_ever, count_fits, within_changes}
-use Rattle.tile_core.proofs.Weights.{have_few, weight_sum, parts_sum, some_sum}
+use Rattle.tile_core.proofs.Weights.{have_few, weight_sum, some_sum}
+use Rattle.record_lengths.specs.ObjectSums.{parts_sum}
 use Rattle.tile_core.proofs.Moving.{all_filtered}
 use Rattle.tile_core.proofs.Removing.{drop_some, drop_none, any_key}
 use Rattle.tile_core.proofs.deletes.plan_drop.Goals as goal

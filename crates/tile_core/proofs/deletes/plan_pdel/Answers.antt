@@ -13,7 +13,8 @@ use Rattle.world_model.specs.Effects.{changes}
 use Rattle.deliveries.specs.Staging.{records_len}
 use Rattle.world_data.specs.declared.objects.Object.{Object}
 use Rattle.keyspace.specs.Entries.{objects_in}
-use Rattle.tile_core.specs.Moves.{AllThere, world_in, len_of, HasFewFields, HaveFewFields, without_each}
+use Rattle.tile_core.specs.Moves.{AllThere, world_in, without_each}
+use Rattle.record_lengths.specs.Lengths.{HaveFewFields, len_of, HasFewFields}
 use Rattle.tile_core.specs.Sweeps.{met, IsSweptOf}
 use Rattle.tile_core.proofs.Answering.{answers_ever, count_fits, within_changes}
 use Rattle.tile_core.proofs.Weights.{have_few, weight_sum, some_sum}

@@ -2,10 +2,11 @@ use Rattle.std.proofs.Common.{◌≡◌, take, subst, List, arith}
 use Rattle.std.proofs.lemmas.List.{take_all}
 use Rattle.byte_text.specs.Globs.{glob_meets}
 use Rattle.world_data.specs.declared.objects.Object.{Object}
-use Rattle.tile_core.specs.Moves.{HasFewFields}
+use Rattle.record_lengths.specs.Lengths.{HasFewFields}
 use Rattle.tile_core.specs.Sweeps.{met, IsSweptOf}
 use Rattle.tile_core.proofs.Sweeping.{next_swept, few_take, dels_short}
-use Rattle.tile_core.proofs.Weights.{next_weighs, few_at, some_sum}
+use Rattle.tile_core.proofs.Weights.{few_at, some_sum}
+use Rattle.record_lengths.specs.ObjectSums.{next_weighs}
 use Rattle.tile_core.proofs.Moving.{all_filtered}
 use Rattle.tile_core.proofs.deletes.sweep.Goals as goal
 

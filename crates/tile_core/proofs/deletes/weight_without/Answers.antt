@@ -2,8 +2,9 @@ use Rattle.std.proofs.Common.{◌≡◌, ◌+◌, take, ap, sym, ◌∙◌, List
 use Rattle.std.specs.Prelude.{sum_by}
 use Rattle.std.proofs.lemmas.List.{take_all}
 use Rattle.world_data.specs.declared.objects.Object.{Object}
-use Rattle.tile_core.specs.Moves.{len_of}
-use Rattle.tile_core.proofs.Weights.{next_weighs, next_sum, few_at}
+use Rattle.record_lengths.specs.Lengths.{len_of}
+use Rattle.tile_core.proofs.Weights.{few_at}
+use Rattle.record_lengths.specs.ObjectSums.{next_weighs, next_sum}
 use Rattle.tile_core.proofs.deletes.weight_without.Goals as goal
 
 pub put_len-rest-requires : goal.put_len-rest-requires

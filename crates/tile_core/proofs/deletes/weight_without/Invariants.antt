@@ -1,6 +1,6 @@
 use Rattle.std.proofs.Common.{◌≡◌, ◌+◌, take}
 use Rattle.std.specs.Prelude.{sum_by}
-use Rattle.tile_core.specs.Moves.{len_of}
+use Rattle.record_lengths.specs.Lengths.{len_of}
 use Rattle.tile_core.proofs.deletes.weight_without.Given as goal
 
 abbrev pub invariant-loop-i : goal.invariant-loop-i

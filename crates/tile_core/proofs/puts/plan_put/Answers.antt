@@ -12,7 +12,8 @@ use Rattle.world_data.specs.declared.worlds.Change.TheVariants as change
 use Rattle.world_model.specs.Refusals.{refusal_reply}
 use Rattle.world_model.specs.declared.faults.Refusal.TheVariants as refusal
 use Rattle.keyspace.specs.Entries.{objects_in}
-use Rattle.tile_core.specs.Moves.{world_of, len_of}
+use Rattle.tile_core.specs.Moves.{world_of}
+use Rattle.record_lengths.specs.Lengths.{len_of}
 use Rattle.tile_core.proofs.Answering.{said}
 use Rattle.tile_core.proofs.Setting.{heavy, done, put_weighs}
 use Rattle.tile_core.proofs.puts.plan_put.Goals as goal

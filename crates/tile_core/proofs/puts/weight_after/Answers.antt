@@ -4,8 +4,9 @@ use Rattle.ordered_lists.specs.Lists.{put_in}
 use Rattle.world_data.specs.Worlds.{object_before, is_at}
 use Rattle.world_data.specs.declared.objects.Object.{Object}
 use Rattle.keyspace.specs.Entries.{objects_in}
-use Rattle.tile_core.specs.Moves.{len_of, HasFewFields}
-use Rattle.tile_core.proofs.Weights.{have_few, weight_sum, changed_sum, new_sum}
+use Rattle.record_lengths.specs.Lengths.{len_of, HasFewFields}
+use Rattle.tile_core.proofs.Weights.{have_few, weight_sum}
+use Rattle.record_lengths.specs.ObjectSums.{changed_sum, new_sum}
 use Rattle.tile_core.proofs.Standing.{found_holds, found_sum}
 use Rattle.tile_core.proofs.puts.weight_after.Goals as goal
 

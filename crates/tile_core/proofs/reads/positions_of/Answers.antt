@@ -1,6 +1,6 @@
 use Rattle.std.proofs.Common.{arith}
 use Rattle.planar_geom.specs.Shapes.{positions}
-use Rattle.tile_core.proofs.Weights.{next_sum}
+use Rattle.record_lengths.specs.ObjectSums.{next_sum}
 use Rattle.tile_core.proofs.reads.positions_of.Goals as goal
 
 pub loop-i-preserved : goal.loop-i-preserved

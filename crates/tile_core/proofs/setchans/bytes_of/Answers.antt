@@ -1,7 +1,7 @@
 use Rattle.std.proofs.Common.{◌≡◌, ap, ◌∙◌, take, arith}
 use Rattle.std.proofs.lemmas.List.{take_all}
 use Rattle.byte_text.specs.Requests.{total}
-use Rattle.tile_core.proofs.RecordWords.{next_bytes, bytes_within}
+use Rattle.record_lengths.specs.LengthLaws.{next_bytes, bytes_within}
 use Rattle.tile_core.proofs.setchans.bytes_of.Goals as goal
 
 pub loop-at-preserved : goal.loop-at-preserved

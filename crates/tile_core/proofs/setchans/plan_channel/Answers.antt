@@ -11,7 +11,7 @@ use Rattle.world_model.specs.Refusals.{refusal_reply}
 use Rattle.world_model.specs.Subscriptions.{Sub}
 use Rattle.world_model.specs.declared.faults.Refusal.TheVariants as refusal
 use Rattle.keyspace.specs.Entries.{objects_in}
-use Rattle.tile_core.specs.Dropping.{len_of_channel}
+use Rattle.record_lengths.specs.Lengths.{len_of_channel}
 use Rattle.tile_core.specs.Moves.{world_with}
 use Rattle.tile_core.proofs.Answering.{count_fits}
 use Rattle.tile_core.proofs.BesideLaws.{weight_beside}

@@ -1,7 +1,7 @@
 use Rattle.std.proofs.Common.{◌+◌, ◌≤◌, ◌<◌, length, arith}
 use Rattle.std.proofs.lemmas.Bool.Decides.{nat_tests}
 use Rattle.byte_text.specs.Requests.{max_request, max_word, max_words}
-use Rattle.tile_core.proofs.RecordWords.{fits_one_more, within_limit}
+use Rattle.record_lengths.specs.LengthLaws.{fits_one_more, within_limit}
 use Rattle.tile_core.proofs.setchans.takes.Goals as goal
 
 pub returns : goal.returns

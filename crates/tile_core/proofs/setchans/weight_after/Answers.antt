@@ -1,5 +1,5 @@
 use Rattle.std.proofs.Common.{◌≡◌, arith}
-use Rattle.tile_core.proofs.ChannelSums.{new_weight, changed_weight}
+use Rattle.record_lengths.specs.ChannelSums.{new_weight, changed_weight}
 use Rattle.tile_core.proofs.setchans.weight_after.Goals as goal
 
 pub overflow_sub-result : goal.overflow_sub-result

@@ -1,6 +1,7 @@
 use Rattle.std.proofs.Common.{arith}
 use Rattle.rtree.specs.Pairs.{pair}
-use Rattle.fence_index.proofs.OnePair.{length_with, more_with, none_weighs, some_weighs}
+use Rattle.tree_pairs.specs.OnePair.{more_with}
+use Rattle.fence_index.proofs.OnePair.{length_with, none_weighs, some_weighs}
 use Rattle.fence_index.proofs.box_sets.BoxSet.put.Goals as goal
 
 pub insert-requires : goal.insert-requires

@@ -3,8 +3,7 @@ use Rattle.std.specs.Prelude.{sum_by}
 use Rattle.world_data.specs.Worlds.{has_key}
 use Rattle.world_data.specs.declared.objects.Object.{Object}
 use Rattle.keyspace.specs.Entries.{objects_in}
-use Rattle.record_lengths.specs.Lengths.{HasFewFields, len_of}
-use Rattle.stored_world.specs.Stored.{HaveFewFields}
+use Rattle.record_lengths.specs.Lengths.{HasFewFields, len_of, HaveFewFields}
 use Rattle.stored_world.specs.ListLaws.{all_left, no_longer}
 use Rattle.stored_world.proofs.stored_objects.StoredObjects.drop_key.Goals as goal
 

@@ -2,8 +2,7 @@ use Rattle.std.proofs.Common.{◌+◌, ◌<◌, ◌^◌, refl, ap, sym, subst, L
 use Rattle.world_data.specs.Worlds.{object_before}
 use Rattle.world_data.specs.declared.objects.Object.{Object}
 use Rattle.keyspace.specs.Entries.{objects_in}
-use Rattle.record_lengths.specs.Lengths.{HasFewFields}
-use Rattle.stored_world.specs.Stored.{HaveFewFields}
+use Rattle.record_lengths.specs.Lengths.{HasFewFields, HaveFewFields}
 use Rattle.stored_world.specs.ListLaws.{all_put}
 use Rattle.stored_world.proofs.stored_objects.StoredObjects.put.Goals as goal
 
