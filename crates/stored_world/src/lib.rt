@@ -4,8 +4,10 @@
 mod stored_channels;
 mod stored_objects;
 mod stored_worlds;
+mod weights;
 
 pub use stored_worlds::{StoreParts, StoredWorld};
+pub use weights::weight_less;
 
 #[cfg(test)]
 mod tests;

@@ -6,8 +6,8 @@ ghost use Rattle.world_data.specs.Worlds.{are_objects, has_key, is_at, object_be
 ghost use Rattle.record_lengths.specs.Lengths.{HasFewFields, len_of, HaveFewFields};
 ghost use Rattle.keyspace.specs.Entries.{has_room, objects_in};
 
+use crate::weights::weight_less;
 use byte_text::{Name, NoMemory};
-use collection::Collection;
 use keyspace::Keyspace;
 use record_lengths::put_len;
 use rtree::{Steps, Visits};
@@ -175,17 +175,4 @@ fn weight_without(objects: &Keyspace, weight: u64, key: &Name) -> u64
         Some(found) => weight_less(weight, found),
         None => weight,
     }
-}
-
-// A weight without that of these objects.
-fn weight_less(weight: u64, objects: &Collection) -> u64
-    requires fields { HaveFewFields objects.now.objects }
-    requires weighed { sum_by len_of objects.now.objects ≤ weight }
-    ensures { result + sum_by len_of objects.now.objects ≡ weight }
-{
-    let mut rest = weight;
-    for i in 0..objects.len() {
-        rest -= put_len(objects.at(i));
-    }
-    rest
 }

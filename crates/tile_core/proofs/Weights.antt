@@ -45,11 +45,6 @@ put_sum f x (y ∷ ys) = by (object_before x y) (object_before y x) (put_sum f x
 pub weight_sum : (xs : List Object) → weight (world_of xs) ≡ sum_by len_of xs
 weight_sum xs = add-zero (sum_by len_of xs)
 
-pub few_at : (xs : List Object) (i : ℕ) (o : Object) → HaveFewFields xs → slice_get xs i ≡ Some o → HasFewFields o
-few_at [] i o few at = absurd (cc)
-few_at (x ∷ xs) zero o few at = let is : x ≡ o = cc in subst HasFewFields is few.0
-few_at (x ∷ xs) (suc i) o few at = few_at xs i o few.1 at
-
 -- some of the objects
 pub some_sum : (p : Object → Bool) (xs : List Object) → sum_by len_of (filter p xs) ≤ sum_by len_of xs
 some_sum p xs = omega (arith, parts_sum len_of p xs)

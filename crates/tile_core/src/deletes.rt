@@ -15,13 +15,14 @@ ghost use Rattle.tile_core.specs.Sweeps.{IsSwept, IsSweptOf};
 use crate::answers::say_count;
 use crate::moves::Move;
 use crate::plans::Plan;
-use record_lengths::{del_len, drop_len, flush_len, put_len};
 use byte_text::{Name, NoMemory};
 use collection::Collection;
 use glob_match::glob_meets;
 use keyspace::Keyspace;
+use record_lengths::{del_len, drop_len, flush_len, put_len};
 use reply_text::{count_frame, fine_frame};
 use std::alloc::Global;
+use stored_world::weight_less;
 use world_model::{NameList, Object};
 
 /// What DEL will do.
@@ -126,19 +127,6 @@ pub(crate) fn plan_pdel(
     })
 }
 
-// The weight of the world without the objects of a key.
-fn weight_without(objects: &Collection, total: u64) -> u64
-    requires few { HaveFewFields objects.now.objects }
-    requires weighed { sum_by len_of objects.now.objects ≤ total }
-    ensures { result + sum_by len_of objects.now.objects ≡ total }
-{
-    let mut rest = total;
-    for i in 0..objects.len() {
-        rest -= put_len(objects.at(i));
-    }
-    rest
-}
-
 /// What DROP will do.
 pub(crate) fn plan_drop(
     alloc: Global,
@@ -155,7 +143,7 @@ pub(crate) fn plan_drop(
     if found.len() == 0 {
         return say_count(alloc, total, 0);
     }
-    let weight = weight_without(found, total);
+    let weight = weight_less(total, found);
     Ok(Plan {
         frame: count_frame(alloc, 1)?,
         length: drop_len(&key),

@@ -34,11 +34,11 @@ returns-then-len-eq0 c =
     let none : false ≡ list_any (has_key c.args.key) xs = any_key c.args.key xs 0 zero_is in
     answers_ever xs c.args.total c.requires _ (number 0) _ refl c.say_count-then-len-eq0.ensures _ (λ (now : ℕ). drop_none (world_in c.args.objects.now) now c.args.key (sym none))
 
-pub weight_without-weight-requires-clause-few : goal.weight_without-weight-requires-clause-few
-weight_without-weight-requires-clause-few c = subst HaveFewFields (sym c.in-Some.ensures.some) (all_filtered HasFewFields (has_key c.args.key) (objects_in c.args.objects.now) (have_few (objects_in c.args.objects.now) c.args.total c.requires))
+pub weight_less-weight-requires-clause-fields : goal.weight_less-weight-requires-clause-fields
+weight_less-weight-requires-clause-fields c = subst HaveFewFields (sym c.in-Some.ensures.some) (all_filtered HasFewFields (has_key c.args.key) (objects_in c.args.objects.now) (have_few (objects_in c.args.objects.now) c.args.total c.requires))
 
-pub weight_without-weight-requires-clause-weighed : goal.weight_without-weight-requires-clause-weighed
-weight_without-weight-requires-clause-weighed c =
+pub weight_less-weight-requires-clause-weighed : goal.weight_less-weight-requires-clause-weighed
+weight_less-weight-requires-clause-weighed c =
     let xs = objects_in c.args.objects.now in
     let same = ap (sum_by len_of) c.in-Some.ensures.some in
     omega (arith, same, some_sum (has_key c.args.key) xs, weight_sum xs, c.requires.weighed)
@@ -63,6 +63,6 @@ returns c =
       there = tt;
       length_is = c.drop_len.ensures.value ∙ sym (add-zero (record_len (change.Drop key)));
       small = omega (arith, c.drop_len.ensures.short);
-      weight_is = omega (arith, c.weight_without-weight.ensures, same, parts, weight_sum rest, weight_sum xs, c.requires.weighed);
-      light = omega (arith, c.weight_without-weight.ensures, c.requires.light);
+      weight_is = omega (arith, c.weight_less-weight.ensures, same, parts, weight_sum rest, weight_sum xs, c.requires.weighed);
+      light = omega (arith, c.weight_less-weight.ensures, c.requires.light);
     }

@@ -5,13 +5,14 @@ use Rattle.world_data.specs.declared.objects.Object.{Object}
 use Rattle.record_lengths.specs.Lengths.{HasFewFields}
 use Rattle.tile_core.specs.Sweeps.{met, IsSweptOf}
 use Rattle.tile_core.proofs.Sweeping.{next_swept, few_take, dels_short}
-use Rattle.tile_core.proofs.Weights.{few_at, some_sum}
+use Rattle.stored_world.specs.ListLaws.{there_holds}
+use Rattle.tile_core.proofs.Weights.{some_sum}
 use Rattle.record_lengths.specs.ObjectSums.{next_weighs}
 use Rattle.tile_core.proofs.Moving.{all_filtered}
 use Rattle.tile_core.proofs.deletes.sweep.Goals as goal
 
 pub sweep_one-requires-clause-few : goal.sweep_one-requires-clause-few
-sweep_one-requires-clause-few c = few_at c.args.objects.now.objects c.loop-i.i c.at.result.now c.requires.few c.at.ensures
+sweep_one-requires-clause-few c = there_holds HasFewFields c.args.objects.now.objects c.loop-i.i c.at.result.now c.at.ensures c.requires.few
 
 pub sweep_one-requires-clause-small : goal.sweep_one-requires-clause-small
 sweep_one-requires-clause-small c =

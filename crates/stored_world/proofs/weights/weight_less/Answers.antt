@@ -5,7 +5,7 @@ use Rattle.world_data.specs.declared.objects.Object.{Object}
 use Rattle.record_lengths.specs.Lengths.{HasFewFields, len_of}
 use Rattle.record_lengths.specs.ObjectSums.{next_weighs, next_sum}
 use Rattle.stored_world.specs.ListLaws.{there_holds}
-use Rattle.stored_world.proofs.stored_objects.weight_less.Goals as goal
+use Rattle.stored_world.proofs.weights.weight_less.Goals as goal
 
 pub put_len-rest-requires : goal.put_len-rest-requires
 put_len-rest-requires c = there_holds HasFewFields c.args.objects.now.objects c.loop-i.i c.at.result.now c.at.ensures c.requires.fields
