@@ -10,6 +10,7 @@ use Rattle.tile_core.specs.declared.moves.Move.{Move}
 use Rattle.tile_core.specs.declared.moves.Move.TheVariants.{Stay, Put, Delete, DeleteEach, Leave, Clear}
 use Rattle.tile_core.specs.Moves.{moved, without_each, HoldsOfPut}
 use Rattle.tile_core.specs.Dues.{IsDueFrom, AreDueFrom}
+use Rattle.stored_world.specs.ListLaws.{all_left, all_put}
 
 -- the ids that are left, after one more is taken out
 next_out : (key : Bytes) (ids : List Bytes) (i : ℕ) (id : Bytes) (xs : List Object) → slice_get ids i ≡ Some id → without_each key (drop i ids) xs ≡ without_each key (drop (suc i) ids) (filter (λ o. not (is_at key id o)) xs)
@@ -23,33 +24,16 @@ one_out key ids i id xs ys at is = let one : i + 1 ≡ suc i = omega arith in ap
 -- what holds of each object
 
 module _ (P : Object → Type 0) where
-  pub all_filtered : (f : Object → Bool) (xs : List Object) → AllByRecursion P xs → AllByRecursion P (filter f xs)
-  all_filtered f [] ps = ps
-  all_filtered f (x ∷ xs) ps = by (f x) (all_filtered f xs ps.1)
-    where
-      by : (b : Bool) → AllByRecursion P (filter f xs) → AllByRecursion P (if b then x ∷ filter f xs else filter f xs)
-      by true qs = (ps.0, qs)
-      by false qs = qs
-
-  all_put : (o : Object) (xs : List Object) → P o → AllByRecursion P xs → AllByRecursion P (put_in object_before o xs)
-  all_put o [] p ps = (p, tt)
-  all_put o (x ∷ xs) p ps = by (object_before o x) (object_before x o) (all_put o xs p ps.1)
-    where
-      by : (a b : Bool) → AllByRecursion P (put_in object_before o xs) → AllByRecursion P (if a then o ∷ x ∷ xs else if b then x ∷ put_in object_before o xs else o ∷ xs)
-      by true b qs = (p, ps)
-      by false true qs = (ps.0, qs)
-      by false false qs = (p, ps.1)
-
   all_without : (key : Bytes) (ids : List Bytes) (xs : List Object) → AllByRecursion P xs → AllByRecursion P (without_each key ids xs)
   all_without key [] xs ps = ps
-  all_without key (id ∷ ids) xs ps = all_without key ids (filter (λ o. not (is_at key id o)) xs) (all_filtered (λ o. not (is_at key id o)) xs ps)
+  all_without key (id ∷ ids) xs ps = all_without key ids (filter (λ o. not (is_at key id o)) xs) (all_left P (λ o. not (is_at key id o)) xs ps)
 
   pub all_moved : (xs : List Object) (action : Move) → HoldsOfPut P action → AllByRecursion P xs → AllByRecursion P (moved xs action)
   all_moved xs Stay h ps = ps
-  all_moved xs (Put o) h ps = all_put o xs h ps
-  all_moved xs (Delete key id) h ps = all_filtered (λ o. not (is_at key id o)) xs ps
+  all_moved xs (Put o) h ps = all_put P object_before o xs h ps
+  all_moved xs (Delete key id) h ps = all_left P (λ o. not (is_at key id o)) xs ps
   all_moved xs (DeleteEach key ids) h ps = all_without key ids xs ps
-  all_moved xs (Leave key) h ps = all_filtered (λ o. not (has_key key o)) xs ps
+  all_moved xs (Leave key) h ps = all_left P (λ o. not (has_key key o)) xs ps
   all_moved xs Clear h ps = tt
 
 -- what is due from a moment on is not due before an earlier one

@@ -20,7 +20,7 @@ use Rattle.tile_core.specs.Moves.{world_of}
 use Rattle.record_lengths.specs.Lengths.{len_of, HasFewFields}
 use Rattle.deliveries.specs.Staging.{after_all, records_len}
 use Rattle.tile_core.specs.Dues.{AllStand, AreDueFrom, IsTaken, IsTakenOut, HaveRoom, with_back}
-use Rattle.tile_core.proofs.Moving.{all_filtered}
+use Rattle.stored_world.specs.ListLaws.{all_left}
 use Rattle.record_lengths.specs.LengthLaws.{del_short}
 use Rattle.tile_core.proofs.Standing.{back_there, found_holds, found_sum, shorter}
 use Rattle.tile_core.proofs.Weights.{have_few, weight_sum}
@@ -136,7 +136,7 @@ module _ (old : List Object) (now total : ℕ) (xs held : List Object) (len rest
         world = world_last (world_of old) held o ∙ ap (λ (w : World). after w (change.Del o.key o.id)) t.world;
         stand = stand_last (world_of old) held o t.stand (subst (λ (w : World). object_at w o.key o.id ≡ Some o) (sym t.world) here);
         sorted = ascends-filter object_before others xs t.sorted;
-        few = all_filtered HasFewFields others xs t.few;
+        few = all_left HasFewFields others xs t.few;
         length_is = let all = length_last held o in omega (arith, all, long, t.length_is);
         rest_is = let w = taken_sum len_of o.key o.id xs o t.sorted here in omega (arith, w, light, t.rest_is, weight_sum xs, weight_sum left);
         small = let short = del_short o (found_holds (is_at o.key o.id) o HasFewFields xs here t.few) in omega (arith, short, long, light, t.small);
