@@ -10,9 +10,9 @@ ghost use Rattle.tile_core.specs.Moves.{world_of};
 ghost use Rattle.record_lengths.specs.Lengths.{HaveFewFields};
 ghost use Rattle.tile_core.specs.Dues.{IsDueFrom, AreDueFrom, HaveRoom, IsTaken, IsTakenOut, IsExpired, with_back};
 
-use record_lengths::{del_len, put_len};
 use byte_text::NoMemory;
 use keyspace::Keyspace;
+use record_lengths::{del_len, put_len};
 use rtree::{Steps, Visits};
 use std::alloc::Global;
 use world_model::Object;
