@@ -82,6 +82,10 @@ fn stage_one(
     ensures same { map session_of sessions.new.items ≡ map session_of sessions.old.items }
     ensures staged { OnOk result (StagesBehind (world_with hub.now.channels (objects_in objects.now)) (loud (change.Del key.now id.now) ∷ []) sessions.old.items sessions.new.items) }
 {
+    turn_laws();
+    if hub.len() == 0 {
+        return Ok(());
+    }
     match objects.get(key, id) {
         Some(object) => stage_del(alloc, hub, sessions, object, steps),
         None => Ok(()),
@@ -104,6 +108,10 @@ fn stage_object(
 {
     turn_laws();
     if !loud {
+        return Ok(());
+    }
+    // Where no channel stands nobody is told, and the object's place need not be sought again.
+    if hub.len() == 0 {
         return Ok(());
     }
     let old = objects.get(&object.key, &object.id);
