@@ -7,6 +7,7 @@ ghost use Rattle.world_model.specs.Outcomes.{is_proper};
 ghost use Rattle.shared_hall.specs.Seats.{IsOf};
 
 use byte_text::{Request, Text};
+use hall_turns::HallServe;
 use shared_hall::{HallSeat, SharedHall};
 use std::alloc::{AllocError, Global};
 use std::sync::{Arc, Wait};
@@ -14,7 +15,7 @@ use std::test::Fail;
 use std::thread;
 use std::thread::{JoinHandle, Threads};
 use tile_core::Core;
-use world_model::{Answers, Asked, AskedList, Called, Frames, HallApi, HallSplit, Touched};
+use world_model::{Answers, Asked, AskedList, Called, Frames, HallApi, HallSplit, Taken, Touched};
 
 // The request of a line's words, which are split at spaces. None for want of memory, or where the line is no test's.
 fn request(alloc: Global, line: &str) -> Option<Request> {
@@ -92,6 +93,31 @@ fn answered<R: Wait>(
     taken(rt, alloc, hall, seat, session)
 }
 
+// What a session is answered to a line, by a take in the turn of its call.
+fn answered_at_once<R: Wait>(
+    rt: &R,
+    alloc: Global,
+    hall: &SharedHall,
+    seat: &mut HallSeat,
+    session: u32,
+    line: &str,
+) -> Option<Text>
+    requires { IsOf hall.now seat.old }
+    ensures { IsOf hall.now seat.new }
+{
+    let asked = asked_by(alloc, line)?;
+    let touched = Touched::new(alloc).ok()?;
+    let mut frames = Frames::new(alloc).ok()?;
+    let (_answers, _asked, _touched, taken) =
+        hall.calls_and_take(rt, seat, session, 0, asked, touched, &mut frames);
+    if taken != Some(Taken::Some(1)) || frames.is_empty() {
+        return None;
+    }
+    let mut text = Text::new(alloc);
+    text.push(frames.at(0)).ok()?;
+    Some(text)
+}
+
 // A hall of an empty world.
 fn hall_at(alloc: Global) -> Result<(SharedHall, HallSeat), Fail>
     ensures { IfOk result (λ r. IsOf r.0 r.1) }
@@ -150,6 +176,19 @@ fn start<R: Wait + Threads + Copy + Send + 'static>(
         },
     )?;
     Ok(child)
+}
+
+#[test]
+fn a_take_gives_the_replies_of_its_turn(rt: HostRuntime) -> Result<(), Fail> {
+    let alloc = rt.alloc();
+    let (hall, mut seat) = hall_at(alloc)?;
+    let session = match hall.enter(&rt, &mut seat) {
+        Ok(session) => session,
+        Err(_) => return Err(Fail::from(AllocError)),
+    };
+    let text = answered_at_once(&rt, alloc, &hall, &mut seat, session, "PING");
+    assert!(rt; text.is_some_and(|text| text.bytes() == "+PONG\r\n".as_bytes()));
+    Ok(())
 }
 
 #[test]

@@ -9,6 +9,7 @@ ghost use Rattle.serve_command.specs.Serves.{Finishes, IsServed, Serves, counted
 use crate::ends::{DISK_FAULT, DOOR_FAULT, OUT_OF_MEMORY, SPENT, end};
 use crate::words::ServeWords;
 use byte_text::{NoMemory, Text, push_u64};
+use hall_turns::HallServe;
 use outside::{Clock, Door, Failed, NoGate, PlainBell, Sink, Spawner, write_all};
 use serve_run::{Jobs, ServeEnd, Served, Shared, serve};
 use std::alloc::Global;
@@ -89,7 +90,7 @@ fn finish<K: Sink>(alloc: Global, sink: &mut K, done: Served) -> u8
 
 /// Opens the door at the address, serves callers up to the limit or an end, and answers the status.
 pub fn serve_links<
-    H: HallSplit + Send + Sync + Drop + 'static,
+    H: HallSplit + HallServe + Send + Sync + Drop + 'static,
     K: Sink,
     L: Door,
     C: Clock + Send + Drop + 'static,

@@ -7,6 +7,7 @@ ghost use Rattle.serve_run.specs.Rounds.{RoundTurn, ServesLinks, state_of, fate_
 use crate::shared::Shared;
 use crate::starts::{Fate, Jobs, join_link};
 use crate::tends::{ServeEnd, tend};
+use hall_turns::HallServe;
 use outside::{Accepted, Bell, Clock, Door, Failed, Gate, Spawner};
 use std::alloc::Global;
 use std::sync::Wait;
@@ -44,7 +45,7 @@ fn starved_of(fate: Fate) -> u32
 
 // One accept, and what follows it.
 fn round<
-    H: HallSplit + Send + Sync + Drop + 'static,
+    H: HallSplit + HallServe + Send + Sync + Drop + 'static,
     L: Door,
     C: Clock + Send + Drop + 'static,
     B: Bell + Send + Sync + Drop + 'static,
@@ -109,7 +110,7 @@ where
 
 // Accepts up to an end.
 fn serve_on<
-    H: HallSplit + Send + Sync + Drop + 'static,
+    H: HallSplit + HallServe + Send + Sync + Drop + 'static,
     L: Door,
     C: Clock + Send + Drop + 'static,
     B: Bell + Send + Sync + Drop + 'static,
@@ -158,7 +159,7 @@ where
 
 // Serves links up to the limit or an end.
 fn serve_up_to<
-    H: HallSplit + Send + Sync + Drop + 'static,
+    H: HallSplit + HallServe + Send + Sync + Drop + 'static,
     L: Door,
     C: Clock + Send + Drop + 'static,
     B: Bell + Send + Sync + Drop + 'static,
@@ -204,7 +205,7 @@ where
 
 /// Serves links by two jobs each, up to `limit` of them or an end, and waits for the jobs.
 pub fn serve<
-    H: HallSplit + Send + Sync + Drop + 'static,
+    H: HallSplit + HallServe + Send + Sync + Drop + 'static,
     L: Door,
     C: Clock + Send + Drop + 'static,
     B: Bell + Send + Sync + Drop + 'static,

@@ -5,6 +5,7 @@ ghost use Rattle.std.specs.Arc.{arc_value};
 ghost use Rattle.serve_run.specs.Links.{Starts, Joins};
 
 use crate::shared::{Parts, Shared};
+use hall_turns::HallServe;
 use outside::{Bell, Clock, Door, Failed, Gate, Link, Sink, Source, Spawner};
 use session_run::{InJob, OutJob, Outlet, SessionJob};
 use std::alloc::Global;
@@ -32,7 +33,7 @@ pub enum Fate {
 
 // Starts the two jobs of a session.
 fn start_jobs<
-    H: HallSplit + Send + Sync + Drop + 'static,
+    H: HallSplit + HallServe + Send + Sync + Drop + 'static,
     S: Source + Send + Drop + 'static,
     K: Sink + Send + Drop + 'static,
     C: Clock + Send + Drop + 'static,
@@ -71,7 +72,6 @@ where
     } = parts;
     let Link { incoming, outgoing } = link;
     let writes_by = shared.hall.split(seat);
-    let takes_by = shared.hall.split(seat);
     let calls_by = shared.hall.split(seat);
     let job = SessionJob::Writes(OutJob {
         alloc,
@@ -98,7 +98,6 @@ where
         room: reads.room,
         gate: reads.gate,
         outlet: Outlet {
-            seat: takes_by,
             sink: outgoing,
             frames: own,
             text: Vec::new(alloc),
@@ -115,7 +114,7 @@ where
 
 /// Enters a session for a link and starts its jobs.
 pub(crate) fn join_link<
-    H: HallSplit + Send + Sync + Drop + 'static,
+    H: HallSplit + HallServe + Send + Sync + Drop + 'static,
     S: Source + Send + Drop + 'static,
     K: Sink + Send + Drop + 'static,
     C: Clock + Send + Drop + 'static,

@@ -1,5 +1,5 @@
 -- Calls one behind another.
-use Rattle.std.proofs.Common.{◌≡◌, ◌≤◌, ◌<◌, ◌+◌, ℕ, zero, suc, Bool, true, false, List, [], ◌∷◌, ◌++◌, length, take, drop, refl, sym, ap, ◌∙◌, subst, arith, append_assoc, length-drop}
+use Rattle.std.proofs.Common.{◌≡◌, ◌≤◌, ◌<◌, ◌+◌, ℕ, zero, suc, Bool, true, false, List, [], ◌∷◌, ◌++◌, length, take, drop, refl, sym, ap, ◌∙◌, subst, arith, append_assoc, length-drop, length-append}
 use Rattle.std.specs.Prelude.{Option, Some, None, MatchOption, map, slice_get, ◌&&◌, ◌||◌}
 use Rattle.std.specs.List.{list_all, list_any}
 use Rattle.world_model.specs.Outcomes.{is_proper}
@@ -7,9 +7,9 @@ use Rattle.world_model.specs.declared.events.Asked.{Asked}
 use Rattle.world_model.specs.declared.events.Called.{Called}
 use Rattle.world_model.specs.declared.events.Called.TheVariants as called
 use Rattle.world_model.specs.Seats.{Knows, Act, AddsCalls}
-use Rattle.session_run.specs.Gains.{Gains}
+use Rattle.session_run.specs.Gains.{Gains, GainsBoth, gains_calls}
 use Rattle.world_model.specs.Outcomes.{call_act, last_call, call_acts, IsCount}
-use Rattle.session_run.specs.Gains.{gains_more, gains_calls}
+use Rattle.session_run.proofs.Mixing.{both_none, both_more}
 use Rattle.session_run.specs.Calls.{Call, call_of, IsTimely, IsNext, behind, Serves, IsStop, StopsAt, ServesList, ServesOn}
 
 pub map_more : (n : ℕ) (a b : List Call) → map (call_of n) (a ++ b) ≡ map (call_of n) a ++ map (call_of n) b
@@ -81,7 +81,7 @@ proper_drop (a ∷ asks) (suc n) h = proper_drop asks n (rest (is_proper a) (lis
     rest false true k = refl
     rest false false k = k
 
-some_acts : (n m : ℕ) (asks : List Asked) (served : ℕ) (end : Called) → 0 < length asks → IsCount served end (length asks) → 0 < length (call_acts n m asks served end)
+pub some_acts : (n m : ℕ) (asks : List Asked) (served : ℕ) (end : Called) → 0 < length asks → IsCount served end (length asks) → 0 < length (call_acts n m asks served end)
 some_acts n m [] served end some count = absurd (omega (arith, some))
 some_acts n m (a ∷ asks) zero called.Ok some count = absurd (omega (arith, count))
 some_acts n m (a ∷ asks) zero called.Full some count = omega arith
@@ -101,46 +101,51 @@ served_within called.Stopped served most count = omega (arith, count)
 served_within called.Spent served most count = omega (arith, count)
 served_within called.Memory served most count = omega (arith, count)
 
-module _ (n m : ℕ) (told : Option ℕ) (old new : Knows) (asks : List Asked) (served : ℕ) (some : 0 < length asks) (time : (c : Call) → c.moment ≡ m → IsTimely told c) where
-  gained : (end : Called) → IsCount served end (length asks) → AddsCalls (call_acts n m asks served end) old new → Gains old new (call_acts n m asks served end)
-  gained end count adds = gains_calls (call_acts n m asks served end) old new (some_acts n m asks served end some count) adds
+-- what the calls of a turn and a take behind them added
+pub turn_gains : (n m : ℕ) (old new : Knows) (asks : List Asked) (served : ℕ) (end : Called) (takes : List Act) → 0 < length asks → IsCount served end (length asks) → AddsCalls (call_acts n m asks served end ++ takes) old new
+    → Gains old new (call_acts n m asks served end ++ takes)
+turn_gains n m old new asks served end takes some count adds =
+    let calls = call_acts n m asks served end in
+    let few : 0 < length calls = some_acts n m asks served end some count in
+    gains_calls (calls ++ takes) old new (omega (arith, few, length-append calls takes)) adds
 
+module _ (n m : ℕ) (told : Option ℕ) (old new : Knows) (took : List Act) (asks : List Asked) (served : ℕ) (time : (c : Call) → c.moment ≡ m → IsTimely told c) where
   -- all were answered Ok
-  turn_ok : IsCount served called.Ok (length asks) → AddsCalls (call_acts n m asks served called.Ok) old new → ServesList n told old new asks (drop served asks) called.Ok
-  turn_ok count adds =
+  turn_ok : IsCount served called.Ok (length asks) → GainsBoth old new (call_acts n m asks served called.Ok) took → ServesList n told old new asks (drop served asks) called.Ok took
+  turn_ok count g =
       let none : drop served asks ≡ [] = ap (λ (k : ℕ). drop k asks) count ∙ drop_none asks in
       let oks = map (ok_call m) (take served asks) in
       record {
         calls = oks;
         stop = [];
-        gains = subst (λ (l : List Act). Gains old new l)
+        gains = subst (λ (l : List Act). GainsBoth old new l took)
             (ap (λ (l : List Asked). map (call_act n m called.Ok) (take served asks) ++ last_call n m called.Ok l) none
             ∙ ap (λ (l : List Act). l ++ []) (sym (oks_are n m (take served asks))) ∙ sym (map_more n oks []))
-            (gained called.Ok count adds);
+            g;
         serves = serves_oks told m asks served (λ a. time (ok_call m a) refl);
         stops = (refl, none);
       }
 
   -- the calls with one more, that is answered otherwise
-  with_last : (end : Called) (a : Asked) (more : List Asked) → drop served asks ≡ a ∷ more → last_call n m end (a ∷ more) ≡ call_act n m end a ∷ [] → IsCount served end (length asks) → AddsCalls (call_acts n m asks served end) old new
-      → Gains old new (map (call_of n) (map (ok_call m) (take served asks) ++ record { moment = m; asked = a; answer = end } ∷ []))
-  with_last end a more is one count adds =
+  with_last : (end : Called) (a : Asked) (more : List Asked) → drop served asks ≡ a ∷ more → last_call n m end (a ∷ more) ≡ call_act n m end a ∷ [] → GainsBoth old new (call_acts n m asks served end) took
+      → GainsBoth old new (map (call_of n) (map (ok_call m) (take served asks) ++ record { moment = m; asked = a; answer = end } ∷ [])) took
+  with_last end a more is one g =
       let oks = map (ok_call m) (take served asks) in
       let c : Call = record { moment = m; asked = a; answer = end } in
-      subst (λ (l : List Act). Gains old new l)
+      subst (λ (l : List Act). GainsBoth old new l took)
       (ap (λ (l : List Asked). map (call_act n m called.Ok) (take served asks) ++ last_call n m end l) is
       ∙ ap (λ (l : List Act). map (call_act n m called.Ok) (take served asks) ++ l) one
       ∙ ap (λ (l : List Act). l ++ call_of n c ∷ []) (sym (oks_are n m (take served asks))) ∙ sym (map_more n oks (c ∷ [])))
-      (gained end count adds)
+      g
 
-  turn_full : IsCount served called.Full (length asks) → AddsCalls (call_acts n m asks served called.Full) old new → ServesOn n told old new asks (drop served asks)
-  turn_full count adds =
+  turn_full : IsCount served called.Full (length asks) → GainsBoth old new (call_acts n m asks served called.Full) took → ServesOn n told old new asks (drop served asks) took
+  turn_full count g =
       let left = next_left asks served count in
       let oks = map (ok_call m) (take served asks) in
       let c : Call = record { moment = m; asked = left.0; answer = called.Full } in
       record {
         calls = oks ++ c ∷ [];
-        gains = with_last called.Full left.0 left.1 left.2 refl count adds;
+        gains = with_last called.Full left.0 left.1 left.2 refl g;
         serves = serves_more told oks (c ∷ []) asks (drop served asks) (drop served asks) (serves_oks told m asks served (λ a. time (ok_call m a) refl)) (time c refl, (left.1, left.2), refl, refl);
         some = omega (arith, length-drop served asks, count);
         few = omega (arith, length-drop served asks);
@@ -149,30 +154,30 @@ module _ (n m : ℕ) (told : Option ℕ) (old new : Knows) (asks : List Asked) (
 
   turn_stop : (end : Called) → ((a : Asked) (more : List Asked) → last_call n m end (a ∷ more) ≡ call_act n m end a ∷ []) → served < length asks
       → ((stop : List Call) → IsStop told end stop (drop served asks) → StopsAt told end stop (drop served asks))
-      → IsCount served end (length asks) → AddsCalls (call_acts n m asks served end) old new → ServesList n told old new asks (drop served asks) end
-  turn_stop end one few stops count adds =
+      → IsCount served end (length asks) → GainsBoth old new (call_acts n m asks served end) took → ServesList n told old new asks (drop served asks) end took
+  turn_stop end one few stops count g =
       let left = next_left asks served few in
       let oks = map (ok_call m) (take served asks) in
       let c : Call = record { moment = m; asked = left.0; answer = end } in
       record {
         calls = oks;
         stop = c ∷ [];
-        gains = with_last end left.0 left.1 left.2 (one left.0 left.1) count adds;
+        gains = with_last end left.0 left.1 left.2 (one left.0 left.1) g;
         serves = serves_oks told m asks served (λ a. time (ok_call m a) refl);
         stops = stops (c ∷ []) (c, refl, refl, time c refl, (left.1, left.2));
       }
 
-  pub turn_ends : (end : Called) → (end ≡ called.Full → ⊥) → IsCount served end (length asks) → AddsCalls (call_acts n m asks served end) old new → ServesList n told old new asks (drop served asks) end
-  turn_ends called.Ok ne count adds = turn_ok count adds
-  turn_ends called.Full ne count adds = absurd (ne refl)
-  turn_ends called.Gone ne count adds = turn_stop called.Gone (λ a more. refl) count (λ stop s. s) count adds
-  turn_ends called.LogFault ne count adds = turn_stop called.LogFault (λ a more. refl) count (λ stop s. s) count adds
-  turn_ends called.Stopped ne count adds = turn_stop called.Stopped (λ a more. refl) count (λ stop s. s) count adds
-  turn_ends called.Spent ne count adds = turn_stop called.Spent (λ a more. refl) count (λ stop s. s) count adds
-  turn_ends called.Memory ne count adds = turn_stop called.Memory (λ a more. refl) count (λ stop s. s) count adds
+  pub turn_ends : (end : Called) → (end ≡ called.Full → ⊥) → IsCount served end (length asks) → GainsBoth old new (call_acts n m asks served end) took → ServesList n told old new asks (drop served asks) end took
+  turn_ends called.Ok ne count g = turn_ok count g
+  turn_ends called.Full ne count g = absurd (ne refl)
+  turn_ends called.Gone ne count g = turn_stop called.Gone (λ a more. refl) count (λ stop s. s) count g
+  turn_ends called.LogFault ne count g = turn_stop called.LogFault (λ a more. refl) count (λ stop s. s) count g
+  turn_ends called.Stopped ne count g = turn_stop called.Stopped (λ a more. refl) count (λ stop s. s) count g
+  turn_ends called.Spent ne count g = turn_stop called.Spent (λ a more. refl) count (λ stop s. s) count g
+  turn_ends called.Memory ne count g = turn_stop called.Memory (λ a more. refl) count (λ stop s. s) count g
 
-  pub turn_waits : IsCount served called.Full (length asks) → AddsCalls (call_acts n m asks served called.Full) old new → ServesOn n told old new asks (drop served asks)
-  turn_waits count adds = turn_full count adds
+  pub turn_waits : IsCount served called.Full (length asks) → GainsBoth old new (call_acts n m asks served called.Full) took → ServesOn n told old new asks (drop served asks) took
+  turn_waits count g = turn_full count g
 
 same_asked : (a b : Asked) → Some a ≡ Some b → a ≡ b
 same_asked a b e = cc
@@ -192,35 +197,38 @@ any_past p (a ∷ asks) zero h = absurd (omega (arith, h))
 any_past p (a ∷ asks) (suc i) h = any_past p asks i (omega (arith, h))
 
 -- the turns so far
-pub record Serving (n : ℕ) (told : Option ℕ) (old now : Knows) (asks left : List Asked) : Type 0 where
+pub record Serving (n : ℕ) (told : Option ℕ) (old now : Knows) (asks left : List Asked) (took : List Act) : Type 0 where
   pub calls : List Call
-  pub gains : Gains old now (map (call_of n) calls)
+  pub gains : GainsBoth old now (map (call_of n) calls) took
   pub serves : Serves told calls asks left
 
-pub serving_start : (n : ℕ) (told : Option ℕ) (old : Knows) (asks : List Asked) → Serving n told old old asks asks
-serving_start n told old asks = record { calls = []; gains = refl; serves = refl }
+pub serving_start : (n : ℕ) (told : Option ℕ) (old : Knows) (asks : List Asked) → Serving n told old old asks asks []
+serving_start n told old asks = record { calls = []; gains = both_none old; serves = refl }
 
-gains_calls_more : (n : ℕ) (old mid new : Knows) (a b : List Call) → Gains old mid (map (call_of n) a) → Gains mid new (map (call_of n) b) → Gains old new (map (call_of n) (a ++ b))
-gains_calls_more n old mid new a b p q = subst (λ (l : List Act). Gains old new l) (sym (map_more n a b)) (gains_more old mid new (map (call_of n) a) (map (call_of n) b) p q)
+pub gains_calls_more : (n : ℕ) (old mid new : Knows) (a b : List Call) (t u : List Act) → GainsBoth old mid (map (call_of n) a) t → GainsBoth mid new (map (call_of n) b) u → GainsBoth old new (map (call_of n) (a ++ b)) (t ++ u)
+gains_calls_more n old mid new a b t u p q = subst (λ (l : List Act). GainsBoth old new l (t ++ u)) (sym (map_more n a b)) (both_more old mid new (map (call_of n) a) (map (call_of n) b) t u p q)
 
-pub serving_on : (n : ℕ) (told : Option ℕ) (old mid new : Knows) (asks left left' : List Asked) → Serving n told old mid asks left → ServesOn n told mid new left left' → Serving n told old new asks left'
-serving_on n told old mid new asks left left' s t = record {
+pub gains_stop_more : (n : ℕ) (old mid new : Knows) (a b stop : List Call) (t u : List Act) → GainsBoth old mid (map (call_of n) a) t → GainsBoth mid new (map (call_of n) (b ++ stop)) u → GainsBoth old new (map (call_of n) ((a ++ b) ++ stop)) (t ++ u)
+gains_stop_more n old mid new a b stop t u p q = subst (λ (l : List Call). GainsBoth old new (map (call_of n) l) (t ++ u)) (sym (append_assoc a b stop)) (gains_calls_more n old mid new a (b ++ stop) t u p q)
+
+pub serving_on : (n : ℕ) (told : Option ℕ) (old mid new : Knows) (asks left left' : List Asked) (a b : List Act) → Serving n told old mid asks left a → ServesOn n told mid new left left' b → Serving n told old new asks left' (a ++ b)
+serving_on n told old mid new asks left left' a b s t = record {
   calls = s.calls ++ t.calls;
-  gains = gains_calls_more n old mid new s.calls t.calls s.gains t.gains;
+  gains = gains_calls_more n old mid new s.calls t.calls a b s.gains t.gains;
   serves = serves_more told s.calls t.calls asks left left' s.serves t.serves;
 }
 
-pub serving_last : (n : ℕ) (told : Option ℕ) (old mid new : Knows) (asks left left' : List Asked) (answer : Called) → Serving n told old mid asks left → ServesList n told mid new left left' answer → ServesList n told old new asks left' answer
-serving_last n told old mid new asks left left' answer s t = record {
+pub serving_last : (n : ℕ) (told : Option ℕ) (old mid new : Knows) (asks left left' : List Asked) (answer : Called) (a b : List Act) → Serving n told old mid asks left a → ServesList n told mid new left left' answer b → ServesList n told old new asks left' answer (a ++ b)
+serving_last n told old mid new asks left left' answer a b s t = record {
   calls = s.calls ++ t.calls;
   stop = t.stop;
-  gains = subst (λ (l : List Call). Gains old new (map (call_of n) l)) (sym (append_assoc s.calls t.calls t.stop)) (gains_calls_more n old mid new s.calls (t.calls ++ t.stop) s.gains t.gains);
+  gains = gains_stop_more n old mid new s.calls t.calls t.stop a b s.gains t.gains;
   serves = serves_more told s.calls t.calls asks left left' s.serves t.serves;
   stops = t.stops;
 }
 
-pub serves_none : (n : ℕ) (told : Option ℕ) (old : Knows) (asks : List Asked) → length asks ≡ 0 → ServesList n told old old asks asks called.Ok
-serves_none n told old [] none = record { calls = []; stop = []; gains = refl; serves = refl; stops = (refl, refl) }
+pub serves_none : (n : ℕ) (told : Option ℕ) (old : Knows) (asks : List Asked) → length asks ≡ 0 → ServesList n told old old asks asks called.Ok []
+serves_none n told old [] none = record { calls = []; stop = []; gains = both_none old; serves = refl; stops = (refl, refl) }
 serves_none n told old (a ∷ asks) none = absurd (omega (arith, none))
 
 pub timely : (told : Option ℕ) (m : ℕ) → MatchOption told (Unit {0}) (λ x. m ≡ x) → (c : Call) → c.moment ≡ m → IsTimely told c

@@ -1,42 +1,47 @@
 -- Who writes a session's frames, from one moment to the next.
-use Rattle.std.proofs.Common.{◌≡◌, ℕ, true, refl, sym, ap, subst}
+use Rattle.std.proofs.Common.{◌≡◌, ℕ, true, List, [], ◌++◌, refl, sym, ap, ◌∙◌, subst}
 use Rattle.std.specs.Prelude.{Option}
+use Rattle.std.proofs.lemmas.List.{append-nil}
 use Rattle.byte_text.specs.Names.{Bytes}
-use Rattle.world_model.specs.Seats.{Knows}
-use Rattle.session_run.specs.Outs.{Going, WritesSession}
-use Rattle.session_run.specs.Writings.{HandsOver, Goes, Writes, Leaves, is_over}
+use Rattle.world_model.specs.Seats.{Act}
+use Rattle.session_run.specs.Writings.{Goes, Writes, Leaves, is_over}
 use Rattle.session_run.specs.declared.writings.Outlet.{Outlet}
 use Rattle.session_run.specs.declared.writings.Writing.{Writing}
 use Rattle.session_run.specs.declared.writings.Writing.TheVariants.{Alone, Ended, Handed}
-use Rattle.session_run.proofs.Outing.{going_start, going_more, going_session}
+use Rattle.session_run.proofs.Outing.{writes_start, writes_more, writes_last}
 
-module _ {H K T : Type 0} (knows : T → Knows) (held : K → Option Bytes) (faults : K → ℕ) (n : ℕ) where
-  pub goes_same : (w : Writing H K T) → Goes knows held faults n w w
-  goes_same (Alone o) = going_start n (knows o.seat) (held o.sink) (faults o.sink)
-  goes_same (Ended o end) = refl
-  goes_same (Handed seat) = refl
+module _ {K : Type 0} (held : K → Option Bytes) (faults : K → ℕ) (n : ℕ) where
+  pub goes_same : (w : Writing K) → Goes held faults n w w []
+  goes_same (Alone o) = writes_start n (held o.sink) (faults o.sink)
+  goes_same (Ended o end) = (refl, refl)
+  goes_same Handed = (refl, refl)
 
-  pub goes_more : (a b c : Writing H K T) → Goes knows held faults n a b → Goes knows held faults n b c → Goes knows held faults n a c
-  goes_more (Alone o) (Alone p) (Alone q) x y =
-      going_more n (knows o.seat) (knows p.seat) (knows q.seat) (held o.sink) (held p.sink) (held q.sink) (faults o.sink) (faults p.sink) (faults q.sink) x y
-  goes_more (Alone o) (Alone p) (Ended q end) x y =
-      going_session n (knows o.seat) (knows p.seat) (knows q.seat) (held o.sink) (held p.sink) (held q.sink) (faults o.sink) (faults p.sink) (faults q.sink) end x y
-  goes_more (Alone o) (Alone p) (Handed seat) x y = record {
-    sink = y.sink;
-    going = going_more n (knows o.seat) (knows p.seat) (knows seat) (held o.sink) (held p.sink) (held y.sink) (faults o.sink) (faults p.sink) (faults y.sink) x y.going;
+  -- nothing more was taken
+  still : (x y z : Writing K) (a b : List Act) → Goes held faults n x y a → b ≡ [] → z ≡ y → Goes held faults n x z (a ++ b)
+  still x y z a b g none same =
+      subst (λ (l : List Act). Goes held faults n x z l) (sym (ap (λ (l : List Act). a ++ l) none ∙ append-nil a)) (subst (λ (w : Writing K). Goes held faults n x w a) (sym same) g)
+
+  pub goes_more : (x y z : Writing K) (a b : List Act) → Goes held faults n x y a → Goes held faults n y z b → Goes held faults n x z (a ++ b)
+  goes_more (Alone o) (Alone p) (Alone q) a b g h = writes_more n (held o.sink) (held p.sink) (held q.sink) (faults o.sink) (faults p.sink) (faults q.sink) a b g h
+  goes_more (Alone o) (Alone p) (Ended q end) a b g h = writes_last n (held o.sink) (held p.sink) (held q.sink) (faults o.sink) (faults p.sink) (faults q.sink) a b end g h
+  goes_more (Alone o) (Alone p) Handed a b g h = record {
+    sink = h.sink;
+    writes = writes_more n (held o.sink) (held p.sink) (held h.sink) (faults o.sink) (faults p.sink) (faults h.sink) a b g h.writes;
   }
-  goes_more (Alone o) (Ended p end) c x y = subst (λ (w : Writing H K T). Goes knows held faults n (Alone o) w) (sym y) x
-  goes_more (Alone o) (Handed seat) c x y = subst (λ (w : Writing H K T). Goes knows held faults n (Alone o) w) (sym y) x
-  goes_more (Ended o end) b c x y = subst (λ (w : Writing H K T). Goes knows held faults n w c) x y
-  goes_more (Handed seat) b c x y = subst (λ (w : Writing H K T). Goes knows held faults n w c) x y
+  goes_more (Alone o) (Ended p end) z a b g h = still (Alone o) (Ended p end) z a b g h.0 h.1
+  goes_more (Alone o) Handed z a b g h = still (Alone o) Handed z a b g h.0 h.1
+  goes_more (Ended o end) y z a b g h =
+      subst (λ (l : List Act). Goes held faults n (Ended o end) z (l ++ b)) (sym g.0) (subst (λ (w : Writing K). Goes held faults n w z b) g.1 h)
+  goes_more Handed y z a b g h =
+      subst (λ (l : List Act). Goes held faults n Handed z (l ++ b)) (sym g.0) (subst (λ (w : Writing K). Goes held faults n w z b) g.1 h)
 
   -- where who reads writes no more
-  pub goes_writes : (o : Outlet H K T) (w : Writing H K T) → Goes knows held faults n (Alone o) w → Leaves w → Writes knows held faults n o w
-  goes_writes o (Alone p) x left = absurd left
-  goes_writes o (Ended p end) x left = x
-  goes_writes o (Handed seat) x left = x
+  pub goes_writes : (o : Outlet K) (w : Writing K) (took : List Act) → Goes held faults n (Alone o) w took → Leaves w → Writes held faults n o w took
+  goes_writes o (Alone p) took g left = absurd left
+  goes_writes o (Ended p end) took g left = g
+  goes_writes o Handed took g left = g
 
-  pub goes_over : (a b : Writing H K T) → Goes knows held faults n a b → is_over a ≡ true → is_over b ≡ true
-  goes_over (Alone o) b x over = absurd (cc)
-  goes_over (Ended o end) b x over = ap is_over x
-  goes_over (Handed seat) b x over = absurd (cc)
+  pub goes_over : (x y : Writing K) (took : List Act) → Goes held faults n x y took → is_over x ≡ true → is_over y ≡ true
+  goes_over (Alone o) y took g over = absurd (cc)
+  goes_over (Ended o end) y took g over = ap is_over g.1
+  goes_over Handed y took g over = absurd (cc)

@@ -14,8 +14,8 @@ use Rattle.world_model.specs.declared.events.Called.TheVariants as called
 use Rattle.world_model.specs.declared.events.Event.TheVariants as event
 use Rattle.world_model.specs.declared.events.Outcome.TheVariants as outcome
 use Rattle.world_model.specs.Seats.{Knows, Act, Adds}
-use Rattle.session_run.specs.Gains.{Gains}
-use Rattle.session_run.specs.Gains.{gains_more, gains_last, made}
+use Rattle.session_run.specs.Gains.{Gains, GainsBoth, SeesLegal, gains_one, made}
+use Rattle.session_run.proofs.Mixing.{both_none, both_more, both_calls, both_takes}
 use Rattle.session_run.specs.Calls.{Call, call_of, Serves, IsStop, ServesList}
 use Rattle.session_run.specs.Feeds.{asked_by, asked_behind, Feeds, EndsBroken, IsFill}
 use Rattle.session_run.specs.declared.batches.Fill.{Fill}
@@ -23,14 +23,8 @@ use Rattle.session_run.specs.declared.batches.Fill.TheVariants as fill
 use Rattle.session_run.specs.declared.ends.InEnd.{InEnd}
 use Rattle.session_run.specs.declared.ends.InEnd.TheVariants.{Over, Broken, ClosedByHall, OutEnded, ReadFault, LogFault, Stopped, Spent, Memory}
 use Rattle.session_run.specs.Ends.{end_of, EndsAt, ReadsOn, ReadsSession, PartOn, PartLast, is_of_calls, ServesBlock, BlockOn, BlockLast, BlockTurn}
-use Rattle.session_run.proofs.Calling.{map_more, serves_more, serves_before, stop_before}
+use Rattle.session_run.proofs.Calling.{gains_calls_more, gains_stop_more, serves_more, serves_before, stop_before}
 use Rattle.session_run.proofs.Feeding.{feeds_none, feeds_more}
-
-pub gains_calls_more : (n : ℕ) (old mid new : Knows) (a b : List Call) → Gains old mid (map (call_of n) a) → Gains mid new (map (call_of n) b) → Gains old new (map (call_of n) (a ++ b))
-gains_calls_more n old mid new a b p q = subst (λ (l : List Act). Gains old new l) (sym (map_more n a b)) (gains_more old mid new (map (call_of n) a) (map (call_of n) b) p q)
-
-gains_stop_more : (n : ℕ) (old mid new : Knows) (a b stop : List Call) → Gains old mid (map (call_of n) a) → Gains mid new (map (call_of n) (b ++ stop)) → Gains old new (map (call_of n) ((a ++ b) ++ stop))
-gains_stop_more n old mid new a b stop p q = subst (λ (l : List Call). Gains old new (map (call_of n) l)) (sym (append_assoc a b stop)) (gains_calls_more n old mid new a (b ++ stop) p q)
 
 same_end : (a b : InEnd) → Some a ≡ Some b → a ≡ b
 same_end a b e = cc
@@ -56,73 +50,73 @@ all_bytes : (held held' : Held) (bytes rest : Bytes) (asks : List Asked) → Fee
 all_bytes held held' bytes rest asks f = ap (λ (l : Bytes). asked_behind held l) (sym (append-nil bytes)) ∙ f.goes [] ∙ ap (λ (l : Bytes). asks ++ asked_behind held' l) (append-nil rest)
 
 module _ (n : ℕ) (told : Option ℕ) where
-  pub part_start : (old : Knows) (held : Held) (bytes : Bytes) → PartOn n told old old held bytes held bytes
-  part_start old held bytes = record { asks = []; calls = []; gains = refl; serves = refl; feeds = feeds_none held bytes }
+  pub part_start : (old : Knows) (held : Held) (bytes : Bytes) → PartOn n told old old held bytes held bytes []
+  part_start old held bytes = record { asks = []; calls = []; gains = both_none old; serves = refl; feeds = feeds_none held bytes }
 
-  pub part_more : (old mid new : Knows) (held held' held'' : Held) (bytes rest left : Bytes) → PartOn n told old mid held bytes held' rest → PartOn n told mid new held' rest held'' left → PartOn n told old new held bytes held'' left
-  part_more old mid new held held' held'' bytes rest left p q = record {
+  pub part_more : (old mid new : Knows) (held held' held'' : Held) (bytes rest left : Bytes) (a b : List Act) → PartOn n told old mid held bytes held' rest a → PartOn n told mid new held' rest held'' left b → PartOn n told old new held bytes held'' left (a ++ b)
+  part_more old mid new held held' held'' bytes rest left a b p q = record {
     asks = p.asks ++ q.asks;
     calls = p.calls ++ q.calls;
-    gains = gains_calls_more n old mid new p.calls q.calls p.gains q.gains;
+    gains = gains_calls_more n old mid new p.calls q.calls a b p.gains q.gains;
     serves = serves_behind told p.calls q.calls p.asks q.asks [] p.serves q.serves;
     feeds = feeds_more held held' held'' bytes rest left p.asks q.asks p.feeds q.feeds;
   }
 
-  pub part_last : (old mid new : Knows) (held held' : Held) (bytes rest : Bytes) (end : InEnd) → PartOn n told old mid held bytes held' rest → PartLast n told mid new held' rest end → PartLast n told old new held bytes end
-  part_last old mid new held held' bytes rest end p q =
+  pub part_last : (old mid new : Knows) (held held' : Held) (bytes rest : Bytes) (end : InEnd) (a b : List Act) → PartOn n told old mid held bytes held' rest a → PartLast n told mid new held' rest end b → PartLast n told old new held bytes end (a ++ b)
+  part_last old mid new held held' bytes rest end a b p q =
       let all = all_bytes held held' bytes rest p.asks p.feeds in
       record {
         calls = p.calls ++ q.calls;
         stop = q.stop;
         unasked = q.unasked;
-        gains = gains_stop_more n old mid new p.calls q.calls q.stop p.gains q.gains;
+        gains = gains_stop_more n old mid new p.calls q.calls q.stop a b p.gains q.gains;
         serves = subst (λ (l : List Asked). Serves told (p.calls ++ q.calls) l q.unasked) (sym all) (serves_behind told p.calls q.calls p.asks (asked_behind held' rest) q.unasked p.serves q.serves);
         ends = subst (λ (l : List Asked). EndsAt told end q.stop l q.unasked) (sym all) (ends_behind told end q.stop p.asks (asked_behind held' rest) q.unasked q.ends);
         own = q.own;
       }
 
   -- a list was served as a whole
-  pub list_on : (old new : Knows) (held held' : Held) (bytes rest : Bytes) (asks left : List Asked) → Feeds held bytes held' rest asks → ServesList n told old new asks left called.Ok → PartOn n told old new held bytes held' rest
-  list_on old new held held' bytes rest asks left f s = record {
+  pub list_on : (old new : Knows) (held held' : Held) (bytes rest : Bytes) (asks left : List Asked) (took : List Act) → Feeds held bytes held' rest asks → ServesList n told old new asks left called.Ok took → PartOn n told old new held bytes held' rest took
+  list_on old new held held' bytes rest asks left took f s = record {
     asks = asks;
     calls = s.calls;
-    gains = subst (λ (l : List Call). Gains old new (map (call_of n) l)) (ap (λ (l : List Call). s.calls ++ l) s.stops.0 ∙ append-nil s.calls) s.gains;
+    gains = subst (λ (l : List Call). GainsBoth old new (map (call_of n) l) took) (ap (λ (l : List Call). s.calls ++ l) s.stops.0 ∙ append-nil s.calls) s.gains;
     serves = subst (λ (l : List Asked). Serves told s.calls asks l) s.stops.1 s.serves;
     feeds = f;
   }
 
-  pub list_broken : (old new : Knows) (held held' : Held) (bytes : Bytes) (asks left : List Asked) → Feeds held bytes held' [] asks → EndsBroken asks → held' ≡ None → ServesList n told old new asks left called.Ok → PartLast n told old new held bytes Broken
-  list_broken old new held held' bytes asks left f b dead s =
+  pub list_broken : (old new : Knows) (held held' : Held) (bytes : Bytes) (asks left : List Asked) (took : List Act) → Feeds held bytes held' [] asks → EndsBroken asks → held' ≡ None → ServesList n told old new asks left called.Ok took → PartLast n told old new held bytes Broken took
+  list_broken old new held held' bytes asks left took f b dead s =
       let all : asked_behind held bytes ≡ asks = all_bytes held held' bytes [] asks f ∙ ap (λ (h : Held). asks ++ asked_behind h []) dead ∙ append-nil asks in
       record {
         calls = s.calls;
         stop = [];
         unasked = [];
-        gains = subst (λ (l : List Call). Gains old new (map (call_of n) (s.calls ++ l))) s.stops.0 s.gains;
+        gains = subst (λ (l : List Call). GainsBoth old new (map (call_of n) (s.calls ++ l)) took) s.stops.0 s.gains;
         serves = subst (λ (l : List Asked). Serves told s.calls l []) (sym all) (subst (λ (l : List Asked). Serves told s.calls asks l) s.stops.1 s.serves);
         ends = (refl, refl, subst (λ (l : List Asked). EndsBroken l) (sym all) b);
         own = refl;
       }
 
   -- what was collected before want of memory was served
-  pub list_memory : (old new : Knows) (held now : Held) (bytes rest : Bytes) (asks left : List Asked) → Feeds held bytes now rest asks → ServesList n told old new asks left called.Ok → PartLast n told old new held bytes Memory
-  list_memory old new held now bytes rest asks left f s =
-      let p = list_on old new held now bytes rest asks left f s in
+  pub list_memory : (old new : Knows) (held now : Held) (bytes rest : Bytes) (asks left : List Asked) (took : List Act) → Feeds held bytes now rest asks → ServesList n told old new asks left called.Ok took → PartLast n told old new held bytes Memory took
+  list_memory old new held now bytes rest asks left took f s =
+      let p = list_on old new held now bytes rest asks left took f s in
       let more = asked_behind now rest in
       record {
         calls = p.calls;
         stop = [];
         unasked = more;
-        gains = subst (λ (l : List Call). Gains old new (map (call_of n) l)) (sym (append-nil p.calls)) p.gains;
+        gains = subst (λ (l : List Call). GainsBoth old new (map (call_of n) l) took) (sym (append-nil p.calls)) p.gains;
         serves = subst (λ (l : List Asked). Serves told p.calls l more) (sym (all_bytes held now bytes rest p.asks p.feeds)) (serves_before told p.calls p.asks [] more p.serves);
         ends = inl refl;
         own = refl;
       }
 
-  list_stop : (old new : Knows) (held held' : Held) (bytes rest : Bytes) (asks left : List Asked) (answer : Called) (end : InEnd) → Feeds held bytes held' rest asks
+  list_stop : (old new : Knows) (held held' : Held) (bytes rest : Bytes) (asks left : List Asked) (answer : Called) (end : InEnd) (took : List Act) → Feeds held bytes held' rest asks
       → ((stop : List Call) (total : List Asked) (l : List Asked) → IsStop told answer stop l → EndsAt told end stop total l) → is_of_calls end ≡ true
-      → (s : ServesList n told old new asks left answer) → IsStop told answer s.stop left → PartLast n told old new held bytes end
-  list_stop old new held held' bytes rest asks left answer end f why own s stop =
+      → (s : ServesList n told old new asks left answer took) → IsStop told answer s.stop left → PartLast n told old new held bytes end took
+  list_stop old new held held' bytes rest asks left answer end took f why own s stop =
       let more = asked_behind held' rest in
       let all = all_bytes held held' bytes rest asks f in
       record {
@@ -135,15 +129,15 @@ module _ (n : ℕ) (told : Option ℕ) where
         own = own;
       }
 
-  pub list_ends : (old new : Knows) (held held' : Held) (bytes rest : Bytes) (asks left : List Asked) (answer : Called) (end : InEnd) → end_of answer ≡ Some end → Feeds held bytes held' rest asks
-      → ServesList n told old new asks left answer → PartLast n told old new held bytes end
-  list_ends old new held held' bytes rest asks left called.Ok end is f s = absurd (cc)
-  list_ends old new held held' bytes rest asks left called.Full end is f s = absurd (cc)
-  list_ends old new held held' bytes rest asks left called.Gone end is f s = subst (λ (e : InEnd). PartLast n told old new held bytes e) (same_end ClosedByHall end is) (list_stop old new held held' bytes rest asks left called.Gone ClosedByHall f (λ stop total l t. t) refl s s.stops)
-  list_ends old new held held' bytes rest asks left called.LogFault end is f s = subst (λ (e : InEnd). PartLast n told old new held bytes e) (same_end LogFault end is) (list_stop old new held held' bytes rest asks left called.LogFault LogFault f (λ stop total l t. t) refl s s.stops)
-  list_ends old new held held' bytes rest asks left called.Stopped end is f s = subst (λ (e : InEnd). PartLast n told old new held bytes e) (same_end Stopped end is) (list_stop old new held held' bytes rest asks left called.Stopped Stopped f (λ stop total l t. t) refl s s.stops)
-  list_ends old new held held' bytes rest asks left called.Spent end is f s = subst (λ (e : InEnd). PartLast n told old new held bytes e) (same_end Spent end is) (list_stop old new held held' bytes rest asks left called.Spent Spent f (λ stop total l t. t) refl s s.stops)
-  list_ends old new held held' bytes rest asks left called.Memory end is f s = subst (λ (e : InEnd). PartLast n told old new held bytes e) (same_end Memory end is) (list_stop old new held held' bytes rest asks left called.Memory Memory f (λ stop total l t. inr t) refl s s.stops)
+  pub list_ends : (old new : Knows) (held held' : Held) (bytes rest : Bytes) (asks left : List Asked) (answer : Called) (end : InEnd) (took : List Act) → end_of answer ≡ Some end → Feeds held bytes held' rest asks
+      → ServesList n told old new asks left answer took → PartLast n told old new held bytes end took
+  list_ends old new held held' bytes rest asks left called.Ok end took is f s = absurd (cc)
+  list_ends old new held held' bytes rest asks left called.Full end took is f s = absurd (cc)
+  list_ends old new held held' bytes rest asks left called.Gone end took is f s = subst (λ (e : InEnd). PartLast n told old new held bytes e took) (same_end ClosedByHall end is) (list_stop old new held held' bytes rest asks left called.Gone ClosedByHall took f (λ stop total l t. t) refl s s.stops)
+  list_ends old new held held' bytes rest asks left called.LogFault end took is f s = subst (λ (e : InEnd). PartLast n told old new held bytes e took) (same_end LogFault end is) (list_stop old new held held' bytes rest asks left called.LogFault LogFault took f (λ stop total l t. t) refl s s.stops)
+  list_ends old new held held' bytes rest asks left called.Stopped end took is f s = subst (λ (e : InEnd). PartLast n told old new held bytes e took) (same_end Stopped end is) (list_stop old new held held' bytes rest asks left called.Stopped Stopped took f (λ stop total l t. t) refl s s.stops)
+  list_ends old new held held' bytes rest asks left called.Spent end took is f s = subst (λ (e : InEnd). PartLast n told old new held bytes e took) (same_end Spent end is) (list_stop old new held held' bytes rest asks left called.Spent Spent took f (λ stop total l t. t) refl s s.stops)
+  list_ends old new held held' bytes rest asks left called.Memory end took is f s = subst (λ (e : InEnd). PartLast n told old new held bytes e took) (same_end Memory end is) (list_stop old new held held' bytes rest asks left called.Memory Memory took f (λ stop total l t. inr t) refl s s.stops)
 
 -- any fill feeds its list
 pub fill_feeds : (held held' : Held) (bytes : Bytes) (asks : List Asked) (f : Fill) → IsFill held bytes held' asks f → (now : Held) × (rest : Bytes) × Feeds held bytes now rest asks
@@ -169,10 +163,10 @@ keeps_all None = tt
 keeps_all (Some s) = refl
 
 -- the blocks so far
-pub record Reading (n : ℕ) (told : Option ℕ) (old now : Knows) (left left' : Option Bytes) (faults faults' : ℕ) (held : Held) : Type 0 where
+pub record Reading (n : ℕ) (told : Option ℕ) (old now : Knows) (left left' : Option Bytes) (faults faults' : ℕ) (held : Held) (took : List Act) : Type 0 where
   pub read : Bytes
   pub consumed : Consumes left left' read
-  pub served : PartOn n told old now (Some []) read held []
+  pub served : PartOn n told old now (Some []) read held [] took
   pub dry : asked_behind held [] ≡ []
   pub later : faults ≤ faults'
 
@@ -180,24 +174,24 @@ nothing_asked : asked_by (stream_of []) ≡ []
 unfolding stream_of
 nothing_asked = refl
 
-pub reading_start : (n : ℕ) (told : Option ℕ) (old : Knows) (left : Option Bytes) (faults : ℕ) → Reading n told old old left left faults faults (Some [])
+pub reading_start : (n : ℕ) (told : Option ℕ) (old : Knows) (left : Option Bytes) (faults : ℕ) → Reading n told old old left left faults faults (Some []) []
 reading_start n told old left faults = record { read = []; consumed = consumes_nothing left left (keeps_all left); served = part_start n told old (Some []) []; dry = nothing_asked; later = omega arith }
 
 -- more bytes behind those that were fed
 feeds_wider : (held held' : Held) (bytes more : Bytes) (asks : List Asked) → Feeds held bytes held' [] asks → Feeds held (bytes ++ more) held' more asks
 feeds_wider held held' bytes more asks f = record { goes = λ x. ap (λ (l : Bytes). asked_behind held l) (append_assoc bytes more x) ∙ f.goes (more ++ x) }
 
-part_wider : (n : ℕ) (told : Option ℕ) (old new : Knows) (held held' : Held) (bytes more : Bytes) → PartOn n told old new held bytes held' [] → PartOn n told old new held (bytes ++ more) held' more
-part_wider n told old new held held' bytes more p = record { asks = p.asks; calls = p.calls; gains = p.gains; serves = p.serves; feeds = feeds_wider held held' bytes more p.asks p.feeds }
+part_wider : (n : ℕ) (told : Option ℕ) (old new : Knows) (held held' : Held) (bytes more : Bytes) (took : List Act) → PartOn n told old new held bytes held' [] took → PartOn n told old new held (bytes ++ more) held' more took
+part_wider n told old new held held' bytes more took p = record { asks = p.asks; calls = p.calls; gains = p.gains; serves = p.serves; feeds = feeds_wider held held' bytes more p.asks p.feeds }
 
-pub reading_on : (n : ℕ) (told : Option ℕ) (old mid new : Knows) (a b c : Option Bytes) (x y z : ℕ) (held held' : Held) → Reading n told old mid a b x y held → BlockOn n told mid new b c y z held held' → Reading n told old new a c x z held'
-reading_on n told old mid new a b c x y z held held' r t =
+pub reading_on : (n : ℕ) (told : Option ℕ) (old mid new : Knows) (a b c : Option Bytes) (x y z : ℕ) (held held' : Held) (k l : List Act) → Reading n told old mid a b x y held k → BlockOn n told mid new b c y z held held' l → Reading n told old new a c x z held' (k ++ l)
+reading_on n told old mid new a b c x y z held held' k l r t =
     let before : x ≤ y = r.later in
     let now : y ≤ z = t.later in
     record {
       read = r.read ++ t.block;
       consumed = consumes_more a b c r.read t.block r.consumed t.consumed;
-      served = part_more n told old mid new (Some []) held held' (r.read ++ t.block) t.block [] (part_wider n told old mid (Some []) held r.read t.block r.served) t.served;
+      served = part_more n told old mid new (Some []) held held' (r.read ++ t.block) t.block [] k l (part_wider n told old mid (Some []) held r.read t.block k r.served) t.served;
       dry = t.dry;
       later = omega (arith, before, now);
     }
@@ -205,11 +199,11 @@ reading_on n told old mid new a b c x y z held held' r t =
 rose : (a b c : ℕ) → a ≤ b → Rose b c → Rose a c
 rose a b c h r = omega (arith, h, r)
 
-pub reading_last : (n : ℕ) (told : Option ℕ) (old mid new : Knows) (a b c : Option Bytes) (x y z : ℕ) (held : Held) (end : InEnd) → Reading n told old mid a b x y held → BlockLast n told mid new b c y z held end → ReadsOn n told old new a c x z end
-reading_last n told old mid new a b c x y z held end r t =
+pub reading_last : (n : ℕ) (told : Option ℕ) (old mid new : Knows) (a b c : Option Bytes) (x y z : ℕ) (held : Held) (end : InEnd) (k l : List Act) → Reading n told old mid a b x y held k → BlockLast n told mid new b c y z held end l → ReadsOn n told old new a c x z end (k ++ l)
+reading_last n told old mid new a b c x y z held end k l r t =
     let before : x ≤ y = r.later in
     let now : y ≤ z = t.later in
-    let p = part_wider n told old mid (Some []) held r.read t.block r.served in
+    let p = part_wider n told old mid (Some []) held r.read t.block k r.served in
     let all = all_bytes (Some []) held (r.read ++ t.block) t.block p.asks p.feeds in
     record {
       read = r.read ++ t.block;
@@ -217,7 +211,7 @@ reading_last n told old mid new a b c x y z held end r t =
       calls = p.calls ++ t.calls;
       stop = t.stop;
       unasked = t.unasked;
-      gains = gains_stop_more n old mid new p.calls t.calls t.stop p.gains t.gains;
+      gains = gains_stop_more n old mid new p.calls t.calls t.stop k l p.gains t.gains;
       serves = subst (λ (l : List Asked). Serves told (p.calls ++ t.calls) l t.unasked) (sym all) (serves_behind told p.calls t.calls p.asks (asked_behind held t.block) t.unasked p.serves t.serves);
       ends = subst (λ (l : List Asked). EndsAt told end t.stop l t.unasked) (sym all) (ends_behind told end t.stop p.asks (asked_behind held t.block) t.unasked t.ends);
       at_end = t.at_end;
@@ -226,8 +220,8 @@ reading_last n told old mid new a b c x y z held end r t =
     }
 
 -- all blocks so far were served, and no frame is written any more
-pub reading_over : (n : ℕ) (told : Option ℕ) (old now : Knows) (left left' : Option Bytes) (faults faults' : ℕ) (held : Held) → Reading n told old now left left' faults faults' held → ReadsOn n told old now left left' faults faults' OutEnded
-reading_over n told old now left left' faults faults' held r =
+pub reading_over : (n : ℕ) (told : Option ℕ) (old now : Knows) (left left' : Option Bytes) (faults faults' : ℕ) (held : Held) (took : List Act) → Reading n told old now left left' faults faults' held took → ReadsOn n told old now left left' faults faults' OutEnded took
+reading_over n told old now left left' faults faults' held took r =
     let p = r.served in
     let all = all_bytes (Some []) held r.read [] p.asks p.feeds ∙ ap (λ (l : List Asked). p.asks ++ l) r.dry ∙ append-nil p.asks in
     record {
@@ -236,7 +230,7 @@ reading_over n told old now left left' faults faults' held r =
       calls = p.calls;
       stop = [];
       unasked = [];
-      gains = subst (λ (l : List Call). Gains old now (map (call_of n) l)) (sym (append-nil p.calls)) p.gains;
+      gains = subst (λ (l : List Call). GainsBoth old now (map (call_of n) l) took) (sym (append-nil p.calls)) p.gains;
       serves = subst (λ (l : List Asked). Serves told p.calls l []) (sym all) p.serves;
       ends = (refl, refl);
       at_end = λ e. absurd (cc);
@@ -254,36 +248,36 @@ rest_is taken bytes = take_all (length bytes - taken) (drop taken bytes) (omega 
 drop_more : (bytes : Bytes) (a b : ℕ) → drop b (drop a bytes) ≡ drop (a + b) bytes
 drop_more bytes a b = drop-drop b a bytes
 
-module _ (n : ℕ) (told : Option ℕ) (old mid new : Knows) (held held' : Held) (bytes : Bytes) (taken : ℕ) (within : taken ≤ length bytes) (p : PartOn n told old mid held bytes held' (drop taken bytes)) where
-  pub part_next : (held'' : Held) (count : ℕ) → (count ≤ length (rest_from taken bytes)) × PartOn n told mid new held' (rest_from taken bytes) held'' (drop count (rest_from taken bytes))
-      → (taken + count ≤ length bytes) × PartOn n told old new held bytes held'' (drop (taken + count) bytes)
+module _ (n : ℕ) (told : Option ℕ) (old mid new : Knows) (held held' : Held) (bytes : Bytes) (taken : ℕ) (within : taken ≤ length bytes) (a b : List Act) (p : PartOn n told old mid held bytes held' (drop taken bytes) a) where
+  pub part_next : (held'' : Held) (count : ℕ) → (count ≤ length (rest_from taken bytes)) × PartOn n told mid new held' (rest_from taken bytes) held'' (drop count (rest_from taken bytes)) b
+      → (taken + count ≤ length bytes) × PartOn n told old new held bytes held'' (drop (taken + count) bytes) (a ++ b)
   part_next held'' count q =
       let r = rest_is taken bytes in
       let few : count ≤ length (drop taken bytes) = subst (λ (l : Bytes). count ≤ length l) r q.0 in
-      let on = subst (λ (l : Bytes). PartOn n told mid new held' l held'' (drop count l)) r q.1 in (
+      let on = subst (λ (l : Bytes). PartOn n told mid new held' l held'' (drop count l) b) r q.1 in (
         omega (arith, few, length-drop taken bytes, within),
-        part_more n told old mid new held held' held'' bytes (drop taken bytes) (drop (taken + count) bytes) p
-            (subst (λ (l : Bytes). PartOn n told mid new held' (drop taken bytes) held'' l) (drop_more bytes taken count) on),
+        part_more n told old mid new held held' held'' bytes (drop taken bytes) (drop (taken + count) bytes) a b p
+            (subst (λ (l : Bytes). PartOn n told mid new held' (drop taken bytes) held'' l b) (drop_more bytes taken count) on),
       )
 
-  pub part_dry : (held'' : Held) → PartOn n told mid new held' (rest_from taken bytes) held'' [] × (asked_behind held'' [] ≡ []) → PartOn n told old new held bytes held'' [] × (asked_behind held'' [] ≡ [])
+  pub part_dry : (held'' : Held) → PartOn n told mid new held' (rest_from taken bytes) held'' [] b × (asked_behind held'' [] ≡ []) → PartOn n told old new held bytes held'' [] (a ++ b) × (asked_behind held'' [] ≡ [])
   part_dry held'' q = (
-    part_more n told old mid new held held' held'' bytes (drop taken bytes) [] p (subst (λ (l : Bytes). PartOn n told mid new held' l held'' []) (rest_is taken bytes) q.0),
+    part_more n told old mid new held held' held'' bytes (drop taken bytes) [] a b p (subst (λ (l : Bytes). PartOn n told mid new held' l held'' [] b) (rest_is taken bytes) q.0),
     q.1,
   )
 
-  pub part_end : (end : InEnd) → PartLast n told mid new held' (rest_from taken bytes) end → PartLast n told old new held bytes end
-  part_end end q = part_last n told old mid new held held' bytes (drop taken bytes) end p (subst (λ (l : Bytes). PartLast n told mid new held' l end) (rest_is taken bytes) q)
+  pub part_end : (end : InEnd) → PartLast n told mid new held' (rest_from taken bytes) end b → PartLast n told old new held bytes end (a ++ b)
+  part_end end q = part_last n told old mid new held held' bytes (drop taken bytes) end a b p (subst (λ (l : Bytes). PartLast n told mid new held' l end b) (rest_is taken bytes) q)
 
 -- nothing was read
-pub read_nothing : (n : ℕ) (told : Option ℕ) (old : Knows) (left : Option Bytes) (faults : ℕ) → ReadsOn n told old old left left faults faults Memory
+pub read_nothing : (n : ℕ) (told : Option ℕ) (old : Knows) (left : Option Bytes) (faults : ℕ) → ReadsOn n told old old left left faults faults Memory []
 read_nothing n told old left faults = record {
   read = [];
   consumed = consumes_nothing left left (keeps_all left);
   calls = [];
   stop = [];
   unasked = asked_by (stream_of []);
-  gains = refl;
+  gains = both_none old;
   serves = refl;
   ends = inl refl;
   at_end = λ e. absurd (cc);
@@ -293,14 +287,14 @@ read_nothing n told old left faults = record {
 
 -- no further block
 pub block_none : (n : ℕ) (told : Option ℕ) (old : Knows) (left left' : Option Bytes) (faults faults' : ℕ) (held : Held) → asked_behind held [] ≡ [] → Keeps left left' → faults ≤ faults' → Rose faults faults'
-    → BlockLast n told old old left left' faults faults' held ReadFault
+    → BlockLast n told old old left left' faults faults' held ReadFault []
 block_none n told old left left' faults faults' held dry keeps later rose = record {
   block = [];
   consumed = consumes_nothing left left' keeps;
   calls = [];
   stop = [];
   unasked = [];
-  gains = refl;
+  gains = both_none old;
   serves = sym dry;
   ends = (refl, refl);
   at_end = λ e. absurd (cc);
@@ -310,14 +304,14 @@ block_none n told old left left' faults faults' held dry keeps later rose = reco
 }
 
 pub block_over : (n : ℕ) (told : Option ℕ) (old : Knows) (left left' : Option Bytes) (faults faults' : ℕ) (held : Held) → asked_behind held [] ≡ [] → Consumes left left' [] → IsAtEnd left' → faults ≤ faults'
-    → BlockLast n told old old left left' faults faults' held Over
+    → BlockLast n told old old left left' faults faults' held Over []
 block_over n told old left left' faults faults' held dry consumed at later = record {
   block = [];
   consumed = consumed;
   calls = [];
   stop = [];
   unasked = [];
-  gains = refl;
+  gains = both_none old;
   serves = sym dry;
   ends = (refl, refl);
   at_end = λ e. at;
@@ -331,10 +325,10 @@ other_end : (a b : InEnd) → is_of_calls a ≡ true → is_of_calls b ≡ false
 other_end a b h k e = absurd (cc)
 
 -- the calls of a block that was read
-pub block_served : (n : ℕ) (told : Option ℕ) (old new : Knows) (left left' : Option Bytes) (faults faults' : ℕ) (held held' : Held) (block : Bytes) (end : Option InEnd) → Consumes left left' block → faults ≤ faults'
-    → ServesBlock n told old new held block held' end → BlockTurn n told old new left left' faults faults' held held' end
-block_served n told old new left left' faults faults' held held' block None consumed later s = record { block = block; consumed = consumed; served = s.0; dry = s.1; later = later }
-block_served n told old new left left' faults faults' held held' block (Some end) consumed later s = record {
+pub block_served : (n : ℕ) (told : Option ℕ) (old new : Knows) (left left' : Option Bytes) (faults faults' : ℕ) (held held' : Held) (block : Bytes) (end : Option InEnd) → Consumes left left' block → faults ≤ faults' → (took : List Act)
+    → ServesBlock n told old new held block held' end took → BlockTurn n told old new left left' faults faults' held held' end took
+block_served n told old new left left' faults faults' held held' block None consumed later took s = record { block = block; consumed = consumed; served = s.0; dry = s.1; later = later }
+block_served n told old new left left' faults faults' held held' block (Some end) consumed later took s = record {
   block = block;
   consumed = consumed;
   calls = s.calls;
@@ -349,29 +343,35 @@ block_served n told old new left left' faults faults' held held' block (Some end
   own = other_end end OutEnded s.own refl;
 }
 
--- and then the close
-pub reads_closed : (n : ℕ) (told : Option ℕ) (old mid new : Knows) (left left' : Option Bytes) (faults faults' : ℕ) (end : InEnd) → ReadsOn n told old mid left left' faults faults' end → Adds (event.Close n) outcome.Done mid new → ReadsSession n told old new left left' faults faults' end
-reads_closed n told old mid new left left' faults faults' end r a = record {
-  read = r.read;
-  consumed = r.consumed;
-  calls = r.calls;
-  stop = r.stop;
-  unasked = r.unasked;
-  gains = gains_last old mid new (map (call_of n) (r.calls ++ r.stop)) (event.Close n, outcome.Done) r.gains (made (event.Close n) outcome.Done mid new a);
-  serves = r.serves;
-  ends = r.ends;
-  at_end = r.at_end;
-  cause = r.cause;
-  later = r.later;
-  legal = a.legal;
-}
+-- and then the close, and takes of what was left
+pub reads_closed : (n : ℕ) (told : Option ℕ) (old mid shut new : Knows) (left left' : Option Bytes) (faults faults' : ℕ) (end : InEnd) → Adds (event.Close n) outcome.Done mid shut → (SeesLegal shut → SeesLegal new) → (a b : List Act)
+    → ReadsOn n told old mid left left' faults faults' end a → Gains shut new b → ReadsSession n told old new left left' faults faults' end (a ++ b)
+reads_closed n told old mid shut new left left' faults faults' end close legal a b r g =
+    let act : Act = (event.Close n, outcome.Done) in
+    let calls = map (call_of n) (r.calls ++ r.stop) in
+    let closed = both_more old mid shut calls (act ∷ []) a [] r.gains (both_calls mid shut (act ∷ []) (gains_one mid shut act (made (event.Close n) outcome.Done mid shut close))) in
+    record {
+      read = r.read;
+      consumed = r.consumed;
+      calls = r.calls;
+      stop = r.stop;
+      unasked = r.unasked;
+      gains = subst (λ (l : List Act). GainsBoth old new l (a ++ b)) (append-nil (calls ++ act ∷ []))
+          (subst (λ (l : List Act). GainsBoth old new ((calls ++ act ∷ []) ++ []) (l ++ b)) (append-nil a) (both_more old shut new (calls ++ act ∷ []) [] (a ++ []) b closed (both_takes shut new b g)));
+      serves = r.serves;
+      ends = r.ends;
+      at_end = r.at_end;
+      cause = r.cause;
+      later = r.later;
+      legal = legal close.legal;
+    }
 
 -- an answer that brings no end is Ok
-pub ended_ok : (n : ℕ) (told : Option ℕ) (old new : Knows) (asks left : List Asked) (answer : Called) → end_of answer ≡ None → ServesList n told old new asks left answer → ServesList n told old new asks left called.Ok
-ended_ok n told old new asks left called.Ok none s = s
-ended_ok n told old new asks left called.Full none s = absurd s.stops
-ended_ok n told old new asks left called.Gone none s = absurd (cc)
-ended_ok n told old new asks left called.LogFault none s = absurd (cc)
-ended_ok n told old new asks left called.Stopped none s = absurd (cc)
-ended_ok n told old new asks left called.Spent none s = absurd (cc)
-ended_ok n told old new asks left called.Memory none s = absurd (cc)
+pub ended_ok : (n : ℕ) (told : Option ℕ) (old new : Knows) (asks left : List Asked) (answer : Called) (took : List Act) → end_of answer ≡ None → ServesList n told old new asks left answer took → ServesList n told old new asks left called.Ok took
+ended_ok n told old new asks left called.Ok took none s = s
+ended_ok n told old new asks left called.Full took none s = absurd s.stops
+ended_ok n told old new asks left called.Gone took none s = absurd (cc)
+ended_ok n told old new asks left called.LogFault took none s = absurd (cc)
+ended_ok n told old new asks left called.Stopped took none s = absurd (cc)
+ended_ok n told old new asks left called.Spent took none s = absurd (cc)
+ended_ok n told old new asks left called.Memory took none s = absurd (cc)

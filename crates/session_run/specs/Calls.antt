@@ -8,7 +8,7 @@ use Rattle.world_model.specs.declared.events.Asked.TheVariants.{Words, Broken}
 use Rattle.world_model.specs.declared.events.Called.{Called}
 use Rattle.world_model.specs.declared.events.Called.TheVariants as called
 use Rattle.world_model.specs.Seats.{Knows, Act}
-use Rattle.session_run.specs.Gains.{Gains}
+use Rattle.session_run.specs.Gains.{GainsBoth}
 use Rattle.world_model.specs.Outcomes.{call_act}
 
 -- the request calls the command of this name
@@ -59,22 +59,23 @@ StopsAt told called.Ok stop left = (stop ≡ []) × (left ≡ [])
 StopsAt told called.Full stop left = ⊥
 StopsAt told answer stop left = IsStop told answer stop left
 
-pub record ServesList (n : ℕ) (told : Option ℕ) (old new : Knows) (asks left : List Asked) (answer : Called) : Type 0 where
+-- the calls of some requests, and beside them these takes
+pub record ServesList (n : ℕ) (told : Option ℕ) (old new : Knows) (asks left : List Asked) (answer : Called) (took : List Act) : Type 0 where
   pub calls : List Call
   pub stop : List Call
-  pub gains : Gains old new (map (call_of n) (calls ++ stop))
+  pub gains : GainsBoth old new (map (call_of n) (calls ++ stop)) took
   pub serves : Serves told calls asks left
   pub stops : StopsAt told answer stop left
 
 -- calls of one turn, the last answered Full
-pub record ServesOn (n : ℕ) (told : Option ℕ) (old new : Knows) (asks left : List Asked) : Type 0 where
+pub record ServesOn (n : ℕ) (told : Option ℕ) (old new : Knows) (asks left : List Asked) (took : List Act) : Type 0 where
   pub calls : List Call
-  pub gains : Gains old new (map (call_of n) calls)
+  pub gains : GainsBoth old new (map (call_of n) calls) took
   pub serves : Serves told calls asks left
   pub some : 0 < length left
   pub few : length left ≤ length asks
   pub proper : list_all is_proper asks ≡ true → list_all is_proper left ≡ true
 
-abbrev pub CallsTurn : ℕ → Option ℕ → Knows → Knows → List Asked → List Asked → Option Called → Type 0
-CallsTurn n told old new asks left None = ServesOn n told old new asks left
-CallsTurn n told old new asks left (Some answer) = ServesList n told old new asks left answer
+abbrev pub CallsTurn : ℕ → Option ℕ → Knows → Knows → List Asked → List Asked → Option Called → List Act → Type 0
+CallsTurn n told old new asks left None took = ServesOn n told old new asks left took
+CallsTurn n told old new asks left (Some answer) took = ServesList n told old new asks left answer took

@@ -10,8 +10,8 @@ use Rattle.world_model.specs.declared.events.Called.{Called}
 use Rattle.world_model.specs.declared.events.Called.TheVariants as called
 use Rattle.world_model.specs.declared.events.Event.TheVariants as event
 use Rattle.world_model.specs.declared.events.Outcome.TheVariants as outcome
-use Rattle.world_model.specs.Seats.{Knows}
-use Rattle.session_run.specs.Gains.{Gains, SeesLegal}
+use Rattle.world_model.specs.Seats.{Knows, Act}
+use Rattle.session_run.specs.Gains.{GainsBoth, SeesLegal}
 use Rattle.session_run.specs.Calls.{Call, call_of, Serves, IsStop}
 use Rattle.session_run.specs.Feeds.{asked_by, asked_behind, Feeds, EndsBroken}
 use Rattle.session_run.specs.declared.ends.InEnd.{InEnd}
@@ -42,15 +42,15 @@ EndsAt told Stopped stop asks left = IsStop told called.Stopped stop left
 EndsAt told Spent stop asks left = IsStop told called.Spent stop left
 EndsAt told Memory stop asks left = (stop ≡ []) ⊎ IsStop told called.Memory stop left
 
--- a session's requests were read and served: the seat's new entries are calls of this session and then its close. The calls are those
--- of what the bytes read ask for, in order, each again while it is answered Full, up to the end
-pub record ReadsSession (n : ℕ) (told : Option ℕ) (old new : Knows) (left left' : Option Bytes) (faults faults' : ℕ) (end : InEnd) : Type 0 where
+-- a session's requests were read and served: the seat's new entries are calls of this session and then its close, and beside them these
+-- takes. The calls are those of what the bytes read ask for, in order, each again while it is answered Full, up to the end
+pub record ReadsSession (n : ℕ) (told : Option ℕ) (old new : Knows) (left left' : Option Bytes) (faults faults' : ℕ) (end : InEnd) (took : List Act) : Type 0 where
   pub read : Bytes
   pub consumed : Consumes left left' read
   pub calls : List Call
   pub stop : List Call
   pub unasked : List Asked
-  pub gains : Gains old new (map (call_of n) (calls ++ stop) ++ (event.Close n, outcome.Done) ∷ [])
+  pub gains : GainsBoth old new (map (call_of n) (calls ++ stop) ++ (event.Close n, outcome.Done) ∷ []) took
   pub serves : Serves told calls (asked_by (stream_of read)) unasked
   pub ends : EndsAt told end stop (asked_by (stream_of read)) unasked
   pub at_end : end ≡ Over → IsAtEnd left'
@@ -59,13 +59,13 @@ pub record ReadsSession (n : ℕ) (told : Option ℕ) (old new : Knows) (left le
   pub legal : SeesLegal new
 
 -- the same, before the close
-pub record ReadsOn (n : ℕ) (told : Option ℕ) (old new : Knows) (left left' : Option Bytes) (faults faults' : ℕ) (end : InEnd) : Type 0 where
+pub record ReadsOn (n : ℕ) (told : Option ℕ) (old new : Knows) (left left' : Option Bytes) (faults faults' : ℕ) (end : InEnd) (took : List Act) : Type 0 where
   pub read : Bytes
   pub consumed : Consumes left left' read
   pub calls : List Call
   pub stop : List Call
   pub unasked : List Asked
-  pub gains : Gains old new (map (call_of n) (calls ++ stop))
+  pub gains : GainsBoth old new (map (call_of n) (calls ++ stop)) took
   pub serves : Serves told calls (asked_by (stream_of read)) unasked
   pub ends : EndsAt told end stop (asked_by (stream_of read)) unasked
   pub at_end : end ≡ Over → IsAtEnd left'
@@ -73,10 +73,10 @@ pub record ReadsOn (n : ℕ) (told : Option ℕ) (old new : Knows) (left left' :
   pub later : faults ≤ faults'
 
 -- what some bytes ask for first was served, and the reader goes on with the rest
-pub record PartOn (n : ℕ) (told : Option ℕ) (old new : Knows) (held : Held) (bytes : Bytes) (held' : Held) (rest : Bytes) : Type 0 where
+pub record PartOn (n : ℕ) (told : Option ℕ) (old new : Knows) (held : Held) (bytes : Bytes) (held' : Held) (rest : Bytes) (took : List Act) : Type 0 where
   pub asks : List Asked
   pub calls : List Call
-  pub gains : Gains old new (map (call_of n) calls)
+  pub gains : GainsBoth old new (map (call_of n) calls) took
   pub serves : Serves told calls asks []
   pub feeds : Feeds held bytes held' rest asks
 
@@ -88,39 +88,39 @@ is_of_calls OutEnded = false
 is_of_calls end = true
 
 -- what some bytes ask for was served up to an end
-pub record PartLast (n : ℕ) (told : Option ℕ) (old new : Knows) (held : Held) (bytes : Bytes) (end : InEnd) : Type 0 where
+pub record PartLast (n : ℕ) (told : Option ℕ) (old new : Knows) (held : Held) (bytes : Bytes) (end : InEnd) (took : List Act) : Type 0 where
   pub calls : List Call
   pub stop : List Call
   pub unasked : List Asked
-  pub gains : Gains old new (map (call_of n) (calls ++ stop))
+  pub gains : GainsBoth old new (map (call_of n) (calls ++ stop)) took
   pub serves : Serves told calls (asked_behind held bytes) unasked
   pub ends : EndsAt told end stop (asked_behind held bytes) unasked
   pub own : is_of_calls end ≡ true
 
-abbrev pub ServesPart : ℕ → Option ℕ → Knows → Knows → Held → Bytes → Held → Part → Type 0
-ServesPart n told old new held bytes held' (part.More taken) = (taken ≤ length bytes) × PartOn n told old new held bytes held' (drop taken bytes)
-ServesPart n told old new held bytes held' part.Dry = PartOn n told old new held bytes held' [] × (asked_behind held' [] ≡ [])
-ServesPart n told old new held bytes held' (part.End end) = PartLast n told old new held bytes end
+abbrev pub ServesPart : ℕ → Option ℕ → Knows → Knows → Held → Bytes → Held → Part → List Act → Type 0
+ServesPart n told old new held bytes held' (part.More taken) took = (taken ≤ length bytes) × PartOn n told old new held bytes held' (drop taken bytes) took
+ServesPart n told old new held bytes held' part.Dry took = PartOn n told old new held bytes held' [] took × (asked_behind held' [] ≡ [])
+ServesPart n told old new held bytes held' (part.End end) took = PartLast n told old new held bytes end took
 
-abbrev pub ServesBlock : ℕ → Option ℕ → Knows → Knows → Held → Bytes → Held → Option InEnd → Type 0
-ServesBlock n told old new held bytes held' None = PartOn n told old new held bytes held' [] × (asked_behind held' [] ≡ [])
-ServesBlock n told old new held bytes held' (Some end) = PartLast n told old new held bytes end
+abbrev pub ServesBlock : ℕ → Option ℕ → Knows → Knows → Held → Bytes → Held → Option InEnd → List Act → Type 0
+ServesBlock n told old new held bytes held' None took = PartOn n told old new held bytes held' [] took × (asked_behind held' [] ≡ [])
+ServesBlock n told old new held bytes held' (Some end) took = PartLast n told old new held bytes end took
 
 -- a block was read and served
-pub record BlockOn (n : ℕ) (told : Option ℕ) (old new : Knows) (left left' : Option Bytes) (faults faults' : ℕ) (held held' : Held) : Type 0 where
+pub record BlockOn (n : ℕ) (told : Option ℕ) (old new : Knows) (left left' : Option Bytes) (faults faults' : ℕ) (held held' : Held) (took : List Act) : Type 0 where
   pub block : Bytes
   pub consumed : Consumes left left' block
-  pub served : PartOn n told old new held block held' []
+  pub served : PartOn n told old new held block held' [] took
   pub dry : asked_behind held' [] ≡ []
   pub later : faults ≤ faults'
 
-pub record BlockLast (n : ℕ) (told : Option ℕ) (old new : Knows) (left left' : Option Bytes) (faults faults' : ℕ) (held : Held) (end : InEnd) : Type 0 where
+pub record BlockLast (n : ℕ) (told : Option ℕ) (old new : Knows) (left left' : Option Bytes) (faults faults' : ℕ) (held : Held) (end : InEnd) (took : List Act) : Type 0 where
   pub block : Bytes
   pub consumed : Consumes left left' block
   pub calls : List Call
   pub stop : List Call
   pub unasked : List Asked
-  pub gains : Gains old new (map (call_of n) (calls ++ stop))
+  pub gains : GainsBoth old new (map (call_of n) (calls ++ stop)) took
   pub serves : Serves told calls (asked_behind held block) unasked
   pub ends : EndsAt told end stop (asked_behind held block) unasked
   pub at_end : end ≡ Over → IsAtEnd left'
@@ -128,6 +128,6 @@ pub record BlockLast (n : ℕ) (told : Option ℕ) (old new : Knows) (left left'
   pub later : faults ≤ faults'
   pub own : end ≡ OutEnded → ⊥
 
-abbrev pub BlockTurn : ℕ → Option ℕ → Knows → Knows → Option Bytes → Option Bytes → ℕ → ℕ → Held → Held → Option InEnd → Type 0
-BlockTurn n told old new left left' faults faults' held held' None = BlockOn n told old new left left' faults faults' held held'
-BlockTurn n told old new left left' faults faults' held held' (Some end) = BlockLast n told old new left left' faults faults' held end
+abbrev pub BlockTurn : ℕ → Option ℕ → Knows → Knows → Option Bytes → Option Bytes → ℕ → ℕ → Held → Held → Option InEnd → List Act → Type 0
+BlockTurn n told old new left left' faults faults' held held' None took = BlockOn n told old new left left' faults faults' held held' took
+BlockTurn n told old new left left' faults faults' held held' (Some end) took = BlockLast n told old new left left' faults faults' held end took

@@ -101,3 +101,52 @@ WritesTurn n old new held held' faults faults' (Some end) = TakesLast n old new 
 abbrev pub took_end : Took → Option OutEnd
 took_end (took.End end) = Some end
 took_end t = None
+
+-- what a take gave was written
+pub record WroteOn (taken : Outcome) (old new : Knows) (held held' : Option Bytes) (faults faults' : ℕ) : Type 0 where
+  pub same : new ≡ old
+  pub goes : goes_on taken ≡ true
+  pub wrote : Appends held held' (given_bytes taken)
+  pub later : faults ≤ faults'
+
+pub record WroteLast (n : ℕ) (taken : Outcome) (old new : Knows) (held held' : Option Bytes) (faults faults' : ℕ) (end : OutEnd) : Type 0 where
+  pub gains : Gains old new (remove_acts n end)
+  pub is_last : IsLast end taken
+  pub wrote : Wrote end held held' (given_bytes taken)
+  pub cause : end ≡ WriteFault → Rose faults faults'
+  pub later : faults ≤ faults'
+  pub legal : SeesLegal old → SeesLegal new
+
+abbrev pub WritesTaken : ℕ → Outcome → Knows → Knows → Option Bytes → Option Bytes → ℕ → ℕ → Option OutEnd → Type 0
+WritesTaken n taken old new held held' faults faults' None = WroteOn taken old new held held' faults faults'
+WritesTaken n taken old new held held' faults faults' (Some end) = WroteLast n taken old new held held' faults faults' end
+
+-- these acts are takes, whose frames were written, and the session goes on
+pub record WritesOn (n : ℕ) (held held' : Option Bytes) (faults faults' : ℕ) (took : List Act) : Type 0 where
+  pub takes : List Outcome
+  pub are : took ≡ map (take_act n) takes
+  pub went_on : list_all goes_on takes ≡ true
+  pub wrote : Appends held held' (bytes_given takes)
+  pub later : faults ≤ faults'
+
+-- these acts are takes up to an end, and one removal behind a write fault; the bytes written are those of the frames of these takes, or a
+-- first part of them at a write fault
+pub record WritesLast (n : ℕ) (held held' : Option Bytes) (faults faults' : ℕ) (end : OutEnd) (took : List Act) : Type 0 where
+  pub takes : List Outcome
+  pub last : Outcome
+  pub are : took ≡ map (take_act n) (takes ++ last ∷ []) ++ remove_acts n end
+  pub went_on : list_all goes_on takes ≡ true
+  pub is_last : IsLast end last
+  pub wrote : Wrote end held held' (bytes_given (takes ++ last ∷ []))
+  pub cause : end ≡ WriteFault → Rose faults faults'
+  pub later : faults ≤ faults'
+
+abbrev pub WritesSome : ℕ → Option Bytes → Option Bytes → ℕ → ℕ → Option OutEnd → List Act → Type 0
+WritesSome n held held' faults faults' None took = WritesOn n held held' faults faults' took
+WritesSome n held held' faults faults' (Some end) took = WritesLast n held held' faults faults' end took
+
+-- what was taken before was written, and what waited behind it was taken and written
+pub record WritesBehind (n : ℕ) (before : List Act) (old new : Knows) (held held' : Option Bytes) (faults faults' : ℕ) (end : Option OutEnd) : Type 0 where
+  pub rest : List Act
+  pub gains : Gains old new rest
+  pub writes : WritesSome n held held' faults faults' end (before ++ rest)

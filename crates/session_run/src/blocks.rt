@@ -2,15 +2,16 @@
 
 ghost use Rattle.std.specs.Prelude.{◌≡◌, ◌≤◌, ◌<◌, [], ℕ, length};
 ghost use Rattle.session_run.specs.Feeds.{asked_behind};
+ghost use Rattle.session_run.specs.Gains.{WithTakes};
 ghost use Rattle.session_run.specs.Ends.{ServesPart, ServesBlock, BlockTurn};
 ghost use Rattle.session_run.specs.Writings.{IsFit, Goes};
 
 use crate::batches::{Fill, collect};
 use crate::calls::{Hand, serve_list};
 use crate::ends::{InEnd, end_of};
+use hall_turns::HallServe;
 use outside::{Bell, Clock, Failed, Gate, Sink, Source};
 use std::sync::Wait;
-use world_model::HallApi;
 
 // How the first requests of some bytes were served.
 #[derive(Clone, Copy, Debug, PartialEq, Eq)]
@@ -23,7 +24,7 @@ enum Part {
 }
 
 // Collects as many requests as one turn carries, and makes their calls.
-fn serve_part<H: HallApi, K: Sink, C: Clock, B: Bell, G: Gate, R: Wait>(
+fn serve_part<H: HallServe, K: Sink, C: Clock, B: Bell, G: Gate, R: Wait>(
     rt: &R,
     hall: &H,
     seat: &mut H::Seat,
@@ -32,15 +33,16 @@ fn serve_part<H: HallApi, K: Sink, C: Clock, B: Bell, G: Gate, R: Wait>(
     bell: &B,
     room: &B,
     gate: &G,
-    hand: Hand<H, K>,
+    hand: Hand<K>,
     piece: &[u8],
-) -> (Part, Hand<H, K>)
-    requires seat { H.is_of hall.now seat.old }
-    requires fit { IsFit (H.is_of hall.now) hand.writing }
-    ensures seat { H.is_of hall.now seat.new }
-    ensures fit { IsFit (H.is_of hall.now) result.1.writing }
-    ensures goes { Goes H.knows K.held K.faults session hand.writing result.1.writing }
-    ensures part { ServesPart session (C.told clock.now) (H.knows seat.old) (H.knows seat.new) hand.reader piece.now result.1.reader result.0 }
+) -> (Part, Hand<K>)
+    requires seat { H.HallApi.is_of hall.now seat.old }
+    requires fit { IsFit hand.writing }
+    ensures seat { H.HallApi.is_of hall.now seat.new }
+    ensures fit { IsFit result.1.writing }
+    ensures part { WithTakes
+        (ServesPart session (C.told clock.now) (H.HallApi.knows seat.old) (H.HallApi.knows seat.new) hand.reader piece.now result.1.reader result.0)
+        (Goes K.held K.faults session hand.writing result.1.writing) }
 {
     let mut hand = hand;
     let fill = collect(&mut hand.reader, piece, &mut hand.asked);
@@ -57,7 +59,7 @@ fn serve_part<H: HallApi, K: Sink, C: Clock, B: Bell, G: Gate, R: Wait>(
 }
 
 // Serves the requests that end in the bytes, and the fault that they make. None where the session goes on.
-fn serve_block<H: HallApi, K: Sink, C: Clock, B: Bell, G: Gate, R: Wait>(
+fn serve_block<H: HallServe, K: Sink, C: Clock, B: Bell, G: Gate, R: Wait>(
     rt: &R,
     hall: &H,
     seat: &mut H::Seat,
@@ -66,15 +68,16 @@ fn serve_block<H: HallApi, K: Sink, C: Clock, B: Bell, G: Gate, R: Wait>(
     bell: &B,
     room: &B,
     gate: &G,
-    hand: Hand<H, K>,
+    hand: Hand<K>,
     piece: &[u8],
-) -> (Option<InEnd>, Hand<H, K>)
-    requires seat { H.is_of hall.now seat.old }
-    requires fit { IsFit (H.is_of hall.now) hand.writing }
-    ensures seat { H.is_of hall.now seat.new }
-    ensures fit { IsFit (H.is_of hall.now) result.1.writing }
-    ensures goes { Goes H.knows K.held K.faults session hand.writing result.1.writing }
-    ensures block { ServesBlock session (C.told clock.now) (H.knows seat.old) (H.knows seat.new) hand.reader piece.now result.1.reader result.0 }
+) -> (Option<InEnd>, Hand<K>)
+    requires seat { H.HallApi.is_of hall.now seat.old }
+    requires fit { IsFit hand.writing }
+    ensures seat { H.HallApi.is_of hall.now seat.new }
+    ensures fit { IsFit result.1.writing }
+    ensures block { WithTakes
+        (ServesBlock session (C.told clock.now) (H.HallApi.knows seat.old) (H.HallApi.knows seat.new) hand.reader piece.now result.1.reader result.0)
+        (Goes K.held K.faults session hand.writing result.1.writing) }
 {
     let mut hand = hand;
     let mut taken = 0;
@@ -102,7 +105,7 @@ fn serve_block<H: HallApi, K: Sink, C: Clock, B: Bell, G: Gate, R: Wait>(
 }
 
 /// Reads a block and serves its requests. None where the session goes on.
-pub(crate) fn read_block<H: HallApi, S: Source, K: Sink, C: Clock, B: Bell, G: Gate, R: Wait>(
+pub(crate) fn read_block<H: HallServe, S: Source, K: Sink, C: Clock, B: Bell, G: Gate, R: Wait>(
     rt: &R,
     hall: &H,
     seat: &mut H::Seat,
@@ -112,20 +115,21 @@ pub(crate) fn read_block<H: HallApi, S: Source, K: Sink, C: Clock, B: Bell, G: G
     bell: &B,
     room: &B,
     gate: &G,
-    hand: Hand<H, K>,
+    hand: Hand<K>,
     block: &mut [u8],
-) -> (Option<InEnd>, Hand<H, K>)
-    requires seat { H.is_of hall.now seat.old }
-    requires fit { IsFit (H.is_of hall.now) hand.writing }
+) -> (Option<InEnd>, Hand<K>)
+    requires seat { H.HallApi.is_of hall.now seat.old }
+    requires fit { IsFit hand.writing }
     requires some { 0 < length block.old }
     requires dry { asked_behind hand.reader [] ≡ [] }
-    ensures seat { H.is_of hall.now seat.new }
-    ensures fit { IsFit (H.is_of hall.now) result.1.writing }
-    ensures goes { Goes H.knows K.held K.faults session hand.writing result.1.writing }
-    ensures turn { BlockTurn session (C.told clock.now)
-        (H.knows seat.old) (H.knows seat.new)
+    ensures seat { H.HallApi.is_of hall.now seat.new }
+    ensures fit { IsFit result.1.writing }
+    ensures turn { WithTakes
+        (BlockTurn session (C.told clock.now)
+        (H.HallApi.knows seat.old) (H.HallApi.knows seat.new)
         (S.left source.old) (S.left source.new) (S.faults source.old) (S.faults source.new)
-        hand.reader result.1.reader result.0 }
+        hand.reader result.1.reader result.0)
+        (Goes K.held K.faults session hand.writing result.1.writing) }
 {
     let count = match source.read(block) {
         Ok(count) => count,

@@ -4,18 +4,21 @@ ghost use Rattle.std.specs.Prelude.{◌≡◌, ◌≤◌, ◌<◌, ℕ, length, 
 ghost use Rattle.std.specs.List.{list_all};
 ghost use Rattle.world_model.specs.Outcomes.{is_proper};
 ghost use Rattle.session_run.specs.Calls.{CallsTurn, ServesList};
+ghost use Rattle.session_run.specs.Gains.{WithTakes};
 ghost use Rattle.session_run.specs.Writings.{IsFit, Goes};
 
 use crate::names::any_named;
-use crate::writings::{Writing, write_on};
+use crate::turns::turn_once;
+use crate::writings::Writing;
+use hall_turns::HallServe;
 use outside::{Bell, Clock, Gate, Sink};
 use resp_frames::Requests;
 use std::sync::Wait;
-use world_model::{AskedList, Called, HallApi, Touched};
+use world_model::{AskedList, Called, Touched};
 
 /// What a session has in hand.
 #[derive(Drop)]
-pub(crate) struct Hand<H: HallApi, K> {
+pub(crate) struct Hand<K> {
     /// The reader of its requests.
     pub(crate) reader: Requests,
     /// The requests that wait for their calls.
@@ -27,7 +30,7 @@ pub(crate) struct Hand<H: HallApi, K> {
     /// Whether it has asked to subscribe.
     pub(crate) listens: bool,
     /// Who writes its frames.
-    pub(crate) writing: Writing<H, K>,
+    pub(crate) writing: Writing<K>,
 }
 
 /// Rings for each session that is named.
@@ -38,7 +41,7 @@ pub fn ring_touched<B: Bell>(bell: &B, touched: &Touched) {
 }
 
 // Makes the calls of one turn. None where the session had no room, after a wait for room.
-fn call_turn<H: HallApi, K: Sink, C: Clock, B: Bell, G: Gate, R: Wait>(
+fn call_turn<H: HallServe, K: Sink, C: Clock, B: Bell, G: Gate, R: Wait>(
     rt: &R,
     hall: &H,
     seat: &mut H::Seat,
@@ -47,18 +50,19 @@ fn call_turn<H: HallApi, K: Sink, C: Clock, B: Bell, G: Gate, R: Wait>(
     bell: &B,
     room: &B,
     gate: &G,
-    hand: Hand<H, K>,
-) -> (Option<Called>, Hand<H, K>)
-    requires seat { H.is_of hall.now seat.old }
+    hand: Hand<K>,
+) -> (Option<Called>, Hand<K>)
+    requires seat { H.HallApi.is_of hall.now seat.old }
     requires some { 0 < length hand.asked }
     requires few { length hand.asked ≤ 64 }
     requires proper { list_all is_proper hand.asked ≡ true }
-    requires fit { IsFit (H.is_of hall.now) hand.writing }
-    ensures seat { H.is_of hall.now seat.new }
+    requires fit { IsFit hand.writing }
+    ensures seat { H.HallApi.is_of hall.now seat.new }
     ensures reader { result.1.reader ≡ hand.reader }
-    ensures fit { IsFit (H.is_of hall.now) result.1.writing }
-    ensures goes { Goes H.knows K.held K.faults session hand.writing result.1.writing }
-    ensures turn { CallsTurn session (C.told clock.now) (H.knows seat.old) (H.knows seat.new) hand.asked result.1.asked result.0 }
+    ensures fit { IsFit result.1.writing }
+    ensures turn { WithTakes
+        (CallsTurn session (C.told clock.now) (H.HallApi.knows seat.old) (H.HallApi.knows seat.new) hand.asked result.1.asked result.0)
+        (Goes K.held K.faults session hand.writing result.1.writing) }
 {
     let Hand {
         reader,
@@ -74,10 +78,10 @@ fn call_turn<H: HallApi, K: Sink, C: Clock, B: Bell, G: Gate, R: Wait>(
     let quits = any_named(&asked, b"QUIT");
     let mark = room.mark(session);
     let moment = clock.now();
-    let (answers, mut asked, touched) = hall.calls(rt, seat, session, moment, asked, touched);
-    ring_touched(bell, &touched);
+    let (answers, mut asked, touched, writing) = turn_once(
+        rt, hall, seat, session, moment, asked, touched, bell, room, writing, quits,
+    );
     asked.pass(answers.served);
-    let writing = write_on(rt, hall, session, room, writing, quits);
     let handed = writing.is_handed();
     let hand = Hand {
         reader,
@@ -100,7 +104,7 @@ fn call_turn<H: HallApi, K: Sink, C: Clock, B: Bell, G: Gate, R: Wait>(
 
 /// Makes the calls of the requests that wait, in order, and again those that are answered Full, up to the first that is answered
 /// neither so nor Ok. That answer, or Ok.
-pub(crate) fn serve_list<H: HallApi, K: Sink, C: Clock, B: Bell, G: Gate, R: Wait>(
+pub(crate) fn serve_list<H: HallServe, K: Sink, C: Clock, B: Bell, G: Gate, R: Wait>(
     rt: &R,
     hall: &H,
     seat: &mut H::Seat,
@@ -109,17 +113,18 @@ pub(crate) fn serve_list<H: HallApi, K: Sink, C: Clock, B: Bell, G: Gate, R: Wai
     bell: &B,
     room: &B,
     gate: &G,
-    hand: Hand<H, K>,
-) -> (Called, Hand<H, K>)
-    requires seat { H.is_of hall.now seat.old }
+    hand: Hand<K>,
+) -> (Called, Hand<K>)
+    requires seat { H.HallApi.is_of hall.now seat.old }
     requires few { length hand.asked ≤ 64 }
     requires proper { list_all is_proper hand.asked ≡ true }
-    requires fit { IsFit (H.is_of hall.now) hand.writing }
-    ensures seat { H.is_of hall.now seat.new }
+    requires fit { IsFit hand.writing }
+    ensures seat { H.HallApi.is_of hall.now seat.new }
     ensures reader { result.1.reader ≡ hand.reader }
-    ensures fit { IsFit (H.is_of hall.now) result.1.writing }
-    ensures goes { Goes H.knows K.held K.faults session hand.writing result.1.writing }
-    ensures serves { ServesList session (C.told clock.now) (H.knows seat.old) (H.knows seat.new) hand.asked result.1.asked result.0 }
+    ensures fit { IsFit result.1.writing }
+    ensures serves { WithTakes
+        (ServesList session (C.told clock.now) (H.HallApi.knows seat.old) (H.HallApi.knows seat.new) hand.asked result.1.asked result.0)
+        (Goes K.held K.faults session hand.writing result.1.writing) }
 {
     let mut hand = hand;
     if hand.asked.len() == 0 {

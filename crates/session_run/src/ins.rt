@@ -1,6 +1,7 @@
 //! The requests of a session, from a source to the hall.
 
 ghost use Rattle.std.specs.Prelude.{◌≡◌, ◌<◌, [], ℕ, length, Some, true};
+ghost use Rattle.session_run.specs.Gains.{WithTakes};
 ghost use Rattle.session_run.specs.Ends.{ReadsOn, ReadsSession};
 ghost use Rattle.session_run.specs.Writings.{IsFit, Goes, Writes, is_over};
 ghost use Rattle.session_run.specs.declared.ends.InEnd.TheVariants as ended;
@@ -10,36 +11,32 @@ use crate::blocks::read_block;
 use crate::calls::Hand;
 use crate::ends::InEnd;
 use crate::writings::{Outlet, Writing, hand_over, write_last};
+use hall_turns::HallServe;
 use outside::{Bell, Clock, Gate, Sink, Source};
 use resp_frames::Requests;
 use std::alloc::Global;
 use std::sync::Wait;
-use world_model::{AskedList, HallApi, Touched};
+use world_model::{AskedList, Touched};
 
 /// The bytes of one read.
 const BLOCK: usize = 65_536;
 
 // Hands the sink over where the session has asked to subscribe.
-fn pass_on<H: HallApi, K: Sink + Drop, R: Wait>(
-    rt: &R,
-    hall: &H,
-    session: u32,
-    hand: Hand<H, K>,
-) -> Hand<H, K>
-    requires fit { IsFit (H.is_of hall.now) hand.writing }
+fn pass_on<K: Sink + Drop, R: Wait>(rt: &R, session: u32, hand: Hand<K>) -> Hand<K>
+    requires fit { IsFit hand.writing }
     ensures reader { result.reader ≡ hand.reader }
-    ensures fit { IsFit (H.is_of hall.now) result.writing }
-    ensures goes { Goes H.knows K.held K.faults session hand.writing result.writing }
+    ensures fit { IsFit result.writing }
+    ensures goes { Goes K.held K.faults session hand.writing result.writing [] }
 {
     let mut hand = hand;
     if hand.listens {
-        hand.writing = hand_over(rt, hall, session, hand.writing);
+        hand.writing = hand_over(rt, session, hand.writing);
     }
     hand
 }
 
 // Reads blocks and serves their requests, up to an end.
-fn read_on<H: HallApi, S: Source, K: Sink + Drop, C: Clock, B: Bell, G: Gate, R: Wait>(
+fn read_on<H: HallServe, S: Source, K: Sink + Drop, C: Clock, B: Bell, G: Gate, R: Wait>(
     rt: &R,
     hall: &H,
     seat: &mut H::Seat,
@@ -49,20 +46,21 @@ fn read_on<H: HallApi, S: Source, K: Sink + Drop, C: Clock, B: Bell, G: Gate, R:
     bell: &B,
     room: &B,
     gate: &G,
-    hand: Hand<H, K>,
+    hand: Hand<K>,
     block: &mut [u8],
-) -> (InEnd, Writing<H, K>)
-    requires seat { H.is_of hall.now seat.old }
-    requires fit { IsFit (H.is_of hall.now) hand.writing }
+) -> (InEnd, Writing<K>)
+    requires seat { H.HallApi.is_of hall.now seat.old }
+    requires fit { IsFit hand.writing }
     requires some { 0 < length block.old }
     requires fresh { hand.reader ≡ Some [] }
-    ensures seat { H.is_of hall.now seat.new }
-    ensures fit { IsFit (H.is_of hall.now) result.1 }
-    ensures goes { Goes H.knows K.held K.faults session hand.writing result.1 }
+    ensures seat { H.HallApi.is_of hall.now seat.new }
+    ensures fit { IsFit result.1 }
     ensures over { result.0 ≡ ended.OutEnded → is_over result.1 ≡ true }
-    ensures reads { ReadsOn session (C.told clock.now)
-        (H.knows seat.old) (H.knows seat.new)
-        (S.left source.old) (S.left source.new) (S.faults source.old) (S.faults source.new) result.0 }
+    ensures reads { WithTakes
+        (ReadsOn session (C.told clock.now)
+        (H.HallApi.knows seat.old) (H.HallApi.knows seat.new)
+        (S.left source.old) (S.left source.new) (S.faults source.old) (S.faults source.new) result.0)
+        (Goes K.held K.faults session hand.writing result.1) }
 {
     let mut hand = hand;
     for _ in rt.forever() {
@@ -76,13 +74,13 @@ fn read_on<H: HallApi, S: Source, K: Sink + Drop, C: Clock, B: Bell, G: Gate, R:
         if hand.writing.is_over() {
             return (InEnd::OutEnded, hand.writing);
         }
-        hand = pass_on(rt, hall, session, hand);
+        hand = pass_on(rt, session, hand);
     }
     unreachable!()
 }
 
 // The same, with what it takes made first.
-fn read_all<H: HallApi, S: Source, K: Sink + Drop, C: Clock, B: Bell, G: Gate, R: Wait>(
+fn read_all<H: HallServe, S: Source, K: Sink + Drop, C: Clock, B: Bell, G: Gate, R: Wait>(
     rt: &R,
     alloc: Global,
     hall: &H,
@@ -93,17 +91,18 @@ fn read_all<H: HallApi, S: Source, K: Sink + Drop, C: Clock, B: Bell, G: Gate, R
     bell: &B,
     room: &B,
     gate: &G,
-    writing: Writing<H, K>,
-) -> (InEnd, Writing<H, K>)
-    requires seat { H.is_of hall.now seat.old }
-    requires fit { IsFit (H.is_of hall.now) writing }
-    ensures seat { H.is_of hall.now seat.new }
-    ensures fit { IsFit (H.is_of hall.now) result.1 }
-    ensures goes { Goes H.knows K.held K.faults session writing result.1 }
+    writing: Writing<K>,
+) -> (InEnd, Writing<K>)
+    requires seat { H.HallApi.is_of hall.now seat.old }
+    requires fit { IsFit writing }
+    ensures seat { H.HallApi.is_of hall.now seat.new }
+    ensures fit { IsFit result.1 }
     ensures over { result.0 ≡ ended.OutEnded → is_over result.1 ≡ true }
-    ensures reads { ReadsOn session (C.told clock.now)
-        (H.knows seat.old) (H.knows seat.new)
-        (S.left source.old) (S.left source.new) (S.faults source.old) (S.faults source.new) result.0 }
+    ensures reads { WithTakes
+        (ReadsOn session (C.told clock.now)
+        (H.HallApi.knows seat.old) (H.HallApi.knows seat.new)
+        (S.left source.old) (S.left source.new) (S.faults source.old) (S.faults source.new) result.0)
+        (Goes K.held K.faults session writing result.1) }
 {
     let Ok(touched) = Touched::new(alloc) else {
         return (InEnd::Memory, writing);
@@ -124,10 +123,10 @@ fn read_all<H: HallApi, S: Source, K: Sink + Drop, C: Clock, B: Bell, G: Gate, R
     )
 }
 
-/// Reads a session's requests and makes their calls in order, up to an end, and closes the session. Behind each turn of calls it takes
-/// the frames and writes them, until the session has asked to subscribe: then the sink goes over to the session's writer. `bell` is
+/// Reads a session's requests and makes their calls in order, up to an end, and closes the session. In each turn of calls it takes the
+/// frames too and writes them, until the session has asked to subscribe: then the sink goes over to the session's writer. `bell` is
 /// rung for each session on whose queue frames were placed, and at the close; `room` rings where the writer took frames of the session.
-pub fn session_in<H: HallApi, S: Source, K: Sink + Drop, C: Clock, B: Bell, G: Gate, R: Wait>(
+pub fn session_in<H: HallServe, S: Source, K: Sink + Drop, C: Clock, B: Bell, G: Gate, R: Wait>(
     rt: &R,
     alloc: Global,
     hall: &H,
@@ -138,16 +137,17 @@ pub fn session_in<H: HallApi, S: Source, K: Sink + Drop, C: Clock, B: Bell, G: G
     bell: &B,
     room: &B,
     gate: &G,
-    outlet: Outlet<H, K>,
-) -> (InEnd, Writing<H, K>)
-    requires seat { H.is_of hall.now seat.old }
-    requires fit { IsFit (H.is_of hall.now) (writing.Alone outlet) }
-    ensures seat { H.is_of hall.now seat.new }
-    ensures writes { Writes H.knows K.held K.faults session outlet result.1 }
+    outlet: Outlet<K>,
+) -> (InEnd, Writing<K>)
+    requires seat { H.HallApi.is_of hall.now seat.old }
+    requires fit { IsFit (writing.Alone outlet) }
+    ensures seat { H.HallApi.is_of hall.now seat.new }
     ensures over { result.0 ≡ ended.OutEnded → is_over result.1 ≡ true }
-    ensures reads { ReadsSession session (C.told clock.now)
-        (H.knows seat.old) (H.knows seat.new)
-        (S.left source.old) (S.left source.new) (S.faults source.old) (S.faults source.new) result.0 }
+    ensures reads { WithTakes
+        (ReadsSession session (C.told clock.now)
+        (H.HallApi.knows seat.old) (H.HallApi.knows seat.new)
+        (S.left source.old) (S.left source.new) (S.faults source.old) (S.faults source.new) result.0)
+        (Writes K.held K.faults session outlet result.1) }
 {
     let (end, writing) = read_all(
         rt,
@@ -164,5 +164,8 @@ pub fn session_in<H: HallApi, S: Source, K: Sink + Drop, C: Clock, B: Bell, G: G
     );
     hall.close(rt, seat, session);
     bell.ring(session);
-    (end, write_last(rt, hall, session, bell, room, writing))
+    (
+        end,
+        write_last(rt, hall, seat, session, bell, room, writing),
+    )
 }

@@ -5,6 +5,7 @@ use crate::ins::session_in;
 use crate::outs::{OutEnd, session_out};
 use crate::writings::{Outlet, Writing};
 use crossbeam_channel::Receiver;
+use hall_turns::HallServe;
 use outside::{Bell, Clock, Gate, Job, Sink, Source};
 use std::alloc::Global;
 use std::sync::{Arc, Wait};
@@ -31,8 +32,8 @@ pub struct InJob<H: HallApi, S, K, C, B, G> {
     pub room: Arc<B, Global>,
     /// What the session passes before each turn of its calls.
     pub gate: Arc<G, Global>,
-    /// What takes the session's frames and writes them, by a seat of that hall.
-    pub outlet: Outlet<H, K>,
+    /// Where the session's frames go to that its reader takes.
+    pub outlet: Outlet<K>,
 }
 
 /// The frames of a session are to be taken and written from its first subscription on.
@@ -73,7 +74,7 @@ pub enum SessionDone<H: HallApi, S, K> {
         seat: H::Seat,
         source: S,
         end: InEnd,
-        writing: Writing<H, K>,
+        writing: Writing<K>,
     },
     /// Frames were taken and written.
     Wrote {
@@ -88,7 +89,7 @@ pub enum SessionDone<H: HallApi, S, K> {
 }
 
 impl<
-    H: HallApi + Send + Sync + Drop + 'static,
+    H: HallServe + Send + Sync + Drop + 'static,
     S: Source + Send + Drop + 'static,
     K: Sink + Send + Drop + 'static,
     C: Clock + Send + Drop + 'static,
@@ -102,9 +103,9 @@ where
 
     ghost use Rattle.session_run.specs.Jobs.{IsReady, Gives};
 
-    ghost gives = { λ job out. Gives H.knows C.told S.left S.faults K.held K.faults job out };
+    ghost gives = { λ job out. Gives H.HallApi.knows C.told S.left S.faults K.held K.faults job out };
 
-    ghost ready = { λ job. IsReady H.is_of job };
+    ghost ready = { λ job. IsReady H.HallApi.is_of job };
 
     fn run<R: Wait>(self, rt: &R) -> SessionDone<H, S, K> {
         match self {

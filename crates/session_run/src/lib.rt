@@ -10,6 +10,7 @@ mod jobs;
 mod names;
 mod outs;
 mod streams;
+mod turns;
 mod writings;
 
 pub use calls::ring_touched;

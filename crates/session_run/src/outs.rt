@@ -2,7 +2,8 @@
 
 ghost use Rattle.std.specs.Prelude.{◌≡◌, ◌≤◌, [], ℕ};
 ghost use Rattle.world_data.specs.Limits.{take_frames};
-ghost use Rattle.session_run.specs.Outs.{WritesTurn, WritesSession, took_end};
+ghost use Rattle.world_model.specs.Outcomes.{take_outcome};
+ghost use Rattle.session_run.specs.Outs.{WritesTaken, WritesTurn, WritesSession, took_end};
 
 use crate::streams::write_frames;
 use outside::{Bell, Failed, Sink};
@@ -46,9 +47,8 @@ pub(crate) fn took_end(took: Took) -> Option<OutEnd>
     }
 }
 
-/// Takes once and writes what was given. `room` is rung where frames were taken, before they are written. At a write fault the session
-/// is removed.
-pub(crate) fn take_turn<H: HallApi, K: Sink, B: Bell, R: Wait>(
+/// Writes what a take gave. `room` is rung where frames were taken, before they are written. At a write fault the session is removed.
+pub(crate) fn write_taken<H: HallApi, K: Sink, B: Bell, R: Wait>(
     rt: &R,
     hall: &H,
     seat: &mut H::Seat,
@@ -57,18 +57,18 @@ pub(crate) fn take_turn<H: HallApi, K: Sink, B: Bell, R: Wait>(
     room: &B,
     frames: &mut Frames,
     text: &mut Vec<u8>,
+    taken: Taken,
 ) -> Took
     requires seat { H.is_of hall.now seat.old }
-    requires bare { frames.old.list ≡ [] }
     requires places { frames.old.places ≡ take_frames }
     ensures seat { H.is_of hall.now seat.new }
     ensures bare { frames.new.list ≡ [] }
     ensures places { frames.new.places ≡ take_frames }
-    ensures turn { WritesTurn session
+    ensures writes { WritesTaken session (take_outcome taken frames.old.list)
         (H.knows seat.old) (H.knows seat.new)
         (K.held sink.old) (K.held sink.new) (K.faults sink.old) (K.faults sink.new) (took_end result) }
 {
-    match hall.take(rt, seat, session, frames) {
+    match taken {
         Taken::Some(_) => {
             room.ring(session);
             let written = write_frames(sink, frames, text);
@@ -101,6 +101,32 @@ pub(crate) fn take_turn<H: HallApi, K: Sink, B: Bell, R: Wait>(
             Took::End(OutEnd::Stopped)
         }
     }
+}
+
+/// Takes once and writes what was given. `room` is rung where frames were taken, before they are written. At a write fault the session
+/// is removed.
+pub(crate) fn take_turn<H: HallApi, K: Sink, B: Bell, R: Wait>(
+    rt: &R,
+    hall: &H,
+    seat: &mut H::Seat,
+    session: u32,
+    sink: &mut K,
+    room: &B,
+    frames: &mut Frames,
+    text: &mut Vec<u8>,
+) -> Took
+    requires seat { H.is_of hall.now seat.old }
+    requires bare { frames.old.list ≡ [] }
+    requires places { frames.old.places ≡ take_frames }
+    ensures seat { H.is_of hall.now seat.new }
+    ensures bare { frames.new.list ≡ [] }
+    ensures places { frames.new.places ≡ take_frames }
+    ensures turn { WritesTurn session
+        (H.knows seat.old) (H.knows seat.new)
+        (K.held sink.old) (K.held sink.new) (K.faults sink.old) (K.faults sink.new) (took_end result) }
+{
+    let taken = hall.take(rt, seat, session, frames);
+    write_taken(rt, hall, seat, session, sink, room, frames, text, taken)
 }
 
 // Takes once, and waits for the bell where there was no frame. None where the session goes on.

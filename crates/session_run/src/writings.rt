@@ -1,21 +1,21 @@
 //! Who takes a session's frames and writes them: the one who reads its requests, up to the first subscription.
 
-ghost use Rattle.std.specs.Prelude.{◌≡◌, ◌≤◌, ℕ, [], true};
+ghost use Rattle.std.specs.Prelude.{◌≡◌, ◌≤◌, ℕ, [], ◌∷◌, true, length};
 ghost use Rattle.world_data.specs.Limits.{take_frames};
-ghost use Rattle.session_run.specs.Outs.{TakesSome};
+ghost use Rattle.hall_turns.specs.Turns.{take_acts, taken_count};
+ghost use Rattle.session_run.specs.Gains.{Gains, SeesLegal, WithTakes};
+ghost use Rattle.session_run.specs.Outs.{TakesSome, WritesBehind};
 ghost use Rattle.session_run.specs.Writings.{IsFit, Goes, Leaves, is_over};
 
-use crate::outs::{OutEnd, Took, session_out, take_turn, took_end};
+use crate::outs::{OutEnd, Took, session_out, take_turn, took_end, write_taken};
 use crossbeam_channel::Sender;
 use outside::{Bell, Sink};
 use std::sync::Wait;
-use world_model::{Frames, HallApi};
+use world_model::{Frames, HallApi, Taken};
 
-/// What takes a session's frames and writes them.
+/// Where a session's frames go to that its reader takes.
 #[derive(Drop)]
-pub struct Outlet<H: HallApi, K> {
-    /// The seat by which they are taken.
-    pub seat: H::Seat,
+pub struct Outlet<K> {
     /// Where they go to.
     pub sink: K,
     /// The places of a take; no frame is in them.
@@ -28,16 +28,16 @@ pub struct Outlet<H: HallApi, K> {
 
 /// Who writes a session's frames.
 #[derive(Drop)]
-pub enum Writing<H: HallApi, K> {
+pub enum Writing<K> {
     /// Who reads its requests.
-    Alone(Outlet<H, K>),
+    Alone(Outlet<K>),
     /// Nobody any more.
-    Ended(Outlet<H, K>, OutEnd),
-    /// The session's writer, to whom the sink was handed over. The seat is left.
-    Handed(H::Seat),
+    Ended(Outlet<K>, OutEnd),
+    /// The session's writer, to whom the sink was handed over.
+    Handed,
 }
 
-impl<H: HallApi, K> Writing<H, K> {
+impl<K> Writing<K> {
     /// Whether nobody writes any more.
     pub(crate) fn is_over(&self) -> bool
         ensures { result ≡ is_over self.now }
@@ -51,7 +51,7 @@ impl<H: HallApi, K> Writing<H, K> {
     /// Whether the session's writer has the sink.
     pub(crate) fn is_handed(&self) -> bool {
         match self {
-            Writing::Handed(_) => true,
+            Writing::Handed => true,
             _ => false,
         }
     }
@@ -100,79 +100,64 @@ fn is_last(took: Took, all: bool) -> bool {
     }
 }
 
-/// Takes and writes what waits, where the reader does so; all up to the session's end where `ends`, and else until a take gave few frames.
-pub(crate) fn write_on<H: HallApi, K: Sink, B: Bell, R: Wait>(
+/// Writes what a take gave that was made behind calls, and takes and writes what waits behind it: all up to the session's end where `all`,
+/// and else until a take gave few frames. Where there was no take, it takes first.
+pub(crate) fn write_behind<H: HallApi, K: Sink, B: Bell, R: Wait>(
     rt: &R,
     hall: &H,
+    seat: &mut H::Seat,
     session: u32,
+    sink: &mut K,
     room: &B,
-    writing: Writing<H, K>,
-    ends: bool,
-) -> Writing<H, K>
-    requires { IsFit (H.is_of hall.now) writing }
-    ensures fit { IsFit (H.is_of hall.now) result }
-    ensures goes { Goes H.knows K.held K.faults session writing result }
+    frames: &mut Frames,
+    text: &mut Vec<u8>,
+    taken: Option<Taken>,
+    all: bool,
+) -> Option<OutEnd>
+    requires seat { H.is_of hall.now seat.old }
+    requires places { frames.old.places ≡ take_frames }
+    requires count { length frames.old.list ≡ taken_count taken }
+    ensures seat { H.is_of hall.now seat.new }
+    ensures bare { frames.new.list ≡ [] }
+    ensures places { frames.new.places ≡ take_frames }
+    ensures writes { WritesBehind session (take_acts session taken frames.old.list)
+        (H.knows seat.old) (H.knows seat.new)
+        (K.held sink.old) (K.held sink.new) (K.faults sink.old) (K.faults sink.new) result }
 {
-    match writing {
-        Writing::Alone(outlet) => {
-            let Outlet {
-                mut seat,
-                mut sink,
-                mut frames,
-                mut text,
-                writer,
-            } = outlet;
-            let end = write_some(
-                rt,
-                hall,
-                &mut seat,
-                session,
-                &mut sink,
-                room,
-                &mut frames,
-                &mut text,
-                ends,
-            );
-            let outlet = Outlet {
-                seat,
-                sink,
-                frames,
-                text,
-                writer,
-            };
-            match end {
-                Some(end) => Writing::Ended(outlet, end),
-                None => Writing::Alone(outlet),
-            }
-        }
-        other => other,
+    let Some(taken) = taken else {
+        return write_some(rt, hall, seat, session, sink, room, frames, text, all);
+    };
+    let took = write_taken(rt, hall, seat, session, sink, room, frames, text, taken);
+    if let Some(end) = took_end(took) {
+        return Some(end);
     }
+    if is_last(took, all) {
+        return None;
+    }
+    write_some(rt, hall, seat, session, sink, room, frames, text, all)
 }
 
 /// Hands the sink over to the session's writer. Where that is gone, the reader keeps it.
-pub(crate) fn hand_over<H: HallApi, K: Sink + Drop, R: Wait>(
+pub(crate) fn hand_over<K: Sink + Drop, R: Wait>(
     rt: &R,
-    hall: &H,
     session: u32,
-    writing: Writing<H, K>,
-) -> Writing<H, K>
-    requires { IsFit (H.is_of hall.now) writing }
-    ensures fit { IsFit (H.is_of hall.now) result }
-    ensures goes { Goes H.knows K.held K.faults session writing result }
+    writing: Writing<K>,
+) -> Writing<K>
+    requires { IsFit writing }
+    ensures fit { IsFit result }
+    ensures goes { Goes K.held K.faults session writing result [] }
 {
     match writing {
         Writing::Alone(outlet) => {
             let Outlet {
-                seat,
                 sink,
                 frames,
                 text,
                 writer,
             } = outlet;
             match writer.send(rt, sink) {
-                Ok(()) => Writing::Handed(seat),
+                Ok(()) => Writing::Handed,
                 Err(error) => Writing::Alone(Outlet {
-                    seat,
                     sink: error.into_inner(),
                     frames,
                     text,
@@ -188,19 +173,22 @@ pub(crate) fn hand_over<H: HallApi, K: Sink + Drop, R: Wait>(
 pub(crate) fn write_last<H: HallApi, K: Sink, B: Bell, R: Wait>(
     rt: &R,
     hall: &H,
+    seat: &mut H::Seat,
     session: u32,
     bell: &B,
     room: &B,
-    writing: Writing<H, K>,
-) -> Writing<H, K>
-    requires { IsFit (H.is_of hall.now) writing }
-    ensures goes { Goes H.knows K.held K.faults session writing result }
+    writing: Writing<K>,
+) -> Writing<K>
+    requires seat { H.is_of hall.now seat.old }
+    requires fit { IsFit writing }
+    ensures seat { H.is_of hall.now seat.new }
+    ensures goes { WithTakes (Gains (H.knows seat.old) (H.knows seat.new)) (Goes K.held K.faults session writing result) }
+    ensures legal { SeesLegal (H.knows seat.old) → SeesLegal (H.knows seat.new) }
     ensures left { Leaves result }
 {
     match writing {
         Writing::Alone(outlet) => {
             let Outlet {
-                mut seat,
                 mut sink,
                 mut frames,
                 mut text,
@@ -209,7 +197,7 @@ pub(crate) fn write_last<H: HallApi, K: Sink, B: Bell, R: Wait>(
             let end = session_out(
                 rt,
                 hall,
-                &mut seat,
+                seat,
                 session,
                 &mut sink,
                 bell,
@@ -219,7 +207,6 @@ pub(crate) fn write_last<H: HallApi, K: Sink, B: Bell, R: Wait>(
             );
             Writing::Ended(
                 Outlet {
-                    seat,
                     sink,
                     frames,
                     text,

@@ -19,7 +19,7 @@ use shared_hall::{HallSeat, SharedHall};
 use std::alloc::{AllocError, Global};
 use std::sync::Wait;
 use std::test::Fail;
-use world_model::{Answers, Asked, AskedList, Called, Frames, HallApi, HallSplit, Touched};
+use world_model::{Answers, Asked, AskedList, Called, Frames, HallApi, Touched};
 
 // How the reading of a session ended and its writing, and what was written.
 #[derive(Drop)]
@@ -29,16 +29,8 @@ struct Ended {
     written: Vec<u8>,
 }
 
-// What takes the frames of a session into a sink that fails at one call.
-fn outlet_of(
-    alloc: Global,
-    hall: &SharedHall,
-    seat: &mut HallSeat,
-    failing: u64,
-) -> Result<Outlet<SharedHall, BytesSink>, Fail>
-    requires { IsOf hall.now seat.old }
-    ensures lent { IsOf hall.now seat.new }
-    ensures seat { IfOk result (λ o. IsOf hall.now o.seat) }
+// Where the frames of a session go to: a sink that fails at one call.
+fn outlet_of(alloc: Global, failing: u64) -> Result<Outlet<BytesSink>, Fail>
     ensures list { IfOk result (λ o. o.frames.list ≡ []) }
     ensures places { IfOk result (λ o. o.frames.places ≡ take_frames) }
 {
@@ -46,7 +38,6 @@ fn outlet_of(
     let sink = BytesSink::new(alloc, 4096, [failing].to_vec(alloc)?);
     let frames = Frames::new(alloc)?;
     Ok(Outlet {
-        seat: hall.split(seat),
         sink,
         frames,
         text: Vec::new(alloc),
@@ -69,7 +60,7 @@ fn alone<R: Wait>(
     let Ok(session) = shared.hall.enter(rt, seat) else {
         return Err(Fail::from(AllocError));
     };
-    let outlet = outlet_of(alloc, &*shared.hall, seat, failing)?;
+    let outlet = outlet_of(alloc, failing)?;
     let mut source = BytesSource::new(text.bytes().to_vec(alloc)?, 1000, Vec::new(alloc));
     let (reading, writing) = session_in(
         rt,
@@ -88,11 +79,7 @@ fn alone<R: Wait>(
 }
 
 // What is left of a session that wrote its frames itself.
-fn left_by(
-    alloc: Global,
-    reading: InEnd,
-    writing: Writing<SharedHall, BytesSink>,
-) -> Result<Ended, Fail> {
+fn left_by(alloc: Global, reading: InEnd, writing: Writing<BytesSink>) -> Result<Ended, Fail> {
     match writing {
         Writing::Ended(outlet, end) => Ok(Ended {
             reading,

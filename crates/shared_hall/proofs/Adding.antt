@@ -2,6 +2,7 @@
 use Rattle.std.proofs.Common.{◌≡◌, false, ℕ, zero, suc, ◌+◌, List, [], ◌∷◌, ◌++◌, length, map, refl, sym, ap, ◌∙◌, subst}
 use Rattle.std.specs.Prelude.{Option, Some, unwrap_or}
 use Rattle.std.specs.List.{range_with_len}
+use mathlib.Core.List.{map-append}
 use Rattle.turn_lock.specs.declared.seat.Known.{Known}
 use Rattle.turn_lock.specs.Seats.{Turn}
 use Rattle.turn_lock.specs.Turned.{NoneKept}
@@ -11,11 +12,12 @@ use Rattle.world_model.specs.Laws.{StepsLeadToOne}
 use Rattle.world_model.specs.Seats.{Act, act_of, places_from, Knows, AddsCalls, AddsNamed, NamesChangedBy}
 use Rattle.world_model.specs.declared.events.Entry.{Entry}
 use Rattle.world_model.specs.declared.events.Opening.{Opening}
-use Rattle.shared_hall.specs.Turns.{entry_of, acts, entries_of, Gives, Stands}
+use Rattle.hall_turns.specs.Turns.{AddsServed}
+use Rattle.shared_hall.specs.Turns.{entry_of, acts, entries_of, Gives, CallsNamed, Stands}
 use Rattle.shared_hall.specs.declared.works.HallWork.{HallWork}
 use Rattle.shared_hall.specs.declared.works.HallAnswer.{HallAnswer}
 use Rattle.shared_hall.specs.Seats.{IsDone, no_opening, shown}
-use Rattle.shared_hall.proofs.Leading.{is_legal, names_changed}
+use Rattle.shared_hall.proofs.Leading.{is_legal, names_changed, stands_more}
 
 same_places : (at n : ℕ) → range_with_len at n ≡ places_from at n
 same_places at zero = refl
@@ -54,6 +56,11 @@ is_done one w out k l o log g h gives was t p s =
       names = λ named names.
           let changed = names_changed one o log made g h named p s names in
           subst (λ (z : Opening). NamesChangedBy z (k.seen ++ t.begins.0) made named) (sym opens) (subst (λ (z : List Entry). NamesChangedBy o z made named) (sym t.begins.1) changed);
+      made = refl;
+      front = λ calls rest are mid leads stopped named names.
+          let front = map entry_of calls in
+          let changed = names_changed one o log front g mid named p (stands_more g mid calls stopped leads o log p) names in
+          subst (λ (z : Opening). NamesChangedBy z (k.seen ++ t.begins.0) front named) (sym opens) (subst (λ (z : List Entry). NamesChangedBy o z front named) (sym t.begins.1) changed);
     }
 
 -- no entry is kept for the first seat
@@ -68,3 +75,23 @@ adds_acts w out old new made is d = subst (λ (z : List Act). AddsCalls z old ne
 -- the same, with the sessions that were changed
 pub adds_named : (w : HallWork) (out : HallAnswer) (old new : Knows) (made : List Act) (named : List ℕ) → acts w out ≡ made → (d : IsDone w out old new) → NamesChanged named d.before d.after → AddsNamed made named old new
 adds_named w out old new made named is d names = subst (λ (z : List Act). AddsNamed z named old new) is (record { adds = d.adds; names = d.names named names })
+
+-- the same of calls and a take behind them, with the sessions that the calls changed
+pub adds_served : (w : HallWork) (out : HallAnswer) (old new : Knows) (calls takes : List Act) (named : List ℕ) → acts w out ≡ calls ++ takes → (d : IsDone w out old new) → CallsNamed calls named d.before → AddsServed calls takes named old new
+adds_served w out old new calls takes named is d c = record {
+  adds = record {
+    between = d.adds.between;
+    entries = d.adds.entries;
+    seen = d.adds.seen;
+    mine = d.adds.mine;
+    are = d.adds.are ∙ is;
+    opening = d.adds.opening;
+    first = d.adds.first;
+    legal = d.adds.legal;
+  };
+  called = map entry_of calls;
+  taken = map entry_of takes;
+  split = d.made ∙ ap (λ (z : List Act). map entry_of z) is ∙ map-append entry_of calls takes;
+  are = same_acts calls;
+  names = d.front calls takes is c.mid c.leads c.stopped named c.names;
+}

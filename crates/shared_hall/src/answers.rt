@@ -9,7 +9,7 @@ ghost use Rattle.shared_hall.specs.Turns.{acts, Gives, LeadsBy};
 ghost use Rattle.shared_hall.specs.declared.works.HallWork.TheVariants as work;
 
 use crate::values::HallCore;
-use crate::works::{Asking, HallAnswer, HallWork, Taking, Ticking};
+use crate::works::{Asking, HallAnswer, HallWork, Serving, Taking, Ticking};
 use tile_core::Core;
 use turn_lock::Work;
 use world_model::{Answers, AskedList, Called, Touched};
@@ -45,6 +45,7 @@ fn answer(core: &mut Core, asked: HallWork) -> HallAnswer
         HallWork::Enter => HallAnswer::Entered(core.enter()),
         HallWork::Call(asking) => answer_call(core, asking),
         HallWork::Take(taking) => answer_take(core, taking),
+        HallWork::Serve(serving) => answer_serve(core, serving),
         HallWork::Tick(ticking) => answer_tick(core, ticking),
         HallWork::Close(session) => {
             core.close_session(session);
@@ -84,6 +85,28 @@ fn answer_take(core: &mut Core, taking: Taking) -> HallAnswer
     let Taking { session, mut into } = taking;
     let taken = core.take(session, &mut into);
     HallAnswer::Taken(taken, into)
+}
+
+// Makes the calls, and then the take.
+fn answer_serve(core: &mut Core, serving: Serving) -> HallAnswer
+    ensures stopped { core.new.hall.stopped ≡ core.old.hall.stopped }
+    ensures gives { Gives (work.Serve serving) core.old.hall result core.new.hall }
+    ensures leads { LeadsBy (acts (work.Serve serving) result) core.old.hall core.new.hall }
+{
+    let Serving {
+        asking,
+        into: mut frames,
+    } = serving;
+    let Asking {
+        session,
+        moment,
+        asked,
+        mut touched,
+    } = asking;
+    touched.clear();
+    let made = call_each(core, session, moment, &asked, &mut touched);
+    let taken = core.take(session, &mut frames);
+    HallAnswer::Served(made, asked, touched, taken, frames)
 }
 
 #[tactic(auto, using(crate::proofs::Fine::one_act))]

@@ -6,7 +6,8 @@ ghost use Rattle.world_model.specs.Histories.{opening_hall};
 ghost use Rattle.shared_hall.specs.Seats.{IsOf, IsDone, knows_of, first_knows};
 
 use crate::values::HallCore;
-use crate::works::{Asking, HallAnswer, HallWork, Taking, Ticking};
+use crate::works::{Asking, HallAnswer, HallWork, Serving, Taking, Ticking};
+use hall_turns::HallServe;
 use std::alloc::Global;
 use std::sync::Wait;
 use tile_core::Core;
@@ -127,6 +128,37 @@ impl HallApi for SharedHall {
     fn step_rewrite<R: Wait>(&self, rt: &R, seat: &mut HallSeat) -> Called {
         match self.turn(rt, seat, HallWork::StepRewrite) {
             HallAnswer::Rewrote(called) => called,
+            _ => unreachable!(),
+        }
+    }
+}
+
+impl HallServe for SharedHall {
+    fn calls_and_take<R: Wait>(
+        &self,
+        rt: &R,
+        seat: &mut HallSeat,
+        session: u32,
+        moment: u64,
+        asked: AskedList,
+        touched: Touched,
+        into: &mut Frames,
+    ) -> (Answers, AskedList, Touched, Option<Taken>) {
+        let asking = Asking {
+            session,
+            moment,
+            asked,
+            touched,
+        };
+        let serving = Serving {
+            asking,
+            into: into.move_out(),
+        };
+        match self.turn(rt, seat, HallWork::Serve(serving)) {
+            HallAnswer::Served(answers, asked, touched, taken, frames) => {
+                *into = frames;
+                (answers, asked, touched, Some(taken))
+            }
             _ => unreachable!(),
         }
     }

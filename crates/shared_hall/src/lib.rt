@@ -11,4 +11,4 @@ mod works;
 
 pub use halls::{HallSeat, SharedHall};
 pub use values::HallCore;
-pub use works::{Asking, HallAnswer, HallWork, Taking, Ticking};
+pub use works::{Asking, HallAnswer, HallWork, Serving, Taking, Ticking};

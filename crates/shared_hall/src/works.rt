@@ -26,6 +26,14 @@ pub struct Taking {
     ghost bare: { into ≡ record { list = []; places = take_frames } },
 }
 
+/// What a session asks for, and the places for a take of its frames behind it.
+#[derive(Drop)]
+pub struct Serving {
+    pub asking: Asking,
+    pub into: Frames,
+    ghost bare: { into ≡ record { list = []; places = take_frames } },
+}
+
 /// A moment that the clock goes on to, and where the sessions are named that this changes.
 #[derive(Drop)]
 pub struct Ticking {
@@ -40,6 +48,7 @@ pub enum HallWork {
     Enter,
     Call(Asking),
     Take(Taking),
+    Serve(Serving),
     Tick(Ticking),
     Close(u32),
     Remove(u32),
@@ -52,6 +61,7 @@ pub enum HallAnswer {
     Entered(Result<u32, EnterFault>),
     Called(Answers, AskedList, Touched),
     Taken(Taken, Frames),
+    Served(Answers, AskedList, Touched, Taken, Frames),
     Ticked(Called, Touched),
     Rewrote(Called),
     Done,

@@ -1,0 +1,126 @@
+//! One turn of a session: its calls, and where its reader writes the take behind them.
+
+ghost use Rattle.std.specs.Prelude.{◌≡◌, ◌≤◌, ◌<◌, ℕ, [], length, true};
+ghost use Rattle.std.specs.List.{list_all};
+ghost use Rattle.world_data.specs.Limits.{max_moment, take_frames};
+ghost use Rattle.world_model.specs.Outcomes.{is_proper, call_acts, IsCount};
+ghost use Rattle.session_run.specs.Gains.{GainsBoth, WithTakes};
+ghost use Rattle.session_run.specs.Writings.{IsFit, Goes};
+ghost use Rattle.session_run.specs.declared.writings.Writing.TheVariants as writing;
+
+use crate::calls::ring_touched;
+use crate::writings::{Outlet, Writing, write_behind};
+use hall_turns::HallServe;
+use outside::{Bell, Sink};
+use std::sync::Wait;
+use world_model::{Answers, AskedList, Touched};
+
+// Makes calls and a take in one turn, and writes what it gave and what waits behind it.
+fn turn_alone<H: HallServe, K: Sink, B: Bell, R: Wait>(
+    rt: &R,
+    hall: &H,
+    seat: &mut H::Seat,
+    session: u32,
+    moment: u64,
+    asked: AskedList,
+    touched: Touched,
+    bell: &B,
+    room: &B,
+    outlet: Outlet<K>,
+    ends: bool,
+) -> (Answers, AskedList, Touched, Writing<K>)
+    requires seat { H.HallApi.is_of hall.now seat.old }
+    requires moment { moment ≤ max_moment }
+    requires some { 0 < length asked }
+    requires few { length asked ≤ 64 }
+    requires proper { list_all is_proper asked ≡ true }
+    requires bare { outlet.frames.list ≡ [] }
+    requires places { outlet.frames.places ≡ take_frames }
+    ensures seat { H.HallApi.is_of hall.now seat.new }
+    ensures count { IsCount result.0.served result.0.end (length asked) }
+    ensures back { result.1 ≡ asked }
+    ensures fit { IsFit result.3 }
+    ensures turn { WithTakes
+        (GainsBoth (H.HallApi.knows seat.old) (H.HallApi.knows seat.new) (call_acts session moment asked result.0.served result.0.end))
+        (Goes K.held K.faults session (writing.Alone outlet) result.3) }
+{
+    let Outlet {
+        mut sink,
+        mut frames,
+        mut text,
+        writer,
+    } = outlet;
+    let (answers, asked, touched, taken) = hall.calls_and_take(
+        rt,
+        seat,
+        session,
+        moment,
+        asked,
+        touched,
+        &mut frames,
+    );
+    ring_touched(bell, &touched);
+    let end = write_behind(
+        rt,
+        hall,
+        seat,
+        session,
+        &mut sink,
+        room,
+        &mut frames,
+        &mut text,
+        taken,
+        ends,
+    );
+    let outlet = Outlet {
+        sink,
+        frames,
+        text,
+        writer,
+    };
+    match end {
+        Some(end) => (answers, asked, touched, Writing::Ended(outlet, end)),
+        None => (answers, asked, touched, Writing::Alone(outlet)),
+    }
+}
+
+/// Makes calls in one turn, and rings for each session that they changed. Where the reader writes, it takes in the same turn and writes
+/// what waits: all up to the session's end where `ends`, and else until a take gave few frames.
+pub(crate) fn turn_once<H: HallServe, K: Sink, B: Bell, R: Wait>(
+    rt: &R,
+    hall: &H,
+    seat: &mut H::Seat,
+    session: u32,
+    moment: u64,
+    asked: AskedList,
+    touched: Touched,
+    bell: &B,
+    room: &B,
+    writing: Writing<K>,
+    ends: bool,
+) -> (Answers, AskedList, Touched, Writing<K>)
+    requires seat { H.HallApi.is_of hall.now seat.old }
+    requires moment { moment ≤ max_moment }
+    requires some { 0 < length asked }
+    requires few { length asked ≤ 64 }
+    requires proper { list_all is_proper asked ≡ true }
+    requires fit { IsFit writing }
+    ensures seat { H.HallApi.is_of hall.now seat.new }
+    ensures count { IsCount result.0.served result.0.end (length asked) }
+    ensures back { result.1 ≡ asked }
+    ensures fit { IsFit result.3 }
+    ensures turn { WithTakes
+        (GainsBoth (H.HallApi.knows seat.old) (H.HallApi.knows seat.new) (call_acts session moment asked result.0.served result.0.end))
+        (Goes K.held K.faults session writing result.3) }
+{
+    match writing {
+        Writing::Alone(outlet) => turn_alone(
+            rt, hall, seat, session, moment, asked, touched, bell, room, outlet, ends,
+        ),
+        other => {
+            let (answers, asked, touched) = hall.calls(rt, seat, session, moment, asked, touched);
+            ring_touched(bell, &touched);
+            (answers, asked, touched, other)
+        }
+    }
+}
