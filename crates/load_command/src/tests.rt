@@ -1,11 +1,8 @@
-//! Words that ask for the workload and words that do not, and the last lines.
+//! Words that ask for the workload and words that do not.
 
-use crate::faults::end_broken;
 use crate::words::{LoadWords, load_words};
-use outside::BytesSink;
 use std::alloc::Global;
 use std::test::Fail;
-use work_gen::DriveFault;
 
 fn asked(alloc: Global, words: &[&str]) -> Result<Option<LoadWords>, Fail> {
     let mut all: Vec<String> = Vec::new(alloc);
@@ -47,31 +44,6 @@ fn words_that_ask_for_something_else(rt: HostRuntime) -> Result<(), Fail> {
     for words in table {
         let found = asked(rt.alloc(), words)?;
         assert_eq!(rt; found, None);
-    }
-    Ok(())
-}
-
-#[test]
-fn each_fault_has_its_status_and_its_line(rt: HostRuntime) -> Result<(), Fail> {
-    let table: [(DriveFault, u8, &[u8]); 8] = [
-        (DriveFault::LogFault, 5, b"disk fault\n"),
-        (DriveFault::Stopped, 5, b"disk fault\n"),
-        (DriveFault::Memory, 7, b"out of memory\n"),
-        (DriveFault::Spent, 9, b"spent\n"),
-        (DriveFault::TooMany, 10, b"load fault: too many sessions\n"),
-        (DriveFault::Full, 10, b"load fault: a queue is full\n"),
-        (DriveFault::Gone, 10, b"load fault: a session is gone\n"),
-        (
-            DriveFault::NoCount,
-            10,
-            b"load fault: no number of objects\n",
-        ),
-    ];
-    for (fault, status, line) in table {
-        let mut sink = BytesSink::new(rt.alloc(), 100, Vec::new(rt.alloc()));
-        let ended = end_broken(&mut sink, fault);
-        assert_eq!(rt; ended, status);
-        assert_eq!(rt; sink.written(), line);
     }
     Ok(())
 }

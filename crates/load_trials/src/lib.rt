@@ -1,7 +1,5 @@
-//! Tests of the generated workload over the shared hall of one core, and over a core without a hall.
+//! Tests of the generated workload over a core.
 #![tactic(auto)]
 
-#[cfg(test)]
-mod drivers;
 #[cfg(test)]
 mod tests;

@@ -7,8 +7,6 @@ use Rattle.world_model.specs.Seats.{Knows}
 use Rattle.serve_command.specs.Ends.{IsEnd, memory_line, spent_line}
 use Rattle.serve_command.specs.Words.{Serve}
 use Rattle.serve_command.specs.Serves.{Serves, Counted}
-use Rattle.load_command.specs.declared.words.LoadWords.{LoadWords}
-use Rattle.load_command.specs.Loads.{Loads}
 use Rattle.shared_hall.specs.Seats.{first_knows, no_opening}
 use Rattle.tile_top.specs.Plays.{IsDone, IsFaulty, IsBefore, IsWithinLine, IsAtSpent}
 
@@ -49,9 +47,3 @@ pub record Replays (left0 left held0 held : Option Bytes) (status : ℕ) : Type 
 abbrev pub ServesFront : Option ℕ → Serve → Option Knows → Counted → Counted → Option Bytes → Option Bytes → ℕ → Type 0
 ServesFront told s None c c' held held' status = (c' ≡ c) × IsEnd held held' 7 memory_line status
 ServesFront told s (Some k) c c' held held' status = Serves told s first_knows k c c' held held' status × IsLegal no_opening k.seen
-
--- the workload on a shared hall of an empty world: what the hall's one seat, where a hall was made, has seen of its history; what was
--- written, and the status. All that the seat has seen is a legal history
-abbrev pub LoadsFront : LoadWords → Option Knows → Option Bytes → Option Bytes → ℕ → Type 0
-LoadsFront w None held held' status = IsEnd held held' 7 memory_line status
-LoadsFront w (Some k) held held' status = Loads w first_knows k held held' status × IsLegal no_opening k.seen

@@ -1,40 +1,24 @@
-//! The generated workload on a shared hall of an empty world.
+//! The generated workload on a core of an empty world.
 
-ghost use Rattle.std.specs.Prelude.{◌≡◌, ◌≤◌, option_map};
+ghost use Rattle.std.specs.Prelude.{◌≡◌, ◌≤◌, ◌⊎◌};
 ghost use Rattle.outside.specs.Causes.{Rose};
-ghost use Rattle.shared_hall.specs.Seats.{knows_of};
-ghost use Rattle.tile_top.specs.Tops.{LoadsFront};
+ghost use Rattle.load_command.specs.Loads.{Loads};
 
-use crate::tops::Ended;
-use load_command::{LoadWords, load_hall};
+use core_machine::CoreMachine;
+use load_command::{LoadWords, load};
 use outside::Sink;
 use serve_command::{OUT_OF_MEMORY, end};
-use shared_hall::SharedHall;
 use std::alloc::Global;
-use std::sync::Wait;
-use tile_core::Core;
 
-/// Makes a shared hall and drives it with the workload that the words ask for.
-pub(crate) fn drive_hall<K: Sink, R: Wait>(
-    rt: &R,
-    alloc: Global,
-    asked: LoadWords,
-    sink: &mut K,
-) -> Ended
-    ensures loads { LoadsFront asked (option_map knows_of result.front) (K.held sink.old) (K.held sink.new) result.status }
+/// Makes a core and drives it with the workload that the words ask for. The status.
+pub(crate) fn load_core<K: Sink>(alloc: Global, asked: LoadWords, sink: &mut K) -> u8
+    ensures loads { Loads asked (K.held sink.old) (K.held sink.new) result }
+    ensures few { (result ≡ 0) ⊎ ((result ≡ 4) ⊎ (result ≡ 7)) }
     ensures sink { K.faults sink.old ≤ K.faults sink.new }
-    ensures write { result.status ≡ 4 → Rose (K.faults sink.old) (K.faults sink.new) }
-    ensures unread { result.status ≡ 3 → ⊥ }
-    ensures shut { result.status ≡ 8 → ⊥ }
+    ensures write { result ≡ 4 → Rose (K.faults sink.old) (K.faults sink.new) }
 {
-    match SharedHall::new(alloc, Core::new(alloc)) {
-        Ok((hall, mut seat)) => Ended {
-            status: load_hall(rt, alloc, &hall, &mut seat, asked, sink),
-            front: Some(seat),
-        },
-        Err(_) => Ended {
-            status: end(sink, 7, OUT_OF_MEMORY),
-            front: None,
-        },
+    match CoreMachine::new(alloc) {
+        Ok(mut machine) => load(alloc, &mut machine, asked, sink),
+        Err(_) => end(sink, 7, OUT_OF_MEMORY),
     }
 }

@@ -8,12 +8,13 @@ ghost use Rattle.byte_text.specs.Names.{Bytes};
 ghost use Rattle.serve_command.specs.Ends.{IsEnd, memory_line};
 ghost use Rattle.serve_command.specs.Words.{serve_of};
 ghost use Rattle.serve_command.specs.Serves.{counted};
+ghost use Rattle.load_command.specs.Loads.{Loads};
 ghost use Rattle.load_command.specs.Words.{load_of};
 ghost use Rattle.shared_hall.specs.Seats.{knows_of};
-ghost use Rattle.tile_top.specs.Tops.{IsReplay, LoadsFront, Replays, ServesFront, usage_line, script_line};
+ghost use Rattle.tile_top.specs.Tops.{IsReplay, Replays, ServesFront, usage_line, script_line};
 
 use crate::acts::Player;
-use crate::loads::drive_hall;
+use crate::loads::load_core;
 use crate::plays::{Turn, play};
 use crate::serves::serve_hall;
 use byte_text::{NoMemory, Text, push_u64};
@@ -35,9 +36,9 @@ const READ_FAULT: &[u8] = b"read fault\n";
 #[derive(Drop)]
 pub struct Ended {
     /// 0 done, 1 usage, 2 script fault, 3 read fault, 4 write fault, 5 a hall that has stopped, 7 out of memory, 8 door fault, 9 log at
-    /// its greatest length, 10 a hall that refused the workload.
+    /// its greatest length.
     pub status: u8,
-    /// The seat of the server or of the workload, where a shared hall was made.
+    /// The server's seat, where a shared hall was made.
     pub front: Option<HallSeat>,
 }
 
@@ -111,7 +112,7 @@ pub fn out_of_memory<K: Sink>(sink: &mut K) -> Ended
 
 /// Does what the words ask for, the words after the program's name: `replay` plays the script that the source gives, and writes
 /// its output to the sink. `serve ADDR`, which `--sessions N` may follow, opens the door at the address and serves callers on one
-/// shared hall, up to N of them, from 1 to 1,000,000,000, or up to an end. `load N SEED` drives a shared hall with the generated
+/// shared hall, up to N of them, from 1 to 1,000,000,000, or up to an end. `load N SEED` drives a core of its own with the generated
 /// workload of N commands, from 1 to 1,000,000, and writes its summary. Every other list of words is answered by a line on the usage
 /// and status 1. Nothing is read but with `replay`.
 ///
@@ -134,13 +135,9 @@ pub fn out_of_memory<K: Sink>(sink: &mut K) -> Ended
 /// where sessions were removed for want of memory. Status 8 comes only where the door has failed, 5 where a tick or rewriting found the
 /// hall stopped, 9 where one found the machine's log at its greatest length, 7 where memory wanted, 4 where the sink failed.
 ///
-/// With `load`. All entries that the seat has seen are a legal history that opens with the empty world. Status 0: its own are two
-/// sessions that were entered, then for each line of the workload a call answered Ok and the takes of both sessions up to the first
-/// that gave no frame, and at last the question for the number of objects with its answer; the bytes written are the four lines of
-/// the summary, whose numbers are what those frames come to. At 5, 7, 9 and 10 they are the status's line, and the seat's own entries
-/// are a beginning of the workload's up to the one that broke it off, whose answer is of that status: 5 where the hall has stopped,
-/// 9 where the machine's log is at its greatest length, 10 where a session was refused, was gone or had a full queue, or no number
-/// of objects was told, each with a line of its own. 7 stands for want of memory alone, 4 comes only where the sink failed.
+/// With `load`. Status 0: the bytes written are the four lines that N and SEED determine: what the sessions of the workload are given
+/// by the steps of a machine that begins with the empty world, and the number of objects in the end. At 7, which stands for want of
+/// memory alone, they are the status's line. 4 comes only where the sink failed, and there is no other status.
 pub fn top<
     S: Source,
     K: Sink,
@@ -166,12 +163,12 @@ where
         (counted (P.jobs spawner.old) (P.faults spawner.old) (L.links door.old) (L.ends door.old) (L.faults door.old))
         (counted (P.jobs spawner.new) (P.faults spawner.new) (L.links door.new) (L.ends door.new) (L.faults door.new))
         (K.held sink.old) (K.held sink.new) result.status) }
-    ensures load { IfSome (load_of (map string_bytes words.now)) (λ w. LoadsFront w (option_map knows_of result.front) (K.held sink.old) (K.held sink.new) result.status) }
+    ensures load { IfSome (load_of (map string_bytes words.now)) (λ w. Loads w (K.held sink.old) (K.held sink.new) result.status) }
     ensures usage { (IsReplay (map string_bytes words.now) → ⊥) → serve_of (map string_bytes words.now) ≡ None → load_of (map string_bytes words.now) ≡ None
         → IsEnd (K.held sink.old) (K.held sink.new) 1 usage_line result.status }
     ensures unread { (IsReplay (map string_bytes words.now) → ⊥) → source.new ≡ source.old }
     ensures apart { serve_of (map string_bytes words.now) ≡ None → (door.new ≡ door.old) × (spawner.new ≡ spawner.old) }
-    ensures alone { serve_of (map string_bytes words.now) ≡ None → load_of (map string_bytes words.now) ≡ None → result.front ≡ None }
+    ensures alone { serve_of (map string_bytes words.now) ≡ None → result.front ≡ None }
     ensures source { S.faults source.old ≤ S.faults source.new }
     ensures sink { K.faults sink.old ≤ K.faults sink.new }
     ensures door { L.faults door.old ≤ L.faults door.new }
@@ -183,7 +180,7 @@ where
         Some(asked) => serve_hall(rt, alloc, asked, sink, door, clock, spawner),
         None if is_replay(words) => without_hall(replay(alloc, source, sink)),
         None => match load_words(words) {
-            Some(asked) => drive_hall(rt, alloc, asked, sink),
+            Some(asked) => without_hall(load_core(alloc, asked, sink)),
             None => without_hall(end(sink, 1, USAGE)),
         },
     }

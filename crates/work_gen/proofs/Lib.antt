@@ -2,9 +2,8 @@ pub mod Drawing
 pub mod Sums
 pub mod Fitting
 pub mod Lined
-pub mod Called
+pub mod Stepping
 pub mod Draining
 pub mod Asked
 pub mod Going
-pub mod Driving
-pub mod Told
+pub mod One

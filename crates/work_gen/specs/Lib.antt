@@ -3,7 +3,9 @@ pub mod Brief
 pub mod Words
 pub mod Workload
 pub mod Frames
+pub mod Steps
 pub mod Rounds
 pub mod Asking
 pub mod Drives
 pub mod Summaries
+pub mod Outs

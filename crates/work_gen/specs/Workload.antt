@@ -7,7 +7,7 @@ use Rattle.work_gen.specs.Words.{texts}
 use Rattle.work_gen.specs.declared.lines.Line.{Line}
 use Rattle.work_gen.specs.declared.lines.Role.TheVariants.{Listener, Sender}
 use Rattle.work_gen.specs.declared.words.Word.{Word}
-use Rattle.work_gen.specs.declared.words.Word.TheVariants.{Psubscribe, Setchan, Set, Del, Intersects, Nearby, Scan, Within, Fence, Detect, Point, Bounds, Count, Limit, Ids, All, Fleet, EnterExit, Vehicle, Zone, Number}
+use Rattle.work_gen.specs.declared.words.Word.TheVariants.{Psubscribe, Setchan, Set, Del, Intersects, Nearby, Within, Fence, Detect, Point, Bounds, Count, Limit, Ids, All, Fleet, EnterExit, Vehicle, Zone, Number}
 
 abbrev pub heard : List Word → Line
 heard words = record { role = Listener; words = texts words }
@@ -29,10 +29,6 @@ channel i =
 abbrev pub channels : ℕ → ℕ → List Line
 channels i zero = []
 channels i (suc k) = sent (channel i) ∷ channels (i + 1) k
-
--- to count the objects
-abbrev pub counting : List Word
-counting = Scan ∷ Fleet ∷ Count ∷ []
 
 -- a command, and the generator's state behind it
 pub record Made : Type 0 where

@@ -1,147 +1,105 @@
 //! One request, and the frames that follow it.
 
-ghost use Rattle.std.specs.Prelude.{◌≡◌, [], ◌∷◌, true, IfOk, IfErr};
+ghost use Rattle.std.specs.Prelude.{◌≡◌, ◌<◌, [], ◌∷◌, true, false, length, OnOk, IfOk, IfSome};
 ghost use Rattle.world_data.specs.Limits.{take_frames};
 ghost use Rattle.world_model.specs.Outcomes.{is_proper};
 ghost use Rattle.world_model.specs.declared.events.Asked.TheVariants.{Words};
-ghost use Rattle.world_model.specs.declared.events.Called.TheVariants as called;
-ghost use Rattle.work_gen.specs.Asking.{CallsBy, CallStops, TakesOn, TakeStops, Drained, DrainStops};
-ghost use Rattle.work_gen.specs.Rounds.{Goes, Stops};
+ghost use Rattle.work_gen.specs.Asking.{TakesOn, Drained, waiting};
+ghost use Rattle.work_gen.specs.Rounds.{CallsBy, Goes};
 
-use crate::hands::{DriveFault, Hand, Pair, asker, fault_of};
 use crate::lines::Line;
+use crate::machines::Machine;
+use crate::pairs::{Pair, asker};
 use crate::tallies::Tally;
-use byte_text::Request;
-use std::sync::Wait;
-use world_model::{Asked, AskedList, Frames, HallApi, Taken, Touched};
+use byte_text::{NoMemory, Request};
+use world_model::{Asked, Called, Frames, Taken};
 
-/// Makes the call of a request at moment 0.
-pub(crate) fn call_one<H: HallApi, R: Wait>(
-    rt: &R,
-    hall: &H,
-    seat: &mut H::Seat,
-    session: u32,
-    words: Request,
-    asked: AskedList,
-    touched: Touched,
-) -> Result<(AskedList, Touched), DriveFault>
-    requires seat { H.is_of hall.now seat.old }
-    requires none { asked ≡ [] }
+// Makes the call of a request, whatever its answer.
+fn call_one<M: Machine>(machine: &mut M, session: u32, words: Request) -> Result<(), NoMemory>
     requires proper { is_proper (Words words) ≡ true }
-    ensures seat { H.is_of hall.now seat.new }
-    ensures none { IfOk result (λ r. r.0 ≡ []) }
-    ensures ok { IfOk result (λ _. CallsBy session words called.Ok (H.knows seat.old) (H.knows seat.new)) }
-    ensures err { IfErr result (λ f. CallStops session words (H.knows seat.old) (H.knows seat.new) f) }
+    requires goes { (M.hall machine.old).stopped ≡ false }
+    ensures goes { (M.hall machine.new).stopped ≡ false }
+    ensures ok { OnOk result (CallsBy session words (M.hall machine.old) (M.hall machine.new)) }
 {
-    let mut asked = asked;
-    let Ok(()) = asked.push(Asked::Words(words)) else {
-        return Err(DriveFault::Memory);
-    };
-    let (answers, back, touched) = hall.calls(rt, seat, session, 0, asked, touched);
-    match fault_of(answers.end) {
-        Some(fault) => Err(fault),
-        None => {
-            let mut asked = back;
-            asked.clear();
-            Ok((asked, touched))
-        }
+    let asked = Asked::Words(words);
+    match machine.call(session, &asked) {
+        Called::Memory => Err(NoMemory),
+        // Only a log that fails stops the machine.
+        Called::LogFault => unreachable!(),
+        Called::Stopped => unreachable!(),
+        Called::Ok => Ok(()),
+        Called::Full => Ok(()),
+        Called::Gone => Ok(()),
+        Called::Spent => Ok(()),
     }
 }
 
 // Takes once. What the frames come to; none where there was no frame.
-fn take_turn<H: HallApi, R: Wait>(
-    rt: &R,
-    hall: &H,
-    seat: &mut H::Seat,
-    session: u32,
-    frames: &mut Frames,
-) -> Result<Option<Tally>, DriveFault>
-    requires seat { H.is_of hall.now seat.old }
-    requires bare { frames.old.list ≡ [] }
-    requires places { frames.old.places ≡ take_frames }
-    ensures seat { H.is_of hall.now seat.new }
-    ensures bare { IfOk result (λ _. frames.new.list ≡ []) }
-    ensures places { IfOk result (λ _. frames.new.places ≡ take_frames) }
-    ensures ok { IfOk result (λ given. TakesOn given session (H.knows seat.old) (H.knows seat.new)) }
-    ensures err { IfErr result (λ f. TakeStops session (H.knows seat.old) (H.knows seat.new) f) }
+fn take_turn<M: Machine>(machine: &mut M, session: u32, frames: &mut Frames) -> Option<Tally>
+    requires empty { frames.old ≡ record { list = []; places = take_frames } }
+    requires goes { (M.hall machine.old).stopped ≡ false }
+    ensures empty { frames.new ≡ record { list = []; places = take_frames } }
+    ensures goes { (M.hall machine.new).stopped ≡ false }
+    ensures takes { TakesOn result session (M.hall machine.old) (M.hall machine.new) }
+    ensures fewer { IfSome result (λ _. length (waiting session (M.hall machine.new)) < length (waiting session (M.hall machine.old))) }
 {
-    match hall.take(rt, seat, session, frames) {
+    match machine.take(session, frames) {
         Taken::Some(_) => {
             let given = Tally::of(frames);
             frames.clear();
-            Ok(Some(given))
+            Some(given)
         }
         Taken::Empty => {
             frames.clear();
-            Ok(None)
+            None
         }
-        Taken::Ended => Err(DriveFault::Gone),
-        Taken::LogFault => Err(DriveFault::LogFault),
-        Taken::Stopped => Err(DriveFault::Stopped),
+        Taken::Ended => {
+            frames.clear();
+            None
+        }
+        Taken::LogFault => unreachable!(),
+        Taken::Stopped => unreachable!(),
     }
 }
 
-/// Takes a session's frames until there is none. What they come to.
-pub(crate) fn drain<H: HallApi, R: Wait>(
-    rt: &R,
-    hall: &H,
-    seat: &mut H::Seat,
-    session: u32,
-    frames: &mut Frames,
-) -> Result<Tally, DriveFault>
-    requires seat { H.is_of hall.now seat.old }
-    requires bare { frames.old.list ≡ [] }
-    requires places { frames.old.places ≡ take_frames }
-    ensures seat { H.is_of hall.now seat.new }
-    ensures bare { IfOk result (λ _. frames.new.list ≡ []) }
-    ensures places { IfOk result (λ _. frames.new.places ≡ take_frames) }
-    ensures ok { IfOk result (λ t. Drained session (H.knows seat.old) (H.knows seat.new) t) }
-    ensures err { IfErr result (λ f. DrainStops session (H.knows seat.old) (H.knows seat.new) f) }
+// Takes a session's frames until there is none. What they come to.
+fn drain<M: Machine>(machine: &mut M, session: u32, frames: &mut Frames) -> Tally
+    requires empty { frames.old ≡ record { list = []; places = take_frames } }
+    requires goes { (M.hall machine.old).stopped ≡ false }
+    ensures empty { frames.new ≡ record { list = []; places = take_frames } }
+    ensures goes { (M.hall machine.new).stopped ≡ false }
+    ensures drained { Drained session (M.hall machine.old) (M.hall machine.new) result }
 {
     let mut tally = Tally::new();
-    for _ in rt.forever() {
-        let given = take_turn(rt, hall, seat, session, frames)?;
-        match given {
+    'taking: loop {
+        match take_turn(machine, session, frames) {
             Some(more) => tally = tally.plus(more),
-            None => return Ok(tally),
+            None => return tally,
         }
     }
-    unreachable!()
 }
 
 /// Makes the call of a request, takes the frames of both sessions, and counts them: the messages of the listener's, and the bytes of
 /// all.
-pub(crate) fn ask<H: HallApi, R: Wait>(
-    rt: &R,
-    hall: &H,
-    seat: &mut H::Seat,
+pub(crate) fn ask<M: Machine>(
+    machine: &mut M,
     pair: &Pair,
     line: Line,
-    hand: Hand,
-) -> Result<Hand, DriveFault>
-    requires seat { H.is_of hall.now seat.old }
+    frames: &mut Frames,
+    tally: Tally,
+) -> Result<Tally, NoMemory>
+    requires empty { frames.old ≡ record { list = []; places = take_frames } }
+    requires goes { (M.hall machine.old).stopped ≡ false }
     requires proper { is_proper (Words line.words) ≡ true }
-    ensures seat { H.is_of hall.now seat.new }
-    ensures ok { IfOk result (λ h. Goes pair.now (line ∷ []) (H.knows seat.old) (H.knows seat.new) hand.tally h.tally) }
-    ensures err { IfErr result (λ f. Stops pair.now (line ∷ []) (H.knows seat.old) (H.knows seat.new) f) }
+    ensures empty { IfOk result (λ _. frames.new ≡ record { list = []; places = take_frames }) }
+    ensures goes { (M.hall machine.new).stopped ≡ false }
+    ensures ok { IfOk result (λ t. Goes pair.now (line ∷ []) (M.hall machine.old) (M.hall machine.new) tally t) }
 {
-    let Hand {
-        asked,
-        touched,
-        mut frames,
-        tally,
-    } = hand;
     let session = asker(pair, line.role);
-    let (asked, touched) = call_one(rt, hall, seat, session, line.words, asked, touched)?;
-    let heard = drain(rt, hall, seat, pair.listener, &mut frames)?;
-    let told = drain(rt, hall, seat, pair.sender, &mut frames)?;
+    call_one(machine, session, line.words)?;
+    let heard = drain(machine, pair.listener, frames);
+    let told = drain(machine, pair.sender, frames);
     let first = tally.plus(heard);
     let bytes = told.unheard();
-    let tally = first.plus(bytes);
-    Ok(Hand {
-        asked,
-        touched,
-        frames,
-        tally,
-    })
+    Ok(first.plus(bytes))
 }

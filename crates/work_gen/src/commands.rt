@@ -5,7 +5,7 @@ ghost use Rattle.work_gen.specs.Draws.{next, drawn};
 ghost use Rattle.world_model.specs.Outcomes.{is_proper};
 ghost use Rattle.world_model.specs.declared.events.Asked.TheVariants.{Words};
 ghost use Rattle.work_gen.specs.Words.{texts};
-ghost use Rattle.work_gen.specs.Workload.{subscribing, channel, counting, put, delete, count_square, find_nearest, command};
+ghost use Rattle.work_gen.specs.Workload.{subscribing, channel, put, delete, count_square, find_nearest, command};
 
 use crate::draws::Draws;
 use crate::words::{Word, request};
@@ -45,14 +45,6 @@ pub(crate) fn channel(alloc: Global, i: u32) -> Result<Request, NoMemory>
         Word::Number(low + 50_000),
     ];
     request(alloc, &words)
-}
-
-/// To count the objects.
-pub(crate) fn counting(alloc: Global) -> Result<Request, NoMemory>
-    ensures words { IfOk result (λ r. r ≡ texts counting) }
-    ensures proper { IfOk result (λ r. is_proper (Words r) ≡ true) }
-{
-    request(alloc, &[Word::Scan, Word::Fleet, Word::Count])
 }
 
 // To put a vehicle somewhere.

@@ -1,89 +1,85 @@
-//! The caller that drives a hall with the workload.
+//! The caller that drives a machine with the workload.
 
-ghost use Rattle.std.specs.Prelude.{IfOk, IfErr};
-ghost use Rattle.work_gen.specs.Rounds.{Goes, Stops};
+ghost use Rattle.std.specs.Prelude.{◌≡◌, [], false, IfOk};
+ghost use Rattle.world_data.specs.Limits.{take_frames};
+ghost use Rattle.world_data.specs.Worlds.{empty_world};
+ghost use Rattle.world_model.specs.Histories.{opening_hall};
+ghost use Rattle.work_gen.specs.Rounds.{Goes};
 ghost use Rattle.work_gen.specs.Workload.{lines};
-ghost use Rattle.work_gen.specs.Drives.{Enters, EntersNot, DrivesBy};
+ghost use Rattle.work_gen.specs.Drives.{Enters, Drives};
 
 use crate::asking::ask;
-use crate::counting::count_objects;
-use crate::hands::{DriveFault, Hand, Pair, refused};
+use crate::machines::Machine;
+use crate::pairs::Pair;
 use crate::summaries::Summary;
+use crate::tallies::Tally;
 use crate::workloads::Workload;
+use byte_text::NoMemory;
 use std::alloc::Global;
-use std::sync::Wait;
-use world_model::HallApi;
+use world_model::{EnterFault, Frames};
 
 // Enters the two sessions.
-fn enter_both<H: HallApi, R: Wait>(rt: &R, hall: &H, seat: &mut H::Seat) -> Result<Pair, DriveFault>
-    requires { H.is_of hall.now seat.old }
-    ensures seat { H.is_of hall.now seat.new }
-    ensures ok { IfOk result (λ p. Enters p (H.knows seat.old) (H.knows seat.new)) }
-    ensures err { IfErr result (λ f. EntersNot (H.knows seat.old) (H.knows seat.new) f) }
+fn enter_both<M: Machine>(machine: &mut M) -> Result<Pair, NoMemory>
+    requires opening { M.hall machine.old ≡ opening_hall empty_world 0 }
+    ensures goes { (M.hall machine.new).stopped ≡ false }
+    ensures ok { IfOk result (λ p. Enters p (M.hall machine.old) (M.hall machine.new)) }
 {
-    let listener = match hall.enter(rt, seat) {
+    let listener = match machine.enter() {
         Ok(number) => number,
-        Err(fault) => return Err(refused(fault)),
+        Err(EnterFault::Memory) => return Err(NoMemory),
+        // A hall without sessions has not stopped, and has room for two.
+        Err(EnterFault::TooMany) => unreachable!(),
+        Err(EnterFault::Stopped) => unreachable!(),
     };
-    match hall.enter(rt, seat) {
+    match machine.enter() {
         Ok(sender) => Ok(Pair { listener, sender }),
-        Err(fault) => Err(refused(fault)),
+        Err(EnterFault::Memory) => Err(NoMemory),
+        Err(EnterFault::TooMany) => unreachable!(),
+        Err(EnterFault::Stopped) => unreachable!(),
     }
 }
 
 // Asks for all of the workload, in order.
-fn send_all<H: HallApi, R: Wait>(
-    rt: &R,
+fn send_all<M: Machine>(
     alloc: Global,
-    hall: &H,
-    seat: &mut H::Seat,
+    machine: &mut M,
     pair: &Pair,
     n: u32,
     seed: u64,
-    hand: Hand,
-) -> Result<Hand, DriveFault>
-    requires { H.is_of hall.now seat.old }
-    ensures seat { H.is_of hall.now seat.new }
-    ensures ok { IfOk result (λ h. Goes pair.now (lines n seed) (H.knows seat.old) (H.knows seat.new) hand.tally h.tally) }
-    ensures err { IfErr result (λ f. Stops pair.now (lines n seed) (H.knows seat.old) (H.knows seat.new) f) }
+    frames: &mut Frames,
+) -> Result<Tally, NoMemory>
+    requires empty { frames.old ≡ record { list = []; places = take_frames } }
+    requires goes { (M.hall machine.old).stopped ≡ false }
+    ensures ok { IfOk result (λ t. Goes pair.now (lines n seed) (M.hall machine.old) (M.hall machine.new) (record { messages = 0; bytes = 0 }) t) }
 {
-    let mut hand = hand;
+    let mut tally = Tally::new();
     let mut left = Workload::new(n, seed);
     'sending: loop {
-        let Ok(next) = left.next_line(alloc) else {
-            return Err(DriveFault::Memory);
+        let Some(line) = left.next_line(alloc)? else {
+            return Ok(tally);
         };
-        let Some(line) = next else {
-            return Ok(hand);
-        };
-        let sent = ask(rt, hall, seat, pair, line, hand)?;
-        hand = sent;
+        tally = ask(machine, pair, line, frames, tally)?;
     }
 }
 
-/// Drives a hall with the workload of so many commands from a seed: two sessions are entered, the first subscribes to all channels,
-/// the second sets them and sends the commands, all at moment 0, and after each request both take their frames until there is none.
-/// Then the second asks for the number of objects. The sessions stay.
-pub fn drive<H: HallApi, R: Wait>(
-    rt: &R,
+/// Drives a machine of an empty world with the workload of so many commands from a seed: two sessions are entered, the first
+/// subscribes to all channels, the second sets them and sends the commands, all at moment 0, and after each request both take their
+/// frames until there is none. The sessions stay.
+pub fn drive<M: Machine>(
     alloc: Global,
-    hall: &H,
-    seat: &mut H::Seat,
+    machine: &mut M,
     n: u32,
     seed: u64,
-) -> Result<Summary, DriveFault>
-    requires { H.is_of hall.now seat.old }
-    ensures seat { H.is_of hall.now seat.new }
-    ensures drives { DrivesBy n seed (H.knows seat.old) (H.knows seat.new) result }
+) -> Result<Summary, NoMemory>
+    requires { M.hall machine.old ≡ opening_hall empty_world 0 }
+    ensures { IfOk result (λ s. Drives n seed (M.hall machine.old) (M.hall machine.new) s) }
 {
-    let hand = Hand::new(alloc)?;
-    let pair = enter_both(rt, hall, seat)?;
-    let sent = send_all(rt, alloc, hall, seat, &pair, n, seed, hand)?;
-    let tally = sent.tally;
-    let objects = count_objects(rt, alloc, hall, seat, pair.sender, sent)?;
+    let mut frames = Frames::new(alloc)?;
+    let pair = enter_both(machine)?;
+    let tally = send_all(alloc, machine, &pair, n, seed, &mut frames)?;
     Ok(Summary {
         commands: n,
-        objects,
+        objects: machine.objects(),
         messages: tally.messages,
         bytes: tally.bytes,
     })

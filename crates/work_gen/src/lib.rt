@@ -1,21 +1,23 @@
-//! The generated workload of the server: commands that a number and a seed determine, and a caller that drives a hall with them.
+//! The generated workload of the server: commands that a number and a seed determine, and a caller that drives a machine with them.
 #![tactic(auto)]
 
 mod asking;
 mod commands;
-mod counting;
 mod draws;
 mod drives;
-mod hands;
+mod laws;
 mod lines;
+mod machines;
+mod pairs;
 mod summaries;
 mod tallies;
 mod words;
 mod workloads;
 
 pub use drives::drive;
-pub use hands::DriveFault;
+pub use laws::load_laws;
 pub use lines::{Line, Role};
+pub use machines::Machine;
 pub use summaries::{Summary, push_summary};
 pub use workloads::Workload;
 

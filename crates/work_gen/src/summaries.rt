@@ -5,7 +5,7 @@ ghost use Rattle.work_gen.specs.Summaries.{summary_line, summary_text};
 
 use byte_text::{NoMemory, Text, push_u64};
 
-/// What a hall was driven with, and what it gave.
+/// What a machine was driven with, and what it gave.
 #[derive(Clone, Copy, Debug, PartialEq, Eq)]
 pub struct Summary {
     /// How many commands were sent.
@@ -14,7 +14,7 @@ pub struct Summary {
     pub objects: u64,
     /// How many messages the listener was told.
     pub messages: u64,
-    /// The bytes of all frames that both sessions were given for what they asked, but for the last question.
+    /// The bytes of all frames that both sessions were given.
     pub bytes: u64,
 }
 

@@ -1,14 +1,16 @@
 use Rattle.std.proofs.Common.{◌≡◌, []}
+use Rattle.std.specs.Prelude.{length, false}
 use Rattle.world_data.specs.Limits.{take_frames}
+use Rattle.work_gen.specs.Asking.{waiting}
 use Rattle.work_gen.proofs.Draining.{Draining}
 use Rattle.work_gen.proofs.asking.drain.Given as goal
 
-abbrev pub invariant-loop : goal.invariant-loop
-invariant-loop g l = record {
-  next : (goal.iterator-loop g).can_next l.iterator';
-  finite : (goal.iterator-loop g).is_finite l.iterator';
-  seat : g.H.HallApi.is_of l.hall l.seat;
-  bare : l.frames.list ≡ [];
-  places : l.frames.places ≡ take_frames;
-  draining : Draining l.session (g.H.HallApi.knows l.initial.seat) (g.H.HallApi.knows l.seat) l.tally;
+abbrev pub invariant-taking : goal.invariant-taking
+invariant-taking g l = record {
+  empty : l.frames ≡ record { list = []; places = take_frames };
+  goes : (g.M.Machine.hall l.machine).stopped ≡ false;
+  draining : Draining l.session (g.M.Machine.hall l.initial.machine) (g.M.Machine.hall l.machine) l.tally;
 }
+
+abbrev pub decreases-taking : goal.decreases-taking
+decreases-taking g l = length (waiting l.session (g.M.Machine.hall l.machine))
