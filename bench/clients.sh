@@ -1,7 +1,8 @@
 #!/usr/bin/env bash
 # Tries the server with real clients, and measures it beside redis-server in the same run.
 # Usage: bench/clients.sh [REQUESTS [ADDR]]   REQUESTS a row and run, 100000 if left out. With ADDR a server that runs there is used;
-# else ./fudrask is started. Needs Debian's redis-tools, redis-server and python3-redis, and says which of them is not there.
+# else ./fudrask is started, and what it keeps in memory beside 512 links is held to a bound. Needs Debian's redis-tools, redis-server and
+# python3-redis, and says which of them is not there.
 # A row tells requests a second of the server and of redis-server (no log), medians of three runs that alternate, and their ratio.
 set -u
 cd "$(dirname "$0")/.." || exit 1
@@ -9,6 +10,7 @@ requests=${1:-100000}
 addr=${2:-}
 redis_port=16379
 work=$(mktemp -d)
+ulimit -n 4096 2>/dev/null || true
 ours='' theirs=''
 trap 'for it in $ours $theirs; do kill "$it" 2>/dev/null; done; rm -rf "$work"' EXIT
 
@@ -114,6 +116,126 @@ client.set_response_callback("SCAN", lambda answer, **_: answer)
 found = client.execute_command("SCAN", "many", "COUNT")
 assert found == 10000, found
 for it in silents:
+    it.close()
+PYTHON
+
+# As many links as there are sessions, of which half never read: each other subscribes, and all of them send many requests. The other half is
+# answered all the same. A further caller is refused until one has gone.
+"$python" - "$host" "$port" "$requests" "$ours" <<'PYTHON' || faults=$((faults + 1))
+import socket, sys, threading, time
+
+host, port, requests, server = sys.argv[1], int(sys.argv[2]), int(sys.argv[3]), sys.argv[4]
+LINKS, MIB = 512, 1 << 20
+
+
+def text_of(*words):
+    return b"*%d\r\n" % len(words) + b"".join(b"$%d\r\n%s\r\n" % (len(it), it) for it in words)
+
+
+# A size that the system tells of the server, in MiB.
+def memory(name):
+    with open(f"/proc/{server}/status") as status:
+        return next(int(it.split()[1]) // 1024 for it in status if it.startswith(name))
+
+
+# A link that is served: an answer has come, and is not read yet. It is tried anew while sessions of earlier callers end.
+def link():
+    for _ in range(600):
+        made = socket.create_connection((host, port), 60)
+        try:
+            made.sendall(text_of(b"PING"))
+            if made.recv(1, socket.MSG_PEEK):
+                return made
+        except ConnectionError:
+            pass
+        made.close()
+        time.sleep(0.1)
+    raise SystemExit("clients: there is no session for a link")
+
+
+def is_refused():
+    with socket.create_connection((host, port), 10) as further:
+        try:
+            return further.recv(1) == b""
+        except ConnectionError:
+            return True
+        except socket.timeout:
+            return False
+
+
+def expect(own, wanted):
+    found = b""
+    while len(found) < len(wanted):
+        piece = own.recv(65536)
+        if not piece:
+            break
+        found += piece
+    assert found == wanted, (found, wanted)
+
+
+# Sends to each link what the system takes of its text, for half a minute at most. A link that was let go is left.
+def flood(texts):
+    for it in texts:
+        it.setblocking(False)
+    end = time.monotonic() + 30
+    while texts and time.monotonic() < end:
+        for it, text in list(texts.items()):
+            try:
+                texts[it] = text[it.send(text[:65536]) :]
+            except BlockingIOError:
+                pass
+            except OSError:
+                texts[it] = b""
+            if not texts[it]:
+                del texts[it]
+        time.sleep(0.01)
+
+
+before = memory("VmRSS") if server else 0
+talkers = [link() for _ in range(LINKS // 2)]
+silents = [link() for _ in range(LINKS // 2)]
+assert is_refused(), "a caller beyond the 512th is let in"
+
+first = talkers[0]
+expect(first, b"+PONG\r\n")
+first.sendall(text_of(*b"SETCHAN crowd WITHIN crowd FENCE DETECT inside BOUNDS 0 0 1000 100000".split()))
+expect(first, b":1\r\n")
+pings, gets = text_of(b"PING") * (requests // 50), text_of(b"GET", b"crowd", b"0.0") * (requests // 50)
+texts = {it: text_of(b"SUBSCRIBE", b"crowd") + pings for it in silents[::2]} | {it: gets for it in silents[1::2]}
+fails = []
+
+
+def work(k, own):
+    try:
+        if own is not first:
+            expect(own, b"+PONG\r\n")
+        for i in range(max(requests // 1000, 1)):
+            own.sendall(text_of(b"SET", b"crowd", b"%d.%d" % (k, i), b"POINT", b"%d" % k, b"%d" % i))
+            expect(own, b"+OK\r\n")
+            own.sendall(text_of(b"GET", b"crowd", b"%d.%d" % (k, i), b"POINT"))
+            expect(own, text_of(b"%d" % k, b"%d" % i))
+    except Exception as fault:
+        fails.append(fault)
+
+
+threads = [threading.Thread(target=flood, args=(texts,))]
+threads += [threading.Thread(target=work, args=it) for it in enumerate(talkers)]
+for it in threads:
+    it.start()
+for it in threads:
+    it.join()
+assert not fails, fails[0]
+
+# What waits for a link that subscribed is 6 MiB in 16384 frames at most, for another 2 MiB; and a MiB a link is more than its threads, its
+# records and a piece of a stream take.
+if server:
+    bound = LINKS // 4 * 6 + LINKS * 3 // 4 * 2 + LINKS
+    after, most = memory("VmRSS"), memory("VmHWM")
+    print(f"clients: 512 links, half of them silent: {before} MiB resident before, {after} after, {most} at most; allowed {before + bound}")
+    assert most <= before + bound, "the server keeps too much for its links"
+first.close()
+link().close()
+for it in talkers + silents:
     it.close()
 PYTHON
 [ "$faults" = 0 ] || { echo "clients: $faults faults"; exit 1; }

@@ -15,10 +15,3 @@ mod tops;
 
 pub use laws::{feeds_are_one_stream, scripts_have_one_output};
 pub use tops::{Ended, out_of_memory, top};
-
-#[cfg(test)]
-mod fence_tests;
-#[cfg(test)]
-mod moving_area_tests;
-#[cfg(test)]
-mod tests;
