@@ -1,12 +1,8 @@
 //! A core that nobody else asks.
 
-ghost use Rattle.std.specs.Prelude.{◌≡◌, [], length, true, IfOk};
-ghost use Rattle.world_data.specs.Limits.{take_frames};
+ghost use Rattle.std.specs.Prelude.{◌≡◌, IfOk};
 ghost use Rattle.world_data.specs.Worlds.{empty_world};
-ghost use Rattle.world_model.specs.Histories.{Step, opening_hall};
-ghost use Rattle.world_model.specs.Outcomes.{is_proper, enter_outcome, take_outcome};
-ghost use Rattle.world_model.specs.declared.events.Event.TheVariants as event;
-ghost use Rattle.world_model.specs.declared.events.Outcome.TheVariants as outcome;
+ghost use Rattle.world_model.specs.Histories.{opening_hall};
 
 use byte_text::NoMemory;
 use std::alloc::Global;
@@ -53,8 +49,6 @@ impl CoreMachine {
 }
 
 impl Machine for CoreMachine {
-    ghost use Rattle.tile_core.specs.CoreStates.{CoreState};
-
     ghost hall = { λ m. m.hall };
 
     fn enter(&mut self) -> Result<u32, EnterFault> {

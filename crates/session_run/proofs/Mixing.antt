@@ -1,5 +1,5 @@
 -- The entries of calls and those of takes, by one seat.
-use Rattle.std.proofs.Common.{◌≡◌, List, [], ◌∷◌, ◌++◌, refl, sym, ap, subst, inl, inr}
+use Rattle.std.proofs.Common.{List, [], ◌∷◌, ◌++◌, refl, sym, ap, subst, inl, inr}
 use Rattle.std.proofs.lemmas.List.{append-nil}
 use Rattle.world_model.specs.Seats.{Knows, Act}
 use Rattle.session_run.specs.Gains.{Gains, Mixes, GainsBoth, WithTakes, gains_more}

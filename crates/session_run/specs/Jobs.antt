@@ -8,7 +8,6 @@ use Rattle.session_run.specs.Gains.{WithTakes}
 use Rattle.session_run.specs.Ends.{ReadsSession}
 use Rattle.session_run.specs.Outs.{WritesSession}
 use Rattle.session_run.specs.Writings.{IsFit, Writes, is_over}
-use Rattle.session_run.specs.declared.ends.InEnd.{InEnd}
 use Rattle.session_run.specs.declared.ends.InEnd.TheVariants.{OutEnded}
 use Rattle.session_run.specs.declared.writings.Writing.TheVariants.{Alone}
 use Rattle.session_run.specs.declared.jobs.SessionJob.{SessionJob}

@@ -1,7 +1,6 @@
-use Rattle.std.proofs.Common.{◌+◌, ◌∙◌, Bool, ℕ, List, drop, sym, ap, arith}
+use Rattle.std.proofs.Common.{◌+◌, ◌∙◌, Bool, drop, sym, ap, arith}
 use Rattle.std.specs.Prelude.{◌||◌}
 use Rattle.std.specs.List.{list_any}
-use Rattle.world_model.specs.declared.events.Asked.{Asked}
 use Rattle.session_run.specs.Calls.{is_named}
 use Rattle.session_run.proofs.Calling.{any_next, any_past}
 use Rattle.session_run.proofs.names.any_named.Goals as goal
