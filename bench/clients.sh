@@ -233,10 +233,14 @@ if server:
     after, most = memory("VmRSS"), memory("VmHWM")
     print(f"clients: 512 links, half of them silent: {before} MiB resident before, {after} after, {most} at most; allowed {before + bound}")
     assert most <= before + bound, "the server keeps too much for its links"
+# A session is free again once a link has gone.
 first.close()
-link().close()
+last = link()
 for it in talkers + silents:
     it.close()
+last.sendall(text_of(b"FLUSHDB"))
+expect(last, b"+PONG\r\n+OK\r\n")
+last.close()
 PYTHON
 [ "$faults" = 0 ] || { echo "clients: $faults faults"; exit 1; }
 echo "clients: all answers as expected"

@@ -1,5 +1,6 @@
 //! Lines of words, read.
 
+use crate::lines::{Reads, are_read, is_read};
 use byte_text::{Name, NoMemory, Request, Text, push_i64, push_u64};
 use cmd_words::{CommandFault, command_of, read_command};
 use geojson_model::GeoFault;
@@ -10,21 +11,6 @@ use world_data::{Channel, Kind, Watch};
 use world_model::{
     AreaWords, Command, Fields, NameList, Numbers, Only, Query, Rule, Shown, Test, WordFault,
 };
-
-// The request of a line's words, which are split at spaces.
-fn request(alloc: Global, line: &str) -> Result<Request, Fail> {
-    let mut words = Request::new(alloc);
-    for word in line.split(' ') {
-        if words.words() >= 64 {
-            return Err(Fail::from("a test's line has few words"));
-        }
-        if word.len() > 255 {
-            return Err(Fail::from("a test's word is short"));
-        }
-        words.push(word.as_bytes())?;
-    }
-    Ok(words)
-}
 
 // A word, and two names behind it.
 fn push_two(out: &mut Text, called: &str, key: &Name, id: &Name) -> Result<(), NoMemory> {
@@ -370,336 +356,315 @@ fn push_answer(out: &mut Text, read: &Result<Command, CommandFault>) -> Result<(
     }
 }
 
-fn push_read(alloc: Global, out: &mut Text, words: &Request) -> Result<(), NoMemory> {
-    let read = read_command(alloc, words);
-    push_answer(out, &read)
-}
+// Reads commands.
+#[derive(Drop)]
+struct Commands;
 
-fn answer(alloc: Global, words: &Request) -> Result<Text, NoMemory> {
-    let mut out = Text::new(alloc);
-    push_read(alloc, &mut out, words)?;
-    Ok(out)
+impl Reads for Commands {
+    fn push_read(&self, alloc: Global, out: &mut Text, words: &Request) -> Result<(), NoMemory> {
+        let read = read_command(alloc, words);
+        push_answer(out, &read)
+    }
 }
 
 #[test]
 fn sets_are_read(rt: HostRuntime) -> Result<(), Fail> {
-    let table = [
-        (
-            "sEt fleet truck point -7 1000000000",
-            "set fleet truck {\"type\":\"Point\",\"coordinates\":[1000000000,-7]}",
-        ),
-        (
-            "SET k a NX BOUNDS 1 2 3 4",
-            "new k a {\"type\":\"Polygon\",\"coordinates\":[[[2,1],[4,1],[4,3],[2,3],[2,1]]]}",
-        ),
-        (
-            "SET k a xx OBJECT {\"coordinates\":[1,2],\"type\":\"Point\"}",
-            "old k a {\"coordinates\":[1,2],\"type\":\"Point\"}",
-        ),
-        (
-            "SET k a FIELD f -1 EX 5 FIELD g 0 FIELD f 1 POINT 1 2",
-            "set k a with 1 without 1 after 5 {\"type\":\"Point\",\"coordinates\":[2,1]}",
-        ),
-    ];
-    lines_are_read(rt.alloc(), &table)
+    are_read(
+        &rt,
+        rt.alloc(),
+        &Commands,
+        r#"
+        sEt fleet truck point -7 1000000000 => set fleet truck {"type":"Point","coordinates":[1000000000,-7]}
+        SET k a NX BOUNDS 1 2 3 4 => new k a {"type":"Polygon","coordinates":[[[2,1],[4,1],[4,3],[2,3],[2,1]]]}
+        SET k a xx OBJECT {"coordinates":[1,2],"type":"Point"} => old k a {"coordinates":[1,2],"type":"Point"}
+        SET k a FIELD f -1 EX 5 FIELD g 0 FIELD f 1 POINT 1 2 => set k a with 1 without 1 after 5 {"type":"Point","coordinates":[2,1]}
+        "#,
+    )
 }
 
 #[test]
 fn sets_are_refused(rt: HostRuntime) -> Result<(), Fail> {
-    let table = [
-        ("SET k a FIELD f x POINT 1 2", "invalid x"),
-        ("SET k a EX 0 POINT 1 2", "invalid 0"),
-        ("SET k a EX 5 EX 5 POINT 1 2", "invalid EX"),
-        ("SET k a NX XX POINT 1 2", "invalid XX"),
-        ("Set k a", "wrong count set"),
-        ("SET k a POINT 1", "wrong count set"),
-        ("SET k a POINT 1 2 3", "wrong count set"),
-    ];
-    lines_are_read(rt.alloc(), &table)
+    are_read(
+        &rt,
+        rt.alloc(),
+        &Commands,
+        "
+        SET k a FIELD f x POINT 1 2 => invalid x
+        SET k a EX 0 POINT 1 2 => invalid 0
+        SET k a EX 5 EX 5 POINT 1 2 => invalid EX
+        SET k a NX XX POINT 1 2 => invalid XX
+        Set k a => wrong count set
+        SET k a POINT 1 => wrong count set
+        SET k a POINT 1 2 3 => wrong count set
+        ",
+    )
 }
 
 #[test]
 fn places_are_refused(rt: HostRuntime) -> Result<(), Fail> {
-    let table = [
-        ("SET k a POINT -1.0 2", "fraction -1.0"),
-        ("SET k a POINT 01 2", "invalid 01"),
-        ("SET k a POINT 1 1000000001", "invalid 1000000001"),
-        ("SET k a PLACE 1 2", "invalid PLACE"),
-        ("SET k  POINT 1 2", "invalid "),
-        ("SET k a BOUNDS 3 2 1 4", "invalid 1"),
-        ("SET k a OBJECT x", "not json"),
-        (
-            "SET k a OBJECT {\"type\":\"Point\",\"coordinates\":[1.5,2]}",
-            "not whole",
-        ),
-        ("SET k a OBJECT", "wrong count set"),
-    ];
-    lines_are_read(rt.alloc(), &table)
+    let alloc = rt.alloc();
+    is_read(&rt, alloc, &Commands, "SET k  POINT 1 2", "invalid ")?;
+    are_read(
+        &rt,
+        alloc,
+        &Commands,
+        r#"
+        SET k a POINT -1.0 2 => fraction -1.0
+        SET k a POINT 01 2 => invalid 01
+        SET k a POINT 1 1000000001 => invalid 1000000001
+        SET k a PLACE 1 2 => invalid PLACE
+        SET k a BOUNDS 3 2 1 4 => invalid 1
+        SET k a OBJECT x => not json
+        SET k a OBJECT {"type":"Point","coordinates":[1.5,2]} => not whole
+        SET k a OBJECT => wrong count set
+        "#,
+    )
 }
 
 #[test]
 fn others_are_read(rt: HostRuntime) -> Result<(), Fail> {
-    let table = [
-        ("get fleet truck", "get fleet truck"),
-        ("GET k a withfields point", "get point k a"),
-        ("GET k a BOUNDS", "get bounds k a"),
-        ("GET k", "wrong count get"),
-        ("GET k a b", "invalid b"),
-        ("GET k a POINT b", "wrong count get"),
-        ("GET k a WITHFIELDS WITHFIELDS", "invalid WITHFIELDS"),
-        ("del k a", "del k a"),
-        ("Del k a b", "wrong count del"),
-        ("DROP k", "drop"),
-        ("DROP", "wrong count drop"),
-        ("BOUNDS k", "bounds"),
-        ("BOUNDS k l", "wrong count bounds"),
-        ("STATS k l", "stats of two"),
-        ("STATS", "wrong count stats"),
-        ("flushdb", "flush"),
-        ("FLUSHDB k", "wrong count flushdb"),
-        ("PING", "ping"),
-        ("PING x", "wrong count ping"),
-        ("quit", "quit"),
-        ("QUIT now", "wrong count quit"),
-        ("SETS k a POINT 1 2", "unknown SETS"),
-        ("", "unknown "),
-    ];
-    lines_are_read(rt.alloc(), &table)
+    let alloc = rt.alloc();
+    is_read(&rt, alloc, &Commands, "", "unknown ")?;
+    are_read(
+        &rt,
+        alloc,
+        &Commands,
+        "
+        get fleet truck => get fleet truck
+        GET k a withfields point => get point k a
+        GET k a BOUNDS => get bounds k a
+        GET k => wrong count get
+        GET k a b => invalid b
+        GET k a POINT b => wrong count get
+        GET k a WITHFIELDS WITHFIELDS => invalid WITHFIELDS
+        del k a => del k a
+        Del k a b => wrong count del
+        DROP k => drop
+        DROP => wrong count drop
+        BOUNDS k => bounds
+        BOUNDS k l => wrong count bounds
+        STATS k l => stats of two
+        STATS => wrong count stats
+        flushdb => flush
+        FLUSHDB k => wrong count flushdb
+        PING => ping
+        PING x => wrong count ping
+        quit => quit
+        QUIT now => wrong count quit
+        SETS k a POINT 1 2 => unknown SETS
+        ",
+    )
 }
 
 #[test]
 fn fields_and_patterns_are_read(rt: HostRuntime) -> Result<(), Fail> {
-    let table = [
-        ("fset k a f 1 g 0", "fset k a with 1 without 1"),
-        ("FSET k a f 1 g", "wrong count fset"),
-        ("FSET k a f 01", "invalid 01"),
-        ("FGET k a f", "fget k a f"),
-        ("FGET k a", "wrong count fget"),
-        ("EXPIRE k a 10", "expire k a 10"),
-        ("EXPIRE k a 0", "invalid 0"),
-        ("EXPIRE k a 1000000001", "invalid 1000000001"),
-        ("PERSIST k a", "persist k a"),
-        ("TTL k a", "ttl k a"),
-        ("TTL k", "wrong count ttl"),
-        ("PDEL k a*", "pdel k a*"),
-        ("KEYS *", "keys *"),
-        ("KEYS [", "invalid ["),
-    ];
-    lines_are_read(rt.alloc(), &table)
+    are_read(
+        &rt,
+        rt.alloc(),
+        &Commands,
+        "
+        fset k a f 1 g 0 => fset k a with 1 without 1
+        FSET k a f 1 g => wrong count fset
+        FSET k a f 01 => invalid 01
+        FGET k a f => fget k a f
+        FGET k a => wrong count fget
+        EXPIRE k a 10 => expire k a 10
+        EXPIRE k a 0 => invalid 0
+        EXPIRE k a 1000000001 => invalid 1000000001
+        PERSIST k a => persist k a
+        TTL k a => ttl k a
+        TTL k => wrong count ttl
+        PDEL k a* => pdel k a*
+        KEYS * => keys *
+        KEYS [ => invalid [
+        ",
+    )
 }
 
 #[test]
 fn scans_are_read(rt: HostRuntime) -> Result<(), Fail> {
-    let table = [
-        ("SCAN k", "scan k up from 0 to 100 objects"),
-        (
-            "scan k match t* cursor 3 limit 7 nofields desc where v -inf 5 wherein w 2 -1 4 ids",
-            "scan k down match t* where v endless 5 wherein w -1 4 from 3 to 7 bare ids",
-        ),
-        (
-            "SCAN k WHERE v 1 +inf LIMIT 1000000 ASC CURSOR 4294967295 COUNT",
-            "scan k up where v 1 endless from 4294967295 to 1000000 count",
-        ),
-        ("SCAN k ASC DESC", "invalid DESC"),
-        ("SCAN k MATCH a MATCH b", "invalid MATCH"),
-        ("SCAN k MATCH [", "invalid ["),
-        ("SCAN k CURSOR 4294967296", "invalid 4294967296"),
-        ("SCAN k LIMIT 0", "invalid 0"),
-        ("SCAN k LIMIT 1000001", "invalid 1000001"),
-        ("SCAN k WHERE v 1 INF", "invalid INF"),
-        ("SCAN k WHEREIN w 0", "invalid 0"),
-        ("SCAN k WHEREIN w 257 1", "invalid 257"),
-        ("SCAN k WHEREIN w 2 1", "wrong count scan"),
-        ("SCAN k WHEREIN w 2 1 COUNT", "invalid COUNT"),
-        ("SCAN k POINT", "invalid POINT"),
-        ("SCAN k POINTS x", "wrong count scan"),
-        ("SCAN", "wrong count scan"),
-    ];
-    lines_are_read(rt.alloc(), &table)
+    are_read(
+        &rt,
+        rt.alloc(),
+        &Commands,
+        "
+        SCAN k => scan k up from 0 to 100 objects
+        scan k match t* cursor 3 limit 7 nofields desc where v -inf 5 wherein w 2 -1 4 ids => scan k down match t* where v endless 5 wherein w -1 4 from 3 to 7 bare ids
+        SCAN k WHERE v 1 +inf LIMIT 1000000 ASC CURSOR 4294967295 COUNT => scan k up where v 1 endless from 4294967295 to 1000000 count
+        SCAN k ASC DESC => invalid DESC
+        SCAN k MATCH a MATCH b => invalid MATCH
+        SCAN k MATCH [ => invalid [
+        SCAN k CURSOR 4294967296 => invalid 4294967296
+        SCAN k LIMIT 0 => invalid 0
+        SCAN k LIMIT 1000001 => invalid 1000001
+        SCAN k WHERE v 1 INF => invalid INF
+        SCAN k WHEREIN w 0 => invalid 0
+        SCAN k WHEREIN w 257 1 => invalid 257
+        SCAN k WHEREIN w 2 1 => wrong count scan
+        SCAN k WHEREIN w 2 1 COUNT => invalid COUNT
+        SCAN k POINT => invalid POINT
+        SCAN k POINTS x => wrong count scan
+        SCAN => wrong count scan
+        ",
+    )
 }
 
 #[test]
 fn channels_are_read(rt: HostRuntime) -> Result<(), Fail> {
-    let table = [
-        ("delchan z", "delchan z"),
-        ("DELCHAN", "wrong count delchan"),
-        ("DELCHAN a b", "wrong count delchan"),
-        ("PDELCHAN z*", "pdelchan z*"),
-        ("Chans *", "chans *"),
-        ("CHANS [", "invalid ["),
-        ("CHANS * *", "wrong count chans"),
-        ("aofshrink", "shrink"),
-        ("AOFSHRINK now", "wrong count aofshrink"),
-        ("subscribe a b a", "subscribe a b a"),
-        ("SUBSCRIBE", "wrong count subscribe"),
-        ("SUBSCRIBE a ", "invalid "),
-        ("PSUBSCRIBE a* *", "psubscribe a* *"),
-        ("PSUBSCRIBE a* [ b*", "invalid ["),
-    ];
-    lines_are_read(rt.alloc(), &table)
+    let alloc = rt.alloc();
+    is_read(&rt, alloc, &Commands, "SUBSCRIBE a ", "invalid ")?;
+    are_read(
+        &rt,
+        alloc,
+        &Commands,
+        "
+        delchan z => delchan z
+        DELCHAN => wrong count delchan
+        DELCHAN a b => wrong count delchan
+        PDELCHAN z* => pdelchan z*
+        Chans * => chans *
+        CHANS [ => invalid [
+        CHANS * * => wrong count chans
+        aofshrink => shrink
+        AOFSHRINK now => wrong count aofshrink
+        subscribe a b a => subscribe a b a
+        SUBSCRIBE => wrong count subscribe
+        PSUBSCRIBE a* * => psubscribe a* *
+        PSUBSCRIBE a* [ b* => invalid [
+        ",
+    )
 }
 
 #[test]
 fn fences_are_read(rt: HostRuntime) -> Result<(), Fail> {
-    let table = [
-        (
-            "setchan z within fleet detect Exit,enter,EXIT fence match t* bounds 1 2 3 4",
-            "setchan z WITHIN fleet MATCH t* FENCE DETECT enter,exit BOUNDS 1 2 3 4 within box",
-        ),
-        (
-            "SETCHAN z INTERSECTS k FENCE DETECT cross,exit,enter,outside,inside COMMANDS drop,set CIRCLE 1 2 3",
-            "setchan z INTERSECTS k FENCE COMMANDS set,drop CIRCLE 1 2 3 intersects disc 1 2 3",
-        ),
-        (
-            "SETCHAN z WITHIN k FENCE GET fleet truck",
-            "setchan z WITHIN k FENCE of fleet truck",
-        ),
-        (
-            "SETCHAN z WITHIN k FENCE OBJECT {\"type\":\"Point\",\"coordinates\":[1,2]}",
-            "setchan z WITHIN k FENCE OBJECT {\"type\":\"Point\",\"coordinates\":[1,2]} within figure",
-        ),
-        (
-            "SETCHAN z NEARBY k WHERE v inf inf FENCE WHEREIN w 2 -1 4 POINT -1 2 3",
-            "setchan z NEARBY k WHERE v -inf +inf WHEREIN w 2 -1 4 FENCE POINT -1 2 3 near disc -1 2 3",
-        ),
-        (
-            "SETCHAN z NEARBY k nodwell COMMANDS set,del,drop FENCE roam fleet t* 100",
-            "setchan z NEARBY k FENCE NODWELL ROAM fleet t* 100 roam fleet t* 100 once",
-        ),
-        (
-            "SETCHAN z NEARBY k FENCE ROAM k * 0",
-            "setchan z NEARBY k FENCE ROAM k * 0 roam k * 0 often",
-        ),
-    ];
-    lines_are_read(rt.alloc(), &table)
+    are_read(
+        &rt,
+        rt.alloc(),
+        &Commands,
+        r#"
+        setchan z within fleet detect Exit,enter,EXIT fence match t* bounds 1 2 3 4 => setchan z WITHIN fleet MATCH t* FENCE DETECT enter,exit BOUNDS 1 2 3 4 within box
+        SETCHAN z INTERSECTS k FENCE DETECT cross,exit,enter,outside,inside COMMANDS drop,set CIRCLE 1 2 3 => setchan z INTERSECTS k FENCE COMMANDS set,drop CIRCLE 1 2 3 intersects disc 1 2 3
+        SETCHAN z WITHIN k FENCE GET fleet truck => setchan z WITHIN k FENCE of fleet truck
+        SETCHAN z WITHIN k FENCE OBJECT {"type":"Point","coordinates":[1,2]} => setchan z WITHIN k FENCE OBJECT {"type":"Point","coordinates":[1,2]} within figure
+        SETCHAN z NEARBY k WHERE v inf inf FENCE WHEREIN w 2 -1 4 POINT -1 2 3 => setchan z NEARBY k WHERE v -inf +inf WHEREIN w 2 -1 4 FENCE POINT -1 2 3 near disc -1 2 3
+        SETCHAN z NEARBY k nodwell COMMANDS set,del,drop FENCE roam fleet t* 100 => setchan z NEARBY k FENCE NODWELL ROAM fleet t* 100 roam fleet t* 100 once
+        SETCHAN z NEARBY k FENCE ROAM k * 0 => setchan z NEARBY k FENCE ROAM k * 0 roam k * 0 often
+        "#,
+    )
 }
 
 #[test]
 fn fences_are_refused(rt: HostRuntime) -> Result<(), Fail> {
-    let table = [
-        ("SETCHAN z", "wrong count setchan"),
-        ("SETCHAN z NEAR k", "invalid NEAR"),
-        ("SETCHAN z WITHIN k BOUNDS 1 2 3 4", "invalid BOUNDS"),
-        ("SETCHAN z WITHIN k FENCE FENCE", "invalid FENCE"),
-        ("SETCHAN z WITHIN k FENCE", "wrong count setchan"),
-        ("SETCHAN z WITHIN k FENCE NODWELL", "invalid NODWELL"),
-        ("SETCHAN z WITHIN k FENCE POINT 1 2 3", "invalid POINT"),
-        (
-            "SETCHAN z WITHIN k FENCE BOUNDS 1 2 3 4 5",
-            "wrong count setchan",
-        ),
-        ("SETCHAN z WITHIN k DETECT enter,", "invalid enter,"),
-        ("SETCHAN z WITHIN k DETECT Set", "invalid Set"),
-        ("SETCHAN z WITHIN k COMMANDS fset", "invalid fset"),
-        ("SETCHAN z WITHIN k DETECT exit DETECT", "invalid DETECT"),
-        ("SETCHAN z NEARBY k POINT 1 2 3", "invalid POINT"),
-        ("SETCHAN z NEARBY k FENCE POINT 1.5 2", "fraction 1.5"),
-        ("SETCHAN z NEARBY k FENCE POINT 1 2", "wrong count setchan"),
-        ("SETCHAN z NEARBY k FENCE NODWELL POINT", "invalid POINT"),
-        ("SETCHAN z NEARBY k FENCE DETECT exit ROAM", "invalid ROAM"),
-        ("SETCHAN z NEARBY k DETECT exit NODWELL", "invalid NODWELL"),
-        ("SETCHAN z NEARBY k NODWELL DETECT", "invalid DETECT"),
-        ("SETCHAN z NEARBY k FENCE ROAM k [ 1", "invalid ["),
-        ("SETCHAN z NEARBY k FENCE ROAM k * -1", "invalid -1"),
-    ];
-    lines_are_read(rt.alloc(), &table)
+    are_read(
+        &rt,
+        rt.alloc(),
+        &Commands,
+        "
+        SETCHAN z => wrong count setchan
+        SETCHAN z NEAR k => invalid NEAR
+        SETCHAN z WITHIN k BOUNDS 1 2 3 4 => invalid BOUNDS
+        SETCHAN z WITHIN k FENCE FENCE => invalid FENCE
+        SETCHAN z WITHIN k FENCE => wrong count setchan
+        SETCHAN z WITHIN k FENCE NODWELL => invalid NODWELL
+        SETCHAN z WITHIN k FENCE POINT 1 2 3 => invalid POINT
+        SETCHAN z WITHIN k FENCE BOUNDS 1 2 3 4 5 => wrong count setchan
+        SETCHAN z WITHIN k DETECT enter, => invalid enter,
+        SETCHAN z WITHIN k DETECT Set => invalid Set
+        SETCHAN z WITHIN k COMMANDS fset => invalid fset
+        SETCHAN z WITHIN k DETECT exit DETECT => invalid DETECT
+        SETCHAN z NEARBY k POINT 1 2 3 => invalid POINT
+        SETCHAN z NEARBY k FENCE POINT 1.5 2 => fraction 1.5
+        SETCHAN z NEARBY k FENCE POINT 1 2 => wrong count setchan
+        SETCHAN z NEARBY k FENCE NODWELL POINT => invalid POINT
+        SETCHAN z NEARBY k FENCE DETECT exit ROAM => invalid ROAM
+        SETCHAN z NEARBY k DETECT exit NODWELL => invalid NODWELL
+        SETCHAN z NEARBY k NODWELL DETECT => invalid DETECT
+        SETCHAN z NEARBY k FENCE ROAM k [ 1 => invalid [
+        SETCHAN z NEARBY k FENCE ROAM k * -1 => invalid -1
+        ",
+    )
 }
 
-// Whether a line asks for what is not served yet.
-fn is_unserved(alloc: Global, line: &str) -> Result<bool, Fail> {
-    let words = request(alloc, line)?;
-    Ok(matches!(
-        command_of(alloc, &words),
-        Err(CommandFault::Refused(WordFault::Unserved))
-    ))
+// Reads commands that are served.
+#[derive(Drop)]
+struct Served;
+
+impl Reads for Served {
+    fn push_read(&self, alloc: Global, out: &mut Text, words: &Request) -> Result<(), NoMemory> {
+        let read = command_of(alloc, words);
+        push_answer(out, &read)
+    }
 }
 
 #[test]
 fn one_command_is_not_served(rt: HostRuntime) -> Result<(), Fail> {
-    assert!(rt; is_unserved(rt.alloc(), "AofShrink")?);
-    assert!(rt; is_unserved(rt.alloc(), "AOFSHRINK now")?);
-    assert!(rt; !is_unserved(rt.alloc(), "SUBSCRIBE z")?);
-    assert!(rt; !is_unserved(rt.alloc(), "AOF z")?);
-    Ok(())
+    are_read(
+        &rt,
+        rt.alloc(),
+        &Served,
+        "
+        AofShrink => not served
+        AOFSHRINK now => not served
+        SUBSCRIBE z => subscribe z
+        AOF z => unknown AOF
+        ",
+    )
 }
 
 #[test]
 fn areas_are_read(rt: HostRuntime) -> Result<(), Fail> {
-    let table = [
-        (
-            "within k cursor 2 limit 5 nofields count bounds 1 2 3 4",
-            "search k within from 2 to 5 bare count box",
-        ),
-        (
-            "WITHIN k BOUNDS BOUNDS 1 2 3 4",
-            "search k within from 0 to 100 bounds box",
-        ),
-        (
-            "WITHIN k BOUNDS 1 2 3 4",
-            "search k within from 0 to 100 objects box",
-        ),
-        (
-            "INTERSECTS k MATCH a* BOUNDS GET fleet truck",
-            "search k intersects match a* from 0 to 100 bounds of fleet truck",
-        ),
-        (
-            "INTERSECTS k POINTS CIRCLE -1 2 2000000000",
-            "search k intersects from 0 to 100 points disc -1 2 2000000000",
-        ),
-        (
-            "INTERSECTS k OBJECT {\"type\":\"Point\",\"coordinates\":[1,2]}",
-            "search k intersects from 0 to 100 objects figure",
-        ),
-    ];
-    lines_are_read(rt.alloc(), &table)
+    are_read(
+        &rt,
+        rt.alloc(),
+        &Commands,
+        r#"
+        within k cursor 2 limit 5 nofields count bounds 1 2 3 4 => search k within from 2 to 5 bare count box
+        WITHIN k BOUNDS BOUNDS 1 2 3 4 => search k within from 0 to 100 bounds box
+        WITHIN k BOUNDS 1 2 3 4 => search k within from 0 to 100 objects box
+        INTERSECTS k MATCH a* BOUNDS GET fleet truck => search k intersects match a* from 0 to 100 bounds of fleet truck
+        INTERSECTS k POINTS CIRCLE -1 2 2000000000 => search k intersects from 0 to 100 points disc -1 2 2000000000
+        INTERSECTS k OBJECT {"type":"Point","coordinates":[1,2]} => search k intersects from 0 to 100 objects figure
+        "#,
+    )
 }
 
 #[test]
 fn areas_are_refused(rt: HostRuntime) -> Result<(), Fail> {
-    let table = [
-        ("WITHIN k ASC BOUNDS 1 2 3 4", "invalid ASC"),
-        ("WITHIN k BOUNDS", "wrong count within"),
-        ("WITHIN k BOUNDS 1.5 2 3 4", "fraction 1.5"),
-        ("WITHIN k BOUNDS IDS", "invalid IDS"),
-        ("WITHIN k BOUNDS BOUNDS OBJECT", "invalid OBJECT"),
-        ("WITHIN k BOUNDS 3 2 1 4", "invalid 1"),
-        ("WITHIN k COUNT COUNT", "invalid COUNT"),
-        ("INTERSECTS k CIRCLE 1 2 2000000001", "invalid 2000000001"),
-        ("INTERSECTS k CIRCLE 1 2 3 4", "wrong count intersects"),
-        ("INTERSECTS k OBJECT x", "not json"),
-        ("INTERSECTS k GET fleet", "wrong count intersects"),
-    ];
-    lines_are_read(rt.alloc(), &table)
+    are_read(
+        &rt,
+        rt.alloc(),
+        &Commands,
+        "
+        WITHIN k ASC BOUNDS 1 2 3 4 => invalid ASC
+        WITHIN k BOUNDS => wrong count within
+        WITHIN k BOUNDS 1.5 2 3 4 => fraction 1.5
+        WITHIN k BOUNDS IDS => invalid IDS
+        WITHIN k BOUNDS BOUNDS OBJECT => invalid OBJECT
+        WITHIN k BOUNDS 3 2 1 4 => invalid 1
+        WITHIN k COUNT COUNT => invalid COUNT
+        INTERSECTS k CIRCLE 1 2 2000000001 => invalid 2000000001
+        INTERSECTS k CIRCLE 1 2 3 4 => wrong count intersects
+        INTERSECTS k OBJECT x => not json
+        INTERSECTS k GET fleet => wrong count intersects
+        ",
+    )
 }
 
 #[test]
 fn nearest_are_read(rt: HostRuntime) -> Result<(), Fail> {
-    let table = [
-        (
-            "nearby k limit 2 ids point 0 -3",
-            "nearby k nearest from 0 to 2 ids 0 -3",
-        ),
-        (
-            "NEARBY k COUNT POINT 1 2 0",
-            "nearby k nearest from 0 to 100 count 1 2 up to 0",
-        ),
-        ("NEARBY k DESC POINT 1 2", "invalid DESC"),
-        ("NEARBY k CIRCLE 1 2 3", "invalid CIRCLE"),
-        ("NEARBY k POINT 1 2 2000000001", "invalid 2000000001"),
-        ("NEARBY k POINT 1 2 3 4", "wrong count nearby"),
-        ("NEARBY k POINT 1", "wrong count nearby"),
-        ("NEARBY k", "wrong count nearby"),
-    ];
-    lines_are_read(rt.alloc(), &table)
-}
-
-fn lines_are_read(alloc: Global, table: &[(&str, &str)]) -> Result<(), Fail> {
-    for (line, wanted) in table {
-        let words = request(alloc, line)?;
-        let got = answer(alloc, &words)?;
-        if got.bytes() != wanted.as_bytes() {
-            return Err(Fail::from("a line is read as another"));
-        }
-    }
-    Ok(())
+    are_read(
+        &rt,
+        rt.alloc(),
+        &Commands,
+        "
+        nearby k limit 2 ids point 0 -3 => nearby k nearest from 0 to 2 ids 0 -3
+        NEARBY k COUNT POINT 1 2 0 => nearby k nearest from 0 to 100 count 1 2 up to 0
+        NEARBY k DESC POINT 1 2 => invalid DESC
+        NEARBY k CIRCLE 1 2 3 => invalid CIRCLE
+        NEARBY k POINT 1 2 2000000001 => invalid 2000000001
+        NEARBY k POINT 1 2 3 4 => wrong count nearby
+        NEARBY k POINT 1 => wrong count nearby
+        NEARBY k => wrong count nearby
+        ",
+    )
 }

@@ -8,6 +8,7 @@ use geo_text::GeoFault;
 use planar_geom::{Area, BBox, Line, Part, Parts, Points, Pt, Shape};
 use reply_text::*;
 use std::alloc::Global;
+use std::process::Abort;
 use std::test::Fail;
 use world_data::{Channel, Fence, Kind, Wanted, Watch};
 use world_model::{Fields, Object, Query, Refusal, Rule, Shown, Tests, WordFault};
@@ -73,25 +74,61 @@ fn line(alloc: Global, reply: &Reply) -> Result<Text, Fail>
     }
 }
 
+// A frame has this text.
+fn is_frame(rt: &impl Abort, frame: Text, wanted: &[u8]) {
+    assert_eq!(rt; frame.bytes(), wanted);
+}
+
+// A reply's frame has this text.
+fn is_reply(rt: &impl Abort, alloc: Global, reply: Reply, wanted: &[u8]) -> Result<(), Fail>
+    requires { IsFrame reply }
+{
+    let frame = line(alloc, &reply)?;
+    is_frame(rt, frame, wanted);
+    Ok(())
+}
+
+// The frame of an object has this text.
+fn is_object(
+    rt: &impl Abort,
+    alloc: Global,
+    with_fields: bool,
+    shown: Shown,
+    wanted: &[u8],
+) -> Result<(), Fail>
+    requires { shown ≢ Shown.Count }
+{
+    let truck = truck(alloc)?;
+    let frame = get_frame(alloc, &truck, with_fields, shown)?;
+    is_frame(rt, frame, wanted);
+    Ok(())
+}
+
 #[test]
 fn objects(rt: HostRuntime) -> Result<(), Fail> {
     let alloc = rt.alloc();
-    let truck = truck(alloc)?;
-    let text = get_frame(alloc, &truck, false, Shown::Objects)?;
-    assert_eq!(rt; text.bytes(), b"$2\r\n{}\r\n".as_slice());
-    let centre = get_frame(alloc, &truck, false, Shown::Points)?;
-    assert_eq!(rt; centre.bytes(), b"*2\r\n$2\r\n18\r\n$1\r\n7\r\n".as_slice());
-    let bounds = get_frame(alloc, &truck, false, Shown::Bounds)?;
-    assert_eq!(rt;
-        bounds.bytes(),
-        b"*2\r\n*2\r\n$1\r\n7\r\n$2\r\n-5\r\n*2\r\n$2\r\n30\r\n$2\r\n20\r\n".as_slice()
-    );
-    let fields = get_frame(alloc, &truck, true, Shown::Objects)?;
-    assert_eq!(rt;
-        fields.bytes(),
-        b"*2\r\n$2\r\n{}\r\n*4\r\n$3\r\nage\r\n$2\r\n-7\r\n$5\r\nspeed\r\n$2\r\n55\r\n".as_slice()
-    );
-    Ok(())
+    is_object(&rt, alloc, false, Shown::Objects, b"$2\r\n{}\r\n")?;
+    is_object(
+        &rt,
+        alloc,
+        false,
+        Shown::Points,
+        b"*2\r\n$2\r\n18\r\n$1\r\n7\r\n",
+    )?;
+    is_object(
+        &rt,
+        alloc,
+        false,
+        Shown::Bounds,
+        b"*2\r\n*2\r\n$1\r\n7\r\n$2\r\n-5\r\n*2\r\n$2\r\n30\r\n$2\r\n20\r\n",
+    )?;
+    is_object(
+        &rt,
+        alloc,
+        true,
+        Shown::Objects,
+        b"*2\r\n$2\r\n{}\r\n*4\r\n$3\r\nage\r\n$2\r\n-7\r\n$5\r\nspeed\r\n$2\r\n55\r\n",
+    )
 }
 
 // A segment of this id with the field `n`, which is none where it is 0.
@@ -108,6 +145,21 @@ fn item(alloc: Global, id: &[u8], n: i64) -> Result<Object, Fail> {
     })
 }
 
+// Appends such a segment to a page.
+fn push_item(
+    alloc: Global,
+    items: &mut ItemFrames,
+    query: &Query,
+    id: &[u8],
+    n: i64,
+) -> Result<(), Fail>
+    requires { query.now.shown ≢ Shown.Count }
+{
+    let object = item(alloc, id, n)?;
+    items.push_object(query, &object)?;
+    Ok(())
+}
+
 // The frame of a page of the objects `a`, which has a field, and `b`, which has none; the next page begins at 2.
 fn page(alloc: Global, bare: bool, shown: Shown) -> Result<Text, Fail>
     requires { shown ≢ Shown.Count }
@@ -122,41 +174,44 @@ fn page(alloc: Global, bare: bool, shown: Shown) -> Result<Text, Fail>
         shown,
     };
     let mut items = ItemFrames::new(alloc);
-    items.push_object(&query, &item(alloc, b"a", 3)?)?;
-    items.push_object(&query, &item(alloc, b"b", 0)?)?;
+    push_item(alloc, &mut items, &query, b"a", 3)?;
+    push_item(alloc, &mut items, &query, b"b", 0)?;
     Ok(items.page(alloc, 2)?)
+}
+
+// The frame of the list of the names `a` and `b`.
+fn names(alloc: Global) -> Result<Text, Fail> {
+    let mut names = ItemFrames::new(alloc);
+    names.push_name(&Name::of(alloc, b"a")?)?;
+    names.push_name(&Name::of(alloc, b"b")?)?;
+    Ok(names.array(alloc)?)
 }
 
 #[test]
 fn items(rt: HostRuntime) -> Result<(), Fail> {
     let alloc = rt.alloc();
-    assert_eq!(rt;
-        page(alloc, false, Shown::Objects)?.bytes(),
-        b"*2\r\n:2\r\n*2\r\n*3\r\n$1\r\na\r\n$2\r\n{}\r\n*2\r\n$1\r\nn\r\n$1\r\n3\r\n*2\r\n$1\r\nb\r\n$2\r\n{}\r\n".as_slice()
+    is_frame(
+        &rt,
+        page(alloc, false, Shown::Objects)?,
+        b"*2\r\n:2\r\n*2\r\n*3\r\n$1\r\na\r\n$2\r\n{}\r\n*2\r\n$1\r\nn\r\n$1\r\n3\r\n*2\r\n$1\r\nb\r\n$2\r\n{}\r\n",
     );
-    assert_eq!(rt;
-        page(alloc, true, Shown::Objects)?.bytes(),
-        b"*2\r\n:2\r\n*2\r\n*2\r\n$1\r\na\r\n$2\r\n{}\r\n*2\r\n$1\r\nb\r\n$2\r\n{}\r\n".as_slice()
+    is_frame(
+        &rt,
+        page(alloc, true, Shown::Objects)?,
+        b"*2\r\n:2\r\n*2\r\n*2\r\n$1\r\na\r\n$2\r\n{}\r\n*2\r\n$1\r\nb\r\n$2\r\n{}\r\n",
     );
-    assert_eq!(rt;
-        page(alloc, false, Shown::Ids)?.bytes(),
-        b"*2\r\n:2\r\n*2\r\n$1\r\na\r\n$1\r\nb\r\n".as_slice()
+    is_frame(
+        &rt,
+        page(alloc, false, Shown::Ids)?,
+        b"*2\r\n:2\r\n*2\r\n$1\r\na\r\n$1\r\nb\r\n",
     );
-    let mut names = ItemFrames::new(alloc);
-    names.push_name(&Name::of(alloc, b"a")?)?;
-    names.push_name(&Name::of(alloc, b"b")?)?;
-    assert_eq!(rt;
-        names.array(alloc)?.bytes(),
-        b"*2\r\n$1\r\na\r\n$1\r\nb\r\n".as_slice()
-    );
+    is_frame(&rt, names(alloc)?, b"*2\r\n$1\r\na\r\n$1\r\nb\r\n");
     Ok(())
 }
 
 // A channel of this name, of which the first of the normal words is given.
 fn channel(alloc: Global, name: &[u8]) -> Result<Channel, Fail> {
-    let Some(area) = BBox::of(point(1, 2)?, point(3, 4)?) else {
-        return Err(Fail::from("a box"));
-    };
+    let area = corners()?;
     let mut words = Request::new(alloc);
     words.push(b"WITHIN")?;
     Ok(Channel {
@@ -181,136 +236,165 @@ fn channel(alloc: Global, name: &[u8]) -> Result<Channel, Fail> {
     })
 }
 
+// Appends such a channel to a list.
+fn push_channel(alloc: Global, items: &mut ItemFrames, name: &[u8]) -> Result<(), Fail> {
+    let channel = channel(alloc, name)?;
+    items.push_channel(&channel)?;
+    Ok(())
+}
+
 #[test]
 fn channels(rt: HostRuntime) -> Result<(), Fail> {
     let alloc = rt.alloc();
     let mut items = ItemFrames::new(alloc);
-    items.push_channel(&channel(alloc, b"y")?)?;
-    items.push_channel(&channel(alloc, b"z")?)?;
-    assert_eq!(rt;
-        items.array(alloc)?.bytes(),
-        b"*2\r\n*3\r\n$1\r\ny\r\n$5\r\nfleet\r\n*1\r\n$6\r\nWITHIN\r\n*3\r\n$1\r\nz\r\n$5\r\nfleet\r\n*1\r\n$6\r\nWITHIN\r\n".as_slice()
+    push_channel(alloc, &mut items, b"y")?;
+    push_channel(alloc, &mut items, b"z")?;
+    is_frame(
+        &rt,
+        items.array(alloc)?,
+        b"*2\r\n*3\r\n$1\r\ny\r\n$5\r\nfleet\r\n*1\r\n$6\r\nWITHIN\r\n*3\r\n$1\r\nz\r\n$5\r\nfleet\r\n*1\r\n$6\r\nWITHIN\r\n",
     );
     Ok(())
+}
+
+// The confirmation of a subscription to the name or pattern `*`, as the one of this number.
+fn confirmed(alloc: Global, pattern: bool, count: u64) -> Result<Text, Fail> {
+    let all = Name::of(alloc, b"*")?;
+    let reply = confirmation_reply(alloc, pattern, &all, count)?;
+    line(alloc, &reply)
 }
 
 #[test]
 fn confirmations(rt: HostRuntime) -> Result<(), Fail> {
     let alloc = rt.alloc();
-    let all = Name::of(alloc, b"*")?;
-    let name = confirmation_reply(alloc, false, &all, 1)?;
-    assert_eq!(rt;
-        line(alloc, &name)?.bytes(),
-        b"*3\r\n$9\r\nsubscribe\r\n$1\r\n*\r\n:1\r\n".as_slice()
+    is_frame(
+        &rt,
+        confirmed(alloc, false, 1)?,
+        b"*3\r\n$9\r\nsubscribe\r\n$1\r\n*\r\n:1\r\n",
     );
-    let pattern = confirmation_reply(alloc, true, &all, 2)?;
-    assert_eq!(rt;
-        line(alloc, &pattern)?.bytes(),
-        b"*3\r\n$10\r\npsubscribe\r\n$1\r\n*\r\n:2\r\n".as_slice()
+    is_frame(
+        &rt,
+        confirmed(alloc, true, 2)?,
+        b"*3\r\n$10\r\npsubscribe\r\n$1\r\n*\r\n:2\r\n",
     );
     Ok(())
+}
+
+// The box from (1, 2) to (3, 4).
+fn corners() -> Result<BBox, Fail> {
+    match BBox::of(point(1, 2)?, point(3, 4)?) {
+        Some(bounds) => Ok(bounds),
+        None => Err(Fail::from("a box")),
+    }
+}
+
+// What is told of a key with objects, and of one without.
+fn stats(alloc: Global) -> Result<Text, Fail> {
+    let mut list = ReplyList::new(alloc);
+    list.push(stats_reply(alloc, 2, 5)?)?;
+    list.push(stats_reply(alloc, 0, 0)?)?;
+    let stats = list.array(alloc)?;
+    line(alloc, &stats)
 }
 
 #[test]
 fn keys(rt: HostRuntime) -> Result<(), Fail> {
     let alloc = rt.alloc();
-    let Some(bounds) = BBox::of(point(1, 2)?, point(3, 4)?) else {
-        return Err(Fail::from("a box"));
-    };
-    let corners = bounds_reply(alloc, Some(bounds))?;
-    assert_eq!(rt;
-        line(alloc, &corners)?.bytes(),
-        b"*2\r\n*2\r\n$1\r\n2\r\n$1\r\n1\r\n*2\r\n$1\r\n4\r\n$1\r\n3\r\n".as_slice()
+    let bounds = corners()?;
+    is_reply(
+        &rt,
+        alloc,
+        bounds_reply(alloc, Some(bounds))?,
+        b"*2\r\n*2\r\n$1\r\n2\r\n$1\r\n1\r\n*2\r\n$1\r\n4\r\n$1\r\n3\r\n",
+    )?;
+    is_reply(&rt, alloc, bounds_reply(alloc, None)?, b"*-1\r\n")?;
+    is_frame(
+        &rt,
+        stats(alloc)?,
+        b"*2\r\n*4\r\n$11\r\nnum_objects\r\n:2\r\n$10\r\nnum_points\r\n:5\r\n*-1\r\n",
     );
-    let none = bounds_reply(alloc, None)?;
-    assert_eq!(rt; line(alloc, &none)?.bytes(), b"*-1\r\n".as_slice());
-    let mut list = ReplyList::new(alloc);
-    list.push(stats_reply(alloc, 2, 5)?)?;
-    list.push(stats_reply(alloc, 0, 0)?)?;
-    assert_eq!(rt; list.len(), 2);
-    let stats = list.array(alloc)?;
-    assert_eq!(rt;
-        line(alloc, &stats)?.bytes(),
-        b"*2\r\n*4\r\n$11\r\nnum_objects\r\n:2\r\n$10\r\nnum_points\r\n:5\r\n*-1\r\n".as_slice()
-    );
+    Ok(())
+}
+
+#[test]
+fn ready_frames(rt: HostRuntime) -> Result<(), Fail> {
+    let alloc = rt.alloc();
+    is_frame(&rt, fine_frame(alloc)?, b"+OK\r\n");
+    is_frame(&rt, pong_frame(alloc)?, b"+PONG\r\n");
+    is_frame(&rt, null_frame(alloc)?, b"$-1\r\n");
+    is_frame(&rt, count_frame(alloc, 3)?, b":3\r\n");
+    is_frame(&rt, text_frame(alloc, b"{}")?, b"$2\r\n{}\r\n");
     Ok(())
 }
 
 #[test]
 fn plain_replies(rt: HostRuntime) -> Result<(), Fail> {
     let alloc = rt.alloc();
-    assert_eq!(rt; fine_frame(alloc)?.bytes(), b"+OK\r\n".as_slice());
-    assert_eq!(rt; pong_frame(alloc)?.bytes(), b"+PONG\r\n".as_slice());
-    assert_eq!(rt; null_frame(alloc)?.bytes(), b"$-1\r\n".as_slice());
-    assert_eq!(rt;
-        line(alloc, &number_reply(alloc, -2)?)?.bytes(),
-        b":-2\r\n".as_slice()
-    );
-    assert_eq!(rt; count_frame(alloc, 3)?.bytes(), b":3\r\n".as_slice());
-    assert_eq!(rt;
-        text_frame(alloc, b"{}")?.bytes(),
-        b"$2\r\n{}\r\n".as_slice()
-    );
-    assert_eq!(rt;
-        line(alloc, &value_reply(alloc, -55)?)?.bytes(),
-        b"$3\r\n-55\r\n".as_slice()
-    );
-    let missing = refusal_reply(alloc, Refusal::KeyNotFound)?;
-    assert_eq!(rt;
-        line(alloc, &missing)?.bytes(),
-        b"-ERR key not found\r\n".as_slice()
-    );
-    let full = refusal_reply(alloc, Refusal::DatabaseFull)?;
-    assert_eq!(rt;
-        line(alloc, &full)?.bytes(),
-        b"-ERR database is full\r\n".as_slice()
-    );
-    let other = error_reply(alloc, b"other")?;
-    assert_eq!(rt; line(alloc, &other)?.bytes(), b"-ERR other\r\n".as_slice());
-    let broken = broken_reply(alloc, RespFault::BadLength)?;
-    assert_eq!(rt;
-        line(alloc, &broken)?.bytes(),
-        b"-ERR protocol error: bad length\r\n".as_slice()
-    );
-    Ok(())
+    is_reply(&rt, alloc, number_reply(alloc, -2)?, b":-2\r\n")?;
+    is_reply(&rt, alloc, value_reply(alloc, -55)?, b"$3\r\n-55\r\n")?;
+    is_reply(
+        &rt,
+        alloc,
+        refusal_reply(alloc, Refusal::KeyNotFound)?,
+        b"-ERR key not found\r\n",
+    )?;
+    is_reply(
+        &rt,
+        alloc,
+        refusal_reply(alloc, Refusal::DatabaseFull)?,
+        b"-ERR database is full\r\n",
+    )?;
+    is_reply(&rt, alloc, error_reply(alloc, b"other")?, b"-ERR other\r\n")?;
+    is_reply(
+        &rt,
+        alloc,
+        broken_reply(alloc, RespFault::BadLength)?,
+        b"-ERR protocol error: bad length\r\n",
+    )
 }
 
-// The frame of a refusal.
-fn refusal(alloc: Global, fault: &WordFault) -> Result<Text, Fail> {
-    line(alloc, &fault_reply(alloc, fault)?)
+// A refusal's frame has this text.
+fn is_refusal(rt: &impl Abort, alloc: Global, fault: WordFault, wanted: &[u8]) -> Result<(), Fail> {
+    let reply = fault_reply(alloc, &fault)?;
+    let frame = line(alloc, &reply)?;
+    is_frame(rt, frame, wanted);
+    Ok(())
 }
 
 #[test]
 fn refusals(rt: HostRuntime) -> Result<(), Fail> {
     let alloc = rt.alloc();
-    let unknown = refusal(alloc, &WordFault::Unknown(text_of(alloc, b"f\x07o \x7f")?))?;
-    assert_eq!(rt;
-        unknown.bytes(),
-        b"-ERR unknown command 'f?o ?'\r\n".as_slice()
-    );
-    let count = refusal(alloc, &WordFault::WrongCount(text_of(alloc, b"get")?))?;
-    assert_eq!(rt;
-        count.bytes(),
-        b"-ERR wrong number of arguments for 'get' command\r\n".as_slice()
-    );
-    let invalid = refusal(alloc, &WordFault::Invalid(text_of(alloc, b"~")?))?;
-    assert_eq!(rt;
-        invalid.bytes(),
-        b"-ERR invalid argument '~'\r\n".as_slice()
-    );
-    let fraction = refusal(alloc, &WordFault::Fraction(text_of(alloc, b"1.5")?))?;
-    assert_eq!(rt;
-        fraction.bytes(),
-        b"-ERR coordinate is not a whole number '1.5'\r\n".as_slice()
-    );
-    let ring = refusal(alloc, &WordFault::Geo(GeoFault::BadRing))?;
-    assert_eq!(rt;
-        ring.bytes(),
-        b"-ERR invalid object: ring is not closed\r\n".as_slice()
-    );
-    let unserved = refusal(alloc, &WordFault::Unserved)?;
-    assert_eq!(rt; unserved.bytes(), b"-ERR not served yet\r\n".as_slice());
-    Ok(())
+    is_refusal(
+        &rt,
+        alloc,
+        WordFault::Unknown(text_of(alloc, b"f\x07o \x7f")?),
+        b"-ERR unknown command 'f?o ?'\r\n",
+    )?;
+    is_refusal(
+        &rt,
+        alloc,
+        WordFault::WrongCount(text_of(alloc, b"get")?),
+        b"-ERR wrong number of arguments for 'get' command\r\n",
+    )?;
+    is_refusal(
+        &rt,
+        alloc,
+        WordFault::Invalid(text_of(alloc, b"~")?),
+        b"-ERR invalid argument '~'\r\n",
+    )?;
+    is_refusal(
+        &rt,
+        alloc,
+        WordFault::Fraction(text_of(alloc, b"1.5")?),
+        b"-ERR coordinate is not a whole number '1.5'\r\n",
+    )?;
+    is_refusal(
+        &rt,
+        alloc,
+        WordFault::Geo(GeoFault::BadRing),
+        b"-ERR invalid object: ring is not closed\r\n",
+    )?;
+    is_refusal(&rt, alloc, WordFault::Unserved, b"-ERR not served yet\r\n")
 }
 
 // A text of so many bytes, at most 4,194,304.

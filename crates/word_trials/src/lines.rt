@@ -1,0 +1,60 @@
+//! Lines that are read, and what they are read as.
+
+use byte_text::{NoMemory, Request, Text};
+use std::alloc::Global;
+use std::process::Abort;
+use std::test::Fail;
+
+/// What reads the words of a line.
+pub(crate) trait Reads {
+    /// Appends what words are read as.
+    fn push_read(&self, alloc: Global, out: &mut Text, words: &Request) -> Result<(), NoMemory>;
+}
+
+// The request of a line's words, which are split at spaces.
+fn request(alloc: Global, line: &str) -> Result<Request, Fail> {
+    let mut words = Request::new(alloc);
+    for word in line.split(' ') {
+        if words.words() >= 64 {
+            return Err(Fail::from("a test's line has few words"));
+        }
+        if word.len() > 255 {
+            return Err(Fail::from("a test's word is short"));
+        }
+        words.push(word.as_bytes())?;
+    }
+    Ok(words)
+}
+
+/// A line is read as this.
+pub(crate) fn is_read<T: Reads>(
+    rt: &impl Abort,
+    alloc: Global,
+    reader: &T,
+    line: &str,
+    wanted: &str,
+) -> Result<(), Fail> {
+    let words = request(alloc, line)?;
+    let mut got = Text::new(alloc);
+    reader.push_read(alloc, &mut got, &words)?;
+    assert_eq!(rt; got.bytes(), wanted.as_bytes(), "at {line}");
+    Ok(())
+}
+
+/// Each line of a text has a line, an arrow, and what it is read as.
+pub(crate) fn are_read<T: Reads>(
+    rt: &impl Abort,
+    alloc: Global,
+    reader: &T,
+    text: &str,
+) -> Result<(), Fail> {
+    for line in text.lines() {
+        let line = line.trim_start();
+        match line.split_once(" => ") {
+            Some((line, wanted)) => is_read(rt, alloc, reader, line, wanted)?,
+            None if line.is_empty() => {}
+            None => return Err(Fail::from("a line has no arrow")),
+        }
+    }
+    Ok(())
+}
