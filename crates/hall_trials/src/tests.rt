@@ -108,8 +108,15 @@ fn answered_at_once<R: Wait>(
     let asked = asked_by(alloc, line)?;
     let touched = Touched::new(alloc).ok()?;
     let mut frames = Frames::new(alloc).ok()?;
-    let (_answers, _asked, _touched, taken) =
-        hall.calls_and_take(rt, seat, session, 0, asked, touched, &mut frames);
+    let (_answers, _asked, _touched, taken) = hall.calls_and_take(
+        rt,
+        seat,
+        session,
+        0,
+        asked,
+        touched,
+        &mut frames,
+    );
     if taken != Some(Taken::Some(1)) || frames.is_empty() {
         return None;
     }
