@@ -1,5 +1,10 @@
+pub mod Slots
 pub mod ChannelsByName
-pub mod Index
+pub mod Halving
+pub mod Order
+pub mod Boxes
+pub mod NamesInOrder
+pub mod Sorted
 pub mod Concerned
-pub mod Placing
+pub mod Whole
 pub mod Silence

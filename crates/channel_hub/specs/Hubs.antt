@@ -1,15 +1,17 @@
--- What a contract sees of a hub, and what its index holds.
-use Rattle.std.specs.Prelude.{◌≡◌, ◌<◌, ℕ, Bool, true, ◌&&◌, List, Option, Some, None, is_some, filter, map}
+-- What a contract sees of a hub, and what it keeps.
+use Rattle.std.specs.Prelude.{◌≡◌, ◌<◌, ℕ, Bool, true, false, not, nat_eq, ◌&&◌, List, Option, Some, None, is_some, filter_map, map, option_map}
 use Rattle.std.specs.List.{AllByRecursion}
-use Rattle.byte_text.specs.Names.{Bytes}
+use Rattle.byte_text.specs.Names.{Bytes, before}
 use Rattle.planar_geom.specs.Points.{Bounds}
+use Rattle.ordered_lists.specs.Lists.{ascends}
 use Rattle.fence_model.specs.Messages.{watches}
 use Rattle.world_data.specs.Worlds.{are_channels}
 use Rattle.world_data.specs.declared.channels.Channel.{Channel}
 use Rattle.world_data.specs.declared.objects.Object.{Object}
 use Rattle.fence_index.specs.declared.marks.Mark.{Mark}
-use Rattle.fence_index.specs.Marks.{Indexed, are_marks, is_of_key, mark_of}
+use Rattle.fence_index.specs.Marks.{mark_of}
 use Rattle.fence_index.specs.Candidates.{box_if, is_concerned}
+use Rattle.fence_index.specs.Numbered.{AreBoxed, Indexed}
 use Rattle.fence_index.specs.Silence.{IsWholeWatch}
 
 -- channels by name, and what is kept of the one that can be put without taking memory
@@ -21,21 +23,48 @@ pub record Held : Type 0 where
 abbrev pub IsPrepared : Held → Channel → Type 0
 IsPrepared held c = held.prepared ≡ Some (mark_of c)
 
--- the marks are those of these channels: for each key the marks of its channels, by name
-pub record IsIndexOf (marks : List Mark) (channels : List Channel) : Type 0 where
-  pub sorted : are_marks marks ≡ true
-  pub of_key : (key : Bytes) → filter (is_of_key key) marks ≡ map mark_of (filter (watches (Some key)) channels)
-
 -- what each channel watches is whole
 abbrev pub AreWhole : List Channel → Type 0
 AreWhole channels = AllByRecursion (λ c. IsWholeWatch c.fence.watch) channels
 
--- what a hub keeps: whole channels by name, an index of them, and room among so many places where one is prepared
-pub record IsKept (channels : List Channel) (index : Indexed) (count places : ℕ) : Type 0 where
-  pub by_name : are_channels channels ≡ true
-  pub indexed : IsIndexOf index.marks channels
-  pub whole : AreWhole channels
-  pub room : is_some index.prepared ≡ true → count < places
+-- channels in slots
+
+-- each of these slots has one of the items, in their order
+abbrev pub Stores : {A : Type 0} → (ℕ → Option A) → List ℕ → List A → Type 0
+Stores slots order xs = map slots order ≡ map Some xs
+
+abbrev pub are_other : ℕ → ℕ → Bool
+are_other s t = not (nat_eq s t)
+
+-- the channels in these slots
+abbrev pub channels_in : (ℕ → Option Channel) → List ℕ → List Channel
+channels_in slots order = filter_map slots order
+
+-- slots of channels in byte order of their names, no slot twice
+pub record AreInOrder (slots : ℕ → Option Channel) (order : List ℕ) : Type 0 where
+  pub stored : Stores slots order (channels_in slots order)
+  pub apart : ascends are_other order ≡ true
+  pub by_name : are_channels (channels_in slots order) ≡ true
+
+-- what the index asks of the channel in a slot
+abbrev pub mark_in : (ℕ → Option Channel) → ℕ → Option Mark
+mark_in slots s = option_map mark_of (slots s)
+
+-- a channel is there, and stands before the name
+abbrev pub stands_before : Bytes → Option Channel → Bool
+stands_before name None = false
+stands_before name (Some c) = before c.name name
+
+-- what a hub keeps: whole channels in order, an index that has each under its slot, no slot taken beside theirs, and room for the one that
+-- is prepared, where so many slots and places in the order are taken, of so many
+pub record IsKept (slots : ℕ → Option Channel) (order : List ℕ) (index : Indexed) (used capacity count places : ℕ) : Type 0 where
+  pub ordered : AreInOrder slots order
+  pub boxed : AreBoxed (mark_in slots) order index.boxes
+  pub whole : AreWhole (channels_in slots order)
+  pub taken : used ≡ count
+  pub room : is_some index.prepared ≡ true → (used < capacity) × (count < places)
+
+-- what a change may concern
 
 -- the channel is on the key, and a change that moves an object from the old box, where it was there, to the new one, where it is there after
 -- it, may concern it

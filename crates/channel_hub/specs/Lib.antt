@@ -1,4 +1,2 @@
 pub mod Hubs
-pub mod Places
-pub mod PlaceLaws
 pub mod MessageLaws

@@ -1,39 +1,46 @@
-//! Places of channels, and how they are found.
+//! Channels of a hub, by name.
 
-ghost use Rattle.std.specs.Prelude.{◌≡◌, ◌<◌, [], ◌∷◌, ◌++◌, true, length, map, slice_get, Some, OnOk};
-ghost use Rattle.std.specs.List.{list_all, list_any};
+ghost use Rattle.std.specs.Prelude.{◌≡◌, ◌<◌, [], ◌∷◌, ◌++◌, filter, filter_map, length, slice_get, Some, OnOk, IsPermutation};
+ghost use Rattle.std.specs.Cmp.Lexicographic.{slice_cmp};
+ghost use Rattle.std.specs.List.{cons_option};
+ghost use Rattle.std.specs.List.Sorted.{IsSortedByKey};
+ghost use Rattle.std.specs.Option.{option_copied};
+ghost use Rattle.std.specs.Ordering.{nat_cmp};
 ghost use Rattle.fence_model.specs.Messages.{watches};
-ghost use Rattle.world_data.specs.Worlds.{are_channels, is_named};
-ghost use Rattle.channel_hub.specs.Places.{place_named, places_of};
+ghost use Rattle.slab.specs.Slab.{get};
+ghost use Rattle.channel_hub.specs.Hubs.{channels_in};
 
-use crate::channel_order::place_in;
 use byte_text::{Name, NoMemory};
 use ordered_lists::is_same;
+use rtree::Ids;
+use slab::Slab;
 use std::alloc::Global;
+use std::cmp::Ordering;
 use std::marker::Model;
-use world_data::{Channel, NameList};
+use world_data::Channel;
 
-/// The places of channels in a hub, ascending.
+/// Some channels of a hub, in byte order of their names.
 #[derive(Drop)]
-pub struct Candidates {
-    places: Vec<usize>,
+pub struct Candidates<'a> {
+    channels: Vec<&'a Channel>,
 }
 
-impl Model for Candidates {
-    ghost use Rattle.std.specs.Prelude.{List, ℕ};
+impl<'a> Model for Candidates<'a> {
+    ghost use Rattle.std.specs.Prelude.{List, map};
+    ghost use Rattle.world_data.specs.declared.channels.Channel.{Channel};
 
-    ghost Value = { List ℕ };
+    ghost Value = { List Channel };
 
-    ghost view = { λ c. c.places.items };
+    ghost view = { λ c. map (λ channel. channel.now) c.channels.items };
 }
 
-impl Candidates {
-    /// No place yet. It takes no memory; what is pushed takes it from `alloc`.
-    pub(crate) fn new(alloc: Global) -> Candidates
+impl<'a> Candidates<'a> {
+    /// No channel yet. It takes no memory; what is pushed takes it from `alloc`.
+    pub(crate) fn new(alloc: Global) -> Candidates<'a>
         ensures { result ≡ [] }
     {
         Candidates {
-            places: Vec::new(alloc),
+            channels: Vec::new(alloc),
         }
     }
 
@@ -41,56 +48,78 @@ impl Candidates {
     pub fn len(&self) -> usize
         ensures { result ≡ length self.now }
     {
-        self.places.len()
+        self.channels.len()
     }
 
     /// The one that stands there, counted from 0.
-    pub fn at(&self, i: usize) -> usize
+    pub fn at(&self, i: usize) -> &'a Channel
         requires { i < length self.now }
-        ensures { slice_get self.now i ≡ Some result }
+        ensures { slice_get self.now i ≡ Some result.now }
     {
-        self.places[i]
+        self.channels[i]
     }
 
-    /// Puts a place last.
-    pub(crate) fn push(&mut self, place: usize) -> Result<(), NoMemory>
-        ensures { OnOk result (self.new ≡ self.old ++ place ∷ []) }
+    /// Puts a channel last, where there is one.
+    pub(crate) fn push(&mut self, channel: Option<&'a Channel>) -> Result<(), NoMemory>
+        ensures { OnOk result (self.new ≡ self.old ++ cons_option (option_copied channel.entry) []) }
     {
-        match self.places.push(place) {
+        let Some(channel) = channel else {
+            return Ok(());
+        };
+        match self.channels.push(channel) {
             Ok(()) => Ok(()),
             Err(_) => Err(NoMemory),
         }
     }
+
+    /// Puts them in byte order of their names. It takes no memory.
+    pub(crate) fn sort(&mut self)
+        ensures channels { IsPermutation self.old self.new }
+        ensures order { IsSortedByKey (λ c. c.name) (slice_cmp nat_cmp) self.new }
+    {
+        self.channels.sort_unstable_by(
+            |a: &&Channel, b: &&Channel| -> Ordering
+                ensures { result ≡ slice_cmp nat_cmp a.now.now.name b.now.now.name }
+            { a.name.cmp(&b.name) },
+        );
+    }
 }
 
-/// Appends the places of the channels of these names, which are all there.
-pub(crate) fn push_places(
-    list: &[Channel],
-    names: &NameList,
-    into: &mut Candidates,
+/// Appends the channels in these slots.
+pub(crate) fn push_slots<'a>(
+    slots: &'a Slab<Channel>,
+    numbers: &Ids,
+    into: &mut Candidates<'a>,
 ) -> Result<(), NoMemory>
-    requires sorted { are_channels list.now ≡ true }
-    requires held { list_all (λ name. list_any (is_named name) list.now) names.now ≡ true }
-    ensures { OnOk result (into.new ≡ into.old ++ map (λ name. place_named name list.now) names.now) }
+    ensures { OnOk result (into.new ≡ into.old ++ filter_map (get slots.now) numbers.now) }
 {
-    for i in 0..names.len() {
-        into.push(place_in(list, names.at(i)))?;
+    for i in 0..numbers.len() {
+        into.push(slots.get(numbers.at(i)))?;
     }
     Ok(())
 }
 
-/// Appends the places of the channels of the key.
-pub(crate) fn push_of_key(
-    list: &[Channel],
-    key: &Name,
-    into: &mut Candidates,
-) -> Result<(), NoMemory>
-    ensures { OnOk result (into.new ≡ into.old ++ places_of (watches (Some key.now)) list.now) }
+// The channel, where it is on the key.
+fn of_key<'a>(channel: Option<&'a Channel>, key: &Name) -> Option<&'a Channel>
+    ensures { cons_option (option_copied result) [] ≡ filter (watches (Some key.now)) (cons_option (option_copied channel.entry) []) }
 {
-    for (at, channel) in list.iter().enumerate() {
-        if is_same(&channel.fence.key, key) {
-            into.push(at)?;
-        }
+    match channel {
+        Some(channel) if is_same(&channel.fence.key, key) => Some(channel),
+        _ => None,
+    }
+}
+
+/// Appends the channels of the key, of those in these slots.
+pub(crate) fn push_of_key<'a>(
+    slots: &'a Slab<Channel>,
+    order: &[usize],
+    key: &Name,
+    into: &mut Candidates<'a>,
+) -> Result<(), NoMemory>
+    ensures { OnOk result (into.new ≡ into.old ++ filter (watches (Some key.now)) (channels_in (get slots.now) order.now)) }
+{
+    for slot in order {
+        into.push(of_key(slots.get(*slot), key))?;
     }
     Ok(())
 }

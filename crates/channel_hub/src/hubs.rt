@@ -6,42 +6,45 @@ ghost use Rattle.world_data.specs.Worlds.{are_channels, channel_before, is_named
 ghost use Rattle.fence_model.specs.Messages.{loud_messages, watches};
 ghost use Rattle.world_data.specs.declared.worlds.World.{World};
 ghost use Rattle.world_data.specs.declared.worlds.Change.TheVariants.{Put, Del};
-ghost use Rattle.fence_index.specs.Marks.{mark_of};
 ghost use Rattle.fence_index.specs.Silence.{IfWhole};
 ghost use Rattle.fence_index.specs.Candidates.{box_if};
 ghost use Rattle.channel_hub.specs.Hubs.{IsPrepared, del_may_concern, may_concern, put_may_concern};
 ghost use Rattle.channel_hub.specs.MessageLaws.{messages_on};
-ghost use Rattle.channel_hub.specs.Places.{places_of};
 ghost use Rattle.rtree.specs.Ledgers.{IsRead};
 
-use crate::candidates::{Candidates, push_of_key, push_places};
-use crate::channel_order::{exchange, insert_reserved, place_of};
+use crate::candidates::{Candidates, push_of_key, push_slots};
+use crate::channel_slots::{exchange, insert_reserved, place_of};
 use byte_text::{Name, NoMemory};
 use fence_index::{FenceIndex, unconcerned_are_silent, watch_is_whole};
 use planar_geom::{BBox, box_of, shape_is_whole};
 use rtree::{Ledger, Steps};
+use slab::Slab;
 use std::alloc::Global;
 use std::marker::Model;
-use world_data::{Channel, NameList, Object};
+use world_data::{Channel, Object};
 
 /// The channels of a world, in byte order of their names, and an index of their fences. One more may be prepared, which is then put
 /// without taking memory.
 #[derive(Drop)]
 pub struct Hub {
-    channels: Vec<Channel>,
-    // The marks of these channels. There is room for the channel that is prepared in it.
+    // A channel stays in its slot until it is taken out. There is room for the channel that is prepared in the index.
+    slots: Slab<Channel>,
+    // The slots of all channels, by name. There is room for one more too.
+    order: Vec<usize>,
+    // Each channel under its slot.
     index: FenceIndex,
 }
 
 impl Model for Hub {
     ghost use Rattle.std.specs.Prelude.{vec_len, vec_capacity};
-    ghost use Rattle.channel_hub.specs.Hubs.{Held, IsKept};
+    ghost use Rattle.slab.specs.Slab.{get, slab_len};
+    ghost use Rattle.channel_hub.specs.Hubs.{Held, IsKept, channels_in};
 
     ghost Value = { Held };
 
-    ghost view = { λ h. record { channels = h.channels.items; prepared = h.index.prepared } };
+    ghost view = { λ h. record { channels = channels_in (get h.slots) h.order.items; prepared = h.index.prepared } };
 
-    ghost invariant = { λ h. IsKept h.channels.items h.index (vec_len h.channels) (vec_capacity h.channels) };
+    ghost invariant = { λ h. IsKept (get h.slots) h.order.items h.index (slab_len h.slots) h.slots.capacity (vec_len h.order) (vec_capacity h.order) };
 }
 
 impl Hub {
@@ -51,7 +54,8 @@ impl Hub {
         ensures prepared { result.prepared ≡ None }
     {
         Hub {
-            channels: Vec::new(alloc),
+            slots: Slab::new(alloc),
+            order: Vec::new(alloc),
             index: FenceIndex::new(alloc),
         }
     }
@@ -63,10 +67,10 @@ impl Hub {
         ensures ok { OnOk result (IsPrepared self.new channel.now) }
         ensures err { OnErr result (self.new.prepared ≡ self.old.prepared) }
     {
-        match self.channels.reserve(1) {
-            Ok(()) => self.index.prepare(alloc, channel),
-            Err(_) => Err(NoMemory),
+        if self.slots.reserve(1).is_err() || self.order.reserve(1).is_err() {
+            return Err(NoMemory);
         }
+        self.index.prepare(alloc, channel)
     }
 
     /// Puts the channel that was prepared at its place, and gives out the one of its name that stood there. None is prepared then.
@@ -78,15 +82,18 @@ impl Hub {
     {
         // The hub keeps that what its channels watch is whole: the law on those that no change concerns asks for it.
         watch_is_whole(&channel.fence.watch);
-        match place_of(self.channels.as_slice(), &channel.name) {
+        match place_of(&self.slots, self.order.as_slice(), &channel.name) {
             Ok(at) => {
-                self.index.take_out(&self.channels[at]);
-                self.index.put(&channel);
-                Some(exchange(&mut self.channels, at, channel))
+                let slot = self.order[at];
+                self.index.take_out(&self.slots[slot], slot);
+                self.index.put(&channel, slot);
+                Some(exchange(&mut self.slots, slot, channel))
             }
             Err(at) => {
-                self.index.put(&channel);
-                insert_reserved(&mut self.channels, at, channel);
+                let slot = self.slots.vacant_key();
+                self.index.put(&channel, slot);
+                self.slots.insert_reserved(channel);
+                insert_reserved(&mut self.order, at, slot);
                 None
             }
         }
@@ -98,10 +105,11 @@ impl Hub {
         ensures taken { result ≡ find (is_named name.now) self.old.channels }
         ensures prepared { self.new.prepared ≡ self.old.prepared }
     {
-        match place_of(self.channels.as_slice(), name) {
+        match place_of(&self.slots, self.order.as_slice(), name) {
             Ok(at) => {
-                let channel = self.channels.remove(at);
-                self.index.take_out(&channel);
+                let slot = self.order.remove(at);
+                let channel = self.slots.remove(slot);
+                self.index.take_out(&channel, slot);
                 Some(channel)
             }
             Err(_) => None,
@@ -113,7 +121,8 @@ impl Hub {
         ensures channels { self.new.channels ≡ [] }
         ensures prepared { self.new.prepared ≡ self.old.prepared }
     {
-        self.channels.clear();
+        self.slots.clear();
+        self.order.clear();
         self.index.clear();
     }
 
@@ -122,8 +131,8 @@ impl Hub {
         ensures none { IfNone result (find (is_named name.now) self.now.channels ≡ None) }
         ensures some { IfSome result (λ c. find (is_named name.now) self.now.channels ≡ Some c.now) }
     {
-        match place_of(self.channels.as_slice(), name) {
-            Ok(at) => Some(&self.channels[at]),
+        match place_of(&self.slots, self.order.as_slice(), name) {
+            Ok(at) => Some(self.at(at)),
             Err(_) => None,
         }
     }
@@ -133,7 +142,7 @@ impl Hub {
         ensures count { result ≡ length self.now.channels }
         ensures by_name { are_channels self.now.channels ≡ true }
     {
-        self.channels.len()
+        self.order.len()
     }
 
     /// The channel at this place, counted from 0 by ascending name.
@@ -141,11 +150,11 @@ impl Hub {
         requires { i < length self.now.channels }
         ensures { slice_get self.now.channels i ≡ Some result.now }
     {
-        &self.channels[i]
+        &self.slots[self.order[i]]
     }
 
-    /// The places, ascending, of the channels of the key which a change may concern that moves an object from one box, where it was there, to
-    /// another, where it is there after it. The steps do not fall, and rise by enough nodes to hold these places, at most 16 each.
+    /// The channels of the key which a change may concern that moves an object from one box, where it was there, to another, where it is
+    /// there after it. The steps do not fall, and rise by enough nodes to hold these channels, at most 16 each.
     pub fn candidates<L: Ledger>(
         &self,
         alloc: Global,
@@ -153,40 +162,38 @@ impl Hub {
         old: Option<BBox>,
         new: Option<BBox>,
         steps: &mut Steps<L>,
-    ) -> Result<Candidates, NoMemory>
-        ensures places { IfOk result (λ p. p ≡ places_of (may_concern key.now old new) self.now.channels) }
-        ensures read { IfOk result (λ p. IsRead 0 (length p) steps.old.count steps.new.count) }
+    ) -> Result<Candidates<'_>, NoMemory>
+        ensures channels { IfOk result (λ cs. cs ≡ filter (may_concern key.now old new) self.now.channels) }
+        ensures read { IfOk result (λ cs. IsRead 0 (length cs) steps.old.count steps.new.count) }
         ensures counted { IsRead 0 0 steps.old.count steps.new.count }
     {
-        let mut names = NameList::new(alloc);
-        self.index
-            .candidates(alloc, key, old, new, &mut names, steps)?;
+        let numbers = self.index.candidates(alloc, key, old, new, steps)?;
         let mut candidates = Candidates::new(alloc);
-        push_places(self.channels.as_slice(), &names, &mut candidates)?;
+        push_slots(&self.slots, &numbers, &mut candidates)?;
+        candidates.sort();
         Ok(candidates)
     }
 
-    /// The places, ascending, of the channels that a put may concern of an object in the place of the old one, where there is one. Every
-    /// other raises nothing: the messages are those of these channels alone. The steps rise by enough nodes to hold these places, at most
-    /// 16 each.
+    /// The channels that a put may concern of an object in the place of the old one, where there is one. Every other raises nothing: the
+    /// messages are those of these channels alone. The steps rise by enough nodes to hold these channels, at most 16 each.
     pub fn candidates_of_put<L: Ledger>(
         &self,
         alloc: Global,
         old: Option<&Object>,
         new: &Object,
         steps: &mut Steps<L>,
-    ) -> Result<Candidates, NoMemory>
-        ensures places { IfOk result (λ p. p ≡ places_of (put_may_concern (option_map (λ o. o.now) old.entry) new.now) self.now.channels) }
+    ) -> Result<Candidates<'_>, NoMemory>
+        ensures channels { IfOk result (λ cs. cs ≡ filter (put_may_concern (option_map (λ o. o.now) old.entry) new.now) self.now.channels) }
         ensures messages { (w : World) → w.channels ≡ self.now.channels → object_at w new.now.key new.now.id ≡ option_map (λ o. o.now) old.entry
             → loud_messages w (Put new.now)
             ≡ flat_map (messages_on w (Put new.now)) (filter (put_may_concern (option_map (λ o. o.now) old.entry) new.now) w.channels) }
-        ensures read { IfOk result (λ p. IsRead 0 (length p) steps.old.count steps.new.count) }
+        ensures read { IfOk result (λ cs. IsRead 0 (length cs) steps.old.count steps.new.count) }
         ensures counted { IsRead 0 0 steps.old.count steps.new.count }
     {
         // The law speaks of whole shapes and of the channels that are kept here.
         shape_is_whole(&new.shape);
         unconcerned_are_silent();
-        let _kept = &self.channels;
+        let _kept = &self.slots;
         self.candidates(
             alloc,
             &new.key,
@@ -196,32 +203,32 @@ impl Hub {
         )
     }
 
-    /// The places, ascending, of the channels that a del of an object may concern. Every other raises nothing: the messages are those of
-    /// these channels alone. The steps rise by enough nodes to hold these places, at most 16 each.
+    /// The channels that a del of an object may concern. Every other raises nothing: the messages are those of these channels alone. The
+    /// steps rise by enough nodes to hold these channels, at most 16 each.
     pub fn candidates_of_del<L: Ledger>(
         &self,
         alloc: Global,
         old: &Object,
         steps: &mut Steps<L>,
-    ) -> Result<Candidates, NoMemory>
-        ensures places { IfOk result (λ p. p ≡ places_of (del_may_concern old.now) self.now.channels) }
+    ) -> Result<Candidates<'_>, NoMemory>
+        ensures channels { IfOk result (λ cs. cs ≡ filter (del_may_concern old.now) self.now.channels) }
         ensures messages { (w : World) → w.channels ≡ self.now.channels → object_at w old.now.key old.now.id ≡ Some old.now
             → loud_messages w (Del old.now.key old.now.id)
             ≡ flat_map (messages_on w (Del old.now.key old.now.id)) (filter (del_may_concern old.now) w.channels) }
-        ensures read { IfOk result (λ p. IsRead 0 (length p) steps.old.count steps.new.count) }
+        ensures read { IfOk result (λ cs. IsRead 0 (length cs) steps.old.count steps.new.count) }
         ensures counted { IsRead 0 0 steps.old.count steps.new.count }
     {
         unconcerned_are_silent();
-        let _kept = &self.channels;
+        let _kept = &self.slots;
         self.candidates(alloc, &old.key, whole_box(Some(old)), None, steps)
     }
 
-    /// The places, ascending, of all channels of the key: a drop of it may concern each.
-    pub fn of_key(&self, alloc: Global, key: &Name) -> Result<Candidates, NoMemory>
-        ensures { IfOk result (λ p. p ≡ places_of (watches (Some key.now)) self.now.channels) }
+    /// All channels of the key: a drop of it may concern each.
+    pub fn of_key(&self, alloc: Global, key: &Name) -> Result<Candidates<'_>, NoMemory>
+        ensures { IfOk result (λ cs. cs ≡ filter (watches (Some key.now)) self.now.channels) }
     {
         let mut candidates = Candidates::new(alloc);
-        push_of_key(self.channels.as_slice(), key, &mut candidates)?;
+        push_of_key(&self.slots, self.order.as_slice(), key, &mut candidates)?;
         Ok(candidates)
     }
 }

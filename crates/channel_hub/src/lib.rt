@@ -2,7 +2,7 @@
 #![tactic(auto)]
 
 mod candidates;
-mod channel_order;
+mod channel_slots;
 mod hubs;
 
 pub use candidates::Candidates;

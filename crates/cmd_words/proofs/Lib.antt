@@ -12,7 +12,6 @@ pub mod ServedCommands
 pub mod SetWords
 pub mod FieldValues
 pub mod Coordinates
-pub mod NoneOf
 pub mod NoNumbers
 pub mod Seconds
 pub mod FieldLists

@@ -1,14 +1,14 @@
 -- What every command that is asked for keeps to.
 use Rattle.std.proofs.Common.{◌≡◌, ◌<◌, Bool, true, false, not, refl, ap, subst, List, [], ◌∷◌, ◌++◌, length, arith}
-use Rattle.std.specs.Prelude.{◌&&◌, Option, Some, None, is_none, unwrap_or, Result, Ok, Err, if◌then◌else◌, codes, IfSome, nat_lt}
-use Rattle.std.specs.List.{list_any, AllByRecursion}
-use Rattle.byte_text.specs.Names.{Bytes, is_word, is_name}
+use Rattle.std.specs.Prelude.{◌&&◌, Option, Some, None, is_none, unwrap_or, Ok, codes, IfSome, nat_lt}
+use Rattle.std.specs.List.{AllByRecursion}
+use Rattle.byte_text.specs.Names.{Bytes, is_name}
 use Rattle.world_model.specs.Grammar.{Form, Reading, spells, runs_out, done, word, maybe, ◌>>=◌, ◌>>◌, ◌or◌, where_, repeated, once_or_more, live, spelled, a_word}
 use Rattle.world_model.specs.Kinds.{name, glob, seconds, meters, lat_lon, four, geojson, when}
 use Rattle.world_data.specs.Limits.{max_tests}
 use Rattle.byte_text.specs.Globs.{is_well_formed}
 use Rattle.world_model.specs.Commands as table
-use Rattle.world_model.specs.Served.{asks, unbuilt}
+use Rattle.world_model.specs.Commands.{reads}
 use Rattle.world_model.specs.Sound.{IsSoundCommand, is_sound_from}
 use Rattle.world_data.specs.declared.channels.Kind.{Kind}
 use Rattle.world_data.specs.declared.channels.Kind.TheVariants.{Within, Intersects}
@@ -19,9 +19,6 @@ use Rattle.world_model.specs.declared.commands.Only.TheVariants.{Any}
 use Rattle.world_model.specs.declared.commands.Command.{Command}
 use Rattle.world_model.specs.declared.commands.Command.TheVariants as command
 use Rattle.cmd_words.proofs.Binds.{each_both}
-use Rattle.cmd_words.proofs.NoneOf.{none_is}
-use Rattle.world_model.specs.declared.faults.WordFault.{WordFault}
-use Rattle.world_model.specs.declared.faults.WordFault.TheVariants as fault
 use Rattle.world_model.specs.FormLaws.{Each}
 use Rattle.world_model.specs.MadeForms.{Makes, Said, makes_done, makes_or, makes_none, makes_where, makes_word, makes_bind, makes_behind, makes_then, makes_maybe, makes_repeated}
 use Rattle.world_model.specs.SoundLaws.{reads_sound}
@@ -237,42 +234,41 @@ makes_ping = makes_then Keeps (word (codes "PING")) _ (makes_done Keeps command.
 makes_quit : Makes Keeps (table.of_none (codes "QUIT") command.Quit)
 makes_quit = makes_then Keeps (word (codes "QUIT")) _ (makes_done Keeps command.Quit (λ sound. tt))
 
--- every reading of words whose first is no name that is not built yet
+makes_shrink : Makes Keeps (table.of_none (codes "AOFSHRINK") command.Shrink)
+makes_shrink = makes_then Keeps (word (codes "AOFSHRINK")) _ (makes_done Keeps command.Shrink (λ sound. tt))
 
-module _ (called : Bytes) (rest : List Bytes) where
-  -- a form that begins with another word has no reading
-  other : {B : Type 0} (P : Reading B → Type 0) (n : Bytes) (g : Bytes → Form B) → is_word called n ≡ false → Each P ((word n >>= g) (called ∷ rest))
-  other P n g e = rw e tt
+-- every reading of words
 
-  table_keeps : AllByRecursion (λ n. is_word called n ≡ false) unbuilt → Each (Said Keeps) (table.command_table (called ∷ rest))
-  table_keeps u =
-      each_both (Said Keeps) _ _ (makes_set.made (called ∷ rest)) (
-      each_both (Said Keeps) _ _ (makes_get.made (called ∷ rest)) (
-      each_both (Said Keeps) _ _ (makes_del.made (called ∷ rest)) (
-      each_both (Said Keeps) _ _ (makes_pdel.made (called ∷ rest)) (
-      each_both (Said Keeps) _ _ (makes_drop.made (called ∷ rest)) (
-      each_both (Said Keeps) _ _ (makes_fset.made (called ∷ rest)) (
-      each_both (Said Keeps) _ _ (makes_fget.made (called ∷ rest)) (
-      each_both (Said Keeps) _ _ (makes_expire.made (called ∷ rest)) (
-      each_both (Said Keeps) _ _ (makes_persist.made (called ∷ rest)) (
-      each_both (Said Keeps) _ _ (makes_ttl.made (called ∷ rest)) (
-      each_both (Said Keeps) _ _ (makes_keys.made (called ∷ rest)) (
-      each_both (Said Keeps) _ _ (makes_bounds.made (called ∷ rest)) (
-      each_both (Said Keeps) _ _ (makes_stats.made (called ∷ rest)) (
-      each_both (Said Keeps) _ _ (makes_flush.made (called ∷ rest)) (
-      each_both (Said Keeps) _ _ (other (Said Keeps) (codes "AOFSHRINK") _ u.0) (
-      each_both (Said Keeps) _ _ (makes_ping.made (called ∷ rest)) (
-      each_both (Said Keeps) _ _ (makes_quit.made (called ∷ rest)) (
-      each_both (Said Keeps) _ _ (makes_scan.made (called ∷ rest)) (
-      each_both (Said Keeps) _ _ ((makes_search (codes "WITHIN") Within).made (called ∷ rest)) (
-      each_both (Said Keeps) _ _ ((makes_search (codes "INTERSECTS") Intersects).made (called ∷ rest)) (
-      each_both (Said Keeps) _ _ (makes_nearby.made (called ∷ rest)) (
-      each_both (Said Keeps) _ _ (makes_setchan.made (called ∷ rest)) (
-      each_both (Said Keeps) _ _ (makes_delchan.made (called ∷ rest)) (
-      each_both (Said Keeps) _ _ (makes_pdelchan.made (called ∷ rest)) (
-      each_both (Said Keeps) _ _ (makes_chans.made (called ∷ rest)) (
-      each_both (Said Keeps) _ _ (makes_subscribe.made (called ∷ rest)) (
-      each_both (Said Keeps) _ _ (makes_psubscribe.made (called ∷ rest)) tt))))))))))))))))))))))))))
+module _ (words : List Bytes) where
+  table_keeps : Each (Said Keeps) (table.command_table words)
+  table_keeps =
+      each_both (Said Keeps) _ _ (makes_set.made words) (
+      each_both (Said Keeps) _ _ (makes_get.made words) (
+      each_both (Said Keeps) _ _ (makes_del.made words) (
+      each_both (Said Keeps) _ _ (makes_pdel.made words) (
+      each_both (Said Keeps) _ _ (makes_drop.made words) (
+      each_both (Said Keeps) _ _ (makes_fset.made words) (
+      each_both (Said Keeps) _ _ (makes_fget.made words) (
+      each_both (Said Keeps) _ _ (makes_expire.made words) (
+      each_both (Said Keeps) _ _ (makes_persist.made words) (
+      each_both (Said Keeps) _ _ (makes_ttl.made words) (
+      each_both (Said Keeps) _ _ (makes_keys.made words) (
+      each_both (Said Keeps) _ _ (makes_bounds.made words) (
+      each_both (Said Keeps) _ _ (makes_stats.made words) (
+      each_both (Said Keeps) _ _ (makes_flush.made words) (
+      each_both (Said Keeps) _ _ (makes_shrink.made words) (
+      each_both (Said Keeps) _ _ (makes_ping.made words) (
+      each_both (Said Keeps) _ _ (makes_quit.made words) (
+      each_both (Said Keeps) _ _ (makes_scan.made words) (
+      each_both (Said Keeps) _ _ ((makes_search (codes "WITHIN") Within).made words) (
+      each_both (Said Keeps) _ _ ((makes_search (codes "INTERSECTS") Intersects).made words) (
+      each_both (Said Keeps) _ _ (makes_nearby.made words) (
+      each_both (Said Keeps) _ _ (makes_setchan.made words) (
+      each_both (Said Keeps) _ _ (makes_delchan.made words) (
+      each_both (Said Keeps) _ _ (makes_pdelchan.made words) (
+      each_both (Said Keeps) _ _ (makes_chans.made words) (
+      each_both (Said Keeps) _ _ (makes_subscribe.made words) (
+      each_both (Said Keeps) _ _ (makes_psubscribe.made words) tt))))))))))))))))))))))))))
 
 said : (rs : List (Reading Command)) (c : Command) → Each (Said Keeps) rs → spelled (live rs) ≡ Some c → Keeps c
 said [] c all e = absurd cc
@@ -280,20 +276,13 @@ said (spells d [] ∷ rs) c all e = let same : d ≡ c = cc in subst Keeps same 
 said (spells d (w ∷ rest) ∷ rs) c all e = said rs c all.1 e
 said (runs_out due ∷ rs) c all e = said rs c all.1 e
 
-spelled_keeps : (called : Bytes) (rest : List Bytes) (c : Command) → list_any (is_word called) unbuilt ≡ false → table.command_spelled (called ∷ rest) ≡ Some c → Keeps c
+spelled_keeps : (words : List Bytes) (c : Command) → table.command_spelled words ≡ Some c → Keeps c
 unfolding table.readings
-spelled_keeps called rest c u e = said (table.command_table (called ∷ rest)) c (table_keeps called rest (none_is called unbuilt u)) e
+spelled_keeps words c e = said (table.command_table words) c (table_keeps words) e
 
 ok_of : (words : List Bytes) (o : Option Command) (c : Command) → table.ok_or_fault words o ≡ Ok c → o ≡ Some c
 ok_of words (Some d) c e = ap Some (cc e)
 ok_of words None c e = absurd cc
 
-asked_is : (b : Bool) (r : Result Command WordFault) (c : Command) → (if not b then r else Err fault.Unserved) ≡ Ok c → (b ≡ false) × (r ≡ Ok c)
-asked_is true r c e = absurd cc
-asked_is false r c e = (refl, e)
-
-pub commands_are_served : (words : List Bytes) (c : Command) → asks words ≡ Ok c → IsServed c
-commands_are_served [] c e = absurd cc
-commands_are_served (called ∷ rest) c e =
-    let h = asked_is (list_any (is_word called) unbuilt) (table.reads (called ∷ rest)) c e in
-    spelled_keeps called rest c h.0 (ok_of (called ∷ rest) (table.command_spelled (called ∷ rest)) c h.1) (reads_sound (called ∷ rest) c h.1)
+pub commands_are_served : (words : List Bytes) (c : Command) → reads words ≡ Ok c → IsServed c
+commands_are_served words c e = spelled_keeps words c (ok_of words (table.command_spelled words) c e) (reads_sound words c e)

@@ -5,7 +5,7 @@ use Rattle.byte_text.specs.Names.{Bytes, is_name}
 use Rattle.byte_text.specs.Globs.{is_well_formed}
 use Rattle.geo_text.specs.Texts.{shape_of}
 use Rattle.world_data.specs.Filters.{are_fields}
-use Rattle.world_model.specs.Served.{asks}
+use Rattle.world_model.specs.Commands.{reads}
 use Rattle.world_data.specs.Sound.{is_sound_area, is_sound_query}
 use Rattle.world_model.specs.Sound.{is_sound_reach, is_sound_setting}
 use Rattle.world_model.specs.declared.commands.AreaWords.{AreaWords}
@@ -80,6 +80,7 @@ IsServed (command.Keys pattern) = IsPattern pattern
 IsServed (command.Bounds key) = is_name key ≡ true
 IsServed (command.Stats keys) = (0 < length keys) × AllByRecursion (λ key. is_name key ≡ true) keys
 IsServed command.Flush = Unit {0}
+IsServed command.Shrink = Unit {0}
 IsServed command.Ping = Unit {0}
 IsServed command.Quit = Unit {0}
 IsServed (command.Scan key q) = (is_name key ≡ true) × IsScan q
@@ -91,8 +92,7 @@ IsServed (command.Pdelchan pattern) = IsPattern pattern
 IsServed (command.Chans pattern) = IsPattern pattern
 IsServed (command.Subscribe names) = (0 < length names) × AllByRecursion (λ name. is_name name ≡ true) names
 IsServed (command.Psubscribe patterns) = (0 < length patterns) × AllByRecursion IsPattern patterns
-IsServed command.Shrink = ⊥
 
 -- what words ask for is served
 abbrev pub CommandsAreServed : Type 0
-CommandsAreServed = (words : List Bytes) (c : Command) → asks words ≡ Ok c → IsServed c
+CommandsAreServed = (words : List Bytes) (c : Command) → reads words ≡ Ok c → IsServed c

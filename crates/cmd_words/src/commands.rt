@@ -1,12 +1,10 @@
 //! The commands, each read from the words behind its name.
 
 ghost use Rattle.std.specs.Prelude.{◌≡◌, [], ◌∷◌, ◌++◌, true, OnOk, IfOk, IfErr, Ok, Err};
-ghost use Rattle.std.specs.List.{list_any};
-ghost use Rattle.byte_text.specs.Names.{Bytes, is_word};
+ghost use Rattle.byte_text.specs.Names.{Bytes};
 ghost use Rattle.world_model.specs.Grammar.{done};
 ghost use Rattle.world_model.specs.declared.commands.Command.TheVariants as command;
 ghost use Rattle.world_model.specs.Commands.{reads};
-ghost use Rattle.world_model.specs.Served.{asks, is_served, unbuilt};
 ghost use Rattle.cmd_words.specs.CommandNames.{IsNamed};
 ghost use Rattle.cmd_words.specs.Progress.{IfRefused, all_words, Follows, Answers, a_name, key_and_id, get_options};
 
@@ -25,35 +23,8 @@ use std::alloc::Global;
 use world_data::Kind;
 use world_model::{Command, Shown, WordFault};
 
-/// The command that the words of a request ask for, or how they are refused: as not served yet where their first word is the name
-/// of a command that is not, and else as [`read_command`] says.
+/// The command that the words of a request ask for, or how they are refused.
 pub fn command_of(alloc: Global, words: &Request) -> Result<Command, CommandFault>
-    ensures ok { IfOk result (λ c. asks words.now ≡ Ok c) }
-    ensures err { IfErr result (λ why. IfRefused why (λ fault. asks words.now ≡ Err fault)) }
-{
-    if is_served(words) {
-        read_command(alloc, words)
-    } else {
-        Err(CommandFault::Refused(WordFault::Unserved))
-    }
-}
-
-// Whether the first word is no name of a command that is not served yet.
-fn is_served(words: &Request) -> bool
-    ensures { result ≡ is_served words.now }
-{
-    words.words() > 0 && !is_unbuilt(words.word(0))
-}
-
-// Whether this is the name of a command that is not built yet.
-fn is_unbuilt(called: &[u8]) -> bool
-    ensures { result ≡ list_any (is_word called.now) unbuilt }
-{
-    called.eq_ignore_ascii_case(b"AOFSHRINK")
-}
-
-/// The command that the words of a request spell, or how they are refused, whether it is served or not.
-pub fn read_command(alloc: Global, words: &Request) -> Result<Command, CommandFault>
     ensures ok { IfOk result (λ c. reads words.now ≡ Ok c) }
     ensures err { IfErr result (λ why. IfRefused why (λ fault. reads words.now ≡ Err fault)) }
 {

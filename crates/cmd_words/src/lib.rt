@@ -26,6 +26,6 @@ mod setchans;
 mod sets;
 mod word_kinds;
 
-pub use commands::{command_of, read_command};
+pub use commands::command_of;
 pub use faults::CommandFault;
 pub use laws::served_commands;

@@ -6,7 +6,7 @@ use byte_text::{NoMemory, Request};
 use resp_frames::{Fed, Requests};
 use std::alloc::Global;
 use std::marker::Model;
-use tile_core::Core;
+use tile_core::{Core, NoLedger};
 use world_model::{Asked, Called, Frames, Taken, Touched};
 
 // The bytes that one read of a socket brings at most.
@@ -59,7 +59,9 @@ impl Driver {
         }
         self.touched.clear();
         let asked = Asked::Words(request);
-        let called = self.core.call(self.session, 1, &asked, &mut self.touched);
+        let called = self
+            .core
+            .call(self.session, 1, &asked, &mut self.touched, &mut NoLedger);
         let taken = self.core.take(self.session, &mut self.frames);
         self.frames.clear();
         matches!(called, Called::Ok) && matches!(taken, Taken::Some(_))

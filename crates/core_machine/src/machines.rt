@@ -7,7 +7,7 @@ ghost use Rattle.world_model.specs.Histories.{opening_hall};
 use byte_text::NoMemory;
 use std::alloc::Global;
 use std::marker::Model;
-use tile_core::Core;
+use tile_core::{Core, NoLedger};
 use work_gen::Machine;
 use world_data::Frames;
 use world_model::{Asked, Called, EnterFault, Taken, Touched};
@@ -57,7 +57,8 @@ impl Machine for CoreMachine {
 
     fn call(&mut self, session: u32, asked: &Asked) -> Called {
         self.touched.clear();
-        self.core.call(session, 0, asked, &mut self.touched)
+        self.core
+            .call(session, 0, asked, &mut self.touched, &mut NoLedger)
     }
 
     fn take(&mut self, session: u32, into: &mut Frames) -> Taken {

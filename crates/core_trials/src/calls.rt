@@ -9,7 +9,7 @@ use world_data::MAX_MOMENT;
 use world_model::{Asked, Called, Frames, Taken, Touched};
 
 // The request of a line's words, which are split at spaces.
-fn request(alloc: Global, line: &str) -> Result<Request, Fail> {
+pub(crate) fn request(alloc: Global, line: &str) -> Result<Request, Fail> {
     let mut words = Request::new(alloc);
     for word in line.split(' ') {
         if words.words() >= 64 {
@@ -36,7 +36,13 @@ fn called(
         return Err(Fail::from("a test's request is proper"));
     }
     let mut touched = Touched::new(alloc)?;
-    let answer = core.call(session, moment, &Asked::Words(words), &mut touched);
+    let answer = core.call(
+        session,
+        moment,
+        &Asked::Words(words),
+        &mut touched,
+        &mut NoLedger,
+    );
     if touched.names(session) != (answer == Called::Ok) {
         return Err(Fail::from("the session that was answered is named, and no other"));
     }
@@ -96,7 +102,7 @@ fn answer_commands(rt: &impl Abort, alloc: Global, core: &mut Core) -> Result<()
             "-ERR wrong number of arguments for 'del' command\r\n",
         ),
         ("NOPE k", "-ERR unknown command 'NOPE'\r\n"),
-        ("AOFSHRINK", "-ERR not served yet\r\n"),
+        ("AOFSHRINK", "+OK\r\n"),
     ] {
         assert_eq!(rt; called(alloc, core, 1, 0, line)?, Called::Ok, "{line}");
         assert_eq!(rt; taken(alloc, core, 1)?.bytes(), reply.as_bytes(), "{line}");
@@ -225,9 +231,15 @@ fn end_sessions(rt: &impl Abort, alloc: Global, core: &mut Core) -> Result<(), F
     assert_eq!(rt; called(alloc, core, 1, 0, "PING")?, Called::Gone);
     assert_eq!(rt; taken(alloc, core, 1)?.bytes(), "+OK\r\n".as_bytes());
     let broken = Asked::Broken(RespFault::BadType);
-    assert_eq!(rt; core.call(2, 0, &broken, &mut touched), Called::Ok);
+    assert_eq!(rt;
+        core.call(2, 0, &broken, &mut touched, &mut NoLedger),
+        Called::Ok
+    );
     touched.clear();
-    assert_eq!(rt; core.call(2, 0, &broken, &mut touched), Called::Gone);
+    assert_eq!(rt;
+        core.call(2, 0, &broken, &mut touched, &mut NoLedger),
+        Called::Gone
+    );
     assert_eq!(rt;
         taken(alloc, core, 2)?.bytes(),
         "-ERR protocol error: bad type\r\n".as_bytes()
@@ -235,7 +247,7 @@ fn end_sessions(rt: &impl Abort, alloc: Global, core: &mut Core) -> Result<(), F
     core.close_session(3);
     core.remove_session(4);
     touched.clear();
-    assert_eq!(rt; core.tick(5, &mut touched), Called::Ok);
+    assert_eq!(rt; core.tick(5, &mut touched, &mut NoLedger), Called::Ok);
     let mut frames = Frames::new(alloc)?;
     assert_eq!(rt; core.take(1, &mut frames), Taken::Ended);
     assert_eq!(rt; core.take(2, &mut frames), Taken::Ended);

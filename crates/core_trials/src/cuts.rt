@@ -4,7 +4,7 @@ use crate::lines::plain_request;
 use std::alloc::Global;
 use std::process::Abort;
 use std::test::Fail;
-use tile_core::Core;
+use tile_core::{Core, NoLedger};
 use world_model::{Asked, Called, Frames, Taken, Touched};
 
 // How the call of a session with a line is answered.
@@ -14,7 +14,13 @@ fn called(alloc: Global, core: &mut Core, session: u32, line: &str) -> Result<Ca
         return Err(Fail::from("a trial's request is proper"));
     }
     let mut touched = Touched::new(alloc)?;
-    Ok(core.call(session, 0, &Asked::Words(words), &mut touched))
+    Ok(core.call(
+        session,
+        0,
+        &Asked::Words(words),
+        &mut touched,
+        &mut NoLedger,
+    ))
 }
 
 // How many frames a session takes until there is none.

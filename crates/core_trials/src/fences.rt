@@ -6,7 +6,7 @@ use byte_text::{NoMemory, Request, Text, push_i64};
 use std::alloc::Global;
 use std::process::Abort;
 use std::test::Fail;
-use tile_core::Core;
+use tile_core::{Core, NoLedger};
 use world_model::{Asked, Called, Frames, Taken, Touched};
 
 // What the letters of a line stand for: a point, a channel, two places and a distance.
@@ -96,7 +96,14 @@ fn asked(alloc: Global, core: &mut Core, session: u32, words: Request) -> Result
         return Err(Fail::from("a trial's request is proper"));
     }
     let mut touched = Touched::new(alloc)?;
-    if core.call(session, 0, &Asked::Words(words), &mut touched) != Called::Ok {
+    if core.call(
+        session,
+        0,
+        &Asked::Words(words),
+        &mut touched,
+        &mut NoLedger,
+    ) != Called::Ok
+    {
         return Err(Fail::from("a call is done"));
     }
     Ok(())

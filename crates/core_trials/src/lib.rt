@@ -16,6 +16,8 @@ mod lines;
 #[cfg(test)]
 mod plain;
 #[cfg(test)]
+mod records;
+#[cfg(test)]
 mod tests;
 #[cfg(test)]
 mod visits;

@@ -6,7 +6,7 @@ use byte_text::{Request, Text};
 use std::alloc::Global;
 use std::process::Abort;
 use std::test::Fail;
-use tile_core::Core;
+use tile_core::{Core, NoLedger};
 use world_data::MAX_MOMENT;
 use world_model::{Asked, Called, Frames, Touched};
 
@@ -17,7 +17,7 @@ fn answer(alloc: Global, core: &mut Core, moment: u64, words: Request) -> Result
         return Err(Fail::from("a trial's request is proper"));
     }
     let mut touched = Touched::new(alloc)?;
-    if core.call(1, moment, &Asked::Words(words), &mut touched) != Called::Ok {
+    if core.call(1, moment, &Asked::Words(words), &mut touched, &mut NoLedger) != Called::Ok {
         return Err(Fail::from("a call is done"));
     }
     let mut frames = Frames::new(alloc)?;

@@ -4,7 +4,7 @@ use crate::lines::{Fill, filled};
 use byte_text::{NoMemory, Text, push_u64};
 use std::alloc::Global;
 use std::test::Fail;
-use tile_core::Core;
+use tile_core::{Core, NoLedger};
 use world_model::{Asked, Called, Frames, Touched};
 
 const FENCE: &str = "SETCHAN f# WITHIN k FENCE DETECT enter BOUNDS @0 @0 @50 @50";
@@ -42,7 +42,7 @@ fn visits(alloc: Global, core: &mut Core, line: &str, number: u32) -> Result<u64
     }
     let before = core.visited();
     let mut touched = Touched::new(alloc)?;
-    if core.call(1, 0, &Asked::Words(words), &mut touched) != Called::Ok {
+    if core.call(1, 0, &Asked::Words(words), &mut touched, &mut NoLedger) != Called::Ok {
         return Err(Fail::from("a call is done"));
     }
     let mut frames = Frames::new(alloc)?;

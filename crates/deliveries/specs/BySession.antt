@@ -10,7 +10,7 @@ use Rattle.world_data.specs.Expiry.{expired}
 use Rattle.world_data.specs.declared.worlds.World.{World}
 use Rattle.world_model.specs.Subscriptions.{Sub}
 use Rattle.world_model.specs.Effects.{Effect}
-use Rattle.world_model.specs.Served.{asks}
+use Rattle.world_model.specs.Commands.{reads}
 use Rattle.world_model.specs.declared.commands.Command.{Command}
 use Rattle.world_model.specs.declared.faults.WordFault.{WordFault}
 use Rattle.world_model.specs.declared.events.Asked.{Asked}
@@ -155,7 +155,7 @@ caller_alone n s (t ∷ ss) o found = by (is_session n t) refl (caller_alone n s
 -- the caller hears nothing, or its call writes nothing
 hears_or_writes : (w : World) (now : ℕ) (subs : List Sub) (asked : Asked) → ((effect_of_asked w now subs asked).writes ≡ []) ⊎ (subs ≡ [])
 hears_or_writes w now [] asked = inr refl
-hears_or_writes w now (s ∷ subs) (Words words) = inl (of_read (asks words))
+hears_or_writes w now (s ∷ subs) (Words words) = inl (of_read (reads words))
   where
     of_read : (r : Result Command WordFault) → (effect_of_read w now (s ∷ subs) r).writes ≡ []
     of_read (Ok c) = four_keep w now (s ∷ subs) c refl

@@ -9,7 +9,7 @@ use Rattle.world_model.specs.Subscriptions.{Sub}
 use Rattle.world_model.specs.Effects.{Effect}
 use Rattle.fence_model.specs.Writes.{Write, dels}
 use Rattle.world_data.specs.Expiry.{expired}
-use Rattle.world_model.specs.Served.{asks}
+use Rattle.world_model.specs.Commands.{reads}
 use Rattle.world_model.specs.Refusals.{broken_reply}
 use Rattle.world_model.specs.Halls.{Hall, Session, is_live, is_session, session_of, place, place_all, placed_each, change_session, apply_all, due, closed_if, close_session, do_effect, do_words, do_asked, do_live, do_call}
 use Rattle.world_data.specs.declared.worlds.World.{World}
@@ -141,7 +141,7 @@ same_subs : (h : Hall) (n : ℕ) → change_session (subscribing []) n h ≡ h
 same_subs h n = ap (λ (ss : List Session). record h { sessions = ss }) (none_changed n (subscribing []) h.sessions (λ s. refl))
 
 pub asked_effect : (h : Hall) (s : Session) (asked : Asked) → do_asked h s asked ≡ do_effect h s.number (effect_of_asked h.world h.now s.subs asked)
-asked_effect h s (Words words) = of_read (asks words)
+asked_effect h s (Words words) = of_read (reads words)
   where
     of_read : (r : Result Command WordFault) → do_words h s r ≡ do_effect h s.number (effect_of_read h.world h.now s.subs r)
     of_read (Ok c) = refl

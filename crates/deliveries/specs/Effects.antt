@@ -29,7 +29,7 @@ use Rattle.world_model.specs.declared.commands.Command.TheVariants as command
 use Rattle.world_model.specs.declared.faults.WordFault.{WordFault}
 use Rattle.world_model.specs.declared.events.Asked.{Asked}
 use Rattle.world_model.specs.declared.events.Asked.TheVariants.{Words, Broken}
-use Rattle.world_model.specs.Served.{asks}
+use Rattle.world_model.specs.Commands.{reads}
 use Rattle.deliveries.specs.Plans.{IsAnswer, SubscribesOrChanges, subscribes, effect_of_read, effect_of_asked}
 
 -- one reply and no subscription
@@ -195,7 +195,7 @@ pub subscribing_keeps : (w : World) (now : ℕ) (held : List Sub) (c : Command) 
 subscribing_keeps w now held c e = (both_keep w now held c e).same
 
 pub either : (w : World) (now : ℕ) (held : List Sub) (asked : Asked) → SubscribesOrChanges (effect_of_asked w now held asked)
-either w now held (Words words) = of_read (asks words)
+either w now held (Words words) = of_read (reads words)
   where
     of_command : (c : Command) (b : Bool) → subscribes c ≡ b → SubscribesOrChanges (effect w now held c)
     of_command c true e = inr (subscribing_keeps w now held c e)

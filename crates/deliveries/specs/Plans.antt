@@ -10,7 +10,7 @@ use Rattle.world_model.specs.Effects.{Effect, says, effect}
 use Rattle.fence_model.specs.Writes.{Write, dels}
 use Rattle.world_data.specs.Expiry.{expired}
 use Rattle.world_model.specs.Refusals.{fault_reply, broken_reply}
-use Rattle.world_model.specs.Served.{asks}
+use Rattle.world_model.specs.Commands.{reads}
 use Rattle.world_model.specs.Halls.{Hall, Session, is_live, cut, closing, session_of, placed_each}
 use Rattle.world_data.specs.Frames.{frame_bytes}
 use Rattle.world_data.specs.declared.worlds.World.{World}
@@ -35,7 +35,7 @@ ends_with reply = record { replies = reply ∷ []; subs = []; writes = []; close
 
 -- what is asked does it: the words, or the fault of a broken protocol, behind which the session ends
 abbrev pub effect_of_asked : World → ℕ → List Sub → Asked → Effect
-effect_of_asked w now subs (Words words) = effect_of_read w now subs (asks words)
+effect_of_asked w now subs (Words words) = effect_of_read w now subs (reads words)
 effect_of_asked w now subs (Broken f) = ends_with (broken_reply f)
 
 -- what a session's request will do: the frames of its replies, its new subscriptions, the frames that its changes bring, the world after them and the bytes of their records

@@ -1,5 +1,5 @@
 -- The boxes of the channels of each key, beside the numbers of the channels.
-use Rattle.std.specs.Prelude.{ℕ, ◌≡◌, ◌+◌, Bool, true, cond, List, [], ◌++◌, if◌then◌else◌}
+use Rattle.std.specs.Prelude.{ℕ, ◌≡◌, ◌≤◌, ◌+◌, Bool, true, cond, List, [], ◌++◌, if◌then◌else◌}
 use Rattle.std.specs.List.{AllByRecursion, sum_by}
 use Rattle.byte_text.specs.Names.{Bytes, before, same}
 use Rattle.planar_geom.specs.Points.{Bounds, boxes_meet}
@@ -49,6 +49,18 @@ weight_in r key w boxes = sum_by (λ s. cond (same s.key key) (sum_by w (part r 
 -- what the box of a channel weighs, where it is on the key and is named for this reason
 abbrev pub weight_on : Reason → Bytes → (Pair → ℕ) → Mark → ℕ → ℕ
 weight_on r key w m n = cond (is_of_key key m) (weight_of w (box_for r m) n) 0
+
+-- the same boxes under the same numbers, whatever room there is
+abbrev pub AreSame : List KeyBoxes → List KeyBoxes → Type 0
+AreSame old new = (r : Reason) (key : Bytes) (w : Pair → ℕ) → weight_in r key w new ≡ weight_in r key w old
+
+-- the boxes of one channel more, under its number
+abbrev pub IsOneMore : Mark → ℕ → List KeyBoxes → List KeyBoxes → Type 0
+IsOneMore m n few many = (r : Reason) (key : Bytes) (w : Pair → ℕ) → weight_in r key w many ≡ weight_in r key w few + weight_on r key w m n
+
+-- the boxes of the channel are among these, under its number
+abbrev pub IsAmong : Mark → ℕ → List KeyBoxes → Type 0
+IsAmong m n boxes = (r : Reason) (w : Pair → ℕ) → weight_on r m.key w m n ≤ weight_in r m.key w boxes
 
 -- what the number of a pair weighs where its box meets another
 abbrev pub met_weight : Bounds → (ℕ → ℕ) → Pair → ℕ

@@ -1,5 +1,5 @@
 -- The channels that a change may concern, by boxes alone.
-use Rattle.std.specs.Prelude.{Bool, false, ◌&&◌, ◌||◌, List, filter, map, Option, Some, None, is_some, is_none, option_map}
+use Rattle.std.specs.Prelude.{Bool, false, ◌&&◌, ◌||◌, Option, Some, None, is_some, is_none, option_map}
 use Rattle.byte_text.specs.Names.{Bytes}
 use Rattle.planar_geom.specs.Points.{Bounds, boxes_meet, box_round_both}
 use Rattle.planar_geom.specs.Shapes.{box_of}
@@ -24,17 +24,14 @@ both_meet (Some b) (Some c) = boxes_meet b c
 abbrev pub concerns : Option Bounds → Bool → Mark → Bool
 concerns round put m = (put && (is_none m.area || m.outside)) || both_meet round m.area
 
--- the names of the channels of the key that are concerned, where a change moves something in this box
-abbrev pub named_near : Bytes → Bounds → Bool → List Mark → List Bytes
-named_near key round put marks = map (λ m. m.name) (filter (concerns (Some round) put) (filter (is_of_key key) marks))
-
 -- the change moves an object from the old box, where it was there, to the new one, where it is there after it
 abbrev pub is_concerned : Option Bounds → Option Bounds → Mark → Bool
 is_concerned old new m = concerns (round_of old new) (is_some new) m
 
--- the names of the channels of the key that are concerned
-abbrev pub candidates_of : Bytes → Option Bounds → Option Bounds → List Mark → List Bytes
-candidates_of key old new marks = map (λ m. m.name) (filter (is_concerned old new) (filter (is_of_key key) marks))
+-- there is a channel, on the key, that is concerned
+abbrev pub is_named : Bytes → Option Bounds → Bool → Option Mark → Bool
+is_named key round put None = false
+is_named key round put (Some m) = is_of_key key m && concerns round put m
 
 -- the box of an object that may be there
 abbrev pub box_if : Option Object → Option Bounds

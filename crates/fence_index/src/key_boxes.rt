@@ -5,16 +5,17 @@ ghost use Rattle.std.specs.List.{sum_by};
 ghost use Rattle.rtree.specs.Pairs.{Pair};
 ghost use Rattle.rtree.specs.Ledgers.{IsRead};
 ghost use Rattle.fence_index.specs.Held.{weight_of};
+ghost use Rattle.fence_index.specs.Marks.{mark_of};
 ghost use Rattle.fence_index.specs.Reasons.{Reason, box_for};
 ghost use Rattle.fence_index.specs.Boxed.{HasRoom, IsFresh, found, part};
 
 use crate::box_sets::BoxSet;
-use crate::marks::Mark;
 use crate::nearness::{always_box, near_box, spot, wide_box};
 use byte_text::{Name, NoMemory};
 use planar_geom::BBox;
 use rtree::{Ids, Ledger, Steps};
 use std::alloc::Global;
+use world_data::Channel;
 
 /// The boxes of the channels of a key, by the reason for which a channel is named.
 #[derive(Drop)]
@@ -30,52 +31,52 @@ pub(crate) struct KeyBoxes {
 
 impl KeyBoxes {
     /// The key of a channel without a box, and room for the channel's.
-    pub(crate) fn of(alloc: Global, mark: &Mark) -> Result<KeyBoxes, NoMemory>
-        ensures { IfOk result (λ s. IsFresh mark.now s) }
+    pub(crate) fn of(alloc: Global, channel: &Channel) -> Result<KeyBoxes, NoMemory>
+        ensures { IfOk result (λ s. IsFresh (mark_of channel.now) s) }
     {
         let mut boxes = KeyBoxes {
-            key: mark.key.copy(alloc)?,
+            key: channel.fence.key.copy(alloc)?,
             near: BoxSet::new(alloc),
             wide: BoxSet::new(alloc),
             always: BoxSet::new(alloc),
         };
-        boxes.reserve(mark)?;
+        boxes.reserve(channel)?;
         Ok(boxes)
     }
 
     /// Takes room for the boxes of one more channel. The boxes stay, and no room is lost.
-    pub(crate) fn reserve(&mut self, mark: &Mark) -> Result<(), NoMemory>
+    pub(crate) fn reserve(&mut self, channel: &Channel) -> Result<(), NoMemory>
         ensures key { self.new.key ≡ self.old.key }
         ensures pairs { (r : Reason) → (part r self.new).pairs ≡ (part r self.old).pairs }
-        ensures room { OnOk result (HasRoom mark.now self.new) }
+        ensures room { OnOk result (HasRoom (mark_of channel.now) self.new) }
         ensures kept { (r : Reason) → (part r self.old).spare ≤ (part r self.new).spare }
     {
-        self.near.reserve(near_box(mark))?;
-        self.wide.reserve(wide_box(mark))?;
-        self.always.reserve(always_box(mark))
+        self.near.reserve(near_box(channel))?;
+        self.wide.reserve(wide_box(channel))?;
+        self.always.reserve(always_box(channel))
     }
 
     /// Puts the boxes of a channel beside its number. It takes no memory.
-    pub(crate) fn put(&mut self, mark: &Mark, number: usize)
-        requires { HasRoom mark.now self.old }
+    pub(crate) fn put(&mut self, channel: &Channel, number: usize)
+        requires { HasRoom (mark_of channel.now) self.old }
         ensures key { self.new.key ≡ self.old.key }
-        ensures pairs { (r : Reason) (w : Pair → ℕ) → sum_by w (part r self.new).pairs ≡ sum_by w (part r self.old).pairs + weight_of w (box_for r mark.now) number }
+        ensures pairs { (r : Reason) (w : Pair → ℕ) → sum_by w (part r self.new).pairs ≡ sum_by w (part r self.old).pairs + weight_of w (box_for r (mark_of channel.now)) number }
     {
-        self.near.put(near_box(mark), number);
-        self.wide.put(wide_box(mark), number);
-        self.always.put(always_box(mark), number);
+        self.near.put(near_box(channel), number);
+        self.wide.put(wide_box(channel), number);
+        self.always.put(always_box(channel), number);
     }
 
     /// Takes out the boxes of a channel, which stand here beside its number.
-    pub(crate) fn take(&mut self, mark: &Mark, number: usize)
-        requires { (r : Reason) (w : Pair → ℕ) → weight_of w (box_for r mark.now) number ≤ sum_by w (part r self.old).pairs }
+    pub(crate) fn take(&mut self, channel: &Channel, number: usize)
+        requires { (r : Reason) (w : Pair → ℕ) → weight_of w (box_for r (mark_of channel.now)) number ≤ sum_by w (part r self.old).pairs }
         ensures key { self.new.key ≡ self.old.key }
-        ensures pairs { (r : Reason) (w : Pair → ℕ) → sum_by w (part r self.new).pairs + weight_of w (box_for r mark.now) number ≡ sum_by w (part r self.old).pairs }
+        ensures pairs { (r : Reason) (w : Pair → ℕ) → sum_by w (part r self.new).pairs + weight_of w (box_for r (mark_of channel.now)) number ≡ sum_by w (part r self.old).pairs }
         ensures kept { (r : Reason) → (part r self.old).spare ≤ (part r self.new).spare }
     {
-        self.near.take(near_box(mark), number);
-        self.wide.take(wide_box(mark), number);
-        self.always.take(always_box(mark), number);
+        self.near.take(near_box(channel), number);
+        self.wide.take(wide_box(channel), number);
+        self.always.take(always_box(channel), number);
     }
 
     /// Whether there is no box.

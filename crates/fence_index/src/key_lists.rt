@@ -1,22 +1,21 @@
 //! The boxes of each key, in byte order of the keys.
 
-ghost use Rattle.std.specs.Prelude.{◌≡◌, ◌+◌, ◌<◌, ◌≤◌, ℕ, true, length, vec_len, vec_capacity, IfOk, IfErr, OnOk};
+ghost use Rattle.std.specs.Prelude.{◌≡◌, ◌<◌, ◌≤◌, true, length, vec_len, vec_capacity, IfOk, IfErr, OnOk};
 ghost use Rattle.std.specs.List.{insert};
-ghost use Rattle.byte_text.specs.Names.{Bytes, before};
+ghost use Rattle.byte_text.specs.Names.{before};
 ghost use Rattle.ordered_lists.specs.Lists.{IsHeld, IsFree};
-ghost use Rattle.rtree.specs.Pairs.{Pair};
 ghost use Rattle.rtree.specs.Ledgers.{IsRead};
 ghost use Rattle.fence_index.specs.declared.marks.Mark.{Mark};
-ghost use Rattle.fence_index.specs.Reasons.{Reason};
-ghost use Rattle.fence_index.specs.Boxed.{AreFound, HasRoomIn, IsFresh, are_by_key, weight_in, weight_on};
+ghost use Rattle.fence_index.specs.Boxed.{AreFound, AreSame, HasRoomIn, IsAmong, IsFresh, IsOneMore, are_by_key};
+ghost use Rattle.fence_index.specs.Marks.{mark_of};
 
 use crate::key_boxes::KeyBoxes;
-use crate::marks::Mark;
 use byte_text::{Name, NoMemory};
 use ordered_lists::{is_before, is_same};
 use planar_geom::BBox;
 use rtree::{Ids, Ledger, Steps};
 use std::alloc::Global;
+use world_data::Channel;
 
 /// The place of this key, or, where it is not there, the place where it would go.
 pub(crate) fn place_of_key(list: &[KeyBoxes], key: &Name) -> Result<usize, usize>
@@ -65,12 +64,12 @@ pub(crate) fn numbers_near<L: Ledger>(
 }
 
 /// Takes room for one key more, and for the boxes of a channel among those of its key, where they are there.
-pub(crate) fn reserve_boxes(boxes: &mut Vec<KeyBoxes>, mark: &Mark) -> Result<(), NoMemory>
+pub(crate) fn reserve_boxes(boxes: &mut Vec<KeyBoxes>, channel: &Channel) -> Result<(), NoMemory>
     requires { are_by_key boxes.old.items ≡ true }
     ensures by_key { are_by_key boxes.new.items ≡ true }
-    ensures weights { (r : Reason) (key : Bytes) (w : Pair → ℕ) → weight_in r key w boxes.new.items ≡ weight_in r key w boxes.old.items }
+    ensures weights { AreSame boxes.old.items boxes.new.items }
     ensures places { OnOk result (vec_len boxes.new < vec_capacity boxes.new) }
-    ensures room { OnOk result (HasRoomIn mark.now boxes.new.items) }
+    ensures room { OnOk result (HasRoomIn (mark_of channel.now) boxes.new.items) }
     ensures kept { (m : Mark) → HasRoomIn m boxes.old.items → HasRoomIn m boxes.new.items }
     ensures len { vec_len boxes.new ≡ vec_len boxes.old }
     ensures capacity { vec_capacity boxes.old ≤ vec_capacity boxes.new }
@@ -78,42 +77,47 @@ pub(crate) fn reserve_boxes(boxes: &mut Vec<KeyBoxes>, mark: &Mark) -> Result<()
     if boxes.reserve(1).is_err() {
         return Err(NoMemory);
     }
-    match place_of_key(boxes.as_slice(), &mark.key) {
-        Ok(at) => boxes[at].reserve(mark),
+    match place_of_key(boxes.as_slice(), &channel.fence.key) {
+        Ok(at) => boxes[at].reserve(channel),
         Err(_) => Ok(()),
     }
 }
 
 /// Puts the boxes of a channel among those of its key; where there are none, `fresh` are the first.
-pub(crate) fn put_boxes(boxes: &mut Vec<KeyBoxes>, mut fresh: KeyBoxes, mark: &Mark, number: usize)
+pub(crate) fn put_boxes(
+    boxes: &mut Vec<KeyBoxes>,
+    mut fresh: KeyBoxes,
+    channel: &Channel,
+    number: usize,
+)
     requires by_key { are_by_key boxes.old.items ≡ true }
     requires places { vec_len boxes.old < vec_capacity boxes.old }
-    requires room { HasRoomIn mark.now boxes.old.items }
-    requires fresh { IsFresh mark.now fresh }
+    requires room { HasRoomIn (mark_of channel.now) boxes.old.items }
+    requires fresh { IsFresh (mark_of channel.now) fresh }
     ensures by_key { are_by_key boxes.new.items ≡ true }
-    ensures weights { (r : Reason) (key : Bytes) (w : Pair → ℕ) → weight_in r key w boxes.new.items ≡ weight_in r key w boxes.old.items + weight_on r key w mark.now number }
+    ensures weights { IsOneMore (mark_of channel.now) number boxes.old.items boxes.new.items }
 {
-    match place_of_key(boxes.as_slice(), &mark.key) {
-        Ok(at) => boxes[at].put(mark, number),
+    match place_of_key(boxes.as_slice(), &channel.fence.key) {
+        Ok(at) => boxes[at].put(channel, number),
         Err(at) => {
-            fresh.put(mark, number);
+            fresh.put(channel, number);
             insert_reserved(boxes, at, fresh);
         }
     }
 }
 
 /// Takes out the boxes of a channel, which stand among those of its key; and the key, where it has no more.
-pub(crate) fn take_boxes(boxes: &mut Vec<KeyBoxes>, mark: &Mark, number: usize)
+pub(crate) fn take_boxes(boxes: &mut Vec<KeyBoxes>, channel: &Channel, number: usize)
     requires by_key { are_by_key boxes.old.items ≡ true }
-    requires there { (r : Reason) (w : Pair → ℕ) → weight_on r mark.now.key w mark.now number ≤ weight_in r mark.now.key w boxes.old.items }
+    requires there { IsAmong (mark_of channel.now) number boxes.old.items }
     ensures by_key { are_by_key boxes.new.items ≡ true }
-    ensures weights { (r : Reason) (key : Bytes) (w : Pair → ℕ) → weight_in r key w boxes.new.items + weight_on r key w mark.now number ≡ weight_in r key w boxes.old.items }
+    ensures weights { IsOneMore (mark_of channel.now) number boxes.new.items boxes.old.items }
     ensures kept { (m : Mark) → HasRoomIn m boxes.old.items → HasRoomIn m boxes.new.items }
     ensures len { vec_len boxes.new ≤ vec_len boxes.old }
     ensures capacity { vec_capacity boxes.new ≡ vec_capacity boxes.old }
 {
-    if let Ok(at) = place_of_key(boxes.as_slice(), &mark.key) {
-        boxes[at].take(mark, number);
+    if let Ok(at) = place_of_key(boxes.as_slice(), &channel.fence.key) {
+        boxes[at].take(channel, number);
         if boxes[at].is_empty() {
             boxes.remove(at);
         }

@@ -7,10 +7,7 @@ mod indexes;
 mod key_boxes;
 mod key_lists;
 mod laws;
-mod mark_lists;
-mod mark_order;
 mod marks;
-mod name_lists;
 mod nearness;
 mod ready;
 

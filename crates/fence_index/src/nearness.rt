@@ -2,10 +2,12 @@
 
 ghost use Rattle.std.specs.Prelude.{◌≡◌};
 ghost use Rattle.fence_index.specs.Candidates.{round_of};
+ghost use Rattle.fence_index.specs.Marks.{mark_of};
 ghost use Rattle.fence_index.specs.Reasons.{Near, Wide, Always, box_for, spot as spot_box};
 
-use crate::marks::Mark;
+use crate::marks::watched_box;
 use planar_geom::{BBox, Pt};
+use world_data::Channel;
 
 /// The least box round what is there of the two.
 pub(crate) fn round_of(old: Option<BBox>, new: Option<BBox>) -> Option<BBox>
@@ -19,24 +21,32 @@ pub(crate) fn round_of(old: Option<BBox>, new: Option<BBox>) -> Option<BBox>
 }
 
 /// The box of a channel that is named where its area is near, and for no other reason.
-pub(crate) fn near_box(mark: &Mark) -> Option<BBox>
-    ensures { result ≡ box_for Near mark.now }
+pub(crate) fn near_box(channel: &Channel) -> Option<BBox>
+    ensures { result ≡ box_for Near (mark_of channel.now) }
 {
-    if mark.outside { None } else { mark.area }
+    if channel.fence.wanted.outside {
+        None
+    } else {
+        watched_box(&channel.fence.watch)
+    }
 }
 
 /// The box of a channel that is named where its area is near, and where an object was put.
-pub(crate) fn wide_box(mark: &Mark) -> Option<BBox>
-    ensures { result ≡ box_for Wide mark.now }
+pub(crate) fn wide_box(channel: &Channel) -> Option<BBox>
+    ensures { result ≡ box_for Wide (mark_of channel.now) }
 {
-    if mark.outside { mark.area } else { None }
+    if channel.fence.wanted.outside {
+        watched_box(&channel.fence.watch)
+    } else {
+        None
+    }
 }
 
 /// The box under which a channel stands that is named where an object was put: one that roams or wants `outside`.
-pub(crate) fn always_box(mark: &Mark) -> Option<BBox>
-    ensures { result ≡ box_for Always mark.now }
+pub(crate) fn always_box(channel: &Channel) -> Option<BBox>
+    ensures { result ≡ box_for Always (mark_of channel.now) }
 {
-    if mark.area.is_none() || mark.outside {
+    if watched_box(&channel.fence.watch).is_none() || channel.fence.wanted.outside {
         Some(spot())
     } else {
         None

@@ -6,27 +6,25 @@ ghost use Rattle.fence_index.specs.Boxed.{IsFresh};
 
 use crate::key_boxes::KeyBoxes;
 use crate::marks::Mark;
-use byte_text::{Name, NoMemory};
+use byte_text::NoMemory;
 use std::alloc::Global;
 use world_data::Channel;
 
-/// What is kept of a channel, its name once more, and the boxes of its key as they are to be where it is the first.
+/// What the index asks of a channel, and the boxes of its key as they are to be where it is the first.
 #[derive(Drop)]
 pub(crate) struct Ready {
     pub(crate) mark: Mark,
-    pub(crate) name: Name,
     pub(crate) boxes: KeyBoxes,
 }
 
 impl Ready {
     pub(crate) fn of(alloc: Global, channel: &Channel) -> Result<Ready, NoMemory>
         ensures mark { IfOk result (λ ready. ready.mark ≡ mark_of channel.now) }
-        ensures name { IfOk result (λ ready. ready.name ≡ channel.now.name) }
         ensures boxes { IfOk result (λ ready. IsFresh (mark_of channel.now) ready.boxes) }
     {
-        let mark = Mark::of(alloc, channel)?;
-        let name = channel.name.copy(alloc)?;
-        let boxes = KeyBoxes::of(alloc, &mark)?;
-        Ok(Ready { mark, name, boxes })
+        Ok(Ready {
+            mark: Mark::of(alloc, channel)?,
+            boxes: KeyBoxes::of(alloc, channel)?,
+        })
     }
 }

@@ -80,18 +80,18 @@ fn fill(alloc: Global, hub: &mut Hub) -> Result<(), NoMemory> {
     Ok(())
 }
 
-// The places, a digit each.
-fn digits(alloc: Global, candidates: &Candidates) -> Result<Text, NoMemory> {
+// Their names, one behind another.
+fn names(alloc: Global, candidates: &Candidates<'_>) -> Result<Text, NoMemory> {
     let mut text = Text::new(alloc);
     for i in 0..candidates.len() {
-        text.push(&[b'0' + (candidates.at(i) % 10) as u8])?;
+        text.push(candidates.at(i).name.bytes())?;
     }
     Ok(text)
 }
 
-// The places of the channels that a change of `fleet` from one strip to another may concern.
+// The names of the channels that a change of `fleet` from one strip to another may concern.
 fn near(alloc: Global, hub: &Hub, old: Option<BBox>, new: Option<BBox>) -> Result<Text, NoMemory> {
-    digits(
+    names(
         alloc,
         &hub.candidates(
             alloc,
@@ -115,7 +115,7 @@ fn gone_east(alloc: Global, hub: &Hub) -> Result<Text, NoMemory> {
 
 // Those of `gulls`.
 fn of_gulls(alloc: Global, hub: &Hub) -> Result<Text, NoMemory> {
-    digits(alloc, &hub.of_key(alloc, &name(alloc, b"gulls")?)?)
+    names(alloc, &hub.of_key(alloc, &name(alloc, b"gulls")?)?)
 }
 
 // Where the area of a channel begins, -1 for none.
@@ -146,8 +146,8 @@ fn replaced(rt: &impl Abort, alloc: Global, hub: &mut Hub) -> Result<(), Fail> {
 
 fn named(rt: &impl Abort, alloc: Global, hub: &mut Hub) -> Result<(), Fail> {
     fill(alloc, hub)?;
-    assert_eq!(rt; come(alloc, hub)?.bytes(), b"23".as_slice());
-    assert_eq!(rt; gone_east(alloc, hub)?.bytes(), b"023".as_slice());
+    assert_eq!(rt; come(alloc, hub)?.bytes(), b"cd".as_slice());
+    assert_eq!(rt; gone_east(alloc, hub)?.bytes(), b"acd".as_slice());
     Ok(())
 }
 
@@ -161,8 +161,8 @@ fn moved(alloc: Global, hub: &mut Hub) -> Result<(), NoMemory> {
 fn named_after(rt: &impl Abort, alloc: Global, hub: &mut Hub) -> Result<(), Fail> {
     fill(alloc, hub)?;
     moved(alloc, hub)?;
-    assert_eq!(rt; gone_east(alloc, hub)?.bytes(), b"0".as_slice());
-    assert_eq!(rt; of_gulls(alloc, hub)?.bytes(), b"12".as_slice());
+    assert_eq!(rt; gone_east(alloc, hub)?.bytes(), b"a".as_slice());
+    assert_eq!(rt; of_gulls(alloc, hub)?.bytes(), b"bc".as_slice());
     Ok(())
 }
 

@@ -1,16 +1,13 @@
 //! Channels of two keys, and which of them are named.
 
-ghost use Rattle.std.specs.Prelude.{◌≡◌, Some, IfOk};
-ghost use Rattle.fence_index.specs.Marks.{mark_of};
-
 use byte_text::{Name, NoMemory, Request, Text};
 use fence_index::*;
 use planar_geom::{Area, BBox, Pt};
-use rtree::{NoLedger, Steps, Visits};
+use rtree::{Ids, NoLedger, Steps, Visits};
 use std::alloc::Global;
 use std::process::Abort;
 use std::test::Fail;
-use world_data::{Channel, Fence, Kind, NameList, Tests, Wanted, Watch};
+use world_data::{Channel, Fence, Kind, Tests, Wanted, Watch};
 
 fn name(alloc: Global, bytes: &[u8]) -> Result<Name, NoMemory> {
     match Name::of(alloc, bytes) {
@@ -38,13 +35,7 @@ fn roam(alloc: Global) -> Result<Watch, NoMemory> {
     Ok(Watch::Roam(name(alloc, b"people")?, name(alloc, b"*")?, 10, false))
 }
 
-fn channel(
-    alloc: Global,
-    key: &[u8],
-    called: &[u8],
-    outside: bool,
-    watch: Watch,
-) -> Result<Channel, NoMemory> {
+fn channel(alloc: Global, key: &[u8], outside: bool, watch: Watch) -> Result<Channel, NoMemory> {
     let wanted = Wanted {
         inside: true,
         outside,
@@ -56,7 +47,7 @@ fn channel(
         drop: true,
     };
     Ok(Channel {
-        name: name(alloc, called)?,
+        name: name(alloc, b"fence")?,
         fence: Fence {
             key: name(alloc, key)?,
             glob: None,
@@ -68,13 +59,18 @@ fn channel(
     })
 }
 
-fn put(alloc: Global, index: &mut FenceIndex, channel: &Channel) -> Result<(), NoMemory> {
+fn put(
+    alloc: Global,
+    index: &mut FenceIndex,
+    number: usize,
+    channel: &Channel,
+) -> Result<(), NoMemory> {
     index.prepare(alloc, channel)?;
-    index.put(channel);
+    index.put(channel, number);
     Ok(())
 }
 
-// The names of the channels of a key, each with a space behind it, that a change from one strip to another may concern.
+// The numbers of the channels of a key, ascending and a digit each, that a change from one strip to another may concern.
 fn named(
     alloc: Global,
     index: &FenceIndex,
@@ -82,76 +78,79 @@ fn named(
     old: Option<BBox>,
     new: Option<BBox>,
 ) -> Result<Text, NoMemory> {
-    let mut names = NameList::new(alloc);
-    index.candidates(
+    let mut found = index.candidates(
         alloc,
         &name(alloc, key)?,
         old,
         new,
-        &mut names,
         &mut Steps::new(NoLedger),
     )?;
+    found.sort();
     let mut text = Text::new(alloc);
-    for i in 0..names.len() {
-        text.push(names.at(i).bytes())?;
-        text.push(b" ")?;
+    for i in 0..found.len() {
+        text.push(&[b'0' + (found.at(i) % 10) as u8])?;
     }
     Ok(text)
 }
 
-// On `fleet`: `a` on 0 to 9, `b` on 20 to 29, which wants `outside`, `c`, which roams, and `d` on 40 to 49. On `gulls`: `e` on 0 to 9.
+// On `fleet`: 1 on 0 to 9, 2 on 20 to 29, which wants `outside`, 3, which roams, and 4 on 40 to 49. On `gulls`: 5 on 0 to 9.
 fn fill(alloc: Global, index: &mut FenceIndex) -> Result<(), NoMemory> {
     put(
         alloc,
         index,
-        &channel(alloc, b"gulls", b"e", false, spot(0, 9)?)?,
+        5,
+        &channel(alloc, b"gulls", false, spot(0, 9)?)?,
     )?;
     put(
         alloc,
         index,
-        &channel(alloc, b"fleet", b"d", false, spot(40, 49)?)?,
+        4,
+        &channel(alloc, b"fleet", false, spot(40, 49)?)?,
     )?;
     put(
         alloc,
         index,
-        &channel(alloc, b"fleet", b"b", true, spot(20, 29)?)?,
+        2,
+        &channel(alloc, b"fleet", true, spot(20, 29)?)?,
     )?;
     put(
         alloc,
         index,
-        &channel(alloc, b"fleet", b"a", false, spot(0, 9)?)?,
+        1,
+        &channel(alloc, b"fleet", false, spot(0, 9)?)?,
     )?;
     put(
         alloc,
         index,
-        &channel(alloc, b"fleet", b"c", false, roam(alloc)?)?,
+        3,
+        &channel(alloc, b"fleet", false, roam(alloc)?)?,
     )
 }
 
 // What is named of the channels of two keys.
-fn names_of(rt: &impl Abort, alloc: Global, index: &mut FenceIndex) -> Result<(), Fail> {
+fn numbers_of(rt: &impl Abort, alloc: Global, index: &mut FenceIndex) -> Result<(), Fail> {
     fill(alloc, index)?;
     let (west, east) = (strip(5, 5)?, strip(45, 45)?);
     let away = strip(70, 70)?;
     assert_eq!(rt;
         named(alloc, index, b"fleet", None, Some(west))?.bytes(),
-        b"a b c ".as_slice()
+        b"123".as_slice()
     );
     assert_eq!(rt;
         named(alloc, index, b"fleet", Some(west), Some(east))?.bytes(),
-        b"a b c d ".as_slice()
+        b"1234".as_slice()
     );
     assert_eq!(rt;
         named(alloc, index, b"fleet", Some(west), None)?.bytes(),
-        b"a ".as_slice()
+        b"1".as_slice()
     );
     assert_eq!(rt;
         named(alloc, index, b"fleet", Some(away), Some(away))?.bytes(),
-        b"b c ".as_slice()
+        b"23".as_slice()
     );
     assert_eq!(rt;
         named(alloc, index, b"gulls", None, Some(west))?.bytes(),
-        b"e ".as_slice()
+        b"5".as_slice()
     );
     assert_eq!(rt;
         named(alloc, index, b"herd", None, Some(west))?.bytes(),
@@ -160,72 +159,54 @@ fn names_of(rt: &impl Abort, alloc: Global, index: &mut FenceIndex) -> Result<()
     Ok(())
 }
 
-// The channel `a` of `fleet` goes from 0 to 9 over to 60 to 69. What is taken out is known by key and name alone: `d` goes, and nothing of
-// `gulls` does.
-fn replace(alloc: Global, index: &mut FenceIndex) -> Result<(), NoMemory> {
-    let old = channel(alloc, b"fleet", b"a", false, spot(0, 9)?)?;
-    let new = channel(alloc, b"fleet", b"a", false, spot(60, 69)?)?;
-    index.prepare(alloc, &new)?;
-    index.take_out(&old);
-    index.put(&new);
+// Another channel comes to the west of `fleet`, and goes.
+fn pass_by(alloc: Global, index: &mut FenceIndex) -> Result<(), NoMemory> {
+    let passing = channel(alloc, b"fleet", false, spot(0, 9)?)?;
+    index.prepare(alloc, &passing)?;
+    index.put(&passing, 6);
+    index.take_out(&passing, 6);
     Ok(())
 }
 
-fn take_out(
-    alloc: Global,
-    index: &mut FenceIndex,
-    key: &[u8],
-    called: &[u8],
-) -> Result<(), NoMemory> {
-    index.take_out(&channel(alloc, key, called, false, roam(alloc)?)?);
-    Ok(())
-}
-
-// What is named where a channel was replaced and another taken out.
-fn names_behind(rt: &impl Abort, alloc: Global, index: &mut FenceIndex) -> Result<(), Fail> {
+// The one that is left is named where both were.
+fn numbers_behind(rt: &impl Abort, alloc: Global, index: &mut FenceIndex) -> Result<(), Fail> {
     fill(alloc, index)?;
-    replace(alloc, index)?;
-    take_out(alloc, index, b"fleet", b"d")?;
-    take_out(alloc, index, b"gulls", b"a")?;
-    let (west, wide) = (strip(5, 5)?, strip(9, 60)?);
+    pass_by(alloc, index)?;
+    let west = strip(5, 5)?;
     assert_eq!(rt;
         named(alloc, index, b"fleet", Some(west), None)?.bytes(),
-        b"".as_slice()
-    );
-    assert_eq!(rt;
-        named(alloc, index, b"fleet", Some(wide), None)?.bytes(),
-        b"a b ".as_slice()
+        b"1".as_slice()
     );
     Ok(())
 }
 
 #[test]
-fn names(rt: HostRuntime) -> Result<(), Fail> {
+fn numbers(rt: HostRuntime) -> Result<(), Fail> {
     let alloc = rt.alloc();
-    names_of(&rt, alloc, &mut FenceIndex::new(alloc))
+    numbers_of(&rt, alloc, &mut FenceIndex::new(alloc))
 }
 
 #[test]
-fn a_channel_is_replaced(rt: HostRuntime) -> Result<(), Fail> {
+fn a_channel_goes(rt: HostRuntime) -> Result<(), Fail> {
     let alloc = rt.alloc();
-    names_behind(&rt, alloc, &mut FenceIndex::new(alloc))
+    numbers_behind(&rt, alloc, &mut FenceIndex::new(alloc))
 }
 
-// The channel of this number, on 20 times as far east.
-fn numbered(alloc: Global, i: u32) -> Result<Channel, NoMemory> {
-    let called = [
-        b'0' + (i / 100 % 10) as u8,
-        b'0' + (i / 10 % 10) as u8,
-        b'0' + (i % 10) as u8,
-    ];
-    let low = i64::from(i) * 20;
-    channel(alloc, b"fleet", &called, false, spot(low, low + 9)?)
-}
-
-// 1,000 channels of `fleet`, from `000` to `999`.
+// 1,000 channels of `fleet`, each on 20 times its number as far east.
 fn put_thousand(alloc: Global, index: &mut FenceIndex) -> Result<(), NoMemory> {
     for i in 0..1000u32 {
-        put(alloc, index, &numbered(alloc, i)?)?;
+        let low = i64::from(i) * 20;
+        let channel = channel(alloc, b"fleet", false, spot(low, low + 9)?)?;
+        put(alloc, index, i as usize, &channel)?;
+    }
+    Ok(())
+}
+
+fn append(found: &Ids, into: &mut Ids) -> Result<(), NoMemory> {
+    for i in 0..found.len() {
+        if into.push(found.at(i)).is_err() {
+            return Err(NoMemory);
+        }
     }
     Ok(())
 }
@@ -234,14 +215,17 @@ fn put_thousand(alloc: Global, index: &mut FenceIndex) -> Result<(), NoMemory> {
 fn ask_thousand(
     alloc: Global,
     index: &FenceIndex,
-    names: &mut NameList,
+    numbers: &mut Ids,
     steps: &mut Steps<Visits>,
 ) -> Result<(), NoMemory> {
     let key = name(alloc, b"fleet")?;
     for i in 0..1000u32 {
         let east = i64::from(i) * 20 + 5;
         let place = Some(strip(east, east)?);
-        index.candidates(alloc, &key, place, place, names, steps)?;
+        append(
+            &index.candidates(alloc, &key, place, place, steps)?,
+            numbers,
+        )?;
     }
     Ok(())
 }
@@ -252,14 +236,14 @@ const LEAST_VISITS: u64 = 3_000;
 // Some nodes more are visited, as boxes of nodes overlap; a walk over all of them visits 63 for each change.
 const MOST_VISITS: u64 = 30_000;
 
-fn names_of_thousand(rt: &impl Abort, alloc: Global, index: &mut FenceIndex) -> Result<(), Fail> {
+fn numbers_of_thousand(rt: &impl Abort, alloc: Global, index: &mut FenceIndex) -> Result<(), Fail> {
     put_thousand(alloc, index)?;
-    let mut names = NameList::new(alloc);
+    let mut numbers = Ids::new(alloc);
     let mut steps = Steps::new(Visits::new());
-    ask_thousand(alloc, index, &mut names, &mut steps)?;
-    assert_eq!(rt; names.len(), 1000);
-    assert_eq!(rt; names.at(0).bytes(), b"000".as_slice());
-    assert_eq!(rt; names.at(999).bytes(), b"999".as_slice());
+    ask_thousand(alloc, index, &mut numbers, &mut steps)?;
+    assert_eq!(rt; numbers.len(), 1000);
+    assert_eq!(rt; numbers.at(0), 0);
+    assert_eq!(rt; numbers.at(999), 999);
     let count = steps.ledger().count();
     assert!(rt; LEAST_VISITS <= count && count <= MOST_VISITS);
     Ok(())
@@ -268,5 +252,5 @@ fn names_of_thousand(rt: &impl Abort, alloc: Global, index: &mut FenceIndex) -> 
 #[test]
 fn few_nodes_are_visited(rt: HostRuntime) -> Result<(), Fail> {
     let alloc = rt.alloc();
-    names_of_thousand(&rt, alloc, &mut FenceIndex::new(alloc))
+    numbers_of_thousand(&rt, alloc, &mut FenceIndex::new(alloc))
 }

@@ -6,7 +6,7 @@ use Rattle.byte_text.specs.Replies.{frame_text}
 use Rattle.world_model.specs.Subscriptions.{with_subs}
 use Rattle.fence_model.specs.Writes.{Write}
 use Rattle.world_model.specs.Effects.{Effect}
-use Rattle.world_model.specs.Served.{asks}
+use Rattle.world_model.specs.Commands.{reads}
 use Rattle.world_data.specs.Records.{record_len}
 use Rattle.world_data.specs.Worlds.{after}
 use Rattle.world_model.specs.Halls.{Hall, Session, is_live, session_of, place, place_all, deliveries, apply, apply_all, change_session, due, close_session, closed_if, do_effect, effect_of, do_asked, do_live, do_call}
@@ -81,7 +81,7 @@ effect_does h n e =
     closed_does e.closes n h (apply_all placed e.writes) e.writes (does_from h placed (apply_all placed e.writes) e.writes kept.0 kept.1 (apply_all_does placed e.writes))
 
 asked_does : (h : Hall) (s : Session) (asked : Asked) → Does h (do_asked h s asked) (asked_writes h s asked)
-asked_does h s (Words words) = effect_does h s.number (effect_of h s (asks words))
+asked_does h s (Words words) = effect_does h s.number (effect_of h s (reads words))
 asked_does h s (Broken fault) = does_none h (do_asked h s (Broken fault)) refl refl
 
 live_does : (h : Hall) (s : Option Session) (asked : Asked) → Does h (do_live h s asked) (live_writes h s asked)

@@ -1,7 +1,7 @@
 -- The changes that an event makes, in order.
 use Rattle.std.specs.Prelude.{◌≡◌, ℕ, ◌+◌, max, Bool, true, false, List, [], ◌∷◌, ◌++◌, map, Option, Some, None, if◌then◌else◌}
 use Rattle.world_data.specs.Records.{record_len}
-use Rattle.world_model.specs.Served.{asks}
+use Rattle.world_model.specs.Commands.{reads}
 use Rattle.fence_model.specs.Writes.{Write, dels}
 use Rattle.world_data.specs.Expiry.{expired}
 use Rattle.world_model.specs.Halls.{Hall, Session, is_live, session_of, due, effect_of}
@@ -29,7 +29,7 @@ due_writes h moment = dels (expired h.world (max h.now moment))
 
 -- what is asked changes the world as its effect says
 abbrev pub asked_writes : Hall → Session → Asked → List Write
-asked_writes h s (Words words) = (effect_of h s (asks words)).writes
+asked_writes h s (Words words) = (effect_of h s (reads words)).writes
 asked_writes h s (Broken fault) = []
 
 abbrev pub live_writes : Hall → Option Session → Asked → List Write

@@ -1,9 +1,8 @@
--- Messages staged one after another: of the pairs of a roaming channel, and of the channels at places.
+-- Messages staged one after another: of the pairs of a roaming channel, and of some channels.
 use Rattle.std.proofs.Common.{◌≡◌, ◌≤◌, ◌<◌, ℕ, ◌+◌, Bool, true, refl, sym, ◌∙◌, ap, subst, List, [], ◌∷◌, ◌++◌, length, take, map, flat_map, arith}
-use Rattle.std.specs.Prelude.{Option, Some, None, IfSome, find, filter, filter_map, option_map, slice_get}
+use Rattle.std.specs.Prelude.{Option, Some, None, IfSome, find, filter, option_map, slice_get}
 use Rattle.std.specs.List.{list_all}
 use Rattle.std.proofs.lemmas.List.{take_more, take_all, append-nil, map-append, length-map}
-use Rattle.std.proofs.lemmas.List.Elements.{filter_map-append}
 use Rattle.std.proofs.lemmas.Grind.{flat_map-append}
 use Rattle.std.proofs.lemmas.Option.{slice_get_within, get_or_from_slice_get, slice_get-map, slice_get-get_or}
 use Rattle.ordered_lists.specs.Reading.{all_get}
@@ -14,8 +13,6 @@ use Rattle.roam_fence.specs.Pairs.{is_near_now, shown}
 use Rattle.world_data.specs.declared.objects.Object.{Object}
 use Rattle.world_data.specs.declared.channels.Detect.{Detect}
 use Rattle.world_data.specs.declared.channels.Channel.{Channel}
-use Rattle.channel_hub.specs.Places.{places_of}
-use Rattle.channel_hub.specs.PlaceLaws.{items_at_places}
 use Rattle.session_mail.specs.Sessions.{State}
 use Rattle.session_mail.specs.Fans.{AreBrought}
 use Rattle.session_mail.specs.FanLaws.{brought_both}
@@ -25,25 +22,23 @@ use Rattle.message_fan.proofs.Payloads.{pair_in}
 one_more : {A : Type 0} (xs : List A) (i : ℕ) (x : A) → slice_get xs i ≡ Some x → take (i + 1) xs ≡ take i xs ++ x ∷ []
 one_more xs i x at = take_more xs i x (slice_get_within xs i x at) ∙ ap (λ y. take i xs ++ y ∷ []) (get_or_from_slice_get xs i x x at)
 
--- channels at places, one by one
-module _ (on : Channel → List Message) (channels : List Channel) (a b d : List State) where
-  pub place_more : (places : List ℕ) (i p : ℕ) (c : Channel) → slice_get places i ≡ Some p → slice_get channels p ≡ Some c
-      → AreBrought (flat_map on (filter_map (slice_get channels) (take i places))) a b → AreBrought (on c) b d → AreBrought (flat_map on (filter_map (slice_get channels) (take (i + 1) places))) a d
-  place_more places i p c at here done next =
-      let before = filter_map (slice_get channels) (take i places) in
-      let more : filter_map (slice_get channels) (take (i + 1) places) ≡ before ++ c ∷ [] =
-      ap (filter_map (slice_get channels)) (one_more places i p at) ∙ filter_map-append (slice_get channels) (take i places) (p ∷ []) ∙ ap (λ (cs : List Channel). before ++ cs) (rw here refl) in
-      let whole : flat_map on (filter_map (slice_get channels) (take (i + 1) places)) ≡ flat_map on before ++ on c =
-      ap (flat_map on) more ∙ flat_map-append on before (c ∷ []) ∙ ap (λ (ms : List Message). flat_map on before ++ ms) (append-nil (on c)) in
-      subst (λ (ms : List Message). AreBrought ms a d) (sym whole) (brought_both (flat_map on before) (on c) a b d done next)
+-- channels one by one
+pub channel_more : (on : Channel → List Message) (a b d : List State) (channels : List Channel) (i : ℕ) (c : Channel) → slice_get channels i ≡ Some c
+    → AreBrought (flat_map on (take i channels)) a b → AreBrought (on c) b d → AreBrought (flat_map on (take (i + 1) channels)) a d
+channel_more on a b d channels i c at done next =
+    let before = take i channels in
+    let whole : flat_map on (take (i + 1) channels) ≡ flat_map on before ++ on c =
+    ap (flat_map on) (one_more channels i c at) ∙ flat_map-append on before (c ∷ []) ∙ ap (λ (ms : List Message). flat_map on before ++ ms) (append-nil (on c)) in
+    subst (λ (ms : List Message). AreBrought ms a d) (sym whole) (brought_both (flat_map on before) (on c) a b d done next)
 
--- behind the last place those that pass the test have raised all
-pub at_all_places : (on : Channel → List Message) (channels : List Channel) (test : Channel → Bool) (a b : List State) (places : List ℕ) (i : ℕ) → length places ≤ i → places ≡ places_of test channels
-    → AreBrought (flat_map on (filter_map (slice_get channels) (take i places))) a b → AreBrought (flat_map on (filter test channels)) a b
-at_all_places on channels test a b places i long is done =
-    let whole : filter_map (slice_get channels) (take i places) ≡ filter test channels =
-    ap (filter_map (slice_get channels)) (take_all i places long ∙ is) ∙ items_at_places test channels in
-    subst (λ (cs : List Channel). AreBrought (flat_map on cs) a b) whole done
+-- behind the last of them all are
+pub all_channels : (on : Channel → List Message) (a b : List State) (channels : List Channel) (i : ℕ) → length channels ≤ i → AreBrought (flat_map on (take i channels)) a b → AreBrought (flat_map on channels) a b
+all_channels on a b channels i long done = subst (λ (cs : List Channel). AreBrought (flat_map on cs) a b) (take_all i channels long) done
+
+-- what all pass, those that pass another test do
+pub all_left : {A : Type 0} (q p : A → Bool) (xs : List A) → list_all q xs ≡ true → list_all q (filter p xs) ≡ true
+all_left q p [] all = refl
+all_left q p (x ∷ xs) all = let ih = all_left q p xs in grind arith
 
 -- what all items pass, the one at a place does
 pub passes_at : {A : Type 0} (test : A → Bool) (xs : List A) (i : ℕ) (x : A) → list_all test xs ≡ true → slice_get xs i ≡ Some x → test x ≡ true

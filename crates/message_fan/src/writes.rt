@@ -1,16 +1,13 @@
 //! What a write raises, staged for the sessions that hear it: on the channels alone that it may concern, in order of their names.
 
-ghost use Rattle.std.specs.Prelude.{◌≡◌, true, filter, flat_map, map, option_map, Some, OnOk};
+ghost use Rattle.std.specs.Prelude.{◌≡◌, true, flat_map, map, option_map, Some, OnOk};
 ghost use Rattle.std.specs.List.{list_all};
 ghost use Rattle.world_data.specs.Sound.{is_sound_channel};
 ghost use Rattle.world_data.specs.Worlds.{object_at};
 ghost use Rattle.world_data.specs.declared.worlds.World.{World};
 ghost use Rattle.world_data.specs.declared.worlds.Change.TheVariants.{Put, Del, Drop};
-ghost use Rattle.fence_model.specs.Messages.{watches};
 ghost use Rattle.fence_model.specs.Writes.{loud};
-ghost use Rattle.channel_hub.specs.Hubs.{put_may_concern, del_may_concern};
 ghost use Rattle.channel_hub.specs.MessageLaws.{messages_on};
-ghost use Rattle.channel_hub.specs.Places.{places_of};
 ghost use Rattle.keyspace.specs.Entries.{objects_in};
 ghost use Rattle.session_mail.specs.Sessions.{session_of};
 ghost use Rattle.session_mail.specs.Fans.{AreBrought};
@@ -25,28 +22,25 @@ use session_mail::Session;
 use std::alloc::Global;
 use world_data::Object;
 
-// Stages what a put raises on the channels at these places.
+// Stages what a put raises on these channels.
 fn stage_put_at<L: Ledger>(
     alloc: Global,
-    hub: &Hub,
-    candidates: &Candidates,
+    candidates: &Candidates<'_>,
     objects: &Keyspace,
     sessions: &mut Vec<Session>,
     old: Option<&Object>,
     new: &Object,
     steps: &mut Steps<L>,
 ) -> Result<(), NoMemory>
-    requires sound { list_all is_sound_channel hub.now.channels ≡ true }
-    requires places { candidates.now ≡ places_of (put_may_concern (option_map (λ o. o.now) old) new.now) hub.now.channels }
+    requires { list_all is_sound_channel candidates.now ≡ true }
     ensures same { map session_of sessions.new.items ≡ map session_of sessions.old.items }
     ensures staged { OnOk result ((w : World) → w.objects ≡ objects_in objects.now
         → object_at w new.now.key new.now.id ≡ option_map (λ o. o.now) old.entry
-        → AreBrought (flat_map (messages_on w (Put new.now)) (filter (put_may_concern (option_map (λ o. o.now) old.entry) new.now) hub.now.channels))
+        → AreBrought (flat_map (messages_on w (Put new.now)) candidates.now)
         sessions.old.items sessions.new.items) }
 {
     for i in 0..candidates.len() {
-        let channel = hub.at(candidates.at(i));
-        stage_put_on(alloc, channel, objects, sessions, old, new, steps)?;
+        stage_put_on(alloc, candidates.at(i), objects, sessions, old, new, steps)?;
     }
     Ok(())
 }
@@ -69,27 +63,24 @@ pub fn stage_put<L: Ledger>(
         (loud (Put new.now)) sessions.old.items sessions.new.items) }
 {
     let candidates = hub.candidates_of_put(alloc, old, new, steps)?;
-    stage_put_at(alloc, hub, &candidates, objects, sessions, old, new, steps)
+    stage_put_at(alloc, &candidates, objects, sessions, old, new, steps)
 }
 
-// Stages what a del raises on the channels at these places.
+// Stages what a del raises on these channels.
 fn stage_del_at(
     alloc: Global,
-    hub: &Hub,
-    concerned: &Candidates,
+    concerned: &Candidates<'_>,
     sessions: &mut Vec<Session>,
     old: &Object,
 ) -> Result<(), NoMemory>
-    requires sound { list_all is_sound_channel hub.now.channels ≡ true }
-    requires places { concerned.now ≡ places_of (del_may_concern old.now) hub.now.channels }
+    requires { list_all is_sound_channel concerned.now ≡ true }
     ensures same { map session_of sessions.new.items ≡ map session_of sessions.old.items }
     ensures staged { OnOk result ((w : World) → object_at w old.now.key old.now.id ≡ Some old.now
-        → AreBrought (flat_map (messages_on w (Del old.now.key old.now.id)) (filter (del_may_concern old.now) hub.now.channels))
+        → AreBrought (flat_map (messages_on w (Del old.now.key old.now.id)) concerned.now)
         sessions.old.items sessions.new.items) }
 {
     for i in 0..concerned.len() {
-        let channel = hub.at(concerned.at(i));
-        stage_del_on(alloc, channel, sessions, old)?;
+        stage_del_on(alloc, concerned.at(i), sessions, old)?;
     }
     Ok(())
 }
@@ -110,26 +101,22 @@ pub fn stage_del<L: Ledger>(
         sessions.old.items sessions.new.items) }
 {
     let concerned = hub.candidates_of_del(alloc, old, steps)?;
-    stage_del_at(alloc, hub, &concerned, sessions, old)
+    stage_del_at(alloc, &concerned, sessions, old)
 }
 
-// Stages what the drop of its key raises on each of the channels at these places.
+// Stages what the drop of its key raises on each of these channels.
 fn stage_drop_at(
     alloc: Global,
-    hub: &Hub,
-    watching: &Candidates,
+    watching: &Candidates<'_>,
     sessions: &mut Vec<Session>,
-    key: &Name,
 ) -> Result<(), NoMemory>
-    requires { watching.now ≡ places_of (watches (Some key.now)) hub.now.channels }
     ensures same { map session_of sessions.new.items ≡ map session_of sessions.old.items }
     ensures staged { OnOk result ((w : World)
-        → AreBrought (flat_map (λ c. messages_on w (Drop c.fence.key) c) (filter (watches (Some key.now)) hub.now.channels))
+        → AreBrought (flat_map (λ c. messages_on w (Drop c.fence.key) c) watching.now)
         sessions.old.items sessions.new.items) }
 {
     for i in 0..watching.len() {
-        let channel = hub.at(watching.at(i));
-        stage_drop_on(alloc, channel, sessions)?;
+        stage_drop_on(alloc, watching.at(i), sessions)?;
     }
     Ok(())
 }
@@ -145,5 +132,5 @@ pub fn stage_drop(
     ensures staged { OnOk result (IsStagedIn (IsBeforeDrop hub.now.channels) (loud (Drop key.now)) sessions.old.items sessions.new.items) }
 {
     let watching = hub.of_key(alloc, key)?;
-    stage_drop_at(alloc, hub, &watching, sessions, key)
+    stage_drop_at(alloc, &watching, sessions)
 }

@@ -6,7 +6,9 @@
 mod parts;
 mod writing;
 
-pub use writing::push_record;
+pub use writing::{
+    push_del, push_delchan, push_drop, push_flush, push_put, push_record, push_setchan,
+};
 
 #[cfg(test)]
 mod tests;

@@ -1,6 +1,9 @@
 //! The parts of a record's text: its words as bulk strings (RESP2).
 
-ghost use Rattle.std.specs.Prelude.{◌≡◌, ◌<◌, ◌++◌, ◌∷◌, [], codes, length, take, flat_map, OnOk};
+ghost use Rattle.std.specs.Prelude.{◌≡◌, ◌<◌, ◌++◌, ◌∷◌, [], true, codes, length, take, flat_map, OnOk};
+ghost use Rattle.std.specs.List.{list_all};
+ghost use Rattle.log_record.specs.Words.{is_kept_deadline, is_kept_field};
+ghost use Rattle.world_data.specs.Filters.{are_fields};
 ghost use Rattle.world_data.specs.Records.{deadline_words, field_words};
 ghost use Rattle.record_text.specs.Texts.{words_text};
 
@@ -13,6 +16,7 @@ use world_data::Fields;
 fn push_field(into: &mut Text, name: &Name, value: i64) -> Result<(), NoMemory>
     ensures ok { OnOk result (into.new ≡ into.old ++ words_text (field_words (name.now, value))) }
     ensures kept { take (length into.old) into.new ≡ into.old }
+    ensures is_kept { OnOk result (is_kept_field (name.now, value) ≡ true) }
 {
     push_bulk(into, b"FIELD")?;
     push_bulk(into, name.bytes())?;
@@ -24,6 +28,8 @@ fn push_field(into: &mut Text, name: &Name, value: i64) -> Result<(), NoMemory>
 pub(crate) fn push_fields(into: &mut Text, fields: &Fields) -> Result<(), NoMemory>
     ensures ok { OnOk result (into.new ≡ into.old ++ words_text (flat_map field_words fields.now)) }
     ensures kept { take (length into.old) into.new ≡ into.old }
+    ensures fields { are_fields fields.now ≡ true }
+    ensures are_kept { OnOk result (list_all is_kept_field fields.now ≡ true) }
 {
     for i in 0..fields.len() {
         push_field(into, fields.name(i), fields.value(i))?;
@@ -36,6 +42,7 @@ pub(crate) fn push_fields(into: &mut Text, fields: &Fields) -> Result<(), NoMemo
 pub(crate) fn push_deadline(into: &mut Text, deadline: Option<u64>) -> Result<(), NoMemory>
     ensures ok { OnOk result (into.new ≡ into.old ++ words_text (deadline_words deadline)) }
     ensures kept { take (length into.old) into.new ≡ into.old }
+    ensures is_kept { is_kept_deadline deadline ≡ true }
 {
     match deadline {
         Some(moment) => {

@@ -1,6 +1,7 @@
 //! The record of a change is written.
 
-ghost use Rattle.std.specs.Prelude.{◌≡◌, ◌++◌, ◌∷◌, [], ◌+◌, ◌*◌, ◌≤◌, codes, length, take, OnOk, OnErr};
+ghost use Rattle.std.specs.Prelude.{◌≡◌, ◌++◌, ◌∷◌, [], ◌+◌, ◌*◌, ◌≤◌, true, codes, length, take, OnOk, OnErr};
+ghost use Rattle.log_record.specs.Words.{is_kept};
 ghost use Rattle.world_data.specs.Records.{deadline_words, record_text, record_words};
 ghost use Rattle.world_data.specs.declared.worlds.Change.TheVariants as change;
 
@@ -27,10 +28,12 @@ fn put_count(object: &Object) -> u128
     5 + 3 * object.fields.len() as u128 + deadline_count(object.deadline)
 }
 
+/// Appends the record of an object's put. At want of memory a part of it may stand behind what was there.
 #[tactic(auto, using(byte_text::specs::TextLaws::kept))]
-fn push_put(into: &mut Text, object: &Object) -> Result<(), NoMemory>
+pub fn push_put(into: &mut Text, object: &Object) -> Result<(), NoMemory>
     ensures ok { OnOk result (into.new ≡ into.old ++ record_text (change.Put object.now)) }
     ensures kept { take (length into.old) into.new ≡ into.old }
+    ensures is_kept { OnOk result (is_kept (change.Put object.now) ≡ true) }
 {
     push_array_head(into, put_count(object))?;
     push_bulk(into, b"SET")?;
@@ -42,10 +45,12 @@ fn push_put(into: &mut Text, object: &Object) -> Result<(), NoMemory>
     push_bulk(into, object.text.bytes())
 }
 
+/// Appends the record of the del of a key and an id. At want of memory a part of it may stand behind what was there.
 #[tactic(auto, using(byte_text::specs::TextLaws::kept))]
-fn push_del(into: &mut Text, key: &Name, id: &Name) -> Result<(), NoMemory>
+pub fn push_del(into: &mut Text, key: &Name, id: &Name) -> Result<(), NoMemory>
     ensures ok { OnOk result (into.new ≡ into.old ++ record_text (change.Del key.now id.now)) }
     ensures kept { take (length into.old) into.new ≡ into.old }
+    ensures is_kept { OnOk result (is_kept (change.Del key.now id.now) ≡ true) }
 {
     push_array_head(into, 3)?;
     push_bulk(into, b"DEL")?;
@@ -53,29 +58,35 @@ fn push_del(into: &mut Text, key: &Name, id: &Name) -> Result<(), NoMemory>
     push_bulk(into, id.bytes())
 }
 
+/// Appends the record of the drop of a key. At want of memory a part of it may stand behind what was there.
 #[tactic(auto, using(byte_text::specs::TextLaws::kept))]
-fn push_drop(into: &mut Text, key: &Name) -> Result<(), NoMemory>
+pub fn push_drop(into: &mut Text, key: &Name) -> Result<(), NoMemory>
     ensures ok { OnOk result (into.new ≡ into.old ++ record_text (change.Drop key.now)) }
     ensures kept { take (length into.old) into.new ≡ into.old }
+    ensures is_kept { OnOk result (is_kept (change.Drop key.now) ≡ true) }
 {
     push_array_head(into, 2)?;
     push_bulk(into, b"DROP")?;
     push_bulk(into, key.bytes())
 }
 
+/// Appends the record of a flush. At want of memory a part of it may stand behind what was there.
 #[tactic(auto, using(byte_text::specs::TextLaws::kept))]
-fn push_flush(into: &mut Text) -> Result<(), NoMemory>
+pub fn push_flush(into: &mut Text) -> Result<(), NoMemory>
     ensures ok { OnOk result (into.new ≡ into.old ++ record_text change.Flush) }
     ensures kept { take (length into.old) into.new ≡ into.old }
+    ensures is_kept { OnOk result (is_kept change.Flush ≡ true) }
 {
     push_array_head(into, 1)?;
     push_bulk(into, b"FLUSHDB")
 }
 
+/// Appends the record of the setting of a channel. At want of memory a part of it may stand behind what was there.
 #[tactic(auto, using(byte_text::specs::TextLaws::kept))]
-fn push_setchan(into: &mut Text, channel: &Channel) -> Result<(), NoMemory>
+pub fn push_setchan(into: &mut Text, channel: &Channel) -> Result<(), NoMemory>
     ensures ok { OnOk result (into.new ≡ into.old ++ record_text (change.SetChan channel.now)) }
     ensures kept { take (length into.old) into.new ≡ into.old }
+    ensures is_kept { OnOk result (is_kept (change.SetChan channel.now) ≡ true) }
 {
     push_array_head(into, 2 + channel.words.words() as u128)?;
     push_bulk(into, b"SETCHAN")?;
@@ -83,10 +94,12 @@ fn push_setchan(into: &mut Text, channel: &Channel) -> Result<(), NoMemory>
     push_words(into, &channel.words)
 }
 
+/// Appends the record of the deletion of a channel. At want of memory a part of it may stand behind what was there.
 #[tactic(auto, using(byte_text::specs::TextLaws::kept))]
-fn push_delchan(into: &mut Text, name: &Name) -> Result<(), NoMemory>
+pub fn push_delchan(into: &mut Text, name: &Name) -> Result<(), NoMemory>
     ensures ok { OnOk result (into.new ≡ into.old ++ record_text (change.DelChan name.now)) }
     ensures kept { take (length into.old) into.new ≡ into.old }
+    ensures is_kept { OnOk result (is_kept (change.DelChan name.now) ≡ true) }
 {
     push_array_head(into, 2)?;
     push_bulk(into, b"DELCHAN")?;

@@ -9,7 +9,7 @@ ghost use Rattle.record_words.specs.Reading.{IsChangeOf, IsSettingIn, stands_in_
 use crate::faults::RecordFault;
 use crate::record_reader::RecordReader;
 use byte_text::Request;
-use cmd_words::{CommandFault, read_command};
+use cmd_words::{CommandFault, command_of};
 use std::alloc::Global;
 use world_data::{Change, Channel};
 use world_model::{AreaWords, Command};
@@ -23,7 +23,7 @@ pub(crate) fn setting_of(
 ) -> Result<Change, RecordFault>
     ensures { words.now ≡ codes "SETCHAN" ∷ reader.old → IsChangeOf words.now result }
 {
-    match read_command(alloc, words) {
+    match command_of(alloc, words) {
         Ok(command) => setting_in(reader, command),
         Err(CommandFault::Refused(_)) => Err(RecordFault::NotRecord),
         Err(CommandFault::Memory) => Err(RecordFault::Memory),

@@ -114,7 +114,6 @@ pub fn fault_reply(alloc: Global, fault: &WordFault) -> Result<Reply, NoMemory>
             b"",
         ),
         WordFault::Geo(fault) => joined_reply(alloc, b"invalid object: ", geo_words(*fault)),
-        WordFault::Unserved => error_reply(alloc, b"not served yet"),
     }
 }
 

@@ -39,6 +39,7 @@ replies_alone objects total kept e r frame closes is text short = record {
   frame = text;
   short = short;
   there = tt;
+  accepted = tt;
   length_is = refl;
   small = lit≤ tt;
   weight_is = kept.weighed;

@@ -2,9 +2,12 @@
 use Rattle.world_model.specs.declared.commands.Command.{Command}
 use Rattle.world_model.specs.declared.commands.Command.TheVariants as command
 use Rattle.cmd_words.specs.Laws.{IsPattern, IsServed}
-use Rattle.std.proofs.Common.{◌≡◌, true, false, refl, List, [], ◌∷◌}
+use Rattle.std.proofs.Common.{◌≡◌, true, false, refl, ap, List, [], ◌∷◌}
+use Rattle.std.specs.Prelude.{Option, Some, None, Ok}
 use Rattle.std.specs.List.{AllByRecursion}
 use Rattle.byte_text.specs.Names.{Bytes, is_name}
+use Rattle.byte_text.specs.Requests.{FitsRequest}
+use Rattle.world_model.specs.Commands.{command_spelled, ok_or_fault, reads}
 use Rattle.deliveries.specs.Plans.{subscribes}
 use Rattle.session_mail.specs.Sessions.{AreSoundSubs}
 use Rattle.tile_core.specs.Subscribing.{subs_of}
@@ -19,33 +22,41 @@ sound : (patterns : List Bytes) → AllByRecursion IsPattern patterns → AreSou
 sound [] all = tt
 sound (p ∷ patterns) all = (all.0.1, sound patterns all.1)
 
-pub served_asked : (c : Command) → IsServed c → IsAsked c
-served_asked (command.Set key id given cleared after_ex only text shape) s = s
-served_asked (command.Get key id with_fields how) s = s
-served_asked (command.Del key id) s = s
-served_asked (command.Pdel key pattern) s = s
-served_asked (command.Drop key) s = s
-served_asked (command.Fset key id given cleared) s = s
-served_asked (command.Fget key id field) s = s
-served_asked (command.Expire key id seconds) s = s
-served_asked (command.Persist key id) s = s
-served_asked (command.Ttl key id) s = s
-served_asked (command.Keys pattern) s = s
-served_asked (command.Bounds key) s = s
-served_asked (command.Stats keys) s = s
-served_asked command.Flush s = s
-served_asked command.Shrink s = s
-served_asked command.Ping s = s
-served_asked command.Quit s = s
-served_asked (command.Scan key q) s = s
-served_asked (command.Search key q from) s = s
-served_asked (command.Nearby key q at reach) s = s
-served_asked (command.Setchan c from) s = s
-served_asked (command.Delchan name) s = tt
-served_asked (command.Pdelchan pattern) s = s.1
-served_asked (command.Chans pattern) s = s.1
-served_asked (command.Subscribe names) s = s.1
-served_asked (command.Psubscribe patterns) s = (named patterns s.1, sound patterns s.1)
+-- what words ask for they spell
+ok_of : (words : List Bytes) (o : Option Command) (c : Command) → ok_or_fault words o ≡ Ok c → o ≡ Some c
+ok_of words (Some d) c e = ap Some (cc e)
+ok_of words None c e = absurd (cc e)
+
+spelled_of : (words : List Bytes) (c : Command) → reads words ≡ Ok c → command_spelled words ≡ Some c
+spelled_of words c e = ok_of words (command_spelled words) c e
+
+pub served_asked : (words : List Bytes) → FitsRequest words → (c : Command) → reads words ≡ Ok c → IsServed c → IsAsked c
+served_asked words fits (command.Set key id given cleared after_ex only text shape) e s = s
+served_asked words fits (command.Get key id with_fields how) e s = s
+served_asked words fits (command.Del key id) e s = s
+served_asked words fits (command.Pdel key pattern) e s = s
+served_asked words fits (command.Drop key) e s = s
+served_asked words fits (command.Fset key id given cleared) e s = s
+served_asked words fits (command.Fget key id field) e s = s
+served_asked words fits (command.Expire key id seconds) e s = s
+served_asked words fits (command.Persist key id) e s = s
+served_asked words fits (command.Ttl key id) e s = s
+served_asked words fits (command.Keys pattern) e s = s
+served_asked words fits (command.Bounds key) e s = s
+served_asked words fits (command.Stats keys) e s = s
+served_asked words fits command.Flush e s = s
+served_asked words fits command.Shrink e s = s
+served_asked words fits command.Ping e s = s
+served_asked words fits command.Quit e s = s
+served_asked words fits (command.Scan key q) e s = s
+served_asked words fits (command.Search key q from) e s = s
+served_asked words fits (command.Nearby key q at reach) e s = s
+served_asked words fits (command.Setchan c from) e s = (s, record { words = words; fits = fits; spelled = spelled_of words (command.Setchan c from) e })
+served_asked words fits (command.Delchan name) e s = tt
+served_asked words fits (command.Pdelchan pattern) e s = s.1
+served_asked words fits (command.Chans pattern) e s = s.1
+served_asked words fits (command.Subscribe names) e s = s.1
+served_asked words fits (command.Psubscribe patterns) e s = (named patterns s.1, sound patterns s.1)
 
 -- what is asked is of objects or of channels, or subscribes
 
@@ -59,7 +70,6 @@ channels_only c e = absurd (cc)
 pub rest_subscribes : (c : Command) → IsAsked c → is_of_objects c ≡ false → is_of_channels c ≡ false → subscribes c ≡ true
 rest_subscribes (command.Subscribe names) a e f = refl
 rest_subscribes (command.Psubscribe patterns) a e f = refl
-rest_subscribes command.Shrink a e f = absurd a
 rest_subscribes (command.Setchan d from) a e f = absurd (cc)
 rest_subscribes (command.Delchan name) a e f = absurd (cc)
 rest_subscribes (command.Pdelchan pattern) a e f = absurd (cc)

@@ -191,7 +191,7 @@ module _ (cs : List Channel) (os : List Object) where
   beside total kept light now (command.Bounds key) e n = same (command_effect v now [] (command.Bounds key)) refl
   beside total kept light now (command.Stats keys) e n = same (command_effect v now [] (command.Stats keys)) refl
   beside total kept light now command.Flush e n = refl
-  beside total kept light now command.Shrink e n = absurd (cc)
+  beside total kept light now command.Shrink e n = refl
   beside total kept light now command.Ping e n = refl
   beside total kept light now command.Quit e n = refl
   beside total kept light now (command.Scan key q) e n = same (command_effect v now [] (command.Scan key q)) refl

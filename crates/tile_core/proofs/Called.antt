@@ -1,12 +1,10 @@
 -- A call that is completed is the machine's.
-use Rattle.std.proofs.Common.{◌≡◌, ◌≢◌, ℕ, zero, suc, ◌+◌, ◌*◌, ◌<◌, ◌≤◌, Bool, true, false, true≢false, refl, sym, ap, ◌∙◌, subst, inl, inr, List, [], ◌∷◌, ◌++◌, length, max, map, lit≤, arith}
+use Rattle.std.proofs.Common.{◌≡◌, ℕ, zero, suc, ◌+◌, ◌*◌, ◌<◌, ◌≤◌, Bool, true, false, true≢false, refl, sym, ap, ◌∙◌, subst, List, [], ◌∷◌, ◌++◌, length, max, map, lit≤, arith}
 use Rattle.std.specs.Prelude.{Some, None, Option, Ok, find, slice_get, slice_set, if◌then◌else◌}
 use Rattle.std.specs.List.{AllByRecursion}
-use Rattle.std.proofs.Math.ListN.{length-set}
 use Rattle.byte_text.specs.Names.{Bytes}
 use Rattle.byte_text.specs.Replies.{frame_text}
-use Rattle.byte_text.specs.declared.replies.Piece.{Piece}
-use Rattle.world_data.specs.Limits.{max_moment, max_reply, max_sessions, max_weight, most_logged}
+use Rattle.world_data.specs.Limits.{max_moment, max_reply, max_weight, most_logged}
 use Rattle.world_data.specs.declared.objects.Object.{Object}
 use Rattle.world_data.specs.declared.worlds.World.{World}
 use Rattle.fence_model.specs.Writes.{Write, dels}
@@ -20,7 +18,7 @@ use Rattle.world_model.specs.declared.events.Asked.{Asked}
 use Rattle.world_model.specs.declared.events.Called.TheVariants as called
 use Rattle.world_model.specs.declared.events.Event.TheVariants.{Call}
 use Rattle.world_model.specs.declared.events.Outcome.TheVariants.{Answered}
-use Rattle.keyspace.specs.Entries.{objects_in}
+use Rattle.log_record.specs.EventWrites.{call_writes, writes_of}
 use Rattle.deliveries.specs.Calls.{due_staged}
 use Rattle.deliveries.specs.Callers.{answer_fits, own_call}
 use Rattle.deliveries.specs.Plans.{FitBehind, IsReplied, effect_of_asked}
@@ -28,9 +26,8 @@ use Rattle.deliveries.specs.Placing.{each_number}
 use Rattle.deliveries.specs.Touched.{ending_number}
 use Rattle.deliveries.specs.Quiet.{heard_none}
 use Rattle.deliveries.specs.Staging.{Suffice, after_all, have_room, heard, listens}
-use Rattle.session_mail.specs.Mail.{has_room_left}
 use Rattle.session_mail.specs.Sessions.{State, session_of}
-use Rattle.session_mail.specs.Fans.{AreBare, ArePlaced, HaveStaged, IsPlaced}
+use Rattle.session_mail.specs.Fans.{AreBare, ArePlaced, IsPlaced}
 use Rattle.session_mail.specs.FanLaws.{bare_all}
 use Rattle.tile_core.specs.declared.dues.Expired.{Expired}
 use Rattle.tile_core.specs.declared.planned.Planned.{Planned}
@@ -38,11 +35,12 @@ use Rattle.tile_core.specs.declared.planned.Planned.TheVariants.{Objects, Channe
 use Rattle.tile_core.specs.declared.ready.Ready.{Ready}
 use Rattle.tile_core.specs.declared.stores.Store.{Store}
 use Rattle.tile_core.specs.Answered.{AreNamed, AreRoomy, AreSessions, IsAnswered, is_named}
+use Rattle.tile_core.specs.Ledgers.{ready_writes, writes_if}
 use Rattle.tile_core.specs.Planned.{IsPlanned}
-use Rattle.tile_core.specs.Ready.{IsCompleted, IsDone, IsDoneIf, IsReady, IsRequestReady, IsRestReady, IsSoundAnswer, CanComplete, ending_if, length_if, planned_length, replied, reply_count}
-use Rattle.tile_core.specs.Sessions.{IsServed, is_full, is_open}
+use Rattle.tile_core.specs.Ready.{IsCompleted, IsDone, IsDoneIf, IsReady, IsRestReady, IsSoundAnswer, CanComplete, ending_if, length_if, planned_length, replied, reply_count}
+use Rattle.tile_core.specs.Sessions.{IsServed}
 use Rattle.tile_core.specs.Stores.{ArePresent, IsSound, IsStore, hall_of, world_at}
-use Rattle.tile_core.proofs.Calls.{as_many, cut_done, done, due_are, later_world, made, own_numbers, placed_at, rises_as, rises_placed}
+use Rattle.tile_core.proofs.Calls.{as_many, cut_done, cut_writes, done, done_writes, due_are, later_world, made, own_numbers, placed_at, rises_as, rises_placed}
 use Rattle.tile_core.proofs.Finishing.{bare_at, bare_set, present_set}
 use Rattle.tile_core.proofs.NamedChanges.{changed_named, placed_named, roomy_as}
 use Rattle.tile_core.proofs.Present.{found}
@@ -213,6 +211,26 @@ module _ (before : Store) (now logged drawn : ℕ) (ss mid : List State) (n i mo
             let sum : logged + len ≡ (logged + g.length) + planned_length p = omega (arith, is) in
             subst (λ (xs : List State). Step hall (Call n moment asked) (Answered called.Ok) (hall_of last m (logged + len) drawn xs)) (sym d.set)
             (subst (λ (k : ℕ). Step hall (Call n moment asked) (Answered called.Ok) (hall_of last m k drawn (slice_set placed_ i d.answered))) (sym sum) whole)
+
+    -- it does the writes of what was made ready
+    pub writes : writes_of hall (Call n moment asked) ≡ ready_writes r
+    writes =
+        ap (λ (os : List Object). dels os ++ call_writes (due hall moment) n asked) (due_are before now logged drawn ss mid placed_ moment store g present.rises same ready_m.expired ready_m.channels)
+        ∙ ap (λ (more : List Write). dels g.held.items ++ more) (by r.planned ready_m.rest completed.done)
+      where
+        same_caller : ready_m.caller ≡ ready.caller
+        same_caller = same_is ready_m.caller ready.caller (sym ready_m.here ∙ ready.here)
+
+        was : session_of ready_m.caller ≡ session_of s
+        was = ap session_of same_caller ∙ as_was
+
+        by : (p : Option Planned) → IsRestReady before store g m asked ready_m.caller mid p → IsDoneIf store placed_ i p last new → call_writes (due hall moment) n asked ≡ writes_if p
+        by None q d = cut_writes before now logged drawn ss mid placed_ moment store g present.rises same ready_m.expired ready_m.channels n i asked s sv.0.here sv.0.numbered sv.1 sv.2 unspent completed.are_placed ready_m.caller ready_m.here was q.0 q.1
+        by (Some p) q d =
+            let t = placed_at mid placed_ i ready_m.caller completed.are_placed ready_m.here in
+            let one : d.caller ≡ t.0 = same_is d.caller t.0 (sym d.here ∙ t.1) in
+            let reply : session_of d.answered ≡ replied p (session_of t.0) = d.reply ∙ ap (λ (x : State). replied p (session_of x)) one in
+            done_writes before now logged drawn ss mid placed_ moment store g present.rises same ready_m.expired ready_m.channels n i asked s sv.0.here sv.0.numbered sv.1 sv.2 unspent completed.are_placed ready_m.caller ready_m.here was p q last d.world d.answered reply
 
     -- who is another is named
     module _ (named : List ℕ) (told : AreNamed named mid) (caller_named : is_named named n ≡ true) where

@@ -1,10 +1,8 @@
 -- Calls and ticks, in the words of the parts of a core.
-use Rattle.std.proofs.Common.{◌≡◌, ◌≢◌, ℕ, zero, suc, ◌+◌, ◌<◌, ◌≤◌, Bool, true, false, refl, sym, ap, ◌∙◌, subst, inl, inr, List, [], ◌∷◌, ◌++◌, length, max, map, arith}
-use Rattle.std.specs.Prelude.{Some, None, Option, Result, Ok, Err, slice_get, slice_set, filter, ◌⊎◌, if◌then◌else◌}
-use Rattle.std.proofs.lemmas.Bool.Decides.{nat_tests}
+use Rattle.std.proofs.Common.{◌≡◌, ◌≢◌, ℕ, zero, suc, ◌+◌, ◌<◌, ◌≤◌, Bool, true, false, refl, sym, ap, ◌∙◌, subst, inl, inr, List, [], ◌∷◌, ◌++◌, length, max, map}
+use Rattle.std.specs.Prelude.{Some, Option, Result, Ok, Err, option_map, slice_get, slice_set, filter, ◌⊎◌, if◌then◌else◌}
 use Rattle.byte_text.specs.Names.{Bytes}
 use Rattle.byte_text.specs.Replies.{frame_text}
-use Rattle.byte_text.specs.declared.replies.Piece.{Piece}
 use Rattle.world_data.specs.Limits.{most_logged}
 use Rattle.ordered_lists.specs.Lists.{sorted_by}
 use Rattle.world_data.specs.Expiry.{expired, is_due, due_before}
@@ -16,23 +14,28 @@ use Rattle.world_data.specs.declared.worlds.Change.TheVariants as change
 use Rattle.fence_model.specs.Writes.{Write, dels}
 use Rattle.world_model.specs.Effects.{Effect}
 use Rattle.world_model.specs.Subscriptions.{Sub, with_subs}
+use Rattle.world_model.specs.Commands.{reads}
 use Rattle.world_model.specs.Halls as halls
-use Rattle.world_model.specs.Halls.{Hall, apply_all, due, do_call, is_live, is_session, placed, placed_each}
+use Rattle.world_model.specs.Halls.{Hall, apply_all, due, do_call, effect_of, is_live, is_session, placed, placed_each}
 use Rattle.world_model.specs.Histories.{Step}
+use Rattle.world_model.specs.declared.commands.Command.{Command}
+use Rattle.world_model.specs.declared.faults.WordFault.{WordFault}
 use Rattle.world_model.specs.declared.events.Asked.{Asked}
+use Rattle.world_model.specs.declared.events.Asked.TheVariants.{Words, Broken}
 use Rattle.world_model.specs.declared.events.Called.{Called}
 use Rattle.world_model.specs.declared.events.Called.TheVariants as called
 use Rattle.world_model.specs.declared.events.Event.TheVariants.{Call, Tick}
 use Rattle.world_model.specs.declared.events.Outcome.TheVariants.{Answered}
 use Rattle.keyspace.specs.Entries.{objects_in}
-use Rattle.deliveries.specs.Staging.{HaveOwnNumbers, Rise, after_all, all_to, changed_at, has_room_for, heard, listens, placed_all, records_len}
-use Rattle.deliveries.specs.Plans.{answered, brought, effect_of_asked, ended_if, ending, subscribing}
+use Rattle.log_record.specs.EventWrites.{asked_writes, call_writes, live_writes}
+use Rattle.deliveries.specs.Addressing.{addressed}
+use Rattle.deliveries.specs.Calls.{due_staged}
+use Rattle.deliveries.specs.Staging.{HaveOwnNumbers, Rise, after_all, all_to, changed_at, frames_to, has_room_for, heard, listens, placed_all, records_len, staged}
+use Rattle.deliveries.specs.Plans.{answered, brought, effect_of_asked, effect_of_read, ended_if, ending, subscribing}
 use Rattle.deliveries.specs.BySession.{by_sessions}
 use Rattle.deliveries.specs.Placing.{each_number, map_none, map_twice, placed_number}
-use Rattle.deliveries.specs.Quiet.{heard_append}
 use Rattle.deliveries.specs.Rising.{rising}
-use Rattle.deliveries.specs.Serving.{lives_on, takes_all}
-use Rattle.deliveries.specs.Touched.{ending_number}
+use Rattle.deliveries.specs.Serving.{found_holds, found_placed, lives_on, takes_all}
 use Rattle.session_mail.specs.Mail.{has_room_left}
 use Rattle.session_mail.specs.Sessions.{State, session_of}
 use Rattle.session_mail.specs.Fans.{ArePlaced, HaveStaged, IsPlaced}
@@ -40,12 +43,11 @@ use Rattle.session_mail.specs.FanLaws.{hall_placed, placed_are}
 use Rattle.tile_core.specs.declared.dues.Expired.{Expired}
 use Rattle.tile_core.specs.declared.planned.Planned.{Planned}
 use Rattle.tile_core.specs.declared.planned.Planned.TheVariants.{Objects, Channels, Subscribed}
-use Rattle.tile_core.specs.declared.ready.Ready.{Ready}
 use Rattle.tile_core.specs.declared.stores.Store.{Store}
 use Rattle.tile_core.specs.Moves.{world_of, world_with}
 use Rattle.tile_core.specs.Dues.{IsExpired}
 use Rattle.tile_core.specs.Planned.{IsPlanned}
-use Rattle.tile_core.specs.Ready.{IsReady, IsRequestReady, ending_if, planned_length, planned_writes, replied}
+use Rattle.tile_core.specs.Ready.{IsRequestReady, ending_if, planned_length, planned_writes, replied}
 use Rattle.tile_core.specs.Sessions.{is_open, is_full, Rises, AreOthers, IsServed}
 use Rattle.tile_core.specs.Stores.{hall_of, world_at}
 use Rattle.tile_core.proofs.Present.{found, none_found, changed}
@@ -161,6 +163,15 @@ length_as w total held e (Objects p) is = is.0.length_is
 length_as w total held e (Channels p) is = is.0.length_is
 length_as w total held e (Subscribed p) is = refl
 
+-- what is asked changes the world as its effect says
+asked_as : (h : Hall) (s : halls.Session) (asked : Asked) → asked_writes h s asked ≡ (effect_of_asked h.world h.now s.subs asked).writes
+asked_as h s (Words words) = ap (λ (e : Effect). e.writes) (by (reads words))
+  where
+    by : (r : Result Command WordFault) → effect_of h s r ≡ effect_of_read h.world h.now s.subs r
+    by (Ok c) = refl
+    by (Err f) = refl
+asked_as h s (Broken fault) = refl
+
 -- the clock
 
 all_there : (os : List Object) → os ++ [] ≡ os
@@ -238,6 +249,13 @@ module _ (before : Store) (now logged drawn : ℕ) (ss mid new : List State) (mo
         not_done : is_live (session_of p.0) ≡ false → do_call (hall_of store moment_now (logged + g.length) drawn new) n asked ≡ hall_of store moment_now (logged + g.length) drawn new
         not_done dead = rw (found 0 drawn new i n p.0 new_rises p.1 last_number, dead) refl
 
+    -- and then its call writes nothing
+    pub cut_writes : HaveStaged (world_at before) (dels held) mid → has_room_left caller.mail ≡ false → call_writes (due hall moment) n asked ≡ []
+    cut_writes staged room = ap (λ (h : Hall). call_writes h n asked) (clock placed_ staged) ∙ rw (found 0 drawn new i n p.0 new_rises p.1 last_number, dead) refl
+      where
+        dead : is_live (session_of p.0) ≡ false
+        dead = ap is_live p.2.same ∙ lives_on (session_of caller) caller.mail.staged live_caller ∙ room
+
     -- its request is done
     module _ (q : Planned) (ready : IsRequestReady before store g moment_now asked caller mid q) (last : Store) (lasting : world_at last ≡ after_all (world_at store) (planned_writes q)) (v : State) (answer : session_of v ≡ replied q (session_of p.0)) where
       abbrev e_of : Effect
@@ -257,6 +275,45 @@ module _ (before : Store) (now logged drawn : ℕ) (ss mid new : List State) (mo
 
       writes_are : e_of.writes ≡ planned_writes q
       writes_are = writes_as (world_at store) store.weight s.subs e_of q plan
+
+      -- what its call writes is what is planned
+      pub done_writes : call_writes (due hall moment) n asked ≡ planned_writes q
+      done_writes =
+          ap (λ (o : Option halls.Session). live_writes (due hall moment) o asked) in_due
+          ∙ ap (λ (b : Bool). if b then asked_writes (due hall moment) behind asked else []) lives
+          ∙ asked_as (due hall moment) behind asked
+          ∙ ap (λ (h : Hall). (effect_of_asked h.world h.now s.subs asked).writes) due_is
+          ∙ ap (λ (w : World). (effect_of_asked w moment_now s.subs asked).writes) due_world
+          ∙ writes_are
+        where
+          own : HaveOwnNumbers (map session_of ss)
+          own = own_numbers drawn ss rises
+
+          dues : List Write
+          dues = dels (expired (world_at before) moment_now)
+
+          frames : List Bytes
+          frames = heard (world_at before) dues (listens (session_of s))
+
+          behind : halls.Session
+          behind = record (session_of s) { frames = (session_of s).frames ++ frames }
+
+          due_is : due hall moment ≡ record hall { now = moment_now; world = after_all (world_at before) dues; logged = logged + records_len dues; sessions = placed_all (map session_of ss) (staged (world_at before) (map session_of ss) dues) }
+          due_is = due_staged hall moment own
+
+          due_world : after_all (world_at before) dues ≡ world_at store
+          due_world = ap (λ (os : List Object). after_all (world_at before) (dels os)) due_are ∙ later_world
+
+          in_due : halls.session_of (due hall moment) n ≡ Some behind
+          in_due =
+              ap (λ (h : Hall). halls.session_of h n) due_is
+              ∙ found_placed n (map session_of ss) (staged (world_at before) (map session_of ss) dues)
+              ∙ ap (option_map (λ t. placed_each t (frames_to t.number (staged (world_at before) (map session_of ss) dues)))) in_hall
+              ∙ ap (λ (fs : List Bytes). Some (placed_each (session_of s) fs))
+              (found_holds (λ t. frames_to t.number (staged (world_at before) (map session_of ss) dues) ≡ heard (world_at before) dues (listens t)) n (session_of s) (map session_of ss) (addressed (world_at before) dues (map session_of ss) own) in_hall)
+              ∙ ap (λ (t : halls.Session). Some t)
+              (takes_all (session_of s) frames lives
+              (subst (λ (os : List Object). has_room_for (session_of s) (heard (world_at before) (dels os) (listens (session_of s))) ≡ true) (sym due_are) room))
 
       -- by sessions
       whole : do_call (due hall moment) n asked ≡ record hall { now = moment_now; world = after_all (world_at store) e_of.writes; logged = (logged + records_len (dels held)) + records_len e_of.writes; sessions = answered n e_of (brought (world_at before) (dels held ++ e_of.writes) (map session_of ss)) }

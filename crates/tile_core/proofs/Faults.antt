@@ -14,7 +14,6 @@ use Rattle.world_model.specs.Grammar.{Reading, spelled, goes_on, wants_coordinat
 use Rattle.world_data.specs.Limits.{max_reply}
 use Rattle.world_model.specs.Replies.{error}
 use Rattle.world_model.specs.Refusals.{fault_reply}
-use Rattle.world_model.specs.Served.{asks, is_served}
 use Rattle.world_model.specs.Commands.{reads, is_fraction, command_spelled, ok_or_fault, fault_of, fault_at, geo_fault_of, stop_behind, is_open, wrong_count, shown_of, Stop, readings}
 use Rattle.world_model.specs.declared.commands.Command.{Command}
 use Rattle.world_model.specs.declared.faults.WordFault.{WordFault}
@@ -30,7 +29,6 @@ IsShortFault (fault.WrongCount w) = length w ≤ max_word
 IsShortFault (fault.Invalid w) = length w ≤ max_word
 IsShortFault (fault.Fraction w) = length w ≤ max_word
 IsShortFault (fault.Geo f) = Unit {0}
-IsShortFault fault.Unserved = Unit {0}
 
 framed : (t : Bytes) → length t ≤ 2000000 → length (frame_text (error t)) ≤ max_reply
 framed t le = sizes (codes "ERR ") (lit≤ tt) le
@@ -71,7 +69,6 @@ fault_fits (fault.WrongCount w) s = framed (codes "wrong number of arguments for
 fault_fits (fault.Invalid w) s = framed (codes "invalid argument " ++ in_quotes w) (behind (codes "invalid argument ") (in_quotes w) (lit≤ tt) (quotes (codes "'") w (lit≤ tt) s))
 fault_fits (fault.Fraction w) s = framed (codes "coordinate is not a whole number " ++ in_quotes w) (behind (codes "coordinate is not a whole number ") (in_quotes w) (lit≤ tt) (quotes (codes "'") w (lit≤ tt) s))
 fault_fits (fault.Geo f) s = geo_fits f
-fault_fits fault.Unserved s = lit≤ tt
 
 -- how words are refused
 
@@ -115,8 +112,8 @@ stopped_short : (words : List Bytes) (stop : Option Stop) → AreShort words →
 stopped_short words None s e = count_short words s
 stopped_short words (Some stop) s e = at_short stop.earlier stop.at (readings stop.earlier) (earlier_short [] words stop tt s e)
 
-refusal_fits : (words : List Bytes) (f : WordFault) → AllByRecursion (λ w. length w ≤ max_word) words → asks words ≡ Err f → length (frame_text (fault_reply f)) ≤ max_reply
-refusal_fits words f s e = fault_fits f (by (is_served words) e)
+refusal_fits : (words : List Bytes) (f : WordFault) → AllByRecursion (λ w. length w ≤ max_word) words → reads words ≡ Err f → length (frame_text (fault_reply f)) ≤ max_reply
+refusal_fits words f s e = fault_fits f (of_command (command_spelled words) e)
   where
     of_command : (c : Option Command) → ok_or_fault words c ≡ Err f → IsShortFault f
     of_command (Some c) g = absurd (cc)
@@ -124,10 +121,6 @@ refusal_fits words f s e = fault_fits f (by (is_served words) e)
         let same : fault_of words (stop_behind [] words) ≡ f = cc in
         subst IsShortFault same (stopped_short words (stop_behind [] words) s refl)
 
-    by : (b : Bool) → (if b then reads words else Err fault.Unserved) ≡ Err f → IsShortFault f
-    by true g = of_command (command_spelled words) g
-    by false g = let same : fault.Unserved ≡ f = cc in subst IsShortFault same tt
-
 -- of words that are refused
-pub answer_fits : (words : List Bytes) (f : WordFault) → FitsRequest words → asks words ≡ Err f → length (frame_text (fault_reply f)) ≤ max_reply
+pub answer_fits : (words : List Bytes) (f : WordFault) → FitsRequest words → reads words ≡ Err f → length (frame_text (fault_reply f)) ≤ max_reply
 answer_fits words f fits e = refusal_fits words f fits.short e

@@ -1,7 +1,7 @@
 -- What holds of the parts of a core after a call.
 use Rattle.std.proofs.Common.{◌≡◌, ℕ, zero, suc, ◌+◌, ◌<◌, ◌≤◌, Bool, true, false, not, refl, sym, ap, ◌∙◌, subst, List, [], ◌∷◌, ◌++◌, length, map, drop, get_or, arith}
 use Rattle.std.specs.Prelude.{Some, Ok, filter, slice_get, slice_set, remove, ◌&&◌, if◌then◌else◌}
-use Rattle.std.specs.List.{list_all}
+use Rattle.std.specs.List.{AllByRecursion, list_all}
 use Rattle.std.proofs.Math.ListN.{length-set}
 use Rattle.byte_text.specs.Names.{Bytes}
 use Rattle.ordered_lists.specs.Lists.{put_in}
@@ -23,14 +23,16 @@ use Rattle.tile_core.specs.declared.moves.Move.TheVariants.{Stay, Put, Delete, D
 use Rattle.tile_core.specs.declared.planned.ChannelMove.{ChannelMove}
 use Rattle.tile_core.specs.declared.planned.ChannelMove.TheVariants.{Set, Drop}
 use Rattle.tile_core.specs.declared.plans.Plan.{Plan}
-use Rattle.tile_core.specs.Moves.{world_of, world_with, moved, without_each}
+use Rattle.tile_core.specs.Moves.{IsAccepted, world_of, world_with, moved, without_each}
 use Rattle.tile_core.specs.Sessions.{IsServed}
 use Rattle.tile_core.specs.Plans.{IsPlan, writes_of}
-use Rattle.tile_core.specs.Planned.{IsSoundMove, channel_writes, channels_left, channels_moved, channels_weight, weight_left, without_names}
+use Rattle.stored_world.specs.ListLaws.{all_left, all_put}
+use Rattle.tile_core.specs.Planned.{IsRecordedChannel, IsRecordedMove, IsSoundMove, channel_writes, channels_left, channels_moved, channels_weight, weight_left, without_names}
 use Rattle.tile_core.specs.Staged.{dels_of}
 use Rattle.tile_core.specs.CoreStates.{AreKept}
 use Rattle.tile_core.specs.Stores.{ArePresent}
 use Rattle.tile_core.specs.Dues.{IsTaken}
+use Rattle.tile_core.proofs.Moving.{all_moved}
 use Rattle.tile_core.proofs.Present.{rises_set, rises_remove}
 
 -- what is read at a place where something stands
@@ -56,7 +58,7 @@ sorted_all w (d ∷ writes) sorted = sorted_all (after w d.change) writes (keeps
 
 -- what is left when objects were taken out
 pub rest_kept : (old : List Object) (now total : ℕ) (xs held : List Object) (len rest : ℕ) → total ≤ max_weight → IsTaken old now total xs held len rest → AreKept xs rest
-rest_kept old now total xs held len rest light t = record { sorted = t.sorted; weighed = t.rest_is; light = omega (arith, light, t.small) }
+rest_kept old now total xs held len rest light t = record { sorted = t.sorted; accepted = t.accepted; weighed = t.rest_is; light = omega (arith, light, t.small) }
 
 -- the writes of a move do it
 each_done : (cs : List Channel) (key : Bytes) (ids : List Bytes) (xs : List Object) → after_all (world_with cs xs) (dels_of key ids) ≡ world_with cs (without_each key ids xs)
@@ -97,6 +99,7 @@ kept_after objects total kept e p is = record {
       let all = sorted_all (world_of objects) (writes_of p.action p.loud) (both (are_objects objects) kept.sorted) in
       let left = subst (λ (w : World). is_sorted_world w ≡ true) (move_done [] objects p.action p.loud) all in
       first_of (are_objects (moved objects p.action)) (are_channels (channels_left p.action [])) left;
+  accepted = all_moved IsAccepted objects p.action is.accepted kept.accepted;
   weighed = is.weight_is;
   light = is.light;
 }
@@ -142,6 +145,25 @@ sound_left (Delete key id) cs all = all
 sound_left (DeleteEach key ids) cs all = all
 sound_left (Leave key) cs all = all
 sound_left Clear cs all = refl
+
+-- and recorded ones recorded
+
+recorded_without : (names : List Bytes) (cs : List Channel) → AllByRecursion IsRecordedChannel cs → AllByRecursion IsRecordedChannel (without_names names cs)
+recorded_without [] cs all = all
+recorded_without (name ∷ names) cs all =
+    recorded_without names (filter (λ c. not (is_named name c)) cs) (all_left IsRecordedChannel (λ c. not (is_named name c)) cs all)
+
+pub recorded_moved : (action : ChannelMove) (cs : List Channel) → IsRecordedMove action → AllByRecursion IsRecordedChannel cs → AllByRecursion IsRecordedChannel (channels_moved action cs)
+recorded_moved (Set c) cs r all = all_put IsRecordedChannel channel_before c cs r all
+recorded_moved (Drop names) cs r all = recorded_without names cs all
+
+pub recorded_left : (action : Move) (cs : List Channel) → AllByRecursion IsRecordedChannel cs → AllByRecursion IsRecordedChannel (channels_left action cs)
+recorded_left Stay cs all = all
+recorded_left (Put o) cs all = all
+recorded_left (Delete key id) cs all = all
+recorded_left (DeleteEach key ids) cs all = all
+recorded_left (Leave key) cs all = all
+recorded_left Clear cs all = tt
 
 pub weighed_left : (action : Move) (n : ℕ) (cs : List Channel) → n ≡ channels_weight cs → weight_left action n ≡ channels_weight (channels_left action cs)
 weighed_left Stay n cs e = e

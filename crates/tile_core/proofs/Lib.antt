@@ -7,6 +7,7 @@ mod Steps
 mod Takes
 mod Standing
 mod Moving
+mod Nexts
 mod Soonest
 mod Calls
 mod Answered
@@ -29,8 +30,11 @@ mod There
 mod ChannelSums
 mod Planning
 mod ChannelEffects
+mod GivenAreas
 mod Confirmed
 mod Readying
 mod Completing
 mod Called
 mod Ticked
+mod Pushing
+mod Stored

@@ -37,6 +37,10 @@ module _ (w : World) (now : ℕ) where
   unfolding effect
   answered = refl
 
+  pub shrunk : effect w now [] command.Shrink ≡ within_reply (says fine)
+  unfolding effect
+  shrunk = refl
+
   pub left : effect w now [] command.Quit ≡ ends_with fine
   unfolding effect
   left = refl

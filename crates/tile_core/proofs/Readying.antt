@@ -1,15 +1,15 @@
 -- A call is ready, from its parts.
-use Rattle.std.proofs.Common.{◌≡◌, ℕ, zero, suc, ◌+◌, ◌<◌, ◌≤◌, Bool, true, false, true≢false, inl, inr, refl, sym, ap, ◌∙◌, subst, List, [], ◌∷◌, ◌++◌, length, map, arith}
-use Rattle.std.specs.Prelude.{Some, None, Option, slice_get, slice_set, ◌⊎◌}
+use Rattle.std.proofs.Common.{◌≡◌, ℕ, zero, suc, ◌<◌, true, true≢false, inl, inr, refl, sym, ap, ◌∙◌, subst, List, [], ◌∷◌, ◌++◌, length, map, arith}
+use Rattle.std.specs.Prelude.{Some, None, Option, slice_get, slice_set}
 use Rattle.std.specs.List.{AllByRecursion, list_all}
 use Rattle.byte_text.specs.Names.{Bytes}
-use Rattle.world_data.specs.Limits.{max_weight}
 use Rattle.world_data.specs.Worlds.{after}
 use Rattle.world_data.specs.declared.objects.Object.{Object}
 use Rattle.world_data.specs.declared.channels.Channel.{Channel}
 use Rattle.world_data.specs.declared.worlds.World.{World}
 use Rattle.world_data.specs.declared.worlds.Change.TheVariants as change
 use Rattle.fence_model.specs.Writes.{Write, dels}
+use Rattle.world_model.specs.Effects.{Effect}
 use Rattle.world_model.specs.Halls as halls
 use Rattle.world_model.specs.declared.events.Asked.{Asked}
 use Rattle.world_model.specs.Subscriptions.{Sub}
@@ -23,14 +23,15 @@ use Rattle.session_mail.specs.Fans.{AreBare, HaveStaged}
 use Rattle.session_mail.specs.FanLaws.{bare_staged}
 use Rattle.tile_core.specs.declared.dues.Expired.{Expired}
 use Rattle.tile_core.specs.declared.planned.Planned.{Planned}
-use Rattle.tile_core.specs.declared.ready.Ready.{Ready}
+use Rattle.tile_core.specs.declared.planned.Planned.TheVariants.{Objects, Channels, Subscribed}
 use Rattle.tile_core.specs.declared.stores.Store.{Store}
 use Rattle.tile_core.specs.CoreStates.{AreKept}
-use Rattle.tile_core.specs.Dues.{AllStand, AreDueFrom, IsExpired}
+use Rattle.tile_core.specs.Dues.{AllStand, AreDueFrom, IsExpired, with_back}
+use Rattle.tile_core.specs.Ledgers.{CanRecord, CanRecordIf}
 use Rattle.tile_core.specs.Moves.{world_of, world_with}
 use Rattle.world_data.specs.Sound.{is_sound_channel}
-use Rattle.tile_core.specs.Planned.{IsPlanned, channels_weight}
-use Rattle.tile_core.specs.Ready.{IsAsBefore, IsRoomier, IsDueTaken, IsPlannedBehind, IsReady, IsRestBehind, IsRestReady, planned_writes}
+use Rattle.tile_core.specs.Planned.{IsPlanned, IsRecordedChannel, channels_weight}
+use Rattle.tile_core.specs.Ready.{IsAsBefore, IsRoomier, IsDueTaken, IsReady, IsRestBehind, IsRestReady, IsUndone}
 use Rattle.tile_core.specs.Staged.{StagesBehind}
 use Rattle.tile_core.specs.Stores.{IsStore, world_at}
 use Rattle.tile_core.proofs.Calls.{with_channels}
@@ -54,6 +55,7 @@ pub expired_store : (s left : Store) (now : ℕ) (g : Expired) → IsStore s →
 expired_store s left now g is e = record {
   kept = rest_kept (objects_in s.objects) now s.weight (objects_in left.objects) g.held.items g.length g.weight is.kept.light e.taken;
   sound = is.sound;
+  recorded = is.recorded;
   weighed = is.weighed;
   light = let small = e.taken.small in let light = is.light in omega (arith, small, light);
   due_from = e.due_from;
@@ -64,6 +66,7 @@ pub as_good : (s t : Store) → objects_in t.objects ≡ objects_in s.objects �
 as_good s t objects channels weight due_from heavy is = record {
   kept = subst (λ (n : ℕ). AreKept (objects_in t.objects) n) (sym weight) (subst (λ (xs : List Object). AreKept xs s.weight) (sym objects) is.kept);
   sound = ap (λ (cs : List Channel). list_all is_sound_channel cs) channels ∙ is.sound;
+  recorded = subst (AllByRecursion IsRecordedChannel) (sym channels) is.recorded;
   weighed = heavy ∙ is.weighed ∙ ap channels_weight (sym channels);
   light = let light = is.light in omega (arith, light, weight, heavy);
   due_from = subst (λ (n : ℕ). AreDueFrom n (objects_in t.objects)) (sym due_from) (subst (λ (xs : List Object). AreDueFrom s.due_from xs) (sym objects) is.due_from);
@@ -90,6 +93,22 @@ roomier old mid last new begun is ended =
 
 pub same_world : (s t : Store) → IsAsBefore s t → world_at t ≡ world_at s
 same_world s t b = ap (λ (cs : List Channel). world_with cs (objects_in t.objects)) b.channels ∙ ap (world_with s.hub.channels) b.objects
+
+pub as_itself : (s : Store) → IsAsBefore s s
+as_itself s = record { rest = refl; objects = refl; channels = refl }
+
+-- what was taken out is put back
+pub undone : (before mid store last : Store) (now : ℕ) (g : Expired) → mid ≡ record before { objects = mid.objects; weight = g.weight; due_from = g.due_from; steps = mid.steps }
+    → IsExpired (objects_in before.objects) now before.weight (objects_in mid.objects) g → IsAsBefore mid store → IsUndone store g.held.items before.weight before.due_from last → IsAsBefore before last
+undone before mid store last now g is_mid e as_mid u = record {
+  rest =
+      u.rest
+      ∙ ap (λ (s : Store). record s { objects = last.objects; weight = before.weight; due_from = before.due_from; steps = last.steps }) as_mid.rest
+      ∙ ap (λ (s : Store). record s { objects = last.objects; hub = store.hub; weight = before.weight; due_from = before.due_from; steps = last.steps }) is_mid
+      ∙ ap (λ (h : Held). record before { objects = last.objects; hub = h; steps = last.steps }) (sym (ap (λ (s : Store). s.hub) u.rest));
+  objects = u.objects ∙ ap (λ (xs : List Object). with_back xs g.held.items) as_mid.objects ∙ e.taken.back;
+  channels = ap (λ (s : Store). s.hub.channels) u.rest ∙ as_mid.channels ∙ ap (λ (s : Store). s.hub.channels) is_mid;
+}
 
 -- sessions at a place
 
@@ -141,6 +160,18 @@ roomy frames all some f room = elim f.enough [
     nothing_more : (fs : List Bytes) → fs ++ [] ≡ fs
     nothing_more [] = refl
     nothing_more (x ∷ fs) = ap (λ (gs : List Bytes). x ∷ gs) (nothing_more fs)
+
+-- what is planned is read back from its records
+can_record : (w : World) (total : ℕ) (held : List Sub) (e : Effect) (p : Planned) → IsPlanned w total held e p → CanRecord p
+can_record w total held e (Objects p) is = is.0.accepted
+can_record w total held e (Channels p) is = is.0.recorded
+can_record w total held e (Subscribed p) is = tt
+
+pub can_record_if : (mid : Store) (now : ℕ) (asked : Asked) (at : ℕ) (store : Store) (old new : List State) (p : Option Planned) → at < length old → IsRestBehind mid now asked at store old new p → CanRecordIf p
+can_record_if mid now asked at store old new None lt r = tt
+can_record_if mid now asked at store old new (Some p) lt r =
+    let s = there_is old at lt in
+    can_record (world_at mid) mid.weight s.0.subs (effect_of_asked (world_at mid) now s.0.subs asked) p (r.0.plan s.0 s.1)
 
 -- the whole
 module _ (before mid store : Store) (now : ℕ) (asked : Asked) (at : ℕ) (g : Expired) (ss one two : List State)

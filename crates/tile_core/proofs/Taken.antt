@@ -16,7 +16,7 @@ use Rattle.world_data.specs.declared.worlds.World.{World}
 use Rattle.world_data.specs.declared.worlds.Change.TheVariants as change
 use Rattle.keyspace.specs.Entries.{Entry, objects_in, room_for, has_room}
 use Rattle.tile_core.specs.CoreStates.{AreKept}
-use Rattle.tile_core.specs.Moves.{world_of}
+use Rattle.tile_core.specs.Moves.{IsAccepted, world_of}
 use Rattle.record_lengths.specs.Lengths.{len_of, HasFewFields}
 use Rattle.deliveries.specs.Staging.{after_all, records_len}
 use Rattle.tile_core.specs.Dues.{AllStand, AreDueFrom, IsTaken, IsTakenOut, HaveRoom, with_back}
@@ -120,7 +120,7 @@ none_due due_from now (x ∷ xs) ps lt = rw (far x.deadline refl) (none_due due_
 -- the taking
 
 pub taken_none : (old : List Object) (now total : ℕ) → AreKept old total → IsTaken old now total old [] 0 total
-taken_none old now total kept = record { back = refl; order = refl; world = refl; stand = tt; sorted = kept.sorted; few = have_few old total kept; length_is = refl; rest_is = kept.weighed; small = omega arith; count = omega arith }
+taken_none old now total kept = record { back = refl; order = refl; world = refl; stand = tt; sorted = kept.sorted; few = have_few old total kept; accepted = kept.accepted; length_is = refl; rest_is = kept.weighed; small = omega arith; count = omega arith }
 
 module _ (old : List Object) (now total : ℕ) (xs held : List Object) (len rest : ℕ) (t : IsTaken old now total xs held len rest) where
   one_more : (o : Object) (longer less : ℕ) → find (is_at o.key o.id) xs ≡ Some o
@@ -137,6 +137,7 @@ module _ (old : List Object) (now total : ℕ) (xs held : List Object) (len rest
         stand = stand_last (world_of old) held o t.stand (subst (λ (w : World). object_at w o.key o.id ≡ Some o) (sym t.world) here);
         sorted = ascends-filter object_before others xs t.sorted;
         few = all_left HasFewFields others xs t.few;
+        accepted = all_left IsAccepted others xs t.accepted;
         length_is = let all = length_last held o in omega (arith, all, long, t.length_is);
         rest_is = let w = taken_sum len_of o.key o.id xs o t.sorted here in omega (arith, w, light, t.rest_is, weight_sum xs, weight_sum left);
         small = let short = del_short o (found_holds (is_at o.key o.id) o HasFewFields xs here t.few) in omega (arith, short, long, light, t.small);

@@ -1,27 +1,26 @@
 -- A tick that is completed is the machine's.
-use Rattle.std.proofs.Common.{◌≡◌, ◌≢◌, ℕ, ◌+◌, ◌<◌, ◌≤◌, Bool, true, false, refl, sym, ap, ◌∙◌, subst, List, length, max, map, arith}
-use Rattle.std.specs.Prelude.{find}
+use Rattle.std.proofs.Common.{◌≡◌, ℕ, ◌+◌, ◌<◌, ◌≤◌, Bool, true, false, refl, sym, ap, ◌∙◌, subst, List, max, map, arith}
 use Rattle.world_data.specs.Limits.{max_moment, max_weight, most_logged}
 use Rattle.world_data.specs.declared.channels.Channel.{Channel}
 use Rattle.world_data.specs.declared.worlds.World.{World}
-use Rattle.world_model.specs.Halls as halls
+use Rattle.fence_model.specs.Writes.{dels}
 use Rattle.world_model.specs.Halls.{Hall, NamesChanged}
 use Rattle.world_model.specs.Histories.{Step}
 use Rattle.world_model.specs.declared.events.Called.TheVariants as called
 use Rattle.world_model.specs.declared.events.Event.TheVariants.{Tick}
 use Rattle.world_model.specs.declared.events.Outcome.TheVariants.{Answered}
+use Rattle.log_record.specs.EventWrites.{writes_of}
 use Rattle.keyspace.specs.Entries.{objects_in}
 use Rattle.session_mail.specs.Sessions.{State, session_of}
 use Rattle.session_mail.specs.Fans.{ArePlaced}
 use Rattle.tile_core.specs.declared.dues.Expired.{Expired}
 use Rattle.tile_core.specs.declared.stores.Store.{Store}
 use Rattle.tile_core.specs.Answered.{AreNamed, AreRoomy, AreSessions, is_named}
-use Rattle.tile_core.specs.Dues.{IsExpired}
 use Rattle.tile_core.specs.Moves.{world_with}
 use Rattle.tile_core.specs.Ready.{IsDueTaken}
 use Rattle.tile_core.specs.Stores.{ArePresent, IsSound, IsStore, hall_of, world_at}
 use Rattle.tile_core.proofs.Called.{all_bare, numbers_placed}
-use Rattle.tile_core.proofs.Calls.{as_many, rises_as, rises_placed, ticked}
+use Rattle.tile_core.proofs.Calls.{as_many, due_are, rises_as, rises_placed, ticked}
 use Rattle.tile_core.proofs.NamedChanges.{placed_named, roomy_as}
 use Rattle.tile_core.proofs.Readying.{as_good, as_long, expired_store}
 
@@ -67,6 +66,12 @@ module _ (before : Store) (now logged drawn : ℕ) (ss mid new : List State) (mo
       subst (λ (k : ℕ). Step hall (Tick moment) (Answered called.Ok) (hall_of last k (logged + g.length) drawn new)) (sym is_now)
       (subst (λ (w : World). Step hall (Tick moment) (Answered called.Ok) (record (hall_of last (max now moment) (logged + g.length) drawn new) { world = w })) (sym world_is)
       (ticked before now logged drawn ss mid new moment store g present.rises same taken_m.expired channels placed_ taken_m.staged unspent))
+
+  -- it does the dels of what was taken out
+  pub tick_writes : writes_of hall (Tick moment) ≡ dels g.held.items
+  tick_writes =
+      let taken_m : IsDueTaken before (max now moment) store g mid = subst (λ (k : ℕ). IsDueTaken before k store g mid) is_now taken in
+      ap dels (due_are before now logged drawn ss mid new moment store g present.rises same taken_m.expired channels)
 
   module _ (named : List ℕ) (told : AreNamed named mid) where
     pub tick_named : NamesChanged named hall after

@@ -3,7 +3,7 @@ use Rattle.std.specs.Prelude.{◌≡◌, ◌⊎◌, ◌≤◌, ◌==◌, ℕ, tr
 use Rattle.std.specs.List.{AllByRecursion, list_any}
 use Rattle.byte_text.specs.Replies.{frame_text}
 use Rattle.world_model.specs.Halls.{Hall, Session, due, session_of}
-use Rattle.world_model.specs.Histories.{is_spent, gone, full}
+use Rattle.world_model.specs.Histories.{is_spent, gone, full, ended, idle}
 use Rattle.world_model.specs.declared.events.Asked.{Asked}
 use Rattle.deliveries.specs.Plans.{IsReplied, effect_of_asked}
 use Rattle.session_mail.specs.Sessions as mail
@@ -11,6 +11,10 @@ use Rattle.session_mail.specs.Sessions as mail
 -- the session is served and not full, and the log is not at its greatest length
 abbrev pub MayCall : Hall → ℕ → Type 0
 MayCall h n = (is_spent h ≡ false) × (gone (session_of h n) ≡ false) × (full (session_of h n) ≡ false)
+
+-- the session has frames
+abbrev pub MayTake : Hall → ℕ → Type 0
+MayTake h n = (ended (session_of h n) ≡ false) × (idle (session_of h n) ≡ false)
 
 -- a session without subscriptions is not cut by its own call, and has the frames of the reply last in its queue
 abbrev pub IsAnswered : Hall → Hall → ℕ → ℕ → Asked → Type 0

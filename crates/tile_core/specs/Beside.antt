@@ -15,7 +15,6 @@ use Rattle.tile_core.specs.Moves.{world_of}
 
 -- the command asks for objects or changes them, and looks at no channel and no subscription
 abbrev pub is_of_objects : Command → Bool
-is_of_objects command.Shrink = false
 is_of_objects (command.Setchan c from) = false
 is_of_objects (command.Delchan name) = false
 is_of_objects (command.Pdelchan pattern) = false

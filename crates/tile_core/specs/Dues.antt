@@ -12,7 +12,7 @@ use Rattle.world_data.specs.declared.worlds.Change.TheVariants as change
 use Rattle.world_data.specs.declared.worlds.World.{World}
 use Rattle.keyspace.specs.Entries.{Entry, room_for}
 use Rattle.tile_core.specs.declared.dues.Expired.{Expired}
-use Rattle.tile_core.specs.Moves.{world_of}
+use Rattle.tile_core.specs.Moves.{IsAccepted, world_of}
 use Rattle.record_lengths.specs.Lengths.{HaveFewFields}
 use Rattle.deliveries.specs.Staging.{after_all, records_len}
 
@@ -45,6 +45,7 @@ pub record IsTaken (old : List Object) (now total : ℕ) (objects held : List Ob
   pub stand : AllStand (world_of old) held
   pub sorted : are_objects objects ≡ true
   pub few : HaveFewFields objects
+  pub accepted : AllByRecursion IsAccepted objects
   pub length_is : len ≡ records_len (dels held)
   pub rest_is : rest ≡ weight (world_of objects)
   pub small : len + rest ≤ total

@@ -9,6 +9,7 @@ pub mod CoreStates
 pub mod Stores
 pub mod Staged
 pub mod Ready
+pub mod Ledgers
 pub mod Answered
 pub mod Beside
 pub mod Dropping

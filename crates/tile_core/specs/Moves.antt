@@ -1,6 +1,7 @@
 -- What is done to the objects of a world.
-use Rattle.std.specs.Prelude.{◌≡◌, true, not, List, [], ◌∷◌, filter, find, Some}
+use Rattle.std.specs.Prelude.{◌≡◌, true, not, List, [], ◌∷◌, filter, find, Some, Ok}
 use Rattle.byte_text.specs.Names.{Bytes}
+use Rattle.geo_text.specs.Texts.{shape_of}
 use Rattle.ordered_lists.specs.Lists.{put_in}
 use Rattle.world_data.specs.Worlds.{object_before, has_key, is_at}
 use Rattle.world_data.specs.declared.objects.Object.{Object}
@@ -49,6 +50,10 @@ HoldsOfPut P (Delete key id) = Unit {0}
 HoldsOfPut P (DeleteEach key ids) = Unit {0}
 HoldsOfPut P (Leave key) = Unit {0}
 HoldsOfPut P Clear = Unit {0}
+
+-- an object's text has its shape
+abbrev pub IsAccepted : Object → Type 0
+IsAccepted o = shape_of o.text ≡ Ok o.shape
 
 -- the objects that are taken out by their ids are there
 abbrev pub HaveAllThere : List Object → Move → Type 0

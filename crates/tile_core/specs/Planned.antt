@@ -14,6 +14,7 @@ use Rattle.world_data.specs.declared.worlds.Change.TheVariants as change
 use Rattle.fence_model.specs.Writes.{Write, quiet}
 use Rattle.world_model.specs.Effects.{Effect}
 use Rattle.world_model.specs.Subscriptions.{Sub, with_subs}
+use Rattle.log_record.specs.Words.{IsRecorded}
 use Rattle.deliveries.specs.Plans.{FitBehind}
 use Rattle.deliveries.specs.Staging.{records_len}
 use Rattle.session_mail.specs.Sessions.{AreSoundSubs}
@@ -59,15 +60,28 @@ abbrev pub channels_moved : ChannelMove → List Channel → List Channel
 channels_moved (Set c) channels = put_in channel_before c channels
 channels_moved (Drop names) channels = without_names names channels
 
+-- the deletions of the channels of these names
+abbrev pub dropped_of : List Bytes → List Write
+dropped_of names = map (λ n. quiet (change.DelChan n)) names
+
 -- the writes that this is
 abbrev pub channel_writes : ChannelMove → List Write
 channel_writes (Set c) = quiet (change.SetChan c) ∷ []
-channel_writes (Drop names) = map (λ n. quiet (change.DelChan n)) names
+channel_writes (Drop names) = dropped_of names
 
 -- what is put among the channels is sound
 abbrev pub IsSoundMove : ChannelMove → Type 0
 IsSoundMove (Set c) = is_sound_channel c ≡ true
 IsSoundMove (Drop names) = Unit {0}
+
+-- a channel is read back from its record
+abbrev pub IsRecordedChannel : Channel → Type 0
+IsRecordedChannel c = IsRecorded (change.SetChan c)
+
+-- so is what is put among the channels
+abbrev pub IsRecordedMove : ChannelMove → Type 0
+IsRecordedMove (Set c) = IsRecordedChannel c
+IsRecordedMove (Drop names) = Unit {0}
 
 -- the plan is that of an effect in a world: one reply, and changes of channels
 pub record IsChannelPlan (w : World) (e : Effect) (p : ChannelPlan) : Type 0 where
@@ -76,6 +90,7 @@ pub record IsChannelPlan (w : World) (e : Effect) (p : ChannelPlan) : Type 0 whe
   pub frame : p.frame ≡ frame_text reply
   pub short : length p.frame ≤ max_reply
   pub sound : IsSoundMove p.action
+  pub recorded : IsRecordedMove p.action
   pub length_is : p.length ≡ records_len (channel_writes p.action)
   pub small : p.length ≤ max_weight
   pub weight_is : p.weight ≡ channels_weight (channels_moved p.action w.channels)

@@ -15,7 +15,7 @@ use Rattle.deliveries.specs.Staging.{records_len}
 use Rattle.tile_core.specs.declared.moves.Move.{Move}
 use Rattle.tile_core.specs.declared.moves.Move.TheVariants.{Stay, Put, Delete, DeleteEach, Leave, Clear}
 use Rattle.tile_core.specs.declared.plans.Plan.{Plan}
-use Rattle.tile_core.specs.Moves.{world_of, moved, HaveAllThere}
+use Rattle.tile_core.specs.Moves.{world_of, moved, HaveAllThere, HoldsOfPut, IsAccepted}
 
 -- the writes that are done to the objects; that a put is loud or not stands beside it
 abbrev pub writes_of : Move → Bool → List Write
@@ -33,6 +33,7 @@ pub record IsPlan (objects : List Object) (e : Effect) (p : Plan) : Type 0 where
   pub frame : p.frame ≡ frame_text reply
   pub short : length p.frame ≤ max_reply
   pub there : HaveAllThere objects p.action
+  pub accepted : HoldsOfPut IsAccepted p.action
   pub length_is : p.length ≡ records_len (writes_of p.action p.loud)
   pub small : p.length ≤ max_weight
   pub weight_is : p.weight ≡ weight (world_of (moved objects p.action))

@@ -2,7 +2,7 @@
 use Rattle.std.specs.Prelude.{◌≡◌, ℕ, Bool, ◌≤◌, true, false, List, [], ◌++◌, ◌+◌, length, slice_get, slice_set, Option, Some, None, if◌then◌else◌}
 use Rattle.byte_text.specs.Names.{Bytes}
 use Rattle.fence_model.specs.Writes.{Write, dels}
-use Rattle.world_data.specs.declared.worlds.World.{World}
+use Rattle.world_data.specs.declared.objects.Object.{Object}
 use Rattle.world_model.specs.Halls as halls
 use Rattle.world_model.specs.Halls.{placed, placed_each}
 use Rattle.world_model.specs.declared.events.Asked.{Asked}
@@ -23,7 +23,7 @@ use Rattle.tile_core.specs.declared.planned.Planned.{Planned}
 use Rattle.tile_core.specs.declared.planned.Planned.TheVariants.{Objects, Channels, Subscribed}
 use Rattle.tile_core.specs.declared.ready.Ready.{Ready}
 use Rattle.tile_core.specs.declared.stores.Store.{Store}
-use Rattle.tile_core.specs.Dues.{IsExpired}
+use Rattle.tile_core.specs.Dues.{IsExpired, with_back}
 use Rattle.tile_core.specs.Moves.{HasRoom}
 use Rattle.tile_core.specs.Planned.{IsPlanned, channel_writes}
 use Rattle.tile_core.specs.Plans.{writes_of}
@@ -81,6 +81,11 @@ pub record IsAsBefore (old new : Store) : Type 0 where
 pub record IsRoomier (old new : Store) : Type 0 where
   pub before : IsAsBefore old new
   pub room : (key : Bytes) → room_for old.objects key ≤ room_for new.objects key
+
+-- what was taken out is put back into a store, which has this weight again, and nothing due before this moment
+pub record IsUndone (old : Store) (held : List Object) (weight due_from : ℕ) (new : Store) : Type 0 where
+  pub objects : objects_in new.objects ≡ with_back (objects_in old.objects) held
+  pub rest : new ≡ record old { objects = new.objects; weight = weight; due_from = due_from; steps = new.steps }
 
 -- what is due is taken out of the objects of a store, and what the dels bring is staged
 pub record IsDueTaken (old : Store) (now : ℕ) (store : Store) (gone : Expired) (sessions : List State) : Type 0 where

@@ -1,6 +1,6 @@
 -- The world that a store keeps, what holds of its parts, and the hall of it with sessions.
 use Rattle.std.specs.Prelude.{◌≡◌, ℕ, ◌+◌, ◌≤◌, true, false, List, length, map}
-use Rattle.std.specs.List.{list_all}
+use Rattle.std.specs.List.{AllByRecursion, list_all}
 use Rattle.world_data.specs.Limits.{max_moment, max_sessions, max_weight}
 use Rattle.world_data.specs.Sound.{is_sound_channel}
 use Rattle.world_data.specs.declared.worlds.World.{World}
@@ -10,7 +10,7 @@ use Rattle.session_mail.specs.Sessions.{State, session_of}
 use Rattle.session_mail.specs.Fans.{AreBare}
 use Rattle.tile_core.specs.declared.stores.Store.{Store}
 use Rattle.tile_core.specs.Moves.{world_with}
-use Rattle.tile_core.specs.Planned.{channels_weight}
+use Rattle.tile_core.specs.Planned.{IsRecordedChannel, channels_weight}
 use Rattle.tile_core.specs.CoreStates.{AreKept}
 use Rattle.tile_core.specs.Dues.{AreDueFrom}
 use Rattle.tile_core.specs.Sessions.{Rises}
@@ -18,10 +18,11 @@ use Rattle.tile_core.specs.Sessions.{Rises}
 abbrev pub world_at : Store → World
 world_at s = world_with s.hub.channels (objects_in s.objects)
 
--- objects in order, sound channels, their weights at hand and not too much together, and no deadline before the moment from which one may be due
+-- objects in order whose texts have their shapes, sound channels that are read back from their records, their weights at hand and not too much together, and no deadline before the moment from which one may be due
 pub record IsStore (s : Store) : Type 0 where
   pub kept : AreKept (objects_in s.objects) s.weight
   pub sound : list_all is_sound_channel s.hub.channels ≡ true
+  pub recorded : AllByRecursion IsRecordedChannel s.hub.channels
   pub weighed : s.channel_weight ≡ channels_weight s.hub.channels
   pub light : s.weight + s.channel_weight ≤ max_weight
   pub due_from : AreDueFrom s.due_from (objects_in s.objects)

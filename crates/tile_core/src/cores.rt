@@ -1,26 +1,37 @@
 //! The core and its calls.
 
-ghost use Rattle.std.specs.Prelude.{◌≡◌, true, ◌⊎◌, ◌≤◌, ◌+◌, ◌*◌, [], length};
+ghost use Rattle.std.specs.Prelude.{◌≡◌, ◌≢◌, true, ◌⊎◌, ◌≤◌, ◌+◌, ◌*◌, [], find, length, option_map, Decides, IfOk, IfSome};
+ghost use Rattle.std.specs.List.{AllByRecursion};
 ghost use Rattle.world_data.specs.Limits.{max_moment, max_weight, take_frames};
-ghost use Rattle.world_data.specs.Worlds.{empty_world};
-ghost use Rattle.world_model.specs.Histories.{Step, opening_hall};
+ghost use Rattle.world_data.specs.Sound.{IsSoundWorld};
+ghost use Rattle.world_data.specs.Worlds.{empty_world, is_sorted_world};
+ghost use Rattle.world_data.specs.declared.worlds.Change.TheVariants as change;
+ghost use Rattle.world_model.specs.Histories.{Step, is_spent, opening_hall};
 ghost use Rattle.world_model.specs.Outcomes.{enter_outcome, take_outcome, given_count, is_proper};
 ghost use Rattle.world_model.specs.Halls.{NamesChanged};
 ghost use Rattle.world_model.specs.declared.events.Event.TheVariants as event;
 ghost use Rattle.world_model.specs.declared.events.Outcome.TheVariants as outcome;
+ghost use Rattle.log_record.specs.Words.{IsRecorded};
+ghost use Rattle.next_items.specs.Copies.{is_next_channel, is_next_object, name_in, place_in};
 ghost use Rattle.tile_core.specs.CoreStates.{CoreState};
-ghost use Rattle.tile_core.specs.Answered.{MayCall, IsAnswered, AreSessions, StayNamed};
+ghost use Rattle.tile_core.specs.Moves.{IsAccepted};
+ghost use Rattle.tile_core.specs.Ledgers.{IsRecordedBy};
+ghost use Rattle.tile_core.specs.Answered.{MayCall, MayTake, IsAnswered, AreSessions, StayNamed};
 
 use crate::dues::release;
 use crate::finish::complete;
-use crate::ready::{make_ready, take_out_due};
+use crate::ledgers::Ledger;
+use crate::ready::{make_ready, make_tick_ready};
 use crate::sessions::{position_of, served};
 use crate::stores::Store;
 use crate::touching::{name_session, name_told};
+use byte_text::{Name, NoMemory, Text};
+use next_items::{next_channel, next_object};
 use session_mail::{Session, place_staged, unstage};
 use std::alloc::Global;
 use std::marker::Model;
-use world_data::{MAX_SESSIONS, MOST_DRAWN, MOST_LOGGED};
+use stored_world::StoredWorld;
+use world_data::{Channel, MAX_SESSIONS, MOST_DRAWN, MOST_LOGGED, Object};
 use world_model::{Asked, Called, EnterFault, Frames, Taken, Touched};
 
 /// A world and the sessions that are served.
@@ -32,6 +43,8 @@ pub struct Core {
     logged: u64,
     drawn: u32,
     sessions: Vec<Session>,
+    /// The records of the last call, whose memory serves the next one.
+    records: Text,
 }
 
 impl Model for Core {
@@ -57,6 +70,7 @@ impl Core {
             logged: 0,
             drawn: 0,
             sessions: Vec::new(alloc),
+            records: Text::new(alloc),
         }
     }
 
@@ -127,14 +141,15 @@ impl Core {
     /// Makes a call of a session at a moment: the objects that are due then are deleted, what is asked is done, and its reply
     /// is put last in the session's queue; each session that listens is told of what changed. A session whose queue has no room for what
     /// comes for it is cut: it keeps the frames that it has, and is served no more. A broken protocol, as QUIT, lets the session end
-    /// behind the reply. For want of memory the core is as before. Each session that it changes is named in `touched`, beside those that
-    /// are named there.
-    pub fn call(
+    /// behind the reply. The records of all that it changes go to the ledger before anything is changed. For want of memory the core is
+    /// as before. Each session that it changes is named in `touched`, beside those that are named there.
+    pub fn call<L: Ledger>(
         &mut self,
         session: u32,
         moment: u64,
         asked: &Asked,
         touched: &mut Touched,
+        ledger: &mut L,
     ) -> Called
         requires moment { moment ≤ max_moment }
         requires proper { is_proper asked.now ≡ true }
@@ -147,6 +162,8 @@ impl Core {
         ensures logged { self.new.hall.logged ≤ self.old.hall.logged + 2 * max_weight }
         ensures done { MayCall self.old.hall session → (result ≡ Called.Ok) ⊎ (result ≡ Called.Memory) }
         ensures answered { result ≡ Called.Ok → IsAnswered self.old.hall self.new.hall moment session asked.now }
+        ensures recorded { result ≡ Called.Ok → IsRecordedBy L.takes self.old.hall (event.Call session moment asked.now) ledger.old ledger.new }
+        ensures unrecorded { result ≢ Called.Ok → (ledger.new ≡ ledger.old) ⊎ L.stays ledger.old ledger.new }
     {
         if self.logged >= MOST_LOGGED {
             return Called::Spent;
@@ -163,6 +180,8 @@ impl Core {
             at,
             now,
             asked,
+            &mut self.records,
+            ledger,
         );
         let Ok(ready) = ready else {
             return Called::Memory;
@@ -174,9 +193,10 @@ impl Core {
         Called::Ok
     }
 
-    /// Lets the clock go on to a moment, and deletes the objects that are due then; each session that listens is told. For want of memory
-    /// the core is as before. Each session that it changes is named, beside those that are named there.
-    pub fn tick(&mut self, moment: u64, touched: &mut Touched) -> Called
+    /// Lets the clock go on to a moment, and deletes the objects that are due then; each session that listens is told. The records of
+    /// their dels go to the ledger before. For want of memory the core is as before. Each session that it changes is named, beside those
+    /// that are named there.
+    pub fn tick<L: Ledger>(&mut self, moment: u64, touched: &mut Touched, ledger: &mut L) -> Called
         requires moment { moment ≤ max_moment }
         requires room { AreSessions touched.old self.old.hall }
         ensures step { Step self.old.hall (event.Tick moment) (outcome.Answered result) self.new.hall }
@@ -185,20 +205,30 @@ impl Core {
         ensures kept { StayNamed touched.old touched.new }
         ensures room { AreSessions touched.new self.new.hall }
         ensures logged { self.new.hall.logged ≤ self.old.hall.logged + max_weight }
+        ensures recorded { result ≡ Called.Ok → IsRecordedBy L.takes self.old.hall (event.Tick moment) ledger.old ledger.new }
+        ensures unrecorded { result ≢ Called.Ok → (ledger.new ≡ ledger.old) ⊎ L.stays ledger.old ledger.new }
     {
         if self.logged >= MOST_LOGGED {
             return Called::Spent;
         }
         let now = self.clock.max(moment);
-        let Ok(gone) = take_out_due(self.alloc, &mut self.store, &mut self.sessions, now) else {
+        let ready = make_tick_ready(
+            self.alloc,
+            &mut self.store,
+            &mut self.sessions,
+            now,
+            &mut self.records,
+            ledger,
+        );
+        let Ok(ready) = ready else {
             unstage(&mut self.sessions);
             return Called::Memory;
         };
         name_told(touched, self.sessions.as_slice());
         place_staged(&mut self.sessions);
         self.clock = now;
-        self.logged += gone.length;
-        release(&mut self.store.objects, gone.held);
+        self.logged += ready.gone.length;
+        release(&mut self.store.objects, ready.gone.held);
         Called::Ok
     }
 
@@ -222,5 +252,68 @@ impl Core {
         if let Some(at) = position_of(self.sessions.as_slice(), session) {
             self.sessions.remove(at);
         }
+    }
+
+    /// A core over a stored world, without sessions, at moment 0; its log has so many bytes. There is no memory for a world that is
+    /// too heavy.
+    pub fn over(alloc: Global, world: StoredWorld, logged: u64) -> Result<Core, NoMemory>
+        requires sound { IsSoundWorld world }
+        requires recorded { AllByRecursion (λ c. IsRecorded (change.SetChan c)) world.channels }
+        ensures { IfOk result (λ c. c.hall ≡ opening_hall world logged) }
+    {
+        Ok(Core {
+            alloc,
+            store: Store::over(world)?,
+            clock: 0,
+            logged,
+            drawn: 0,
+            sessions: Vec::new(alloc),
+            records: Text::new(alloc),
+        })
+    }
+
+    /// Whether the log is at its greatest length.
+    pub fn is_spent(&self) -> bool
+        ensures { result ≡ is_spent self.now.hall }
+    {
+        self.logged >= MOST_LOGGED
+    }
+
+    /// Whether a call of the session may be done: it is served and not full, and the log is not at its greatest length.
+    pub fn may_call(&self, session: u32) -> bool
+        ensures { Decides result (MayCall self.now.hall session) }
+    {
+        !self.is_spent() && served(self.sessions.as_slice(), session).is_ok()
+    }
+
+    /// Whether a take of the session gives frames.
+    pub fn may_take(&self, session: u32) -> bool
+        ensures { Decides result (MayTake self.now.hall session) }
+    {
+        match position_of(self.sessions.as_slice(), session) {
+            Some(at) => self.sessions[at].frames() > 0,
+            None => false,
+        }
+    }
+
+    /// The first channel by name behind this one; the first of all where no name is given. It is read back from its record.
+    pub fn next_channel(&self, after: Option<&Name>) -> Option<&Channel>
+        ensures next { option_map (λ c. c.now) result ≡ find (is_next_channel (name_in after.entry)) self.now.hall.world.channels }
+        ensures recorded { IfSome result (λ c. IsRecorded (change.SetChan c.now)) }
+        ensures sorted { is_sorted_world self.now.hall.world ≡ true }
+    {
+        // What is counted stands in order.
+        let _count = self.store.hub.len();
+        next_channel(&self.store.hub, after)
+    }
+
+    /// The first object behind this key and this id; the first of all where none are given. Its text has its shape.
+    pub fn next_object(&self, after: Option<(&Name, &Name)>) -> Option<&Object>
+        ensures next { option_map (λ o. o.now) result ≡ find (is_next_object (place_in after.entry)) self.now.hall.world.objects }
+        ensures accepted { IfSome result (λ o. IsAccepted o.now) }
+        ensures sorted { is_sorted_world self.now.hall.world ≡ true }
+    {
+        let _count = self.store.hub.len();
+        next_object(&self.store.objects, after)
     }
 }

@@ -12,7 +12,7 @@ ghost use Rattle.world_model.specs.declared.commands.Command.TheVariants as comm
 ghost use Rattle.world_data.specs.declared.objects.Object.{Object};
 ghost use Rattle.keyspace.specs.Entries.{objects_in};
 ghost use Rattle.tile_core.specs.CoreStates.{AreKept};
-ghost use Rattle.tile_core.specs.Moves.{world_in, world_of};
+ghost use Rattle.tile_core.specs.Moves.{IsAccepted, world_in, world_of};
 ghost use Rattle.record_lengths.specs.Lengths.{HasFewFields, len_of};
 ghost use Rattle.tile_core.specs.Plans.{IsPlan, put_or_full};
 
@@ -75,6 +75,7 @@ pub(crate) fn plan_put(
     requires none { IfNone old (find (is_at object.key object.id) (objects_in objects.now) ≡ None) }
     requires some { IfSome old (λ o. find (is_at object.key object.id) (objects_in objects.now) ≡ Some o.now) }
     requires few { HasFewFields object }
+    requires accepted { IsAccepted object }
     requires short { length frame ≤ max_reply }
     ensures { (reply : List Piece) → frame ≡ frame_text reply
         → IfOk result (λ p. IsPlan (objects_in objects.now) (put_or_full (world_in objects.now) object reply loud) p) }
@@ -115,7 +116,7 @@ fn fields_of(alloc: Global, old: Option<&Object>) -> Result<Fields, NoMemory>
     }
 }
 
-/// What a SET of this object will do, whose fields are those that are given.
+/// What a SET of this object will do, whose fields are those that are given, and whose text has its shape.
 pub(crate) fn plan_set(
     alloc: Global,
     objects: &Keyspace,
@@ -127,6 +128,7 @@ pub(crate) fn plan_set(
     object: Object,
 ) -> Result<Plan, NoMemory>
     requires kept { AreKept (objects_in objects.now) total }
+    requires accepted { IsAccepted object }
     requires moment { now ≤ max_moment }
     ensures { IfOk result (λ p. IsPlan (objects_in objects.now) (effect (world_in objects.now) now [] (command.Set object.key object.id object.fields cleared.now seconds only object.text object.shape)) p) }
 {

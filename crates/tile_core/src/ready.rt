@@ -1,22 +1,27 @@
 //! A call is made ready: what is due is taken out, and what is asked is planned in the world after that, each with the messages that it
-//! brings staged. Where that cannot be, all is as before.
+//! brings staged; then the records of all of it go to a ledger. Where that cannot be, all is as before.
 
-ghost use Rattle.std.specs.Prelude.{◌≡◌, ◌≤◌, ◌<◌, map, length, IfOk, OnErr, OnOk};
+ghost use Rattle.std.specs.Prelude.{◌≡◌, ◌⊎◌, ◌≤◌, ◌<◌, ◌+◌, ◌^◌, map, length, IfOk, OnErr, OnOk};
 ghost use Rattle.world_data.specs.Limits.{max_moment};
+ghost use Rattle.fence_model.specs.Writes.{dels};
+ghost use Rattle.keyspace.specs.Entries.{objects_in};
 ghost use Rattle.session_mail.specs.Sessions.{session_of};
 ghost use Rattle.session_mail.specs.Fans.{AreBare};
 ghost use Rattle.tile_core.specs.Dues.{HaveRoom};
-ghost use Rattle.tile_core.specs.Ready.{HasRoomFor, IsAsBefore, IsDueTaken, IsPlannedBehind, IsReady, IsRestBehind, IsRoomier, reply_count};
+ghost use Rattle.tile_core.specs.Ledgers.{AreTaken, CanRecordIf, ready_writes};
+ghost use Rattle.tile_core.specs.Ready.{HasRoomFor, IsAsBefore, IsDueTaken, IsPlannedBehind, IsReady, IsRestBehind, IsRoomier, IsUndone, reply_count};
 ghost use Rattle.tile_core.specs.Stores.{IsStore};
 
 use crate::contexts::Context;
 use crate::dues::{Expired, expire, put_back};
+use crate::ledgers::Ledger;
 use crate::moves::make_room;
 use crate::planned::{ChannelMove, Planned};
+use crate::records::record_ready;
 use crate::requests::plan_asked;
 use crate::staging::{stage_dels, stage_planned};
 use crate::stores::Store;
-use byte_text::NoMemory;
+use byte_text::{NoMemory, Text};
 use session_mail::{Session, unstage};
 use std::alloc::Global;
 use world_model::Asked;
@@ -28,8 +33,8 @@ pub(crate) struct Ready {
     pub(crate) planned: Option<Planned>,
 }
 
-/// Takes out what is due, and stages what its dels bring. For want of memory the world is as before, and a part may be staged.
-pub(crate) fn take_out_due(
+// Takes out what is due, and stages what its dels bring. For want of memory the world is as before, and a part may be staged.
+fn take_out_due(
     alloc: Global,
     store: &mut Store,
     sessions: &mut Vec<Session>,
@@ -158,55 +163,132 @@ fn plan_rest(
     }
 }
 
-// Makes a call of the session at a place ready. For want of memory the world is as before, and a part may be staged.
-fn make_ready_in_part(
+// Puts back what was taken out of a store of this weight, in which nothing was due before this moment.
+fn undo(store: &mut Store, gone: Expired, weight: u64, due_from: u64)
+    requires room { HaveRoom store.old.objects gone.held.items }
+    requires few { length (objects_in store.old.objects) + length gone.held.items < 2 ^ 32 }
+    ensures { IsUndone store.old gone.held.items weight due_from store.new }
+{
+    put_back(&mut store.objects, gone.held, &mut store.steps);
+    store.weight = weight;
+    store.due_from = due_from;
+}
+
+// Hands the records of what was made ready to the ledger. For want of memory what is due is put back.
+fn record_or_undo<L: Ledger>(
     alloc: Global,
     store: &mut Store,
-    sessions: &mut Vec<Session>,
-    at: usize,
-    now: u64,
-    asked: &Asked,
+    weight: u64,
+    due_from: u64,
+    ready: Ready,
+    records: &mut Text,
+    ledger: &mut L,
 ) -> Result<Ready, NoMemory>
-    requires kept { IsStore store.old }
-    requires bare { AreBare sessions.old.items }
-    requires at { at < length sessions.old.items }
-    requires moment { now ≤ max_moment }
-    ensures ready { IfOk result (λ r. IsReady store.old now asked.now at store.new sessions.new.items r) }
-    ensures same { map session_of sessions.new.items ≡ map session_of sessions.old.items }
-    ensures err { OnErr result (IsAsBefore store.old store.new) }
+    requires room { HaveRoom store.old.objects ready.gone.held.items }
+    requires few { length (objects_in store.old.objects) + length ready.gone.held.items < 2 ^ 32 }
+    requires can { CanRecordIf ready.planned }
+    ensures same { IfOk result (λ r. r ≡ ready) }
+    ensures stays { OnOk result (store.new ≡ store.old) }
+    ensures recorded { OnOk result (AreTaken L.takes (ready_writes ready) ledger.old ledger.new) }
+    ensures undone { OnErr result (IsUndone store.old ready.gone.held.items weight due_from store.new) }
+    ensures unrecorded { OnErr result ((ledger.new ≡ ledger.old) ⊎ L.stays ledger.old ledger.new) }
 {
-    let (weight, due_from) = (store.weight, store.due_from);
-    let gone = take_out_due(alloc, store, sessions, now)?;
-    match plan_rest(alloc, store, sessions, at, now, asked) {
-        Ok(planned) => Ok(Ready { gone, planned }),
+    match record_ready(alloc, records, &ready, ledger) {
+        Ok(()) => Ok(ready),
         Err(NoMemory) => {
-            put_back(&mut store.objects, gone.held, &mut store.steps);
-            store.weight = weight;
-            store.due_from = due_from;
+            undo(store, ready.gone, weight, due_from);
             Err(NoMemory)
         }
     }
 }
 
-/// Makes a call of the session at a place ready. For want of memory the world is as before, and nothing is staged.
-pub(crate) fn make_ready(
+/// Makes a tick ready: takes out what is due, stages what its dels bring, and hands their records to the ledger. For want of memory the
+/// world is as before, and a part may be staged.
+pub(crate) fn make_tick_ready<L: Ledger>(
+    alloc: Global,
+    store: &mut Store,
+    sessions: &mut Vec<Session>,
+    now: u64,
+    records: &mut Text,
+    ledger: &mut L,
+) -> Result<Ready, NoMemory>
+    requires kept { IsStore store.old }
+    requires bare { AreBare sessions.old.items }
+    ensures taken { IfOk result (λ r. IsDueTaken store.old now store.new r.gone sessions.new.items) }
+    ensures rest { IfOk result (λ r. store.new ≡ record store.old { objects = store.new.objects; weight = r.gone.weight; due_from = r.gone.due_from; steps = store.new.steps }) }
+    ensures recorded { IfOk result (λ r. AreTaken L.takes (dels r.gone.held.items) ledger.old ledger.new) }
+    ensures same { map session_of sessions.new.items ≡ map session_of sessions.old.items }
+    ensures err { OnErr result (IsAsBefore store.old store.new) }
+    ensures unrecorded { OnErr result ((ledger.new ≡ ledger.old) ⊎ L.stays ledger.old ledger.new) }
+{
+    let (weight, due_from) = (store.weight, store.due_from);
+    let ready = Ready {
+        gone: take_out_due(alloc, store, sessions, now)?,
+        planned: None,
+    };
+    record_or_undo(alloc, store, weight, due_from, ready, records, ledger)
+}
+
+// Makes a call of the session at a place ready, and hands its records to the ledger. For want of memory the world is as before, and a
+// part may be staged.
+fn make_ready_in_part<L: Ledger>(
     alloc: Global,
     store: &mut Store,
     sessions: &mut Vec<Session>,
     at: usize,
     now: u64,
     asked: &Asked,
+    records: &mut Text,
+    ledger: &mut L,
 ) -> Result<Ready, NoMemory>
     requires kept { IsStore store.old }
     requires bare { AreBare sessions.old.items }
     requires at { at < length sessions.old.items }
     requires moment { now ≤ max_moment }
     ensures ready { IfOk result (λ r. IsReady store.old now asked.now at store.new sessions.new.items r) }
+    ensures recorded { IfOk result (λ r. AreTaken L.takes (ready_writes r) ledger.old ledger.new) }
     ensures same { map session_of sessions.new.items ≡ map session_of sessions.old.items }
     ensures err { OnErr result (IsAsBefore store.old store.new) }
+    ensures unrecorded { OnErr result ((ledger.new ≡ ledger.old) ⊎ L.stays ledger.old ledger.new) }
+{
+    let (weight, due_from) = (store.weight, store.due_from);
+    let gone = take_out_due(alloc, store, sessions, now)?;
+    match plan_rest(alloc, store, sessions, at, now, asked) {
+        Ok(planned) => {
+            let ready = Ready { gone, planned };
+            record_or_undo(alloc, store, weight, due_from, ready, records, ledger)
+        }
+        Err(NoMemory) => {
+            undo(store, gone, weight, due_from);
+            Err(NoMemory)
+        }
+    }
+}
+
+/// Makes a call of the session at a place ready, and hands its records to the ledger. For want of memory the world is as before, and
+/// nothing is staged.
+pub(crate) fn make_ready<L: Ledger>(
+    alloc: Global,
+    store: &mut Store,
+    sessions: &mut Vec<Session>,
+    at: usize,
+    now: u64,
+    asked: &Asked,
+    records: &mut Text,
+    ledger: &mut L,
+) -> Result<Ready, NoMemory>
+    requires kept { IsStore store.old }
+    requires bare { AreBare sessions.old.items }
+    requires at { at < length sessions.old.items }
+    requires moment { now ≤ max_moment }
+    ensures ready { IfOk result (λ r. IsReady store.old now asked.now at store.new sessions.new.items r) }
+    ensures recorded { IfOk result (λ r. AreTaken L.takes (ready_writes r) ledger.old ledger.new) }
+    ensures same { map session_of sessions.new.items ≡ map session_of sessions.old.items }
+    ensures err { OnErr result (IsAsBefore store.old store.new) }
+    ensures unrecorded { OnErr result ((ledger.new ≡ ledger.old) ⊎ L.stays ledger.old ledger.new) }
     ensures bare { OnErr result (AreBare sessions.new.items) }
 {
-    match make_ready_in_part(alloc, store, sessions, at, now, asked) {
+    match make_ready_in_part(alloc, store, sessions, at, now, asked, records, ledger) {
         Ok(ready) => Ok(ready),
         Err(NoMemory) => {
             unstage(sessions);

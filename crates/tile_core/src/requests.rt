@@ -7,7 +7,7 @@ ghost use Rattle.world_data.specs.Limits.{max_moment, max_reply, max_weight};
 ghost use Rattle.world_data.specs.declared.channels.Channel.{Channel};
 ghost use Rattle.world_model.specs.Effects.{effect, is_served_subscribed, says};
 ghost use Rattle.world_model.specs.Refusals.{fault_reply as fault_pieces, broken_reply as broken_pieces};
-ghost use Rattle.world_model.specs.Served.{asks};
+ghost use Rattle.world_model.specs.Commands.{reads};
 ghost use Rattle.world_model.specs.Subscriptions.{Sub, has_subs};
 ghost use Rattle.world_model.specs.declared.commands.Command.TheVariants as command;
 ghost use Rattle.deliveries.specs.Plans.{ends_with, effect_of_read, effect_of_asked, subscribes};
@@ -51,6 +51,14 @@ fn plan_ping(alloc: Global, _objects: &Keyspace, total: u64) -> Result<Plan, NoM
     ensures { IfOk result (λ p. (now : ℕ) → IsPlan (objects_in _objects.now) (effect (world_in _objects.now) now [] command.Ping) p) }
 {
     say_frame(alloc, total, pong_frame(alloc)?)
+}
+
+// What AOFSHRINK will do: it answers alone, since the log is rewritten beside the calls.
+fn plan_shrink(alloc: Global, _objects: &Keyspace, total: u64) -> Result<Plan, NoMemory>
+    requires { AreKept (objects_in _objects.now) total }
+    ensures { IfOk result (λ p. (now : ℕ) → IsPlan (objects_in _objects.now) (effect (world_in _objects.now) now [] command.Shrink) p) }
+{
+    say_frame(alloc, total, fine_frame(alloc)?)
 }
 
 // What QUIT will do.
@@ -137,6 +145,7 @@ fn plan_command(
             reach,
         } => plan_nearby(alloc, context, &key, &query, at, reach, steps),
         Command::Flush => plan_flush(alloc, objects),
+        Command::Shrink => plan_shrink(alloc, objects, total),
         Command::Ping => plan_ping(alloc, objects, total),
         Command::Quit => plan_quit(alloc, objects, total),
         _ => unreachable!(),
@@ -230,8 +239,7 @@ fn is_of_objects(command: &Command) -> bool
 {
     !matches!(
         command,
-        Command::Shrink
-            | Command::Setchan { .. }
+        Command::Setchan { .. }
             | Command::Delchan { .. }
             | Command::Pdelchan { .. }
             | Command::Chans { .. }
@@ -386,7 +394,7 @@ fn plan_words(
 ) -> Result<Planned, NoMemory>
     requires context { IsContext context }
     ensures { IfOk result (λ p. IsPlanned (world_with context.entry.hub.now.channels (objects_in context.entry.objects.now)) context.entry.total context.entry.subs.now
-        (effect_of_read (world_with context.entry.hub.now.channels (objects_in context.entry.objects.now)) context.entry.now context.entry.subs.now (asks words.now)) p) }
+        (effect_of_read (world_with context.entry.hub.now.channels (objects_in context.entry.objects.now)) context.entry.now context.entry.subs.now (reads words.now)) p) }
 {
     served_commands();
     // A request is within its limits, and so is what a refusal shows of it.

@@ -2,19 +2,22 @@
 
 ghost use Rattle.std.specs.Prelude.{◌≡◌, ◌+◌, ◌≤◌, ◌++◌, ◌∷◌, ◌^◌, ℕ, List, []};
 ghost use Rattle.std.specs.Prelude.{Some, true, ◌&&◌, codes, find, is_none, length, nat_le, IfOk, OnOk};
-ghost use Rattle.byte_text.specs.Requests.{FitsRequest, total as total_bytes};
+ghost use Rattle.byte_text.specs.Requests.{FitsRequest, max_word, total as total_bytes};
+ghost use Rattle.log_record.specs.Words.{IsRecorded};
 ghost use Rattle.ordered_lists.specs.Lists.{put_in};
 ghost use Rattle.planar_geom.specs.declared.shapes.Area.TheVariants.{Figure};
 ghost use Rattle.world_data.specs.Limits.{max_channels, max_weight};
 ghost use Rattle.world_data.specs.Sound.{is_sound_channel};
 ghost use Rattle.world_data.specs.Worlds.{are_channels, channel_before, is_named};
 ghost use Rattle.world_data.specs.declared.channels.Channel.{Channel};
+ghost use Rattle.world_data.specs.declared.worlds.Change.TheVariants as change;
 ghost use Rattle.world_model.specs.Effects.{effect, setchan_effect, settled_channel, watch_over, within_reply};
 ghost use Rattle.world_model.specs.Sound.{is_sound_setting};
 ghost use Rattle.world_model.specs.Subscriptions.{Sub};
 ghost use Rattle.world_model.specs.declared.commands.AreaWords.TheVariants as area_words;
 ghost use Rattle.world_model.specs.declared.commands.Command.TheVariants as command;
 ghost use Rattle.keyspace.specs.Entries.{objects_in};
+ghost use Rattle.tile_core.specs.Asking.{IsSettingOf};
 ghost use Rattle.tile_core.specs.CoreStates.{AreKept};
 ghost use Rattle.record_lengths.specs.Lengths.{len_of_channel};
 ghost use Rattle.tile_core.specs.Moves.{world_with};
@@ -29,6 +32,7 @@ use channel_hub::Hub;
 use keyspace::Keyspace;
 use planar_geom::Area;
 use record_lengths::channel_len;
+use record_words::changes_are_recorded;
 use reply_text::count_frame;
 use std::alloc::Global;
 use world_data::{MAX_CHANNELS, MAX_WEIGHT};
@@ -77,7 +81,8 @@ fn bytes_of(words: &Request) -> usize
 
 // Whether the words are a request with one more.
 fn takes(words: &Request, word: &[u8]) -> bool
-    ensures { result ≡ true → FitsRequest (words.now ++ word.now ∷ []) }
+    ensures fits { result ≡ true → FitsRequest (words.now ++ word.now ∷ []) }
+    ensures short { result ≡ true → length word.now ≤ max_word }
 {
     if words.words() >= MAX_WORDS {
         return false;
@@ -90,7 +95,8 @@ fn takes(words: &Request, word: &[u8]) -> bool
 
 // Puts a word last. Words that no request holds have room in no memory.
 fn push_last(words: &mut Request, word: &[u8]) -> Result<(), NoMemory>
-    ensures { OnOk result (words.new ≡ words.old ++ word.now ∷ []) }
+    ensures words { OnOk result (words.new ≡ words.old ++ word.now ∷ []) }
+    ensures short { OnOk result (length word.now ≤ max_word) }
 {
     if takes(words, word) {
         words.push(word)
@@ -101,7 +107,8 @@ fn push_last(words: &mut Request, word: &[u8]) -> Result<(), NoMemory>
 
 // The channel over the shape of an object, whose text stands last in its words.
 fn channel_at(alloc: Global, channel: Channel, object: &Object) -> Result<Channel, NoMemory>
-    ensures { IfOk result (λ c. c ≡ settled_channel channel (Figure object.now.shape) (codes "OBJECT" ∷ object.now.text ∷ [])) }
+    ensures settled { IfOk result (λ c. c ≡ settled_channel channel (Figure object.now.shape) (codes "OBJECT" ∷ object.now.text ∷ [])) }
+    ensures short { OnOk result (length object.now.text ≤ max_word) }
 {
     let mut settled = channel_over(channel, figure_of(alloc, &object.shape)?);
     push_last(&mut settled.words, b"OBJECT")?;
@@ -145,6 +152,7 @@ fn plan_channel(
     channel: Channel,
 ) -> Result<Planned, NoMemory>
     requires sound { is_sound_channel channel ≡ true }
+    requires recorded { IsRecorded (change.SetChan channel) }
     requires kept { AreKept (objects_in _objects.now) total }
     requires channels { channels ≡ channels_weight hub.now.channels }
     requires light { total + channels ≤ max_weight }
@@ -183,6 +191,7 @@ fn plan_over(
     id: &Name,
 ) -> Result<Planned, NoMemory>
     requires sound { is_sound_setting channel (Some (area_words.Of key.now id.now)) ≡ true }
+    requires asked { IsSettingOf channel (Some (area_words.Of key.now id.now)) }
     requires kept { AreKept (objects_in objects.now) total }
     requires channels { channels ≡ channels_weight hub.now.channels }
     requires light { total + channels ≤ max_weight }
@@ -192,6 +201,7 @@ fn plan_over(
     let Some(object) = objects.get(key, id) else {
         return Ok(Planned::Objects(plan_missing(alloc, objects, total, key)?));
     };
+    changes_are_recorded();
     let settled = channel_at(alloc, channel, object)?;
     plan_channel(alloc, objects, hub, total, channels, settled)
 }
@@ -207,12 +217,14 @@ pub(crate) fn plan_setchan(
     area: Option<AreaWords>,
 ) -> Result<Planned, NoMemory>
     requires sound { is_sound_setting channel area ≡ true }
+    requires asked { IsSettingOf channel area }
     requires kept { AreKept (objects_in objects.now) total }
     requires channels { channels ≡ channels_weight hub.now.channels }
     requires light { total + channels ≤ max_weight }
     ensures { IfOk result (λ p. (now : ℕ) (held : List Sub) → IsPlanned (world_with hub.now.channels (objects_in objects.now)) total held
         (effect (world_with hub.now.channels (objects_in objects.now)) now [] (command.Setchan channel area)) p) }
 {
+    changes_are_recorded();
     match area {
         None => plan_channel(alloc, objects, hub, total, channels, channel),
         Some(AreaWords::Given(area)) => {

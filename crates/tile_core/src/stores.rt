@@ -1,9 +1,12 @@
 //! The world as it is kept: its objects and its channels, each with their weight.
 
+use byte_text::NoMemory;
 use channel_hub::Hub;
 use keyspace::Keyspace;
 use rtree::{Steps, Visits};
 use std::alloc::Global;
+use stored_world::{StoreParts, StoredWorld};
+use world_data::MAX_WEIGHT;
 
 /// A world as it is kept.
 #[derive(Drop)]
@@ -21,8 +24,11 @@ pub(crate) struct Store {
 }
 
 impl Store {
-    ghost use Rattle.std.specs.Prelude.{◌≡◌};
+    ghost use Rattle.std.specs.Prelude.{◌≡◌, IfOk};
+    ghost use Rattle.std.specs.List.{AllByRecursion};
+    ghost use Rattle.world_data.specs.Sound.{IsSoundWorld};
     ghost use Rattle.world_data.specs.Worlds.{empty_world};
+    ghost use Rattle.tile_core.specs.Planned.{IsRecordedChannel};
     ghost use Rattle.tile_core.specs.Stores.{IsStore, world_at};
 
     /// The empty world.
@@ -38,5 +44,35 @@ impl Store {
             channel_weight: 0,
             steps: Steps::new(Visits::new()),
         }
+    }
+
+    /// A world that was stored. There is no memory for one that is too heavy.
+    pub(crate) fn over(world: StoredWorld) -> Result<Store, NoMemory>
+        requires sound { IsSoundWorld world }
+        requires recorded { AllByRecursion IsRecordedChannel world.channels }
+        ensures world { IfOk result (λ s. world_at s ≡ world) }
+        ensures kept { IfOk result IsStore }
+    {
+        let StoreParts {
+            objects,
+            weight,
+            due_from,
+            hub,
+            channel_weight,
+        } = world.into_parts();
+        let Some(total) = weight.checked_add(channel_weight) else {
+            return Err(NoMemory);
+        };
+        if total > MAX_WEIGHT {
+            return Err(NoMemory);
+        }
+        Ok(Store {
+            objects,
+            weight,
+            due_from,
+            hub,
+            channel_weight,
+            steps: Steps::new(Visits::new()),
+        })
     }
 }

@@ -2,7 +2,7 @@
 
 use crate::lines::{Reads, are_read, is_read};
 use byte_text::{Name, NoMemory, Request, Text, push_i64, push_u64};
-use cmd_words::{CommandFault, command_of, read_command};
+use cmd_words::{CommandFault, command_of};
 use geojson_model::GeoFault;
 use planar_geom::{Area, Pt};
 use std::alloc::Global;
@@ -328,7 +328,6 @@ fn geo_text(fault: GeoFault) -> &'static str {
 // The refusal, as a line of words.
 fn push_fault(out: &mut Text, fault: &WordFault) -> Result<(), NoMemory> {
     let (cause, word) = match fault {
-        WordFault::Unserved => ("not served", None),
         WordFault::Unknown(word) => ("unknown ", Some(word)),
         WordFault::WrongCount(name) => ("wrong count ", Some(name)),
         WordFault::Invalid(word) => ("invalid ", Some(word)),
@@ -362,7 +361,7 @@ struct Commands;
 
 impl Reads for Commands {
     fn push_read(&self, alloc: Global, out: &mut Text, words: &Request) -> Result<(), NoMemory> {
-        let read = read_command(alloc, words);
+        let read = command_of(alloc, words);
         push_answer(out, &read)
     }
 }
@@ -581,32 +580,6 @@ fn fences_are_refused(rt: HostRuntime) -> Result<(), Fail> {
         SETCHAN z NEARBY k NODWELL DETECT => invalid DETECT
         SETCHAN z NEARBY k FENCE ROAM k [ 1 => invalid [
         SETCHAN z NEARBY k FENCE ROAM k * -1 => invalid -1
-        ",
-    )
-}
-
-// Reads commands that are served.
-#[derive(Drop)]
-struct Served;
-
-impl Reads for Served {
-    fn push_read(&self, alloc: Global, out: &mut Text, words: &Request) -> Result<(), NoMemory> {
-        let read = command_of(alloc, words);
-        push_answer(out, &read)
-    }
-}
-
-#[test]
-fn one_command_is_not_served(rt: HostRuntime) -> Result<(), Fail> {
-    are_read(
-        &rt,
-        rt.alloc(),
-        &Served,
-        "
-        AofShrink => not served
-        AOFSHRINK now => not served
-        SUBSCRIBE z => subscribe z
-        AOF z => unknown AOF
         ",
     )
 }

@@ -393,8 +393,7 @@ fn refusals(rt: HostRuntime) -> Result<(), Fail> {
         alloc,
         WordFault::Geo(GeoFault::BadRing),
         b"-ERR invalid object: ring is not closed\r\n",
-    )?;
-    is_refusal(&rt, alloc, WordFault::Unserved, b"-ERR not served yet\r\n")
+    )
 }
 
 // A text of so many bytes, at most 4,194,304.

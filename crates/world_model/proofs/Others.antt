@@ -11,7 +11,7 @@ use Rattle.world_model.specs.Laws.{OnlyPlaced, is_about}
 use Rattle.world_data.specs.Worlds.{after}
 use Rattle.world_data.specs.Records.{record_len}
 use Rattle.world_model.specs.Subscriptions.{with_subs}
-use Rattle.world_model.specs.Served.{asks}
+use Rattle.world_model.specs.Commands.{reads}
 use Rattle.world_model.specs.Refusals.{broken_reply}
 use Rattle.byte_text.specs.Replies.{frame_text}
 use Rattle.std.specs.List.{AllByRecursion}
@@ -141,7 +141,7 @@ effect_only h m e n other =
     (only_same (session_of changed n) (session_of (do_effect h m e) n) (closed_same e.closes n m changed other))))
 
 asked_only : (h : Hall) (s : Session) (asked : Asked) (n : ℕ) → (n == s.number) ≡ false → OnlyPlaced (session_of h n) (session_of (do_asked h s asked) n)
-asked_only h s (Words words) n other = effect_only h s.number (effect_of h s (asks words)) n other
+asked_only h s (Words words) n other = effect_only h s.number (effect_of h s (reads words)) n other
 asked_only h s (Broken f) n other =
     let told : Hall = place h (s.number, frame_text (broken_reply f)) in
     only_trans (session_of h n) (session_of told n) (session_of (close_session s.number told) n) (place_only h (s.number, frame_text (broken_reply f)) n)

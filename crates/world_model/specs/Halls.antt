@@ -7,7 +7,7 @@ use Rattle.byte_text.specs.Replies.{frame_text, array, bulk}
 use Rattle.std.specs.Prelude.{codes}
 use Rattle.world_data.specs.Worlds.{after}
 use Rattle.world_data.specs.Records.{record_len}
-use Rattle.world_model.specs.Served.{asks}
+use Rattle.world_model.specs.Commands.{reads}
 use Rattle.world_data.specs.Frames.{frame_bytes}
 use Rattle.world_data.specs.Limits.{cap_frames, cap_bytes}
 use Rattle.world_model.specs.Subscriptions.{Sub, with_subs}
@@ -146,7 +146,7 @@ do_words h s asked = do_effect h s.number (effect_of h s asked)
 
 -- what is asked is done: the words, or the end of a session that broke the protocol
 abbrev pub do_asked : Hall → Session → Asked → Hall
-do_asked h s (Words words) = do_words h s (asks words)
+do_asked h s (Words words) = do_words h s (reads words)
 do_asked h s (Broken f) = close_session s.number (place h (s.number, frame_text (broken_reply f)))
 
 abbrev pub do_live : Hall → Option Session → Asked → Hall

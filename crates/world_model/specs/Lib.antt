@@ -1,7 +1,6 @@
 pub mod Grammar
 pub mod Kinds
 pub mod Commands
-pub mod Served
 pub mod Sound
 pub mod Subscriptions
 pub mod Replies

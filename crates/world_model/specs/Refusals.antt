@@ -36,7 +36,6 @@ fault_text (fault.WrongCount c) = codes "wrong number of arguments for " ++ in_q
 fault_text (fault.Invalid w) = codes "invalid argument " ++ in_quotes w
 fault_text (fault.Fraction w) = codes "coordinate is not a whole number " ++ in_quotes w
 fault_text (fault.Geo f) = codes "invalid object: " ++ geo_text f
-fault_text fault.Unserved = codes "not served yet"
 
 abbrev pub resp_text : RespFault → Bytes
 resp_text resp.BadType = codes "bad type"

@@ -16,8 +16,6 @@ pub enum WordFault {
     Fraction(Text),
     /// A GeoJSON text is due, and the word is refused as one.
     Geo(GeoFault),
-    /// The command is not served yet.
-    Unserved,
 }
 
 /// Why a command that was read is not done.

@@ -1,9 +1,10 @@
-use Rattle.std.proofs.Common.{◌≡◌, ◌++◌, drop}
-use Rattle.std.specs.Prelude.{Some}
+use Rattle.std.proofs.Common.{◌≡◌, ◌++◌, take}
+use Rattle.std.specs.Prelude.{Some, filter}
 use Rattle.fence_model.specs.Messages.{watches}
-use Rattle.channel_hub.specs.Places.{places_from, places_of}
+use Rattle.slab.specs.Slab.{get}
+use Rattle.channel_hub.specs.Hubs.{channels_in}
 use Rattle.channel_hub.proofs.candidates.push_of_key.Given as goal
 
--- the places so far, and those among the channels that are left
-abbrev pub invariant-loop-at : goal.invariant-loop-at
-invariant-loop-at l = l.into ++ places_from l.at (watches (Some l.key)) (drop l.at l.list) ≡ l.fn.into ++ places_of (watches (Some l.key)) l.list
+-- those of the key in the first slots are appended
+abbrev pub invariant-loop-slot : goal.invariant-loop-slot
+invariant-loop-slot l = l.into ≡ l.initial.into ++ filter (watches (Some l.key)) (channels_in (get l.slots) (take l.slot-index l.order))

@@ -4,6 +4,7 @@ use Rattle.ordered_lists.specs.Reading.{stands_at}
 use Rattle.fence_index.specs.declared.key_boxes.KeyBoxes.{KeyBoxes}
 use Rattle.fence_index.specs.Boxed.{HasRoomIn, are_by_key, weight_in}
 use Rattle.fence_index.proofs.KeyWeights.{key_there, key_order_set, room_free, room_more, room_set, room_there, weights_same}
+use Rattle.fence_index.specs.Marks.{mark_of}
 use Rattle.fence_index.proofs.key_lists.reserve_boxes.Goals as goal
 
 pub place_of_key-requires : goal.place_of_key-requires
@@ -11,7 +12,7 @@ place_of_key-requires c = rw (c.as_slice.ensures.value, c.reserve.ensures.items)
 
 pub returns-in-Ok-clause-by_key : goal.returns-in-Ok-clause-by_key
 returns-in-Ok-clause-by_key c =
-    let key = c.args.mark.now.key in
+    let key = c.args.channel.now.fence.key in
     let xs = c.reserve.new.self.items in
     let s = c.index_mut.result.now in
     let asc : are_by_key xs ≡ true = subst (λ (l : List KeyBoxes). are_by_key l ≡ true) (sym c.reserve.ensures.items) c.requires in
@@ -32,7 +33,7 @@ returns-in-Ok-clause-room c =
     let xs = c.reserve.new.self.items in
     let asc : are_by_key xs ≡ true = subst (λ (l : List KeyBoxes). are_by_key l ≡ true) (sym c.reserve.ensures.items) c.requires in
     let held = rw c.as_slice.ensures.value at c.in-Ok.ensures.held in
-    on_ok_weaker c.reserve-in-Ok.result (λ room. room_there c.args.mark.now xs c.in-Ok.at c.reserve-in-Ok.new.self asc held room) c.reserve-in-Ok.ensures.room
+    on_ok_weaker c.reserve-in-Ok.result (λ room. room_there (mark_of c.args.channel.now) xs c.in-Ok.at c.reserve-in-Ok.new.self asc held room) c.reserve-in-Ok.ensures.room
 
 pub returns-in-Ok-clause-kept : goal.returns-in-Ok-clause-kept
 returns-in-Ok-clause-kept c = λ m all.
@@ -48,4 +49,4 @@ returns-in-Err-clause-room c =
     let xs = c.reserve.new.self.items in
     let asc : are_by_key xs ≡ true = subst (λ (l : List KeyBoxes). are_by_key l ≡ true) (sym c.reserve.ensures.items) c.requires in
     let free = rw c.as_slice.ensures.value at c.in-Err.ensures.free in
-    room_free c.args.mark.now xs c.in-Err.field-0 asc free
+    room_free (mark_of c.args.channel.now) xs c.in-Err.field-0 asc free

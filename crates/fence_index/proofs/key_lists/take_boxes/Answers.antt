@@ -5,12 +5,13 @@ use Rattle.ordered_lists.specs.Reading.{stands_at}
 use Rattle.fence_index.specs.declared.key_boxes.KeyBoxes.{KeyBoxes}
 use Rattle.fence_index.specs.Boxed.{HasRoomIn}
 use Rattle.fence_index.proofs.KeyWeights.{key_there, key_order_remove, key_order_set, own_weight, room_more, room_removed, room_set, weight_held, weightless, weights_empty, weights_taken}
+use Rattle.fence_index.specs.Marks.{mark_of}
 use Rattle.fence_index.proofs.key_lists.take_boxes.Goals as goal
 
 pub take-requires : goal.take-requires
 take-requires c = λ r w.
     let xs = c.args.boxes.now.items in
-    let m = c.args.mark.now in
+    let m = mark_of c.args.channel.now in
     let s = c.index_mut.result.now in
     let held = rw c.as_slice.ensures.value at c.in-Ok.ensures.held in
     let is = stands_at xs c.in-Ok.at s held.within c.index_mut.ensures.value in
@@ -22,7 +23,7 @@ take-requires c = λ r w.
 pub returns-then-is_empty-clause-by_key : goal.returns-then-is_empty-clause-by_key
 returns-then-is_empty-clause-by_key c =
     let xs = c.args.boxes.now.items in
-    let key = c.args.mark.now.key in
+    let key = c.args.channel.now.fence.key in
     let s = c.index_mut.result.now in
     let t = c.take.new.self in
     let held = rw c.as_slice.ensures.value at c.in-Ok.ensures.held in
@@ -32,7 +33,7 @@ returns-then-is_empty-clause-by_key c =
 pub returns-then-is_empty-clause-weights : goal.returns-then-is_empty-clause-weights
 returns-then-is_empty-clause-weights c = λ r key w.
     let xs = c.args.boxes.now.items in
-    let m = c.args.mark.now in
+    let m = mark_of c.args.channel.now in
     let at = c.in-Ok.at in
     let s = c.index_mut.result.now in
     let t = c.take.new.self in
@@ -58,7 +59,7 @@ returns-then-is_empty-clause-kept c = λ m all.
 pub returns-else-is_empty-clause-by_key : goal.returns-else-is_empty-clause-by_key
 returns-else-is_empty-clause-by_key c =
     let xs = c.args.boxes.now.items in
-    let key = c.args.mark.now.key in
+    let key = c.args.channel.now.fence.key in
     let s = c.index_mut.result.now in
     let held = rw c.as_slice.ensures.value at c.in-Ok.ensures.held in
     let is = stands_at xs c.in-Ok.at s held.within c.index_mut.ensures.value in
@@ -67,11 +68,11 @@ returns-else-is_empty-clause-by_key c =
 pub returns-else-is_empty-clause-weights : goal.returns-else-is_empty-clause-weights
 returns-else-is_empty-clause-weights c = λ r key w.
     let xs = c.args.boxes.now.items in
-    let m = c.args.mark.now in
+    let m = mark_of c.args.channel.now in
     let s = c.index_mut.result.now in
     let held = rw c.as_slice.ensures.value at c.in-Ok.ensures.held in
     let is = stands_at xs c.in-Ok.at s held.within c.index_mut.ensures.value in
-    weights_taken r key w m c.args.number xs c.in-Ok.at s c.take.new.self is (key_there m.key xs c.in-Ok.at s held is) c.take.ensures.key (c.take.ensures.pairs r w)
+    sym (weights_taken r key w m c.args.number xs c.in-Ok.at s c.take.new.self is (key_there m.key xs c.in-Ok.at s held is) c.take.ensures.key (c.take.ensures.pairs r w))
 
 pub returns-else-is_empty-clause-kept : goal.returns-else-is_empty-clause-kept
 returns-else-is_empty-clause-kept c = λ m all.
@@ -85,7 +86,7 @@ returns-else-is_empty-clause-kept c = λ m all.
 pub returns-in_default-clause-weights : goal.returns-in_default-clause-weights
 returns-in_default-clause-weights c = λ r key w.
     let xs = c.args.boxes.now.items in
-    let m = c.args.mark.now in
+    let m = mark_of c.args.channel.now in
     let free = rw c.as_slice.ensures.value at c.in_default.ensures.free in
     let none = weightless r key w m c.args.number xs c.in_default.field-0 c.requires.by_key free (c.requires.there r w) in
     omega (arith, none)

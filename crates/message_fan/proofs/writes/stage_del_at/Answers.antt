@@ -1,28 +1,20 @@
-use Rattle.std.proofs.Common.{◌≡◌, refl, ◌∙◌, ℕ, List, subst, arith}
-use Rattle.std.specs.Prelude.{Some, slice_get}
+use Rattle.std.proofs.Common.{refl, ◌∙◌, arith}
 use Rattle.world_data.specs.Sound.{is_sound_channel, is_sound_watch}
 use Rattle.world_data.specs.declared.worlds.Change.TheVariants.{Del}
 use Rattle.byte_text.specs.Globs.{is_sound_glob}
 use Rattle.ordered_lists.specs.Reading.{both_of}
-use Rattle.channel_hub.specs.Hubs.{del_may_concern}
 use Rattle.channel_hub.specs.MessageLaws.{messages_on}
-use Rattle.channel_hub.specs.PlaceLaws.{place_within}
 use Rattle.session_mail.specs.FanLaws.{brought_none}
-use Rattle.message_fan.proofs.Going.{at_all_places, passes_at, place_more}
+use Rattle.message_fan.proofs.Going.{all_channels, channel_more, passes_at}
 use Rattle.message_fan.proofs.writes.stage_del_at.Goals as goal
 
 pub loop-i-init : goal.loop-i-init
 loop-i-init c = record { same = refl; staged = λ w stands. brought_none c.args.sessions.now.items }
 
-pub at-channel-requires : goal.at-channel-requires
-at-channel-requires c =
-    place_within (del_may_concern c.args.old.now) c.args.hub.now.channels c.loop-i.i c.at.result
-    (subst (λ (ps : List ℕ). slice_get ps c.loop-i.i ≡ Some c.at.result) c.requires.places c.at.ensures)
-
 pub stage_del_on-requires : goal.stage_del_on-requires
 stage_del_on-requires c =
-    let ch = c.at-channel.result.now in
-    (both_of (is_sound_glob ch.fence.glob) (is_sound_watch ch.fence.watch) (passes_at is_sound_channel c.args.hub.now.channels c.at.result ch c.requires.sound c.at-channel.ensures)).0
+    let ch = c.at.result.now in
+    (both_of (is_sound_glob ch.fence.glob) (is_sound_watch ch.fence.watch) (passes_at is_sound_channel c.args.concerned.now c.loop-i.i ch c.requires c.at.ensures)).0
 
 pub loop-i-preserved : goal.loop-i-preserved
 loop-i-preserved c =
@@ -30,11 +22,11 @@ loop-i-preserved c =
     record {
       same = c.stage_del_on.ensures.same ∙ l.invariant.same;
       staged = λ w stands.
-          place_more (messages_on w (Del c.args.old.now.key c.args.old.now.id)) c.args.hub.now.channels c.args.sessions.now.items l.sessions.items c.stage_del_on.new.sessions.items
-          c.args.concerned.now l.i c.at.result c.at-channel.result.now c.at.ensures c.at-channel.ensures (l.invariant.staged w stands) (c.in_ok-stage_del_on.ensures.staged w stands);
+          channel_more (messages_on w (Del c.args.old.now.key c.args.old.now.id)) c.args.sessions.now.items l.sessions.items c.stage_del_on.new.sessions.items
+          c.args.concerned.now l.i c.at.result.now c.at.ensures (l.invariant.staged w stands) (c.in_ok-stage_del_on.ensures.staged w stands);
     }
 
 pub returns-clause-staged : goal.returns-clause-staged
 returns-clause-staged c = λ w stands.
-    at_all_places (messages_on w (Del c.args.old.now.key c.args.old.now.id)) c.args.hub.now.channels (del_may_concern c.args.old.now)
-    c.args.sessions.now.items c.loop-i.sessions.items c.args.concerned.now c.loop-i.i (omega (arith, c.loop-i-test.false, c.len-i-end.ensures)) c.requires.places (c.loop-i.invariant.staged w stands)
+    all_channels (messages_on w (Del c.args.old.now.key c.args.old.now.id)) c.args.sessions.now.items c.loop-i.sessions.items c.args.concerned.now c.loop-i.i
+    (omega (arith, c.loop-i-test.false, c.len-i-end.ensures)) (c.loop-i.invariant.staged w stands)

@@ -1,5 +1,5 @@
 use Rattle.std.proofs.Common.{◌≡◌, take, map, flat_map}
-use Rattle.std.specs.Prelude.{Some, filter_map, slice_get}
+use Rattle.std.specs.Prelude.{Some}
 use Rattle.world_data.specs.Worlds.{object_at}
 use Rattle.world_data.specs.declared.worlds.World.{World}
 use Rattle.world_data.specs.declared.worlds.Change.TheVariants.{Del}
@@ -13,5 +13,5 @@ abbrev pub invariant-loop-i : goal.invariant-loop-i
 invariant-loop-i l = record {
   same : map session_of l.sessions.items ≡ map session_of l.initial.sessions.items;
   staged : (w : World) → object_at w l.fn.old.key l.fn.old.id ≡ Some l.fn.old
-      → AreBrought (flat_map (messages_on w (Del l.fn.old.key l.fn.old.id)) (filter_map (slice_get l.fn.hub.channels) (take l.i l.fn.concerned))) l.initial.sessions.items l.sessions.items;
+      → AreBrought (flat_map (messages_on w (Del l.fn.old.key l.fn.old.id)) (take l.i l.fn.concerned)) l.initial.sessions.items l.sessions.items;
 }

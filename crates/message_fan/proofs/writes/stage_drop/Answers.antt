@@ -19,6 +19,6 @@ returns-clause-staged c =
     on_ok_weaker c.stage_drop_at.result
     (λ staged. staged_in (IsBeforeDrop cs) (Drop key) a b
     (λ w is. subst (λ (ms : List Message). AreBrought ms a b)
-    (own_key w key cs ∙ sym (ap (λ (ds : List Channel). flat_map (messages_on w (Drop key)) (filter (watches (Some key)) ds)) is))
+    (ap (flat_map (λ ch. messages_on w (Drop ch.fence.key) ch)) c.in_ok-watching.ensures ∙ own_key w key cs ∙ sym (ap (λ (ds : List Channel). flat_map (messages_on w (Drop key)) (filter (watches (Some key)) ds)) is))
     (staged w)))
     c.stage_drop_at.ensures.staged

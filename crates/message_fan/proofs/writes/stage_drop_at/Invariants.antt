@@ -1,5 +1,4 @@
 use Rattle.std.proofs.Common.{◌≡◌, take, map, flat_map}
-use Rattle.std.specs.Prelude.{filter_map, slice_get}
 use Rattle.world_data.specs.declared.worlds.World.{World}
 use Rattle.world_data.specs.declared.worlds.Change.TheVariants.{Drop}
 use Rattle.channel_hub.specs.MessageLaws.{messages_on}
@@ -11,5 +10,5 @@ use Rattle.message_fan.proofs.writes.stage_drop_at.Given as goal
 abbrev pub invariant-loop-i : goal.invariant-loop-i
 invariant-loop-i l = record {
   same : map session_of l.sessions.items ≡ map session_of l.initial.sessions.items;
-  staged : (w : World) → AreBrought (flat_map (λ c. messages_on w (Drop c.fence.key) c) (filter_map (slice_get l.fn.hub.channels) (take l.i l.fn.watching))) l.initial.sessions.items l.sessions.items;
+  staged : (w : World) → AreBrought (flat_map (λ c. messages_on w (Drop c.fence.key) c) (take l.i l.fn.watching)) l.initial.sessions.items l.sessions.items;
 }

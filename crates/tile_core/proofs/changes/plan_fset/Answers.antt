@@ -1,19 +1,19 @@
 use Rattle.std.proofs.Common.{◌≡◌, ◌≤◌, ◌<◌, ℕ, false, length, subst, ap, ◌∙◌, sym, refl, List, rules, arith}
-use Rattle.std.specs.Prelude.{codes}
 use Rattle.std.proofs.lemmas.Result.{IfOk-weaker}
 use Rattle.byte_text.specs.Names.{Bytes}
 use Rattle.byte_text.specs.Replies.{number}
 use Rattle.world_data.specs.Limits.{max_reply, max_fields}
 use Rattle.world_data.specs.Filters.{Field, with_values}
-use Rattle.world_model.specs.Replies.{error}
+use Rattle.world_data.specs.Worlds.{is_at}
 use Rattle.world_model.specs.Effects.{Effect, given_and_cleared}
 use Rattle.world_data.specs.declared.objects.Object.{Object}
 use Rattle.world_model.specs.Refusals.{refusal_reply}
 use Rattle.world_model.specs.declared.faults.Refusal.TheVariants as refusal
 use Rattle.keyspace.specs.Entries.{objects_in}
-use Rattle.tile_core.specs.Moves.{world_in}
+use Rattle.tile_core.specs.Moves.{IsAccepted, world_in}
 use Rattle.tile_core.specs.Plans.{IsPlan, put_or_full}
 use Rattle.tile_core.proofs.Answering.{answers_ever, count_fits}
+use Rattle.tile_core.proofs.Standing.{found_holds}
 use Rattle.tile_core.proofs.Weights.{found_place}
 use Rattle.tile_core.proofs.Changing.{fset_none, fset_same, fset_many, fset_put}
 use Rattle.tile_core.proofs.changes.plan_fset.Goals as goal
@@ -37,6 +37,12 @@ returns-then-len-gt-MAX_FIELDS c =
     let more : max_fields < length (with_values o.fields all) = subst (λ (fs : List Field). max_fields < length fs) fields_are long in
     answers_ever (objects_in c.args.objects.now) c.args.total c.requires _ (refusal_reply refusal.TooManyFields) _ refl c.say_refusal.ensures _
     (λ (now : ℕ). fset_many (world_in c.args.objects.now) now c.args.key.now c.args.id.now o c.in-Some.ensures.some c.args.given.now c.args.cleared.now c.in_ok-count.count c.in_ok-count.ensures c.if-count-eq0.false more)
+
+pub plan_put-requires-clause-accepted : goal.plan_put-requires-clause-accepted
+plan_put-requires-clause-accepted c =
+    let o = c.in-Some.old.now in
+    let accepted = found_holds (is_at c.args.key.now c.args.id.now) o IsAccepted (objects_in c.args.objects.now) c.in-Some.ensures.some c.requires.accepted in
+    subst IsAccepted (sym c.in_ok-object.ensures) accepted
 
 pub plan_put-requires-clause-short : goal.plan_put-requires-clause-short
 plan_put-requires-clause-short c = subst (λ (f : Bytes). length f ≤ max_reply) (sym c.in_ok-count_frame.ensures) (count_fits c.in_ok-count.count (search rules))

@@ -1,5 +1,4 @@
-use Rattle.std.proofs.Common.{◌≡◌, ◌≤◌, ◌+◌, ℕ, length, map, subst, ap, ◌∙◌, sym, refl, lit<, add-zero, arith, List, [], ◌∷◌}
-use Rattle.std.specs.Prelude.{filter, not, sum_by}
+use Rattle.std.proofs.Common.{◌≡◌, ◌≤◌, ◌+◌, ℕ, length, map, subst, ap, ◌∙◌, sym, lit<, add-zero, arith, List, [], ◌∷◌}
 use Rattle.byte_text.specs.Names.{Bytes}
 use Rattle.byte_text.specs.Replies.{number, frame_text}
 use Rattle.world_data.specs.Limits.{max_reply}
@@ -41,6 +40,7 @@ returns-in_ok-one_name-in-Some c = λ (now : ℕ) (held : List Sub).
         frame = frame_is;
         short = subst (λ (f : Bytes). length f ≤ max_reply) (sym frame_is) one;
         sound = tt;
+        recorded = tt;
         length_is = c.delchan_len.ensures.value ∙ sym (add-zero (record_len (change.DelChan name))) ∙ ap (λ (ns : List Bytes). records_len (map (λ n. quiet (change.DelChan n)) ns)) (sym named);
         small = omega (arith, c.delchan_len.ensures.short);
         weight_is =

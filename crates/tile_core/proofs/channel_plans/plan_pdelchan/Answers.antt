@@ -4,7 +4,7 @@ use Rattle.std.proofs.lemmas.List.{length-map}
 use Rattle.byte_text.specs.Names.{Bytes}
 use Rattle.byte_text.specs.Replies.{number, frame_text}
 use Rattle.world_data.specs.Limits.{max_reply}
-use Rattle.fence_model.specs.Writes.{Write, quiet}
+use Rattle.fence_model.specs.Writes.{quiet}
 use Rattle.world_data.specs.declared.channels.Channel.{Channel}
 use Rattle.world_data.specs.declared.worlds.Change.TheVariants as change
 use Rattle.world_model.specs.Effects.{changes}
@@ -42,6 +42,7 @@ returns c = λ (now : ℕ) (held : List Sub).
         frame = frame_is;
         short = subst (λ (f : Bytes). length f ≤ max_reply) (sym frame_is) fits;
         sound = tt;
+        recorded = tt;
         length_is = d.length_is ∙ ap records_len told;
         small = omega (arith, small, c.requires.light);
         weight_is = omega (arith, left, part, c.requires.channels);

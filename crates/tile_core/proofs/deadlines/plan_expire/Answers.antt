@@ -8,7 +8,7 @@ use Rattle.world_data.specs.Worlds.{is_at}
 use Rattle.world_model.specs.Effects.{Effect}
 use Rattle.world_data.specs.declared.objects.Object.{Object}
 use Rattle.keyspace.specs.Entries.{objects_in}
-use Rattle.tile_core.specs.Moves.{world_in}
+use Rattle.tile_core.specs.Moves.{IsAccepted, world_in}
 use Rattle.record_lengths.specs.Lengths.{HasFewFields}
 use Rattle.tile_core.specs.Plans.{IsPlan, put_or_full}
 use Rattle.tile_core.proofs.Weights.{have_few, found_place}
@@ -27,6 +27,12 @@ plan_put-requires-clause-few c =
     let o = c.in-Some.old.now in
     let few = found_holds (is_at c.args.key.now c.args.id.now) o HasFewFields (objects_in c.args.objects.now) c.in-Some.ensures.some (have_few (objects_in c.args.objects.now) c.args.total c.requires.kept) in
     subst HasFewFields (sym c.in_ok-object.ensures) few
+
+pub plan_put-requires-clause-accepted : goal.plan_put-requires-clause-accepted
+plan_put-requires-clause-accepted c =
+    let o = c.in-Some.old.now in
+    let accepted = found_holds (is_at c.args.key.now c.args.id.now) o IsAccepted (objects_in c.args.objects.now) c.in-Some.ensures.some c.requires.kept.accepted in
+    subst IsAccepted (sym c.in_ok-object.ensures) accepted
 
 pub plan_put-requires-clause-short : goal.plan_put-requires-clause-short
 plan_put-requires-clause-short c = subst (λ (f : Bytes). length f ≤ max_reply) (sym c.in_ok-count_frame.ensures) (count_fits 1 (lit< tt))

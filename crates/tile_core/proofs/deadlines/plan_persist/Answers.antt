@@ -7,7 +7,7 @@ use Rattle.world_data.specs.Worlds.{is_at}
 use Rattle.world_model.specs.Effects.{Effect}
 use Rattle.world_data.specs.declared.objects.Object.{Object}
 use Rattle.keyspace.specs.Entries.{objects_in}
-use Rattle.tile_core.specs.Moves.{world_in}
+use Rattle.tile_core.specs.Moves.{IsAccepted, world_in}
 use Rattle.record_lengths.specs.Lengths.{HasFewFields}
 use Rattle.tile_core.specs.Plans.{IsPlan, put_or_full}
 use Rattle.tile_core.proofs.Weights.{have_few, found_place}
@@ -28,6 +28,14 @@ plan_put-requires-clause-few c =
     let b = bare_is o x (sym c.in_ok-object.ensures ∙ c.in-Some-2.is) in
     let few = found_holds (is_at c.args.key.now c.args.id.now) o HasFewFields (objects_in c.args.objects.now) c.in-Some.ensures.some (have_few (objects_in c.args.objects.now) c.args.total c.requires) in
     subst HasFewFields b.2 few
+
+pub plan_put-requires-clause-accepted : goal.plan_put-requires-clause-accepted
+plan_put-requires-clause-accepted c =
+    let o = c.in-Some.old.now in
+    let x = c.in-Some-2.object in
+    let b = bare_is o x (sym c.in_ok-object.ensures ∙ c.in-Some-2.is) in
+    let accepted = found_holds (is_at c.args.key.now c.args.id.now) o IsAccepted (objects_in c.args.objects.now) c.in-Some.ensures.some c.requires.accepted in
+    subst IsAccepted b.2 accepted
 
 pub plan_put-requires-clause-short : goal.plan_put-requires-clause-short
 plan_put-requires-clause-short c = subst (λ (f : Bytes). length f ≤ max_reply) (sym c.in_ok-count_frame-in-Some-2.ensures) (count_fits 1 (lit< tt))

@@ -1,8 +1,7 @@
-use Rattle.std.proofs.Common.{◌≡◌, ◌≤◌, ℕ, length, lit<, subst, ap, ◌∙◌, sym, refl, arith, [], ◌∷◌, List, add-zero, not}
+use Rattle.std.proofs.Common.{◌≡◌, ◌≤◌, ℕ, length, lit<, subst, ap, ◌∙◌, sym, refl, arith, [], ◌∷◌, add-zero, not}
 use Rattle.std.specs.Prelude.{filter}
 use Rattle.byte_text.specs.Names.{Bytes}
 use Rattle.byte_text.specs.Replies.{number, frame_text}
-use Rattle.byte_text.specs.declared.replies.Piece.{Piece}
 use Rattle.world_data.specs.Limits.{max_reply}
 use Rattle.world_data.specs.Worlds.{is_at}
 use Rattle.fence_model.specs.Writes.{loud}
@@ -10,7 +9,7 @@ use Rattle.world_model.specs.Effects.{changes}
 use Rattle.world_data.specs.Records.{record_len}
 use Rattle.world_data.specs.declared.worlds.Change.TheVariants as change
 use Rattle.keyspace.specs.Entries.{objects_in}
-use Rattle.tile_core.specs.Moves.{world_in, world_of}
+use Rattle.tile_core.specs.Moves.{world_in}
 use Rattle.record_lengths.specs.Lengths.{len_of, HasFewFields}
 use Rattle.tile_core.proofs.Answering.{answers_ever, count_fits, within_changes}
 use Rattle.tile_core.proofs.Weights.{have_few, weight_sum, found_at}
@@ -47,6 +46,7 @@ returns-in_ok-count_frame-in-Some c =
       frame = frame_is;
       short = subst (λ (f : Bytes). length f ≤ max_reply) (sym frame_is) one;
       there = ((o, here), tt);
+      accepted = tt;
       length_is = c.del_len.ensures.value ∙ sym (add-zero (record_len (change.Del key id)));
       small = omega (arith, c.del_len.ensures.short);
       weight_is = omega (arith, sum, weight_sum xs, weight_sum (filter (λ p. not (is_at key id p)) xs), c.put_len.ensures.value, c.requires.weighed);

@@ -4,7 +4,6 @@ use Rattle.std.specs.List.{list_any}
 use Rattle.std.proofs.lemmas.Bool.Decides.{nat_tests}
 use Rattle.byte_text.specs.Names.{Bytes}
 use Rattle.byte_text.specs.Replies.{number, frame_text}
-use Rattle.byte_text.specs.declared.replies.Piece.{Piece}
 use Rattle.world_data.specs.Limits.{max_reply}
 use Rattle.world_data.specs.Worlds.{has_key}
 use Rattle.fence_model.specs.Writes.{loud}
@@ -61,6 +60,7 @@ returns c =
       frame = frame_is;
       short = subst (λ (f : Bytes). length f ≤ max_reply) (sym frame_is) one;
       there = tt;
+      accepted = tt;
       length_is = c.drop_len.ensures.value ∙ sym (add-zero (record_len (change.Drop key)));
       small = omega (arith, c.drop_len.ensures.short);
       weight_is = omega (arith, c.weight_less-weight.ensures, same, parts, weight_sum rest, weight_sum xs, c.requires.weighed);

@@ -1,8 +1,7 @@
-use Rattle.std.proofs.Common.{◌≡◌, ◌≤◌, ℕ, lit≤, length, subst, ap, ◌∙◌, sym, refl, arith, [], ◌∷◌, add-zero}
+use Rattle.std.proofs.Common.{◌≡◌, ◌≤◌, ℕ, lit≤, length, subst, ◌∙◌, sym, refl, arith, add-zero}
 use Rattle.byte_text.specs.Names.{Bytes}
 use Rattle.byte_text.specs.Replies.{fine, frame_text}
 use Rattle.world_data.specs.Limits.{max_reply}
-use Rattle.fence_model.specs.Writes.{quiet}
 use Rattle.world_data.specs.Records.{record_len}
 use Rattle.world_data.specs.declared.worlds.Change.TheVariants as change
 use Rattle.tile_core.specs.Moves.{world_in}
@@ -18,6 +17,7 @@ returns c =
       frame = frame_is;
       short = subst (λ (f : Bytes). length f ≤ max_reply) (sym frame_is) (lit≤ tt);
       there = tt;
+      accepted = tt;
       length_is = c.flush_len.ensures.value ∙ sym (add-zero (record_len change.Flush));
       small = omega (arith, c.flush_len.ensures.short);
       weight_is = refl;

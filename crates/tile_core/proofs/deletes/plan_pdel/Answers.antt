@@ -4,10 +4,9 @@ use Rattle.std.proofs.lemmas.List.{length-map}
 use Rattle.byte_text.specs.Names.{Bytes}
 use Rattle.byte_text.specs.Globs.{glob_meets}
 use Rattle.byte_text.specs.Replies.{number, frame_text}
-use Rattle.byte_text.specs.declared.replies.Piece.{Piece}
 use Rattle.world_data.specs.Limits.{max_reply}
 use Rattle.world_data.specs.Worlds.{has_key}
-use Rattle.fence_model.specs.Writes.{Write, loud, dels}
+use Rattle.fence_model.specs.Writes.{loud, dels}
 use Rattle.world_data.specs.declared.worlds.Change.TheVariants as change
 use Rattle.world_model.specs.Effects.{changes}
 use Rattle.deliveries.specs.Staging.{records_len}
@@ -61,6 +60,7 @@ returns c =
       frame = frame_is;
       short = subst (λ (f : Bytes). length f ≤ max_reply) (sym frame_is) fits;
       there = subst (λ (ids : List Bytes). AllThere key ids xs) (sym s.ids) (met_there pattern key xs c.requires.kept.sorted);
+      accepted = tt;
       length_is = s.length_is ∙ ap records_len told;
       small = omega (arith, short, left, weight_sum xs, s.length_is, c.requires.kept.weighed, c.requires.kept.light);
       weight_is = omega (arith, left, weight_sum xs, weight_sum (without_each key c.in_ok-swept.swept.ids xs), s.weight_is, c.requires.kept.weighed);

@@ -1,5 +1,5 @@
 use Rattle.std.proofs.Common.{◌≡◌, ◌+◌, ◌≤◌, ℕ, true, sym, ap, ◌∙◌, subst, List, arith}
-use Rattle.std.specs.List.{list_all}
+use Rattle.std.specs.List.{AllByRecursion, list_all}
 use Rattle.world_data.specs.Limits.{max_weight}
 use Rattle.world_data.specs.Sound.{is_sound_channel}
 use Rattle.world_data.specs.declared.channels.Channel.{Channel}
@@ -12,10 +12,10 @@ use Rattle.tile_core.specs.declared.stores.Store.{Store}
 use Rattle.tile_core.specs.CoreStates.{AreKept}
 use Rattle.tile_core.specs.Dues.{AreDueFrom}
 use Rattle.tile_core.specs.Moves.{world_with, moved}
-use Rattle.tile_core.specs.Planned.{IsPlanned, channels_left, channels_moved, channels_weight}
+use Rattle.tile_core.specs.Planned.{IsPlanned, IsRecordedChannel, channels_left, channels_moved, channels_weight}
 use Rattle.tile_core.specs.Ready.{planned_writes}
 use Rattle.tile_core.specs.Stores.{IsStore, world_at}
-use Rattle.tile_core.proofs.Finishing.{channels_done, kept_after, move_done, sound_left, sound_moved, weighed_left}
+use Rattle.tile_core.proofs.Finishing.{channels_done, kept_after, move_done, recorded_left, recorded_moved, sound_left, sound_moved, weighed_left}
 use Rattle.tile_core.proofs.Moving.{due_from_moved}
 use Rattle.tile_core.proofs.finish.finish.Goals as goal
 
@@ -42,6 +42,7 @@ returns-in-Objects-clause-kept c = λ held e planned kept.
       kept = subst (λ (ys : List Object). AreKept ys new.weight) (sym c.finish_objects.ensures.objects)
           (subst (λ (n : ℕ). AreKept (moved xs p.action) n) (sym c.finish_objects.ensures.weight) (kept_after xs old.weight kept.kept e p is.0));
       sound = subst (λ (ds : List Channel). list_all is_sound_channel ds ≡ true) (sym c.finish_objects.ensures.channels) (sound_left p.action cs kept.sound);
+      recorded = subst (AllByRecursion IsRecordedChannel) (sym c.finish_objects.ensures.channels) (recorded_left p.action cs kept.recorded);
       weighed = heavy ∙ ap channels_weight (sym c.finish_objects.ensures.channels);
       light = let light = is.1 in let weight = c.finish_objects.ensures.weight in omega (arith, light, weight, heavy);
       due_from = subst (λ (ys : List Object). AreDueFrom new.due_from ys) (sym c.finish_objects.ensures.objects)
@@ -69,6 +70,7 @@ returns-in-Channels-clause-kept c = λ held e planned kept.
     (record {
       kept = kept.kept;
       sound = subst (λ (ds : List Channel). list_all is_sound_channel ds ≡ true) (sym c.finish_channels.ensures.channels) (sound_moved p.action cs is.0.sound kept.sound);
+      recorded = subst (AllByRecursion IsRecordedChannel) (sym c.finish_channels.ensures.channels) (recorded_moved p.action cs is.0.recorded kept.recorded);
       weighed = is.0.weight_is ∙ ap channels_weight (sym c.finish_channels.ensures.channels);
       light = is.1;
       due_from = kept.due_from;

@@ -1,14 +1,10 @@
-use Rattle.std.proofs.Common.{◌≡◌, ◌≤◌, ◌<◌, ℕ, length, subst, ◌∙◌, sym, refl, arith, Bool, [], ◌∷◌, add-zero}
-use Rattle.std.specs.Prelude.{codes}
+use Rattle.std.proofs.Common.{◌≤◌, ◌<◌, ℕ, length, subst, ◌∙◌, sym, arith, add-zero}
 use Rattle.std.proofs.lemmas.Result.{IfOk-weaker}
 use Rattle.byte_text.specs.Names.{Bytes}
-use Rattle.byte_text.specs.Replies.{frame_text}
 use Rattle.world_data.specs.Limits.{max_weight, max_reply}
 use Rattle.ordered_lists.specs.Lists.{put_in}
 use Rattle.world_data.specs.Worlds.{object_before}
-use Rattle.world_model.specs.Replies.{error}
 use Rattle.world_data.specs.Records.{weight}
-use Rattle.world_data.specs.declared.worlds.Change.TheVariants as change
 use Rattle.world_model.specs.Refusals.{refusal_reply}
 use Rattle.world_model.specs.declared.faults.Refusal.TheVariants as refusal
 use Rattle.keyspace.specs.Entries.{objects_in}
@@ -37,6 +33,7 @@ returns c = λ reply is.
       frame = is;
       short = c.requires.short;
       there = tt;
+      accepted = c.requires.accepted;
       length_is = c.put_len-length.ensures.value ∙ sym (add-zero (len_of x));
       small = let part = put_weighs xs x in omega (arith, part, less, c.put_len-length.ensures.value);
       weight_is = c.weight_after-weight.ensures;

@@ -1,20 +1,43 @@
-use Rattle.std.proofs.Common.{◌≡◌, ◌+◌, ◌<◌, length, ap, arith}
-use Rattle.world_data.specs.declared.objects.Object.{Object}
+use Rattle.std.proofs.Common.{◌≡◌, IfOk, OnOk, length, sym, ap, subst, arith}
+use Rattle.std.specs.Prelude.{Result, Ok, Err}
 use Rattle.keyspace.specs.Entries.{objects_in}
-use Rattle.tile_core.proofs.Readying.{ready_from}
+use Rattle.tile_core.specs.declared.ready.Ready.{Ready}
+use Rattle.tile_core.specs.declared.stores.Store.{Store}
+use Rattle.tile_core.specs.Ready.{IsReady}
+use Rattle.tile_core.proofs.Readying.{as_long, can_record_if, ready_from}
 use Rattle.tile_core.proofs.Taken.{are_few}
 use Rattle.tile_core.proofs.ready.make_ready_in_part.Goals as goal
 
-pub put_back-requires-clause-few : goal.put_back-requires-clause-few
-put_back-requires-clause-few c =
+-- what was made ready is so still where its records were taken
+if_kept : {T E Same : Type 0} (result : Result T E) (x : T) (P : T → Type 0) → IfOk result (λ r. r ≡ x) → OnOk result Same → (Same → P x) → IfOk result P
+if_kept (Ok r) x P is same then = subst P (sym is) (then same)
+if_kept (Err e) x P is same then = tt
+
+pub undo-requires-clause-few : goal.undo-requires-clause-few
+undo-requires-clause-few g c =
     let s = c.args.store.now in
     let count = c.in_ok-gone.ensures.taken.expired.taken.count in
     let same : length (objects_in c.plan_rest.new.store.objects) ≡ length (objects_in c.take_out_due.new.store.objects) = ap length c.plan_rest.ensures.room.before.objects in
     omega (arith, same, count, are_few (objects_in s.objects) s.weight c.requires.kept.kept)
 
+pub record_or_undo-requires-clause-few : goal.record_or_undo-requires-clause-few
+record_or_undo-requires-clause-few g c =
+    let s = c.args.store.now in
+    let count = c.in_ok-gone.ensures.taken.expired.taken.count in
+    let same : length (objects_in c.plan_rest.new.store.objects) ≡ length (objects_in c.take_out_due.new.store.objects) = ap length c.plan_rest.ensures.room.before.objects in
+    omega (arith, same, count, are_few (objects_in s.objects) s.weight c.requires.kept.kept)
+
+pub record_or_undo-requires-clause-can : goal.record_or_undo-requires-clause-can
+record_or_undo-requires-clause-can g c =
+    let long = as_long c.take_out_due.new.sessions.items c.args.sessions.now.items c.take_out_due.ensures.same in
+    can_record_if c.take_out_due.new.store c.args.now c.args.asked.now c.args.at c.plan_rest.new.store c.take_out_due.new.sessions.items c.plan_rest.new.sessions.items c.in-Ok.planned (omega (arith, long, c.requires.at)) c.in-Ok.ensures.planned
+
 pub returns-in-Ok-clause-ready : goal.returns-in-Ok-clause-ready
-returns-in-Ok-clause-ready c =
-    ready_from c.args.store.now c.take_out_due.new.store c.plan_rest.new.store c.args.now c.args.asked.now c.args.at c.in_ok-gone.gone
+returns-in-Ok-clause-ready g c =
+    let ready : Ready = record { gone = c.in_ok-gone.gone; planned = c.in-Ok.planned } in
+    if_kept c.record_or_undo.result ready (λ r. IsReady c.args.store.now c.args.now c.args.asked.now c.args.at c.record_or_undo.new.store c.plan_rest.new.sessions.items r) c.record_or_undo.ensures.same c.record_or_undo.ensures.stays
+    (λ same. subst (λ (s : Store). IsReady c.args.store.now c.args.now c.args.asked.now c.args.at s c.plan_rest.new.sessions.items ready) (sym same)
+    (ready_from c.args.store.now c.take_out_due.new.store c.plan_rest.new.store c.args.now c.args.asked.now c.args.at c.in_ok-gone.gone
     c.args.sessions.now.items c.take_out_due.new.sessions.items c.plan_rest.new.sessions.items
     c.in_ok-gone.ensures.rest c.in_ok-gone.ensures.taken c.requires.kept c.requires.at c.take_out_due.ensures.same c.plan_rest.ensures.same c.plan_rest.ensures.room.before
-    c.in-Ok.planned c.in-Ok.ensures.planned
+    c.in-Ok.planned c.in-Ok.ensures.planned))

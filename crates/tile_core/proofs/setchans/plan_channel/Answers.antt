@@ -1,5 +1,4 @@
-use Rattle.std.proofs.Common.{◌≡◌, ◌≤◌, ◌<◌, ◌+◌, ℕ, true, false, length, subst, ap, ◌∙◌, sym, refl, lit<, add-zero, arith, List}
-use Rattle.std.specs.Prelude.{codes}
+use Rattle.std.proofs.Common.{◌≡◌, ◌≤◌, ◌<◌, length, subst, ◌∙◌, sym, lit<, add-zero, arith, List}
 use Rattle.byte_text.specs.Names.{Bytes}
 use Rattle.byte_text.specs.Replies.{number, frame_text}
 use Rattle.ordered_lists.specs.Lists.{put_in}
@@ -50,6 +49,7 @@ returns c = λ (held : List Sub).
         frame = frame_is;
         short = subst (λ (f : Bytes). length f ≤ max_reply) (sym frame_is) (count_fits 1 (lit< tt));
         sound = c.requires.sound;
+        recorded = c.requires.recorded;
         length_is = c.channel_len-length.ensures.value ∙ sym (add-zero (len_of_channel x));
         small = omega (arith, part, c.channel_len-length.ensures.value, c.weight_after-weight.ensures.value, c.if-total-weight-gt-MAX_WEIGHT.false);
         weight_is = c.weight_after-weight.ensures.value;

@@ -1,7 +1,10 @@
-use Rattle.std.proofs.Common.{◌≡◌, ℕ, true, subst, ap, ◌∙◌, sym, refl, List, []}
-use Rattle.std.specs.Prelude.{Option, Some, None}
+use Rattle.std.proofs.Common.{◌≡◌, ℕ, true, subst, ap, ◌∙◌, sym, List, []}
+use Rattle.std.specs.Prelude.{Option, Some}
 use Rattle.std.proofs.lemmas.Result.{IfOk-weaker}
+use Rattle.log_record.specs.Words.{IsRecorded}
 use Rattle.world_data.specs.Sound.{is_sound_channel}
+use Rattle.world_data.specs.declared.channels.Watch.{Watch}
+use Rattle.world_data.specs.declared.worlds.Change.TheVariants as change
 use Rattle.world_data.specs.declared.channels.Channel.{Channel}
 use Rattle.world_model.specs.Effects.{Effect, effect, setchan_effect, within_reply}
 use Rattle.world_model.specs.Sound.{is_sound_setting}
@@ -9,9 +12,11 @@ use Rattle.world_model.specs.Subscriptions.{Sub}
 use Rattle.world_model.specs.declared.commands.AreaWords.{AreaWords}
 use Rattle.world_model.specs.declared.commands.Command.TheVariants as command
 use Rattle.keyspace.specs.Entries.{objects_in}
+use Rattle.tile_core.specs.Asking.{IsSettingOf}
 use Rattle.tile_core.specs.Moves.{world_with}
 use Rattle.tile_core.specs.Planned.{IsPlanned}
 use Rattle.tile_core.proofs.ChannelEffects.{bare_settled, given_sound, set_given, set_plain}
+use Rattle.tile_core.proofs.GivenAreas.{area_stands}
 use Rattle.tile_core.proofs.setchans.plan_setchan.Goals as goal
 
 pub returns-in-None : goal.returns-in-None
@@ -19,6 +24,19 @@ returns-in-None c =
     let w = world_with c.args.hub.now.channels (objects_in c.args.objects.now) in
     let is = λ (now : ℕ). sym (set_plain w now c.args.channel) ∙ ap (λ (a : Option AreaWords). effect w now [] (command.Setchan c.args.channel a)) (sym c.in-None.is) in
     IfOk-weaker c.plan_channel.result _ _ (λ p s. λ (now : ℕ) (held : List Sub). subst (λ (e : Effect). IsPlanned w c.args.total held e p) (is now) (s held)) c.plan_channel.ensures
+
+pub plan_channel-requires-clause-recorded : goal.plan_channel-requires-clause-recorded
+plan_channel-requires-clause-recorded c =
+    let a = subst (IsSettingOf c.args.channel) c.in-None.is c.requires.asked in
+    c.changes_are_recorded.ensures.settings.near a.words c.args.channel a.fits a.spelled
+
+pub plan_channel-requires-in-Some-Given-clause-recorded : goal.plan_channel-requires-in-Some-Given-clause-recorded
+plan_channel-requires-in-Some-Given-clause-recorded c =
+    let x = c.args.channel in
+    let area = c.in-Some-Given.area in
+    let a = subst (IsSettingOf x) (c.in-Some-Given.is ∙ ap Some c.in-Some-Given.field-0-is) c.requires.asked in
+    let stands = ap (λ (w : Watch). record x { fence = record x.fence { watch = w } }) (area_stands a.words x area a.spelled) in
+    subst (λ (y : Channel). IsRecorded (change.SetChan y)) (sym (c.channel_over-settled.ensures ∙ stands)) (c.changes_are_recorded.ensures.settings.given a.words x area a.fits a.spelled)
 
 pub plan_channel-requires-in-Some-Given-clause-sound : goal.plan_channel-requires-in-Some-Given-clause-sound
 plan_channel-requires-in-Some-Given-clause-sound c =

@@ -1,11 +1,10 @@
 use Rattle.std.proofs.Common.{◌+◌, ◌≤◌, ◌<◌, length, arith}
-use Rattle.std.proofs.lemmas.Bool.Decides.{nat_tests}
-use Rattle.byte_text.specs.Requests.{max_request, max_word, max_words}
+use Rattle.byte_text.specs.Requests.{max_word, max_words}
 use Rattle.record_lengths.specs.LengthLaws.{fits_one_more, within_limit}
 use Rattle.tile_core.proofs.setchans.takes.Goals as goal
 
-pub returns : goal.returns
-returns c = λ e.
+pub returns-clause-fits : goal.returns-clause-fits
+returns-clause-fits c = λ e.
     let words = c.args.words.now in
     let word = c.args.word.now in
     let few : length words < max_words = omega (arith, c.if-words-ge-MAX_WORDS.false, c.words.ensures.count) in

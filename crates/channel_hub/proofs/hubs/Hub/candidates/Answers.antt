@@ -1,33 +1,27 @@
-use Rattle.std.proofs.Common.{◌≡◌, ◌++◌, ℕ, List, length, ap, ◌∙◌, map, arith}
-use Rattle.byte_text.specs.Names.{Bytes}
-use Rattle.fence_index.specs.Candidates.{candidates_of}
-use Rattle.channel_hub.specs.Hubs.{may_concern}
-use Rattle.channel_hub.specs.Places.{place_named}
-use Rattle.channel_hub.proofs.Concerned.{names_are, names_stand, places_are}
-use Rattle.channel_hub.proofs.Placing.{as_many}
+use Rattle.std.proofs.Common.{◌∙◌, ◌++◌, IsPermutation, List, ap, subst, arith}
+use Rattle.std.specs.Prelude.{filter_map}
+use Rattle.world_data.specs.declared.channels.Channel.{Channel}
+use Rattle.slab.specs.Slab.{get}
+use Rattle.channel_hub.specs.Hubs.{channels_in, mark_in}
+use Rattle.channel_hub.proofs.Concerned.{concerned_are, no_more}
 use Rattle.channel_hub.proofs.hubs.Hub.candidates.Goals as goal
 
-pub push_places-requires-clause-held : goal.push_places-requires-clause-held
-push_places-requires-clause-held g c =
-    let items = c.self.inside.channels.items in
-    let marks = c.self.inside.index.marks in
-    let key = c.args.key.now in
-    let named = ap (λ (l : List Bytes). l ++ candidates_of key c.args.old c.args.new marks) c.new-names.ensures ∙ names_are key c.args.old c.args.new marks items c.self.invariant.indexed in
-    rw (c.in_ok-candidates.ensures.names ∙ named, c.as_slice.ensures.value) (names_stand (may_concern key c.args.old c.args.new) items)
-
-pub returns-clause-places : goal.returns-clause-places
-returns-clause-places g c =
-    let items = c.self.inside.channels.items in
-    let marks = c.self.inside.index.marks in
-    let key = c.args.key.now in
-    let named = ap (λ (l : List Bytes). l ++ candidates_of key c.args.old c.args.new marks) c.new-names.ensures ∙ names_are key c.args.old c.args.new marks items c.self.invariant.indexed in
-    let places = map (λ name. place_named name items) in
-    let placed = rw c.as_slice.ensures.value at c.in_ok-push_places.ensures in
-    rw (← c.self.view_is) (placed ∙ ap (λ (l : List ℕ). l ++ places c.candidates.new.into) c.new-candidates.ensures
-    ∙ ap places (c.in_ok-candidates.ensures.names ∙ named) ∙ places_are (may_concern key c.args.old c.args.new) items c.self.invariant.by_name)
+pub returns-clause-channels : goal.returns-clause-channels
+returns-clause-channels g c =
+    let f = get c.self.inside.slots in
+    let order = c.self.inside.order.items in
+    let xs = channels_in f order in
+    let ns = c.in_ok-numbers.numbers in
+    let sums = c.in_ok-numbers.ensures.numbers (mark_in f) order c.self.invariant.boxed in
+    let made = c.in_ok-push_slots.ensures ∙ ap (λ (l : List Channel). l ++ filter_map f ns) c.new-candidates.ensures in
+    let moved = subst (λ (l : List Channel). IsPermutation l c.sort.new.self) made c.sort.ensures.channels in
+    rw (← c.self.view_is) (concerned_are f order xs c.self.invariant.ordered.stored c.self.invariant.ordered.by_name c.args.key.now c.args.old c.args.new ns sums c.sort.new.self moved c.sort.ensures.order)
 
 pub returns-clause-read : goal.returns-clause-read
 returns-clause-read g c = λ lt.
-    let none : length c.new-names.result ≡ 0 = ap length c.new-names.ensures in
-    let many = as_many (λ name. place_named name c.as_slice.result.now) c.candidates.new.into c.new-candidates.result c.push_places.new.into c.new-candidates.ensures c.in_ok-push_places.ensures in
-    omega (arith, c.in_ok-candidates.ensures.read lt, none, many)
+    let f = get c.self.inside.slots in
+    let ns = c.in_ok-numbers.numbers in
+    let made = c.in_ok-push_slots.ensures ∙ ap (λ (l : List Channel). l ++ filter_map f ns) c.new-candidates.ensures in
+    let moved = subst (λ (l : List Channel). IsPermutation l c.sort.new.self) made c.sort.ensures.channels in
+    let fewer = no_more f ns c.sort.new.self moved in
+    omega (arith, c.in_ok-numbers.ensures.read lt, fewer)

@@ -1,20 +1,25 @@
-use Rattle.std.proofs.Common.{◌≡◌, ◌++◌, ◌∙◌, OnOk, ap, subst, sym, List}
-use Rattle.std.proofs.lemmas.List.{append-nil}
-use Rattle.byte_text.specs.Names.{Bytes}
-use Rattle.fence_index.specs.Marks.{Indexed}
-use Rattle.fence_index.specs.Numbered.{marks_of}
-use Rattle.fence_index.specs.Candidates.{candidates_of}
-use Rattle.fence_index.proofs.Lists.{near_is, none_near}
+use Rattle.std.proofs.Common.{◌∙◌, ap, sym, subst, List}
+use Rattle.std.specs.List.{sum_by}
+use Rattle.std.proofs.lemmas.Result.{IfOk-weaker}
+use Rattle.fence_index.specs.declared.key_boxes.KeyBoxes.{KeyBoxes}
+use Rattle.fence_index.specs.Boxed.{AreFound}
+use Rattle.fence_index.specs.Numbered.{Indexed}
+use Rattle.fence_index.proofs.Found.{found_named, found_none}
 use Rattle.fence_index.proofs.indexes.FenceIndex.candidates.Goals as goal
 
-pub returns-in-Some-clause-names : goal.returns-in-Some-clause-names
-returns-in-Some-clause-names g c =
-    let key = c.args.key.now in
-    let named = near_is key c.args.old c.args.new c.in-Some.round c.is_some.result (marks_of c.self.inside.list.marks) (sym c.round_of.ensures ∙ c.in-Some.is) c.is_some.ensures
-    ∙ ap (λ (h : Indexed). candidates_of key c.args.old c.args.new h.marks) c.self.view_is in
-    subst (λ (names : List Bytes). OnOk c.candidates.result (c.candidates.new.into ≡ c.args.into.now ++ names)) named c.candidates.ensures.names
+pub numbers_near-requires : goal.numbers_near-requires
+numbers_near-requires g c = rw c.as_slice.ensures.value c.self.invariant.by_key
 
-pub returns-in-None-clause-names : goal.returns-in-None-clause-names
-returns-in-None-clause-names g c =
-    let none = none_near c.args.key.now c.args.old c.args.new c.args.self.now.marks (sym c.round_of.ensures ∙ c.in-None.is) in
-    sym (ap (λ (l : List Bytes). c.args.into.now ++ l) none ∙ append-nil c.args.into.now)
+pub returns-in-Some-clause-numbers : goal.returns-in-Some-clause-numbers
+returns-in-Some-clause-numbers g c =
+    let key = c.args.key.now in
+    let same = c.as_slice.ensures.value ∙ ap (λ (h : Indexed). h.boxes) c.self.view_is in
+    IfOk-weaker c.numbers_near.result (AreFound key c.in-Some.round c.is_some.result c.as_slice.result.now) _
+    (λ found are marks numbers boxed.
+    found_named marks numbers c.args.self.now.boxes boxed key c.args.old c.args.new c.in-Some.round c.is_some.result found (sym c.round_of.ensures ∙ c.in-Some.is) c.is_some.ensures
+    (subst (λ (boxes : List KeyBoxes). AreFound key c.in-Some.round c.is_some.result boxes found) same are))
+    c.numbers_near.ensures.found
+
+pub returns-in-None-clause-numbers : goal.returns-in-None-clause-numbers
+returns-in-None-clause-numbers g c = λ marks numbers boxed v.
+    ap (sum_by v) (c.new.ensures ∙ sym (found_none marks c.args.key.now c.args.old c.args.new numbers (sym c.round_of.ensures ∙ c.in-None.is)))

@@ -1,19 +1,24 @@
-use Rattle.std.proofs.Common.{◌∙◌, ap, sym, subst}
+use Rattle.std.proofs.Common.{sym, subst, arith}
 use Rattle.fence_index.specs.declared.marks.Mark.{Mark}
 use Rattle.fence_index.specs.Boxed.{IsFresh}
 use Rattle.fence_index.proofs.Prepared.{still_prepared}
 use Rattle.fence_index.proofs.indexes.FenceIndex.prepare.Goals as goal
 
 pub invariant_of-self : goal.invariant_of-self
-invariant_of-self c = still_prepared c.self.inside.list c.reserve.new.self c.self.inside.prepared c.reserve.ensures.spare_kept c.reserve.ensures.room_kept c.self.invariant
+invariant_of-self c = record {
+  by_key = c.reserve_boxes.ensures.by_key;
+  ready = still_prepared c.self.inside.boxes.items c.reserve_boxes.new.boxes.items _ _ c.self.inside.prepared
+      (omega (arith, c.reserve_boxes.ensures.len, c.reserve_boxes.ensures.capacity)) c.reserve_boxes.ensures.kept c.self.invariant.ready;
+}
 
 pub invariant_of-self-2 : goal.invariant_of-self-2
 invariant_of-self-2 c =
-    let ready = c.in_ok-ready.ready in
     let made = c.in_ok-ready.ensures in
     record {
-      name_is = made.name ∙ sym (ap (λ (m : Mark). m.name) made.mark);
-      is_fresh = subst (λ (m : Mark). IsFresh m ready.boxes) (sym made.mark) made.boxes;
-      spare = c.in_ok-reserve.ensures.spare;
-      room = c.in_ok-reserve.ensures.room;
+      by_key = c.reserve_boxes.ensures.by_key;
+      ready = record {
+        is_fresh = subst (λ (m : Mark). IsFresh m c.in_ok-ready.ready.boxes) (sym made.mark) made.boxes;
+        spare_is = omega (arith, c.in_ok-reserve_boxes.ensures.places);
+        room = rw made.mark c.in_ok-reserve_boxes.ensures.room;
+      };
     }

@@ -6,6 +6,7 @@ use Rattle.fence_index.specs.Held.{Fits}
 use Rattle.fence_index.specs.Reasons.{box_for}
 use Rattle.fence_index.specs.Boxed.{part}
 use Rattle.fence_index.proofs.KeyWeights.{each_reason}
+use Rattle.fence_index.specs.Marks.{mark_of}
 use Rattle.fence_index.proofs.key_boxes.KeyBoxes.reserve.Goals as goal
 
 pub returns-in_err-reserve-clause-pairs : goal.returns-in_err-reserve-clause-pairs
@@ -39,6 +40,6 @@ returns-clause-room c =
     let near = subst (λ (b : Option Bounds). Fits b c.reserve.new.self.spare) c.near_box.ensures c.in_ok-reserve.ensures.room in
     let wide = subst (λ (b : Option Bounds). Fits b c.reserve-2.new.self.spare) c.wide_box.ensures c.in_ok-reserve-2.ensures.room in
     on_ok_weaker c.reserve-3.result
-    (λ room. each_reason (λ r. Fits (box_for r c.args.mark.now) (part r (record c.args.self.now { near = c.reserve.new.self; wide = c.reserve-2.new.self; always = c.reserve-3.new.self })).spare)
+    (λ room. each_reason (λ r. Fits (box_for r (mark_of c.args.channel.now)) (part r (record c.args.self.now { near = c.reserve.new.self; wide = c.reserve-2.new.self; always = c.reserve-3.new.self })).spare)
     near wide (subst (λ (b : Option Bounds). Fits b c.reserve-3.new.self.spare) c.always_box.ensures room))
     c.reserve-3.ensures.room

@@ -7,6 +7,7 @@ use Rattle.fence_index.specs.Held.{weight_of}
 use Rattle.fence_index.specs.Reasons.{Near, Wide, Always, box_for}
 use Rattle.fence_index.specs.Boxed.{part}
 use Rattle.fence_index.proofs.KeyWeights.{each_reason}
+use Rattle.fence_index.specs.Marks.{mark_of}
 use Rattle.fence_index.proofs.key_boxes.KeyBoxes.take.Goals as goal
 
 pub take-requires : goal.take-requires
@@ -22,7 +23,7 @@ pub returns-clause-pairs : goal.returns-clause-pairs
 returns-clause-pairs c =
     let n = c.args.number in
     each_reason
-    (λ r. (w : Pair → ℕ) → sum_by w (part r (record c.args.self.now { near = c.take.new.self; wide = c.take-2.new.self; always = c.take-3.new.self })).pairs + weight_of w (box_for r c.args.mark.now) n
+    (λ r. (w : Pair → ℕ) → sum_by w (part r (record c.args.self.now { near = c.take.new.self; wide = c.take-2.new.self; always = c.take-3.new.self })).pairs + weight_of w (box_for r (mark_of c.args.channel.now)) n
     ≡ sum_by w (part r c.args.self.now).pairs)
     (λ w. ap (λ (b : Option Bounds). sum_by w c.take.new.self.pairs + weight_of w b n) (sym c.near_box.ensures) ∙ c.take.ensures.pairs w)
     (λ w. ap (λ (b : Option Bounds). sum_by w c.take-2.new.self.pairs + weight_of w b n) (sym c.wide_box.ensures) ∙ c.take-2.ensures.pairs w)

@@ -1,6 +1,5 @@
-use Rattle.std.proofs.Common.{◌≡◌, ◌≤◌, ◌<◌, ◌+◌, ◌*◌, inl, ℕ, true, false, List, length, max, map, refl, sym, ap, ◌∙◌, subst, arith}
+use Rattle.std.proofs.Common.{◌≡◌, ◌≤◌, ◌+◌, ℕ, true, List, length, sym, ap, ◌∙◌, subst, arith}
 use Rattle.std.specs.Prelude.{Result, Ok, Err, filter}
-use Rattle.world_data.specs.Limits.{max_sessions, max_weight}
 use Rattle.world_model.specs.Halls.{Hall, NamesChanged}
 use Rattle.world_model.specs.Halls as halls
 use Rattle.world_model.specs.Histories.{Step}
@@ -9,59 +8,64 @@ use Rattle.world_model.specs.declared.events.Outcome.TheVariants as outcome
 use Rattle.world_model.specs.declared.events.Called.{Called}
 use Rattle.world_model.specs.declared.events.Called.TheVariants as called
 use Rattle.keyspace.specs.Entries.{objects_in}
-use Rattle.session_mail.specs.Sessions.{State, session_of}
-use Rattle.tile_core.specs.declared.ready.Ready.{Ready}
-use Rattle.tile_core.specs.declared.stores.Store.{Store}
+use Rattle.session_mail.specs.Sessions.{State}
 use Rattle.tile_core.specs.CoreStates.{CoreState}
-use Rattle.tile_core.specs.Answered.{AreNamed, AreRoomy, AreSessions, IsAnswered, MayCall, StayNamed, is_named}
-use Rattle.tile_core.specs.Ready.{IsCompleted, IsReady}
+use Rattle.tile_core.specs.Answered.{AreNamed, AreRoomy, AreSessions, IsAnswered, MayCall, is_named}
+use Rattle.tile_core.specs.Ledgers.{IsRecordedBy, ready_writes}
 use Rattle.tile_core.specs.Sessions.{IsServed, are_rising}
-use Rattle.tile_core.specs.Stores.{IsSound, hall_of}
+use Rattle.tile_core.specs.Stores.{hall_of}
 use Rattle.tile_core.proofs.Answered.{may_not}
-use Rattle.tile_core.proofs.Called.{all_named, answered_, can, room_left, short, sound, step}
+use Rattle.tile_core.proofs.Called.{all_named, answered_, can, room_left, short, sound, step, writes}
 use Rattle.tile_core.proofs.Calls.{lacks, refused, rises_as}
 use Rattle.tile_core.proofs.Halving.{rising}
 use Rattle.tile_core.proofs.Named.{none_named, same_hall, same_room}
 use Rattle.tile_core.proofs.NamedChanges.{is_it, named_more, room_for_one, stay, still_roomy, with_name}
+use Rattle.tile_core.proofs.Pushing.{recorded_by}
 use Rattle.tile_core.proofs.Readying.{as_before, as_long, same_at, same_world}
 use Rattle.tile_core.proofs.Taken.{are_few}
 use Rattle.tile_core.proofs.cores.Core.call.Goals as goal
 
 pub served-requires : goal.served-requires
-served-requires c =
+served-requires g c =
     let k = c.self.inside in
     subst (λ (ss : List State). are_rising ss ≡ true) (sym c.as_slice.ensures.value) (rising 0 k.drawn k.sessions.items c.self.invariant.present.rises)
 
 pub returns-in-Err-clause-step : goal.returns-in-Err-clause-step
-returns-in-Err-clause-step c =
+returns-in-Err-clause-step g c =
     let k = c.self.inside in
     let e : IsServed k.sessions.items c.args.session (Err c.in-Err.answer) = subst (λ (r : Result ℕ Called). IsServed k.sessions.items c.args.session r) c.in-Err.is (subst (λ (ss : List State). IsServed ss c.args.session c.served.result) c.as_slice.ensures.value c.served.ensures) in
     subst (λ (n : CoreState). Step n.hall (event.Call c.args.session c.args.moment c.args.asked.now) (outcome.Answered c.in-Err.answer) n.hall) c.self.view_is
     (refused k.store k.clock k.logged k.drawn k.sessions.items c.args.session c.args.moment c.args.asked.now c.if-self-ge-MOST_LOGGED.false c.self.invariant.present.rises c.in-Err.answer e)
 
 pub returns-in-Err-clause-done : goal.returns-in-Err-clause-done
-returns-in-Err-clause-done c = λ may.
+returns-in-Err-clause-done g c = λ may.
     let k = c.self.inside in
     let e : IsServed k.sessions.items c.args.session (Err c.in-Err.answer) = subst (λ (r : Result ℕ Called). IsServed k.sessions.items c.args.session r) c.in-Err.is (subst (λ (ss : List State). IsServed ss c.args.session c.served.result) c.as_slice.ensures.value c.served.ensures) in
     let here = subst (λ (n : CoreState). MayCall n.hall c.args.session) (sym c.self.view_is) may in
     absurd (may_not k.drawn k.sessions.items c.args.session c.self.invariant.present.rises c.in-Err.answer e here.1 here.2)
 
 pub returns-in-Err-clause-answered : goal.returns-in-Err-clause-answered
-returns-in-Err-clause-answered c = λ fine.
+returns-in-Err-clause-answered g c = λ fine.
+    let k = c.self.inside in
+    let e : IsServed k.sessions.items c.args.session (Err c.in-Err.answer) = subst (λ (r : Result ℕ Called). IsServed k.sessions.items c.args.session r) c.in-Err.is (subst (λ (ss : List State). IsServed ss c.args.session c.served.result) c.as_slice.ensures.value c.served.ensures) in
+    absurd (subst (λ (a : Called). IsServed k.sessions.items c.args.session (Err a)) fine e)
+
+pub returns-in-Err-clause-recorded : goal.returns-in-Err-clause-recorded
+returns-in-Err-clause-recorded g c = λ fine.
     let k = c.self.inside in
     let e : IsServed k.sessions.items c.args.session (Err c.in-Err.answer) = subst (λ (r : Result ℕ Called). IsServed k.sessions.items c.args.session r) c.in-Err.is (subst (λ (ss : List State). IsServed ss c.args.session c.served.result) c.as_slice.ensures.value c.served.ensures) in
     absurd (subst (λ (a : Called). IsServed k.sessions.items c.args.session (Err a)) fine e)
 
 pub make_ready-ready-requires-clause-at : goal.make_ready-ready-requires-clause-at
-make_ready-ready-requires-clause-at c =
+make_ready-ready-requires-clause-at g c =
     let sv = subst (λ (ss : List State). IsServed ss c.args.session (Ok c.in-Ok.at)) c.as_slice.ensures.value c.in-Ok.ensures in
     sv.3
 
 pub make_ready-ready-requires-clause-moment : goal.make_ready-ready-requires-clause-moment
-make_ready-ready-requires-clause-moment c = let early = c.self.invariant.early in omega (arith, c.max-now.ensures, early, c.requires.moment)
+make_ready-ready-requires-clause-moment g c = let early = c.self.invariant.early in omega (arith, c.max-now.ensures, early, c.requires.moment)
 
 pub invariant_of-self : goal.invariant_of-self
-invariant_of-self c =
+invariant_of-self g c =
     let k = c.self.inside in
     let new = c.make_ready-ready.new.sessions.items in
     let same = c.make_ready-ready.ensures.same in
@@ -76,7 +80,7 @@ invariant_of-self c =
     }
 
 pub returns-in_default-clause-step : goal.returns-in_default-clause-step
-returns-in_default-clause-step c =
+returns-in_default-clause-step g c =
     let k = c.self.inside in
     let sv = subst (λ (ss : List State). IsServed ss c.args.session (Ok c.in-Ok.at)) c.as_slice.ensures.value c.in-Ok.ensures in
     let new = c.make_ready-ready.new.sessions.items in
@@ -87,20 +91,20 @@ returns-in_default-clause-step c =
     (lacks k.store k.clock k.logged k.drawn k.sessions.items c.args.session c.args.moment c.args.asked.now c.if-self-ge-MOST_LOGGED.false c.in-Ok.at sv.0.session c.self.invariant.present.rises sv.0.here sv.0.numbered sv.1 sv.2))
 
 pub returns-in_default-clause-named : goal.returns-in_default-clause-named
-returns-in_default-clause-named c =
+returns-in_default-clause-named g c =
     let k = c.self.inside in
     let new = c.make_ready-ready.new.sessions.items in
     none_named c.args.touched.now _ _ (same_hall k.store c.make_ready-ready.new.store k.clock k.logged k.drawn k.sessions.items new (same_world k.store c.make_ready-ready.new.store c.in_default.ensures.err) c.make_ready-ready.ensures.same ∙ ap (λ (n : CoreState). n.hall) c.self.view_is)
 
 pub returns-in_default-clause-room : goal.returns-in_default-clause-room
-returns-in_default-clause-room c =
+returns-in_default-clause-room g c =
     let k = c.self.inside in
     let new = c.make_ready-ready.new.sessions.items in
     same_room c.args.touched.now c.args.self.now.hall (hall_of c.make_ready-ready.new.store k.clock k.logged k.drawn new)
     (same_hall k.store c.make_ready-ready.new.store k.clock k.logged k.drawn k.sessions.items new (same_world k.store c.make_ready-ready.new.store c.in_default.ensures.err) c.make_ready-ready.ensures.same ∙ ap (λ (n : CoreState). n.hall) c.self.view_is) c.requires.room
 
 pub name_told-requires-clause-few : goal.name_told-requires-clause-few
-name_told-requires-clause-few c =
+name_told-requires-clause-few g c =
     let k = c.self.inside in
     let mid = c.make_ready-ready.new.sessions.items in
     let long = as_long mid k.sessions.items c.make_ready-ready.ensures.same in
@@ -109,7 +113,7 @@ name_told-requires-clause-few c =
     omega (arith, long, few, shown)
 
 pub name_told-requires-clause-room : goal.name_told-requires-clause-room
-name_told-requires-clause-room c =
+name_told-requires-clause-room g c =
     let k = c.self.inside in
     let mid = c.make_ready-ready.new.sessions.items in
     let room = subst (λ (n : CoreState). AreSessions c.args.touched.now n.hall) (sym c.self.view_is) c.requires.room in
@@ -117,7 +121,7 @@ name_told-requires-clause-room c =
     (subst (λ (hs : List halls.Session). length c.args.touched.now ≤ length (filter (λ h. is_named c.args.touched.now h.number) hs)) (sym c.make_ready-ready.ensures.same) room)
 
 pub name_session-requires : goal.name_session-requires
-name_session-requires c = λ was.
+name_session-requires g c = λ was.
     let k = c.self.inside in
     let sv = subst (λ (ss : List State). IsServed ss c.args.session (Ok c.in-Ok.at)) c.as_slice.ensures.value c.in-Ok.ensures in
     let mid = c.make_ready-ready.new.sessions.items in
@@ -130,12 +134,12 @@ name_session-requires c = λ was.
     omega (arith, lt, long, few)
 
 pub complete-requires-clause-few : goal.complete-requires-clause-few
-complete-requires-clause-few c =
+complete-requires-clause-few g c =
     let ready = c.in-Ok-ready.ensures.ready in
     are_few (objects_in c.make_ready-ready.new.store.objects) c.make_ready-ready.new.store.weight ready.kept.kept
 
 pub complete-requires-clause-at : goal.complete-requires-clause-at
-complete-requires-clause-at c =
+complete-requires-clause-at g c =
     let k = c.self.inside in
     let sv = subst (λ (ss : List State). IsServed ss c.args.session (Ok c.in-Ok.at)) c.as_slice.ensures.value c.in-Ok.ensures in
     let long = as_long c.make_ready-ready.new.sessions.items k.sessions.items c.make_ready-ready.ensures.same in
@@ -143,14 +147,14 @@ complete-requires-clause-at c =
     omega (arith, long, lt)
 
 pub complete-requires-clause-can : goal.complete-requires-clause-can
-complete-requires-clause-can c =
+complete-requires-clause-can g c =
     let k = c.self.inside in
     let sv = subst (λ (ss : List State). IsServed ss c.args.session (Ok c.in-Ok.at)) c.as_slice.ensures.value c.in-Ok.ensures in
     can k.store k.clock k.logged k.drawn k.sessions.items c.make_ready-ready.new.sessions.items c.args.session c.in-Ok.at c.args.moment c.max-now.result c.args.asked.now c.make_ready-ready.new.store c.in-Ok-ready.ready
     c.self.invariant.kept c.self.invariant.present sv c.max-now.ensures c.make_ready-ready.ensures.same c.in-Ok-ready.ensures.ready
 
 pub complete-requires-clause-short : goal.complete-requires-clause-short
-complete-requires-clause-short c =
+complete-requires-clause-short g c =
     let k = c.self.inside in
     let sv = subst (λ (ss : List State). IsServed ss c.args.session (Ok c.in-Ok.at)) c.as_slice.ensures.value c.in-Ok.ensures in
     let le = short k.store k.clock k.logged k.drawn k.sessions.items c.make_ready-ready.new.sessions.items c.args.session c.in-Ok.at c.args.moment c.max-now.result c.args.asked.now c.make_ready-ready.new.store c.in-Ok-ready.ready
@@ -158,7 +162,7 @@ complete-requires-clause-short c =
     omega (arith, le)
 
 pub invariant_of-self-2 : goal.invariant_of-self-2
-invariant_of-self-2 c =
+invariant_of-self-2 g c =
     let k = c.self.inside in
     let sv = subst (λ (ss : List State). IsServed ss c.args.session (Ok c.in-Ok.at)) c.as_slice.ensures.value c.in-Ok.ensures in
     let early = c.self.invariant.early in
@@ -167,7 +171,7 @@ invariant_of-self-2 c =
     c.if-self-ge-MOST_LOGGED.false c.complete.new.store c.complete.new.sessions.items c.complete.result c.complete.ensures (omega (arith, c.max-now.ensures, early, c.requires.moment))
 
 pub returns-clause-step : goal.returns-clause-step
-returns-clause-step c =
+returns-clause-step g c =
     let k = c.self.inside in
     let sv = subst (λ (ss : List State). IsServed ss c.args.session (Ok c.in-Ok.at)) c.as_slice.ensures.value c.in-Ok.ensures in
     subst (λ (n : CoreState). Step n.hall (event.Call c.args.session c.args.moment c.args.asked.now) (outcome.Answered called.Ok) (hall_of c.complete.new.store c.max-now.result (k.logged + c.complete.result) k.drawn c.complete.new.sessions.items)) c.self.view_is
@@ -176,7 +180,7 @@ returns-clause-step c =
     c.if-self-ge-MOST_LOGGED.false c.complete.new.store c.complete.new.sessions.items c.complete.result c.complete.ensures)
 
 pub returns-clause-named : goal.returns-clause-named
-returns-clause-named c =
+returns-clause-named g c =
     let k = c.self.inside in
     let sv = subst (λ (ss : List State). IsServed ss c.args.session (Ok c.in-Ok.at)) c.as_slice.ensures.value c.in-Ok.ensures in
     let mid = c.make_ready-ready.new.sessions.items in
@@ -190,11 +194,11 @@ returns-clause-named c =
     (with_name c.name_told.new.touched c.args.session) (named_more c.name_told.new.touched (with_name c.name_told.new.touched c.args.session) mid (stay c.name_told.new.touched c.args.session) told) (is_it c.name_told.new.touched c.args.session)))
 
 pub returns-clause-kept : goal.returns-clause-kept
-returns-clause-kept c = λ n was.
+returns-clause-kept g c = λ n was.
     subst (λ (t : List ℕ). is_named t n ≡ true) (sym c.name_session.ensures) (stay c.name_told.new.touched c.args.session n (c.name_told.ensures.kept n was))
 
 pub returns-clause-room : goal.returns-clause-room
-returns-clause-room c =
+returns-clause-room g c =
     let k = c.self.inside in
     let sv = subst (λ (ss : List State). IsServed ss c.args.session (Ok c.in-Ok.at)) c.as_slice.ensures.value c.in-Ok.ensures in
     let mid = c.make_ready-ready.new.sessions.items in
@@ -211,7 +215,7 @@ returns-clause-room c =
     (with_name c.name_told.new.touched c.args.session) (named_more c.name_told.new.touched (with_name c.name_told.new.touched c.args.session) mid (stay c.name_told.new.touched c.args.session) told) (is_it c.name_told.new.touched c.args.session) left)
 
 pub returns-clause-logged : goal.returns-clause-logged
-returns-clause-logged c =
+returns-clause-logged g c =
     let k = c.self.inside in
     let sv = subst (λ (ss : List State). IsServed ss c.args.session (Ok c.in-Ok.at)) c.as_slice.ensures.value c.in-Ok.ensures in
     let le = short k.store k.clock k.logged k.drawn k.sessions.items c.make_ready-ready.new.sessions.items c.args.session c.in-Ok.at c.args.moment c.max-now.result c.args.asked.now c.make_ready-ready.new.store c.in-Ok-ready.ready
@@ -221,10 +225,22 @@ returns-clause-logged c =
     omega (arith, le, was, long)
 
 pub returns-clause-answered : goal.returns-clause-answered
-returns-clause-answered c = λ fine.
+returns-clause-answered g c = λ fine.
     let k = c.self.inside in
     let sv = subst (λ (ss : List State). IsServed ss c.args.session (Ok c.in-Ok.at)) c.as_slice.ensures.value c.in-Ok.ensures in
     subst (λ (n : CoreState). IsAnswered n.hall (hall_of c.complete.new.store c.max-now.result (k.logged + c.complete.result) k.drawn c.complete.new.sessions.items) c.args.moment c.args.session c.args.asked.now) c.self.view_is
     (answered_ k.store k.clock k.logged k.drawn k.sessions.items c.make_ready-ready.new.sessions.items c.args.session c.in-Ok.at c.args.moment c.max-now.result c.args.asked.now c.make_ready-ready.new.store c.in-Ok-ready.ready
     c.self.invariant.kept c.self.invariant.present sv c.max-now.ensures c.make_ready-ready.ensures.same c.in-Ok-ready.ensures.ready
     c.if-self-ge-MOST_LOGGED.false c.complete.new.store c.complete.new.sessions.items c.complete.result c.complete.ensures)
+
+pub returns-clause-recorded : goal.returns-clause-recorded
+returns-clause-recorded g c = λ fine.
+    let k = c.self.inside in
+    let sv = subst (λ (ss : List State). IsServed ss c.args.session (Ok c.in-Ok.at)) c.as_slice.ensures.value c.in-Ok.ensures in
+    let call = event.Call c.args.session c.args.moment c.args.asked.now in
+    subst (λ (n : CoreState). IsRecordedBy g.L.Ledger.takes n.hall call c.args.ledger.now c.make_ready-ready.new.ledger) c.self.view_is
+    (recorded_by g.L.Ledger.takes (hall_of k.store k.clock k.logged k.drawn k.sessions.items) call (ready_writes c.in-Ok-ready.ready) c.args.ledger.now c.make_ready-ready.new.ledger
+    (writes k.store k.clock k.logged k.drawn k.sessions.items c.make_ready-ready.new.sessions.items c.args.session c.in-Ok.at c.args.moment c.max-now.result c.args.asked.now c.make_ready-ready.new.store c.in-Ok-ready.ready
+    c.self.invariant.kept c.self.invariant.present sv c.max-now.ensures c.make_ready-ready.ensures.same c.in-Ok-ready.ensures.ready
+    c.if-self-ge-MOST_LOGGED.false c.complete.new.store c.complete.new.sessions.items c.complete.result c.complete.ensures)
+    c.in-Ok-ready.ensures.recorded)

@@ -1,0 +1,12 @@
+-- The first object of the next key.
+use Rattle.keyspace.specs.Entries.{objects_in}
+use Rattle.next_items.specs.Copies.{is_next_key, name_in}
+use Rattle.next_items.proofs.NextKeys.{place_held, first_next}
+use Rattle.next_items.proofs.copies.first_of_next.Goals as goal
+
+pub first_of-requires : goal.first_of-requires
+first_of-requires c = place_held (is_next_key (name_in c.args.after)) c.args.objects.now c.next_key.result c.next_key.ensures.place
+
+pub returns : goal.returns
+returns c =
+    first_next (is_next_key (name_in c.args.after)) c.args.objects.now c.next_key.result _ c.requires c.keys-count.ensures.distinct c.next_key.ensures.place c.first_of.ensures

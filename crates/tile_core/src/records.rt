@@ -1,0 +1,181 @@
+//! The records of what was made ready, handed to a ledger before anything is changed.
+
+ghost use Rattle.std.specs.Prelude.{◌≡◌, ◌⊎◌, ◌∷◌, [], Bool, OnErr, OnOk};
+ghost use Rattle.fence_model.specs.Writes.{dels, loud};
+ghost use Rattle.world_data.specs.declared.worlds.Change.TheVariants as change;
+ghost use Rattle.log_record.specs.Words.{IsRecorded};
+ghost use Rattle.tile_core.specs.Ledgers.{ArePushed, AreTaken, CanRecord, CanRecordIf, IsPushed, ready_writes};
+ghost use Rattle.tile_core.specs.Moves.{HoldsOfPut, IsAccepted};
+ghost use Rattle.tile_core.specs.Planned.{IsRecordedMove, channel_writes, dropped_of};
+ghost use Rattle.tile_core.specs.Plans.{writes_of};
+ghost use Rattle.tile_core.specs.Ready.{planned_writes};
+ghost use Rattle.tile_core.specs.Staged.{dels_of};
+
+use crate::ledgers::Ledger;
+use crate::moves::Move;
+use crate::planned::{ChannelMove, Planned};
+use crate::ready::Ready;
+use byte_text::{MAX_WORD, Name, NoMemory, Text};
+use record_text::{push_del, push_delchan, push_drop, push_flush, push_put, push_setchan};
+use record_words::changes_are_recorded;
+use std::alloc::Global;
+use world_model::{Channel, NameList, Object};
+
+/// The most fields of an object whose record fits a request.
+const MOST_FIELDS: usize = 1_363;
+
+/// The text of the records keeps its memory for the next call, where it has no more bytes than this.
+const MOST_KEPT: usize = 65_536;
+
+/// Appends the record of the put of an object, which is read back from it. One that no request puts, as its record would be too long for
+/// one, is want of memory.
+pub fn push_object(into: &mut Text, object: &Object) -> Result<(), NoMemory>
+    requires { IsAccepted object.now }
+    ensures { OnOk result (IsPushed (change.Put object.now) into.old into.new) }
+{
+    changes_are_recorded();
+    if object.fields.len() > MOST_FIELDS || object.text.len() > MAX_WORD {
+        return Err(NoMemory);
+    }
+    push_put(into, object)
+}
+
+/// Appends the record of a channel that is read back from it.
+pub fn push_channel(into: &mut Text, channel: &Channel) -> Result<(), NoMemory>
+    requires { IsRecorded (change.SetChan channel.now) }
+    ensures { OnOk result (IsPushed (change.SetChan channel.now) into.old into.new) }
+{
+    push_setchan(into, channel)
+}
+
+// Appends the record of the put of an object, whether it is told or not.
+fn push_written(into: &mut Text, object: &Object) -> Result<(), NoMemory>
+    requires { IsAccepted object.now }
+    ensures { OnOk result ((is_loud : Bool) → ArePushed (record { change = change.Put object.now; loud = is_loud } ∷ []) into.old into.new) }
+{
+    match push_object(into, object) {
+        Ok(()) => Ok(()),
+        Err(NoMemory) => Err(NoMemory),
+    }
+}
+
+// Appends the record of the del of a key and an id.
+fn push_one(into: &mut Text, key: &Name, id: &Name) -> Result<(), NoMemory>
+    ensures { OnOk result (ArePushed (loud (change.Del key.now id.now) ∷ []) into.old into.new) }
+{
+    changes_are_recorded();
+    push_del(into, key, id)
+}
+
+// Appends the records of the dels of the objects of a key that have these ids.
+fn push_each(into: &mut Text, key: &Name, ids: &NameList) -> Result<(), NoMemory>
+    ensures { OnOk result (ArePushed (dels_of key.now ids.now) into.old into.new) }
+{
+    for i in 0..ids.len() {
+        push_one(into, key, ids.at(i))?;
+    }
+    Ok(())
+}
+
+// Appends the records of the dels of objects.
+fn push_dels(into: &mut Text, held: &[Object]) -> Result<(), NoMemory>
+    ensures { OnOk result (ArePushed (dels held.now) into.old into.new) }
+{
+    for i in 0..held.len() {
+        let object = &held[i];
+        push_one(into, &object.key, &object.id)?;
+    }
+    Ok(())
+}
+
+// Appends the records of a move of the objects, whether a put is told or not.
+fn push_move(into: &mut Text, action: &Move) -> Result<(), NoMemory>
+    requires { HoldsOfPut IsAccepted action.now }
+    ensures { OnOk result ((is_loud : Bool) → ArePushed (writes_of action.now is_loud) into.old into.new) }
+{
+    changes_are_recorded();
+    match action {
+        Move::Stay => Ok(()),
+        Move::Put(object) => push_written(into, object),
+        Move::Delete(key, id) => push_one(into, key, id),
+        Move::DeleteEach(key, ids) => push_each(into, key, ids),
+        Move::Leave(key) => push_drop(into, key),
+        Move::Clear => push_flush(into),
+    }
+}
+
+// Appends the records of the deletions of the channels of these names.
+fn push_dropped(into: &mut Text, names: &NameList) -> Result<(), NoMemory>
+    ensures { OnOk result (ArePushed (dropped_of names.now) into.old into.new) }
+{
+    changes_are_recorded();
+    for i in 0..names.len() {
+        push_delchan(into, names.at(i))?;
+    }
+    Ok(())
+}
+
+// Appends the records of a move of the channels.
+fn push_channel_move(into: &mut Text, action: &ChannelMove) -> Result<(), NoMemory>
+    requires { IsRecordedMove action.now }
+    ensures { OnOk result (ArePushed (channel_writes action.now) into.old into.new) }
+{
+    match action {
+        ChannelMove::Set(channel) => push_setchan(into, channel),
+        ChannelMove::Drop(names) => push_dropped(into, names),
+    }
+}
+
+// Appends the records of what a request will do.
+fn push_planned(into: &mut Text, planned: &Planned) -> Result<(), NoMemory>
+    requires { CanRecord planned.now }
+    ensures { OnOk result (ArePushed (planned_writes planned.now) into.old into.new) }
+{
+    match planned {
+        Planned::Objects(plan) => push_move(into, &plan.action),
+        Planned::Channels(plan) => push_channel_move(into, &plan.action),
+        Planned::Subscribed(_) => Ok(()),
+    }
+}
+
+// Appends the records of what was made ready: of the dels of what is due, and of what is planned behind them.
+fn push_ready(into: &mut Text, ready: &Ready) -> Result<(), NoMemory>
+    requires { CanRecordIf ready.now.planned }
+    ensures { OnOk result (ArePushed (ready_writes ready.now) into.old into.new) }
+{
+    push_dels(into, ready.gone.held.as_slice())?;
+    match &ready.planned {
+        Some(planned) => push_planned(into, planned),
+        None => Ok(()),
+    }
+}
+
+// Writes the records into a text in place of what it had, and hands them to the ledger.
+fn hand_over<L: Ledger>(records: &mut Text, ready: &Ready, ledger: &mut L) -> Result<(), NoMemory>
+    requires { CanRecordIf ready.now.planned }
+    ensures ok { OnOk result (AreTaken L.takes (ready_writes ready.now) ledger.old ledger.new) }
+    ensures err { OnErr result ((ledger.new ≡ ledger.old) ⊎ L.stays ledger.old ledger.new) }
+{
+    records.truncate(0);
+    push_ready(records, ready)?;
+    ledger.take(records.bytes())
+}
+
+/// Hands the records of what was made ready to a ledger. They are written into a text that is kept for the next call, but where they
+/// were long.
+pub(crate) fn record_ready<L: Ledger>(
+    alloc: Global,
+    records: &mut Text,
+    ready: &Ready,
+    ledger: &mut L,
+) -> Result<(), NoMemory>
+    requires { CanRecordIf ready.now.planned }
+    ensures ok { OnOk result (AreTaken L.takes (ready_writes ready.now) ledger.old ledger.new) }
+    ensures err { OnErr result ((ledger.new ≡ ledger.old) ⊎ L.stays ledger.old ledger.new) }
+{
+    let taken = hand_over(records, ready, ledger);
+    if records.len() > MOST_KEPT {
+        *records = Text::new(alloc);
+    }
+    taken
+}
