@@ -4,18 +4,23 @@ ghost use Rattle.std.specs.Prelude.{◌≡◌, IfOk, IfSome, length, true};
 ghost use Rattle.std.specs.List.{list_all};
 ghost use Rattle.std.specs.Arc.{arc_value};
 ghost use Rattle.world_model.specs.Outcomes.{is_proper};
-ghost use Rattle.shared_hall.specs.Seats.{IsOf};
+ghost use Rattle.hall_trials.specs.Halls.{IsSeatOf};
 
 use byte_text::{Request, Text};
+use durable_core::DurableCore;
 use hall_turns::HallServe;
+use outside::PlainDisk;
 use shared_hall::{HallSeat, SharedHall};
 use std::alloc::{AllocError, Global};
+use std::snapshot::Snapshot;
 use std::sync::{Arc, Wait};
 use std::test::Fail;
 use std::thread;
 use std::thread::{JoinHandle, Threads};
-use tile_core::Core;
 use world_model::{Answers, Asked, AskedList, Called, Frames, HallApi, HallSplit, Taken, Touched};
+
+// What is answered to one who gets what was set at 1 2.
+const POINT: &str = "$36\r\n{\"type\":\"Point\",\"coordinates\":[2,1]}\r\n";
 
 // The request of a line's words, which are split at spaces. None for want of memory, or where the line is no test's.
 fn request(alloc: Global, line: &str) -> Option<Request> {
@@ -36,12 +41,12 @@ fn request(alloc: Global, line: &str) -> Option<Request> {
 fn taken<R: Wait>(
     rt: &R,
     alloc: Global,
-    hall: &SharedHall,
-    seat: &mut HallSeat,
+    hall: &SharedHall<PlainDisk>,
+    seat: &mut HallSeat<PlainDisk>,
     session: u32,
 ) -> Option<Text>
-    requires { IsOf hall.now seat.old }
-    ensures { IsOf hall.now seat.new }
+    requires { IsSeatOf hall.now seat.old }
+    ensures { IsSeatOf hall.now seat.new }
 {
     let mut frames = Frames::new(alloc).ok()?;
     hall.take(rt, seat, session, &mut frames);
@@ -72,13 +77,13 @@ fn asked_by(alloc: Global, line: &str) -> Option<AskedList>
 fn answered<R: Wait>(
     rt: &R,
     alloc: Global,
-    hall: &SharedHall,
-    seat: &mut HallSeat,
+    hall: &SharedHall<PlainDisk>,
+    seat: &mut HallSeat<PlainDisk>,
     session: u32,
     line: &str,
 ) -> Option<Text>
-    requires { IsOf hall.now seat.old }
-    ensures { IsOf hall.now seat.new }
+    requires { IsSeatOf hall.now seat.old }
+    ensures { IsSeatOf hall.now seat.new }
 {
     let asked = asked_by(alloc, line)?;
     let touched = Touched::new(alloc).ok()?;
@@ -93,17 +98,17 @@ fn answered<R: Wait>(
     taken(rt, alloc, hall, seat, session)
 }
 
-// What a session is answered to a line, by a take in the turn of its call.
-fn answered_at_once<R: Wait>(
+// How the take in the turn of a line's call ended, where one was made there, and the first of its frames, or nothing.
+fn served<R: Wait>(
     rt: &R,
     alloc: Global,
-    hall: &SharedHall,
-    seat: &mut HallSeat,
+    hall: &SharedHall<PlainDisk>,
+    seat: &mut HallSeat<PlainDisk>,
     session: u32,
     line: &str,
-) -> Option<Text>
-    requires { IsOf hall.now seat.old }
-    ensures { IsOf hall.now seat.new }
+) -> Option<(Option<Taken>, Text)>
+    requires { IsSeatOf hall.now seat.old }
+    ensures { IsSeatOf hall.now seat.new }
 {
     let asked = asked_by(alloc, line)?;
     let touched = Touched::new(alloc).ok()?;
@@ -117,19 +122,23 @@ fn answered_at_once<R: Wait>(
         touched,
         &mut frames,
     );
-    if taken != Some(Taken::Some(1)) || frames.is_empty() {
-        return None;
-    }
     let mut text = Text::new(alloc);
-    text.push(frames.at(0)).ok()?;
-    Some(text)
+    if !frames.is_empty() {
+        text.push(frames.at(0)).ok()?;
+    }
+    Some((taken, text))
 }
 
-// A hall of an empty world.
-fn hall_at(alloc: Global) -> Result<(SharedHall, HallSeat), Fail>
-    ensures { IfOk result (λ r. IsOf r.0 r.1) }
+// A hall over an empty disk, and its first seat.
+fn hall_at(alloc: Global) -> Result<(SharedHall<PlainDisk>, HallSeat<PlainDisk>), Fail>
+    ensures { IfOk result (λ r. IsSeatOf r.0 r.1) }
 {
-    match SharedHall::new(alloc, Core::new(alloc)) {
+    let disk = PlainDisk::new(alloc);
+    let handed = Snapshot::of(&disk);
+    let Ok(core) = DurableCore::open(alloc, disk) else {
+        return Err(Fail::from("an empty disk is opened"));
+    };
+    match SharedHall::new(alloc, core, handed) {
         Ok(made) => Ok(made),
         Err(_core) => Err(Fail::from(AllocError)),
     }
@@ -138,13 +147,13 @@ fn hall_at(alloc: Global) -> Result<(SharedHall, HallSeat), Fail>
 fn is_answered<R: Wait>(
     rt: &R,
     alloc: Global,
-    hall: &SharedHall,
-    seat: &mut HallSeat,
+    hall: &SharedHall<PlainDisk>,
+    seat: &mut HallSeat<PlainDisk>,
     line: &str,
     reply: &str,
 ) -> bool
-    requires { IsOf hall.now seat.old }
-    ensures { IsOf hall.now seat.new }
+    requires { IsSeatOf hall.now seat.old }
+    ensures { IsSeatOf hall.now seat.new }
 {
     let Ok(session) = hall.enter(rt, seat) else {
         return false;
@@ -159,18 +168,18 @@ fn is_answered<R: Wait>(
 fn start<R: Wait + Threads + Copy + Send + 'static>(
     rt: R,
     alloc: Global,
-    hall: &Arc<SharedHall>,
-    seat: &mut HallSeat,
+    hall: &Arc<SharedHall<PlainDisk>>,
+    seat: &mut HallSeat<PlainDisk>,
 ) -> Result<JoinHandle<bool>, Fail>
-    requires { IsOf (arc_value hall.now) seat.old }
-    ensures { IsOf (arc_value hall.now) seat.new }
+    requires { IsSeatOf (arc_value hall.now) seat.old }
+    ensures { IsSeatOf (arc_value hall.now) seat.new }
 {
     let mut own = hall.split(seat);
     let theirs = Arc::try_clone(hall)?;
     let child = thread::spawn(
         &rt,
         move || -> bool
-            requires { IsOf (arc_value theirs) own }
+            requires { IsSeatOf (arc_value theirs) own }
         {
             is_answered(
                 &rt,
@@ -185,16 +194,26 @@ fn start<R: Wait + Threads + Copy + Send + 'static>(
     Ok(child)
 }
 
+// What a session sets is taken in a turn of its own, which makes it stand; what it reads behind that, in the turn of the call.
 #[test]
-fn a_take_gives_the_replies_of_its_turn(rt: HostRuntime) -> Result<(), Fail> {
+fn a_take_comes_in_the_turn_of_a_call_that_leaves_nothing_pending(
+    rt: HostRuntime,
+) -> Result<(), Fail> {
     let alloc = rt.alloc();
     let (hall, mut seat) = hall_at(alloc)?;
-    let session = match hall.enter(&rt, &mut seat) {
-        Ok(session) => session,
-        Err(_) => return Err(Fail::from(AllocError)),
+    let Ok(session) = hall.enter(&rt, &mut seat) else {
+        return Err(Fail::from(AllocError));
     };
-    let text = answered_at_once(&rt, alloc, &hall, &mut seat, session, "PING");
-    assert!(rt; text.is_some_and(|text| text.bytes() == "+PONG\r\n".as_bytes()));
+    let set = served(&rt, alloc, &hall, &mut seat, session, "SET k a POINT 1 2");
+    assert!(rt; set.is_some_and(|(end, text)| end.is_none() && text.bytes().is_empty()));
+    let text = taken(&rt, alloc, &hall, &mut seat, session);
+    assert!(rt; text.is_some_and(|text| text.bytes() == b"+OK\r\n".as_slice()));
+    let got = served(&rt, alloc, &hall, &mut seat, session, "GET k a");
+    assert!(rt;
+        got.is_some_and(|(end, text)| {
+            end == Some(Taken::Some(1)) && text.bytes() == POINT.as_bytes()
+        })
+    );
     Ok(())
 }
 
@@ -206,8 +225,7 @@ fn what_one_thread_sets_another_reads(rt: HostRuntime) -> Result<(), Fail> {
     let child = start(rt, alloc, &hall, &mut seat)?;
     assert!(rt; child.join(&rt));
     let mut reader = hall.split(&mut seat);
-    let point = "$36\r\n{\"type\":\"Point\",\"coordinates\":[2,1]}\r\n";
-    assert!(rt; is_answered(&rt, alloc, &hall, &mut reader, "GET k a", point));
+    assert!(rt; is_answered(&rt, alloc, &hall, &mut reader, "GET k a", POINT));
     hall.join(&mut seat, reader);
     Ok(())
 }

@@ -2,21 +2,29 @@
 
 ghost use Rattle.std.specs.Prelude.{◌≡◌, IfOk};
 ghost use Rattle.std.specs.Arc.{arc_value};
-ghost use Rattle.shared_hall.specs.Seats.{IsOf};
 
-use outside::{Bell, Gate, PlainBell};
+use durable_core::DurableCore;
+use outside::{Bell, Gate, PlainBell, PlainDisk};
 use serve_run::Shared;
 use shared_hall::{HallSeat, SharedHall};
 use std::alloc::{AllocError, Global};
+use std::snapshot::Snapshot;
 use std::sync::{Arc, Wait};
 use std::test::Fail;
-use tile_core::Core;
+use world_model::HallApi;
 
-/// A hall of an empty world.
-pub(crate) fn hall_at(alloc: Global) -> Result<(Arc<SharedHall, Global>, HallSeat), Fail>
-    ensures { IfOk result (λ r. IsOf (arc_value r.0) r.1) }
+/// A hall over an empty disk, and its first seat.
+pub(crate) fn hall_at(
+    alloc: Global,
+) -> Result<(Arc<SharedHall<PlainDisk>, Global>, HallSeat<PlainDisk>), Fail>
+    ensures { IfOk result (λ r. ⟦<SharedHall<PlainDisk> as HallApi>⟧.is_of (arc_value r.0) r.1) }
 {
-    let Ok((hall, seat)) = SharedHall::new(alloc, Core::new(alloc)) else {
+    let disk = PlainDisk::new(alloc);
+    let handed = Snapshot::of(&disk);
+    let Ok(core) = DurableCore::open(alloc, disk) else {
+        return Err(Fail::from("an empty disk is opened"));
+    };
+    let Ok((hall, seat)) = SharedHall::new(alloc, core, handed) else {
         return Err(Fail::from(AllocError));
     };
     Ok((Arc::new(alloc, hall)?, seat))
@@ -25,9 +33,9 @@ pub(crate) fn hall_at(alloc: Global) -> Result<(Arc<SharedHall, Global>, HallSea
 /// A hall with its bells and a gate.
 pub(crate) fn shared_by<G: Drop>(
     alloc: Global,
-    hall: Arc<SharedHall, Global>,
+    hall: Arc<SharedHall<PlainDisk>, Global>,
     gate: G,
-) -> Result<Shared<SharedHall, PlainBell, G>, Fail>
+) -> Result<Shared<SharedHall<PlainDisk>, PlainBell, G>, Fail>
     ensures { IfOk result (λ s. arc_value s.hall ≡ arc_value hall) }
 {
     let bell = Arc::new(alloc, PlainBell::new())?;

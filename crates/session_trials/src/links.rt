@@ -1,18 +1,18 @@
 //! The server's loop with two callers.
 
 ghost use Rattle.std.specs.Arc.{arc_value};
-ghost use Rattle.shared_hall.specs.Seats.{IsOf};
 
 use crate::halls::{Crossing, hall_at, shared_by};
 use crate::texts::{MESSAGE, PING, PONG, SET, SETCHAN, SUBSCRIBED, push_line, push_times};
 use byte_text::Text;
-use outside::{Gate, HandClock, ListDoor, ListedSpawner, NoGate, PlainBell};
+use outside::{Gate, HandClock, ListDoor, ListedSpawner, NoGate, PlainBell, PlainDisk};
 use serve_run::{ServeEnd, Served, Shared, serve};
 use shared_hall::{HallSeat, SharedHall};
 use std::alloc::{AllocError, Global};
 use std::sync::Wait;
 use std::test::Fail;
 use std::thread::Threads;
+use world_model::HallApi;
 
 // Serves the callers of a door, where the start of this number is refused.
 fn serve_door<
@@ -21,19 +21,19 @@ fn serve_door<
 >(
     rt: &R,
     alloc: Global,
-    shared: &Shared<SharedHall, PlainBell, G>,
-    seat: &mut HallSeat,
+    shared: &Shared<SharedHall<PlainDisk>, PlainBell, G>,
+    seat: &mut HallSeat<PlainDisk>,
     door: &mut ListDoor,
     refused: u64,
 ) -> Result<Served, Fail>
-    requires { IsOf (arc_value shared.now.hall) seat.old }
+    requires { ⟦<SharedHall<PlainDisk> as HallApi>⟧.is_of (arc_value shared.now.hall) seat.old }
 {
     let mut spawner = ListedSpawner::new(alloc, [refused].to_vec(alloc)?);
     let clock = HandClock::at(0);
     Ok(serve(rt, alloc, shared, seat, door, &clock, &mut spawner, 9))
 }
 
-// The same on a hall of an empty world.
+// The same on a hall over an empty disk.
 fn serve_anew<
     G: Gate + Send + Sync + Drop + 'static,
     R: Wait + Threads + Copy + Send + Sync + 'static,

@@ -5,13 +5,12 @@ ghost use Rattle.std.specs.Arc.{arc_value};
 ghost use Rattle.std.specs.List.{list_all};
 ghost use Rattle.world_data.specs.Limits.{take_frames};
 ghost use Rattle.world_model.specs.Outcomes.{is_proper};
-ghost use Rattle.shared_hall.specs.Seats.{IsOf};
 
 use crate::halls::{hall_at, shared_by};
 use crate::texts::{MESSAGE, PING, PONG, SET, SETCHAN, SUBSCRIBED, push_line, push_times};
 use byte_text::Text;
 use crossbeam_channel::bounded;
-use outside::{BytesSink, BytesSource, HandClock, NoGate, PlainBell};
+use outside::{BytesSink, BytesSource, HandClock, NoGate, PlainBell, PlainDisk};
 use resp_frames::Requests;
 use serve_run::Shared;
 use session_run::{InEnd, OutEnd, Outlet, Writing, session_in, session_out};
@@ -49,13 +48,13 @@ fn outlet_of(alloc: Global, failing: u64) -> Result<Outlet<BytesSink>, Fail>
 fn alone<R: Wait>(
     rt: &R,
     alloc: Global,
-    shared: &Shared<SharedHall, PlainBell, NoGate>,
-    seat: &mut HallSeat,
+    shared: &Shared<SharedHall<PlainDisk>, PlainBell, NoGate>,
+    seat: &mut HallSeat<PlainDisk>,
     text: &Text,
     failing: u64,
 ) -> Result<Ended, Fail>
-    requires { IsOf (arc_value shared.now.hall) seat.old }
-    ensures { IsOf (arc_value shared.now.hall) seat.new }
+    requires { ⟦<SharedHall<PlainDisk> as HallApi>⟧.is_of (arc_value shared.now.hall) seat.old }
+    ensures { ⟦<SharedHall<PlainDisk> as HallApi>⟧.is_of (arc_value shared.now.hall) seat.new }
 {
     let Ok(session) = shared.hall.enter(rt, seat) else {
         return Err(Fail::from(AllocError));
@@ -94,7 +93,7 @@ fn left_by(alloc: Global, reading: InEnd, writing: Writing<BytesSink>) -> Result
     }
 }
 
-// The same on a hall of an empty world.
+// The same on a hall over an empty disk.
 fn alone_anew<R: Wait>(rt: &R, alloc: Global, text: &Text, failing: u64) -> Result<Ended, Fail> {
     let (hall, mut seat) = hall_at(alloc)?;
     let shared = shared_by(alloc, hall, NoGate)?;
@@ -146,9 +145,14 @@ fn asked_by(alloc: Global, line: &str) -> Option<AskedList>
 }
 
 // A session that subscribes to the yard.
-fn listener<R: Wait>(rt: &R, alloc: Global, hall: &SharedHall, seat: &mut HallSeat) -> Option<u32>
-    requires { IsOf hall.now seat.old }
-    ensures { IsOf hall.now seat.new }
+fn listener<R: Wait>(
+    rt: &R,
+    alloc: Global,
+    hall: &SharedHall<PlainDisk>,
+    seat: &mut HallSeat<PlainDisk>,
+) -> Option<u32>
+    requires { ⟦<SharedHall<PlainDisk> as HallApi>⟧.is_of hall.now seat.old }
+    ensures { ⟦<SharedHall<PlainDisk> as HallApi>⟧.is_of hall.now seat.new }
 {
     let session = hall.enter(rt, seat).ok()?;
     let asked = asked_by(alloc, "SUBSCRIBE yard")?;
@@ -169,12 +173,12 @@ fn listener<R: Wait>(rt: &R, alloc: Global, hall: &SharedHall, seat: &mut HallSe
 fn heard<R: Wait>(
     rt: &R,
     alloc: Global,
-    shared: &Shared<SharedHall, PlainBell, NoGate>,
-    seat: &mut HallSeat,
+    shared: &Shared<SharedHall<PlainDisk>, PlainBell, NoGate>,
+    seat: &mut HallSeat<PlainDisk>,
     session: u32,
 ) -> Result<(OutEnd, Vec<u8>), Fail>
-    requires { IsOf (arc_value shared.now.hall) seat.old }
-    ensures { IsOf (arc_value shared.now.hall) seat.new }
+    requires { ⟦<SharedHall<PlainDisk> as HallApi>⟧.is_of (arc_value shared.now.hall) seat.old }
+    ensures { ⟦<SharedHall<PlainDisk> as HallApi>⟧.is_of (arc_value shared.now.hall) seat.new }
 {
     let mut sink = BytesSink::new(alloc, 4096, Vec::new(alloc));
     let mut frames = Frames::new(alloc)?;
@@ -196,12 +200,12 @@ fn heard<R: Wait>(
 fn told<R: Wait>(
     rt: &R,
     alloc: Global,
-    shared: &Shared<SharedHall, PlainBell, NoGate>,
-    seat: &mut HallSeat,
+    shared: &Shared<SharedHall<PlainDisk>, PlainBell, NoGate>,
+    seat: &mut HallSeat<PlainDisk>,
     text: &Text,
 ) -> Result<(OutEnd, Vec<u8>), Fail>
-    requires { IsOf (arc_value shared.now.hall) seat.old }
-    ensures { IsOf (arc_value shared.now.hall) seat.new }
+    requires { ⟦<SharedHall<PlainDisk> as HallApi>⟧.is_of (arc_value shared.now.hall) seat.old }
+    ensures { ⟦<SharedHall<PlainDisk> as HallApi>⟧.is_of (arc_value shared.now.hall) seat.new }
 {
     let Some(session) = listener(rt, alloc, &*shared.hall, seat) else {
         return Err(Fail::from(AllocError));
@@ -210,7 +214,7 @@ fn told<R: Wait>(
     heard(rt, alloc, shared, seat, session)
 }
 
-// The same on a hall of an empty world.
+// The same on a hall over an empty disk.
 fn told_anew<R: Wait>(rt: &R, alloc: Global, text: &Text) -> Result<(OutEnd, Vec<u8>), Fail> {
     let (hall, mut seat) = hall_at(alloc)?;
     let shared = shared_by(alloc, hall, NoGate)?;

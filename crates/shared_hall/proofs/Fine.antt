@@ -1,16 +1,12 @@
--- No event ends by a failing log where the hall goes on.
+-- No event ends by a failing log where the hall goes on behind it.
 use Rattle.std.proofs.Common.{◌≡◌, Bool, true, false, refl, sym, ap, ◌∙◌, inl, inr, subst, true≢false}
 use Rattle.std.specs.Prelude.{Option, Some, None, if◌then◌else◌}
 use Rattle.world_model.specs.Halls.{Hall}
 use Rattle.world_model.specs.Histories.{Ending, Step, StepBy, refusal, refusal_going, when_stopped, answer, doing, is_log_fault, first_of, enter_tests, call_tests, take_tests, tick_tests}
 use Rattle.world_model.specs.declared.events.Event.{Event}
 use Rattle.world_model.specs.declared.events.Event.TheVariants.{Enter, Call, Take, Tick, Close, Remove, Rewrite, Retire}
-use Rattle.world_model.specs.declared.events.Called.TheVariants as called
-use Rattle.world_model.specs.declared.events.Outcome.TheVariants.{Answered}
 use Rattle.world_model.specs.declared.events.Outcome.{Outcome}
-use Rattle.world_model.specs.Seats.{Act}
 use Rattle.std.specs.Prelude.{List, [], ◌∷◌}
-use Rattle.shared_hall.specs.Turns.{LeadsBy}
 
 abbrev Fine : Option Ending → Type 0
 Fine None = Unit {0}
@@ -73,15 +69,14 @@ fine_by None old new event outcome is fine same (inl s) =
 fine_by None old new event outcome is fine same (inr (inl s)) = ap is_log_fault s.1.0
 fine_by None old new event outcome is fine same (inr (inr s)) = ap is_log_fault s.0 ∙ doing_fine old event
 
-pub is_fine : (old new : Hall) (event : Event) (outcome : Outcome) → new.stopped ≡ old.stopped → Step old event outcome new → is_log_fault outcome ≡ false
+is_fine : (old new : Hall) (event : Event) (outcome : Outcome) → new.stopped ≡ old.stopped → Step old event outcome new → is_log_fault outcome ≡ false
 is_fine old new event outcome same s = fine_by (refusal old event) old new event outcome refl (refusal_fine old event) same s
 
--- one event more
-pub one_act : (old new : Hall) (event : Event) (outcome : Outcome) → new.stopped ≡ old.stopped → Step old event outcome new → LeadsBy ((event, outcome) ∷ []) old new
-one_act old new event outcome same s = (new, s, is_fine old new event outcome same s, refl)
-
--- a rewriting where there is no log
-pub one_rewrite : (h : Hall) → h.stopped ≡ false → LeadsBy ((Rewrite, Answered called.Ok) ∷ []) h h
-one_rewrite h going =
-    let none : refusal h Rewrite ≡ None = ap (λ (b : Bool). if b then Some (when_stopped Rewrite, h) else refusal_going h Rewrite) going in
-    one_act h h Rewrite (Answered called.Ok) refl (subst (λ (r : Option Ending). StepBy r h Rewrite (Answered called.Ok) h) (sym none) (inr (inr (refl, refl))))
+pub goes_fine : (old new : Hall) (event : Event) (outcome : Outcome) → Step old event outcome new → new.stopped ≡ false → is_log_fault outcome ≡ false
+goes_fine old new event outcome s goes = by old.stopped refl
+  where
+    by : (b : Bool) → old.stopped ≡ b → is_log_fault outcome ≡ false
+    by true stops =
+        let same = (subst (λ (r : Option Ending). StepBy r old event outcome new) (refuses old event stops) s).1 in
+        absurd (true≢false (sym stops ∙ sym (ap (λ (n : Hall). n.stopped) same) ∙ goes))
+    by false going = is_fine old new event outcome (goes ∙ sym going) s

@@ -1,6 +1,6 @@
 -- Two seats of one hall, and what they show together.
 use Rattle.std.proofs.Common.{◌≡◌, ◌⊎◌, ◌<◌, ℕ, Bool, true, false, List, [], ◌∷◌, ◌++◌, length, refl, sym, ap, ◌∙◌, subst, inl, inr, ⊎_elim, true≢false, arith}
-use Rattle.std.specs.Prelude.{◌||◌, ◌&&◌, ◌==◌, not, nat_lt, if◌then◌else◌, unwrap_or, Option, Some}
+use Rattle.std.specs.Prelude.{◌||◌, ◌&&◌, ◌==◌, not, nat_lt, if◌then◌else◌, Option, Some}
 use Rattle.std.specs.List.{list_all, list_any}
 use Rattle.std.proofs.lemmas.Bool.Decides.{nat_tests}
 use mathlib.Core.List.{IsPrefix}
@@ -12,7 +12,8 @@ use Rattle.world_model.specs.Histories.{IsLegal}
 use Rattle.world_model.specs.Seats.{Knows, Begins, AreOfOne, IsJoined, are_ascending, are_apart, are_seen, is_among}
 use Rattle.world_model.specs.declared.events.Entry.{Entry}
 use Rattle.world_model.specs.declared.events.Opening.{Opening}
-use Rattle.shared_hall.specs.Seats.{no_opening, shown}
+use Rattle.shared_hall.specs.declared.places.Begun.{Begun}
+use Rattle.shared_hall.specs.Seats.{opening_in, shown}
 
 both : (a b : Bool) → a ≡ true → b ≡ true → (a && b) ≡ true
 both true b p q = q
@@ -33,7 +34,7 @@ all_within : (n : ℕ) (xs : List ℕ) → ((place : ℕ) → IsAmong place xs �
 all_within n [] p = refl
 all_within n (x ∷ xs) p = both (nat_lt x n) (list_all (λ q. nat_lt q n) xs) (is_later x n (p x (inl refl))) (all_within n xs (λ place among. p place (inr among)))
 
-pub they_are_seen : (k : Known Opening Entry) → OwnPlaces k → are_seen (shown k) ≡ true
+pub they_are_seen : {D : Type 0} (k : Known (Begun D) Entry) → OwnPlaces k → are_seen (shown k) ≡ true
 they_are_seen k own = all_within (length k.seen) k.mine own.are_seen
 
 same_number : (q p : ℕ) → (q == p) ≡ true → p ≡ q
@@ -90,18 +91,18 @@ either xs ys = by (nat_lt (length xs) (length ys))
     by true = inr refl
     by false = inl refl
 
-same_opening : (k l : Known Opening Entry) (o : Opening) → k.opening ≡ Some o → l.opening ≡ Some o → (shown k).opening ≡ (shown l).opening
-same_opening k l o p q = ap (λ (z : Option Opening). unwrap_or z no_opening) (p ∙ sym q)
+same_opening : {D : Type 0} (k l : Known (Begun D) Entry) (o : Begun D) → k.opening ≡ Some o → l.opening ≡ Some o → (shown k).opening ≡ (shown l).opening
+same_opening k l o p q = ap opening_in (p ∙ sym q)
 
 -- what a join tells
-pub record Joined (k l j : Known Opening Entry) : Type 0 where
+pub record Joined {D : Type 0} (k l j : Known (Begun D) Entry) : Type 0 where
   pub is : j ≡ joined_known k l
   pub left : IsPrefix k.seen j.seen
   pub right : IsPrefix l.seen j.seen
   pub apart : AreApart k l
 
-pub are_of_one : (k l j : Known Opening Entry) (o : Opening) → k.opening ≡ Some o → l.opening ≡ Some o → OwnPlaces k → OwnPlaces l → Joined k l j → AreOfOne (shown k) (shown l)
-are_of_one k l j o p q own own' t = record {
+pub are_of_one : {D : Type 0} (k l j : Known (Begun D) Entry) (o : Begun D) → k.opening ≡ Some o → l.opening ≡ Some o → OwnPlaces k → OwnPlaces l → Joined k l j → AreOfOne (shown k) (shown l)
+are_of_one {D} k l j o p q own own' t = record {
   opening = same_opening k l o p q;
   history = ⊎_elim (λ (e : longer k.seen l.seen ≡ k.seen). inr (begins l.seen k.seen (subst (λ (z : List Entry). IsPrefix l.seen z) (seen_is ∙ e) t.right)))
       (λ (e : longer k.seen l.seen ≡ l.seen). inl (begins k.seen l.seen (subst (λ (z : List Entry). IsPrefix k.seen z) (seen_is ∙ e) t.left))) (either k.seen l.seen);
@@ -111,29 +112,29 @@ are_of_one k l j o p q own own' t = record {
 }
   where
     seen_is : j.seen ≡ longer k.seen l.seen
-    seen_is = ap (λ (z : Known Opening Entry). z.seen) t.is
+    seen_is = ap (λ (z : Known (Begun D) Entry). z.seen) t.is
 
-pub is_joined : (k l j : Known Opening Entry) → Joined k l j → IsJoined (shown k) (shown l) (shown j)
-is_joined k l j t = record {
-  opening = ap (λ (z : Known Opening Entry). (shown z).opening) t.is;
+pub is_joined : {D : Type 0} (k l j : Known (Begun D) Entry) → Joined k l j → IsJoined (shown k) (shown l) (shown j)
+is_joined {D} k l j t = record {
+  opening = ap (λ (z : Known (Begun D) Entry). (shown z).opening) t.is;
   seen = ⊎_elim (λ (e : longer k.seen l.seen ≡ k.seen). inl (seen_is ∙ e)) (λ (e : longer k.seen l.seen ≡ l.seen). inr (seen_is ∙ e)) (either k.seen l.seen);
   begins = (begins k.seen j.seen t.left, begins l.seen j.seen t.right);
-  mine = λ p. ap (λ (z : Known Opening Entry). is_among z.mine p) t.is ∙ among_merged p k.mine l.mine;
-  first = ap (λ (z : Known Opening Entry). z.first) t.is;
+  mine = λ p. ap (λ (z : Known (Begun D) Entry). is_among z.mine p) t.is ∙ among_merged p k.mine l.mine;
+  first = ap (λ (z : Known (Begun D) Entry). z.first) t.is;
 }
   where
     seen_is : j.seen ≡ longer k.seen l.seen
-    seen_is = ap (λ (z : Known Opening Entry). z.seen) t.is
+    seen_is = ap (λ (z : Known (Begun D) Entry). z.seen) t.is
 
 -- of two legal histories the longer is one
-pub joined_legal : (k l j : Known Opening Entry) (o : Opening) → k.opening ≡ Some o → l.opening ≡ Some o → Joined k l j → IsLegal (shown k).opening k.seen → IsLegal (shown l).opening l.seen → IsLegal (shown j).opening j.seen
-joined_legal k l j o p q t a b =
-    let opens : (shown j).opening ≡ (shown k).opening = ap (λ (z : Known Opening Entry). (shown z).opening) t.is in
-    let seen_is : j.seen ≡ longer k.seen l.seen = ap (λ (z : Known Opening Entry). z.seen) t.is in
+pub joined_legal : {D : Type 0} (k l j : Known (Begun D) Entry) (o : Begun D) → k.opening ≡ Some o → l.opening ≡ Some o → Joined k l j → IsLegal (shown k).opening k.seen → IsLegal (shown l).opening l.seen → IsLegal (shown j).opening j.seen
+joined_legal {D} k l j o p q t a b =
+    let opens : (shown j).opening ≡ (shown k).opening = ap (λ (z : Known (Begun D) Entry). (shown z).opening) t.is in
+    let seen_is : j.seen ≡ longer k.seen l.seen = ap (λ (z : Known (Begun D) Entry). z.seen) t.is in
     subst (λ (z : Opening). IsLegal z j.seen) (sym opens)
     (⊎_elim (λ (e : longer k.seen l.seen ≡ k.seen). subst (λ (z : List Entry). IsLegal (shown k).opening z) (sym (seen_is ∙ e)) a)
     (λ (e : longer k.seen l.seen ≡ l.seen). subst (λ (z : List Entry). IsLegal (shown k).opening z) (sym (seen_is ∙ e)) (subst (λ (z : Opening). IsLegal z l.seen) (same_opening l k o q p) b)) (either k.seen l.seen))
 
 -- a seat that is split off has seen the same
-pub split_legal : (k l : Known Opening Entry) → l ≡ split_known k → IsLegal (shown k).opening k.seen → IsLegal (shown l).opening l.seen
-split_legal k l is h = subst (λ (z : Known Opening Entry). IsLegal (shown z).opening z.seen) (sym is) h
+pub split_legal : {D : Type 0} (k l : Known (Begun D) Entry) → l ≡ split_known k → IsLegal (shown k).opening k.seen → IsLegal (shown l).opening l.seen
+split_legal {D} k l is h = subst (λ (z : Known (Begun D) Entry). IsLegal (shown z).opening z.seen) (sym is) h

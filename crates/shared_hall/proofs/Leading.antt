@@ -1,63 +1,90 @@
--- What leads from one hall to another, act by act.
-use Rattle.std.proofs.Common.{◌≡◌, ℕ, Bool, true, false, List, [], ◌∷◌, ◌++◌, map, refl, sym, ap, ◌∙◌, subst, true≢false, le_refl}
+-- What leads from one state of a core to another, act by act.
+use Rattle.std.proofs.Common.{◌≡◌, ℕ, Bool, true, false, List, [], ◌∷◌, ◌++◌, length, map, take, refl, sym, ap, ◌∙◌, subst, inl, inr}
 use Rattle.std.specs.Prelude.{◌||◌}
-use mathlib.Core.List.{map-append}
+use Rattle.outside.specs.Sides.{Sides}
 use Rattle.world_model.specs.Halls.{Hall, NamesChanged}
-use Rattle.world_model.specs.Histories.{Leads, Reaches, IsLegal, Follows, opening_hall, is_log_fault, gives_disk}
+use Rattle.world_model.specs.Histories.{Step, Leads, Reaches, IsLegal, opening_hall, is_log_fault, gives_disk}
 use Rattle.world_model.specs.Laws.{StepsLeadToOne}
-use Rattle.world_model.specs.Seats.{Act, NamesChangedBy}
+use Rattle.world_model.specs.Seats.{Act, act_of, NamesChangedBy}
 use Rattle.world_model.specs.declared.events.Entry.{Entry}
 use Rattle.world_model.specs.declared.events.Opening.{Opening}
-use Rattle.shared_hall.specs.Turns.{entry_of, LeadsBy, Stands}
+use Rattle.log_record.specs.Journals.{Journal}
+use Rattle.shared_hall.specs.Times.{is_retire}
+use Rattle.shared_hall.specs.Turns.{StepsBy}
+use Rattle.shared_hall.specs.Standing.{IsAct, FrontBy, EndsBy, TurnBy, Stands}
 
-pub leads_more : (a b : List Act) (h k l : Hall) → LeadsBy a h k → LeadsBy b k l → LeadsBy (a ++ b) h l
-leads_more [] b h k l p q = subst (λ (z : Hall). LeadsBy b z l) p q
-leads_more (x ∷ a) b h k l p q = (p.0, p.1, p.2, leads_more a b p.0 k l p.3 q)
+module _ {S D : Type 0} (hall : S → Hall) (disk : S → D) (is_out : S → Bool) (is_log : S → Journal → Type 0)
+    (crashes : D → Bool) (images : D → Sides → Type 0) (moment : D → ℕ) (left_since : D → ℕ → Sides → Type 0) (faults : D → ℕ) where
+  abbrev Acted : S → S → Act → Type 0
+  Acted = IsAct hall disk is_out is_log crashes images moment left_since faults
 
-pub stands_more : (k l : Hall) (acts : List Act) → l.stopped ≡ k.stopped → LeadsBy acts k l → (o : Opening) (log : List Entry) → Stands k o log → Stands l o (log ++ map entry_of acts)
-stands_more k l acts same p o log s = record {
-  made = s.made ++ acts;
-  log_is = ap (λ (z : List Entry). z ++ map entry_of acts) s.log_is ∙ sym (map-append entry_of s.made acts);
-  leads = leads_more s.made acts (opening_hall o.world o.logged) k l s.leads p;
-  going = same ∙ s.going;
-  sound = s.sound;
-  moment = s.moment;
-  count = s.count;
-}
+  abbrev Fronted : List Act → S → S → Type 0
+  Fronted = FrontBy hall disk is_out is_log crashes images moment left_since faults
 
-follows : (is_out : Bool) (a : Act) → is_log_fault a.1 ≡ false → Follows 0 0 is_out (entry_of a)
-follows is_out a fine = record {
-  later = le_refl 0;
-  not_fallen = le_refl 0;
-  moment_stays = λ _. refl;
-  count_stays = λ _. refl;
-  cause = λ failed. absurd (true≢false (sym failed ∙ fine));
-  note = refl;
-}
+  abbrev Turned : List Act → D → S → S → Type 0
+  Turned = TurnBy hall disk is_out is_log crashes images moment left_since faults
 
-leads_on : (acts : List Act) (is_out : Bool) (h k : Hall) → LeadsBy acts h k → Leads h 0 0 is_out (map entry_of acts) k
-leads_on [] is_out h k p = p
-leads_on (a ∷ acts) is_out h k p = (p.0, p.1, follows is_out a p.2, leads_on acts (is_out || gives_disk (entry_of a)) p.0 k p.3)
+  -- one act more in front
+  pub front_more : (acts : List Act) (a : Act) (old mid new : S) → Fronted acts old mid → Acted mid new a → is_log_fault a.1 ≡ false → is_retire a.0 ≡ false → Fronted (acts ++ a ∷ []) old new
+  front_more [] a old mid new made act fine stays = subst (λ (s : S). Fronted (a ∷ []) s new) made (new, act, fine, stays, refl)
+  front_more (b ∷ acts) a old mid new made act fine stays = (made.0, made.1, made.2, made.3, front_more acts a made.0 mid new made.4 act fine stays)
 
-pub reaches : (h : Hall) (o : Opening) (log : List Entry) → Stands h o log → Reaches o log h
-reaches h o log s =
-    let start = opening_hall o.world o.logged in
-    subst (λ (z : List Entry). Leads start o.moment o.count false z h) (sym s.log_is)
-    (subst (λ (m : ℕ). Leads start m o.count false (map entry_of s.made) h) (sym s.moment)
-    (subst (λ (c : ℕ). Leads start 0 c false (map entry_of s.made) h) (sym s.count) (leads_on s.made false start h s.leads)))
+  -- one act behind others
+  pub turn_more : (acts : List Act) (a : Act) (begun : D) (old mid new : S) → Fronted acts old mid → begun ≡ disk mid → Acted mid new a → Turned (acts ++ a ∷ []) begun old new
+  turn_more acts a begun old mid new made began act = inr (record { front = acts; last = a; are = refl; mid = mid; made = made; began = began; act = act })
 
-pub is_legal : (h : Hall) (o : Opening) (log : List Entry) → Stands h o log → IsLegal o log
-is_legal h o log s = record { opening = s.sound; hall = h; reached = reaches h o log s }
+  -- or alone
+  pub one_act : (a : Act) (begun : D) (old new : S) → begun ≡ disk old → Acted old new a → Turned (a ∷ []) begun old new
+  one_act a begun old new began act = inr (record { front = []; last = a; are = refl; mid = old; made = refl; began = began; act = act })
+
+  pub no_act : (begun : D) (old new : S) → new ≡ old → Turned [] begun old new
+  no_act begun old new same = inl (refl, same)
+
+  pub front_steps : (acts : List Act) (old new : S) → Fronted acts old new → StepsBy acts (hall old) (hall new)
+  front_steps [] old new made = ap hall made
+  front_steps (a ∷ acts) old new made = (hall made.0, made.1.step, front_steps acts made.0 new made.4)
+
+  pub turn_steps : (acts : List Act) (begun : D) (old new : S) → Turned acts begun old new → StepsBy acts (hall old) (hall new)
+  turn_steps acts begun old new (inl none) = subst (λ (l : List Act). StepsBy l (hall old) (hall new)) (sym none.0) (ap hall none.1)
+  turn_steps acts begun old new (inr e) = subst (λ (l : List Act). StepsBy l (hall old) (hall new)) (sym e.are) (behind e.front (hall old) (front_steps e.front old e.mid e.made))
+    where
+      behind : (front : List Act) (h : Hall) → StepsBy front h (hall e.mid) → StepsBy (front ++ e.last ∷ []) h (hall new)
+      behind [] h steps = (hall new, subst (λ (g : Hall). Step g e.last.0 e.last.1 (hall new)) steps e.act.step, refl)
+      behind (b ∷ front) h steps = (steps.0, steps.1, behind front steps.0 steps.2)
+
+-- acts lead to one hall
+steps_to_one : StepsLeadToOne → (acts : List Act) (h k l : Hall) → StepsBy acts h k → StepsBy acts h l → k ≡ l
+steps_to_one one [] h k l p q = p ∙ sym q
+steps_to_one one (a ∷ acts) h k l p q =
+    steps_to_one one acts p.0 k l p.2 (subst (λ (z : Hall). StepsBy acts z l) (one h q.0 p.0 a.0 a.1 q.1 p.1) q.2)
+
+-- entries lead as their acts do
+leads_by : (es : List Entry) (h k : Hall) (m c : ℕ) (is_out : Bool) → Leads h m c is_out es k → StepsBy (map act_of es) h k
+leads_by [] h k m c is_out p = p
+leads_by (e ∷ es) h k m c is_out p = (p.0, p.1, leads_by es p.0 k e.moment e.count (is_out || gives_disk e) p.3)
 
 -- a history leads to one hall
-leads_to_one : StepsLeadToOne → (log : List Entry) (h : Hall) (m c : ℕ) (is_out : Bool) (k l : Hall) → Leads h m c is_out log k → Leads h m c is_out log l → k ≡ l
-leads_to_one one [] h m c is_out k l p q = p ∙ sym q
-leads_to_one one (e ∷ log) h m c is_out k l p q =
-    let is_out' = is_out || gives_disk e in
-    leads_to_one one log p.0 e.moment e.count is_out' k l p.3 (subst (λ (z : Hall). Leads z e.moment e.count is_out' log l) (one h q.0 p.0 e.event e.outcome q.1 p.1) q.3)
-
-pub names_changed : StepsLeadToOne → (o : Opening) (before entries : List Entry) (k l : Hall) (named : List ℕ) → Stands k o before → Stands l o (before ++ entries) → NamesChanged named k l → NamesChangedBy o before entries named
-names_changed one o before entries k l named p q names = λ old new r r'.
+pub leads_to_one : StepsLeadToOne → (o : Opening) (log : List Entry) (k l : Hall) → Reaches o log k → Reaches o log l → k ≡ l
+leads_to_one one o log k l p q =
     let start = opening_hall o.world o.logged in
-    subst (λ (z : Hall). NamesChanged named z new) (leads_to_one one before start o.moment o.count false k old (reaches k o before p) r)
-    (subst (λ (z : Hall). NamesChanged named k z) (leads_to_one one (before ++ entries) start o.moment o.count false l new (reaches l o (before ++ entries) q) r') names)
+    steps_to_one one (map act_of log) start k l (leads_by log start k o.moment o.count false p) (leads_by log start l o.moment o.count false q)
+
+-- and with more entries behind it through the hall that it leads to
+leads_through : StepsLeadToOne → (before es : List Entry) (h k l : Hall) (m c : ℕ) (is_out : Bool) → Leads h m c is_out before k → Leads h m c is_out (before ++ es) l → StepsBy (map act_of es) k l
+leads_through one [] es h k l m c is_out p q = subst (λ (z : Hall). StepsBy (map act_of es) z l) (sym p) (leads_by es h l m c is_out q)
+leads_through one (e ∷ before) es h k l m c is_out p q =
+    leads_through one before es p.0 k l e.moment e.count (is_out || gives_disk e) p.3
+    (subst (λ (z : Hall). Leads z e.moment e.count (is_out || gives_disk e) (before ++ es) l) (one h q.0 p.0 e.event e.outcome q.1 p.1) q.3)
+
+-- who names the sessions that differ between two halls, names those that the entries between them changed
+pub names_changed : StepsLeadToOne → (o : Opening) (before es : List Entry) (acts : List Act) (k l : Hall) (named : List ℕ) → map act_of es ≡ acts → Reaches o before k → StepsBy acts k l
+    → NamesChanged named k l → NamesChangedBy o before es named
+names_changed one o before es acts k l named are p steps names = λ old new r r'.
+    let start = opening_hall o.world o.logged in
+    let here = leads_to_one one o before k old p r in
+    let there = steps_to_one one acts k l new steps (subst (λ (a : List Act). StepsBy a k new) are (leads_through one before es start k new o.moment o.count false p r')) in
+    subst (λ (z : Hall). NamesChanged named z new) here (subst (λ (z : Hall). NamesChanged named k z) there names)
+
+-- the acts between two halls to which a history leads
+pub steps_between : StepsLeadToOne → (o : Opening) (before es : List Entry) (k l : Hall) → Reaches o before k → Reaches o (before ++ es) l → StepsBy (map act_of es) k l
+steps_between one o before es k l p q = leads_through one before es (opening_hall o.world o.logged) k l o.moment o.count false p q

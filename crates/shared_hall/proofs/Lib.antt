@@ -1,3 +1,4 @@
+mod Acting
 mod Adding
 mod AnswerKinds
 mod Calling
@@ -5,4 +6,9 @@ pub mod Crosses
 mod Fine
 mod Joining
 mod Leading
+mod Once
 mod Opening
+mod Raising
+mod Retiring
+mod Standing
+mod Turning

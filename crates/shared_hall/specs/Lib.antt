@@ -1,2 +1,6 @@
+pub mod Times
+pub mod Standing
+pub mod Cores
+pub mod OpeningLaws
 pub mod Turns
 pub mod Seats

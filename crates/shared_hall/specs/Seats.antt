@@ -1,5 +1,7 @@
 -- Whose seat a seat is, and what it shows.
-use Rattle.std.specs.Prelude.{◌≡◌, ℕ, Option, List, [], ◌++◌, true, map, unwrap_or}
+use Rattle.std.specs.List.{list_any}
+use Rattle.shared_hall.specs.Times.{is_retirement}
+use Rattle.std.specs.Prelude.{◌≡◌, ℕ, Bool, true, Option, None, Some, List, [], ◌++◌, take, length}
 use Rattle.atomic_table.specs.declared.shared.Seat.{Seat}
 use Rattle.turn_lock.specs.declared.lock.TurnLock.{TurnLock}
 use Rattle.turn_lock.specs.declared.seat.Held.{Held}
@@ -7,50 +9,69 @@ use Rattle.turn_lock.specs.declared.seat.Known.{Known}
 use Rattle.turn_lock.specs.declared.seat.View.{View}
 use Rattle.turn_lock.specs.Lock.{IsSeatOf}
 use Rattle.turn_lock.specs.Seats.{OwnPlaces, known_of}
+use Rattle.outside.specs.Sides.{Sides}
 use Rattle.world_data.specs.Worlds.{empty_world}
-use Rattle.world_model.specs.Histories.{IsLegal}
+use Rattle.world_model.specs.Histories.{IsLegal, Reaches}
 use Rattle.world_model.specs.Halls.{Hall, NamesChanged}
 use Rattle.world_model.specs.Seats.{Act, Knows, AddsCalls, NamesChangedBy}
 use Rattle.world_model.specs.declared.events.Entry.{Entry}
 use Rattle.world_model.specs.declared.events.Opening.{Opening}
-use Rattle.shared_hall.specs.declared.values.HallCore.{HallCore}
+use Rattle.durable_core.specs.declared.cores.DurableCore.{DurableCore}
+use Rattle.durable_core.specs.Logged.{hall_of, disk_of}
+use Rattle.shared_hall.specs.declared.places.HallCore.{HallCore}
+use Rattle.shared_hall.specs.declared.places.Place.{Place}
+use Rattle.shared_hall.specs.declared.places.Begun.{Begun}
 use Rattle.shared_hall.specs.declared.works.HallWork.{HallWork}
 use Rattle.shared_hall.specs.declared.works.HallAnswer.{HallAnswer}
 use Rattle.shared_hall.specs.declared.halls.SharedHall.{SharedHall}
-use Rattle.shared_hall.specs.Turns.{acts, entry_of, opening_at, Gives, LeadsBy}
+use Rattle.shared_hall.specs.Cores.{begun, hall_in, has_left, opening_with, tells, StandsIn}
+use Rattle.shared_hall.specs.Turns.{acts, Gives, StepsBy}
 
-abbrev pub LockSeat : Type 0
-LockSeat = Seat (Option (Held HallCore HallWork HallAnswer)) (View Opening Entry HallWork)
+abbrev pub LockSeat : Type 0 → Type 0
+LockSeat D = Seat (Option (Held (HallCore D) HallWork (HallAnswer D))) (View (Begun D) Entry HallWork)
 
 -- a seat of a hall has its opening; this one stands for none
 abbrev pub no_opening : Opening
 no_opening = record { world = empty_world; logged = 0; moment = 0; count = 0 }
 
-abbrev pub shown : Known Opening Entry → Knows
-shown k = record { opening = unwrap_or k.opening no_opening; seen = k.seen; mine = k.mine; first = k.first }
+abbrev pub opening_in : {D : Type 0} → Option (Begun D) → Opening
+opening_in None = no_opening
+opening_in (Some b) = b.opening
+
+abbrev pub shown : {D : Type 0} → Known (Begun D) Entry → Knows
+shown k = record { opening = opening_in k.opening; seen = k.seen; mine = k.mine; first = k.first }
 
 -- what the seat shows
-abbrev pub knows_of : LockSeat → Knows
+abbrev pub knows_of : {D : Type 0} → LockSeat D → Knows
 knows_of s = shown (known_of s)
 
--- the seat is one of this hall; what it has seen is a legal history, and its own entries stand there in order
-pub record IsOf (hall : SharedHall) (s : LockSeat) : Type 0 where
-  pub seat : IsSeatOf (λ (k : HallCore). opening_at k.core.hall) hall.lock s
-  pub own : OwnPlaces (known_of s)
-  pub legal : IsLegal (knows_of s).opening (knows_of s).seen
+-- the disk that was handed in, as it was then
+abbrev pub handed_of : {D : Type 0} → SharedHall D → D
+handed_of hall = hall.lock.table.shared.key.value.handed.value
 
--- the first seat of a hall that has no history yet
-abbrev pub first_knows : Knows
-first_knows = record { opening = no_opening; seen = []; mine = []; first = true }
+module _ {D : Type 0} (crashes : D → Bool) (seen : D → Option Sides) (images : D → Sides → Type 0) (moment : D → ℕ) (left_since : D → ℕ → Sides → Type 0) (faults : D → ℕ) where
+  -- the seat is one of this hall; what it has seen is a legal history, and its own entries stand there in order
+  pub record IsOf (hall : SharedHall D) (s : LockSeat D) : Type 0 where
+    pub seat : IsSeatOf (begun crashes seen images moment left_since faults) hall.lock s
+    pub own : OwnPlaces (known_of s)
+    pub legal : IsLegal (knows_of s).opening (knows_of s).seen
 
--- a turn did a work once, between two halls: its acts are entries of the seat's own, and who names the sessions that differ names all
--- that the entries changed; so too of the first acts alone
-pub record IsDone (w : HallWork) (out : HallAnswer) (old new : Knows) : Type 0 where
-  pub before : Hall
-  pub after : Hall
-  pub gives : Gives w before out after
-  pub adds : AddsCalls (acts w out) old new
-  pub names : (named : List ℕ) → NamesChanged named before after → NamesChangedBy new.opening (old.seen ++ adds.between) adds.entries named
-  pub made : adds.entries ≡ map entry_of (acts w out)
-  pub front : (calls rest : List Act) → acts w out ≡ calls ++ rest → (mid : Hall) → LeadsBy calls before mid → mid.stopped ≡ before.stopped → (named : List ℕ) → NamesChanged named before mid
-      → NamesChangedBy new.opening (old.seen ++ adds.between) (map entry_of calls) named
+  -- the first seat of a hall round a core that has no history yet
+  abbrev pub first_knows : DurableCore D → D → Knows
+  first_knows c handed = record { opening = opening_with crashes seen images moment left_since faults handed (hall_of c) (disk_of c); seen = []; mine = []; first = true }
+
+  -- A turn did a work once, between two states of the core: its acts are entries of the seat's own, and who names the sessions that differ
+  -- names all that the entries changed; so too of the first acts alone. The core stands for all that is seen before and behind it. The
+  -- first seat has seen whether the disk was given out before.
+  pub record IsDone (handed : D) (w : HallWork) (out : HallAnswer D) (old new : Knows) : Type 0 where
+    pub before : Place D
+    pub after : Place D
+    pub gives : Gives crashes seen images moment left_since faults w before out after
+    pub adds : AddsCalls (acts w out) old new
+    pub names : (named : List ℕ) → NamesChanged named (hall_in before) (hall_in after) → NamesChangedBy new.opening (old.seen ++ adds.between) adds.entries named
+    pub front : (calls rest : List Act) → acts w out ≡ calls ++ rest → (mid : Hall) → StepsBy calls (hall_in before) mid → (named : List ℕ) → NamesChanged named (hall_in before) mid
+        → NamesChangedBy new.opening (old.seen ++ adds.between) (take (length calls) adds.entries) named
+    pub stood : StandsIn crashes seen images moment left_since faults (tells crashes seen handed) before new.opening (old.seen ++ adds.between)
+    pub stands : StandsIn crashes seen images moment left_since faults (tells crashes seen handed) after new.opening new.seen
+    pub one : (h : Hall) → Reaches new.opening new.seen h → h ≡ hall_in after
+    pub once : old.first ≡ true → list_any is_retirement old.seen ≡ has_left before

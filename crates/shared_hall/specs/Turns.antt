@@ -1,77 +1,95 @@
--- What the works of a hall do, and the histories that a hall stands for.
-use Rattle.std.specs.Prelude.{◌≡◌, ℕ, false, List, [], ◌∷◌, ◌++◌, length, map}
+-- What the works of a hall do.
+use Rattle.std.specs.Prelude.{◌≡◌, ℕ, Bool, true, false, List, [], ◌∷◌, ◌++◌, length, Option, Some, None}
+use Rattle.outside.specs.Crashes.{EachImage}
+use Rattle.outside.specs.Sides.{Sides}
 use Rattle.world_data.specs.Limits.{take_frames}
-use Rattle.world_data.specs.Sound.{IsSoundWorld}
 use Rattle.world_model.specs.Halls.{Hall, NamesChanged}
-use Rattle.world_model.specs.Histories.{Step, opening_hall, is_log_fault}
+use Rattle.world_model.specs.Histories.{Step}
 use Rattle.world_model.specs.Outcomes.{enter_outcome, take_outcome, given_count, call_acts, IsCount}
 use Rattle.world_model.specs.Seats.{Act}
+use Rattle.world_model.specs.declared.events.Called.{Called}
+use Rattle.world_model.specs.declared.events.Called.TheVariants as called
 use Rattle.world_model.specs.declared.events.Event.TheVariants as event
+use Rattle.world_model.specs.declared.events.Outcome.{Outcome}
 use Rattle.world_model.specs.declared.events.Outcome.TheVariants as outcome
 use Rattle.world_model.specs.declared.events.Entry.{Entry}
-use Rattle.world_model.specs.declared.events.Opening.{Opening}
+use Rattle.hall_turns.specs.Turns.{take_acts, taken_count}
+use Rattle.log_record.specs.Journals.{Journal}
+use Rattle.log_record.specs.Recovery.{Recovers}
+use Rattle.shared_hall.specs.Cores.{hall_in, disk_in, has_left, KeepsIn, time_with}
+use Rattle.shared_hall.specs.Times.{entries_at}
+use Rattle.shared_hall.specs.declared.places.HallCore.{HallCore}
+use Rattle.shared_hall.specs.declared.places.Place.{Place}
 use Rattle.shared_hall.specs.declared.works.HallWork.{HallWork}
 use Rattle.shared_hall.specs.declared.works.HallWork.TheVariants as work
 use Rattle.shared_hall.specs.declared.works.HallAnswer.{HallAnswer}
 use Rattle.shared_hall.specs.declared.works.HallAnswer.TheVariants as answer
 
--- there is no disk, so its moment and its count of faults stand at 0
-abbrev pub entry_of : Act → Entry
-entry_of a = record { event = a.0; outcome = a.1; note = []; moment = 0; count = 0 }
-
-abbrev pub opening_at : Hall → Opening
-opening_at h = record { world = h.world; logged = h.logged; moment = 0; count = 0 }
+-- how a retirement ended: Stopped where the disk was given out before
+abbrev pub retire_outcome : {D : Type 0} → Option (D × Called) → Outcome
+retire_outcome None = outcome.Answered called.Stopped
+retire_outcome (Some given) = outcome.Answered given.1
 
 -- what the works and their answers make entries of
-abbrev pub acts : HallWork → HallAnswer → List Act
+abbrev pub acts : {D : Type 0} → HallWork → HallAnswer D → List Act
 acts work.Enter (answer.Entered r) = (event.Enter, enter_outcome r) ∷ []
 acts (work.Call w) (answer.Called a asked touched) = call_acts w.session w.moment w.asked a.served a.end
 acts (work.Take w) (answer.Taken t into) = (event.Take w.session, take_outcome t into.list) ∷ []
-acts (work.Serve w) (answer.Served a asked touched t into) = call_acts w.asking.session w.asking.moment w.asking.asked a.served a.end ++ (event.Take w.asking.session, take_outcome t into.list) ∷ []
+acts (work.Serve w) (answer.Served a asked touched t into) = call_acts w.asking.session w.asking.moment w.asking.asked a.served a.end ++ take_acts w.asking.session t into.list
 acts (work.Tick w) (answer.Ticked c touched) = (event.Tick w.moment, outcome.Answered c) ∷ []
 acts (work.Close n) answer.Done = (event.Close n, outcome.Done) ∷ []
 acts (work.Remove n) answer.Done = (event.Remove n, outcome.Done) ∷ []
 acts work.StepRewrite (answer.Rewrote c) = (event.Rewrite, outcome.Answered c) ∷ []
+acts work.Retire (answer.Retired given) = (event.Retire, retire_outcome given) ∷ []
 acts _ _ = []
 
-abbrev pub entries_of : HallWork → HallAnswer → List Entry
-entries_of w out = map entry_of (acts w out)
+-- a work that only the first seat hands in
+abbrev pub retires : HallWork → Bool
+retires work.Retire = true
+retires w = false
 
--- these acts lead from a hall to another, and in none did the log fail
-abbrev pub LeadsBy : List Act → Hall → Hall → Type 0
-LeadsBy [] old new = new ≡ old
-LeadsBy (a ∷ more) old new = (next : Hall) × Step old a.0 a.1 next × (is_log_fault a.1 ≡ false) × LeadsBy more next new
+-- these acts lead from a hall to another
+abbrev pub StepsBy : List Act → Hall → Hall → Type 0
+StepsBy [] old new = new ≡ old
+StepsBy (a ∷ more) old new = (next : Hall) × Step old a.0 a.1 next × StepsBy more next new
 
 -- calls led to a hall where who was changed is named
 pub record CallsNamed (calls : List Act) (named : List ℕ) (old : Hall) : Type 0 where
   pub mid : Hall
-  pub leads : LeadsBy calls old mid
-  pub stopped : mid.stopped ≡ old.stopped
+  pub steps : StepsBy calls old mid
   pub names : NamesChanged named old mid
 
--- each work has an answer of its own kind, with what the work had brought
-abbrev pub Gives : HallWork → Hall → HallAnswer → Hall → Type 0
-Gives work.Enter old (answer.Entered r) new = Unit {0}
-Gives (work.Call w) old (answer.Called a asked touched) new = (asked ≡ w.asked) × IsCount a.served a.end (length w.asked) × NamesChanged touched old new
-Gives (work.Take w) old (answer.Taken t into) new = (length into.list ≡ given_count t) × (into.places ≡ take_frames)
-Gives (work.Serve w) old (answer.Served a asked touched t into) new =
-    (asked ≡ w.asking.asked)
-    × IsCount a.served a.end (length w.asking.asked)
-    × CallsNamed (call_acts w.asking.session w.asking.moment w.asking.asked a.served a.end) touched old
-    × (length into.list ≡ given_count t)
-    × (into.places ≡ take_frames)
-Gives (work.Tick w) old (answer.Ticked c touched) new = NamesChanged touched old new
-Gives (work.Close n) old answer.Done new = Unit {0}
-Gives (work.Remove n) old answer.Done new = Unit {0}
-Gives work.StepRewrite old (answer.Rewrote c) new = Unit {0}
-Gives _ _ _ _ = ⊥
+module _ {D : Type 0} (crashes : D → Bool) (seen : D → Option Sides) (images : D → Sides → Type 0) (moment : D → ℕ) (left_since : D → ℕ → Sides → Type 0) (faults : D → ℕ) where
+  -- the entries of a work, by the value afterwards
+  abbrev pub entries_of : HallWork → HallAnswer D → HallCore D → List Entry
+  entries_of w out h = entries_at
+      (time_with crashes seen images moment left_since faults h.handed.value (disk_in h.before.value))
+      (time_with crashes seen images moment left_since faults h.handed.value (disk_in h.place)) (acts w out)
 
--- the history, from an opening with a sound world on, leads to this hall, which has not stopped
-pub record Stands (h : Hall) (o : Opening) (log : List Entry) : Type 0 where
-  pub made : List Act
-  pub log_is : log ≡ map entry_of made
-  pub leads : LeadsBy made (opening_hall o.world o.logged) h
-  pub going : h.stopped ≡ false
-  pub sound : IsSoundWorld o.world
-  pub moment : o.moment ≡ 0
-  pub count : o.count ≡ 0
+  -- the disk is given out once; where all was committed before, whatever a crash may leave of it is the hall's world
+  abbrev pub GivesOut : Place D → Option (D × Called) → Place D → Type 0
+  GivesOut old None new = has_left old ≡ true
+  GivesOut old (Some given) new =
+      (has_left old ≡ false)
+      × (has_left new ≡ true)
+      × (disk_in new ≡ given.0)
+      × ((j : Journal) → KeepsIn crashes seen images old j → crashes (disk_in old) ≡ true → given.1 ≡ called.Ok
+      → EachImage (images given.0) (λ image. Recovers image (hall_in new).world))
+
+  -- each work has an answer of its own kind, with what the work had brought
+  abbrev pub Gives : HallWork → Place D → HallAnswer D → Place D → Type 0
+  Gives work.Enter old (answer.Entered r) new = Unit {0}
+  Gives (work.Call w) old (answer.Called a asked touched) new = (asked ≡ w.asked) × IsCount a.served a.end (length w.asked) × NamesChanged touched (hall_in old) (hall_in new)
+  Gives (work.Take w) old (answer.Taken t into) new = (length into.list ≡ given_count t) × (into.places ≡ take_frames)
+  Gives (work.Serve w) old (answer.Served a asked touched t into) new =
+      (asked ≡ w.asking.asked)
+      × IsCount a.served a.end (length w.asking.asked)
+      × CallsNamed (call_acts w.asking.session w.asking.moment w.asking.asked a.served a.end) touched (hall_in old)
+      × (length into.list ≡ taken_count t)
+      × (into.places ≡ take_frames)
+  Gives (work.Tick w) old (answer.Ticked c touched) new = NamesChanged touched (hall_in old) (hall_in new)
+  Gives (work.Close n) old answer.Done new = Unit {0}
+  Gives (work.Remove n) old answer.Done new = Unit {0}
+  Gives work.StepRewrite old (answer.Rewrote c) new = Unit {0}
+  Gives work.Retire old (answer.Retired given) new = GivesOut old given new
+  Gives _ _ _ _ = ⊥

@@ -5,41 +5,43 @@ ghost use Rattle.std.specs.List.{list_all};
 ghost use Rattle.world_data.specs.Limits.{max_moment};
 ghost use Rattle.world_model.specs.Outcomes.{is_proper, call_acts, IsCount};
 ghost use Rattle.world_model.specs.Halls.{NamesChanged};
-ghost use Rattle.shared_hall.specs.Turns.{acts, Gives, LeadsBy};
+ghost use Rattle.shared_hall.specs.Cores.{hall_in, disk_in, ActsInFront, TurnsBy};
+ghost use Rattle.shared_hall.specs.Turns.{acts, Gives};
 ghost use Rattle.shared_hall.specs.declared.works.HallWork.TheVariants as work;
 
-use crate::values::HallCore;
+use crate::places::HallCore;
 use crate::works::{Asking, HallAnswer, HallWork, Serving, Taking, Ticking};
-use tile_core::Core;
+use outside::Disk;
 use turn_lock::Work;
 use world_model::{Answers, AskedList, Called, Touched};
 
-impl Work<HallCore> for HallWork {
-    type Out = HallAnswer;
+impl<D: Disk + Drop> Work<HallCore<D>> for HallWork {
+    type Out = HallAnswer<D>;
 
     ghost use Rattle.shared_hall.specs.Turns.{entries_of, Gives};
 
-    ghost entries = { λ asked out h. entries_of asked out };
+    ghost entries = { λ asked out h. entries_of D.crashes D.seen D.images D.moment D.left_since D.faults asked out h };
 
-    ghost gives = { λ asked before out after. Gives asked before.core.hall out after.core.hall };
+    ghost gives = { λ asked before out after. Gives D.crashes D.seen D.images D.moment D.left_since D.faults asked before.place out after.place };
 
-    // A take gives frames only when what they tell of is there to stay: one take of many serves all.
+    // What commits is done behind what waits with it: one commit serves the changes of all.
     fn is_late(&self) -> bool {
-        matches!(self, HallWork::Take(_))
+        matches!(
+            self,
+            HallWork::Take(_) | HallWork::StepRewrite | HallWork::Retire
+        )
     }
 
-    fn run(self, value: &mut HallCore) -> HallAnswer {
-        answer(&mut value.core, self)
+    fn run(self, value: &mut HallCore<D>) -> HallAnswer<D> {
+        answer(value, self)
     }
 }
 
 // Does what is asked, and answers it.
-#[tactic(auto, using(crate::proofs::Fine::one_act, crate::proofs::Fine::one_rewrite))]
-fn answer(core: &mut Core, asked: HallWork) -> HallAnswer
-    requires { core.old.hall.stopped ≡ false }
-    ensures stopped { core.new.hall.stopped ≡ core.old.hall.stopped }
-    ensures gives { Gives asked core.old.hall result core.new.hall }
-    ensures leads { LeadsBy (acts asked result) core.old.hall core.new.hall }
+fn answer<D: Disk + Drop>(core: &mut HallCore<D>, asked: HallWork) -> HallAnswer<D>
+    ensures handed { core.new.handed ≡ core.old.handed }
+    ensures gives { Gives D.crashes D.seen D.images D.moment D.left_since D.faults asked core.old.place result core.new.place }
+    ensures turn { TurnsBy D.crashes D.seen D.images D.moment D.left_since D.faults (acts asked result) (disk_in core.new.before.value) core.old.place core.new.place }
 {
     match asked {
         HallWork::Enter => HallAnswer::Entered(core.enter()),
@@ -48,22 +50,22 @@ fn answer(core: &mut Core, asked: HallWork) -> HallAnswer
         HallWork::Serve(serving) => answer_serve(core, serving),
         HallWork::Tick(ticking) => answer_tick(core, ticking),
         HallWork::Close(session) => {
-            core.close_session(session);
+            core.close(session);
             HallAnswer::Done
         }
         HallWork::Remove(session) => {
-            core.remove_session(session);
+            core.remove(session);
             HallAnswer::Done
         }
-        // There is no log so far, and so nothing to rewrite.
-        HallWork::StepRewrite => HallAnswer::Rewrote(Called::Ok),
+        HallWork::StepRewrite => HallAnswer::Rewrote(core.step_rewrite()),
+        HallWork::Retire => HallAnswer::Retired(core.retire()),
     }
 }
 
-fn answer_call(core: &mut Core, asking: Asking) -> HallAnswer
-    ensures stopped { core.new.hall.stopped ≡ core.old.hall.stopped }
-    ensures gives { Gives (work.Call asking) core.old.hall result core.new.hall }
-    ensures leads { LeadsBy (acts (work.Call asking) result) core.old.hall core.new.hall }
+fn answer_call<D: Disk + Drop>(core: &mut HallCore<D>, asking: Asking) -> HallAnswer<D>
+    ensures handed { core.new.handed ≡ core.old.handed }
+    ensures gives { Gives D.crashes D.seen D.images D.moment D.left_since D.faults (work.Call asking) core.old.place result core.new.place }
+    ensures turn { TurnsBy D.crashes D.seen D.images D.moment D.left_since D.faults (acts (work.Call asking) result) (disk_in core.new.before.value) core.old.place core.new.place }
 {
     let Asking {
         session,
@@ -76,22 +78,22 @@ fn answer_call(core: &mut Core, asking: Asking) -> HallAnswer
     HallAnswer::Called(answers, asked, touched)
 }
 
-#[tactic(auto, using(crate::proofs::Fine::one_act))]
-fn answer_take(core: &mut Core, taking: Taking) -> HallAnswer
-    ensures stopped { core.new.hall.stopped ≡ core.old.hall.stopped }
-    ensures gives { Gives (work.Take taking) core.old.hall result core.new.hall }
-    ensures leads { LeadsBy (acts (work.Take taking) result) core.old.hall core.new.hall }
+fn answer_take<D: Disk + Drop>(core: &mut HallCore<D>, taking: Taking) -> HallAnswer<D>
+    ensures handed { core.new.handed ≡ core.old.handed }
+    ensures gives { Gives D.crashes D.seen D.images D.moment D.left_since D.faults (work.Take taking) core.old.place result core.new.place }
+    ensures turn { TurnsBy D.crashes D.seen D.images D.moment D.left_since D.faults (acts (work.Take taking) result) (disk_in core.new.before.value) core.old.place core.new.place }
 {
     let Taking { session, mut into } = taking;
     let taken = core.take(session, &mut into);
     HallAnswer::Taken(taken, into)
 }
 
-// Makes the calls, and then the take.
-fn answer_serve(core: &mut Core, serving: Serving) -> HallAnswer
-    ensures stopped { core.new.hall.stopped ≡ core.old.hall.stopped }
-    ensures gives { Gives (work.Serve serving) core.old.hall result core.new.hall }
-    ensures leads { LeadsBy (acts (work.Serve serving) result) core.old.hall core.new.hall }
+// Makes the calls, and the take behind them where nothing waits for a commit. Else a take of its own makes the commit, which then serves
+// the changes of others, too.
+fn answer_serve<D: Disk + Drop>(core: &mut HallCore<D>, serving: Serving) -> HallAnswer<D>
+    ensures handed { core.new.handed ≡ core.old.handed }
+    ensures gives { Gives D.crashes D.seen D.images D.moment D.left_since D.faults (work.Serve serving) core.old.place result core.new.place }
+    ensures turn { TurnsBy D.crashes D.seen D.images D.moment D.left_since D.faults (acts (work.Serve serving) result) (disk_in core.new.before.value) core.old.place core.new.place }
 {
     let Serving {
         asking,
@@ -105,15 +107,18 @@ fn answer_serve(core: &mut Core, serving: Serving) -> HallAnswer
     } = asking;
     touched.clear();
     let made = call_each(core, session, moment, &asked, &mut touched);
-    let taken = core.take(session, &mut frames);
-    HallAnswer::Served(made, asked, touched, taken, frames)
+    if core.is_settled() {
+        let taken = core.take(session, &mut frames);
+        HallAnswer::Served(made, asked, touched, Some(taken), frames)
+    } else {
+        HallAnswer::Served(made, asked, touched, None, frames)
+    }
 }
 
-#[tactic(auto, using(crate::proofs::Fine::one_act))]
-fn answer_tick(core: &mut Core, ticking: Ticking) -> HallAnswer
-    ensures stopped { core.new.hall.stopped ≡ core.old.hall.stopped }
-    ensures gives { Gives (work.Tick ticking) core.old.hall result core.new.hall }
-    ensures leads { LeadsBy (acts (work.Tick ticking) result) core.old.hall core.new.hall }
+fn answer_tick<D: Disk + Drop>(core: &mut HallCore<D>, ticking: Ticking) -> HallAnswer<D>
+    ensures handed { core.new.handed ≡ core.old.handed }
+    ensures gives { Gives D.crashes D.seen D.images D.moment D.left_since D.faults (work.Tick ticking) core.old.place result core.new.place }
+    ensures turn { TurnsBy D.crashes D.seen D.images D.moment D.left_since D.faults (acts (work.Tick ticking) result) (disk_in core.new.before.value) core.old.place core.new.place }
 {
     let Ticking {
         moment,
@@ -125,8 +130,8 @@ fn answer_tick(core: &mut Core, ticking: Ticking) -> HallAnswer
 }
 
 // Makes the calls of a session in order, up to the first that is not answered Ok.
-fn call_each(
-    core: &mut Core,
+fn call_each<D: Disk + Drop>(
+    core: &mut HallCore<D>,
     session: u32,
     moment: u64,
     asked: &AskedList,
@@ -136,9 +141,10 @@ fn call_each(
     requires proper { list_all is_proper asked.now ≡ true }
     requires none { touched.old ≡ [] }
     ensures count { IsCount result.served result.end (length asked.now) }
-    ensures stopped { core.new.hall.stopped ≡ core.old.hall.stopped }
-    ensures leads { LeadsBy (call_acts session moment asked.now result.served result.end) core.old.hall core.new.hall }
-    ensures named { NamesChanged touched.new core.old.hall core.new.hall }
+    ensures handed { core.new.handed ≡ core.old.handed }
+    ensures turn { TurnsBy D.crashes D.seen D.images D.moment D.left_since D.faults (call_acts session moment asked.now result.served result.end) (disk_in core.new.before.value) core.old.place core.new.place }
+    ensures front { (hall_in core.new.place).stopped ≡ false → ActsInFront D.crashes D.seen D.images D.moment D.left_since D.faults (call_acts session moment asked.now result.served result.end) core.old.place core.new.place }
+    ensures named { NamesChanged touched.new (hall_in core.old.place) (hall_in core.new.place) }
 {
     for i in 0..asked.len() {
         match core.call(session, moment, asked.at(i), touched) {

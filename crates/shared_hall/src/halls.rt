@@ -1,67 +1,125 @@
 //! The hall that many threads share, and its calls.
 
-ghost use Rattle.std.specs.Prelude.{◌≡◌, IfOk, IfErr};
-ghost use Rattle.world_data.specs.Worlds.{empty_world};
-ghost use Rattle.world_model.specs.Histories.{opening_hall};
-ghost use Rattle.shared_hall.specs.Seats.{IsOf, IsDone, knows_of, first_knows};
+ghost use Rattle.std.specs.Prelude.{◌≡◌, ◌≤◌, ◌⊎◌, ◌^◌, ◌-◌, true, false, is_some, not, min, IfOk, IfErr, IfSome};
+ghost use Rattle.std.specs.List.{list_any};
+ghost use Rattle.outside.specs.Causes.{most_count};
+ghost use Rattle.outside.specs.Crashes.{EachImage};
+ghost use Rattle.world_model.specs.Halls.{Hall};
+ghost use Rattle.world_model.specs.Histories.{Reaches};
+ghost use Rattle.world_model.specs.Seats.{Adds};
+ghost use Rattle.world_model.specs.declared.events.Event.TheVariants as event;
+ghost use Rattle.log_record.specs.Recovery.{Recovers};
+ghost use Rattle.log_record.specs.Safety.{Safe, count_after};
+ghost use Rattle.shared_hall.specs.Cores.{tells, IsOpenedOn};
+ghost use Rattle.shared_hall.specs.Seats.{IsOf, IsDone, knows_of, first_knows, handed_of};
+ghost use Rattle.shared_hall.specs.Times.{is_retirement};
+ghost use Rattle.shared_hall.specs.Turns.{retire_outcome, retires};
 
-use crate::values::HallCore;
+use crate::places::{HallCore, Place};
 use crate::works::{Asking, HallAnswer, HallWork, Serving, Taking, Ticking};
+use durable_core::DurableCore;
 use hall_turns::HallServe;
+use outside::Disk;
 use std::alloc::Global;
+use std::snapshot::Snapshot;
 use std::sync::Wait;
-use tile_core::Core;
 use turn_lock::{Seat, TurnLock};
 use world_model::{
     Answers, AskedList, Called, EnterFault, Frames, HallApi, HallSplit, Taken, Touched, step_laws,
 };
 
 /// What a caller has seen of the hall's history.
-pub type HallSeat = Seat<HallCore>;
+pub type HallSeat<D> = Seat<HallCore<D>>;
 
 /// A hall that many threads share.
 #[derive(Drop)]
-pub struct SharedHall {
-    pub(crate) lock: TurnLock<HallCore>,
+pub struct SharedHall<D: Disk + Drop> {
+    pub(crate) lock: TurnLock<HallCore<D>>,
 }
 
-impl SharedHall {
-    /// A hall round a core that has not been used, and its first seat, which has seen nothing.
-    /// The core comes back for want of memory alone.
-    pub fn new(alloc: Global, core: Core) -> Result<(SharedHall, HallSeat), Core>
-        requires { core.hall ≡ opening_hall empty_world 0 }
-        ensures seat { IfOk result (λ r. IsOf r.0 r.1) }
-        ensures knows { IfOk result (λ r. knows_of r.1 ≡ first_knows) }
+impl<D: Disk + Drop> SharedHall<D> {
+    /// A hall round a core that was opened over a disk and has not been used, and its first seat, which has seen nothing. The history opens
+    /// with the core as it is now. `handed` is the disk as it was before it was opened: where it told its contents and what a crash may
+    /// leave, the disk is safe for the hall's history from then on. The core comes back for want of memory alone.
+    pub fn new(
+        alloc: Global,
+        core: DurableCore<D>,
+        handed: Snapshot<D>,
+    ) -> Result<(SharedHall<D>, HallSeat<D>), DurableCore<D>>
+        requires { IsOpenedOn D.crashes D.seen D.images D.moment D.left_since D.faults core handed.value }
+        ensures seat { IfOk result (λ r. IsOf D.crashes D.seen D.images D.moment D.left_since D.faults r.0 r.1) }
+        ensures knows { IfOk result (λ r. knows_of r.1 ≡ first_knows D.crashes D.seen D.images D.moment D.left_since D.faults core handed.value) }
+        ensures handed { IfOk result (λ r. handed_of r.0 ≡ handed.value) }
         ensures back { IfErr result (λ c. c ≡ core) }
     {
-        match TurnLock::new(alloc, HallCore { core }) {
+        let place = Place::Inside(core);
+        let before = Snapshot::of(&place);
+        let value = HallCore {
+            place,
+            before,
+            handed,
+        };
+        match TurnLock::new(alloc, value) {
             Ok((lock, seat)) => Ok((SharedHall { lock }, seat)),
-            Err(value) => Err(value.core),
+            Err(value) => {
+                let HallCore {
+                    place,
+                    before: _,
+                    handed: _,
+                } = value;
+                match place {
+                    Place::Inside(core) => Err(core),
+                    Place::Out(_) => unreachable!(),
+                }
+            }
         }
     }
 
     // Takes a turn: the work is done once, and its acts are entries of the seat's own.
-    fn turn<R: Wait>(&self, rt: &R, seat: &mut HallSeat, work: HallWork) -> HallAnswer
-        requires { IsOf self.now seat.old }
-        ensures seat { IsOf self.now seat.new }
-        ensures done { IsDone work result (knows_of seat.old) (knows_of seat.new) }
+    fn turn<R: Wait>(&self, rt: &R, seat: &mut HallSeat<D>, work: HallWork) -> HallAnswer<D>
+        requires seat { IsOf D.crashes D.seen D.images D.moment D.left_since D.faults self.now seat.old }
+        requires may { (knows_of seat.old).first ≡ false → retires work ≡ false }
+        ensures seat { IsOf D.crashes D.seen D.images D.moment D.left_since D.faults self.now seat.new }
+        ensures done { IsDone D.crashes D.seen D.images D.moment D.left_since D.faults (handed_of self.now) work result (knows_of seat.old) (knows_of seat.new) }
     {
         // An entry leads to one hall, so that the history alone tells who was changed.
         step_laws();
         self.lock.turn(rt, seat, work)
     }
+
+    /// Makes all that is pending stand, and gives the disk out; from then on each call is answered Stopped. None where it was given out
+    /// before. Where the disk told its contents and what a crash may leave, it is safe for all that the seat has seen then; and where all
+    /// was made to stand, whatever a crash may leave is the world of that history.
+    pub fn retire<R: Wait>(&self, rt: &R, seat: &mut HallSeat<D>) -> Option<(D, Called)>
+        requires seat { IsOf D.crashes D.seen D.images D.moment D.left_since D.faults self.now seat.old }
+        requires first { (knows_of seat.old).first ≡ true }
+        ensures seat { IsOf D.crashes D.seen D.images D.moment D.left_since D.faults self.now seat.new }
+        ensures entry { Adds event.Retire (retire_outcome result) (knows_of seat.old) (knows_of seat.new) }
+        ensures once { is_some result ≡ not (list_any is_retirement (knows_of seat.old).seen) }
+        ensures counted { IfSome result (λ given. count_after (knows_of seat.new).opening.count (knows_of seat.new).seen ≡ min (D.faults given.0) most_count) }
+        ensures safe { tells D.crashes D.seen (handed_of self.now) ≡ true
+            → IfSome result (λ given. Safe D.left_since given.0 (knows_of seat.new).opening (knows_of seat.new).seen) }
+        ensures stands { tells D.crashes D.seen (handed_of self.now) ≡ true
+            → IfSome result (λ given. given.1 ≡ Called.Ok → (h : Hall) → Reaches (knows_of seat.new).opening (knows_of seat.new).seen h
+            → EachImage (D.images given.0) (λ image. Recovers image h.world)) }
+    {
+        match self.turn(rt, seat, HallWork::Retire) {
+            HallAnswer::Retired(given) => given,
+            _ => unreachable!(),
+        }
+    }
 }
 
-impl HallApi for SharedHall {
-    type Seat = HallSeat;
+impl<D: Disk + Drop> HallApi for SharedHall<D> {
+    type Seat = HallSeat<D>;
 
     ghost use Rattle.shared_hall.specs.Seats.{IsOf, knows_of};
 
-    ghost is_of = { λ hall seat. IsOf hall seat };
+    ghost is_of = { λ hall seat. IsOf D.crashes D.seen D.images D.moment D.left_since D.faults hall seat };
 
     ghost knows = { λ seat. knows_of seat };
 
-    fn enter<R: Wait>(&self, rt: &R, seat: &mut HallSeat) -> Result<u32, EnterFault> {
+    fn enter<R: Wait>(&self, rt: &R, seat: &mut HallSeat<D>) -> Result<u32, EnterFault> {
         match self.turn(rt, seat, HallWork::Enter) {
             HallAnswer::Entered(entered) => entered,
             _ => unreachable!(),
@@ -71,7 +129,7 @@ impl HallApi for SharedHall {
     fn calls<R: Wait>(
         &self,
         rt: &R,
-        seat: &mut HallSeat,
+        seat: &mut HallSeat<D>,
         session: u32,
         moment: u64,
         asked: AskedList,
@@ -89,7 +147,13 @@ impl HallApi for SharedHall {
         }
     }
 
-    fn take<R: Wait>(&self, rt: &R, seat: &mut HallSeat, session: u32, into: &mut Frames) -> Taken {
+    fn take<R: Wait>(
+        &self,
+        rt: &R,
+        seat: &mut HallSeat<D>,
+        session: u32,
+        into: &mut Frames,
+    ) -> Taken {
         let taking = Taking {
             session,
             into: into.move_out(),
@@ -106,7 +170,7 @@ impl HallApi for SharedHall {
     fn tick<R: Wait>(
         &self,
         rt: &R,
-        seat: &mut HallSeat,
+        seat: &mut HallSeat<D>,
         moment: u64,
         touched: Touched,
     ) -> (Called, Touched) {
@@ -116,16 +180,15 @@ impl HallApi for SharedHall {
         }
     }
 
-    fn close<R: Wait>(&self, rt: &R, seat: &mut HallSeat, session: u32) {
+    fn close<R: Wait>(&self, rt: &R, seat: &mut HallSeat<D>, session: u32) {
         self.turn(rt, seat, HallWork::Close(session));
     }
 
-    fn remove<R: Wait>(&self, rt: &R, seat: &mut HallSeat, session: u32) {
+    fn remove<R: Wait>(&self, rt: &R, seat: &mut HallSeat<D>, session: u32) {
         self.turn(rt, seat, HallWork::Remove(session));
     }
 
-    // There is no log so far, so nothing is rewritten.
-    fn step_rewrite<R: Wait>(&self, rt: &R, seat: &mut HallSeat) -> Called {
+    fn step_rewrite<R: Wait>(&self, rt: &R, seat: &mut HallSeat<D>) -> Called {
         match self.turn(rt, seat, HallWork::StepRewrite) {
             HallAnswer::Rewrote(called) => called,
             _ => unreachable!(),
@@ -133,11 +196,11 @@ impl HallApi for SharedHall {
     }
 }
 
-impl HallServe for SharedHall {
+impl<D: Disk + Drop> HallServe for SharedHall<D> {
     fn calls_and_take<R: Wait>(
         &self,
         rt: &R,
-        seat: &mut HallSeat,
+        seat: &mut HallSeat<D>,
         session: u32,
         moment: u64,
         asked: AskedList,
@@ -157,21 +220,21 @@ impl HallServe for SharedHall {
         match self.turn(rt, seat, HallWork::Serve(serving)) {
             HallAnswer::Served(answers, asked, touched, taken, frames) => {
                 *into = frames;
-                (answers, asked, touched, Some(taken))
+                (answers, asked, touched, taken)
             }
             _ => unreachable!(),
         }
     }
 }
 
-impl HallSplit for SharedHall {
-    fn split(&self, seat: &mut HallSeat) -> HallSeat {
+impl<D: Disk + Drop> HallSplit for SharedHall<D> {
+    fn split(&self, seat: &mut HallSeat<D>) -> HallSeat<D> {
         self.lock.split(seat)
     }
 
-    fn seen(&self, _seat: &HallSeat) {}
+    fn seen(&self, _seat: &HallSeat<D>) {}
 
-    fn join(&self, seat: &mut HallSeat, other: HallSeat) {
+    fn join(&self, seat: &mut HallSeat<D>, other: HallSeat<D>) {
         self.lock.join(seat, other);
     }
 }

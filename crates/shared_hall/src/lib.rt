@@ -1,14 +1,16 @@
-//! A hall that many threads share: one core under the turn lock. Each call is one turn and makes the entries of that turn
+//! A hall that many threads share: one core over a disk under the turn lock. Each call is one turn and makes the entries of that turn
 //! in the hall's one history.
 #![tactic(auto)]
 
+mod acts;
 mod answers;
 mod halls;
+mod places;
 #[cfg(test)]
 mod tests;
 mod values;
 mod works;
 
 pub use halls::{HallSeat, SharedHall};
-pub use values::HallCore;
+pub use places::{Begun, HallCore, Place};
 pub use works::{Asking, HallAnswer, HallWork, Serving, Taking, Ticking};

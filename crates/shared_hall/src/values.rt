@@ -1,30 +1,25 @@
 //! The core as the value of a lock: the histories that it stands for.
 
+use crate::places::{Begun, HallCore};
 use crate::works::HallWork;
-use tile_core::Core;
+use outside::Disk;
 use turn_lock::Turned;
-use world_model::{Entry, Opening};
+use world_model::Entry;
 
-/// A core that takes turns. It is as the entries of its history, from the opening on, leave it.
-#[derive(Drop)]
-pub struct HallCore {
-    pub(crate) core: Core,
-}
-
-impl Turned for HallCore {
-    type Opening = Opening;
+impl<D: Disk + Drop> Turned for HallCore<D> {
+    type Opening = Begun<D>;
 
     type Entry = Entry;
 
     type Work = HallWork;
 
-    ghost use Rattle.std.specs.Prelude.{false};
-    ghost use Rattle.shared_hall.specs.Turns.{opening_at, Stands};
+    ghost use Rattle.shared_hall.specs.Cores.{begun, StandsFor};
+    ghost use Rattle.shared_hall.specs.Times.{is_retirement};
 
-    ghost opening = { λ h. opening_at h.core.hall };
+    ghost opening = { λ h. begun D.crashes D.seen D.images D.moment D.left_since D.faults h };
 
-    ghost stands = { λ h opening log. Stands h.core.hall opening log };
+    ghost stands = { λ h b log. StandsFor D.crashes D.seen D.images D.moment D.left_since D.faults h b log };
 
-    // No call shuts the hall so far, so no entry is kept for the first seat.
-    ghost kept = { λ entry. false };
+    // The first seat alone has the disk given out.
+    ghost kept = { λ entry. is_retirement entry };
 }

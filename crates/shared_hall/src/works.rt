@@ -53,16 +53,20 @@ pub enum HallWork {
     Close(u32),
     Remove(u32),
     StepRewrite,
+    Retire,
 }
 
 /// The answer to a call. What the work had brought goes back with it.
 #[derive(Drop)]
-pub enum HallAnswer {
+pub enum HallAnswer<D> {
     Entered(Result<u32, EnterFault>),
     Called(Answers, AskedList, Touched),
     Taken(Taken, Frames),
-    Served(Answers, AskedList, Touched, Taken, Frames),
+    /// There is no take where it is better made in a turn of its own.
+    Served(Answers, AskedList, Touched, Option<Taken>, Frames),
     Ticked(Called, Touched),
     Rewrote(Called),
+    /// The disk, where it was in, and how the retirement ended.
+    Retired(Option<(D, Called)>),
     Done,
 }

@@ -13,7 +13,7 @@ pub trait Turned {
     type Entry;
 
     /// What is done in one turn, by whichever thread has the value.
-    type Work: Work<Self> + Send + 'static;
+    type Work: Work<Self>;
 
     /// The opening of a value that has no entry yet.
     ghost opening: { Self → Self.Opening };
@@ -28,7 +28,7 @@ pub trait Turned {
 /// What is done with the value in one turn.
 pub trait Work<T: Turned> {
     /// What the turn answers.
-    type Out: Send + 'static;
+    type Out;
 
     /// The entries of the turn, by the work, its answer and the value afterwards. They are neighbours in the history.
     ghost entries: { Self → Self.Out → T → List T.Entry };

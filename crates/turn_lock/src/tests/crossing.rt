@@ -3,7 +3,7 @@
 ghost use Rattle.std.specs.Prelude.{IfOk};
 ghost use Rattle.turn_lock.specs.Lock.{IsSeatOf};
 
-use crate::{Seat, TurnLock, Turned, Work};
+use crate::{Out, Seat, TurnLock, Turned, Work};
 use std::alloc::{AllocError, Global};
 use std::collections::{BTreeMap, VecDeque};
 use std::test::Fail;
@@ -58,8 +58,12 @@ fn is_sent<X: Send>(_: &X) {}
 
 fn is_shared<X: Sync>(_: &X) {}
 
-// At every type that may cross threads the lock and its seats may, too.
-fn crosses<T: Turned + Send>(lock: &TurnLock<T>, seat: &Seat<T>) {
+// At every type that may cross threads, with its works and their answers, the lock and its seats may, too.
+fn crosses<T: Turned + Send>(lock: &TurnLock<T>, seat: &Seat<T>)
+where
+    T::Work: Send,
+    Out<T>: Send,
+{
     is_sent(lock);
     is_shared(lock);
     is_sent(seat);

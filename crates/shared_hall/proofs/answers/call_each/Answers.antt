@@ -1,51 +1,72 @@
-use Rattle.std.proofs.Common.{List, [], ◌∷◌, map, take, ◌∙◌, subst}
-use Rattle.world_model.specs.Histories.{Step}
+use Rattle.std.proofs.Common.{List, [], ◌∷◌, map, take, ℕ, refl, ◌∙◌, subst, arith, ◌≡◌}
 use Rattle.world_model.specs.Seats.{Act}
-use Rattle.world_model.specs.Outcomes.{call_act}
-use Rattle.world_model.specs.declared.events.Called.{Called}
+use Rattle.world_model.specs.Outcomes.{call_act, call_acts}
 use Rattle.world_model.specs.declared.events.Called.TheVariants as called
-use Rattle.world_model.specs.declared.events.Event.TheVariants as event
-use Rattle.world_model.specs.declared.events.Outcome.TheVariants as outcome
-use Rattle.shared_hall.specs.Turns.{LeadsBy}
-use Rattle.shared_hall.proofs.Calling.{next_call, is_proper_at, acts_to, names_more}
-use Rattle.shared_hall.proofs.Fine.{one_act}
-use Rattle.shared_hall.proofs.Leading.{leads_more}
+use Rattle.shared_hall.specs.Cores.{hall_in, disk_in, ActsInFront, TurnsBy}
+use Rattle.shared_hall.proofs.Calling.{next_call, is_proper_at, acts_to, acts_all, names_more}
+use Rattle.shared_hall.proofs.Turning.{acts_behind, acts_go_on, acts_fine}
 use Rattle.shared_hall.proofs.answers.call_each.Goals as goal
 
 pub call-requires-clause-proper : goal.call-requires-clause-proper
-call-requires-clause-proper c = is_proper_at c.args.asked.now c.loop-i.i c.at.result.now c.requires.proper c.at.ensures
+call-requires-clause-proper g c = is_proper_at c.args.asked.now c.loop-i.i c.at.result.now c.requires.proper c.at.ensures
 
-pub returns-in_default-clause-leads : goal.returns-in_default-clause-leads
-returns-in_default-clause-leads c =
-    let n = c.args.session in
-    let m = c.args.moment in
-    let xs = c.args.asked.now in
-    let i = c.loop-i.i in
-    let x = c.at.result.now in
-    let end = c.call.result in
-    let start = c.args.core.now.hall in
-    let mid = c.loop-i.core.hall in
-    let new = c.call.new.self.hall in
-    subst (λ (acts : List Act). LeadsBy acts start new) (acts_to n m end xs i x c.in_default.not-Ok c.at.ensures)
-    (leads_more (map (call_act n m called.Ok) (take i xs)) (call_act n m end x ∷ []) start mid new c.loop-i.invariant.leads
-    (one_act mid new (event.Call n m x) (outcome.Answered end) c.call.ensures.stopped c.call.ensures.step))
+pub returns-in_default-clause-turn : goal.returns-in_default-clause-turn
+returns-in_default-clause-turn g c =
+    let m = g.D.Disk in
+    let f = call_act c.args.session c.args.moment called.Ok in
+    let start = c.args.core.now.place in
+    let new = c.call.new.self in
+    subst (λ (acts : List Act). TurnsBy m.crashes m.seen m.images m.moment m.left_since m.faults acts (disk_in new.before.value) start new.place)
+    (acts_to c.args.session c.args.moment c.call.result c.args.asked.now c.loop-i.i c.at.result.now c.in_default.not-Ok c.at.ensures)
+    (acts_behind m.crashes m.seen m.images m.moment m.left_since m.faults (map f (take c.loop-i.i c.args.asked.now)) (call_act c.args.session c.args.moment c.call.result c.at.result.now) start c.loop-i.core.place new.place new.before.value
+    c.call.ensures.before c.loop-i.invariant.front c.call.ensures.act)
+
+pub returns-in_default-clause-front : goal.returns-in_default-clause-front
+returns-in_default-clause-front g c = λ goes.
+    let m = g.D.Disk in
+    let f = call_act c.args.session c.args.moment called.Ok in
+    let start = c.args.core.now.place in
+    let mid = c.loop-i.core.place in
+    let new = c.call.new.self.place in
+    let a = call_act c.args.session c.args.moment c.call.result c.at.result.now in
+    subst (λ (acts : List Act). ActsInFront m.crashes m.seen m.images m.moment m.left_since m.faults acts start new)
+    (acts_to c.args.session c.args.moment c.call.result c.args.asked.now c.loop-i.i c.at.result.now c.in_default.not-Ok c.at.ensures)
+    (acts_go_on m.crashes m.seen m.images m.moment m.left_since m.faults (map f (take c.loop-i.i c.args.asked.now)) a start mid new
+    c.loop-i.invariant.front c.call.ensures.act (acts_fine m.crashes m.seen m.images m.moment m.left_since m.faults a mid new c.call.ensures.act goes) refl)
+
+pub returns-in_default-clause-handed : goal.returns-in_default-clause-handed
+returns-in_default-clause-handed g c = c.call.ensures.handed ∙ c.loop-i.invariant.handed
+
+pub returns-in_default-clause-named : goal.returns-in_default-clause-named
+returns-in_default-clause-named g c = names_more c.loop-i.touched c.call.new.touched (hall_in c.args.core.now.place) (hall_in c.loop-i.core.place) (hall_in c.call.new.self.place) c.loop-i.invariant.named c.call.ensures.kept c.call.ensures.named
 
 pub loop-i-preserved : goal.loop-i-preserved
-loop-i-preserved c =
-    let n = c.args.session in
-    let m = c.args.moment in
+loop-i-preserved g c =
+    let m = g.D.Disk in
+    let f = call_act c.args.session c.args.moment called.Ok in
     let xs = c.args.asked.now in
     let i = c.loop-i.i in
-    let x = c.at.result.now in
-    let start = c.args.core.now.hall in
-    let mid = c.loop-i.core.hall in
-    let new = c.call.new.self.hall in
-    let step = subst (λ (r : Called). Step mid (event.Call n m x) (outcome.Answered r) new) c.in-Ok.is c.call.ensures.step in
+    let a = f c.at.result.now in
+    let start = c.args.core.now.place in
+    let mid = c.loop-i.core.place in
+    let new = c.call.new.self in
     record {
-      stopped = c.call.ensures.stopped ∙ c.loop-i.invariant.stopped;
-      leads = subst (λ (acts : List Act). LeadsBy acts start new) (next_call (call_act n m called.Ok) xs i x c.at.ensures)
-          (leads_more (map (call_act n m called.Ok) (take i xs)) (call_act n m called.Ok x ∷ []) start mid new c.loop-i.invariant.leads
-          (one_act mid new (event.Call n m x) (outcome.Answered called.Ok) c.call.ensures.stopped step));
-      named = names_more c.loop-i.touched c.call.new.touched start mid new c.loop-i.invariant.named c.call.ensures.kept c.call.ensures.named;
+      handed = c.call.ensures.handed ∙ c.loop-i.invariant.handed;
+      front = subst (λ (acts : List Act). ActsInFront m.crashes m.seen m.images m.moment m.left_since m.faults acts start new.place) (next_call f xs i c.at.result.now c.at.ensures)
+          (acts_go_on m.crashes m.seen m.images m.moment m.left_since m.faults (map f (take i xs)) a start mid new.place c.loop-i.invariant.front c.in-Ok.ensures.act refl refl);
+      turn = subst (λ (acts : List Act). TurnsBy m.crashes m.seen m.images m.moment m.left_since m.faults acts (disk_in new.before.value) start new.place) (next_call f xs i c.at.result.now c.at.ensures)
+          (acts_behind m.crashes m.seen m.images m.moment m.left_since m.faults (map f (take i xs)) a start mid new.place new.before.value c.call.ensures.before c.loop-i.invariant.front c.in-Ok.ensures.act);
+      named = names_more c.loop-i.touched c.call.new.touched (hall_in c.args.core.now.place) (hall_in c.loop-i.core.place) (hall_in c.call.new.self.place) c.loop-i.invariant.named c.call.ensures.kept c.call.ensures.named;
       room = c.call.ensures.room;
     }
+
+pub returns-clause-turn : goal.returns-clause-turn
+returns-clause-turn g c =
+    let m = g.D.Disk in
+    let n = c.args.session in
+    let t = c.args.moment in
+    let xs = c.args.asked.now in
+    let i = c.loop-i.i in
+    let all : i ≡ c.len.result = omega (arith, c.loop-i.auto.i-end, c.loop-i-test.false, c.len.ensures, c.len-i-end.ensures) in
+    subst (λ (k : ℕ). TurnsBy m.crashes m.seen m.images m.moment m.left_since m.faults (call_acts n t xs k called.Ok) (disk_in c.loop-i.core.before.value) c.args.core.now.place c.loop-i.core.place) all
+    (subst (λ (acts : List Act). TurnsBy m.crashes m.seen m.images m.moment m.left_since m.faults acts (disk_in c.loop-i.core.before.value) c.args.core.now.place c.loop-i.core.place) (acts_all n t xs i) c.loop-i.invariant.turn)

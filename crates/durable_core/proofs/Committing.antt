@@ -1,0 +1,61 @@
+-- A commit of a journal, as it leads from a log to another.
+use Rattle.std.proofs.Common.{◌≡◌, ◌∙◌, ℕ, Bool, true, List, [], Option, Ok, Err, refl, sym, ap, subst}
+use Rattle.byte_text.specs.Names.{Bytes}
+use Rattle.world_data.specs.declared.worlds.World.{World}
+use Rattle.outside.specs.Sides.{Sides}
+use Rattle.outside.specs.Crashes.{LeavesOnly}
+use Rattle.outside.specs.CrashLaws.{begins, weaker}
+use Rattle.log_sides.specs.Texts.{committed}
+use Rattle.journal.specs.Logs.{HoldsEither}
+use Rattle.journal.specs.Journals.{Keeps, pending}
+use Rattle.journal.specs.Openings.{AreWhole}
+use Rattle.log_record.specs.Recovery.{RecoversEither}
+use Rattle.log_record.specs.Folding.{folded}
+use Rattle.log_record.specs.Journals as log
+use Rattle.log_worlds.specs.Recorded.{record_fault, world_in}
+use Rattle.log_worlds.specs.BatchesHeld.{committed_world, committed_whole, either_recovers}
+use Rattle.durable_core.specs.Kept.{IsKeptBy, LeadsTo}
+use Rattle.durable_core.specs.Rewriting.{IsCopyWhile}
+use Rattle.durable_core.specs.declared.rewritings.Rewriting.{Rewriting}
+use Rattle.durable_core.specs.declared.tails.Tail.{Tail}
+use Rattle.durable_core.proofs.Copying.{copies_on}
+
+module _ {D : Type 0} (crashes : D → Bool) (seen : D → Option Sides) (images : D → Sides → Type 0) (moment : D → ℕ) (left_since : D → ℕ → Sides → Type 0) (old new : Tail D) (same : new.rewriting ≡ old.rewriting) (j : log.Journal) (kept : IsKeptBy crashes seen images old j) where
+  -- the batches with the pending one are the log's
+  settles : Keeps crashes seen images new.journal (committed kept.batches (pending old.journal)) (committed kept.copied (pending old.journal)) → pending new.journal ≡ [] → IsKeptBy crashes seen images new (log.settled j)
+  settles keeps none = record {
+    batches = committed kept.batches (pending old.journal);
+    copied = committed kept.copied (pending old.journal);
+    keeps = keeps;
+    whole = subst (λ (l : Bytes). AreWhole record_fault (committed kept.batches l)) (sym kept.pending_is) (committed_whole kept.batches j.pending kept.whole kept.recorded);
+    committed = ap (λ (w : World). folded w j.pending) kept.committed ∙ sym (committed_world kept.batches j.pending kept.recorded) ∙ ap (λ (l : Bytes). world_in (committed kept.batches l)) (sym kept.pending_is);
+    pending_is = none;
+    recorded = tt;
+    copies = subst (λ (r : Rewriting). IsCopyWhile r (committed kept.copied (pending old.journal)) (committed kept.batches (pending old.journal))) (sym same)
+        (subst (λ (l : Bytes). IsCopyWhile old.rewriting (committed kept.copied l) (committed kept.batches l)) (sym kept.pending_is) (copies_on old.rewriting kept.copied kept.batches j.pending kept.recorded kept.copies));
+  }
+
+  -- what a crash leaves of it is recovered as one of the two worlds
+  either : (c : Sides) → HoldsEither kept.batches (committed kept.batches (pending old.journal)) c → RecoversEither j.committed (log.whole j) c
+  either c holds = subst (λ (w : World). RecoversEither w (folded w j.pending) c) (sym kept.committed)
+      (either_recovers kept.batches j.pending c kept.whole kept.recorded (subst (λ (l : Bytes). HoldsEither kept.batches (committed kept.batches l) c) kept.pending_is holds))
+
+  leaves : ((batches copied : List Bytes) → Keeps crashes seen images old.journal batches copied → crashes old.journal.disk ≡ true
+      → LeavesOnly moment left_since old.journal.disk new.journal.disk (HoldsEither batches (committed batches (pending old.journal)))) → crashes old.journal.disk ≡ true → log.Leaves moment left_since old.journal.disk new.journal.disk j
+  leaves left told = weaker moment left_since old.journal.disk new.journal.disk (HoldsEither kept.batches (committed kept.batches (pending old.journal))) (RecoversEither j.committed (log.whole j)) either (left kept.batches kept.copied kept.keeps told)
+
+  pub leads_on : {E : Type 0} → ((batches copied : List Bytes) → Keeps crashes seen images old.journal batches copied → Keeps crashes seen images new.journal (committed batches (pending old.journal)) (committed copied (pending old.journal)))
+      → ((batches copied : List Bytes) → Keeps crashes seen images old.journal batches copied → crashes old.journal.disk ≡ true
+      → LeavesOnly moment left_since old.journal.disk new.journal.disk (HoldsEither batches (committed batches (pending old.journal))))
+      → pending new.journal ≡ [] → LeadsTo {E = E} crashes seen images moment left_since old new (Ok tt) j (log.settled j)
+  leads_on keeps left none = record { same = refl; leaves = leaves left; kept = settles (keeps kept.batches kept.copied kept.keeps) none }
+
+  pub leads_off : {E : Type 0} (fault : E) → ((batches copied : List Bytes) → Keeps crashes seen images old.journal batches copied → crashes old.journal.disk ≡ true
+      → LeavesOnly moment left_since old.journal.disk new.journal.disk (HoldsEither batches (committed batches (pending old.journal))))
+      → LeadsTo crashes seen images moment left_since old new (Err fault) j (log.settled j)
+  leads_off fault left = record { same = refl; leaves = leaves left; kept = tt }
+
+-- nothing was done
+pub leads_nowhere : {D E : Type 0} (crashes : D → Bool) (seen : D → Option Sides) (images : D → Sides → Type 0) (moment : D → ℕ) (left_since : D → ℕ → Sides → Type 0) (t : Tail D) (j : log.Journal)
+    → IsKeptBy crashes seen images t j → LeadsTo {E = E} crashes seen images moment left_since t t (Ok tt) j j
+leads_nowhere crashes seen images moment left_since t j kept = record { same = refl; leaves = λ told. begins moment left_since t.journal.disk (RecoversEither j.committed (log.whole j)); kept = kept }

@@ -1,0 +1,33 @@
+-- What a step of a rewriting shows.
+use Rattle.std.proofs.Common.{◌≡◌, ◌≢◌, ◌∙◌, ◌+◌, ℕ, Bool, false, List, [], ◌∷◌, length, Result, Ok, Err, OnOk, refl, sym, ap, arith}
+use Rattle.std.specs.Prelude.{drop, take, if◌then◌else◌}
+use Rattle.world_data.specs.declared.worlds.World.{World}
+use Rattle.durable_core.specs.Rewriting.{Item, Shown, going, is_ending, items_left, next_shown, shown_by}
+use Rattle.durable_core.specs.Steps.{IsCopyStep, next_generation}
+use Rattle.durable_core.specs.declared.pieces.NextPiece.{NextPiece}
+use Rattle.durable_core.specs.declared.rewritings.Rewriting.{Rewriting}
+use Rattle.durable_core.specs.declared.rewritings.Rewriting.TheVariants.{Going}
+
+pub on_ok_map : {T E P Q : Type 0} (r : Result T E) → (P → Q) → OnOk r P → OnOk r Q
+on_ok_map (Ok x) f p = f p
+on_ok_map (Err e) f p = tt
+
+pub on_ok : {T E P : Type 0} (r : Result T E) → P → OnOk r P
+on_ok (Ok x) p = p
+on_ok (Err e) p = tt
+
+-- some items are left where a piece has some
+pub some_left : (items : List Item) (n : ℕ) → n ≡ length (take 256 items) → n ≢ 0 → (first : Item) × (rest : List Item) × (items ≡ first ∷ rest)
+some_left [] n is some = absurd (some is)
+some_left (item ∷ items) n is some = (item, items, refl)
+
+-- a piece is copied
+pub copy_shown : (old new : Rewriting) (gate : ℕ) (w : World) (next : NextPiece) → IsCopyStep old gate w next → new ≡ Going next.last → shown_by new w ≡ next_shown w (shown_by old w)
+copy_shown old new gate w next is on =
+    ap (λ (r : Rewriting). shown_by r w) on ∙ ap going is.piece.left ∙ ap (λ (l : List Item). going (drop 256 l)) is.some
+    ∙ sym (ap (λ (r : Rewriting). next_shown w (shown_by r w)) is.going ∙ ap (λ (l : List Item). next_shown w (going l)) is.some)
+
+pub copy_generation : (old : Rewriting) (gate : ℕ) (w : World) (next : NextPiece) (n m : ℕ) → IsCopyStep old gate w next → n ≡ m → n ≡ next_generation old w m
+copy_generation old gate w next n m is same =
+    let goes_on : is_ending (shown_by old w) ≡ false = ap (λ (r : Rewriting). is_ending (shown_by r w)) is.going ∙ ap (λ (l : List Item). is_ending (going l)) is.some in
+    rw goes_on (omega (arith, same))

@@ -1,0 +1,9 @@
+pub mod Words
+pub mod Rewriting
+pub mod Pieces
+pub mod Steps
+pub mod Written
+pub mod Kept
+pub mod Logged
+pub mod Opened
+pub mod StepLaws

@@ -1,0 +1,12 @@
+//! A core over a disk: what its calls change is written to a log, and stands on the disk before it is acknowledged.
+#![tactic(auto)]
+
+mod cores;
+mod openings;
+mod pieces;
+mod rewritings;
+mod steps;
+mod tails;
+
+pub use cores::DurableCore;
+pub use tails::PENDING;

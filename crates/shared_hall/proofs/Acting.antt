@@ -1,0 +1,183 @@
+-- What each call of a core is to its history: an act.
+use Rattle.std.proofs.Common.{◌≡◌, ◌≤◌, ℕ, Bool, true, false, List, [], Option, Result, Ok, Err, refl, sym, ap, ◌∙◌, subst, arith, true≢false}
+use Rattle.std.specs.Prelude.{if◌then◌else◌, Some, None, ◌||◌}
+use Rattle.byte_text.specs.Names.{Bytes}
+use Rattle.outside.specs.Causes.{Rose}
+use Rattle.outside.specs.Sides.{Sides}
+use Rattle.outside.specs.CrashLaws.{begins}
+use Rattle.world_model.specs.Halls.{Hall}
+use Rattle.world_model.specs.Histories.{Step, StepBy, Ending, refusal, refusal_going, when_stopped, stopped, is_log_fault}
+use Rattle.world_model.specs.Outcomes.{enter_outcome, take_outcome}
+use Rattle.world_model.specs.Seats.{Act}
+use Rattle.world_model.specs.declared.events.Called.{Called}
+use Rattle.world_model.specs.declared.events.Called.TheVariants as called
+use Rattle.world_model.specs.declared.events.Taken.{Taken}
+use Rattle.world_model.specs.declared.events.Taken.TheVariants as taken
+use Rattle.world_model.specs.declared.events.EnterFault.{EnterFault}
+use Rattle.world_model.specs.declared.events.EnterFault.TheVariants as refused
+use Rattle.world_model.specs.declared.events.Event.{Event}
+use Rattle.world_model.specs.declared.events.Event.TheVariants.{Enter, Call, Take, Tick, Close, Remove, Rewrite, Retire}
+use Rattle.world_model.specs.declared.events.Outcome.{Outcome}
+use Rattle.world_model.specs.declared.events.Outcome.TheVariants.{Answered}
+use Rattle.log_record.specs.Journals.{Journal, Turn, TellsNow, IsDurable, shows, whole}
+use Rattle.log_record.specs.Laws.{KeepsSafe}
+use Rattle.log_record.specs.TurnLaws.{turn_keeps_safe}
+use Rattle.durable_core.specs.Logged.{hall_of, disk_of, KeepsLogOf, GoesOn}
+use Rattle.durable_core.specs.StepLaws.{stops, same_hall}
+use Rattle.durable_core.specs.declared.cores.DurableCore.{DurableCore}
+use Rattle.shared_hall.specs.Cores.{hall_in, disk_in, has_left, KeepsIn, Acts}
+use Rattle.shared_hall.specs.Times.{is_retire}
+use Rattle.shared_hall.specs.declared.places.Place.{Place}
+use Rattle.shared_hall.specs.declared.places.Place.TheVariants.{Inside, Out}
+
+-- which answers say that the log failed
+
+pub call_failed : (c : Called) → is_log_fault (Answered c) ≡ true → c ≡ called.LogFault
+call_failed called.Ok is = absurd (true≢false (sym is))
+call_failed called.Full is = absurd (true≢false (sym is))
+call_failed called.Gone is = absurd (true≢false (sym is))
+call_failed called.LogFault is = refl
+call_failed called.Stopped is = absurd (true≢false (sym is))
+call_failed called.Spent is = absurd (true≢false (sym is))
+call_failed called.Memory is = absurd (true≢false (sym is))
+
+pub take_failed : (t : Taken) (frames : List Bytes) → is_log_fault (take_outcome t frames) ≡ true → t ≡ taken.LogFault
+take_failed (taken.Some n) frames is = absurd (true≢false (sym is))
+take_failed taken.Empty frames is = absurd (true≢false (sym is))
+take_failed taken.Ended frames is = absurd (true≢false (sym is))
+take_failed taken.LogFault frames is = refl
+take_failed taken.Stopped frames is = absurd (true≢false (sym is))
+
+pub enter_never_fails : (r : Result ℕ EnterFault) → is_log_fault (enter_outcome r) ≡ false
+enter_never_fails (Ok n) = refl
+enter_never_fails (Err refused.TooMany) = refl
+enter_never_fails (Err refused.Stopped) = refl
+enter_never_fails (Err refused.Memory) = refl
+
+stopped_fine : (event : Event) → is_log_fault (when_stopped event) ≡ false
+stopped_fine Enter = refl
+stopped_fine (Call n moment asked) = refl
+stopped_fine (Take n) = refl
+stopped_fine (Tick moment) = refl
+stopped_fine (Close n) = refl
+stopped_fine (Remove n) = refl
+stopped_fine Rewrite = refl
+stopped_fine Retire = refl
+
+stopped_shows_nothing : (event : Event) → shows event (when_stopped event) ≡ false
+stopped_shows_nothing Enter = refl
+stopped_shows_nothing (Call n moment asked) = refl
+stopped_shows_nothing (Take n) = refl
+stopped_shows_nothing (Tick moment) = refl
+stopped_shows_nothing (Close n) = refl
+stopped_shows_nothing (Remove n) = refl
+stopped_shows_nothing Rewrite = refl
+stopped_shows_nothing Retire = refl
+
+module _ {D : Type 0} (crashes : D → Bool) (seen : D → Option Sides) (images : D → Sides → Type 0) (moment : D → ℕ) (left_since : D → ℕ → Sides → Type 0) (faults : D → ℕ) where
+  abbrev Acted : Place D → Place D → Act → Type 0
+  Acted = Acts crashes seen images moment left_since faults
+
+  -- moments do not fall
+  not_earlier : (old new : D) (h next : Hall) (event : Event) (outcome : Outcome) (before after : Journal) → Turn images moment left_since old new h before event outcome next after → (b : Bool) → h.stopped ≡ b → moment old ≤ moment new
+  not_earlier old new h next event outcome before after turn true is = let same = ap moment (turn.stopped is) in omega (arith, same)
+  not_earlier old new h next event outcome before after turn false is = (turn.leaves is).later
+
+  -- a call of a core
+  pub acted_inside : (c d : DurableCore D) (event : Event) (outcome : Outcome) → is_retire event ≡ false → Step (hall_of c) event outcome (hall_of d)
+      → (is_log_fault outcome ≡ true → Rose (faults (disk_of c)) (faults (disk_of d))) → faults (disk_of c) ≤ faults (disk_of d) → crashes (disk_of d) ≡ crashes (disk_of c)
+      → ((j : Journal) → KeepsLogOf crashes seen images c j → GoesOn crashes seen images moment left_since c d event outcome j)
+      → Acted (Inside c) (Inside d) (event, outcome)
+  acted_inside c d event outcome stays step cause later told log = record {
+    step = step;
+    later = later;
+    cause = cause;
+    told = told;
+    out = sym stays;
+    stays = λ out. absurd (true≢false (sym out));
+    log = λ j kept crash.
+        let on = log j kept in
+        let owes = on.owes crash in
+        (on.after, on.log, not_earlier (disk_of c) (disk_of d) (hall_of c) (hall_of d) event outcome j on.after owes.turn (hall_of c).stopped refl, owes.safe);
+  }
+
+  -- one that leaves the disk alone
+  pub acted_beside : (c d : DurableCore D) (event : Event) (outcome : Outcome) → is_retire event ≡ false → Step (hall_of c) event outcome (hall_of d) → is_log_fault outcome ≡ false → disk_of d ≡ disk_of c
+      → ((j : Journal) → KeepsLogOf crashes seen images c j → GoesOn crashes seen images moment left_since c d event outcome j)
+      → Acted (Inside c) (Inside d) (event, outcome)
+  acted_beside c d event outcome stays step fine same log =
+      let kept = ap faults same in
+      acted_inside c d event outcome stays step (λ failed. absurd (true≢false (sym failed ∙ fine))) (omega (arith, kept)) (ap crashes same) log
+
+  -- a core whose disk was given out does nothing
+  acted_outside : (p : Place D) (event : Event) → has_left p ≡ true → (hall_in p).stopped ≡ true → ((disk : D) → TellsNow images moment left_since disk) → Acted p p (event, when_stopped event)
+  acted_outside p event left is tells =
+      let h = hall_in p in
+      let d = disk_in p in
+      let step : Step h event (when_stopped event) h = stops h event is in
+      record {
+        step = step;
+        later = omega arith;
+        cause = λ failed. absurd (true≢false (sym failed ∙ stopped_fine event));
+        told = refl;
+        out = left ∙ sym (ap (λ (b : Bool). b || is_retire event) left);
+        stays = λ _. refl;
+        log = λ j kept crash.
+            let turn : Turn images moment left_since d d h j event (when_stopped event) h j = record {
+              stopped = λ _. refl;
+              leaves = λ goes. absurd (true≢false (sym is ∙ goes));
+              durable = λ goes. absurd (true≢false (sym is ∙ goes));
+              logs = λ goes. absurd (true≢false (sym is ∙ goes));
+              shown = λ shown. absurd (true≢false (sym shown ∙ stopped_shows_nothing event));
+            } in
+            (j, kept, omega arith, turn_keeps_safe images moment left_since d d h h j j event (when_stopped event) (tells d) (tells d) step turn);
+      }
+
+  -- the same of the place where a core was found
+
+  pub does_inside : (p q : Place D) (c d : DurableCore D) (event : Event) (outcome : Outcome) → q ≡ p → q ≡ Inside c → is_retire event ≡ false → Step (hall_of c) event outcome (hall_of d)
+      → (is_log_fault outcome ≡ true → Rose (faults (disk_of c)) (faults (disk_of d))) → faults (disk_of c) ≤ faults (disk_of d) → crashes (disk_of d) ≡ crashes (disk_of c)
+      → ((j : Journal) → KeepsLogOf crashes seen images c j → GoesOn crashes seen images moment left_since c d event outcome j)
+      → Acted p (Inside d) (event, outcome)
+  does_inside p q c d event outcome same is stays step cause later told log =
+      subst (λ (x : Place D). Acted x (Inside d) (event, outcome)) (sym is ∙ same) (acted_inside c d event outcome stays step cause later told log)
+
+  pub does_beside : (p q : Place D) (c d : DurableCore D) (event : Event) (outcome : Outcome) → q ≡ p → q ≡ Inside c → is_retire event ≡ false → Step (hall_of c) event outcome (hall_of d) → is_log_fault outcome ≡ false → disk_of d ≡ disk_of c
+      → ((j : Journal) → KeepsLogOf crashes seen images c j → GoesOn crashes seen images moment left_since c d event outcome j)
+      → Acted p (Inside d) (event, outcome)
+  does_beside p q c d event outcome same is stays step fine alone log =
+      subst (λ (x : Place D). Acted x (Inside d) (event, outcome)) (sym is ∙ same) (acted_beside c d event outcome stays step fine alone log)
+
+  pub does_nothing : (p q left : Place D) (event : Event) → q ≡ p → q ≡ left → has_left left ≡ true → (hall_in left).stopped ≡ true → ((disk : D) → TellsNow images moment left_since disk) → Acted p q (event, when_stopped event)
+  does_nothing p q left event same is out stops tells =
+      subst (λ (x : Place D). Acted x q (event, when_stopped event)) (sym is ∙ same) (subst (λ (x : Place D). Acted left x (event, when_stopped event)) (sym is) (acted_outside left event out stops tells))
+
+  -- and of the halls there
+  pub hall_inside : (p q : Place D) (c : DurableCore D) → q ≡ p → q ≡ Inside c → hall_of c ≡ hall_in p
+  hall_inside p q c same is = ap hall_in (sym is ∙ same)
+
+  -- a retirement, after which the disk is given out
+  pub retired : (p q : Place D) (c d : DurableCore D) (outcome : Outcome) → p ≡ Inside c → has_left q ≡ true → hall_in q ≡ stopped (hall_of d) → disk_in q ≡ disk_of d → ((k : Journal) → KeepsIn crashes seen images q k)
+      → (hall_of d).stopped ≡ true → Step (hall_of c) Retire outcome (hall_of d)
+      → (is_log_fault outcome ≡ true → Rose (faults (disk_of c)) (faults (disk_of d))) → faults (disk_of c) ≤ faults (disk_of d) → crashes (disk_of d) ≡ crashes (disk_of c)
+      → ((j : Journal) → KeepsLogOf crashes seen images c j → GoesOn crashes seen images moment left_since c d Retire outcome j)
+      → Acted p q (Retire, outcome)
+  retired p q c d outcome is out hall same keeps stops step cause later told log =
+      let there : hall_of d ≡ hall_in q = sym (hall ∙ same_hall (hall_of d) true stops) in
+      subst (λ (x : Place D). Acted x q (Retire, outcome)) (sym is) (record {
+        step = subst (λ (h : Hall). Step (hall_of c) Retire outcome h) there step;
+        later = subst (λ (x : D). faults (disk_of c) ≤ faults x) (sym same) later;
+        cause = λ failed. subst (λ (x : D). Rose (faults (disk_of c)) (faults x)) (sym same) (cause failed);
+        told = ap crashes same ∙ told;
+        out = out;
+        stays = λ out. absurd (true≢false (sym out));
+        log = λ j kept crash.
+            let on = log j kept in
+            let owes = on.owes crash in (
+              on.after,
+              keeps on.after,
+              subst (λ (x : D). moment (disk_of c) ≤ moment x) (sym same) (not_earlier (disk_of c) (disk_of d) (hall_of c) (hall_of d) Retire outcome j on.after owes.turn (hall_of c).stopped refl),
+              subst (λ (x : D). KeepsSafe images moment left_since (disk_of c) x (hall_of c) j Retire outcome (hall_in q) on.after) (sym same)
+                  (subst (λ (h : Hall). KeepsSafe images moment left_since (disk_of c) (disk_of d) (hall_of c) j Retire outcome h on.after) there owes.safe),
+            );
+      })

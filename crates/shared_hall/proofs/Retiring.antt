@@ -1,0 +1,62 @@
+-- What a retirement tells.
+use Rattle.std.proofs.Common.{◌≡◌, ℕ, Bool, true, false, List, [], ◌∷◌, refl, sym, ap, ◌∙◌, subst}
+use Rattle.std.specs.Prelude.{Option, None, Some, is_some, not, min, IfSome}
+use Rattle.std.specs.List.{list_any}
+use Rattle.outside.specs.Causes.{most_count}
+use Rattle.outside.specs.Crashes.{EachImage}
+use Rattle.outside.specs.Sides.{Sides}
+use Rattle.world_model.specs.Halls.{Hall}
+use Rattle.world_model.specs.Histories.{Reaches}
+use Rattle.world_model.specs.Seats.{Knows, AddsCalls}
+use Rattle.world_model.specs.declared.events.Called.{Called}
+use Rattle.world_model.specs.declared.events.Called.TheVariants as called
+use Rattle.world_model.specs.declared.events.Event.TheVariants as event
+use Rattle.log_record.specs.Recovery.{Recovers}
+use Rattle.log_record.specs.Safety.{Safe, count_after}
+use Rattle.shared_hall.specs.Cores.{disk_in, has_left, tells}
+use Rattle.shared_hall.specs.Seats.{IsDone}
+use Rattle.shared_hall.specs.Times.{is_retirement}
+use Rattle.shared_hall.specs.Turns.{acts, retire_outcome, Gives, GivesOut}
+use Rattle.shared_hall.specs.declared.works.HallAnswer.{HallAnswer}
+use Rattle.shared_hall.specs.declared.works.HallAnswer.TheVariants as answer
+use Rattle.shared_hall.specs.declared.works.HallWork.TheVariants as work
+use Rattle.shared_hall.proofs.Adding.{adds_acts}
+
+module _ {D : Type 0} (crashes : D → Bool) (seen : D → Option Sides) (images : D → Sides → Type 0) (moment : D → ℕ) (left_since : D → ℕ → Sides → Type 0) (faults : D → ℕ) (handed : D)
+    (out : HallAnswer D) (old new : Knows) (given : Option (D × Called)) (is : out ≡ answer.Retired given) (d : IsDone crashes seen images moment left_since faults handed work.Retire out old new) where
+  pub retired : AddsCalls ((event.Retire, retire_outcome given) ∷ []) old new
+  retired = adds_acts crashes seen images moment left_since faults handed work.Retire out old new ((event.Retire, retire_outcome given) ∷ []) (ap (λ (z : HallAnswer D). acts work.Retire z) is) d
+
+  gives : GivesOut crashes seen images moment left_since faults d.before given d.after
+  gives = subst (λ (z : HallAnswer D). Gives crashes seen images moment left_since faults work.Retire d.before z d.after) is d.gives
+
+  pub given_once : old.first ≡ true → is_some given ≡ not (list_any is_retirement old.seen)
+  given_once first = by given gives ∙ sym (ap not (d.once first))
+    where
+      by : (given : Option (D × Called)) → GivesOut crashes seen images moment left_since faults d.before given d.after → is_some given ≡ not (has_left d.before)
+      by None g = sym (ap not g)
+      by (Some p) g = sym (ap not g.0)
+
+  pub given_counted : IfSome given (λ p. count_after new.opening.count new.seen ≡ min (faults p.0) most_count)
+  given_counted = by given gives
+    where
+      by : (given : Option (D × Called)) → GivesOut crashes seen images moment left_since faults d.before given d.after → IfSome given (λ p. count_after new.opening.count new.seen ≡ min (faults p.0) most_count)
+      by None g = tt
+      by (Some p) g = (d.stands.still g.1).1 ∙ ap (λ (x : D). min (faults x) most_count) g.2
+
+  pub given_safe : tells crashes seen handed ≡ true → IfSome given (λ p. Safe left_since p.0 new.opening new.seen)
+  given_safe told = by given gives
+    where
+      by : (given : Option (D × Called)) → GivesOut crashes seen images moment left_since faults d.before given d.after → IfSome given (λ p. Safe left_since p.0 new.opening new.seen)
+      by None g = tt
+      by (Some p) g = subst (λ (x : D). Safe left_since x new.opening new.seen) g.2 (d.stands.kept told).1.2.safe
+
+  pub given_stands : tells crashes seen handed ≡ true → IfSome given (λ p. p.1 ≡ called.Ok → (h : Hall) → Reaches new.opening new.seen h → EachImage (images p.0) (λ image. Recovers image h.world))
+  given_stands told = by given gives
+    where
+      by : (given : Option (D × Called)) → GivesOut crashes seen images moment left_since faults d.before given d.after
+          → IfSome given (λ p. p.1 ≡ called.Ok → (h : Hall) → Reaches new.opening new.seen h → EachImage (images p.0) (λ image. Recovers image h.world))
+      by None g = tt
+      by (Some p) g = λ ok h reached image at.
+          let k = d.stood.kept told in
+          subst (λ (x : Hall). Recovers image x.world) (sym (d.one h reached)) (g.3 k.1.0 k.1.1 k.0 ok image at)

@@ -1,0 +1,251 @@
+-- How a core goes on standing for its history, act by act and turn by turn.
+use Rattle.std.proofs.Common.{◌≡◌, ◌≤◌, ◌<◌, ◌⊎◌, ◌||◌, ◌+◌, ℕ, Bool, true, false, List, [], ◌∷◌, ◌++◌, length, map, min, refl, sym, ap, ◌∙◌, subst, arith, inl, inr, ⊎_elim, true≢false, append_assoc, append-nil, length-append, le_refl}
+use Rattle.std.specs.Prelude.{if◌then◌else◌, ◌&&◌, ◌-◌, ◌^◌, nat_le}
+use Rattle.std.proofs.lemmas.Bool.Decides.{nat_tests}
+use Rattle.std.specs.List.{list_any}
+use Rattle.std.proofs.lemmas.List.Folds.{list_any-append}
+use Rattle.outside.specs.Causes.{Rose, most_count}
+use Rattle.outside.specs.Sides.{Sides}
+use Rattle.world_model.specs.Halls.{Hall}
+use Rattle.world_model.specs.Histories.{Step, Follows, Leads, Reaches, gives_disk, is_log_fault, opening_hall}
+use Rattle.world_model.specs.Seats.{Act, act_of}
+use Rattle.world_model.specs.declared.events.Event.{Event}
+use Rattle.world_model.specs.declared.events.Event.TheVariants.{Enter, Call, Take, Tick, Close, Remove, Rewrite, Retire}
+use Rattle.world_model.specs.declared.events.Outcome.{Outcome}
+use Rattle.world_model.specs.declared.events.Entry.{Entry}
+use Rattle.world_model.specs.declared.events.Opening.{Opening}
+use Rattle.log_record.specs.Journals.{Journal}
+use Rattle.log_record.specs.Laws.{KeepsSafe, Stood}
+use Rattle.log_record.specs.Safety.{moment_after, count_after, out_after, ComesNext}
+use Rattle.log_record.specs.Acknowledged.{moment_last}
+use Rattle.log_record.specs.LeadingLaws.{leads_on}
+use Rattle.shared_hall.specs.Times.{Time, time_of, entry_at, entries_at, is_retire, is_retirement}
+use Rattle.shared_hall.specs.Standing.{IsAct, FrontBy, EndsBy, TurnBy, Stands}
+use Rattle.shared_hall.proofs.Raising.{ArePlain, Raises, raised, raise_reaches, raise_stood, raised_past}
+
+-- an entry that gave the disk out is a retirement
+gives_retires : (event : Event) (e : Entry) → gives_disk (record e { event = event }) ≡ true → is_retire event ≡ true
+gives_retires Enter e gives = absurd (true≢false (sym gives))
+gives_retires (Call n m asked) e gives = absurd (true≢false (sym gives))
+gives_retires (Take n) e gives = absurd (true≢false (sym gives))
+gives_retires (Tick m) e gives = absurd (true≢false (sym gives))
+gives_retires (Close n) e gives = absurd (true≢false (sym gives))
+gives_retires (Remove n) e gives = absurd (true≢false (sym gives))
+gives_retires Rewrite e gives = absurd (true≢false (sym gives))
+gives_retires Retire e gives = refl
+
+gives_none : (e : Entry) → is_retirement e ≡ false → (b : Bool) → gives_disk e ≡ b → gives_disk e ≡ false
+gives_none e none true is = absurd (true≢false (sym (gives_retires e.event e is) ∙ none))
+gives_none e none false is = is
+
+either_out : (a b c : Bool) → (b ≡ true → c ≡ true) → (a || b) ≡ true → (a || c) ≡ true
+either_out true b c p is = refl
+either_out false b c p is = p is
+
+or_moved : (a b c : Bool) → ((a || b) || c) ≡ (a || (b || c))
+or_moved true b c = refl
+or_moved false b c = refl
+
+-- where the disk was given out, there was a retirement
+out_retired : (is_out : Bool) (log : List Entry) → out_after is_out log ≡ true → (is_out || list_any is_retirement log) ≡ true
+out_retired true log out = refl
+out_retired false [] out = absurd (true≢false (sym out))
+out_retired false (e ∷ log) out = by (λ more. out_retired false log more) (gives_disk e) refl
+  where
+    by_head : (r : Bool) → list_any is_retirement log ≡ true → (r || list_any is_retirement log) ≡ true
+    by_head true more = refl
+    by_head false more = more
+
+    by : (out_after false log ≡ true → list_any is_retirement log ≡ true) → (b : Bool) → gives_disk e ≡ b → (is_retirement e || list_any is_retirement log) ≡ true
+    by rest true is = ap (λ (r : Bool). r || list_any is_retirement log) (gives_retires e.event e is)
+    by rest false is = by_head (is_retirement e) (rest (subst (λ (g : Bool). out_after g log ≡ true) is out))
+
+count_last : (start : ℕ) (entries : List Entry) (e : Entry) → count_after start (entries ++ e ∷ []) ≡ e.count
+count_last start [] e = refl
+count_last start (d ∷ entries) e = count_last d.count entries e
+
+-- the count that a fault shows
+rose_counted : (c before now : ℕ) → c ≤ min before most_count → before ≤ now → Rose before now → (c < min now most_count) ⊎ (min now most_count ≡ 2 ^ 64 - 1)
+rose_counted c before now within later rose = by (nat_le most_count now) refl
+  where
+    by : (b : Bool) → nat_le most_count now ≡ b → (c < min now most_count) ⊎ (min now most_count ≡ 2 ^ 64 - 1)
+    by true is = inr (grind (arith, nat_tests))
+    by false is = inl (grind (arith, nat_tests))
+
+-- the same of entries that were raised
+
+raised_retired : (t : Time) (es : List Entry) → list_any is_retirement (map (raised t) es) ≡ list_any is_retirement es
+raised_retired t [] = refl
+raised_retired t (e ∷ es) = ap (λ (b : Bool). is_retirement e || b) (raised_retired t es)
+
+raised_counted : (t : Time) (most : ℕ) (before es : List Entry) (c : ℕ) → t.count ≤ most → count_after c (before ++ es) ≤ most → count_after c (before ++ map (raised t) es) ≤ most
+raised_counted t most [] [] c within past = past
+raised_counted t most [] (e ∷ es) c within past = all es
+  where
+    all : (fs : List Entry) → count_after t.count (map (raised t) fs) ≤ most
+    all [] = within
+    all (f ∷ fs) = all fs
+raised_counted t most (b ∷ before) es c within past = raised_counted t most before es b.count within past
+
+ended_moment : (t : Time) (before es : List Entry) (m : ℕ) → moment_after m (before ++ es) ≡ t.moment → moment_after m (before ++ map (raised t) es) ≡ t.moment
+ended_moment t [] [] m is = is
+ended_moment t [] (e ∷ es) m is = all es
+  where
+    all : (fs : List Entry) → moment_after t.moment (map (raised t) fs) ≡ t.moment
+    all [] = refl
+    all (f ∷ fs) = all fs
+ended_moment t (b ∷ before) es m is = ended_moment t before es b.moment is
+
+ended_count : (t : Time) (before es : List Entry) (c : ℕ) → count_after c (before ++ es) ≡ t.count → count_after c (before ++ map (raised t) es) ≡ t.count
+ended_count t [] [] c is = is
+ended_count t [] (e ∷ es) c is = all es
+  where
+    all : (fs : List Entry) → count_after t.count (map (raised t) fs) ≡ t.count
+    all [] = refl
+    all (f ∷ fs) = all fs
+ended_count t (b ∷ before) es c is = ended_count t before es b.count is
+
+raised_are : (t : Time) (es : List Entry) → map (raised t) es ≡ map (entry_at t) (map act_of es)
+raised_are t [] = refl
+raised_are t (e ∷ es) = ap (λ (l : List Entry). raised t e ∷ l) (raised_are t es)
+
+pub entries_end : (begun ended : Time) (front : List Act) (last : Act) → entries_at begun ended (front ++ last ∷ []) ≡ map (entry_at begun) front ++ entry_at ended last ∷ []
+entries_end begun ended [] last = refl
+entries_end begun ended (a ∷ []) last = refl
+entries_end begun ended (a ∷ b ∷ front) last = ap (λ (l : List Entry). entry_at begun a ∷ l) (entries_end begun ended (b ∷ front) last)
+
+module _ {S D : Type 0} (hall : S → Hall) (disk : S → D) (is_out : S → Bool) (is_log : S → Journal → Type 0)
+    (crashes : D → Bool) (images : D → Sides → Type 0) (moment : D → ℕ) (left_since : D → ℕ → Sides → Type 0) (faults : D → ℕ) where
+  abbrev Acted : S → S → Act → Type 0
+  Acted = IsAct hall disk is_out is_log crashes images moment left_since faults
+
+  abbrev Fronted : List Act → S → S → Type 0
+  Fronted = FrontBy hall disk is_out is_log crashes images moment left_since faults
+
+  abbrev StandsAt : Bool → S → Opening → List Entry → Type 0
+  StandsAt = Stands hall disk is_out is_log crashes images moment left_since faults
+
+  abbrev time : Bool → S → Time
+  time told s = time_of moment faults told (disk s)
+
+  abbrev Kept : S → Opening → List Entry → Type 0
+  Kept s o log = (crashes (disk s) ≡ true) × ((j : Journal) × is_log s j × Stood images moment left_since (disk s) o log (hall s) j)
+
+  moment_later : (told : Bool) (s t : S) (o : Opening) (log : List Entry) (a : Act) → StandsAt told s o log → Acted s t a → (time told s).moment ≤ (time told t).moment
+  moment_later false s t o log a stands act = omega arith
+  moment_later true s t o log a stands act = let k = stands.kept refl in (act.log k.1.0 k.1.1 k.0).2
+
+  is_still : (told : Bool) (s : S) (o : Opening) (log : List Entry) → StandsAt told s o log → out_after false log ≡ true → is_out s ≡ true
+  is_still told s o log stands out = stands.out ∙ out_retired false log out
+
+  follows : (told : Bool) (s t : S) (o : Opening) (log : List Entry) (a : Act) → StandsAt told s o log → Acted s t a → ComesNext o log (entry_at (time told t) a)
+  follows told s t o log a stands act = record {
+    later = omega (arith, stands.past, moment_later told s t o log a stands act);
+    not_fallen = omega (arith, stands.counted, act.later);
+    moment_stays = λ out. let is = is_still told s o log stands out in ap (λ (d : D). (time_of moment faults told d).moment) (act.stays is) ∙ sym (stands.still is).0;
+    count_stays = λ out. let is = is_still told s o log stands out in ap (λ (d : D). (time_of moment faults told d).count) (act.stays is) ∙ sym (stands.still is).1;
+    cause = λ failed. rose_counted (count_after o.count log) (faults (disk s)) (faults (disk t)) stands.counted act.later (act.cause failed);
+    note = refl;
+  }
+
+  kept_more : (told : Bool) (s t : S) (o : Opening) (log : List Entry) (a : Act) → StandsAt told s o log → Acted s t a → told ≡ true → Kept t o (log ++ entry_at (time told t) a ∷ [])
+  kept_more false s t o log a stands act is = absurd (true≢false (sym is))
+  kept_more true s t o log a stands act is =
+      let k = stands.kept refl in
+      let next = act.log k.1.0 k.1.1 k.0 in
+      (act.told ∙ k.0, (next.0, next.1, next.3 o log (entry_at (time true t) a) k.1.2 refl refl refl (follows true s t o log a stands act)))
+
+  -- one act more
+  pub one_more : (told : Bool) (s t : S) (o : Opening) (log : List Entry) (a : Act) → StandsAt told s o log → Acted s t a → StandsAt told t o (log ++ entry_at (time told t) a ∷ [])
+  one_more told s t o log a stands act =
+      let e = entry_at (time told t) a in
+      record {
+        reached = leads_on (opening_hall o.world o.logged) (hall s) (hall t) o.moment o.count false log e stands.reached act.step (follows told s t o log a stands act);
+        sound = stands.sound;
+        past = omega (arith, moment_last o.moment log e);
+        counted = omega (arith, count_last o.count log e);
+        out = act.out ∙ ap (λ (b : Bool). b || is_retire a.0) stands.out ∙ sym (list_any-append is_retirement log (e ∷ []) ∙ ap (λ (b : Bool). list_any is_retirement log || b) (one (is_retire a.0)));
+        still = λ _. (moment_last o.moment log e, count_last o.count log e);
+        kept = kept_more told s t o log a stands act;
+      }
+    where
+      one : (b : Bool) → (b || false) ≡ b
+      one true = refl
+      one false = refl
+
+  -- acts that others may follow, each as an entry of its own time
+  record Fronts (told : Bool) (s : S) (o : Opening) (log : List Entry) (acts : List Act) : Type 0 where
+    entries : List Entry
+    are : map act_of entries ≡ acts
+    plain : ArePlain entries
+    stands : StandsAt told s o (log ++ entries)
+
+  front_own : (told : Bool) (acts : List Act) (s t : S) (o : Opening) (log : List Entry) → StandsAt told s o log → Fronted acts s t → Fronts told t o log acts
+  front_own told [] s t o log stands made = record {
+    entries = [];
+    are = refl;
+    plain = tt;
+    stands = subst (λ (l : List Entry). StandsAt told t o l) (sym (append-nil log)) (subst (λ (x : S). StandsAt told x o log) (sym made) stands);
+  }
+  front_own told (a ∷ acts) s t o log stands made =
+      let e = entry_at (time told made.0) a in
+      let rest = front_own told acts made.0 t o (log ++ e ∷ []) (one_more told s made.0 o log a stands made.1) made.4 in
+      record {
+        entries = e ∷ rest.entries;
+        are = ap (λ (l : List Act). a ∷ l) rest.are;
+        plain = (made.2, gives_none e made.3 (gives_disk e) refl, rest.plain);
+        stands = subst (λ (l : List Entry). StandsAt told t o l) (append_assoc log (e ∷ []) rest.entries) rest.stands;
+      }
+
+  front_stays : (acts : List Act) (s t : S) → Fronted acts s t → is_out s ≡ true → disk t ≡ disk s
+  front_stays [] s t made out = ap disk made
+  front_stays (a ∷ acts) s t made out = front_stays acts made.0 t made.4 (made.1.out ∙ ap (λ (b : Bool). b || is_retire a.0) out) ∙ made.1.stays out
+
+  module _ (from_earlier : (d : D) (t u : ℕ) (c : Sides) → t ≤ u → u ≤ moment d → left_since d u c → left_since d t c) where
+    kept_raised : (told : Bool) (t : S) (o : Opening) (log es : List Entry) → StandsAt told t o (log ++ es) → Raises (time told t) o log es → told ≡ true → Kept t o (log ++ map (raised (time told t)) es)
+    kept_raised false t o log es stands raises is = absurd (true≢false (sym is))
+    kept_raised true t o log es stands raises is =
+        let k = stands.kept refl in
+        (k.0, (k.1.0, k.1.1, raise_stood (time true t) o log es raises (hall t) stands.reached images moment left_since (disk t) k.1.0 (from_earlier (disk t)) (omega arith) k.1.2))
+
+    -- the same, each as an entry that ended when the last of them did
+    front_stands : (told : Bool) (acts : List Act) (s t : S) (o : Opening) (log : List Entry) → StandsAt told s o log → Fronted acts s t → StandsAt told t o (log ++ map (entry_at (time told t)) acts)
+    front_stands told acts s t o log stands made =
+        let own = front_own told acts s t o log stands made in
+        let es = own.entries in
+        let u = time told t in
+        let raises : Raises u o log es = record {
+          plain = own.plain;
+          later = own.stands.past;
+          more = own.stands.counted;
+          still = λ out.
+              let is = is_still told s o log stands out in
+              let same = front_stays acts s t made is in
+              (ap (λ (d : D). (time_of moment faults told d).moment) same ∙ sym (stands.still is).0, ap (λ (d : D). (time_of moment faults told d).count) same ∙ sym (stands.still is).1);
+        } in
+        subst (λ (l : List Entry). StandsAt told t o (log ++ l)) (raised_are u es ∙ ap (λ (l : List Act). map (entry_at u) l) own.are) (record {
+          reached = raise_reaches u o log es raises (hall t) own.stands.reached;
+          sound = stands.sound;
+          past = raised_past u o log es raises (hall t) own.stands.reached u.moment (omega arith) own.stands.past;
+          counted = raised_counted u u.count log es o.count (omega arith) own.stands.counted;
+          out = own.stands.out ∙ list_any-append is_retirement log es ∙ ap (λ (b : Bool). list_any is_retirement log || b) (sym (raised_retired u es)) ∙ sym (list_any-append is_retirement log (map (raised u) es));
+          still = λ is. (ended_moment u log es o.moment (own.stands.still is).0, ended_count u log es o.count (own.stands.still is).1);
+          kept = kept_raised told t o log es own.stands raises;
+        })
+
+    -- a turn
+    pub turn_stands : (told : Bool) (acts : List Act) (begun : D) (s t : S) (o : Opening) (log : List Entry) → StandsAt told s o log
+        → TurnBy hall disk is_out is_log crashes images moment left_since faults acts begun s t
+        → StandsAt told t o (log ++ entries_at (time_of moment faults told begun) (time told t) acts)
+    turn_stands told acts begun s t o log stands (inl none) =
+        subst (λ (l : List Act). StandsAt told t o (log ++ entries_at (time_of moment faults told begun) (time told t) l)) (sym none.0)
+        (subst (λ (l : List Entry). StandsAt told t o l) (sym (append-nil log)) (subst (λ (x : S). StandsAt told x o log) (sym none.1) stands))
+    turn_stands told acts begun s t o log stands (inr e) =
+        let mid = e.mid in
+        let front = front_stands told e.front s mid o log stands e.made in
+        let all = one_more told mid t o (log ++ map (entry_at (time told mid)) e.front) e.last front e.act in
+        let began : time_of moment faults told begun ≡ time told mid = ap (λ (d : D). time_of moment faults told d) e.began in
+        subst (λ (l : List Act). StandsAt told t o (log ++ entries_at (time_of moment faults told begun) (time told t) l)) (sym e.are)
+        (subst (λ (u : Time). StandsAt told t o (log ++ entries_at u (time told t) (e.front ++ e.last ∷ []))) (sym began)
+        (subst (λ (l : List Entry). StandsAt told t o (log ++ l)) (sym (entries_end (time told mid) (time told t) e.front e.last))
+        (subst (λ (l : List Entry). StandsAt told t o l) (append_assoc log (map (entry_at (time told mid)) e.front) (entry_at (time told t) e.last ∷ [])) all)))

@@ -1,0 +1,15 @@
+use Rattle.std.proofs.Common.{refl}
+use Rattle.world_model.specs.declared.events.Event.TheVariants as event
+use Rattle.world_model.specs.declared.events.Outcome.TheVariants as outcome
+use Rattle.shared_hall.proofs.Acting.{call_failed, does_inside, does_nothing}
+use Rattle.shared_hall.proofs.places.HallCore.step_rewrite.Goals as goal
+
+pub returns-in-Inside-clause-act : goal.returns-in-Inside-clause-act
+returns-in-Inside-clause-act g c = let m = g.D.Disk in let e = c.step_rewrite.ensures in
+    does_inside m.crashes m.seen m.images m.moment m.left_since m.faults c.args.self.now.place c.begin.new.self.place c.in-Inside.core c.step_rewrite.new.self (event.Rewrite) (outcome.Answered c.step_rewrite.result) c.begin.ensures.place c.in-Inside.is
+    refl e.step (λ is. e.cause (call_failed c.step_rewrite.result is)) e.later e.told e.log
+
+pub returns-in-Out-clause-act : goal.returns-in-Out-clause-act
+returns-in-Out-clause-act g c = let m = g.D.Disk in
+    does_nothing m.crashes m.seen m.images m.moment m.left_since m.faults c.args.self.now.place c.begin.new.self.place _ (event.Rewrite) c.begin.ensures.place c.in-Out.is refl refl
+    (λ d. record { counts_now = g.met.D.Disk.counts_now d; only_now = g.met.D.Disk.only_now d })

@@ -1,0 +1,58 @@
+-- What the acts of a turn do to a core and its disk, and the histories that a core stands for.
+use Rattle.std.specs.Prelude.{◌≡◌, ◌⊎◌, ◌≤◌, ◌||◌, ℕ, Bool, true, false, List, [], ◌∷◌, ◌++◌}
+use Rattle.std.specs.List.{list_any}
+use Rattle.outside.specs.Causes.{Rose}
+use Rattle.outside.specs.Sides.{Sides}
+use Rattle.world_data.specs.Sound.{IsSoundWorld}
+use Rattle.world_model.specs.Halls.{Hall}
+use Rattle.world_model.specs.Histories.{Step, Reaches, is_log_fault}
+use Rattle.world_model.specs.Seats.{Act}
+use Rattle.world_model.specs.declared.events.Entry.{Entry}
+use Rattle.world_model.specs.declared.events.Opening.{Opening}
+use Rattle.log_record.specs.Journals.{Journal}
+use Rattle.log_record.specs.Laws.{KeepsSafe, Stood}
+use Rattle.log_record.specs.Safety.{moment_after, count_after}
+use Rattle.shared_hall.specs.Times.{Time, time_of, is_retire, is_retirement}
+
+-- Of a state: its hall, its disk, whether the disk was given out, and the journals that its log keeps
+module _ {S D : Type 0} (hall : S → Hall) (disk : S → D) (is_out : S → Bool) (is_log : S → Journal → Type 0)
+    (crashes : D → Bool) (images : D → Sides → Type 0) (moment : D → ℕ) (left_since : D → ℕ → Sides → Type 0) (faults : D → ℕ) where
+  -- one act: a step of the hall. The log fails only where the disk did, and where it is kept, the disk stays safe.
+  pub record IsAct (old new : S) (a : Act) : Type 0 where
+    pub step : Step (hall old) a.0 a.1 (hall new)
+    pub later : faults (disk old) ≤ faults (disk new)
+    pub cause : is_log_fault a.1 ≡ true → Rose (faults (disk old)) (faults (disk new))
+    pub told : crashes (disk new) ≡ crashes (disk old)
+    pub out : is_out new ≡ (is_out old || is_retire a.0)
+    pub stays : is_out old ≡ true → disk new ≡ disk old
+    pub log : (j : Journal) → is_log old j → crashes (disk old) ≡ true → (k : Journal) × is_log new k × (moment (disk old) ≤ moment (disk new))
+        × KeepsSafe images moment left_since (disk old) (disk new) (hall old) j a.0 a.1 (hall new) k
+
+  -- acts behind which others may come: in none did the log fail, and the disk stayed in
+  abbrev pub FrontBy : List Act → S → S → Type 0
+  FrontBy [] old new = new ≡ old
+  FrontBy (a ∷ acts) old new = (next : S) × IsAct old next a × (is_log_fault a.1 ≡ false) × (is_retire a.0 ≡ false) × FrontBy acts next new
+
+  -- the acts of a turn: the last, which begins with this disk, may be any
+  pub record EndsBy (acts : List Act) (begun : D) (old new : S) : Type 0 where
+    pub front : List Act
+    pub last : Act
+    pub are : acts ≡ front ++ last ∷ []
+    pub mid : S
+    pub made : FrontBy front old mid
+    pub began : begun ≡ disk mid
+    pub act : IsAct mid new last
+
+  abbrev pub TurnBy : List Act → D → S → S → Type 0
+  TurnBy acts begun old new = ((acts ≡ []) × (new ≡ old)) ⊎ EndsBy acts begun old new
+
+  -- The history, from an opening with a sound world on, leads to the hall. Its entries ended when the disk's time says, or before; where
+  -- the disk was given out, that was a retirement, and time stands still. Where contents and crashes are told, the log is kept and the disk safe.
+  pub record Stands (told : Bool) (s : S) (o : Opening) (log : List Entry) : Type 0 where
+    pub reached : Reaches o log (hall s)
+    pub sound : IsSoundWorld o.world
+    pub past : moment_after o.moment log ≤ (time_of moment faults told (disk s)).moment
+    pub counted : count_after o.count log ≤ (time_of moment faults told (disk s)).count
+    pub out : is_out s ≡ list_any is_retirement log
+    pub still : is_out s ≡ true → (moment_after o.moment log ≡ (time_of moment faults told (disk s)).moment) × (count_after o.count log ≡ (time_of moment faults told (disk s)).count)
+    pub kept : told ≡ true → (crashes (disk s) ≡ true) × ((j : Journal) × is_log s j × Stood images moment left_since (disk s) o log (hall s) j)

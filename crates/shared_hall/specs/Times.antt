@@ -1,0 +1,31 @@
+-- The time of a disk, and what happens in a turn as entries that end at such times.
+use Rattle.std.specs.Prelude.{◌≡◌, ℕ, min, Bool, true, false, List, [], ◌∷◌, if◌then◌else◌}
+use Rattle.outside.specs.Causes.{most_count}
+use Rattle.world_model.specs.Seats.{Act}
+use Rattle.world_model.specs.declared.events.Event.{Event}
+use Rattle.world_model.specs.declared.events.Event.TheVariants.{Retire}
+use Rattle.world_model.specs.declared.events.Entry.{Entry}
+
+pub record Time : Type 0 where
+  pub moment : ℕ
+  pub count : ℕ
+
+-- the moment, where what a crash may leave is told, and the count of faults, as far as it is counted
+abbrev pub time_of : {D : Type 0} → (D → ℕ) → (D → ℕ) → Bool → D → Time
+time_of moment faults told disk = record { moment = if told then moment disk else 0; count = min (faults disk) most_count }
+
+abbrev pub entry_at : Time → Act → Entry
+entry_at t a = record { event = a.0; outcome = a.1; note = []; moment = t.moment; count = t.count }
+
+-- The entries of a turn. The last of its acts ends with the turn, and those before it had ended when it began.
+abbrev pub entries_at : Time → Time → List Act → List Entry
+entries_at begun ended [] = []
+entries_at begun ended (a ∷ []) = entry_at ended a ∷ []
+entries_at begun ended (a ∷ b ∷ acts) = entry_at begun a ∷ entries_at begun ended (b ∷ acts)
+
+abbrev pub is_retire : Event → Bool
+is_retire Retire = true
+is_retire event = false
+
+abbrev pub is_retirement : Entry → Bool
+is_retirement e = is_retire e.event
