@@ -1,7 +1,10 @@
-// The real things, over the loopback.
-use crate::{TcpDoor, TcpSink, TcpSource, ThreadSpawner, WallClock};
-use outside::{Accepted, Clock, Door, Failed, Job, Link, MAX_MOMENT, Sink, Source, Spawner, Tally};
+// The real things, over the loopback and in the current folder.
+use crate::{FolderDisk, TcpDoor, TcpSink, TcpSource, ThreadSpawner, WallClock};
+use outside::{
+    Accepted, Clock, Disk, Door, Failed, Job, Link, MAX_MOMENT, Side, Sink, Source, Spawner, Tally,
+};
 use std::alloc::Global;
+use std::fs;
 use std::io::{Read, Write};
 use std::net::TcpStream;
 use std::sync::atomic::{AtomicU64, Ordering};
@@ -142,4 +145,42 @@ fn a_spawner_runs_each_job(rt: HostRuntime) -> Result<(), Fail> {
     spawner.finish(&rt);
     assert_eq!(rt; sum.load(Ordering::SeqCst), 3);
     Ok(())
+}
+
+// What stands behind a lock goes from thread to thread.
+fn goes_to_threads<T: Send + Sync + 'static>(_thing: &T) {}
+
+#[test]
+fn a_folder_keeps_a_disk_and_counts_its_faults(rt: HostRuntime) -> Result<(), Fail> {
+    let _ = fs::remove_dir_all(&rt, "tile-data");
+    let mut disk = FolderDisk::new(rt);
+    goes_to_threads(&disk);
+    assert_eq!(rt; disk.len(Side::A), Ok(0));
+    assert_eq!(rt; disk.write_at(Side::A, 3, b""), Ok(()));
+    assert_eq!(rt; disk.write_at(Side::B, 2, b"vwxyz"), Ok(()));
+    assert_eq!(rt; disk.write_at(Side::B, 3, b"W"), Ok(()));
+    assert_eq!(rt; disk.cut(Side::B, 6), Ok(()));
+    assert_eq!(rt; disk.cut(Side::B, 9), Ok(()));
+    assert_eq!(rt; disk.sync(Side::B), Ok(()));
+    drop(disk);
+
+    let mut disk = FolderDisk::new(rt);
+    let mut into = [b'.'; 7];
+    assert_eq!(rt; disk.read(Side::B, 1, &mut into), Ok(5));
+    assert_eq!(rt; into, *b"\0vWxy..");
+    assert_eq!(rt; disk.read(Side::B, 7, &mut into), Ok(0));
+    assert_eq!(rt; (disk.len(Side::A), disk.len(Side::B)), (Ok(3), Ok(6)));
+    assert_eq!(rt; disk.faults, 0);
+    drop(disk);
+
+    fs::remove_file(&rt, "tile-data/b.log")?;
+    fs::create_dir(&rt, "tile-data/b.log")?;
+    let mut disk = FolderDisk::new(rt);
+    assert_eq!(rt; disk.len(Side::B), Err(Failed));
+    assert_eq!(rt; disk.read(Side::B, 0, &mut into), Err(Failed));
+    assert_eq!(rt; disk.write_at(Side::B, 0, b"x"), Err(Failed));
+    assert_eq!(rt; disk.cut(Side::B, 0), Err(Failed));
+    assert_eq!(rt; disk.sync(Side::B), Err(Failed));
+    assert_eq!(rt; disk.faults, 5);
+    Ok(fs::remove_dir_all(&rt, "tile-data")?)
 }

@@ -119,6 +119,8 @@ where
         (K.held sink.old) (K.held sink.new) result }
     ensures legal { IsLegal (H.HallApi.knows seat.new).opening (H.HallApi.knows seat.new).seen }
     ensures opening { (H.HallApi.knows seat.new).opening ≡ (H.HallApi.knows seat.old).opening }
+    ensures seat { H.HallApi.is_of (arc_value hall) seat.new }
+    ensures first { (H.HallApi.knows seat.new).first ≡ (H.HallApi.knows seat.old).first }
     ensures sink { K.faults sink.old ≤ K.faults sink.new }
     ensures door { L.faults door.old ≤ L.faults door.new }
     ensures write { result ≡ 4 → Rose (K.faults sink.old) (K.faults sink.new) }

@@ -1,10 +1,2 @@
-mod Reading
-mod Shown
-mod Playing
-mod Ends
-mod Present
-mod Halting
-mod Feeding
-mod Acting
-mod Cutting
-mod OneOutput
+pub mod Ends
+pub mod Fronting

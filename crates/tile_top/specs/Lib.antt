@@ -1,12 +1,3 @@
-pub mod TextLines
-pub mod Reads
-pub mod Outputs
-pub mod Played
-pub mod Readers
-pub mod Scripts
-pub mod Spent
-pub mod Steps
-pub mod Cuts
-pub mod OneOutput
-pub mod Plays
 pub mod Tops
+pub mod Checks
+pub mod Fronts

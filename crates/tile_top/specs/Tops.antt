@@ -1,14 +1,29 @@
 -- What the program promises of its words and its status.
-use Rattle.std.specs.Prelude.{◌≡◌, ◌⊎◌, ℕ, List, [], ◌∷◌, ◌++◌, Option, Some, None, codes, decimal}
+use Rattle.std.specs.Prelude.{◌≡◌, ◌≢◌, ◌⊎◌, ℕ, Bool, true, List, [], ◌∷◌, ◌++◌, length, Option, Some, None, is_some, codes, decimal}
+use Rattle.std.specs.Io.KnownBytes.{Appends}
 use mathlib.Core.List.{IsPrefix}
 use Rattle.byte_text.specs.Names.{Bytes}
-use Rattle.world_model.specs.Histories.{IsLegal}
-use Rattle.world_model.specs.Seats.{Knows}
-use Rattle.serve_command.specs.Ends.{IsEnd, memory_line, spent_line}
+use Rattle.outside.specs.Sides.{Sides}
+use Rattle.outside.specs.declared.sides.Side.{Side}
+use Rattle.outside.specs.declared.sides.Side.TheVariants.{A, B}
+use Rattle.world_data.specs.declared.worlds.World.{World}
+use Rattle.world_model.specs.Histories.{IsLegal, answer}
+use Rattle.world_model.specs.Seats.{Knows, Adds}
+use Rattle.world_model.specs.declared.events.Called.TheVariants as called
+use Rattle.world_model.specs.declared.events.Event.TheVariants as event
+use Rattle.world_model.specs.declared.events.Outcome.{Outcome}
+use Rattle.serve_command.specs.Ends.{IsEnd, disk_line, memory_line, spent_line}
 use Rattle.serve_command.specs.Words.{Serve}
 use Rattle.serve_command.specs.Serves.{Serves, Counted}
-use Rattle.shared_hall.specs.Seats.{first_knows, no_opening}
-use Rattle.tile_top.specs.Plays.{IsDone, IsFaulty, IsBefore, IsWithinLine, IsAtSpent}
+use Rattle.replay_run.specs.Traces.{Deed}
+use Rattle.replay_run.specs.Played.{Played}
+use Rattle.replay_run.specs.Scripts.{opening}
+use Rattle.replay_run.specs.Openings.{Opens}
+use Rattle.replay_run.specs.Plays.{IsDone, IsFaulty, IsBefore, IsWithinLine, IsCut, IsShut}
+use Rattle.replay_run.specs.declared.ends.ReplayEnd.{ReplayEnd}
+use Rattle.replay_run.specs.declared.ends.ReplayEnd.TheVariants as ended
+use Rattle.replay_run.specs.declared.halts.Halt.{Halt}
+use Rattle.replay_run.specs.declared.halts.Halt.TheVariants as halted
 
 -- the last lines
 abbrev pub usage_line : Bytes
@@ -20,30 +35,79 @@ script_line number = codes "script fault at line " ++ decimal number ++ codes "\
 abbrev pub read_line : Bytes
 read_line = codes "read fault\n"
 
--- writing failed: in the output of the last line that was read, or in the last line of the status that was due
-abbrev pub IsStopped : Option Bytes → Option Bytes → Option Bytes → Option Bytes → Type 0
-IsStopped left0 left held0 held = IsWithinLine left0 left held0 held
-    ⊎ (((number : ℕ) × (part : Bytes) × IsPrefix part (script_line number) × IsFaulty left0 left held0 held number part)
-    ⊎ (((part : Bytes) × (IsPrefix part read_line ⊎ IsPrefix part memory_line) × IsBefore left0 left held0 held part)
-    ⊎ ((part : Bytes) × IsPrefix part spent_line × IsAtSpent left0 left held0 held part)))
+abbrev pub side_name : Side → Bytes
+side_name A = codes "A"
+side_name B = codes "B"
 
--- the program's words are `replay` alone
+abbrev pub damaged_line : Side → ℕ → Bytes
+damaged_line side place = codes "damaged side " ++ side_name side ++ codes " at " ++ decimal place ++ codes "\n"
+
+-- the status of what goes on no more, and its line
+abbrev pub status_of : Halt → ℕ
+status_of halted.Spent = 9
+status_of halted.DiskFault = 5
+status_of (halted.Damaged side place) = 6
+status_of halted.Memory = 7
+
+abbrev pub line_of : Halt → Bytes
+line_of halted.Spent = spent_line
+line_of halted.DiskFault = disk_line
+line_of (halted.Damaged side place) = damaged_line side place
+line_of halted.Memory = memory_line
+
+-- its last line was written, or in part; or memory wanted for it, and that was
+abbrev pub IsHaltEnd : Halt → Option Bytes → Option Bytes → ℕ → Type 0
+IsHaltEnd halt held held' status = IsEnd held held' (status_of halt) (line_of halt) status ⊎ IsEnd held held' 7 memory_line status
+
+-- the end of a script: its last line is written behind the output
+abbrev pub IsReplayEnd : ReplayEnd → Option Bytes → Option Bytes → ℕ → Type 0
+IsReplayEnd ended.Done held held' status = (status ≡ 0) × (held' ≡ held)
+IsReplayEnd (ended.Script number) held held' status = IsEnd held held' 2 (script_line number) status ⊎ IsEnd held held' 7 memory_line status
+IsReplayEnd ended.ReadFault held held' status = IsEnd held held' 3 read_line status
+IsReplayEnd ended.WriteFault held held' status = (status ≡ 4) × (held' ≡ held)
+IsReplayEnd (ended.Halted halt) held held' status = IsHaltEnd halt held held' status
+IsReplayEnd (ended.Unopened halt) held held' status = IsHaltEnd halt held held' status
+
+-- writing failed: in the output of the last line that was read, or in the last line of the status that was due
+abbrev pub IsStopped : Bool → Played → (List Deed → Type 0) → Option Bytes → Option Bytes → Option Bytes → Option Bytes → Type 0
+IsStopped told first Ends left0 left held0 held = IsWithinLine told first Ends left0 left held0 held
+    ⊎ (((number : ℕ) × (part : Bytes) × IsPrefix part (script_line number) × IsFaulty told first Ends left0 left held0 held number part)
+    ⊎ (((part : Bytes) × (IsPrefix part read_line ⊎ IsPrefix part memory_line) × IsBefore told first Ends left0 left held0 held part)
+    ⊎ ((halt : Halt) × (part : Bytes) × (IsPrefix part (line_of halt) ⊎ IsPrefix part memory_line) × IsCut told first Ends left0 left held0 held halt part)))
+
+-- the program's words are this one alone
 abbrev pub IsReplay : List Bytes → Type 0
 IsReplay words = words ≡ codes "replay" ∷ []
 
--- what a script's play did and its status says: done, or a line that is none of a script, or a read or a write that failed, or want of
--- memory, or a log at its greatest length. At each status the lines before the last one that was read were done, and their whole output was written before it was read
-pub record Replays (left0 left held0 held : Option Bytes) (status : ℕ) : Type 0 where
-  pub done : status ≡ 0 → IsDone left0 left held0 held
-  pub script : status ≡ 2 → (number : ℕ) × IsFaulty left0 left held0 held number (script_line number)
-  pub read : status ≡ 3 → IsBefore left0 left held0 held read_line
-  pub write : status ≡ 4 → IsStopped left0 left held0 held
-  pub memory : status ≡ 7 → IsBefore left0 left held0 held memory_line
-  pub spent : status ≡ 9 → IsAtSpent left0 left held0 held spent_line
-  pub few : (status ≡ 0) ⊎ ((status ≡ 2) ⊎ ((status ≡ 3) ⊎ ((status ≡ 4) ⊎ ((status ≡ 7) ⊎ (status ≡ 9)))))
+abbrev pub IsCheck : List Bytes → Type 0
+IsCheck words = words ≡ codes "check" ∷ []
 
--- serving on a shared hall of an empty world: what the hall's first seat, where a hall was made, has seen of its history; the counts of
--- the spawner and the door; what was written, and the status. All that the seat has seen is a legal history
-abbrev pub ServesFront : Option ℕ → Serve → Option Knows → Counted → Counted → Option Bytes → Option Bytes → ℕ → Type 0
-ServesFront told s None c c' held held' status = (c' ≡ c) × IsEnd held held' 7 memory_line status
-ServesFront told s (Some k) c c' held held' status = Serves told s first_knows k c c' held held' status × IsLegal no_opening k.seen
+-- What a script's play did and its status says: done, or a line that is none of a script, or a read or a write that failed, or one that
+-- was not done. At each status the lines before the last one that was read were done, and their whole output was written before it was
+-- read. At 7 memory wanted, also for the line of another status.
+pub record Plays (told : Bool) (first : Played) (Ends : List Deed → Type 0) (left0 left held0 held : Option Bytes) (status : ℕ) : Type 0 where
+  pub done : status ≡ 0 → IsDone told first Ends left0 left held0 held
+  pub script : status ≡ 2 → (number : ℕ) × IsFaulty told first Ends left0 left held0 held number (script_line number)
+  pub read : status ≡ 3 → IsBefore told first Ends left0 left held0 held read_line
+  pub write : status ≡ 4 → IsStopped told first Ends left0 left held0 held
+  pub disk : status ≡ 5 → IsCut told first Ends left0 left held0 held halted.DiskFault disk_line
+  pub damaged : status ≡ 6 → (side : Side) × (place : ℕ) × IsCut told first Ends left0 left held0 held (halted.Damaged side place) (damaged_line side place)
+  pub memory : status ≡ 7 → IsBefore told first Ends left0 left held0 held memory_line ⊎ ((halt : Halt) × IsCut told first Ends left0 left held0 held halt memory_line)
+  pub spent : status ≡ 9 → IsCut told first Ends left0 left held0 held halted.Spent spent_line
+  pub few : (status ≡ 0) ⊎ ((status ≡ 2) ⊎ ((status ≡ 3) ⊎ ((status ≡ 4) ⊎ ((status ≡ 5) ⊎ ((status ≡ 6) ⊎ ((status ≡ 7) ⊎ (status ≡ 9)))))))
+
+-- A disk was not opened, and the status says why: a side of it is damaged, or a call of it failed, or memory wanted. Nothing was read.
+pub record IsUnopened (seen : Option Sides) (left0 left held0 held : Option Bytes) (status : ℕ) : Type 0 where
+  pub why : Halt
+  pub between : Option Bytes
+  pub shut : IsShut seen left0 left held0 between why
+  pub ended : IsHaltEnd why between held status
+
+-- the disk was not opened, or with some world and length of its log, and then the script was played
+abbrev pub Replays : Option Sides → (World → ℕ → List Deed → Type 0) → Option Bytes → Option Bytes → Option Bytes → Option Bytes → ℕ → Type 0
+Replays seen Ends left0 left held0 held status = IsUnopened seen left0 left held0 held status
+    ⊎ ((w : World) × (logged : ℕ) × Opens seen w logged × Plays (is_some seen) (opening w logged) (Ends w logged) left0 left held0 held status)
+
+-- the line of a world and the generation of its log
+abbrev pub check_line : World → ℕ → Bytes
+check_line w generation = codes "objects " ++ decimal (length w.objects) ++ codes " channels " ++ decimal (length w.channels) ++ codes " generation " ++ decimal generation ++ codes "\n"

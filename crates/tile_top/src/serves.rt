@@ -1,70 +1,192 @@
-//! Serving on a shared hall of an empty world.
+//! Serving on a shared hall of a disk's world.
 
-ghost use Rattle.std.specs.Prelude.{◌≡◌, ◌≤◌, option_map};
+ghost use Rattle.std.specs.Prelude.{◌≡◌, ◌≤◌, ◌⊎◌, ℕ, true, Option, Some, is_some, option_map, IfOk, IfErr, IfSome};
 ghost use Rattle.outside.specs.Causes.{Rose};
+ghost use Rattle.outside.specs.Sides.{Sides};
+ghost use Rattle.outside.specs.declared.sides.Side.{Side};
+ghost use Rattle.journal.specs.declared.openings.OpenFault.TheVariants as fault_of;
+ghost use Rattle.log_record.specs.Readings.{Damaged};
+ghost use Rattle.log_record.specs.Safety.{Safe};
 ghost use Rattle.serve_command.specs.Serves.{counted};
-ghost use Rattle.shared_hall.specs.Seats.{knows_of};
-ghost use Rattle.tile_top.specs.Tops.{ServesFront};
+ghost use Rattle.shared_hall.specs.Cores.{tells};
+ghost use Rattle.shared_hall.specs.Seats.{IsOf, handed_of, knows_of};
+ghost use Rattle.tile_top.specs.Fronts.{Fronts, IsFirst, IsRetired};
 
+use crate::halt_ends::end_halt;
 use crate::tops::Ended;
-use outside::{Clock, Door, NoGate, PlainBell, Sink, Spawner};
-use serve_command::{OUT_OF_MEMORY, ServeWords, end, serve_links};
+use durable_core::DurableCore;
+use journal::{OpenFault, Unopened};
+use outside::{Clock, Disk, Door, NoGate, PlainBell, Sink, Spawner};
+use replay_run::halt_of;
+use serve_command::{DISK_FAULT, OUT_OF_MEMORY, ServeWords, end, serve_links};
 use serve_run::Jobs;
-use shared_hall::SharedHall;
+use shared_hall::{HallSeat, SharedHall};
 use std::alloc::Global;
+use std::snapshot::Snapshot;
 use std::sync::{Arc, Wait};
 use std::thread::Threads;
-use tile_core::Core;
+use world_model::Called;
 
-/// Makes a shared hall and serves callers on it, as the words ask for.
-pub(crate) fn serve_hall<
+// A shared hall of a disk's world, and its first seat; or why there is none, and the disk.
+fn open_hall<D: Disk + Drop>(
+    alloc: Global,
+    disk: D,
+) -> Result<(SharedHall<D>, HallSeat<D>), Unopened<D>>
+    ensures seat { IfOk result (λ r. IsOf D.crashes D.seen D.images D.moment D.left_since D.faults r.0 r.1) }
+    ensures first { IfOk result (λ r. IsFirst (D.seen disk) (knows_of r.1)) }
+    ensures handed { IfOk result (λ r. handed_of r.0 ≡ disk) }
+    ensures damaged { (s : Sides) → D.seen disk ≡ Some s → IfErr result (λ u. (side : Side) (place : ℕ) → u.why ≡ fault_of.Damaged side place → Damaged s side place) }
+{
+    let handed = Snapshot::of(&disk);
+    match DurableCore::open(alloc, disk) {
+        Ok(core) => match SharedHall::new(alloc, core, handed) {
+            Ok(made) => Ok(made),
+            Err(core) => Err(Unopened {
+                disk: core.into_disk(),
+                why: OpenFault::Memory,
+            }),
+        },
+        Err(unopened) => Err(unopened),
+    }
+}
+
+// Retires a hall behind what was served, and ends.
+fn retire_hall<K: Sink, D: Disk + Drop, R: Wait>(
+    rt: &R,
+    hall: &SharedHall<D>,
+    seat: HallSeat<D>,
+    sink: &mut K,
+    before: u8,
+) -> Ended<D>
+    requires seat { IsOf D.crashes D.seen D.images D.moment D.left_since D.faults hall.now seat }
+    requires first { (knows_of seat).first ≡ true }
+    requires unread { before ≡ 3 → ⊥ }
+    ensures front { IfSome (option_map knows_of result.front) (λ k. IsRetired (knows_of seat) k (K.held sink.old) (K.held sink.new) before result.status) }
+    ensures some { is_some result.front ≡ true }
+    ensures safe { tells D.crashes D.seen (handed_of hall.now) ≡ true
+        → IfSome result.front (λ last. IfSome result.disk (λ d. Safe D.left_since d (knows_of last).opening (knows_of last).seen)) }
+    ensures sink { K.faults sink.old ≤ K.faults sink.new }
+    ensures write { result.status ≡ 4 → (before ≡ 4) ⊎ Rose (K.faults sink.old) (K.faults sink.new) }
+    ensures accept { result.status ≡ 8 → before ≡ 8 }
+    ensures unread { result.status ≡ 3 → ⊥ }
+{
+    let mut seat = seat;
+    let given = hall.retire(rt, &mut seat);
+    match given {
+        Some((disk, answer)) => {
+            let status = match answer {
+                Called::Ok => before,
+                _ if before == 0 => end(sink, 5, DISK_FAULT),
+                _ => before,
+            };
+            Ended {
+                status,
+                disk: Some(disk),
+                front: Some(seat),
+            }
+        }
+        // No other seat gives the disk out.
+        None => Ended {
+            status: before,
+            disk: None,
+            front: Some(seat),
+        },
+    }
+}
+
+// Serves callers on a hall, and retires it.
+fn serve_on<
     K: Sink,
+    D: Disk + Drop + Send + 'static,
     L: Door,
     C: Clock + Send + Drop + 'static,
-    P: Spawner<Jobs<SharedHall, L, C, PlainBell, NoGate>>,
+    P: Spawner<Jobs<SharedHall<D>, L, C, PlainBell, NoGate>>,
     R: Wait + Threads + Copy + Send + Sync + 'static,
 >(
     rt: &R,
     alloc: Global,
+    hall: SharedHall<D>,
+    seat: HallSeat<D>,
     asked: ServeWords<'_>,
     sink: &mut K,
     door: &mut L,
     clock: &C,
     spawner: &mut P,
-) -> Ended
+) -> Ended<D>
 where
     L::In: Send + Drop + 'static,
     L::Out: Send + Drop + 'static,
-    ensures serves { ServesFront (C.told clock.now) (record { addr = asked.entry.addr.now; limit = asked.entry.limit }) (option_map knows_of result.front)
+    requires seat { IsOf D.crashes D.seen D.images D.moment D.left_since D.faults hall seat }
+    requires first { (knows_of seat).first ≡ true }
+    ensures serves { (seen : Option Sides) → IsFirst seen (knows_of seat) → Fronts seen (C.told clock.now) (record { addr = asked.entry.addr.now; limit = asked.entry.limit })
         (counted (P.jobs spawner.old) (P.faults spawner.old) (L.links door.old) (L.ends door.old) (L.faults door.old))
         (counted (P.jobs spawner.new) (P.faults spawner.new) (L.links door.new) (L.ends door.new) (L.faults door.new))
-        (K.held sink.old) (K.held sink.new) result.status }
+        (K.held sink.old) (K.held sink.new) result.status (option_map knows_of result.front) }
+    ensures safe { tells D.crashes D.seen (handed_of hall) ≡ true
+        → IfSome result.front (λ last. IfSome result.disk (λ d. Safe D.left_since d (knows_of last).opening (knows_of last).seen)) }
     ensures sink { K.faults sink.old ≤ K.faults sink.new }
     ensures door { L.faults door.old ≤ L.faults door.new }
     ensures write { result.status ≡ 4 → Rose (K.faults sink.old) (K.faults sink.new) }
     ensures accept { result.status ≡ 8 → Rose (L.faults door.old) (L.faults door.new) }
     ensures unread { result.status ≡ 3 → ⊥ }
 {
-    let (hall, mut seat) = match SharedHall::new(alloc, Core::new(alloc)) {
-        Ok(made) => made,
-        Err(_) => {
-            return Ended {
-                status: end(sink, 7, OUT_OF_MEMORY),
-                front: None,
+    let mut seat = seat;
+    match Arc::new(alloc, hall) {
+        Ok(hall) => {
+            let status = match Arc::try_clone(&hall) {
+                Ok(shared) => serve_links(
+                    rt, alloc, shared, &mut seat, asked, sink, door, clock, spawner,
+                ),
+                Err(_) => end(sink, 7, OUT_OF_MEMORY),
             };
+            retire_hall(rt, &hall, seat, sink, status)
         }
-    };
-    let Ok(hall) = Arc::new(alloc, hall) else {
-        return Ended {
-            status: end(sink, 7, OUT_OF_MEMORY),
-            front: Some(seat),
-        };
-    };
-    let status = serve_links(
-        rt, alloc, hall, &mut seat, asked, sink, door, clock, spawner,
-    );
-    Ended {
-        status,
-        front: Some(seat),
+        Err(failed) => {
+            let status = end(sink, 7, OUT_OF_MEMORY);
+            retire_hall(rt, &failed.value, seat, sink, status)
+        }
+    }
+}
+
+/// Makes a shared hall of a disk's world, serves callers on it, as the words ask for, and retires it.
+pub(crate) fn serve_hall<
+    K: Sink,
+    D: Disk + Drop + Send + 'static,
+    L: Door,
+    C: Clock + Send + Drop + 'static,
+    P: Spawner<Jobs<SharedHall<D>, L, C, PlainBell, NoGate>>,
+    R: Wait + Threads + Copy + Send + Sync + 'static,
+>(
+    rt: &R,
+    alloc: Global,
+    asked: ServeWords<'_>,
+    sink: &mut K,
+    disk: D,
+    door: &mut L,
+    clock: &C,
+    spawner: &mut P,
+) -> Ended<D>
+where
+    L::In: Send + Drop + 'static,
+    L::Out: Send + Drop + 'static,
+    ensures serves { Fronts (D.seen disk) (C.told clock.now) (record { addr = asked.entry.addr.now; limit = asked.entry.limit })
+        (counted (P.jobs spawner.old) (P.faults spawner.old) (L.links door.old) (L.ends door.old) (L.faults door.old))
+        (counted (P.jobs spawner.new) (P.faults spawner.new) (L.links door.new) (L.ends door.new) (L.faults door.new))
+        (K.held sink.old) (K.held sink.new) result.status (option_map knows_of result.front) }
+    ensures safe { tells D.crashes D.seen disk ≡ true
+        → IfSome result.front (λ last. IfSome result.disk (λ d. Safe D.left_since d (knows_of last).opening (knows_of last).seen)) }
+    ensures sink { K.faults sink.old ≤ K.faults sink.new }
+    ensures door { L.faults door.old ≤ L.faults door.new }
+    ensures write { result.status ≡ 4 → Rose (K.faults sink.old) (K.faults sink.new) }
+    ensures accept { result.status ≡ 8 → Rose (L.faults door.old) (L.faults door.new) }
+    ensures unread { result.status ≡ 3 → ⊥ }
+{
+    match open_hall(alloc, disk) {
+        Ok((hall, seat)) => serve_on(rt, alloc, hall, seat, asked, sink, door, clock, spawner),
+        Err(unopened) => Ended {
+            status: end_halt(alloc, sink, halt_of(unopened.why)),
+            disk: Some(unopened.disk),
+            front: None,
+        },
     }
 }

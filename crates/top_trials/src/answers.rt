@@ -36,7 +36,7 @@ fn commands_and_their_answers(rt: HostRuntime) -> Result<(), Fail> {
         > GET k h POINT
         - *2~$1~5~$1~5~
         > AOFSHRINK
-        - -ERR not served yet~
+        - +OK~
         > NOSUCH k
         - -ERR unknown command 'NOSUCH'~
         > GET k

@@ -10,6 +10,8 @@ mod dialogues;
 #[cfg(test)]
 mod fences;
 #[cfg(test)]
+mod logs;
+#[cfg(test)]
 mod moving_areas;
 #[cfg(test)]
 mod plays;

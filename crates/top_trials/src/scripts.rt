@@ -80,10 +80,10 @@ fn scripts_with_a_fault(rt: HostRuntime) -> Result<(), Fail> {
     prints(
         &rt,
         alloc,
-        b"open\ntick 5\nclose 1\nfeed 1 0 x\ntake 1\nclose 1\nstep\n",
+        b"open\ntick 5\nclose 1\nfeed 1 0 x\ntake 1\nclose 1\nstep\nsteps\n",
         NONE,
         2,
-        b"session 1\nok\nok\ngone\nended\nok\nscript fault at line 7\n",
+        b"session 1\nok\nok\ngone\nended\nok\nok\nscript fault at line 8\n",
     )
 }
 

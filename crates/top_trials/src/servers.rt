@@ -2,7 +2,7 @@
 
 use crate::plays::asked;
 use crate::scripts::{REQUESTS, SCRIPT};
-use outside::{BytesSink, BytesSource, ListDoor};
+use outside::{BytesSink, BytesSource, ListDoor, PlainDisk};
 use std::alloc::Global;
 use std::process::Abort;
 use std::sync::Wait;
@@ -28,8 +28,9 @@ fn served<R: Wait + Threads + Copy + Send + Sync + 'static>(
     let mut door = ListDoor::new(alloc, callers(alloc)?, failing.to_vec(alloc)?)?;
     let mut source = BytesSource::new(SCRIPT.to_vec(alloc)?, 7, Vec::new(alloc));
     let mut sink = BytesSink::new(alloc, 5, Vec::new(alloc));
-    let status = asked(rt, alloc, words, &mut source, &mut sink, &mut door);
-    Ok((status, sink))
+    let disk = PlainDisk::new(alloc);
+    let ended = asked(rt, alloc, words, &mut source, &mut sink, disk, &mut door);
+    Ok((ended.status, sink))
 }
 
 // The words of a line, which spaces separate.

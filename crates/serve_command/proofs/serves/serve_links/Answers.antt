@@ -1,5 +1,5 @@
 use Rattle.std.proofs.Common.{refl, inl, inr}
-use Rattle.serve_command.specs.Openings.{gains_opening}
+use Rattle.serve_command.specs.Openings.{gains_opening, gains_first}
 use Rattle.serve_command.proofs.Serving.{only_faults}
 use Rattle.serve_command.proofs.serves.serve_links.Goals as goal
 
@@ -14,3 +14,6 @@ returns-in-Err-clause-serves g c = inr (inl (record {
 
 pub returns-clause-opening : goal.returns-clause-opening
 returns-clause-opening g c = gains_opening _ _ _ c.serve-done.ensures.serves.rounds.gains
+
+pub returns-clause-first : goal.returns-clause-first
+returns-clause-first g c = gains_first _ _ _ c.serve-done.ensures.serves.rounds.gains

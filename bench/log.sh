@@ -1,0 +1,144 @@
+#!/usr/bin/env bash
+# Measures what the log costs beside redis-server with a log that is synced at every write (appendonly yes, appendfsync always), in the same
+# run: SETs a second of 1, 50 and 200 clients, and the opening of a log of many objects beside Redis loading its file.
+# Usage: bench/log.sh [REQUESTS [OBJECTS]]   REQUESTS a row and run, 20000 if left out; OBJECTS in the logs that are opened, 1000000 if left
+# out. Needs redis-benchmark, redis-cli and redis-server (Debian's redis-tools and redis-server), and python3.
+# A row of SETs tells requests a second of both, medians of three runs that alternate, and their ratio. The row of the opening tells objects
+# a second from the start of the process to its first answer, medians of three as well, and the bytes of both logs.
+# Both logs are made where TMPDIR says, which has to be on a disk: in a folder in memory a sync costs nothing.
+set -eu
+cd "$(dirname "$0")/.."
+requests=${1:-20000}
+objects=${2:-1000000}
+port=19861 redis_port=16389
+program=$PWD/crates/tile_server/out/tile_server
+work=$(mktemp -d)
+ulimit -n 4096 2>/dev/null || true
+ours='' theirs=''
+trap 'for it in $ours $theirs; do kill "$it" 2>/dev/null || true; done; rm -rf "$work"' EXIT
+
+missing=0
+for tool in redis-cli redis-benchmark redis-server python3; do
+    command -v "$tool" >/dev/null || { echo "log: $tool is not there (Debian: redis-tools, redis-server, python3)"; missing=1; }
+done
+[ "$missing" = 0 ] || exit 1
+./fudrask replay </dev/null >/dev/null
+echo "log: the folder is on $(stat -f -c %T "$work")"
+
+# Where a server's log stands: here, or Redis.
+mkdir "$work/here" "$work/redis"
+
+start_here() {
+    (cd "$work/here" && exec "$program" serve "127.0.0.1:$port") >"$work/here.out" 2>&1 &
+    ours=$!
+}
+start_redis() {
+    redis-server --port "$redis_port" --dir "$work/redis" --save '' --appendonly yes --appendfsync always \
+        --auto-aof-rewrite-percentage 0 --daemonize no >"$work/redis.out" 2>&1 &
+    theirs=$!
+}
+# Redis answers an error while it loads.
+wait_for() {
+    until [ "$(redis-cli -p "$1" PING 2>/dev/null)" = PONG ]; do
+        kill -0 "$2" 2>/dev/null || { echo "log: a server ended: $(tail -1 "$work/here.out" "$work/redis.out")" >&2; exit 1; }
+        sleep 0.02
+    done
+}
+bytes_in() { find "$1" -type f -printf '%s\n' | awk '{ n += $1 } END { print n }'; }
+stop() {
+    kill -9 "$1"
+    wait "$1" 2>/dev/null || true
+}
+median() { sort -n | sed -n 2p; }
+
+# Requests a second of one run: the port, clients, and the words of the request.
+rate() {
+    local at=$1 clients=$2
+    shift 2
+    redis-benchmark -p "$at" -n "$requests" -c "$clients" -r 1000 --csv "$@" 2>/dev/null |
+        awk -F'","' 'NR > 1 { gsub("\"", "", $2); print int($2) }' | tail -1
+}
+
+start_here
+start_redis
+wait_for "$port" "$ours"
+wait_for "$redis_port" "$theirs"
+# As long as the text of the object here.
+value=$(printf 'x%.0s' {1..39})
+printf '%-10s %8s %10s %10s %6s\n' what clients here redis ratio
+for clients in 1 50 200; do
+    : >"$work/a"
+    : >"$work/b"
+    for _ in 1 2 3; do
+        rate "$port" "$clients" SET fleet id__rand_int__ POINT 33 112 >>"$work/a"
+        rate "$redis_port" "$clients" SET id__rand_int__ "$value" >>"$work/b"
+    done
+    a=$(median <"$work/a") b=$(median <"$work/b")
+    printf '%-10s %8s %10s %10s %6s\n' SET "$clients" "$a" "$b" "$(awk "BEGIN { printf \"%.2f\", $a / $b }")"
+done
+stop "$ours"
+stop "$theirs"
+
+# Logs of so many objects, each set once.
+rm -rf "$work/here" "$work/redis"
+mkdir "$work/here" "$work/redis"
+start_here
+start_redis
+wait_for "$port" "$ours"
+wait_for "$redis_port" "$theirs"
+python3 - "$port" "$redis_port" "$objects" "$value" <<'PYTHON'
+import socket, sys
+
+port, redis_port, objects = (int(it) for it in sys.argv[1:4])
+value = sys.argv[4]
+AHEAD = 1000
+
+
+def text_of(*words):
+    words = [str(word).encode() for word in words]
+    return b"*%d\r\n" % len(words) + b"".join(b"$%d\r\n%s\r\n" % (len(it), it) for it in words)
+
+
+# Sends the requests, many ahead of their answers, all of which are +OK.
+def fill(at, request):
+    with socket.create_connection(("127.0.0.1", at)) as own, own.makefile("rb") as answers:
+        for first in range(0, objects, AHEAD):
+            count = min(AHEAD, objects - first)
+            own.sendall(b"".join(request(first + k) for k in range(count)))
+            found = answers.read(5 * count)
+            if found != b"+OK\r\n" * count:
+                sys.exit(f"log: a SET was answered {found[:80]!r}")
+
+
+fill(port, lambda k: text_of("SET", "fleet", f"truck{k:07}", "POINT", k % 1000, k // 1000))
+fill(redis_port, lambda k: text_of("SET", f"truck{k:07}", value))
+PYTHON
+stop "$ours"
+stop "$theirs"
+
+# Objects a second of one opening, which $1 starts; $2 is its port, and $3 names the variable of its process.
+opening() {
+    local begun ended
+    begun=$(date +%s%N)
+    "$1"
+    wait_for "$2" "${!3}"
+    ended=$(date +%s%N)
+    awk "BEGIN { printf \"%d\\n\", $objects * 1e9 / ($ended - $begun) }"
+}
+expect() {
+    [ "$1" = "$2" ] || { echo "log: $1 objects were opened, not $2" >&2; exit 1; }
+}
+: >"$work/a"
+: >"$work/b"
+for _ in 1 2 3; do
+    opening start_here "$port" ours >>"$work/a"
+    expect "$(redis-cli -p "$port" SCAN fleet COUNT)" "$objects"
+    stop "$ours"
+    opening start_redis "$redis_port" theirs >>"$work/b"
+    expect "$(redis-cli -p "$redis_port" DBSIZE)" "$objects"
+    stop "$theirs"
+done
+ours='' theirs=''
+a=$(median <"$work/a") b=$(median <"$work/b")
+printf '%-10s %8s %10s %10s %6s\n' opening - "$a" "$b" "$(awk "BEGIN { printf \"%.2f\", $a / $b }")"
+printf '%-10s %8s %10s %10s\n' bytes - "$(bytes_in "$work/here")" "$(bytes_in "$work/redis")"

@@ -1,0 +1,17 @@
+mod Reading
+mod Shown
+mod Traces
+mod Feeding
+mod Cutting
+mod Quiet
+mod OneOutput
+mod Present
+mod GoingOn
+mod Standing
+mod Calling
+mod Acting
+mod FeedCalls
+mod Entering
+mod Playing
+mod Reopening
+mod Saying

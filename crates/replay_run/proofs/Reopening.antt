@@ -1,0 +1,310 @@
+-- A disk is opened, retired, and opened again, and stays safe for all that was made.
+use Rattle.std.proofs.Common.{◌≡◌, ◌≢◌, ◌≤◌, ◌⊎◌, ℕ, zero, suc, Bool, true, false, List, [], ◌∷◌, ◌++◌, length, take, refl, sym, ap, subst, ◌∙◌, arith, inl, inr, append_assoc}
+use Rattle.std.specs.Prelude.{Option, Some, min}
+use Rattle.std.proofs.lemmas.List.{take_all}
+use Rattle.byte_text.specs.Names.{Bytes}
+use Rattle.append_log.specs.Logs.{IsFresh}
+use Rattle.outside.specs.Causes.{most_count, Rose}
+use Rattle.outside.specs.Sides.{Sides, IfTold}
+use Rattle.outside.specs.Crashes.{LeavesOnly}
+use Rattle.outside.specs.CrashLaws.{weaker}
+use Rattle.world_data.specs.Sound.{IsSoundWorld}
+use Rattle.world_data.specs.declared.worlds.World.{World}
+use Rattle.world_model.specs.Halls.{Hall}
+use Rattle.world_model.specs.Histories.{opening_hall, Step, Reaches, answer, is_log_fault, acked_count, IsLegal, EndsWith}
+use Rattle.world_model.specs.declared.events.Called.{Called}
+use Rattle.world_model.specs.declared.events.Called.TheVariants as called
+use Rattle.world_model.specs.declared.events.Event.TheVariants as event
+use Rattle.world_model.specs.declared.events.Entry.{Entry}
+use Rattle.world_model.specs.declared.events.Opening.{Opening}
+use Rattle.journal.specs.Logs.{HoldsLog}
+use Rattle.journal.specs.Openings.{AreWhole, IsLeftByOpening}
+use Rattle.log_record.specs.Acknowledged.{acked_take}
+use Rattle.log_record.specs.Journals.{Journal, Turn, TellsNow}
+use Rattle.log_record.specs.Recovery.{Recovers, Holds}
+use Rattle.log_record.specs.RecoveryLaws.{one_world}
+use Rattle.log_record.specs.Safety.{Run, moment_after, RecoversPassed, IsSafe, Passes, entries_of, start_of, RunPasses, Safe, SafeRun}
+use Rattle.log_record.specs.SafetyLaws.{passed_still, committed_passed}
+use Rattle.log_record.specs.Runs.{and_then, RunStood}
+use Rattle.log_record.specs.RunLaws.{openings_keep_runs_safe}
+use Rattle.log_worlds.specs.Recorded.{record_fault, world_in}
+use Rattle.durable_core.specs.Kept.{settled_log}
+use Rattle.durable_core.specs.Logged.{hall_of, disk_of, IsLogOf, KeepsLogOf, GoesOn}
+use Rattle.durable_core.specs.Opened.{IsOpening}
+use Rattle.durable_core.specs.declared.cores.DurableCore.{DurableCore}
+use Rattle.journal.specs.declared.openings.OpenFault.{OpenFault}
+use Rattle.journal.specs.declared.openings.OpenFault.TheVariants as fault_of
+use Rattle.replay_run.specs.declared.halts.Halt.TheVariants as halted
+use Rattle.replay_run.specs.declared.readers.Reader.{Reader}
+use Rattle.replay_run.specs.Played.{Played}
+use Rattle.replay_run.specs.Scripts.{Reopens}
+use Rattle.replay_run.specs.Undone.{halt_at, ReopenFails}
+use Rattle.replay_run.specs.Traces.{Deed, opens, does}
+use Rattle.replay_run.specs.Standing.{IsSafeFor, IsBehind, StandsBehind, StaysSafe, Logs}
+use Rattle.replay_run.proofs.Calling.{called_failed}
+use Rattle.replay_run.proofs.Playing.{not_ok}
+use Rattle.replay_run.proofs.Standing.{one_more, safe_for, deeds_then, run_then, counted_later}
+
+none_taken : (n : ℕ) (start : ℕ) → moment_after start (take n []) ≡ start
+none_taken zero start = refl
+none_taken (suc n) start = refl
+
+-- a disk that is safe for a history without entries is safe for a run of it
+safe_first : {D : Type 0} (left_since : D → ℕ → Sides → Type 0) (disk : D) (o p : Opening) → p.moment ≡ o.moment → p.world ≡ o.world → Safe left_since disk o [] → SafeRun left_since disk ((p, []) ∷ [])
+unfolding Safe SafeRun
+safe_first left_since disk o p moment world safe n few c left = by_count found found.count refl
+  where
+    since : left_since disk (moment_after o.moment (take n [])) c
+    since = subst (λ (t : ℕ). left_since disk t c) (none_taken n p.moment ∙ moment ∙ sym (none_taken n o.moment)) left
+
+    found : RecoversPassed (Passes o []) (acked_count (take n [])) 0 c
+    found = safe n few c since
+
+    by_count : (f : RecoversPassed (Passes o []) (acked_count (take n [])) 0 c) (k : ℕ) → f.count ≡ k → RecoversPassed (RunPasses ((p, []) ∷ [])) (acked_count (take n [])) 0 c
+    by_count f k is = record {
+      count = 0;
+      at_least = let least = f.at_least in let most = f.at_most in omega (arith, least, most);
+      at_most = omega arith;
+      world = p.world;
+      passed = inl (omega arith, (opening_hall p.world p.logged, refl, refl));
+      recovers = subst (λ (w : World). Recovers c w) (passed_is f.count f.world f.at_most f.passed ∙ sym world) f.recovers;
+    }
+      where
+        passed_is : (m : ℕ) (w : World) → m ≤ 0 → Passes o [] m w → w ≡ o.world
+        passed_is zero w few q = sym q.2 ∙ ap (λ (h : Hall). h.world) q.1
+        passed_is (suc m) w few q = absurd (omega (arith, few))
+
+module _ {D : Type 0} (crashes : D → Bool) (seen : D → Option Sides) (images : D → Sides → Type 0) (moment : D → ℕ) (left_since : D → ℕ → Sides → Type 0) (faults : D → ℕ) where
+  -- the opening of a core
+  abbrev opened_at : DurableCore D → ℕ → Opening
+  opened_at core at = record { world = (hall_of core).world; logged = (hall_of core).logged; moment = at; count = min (faults (disk_of core)) most_count }
+
+  pub opening_stands : (core : DurableCore D) (earlier count : ℕ) → IsOpening images moment left_since earlier count core → hall_of core ≡ opening_hall (hall_of core).world (hall_of core).logged → IsSoundWorld (hall_of core).world
+      → IsLogOf crashes seen images core (settled_log (hall_of core).world) → crashes (disk_of core) ≡ true
+      → StandsBehind crashes seen images moment left_since faults core (opens (hall_of core).world (hall_of core).logged ∷ [])
+  opening_stands core earlier count at first sound log told =
+      let o = opened_at core at.opening.moment in
+      record {
+        behind = record {
+          run = [];
+          opening = o;
+          entries = [];
+          log = settled_log (hall_of core).world;
+          shows = refl;
+          is_run = record { opening = sound; hall = opening_hall o.world o.logged; reached = refl };
+          stood = record {
+            reached = first;
+            past = λ n. let is = none_taken n o.moment in let past = at.stood.past in omega (arith, is, past);
+            safe = safe_first left_since (disk_of core) at.opening o refl (sym at.world) at.stood.safe;
+            log = at.stood.log;
+          };
+          past = at.stood.past;
+          counted = omega arith;
+        };
+        kept = λ goes. log;
+        within = refl;
+        told = told;
+      }
+
+  -- where each image is recovered as a world, so is what an opening leaves
+  leaves_world : (old new : D) (s : Sides) (w : World) → images old s → ((c : Sides) → images old c → Recovers c w) → ((c : Sides) → HoldsLog [] c → Recovers c (world_in []))
+      → LeavesOnly moment left_since old new (IsLeftByOpening (images old) s) → LeavesOnly moment left_since old new (λ c. Recovers c w)
+  leaves_world old new s w now each held leaves = weaker moment left_since old new (IsLeftByOpening (images old) s) (λ c. Recovers c w) by_left leaves
+    where
+      by_left : (c : Sides) → IsLeftByOpening (images old) s c → Recovers c w
+      by_left c (inl before) = each c before
+      by_left c (inr fresh) =
+          let empty : w ≡ world_in [] = one_world s w (world_in []) (each s now) (held s (inr (fresh.0, refl))) in
+          subst (λ (v : World). Recovers c v) (sym empty) (held c fresh.1)
+
+  -- time goes on without an entry, and leaves the world of now
+  safe_still : (old new : D) (start : ℕ) (entries : List Entry) (Worlds : ℕ → World → Type 0) (w : World) → ((t : ℕ) (c : Sides) → t ≤ moment old → images old c → left_since old t c)
+      → ((n : ℕ) → moment_after start (take n entries) ≤ moment old) → Holds (images old) w → LeavesOnly moment left_since old new (λ c. Recovers c w) → IsSafe left_since old start entries Worlds → IsSafe left_since new start entries Worlds
+  safe_still old new start entries Worlds w counts past holds leaves safe n few c left = by_left (leaves.either (moment_after start (take n entries)) c (past n) left)
+    where
+      all_past : moment_after start entries ≤ moment old
+      all_past = subst (λ (l : List Entry). moment_after start l ≤ moment old) (take_all (length entries) entries (omega arith)) (past (length entries))
+
+      by_left : left_since old (moment_after start (take n entries)) c ⊎ Recovers c w → RecoversPassed Worlds (acked_count (take n entries)) (length entries) c
+      by_left (inl before) = safe n few c before
+      by_left (inr now) =
+          let found = committed_passed images moment left_since old start entries Worlds w counts safe all_past holds in
+          passed_still Worlds Worlds (acked_count entries) (acked_count (take n entries)) (length entries) (length entries) c (acked_take n entries) (omega arith) (λ m v le x. x)
+          (record { count = found.0; at_least = found.1; at_most = found.2; world = w; passed = found.3; recovers = now })
+
+  run_still : (old new : D) (run : Run) (w : World) → ((t : ℕ) (c : Sides) → t ≤ moment old → images old c → left_since old t c)
+      → ((n : ℕ) → moment_after (start_of run) (take n (entries_of run)) ≤ moment old) → Holds (images old) w → LeavesOnly moment left_since old new (λ c. Recovers c w) → SafeRun left_since old run → SafeRun left_since new run
+  unfolding SafeRun
+  run_still old new run w counts past holds leaves safe = safe_still old new (start_of run) (entries_of run) (RunPasses run) w counts past holds leaves safe
+
+  pub stands_still : (old new : D) (h : Hall) (deeds : List Deed) (s : Sides) → ((d : D) → TellsNow images moment left_since d) → images old s → ((c : Sides) → images old c → Recovers c h.world) → ((c : Sides) → HoldsLog [] c → Recovers c (world_in []))
+      → LeavesOnly moment left_since old new (IsLeftByOpening (images old) s) → IsBehind images moment left_since faults old h deeds → IsSafeFor left_since new deeds
+  stands_still old new h deeds s tells now each held leaves b = record {
+    run = and_then b.run b.opening b.entries;
+    is_run = b.is_run;
+    shows = b.shows;
+    safe = run_still old new (and_then b.run b.opening b.entries) h.world (tells old).counts_now b.stood.past (record { some = (s, now); each = each }) (leaves_world old new s h.world now each held leaves) b.stood.safe;
+  }
+
+module _ {D : Type 0} (crashes : D → Bool) (seen : D → Option Sides) (images : D → Sides → Type 0) (moment : D → ℕ) (left_since : D → ℕ → Sides → Type 0) (faults : D → ℕ) (tells : (d : D) → TellsNow images moment left_since d) where
+  -- a core is retired
+  unfoldable pub retires_behind : (old mid : DurableCore D) (c : Called) (before : List Deed) → StandsBehind crashes seen images moment left_since faults old before → Step (hall_of old) event.Retire (answer c) (hall_of mid)
+      → faults (disk_of old) ≤ faults (disk_of mid) → (is_log_fault (answer c) ≡ true → Rose (faults (disk_of old)) (faults (disk_of mid)))
+      → ((j : Journal) → KeepsLogOf crashes seen images old j → GoesOn crashes seen images moment left_since old mid event.Retire (answer c) j)
+      → IsBehind images moment left_since faults (disk_of mid) (hall_of mid) (before ++ does event.Retire (answer c) ∷ [])
+  retires_behind old mid c before s step later cause log =
+      let went = log s.behind.log s.kept in
+      one_more crashes seen images moment left_since faults tells (disk_of old) (disk_of mid) (hall_of old) (hall_of mid) went.after event.Retire (answer c) before s.behind s.within step later cause (went.owes s.told).turn
+
+  retires_entries : (old mid : DurableCore D) (c : Called) (before : List Deed) (s : StandsBehind crashes seen images moment left_since faults old before) (step : Step (hall_of old) event.Retire (answer c) (hall_of mid))
+      → (later : faults (disk_of old) ≤ faults (disk_of mid)) → (cause : is_log_fault (answer c) ≡ true → Rose (faults (disk_of old)) (faults (disk_of mid)))
+      → (log : (j : Journal) → KeepsLogOf crashes seen images old j → GoesOn crashes seen images moment left_since old mid event.Retire (answer c) j)
+      → (retires_behind old mid c before s step later cause log).entries ≡ s.behind.entries ++ record { event = event.Retire; outcome = answer c; note = []; moment = moment (disk_of mid); count = min (faults (disk_of mid)) most_count } ∷ []
+  unfolding retires_behind one_more
+  retires_entries old mid c before s step later cause log = refl
+
+  -- and so is its disk safe
+  pub retires_safe : (old mid : DurableCore D) (c : Called) (before : List Deed) → StandsBehind crashes seen images moment left_since faults old before → Step (hall_of old) event.Retire (answer c) (hall_of mid)
+      → faults (disk_of old) ≤ faults (disk_of mid) → (is_log_fault (answer c) ≡ true → Rose (faults (disk_of old)) (faults (disk_of mid)))
+      → ((j : Journal) → KeepsLogOf crashes seen images old j → GoesOn crashes seen images moment left_since old mid event.Retire (answer c) j)
+      → IsSafeFor left_since (disk_of mid) (before ++ does event.Retire (answer c) ∷ [])
+  retires_safe old mid c before s step later cause log = safe_for crashes seen images moment left_since faults (disk_of mid) (hall_of mid) (before ++ does event.Retire (answer c) ∷ []) (retires_behind old mid c before s step later cause log)
+
+  -- what a retirement that was answered Ok leaves behind: all images have the hall's world
+  pub shown_world : (old mid : DurableCore D) (before : List Deed) → StandsBehind crashes seen images moment left_since faults old before
+      → ((j : Journal) → KeepsLogOf crashes seen images old j → GoesOn crashes seen images moment left_since old mid event.Retire (answer called.Ok) j)
+      → (c : Sides) → images (disk_of mid) c → Recovers c (hall_of mid).world
+  shown_world old mid before s log = ((log s.behind.log s.kept).owes s.told).turn.shown refl
+
+  -- it is opened again
+  pub reopens_stand : (old mid new : DurableCore D) (before : List Deed) (s : Sides) (earlier count : ℕ) → StandsBehind crashes seen images moment left_since faults old before → Step (hall_of old) event.Retire (answer called.Ok) (hall_of mid)
+      → faults (disk_of old) ≤ faults (disk_of mid)
+      → ((j : Journal) → KeepsLogOf crashes seen images old j → GoesOn crashes seen images moment left_since old mid event.Retire (answer called.Ok) j)
+      → images (disk_of mid) s → ((c : Sides) → HoldsLog [] c → Recovers c (world_in [])) → LeavesOnly moment left_since (disk_of mid) (disk_of new) (IsLeftByOpening (images (disk_of mid)) s)
+      → faults (disk_of mid) ≤ faults (disk_of new) → (hall_of mid).world ≡ (hall_of new).world → earlier ≡ moment (disk_of mid) → IsOpening images moment left_since earlier count new
+      → hall_of new ≡ opening_hall (hall_of new).world (hall_of new).logged → IsSoundWorld (hall_of new).world → IsLogOf crashes seen images new (settled_log (hall_of new).world) → crashes (disk_of new) ≡ true
+      → StandsBehind crashes seen images moment left_since faults new (before ++ does event.Retire (answer called.Ok) ∷ opens (hall_of new).world (hall_of new).logged ∷ [])
+  reopens_stand old mid new before sides earlier count s step later log now held leaves not_fallen same from at first sound of told =
+      let fine : is_log_fault (answer called.Ok) ≡ true → Rose (faults (disk_of old)) (faults (disk_of mid)) = λ e. absurd (cc) in
+      let b = retires_behind old mid called.Ok before s step later fine log in
+      let o = opened_at crashes seen images moment left_since faults new at.opening.moment in
+      let begun : moment (disk_of mid) ≤ at.opening.moment = subst (λ (t : ℕ). t ≤ at.opening.moment) from at.begun in
+      let ends : EndsWith b.opening b.entries o.world o.moment o.count = record {
+        before = s.behind.entries;
+        last = record { event = event.Retire; outcome = answer called.Ok; note = []; moment = moment (disk_of mid); count = min (faults (disk_of mid)) most_count };
+        hall = hall_of mid;
+        entries_are = retires_entries old mid called.Ok before s step later fine log;
+        retired = refl;
+        fine = refl;
+        reached = b.stood.reached;
+        world_is = same;
+        later = begun;
+        not_fallen = counted_later (faults (disk_of mid)) (faults (disk_of new)) not_fallen;
+      } in
+      let left = leaves_world crashes seen images moment left_since faults (disk_of mid) (disk_of new) sides (hall_of mid).world now (shown_world old mid before s log) held leaves in
+      let left_new : LeavesOnly moment left_since (disk_of mid) (disk_of new) (λ c. Recovers c o.world) = subst (λ (w : World). LeavesOnly moment left_since (disk_of mid) (disk_of new) (λ c. Recovers c w)) same left in
+      let goes : (hall_of new).stopped ≡ false = ap (λ (h : Hall). h.stopped) first in
+      let stood = openings_keep_runs_safe images moment left_since (disk_of mid) (disk_of new) b.run b.opening o b.entries (hall_of mid) b.log b.stood same left_new (at.stood.log goes).durable in
+      record {
+        behind = record {
+          run = and_then b.run b.opening b.entries;
+          opening = o;
+          entries = [];
+          log = settled_log (hall_of new).world;
+          shows = deeds_then b.run b.opening o b.entries ∙ ap (λ (z : List Deed). z ++ opens o.world o.logged ∷ []) b.shows ∙ append_assoc before (does event.Retire (answer called.Ok) ∷ []) (opens o.world o.logged ∷ []);
+          is_run = run_then b.run b.opening o b.entries b.is_run ends (record { opening = sound; hall = opening_hall o.world o.logged; reached = refl });
+          stood = subst (λ (h : Hall). RunStood images moment left_since (disk_of new) (and_then b.run b.opening b.entries) o [] h (settled_log (hall_of new).world)) (sym first) stood;
+          past = at.stood.past;
+          counted = omega arith;
+        };
+        kept = λ goes. of;
+        within = refl;
+        told = told;
+      }
+
+  -- a retirement at which the log failed
+  pub unretired : (old mid : DurableCore D) (disk : D) (readers : List Reader) (c : Called) → disk ≡ disk_of mid → c ≢ called.Ok → (hall_of old).stopped ≡ false → Step (hall_of old) event.Retire (answer c) (hall_of mid) → (hall_of mid).stopped ≡ true
+      → faults (disk_of old) ≤ faults (disk_of mid) → (c ≡ called.LogFault → Rose (faults (disk_of old)) (faults (disk_of mid)))
+      → ((j : Journal) → KeepsLogOf crashes seen images old j → GoesOn crashes seen images moment left_since old mid event.Retire (answer c) j)
+      → (deeds : List Deed) × (last : Hall) × ((told : Bool) → ReopenFails told halted.DiskFault (record { hall = hall_of old; readers = readers }) deeds last) × (last.stopped ≡ true)
+      × ((before : List Deed) → StandsBehind crashes seen images moment left_since faults old before → IsSafeFor left_since disk (before ++ deeds))
+  unretired old mid disk readers c is apart goes step stops later cause log =
+      let failed : c ≡ called.LogFault = not_ok (hall_of old) (hall_of mid) c goes step apart in (
+        does event.Retire (answer c) ∷ [],
+        hall_of mid,
+        λ told. inl (subst (λ (z : Called). Step (hall_of old) event.Retire (answer z) (hall_of mid)) failed step, ap (λ (z : Called). does event.Retire (answer z) ∷ []) failed),
+        stops,
+        λ before s. subst (λ (d : D). IsSafeFor left_since d (before ++ does event.Retire (answer c) ∷ [])) (sym is) (retires_safe old mid c before s step later (λ f. cause (called_failed c f)) log),
+      )
+
+  -- what a core that was retired leaves behind: sides that are recovered as its world
+  abbrev LeftBy : DurableCore D → DurableCore D → Type 0
+  LeftBy old mid = (j : Journal) → KeepsLogOf crashes seen images old j → called.Ok ≡ called.Ok → (s : Sides) × (seen (disk_of mid) ≡ Some s) × Recovers s (hall_of mid).world
+
+  -- a disk that was not opened again
+  pub unopened_again : (old mid : DurableCore D) (disk new : D) (readers : List Reader) (why : OpenFault) → disk ≡ disk_of mid → Step (hall_of old) event.Retire (answer called.Ok) (hall_of mid) → (hall_of mid).stopped ≡ true
+      → faults (disk_of old) ≤ faults (disk_of mid) → crashes (disk_of mid) ≡ crashes (disk_of old)
+      → ((j : Journal) → KeepsLogOf crashes seen images old j → GoesOn crashes seen images moment left_since old mid event.Retire (answer called.Ok) j) → LeftBy old mid
+      → ((d : D) → IfTold (seen d) (images d)) → ((c : Sides) → HoldsLog [] c → Recovers c (world_in []))
+      → ((s : Sides) → seen disk ≡ Some s → crashes disk ≡ true → LeavesOnly moment left_since disk new (IsLeftByOpening (images disk) s))
+      → (deeds : List Deed) × (last : Hall) × ((told : Bool) → ReopenFails told (halt_at why) (record { hall = hall_of old; readers = readers }) deeds last) × (last.stopped ≡ true)
+      × ((before : List Deed) → StandsBehind crashes seen images moment left_since faults old before → IsSafeFor left_since new (before ++ deeds))
+  unopened_again old mid disk new readers why is step stops later told log left as_read held leaves = (
+    does event.Retire (answer called.Ok) ∷ [],
+    hall_of mid,
+    λ told. inr (inl (unspent why, step, refl)),
+    stops,
+    λ before s.
+        let l = left s.behind.log s.kept refl in
+        let here : images (disk_of mid) l.0 = subst (λ (o : Option Sides). IfTold o (images (disk_of mid))) l.1 (as_read (disk_of mid)) in
+        let gone = leaves l.0 (ap seen is ∙ l.1) (ap crashes is ∙ told ∙ s.told) in
+        let from_mid = subst (λ (d : D). LeavesOnly moment left_since d new (IsLeftByOpening (images d) l.0)) is gone in
+        stands_still crashes seen images moment left_since faults (disk_of mid) new (hall_of mid) (before ++ does event.Retire (answer called.Ok) ∷ []) l.0 tells here (shown_world old mid before s log) held from_mid
+        (retires_behind old mid called.Ok before s step later (λ e. absurd (cc)) log),
+  )
+    where
+      unspent : (why : OpenFault) → halt_at why ≢ halted.Spent
+      unspent (fault_of.Damaged side place) e = absurd (cc)
+      unspent fault_of.Disk e = absurd (cc)
+      unspent fault_of.Memory e = absurd (cc)
+
+  -- a disk that was opened again
+  pub opened_again : (old mid new : DurableCore D) (disk : D) (readers : List Reader) → disk ≡ disk_of mid → Step (hall_of old) event.Retire (answer called.Ok) (hall_of mid)
+      → faults (disk_of old) ≤ faults (disk_of mid) → crashes (disk_of mid) ≡ crashes (disk_of old)
+      → ((j : Journal) → KeepsLogOf crashes seen images old j → GoesOn crashes seen images moment left_since old mid event.Retire (answer called.Ok) j) → LeftBy old mid
+      → ((d : D) → IfTold (seen d) (images d)) → ((c : Sides) → HoldsLog [] c → Recovers c (world_in []))
+      → ((s : Sides) → seen disk ≡ Some s → crashes disk ≡ true → LeavesOnly moment left_since disk (disk_of new) (IsLeftByOpening (images disk) s))
+      → hall_of new ≡ opening_hall (hall_of new).world (hall_of new).logged → IsSoundWorld (hall_of new).world → ((s : Sides) → seen disk ≡ Some s → Recovers s (hall_of new).world)
+      → ((s : Sides) → seen disk ≡ Some s → IsLogOf crashes seen images new (settled_log (hall_of new).world))
+      → ((s : Sides) → seen disk ≡ Some s → crashes disk ≡ true → IsOpening images moment left_since (moment disk) (faults (disk_of new)) new)
+      → crashes (disk_of new) ≡ crashes disk → faults disk ≤ faults (disk_of new)
+      → (deeds : List Deed) × ((told : Bool) → (told ≡ true → Logs crashes seen images old) → Reopens told (record { hall = hall_of old; readers = readers }) deeds (record { hall = hall_of new; readers = [] }))
+      × StaysSafe crashes seen images moment left_since faults old new deeds
+  opened_again old mid new disk readers is step later told log left as_read held leaves first sound recovers logged opened told_new not_fallen = (
+    does event.Retire (answer called.Ok) ∷ opens (hall_of new).world (hall_of new).logged ∷ [],
+    λ keeps logs. record {
+      left = hall_of mid;
+      retired = step;
+      world = (hall_of new).world;
+      logged = (hall_of new).logged;
+      sound = sound;
+      same = λ e.
+          let j = logs e in
+          let l = left j.0 j.1 refl in
+          one_world l.0 (hall_of new).world (hall_of mid).world (recovers l.0 (ap seen is ∙ l.1)) l.2;
+      begins = ap (λ (h : Hall). record { hall = h; readers = [] }) first;
+      made = refl;
+    },
+    record {
+      logs = λ j. let l = left j.0 j.1 refl in (settled_log (hall_of new).world, λ goes. logged l.0 (ap seen is ∙ l.1));
+      stands = λ before s.
+          let l = left s.behind.log s.kept refl in
+          let tells_it : seen disk ≡ Some l.0 = ap seen is ∙ l.1 in
+          let crash : crashes disk ≡ true = ap crashes is ∙ told ∙ s.told in
+          let here : images (disk_of mid) l.0 = subst (λ (o : Option Sides). IfTold o (images (disk_of mid))) l.1 (as_read (disk_of mid)) in
+          let from_mid = subst (λ (d : D). LeavesOnly moment left_since d (disk_of new) (IsLeftByOpening (images d) l.0)) is (leaves l.0 tells_it crash) in
+          let world : (hall_of mid).world ≡ (hall_of new).world = one_world l.0 (hall_of mid).world (hall_of new).world l.2 (recovers l.0 tells_it) in
+          let more : faults (disk_of mid) ≤ faults (disk_of new) = subst (λ (d : D). faults d ≤ faults (disk_of new)) is not_fallen in
+          reopens_stand old mid new before l.0 (moment disk) (faults (disk_of new)) s step later log here held from_mid more world (ap moment is) (opened l.0 tells_it crash) first sound (logged l.0 tells_it) (told_new ∙ crash);
+    },
+  )

@@ -1,0 +1,16 @@
+pub mod TextLines
+pub mod Reads
+pub mod Outputs
+pub mod Traces
+pub mod Played
+pub mod Readers
+pub mod Scripts
+pub mod Undone
+pub mod Steps
+pub mod Cuts
+pub mod OneOutput
+pub mod Openings
+pub mod Standing
+pub mod Players
+pub mod Plays
+pub mod Checks

@@ -1,0 +1,62 @@
+//! A look at the world of a disk.
+
+ghost use Rattle.std.specs.Prelude.{◌≡◌, ◌≤◌, ◌∷◌, ℕ, true, Some, IfOk, IfErr};
+ghost use Rattle.outside.specs.Causes.{Rose};
+ghost use Rattle.outside.specs.Sides.{Sides};
+ghost use Rattle.outside.specs.declared.sides.Side.{Side};
+ghost use Rattle.world_data.specs.declared.worlds.World.{World};
+ghost use Rattle.journal.specs.declared.openings.OpenFault.TheVariants as fault_of;
+ghost use Rattle.log_record.specs.Readings.{Damaged};
+ghost use Rattle.replay_run.specs.Traces.{opens};
+ghost use Rattle.replay_run.specs.Standing.{IsSafeFor};
+ghost use Rattle.replay_run.specs.Plays.{retired};
+ghost use Rattle.replay_run.specs.Checks.{IsFound, HasGeneration};
+
+use durable_core::DurableCore;
+use journal::Unopened;
+use outside::Disk;
+use std::alloc::Global;
+use world_model::Called;
+
+/// What was found on a disk that was opened and retired, how that was answered, and the disk.
+#[derive(Drop)]
+pub struct Checked<D> {
+    pub objects: u64,
+    pub channels: u64,
+    /// The generation of its log.
+    pub generation: u64,
+    pub answer: Called,
+    pub disk: D,
+}
+
+/// Opens the world on a disk, counts what it has, and retires it.
+///
+/// Where the disk tells what it holds and what a crash may leave, the disk that comes back is safe for that: whatever a crash might have
+/// left since the opening is recovered as the world that was found.
+pub fn check<D: Disk>(alloc: Global, disk: D) -> Result<Checked<D>, Unopened<D>>
+    ensures found { IfOk result (λ c. (w : World) × (logged : ℕ) × IsFound (D.seen disk) w logged c.objects c.channels c.answer
+        × ((s : Sides) → D.seen disk ≡ Some s → D.crashes disk ≡ true → IsSafeFor D.left_since c.disk (opens w logged ∷ retired c.answer))) }
+    ensures generation { (s : Sides) → D.seen disk ≡ Some s → IfOk result (λ c. HasGeneration D.crashes D.seen D.images c.generation) }
+    ensures damaged { (s : Sides) → D.seen disk ≡ Some s → IfErr result (λ u. (side : Side) (place : ℕ) → u.why ≡ fault_of.Damaged side place → Damaged s side place) }
+    ensures later { IfOk result (λ c. D.faults disk ≤ D.faults c.disk) }
+    ensures retire_cause { IfOk result (λ c. c.answer ≡ Called.LogFault → Rose (D.faults disk) (D.faults c.disk)) }
+    ensures cause { IfErr result (λ u. u.why ≡ fault_of.Disk → Rose (D.faults disk) (D.faults u.disk)) }
+{
+    match DurableCore::open(alloc, disk) {
+        Ok(core) => {
+            let mut core = core;
+            let objects = core.objects();
+            let channels = core.channels();
+            let generation = core.generation();
+            let answer = core.retire();
+            Ok(Checked {
+                objects,
+                channels,
+                generation,
+                answer,
+                disk: core.into_disk(),
+            })
+        }
+        Err(unopened) => Err(unopened),
+    }
+}

@@ -1,0 +1,20 @@
+use Rattle.std.proofs.Common.{refl, sym, subst}
+use Rattle.shared_hall.specs.Cores.{IsOpenedOn}
+use Rattle.shared_hall.specs.OpeningLaws.{is_opened_on}
+use Rattle.tile_top.specs.Fronts.{IsFirst}
+use Rattle.tile_top.proofs.serves.open_hall.Goals as goal
+
+pub new-requires : goal.new-requires
+new-requires g c = subst (IsOpenedOn g.D.Disk.crashes g.D.Disk.seen g.D.Disk.images g.D.Disk.moment g.D.Disk.left_since g.D.Disk.faults c.in-Ok.core) (sym c.of-handed.ensures)
+    (is_opened_on g.D.Disk.crashes g.D.Disk.seen g.D.Disk.images g.D.Disk.moment g.D.Disk.left_since g.D.Disk.faults c.in-Ok.core c.args.disk
+    c.in-Ok.ensures.hall c.in-Ok.ensures.sound c.in-Ok.ensures.told c.in-Ok.ensures.log c.in-Ok.ensures.safe)
+
+pub returns-in-Ok-new-clause-first : goal.returns-in-Ok-new-clause-first
+returns-in-Ok-new-clause-first g c =
+    let e = c.in-Ok.ensures in
+    subst (IsFirst (g.D.Disk.seen c.args.disk)) (sym c.in-Ok-new.ensures.knows) (record {
+      opens = record { sound = e.sound; recovered = e.opened.recovers; length = e.len };
+      unseen = refl;
+      unmade = refl;
+      front = refl;
+    })

@@ -1,0 +1,34 @@
+-- What `check` promises of its status.
+use Rattle.std.specs.Prelude.{◌≡◌, ◌≢◌, ◌⊎◌, ℕ, Option, Some}
+use Rattle.byte_text.specs.Names.{Bytes}
+use Rattle.outside.specs.Sides.{Sides}
+use Rattle.outside.specs.declared.sides.Side.{Side}
+use Rattle.world_data.specs.declared.worlds.World.{World}
+use Rattle.world_model.specs.declared.events.Called.{Called}
+use Rattle.world_model.specs.declared.events.Called.TheVariants as called
+use Rattle.serve_command.specs.Ends.{IsEnd, disk_line, memory_line}
+use Rattle.replay_run.specs.Openings.{Opens, IsDamagedAt}
+use Rattle.replay_run.specs.declared.halts.Halt.{Halt}
+use Rattle.replay_run.specs.declared.halts.Halt.TheVariants as halted
+use Rattle.tile_top.specs.Tops.{IsHaltEnd, check_line}
+
+-- a disk was not opened: memory wanted, or it failed, or it is damaged where that is said
+pub record IsUnfound (seen : Option Sides) (held0 held : Option Bytes) (status : ℕ) : Type 0 where
+  pub why : Halt
+  pub unspent : why ≢ halted.Spent
+  pub damaged : (side : Side) (place : ℕ) → why ≡ halted.Damaged side place → IsDamagedAt seen side place
+  pub ended : IsHaltEnd why held0 held status
+
+-- a disk was opened with a world, and the line of that was written; but the disk failed when it was retired, or memory wanted
+pub record IsFound (seen : Option Sides) (HasGeneration : ℕ → Type 0) (Ends : World → ℕ → Called → Type 0) (held0 held : Option Bytes) (status : ℕ) : Type 0 where
+  pub world : World
+  pub logged : ℕ
+  pub opens : Opens seen world logged
+  pub generation : ℕ
+  pub counted : (s : Sides) → seen ≡ Some s → HasGeneration generation
+  pub answered : Called
+  pub ends : Ends world logged answered
+  pub ended : ((answered ≡ called.Ok) × (IsEnd held0 held 0 (check_line world generation) status ⊎ IsEnd held0 held 7 memory_line status)) ⊎ ((answered ≡ called.LogFault) × IsEnd held0 held 5 disk_line status)
+
+abbrev pub Checks : Option Sides → (ℕ → Type 0) → (World → ℕ → Called → Type 0) → Option Bytes → Option Bytes → ℕ → Type 0
+Checks seen HasGeneration Ends held0 held status = IsUnfound seen held0 held status ⊎ IsFound seen HasGeneration Ends held0 held status

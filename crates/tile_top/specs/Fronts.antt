@@ -1,0 +1,55 @@
+-- What `serve` promises of the server's seat, the disk and the status.
+use Rattle.std.specs.Prelude.{◌≡◌, ◌≢◌, ◌⊎◌, ℕ, true, List, [], Option, None, Some}
+use Rattle.byte_text.specs.Names.{Bytes}
+use Rattle.outside.specs.Sides.{Sides}
+use Rattle.outside.specs.declared.sides.Side.{Side}
+use Rattle.world_model.specs.Histories.{answer}
+use Rattle.world_model.specs.Seats.{Knows, Adds}
+use Rattle.world_model.specs.declared.events.Called.TheVariants as called
+use Rattle.world_model.specs.declared.events.Event.TheVariants as event
+use Rattle.world_model.specs.declared.events.Outcome.{Outcome}
+use Rattle.serve_command.specs.Ends.{IsEnd, disk_line, memory_line}
+use Rattle.serve_command.specs.Words.{Serve}
+use Rattle.serve_command.specs.Serves.{Serves, Counted}
+use Rattle.replay_run.specs.Openings.{Opens, IsDamagedAt}
+use Rattle.replay_run.specs.declared.halts.Halt.{Halt}
+use Rattle.replay_run.specs.declared.halts.Halt.TheVariants as halted
+use Rattle.tile_top.specs.Tops.{IsHaltEnd}
+
+-- no shared hall was made: the disk was not opened, or memory wanted; nothing was counted
+pub record IsUnmade (seen : Option Sides) (c c' : Counted) (held held' : Option Bytes) (status : ℕ) : Type 0 where
+  pub same : c' ≡ c
+  pub why : Halt
+  pub unspent : why ≢ halted.Spent
+  pub damaged : (side : Side) (place : ℕ) → why ≡ halted.Damaged side place → IsDamagedAt seen side place
+  pub ended : IsHaltEnd why held held' status
+
+-- a seat that has seen nothing so far, of a history that opens with a disk's world
+pub record IsFirst (seen : Option Sides) (k : Knows) : Type 0 where
+  pub opens : Opens seen k.opening.world k.opening.logged
+  pub unseen : k.seen ≡ []
+  pub unmade : k.mine ≡ []
+  pub front : k.first ≡ true
+
+-- A hall was retired behind all that a seat had seen, and a status. Where that was 0, and the log failed at the retirement, this is the
+-- status, and its line was written.
+pub record IsRetired (served k : Knows) (between held : Option Bytes) (before status : ℕ) : Type 0 where
+  pub retired : Outcome
+  pub retires : Adds event.Retire retired served k
+  pub ended : ((status ≡ before) × (held ≡ between)) ⊎ ((before ≡ 0) × (retired ≢ answer called.Ok) × IsEnd between held 5 disk_line status)
+
+-- A shared hall of the disk's world was made, and callers were served up to an end; then it was retired. The server's seat has seen a
+-- legal history, and its own entries are those of the serving, and the retirement.
+pub record ServesFront (seen : Option Sides) (told : Option ℕ) (s : Serve) (c c' : Counted) (held held' : Option Bytes) (status : ℕ) (k : Knows) : Type 0 where
+  pub first : Knows
+  pub is_first : IsFirst seen first
+  pub served : Knows
+  pub between : Option Bytes
+  pub before : ℕ
+  pub serves : Serves told s first served c c' held between before
+  pub retired : IsRetired served k between held' before status
+
+-- by what the server's seat has seen, where a hall was made
+abbrev pub Fronts : Option Sides → Option ℕ → Serve → Counted → Counted → Option Bytes → Option Bytes → ℕ → Option Knows → Type 0
+Fronts seen told s c c' held held' status None = IsUnmade seen c c' held held' status
+Fronts seen told s c c' held held' status (Some k) = ServesFront seen told s c c' held held' status k
