@@ -3,7 +3,7 @@
 ghost use Rattle.std.specs.Prelude.{◌≡◌, ◌≢◌, ◌⊎◌, ◌≤◌, ◌<◌, ◌+◌, ◌*◌, true, false, [], if◌then◌else◌, length, Some, Decides};
 ghost use Rattle.outside.specs.Causes.{Rose};
 ghost use Rattle.outside.specs.Sides.{Sides};
-ghost use Rattle.world_data.specs.Limits.{max_moment, max_weight, take_frames};
+ghost use Rattle.world_data.specs.Limits.{max_moment, take_frames};
 ghost use Rattle.world_model.specs.Histories.{Step};
 ghost use Rattle.world_model.specs.Outcomes.{enter_outcome, take_outcome, given_count, is_proper};
 ghost use Rattle.world_model.specs.Halls.{NamesChanged};
@@ -17,6 +17,7 @@ ghost use Rattle.log_record.specs.Recovery.{Recovers};
 ghost use Rattle.durable_core.specs.Written.{IsMirrored, KeepsSided, Sided, sided_next, sided_with};
 ghost use Rattle.durable_core.specs.Rewriting.{is_ending, next_shown, rewriting_after};
 ghost use Rattle.tile_core.specs.Answered.{MayCall, IsAnswered, AreSessions, StayNamed};
+ghost use Rattle.tile_core.specs.CoreStates.{most_kept};
 
 use crate::tails::{PENDING, Tail};
 use outside::{Disk, Failed};
@@ -142,7 +143,7 @@ impl<D: Disk> DurableCore<D> {
         ensures named { NamesChanged touched.new (hall_of self.old) (hall_of self.new) }
         ensures kept { StayNamed touched.old touched.new }
         ensures room { AreSessions touched.new (hall_of self.new) }
-        ensures logged { (hall_of self.new).logged ≤ (hall_of self.old).logged + 2 * max_weight }
+        ensures logged { (hall_of self.new).logged ≤ (hall_of self.old).logged + 2 * most_kept }
         ensures done { (hall_of self.old).stopped ≡ false → MayCall (hall_of self.old) session
             → (result ≡ Called.Ok) ⊎ ((result ≡ Called.Memory) ⊎ (result ≡ Called.LogFault)) }
         ensures answered { result ≡ Called.Ok → IsAnswered (hall_of self.old) (hall_of self.new) moment session asked.now }
@@ -185,7 +186,7 @@ impl<D: Disk> DurableCore<D> {
         ensures named { NamesChanged touched.new (hall_of self.old) (hall_of self.new) }
         ensures kept { StayNamed touched.old touched.new }
         ensures room { AreSessions touched.new (hall_of self.new) }
-        ensures logged { (hall_of self.new).logged ≤ (hall_of self.old).logged + max_weight }
+        ensures logged { (hall_of self.new).logged ≤ (hall_of self.old).logged + most_kept }
         ensures long { result ≡ Called.Ok → PENDING ≤ length (pending self.old.tail.journal)
             → pending self.new.tail.journal ≡ records_text (changes_of (writes_of (hall_of self.old) (event.Tick moment))) }
         ensures cause { result ≡ Called.LogFault → Rose (D.faults (disk_of self.old)) (D.faults (disk_of self.new)) }

@@ -40,6 +40,7 @@ replies_alone objects total kept e r frame closes is text short = record {
   short = short;
   there = tt;
   accepted = tt;
+  few = tt;
   length_is = refl;
   small = lit≤ tt;
   weight_is = kept.weighed;

@@ -1,6 +1,6 @@
 -- What commands on objects do, where channels stand beside the objects.
 use Rattle.std.proofs.Common.{◌≡◌, ℕ, ◌+◌, ◌*◌, ◌<◌, ◌≤◌, ◌^◌, Bool, true, false, not, refl, sym, ap, ◌∙◌, subst, lit≤, lit<, List, [], ◌∷◌, length, length-append, arith}
-use Rattle.std.specs.Prelude.{pos, Option, Some, None, find, is_some, is_none, filter, sum_by, nat_le, nat_lt, ◌==◌, ◌&&◌, map, if◌then◌else◌}
+use Rattle.std.specs.Prelude.{pos, Option, Some, None, is_none, filter, sum_by, nat_le, nat_lt, ◌==◌, ◌&&◌, map, if◌then◌else◌}
 use Rattle.std.specs.List.{list_all, list_any}
 use Rattle.std.proofs.lemmas.Bool.Decides.{nat_tests}
 use Rattle.std.proofs.lemmas.List.{length-map}
@@ -16,12 +16,13 @@ use Rattle.fence_model.specs.Writes.{Write, loud, quiet, dels}
 use Rattle.world_data.specs.Filters.{Field, value_of, with_values}
 use Rattle.world_data.specs.Limits.{max_fields, max_objects, max_reply, max_weight}
 use Rattle.world_data.specs.Records.{weight}
-use Rattle.world_data.specs.Worlds.{object_at, object_before, objects_of, has_key, is_at}
+use Rattle.world_data.specs.Worlds.{object_at, object_before, has_key, is_at}
 use Rattle.world_data.specs.declared.channels.Channel.{Channel}
 use Rattle.world_data.specs.declared.objects.Object.{Object}
 use Rattle.world_data.specs.declared.worlds.World.{World}
+use Rattle.world_data.specs.declared.worlds.Change.{Change}
 use Rattle.world_data.specs.declared.worlds.Change.TheVariants as change
-use Rattle.world_model.specs.Effects.{Effect, says, changes, refuses, unless, fits, if_object, with_object, missing, resolved, within_reply, is_kept_back, put_effect, fset_effect, deadline_effect, persist_effect, given_and_cleared, changed_count, command_effect, effect, is_served_subscribed}
+use Rattle.world_model.specs.Effects.{Effect, says, changes, refuses, unless, fits, if_object, with_object, resolved, within_reply, is_kept_back, put_effect, fset_effect, deadline_effect, persist_effect, given_and_cleared, changed_count, command_effect, effect, is_served_subscribed}
 use Rattle.world_model.specs.Refusals.{refusal_reply}
 use Rattle.world_model.specs.Replies.{null}
 use Rattle.world_model.specs.Subscriptions.{Sub, has_subs}
@@ -35,8 +36,8 @@ use Rattle.deliveries.specs.Plans.{subscribes}
 use Rattle.tile_core.specs.declared.moves.Move.{Move}
 use Rattle.tile_core.specs.declared.moves.Move.TheVariants.{Stay, Put, Delete, DeleteEach, Leave, Clear}
 use Rattle.tile_core.specs.declared.plans.Plan.{Plan}
-use Rattle.tile_core.specs.Beside.{is_of_channels, is_of_objects, is_too_heavy, or_full, IsCounted}
-use Rattle.tile_core.specs.CoreStates.{AreKept}
+use Rattle.tile_core.specs.Beside.{is_of_objects, is_put, is_too_heavy, is_weighed, or_full, IsCounted}
+use Rattle.tile_core.specs.CoreStates.{AreKept, most_kept}
 use Rattle.tile_core.specs.Moves.{world_of, world_with, moved, without_each}
 use Rattle.record_lengths.specs.Lengths.{len_of, HasFewFields}
 use Rattle.tile_core.specs.Planned.{channels_left, channels_weight}
@@ -45,7 +46,7 @@ use Rattle.tile_core.proofs.Answering.{said, count_fits}
 use Rattle.tile_core.proofs.Changing.{one_at_most}
 use Rattle.record_lengths.specs.LengthLaws.{bare_short}
 use Rattle.tile_core.proofs.Standing.{found_holds}
-use Rattle.tile_core.proofs.Weights.{have_few, weight_sum, found_own, some_sum}
+use Rattle.tile_core.proofs.Weights.{weight_sum, found_own, some_sum}
 use Rattle.record_lengths.specs.ObjectSums.{changed_sum}
 
 module _ (cs : List Channel) (os : List Object) where
@@ -58,45 +59,128 @@ module _ (cs : List Channel) (os : List Object) where
   pub weight_beside : (xs : List Object) → weight (world_with cs xs) ≡ weight (world_of xs) + channels_weight cs
   weight_beside xs = omega (arith, weight_sum xs)
 
-  -- effects that put nothing are as they are
+  -- effects whose one put, if any, leaves the objects no heavier
+
+  abbrev IsLighterChange : Change → Type 0
+  IsLighterChange (change.Put o) = weight (world_of (put_in object_before o os)) ≤ weight (world_of os)
+  IsLighterChange c = Unit {0}
+
+  abbrev AreLighter : List Write → Type 0
+  AreLighter [] = Unit {0}
+  AreLighter (d ∷ []) = IsLighterChange d.change
+  AreLighter (d ∷ e ∷ writes) = Unit {0}
 
   abbrev Calm : Effect → Type 0
-  Calm e = is_too_heavy w e.writes ≡ false
-
-  calm_or : (e : Effect) → Calm e → or_full w e ≡ e
-  calm_or e c = rw c refl
+  Calm e = AreLighter e.writes
 
   if_calm : (b : Bool) (e f : Effect) → Calm e → Calm f → Calm (if b then e else f)
   if_calm true e f p q = p
   if_calm false e f p q = q
 
   within_calm : (e : Effect) → Calm e → Calm (within_reply e)
-  within_calm e p = if_calm (list_all (λ r. nat_le (length (frame_text r)) max_reply) e.replies) e (refuses refusal.ReplyTooLong) p refl
+  within_calm e p = if_calm (list_all (λ r. nat_le (length (frame_text r)) max_reply) e.replies) e (refuses refusal.ReplyTooLong) p tt
 
-  object_calm : (f : Option Object) (e : Effect) (g : Object → Effect) → Calm e → ((o : Object) → Calm (g o)) → Calm (if_object f e g)
+  object_calm : (f : Option Object) (e : Effect) (g : Object → Effect) → Calm e → ((o : Object) → f ≡ Some o → Calm (g o)) → Calm (if_object f e g)
   object_calm None e g p q = p
-  object_calm (Some o) e g p q = q o
+  object_calm (Some o) e g p q = q o refl
 
   with_calm : (key id : Bytes) (g : Object → Effect) → ((o : Object) → Calm (g o)) → Calm (with_object v key id g)
   with_calm key id g q = by (object_at v key id) refl
     where
       by : (f : Option Object) → object_at v key id ≡ f → Calm (with_object v key id g)
-      by None e = rw e refl
+      by None e = rw e tt
       by (Some o) e = rw e (q o)
 
   resolved_calm : (from : AreaWords) (g : Area → List Bytes → Effect) → ((a : Area) (words : List Bytes) → Calm (g a words)) → Calm (resolved v from g)
   resolved_calm (Given a) g q = q a []
   resolved_calm (Of key id) g q = with_calm key id _ (λ o. q _ _)
 
-  dels_calm : (gone : List Object) → is_too_heavy w (dels gone) ≡ false
-  dels_calm [] = refl
-  dels_calm (o ∷ []) = refl
-  dels_calm (o ∷ p ∷ gone) = refl
+  dels_calm : (gone : List Object) → AreLighter (dels gone)
+  dels_calm [] = tt
+  dels_calm (o ∷ []) = tt
+  dels_calm (o ∷ p ∷ gone) = tt
 
-  same : (e : Effect) → Calm e → within_reply e ≡ or_full w (within_reply e)
-  same e c = sym (calm_or (within_reply e) (within_calm e c))
+  -- an object that loses its deadline leaves them no heavier
+  persist_calm : (total : ℕ) → AreKept os total → (key id : Bytes) (o : Object) → object_at v key id ≡ Some o → Calm (persist_effect o)
+  persist_calm total kept key id o here = by o.deadline refl
+    where
+      by : (d : Option ℕ) → o.deadline ≡ d → Calm (persist_effect o)
+      by None is = rw is tt
+      by (Some m) is =
+          let x : Object = record o { deadline = None } in
+          let short = bare_short o m is (found_holds (is_at key id) o HasFewFields os here kept.few) in
+          let sum = changed_sum len_of x os o kept.sorted (found_own key id os o here) in
+          let less : weight (world_of (put_in object_before x os)) ≤ weight (world_of os) = omega (arith, sum, short, weight_sum os, weight_sum (put_in object_before x os)) in
+          rw is less
+
+  -- commands whose puts are not weighed do the same beside channels
+  pub unweighed : (now : ℕ) (c : Command) → is_of_objects c ≡ true → is_weighed c ≡ false → effect w now [] c ≡ effect v now [] c
+  unfolding effect
+  unweighed now (command.Set key id given cleared after_ex only text shape) e u = absurd (cc)
+  unweighed now (command.Get key id with_fields how) e u = refl
+  unweighed now (command.Del key id) e u = refl
+  unweighed now (command.Pdel key pattern) e u = refl
+  unweighed now (command.Drop key) e u = refl
+  unweighed now (command.Fset key id given cleared) e u = absurd (cc)
+  unweighed now (command.Fget key id field) e u = refl
+  unweighed now (command.Expire key id s) e u = absurd (cc)
+  unweighed now (command.Persist key id) e u = refl
+  unweighed now (command.Ttl key id) e u = refl
+  unweighed now (command.Keys pattern) e u = refl
+  unweighed now (command.Bounds key) e u = refl
+  unweighed now (command.Stats keys) e u = refl
+  unweighed now command.Flush e u = refl
+  unweighed now command.Shrink e u = refl
+  unweighed now command.Ping e u = refl
+  unweighed now command.Quit e u = refl
+  unweighed now (command.Scan key q) e u = refl
+  unweighed now (command.Search key q from) e u = refl
+  unweighed now (command.Nearby key q p reach) e u = refl
+  unweighed now (command.Setchan c from) e u = absurd (cc)
+  unweighed now (command.Delchan name) e u = absurd (cc)
+  unweighed now (command.Pdelchan pattern) e u = absurd (cc)
+  unweighed now (command.Chans pattern) e u = absurd (cc)
+  unweighed now (command.Subscribe names) e u = absurd (cc)
+  unweighed now (command.Psubscribe patterns) e u = absurd (cc)
+
+  -- and leave the objects no heavier
+  lighter : (total : ℕ) → AreKept os total → (now : ℕ) (c : Command) → is_of_objects c ≡ true → is_weighed c ≡ false → Calm (effect v now [] c)
+  unfolding effect
+  lighter total kept now (command.Set key id given cleared after_ex only text shape) e u = absurd (cc)
+  lighter total kept now (command.Get key id with_fields how) e u = within_calm (command_effect v now [] (command.Get key id with_fields how)) (object_calm (object_at v key id) _ _ tt (λ o here. tt))
+  lighter total kept now (command.Del key id) e u = within_calm (command_effect v now [] (command.Del key id)) (object_calm (object_at v key id) _ _ tt (λ o here. tt))
+  lighter total kept now (command.Pdel key pattern) e u = within_calm (command_effect v now [] (command.Pdel key pattern)) (dels_calm _)
+  lighter total kept now (command.Drop key) e u = within_calm (command_effect v now [] (command.Drop key)) (if_calm (list_any (has_key key) os) (changes (number 1) (loud (change.Drop key) ∷ [])) (says (number 0)) tt tt)
+  lighter total kept now (command.Fset key id given cleared) e u = absurd (cc)
+  lighter total kept now (command.Fget key id field) e u = within_calm (command_effect v now [] (command.Fget key id field)) (with_calm key id _ (λ o. tt))
+  lighter total kept now (command.Expire key id s) e u = absurd (cc)
+  lighter total kept now (command.Persist key id) e u = within_calm (command_effect v now [] (command.Persist key id)) (object_calm (object_at v key id) _ _ tt (λ o here. persist_calm total kept key id o here))
+  lighter total kept now (command.Ttl key id) e u = within_calm (command_effect v now [] (command.Ttl key id)) (object_calm (object_at v key id) _ _ tt (λ o here. tt))
+  lighter total kept now (command.Keys pattern) e u = within_calm (command_effect v now [] (command.Keys pattern)) tt
+  lighter total kept now (command.Bounds key) e u = within_calm (command_effect v now [] (command.Bounds key)) tt
+  lighter total kept now (command.Stats keys) e u = within_calm (command_effect v now [] (command.Stats keys)) tt
+  lighter total kept now command.Flush e u = tt
+  lighter total kept now command.Shrink e u = tt
+  lighter total kept now command.Ping e u = tt
+  lighter total kept now command.Quit e u = tt
+  lighter total kept now (command.Scan key q) e u = within_calm (command_effect v now [] (command.Scan key q)) tt
+  lighter total kept now (command.Search key q from) e u = within_calm (command_effect v now [] (command.Search key q from)) (resolved_calm from _ (λ a words. tt))
+  lighter total kept now (command.Nearby key q p reach) e u = within_calm (command_effect v now [] (command.Nearby key q p reach)) tt
+  lighter total kept now (command.Setchan c from) e u = absurd (cc)
+  lighter total kept now (command.Delchan name) e u = absurd (cc)
+  lighter total kept now (command.Pdelchan pattern) e u = absurd (cc)
+  lighter total kept now (command.Chans pattern) e u = absurd (cc)
+  lighter total kept now (command.Subscribe names) e u = absurd (cc)
+  lighter total kept now (command.Psubscribe patterns) e u = absurd (cc)
 
   -- puts are weighed with the channels
+
+  same : (r : List Piece) → within_reply (says r) ≡ or_full w (within_reply (says r))
+  same r = by (list_all (λ p. nat_le (length (frame_text p)) max_reply) (r ∷ []))
+    where
+      by : (b : Bool) → (if b then says r else refuses refusal.ReplyTooLong) ≡ or_full w (if b then says r else refuses refusal.ReplyTooLong)
+      by true = refl
+      by false = refl
 
   above : (m n : ℕ) → m ≤ n → nat_le m max_weight ≡ false → nat_le n max_weight ≡ true → ⊥
   above m n le p q = absurd (grind (arith, nat_tests))
@@ -127,7 +211,7 @@ module _ (cs : List Channel) (os : List Object) where
       by false false false = put_beside o fine true (lit≤ tt)
 
   expire_beside : (f : Option Object) (d : ℕ) → within_reply (if_object f (says (number 0)) (λ o. deadline_effect w o d)) ≡ or_full w (within_reply (if_object f (says (number 0)) (λ o. deadline_effect v o d)))
-  expire_beside None d = same (says (number 0)) refl
+  expire_beside None d = same (number 0)
   expire_beside (Some o) d = put_beside (record o { deadline = Some d }) (number 1) false (count_fits 1 (lit< tt))
 
   -- those of an FSET that changes so many fields
@@ -138,7 +222,7 @@ module _ (cs : List Channel) (os : List Object) where
   fset_some o all small = by (record o { fields = with_values o.fields all }) (changed_count o.fields all) (count_fits (changed_count o.fields all) small) (changed_count o.fields all == 0) (nat_lt max_fields (length (with_values o.fields all)))
     where
       by : (x : Object) (n : ℕ) → length (frame_text (number n)) ≤ max_reply → (a b : Bool) → fset_tests w x n a b ≡ or_full w (fset_tests v x n a b)
-      by x n short true b = same (says (number 0)) refl
+      by x n short true b = same (number 0)
       by x n short false true = refl
       by x n short false false = put_beside x (number n) false short
 
@@ -147,62 +231,38 @@ module _ (cs : List Channel) (os : List Object) where
   fset_beside key id all counted = by (object_at v key id) refl
     where
       by : (f : Option Object) → object_at v key id ≡ f → within_reply (with_object w key id (λ o. fset_effect w o all)) ≡ or_full w (within_reply (with_object v key id (λ o. fset_effect v o all)))
-      by None e = rw e (same (missing v key) refl)
+      by None e = rw e (same (refusal_reply (if list_any (has_key key) os then refusal.IdNotFound else refusal.KeyNotFound)))
       by (Some o) e = rw e (fset_some o all (counted o e))
 
-  -- an object that loses its deadline leaves the world no heavier
-  bare_beside : (total : ℕ) → AreKept os total → total + channels_weight cs ≤ max_weight → (key id : Bytes) (o : Object) (m : ℕ) → object_at v key id ≡ Some o → o.deadline ≡ Some m → fits w (change.Put (record o { deadline = None })) ≡ true
-  bare_beside total kept light key id o m here is =
-      let x : Object = record o { deadline = None } in
-      let short = bare_short o m is (found_holds (is_at key id) o HasFewFields os here (have_few os total kept)) in
-      let sum = changed_sum len_of x os o kept.sorted (found_own key id os o here) in
-      let less : weight (world_with cs (put_in object_before x os)) ≤ max_weight = omega (arith, sum, short, weight_sum os, weight_sum (put_in object_before x os), weight_beside (put_in object_before x os), kept.weighed, light) in
-      grind (arith, nat_tests)
-
-  put_calm : (o : Object) → fits w (change.Put o) ≡ true → is_too_heavy w (quiet (change.Put o) ∷ []) ≡ false
-  put_calm o f = rw f refl
-
-  persist_some : (o : Object) → ((m : ℕ) → o.deadline ≡ Some m → fits w (change.Put (record o { deadline = None })) ≡ true) → within_reply (persist_effect o) ≡ or_full w (within_reply (persist_effect o))
-  persist_some o fit = by o.deadline refl
-    where
-      by : (d : Option ℕ) → o.deadline ≡ d → within_reply (persist_effect o) ≡ or_full w (within_reply (persist_effect o))
-      by None is = rw is (same (says (number 0)) refl)
-      by (Some m) is = rw is (same (changes (number 1) (quiet (change.Put (record o { deadline = None })) ∷ [])) (put_calm (record o { deadline = None }) (fit m is)))
-
-  persist_beside : (f : Option Object) → ((o : Object) (m : ℕ) → f ≡ Some o → o.deadline ≡ Some m → fits w (change.Put (record o { deadline = None })) ≡ true)
-      → within_reply (if_object f (says (number 0)) persist_effect) ≡ or_full w (within_reply (if_object f (says (number 0)) persist_effect))
-  persist_beside None fit = same (says (number 0)) refl
-  persist_beside (Some o) fit = persist_some o (λ m is. fit o m refl is)
-
-  -- each command
-  pub beside : (total : ℕ) → AreKept os total → total + channels_weight cs ≤ max_weight → (now : ℕ) (c : Command) → is_of_objects c ≡ true → IsCounted os c → effect w now [] c ≡ or_full w (effect v now [] c)
+  -- each command whose put is weighed
+  pub beside : (now : ℕ) (c : Command) → is_weighed c ≡ true → IsCounted os c → effect w now [] c ≡ or_full w (effect v now [] c)
   unfolding effect
-  beside total kept light now (command.Set key id given cleared after_ex only text shape) e n = set_beside only (object_at v key id) _
-  beside total kept light now (command.Get key id with_fields how) e n = same (command_effect v now [] (command.Get key id with_fields how)) (object_calm (object_at v key id) _ _ refl (λ o. refl))
-  beside total kept light now (command.Del key id) e n = same (command_effect v now [] (command.Del key id)) (object_calm (object_at v key id) _ _ refl (λ o. refl))
-  beside total kept light now (command.Pdel key pattern) e n = same (command_effect v now [] (command.Pdel key pattern)) (dels_calm _)
-  beside total kept light now (command.Drop key) e n = same (command_effect v now [] (command.Drop key)) (if_calm (list_any (has_key key) os) (changes (number 1) (loud (change.Drop key) ∷ [])) (says (number 0)) refl refl)
-  beside total kept light now (command.Fset key id given cleared) e n = fset_beside key id (given_and_cleared given cleared) n
-  beside total kept light now (command.Fget key id field) e n = same (command_effect v now [] (command.Fget key id field)) (with_calm key id _ (λ o. refl))
-  beside total kept light now (command.Expire key id s) e n = expire_beside (object_at v key id) (now + 1000 * s)
-  beside total kept light now (command.Persist key id) e n = persist_beside (object_at v key id) (λ o m here is. bare_beside total kept light key id o m here is)
-  beside total kept light now (command.Ttl key id) e n = same (command_effect v now [] (command.Ttl key id)) (object_calm (object_at v key id) _ _ refl (λ o. refl))
-  beside total kept light now (command.Keys pattern) e n = same (command_effect v now [] (command.Keys pattern)) refl
-  beside total kept light now (command.Bounds key) e n = same (command_effect v now [] (command.Bounds key)) refl
-  beside total kept light now (command.Stats keys) e n = same (command_effect v now [] (command.Stats keys)) refl
-  beside total kept light now command.Flush e n = refl
-  beside total kept light now command.Shrink e n = refl
-  beside total kept light now command.Ping e n = refl
-  beside total kept light now command.Quit e n = refl
-  beside total kept light now (command.Scan key q) e n = same (command_effect v now [] (command.Scan key q)) refl
-  beside total kept light now (command.Search key q from) e n = same (command_effect v now [] (command.Search key q from)) (resolved_calm from _ (λ a words. refl))
-  beside total kept light now (command.Nearby key q p reach) e n = same (command_effect v now [] (command.Nearby key q p reach)) refl
-  beside total kept light now (command.Setchan c from) e n = absurd (cc)
-  beside total kept light now (command.Delchan name) e n = absurd (cc)
-  beside total kept light now (command.Pdelchan pattern) e n = absurd (cc)
-  beside total kept light now (command.Chans pattern) e n = absurd (cc)
-  beside total kept light now (command.Subscribe names) e n = absurd (cc)
-  beside total kept light now (command.Psubscribe patterns) e n = absurd (cc)
+  beside now (command.Set key id given cleared after_ex only text shape) e n = set_beside only (object_at v key id) _
+  beside now (command.Get key id with_fields how) e n = absurd (cc)
+  beside now (command.Del key id) e n = absurd (cc)
+  beside now (command.Pdel key pattern) e n = absurd (cc)
+  beside now (command.Drop key) e n = absurd (cc)
+  beside now (command.Fset key id given cleared) e n = fset_beside key id (given_and_cleared given cleared) n
+  beside now (command.Fget key id field) e n = absurd (cc)
+  beside now (command.Expire key id s) e n = expire_beside (object_at v key id) (now + 1000 * s)
+  beside now (command.Persist key id) e n = absurd (cc)
+  beside now (command.Ttl key id) e n = absurd (cc)
+  beside now (command.Keys pattern) e n = absurd (cc)
+  beside now (command.Bounds key) e n = absurd (cc)
+  beside now (command.Stats keys) e n = absurd (cc)
+  beside now command.Flush e n = absurd (cc)
+  beside now command.Shrink e n = absurd (cc)
+  beside now command.Ping e n = absurd (cc)
+  beside now command.Quit e n = absurd (cc)
+  beside now (command.Scan key q) e n = absurd (cc)
+  beside now (command.Search key q from) e n = absurd (cc)
+  beside now (command.Nearby key q p reach) e n = absurd (cc)
+  beside now (command.Setchan c from) e n = absurd (cc)
+  beside now (command.Delchan name) e n = absurd (cc)
+  beside now (command.Pdelchan pattern) e n = absurd (cc)
+  beside now (command.Chans pattern) e n = absurd (cc)
+  beside now (command.Subscribe names) e n = absurd (cc)
+  beside now (command.Psubscribe patterns) e n = absurd (cc)
 
   -- what is done to the objects, by the weight behind it
 
@@ -212,31 +272,16 @@ module _ (cs : List Channel) (os : List Object) where
       let ih = without_less key ids (filter (λ o. not (is_at key id o)) xs) in
       omega (arith, ih, some_sum (λ o. not (is_at key id o)) xs)
 
-  heavy_put : (action : Move) (is_loud : Bool) (behind : ℕ) → behind ≡ weight (world_of (moved os action)) → weight (world_of os) + channels_weight cs ≤ max_weight → max_weight < behind + channels_weight cs → is_too_heavy w (writes_of action is_loud) ≡ true
-  heavy_put Stay is_loud behind is light more = absurd (omega (arith, is, light, more))
-  heavy_put (Put o) is_loud behind is light more =
-      let over : max_weight < weight (world_with cs (put_in object_before o os)) = omega (arith, is, more, weight_beside (put_in object_before o os)) in
-      let t : nat_le (weight (world_with cs (put_in object_before o os))) max_weight ≡ false = grind (arith, nat_tests) in
-      rw t refl
-  heavy_put (Delete key id) is_loud behind is light more = absurd (omega (arith, is, light, more, some_sum (λ o. not (is_at key id o)) os, weight_sum os, weight_sum (filter (λ o. not (is_at key id o)) os)))
-  heavy_put (DeleteEach key ids) is_loud behind is light more = absurd (omega (arith, is, light, more, without_less key ids os, weight_sum os, weight_sum (without_each key ids os)))
-  heavy_put (Leave key) is_loud behind is light more = absurd (omega (arith, is, light, more, some_sum (λ o. not (has_key key o)) os, weight_sum os, weight_sum (filter (λ o. not (has_key key o)) os)))
-  heavy_put Clear is_loud behind is light more = absurd (omega (arith, is, light, more, weight_sum []))
+  -- where nothing is put, they weigh no more
+  no_heavier : (action : Move) (is_loud : Bool) → AreLighter (writes_of action is_loud) → weight (world_of (moved os action)) ≤ weight (world_of os)
+  no_heavier Stay is_loud calm = omega arith
+  no_heavier (Put o) is_loud calm = calm
+  no_heavier (Delete key id) is_loud calm = omega (arith, some_sum (λ o. not (is_at key id o)) os, weight_sum os, weight_sum (filter (λ o. not (is_at key id o)) os))
+  no_heavier (DeleteEach key ids) is_loud calm = omega (arith, without_less key ids os, weight_sum os, weight_sum (without_each key ids os))
+  no_heavier (Leave key) is_loud calm = omega (arith, some_sum (λ o. not (has_key key o)) os, weight_sum os, weight_sum (filter (λ o. not (has_key key o)) os))
+  no_heavier Clear is_loud calm = omega (arith, weight_sum [])
 
-  light_put : (action : Move) (is_loud : Bool) (behind : ℕ) → behind ≡ weight (world_of (moved os action)) → behind + channels_weight cs ≤ max_weight → is_too_heavy w (writes_of action is_loud) ≡ false
-  light_put Stay is_loud behind is less = refl
-  light_put (Put o) is_loud behind is less =
-      let under : weight (world_with cs (put_in object_before o os)) ≤ max_weight = omega (arith, is, less, weight_beside (put_in object_before o os)) in
-      let t : nat_le (weight (world_with cs (put_in object_before o os))) max_weight ≡ true = grind (arith, nat_tests) in
-      rw t refl
-  light_put (Delete key id) is_loud behind is less = refl
-  light_put (DeleteEach key []) is_loud behind is less = refl
-  light_put (DeleteEach key (id ∷ [])) is_loud behind is less = refl
-  light_put (DeleteEach key (id ∷ other ∷ ids)) is_loud behind is less = refl
-  light_put (Leave key) is_loud behind is less = refl
-  light_put Clear is_loud behind is less = refl
-
-  left_light : (action : Move) (behind : ℕ) → behind + channels_weight cs ≤ max_weight → behind + channels_weight (channels_left action cs) ≤ max_weight
+  left_light : (action : Move) (behind : ℕ) → behind + channels_weight cs ≤ most_kept → behind + channels_weight (channels_left action cs) ≤ most_kept
   left_light Stay behind less = less
   left_light (Put o) behind less = less
   left_light (Delete key id) behind less = less
@@ -244,19 +289,80 @@ module _ (cs : List Channel) (os : List Object) where
   left_light (Leave key) behind less = less
   left_light Clear behind less = omega (arith, less)
 
-  -- a plan beside the channels
-  module _ (e : Effect) (plan : Plan) (is : IsPlan os e plan) where
-    pub heavy_plan : (total : ℕ) → AreKept os total → total + channels_weight cs ≤ max_weight → max_weight < plan.weight + channels_weight cs → (p : Plan) → Says (within_reply (refuses refusal.DatabaseFull)) total p
-        → IsPlan os (or_full w e) p × (p.weight + channels_weight (channels_left p.action cs) ≤ max_weight)
-    heavy_plan total kept light more p s =
-        let t : is_too_heavy w e.writes ≡ true = ap (λ (f : Effect). is_too_heavy w f.writes) is.is ∙ heavy_put plan.action plan.loud plan.weight is.weight_is (omega (arith, light, kept.weighed)) more in
-        let full : or_full w e ≡ within_reply (says (refusal_reply refusal.DatabaseFull)) = rw t refl in
-        (said os total kept (or_full w e) (refusal_reply refusal.DatabaseFull) p full s, subst (λ (q : Plan). q.weight + channels_weight (channels_left q.action cs) ≤ max_weight) (sym s.is) light)
+  -- a put by the weight behind it, and what puts nothing
 
-    pub light_plan : plan.weight + channels_weight cs ≤ max_weight → IsPlan os (or_full w e) plan × (plan.weight + channels_weight (channels_left plan.action cs) ≤ max_weight)
-    light_plan less =
-        let t : is_too_heavy w e.writes ≡ false = ap (λ (f : Effect). is_too_heavy w f.writes) is.is ∙ light_put plan.action plan.loud plan.weight is.weight_is less in
-        (subst (λ (f : Effect). IsPlan os f plan) (sym (calm_or e t)) is, left_light plan.action plan.weight less)
+  heavy_put : (action : Move) (is_loud : Bool) (behind : ℕ) → is_put action ≡ true → behind ≡ weight (world_of (moved os action)) → max_weight < behind + channels_weight cs → is_too_heavy w (writes_of action is_loud) ≡ true
+  heavy_put (Put o) is_loud behind put is more =
+      let over : max_weight < weight (world_with cs (put_in object_before o os)) = omega (arith, is, more, weight_beside (put_in object_before o os)) in
+      let t : nat_le (weight (world_with cs (put_in object_before o os))) max_weight ≡ false = grind (arith, nat_tests) in
+      rw t refl
+  heavy_put Stay is_loud behind put is more = absurd (cc)
+  heavy_put (Delete key id) is_loud behind put is more = absurd (cc)
+  heavy_put (DeleteEach key ids) is_loud behind put is more = absurd (cc)
+  heavy_put (Leave key) is_loud behind put is more = absurd (cc)
+  heavy_put Clear is_loud behind put is more = absurd (cc)
+
+  light_put : (action : Move) (is_loud : Bool) (behind : ℕ) → is_put action ≡ true → behind ≡ weight (world_of (moved os action)) → behind + channels_weight cs ≤ max_weight → is_too_heavy w (writes_of action is_loud) ≡ false
+  light_put (Put o) is_loud behind put is less =
+      let under : weight (world_with cs (put_in object_before o os)) ≤ max_weight = omega (arith, is, less, weight_beside (put_in object_before o os)) in
+      let t : nat_le (weight (world_with cs (put_in object_before o os))) max_weight ≡ true = grind (arith, nat_tests) in
+      rw t refl
+  light_put Stay is_loud behind put is less = absurd (cc)
+  light_put (Delete key id) is_loud behind put is less = absurd (cc)
+  light_put (DeleteEach key ids) is_loud behind put is less = absurd (cc)
+  light_put (Leave key) is_loud behind put is less = absurd (cc)
+  light_put Clear is_loud behind put is less = absurd (cc)
+
+  no_put : (action : Move) (is_loud : Bool) → is_put action ≡ false → (is_too_heavy w (writes_of action is_loud) ≡ false) × AreLighter (writes_of action is_loud)
+  no_put (Put o) is_loud put = absurd (cc)
+  no_put Stay is_loud put = (refl, tt)
+  no_put (Delete key id) is_loud put = (refl, tt)
+  no_put (DeleteEach key []) is_loud put = (refl, tt)
+  no_put (DeleteEach key (id ∷ [])) is_loud put = (refl, tt)
+  no_put (DeleteEach key (id ∷ other ∷ ids)) is_loud put = (refl, tt)
+  no_put (Leave key) is_loud put = (refl, tt)
+  no_put Clear is_loud put = (refl, tt)
+
+  calm_or : (e : Effect) → is_too_heavy w e.writes ≡ false → or_full w e ≡ e
+  calm_or e t = rw t refl
+
+  -- a plan beside the channels, in a world of any weight
+  module _ (e : Effect) (plan : Plan) (is : IsPlan os e plan) (total : ℕ) (kept : AreKept os total) (light : total + channels_weight cs ≤ most_kept) where
+    writes : writes_of plan.action plan.loud ≡ e.writes
+    writes = sym (ap (λ (f : Effect). f.writes) is.is)
+
+    -- its put is refused
+    pub heavy_plan : is_put plan.action ≡ true → max_weight < plan.weight + channels_weight cs → (p : Plan) → Says (within_reply (refuses refusal.DatabaseFull)) total p
+        → IsPlan os (or_full w e) p × (p.weight + channels_weight (channels_left p.action cs) ≤ most_kept)
+    heavy_plan put more p s =
+        let t : is_too_heavy w e.writes ≡ true = subst (λ (ws : List Write). is_too_heavy w ws ≡ true) writes (heavy_put plan.action plan.loud plan.weight put is.weight_is more) in
+        let full : or_full w e ≡ within_reply (says (refusal_reply refusal.DatabaseFull)) = rw t refl in
+        (said os total kept (or_full w e) (refusal_reply refusal.DatabaseFull) p full s, subst (λ (q : Plan). q.weight + channels_weight (channels_left q.action cs) ≤ most_kept) (sym s.is) light)
+
+    -- it stays as it is
+    as_it_is : is_too_heavy w e.writes ≡ false → plan.weight + channels_weight cs ≤ most_kept → IsPlan os (or_full w e) plan × (plan.weight + channels_weight (channels_left plan.action cs) ≤ most_kept)
+    as_it_is t less = (subst (λ (f : Effect). IsPlan os f plan) (sym (calm_or e t)) is, left_light plan.action plan.weight less)
+
+    calm_light : AreLighter (writes_of plan.action plan.loud) → plan.weight + channels_weight cs ≤ most_kept
+    calm_light calm = let less = no_heavier plan.action plan.loud calm in omega (arith, less, light, is.weight_is, kept.weighed)
+
+    pub light_plan : is_put plan.action ≡ true → plan.weight + channels_weight cs ≤ max_weight → IsPlan os (or_full w e) plan × (plan.weight + channels_weight (channels_left plan.action cs) ≤ most_kept)
+    light_plan put less =
+        as_it_is (subst (λ (ws : List Write). is_too_heavy w ws ≡ false) writes (light_put plan.action plan.loud plan.weight put is.weight_is less)) (omega (arith, less))
+
+    pub still_plan : is_put plan.action ≡ false → IsPlan os (or_full w e) plan × (plan.weight + channels_weight (channels_left plan.action cs) ≤ most_kept)
+    still_plan put =
+        let none = no_put plan.action plan.loud put in
+        as_it_is (subst (λ (ws : List Write). is_too_heavy w ws ≡ false) writes none.0) (calm_light none.1)
+
+    -- that of a command whose put is not weighed
+    pub calm_plan : (now : ℕ) (c : Command) → is_of_objects c ≡ true → is_weighed c ≡ false → e ≡ effect v now [] c
+        → IsPlan os (effect w now [] c) plan × (plan.weight + channels_weight (channels_left plan.action cs) ≤ most_kept)
+    calm_plan now c of_objects passes same_effect =
+        let calm : AreLighter e.writes = subst (λ (f : Effect). AreLighter f.writes) (sym same_effect) (lighter total kept now c of_objects passes) in (
+          subst (λ (f : Effect). IsPlan os f plan) (same_effect ∙ sym (unweighed now c of_objects passes)) is,
+          left_light plan.action plan.weight (calm_light (subst AreLighter (sym writes) calm)),
+        )
 
 -- a session that may ask a command that does not subscribe is served as one without subscriptions
 held_out : (u : World) (now : ℕ) (held : List Sub) (c : Command) → subscribes c ≡ false → command_effect u now held c ≡ command_effect u now [] c

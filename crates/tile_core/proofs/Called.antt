@@ -4,7 +4,7 @@ use Rattle.std.specs.Prelude.{Some, None, Option, Ok, find, slice_get, slice_set
 use Rattle.std.specs.List.{AllByRecursion}
 use Rattle.byte_text.specs.Names.{Bytes}
 use Rattle.byte_text.specs.Replies.{frame_text}
-use Rattle.world_data.specs.Limits.{max_moment, max_reply, max_weight, most_logged}
+use Rattle.world_data.specs.Limits.{max_moment, max_reply, most_logged}
 use Rattle.world_data.specs.declared.objects.Object.{Object}
 use Rattle.world_data.specs.declared.worlds.World.{World}
 use Rattle.fence_model.specs.Writes.{Write, dels}
@@ -29,6 +29,7 @@ use Rattle.deliveries.specs.Staging.{Suffice, after_all, have_room, heard, liste
 use Rattle.session_mail.specs.Sessions.{State, session_of}
 use Rattle.session_mail.specs.Fans.{AreBare, ArePlaced, IsPlaced}
 use Rattle.session_mail.specs.FanLaws.{bare_all}
+use Rattle.tile_core.specs.CoreStates.{most_kept}
 use Rattle.tile_core.specs.declared.dues.Expired.{Expired}
 use Rattle.tile_core.specs.declared.planned.Planned.{Planned}
 use Rattle.tile_core.specs.declared.planned.Planned.TheVariants.{Objects, Channels, Subscribed}
@@ -85,7 +86,7 @@ sound_answer w total held e (Objects p) is = tt
 sound_answer w total held e (Channels p) is = tt
 sound_answer w total held e (Subscribed p) is = is.sound
 
-short_length : (w : World) (total : ℕ) (held : List Sub) (e : Effect) (p : Planned) → IsPlanned w total held e p → planned_length p ≤ max_weight
+short_length : (w : World) (total : ℕ) (held : List Sub) (e : Effect) (p : Planned) → IsPlanned w total held e p → planned_length p ≤ most_kept
 short_length w total held e (Objects p) is = is.0.small
 short_length w total held e (Channels p) is = is.0.small
 short_length w total held e (Subscribed p) is = lit≤ tt
@@ -125,13 +126,13 @@ module _ (before : Store) (now logged drawn : ℕ) (ss mid : List State) (n i mo
         λ t at. subst (λ (u : State). reply_count p ≤ u.mail.spare) (same_is ready.caller t (sym ready.here ∙ at)) q.spare,
       )
 
-  pub short : g.length + length_if r.planned ≤ 2 * max_weight
+  pub short : g.length + length_if r.planned ≤ 2 * most_kept
   short = by r.planned ready.rest
     where
-      due_short : g.length ≤ max_weight
+      due_short : g.length ≤ most_kept
       due_short = let small = ready.expired.taken.small in let light = kept.kept.light in omega (arith, small, light)
 
-      by : (p : Option Planned) → IsRestReady before store g moment_now asked ready.caller mid p → g.length + length_if p ≤ 2 * max_weight
+      by : (p : Option Planned) → IsRestReady before store g moment_now asked ready.caller mid p → g.length + length_if p ≤ 2 * most_kept
       by None q = omega (arith, due_short)
       by (Some p) q = let one = short_length (world_at store) store.weight ready.caller.subs (effect_of_asked (world_at store) moment_now ready.caller.subs asked) p q.plan in omega (arith, due_short, one)
 

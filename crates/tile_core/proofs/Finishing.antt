@@ -5,7 +5,6 @@ use Rattle.std.specs.List.{AllByRecursion, list_all}
 use Rattle.std.proofs.Math.ListN.{length-set}
 use Rattle.byte_text.specs.Names.{Bytes}
 use Rattle.ordered_lists.specs.Lists.{put_in}
-use Rattle.world_data.specs.Limits.{max_weight}
 use Rattle.world_data.specs.Sound.{is_sound_channel}
 use Rattle.world_data.specs.Worlds.{is_sorted_world, are_objects, are_channels, after, channel_before, is_at, is_named}
 use Rattle.fence_model.specs.Writes.{Write, quiet}
@@ -23,13 +22,14 @@ use Rattle.tile_core.specs.declared.moves.Move.TheVariants.{Stay, Put, Delete, D
 use Rattle.tile_core.specs.declared.planned.ChannelMove.{ChannelMove}
 use Rattle.tile_core.specs.declared.planned.ChannelMove.TheVariants.{Set, Drop}
 use Rattle.tile_core.specs.declared.plans.Plan.{Plan}
+use Rattle.record_lengths.specs.Lengths.{HasFewFields}
 use Rattle.tile_core.specs.Moves.{IsAccepted, world_of, world_with, moved, without_each}
 use Rattle.tile_core.specs.Sessions.{IsServed}
 use Rattle.tile_core.specs.Plans.{IsPlan, writes_of}
 use Rattle.stored_world.specs.ListLaws.{all_left, all_put}
 use Rattle.tile_core.specs.Planned.{IsRecordedChannel, IsRecordedMove, IsSoundMove, channel_writes, channels_left, channels_moved, channels_weight, weight_left, without_names}
 use Rattle.tile_core.specs.Staged.{dels_of}
-use Rattle.tile_core.specs.CoreStates.{AreKept}
+use Rattle.tile_core.specs.CoreStates.{AreKept, most_kept}
 use Rattle.tile_core.specs.Stores.{ArePresent}
 use Rattle.tile_core.specs.Dues.{IsTaken}
 use Rattle.tile_core.proofs.Moving.{all_moved}
@@ -57,8 +57,8 @@ sorted_all w [] sorted = sorted
 sorted_all w (d ∷ writes) sorted = sorted_all (after w d.change) writes (keeps_order w d.change sorted)
 
 -- what is left when objects were taken out
-pub rest_kept : (old : List Object) (now total : ℕ) (xs held : List Object) (len rest : ℕ) → total ≤ max_weight → IsTaken old now total xs held len rest → AreKept xs rest
-rest_kept old now total xs held len rest light t = record { sorted = t.sorted; accepted = t.accepted; weighed = t.rest_is; light = omega (arith, light, t.small) }
+pub rest_kept : (old : List Object) (now total : ℕ) (xs held : List Object) (len rest : ℕ) → total ≤ most_kept → IsTaken old now total xs held len rest → AreKept xs rest
+rest_kept old now total xs held len rest light t = record { sorted = t.sorted; accepted = t.accepted; few = t.few; weighed = t.rest_is; light = omega (arith, light, t.small) }
 
 -- the writes of a move do it
 each_done : (cs : List Channel) (key : Bytes) (ids : List Bytes) (xs : List Object) → after_all (world_with cs xs) (dels_of key ids) ≡ world_with cs (without_each key ids xs)
@@ -100,6 +100,7 @@ kept_after objects total kept e p is = record {
       let left = subst (λ (w : World). is_sorted_world w ≡ true) (move_done [] objects p.action p.loud) all in
       first_of (are_objects (moved objects p.action)) (are_channels (channels_left p.action [])) left;
   accepted = all_moved IsAccepted objects p.action is.accepted kept.accepted;
+  few = all_moved HasFewFields objects p.action is.few kept.few;
   weighed = is.weight_is;
   light = is.light;
 }

@@ -1,9 +1,6 @@
 -- Plans beside channels that change no channel and no subscription.
-use Rattle.std.proofs.Common.{◌≡◌, ℕ, ◌+◌, ◌≤◌, Bool, true, refl, sym, ap, ◌∙◌, subst, List, [], ◌∷◌, arith}
-use Rattle.byte_text.specs.Names.{Bytes}
+use Rattle.std.proofs.Common.{◌≡◌, ℕ, ◌+◌, ◌≤◌, Bool, sym, ap, ◌∙◌, subst, List, [], ◌∷◌, arith}
 use Rattle.byte_text.specs.declared.replies.Piece.{Piece}
-use Rattle.fence_model.specs.Writes.{Write}
-use Rattle.world_data.specs.Limits.{max_weight}
 use Rattle.world_data.specs.Records.{weight}
 use Rattle.world_data.specs.declared.channels.Channel.{Channel}
 use Rattle.world_data.specs.declared.objects.Object.{Object}
@@ -13,18 +10,18 @@ use Rattle.tile_core.specs.declared.moves.Move.{Move}
 use Rattle.tile_core.specs.declared.moves.Move.TheVariants.{Stay, Put, Delete, DeleteEach, Leave, Clear}
 use Rattle.tile_core.specs.declared.planned.Planned.TheVariants.{Objects}
 use Rattle.tile_core.specs.declared.plans.Plan.{Plan}
-use Rattle.tile_core.specs.CoreStates.{AreKept}
+use Rattle.tile_core.specs.CoreStates.{AreKept, most_kept}
 use Rattle.tile_core.specs.Moves.{world_of, world_with, moved}
 use Rattle.tile_core.specs.Planned.{channels_left, channels_weight, IsPlanned}
 use Rattle.tile_core.specs.Plans.{IsPlan, Says, writes_of}
 use Rattle.tile_core.proofs.Answering.{said}
 
-module _ (cs : List Channel) (os : List Object) (total : ℕ) (kept : AreKept os total) (light : total + channels_weight cs ≤ max_weight) (held : List Sub) where
+module _ (cs : List Channel) (os : List Object) (total : ℕ) (kept : AreKept os total) (light : total + channels_weight cs ≤ most_kept) (held : List Sub) where
   -- an answer and nothing else
   pub says_planned : (e : Effect) (r : List Piece) (p : Plan) → e ≡ within_reply (says r) → Says (within_reply (says r)) total p → IsPlanned (world_with cs os) total held e (Objects p)
-  says_planned e r p is s = (said os total kept e r p is s, subst (λ (q : Plan). q.weight + channels_weight (channels_left q.action cs) ≤ max_weight) (sym s.is) light)
+  says_planned e r p is s = (said os total kept e r p is s, subst (λ (q : Plan). q.weight + channels_weight (channels_left q.action cs) ≤ most_kept) (sym s.is) light)
 
-  still : (action : Move) (is_loud : Bool) (behind : ℕ) → writes_of action is_loud ≡ [] → behind ≡ weight (world_of (moved os action)) → behind + channels_weight (channels_left action cs) ≤ max_weight
+  still : (action : Move) (is_loud : Bool) (behind : ℕ) → writes_of action is_loud ≡ [] → behind ≡ weight (world_of (moved os action)) → behind + channels_weight (channels_left action cs) ≤ most_kept
   still Stay is_loud behind none is = omega (arith, is, kept.weighed, light)
   still (Put o) is_loud behind none is = absurd (cc)
   still (Delete key id) is_loud behind none is = absurd (cc)

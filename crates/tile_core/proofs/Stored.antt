@@ -2,7 +2,6 @@
 use Rattle.std.proofs.Common.{◌≡◌, ◌+◌, ◌≤◌, ◌^◌, ◌-◌, true, sym, ap, ◌∙◌, subst, List, [], ◌∷◌, arith}
 use Rattle.std.specs.Prelude.{sum_by, unwrap_or}
 use Rattle.std.specs.List.{AllByRecursion, list_all}
-use Rattle.world_data.specs.Limits.{max_weight}
 use Rattle.world_data.specs.Sound.{IsSoundObject, IsSoundWorld, is_sound_channel}
 use Rattle.world_data.specs.Worlds.{are_channels, are_objects}
 use Rattle.world_data.specs.declared.channels.Channel.{Channel}
@@ -10,9 +9,10 @@ use Rattle.world_data.specs.declared.objects.Object.{Object}
 use Rattle.world_data.specs.declared.worlds.World.{World}
 use Rattle.collection.specs.Objects.{least_due}
 use Rattle.keyspace.specs.Entries.{objects_in}
-use Rattle.record_lengths.specs.Lengths.{len_of, len_of_channel}
+use Rattle.record_lengths.specs.Lengths.{HaveFewFields, len_of, len_of_channel}
 use Rattle.stored_world.specs.Stored.{world_of}
 use Rattle.stored_world.specs.declared.stored_worlds.StoreParts.{StoreParts}
+use Rattle.tile_core.specs.CoreStates.{most_kept}
 use Rattle.tile_core.specs.Dues.{AreDueFrom}
 use Rattle.tile_core.specs.Moves.{IsAccepted}
 use Rattle.tile_core.specs.Planned.{IsRecordedChannel}
@@ -26,8 +26,8 @@ are_accepted : (xs : List Object) → AllByRecursion IsSoundObject xs → AllByR
 are_accepted [] all = tt
 are_accepted (x ∷ xs) all = (all.0.accepted, are_accepted xs all.1)
 
-module _ (w : World) (sound : IsSoundWorld w) (recorded : AllByRecursion IsRecordedChannel w.channels) (p : StoreParts) (is : world_of p ≡ w) (weighs : p.weight ≡ sum_by len_of w.objects) (channels_weigh : p.channel_weight ≡ sum_by len_of_channel w.channels)
-    (due : p.due_from ≡ unwrap_or (least_due w.objects) (2 ^ 64 - 1)) (light : p.weight + p.channel_weight ≤ max_weight) where
+module _ (w : World) (sound : IsSoundWorld w) (few : HaveFewFields w.objects) (recorded : AllByRecursion IsRecordedChannel w.channels) (p : StoreParts) (is : world_of p ≡ w) (weighs : p.weight ≡ sum_by len_of w.objects) (channels_weigh : p.channel_weight ≡ sum_by len_of_channel w.channels)
+    (due : p.due_from ≡ unwrap_or (least_due w.objects) (2 ^ 64 - 1)) (light : p.weight + p.channel_weight ≤ most_kept) where
   objects : objects_in p.objects ≡ w.objects
   objects = ap (λ (v : World). v.objects) is
 
@@ -39,6 +39,7 @@ module _ (w : World) (sound : IsSoundWorld w) (recorded : AllByRecursion IsRecor
     kept = record {
       sorted = subst (λ (xs : List Object). are_objects xs ≡ true) (sym objects) (first_of (are_objects w.objects) (are_channels w.channels) sound.sorted);
       accepted = subst (AllByRecursion IsAccepted) (sym objects) (are_accepted w.objects sound.objects);
+      few = subst HaveFewFields (sym objects) few;
       weighed = weighs ∙ ap (sum_by len_of) (sym objects) ∙ sym (weight_sum (objects_in p.objects));
       light = omega (arith, light);
     };

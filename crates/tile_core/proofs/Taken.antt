@@ -1,8 +1,9 @@
 -- The objects that are due are taken out one by one, and may be put back.
-use Rattle.std.proofs.Common.{◌≡◌, ℕ, ◌+◌, ◌<◌, ◌≤◌, ◌^◌, Bool, true, false, not, refl, sym, ap, ◌∙◌, subst, List, [], ◌∷◌, ◌++◌, length, length-append, arith}
-use Rattle.std.specs.Prelude.{Option, Some, None, filter, find, sum_by, nat_le, ◌&&◌, if◌then◌else◌, is_none}
+use Rattle.std.proofs.Common.{◌≡◌, ℕ, ◌+◌, ◌*◌, ◌<◌, ◌≤◌, ◌^◌, Bool, true, false, not, refl, sym, ap, ◌∙◌, subst, List, [], ◌∷◌, ◌++◌, length, length-append, arith}
+use Rattle.std.specs.Prelude.{Option, Some, None, filter, find, sum_by, nat_le, ◌&&◌, if◌then◌else◌, is_none, codes, decimal}
 use Rattle.std.proofs.lemmas.Bool.Decides.{nat_tests}
 use Rattle.std.proofs.lemmas.List.Sums.{sum_by-cons}
+use Rattle.byte_text.specs.Lines.{bulk_text, line}
 use Rattle.byte_text.specs.Names.{Bytes, same}
 use Rattle.ordered_lists.specs.Lists.{put_in, sorted_by}
 use Rattle.world_data.specs.Worlds.{after, object_at, object_before, has_key, is_at}
@@ -21,19 +22,22 @@ use Rattle.record_lengths.specs.Lengths.{len_of, HasFewFields}
 use Rattle.deliveries.specs.Staging.{after_all, records_len}
 use Rattle.tile_core.specs.Dues.{AllStand, AreDueFrom, IsTaken, IsTakenOut, HaveRoom, with_back}
 use Rattle.stored_world.specs.ListLaws.{all_left}
-use Rattle.record_lengths.specs.LengthLaws.{del_short}
+use Rattle.record_lengths.specs.LengthLaws.{del_short, put_sum}
 use Rattle.tile_core.proofs.Standing.{back_there, found_holds, found_sum, shorter}
-use Rattle.tile_core.proofs.Weights.{have_few, weight_sum}
+use Rattle.tile_core.proofs.Weights.{weight_sum}
 use Rattle.record_lengths.specs.ObjectSums.{taken_sum}
 
--- each record has a byte at least
-pub as_heavy : (xs : List Object) → length xs ≤ weight (world_of xs)
-as_heavy xs = subst (λ (n : ℕ). length xs ≤ n) (sym (weight_sum xs)) (at_least xs)
+-- each record has 17 bytes at least, since it has five words
+pub as_heavy : (xs : List Object) → 17 * length xs ≤ weight (world_of xs)
+as_heavy xs = subst (λ (n : ℕ). 17 * length xs ≤ n) (sym (weight_sum xs)) (at_least xs)
   where
-    one : (o : Object) → 1 ≤ len_of o
-    one o = omega arith
+    word : (w : Bytes) → length w + 3 ≤ length (bulk_text w)
+    word w = omega (arith, length-append (line 36 (decimal (length w))) (w ++ 13 ∷ 10 ∷ []), length-append w (13 ∷ 10 ∷ []))
 
-    at_least : (ys : List Object) → length ys ≤ sum_by len_of ys
+    one : (o : Object) → 17 ≤ len_of o
+    one o = omega (arith, put_sum o _ _ _ _ _ _ _ _ _ refl refl refl refl refl refl refl refl refl, word (codes "SET"), word (codes "OBJECT"), word o.key)
+
+    at_least : (ys : List Object) → 17 * length ys ≤ sum_by len_of ys
     at_least [] = omega arith
     at_least (y ∷ ys) = omega (arith, at_least ys, one y, sum_by-cons len_of y ys)
 
@@ -120,7 +124,7 @@ none_due due_from now (x ∷ xs) ps lt = rw (far x.deadline refl) (none_due due_
 -- the taking
 
 pub taken_none : (old : List Object) (now total : ℕ) → AreKept old total → IsTaken old now total old [] 0 total
-taken_none old now total kept = record { back = refl; order = refl; world = refl; stand = tt; sorted = kept.sorted; few = have_few old total kept; accepted = kept.accepted; length_is = refl; rest_is = kept.weighed; small = omega arith; count = omega arith }
+taken_none old now total kept = record { back = refl; order = refl; world = refl; stand = tt; sorted = kept.sorted; few = kept.few; accepted = kept.accepted; length_is = refl; rest_is = kept.weighed; small = omega arith; count = omega arith }
 
 module _ (old : List Object) (now total : ℕ) (xs held : List Object) (len rest : ℕ) (t : IsTaken old now total xs held len rest) where
   one_more : (o : Object) (longer less : ℕ) → find (is_at o.key o.id) xs ≡ Some o

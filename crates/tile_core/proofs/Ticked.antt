@@ -1,6 +1,6 @@
 -- A tick that is completed is the machine's.
 use Rattle.std.proofs.Common.{◌≡◌, ℕ, ◌+◌, ◌<◌, ◌≤◌, Bool, true, false, refl, sym, ap, ◌∙◌, subst, List, max, map, arith}
-use Rattle.world_data.specs.Limits.{max_moment, max_weight, most_logged}
+use Rattle.world_data.specs.Limits.{max_moment, most_logged}
 use Rattle.world_data.specs.declared.channels.Channel.{Channel}
 use Rattle.world_data.specs.declared.worlds.World.{World}
 use Rattle.fence_model.specs.Writes.{dels}
@@ -13,6 +13,7 @@ use Rattle.log_record.specs.EventWrites.{writes_of}
 use Rattle.keyspace.specs.Entries.{objects_in}
 use Rattle.session_mail.specs.Sessions.{State, session_of}
 use Rattle.session_mail.specs.Fans.{ArePlaced}
+use Rattle.tile_core.specs.CoreStates.{most_kept}
 use Rattle.tile_core.specs.declared.dues.Expired.{Expired}
 use Rattle.tile_core.specs.declared.stores.Store.{Store}
 use Rattle.tile_core.specs.Answered.{AreNamed, AreRoomy, AreSessions, is_named}
@@ -54,7 +55,7 @@ module _ (before : Store) (now logged drawn : ℕ) (ss mid new : List State) (mo
     bare = all_bare mid new placed_;
   }
 
-  pub tick_short : g.length ≤ max_weight
+  pub tick_short : g.length ≤ most_kept
   tick_short = let small = taken.expired.taken.small in let light = kept.kept.light in omega (arith, small, light)
 
   world_is : world_at last ≡ world_at store

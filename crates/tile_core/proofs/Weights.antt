@@ -1,17 +1,14 @@
 -- The weight of the world, and what holds of objects that are found or looked at.
-use Rattle.std.proofs.Common.{◌≡◌, ℕ, zero, suc, ◌+◌, ◌≤◌, Bool, true, false, refl, sym, subst, List, [], ◌∷◌, arith, add-zero}
-use Rattle.std.specs.Prelude.{Some, None, sum_by, find, filter, slice_get, if◌then◌else◌}
+use Rattle.std.proofs.Common.{◌≡◌, ℕ, ◌≤◌, Bool, true, false, refl, sym, subst, List, [], ◌∷◌, arith, add-zero}
+use Rattle.std.specs.Prelude.{Some, sum_by, find, filter, if◌then◌else◌}
 use Rattle.std.proofs.lemmas.List.Sums.{sum_by-cons}
 use Rattle.byte_text.specs.Names.{Bytes}
 use Rattle.ordered_lists.specs.Lists.{put_in}
-use Rattle.world_data.specs.Limits.{max_weight}
 use Rattle.world_data.specs.Worlds.{object_before, is_at}
 use Rattle.world_data.specs.Records.{weight}
 use Rattle.world_data.specs.declared.objects.Object.{Object}
-use Rattle.record_lengths.specs.Lengths.{len_of, HasFewFields, HaveFewFields}
-use Rattle.record_lengths.specs.LengthLaws.{fields_weigh}
+use Rattle.record_lengths.specs.Lengths.{len_of}
 use Rattle.record_lengths.specs.ObjectSums.{at_is, parts_sum}
-use Rattle.tile_core.specs.CoreStates.{AreKept}
 use Rattle.tile_core.specs.Moves.{world_of}
 
 -- what is found
@@ -48,11 +45,3 @@ weight_sum xs = add-zero (sum_by len_of xs)
 -- some of the objects
 pub some_sum : (p : Object → Bool) (xs : List Object) → sum_by len_of (filter p xs) ≤ sum_by len_of xs
 some_sum p xs = omega (arith, parts_sum len_of p xs)
-
--- none of them has more fields than all have bytes
-few_under : (xs : List Object) → sum_by len_of xs ≤ max_weight → HaveFewFields xs
-few_under [] le = tt
-few_under (x ∷ xs) le = (omega (arith, fields_weigh x, le, sum_by-cons len_of x xs), few_under xs (omega (arith, le, sum_by-cons len_of x xs)))
-
-pub have_few : (xs : List Object) (total : ℕ) → AreKept xs total → HaveFewFields xs
-have_few xs total kept = few_under xs (omega (arith, weight_sum xs, kept.weighed, kept.light))

@@ -1,6 +1,5 @@
 -- Commands on objects, where channels stand beside the objects.
-use Rattle.std.specs.Prelude.{◌≡◌, ℕ, ◌+◌, ◌<◌, ◌^◌, Bool, true, false, not, List, [], ◌∷◌, Some, if◌then◌else◌}
-use Rattle.byte_text.specs.Names.{Bytes}
+use Rattle.std.specs.Prelude.{◌≡◌, ◌<◌, ◌^◌, Bool, true, false, not, List, [], ◌∷◌, Some, if◌then◌else◌}
 use Rattle.fence_model.specs.Writes.{Write}
 use Rattle.world_data.specs.Worlds.{object_at}
 use Rattle.world_data.specs.declared.objects.Object.{Object}
@@ -11,6 +10,8 @@ use Rattle.world_model.specs.Effects.{Effect, refuses, fits, changed_count, give
 use Rattle.world_model.specs.declared.commands.Command.{Command}
 use Rattle.world_model.specs.declared.commands.Command.TheVariants as command
 use Rattle.world_model.specs.declared.faults.Refusal.TheVariants as refusal
+use Rattle.tile_core.specs.declared.moves.Move.{Move}
+use Rattle.tile_core.specs.declared.moves.Move.TheVariants.{Put}
 use Rattle.tile_core.specs.Moves.{world_of}
 
 -- the command asks for objects or changes them, and looks at no channel and no subscription
@@ -30,6 +31,18 @@ is_of_channels (command.Delchan name) = true
 is_of_channels (command.Pdelchan pattern) = true
 is_of_channels (command.Chans pattern) = true
 is_of_channels c = false
+
+-- the command's put is refused where it leaves the world too heavy
+abbrev pub is_weighed : Command → Bool
+is_weighed (command.Set key id given cleared after_ex only text shape) = true
+is_weighed (command.Fset key id given cleared) = true
+is_weighed (command.Expire key id s) = true
+is_weighed c = false
+
+-- an object is put
+abbrev pub is_put : Move → Bool
+is_put (Put o) = true
+is_put action = false
 
 -- a put that leaves a world too heavy
 abbrev pub is_heavy_put : World → Change → Bool

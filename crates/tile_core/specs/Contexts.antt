@@ -1,9 +1,9 @@
 -- What the plan of a request may rely on.
 use Rattle.std.specs.Prelude.{◌≡◌, ◌+◌, ◌≤◌}
-use Rattle.world_data.specs.Limits.{max_moment, max_weight}
+use Rattle.world_data.specs.Limits.{max_moment}
 use Rattle.keyspace.specs.Entries.{objects_in}
 use Rattle.session_mail.specs.Sessions.{AreSoundSubs}
-use Rattle.tile_core.specs.CoreStates.{AreKept}
+use Rattle.tile_core.specs.CoreStates.{AreKept, most_kept}
 use Rattle.tile_core.specs.Planned.{channels_weight}
 use Rattle.tile_core.specs.declared.contexts.Context.{Context}
 
@@ -11,6 +11,6 @@ use Rattle.tile_core.specs.declared.contexts.Context.{Context}
 pub record IsContext (c : Context) : Type 0 where
   pub kept : AreKept (objects_in c.objects.now) c.total
   pub channels : c.channels ≡ channels_weight c.hub.now.channels
-  pub light : c.total + c.channels ≤ max_weight
+  pub light : c.total + c.channels ≤ most_kept
   pub sound : AreSoundSubs c.subs.now
   pub moment : c.now ≤ max_moment

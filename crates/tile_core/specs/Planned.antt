@@ -4,7 +4,7 @@ use Rattle.byte_text.specs.Names.{Bytes}
 use Rattle.byte_text.specs.Replies.{frame_text}
 use Rattle.byte_text.specs.declared.replies.Piece.{Piece}
 use Rattle.ordered_lists.specs.Lists.{put_in}
-use Rattle.world_data.specs.Limits.{max_reply, max_weight}
+use Rattle.world_data.specs.Limits.{max_reply}
 use Rattle.world_data.specs.Sound.{is_sound_channel}
 use Rattle.world_data.specs.Worlds.{channel_before, is_named}
 use Rattle.record_lengths.specs.Lengths.{len_of_channel}
@@ -26,6 +26,7 @@ use Rattle.tile_core.specs.declared.planned.ChannelPlan.{ChannelPlan}
 use Rattle.tile_core.specs.declared.planned.Confirmed.{Confirmed}
 use Rattle.tile_core.specs.declared.planned.Planned.{Planned}
 use Rattle.tile_core.specs.declared.planned.Planned.TheVariants.{Objects, Channels, Subscribed}
+use Rattle.tile_core.specs.CoreStates.{most_kept}
 use Rattle.tile_core.specs.Plans.{IsPlan}
 
 -- the bytes of the records of channels
@@ -92,7 +93,7 @@ pub record IsChannelPlan (w : World) (e : Effect) (p : ChannelPlan) : Type 0 whe
   pub sound : IsSoundMove p.action
   pub recorded : IsRecordedMove p.action
   pub length_is : p.length ≡ records_len (channel_writes p.action)
-  pub small : p.length ≤ max_weight
+  pub small : p.length ≤ most_kept
   pub weight_is : p.weight ≡ channels_weight (channels_moved p.action w.channels)
 
 -- the plan is that of an effect for a session with these subscriptions: replies, and subscriptions behind those that it has
@@ -104,8 +105,8 @@ pub record IsConfirmed (held : List Sub) (e : Effect) (p : Confirmed) : Type 0 w
   pub no_writes : e.writes ≡ []
   pub goes_on : e.closes ≡ false
 
--- the plan is that of an effect in a world, whose objects have this weight, and leaves one that is not too heavy
+-- the plan is that of an effect in a world, whose objects have this weight, and leaves one that can be kept
 abbrev pub IsPlanned : World → ℕ → List Sub → Effect → Planned → Type 0
-IsPlanned w total held e (Objects p) = IsPlan w.objects e p × (p.weight + channels_weight (channels_left p.action w.channels) ≤ max_weight)
-IsPlanned w total held e (Channels p) = IsChannelPlan w e p × (total + p.weight ≤ max_weight)
+IsPlanned w total held e (Objects p) = IsPlan w.objects e p × (p.weight + channels_weight (channels_left p.action w.channels) ≤ most_kept)
+IsPlanned w total held e (Channels p) = IsChannelPlan w e p × (total + p.weight ≤ most_kept)
 IsPlanned w total held e (Subscribed p) = IsConfirmed held e p

@@ -3,7 +3,7 @@ use Rattle.std.specs.Prelude.{◌≡◌, ℕ, ◌≤◌, Bool, false, not, is_so
 use Rattle.byte_text.specs.Names.{Bytes}
 use Rattle.byte_text.specs.Replies.{frame_text}
 use Rattle.byte_text.specs.declared.replies.Piece.{Piece}
-use Rattle.world_data.specs.Limits.{max_reply, max_weight}
+use Rattle.world_data.specs.Limits.{max_reply}
 use Rattle.world_data.specs.Records.{weight}
 use Rattle.fence_model.specs.Writes.{Write, loud, quiet}
 use Rattle.world_model.specs.Effects.{Effect, says, changes, refuses, unless, fits, within_reply}
@@ -12,9 +12,11 @@ use Rattle.world_data.specs.declared.worlds.World.{World}
 use Rattle.world_data.specs.declared.worlds.Change.TheVariants as change
 use Rattle.world_data.specs.declared.objects.Object.{Object}
 use Rattle.deliveries.specs.Staging.{records_len}
+use Rattle.record_lengths.specs.Lengths.{HasFewFields}
 use Rattle.tile_core.specs.declared.moves.Move.{Move}
 use Rattle.tile_core.specs.declared.moves.Move.TheVariants.{Stay, Put, Delete, DeleteEach, Leave, Clear}
 use Rattle.tile_core.specs.declared.plans.Plan.{Plan}
+use Rattle.tile_core.specs.CoreStates.{most_kept}
 use Rattle.tile_core.specs.Moves.{world_of, moved, HaveAllThere, HoldsOfPut, IsAccepted}
 
 -- the writes that are done to the objects; that a put is loud or not stands beside it
@@ -34,10 +36,11 @@ pub record IsPlan (objects : List Object) (e : Effect) (p : Plan) : Type 0 where
   pub short : length p.frame ≤ max_reply
   pub there : HaveAllThere objects p.action
   pub accepted : HoldsOfPut IsAccepted p.action
+  pub few : HoldsOfPut HasFewFields p.action
   pub length_is : p.length ≡ records_len (writes_of p.action p.loud)
-  pub small : p.length ≤ max_weight
+  pub small : p.length ≤ most_kept
   pub weight_is : p.weight ≡ weight (world_of (moved objects p.action))
-  pub light : p.weight ≤ max_weight
+  pub light : p.weight ≤ most_kept
 
 -- the effect is one reply and nothing else, and this is its frame
 pub record Replies (e : Effect) (frame : Bytes) : Type 0 where

@@ -1,7 +1,7 @@
 -- The world that a store keeps, what holds of its parts, and the hall of it with sessions.
 use Rattle.std.specs.Prelude.{◌≡◌, ℕ, ◌+◌, ◌≤◌, true, false, List, length, map}
 use Rattle.std.specs.List.{AllByRecursion, list_all}
-use Rattle.world_data.specs.Limits.{max_moment, max_sessions, max_weight}
+use Rattle.world_data.specs.Limits.{max_moment, max_sessions}
 use Rattle.world_data.specs.Sound.{is_sound_channel}
 use Rattle.world_data.specs.declared.worlds.World.{World}
 use Rattle.world_model.specs.Halls.{Hall}
@@ -11,7 +11,7 @@ use Rattle.session_mail.specs.Fans.{AreBare}
 use Rattle.tile_core.specs.declared.stores.Store.{Store}
 use Rattle.tile_core.specs.Moves.{world_with}
 use Rattle.tile_core.specs.Planned.{IsRecordedChannel, channels_weight}
-use Rattle.tile_core.specs.CoreStates.{AreKept}
+use Rattle.tile_core.specs.CoreStates.{AreKept, most_kept}
 use Rattle.tile_core.specs.Dues.{AreDueFrom}
 use Rattle.tile_core.specs.Sessions.{Rises}
 
@@ -24,7 +24,7 @@ pub record IsStore (s : Store) : Type 0 where
   pub sound : list_all is_sound_channel s.hub.channels ≡ true
   pub recorded : AllByRecursion IsRecordedChannel s.hub.channels
   pub weighed : s.channel_weight ≡ channels_weight s.hub.channels
-  pub light : s.weight + s.channel_weight ≤ max_weight
+  pub light : s.weight + s.channel_weight ≤ most_kept
   pub due_from : AreDueFrom s.due_from (objects_in s.objects)
 
 -- the hall of these parts; no log can fail so far, so it never stops

@@ -3,14 +3,14 @@
 ghost use Rattle.std.specs.Prelude.{◌≡◌, ◌+◌, ◌≤◌, ◌<◌, ◌∷◌, ℕ, List, [], true, length, map, take, IfOk, IfErr, OnOk};
 ghost use Rattle.byte_text.specs.Globs.{is_well_formed};
 ghost use Rattle.byte_text.specs.Replies.{frame_text, array};
-ghost use Rattle.world_data.specs.Limits.{max_reply, max_weight};
+ghost use Rattle.world_data.specs.Limits.{max_reply};
 ghost use Rattle.world_data.specs.declared.channels.Channel.{Channel};
 ghost use Rattle.world_model.specs.Effects.{effect};
 ghost use Rattle.world_model.specs.Replies.{channel_reply};
 ghost use Rattle.world_model.specs.Subscriptions.{Sub};
 ghost use Rattle.world_model.specs.declared.commands.Command.TheVariants as command;
 ghost use Rattle.keyspace.specs.Entries.{objects_in};
-ghost use Rattle.tile_core.specs.CoreStates.{AreKept};
+ghost use Rattle.tile_core.specs.CoreStates.{AreKept, most_kept};
 ghost use Rattle.tile_core.specs.Dropping.{met_channels, IsDropped, IsDroppedOf};
 ghost use Rattle.record_lengths.specs.Lengths.{len_of_channel};
 ghost use Rattle.tile_core.specs.Listings.{joined, AreItems, IsTooLong};
@@ -52,7 +52,7 @@ pub(crate) fn plan_delchan(
 ) -> Result<Planned, NoMemory>
     requires kept { AreKept (objects_in _objects.now) total }
     requires channels { channels ≡ channels_weight hub.now.channels }
-    requires light { total + channels ≤ max_weight }
+    requires light { total + channels ≤ most_kept }
     ensures { IfOk result (λ p. (now : ℕ) (held : List Sub) → IsPlanned (world_with hub.now.channels (objects_in _objects.now)) total held
         (effect (world_with hub.now.channels (objects_in _objects.now)) now [] (command.Delchan name)) p) }
 {
@@ -85,7 +85,7 @@ fn drop_one(
     pattern: &Name,
 ) -> Result<(), NoMemory>
     requires pattern { is_well_formed pattern.now ≡ true }
-    requires small { dropped.old.length + dropped.old.weight ≤ max_weight }
+    requires small { dropped.old.length + dropped.old.weight ≤ most_kept }
     requires weighed { len_of_channel channel.now ≤ dropped.old.weight }
     ensures { OnOk result (IsDropped pattern.now channel.now dropped.old dropped.new) }
 {
@@ -104,7 +104,7 @@ fn drop_one(
 fn drop_each(alloc: Global, hub: &Hub, channels: u64, pattern: &Name) -> Result<Dropped, NoMemory>
     requires pattern { is_well_formed pattern.now ≡ true }
     requires weighed { channels ≡ channels_weight hub.now.channels }
-    requires light { channels ≤ max_weight }
+    requires light { channels ≤ most_kept }
     ensures { IfOk result (λ d. IsDroppedOf pattern.now hub.now.channels channels d) }
 {
     let mut dropped = Dropped {
@@ -129,7 +129,7 @@ pub(crate) fn plan_pdelchan(
 ) -> Result<Planned, NoMemory>
     requires kept { AreKept (objects_in _objects.now) total }
     requires channels { channels ≡ channels_weight hub.now.channels }
-    requires light { total + channels ≤ max_weight }
+    requires light { total + channels ≤ most_kept }
     requires pattern { is_well_formed pattern.now ≡ true }
     ensures { IfOk result (λ p. (now : ℕ) (held : List Sub) → IsPlanned (world_with hub.now.channels (objects_in _objects.now)) total held
         (effect (world_with hub.now.channels (objects_in _objects.now)) now [] (command.Pdelchan pattern.now)) p) }
@@ -183,7 +183,7 @@ pub(crate) fn plan_chans(
     pattern: &Name,
 ) -> Result<Planned, NoMemory>
     requires kept { AreKept (objects_in _objects.now) total }
-    requires light { total + channels_weight hub.now.channels ≤ max_weight }
+    requires light { total + channels_weight hub.now.channels ≤ most_kept }
     requires pattern { is_well_formed pattern.now ≡ true }
     ensures { IfOk result (λ p. (now : ℕ) (held : List Sub) → IsPlanned (world_with hub.now.channels (objects_in _objects.now)) total held
         (effect (world_with hub.now.channels (objects_in _objects.now)) now [] (command.Chans pattern.now)) p) }

@@ -2,7 +2,7 @@
 
 ghost use Rattle.std.specs.Prelude.{◌≡◌, ◌≢◌, true, ◌⊎◌, ◌≤◌, ◌+◌, ◌*◌, [], find, length, option_map, Decides, IfOk, IfSome};
 ghost use Rattle.std.specs.List.{AllByRecursion};
-ghost use Rattle.world_data.specs.Limits.{max_moment, max_weight, take_frames};
+ghost use Rattle.world_data.specs.Limits.{max_moment, take_frames};
 ghost use Rattle.world_data.specs.Sound.{IsSoundWorld};
 ghost use Rattle.world_data.specs.Worlds.{empty_world, is_sorted_world};
 ghost use Rattle.world_data.specs.declared.worlds.Change.TheVariants as change;
@@ -13,7 +13,7 @@ ghost use Rattle.world_model.specs.declared.events.Event.TheVariants as event;
 ghost use Rattle.world_model.specs.declared.events.Outcome.TheVariants as outcome;
 ghost use Rattle.log_record.specs.Words.{IsRecorded};
 ghost use Rattle.next_items.specs.Copies.{is_next_channel, is_next_object, name_in, place_in};
-ghost use Rattle.tile_core.specs.CoreStates.{CoreState};
+ghost use Rattle.tile_core.specs.CoreStates.{CoreState, most_kept};
 ghost use Rattle.tile_core.specs.Moves.{IsAccepted};
 ghost use Rattle.tile_core.specs.Ledgers.{IsRecordedBy};
 ghost use Rattle.tile_core.specs.Answered.{MayCall, MayTake, IsAnswered, AreSessions, StayNamed};
@@ -159,7 +159,7 @@ impl Core {
         ensures named { NamesChanged touched.new self.old.hall self.new.hall }
         ensures kept { StayNamed touched.old touched.new }
         ensures room { AreSessions touched.new self.new.hall }
-        ensures logged { self.new.hall.logged ≤ self.old.hall.logged + 2 * max_weight }
+        ensures logged { self.new.hall.logged ≤ self.old.hall.logged + 2 * most_kept }
         ensures done { MayCall self.old.hall session → (result ≡ Called.Ok) ⊎ (result ≡ Called.Memory) }
         ensures answered { result ≡ Called.Ok → IsAnswered self.old.hall self.new.hall moment session asked.now }
         ensures recorded { result ≡ Called.Ok → IsRecordedBy L.takes self.old.hall (event.Call session moment asked.now) ledger.old ledger.new }
@@ -204,7 +204,7 @@ impl Core {
         ensures named { NamesChanged touched.new self.old.hall self.new.hall }
         ensures kept { StayNamed touched.old touched.new }
         ensures room { AreSessions touched.new self.new.hall }
-        ensures logged { self.new.hall.logged ≤ self.old.hall.logged + max_weight }
+        ensures logged { self.new.hall.logged ≤ self.old.hall.logged + most_kept }
         ensures recorded { result ≡ Called.Ok → IsRecordedBy L.takes self.old.hall (event.Tick moment) ledger.old ledger.new }
         ensures unrecorded { result ≢ Called.Ok → (ledger.new ≡ ledger.old) ⊎ L.stays ledger.old ledger.new }
     {
@@ -254,8 +254,8 @@ impl Core {
         }
     }
 
-    /// A core over a stored world, without sessions, at moment 0; its log has so many bytes. There is no memory for a world that is
-    /// too heavy.
+    /// A core over a stored world, without sessions, at moment 0; its log has so many bytes. The world may be heavier than commands may
+    /// make it; there is no memory for one of more than 2^36 bytes of records.
     pub fn over(alloc: Global, world: StoredWorld, logged: u64) -> Result<Core, NoMemory>
         requires sound { IsSoundWorld world }
         requires recorded { AllByRecursion (λ c. IsRecorded (change.SetChan c)) world.channels }

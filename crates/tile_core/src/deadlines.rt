@@ -12,7 +12,7 @@ ghost use Rattle.tile_core.specs.Plans.{IsPlan, without_deadline};
 
 use crate::answers::{say, say_count};
 use crate::plans::Plan;
-use crate::puts::{deadline_after, plan_put};
+use crate::puts::{deadline_after, plan_lighter, plan_put};
 use byte_text::{Name, NoMemory};
 use keyspace::Keyspace;
 use reply_text::{count_frame, number_reply};
@@ -110,15 +110,10 @@ pub(crate) fn plan_persist(
         return say_count(alloc, total, 0);
     };
     match without_deadline(alloc, old)? {
-        Some(object) => plan_put(
-            alloc,
-            objects,
-            total,
-            Some(old),
-            object,
-            false,
-            count_frame(alloc, 1)?,
-        ),
+        Some(object) => {
+            let frame = count_frame(alloc, 1)?;
+            Ok(plan_lighter(objects, total, old, object, frame))
+        }
         None => say_count(alloc, total, 0),
     }
 }

@@ -2,11 +2,10 @@
 
 ghost use Rattle.std.specs.Prelude.{◌≡◌, ◌+◌, ◌≤◌, ℕ, true, [], sum_by, IfOk, OnOk};
 ghost use Rattle.byte_text.specs.Globs.{glob_meets, is_well_formed};
-ghost use Rattle.world_data.specs.Limits.{max_weight};
 ghost use Rattle.world_model.specs.Effects.{effect};
 ghost use Rattle.world_model.specs.declared.commands.Command.TheVariants as command;
 ghost use Rattle.keyspace.specs.Entries.{objects_in};
-ghost use Rattle.tile_core.specs.CoreStates.{AreKept};
+ghost use Rattle.tile_core.specs.CoreStates.{AreKept, most_kept};
 ghost use Rattle.tile_core.specs.Moves.{world_in};
 ghost use Rattle.record_lengths.specs.Lengths.{HaveFewFields, HasFewFields, len_of};
 ghost use Rattle.tile_core.specs.Plans.{IsPlan};
@@ -66,7 +65,7 @@ fn sweep_one(
 ) -> Result<(), NoMemory>
     requires pattern { is_well_formed pattern.now ≡ true }
     requires few { HasFewFields object.now }
-    requires small { swept.old.length + swept.old.weight ≤ max_weight }
+    requires small { swept.old.length + swept.old.weight ≤ most_kept }
     requires weighed { len_of object.now ≤ swept.old.weight }
     ensures { OnOk result (IsSwept pattern.now object.now swept.old swept.new) }
 {
@@ -86,7 +85,7 @@ fn sweep(alloc: Global, objects: &Collection, total: u64, pattern: &Name) -> Res
     requires pattern { is_well_formed pattern.now ≡ true }
     requires few { HaveFewFields objects.now.objects }
     requires weighed { sum_by len_of objects.now.objects ≤ total }
-    requires light { total ≤ max_weight }
+    requires light { total ≤ most_kept }
     ensures { IfOk result (λ s. IsSweptOf pattern.now objects.now.objects total s) }
 {
     let mut swept = Swept {

@@ -1,11 +1,10 @@
 //! Expiry: the objects whose deadline has come are taken out before anything else is done, and put back where that cannot be.
 
 ghost use Rattle.std.specs.Prelude.{◌≡◌, ◌≢◌, ◌≤◌, ◌<◌, ◌+◌, ◌^◌, [], true, false, filter, length, IfOk, Ok, OnErr};
-ghost use Rattle.world_data.specs.Limits.{max_weight};
 ghost use Rattle.world_data.specs.Expiry.{is_due};
 ghost use Rattle.world_data.specs.Records.{weight};
 ghost use Rattle.keyspace.specs.Entries.{objects_in};
-ghost use Rattle.tile_core.specs.CoreStates.{AreKept};
+ghost use Rattle.tile_core.specs.CoreStates.{AreKept, most_kept};
 ghost use Rattle.tile_core.specs.Moves.{world_of};
 ghost use Rattle.record_lengths.specs.Lengths.{HaveFewFields};
 ghost use Rattle.tile_core.specs.Dues.{IsDueFrom, AreDueFrom, HaveRoom, IsTaken, IsTakenOut, IsExpired, with_back};
@@ -38,7 +37,7 @@ fn take_next(
 ) -> Result<bool, NoMemory>
     requires few { HaveFewFields (objects_in objects.old) }
     requires rest { gone.old.weight ≡ weight (world_of (objects_in objects.old)) }
-    requires short { gone.old.length ≤ max_weight }
+    requires short { gone.old.length ≤ most_kept }
     requires room { HaveRoom objects.old gone.old.held.items }
     ensures taken { result ≡ Ok true → IsTakenOut (objects_in objects.old) now (objects_in objects.new) gone.old.held.items gone.new.held.items gone.old.length gone.new.length gone.old.weight gone.new.weight }
     ensures none { result ≡ Ok false → filter (is_due now) (objects_in objects.new) ≡ [] }

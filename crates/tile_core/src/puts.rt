@@ -1,13 +1,15 @@
 //! SET: an object is put, with fields and a deadline.
 
-ghost use Rattle.std.specs.Prelude.{◌≡◌, ◌≤◌, ◌+◌, ◌^◌, Bool, List, Option, Some, None, [], is_some, option_map, length, find, IfOk, IfSome, IfNone};
+ghost use Rattle.std.specs.Prelude.{◌≡◌, ◌≤◌, ◌+◌, ◌^◌, ◌∷◌, Bool, List, Option, Some, None, [], is_some, option_map, length, find, IfOk, IfSome, IfNone};
 ghost use Rattle.byte_text.specs.Replies.{frame_text};
 ghost use Rattle.byte_text.specs.declared.replies.Piece.{Piece};
 ghost use Rattle.world_data.specs.Limits.{max_moment, max_reply};
 ghost use Rattle.ordered_lists.specs.Lists.{put_in};
 ghost use Rattle.world_data.specs.Worlds.{object_before, is_at};
 ghost use Rattle.world_data.specs.Records.{weight};
-ghost use Rattle.world_model.specs.Effects.{effect, deadline_after, fields_of, is_kept_back};
+ghost use Rattle.fence_model.specs.Writes.{quiet};
+ghost use Rattle.world_data.specs.declared.worlds.Change.TheVariants as change;
+ghost use Rattle.world_model.specs.Effects.{effect, changes, deadline_after, fields_of, is_kept_back};
 ghost use Rattle.world_model.specs.declared.commands.Command.TheVariants as command;
 ghost use Rattle.world_data.specs.declared.objects.Object.{Object};
 ghost use Rattle.keyspace.specs.Entries.{objects_in};
@@ -93,6 +95,36 @@ pub(crate) fn plan_put(
         weight,
         closes: false,
     })
+}
+
+/// The plan of a put of an object in place of `old`, whose record is no shorter, with this frame as the reply. It is not weighed, since
+/// the world gets no heavier.
+pub(crate) fn plan_lighter(
+    objects: &Keyspace,
+    total: u64,
+    old: &Object,
+    object: Object,
+    frame: Text,
+) -> Plan
+    requires kept { AreKept (objects_in objects.now) total }
+    requires some { find (is_at object.key object.id) (objects_in objects.now) ≡ Some old.now }
+    requires few { HasFewFields object }
+    requires accepted { IsAccepted object }
+    requires lighter { len_of object ≤ len_of old.now }
+    requires short { length frame ≤ max_reply }
+    ensures { (reply : List Piece) → frame ≡ frame_text reply
+        → IsPlan (objects_in objects.now) (changes reply (quiet (change.Put object) ∷ [])) result }
+{
+    let length = put_len(&object);
+    let weight = weight_after(objects, total, Some(old), &object, length);
+    Plan {
+        frame,
+        action: Move::Put(object),
+        loud: false,
+        length,
+        weight,
+        closes: false,
+    }
 }
 
 /// The deadline that EX gives.

@@ -3,7 +3,7 @@
 ghost use Rattle.std.specs.Prelude.{◌≡◌, ◌+◌, ◌*◌, ◌≤◌, ◌&&◌, ℕ, List, [], true, false, not, length, IfOk};
 ghost use Rattle.byte_text.specs.Replies.{frame_text};
 ghost use Rattle.byte_text.specs.Requests.{max_words};
-ghost use Rattle.world_data.specs.Limits.{max_moment, max_reply, max_weight};
+ghost use Rattle.world_data.specs.Limits.{max_moment, max_reply};
 ghost use Rattle.world_data.specs.declared.channels.Channel.{Channel};
 ghost use Rattle.world_model.specs.Effects.{effect, is_served_subscribed, says};
 ghost use Rattle.world_model.specs.Refusals.{fault_reply as fault_pieces, broken_reply as broken_pieces};
@@ -14,9 +14,9 @@ ghost use Rattle.deliveries.specs.Plans.{ends_with, effect_of_read, effect_of_as
 ghost use Rattle.session_mail.specs.Sessions.{AreSoundSubs};
 ghost use Rattle.keyspace.specs.Entries.{objects_in};
 ghost use Rattle.tile_core.specs.Asking.{IsAsked};
-ghost use Rattle.tile_core.specs.Beside.{is_of_channels, is_of_objects, IsCounted};
+ghost use Rattle.tile_core.specs.Beside.{is_of_channels, is_of_objects, is_weighed, IsCounted};
 ghost use Rattle.tile_core.specs.Contexts.{IsContext};
-ghost use Rattle.tile_core.specs.CoreStates.{AreKept};
+ghost use Rattle.tile_core.specs.CoreStates.{AreKept, most_kept};
 ghost use Rattle.tile_core.specs.Moves.{world_in, world_with};
 ghost use Rattle.tile_core.specs.Planned.{channels_weight, IsPlanned};
 ghost use Rattle.tile_core.specs.Plans.{IsPlan};
@@ -205,6 +205,16 @@ fn is_counted(_objects: &Keyspace, command: &Command) -> bool
     }
 }
 
+// Whether the command is refused where its put leaves the world too heavy. PERSIST, which puts an object too, makes none heavier.
+fn is_weighed(command: &Command) -> bool
+    ensures { result ≡ is_weighed command.now }
+{
+    matches!(
+        command,
+        Command::Set { .. } | Command::Fset { .. } | Command::Expire { .. }
+    )
+}
+
 // What a command on objects will do beside the channels.
 fn plan_beside(
     alloc: Global,
@@ -222,7 +232,11 @@ fn plan_beside(
     if !is_counted(context.objects, &command) {
         return Err(NoMemory);
     }
+    let is_weighed = is_weighed(&command);
     let plan = plan_command(alloc, context, command, steps)?;
+    if !is_weighed {
+        return Ok(Planned::Objects(plan));
+    }
     let plan = beside_channels(
         alloc,
         context.objects,
@@ -269,7 +283,7 @@ fn plan_of_channels(
 ) -> Result<Planned, NoMemory>
     requires kept { AreKept (objects_in context.objects.now) context.total }
     requires channels { context.channels ≡ channels_weight context.hub.now.channels }
-    requires light { context.total + context.channels ≤ max_weight }
+    requires light { context.total + context.channels ≤ most_kept }
     requires asked { IsAsked command }
     requires of_channels { is_of_channels command ≡ true }
     ensures { IfOk result (λ p. (now : ℕ) (held : List Sub) → IsPlanned (world_with context.entry.hub.now.channels (objects_in context.entry.objects.now)) context.entry.total held
@@ -299,7 +313,7 @@ fn plan_of_subs(alloc: Global, context: Context<'_>, command: Command) -> Result
     requires sound { AreSoundSubs context.subs.now }
     requires asked { IsAsked command }
     requires subscribes { subscribes command ≡ true }
-    ensures { IfOk result (λ p. (cs : List Channel) (now : ℕ) → context.entry.total + channels_weight cs ≤ max_weight
+    ensures { IfOk result (λ p. (cs : List Channel) (now : ℕ) → context.entry.total + channels_weight cs ≤ most_kept
         → IsPlanned (world_with cs (objects_in context.entry.objects.now)) context.entry.total context.entry.subs.now
         (effect (world_with cs (objects_in context.entry.objects.now)) now context.entry.subs.now command) p) }
 {

@@ -6,7 +6,7 @@ ghost use Rattle.byte_text.specs.Requests.{FitsRequest, max_word, total as total
 ghost use Rattle.log_record.specs.Words.{IsRecorded};
 ghost use Rattle.ordered_lists.specs.Lists.{put_in};
 ghost use Rattle.planar_geom.specs.declared.shapes.Area.TheVariants.{Figure};
-ghost use Rattle.world_data.specs.Limits.{max_channels, max_weight};
+ghost use Rattle.world_data.specs.Limits.{max_channels};
 ghost use Rattle.world_data.specs.Sound.{is_sound_channel};
 ghost use Rattle.world_data.specs.Worlds.{are_channels, channel_before, is_named};
 ghost use Rattle.world_data.specs.declared.channels.Channel.{Channel};
@@ -18,7 +18,7 @@ ghost use Rattle.world_model.specs.declared.commands.AreaWords.TheVariants as ar
 ghost use Rattle.world_model.specs.declared.commands.Command.TheVariants as command;
 ghost use Rattle.keyspace.specs.Entries.{objects_in};
 ghost use Rattle.tile_core.specs.Asking.{IsSettingOf};
-ghost use Rattle.tile_core.specs.CoreStates.{AreKept};
+ghost use Rattle.tile_core.specs.CoreStates.{AreKept, most_kept};
 ghost use Rattle.record_lengths.specs.Lengths.{len_of_channel};
 ghost use Rattle.tile_core.specs.Moves.{world_with};
 ghost use Rattle.tile_core.specs.Planned.{channels_weight, IsPlanned};
@@ -129,7 +129,7 @@ fn is_one_too_many(hub: &Hub, name: &Name) -> bool
 // The weight of the channels, which is this one, after a channel is put whose record has this length.
 fn weight_after(hub: &Hub, channels: u64, channel: &Channel, length: u64) -> u64
     requires weighed { channels ≡ channels_weight hub.now.channels }
-    requires light { channels ≤ max_weight }
+    requires light { channels ≤ most_kept }
     requires by_name { are_channels hub.now.channels ≡ true }
     requires length { length ≡ len_of_channel channel.now }
     requires small { length ≤ 2 ^ 40 }
@@ -155,7 +155,7 @@ fn plan_channel(
     requires recorded { IsRecorded (change.SetChan channel) }
     requires kept { AreKept (objects_in _objects.now) total }
     requires channels { channels ≡ channels_weight hub.now.channels }
-    requires light { total + channels ≤ max_weight }
+    requires light { total + channels ≤ most_kept }
     ensures { IfOk result (λ p. (held : List Sub) → IsPlanned (world_with hub.now.channels (objects_in _objects.now)) total held
         (within_reply (setchan_effect (world_with hub.now.channels (objects_in _objects.now)) channel)) p) }
 {
@@ -194,7 +194,7 @@ fn plan_over(
     requires asked { IsSettingOf channel (Some (area_words.Of key.now id.now)) }
     requires kept { AreKept (objects_in objects.now) total }
     requires channels { channels ≡ channels_weight hub.now.channels }
-    requires light { total + channels ≤ max_weight }
+    requires light { total + channels ≤ most_kept }
     ensures { IfOk result (λ p. (now : ℕ) (held : List Sub) → IsPlanned (world_with hub.now.channels (objects_in objects.now)) total held
         (effect (world_with hub.now.channels (objects_in objects.now)) now [] (command.Setchan channel (Some (area_words.Of key.now id.now)))) p) }
 {
@@ -220,7 +220,7 @@ pub(crate) fn plan_setchan(
     requires asked { IsSettingOf channel area }
     requires kept { AreKept (objects_in objects.now) total }
     requires channels { channels ≡ channels_weight hub.now.channels }
-    requires light { total + channels ≤ max_weight }
+    requires light { total + channels ≤ most_kept }
     ensures { IfOk result (λ p. (now : ℕ) (held : List Sub) → IsPlanned (world_with hub.now.channels (objects_in objects.now)) total held
         (effect (world_with hub.now.channels (objects_in objects.now)) now [] (command.Setchan channel area)) p) }
 {

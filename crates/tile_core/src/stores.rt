@@ -6,7 +6,10 @@ use keyspace::Keyspace;
 use rtree::{Steps, Visits};
 use std::alloc::Global;
 use stored_world::{StoreParts, StoredWorld};
-use world_data::MAX_WEIGHT;
+
+/// The most that the records of a world may weigh, so that lengths and counts of them stay small numbers. No command makes a world of
+/// more than `MAX_WEIGHT`; one that is heavier, which a log may hold, is kept as it stands, and there is no memory for one of more than this.
+pub(crate) const MOST_KEPT: u64 = 68_719_476_736;
 
 /// A world as it is kept.
 #[derive(Drop)]
@@ -46,7 +49,7 @@ impl Store {
         }
     }
 
-    /// A world that was stored. There is no memory for one that is too heavy.
+    /// A world that was stored, also one that is heavier than commands may make it. There is no memory for one of more than 2^36 bytes.
     pub(crate) fn over(world: StoredWorld) -> Result<Store, NoMemory>
         requires sound { IsSoundWorld world }
         requires recorded { AllByRecursion IsRecordedChannel world.channels }
@@ -63,7 +66,7 @@ impl Store {
         let Some(total) = weight.checked_add(channel_weight) else {
             return Err(NoMemory);
         };
-        if total > MAX_WEIGHT {
+        if total > MOST_KEPT {
             return Err(NoMemory);
         }
         Ok(Store {

@@ -4,7 +4,7 @@ ghost use Rattle.std.specs.Prelude.{◌≡◌, ◌+◌, ◌≤◌, ◌<◌, ◌+
 ghost use Rattle.std.specs.List.{AllByRecursion};
 ghost use Rattle.byte_text.specs.Names.{is_name};
 ghost use Rattle.byte_text.specs.Replies.{frame_text};
-ghost use Rattle.world_data.specs.Limits.{max_subs, max_weight};
+ghost use Rattle.world_data.specs.Limits.{max_subs};
 ghost use Rattle.world_data.specs.declared.channels.Channel.{Channel};
 ghost use Rattle.world_model.specs.Effects.{effect};
 ghost use Rattle.world_model.specs.Replies.{confirmation, confirmations};
@@ -14,7 +14,7 @@ ghost use Rattle.session_mail.specs.Sessions.{AreSoundSubs};
 ghost use Rattle.subscriptions.specs.Subscribed.{sub};
 ghost use Rattle.subscriptions.specs.declared.held.SubscribeFault.{SubscribeFault};
 ghost use Rattle.keyspace.specs.Entries.{objects_in};
-ghost use Rattle.tile_core.specs.CoreStates.{AreKept};
+ghost use Rattle.tile_core.specs.CoreStates.{AreKept, most_kept};
 ghost use Rattle.tile_core.specs.Moves.{world_with};
 ghost use Rattle.tile_core.specs.Planned.{channels_weight, IsPlanned};
 ghost use Rattle.tile_core.specs.Subscribing.{subs_of, subscribing};
@@ -101,7 +101,7 @@ pub(crate) fn plan_subscribe(
     requires sound { AreSoundSubs subs.now }
     requires names { AllByRecursion (λ w. is_name w ≡ true) words.now }
     requires patterns { AreSoundSubs (subs_of pattern words.now) }
-    ensures { IfOk result (λ p. (cs : List Channel) (now : ℕ) → total + channels_weight cs ≤ max_weight
+    ensures { IfOk result (λ p. (cs : List Channel) (now : ℕ) → total + channels_weight cs ≤ most_kept
         → IsPlanned (world_with cs (objects_in _objects.now)) total subs.now
         (effect (world_with cs (objects_in _objects.now)) now subs.now (subscribing pattern words.now)) p) }
 {

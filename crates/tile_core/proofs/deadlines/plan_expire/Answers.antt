@@ -11,7 +11,7 @@ use Rattle.keyspace.specs.Entries.{objects_in}
 use Rattle.tile_core.specs.Moves.{IsAccepted, world_in}
 use Rattle.record_lengths.specs.Lengths.{HasFewFields}
 use Rattle.tile_core.specs.Plans.{IsPlan, put_or_full}
-use Rattle.tile_core.proofs.Weights.{have_few, found_place}
+use Rattle.tile_core.proofs.Weights.{found_place}
 use Rattle.tile_core.proofs.Answering.{answers, count_fits}
 use Rattle.tile_core.proofs.Timing.{expired_some, expired_none}
 use Rattle.tile_core.proofs.Standing.{found_holds}
@@ -25,7 +25,7 @@ returns-in_default c =
 pub plan_put-requires-clause-few : goal.plan_put-requires-clause-few
 plan_put-requires-clause-few c =
     let o = c.in-Some.old.now in
-    let few = found_holds (is_at c.args.key.now c.args.id.now) o HasFewFields (objects_in c.args.objects.now) c.in-Some.ensures.some (have_few (objects_in c.args.objects.now) c.args.total c.requires.kept) in
+    let few = found_holds (is_at c.args.key.now c.args.id.now) o HasFewFields (objects_in c.args.objects.now) c.in-Some.ensures.some c.requires.kept.few in
     subst HasFewFields (sym c.in_ok-object.ensures) few
 
 pub plan_put-requires-clause-accepted : goal.plan_put-requires-clause-accepted

@@ -12,14 +12,14 @@ use Rattle.keyspace.specs.Entries.{objects_in}
 use Rattle.tile_core.specs.Moves.{world_in}
 use Rattle.record_lengths.specs.Lengths.{len_of, HasFewFields}
 use Rattle.tile_core.proofs.Answering.{answers_ever, count_fits, within_changes}
-use Rattle.tile_core.proofs.Weights.{have_few, weight_sum, found_at}
+use Rattle.tile_core.proofs.Weights.{weight_sum, found_at}
 use Rattle.record_lengths.specs.ObjectSums.{taken_sum}
 use Rattle.tile_core.proofs.Standing.{found_holds, found_sum}
 use Rattle.tile_core.proofs.Removing.{del_some, del_none}
 use Rattle.tile_core.proofs.deletes.plan_del.Goals as goal
 
 pub put_len-requires : goal.put_len-requires
-put_len-requires c = found_holds (is_at c.args.key c.args.id) c.in-Some.object.now HasFewFields (objects_in c.args.objects.now) c.in-Some.ensures.some (have_few (objects_in c.args.objects.now) c.args.total c.requires)
+put_len-requires c = found_holds (is_at c.args.key c.args.id) c.in-Some.object.now HasFewFields (objects_in c.args.objects.now) c.in-Some.ensures.some c.requires.few
 
 pub overflow_sub-result : goal.overflow_sub-result
 overflow_sub-result c =
@@ -47,6 +47,7 @@ returns-in_ok-count_frame-in-Some c =
       short = subst (λ (f : Bytes). length f ≤ max_reply) (sym frame_is) one;
       there = ((o, here), tt);
       accepted = tt;
+      few = tt;
       length_is = c.del_len.ensures.value ∙ sym (add-zero (record_len (change.Del key id)));
       small = omega (arith, c.del_len.ensures.short);
       weight_is = omega (arith, sum, weight_sum xs, weight_sum (filter (λ p. not (is_at key id p)) xs), c.put_len.ensures.value, c.requires.weighed);

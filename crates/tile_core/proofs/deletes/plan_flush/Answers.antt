@@ -18,6 +18,7 @@ returns c =
       short = subst (λ (f : Bytes). length f ≤ max_reply) (sym frame_is) (lit≤ tt);
       there = tt;
       accepted = tt;
+      few = tt;
       length_is = c.flush_len.ensures.value ∙ sym (add-zero (record_len change.Flush));
       small = omega (arith, c.flush_len.ensures.short);
       weight_is = refl;

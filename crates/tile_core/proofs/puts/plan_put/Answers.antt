@@ -34,8 +34,9 @@ returns c = λ reply is.
       short = c.requires.short;
       there = tt;
       accepted = c.requires.accepted;
+      few = c.requires.few;
       length_is = c.put_len-length.ensures.value ∙ sym (add-zero (len_of x));
       small = let part = put_weighs xs x in omega (arith, part, less, c.put_len-length.ensures.value);
       weight_is = c.weight_after-weight.ensures;
-      light = light;
+      light = omega (arith, light);
     }

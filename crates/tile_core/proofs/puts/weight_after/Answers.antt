@@ -5,7 +5,7 @@ use Rattle.world_data.specs.Worlds.{object_before, is_at}
 use Rattle.world_data.specs.declared.objects.Object.{Object}
 use Rattle.keyspace.specs.Entries.{objects_in}
 use Rattle.record_lengths.specs.Lengths.{len_of, HasFewFields}
-use Rattle.tile_core.proofs.Weights.{have_few, weight_sum}
+use Rattle.tile_core.proofs.Weights.{weight_sum}
 use Rattle.record_lengths.specs.ObjectSums.{changed_sum, new_sum}
 use Rattle.tile_core.proofs.Standing.{found_holds, found_sum}
 use Rattle.tile_core.proofs.puts.weight_after.Goals as goal
@@ -15,7 +15,7 @@ put_len-requires c =
     let x = c.args._object.now in
     let xs = objects_in c.args._objects.now in
     let here = subst (λ (r : Option (Bor Object)). IfSome r (λ o. find (is_at x.key x.id) xs ≡ Some o.now)) c.in-Some.is c.requires.some in
-    found_holds (is_at x.key x.id) c.in-Some.old.now HasFewFields xs here (have_few xs c.args.total c.requires.kept)
+    found_holds (is_at x.key x.id) c.in-Some.old.now HasFewFields xs here c.requires.kept.few
 
 pub overflow_sub-result : goal.overflow_sub-result
 overflow_sub-result c =

@@ -1,8 +1,8 @@
-use Rattle.std.proofs.Common.{◌≡◌, ◌+◌, ◌≤◌, sym, ◌∙◌, subst, arith}
+use Rattle.std.proofs.Common.{◌+◌, ◌≤◌, sym, ◌∙◌, subst, arith}
 use Rattle.std.proofs.lemmas.Result.{IfOk-weaker}
-use Rattle.world_data.specs.Limits.{max_weight}
 use Rattle.world_model.specs.Effects.{Effect}
 use Rattle.keyspace.specs.Entries.{objects_in}
+use Rattle.tile_core.specs.CoreStates.{most_kept}
 use Rattle.tile_core.specs.Moves.{world_with}
 use Rattle.tile_core.specs.Planned.{channels_weight, IsPlanned}
 use Rattle.tile_core.proofs.Asked.{channels_only, rest_subscribes}
@@ -29,7 +29,7 @@ plan_of_subs-requires-clause-subscribes c = rest_subscribes c.args.command c.req
 
 pub returns : goal.returns
 returns c =
-    let light : c.args.context.total + channels_weight c.args.context.hub.now.channels ≤ max_weight = omega (arith, c.requires.context.light, c.requires.context.channels) in
+    let light : c.args.context.total + channels_weight c.args.context.hub.now.channels ≤ most_kept = omega (arith, c.requires.context.light, c.requires.context.channels) in
     IfOk-weaker c.plan_of_subs.result _ _ (λ p s. s c.args.context.hub.now.channels c.args.context.now light) c.plan_of_subs.ensures
 
 pub plan_of_channels-requires-clause-kept : goal.plan_of_channels-requires-clause-kept

@@ -9,9 +9,9 @@ use Rattle.cmd_words.specs.Progress.{IfRefused}
 use Rattle.cmd_words.specs.declared.faults.CommandFault.{CommandFault}
 use Rattle.deliveries.specs.Plans.{effect_of_read}
 use Rattle.keyspace.specs.Entries.{objects_in}
+use Rattle.tile_core.specs.CoreStates.{most_kept}
 use Rattle.tile_core.specs.declared.planned.Planned.TheVariants.{Objects}
 use Rattle.tile_core.specs.Moves.{world_with}
-use Rattle.world_data.specs.Limits.{max_weight}
 use Rattle.tile_core.specs.Planned.{channels_weight, IsPlanned}
 use Rattle.tile_core.proofs.Asked.{served_asked}
 use Rattle.tile_core.proofs.Faults.{answer_fits}
@@ -34,6 +34,6 @@ returns-in_ok-plan_fault-in-Err-Refused c =
     let fault = c.in-Err-Refused.fault in
     let p = c.in_ok-plan_fault-in-Err-Refused.field-0 in
     let refused : reads c.args.words.now ≡ Err fault = subst (λ (why : CommandFault). IfRefused why (λ fault. reads c.args.words.now ≡ Err fault)) c.in-Err-Refused.field-0-is c.in-Err-Refused.ensures.err in
-    let light : c.args.context.total + channels_weight cs ≤ max_weight = omega (arith, c.requires.context.light, c.requires.context.channels) in
+    let light : c.args.context.total + channels_weight cs ≤ most_kept = omega (arith, c.requires.context.light, c.requires.context.channels) in
     subst (λ (r : Result Command WordFault). IsPlanned w c.args.context.total c.args.context.subs.now (effect_of_read w c.args.context.now c.args.context.subs.now r) (Objects p)) (sym refused)
     (still_planned cs os c.args.context.total c.requires.context.kept light c.args.context.subs.now (says (fault_reply fault)) p refl c.in_ok-plan_fault-in-Err-Refused.ensures)

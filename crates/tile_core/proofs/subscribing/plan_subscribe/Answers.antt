@@ -1,7 +1,6 @@
-use Rattle.std.proofs.Common.{◌≡◌, ◌+◌, ◌≤◌, ◌<◌, ℕ, ap, ◌∙◌, sym, refl, subst, map, length, List, arith}
-use Rattle.byte_text.specs.Names.{Bytes}
+use Rattle.std.proofs.Common.{◌≡◌, ◌≤◌, ◌<◌, ℕ, ap, ◌∙◌, sym, subst, map, length, List, arith}
 use Rattle.byte_text.specs.Replies.{frame_text}
-use Rattle.world_data.specs.Limits.{max_subs, max_weight}
+use Rattle.world_data.specs.Limits.{max_subs}
 use Rattle.world_data.specs.declared.channels.Channel.{Channel}
 use Rattle.world_model.specs.Effects.{Effect}
 use Rattle.world_model.specs.Refusals.{refusal_reply}
@@ -9,15 +8,12 @@ use Rattle.world_model.specs.Replies.{confirmations}
 use Rattle.world_model.specs.Subscriptions.{Sub, with_subs}
 use Rattle.world_model.specs.declared.faults.Refusal.TheVariants as refusal
 use Rattle.deliveries.specs.Confirming.{subscribing_fits}
-use Rattle.deliveries.specs.Plans.{FitBehind}
 use Rattle.session_mail.specs.Sessions.{AreSoundSubs}
 use Rattle.reply_text.specs.Confirmations.{called_of}
 use Rattle.keyspace.specs.Entries.{objects_in}
 use Rattle.tile_core.specs.Moves.{world_with}
-use Rattle.tile_core.specs.Planned.{channels_weight, IsPlanned}
 use Rattle.tile_core.specs.Subscribing.{subs_of, subscribing}
-use Rattle.tile_core.specs.declared.planned.Planned.TheVariants.{Subscribed}
-use Rattle.tile_core.proofs.Confirmed.{accepted, refused, confirmed, it_subscribes, sound_all, held_few, short_words}
+use Rattle.tile_core.proofs.Confirmed.{accepted, refused, it_subscribes, sound_all, held_few, short_words}
 use Rattle.tile_core.proofs.Planning.{says_planned}
 use Rattle.tile_core.proofs.subscribing.plan_subscribe.Goals as goal
 

@@ -1,5 +1,5 @@
 use Rattle.std.proofs.Common.{◌+◌, ◌≤◌, arith}
-use Rattle.world_data.specs.Limits.{max_weight}
+use Rattle.tile_core.specs.CoreStates.{most_kept}
 use Rattle.tile_core.specs.declared.stores.Store.{Store}
 use Rattle.tile_core.proofs.Stored.{stored}
 use Rattle.tile_core.proofs.stores.Store.over.Goals as goal
@@ -8,6 +8,6 @@ pub returns-clause-kept : goal.returns-clause-kept
 returns-clause-kept c =
     let p = c.into_parts-objects.result in
     let e = c.into_parts-objects.ensures in
-    let light : p.weight + p.channel_weight ≤ max_weight = omega (arith, c.in-Some.ensures, c.if-total-gt-MAX_WEIGHT.false) in
+    let light : p.weight + p.channel_weight ≤ most_kept = omega (arith, c.in-Some.ensures, c.if-total-gt-MOST_KEPT.false) in
     let s : Store = record { objects = p.objects; weight = p.weight; due_from = p.due_from; hub = p.hub; channel_weight = p.channel_weight; steps = c.new-2.result } in
-    stored c.args.world c.requires.sound c.requires.recorded p e.world e.weight e.channel_weight e.due_from light s
+    stored c.args.world c.requires.sound e.few_fields c.requires.recorded p e.world e.weight e.channel_weight e.due_from light s
