@@ -20,7 +20,8 @@ const LOG_A: &str = "tile-data/a.log";
 const LOG_B: &str = "tile-data/b.log";
 
 /// Two sides in the files `a.log` and `b.log` of the folder `tile-data` in the current folder. The first call makes what is not there
-/// and syncs both folders, so that the names are as sure as what is synced later. The files stay open from then on.
+/// and syncs both folders, so that the names are as sure as what is synced later. The files stay open from then on, and `a.log` is locked: each
+/// call of another disk over the folder fails until this one is dropped, or its process has ended.
 ///
 /// A call that the system interrupted is made again. Where opening or a sync has failed each later sync fails too: the system may have
 /// let go of what it could not write, and would not tell of it a second time.
@@ -53,6 +54,8 @@ impl Logs {
             a: open_log(rt, LOG_A)?,
             b: open_log(rt, LOG_B)?,
         };
+        // Another process over the same files would write over what this one acknowledged. The system gives the lock back with the file.
+        logs.a.try_lock()?;
         // Also where all was there: an earlier process may have ended between making a name and syncing it.
         File::open(rt, FOLDER)?.sync_all()?;
         File::open(rt, ".")?.sync_all()?;

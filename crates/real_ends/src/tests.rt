@@ -171,7 +171,14 @@ fn a_folder_keeps_a_disk_and_counts_its_faults(rt: HostRuntime) -> Result<(), Fa
     assert_eq!(rt; disk.read(Side::B, 7, &mut into), Ok(0));
     assert_eq!(rt; (disk.len(Side::A), disk.len(Side::B)), (Ok(3), Ok(6)));
     assert_eq!(rt; disk.faults, 0);
+
+    let mut other = FolderDisk::new(rt);
+    assert_eq!(rt; other.len(Side::A), Err(Failed));
+    assert_eq!(rt; other.write_at(Side::A, 0, b"x"), Err(Failed));
+    assert_eq!(rt; (other.faults, disk.len(Side::A)), (2, Ok(3)));
     drop(disk);
+    assert_eq!(rt; other.len(Side::A), Ok(3));
+    drop(other);
 
     fs::remove_file(&rt, "tile-data/b.log")?;
     fs::create_dir(&rt, "tile-data/b.log")?;
