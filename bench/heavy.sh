@@ -131,7 +131,7 @@ def main():
         finally:
             server.kill()
         check(left, 0)
-    except Other as fault:
+    except (Other, OSError) as fault:
         print(f"heavy: {fault}")
         print(f"heavy: the log stands in {folder}")
         sys.exit(1)
