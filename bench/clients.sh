@@ -1,7 +1,7 @@
 #!/usr/bin/env bash
 # Tries the server with real clients, and measures it beside redis-server in the same run.
 # Usage: bench/clients.sh [REQUESTS [ADDR]]   REQUESTS a row and run, 100000 if left out. With ADDR a server that runs there is used;
-# else ./fudrask is started, and what it keeps in memory beside 512 links is held to a bound. Needs Debian's redis-tools, redis-server and
+# else one is started over a new log, and what it keeps in memory beside 512 links is held to a bound. Needs Debian's redis-tools, redis-server and
 # python3-redis, and says which of them is not there.
 # A row tells requests a second of the server and of redis-server (no log), medians of three runs that alternate, and their ratio.
 set -u
@@ -27,7 +27,9 @@ done
 
 if [ -z "$addr" ]; then
     addr=127.0.0.1:19851
-    ./fudrask serve "$addr" >"$work/ours" 2>&1 &
+    ./fudrask load 1 1 >/dev/null
+    program=$PWD/crates/tile_server/out/tile_server
+    (cd "$work" && exec "$program" serve "$addr") >"$work/ours" 2>&1 &
     ours=$!
 fi
 host=${addr%:*} port=${addr##*:}

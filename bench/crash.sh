@@ -14,7 +14,8 @@ shrink=0
 [ "${1:-}" = --shrink ] && { shrink=1; shift; }
 rounds=${1:-200}
 seed=${2:-$RANDOM}
-./fudrask replay </dev/null >/dev/null
+# Builds the program where it is older than its sources.
+./fudrask load 1 1 >/dev/null
 
 exec python3 - "$PWD/crates/tile_server/out/tile_server" "$rounds" "$seed" "$shrink" <<'PYTHON'
 import os, random, shutil, socket, subprocess, sys, tempfile, threading, time

@@ -8,7 +8,8 @@
 # The folder is made where TMPDIR says. It is kept, and named, where an answer is another.
 set -eu
 cd "$(dirname "$0")/.."
-./fudrask replay </dev/null >/dev/null
+# Builds the program where it is older than its sources.
+./fudrask load 1 1 >/dev/null
 
 exec python3 - "$PWD/crates/tile_server/out/tile_server" <<'PYTHON'
 import itertools, os, shutil, socket, subprocess, sys, tempfile, time

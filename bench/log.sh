@@ -25,7 +25,8 @@ for tool in redis-cli redis-benchmark redis-server python3; do
     command -v "$tool" >/dev/null || { echo "log: $tool is not there (Debian: redis-tools, redis-server, python3)"; missing=1; }
 done
 [ "$missing" = 0 ] || exit 1
-./fudrask replay </dev/null >/dev/null
+# Builds the program where it is older than its sources.
+./fudrask load 1 1 >/dev/null
 echo "log: the folder is on $(stat -f -c %T "$work")"
 
 # Where a server's log stands: here, or Redis.

@@ -4,15 +4,18 @@
 # and PDEL takes out all.
 # Usage: bench/objects.sh [N...]   numbers of points; 10000 100000 1000000 if left out. Needs python3.
 # A row tells for N points the seconds of each step, with those of reading the script and of writing what it prints, the microseconds of
-# one operation in brackets, and the resident bytes a point once all are set.
+# one operation in brackets, and the resident bytes a point once all are set. Each row has a folder of its own, made where TMPDIR says; in a
+# folder in memory a sync costs nothing.
 set -eu
 cd "$(dirname "$0")/.."
 [ $# -gt 0 ] || set -- 10000 100000 1000000
-./fudrask replay </dev/null >/dev/null
+# Builds the program where it is older than its sources.
+./fudrask load 1 1 >/dev/null
 
 exec python3 - "$@" <<'PYTHON'
-import os, random, subprocess, sys, threading, time
+import os, random, subprocess, sys, tempfile, threading, time
 
+PROGRAM = os.path.abspath("crates/tile_server/out/tile_server")
 SIDE, SEARCHES = 1_000_000, 10_000
 END = b"frame +PONG%0D%0A\n"
 
@@ -27,7 +30,8 @@ class Played:
     """A script that is played step by step, each step until its last answer is there."""
 
     def __init__(self):
-        self.program = subprocess.Popen(["./fudrask", "replay"], stdin=subprocess.PIPE, stdout=subprocess.PIPE, bufsize=0)
+        self.folder = tempfile.TemporaryDirectory(prefix="objects-")
+        self.program = subprocess.Popen([PROGRAM, "replay"], cwd=self.folder.name, stdin=subprocess.PIPE, stdout=subprocess.PIPE, bufsize=0)
         self.moment = 0
 
     def step(self, lines):

@@ -2,9 +2,11 @@
 # Measures how long scripts take: many points set, many that expire at one moment, pages of them, one large GeoJSON text, and one
 # stream cut byte by byte.
 # Usage: bench/replay.sh [N]   N points, 2000 if left out. Each line tells what was played, the bytes of the script and the seconds.
+# Each script is played over a new log in a folder where TMPDIR says; in a folder in memory a sync costs nothing.
 set -eu
 cd "$(dirname "$0")/.."
 n=${1:-2000}
+program=$PWD/crates/tile_server/out/tile_server
 work=$(mktemp -d)
 trap 'rm -rf "$work"' EXIT
 
@@ -67,14 +69,15 @@ cut_bytes() {
 
 measure() {
     "$2" > "$work/script"
+    rm -rf "$work/tile-data"
     begun=$(date +%s.%N)
-    ./fudrask replay < "$work/script" > "$work/out"
+    (cd "$work" && "$program" replay < script > out)
     ended=$(date +%s.%N)
     awk -v what="$1" -v begun="$begun" -v ended="$ended" -v bytes="$(wc -c < "$work/script")" \
         'BEGIN { printf "%-28s %9d bytes %8.2f s\n", what, bytes, ended - begun }'
 }
 
-./fudrask replay < /dev/null > /dev/null
+./fudrask load 1 1 > /dev/null
 measure "points set: $n" points
 measure "points that expire: $n" expiring
 measure "points set, and pages: $n" pages
