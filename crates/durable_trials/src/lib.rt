@@ -2,4 +2,14 @@
 #![tactic(auto)]
 
 #[cfg(test)]
+mod calls;
+#[cfg(test)]
+mod crashes;
+#[cfg(test)]
+mod dialogues;
+#[cfg(test)]
+mod rewritings;
+#[cfg(test)]
+mod scripts;
+#[cfg(test)]
 mod tests;

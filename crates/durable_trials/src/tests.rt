@@ -1,113 +1,22 @@
-//! A core over a disk in memory: what was acknowledged is there when the disk is opened again, also where a call of it failed.
+//! A core over a disk in memory: the bytes of a side, and what was acknowledged is there when the disk is opened again, also where a call of
+//! it failed.
 
-use byte_text::Request;
+use crate::calls::{answer, called, disk_failing, do_nothing, open, side, taken};
+use byte_text::Text;
 use durable_core::DurableCore;
 use journal::OpenFault;
-use outside::{Disk, MemoryDisk, Side};
+use outside::{MemoryDisk, Side};
 use std::alloc::Global;
 use std::process::Abort;
 use std::test::Fail;
-use world_data::MAX_MOMENT;
-use world_model::{Asked, Called, EnterFault, Frames, Taken, Touched};
-
-// The request of a line's words, which are split at spaces.
-fn request(alloc: Global, line: &str) -> Result<Request, Fail> {
-    let mut words = Request::new(alloc);
-    for word in line.split(' ') {
-        if words.words() >= 64 {
-            return Err(Fail::from("a test's line has few words"));
-        }
-        if word.len() > 255 {
-            return Err(Fail::from("a test's word is short"));
-        }
-        words.push(word.as_bytes())?;
-    }
-    Ok(words)
-}
-
-// How the call of the first session with a line at a moment is answered.
-fn called(
-    alloc: Global,
-    core: &mut DurableCore<MemoryDisk>,
-    moment: u64,
-    line: &str,
-) -> Result<Called, Fail> {
-    let words = request(alloc, line)?;
-    if words.words() == 0 || moment > MAX_MOMENT {
-        return Err(Fail::from("a test's request is proper"));
-    }
-    let mut touched = Touched::new(alloc)?;
-    Ok(core.call(1, moment, &Asked::Words(words), &mut touched))
-}
-
-fn ticked(alloc: Global, core: &mut DurableCore<MemoryDisk>, moment: u64) -> Result<Called, Fail> {
-    if moment > MAX_MOMENT {
-        return Err(Fail::from("a test's moment is proper"));
-    }
-    let mut touched = Touched::new(alloc)?;
-    Ok(core.tick(moment, &mut touched))
-}
-
-// How a take of the first session ends.
-fn taken(alloc: Global, core: &mut DurableCore<MemoryDisk>) -> Result<Taken, Fail> {
-    let mut frames = Frames::new(alloc)?;
-    Ok(core.take(1, &mut frames))
-}
-
-fn disk_failing(alloc: Global, failing: &[u64]) -> Result<MemoryDisk, Fail> {
-    Ok(MemoryDisk::new(
-        alloc,
-        Vec::new(alloc),
-        Vec::new(alloc),
-        failing.to_vec(alloc)?,
-    ))
-}
-
-// The bytes of a side.
-fn side(alloc: Global, disk: &mut MemoryDisk, side: Side) -> Result<Vec<u8>, Fail> {
-    let mut bytes = vec![in alloc; 0u8; 200]?;
-    let Ok(count) = disk.read(side, 0, &mut bytes) else {
-        return Err(Fail::from("the disk is read"));
-    };
-    bytes.truncate(count);
-    Ok(bytes)
-}
-
-fn open(disk: MemoryDisk, alloc: Global) -> Result<DurableCore<MemoryDisk>, Fail> {
-    match DurableCore::open(alloc, disk) {
-        Ok(core) => Ok(core),
-        Err(_) => Err(Fail::from("the disk is opened")),
-    }
-}
-
-fn do_nothing(
-    rt: &impl Abort,
-    alloc: Global,
-    core: &mut DurableCore<MemoryDisk>,
-) -> Result<(), Fail> {
-    assert_eq!(rt;
-        called(alloc, core, 5, "SET k a POINT 1 2")?,
-        Called::Stopped
-    );
-    assert_eq!(rt; ticked(alloc, core, 5)?, Called::Stopped);
-    assert_eq!(rt; taken(alloc, core)?, Taken::Stopped);
-    assert_eq!(rt; core.enter(), Err(EnterFault::Stopped));
-    assert_eq!(rt; core.step_rewrite(), Called::Stopped);
-    assert_eq!(rt; core.retire(), Called::Stopped);
-    core.close_session(1);
-    core.remove_session(1);
-    Ok(())
-}
+use world_model::{Called, Taken};
 
 #[test]
 fn a_side_is_the_bytes_of_the_format(rt: HostRuntime) -> Result<(), Fail> {
     let alloc = rt.alloc();
-    let mut core = open(disk_failing(alloc, &[])?, alloc)?;
+    let mut core = open(alloc, disk_failing(alloc, &[])?)?;
     assert_eq!(rt; core.enter(), Ok(1));
-    assert_eq!(rt;
-        called(alloc, &mut core, 0, "SET k a POINT 1 2")?,
-        Called::Ok
-    );
+    assert_eq!(rt; called(alloc, &mut core, "SET k a POINT 1 2")?, Called::Ok);
     assert_eq!(rt; core.retire(), Called::Ok);
     let mut disk = core.into_disk();
     let worked =
@@ -132,8 +41,8 @@ fn script(rt: &impl Abort, alloc: Global, core: &mut DurableCore<MemoryDisk>) ->
         return Ok(0);
     }
     for line in lines {
-        assert_eq!(rt; called(alloc, core, 0, line)?, Called::Ok);
-        match taken(alloc, core)? {
+        assert_eq!(rt; called(alloc, core, line)?, Called::Ok);
+        match taken(alloc, core, &mut Text::new(alloc))? {
             Taken::Some(1) => acked = acked.saturating_add(1),
             end => {
                 assert_eq!(rt; end, Taken::LogFault);
@@ -142,7 +51,27 @@ fn script(rt: &impl Abort, alloc: Global, core: &mut DurableCore<MemoryDisk>) ->
             }
         }
     }
+    assert_eq!(rt; core.is_stopped(), acked < 3);
     Ok(acked)
+}
+
+// The same over a disk whose call of this number fails, and the disk.
+fn script_over(rt: &impl Abort, alloc: Global, failing: u64) -> Result<(u64, MemoryDisk), Fail> {
+    match DurableCore::open(alloc, disk_failing(alloc, &[failing])?) {
+        Ok(mut core) => {
+            let acked = script(rt, alloc, &mut core);
+            let disk = core.into_disk();
+            Ok((acked?, disk))
+        }
+        Err(unopened) => {
+            assert_eq!(rt; unopened.why, OpenFault::Disk);
+            Ok((0, unopened.disk))
+        }
+    }
+}
+
+fn objects(alloc: Global, disk: MemoryDisk) -> Result<u64, Fail> {
+    Ok(open(alloc, disk)?.objects())
 }
 
 #[test]
@@ -155,20 +84,10 @@ fn each_call_of_the_disk_fails_once_and_nothing_acknowledged_is_lost(
         if whole {
             break;
         }
-        let (disk, acked) = match DurableCore::open(alloc, disk_failing(alloc, &[failing])?) {
-            Ok(mut core) => {
-                let acked = script(&rt, alloc, &mut core)?;
-                whole = acked == 3;
-                assert_eq!(rt; core.is_stopped(), !whole);
-                (core.into_disk(), acked)
-            }
-            Err(unopened) => {
-                assert_eq!(rt; unopened.why, OpenFault::Disk);
-                (unopened.disk, 0)
-            }
-        };
+        let (acked, disk) = script_over(&rt, alloc, failing)?;
+        whole = acked == 3;
         for choice in 0u64..27 {
-            let found = open(disk.image(disk.moment(), choice)?, alloc)?.objects();
+            let found = objects(alloc, disk.image(disk.moment(), choice)?)?;
             assert!(rt;
                 found == acked || found == acked.saturating_add(1),
                 "{failing} {choice} {found}"

@@ -1,6 +1,6 @@
 use Rattle.std.proofs.Common.{arith}
 use Rattle.cmd_words.specs.ShortRequests.{short_fit}
-use Rattle.durable_trials.proofs.tests.request.Goals as goal
+use Rattle.durable_trials.proofs.calls.request.Goals as goal
 
 pub loop-word-init : goal.loop-word-init
 loop-word-init c = rw c.new-words.ensures (record { short = tt })

@@ -1,0 +1,164 @@
+//! Scripts of calls, and the worlds behind them.
+//!
+//! A line of a script is `take`, `step`, or the words that the first session asks for. Where the call changes the world, ` => ` and what the
+//! world reads as then stand behind the words.
+
+use crate::calls::{answer, called, disk_failing, do_nothing, open, taken};
+use byte_text::Text;
+use durable_core::DurableCore;
+use outside::{Disk, MemoryDisk};
+use std::alloc::Global;
+use std::process::Abort;
+use std::test::Fail;
+use world_model::{Called, Taken};
+
+/// What an empty world reads as: no object, no channel, and no deadline.
+const EMPTY: &str = ":0 :-2";
+
+/// How far a script was played: how many of its changes were asked for, how many of these were acknowledged, and whether the disk failed.
+#[derive(Clone, Copy, Debug, Drop, PartialEq, Eq)]
+pub(crate) struct Played {
+    pub(crate) asked: usize,
+    pub(crate) stand: usize,
+    pub(crate) failed: bool,
+}
+
+/// Nothing was played so far.
+pub(crate) const NOTHING: Played = Played {
+    asked: 0,
+    stand: 0,
+    failed: false,
+};
+
+impl Played {
+    // All that was asked for stands, or the disk failed.
+    fn note(&mut self, called: Called) -> Result<(), Fail> {
+        match called {
+            Called::Ok => self.stand = self.asked,
+            Called::LogFault => self.failed = true,
+            _ => return Err(Fail::from("a test's step is done, or the disk fails")),
+        }
+        Ok(())
+    }
+}
+
+// Takes the frames that wait.
+fn play_take(
+    alloc: Global,
+    core: &mut DurableCore<MemoryDisk>,
+    played: &mut Played,
+) -> Result<(), Fail> {
+    let mut told = Text::new(alloc);
+    match taken(alloc, core, &mut told)? {
+        Taken::Some(_) => played.note(Called::Ok),
+        Taken::LogFault => played.note(Called::LogFault),
+        _ => Err(Fail::from("a test's take gives frames, or the disk fails")),
+    }
+}
+
+// Asks for what the words of a line say.
+fn play_call(
+    alloc: Global,
+    core: &mut DurableCore<MemoryDisk>,
+    words: &str,
+    played: &mut Played,
+) -> Result<(), Fail> {
+    match called(alloc, core, words)? {
+        Called::Ok => Ok(()),
+        Called::LogFault => played.note(Called::LogFault),
+        _ => Err(Fail::from("a test's call is done, or the disk fails")),
+    }
+}
+
+fn play_line(
+    alloc: Global,
+    core: &mut DurableCore<MemoryDisk>,
+    line: &str,
+    played: &mut Played,
+) -> Result<(), Fail> {
+    match line {
+        "take" => play_take(alloc, core, played),
+        "step" => played.note(core.step_rewrite()),
+        _ => {
+            let words = match line.split_once(" => ") {
+                Some((words, _)) => {
+                    played.asked = played.asked.saturating_add(1);
+                    words
+                }
+                None => line,
+            };
+            play_call(alloc, core, words, played)
+        }
+    }
+}
+
+/// Plays the first lines of a script, up to one where the disk fails.
+pub(crate) fn play(
+    alloc: Global,
+    core: &mut DurableCore<MemoryDisk>,
+    script: &str,
+    lines: usize,
+) -> Result<Played, Fail> {
+    let mut played = NOTHING;
+    if core.enter() != Ok(1) {
+        return Err(Fail::from("a session enters"));
+    }
+    for line in script.lines().take(lines) {
+        play_line(alloc, core, line.trim_start(), &mut played)?;
+        if played.failed {
+            break;
+        }
+    }
+    Ok(played)
+}
+
+// Whether a text is what the world reads as behind so many changes.
+fn is_world(script: &str, changes: usize, text: &[u8]) -> bool {
+    if changes == 0 {
+        return text == EMPTY.as_bytes();
+    }
+    let mut behind = 0usize;
+    for line in script.lines() {
+        if let Some((_, world)) = line.split_once(" => ") {
+            behind = behind.saturating_add(1);
+            if behind == changes {
+                return text == world.as_bytes();
+            }
+        }
+    }
+    false
+}
+
+/// Whether a text is what the world reads as behind some changes of the script, at least so many and at most so many.
+pub(crate) fn is_between(script: &str, least: usize, most: usize, text: &[u8]) -> bool {
+    for changes in least..most.saturating_add(1) {
+        if is_world(script, changes, text) {
+            return true;
+        }
+    }
+    false
+}
+
+// What a core's world reads as: where its objects are, its channels, and a deadline.
+fn look(alloc: Global, core: &mut DurableCore<MemoryDisk>) -> Result<Text, Fail> {
+    let mut world = Text::new(alloc);
+    if core.enter().is_err() {
+        return Err(Fail::from("a session enters"));
+    }
+    for line in ["SCAN k POINTS", "CHANS *", "TTL k d"] {
+        let told = answer(alloc, core, line)?;
+        if world.len() > 0 && told.len() > 0 {
+            world.push(b" ")?;
+        }
+        world.push(told.bytes())?;
+    }
+    Ok(world)
+}
+
+/// What the world reads as that a disk is opened to.
+pub(crate) fn world_of(alloc: Global, disk: MemoryDisk) -> Result<Text, Fail> {
+    let mut core = open(alloc, disk)?;
+    let world = look(alloc, &mut core);
+    core.into_disk();
+    world
+}
