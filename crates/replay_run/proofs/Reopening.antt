@@ -17,8 +17,10 @@ use Rattle.world_model.specs.declared.events.Called.TheVariants as called
 use Rattle.world_model.specs.declared.events.Event.TheVariants as event
 use Rattle.world_model.specs.declared.events.Entry.{Entry}
 use Rattle.world_model.specs.declared.events.Opening.{Opening}
+use Rattle.journal.specs.Journals.{pending}
 use Rattle.journal.specs.Logs.{HoldsLog}
 use Rattle.journal.specs.Openings.{AreWhole, IsLeftByOpening}
+use Rattle.log_sides.specs.States.{IsLog}
 use Rattle.log_record.specs.Acknowledged.{acked_take}
 use Rattle.log_record.specs.Journals.{Journal, Turn, TellsNow}
 use Rattle.log_record.specs.Recovery.{Recovers, Holds}
@@ -29,13 +31,15 @@ use Rattle.log_record.specs.Runs.{and_then, RunStood}
 use Rattle.log_record.specs.RunLaws.{openings_keep_runs_safe}
 use Rattle.log_worlds.specs.Recorded.{record_fault, world_in}
 use Rattle.durable_core.specs.Kept.{settled_log}
-use Rattle.durable_core.specs.Logged.{hall_of, disk_of, IsLogOf, KeepsLogOf, GoesOn}
+use Rattle.durable_core.specs.Logged.{hall_of, disk_of, generation_of, IsLogOf, KeepsLogOf, GoesOn}
 use Rattle.durable_core.specs.Opened.{IsOpening}
+use Rattle.durable_core.specs.Written.{IsMirrored, KeepsSided, Sided, sided_with}
 use Rattle.durable_core.specs.declared.cores.DurableCore.{DurableCore}
 use Rattle.journal.specs.declared.openings.OpenFault.{OpenFault}
 use Rattle.journal.specs.declared.openings.OpenFault.TheVariants as fault_of
 use Rattle.replay_run.specs.declared.halts.Halt.TheVariants as halted
 use Rattle.replay_run.specs.declared.readers.Reader.{Reader}
+use Rattle.replay_run.specs.Checks.{HasGeneration}
 use Rattle.replay_run.specs.Played.{Played}
 use Rattle.replay_run.specs.Scripts.{Reopens}
 use Rattle.replay_run.specs.Undone.{halt_at, ReopenFails}
@@ -43,11 +47,30 @@ use Rattle.replay_run.specs.Traces.{Deed, opens, does}
 use Rattle.replay_run.specs.Standing.{IsSafeFor, IsBehind, StandsBehind, StaysSafe, Logs}
 use Rattle.replay_run.proofs.Calling.{called_failed}
 use Rattle.replay_run.proofs.Playing.{not_ok}
-use Rattle.replay_run.proofs.Standing.{one_more, safe_for, deeds_then, run_then, counted_later}
+use Rattle.replay_run.proofs.Standing.{one_more, one_last, safe_for, after_all, deeds_then, run_then, counted_later}
 
 none_taken : (n : ℕ) (start : ℕ) → moment_after start (take n []) ≡ start
 none_taken zero start = refl
 none_taken (suc n) start = refl
+
+-- behind a retirement a side of the disk stands, as a log of the generation that it had
+pub generation_left : {D : Type 0} (crashes : D → Bool) (seen : D → Option Sides) (images : D → Sides → Type 0) (old mid : DurableCore D) (disk : D) (generation : ℕ) (s : Sided) → KeepsSided crashes seen images old.tail.journal s
+    → IsMirrored crashes seen images old.tail.journal mid.tail.journal → generation ≡ generation_of old → generation_of mid ≡ generation_of old → disk ≡ disk_of mid → HasGeneration crashes seen images disk generation
+generation_left {D} crashes seen images old mid disk generation s kept written counted same is = subst (λ (d : D). HasGeneration crashes seen images d generation) (sym is) (by_sides (written s kept))
+  where
+    stands : (t : Sided) → KeepsSided crashes seen images mid.tail.journal t → HasGeneration crashes seen images (disk_of mid) generation
+    stands t k =
+        let j = mid.tail.journal in
+        record {
+          side = j.log.side;
+          gate = j.log.gate;
+          batches = t.batches;
+          log = subst (λ (n : ℕ). IsLog (crashes j.disk) (seen j.disk) (images j.disk) j.log.side n j.log.gate t.batches) (same ∙ sym counted) k.log;
+        }
+
+    by_sides : KeepsSided crashes seen images mid.tail.journal s ⊎ KeepsSided crashes seen images mid.tail.journal (sided_with (pending old.tail.journal) s) → HasGeneration crashes seen images (disk_of mid) generation
+    by_sides (inl k) = stands s k
+    by_sides (inr k) = stands (sided_with (pending old.tail.journal) s) k
 
 -- a disk that is safe for a history without entries is safe for a run of it
 safe_first : {D : Type 0} (left_since : D → ℕ → Sides → Type 0) (disk : D) (o p : Opening) → p.moment ≡ o.moment → p.world ≡ o.world → Safe left_since disk o [] → SafeRun left_since disk ((p, []) ∷ [])
@@ -137,14 +160,26 @@ module _ {D : Type 0} (crashes : D → Bool) (seen : D → Option Sides) (images
   unfolding SafeRun
   run_still old new run w counts past holds leaves safe = safe_still old new (start_of run) (entries_of run) (RunPasses run) w counts past holds leaves safe
 
+  -- so are the images that are left then
+  image_still : (old new : D) (w : World) → TellsNow images moment left_since old → TellsNow images moment left_since new → ((c : Sides) → images old c → Recovers c w)
+      → LeavesOnly moment left_since old new (λ c. Recovers c w) → (c : Sides) → images new c → Recovers c w
+  image_still old new w tells_old tells_new each leaves c image = by_left (leaves.either (moment old) c (omega arith) (tells_new.counts_now (moment old) c leaves.later image))
+    where
+      by_left : left_since old (moment old) c ⊎ Recovers c w → Recovers c w
+      by_left (inl before) = each c (tells_old.only_now c before)
+      by_left (inr now) = now
+
   pub stands_still : (old new : D) (h : Hall) (deeds : List Deed) (s : Sides) → ((d : D) → TellsNow images moment left_since d) → images old s → ((c : Sides) → images old c → Recovers c h.world) → ((c : Sides) → HoldsLog [] c → Recovers c (world_in []))
-      → LeavesOnly moment left_since old new (IsLeftByOpening (images old) s) → IsBehind images moment left_since faults old h deeds → IsSafeFor left_since new deeds
-  stands_still old new h deeds s tells now each held leaves b = record {
-    run = and_then b.run b.opening b.entries;
-    is_run = b.is_run;
-    shows = b.shows;
-    safe = run_still old new (and_then b.run b.opening b.entries) h.world (tells old).counts_now b.stood.past (record { some = (s, now); each = each }) (leaves_world old new s h.world now each held leaves) b.stood.safe;
-  }
+      → LeavesOnly moment left_since old new (IsLeftByOpening (images old) s) → IsBehind images moment left_since faults old h deeds → IsSafeFor images left_since new deeds
+  stands_still old new h deeds s tells now each held leaves b =
+      let gone = leaves_world old new s h.world now each held leaves in
+      record {
+        run = and_then b.run b.opening b.entries;
+        is_run = b.is_run;
+        shows = b.shows;
+        safe = run_still old new (and_then b.run b.opening b.entries) h.world (tells old).counts_now b.stood.past (record { some = (s, now); each = each }) gone b.stood.safe;
+        settled = λ before ends c image. after_all crashes seen images moment left_since faults old h deeds b c (image_still old new h.world (tells old) (tells new) each gone c image);
+      }
 
 module _ {D : Type 0} (crashes : D → Bool) (seen : D → Option Sides) (images : D → Sides → Type 0) (moment : D → ℕ) (left_since : D → ℕ → Sides → Type 0) (faults : D → ℕ) (tells : (d : D) → TellsNow images moment left_since d) where
   -- a core is retired
@@ -163,18 +198,24 @@ module _ {D : Type 0} (crashes : D → Bool) (seen : D → Option Sides) (images
   unfolding retires_behind one_more
   retires_entries old mid c before s step later cause log = refl
 
-  -- and so is its disk safe
-  pub retires_safe : (old mid : DurableCore D) (c : Called) (before : List Deed) → StandsBehind crashes seen images moment left_since faults old before → Step (hall_of old) event.Retire (answer c) (hall_of mid)
-      → faults (disk_of old) ≤ faults (disk_of mid) → (is_log_fault (answer c) ≡ true → Rose (faults (disk_of old)) (faults (disk_of mid)))
-      → ((j : Journal) → KeepsLogOf crashes seen images old j → GoesOn crashes seen images moment left_since old mid event.Retire (answer c) j)
-      → IsSafeFor left_since (disk_of mid) (before ++ does event.Retire (answer c) ∷ [])
-  retires_safe old mid c before s step later cause log = safe_for crashes seen images moment left_since faults (disk_of mid) (hall_of mid) (before ++ does event.Retire (answer c) ∷ []) (retires_behind old mid c before s step later cause log)
-
   -- what a retirement that was answered Ok leaves behind: all images have the hall's world
   pub shown_world : (old mid : DurableCore D) (before : List Deed) → StandsBehind crashes seen images moment left_since faults old before
       → ((j : Journal) → KeepsLogOf crashes seen images old j → GoesOn crashes seen images moment left_since old mid event.Retire (answer called.Ok) j)
       → (c : Sides) → images (disk_of mid) c → Recovers c (hall_of mid).world
   shown_world old mid before s log = ((log s.behind.log s.kept).owes s.told).turn.shown refl
+
+  answered_ok : (c : Called) → does event.Retire (answer c) ≡ does event.Retire (answer called.Ok) → c ≡ called.Ok
+  answered_ok c same = cc
+
+  -- and so is its disk safe
+  pub retires_safe : (old mid : DurableCore D) (c : Called) (before : List Deed) → StandsBehind crashes seen images moment left_since faults old before → Step (hall_of old) event.Retire (answer c) (hall_of mid)
+      → faults (disk_of old) ≤ faults (disk_of mid) → (is_log_fault (answer c) ≡ true → Rose (faults (disk_of old)) (faults (disk_of mid)))
+      → ((j : Journal) → KeepsLogOf crashes seen images old j → GoesOn crashes seen images moment left_since old mid event.Retire (answer c) j)
+      → IsSafeFor images left_since (disk_of mid) (before ++ does event.Retire (answer c) ∷ [])
+  retires_safe old mid c before s step later cause log = safe_for crashes seen images moment left_since faults (disk_of mid) (hall_of mid) (before ++ does event.Retire (answer c) ∷ []) (retires_behind old mid c before s step later cause log)
+      (λ others same. shown_world old mid before s
+      (subst (λ (z : Called). (j : Journal) → KeepsLogOf crashes seen images old j → GoesOn crashes seen images moment left_since old mid event.Retire (answer z) j)
+      (answered_ok c (one_last before others (does event.Retire (answer c)) (does event.Retire (answer called.Ok)) same)) log))
 
   -- it is opened again
   pub reopens_stand : (old mid new : DurableCore D) (before : List Deed) (s : Sides) (earlier count : ℕ) → StandsBehind crashes seen images moment left_since faults old before → Step (hall_of old) event.Retire (answer called.Ok) (hall_of mid)
@@ -227,14 +268,14 @@ module _ {D : Type 0} (crashes : D → Bool) (seen : D → Option Sides) (images
       → faults (disk_of old) ≤ faults (disk_of mid) → (c ≡ called.LogFault → Rose (faults (disk_of old)) (faults (disk_of mid)))
       → ((j : Journal) → KeepsLogOf crashes seen images old j → GoesOn crashes seen images moment left_since old mid event.Retire (answer c) j)
       → (deeds : List Deed) × (last : Hall) × ((told : Bool) → ReopenFails told halted.DiskFault (record { hall = hall_of old; readers = readers }) deeds last) × (last.stopped ≡ true)
-      × ((before : List Deed) → StandsBehind crashes seen images moment left_since faults old before → IsSafeFor left_since disk (before ++ deeds))
+      × ((before : List Deed) → StandsBehind crashes seen images moment left_since faults old before → IsSafeFor images left_since disk (before ++ deeds))
   unretired old mid disk readers c is apart goes step stops later cause log =
       let failed : c ≡ called.LogFault = not_ok (hall_of old) (hall_of mid) c goes step apart in (
         does event.Retire (answer c) ∷ [],
         hall_of mid,
         λ told. inl (subst (λ (z : Called). Step (hall_of old) event.Retire (answer z) (hall_of mid)) failed step, ap (λ (z : Called). does event.Retire (answer z) ∷ []) failed),
         stops,
-        λ before s. subst (λ (d : D). IsSafeFor left_since d (before ++ does event.Retire (answer c) ∷ [])) (sym is) (retires_safe old mid c before s step later (λ f. cause (called_failed c f)) log),
+        λ before s. subst (λ (d : D). IsSafeFor images left_since d (before ++ does event.Retire (answer c) ∷ [])) (sym is) (retires_safe old mid c before s step later (λ f. cause (called_failed c f)) log),
       )
 
   -- what a core that was retired leaves behind: sides that are recovered as its world
@@ -248,7 +289,7 @@ module _ {D : Type 0} (crashes : D → Bool) (seen : D → Option Sides) (images
       → ((d : D) → IfTold (seen d) (images d)) → ((c : Sides) → HoldsLog [] c → Recovers c (world_in []))
       → ((s : Sides) → seen disk ≡ Some s → crashes disk ≡ true → LeavesOnly moment left_since disk new (IsLeftByOpening (images disk) s))
       → (deeds : List Deed) × (last : Hall) × ((told : Bool) → ReopenFails told (halt_at why) (record { hall = hall_of old; readers = readers }) deeds last) × (last.stopped ≡ true)
-      × ((before : List Deed) → StandsBehind crashes seen images moment left_since faults old before → IsSafeFor left_since new (before ++ deeds))
+      × ((before : List Deed) → StandsBehind crashes seen images moment left_since faults old before → IsSafeFor images left_since new (before ++ deeds))
   unopened_again old mid disk new readers why is step stops later told log left as_read held leaves = (
     does event.Retire (answer called.Ok) ∷ [],
     hall_of mid,

@@ -6,6 +6,7 @@ use Rattle.std.proofs.lemmas.Bool.Decides.{nat_tests}
 use Rattle.std.proofs.lemmas.List.{append-nil, take_all}
 use Rattle.std.proofs.Math.Nat.{min-le_left, min-le_right, le-min, min-eq_left, min-eq_right}
 use Rattle.outside.specs.Causes.{most_count, Rose}
+use Rattle.outside.specs.Crashes.{EachImage}
 use Rattle.outside.specs.Sides.{Sides}
 use Rattle.world_model.specs.Halls.{Hall}
 use Rattle.world_model.specs.Histories.{opening_hall, Step, Reaches, Follows, gives_disk, is_log_fault, answer, IsLegal, EndsWith, IsRun}
@@ -16,10 +17,11 @@ use Rattle.world_model.specs.declared.events.Outcome.{Outcome}
 use Rattle.world_model.specs.declared.events.Entry.{Entry}
 use Rattle.world_model.specs.declared.events.Opening.{Opening}
 use Rattle.log_record.specs.Journals.{Journal, Turn, TellsNow}
-use Rattle.log_record.specs.Safety.{Run, moment_after, count_after, out_after, entries_of, start_of, SafeRun, ComesNext}
+use Rattle.log_record.specs.Recovery.{Recovers}
+use Rattle.log_record.specs.Safety.{Run, moment_after, count_after, out_after, entries_of, start_of, RecoversPassed, RunPasses, SafeRun, ComesNext}
 use Rattle.log_record.specs.Runs.{and_then, RunStood}
 use Rattle.log_record.specs.RunLaws.{turns_keep_runs_safe}
-use Rattle.log_record.specs.LeadingLaws.{leads_on}
+use Rattle.log_record.specs.LeadingLaws.{leads_on, passes_all}
 use Rattle.log_record.specs.Acknowledged.{moment_last}
 use Rattle.durable_core.specs.Logged.{hall_of, disk_of, KeepsLogOf, GoesOn}
 use Rattle.durable_core.specs.declared.cores.DurableCore.{DurableCore}
@@ -88,6 +90,26 @@ none_given e v is other = by_event v is other
 
 within_more : (entries : List Entry) (e : Entry) → out_after false entries ≡ false → gives_disk e ≡ false → out_after false (entries ++ e ∷ []) ≡ false
 within_more entries e within none = out_last false entries e ∙ ap (λ (b : Bool). b || gives_disk e) within ∙ none
+
+-- the last deed
+
+abbrev last_deed : Deed → List Deed → Deed
+last_deed d [] = d
+last_deed d (e ∷ deeds) = last_deed e deeds
+
+last_deed_is : (d last : Deed) (deeds : List Deed) → last_deed d (deeds ++ last ∷ []) ≡ last
+last_deed_is d last [] = refl
+last_deed_is d last (e ∷ deeds) = last_deed_is e last deeds
+
+pub one_last : (deeds others : List Deed) (d e : Deed) → deeds ++ d ∷ [] ≡ others ++ e ∷ [] → d ≡ e
+one_last deeds others d e same = sym (last_deed_is d d deeds) ∙ ap (last_deed d) same ∙ last_deed_is d e others
+
+-- a whole run leads to the world of its hall
+all_passed : (run : Run) (o : Opening) (entries : List Entry) (h : Hall) (n : ℕ) → n ≡ length (entries_of (and_then run o entries)) → Reaches o entries h → RunPasses (and_then run o entries) n h.world
+all_passed [] o entries h n is reached = let alone = ap length (append-nil entries) in inl (omega (arith, is, alone), passes_all o entries h n h.world (omega (arith, is, alone)) reached refl)
+all_passed ((q, es) ∷ run) o entries h n is reached =
+    let long = length-append es (entries_of (and_then run o entries)) in
+    inr (omega (arith, is, long), all_passed run o entries h (n - length es) (omega (arith, is, long)) reached)
 
 -- counts of faults
 
@@ -185,5 +207,20 @@ module _ {D : Type 0} (crashes : D → Bool) (seen : D → Option Sides) (images
     stands = λ before s. subst (λ (z : List Deed). StandsBehind crashes seen images moment left_since faults new z) (append_assoc before first others) (b.stands (before ++ first) (a.stands before s));
   }
 
-  pub safe_for : (disk : D) (h : Hall) (deeds : List Deed) → IsBehind images moment left_since faults disk h deeds → IsSafeFor left_since disk deeds
-  safe_for disk h deeds b = record { run = and_then b.run b.opening b.entries; is_run = b.is_run; shows = b.shows; safe = b.stood.safe }
+  -- the world of the hall is the one after the whole run
+  pub after_all : (disk : D) (h : Hall) (deeds : List Deed) (b : IsBehind images moment left_since faults disk h deeds) (c : Sides) → Recovers c h.world
+      → RecoversPassed (RunPasses (and_then b.run b.opening b.entries)) (length (entries_of (and_then b.run b.opening b.entries))) (length (entries_of (and_then b.run b.opening b.entries))) c
+  after_all disk h deeds b c back =
+      let n = length (entries_of (and_then b.run b.opening b.entries)) in
+      record { count = n; at_least = omega arith; at_most = omega arith; world = h.world; passed = all_passed b.run b.opening b.entries h n refl b.stood.reached; recovers = back }
+
+  -- a disk is safe for a run whose hall's world is all that a crash leaves where it was retired well
+  pub safe_for : (disk : D) (h : Hall) (deeds : List Deed) → IsBehind images moment left_since faults disk h deeds
+      → ((before : List Deed) → deeds ≡ before ++ does Retire (answer called.Ok) ∷ [] → EachImage (images disk) (λ c. Recovers c h.world)) → IsSafeFor images left_since disk deeds
+  safe_for disk h deeds b shown = record {
+    run = and_then b.run b.opening b.entries;
+    is_run = b.is_run;
+    shows = b.shows;
+    safe = b.stood.safe;
+    settled = λ before ends c image. after_all disk h deeds b c (shown before ends c image);
+  }

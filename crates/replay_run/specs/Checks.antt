@@ -19,10 +19,9 @@ pub record IsFound (seen : Option Sides) (w : World) (logged objects channels : 
   pub retires : Retires (opening_hall w logged) answered
   pub fine : (answered ≡ called.Ok) ⊎ (answered ≡ called.LogFault)
 
--- behind the opening a side of the disk stands, as a log of this generation
-pub record HasGeneration {D : Type 0} (crashes : D → Bool) (seen : D → Option Sides) (images : D → Sides → Type 0) (generation : ℕ) : Type 0 where
-  pub opened : D
+-- a side of this disk stands, as a log of this generation
+pub record HasGeneration {D : Type 0} (crashes : D → Bool) (seen : D → Option Sides) (images : D → Sides → Type 0) (disk : D) (generation : ℕ) : Type 0 where
   pub side : Side
   pub gate : ℕ
   pub batches : List Bytes
-  pub log : IsLog (crashes opened) (seen opened) (images opened) side generation gate batches
+  pub log : IsLog (crashes disk) (seen disk) (images disk) side generation gate batches

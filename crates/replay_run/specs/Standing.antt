@@ -1,26 +1,32 @@
 -- Over the calls of a core its disk stays safe for all that was made, and so does the disk that is handed back.
-use Rattle.std.specs.Prelude.{◌≡◌, ◌≤◌, ℕ, min, Bool, true, false, List, [], ◌++◌, Option, Result, IfOk, IfErr, OnOk}
+use Rattle.std.specs.Prelude.{◌≡◌, ◌≤◌, ℕ, min, Bool, true, false, List, [], ◌∷◌, ◌++◌, length, Option, Result, IfOk, IfErr, OnOk}
 use Rattle.outside.specs.Causes.{most_count, Rose}
+use Rattle.outside.specs.Crashes.{EachImage}
 use Rattle.outside.specs.Sides.{Sides}
 use Rattle.world_model.specs.Halls.{Hall}
-use Rattle.world_model.specs.Histories.{IsRun}
+use Rattle.world_model.specs.Histories.{IsRun, answer}
+use Rattle.world_model.specs.declared.events.Called.TheVariants as called
+use Rattle.world_model.specs.declared.events.Event.TheVariants as event
 use Rattle.world_model.specs.declared.events.Entry.{Entry}
 use Rattle.world_model.specs.declared.events.Opening.{Opening}
 use Rattle.log_record.specs.Journals.{Journal}
-use Rattle.log_record.specs.Safety.{Run, moment_after, count_after, out_after, SafeRun}
+use Rattle.log_record.specs.Safety.{Run, moment_after, count_after, out_after, entries_of, RecoversPassed, RunPasses, SafeRun}
 use Rattle.log_record.specs.Runs.{and_then, RunStood}
 use Rattle.durable_core.specs.Logged.{hall_of, disk_of, KeepsLogOf}
 use Rattle.durable_core.specs.declared.cores.DurableCore.{DurableCore}
-use Rattle.replay_run.specs.Traces.{Deed, deeds_of}
+use Rattle.replay_run.specs.Traces.{Deed, does, deeds_of}
 use Rattle.replay_run.specs.declared.halts.Halt.{Halt}
 use Rattle.replay_run.specs.declared.halts.Halt.TheVariants as halted
 
--- a disk is safe for a run that shows these deeds
-pub record IsSafeFor {D : Type 0} (left_since : D → ℕ → Sides → Type 0) (disk : D) (deeds : List Deed) : Type 0 where
+-- A disk is safe for a run that shows these deeds. Where the last of them is a retirement that was answered Ok, nothing is pending any more:
+-- whatever a crash leaves is recovered as the world after the whole run.
+pub record IsSafeFor {D : Type 0} (images : D → Sides → Type 0) (left_since : D → ℕ → Sides → Type 0) (disk : D) (deeds : List Deed) : Type 0 where
   pub run : Run
   pub is_run : IsRun run
   pub shows : deeds_of run ≡ deeds
   pub safe : SafeRun left_since disk run
+  pub settled : (before : List Deed) → deeds ≡ before ++ does event.Retire (answer called.Ok) ∷ []
+      → EachImage (images disk) (RecoversPassed (RunPasses run) (length (entries_of run)) (length (entries_of run)))
 
 -- these deeds are those of a run, whose last history leads to a hall; a disk is safe for the run
 pub record IsBehind {D : Type 0} (images : D → Sides → Type 0) (moment : D → ℕ) (left_since : D → ℕ → Sides → Type 0) (faults : D → ℕ) (disk : D) (h : Hall) (deeds : List Deed) : Type 0 where

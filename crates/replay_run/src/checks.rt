@@ -35,8 +35,8 @@ pub struct Checked<D> {
 /// left since the opening is recovered as the world that was found.
 pub fn check<D: Disk>(alloc: Global, disk: D) -> Result<Checked<D>, Unopened<D>>
     ensures found { IfOk result (λ c. (w : World) × (logged : ℕ) × IsFound (D.seen disk) w logged c.objects c.channels c.answer
-        × ((s : Sides) → D.seen disk ≡ Some s → D.crashes disk ≡ true → IsSafeFor D.left_since c.disk (opens w logged ∷ retired c.answer))) }
-    ensures generation { (s : Sides) → D.seen disk ≡ Some s → IfOk result (λ c. HasGeneration D.crashes D.seen D.images c.generation) }
+        × ((s : Sides) → D.seen disk ≡ Some s → D.crashes disk ≡ true → IsSafeFor D.images D.left_since c.disk (opens w logged ∷ retired c.answer))) }
+    ensures generation { (s : Sides) → D.seen disk ≡ Some s → IfOk result (λ c. c.answer ≡ Called.Ok → HasGeneration D.crashes D.seen D.images c.disk c.generation) }
     ensures damaged { (s : Sides) → D.seen disk ≡ Some s → IfErr result (λ u. (side : Side) (place : ℕ) → u.why ≡ fault_of.Damaged side place → Damaged s side place) }
     ensures later { IfOk result (λ c. D.faults disk ≤ D.faults c.disk) }
     ensures retire_cause { IfOk result (λ c. c.answer ≡ Called.LogFault → Rose (D.faults disk) (D.faults c.disk)) }

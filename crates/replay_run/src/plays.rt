@@ -121,7 +121,7 @@ fn one_turn<S: Source, K: Sink, D: Disk>(
     ensures goes { IfOk result (λ r. r.turn ≡ Turn.Next → (hall_of r.player.core).stopped ≡ false) }
     ensures failed { IfErr result (λ u. (deeds : List Deed) × (last : Hall) × ((told : Bool) → (l : TextLine) × IsFirstLine (S.left source.old) (S.left source.new) l × IsUndone told (halt_at u.why) used.old (played player) l deeds last)
         × (last.stopped ≡ true) × (K.held sink.new ≡ K.held sink.old)
-        × ((before : List Deed) → StandsBehind D.crashes D.seen D.images D.moment D.left_since D.faults player.core before → IsSafeFor D.left_since u.disk (before ++ deeds))) }
+        × ((before : List Deed) → StandsBehind D.crashes D.seen D.images D.moment D.left_since D.faults player.core before → IsSafeFor D.images D.left_since u.disk (before ++ deeds))) }
     ensures piece { IsOneLine (S.left source.old) (S.left source.new) }
     ensures most { used.new ≤ max_script }
     ensures some { IfOk result (λ r. r.turn ≡ Turn.Next → used.old + 1 ≤ used.new) }
@@ -169,7 +169,7 @@ fn play<S: Source, K: Sink, D: Disk>(source: &mut S, sink: &mut K, first: Player
     requires goes { (hall_of first.core).stopped ≡ false }
     ensures told { (told crashes : Bool) (seen : Option Sides) (past : List Deed) → (told ≡ true → Logs D.crashes D.seen D.images first.core)
         → ((s : Sides) → seen ≡ Some s → crashes ≡ true → StandsBehind D.crashes D.seen D.images D.moment D.left_since D.faults first.core past)
-        → OnPlay told (played first) (λ deeds. (s : Sides) → seen ≡ Some s → crashes ≡ true → IsSafeFor D.left_since result.disk (past ++ deeds)) result.end (S.left source.old) (S.left source.new) (K.held sink.old) (K.held sink.new) }
+        → OnPlay told (played first) (λ deeds. (s : Sides) → seen ≡ Some s → crashes ≡ true → IsSafeFor D.images D.left_since result.disk (past ++ deeds)) result.end (S.left source.old) (S.left source.new) (K.held sink.old) (K.held sink.new) }
     ensures source { S.faults source.old ≤ S.faults source.new }
     ensures sink { K.faults sink.old ≤ K.faults sink.new }
     ensures disk { D.faults (disk_of first.core) ≤ D.faults result.disk }
@@ -210,14 +210,15 @@ fn play<S: Source, K: Sink, D: Disk>(source: &mut S, sink: &mut K, first: Player
 ///
 /// Where the disk tells what it holds, the script begins with the world that this is recovered as, and a disk that is opened again has the
 /// world that was left. Where it tells crashes, too, the disk that is handed back is safe for all that was made: whatever a crash might
-/// have left since the opening is recovered as the world after a beginning of it, which holds all that was acknowledged by then.
+/// have left since the opening is recovered as the world after a beginning of it, which holds all that was acknowledged by then. Where the
+/// hall was retired well, as it was where the script is done, whatever a crash leaves is the world after all of it.
 pub fn replay<S: Source, K: Sink, D: Disk>(
     alloc: Global,
     source: &mut S,
     sink: &mut K,
     disk: D,
 ) -> Replayed<D>
-    ensures told { OnReplay (D.seen disk) (λ w logged deeds. (s : Sides) → D.seen disk ≡ Some s → D.crashes disk ≡ true → IsSafeFor D.left_since result.disk (opens w logged ∷ deeds))
+    ensures told { OnReplay (D.seen disk) (λ w logged deeds. (s : Sides) → D.seen disk ≡ Some s → D.crashes disk ≡ true → IsSafeFor D.images D.left_since result.disk (opens w logged ∷ deeds))
         result.end (S.left source.old) (S.left source.new) (K.held sink.old) (K.held sink.new) }
     ensures source { S.faults source.old ≤ S.faults source.new }
     ensures sink { K.faults sink.old ≤ K.faults sink.new }

@@ -61,7 +61,7 @@ impl<D: Disk> Player<D> {
             × StaysSafe D.crashes D.seen D.images D.moment D.left_since D.faults self.core p.core deeds) }
         ensures goes { IfOk result (λ p. (hall_of p.core).stopped ≡ false) }
         ensures failed { IfErr result (λ u. (deeds : List Deed) × (last : Hall) × ((told : Bool) → ReopenFails told (halt_at u.why) (played self) deeds last) × (last.stopped ≡ true)
-            × ((before : List Deed) → StandsBehind D.crashes D.seen D.images D.moment D.left_since D.faults self.core before → IsSafeFor D.left_since u.disk (before ++ deeds))) }
+            × ((before : List Deed) → StandsBehind D.crashes D.seen D.images D.moment D.left_since D.faults self.core before → IsSafeFor D.images D.left_since u.disk (before ++ deeds))) }
         ensures later { IfOk result (λ p. D.faults (disk_of self.core) ≤ D.faults (disk_of p.core)) }
         ensures left { IfErr result (λ u. D.faults (disk_of self.core) ≤ D.faults u.disk) }
         ensures cause { IfErr result (λ u. u.why ≡ fault_of.Disk → Rose (D.faults (disk_of self.core)) (D.faults u.disk)) }
@@ -99,7 +99,7 @@ impl<D: Disk> Player<D> {
     /// Retires the core, and gives its disk back.
     pub(crate) fn retire(self) -> (Called, D)
         ensures retired { Retires (hall_of self.core) result.0 }
-        ensures safe { (before : List Deed) → StandsBehind D.crashes D.seen D.images D.moment D.left_since D.faults self.core before → IsSafeFor D.left_since result.1 (before ++ retired result.0) }
+        ensures safe { (before : List Deed) → StandsBehind D.crashes D.seen D.images D.moment D.left_since D.faults self.core before → IsSafeFor D.images D.left_since result.1 (before ++ retired result.0) }
         ensures later { D.faults (disk_of self.core) ≤ D.faults result.1 }
         ensures cause { result.0 ≡ Called.LogFault → Rose (D.faults (disk_of self.core)) (D.faults result.1) }
     {

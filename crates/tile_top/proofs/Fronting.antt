@@ -1,17 +1,24 @@
 -- What becomes of a look at a disk and of serving on its world.
-use Rattle.std.proofs.Common.{◌≡◌, ◌≢◌, ◌⊎◌, ℕ, Bool, true, refl, sym, ap, ◌∙◌, subst, List, ◌++◌, length, inl, inr}
-use Rattle.std.specs.Prelude.{Option, None, Some, is_some, option_map, IfSome, Result, Ok, Err, IfOk, codes, decimal}
+use Rattle.std.proofs.Common.{◌≡◌, ◌≢◌, ◌⊎◌, ℕ, Bool, true, refl, sym, ap, ◌∙◌, subst, List, [], ◌∷◌, ◌++◌, length, inl, inr}
+use Rattle.std.specs.Prelude.{Option, None, Some, is_some, option_map, IfSome, Result, Ok, Err, IfOk, codes, decimal, map}
 use Rattle.byte_text.specs.Names.{Bytes}
+use Rattle.outside.specs.Crashes.{EachImage}
 use Rattle.outside.specs.Sides.{Sides}
 use Rattle.outside.specs.declared.sides.Side.{Side}
 use Rattle.world_data.specs.declared.worlds.World.{World}
-use Rattle.world_model.specs.Histories.{answer}
-use Rattle.world_model.specs.Seats.{Knows}
+use Rattle.world_model.specs.Halls.{Hall}
+use Rattle.world_model.specs.Histories.{answer, gives_disk, Reaches}
+use Rattle.world_model.specs.Seats.{Act, Adds, Knows, act_of}
 use Rattle.world_model.specs.declared.events.Called.{Called}
 use Rattle.world_model.specs.declared.events.Called.TheVariants as called
+use Rattle.world_model.specs.declared.events.Entry.{Entry}
+use Rattle.world_model.specs.declared.events.Event.TheVariants as event
+use Rattle.world_model.specs.declared.events.Outcome.{Outcome}
 use Rattle.journal.specs.declared.openings.OpenFault.{OpenFault}
 use Rattle.journal.specs.declared.openings.OpenFault.TheVariants as fault_of
 use Rattle.log_record.specs.Readings.{Damaged}
+use Rattle.log_record.specs.Recovery.{Recovers}
+use Rattle.log_record.specs.Safety.{Safe}
 use Rattle.serve_command.specs.Ends.{IsEnd, memory_line}
 use Rattle.serve_command.specs.Words.{Serve}
 use Rattle.serve_command.specs.Serves.{Serves, Counted}
@@ -21,7 +28,7 @@ use Rattle.replay_run.specs.Undone.{halt_at}
 use Rattle.replay_run.specs.declared.halts.Halt.{Halt}
 use Rattle.replay_run.specs.declared.halts.Halt.TheVariants as halted
 use Rattle.tile_top.specs.Tops.{check_line}
-use Rattle.tile_top.specs.Fronts.{Fronts, IsFirst, IsRetired}
+use Rattle.tile_top.specs.Fronts.{EndsBehind, Fronts, IsFirst, IsLeft, IsRetired, IsSettled}
 
 -- an opening does not find the log at its greatest length
 pub unspent_at : (why : OpenFault) (h : Halt) → h ≡ halt_at why → h ≢ halted.Spent
@@ -56,12 +63,71 @@ pub not_done : (a : Called) → (a ≡ called.Ok) ⊎ (a ≡ called.LogFault) �
 not_done a (inl e) n = absurd (n e)
 not_done a (inr e) n = e
 
+-- an answer, by the outcome that it is
+answered : (a b : Called) → answer a ≡ answer b → a ≡ b
+answered a b e = cc
+
 -- a retirement that was not done
-pub failed_at : {D : Type 0} (r : Option (D × Called)) (given : D × Called) → r ≡ Some given → (given.1 ≡ called.Ok → ⊥) → retire_outcome r ≢ answer called.Ok
-failed_at r given is not e = not (answered given.1 (sym (ap retire_outcome is) ∙ e))
+pub not_fine : (a : Called) → (a ≡ called.Ok → ⊥) → answer a ≢ answer called.Ok
+not_fine a not e = not (answered a called.Ok e)
+
+-- a status behind a retirement, told of how that ended
+pub behind_as : (retired told : Outcome) (before status : ℕ) (between held : Option Bytes) → retired ≡ told → EndsBehind told before status between held → EndsBehind retired before status between held
+behind_as retired told before status between held is e = subst (λ (o : Outcome). EndsBehind o before status between held) (sym is) e
+
+-- the last of some entries
+abbrev last_entry : Entry → List Entry → Entry
+last_entry e [] = e
+last_entry e (d ∷ entries) = last_entry d entries
+
+last_entry_is : (e last : Entry) (entries : List Entry) → last_entry e (entries ++ last ∷ []) ≡ last
+last_entry_is e last [] = refl
+last_entry_is e last (d ∷ entries) = last_entry_is d last entries
+
+-- an entry of this act alone
+one_entry : (entries : List Entry) (a : Act) → map act_of entries ≡ a ∷ [] → (e : Entry) × (entries ≡ e ∷ []) × (act_of e ≡ a)
+one_entry [] a is = absurd (cc)
+one_entry (e ∷ []) a is = (e, refl, cc)
+one_entry (e ∷ d ∷ entries) a is = absurd (cc)
+
+-- an entry that gave the disk out was answered Ok
+gave_out : (e : Entry) (a : Called) → act_of e ≡ (event.Retire, answer a) → gives_disk e ≡ true → a ≡ called.Ok
+gave_out e a is out = fine a (sym (ap (λ (x : Act). gives_disk (record e { event = x.0; outcome = x.1 })) is) ∙ out)
   where
-    answered : (a : Called) → answer a ≡ answer called.Ok → a ≡ called.Ok
-    answered a e = cc
+    fine : (a : Called) → gives_disk (record e { event = event.Retire; outcome = answer a }) ≡ true → a ≡ called.Ok
+    fine called.Ok out = refl
+    fine called.Full out = absurd (cc)
+    fine called.Gone out = absurd (cc)
+    fine called.LogFault out = absurd (cc)
+    fine called.Stopped out = absurd (cc)
+    fine called.Spent out = absurd (cc)
+    fine called.Memory out = absurd (cc)
+
+-- where the last entry of all is a retirement that was answered Ok, this one was
+retired_ok : (old new : Knows) (a : Called) → Adds event.Retire (answer a) old new → IsSettled new.seen → a ≡ called.Ok
+retired_ok old new a adds s =
+    let last = s.1 in
+    let one = one_entry adds.entries (event.Retire, answer a) adds.are in
+    let seen : new.seen ≡ (old.seen ++ adds.between) ++ one.0 ∷ [] = adds.seen ∙ ap (λ (es : List Entry). (old.seen ++ adds.between) ++ es) one.1 in
+    let same : one.0 ≡ last = sym (last_entry_is last one.0 (old.seen ++ adds.between)) ∙ ap (last_entry last) (sym seen ∙ s.2) ∙ last_entry_is last last s.0 in
+    gave_out one.0 a one.2 (ap gives_disk same ∙ s.3)
+
+-- a disk that was not given out was not retired well
+pub given_well : {D : Type 0} (old new : Knows) (r : Option (D × Called)) → r ≡ None → Adds event.Retire (retire_outcome r) old new → IsSettled new.seen → ⊥
+given_well old new None none adds s = let ok = retired_ok old new called.Stopped adds s in cc
+given_well old new (Some p) none adds s = cc
+
+-- the disk that a retirement gave
+pub given_left : {D : Type 0} (images : D → Sides → Type 0) (left_since : D → ℕ → Sides → Type 0) (old new : Knows) (r : Option (D × Called)) (given : D × Called) → r ≡ Some given → Adds event.Retire (retire_outcome r) old new
+    → IfSome r (λ p. Safe left_since p.0 new.opening new.seen)
+    → IfSome r (λ p. p.1 ≡ called.Ok → (h : Hall) → Reaches new.opening new.seen h → EachImage (images p.0) (λ image. Recovers image h.world)) → IsLeft images left_since given.0 new
+given_left images left_since old new None given is adds safe stands = absurd (cc)
+given_left {D} images left_since old new (Some p) given is adds safe stands =
+    let same : p ≡ given = cc in
+    subst (λ (x : D × Called). IsLeft images left_since x.0 new) same (record {
+      safe = safe;
+      settled = λ s. stands (retired_ok old new p.1 adds s);
+    })
 
 -- a relation, told of what is the same
 pub told_of : {A B : Type 0} (P : A → B → Type 0) (a a' : A) (b b' : B) → a ≡ a' → b ≡ b' → P a b → P a' b'

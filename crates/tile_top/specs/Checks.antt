@@ -25,8 +25,8 @@ pub record IsFound (seen : Option Sides) (HasGeneration : ℕ → Type 0) (Ends 
   pub logged : ℕ
   pub opens : Opens seen world logged
   pub generation : ℕ
-  pub counted : (s : Sides) → seen ≡ Some s → HasGeneration generation
   pub answered : Called
+  pub counted : (s : Sides) → seen ≡ Some s → answered ≡ called.Ok → HasGeneration generation
   pub ends : Ends world logged answered
   pub ended : ((answered ≡ called.Ok) × (IsEnd held0 held 0 (check_line world generation) status ⊎ IsEnd held0 held 7 memory_line status)) ⊎ ((answered ≡ called.LogFault) × IsEnd held0 held 5 disk_line status)
 

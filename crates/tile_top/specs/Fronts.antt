@@ -1,13 +1,18 @@
 -- What `serve` promises of the server's seat, the disk and the status.
-use Rattle.std.specs.Prelude.{◌≡◌, ◌≢◌, ◌⊎◌, ℕ, true, List, [], Option, None, Some}
+use Rattle.std.specs.Prelude.{◌≡◌, ◌≢◌, ◌⊎◌, ℕ, true, List, [], ◌∷◌, ◌++◌, Option, None, Some}
 use Rattle.byte_text.specs.Names.{Bytes}
+use Rattle.outside.specs.Crashes.{EachImage}
 use Rattle.outside.specs.Sides.{Sides}
 use Rattle.outside.specs.declared.sides.Side.{Side}
-use Rattle.world_model.specs.Histories.{answer}
+use Rattle.world_model.specs.Halls.{Hall}
+use Rattle.world_model.specs.Histories.{answer, gives_disk, Reaches}
 use Rattle.world_model.specs.Seats.{Knows, Adds}
 use Rattle.world_model.specs.declared.events.Called.TheVariants as called
+use Rattle.world_model.specs.declared.events.Entry.{Entry}
 use Rattle.world_model.specs.declared.events.Event.TheVariants as event
 use Rattle.world_model.specs.declared.events.Outcome.{Outcome}
+use Rattle.log_record.specs.Recovery.{Recovers}
+use Rattle.log_record.specs.Safety.{Safe}
 use Rattle.serve_command.specs.Ends.{IsEnd, disk_line, memory_line}
 use Rattle.serve_command.specs.Words.{Serve}
 use Rattle.serve_command.specs.Serves.{Serves, Counted}
@@ -31,12 +36,28 @@ pub record IsFirst (seen : Option Sides) (k : Knows) : Type 0 where
   pub unmade : k.mine ≡ []
   pub front : k.first ≡ true
 
--- A hall was retired behind all that a seat had seen, and a status. Where that was 0, and the log failed at the retirement, this is the
--- status, and its line was written.
+-- The status behind a retirement that ended so, and what was written. A status stays; but 0 stays only where the retirement was answered Ok,
+-- and is that of a disk fault where it was not, whose line was written.
+abbrev pub EndsBehind : Outcome → ℕ → ℕ → Option Bytes → Option Bytes → Type 0
+EndsBehind retired before status between held =
+    (((retired ≡ answer called.Ok) ⊎ (before ≢ 0)) × (status ≡ before) × (held ≡ between))
+    ⊎ ((before ≡ 0) × (retired ≢ answer called.Ok) × IsEnd between held 5 disk_line status)
+
+-- a hall was retired behind all that a seat had seen, and a status
 pub record IsRetired (served k : Knows) (between held : Option Bytes) (before status : ℕ) : Type 0 where
   pub retired : Outcome
   pub retires : Adds event.Retire retired served k
-  pub ended : ((status ≡ before) × (held ≡ between)) ⊎ ((before ≡ 0) × (retired ≢ answer called.Ok) × IsEnd between held 5 disk_line status)
+  pub ended : EndsBehind retired before status between held
+
+-- the last of these entries is a retirement that was answered Ok
+abbrev pub IsSettled : List Entry → Type 0
+IsSettled entries = (before : List Entry) × (last : Entry) × (entries ≡ before ++ last ∷ []) × (gives_disk last ≡ true)
+
+-- A disk that was given out is safe for all that a seat has seen. Where the last of that is a retirement that was answered Ok, whatever a
+-- crash leaves is the world of all of it.
+pub record IsLeft {D : Type 0} (images : D → Sides → Type 0) (left_since : D → ℕ → Sides → Type 0) (disk : D) (k : Knows) : Type 0 where
+  pub safe : Safe left_since disk k.opening k.seen
+  pub settled : IsSettled k.seen → (h : Hall) → Reaches k.opening k.seen h → EachImage (images disk) (λ image. Recovers image h.world)
 
 -- A shared hall of the disk's world was made, and callers were served up to an end; then it was retired. The server's seat has seen a
 -- legal history, and its own entries are those of the serving, and the retirement.

@@ -35,7 +35,7 @@ fn check_text(alloc: Global, objects: u64, channels: u64, generation: u64) -> Re
 
 /// Opens the world on a disk and retires it, and writes what it has.
 pub(crate) fn check_disk<K: Sink, D: Disk>(alloc: Global, sink: &mut K, disk: D) -> Scripted<D>
-    ensures told { Checks (D.seen disk) (HasGeneration D.crashes D.seen D.images) (λ w logged answered. (s : Sides) → D.seen disk ≡ Some s → D.crashes disk ≡ true → IsSafeFor D.left_since result.disk (opens w logged ∷ retired answered))
+    ensures told { Checks (D.seen disk) (HasGeneration D.crashes D.seen D.images result.disk) (λ w logged answered. (s : Sides) → D.seen disk ≡ Some s → D.crashes disk ≡ true → IsSafeFor D.images D.left_since result.disk (opens w logged ∷ retired answered))
         (K.held sink.old) (K.held sink.new) result.status }
     ensures sink { K.faults sink.old ≤ K.faults sink.new }
     ensures write { result.status ≡ 4 → Rose (K.faults sink.old) (K.faults sink.new) }

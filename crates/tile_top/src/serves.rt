@@ -4,13 +4,13 @@ ghost use Rattle.std.specs.Prelude.{◌≡◌, ◌≤◌, ◌⊎◌, ℕ, true, 
 ghost use Rattle.outside.specs.Causes.{Rose};
 ghost use Rattle.outside.specs.Sides.{Sides};
 ghost use Rattle.outside.specs.declared.sides.Side.{Side};
+ghost use Rattle.world_model.specs.declared.events.Outcome.TheVariants as outcome;
 ghost use Rattle.journal.specs.declared.openings.OpenFault.TheVariants as fault_of;
 ghost use Rattle.log_record.specs.Readings.{Damaged};
-ghost use Rattle.log_record.specs.Safety.{Safe};
 ghost use Rattle.serve_command.specs.Serves.{counted};
 ghost use Rattle.shared_hall.specs.Cores.{tells};
 ghost use Rattle.shared_hall.specs.Seats.{IsOf, handed_of, knows_of};
-ghost use Rattle.tile_top.specs.Fronts.{Fronts, IsFirst, IsRetired};
+ghost use Rattle.tile_top.specs.Fronts.{EndsBehind, Fronts, IsFirst, IsLeft, IsRetired, IsSettled};
 
 use crate::halt_ends::end_halt;
 use crate::tops::Ended;
@@ -50,6 +50,22 @@ fn open_hall<D: Disk + Drop>(
     }
 }
 
+// The status behind a retirement that was answered so: what was served well is not done where the log failed then.
+fn end_behind<K: Sink>(sink: &mut K, before: u8, answer: Called) -> u8
+    requires unread { before ≡ 3 → ⊥ }
+    ensures ended { EndsBehind (outcome.Answered answer) before result (K.held sink.old) (K.held sink.new) }
+    ensures sink { K.faults sink.old ≤ K.faults sink.new }
+    ensures write { result ≡ 4 → (before ≡ 4) ⊎ Rose (K.faults sink.old) (K.faults sink.new) }
+    ensures accept { result ≡ 8 → before ≡ 8 }
+    ensures unread { result ≡ 3 → ⊥ }
+{
+    match answer {
+        Called::Ok => before,
+        _ if before == 0 => end(sink, 5, DISK_FAULT),
+        _ => before,
+    }
+}
+
 // Retires a hall behind what was served, and ends.
 fn retire_hall<K: Sink, D: Disk + Drop, R: Wait>(
     rt: &R,
@@ -64,7 +80,8 @@ fn retire_hall<K: Sink, D: Disk + Drop, R: Wait>(
     ensures front { IfSome (option_map knows_of result.front) (λ k. IsRetired (knows_of seat) k (K.held sink.old) (K.held sink.new) before result.status) }
     ensures some { is_some result.front ≡ true }
     ensures safe { tells D.crashes D.seen (handed_of hall.now) ≡ true
-        → IfSome result.front (λ last. IfSome result.disk (λ d. Safe D.left_since d (knows_of last).opening (knows_of last).seen)) }
+        → IfSome result.front (λ last. IfSome result.disk (λ d. IsLeft D.images D.left_since d (knows_of last))) }
+    ensures given { IfSome result.front (λ last. IsSettled (knows_of last).seen → is_some result.disk ≡ true) }
     ensures sink { K.faults sink.old ≤ K.faults sink.new }
     ensures write { result.status ≡ 4 → (before ≡ 4) ⊎ Rose (K.faults sink.old) (K.faults sink.new) }
     ensures accept { result.status ≡ 8 → before ≡ 8 }
@@ -73,21 +90,14 @@ fn retire_hall<K: Sink, D: Disk + Drop, R: Wait>(
     let mut seat = seat;
     let given = hall.retire(rt, &mut seat);
     match given {
-        Some((disk, answer)) => {
-            let status = match answer {
-                Called::Ok => before,
-                _ if before == 0 => end(sink, 5, DISK_FAULT),
-                _ => before,
-            };
-            Ended {
-                status,
-                disk: Some(disk),
-                front: Some(seat),
-            }
-        }
+        Some((disk, answer)) => Ended {
+            status: end_behind(sink, before, answer),
+            disk: Some(disk),
+            front: Some(seat),
+        },
         // No other seat gives the disk out.
         None => Ended {
-            status: before,
+            status: end_behind(sink, before, Called::Stopped),
             disk: None,
             front: Some(seat),
         },
@@ -123,7 +133,8 @@ where
         (counted (P.jobs spawner.new) (P.faults spawner.new) (L.links door.new) (L.ends door.new) (L.faults door.new))
         (K.held sink.old) (K.held sink.new) result.status (option_map knows_of result.front) }
     ensures safe { tells D.crashes D.seen (handed_of hall) ≡ true
-        → IfSome result.front (λ last. IfSome result.disk (λ d. Safe D.left_since d (knows_of last).opening (knows_of last).seen)) }
+        → IfSome result.front (λ last. IfSome result.disk (λ d. IsLeft D.images D.left_since d (knows_of last))) }
+    ensures given { IfSome result.front (λ last. IsSettled (knows_of last).seen → is_some result.disk ≡ true) }
     ensures sink { K.faults sink.old ≤ K.faults sink.new }
     ensures door { L.faults door.old ≤ L.faults door.new }
     ensures write { result.status ≡ 4 → Rose (K.faults sink.old) (K.faults sink.new) }
@@ -174,7 +185,8 @@ where
         (counted (P.jobs spawner.new) (P.faults spawner.new) (L.links door.new) (L.ends door.new) (L.faults door.new))
         (K.held sink.old) (K.held sink.new) result.status (option_map knows_of result.front) }
     ensures safe { tells D.crashes D.seen disk ≡ true
-        → IfSome result.front (λ last. IfSome result.disk (λ d. Safe D.left_since d (knows_of last).opening (knows_of last).seen)) }
+        → IfSome result.front (λ last. IfSome result.disk (λ d. IsLeft D.images D.left_since d (knows_of last))) }
+    ensures given { IfSome result.front (λ last. IsSettled (knows_of last).seen → is_some result.disk ≡ true) }
     ensures sink { K.faults sink.old ≤ K.faults sink.new }
     ensures door { L.faults door.old ≤ L.faults door.new }
     ensures write { result.status ≡ 4 → Rose (K.faults sink.old) (K.faults sink.new) }

@@ -3,7 +3,6 @@
 ghost use Rattle.std.specs.Prelude.{◌≡◌, ◌⊎◌, ◌↔◌, ◌≤◌, ◌∷◌, [], None, Some, true, is_some, IfSome, IsTrue, map, option_map, string_bytes};
 ghost use Rattle.outside.specs.Causes.{Rose};
 ghost use Rattle.outside.specs.Sides.{Sides};
-ghost use Rattle.log_record.specs.Safety.{Safe};
 ghost use Rattle.serve_command.specs.Ends.{IsEnd, memory_line};
 ghost use Rattle.serve_command.specs.Words.{serve_of};
 ghost use Rattle.serve_command.specs.Serves.{counted};
@@ -17,7 +16,7 @@ ghost use Rattle.shared_hall.specs.Cores.{tells};
 ghost use Rattle.shared_hall.specs.Seats.{knows_of};
 ghost use Rattle.tile_top.specs.Tops.{IsReplay, IsCheck, Replays, usage_line};
 ghost use Rattle.tile_top.specs.Checks.{Checks};
-ghost use Rattle.tile_top.specs.Fronts.{Fronts};
+ghost use Rattle.tile_top.specs.Fronts.{Fronts, IsLeft, IsSettled};
 
 use crate::checks::check_disk;
 use crate::loads::load_core;
@@ -111,9 +110,11 @@ pub fn out_of_memory<K: Sink, D: Disk + Drop>(sink: &mut K) -> Ended<D>
 /// Where the disk tells what it holds and what a crash may leave, all events that the script made are a run of legal histories, one for
 /// each opening, with their outcomes, and the disk that is handed back is safe for it: whatever a crash might have left since the first
 /// opening, at each moment of it, is recovered as the world after a beginning of the run, which holds all that was acknowledged by then,
-/// that is all before the last frame that was given.
+/// that is all before the last frame that was given. Where the hall's retirement was answered Ok, as at status 0, whatever a crash leaves of
+/// the disk is the world after the whole run.
 ///
-/// With `check`. Status 0: the line of the disk's world was written, and the disk handed back is safe for that world.
+/// With `check`. Status 0: the line of the disk's world was written, with the generation of the log that stands on the disk handed back,
+/// and that disk is safe for that world.
 ///
 /// With `serve`. All entries that the server's seat has seen are a legal history that opens with the disk's world, and its own are those
 /// of whole groups, one for each look for a caller: a tick, a rewriting, and for a caller who came the entering of a session, and its
@@ -122,7 +123,8 @@ pub fn out_of_memory<K: Sink, D: Disk + Drop>(sink: &mut K) -> Ended<D>
 /// and `starved M` where sessions were removed for want of memory. Status 8 comes only where the door has failed, 5 where a tick or
 /// rewriting found the hall stopped, or the log failed at the retirement, 9 where one found the machine's log at its greatest length, 7
 /// where memory wanted, 4 where the sink failed. Where the disk tells what it holds and what a crash may leave, the disk that is handed
-/// back is safe for all that the seat has seen.
+/// back is safe for all that the seat has seen. Where the retirement was answered Ok, as at status 0, it is handed back, and whatever a crash
+/// leaves of it is the world of all of that.
 ///
 /// With `load`. Status 0: the bytes written are the four lines that N and SEED determine: what the sessions of the workload are given
 /// by the steps of a machine that begins with the empty world, and the number of objects in the end. At 7, which stands for want of
@@ -149,16 +151,17 @@ pub fn top<
 where
     L::In: Send + Drop + 'static,
     L::Out: Send + Drop + 'static,
-    ensures replay { IsReplay (map string_bytes words.now) → Replays (D.seen disk) (λ w logged deeds. (s : Sides) → D.seen disk ≡ Some s → D.crashes disk ≡ true → IfSome result.disk (λ d. IsSafeFor D.left_since d (opens w logged ∷ deeds)))
+    ensures replay { IsReplay (map string_bytes words.now) → Replays (D.seen disk) (λ w logged deeds. (s : Sides) → D.seen disk ≡ Some s → D.crashes disk ≡ true → IfSome result.disk (λ d. IsSafeFor D.images D.left_since d (opens w logged ∷ deeds)))
         (S.left source.old) (S.left source.new) (K.held sink.old) (K.held sink.new) result.status }
-    ensures check { IsCheck (map string_bytes words.now) → Checks (D.seen disk) (HasGeneration D.crashes D.seen D.images) (λ w logged answered. (s : Sides) → D.seen disk ≡ Some s → D.crashes disk ≡ true → IfSome result.disk (λ d. IsSafeFor D.left_since d (opens w logged ∷ retired answered)))
+    ensures check { IsCheck (map string_bytes words.now) → Checks (D.seen disk) (λ n. IfSome result.disk (λ d. HasGeneration D.crashes D.seen D.images d n)) (λ w logged answered. (s : Sides) → D.seen disk ≡ Some s → D.crashes disk ≡ true → IfSome result.disk (λ d. IsSafeFor D.images D.left_since d (opens w logged ∷ retired answered)))
         (K.held sink.old) (K.held sink.new) result.status }
     ensures serve { IfSome (serve_of (map string_bytes words.now)) (λ s. Fronts (D.seen disk) (C.told clock.now) s
         (counted (P.jobs spawner.old) (P.faults spawner.old) (L.links door.old) (L.ends door.old) (L.faults door.old))
         (counted (P.jobs spawner.new) (P.faults spawner.new) (L.links door.new) (L.ends door.new) (L.faults door.new))
         (K.held sink.old) (K.held sink.new) result.status (option_map knows_of result.front)) }
     ensures safe { tells D.crashes D.seen disk ≡ true
-        → IfSome result.front (λ last. IfSome result.disk (λ d. Safe D.left_since d (knows_of last).opening (knows_of last).seen)) }
+        → IfSome result.front (λ last. IfSome result.disk (λ d. IsLeft D.images D.left_since d (knows_of last))) }
+    ensures given { IfSome result.front (λ last. IsSettled (knows_of last).seen → is_some result.disk ≡ true) }
     ensures load { IfSome (load_of (map string_bytes words.now)) (λ w. Loads w (K.held sink.old) (K.held sink.new) result.status) }
     ensures usage { (IsReplay (map string_bytes words.now) → ⊥) → (IsCheck (map string_bytes words.now) → ⊥) → serve_of (map string_bytes words.now) ≡ None → load_of (map string_bytes words.now) ≡ None
         → IsEnd (K.held sink.old) (K.held sink.new) 1 usage_line result.status }

@@ -78,13 +78,13 @@ returns-in_default g c =
     let disk_last : g.D.Disk.faults (disk_of c.in-Ok.turned.player.core) ≤ g.D.Disk.faults disk = c.retire-answer.ensures.later in
     record {
       told = λ told crashes seen past logs stands.
-          let ends : (s : Sides) → seen ≡ Some s → crashes ≡ true → IsSafeFor g.D.Disk.left_since disk (past ++ ((i.going.0 ++ t.0) ++ retired answered)) = λ s is crash.
+          let ends : (s : Sides) → seen ≡ Some s → crashes ≡ true → IsSafeFor g.D.Disk.images g.D.Disk.left_since disk (past ++ ((i.going.0 ++ t.0) ++ retired answered)) = λ s is crash.
           let all = (stays_more g.D.Disk.crashes g.D.Disk.seen g.D.Disk.images g.D.Disk.moment g.D.Disk.left_since g.D.Disk.faults c.args.first.core c.loop-turned.player.core c.in-Ok.turned.player.core i.going.0 t.0 i.going.2 t.2).stands past (stands s is crash) in
-          subst (λ (z : List Deed). IsSafeFor g.D.Disk.left_since disk z) (append_assoc past (i.going.0 ++ t.0) (retired answered)) (c.retire-answer.ensures.safe (past ++ (i.going.0 ++ t.0)) all) in
-          let plays = ends_play told (played c.args.first) (λ deeds. (s : Sides) → seen ≡ Some s → crashes ≡ true → IsSafeFor g.D.Disk.left_since disk (past ++ deeds))
+          subst (λ (z : List Deed). IsSafeFor g.D.Disk.images g.D.Disk.left_since disk z) (append_assoc past (i.going.0 ++ t.0) (retired answered)) (c.retire-answer.ensures.safe (past ++ (i.going.0 ++ t.0)) all) in
+          let plays = ends_play told (played c.args.first) (λ deeds. (s : Sides) → seen ≡ Some s → crashes ≡ true → IsSafeFor g.D.Disk.images g.D.Disk.left_since disk (past ++ deeds))
           (g.S.Source.left c.args.source.now) (g.S.Source.left c.loop-turned.source) (g.S.Source.left c.one_turn.new.source) (g.K.Sink.held c.args.sink.now) (g.K.Sink.held c.loop-turned.sink) (g.K.Sink.held c.one_turn.new.sink)
           c.loop-turned.number c.loop-turned.used c.one_turn.new.used (played c.loop-turned.player) (played c.in-Ok.turned.player) i.going.0 t.0 (i.going.1 told logs) turn answered (t.1 told (λ is. i.going.2.logs (logs is))) e.piece c.in_default.not-Next e.done i.goes c.retire-answer.ensures.retired ends in
-          subst (λ (z : ReplayEnd). OnPlay told (played c.args.first) (λ deeds. (s : Sides) → seen ≡ Some s → crashes ≡ true → IsSafeFor g.D.Disk.left_since disk (past ++ deeds)) z (g.S.Source.left c.args.source.now) (g.S.Source.left c.one_turn.new.source) (g.K.Sink.held c.args.sink.now) (g.K.Sink.held c.one_turn.new.sink)) (sym c.end_of-end.ensures) plays;
+          subst (λ (z : ReplayEnd). OnPlay told (played c.args.first) (λ deeds. (s : Sides) → seen ≡ Some s → crashes ≡ true → IsSafeFor g.D.Disk.images g.D.Disk.left_since disk (past ++ deeds)) z (g.S.Source.left c.args.source.now) (g.S.Source.left c.one_turn.new.source) (g.K.Sink.held c.args.sink.now) (g.K.Sink.held c.one_turn.new.sink)) (sym c.end_of-end.ensures) plays;
       source = omega (arith, source_before, source_now);
       sink = omega (arith, sink_before, sink_now);
       disk = omega (arith, disk_before, disk_now, disk_last);
@@ -110,12 +110,12 @@ returns-in-Err-clause-told g c told crashes seen past logs stands =
     let i = c.loop-turned.invariant in
     let f = c.in-Err.ensures.failed in
     let disk = c.in-Err.unopened.disk in
-    let ends : (s : Sides) → seen ≡ Some s → crashes ≡ true → IsSafeFor g.D.Disk.left_since disk (past ++ (i.going.0 ++ f.0)) = λ s is crash.
-    subst (λ (z : List Deed). IsSafeFor g.D.Disk.left_since disk z) (append_assoc past i.going.0 f.0) (f.5 (past ++ i.going.0) (i.going.2.stands past (stands s is crash))) in
-    let cut = ends_unopened told (played c.args.first) (λ deeds. (s : Sides) → seen ≡ Some s → crashes ≡ true → IsSafeFor g.D.Disk.left_since disk (past ++ deeds))
+    let ends : (s : Sides) → seen ≡ Some s → crashes ≡ true → IsSafeFor g.D.Disk.images g.D.Disk.left_since disk (past ++ (i.going.0 ++ f.0)) = λ s is crash.
+    subst (λ (z : List Deed). IsSafeFor g.D.Disk.images g.D.Disk.left_since disk z) (append_assoc past i.going.0 f.0) (f.5 (past ++ i.going.0) (i.going.2.stands past (stands s is crash))) in
+    let cut = ends_unopened told (played c.args.first) (λ deeds. (s : Sides) → seen ≡ Some s → crashes ≡ true → IsSafeFor g.D.Disk.images g.D.Disk.left_since disk (past ++ deeds))
     (g.S.Source.left c.args.source.now) (g.S.Source.left c.loop-turned.source) (g.S.Source.left c.one_turn.new.source) (g.K.Sink.held c.args.sink.now) (g.K.Sink.held c.loop-turned.sink) (g.K.Sink.held c.one_turn.new.sink)
     c.loop-turned.number c.loop-turned.used c.one_turn.new.used (played c.loop-turned.player) (played c.loop-turned.player) i.going.0 f.0 (i.going.1 told logs) (halt_at c.in-Err.unopened.why) f.1 f.4 (f.2 told) f.3 ends in
-    subst (λ z. IsCut told (played c.args.first) (λ deeds. (s : Sides) → seen ≡ Some s → crashes ≡ true → IsSafeFor g.D.Disk.left_since disk (past ++ deeds)) (g.S.Source.left c.args.source.now) (g.S.Source.left c.one_turn.new.source) (g.K.Sink.held c.args.sink.now) (g.K.Sink.held c.one_turn.new.sink) z []) (sym c.halt_of.ensures) cut
+    subst (λ z. IsCut told (played c.args.first) (λ deeds. (s : Sides) → seen ≡ Some s → crashes ≡ true → IsSafeFor g.D.Disk.images g.D.Disk.left_since disk (past ++ deeds)) (g.S.Source.left c.args.source.now) (g.S.Source.left c.one_turn.new.source) (g.K.Sink.held c.args.sink.now) (g.K.Sink.held c.one_turn.new.sink) z []) (sym c.halt_of.ensures) cut
 
 pub returns-in-Err-clause-disk : goal.returns-in-Err-clause-disk
 returns-in-Err-clause-disk g c =

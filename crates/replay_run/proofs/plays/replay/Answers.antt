@@ -29,7 +29,7 @@ returns-in-Ok-clause-told g c =
       h.world,
       h.logged,
       e.opened,
-      subst (λ (p : Played). OnPlay (is_some seen) p (λ deeds. (s : Sides) → seen ≡ Some s → crashes ≡ true → IsSafeFor g.D.Disk.left_since c.play.result.disk (opens h.world h.logged ∷ deeds)) c.play.result.end (g.S.Source.left c.args.source.now) (g.S.Source.left c.play.new.source) (g.K.Sink.held c.args.sink.now) (g.K.Sink.held c.play.new.sink)) e.first plays,
+      subst (λ (p : Played). OnPlay (is_some seen) p (λ deeds. (s : Sides) → seen ≡ Some s → crashes ≡ true → IsSafeFor g.D.Disk.images g.D.Disk.left_since c.play.result.disk (opens h.world h.logged ∷ deeds)) c.play.result.end (g.S.Source.left c.args.source.now) (g.S.Source.left c.play.new.source) (g.K.Sink.held c.args.sink.now) (g.K.Sink.held c.play.new.sink)) e.first plays,
     )
 
 pub returns-in-Ok-clause-disk_cause : goal.returns-in-Ok-clause-disk_cause
@@ -39,4 +39,4 @@ returns-in-Ok-clause-disk_cause g c is = by_end is
     by_end (inl cut) = rose_before (g.D.Disk.faults c.args.disk) (g.D.Disk.faults (disk_of c.in-Ok.player.core)) (g.D.Disk.faults c.play.result.disk) c.in-Ok.ensures.later (c.play.ensures.disk_cause cut)
     by_end (inr shut) =
         let plays = c.play.ensures.told false false None [] (λ e. absurd (cc)) (λ s e. absurd (cc)) in
-        absurd (subst (λ (z : ReplayEnd). OnPlay false (played c.in-Ok.player) (λ deeds. (s : Sides) → None ≡ Some s → false ≡ true → IsSafeFor g.D.Disk.left_since c.play.result.disk ([] ++ deeds)) z (g.S.Source.left c.args.source.now) (g.S.Source.left c.play.new.source) (g.K.Sink.held c.args.sink.now) (g.K.Sink.held c.play.new.sink)) shut plays)
+        absurd (subst (λ (z : ReplayEnd). OnPlay false (played c.in-Ok.player) (λ deeds. (s : Sides) → None ≡ Some s → false ≡ true → IsSafeFor g.D.Disk.images g.D.Disk.left_since c.play.result.disk ([] ++ deeds)) z (g.S.Source.left c.args.source.now) (g.S.Source.left c.play.new.source) (g.K.Sink.held c.args.sink.now) (g.K.Sink.held c.play.new.sink)) shut plays)

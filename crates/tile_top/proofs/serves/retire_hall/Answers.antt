@@ -1,16 +1,27 @@
-use Rattle.std.proofs.Common.{inl, inr, refl, sym, ap}
+use Rattle.std.proofs.Common.{ap}
 use Rattle.shared_hall.specs.Turns.{retire_outcome}
-use Rattle.tile_top.proofs.Fronting.{end_as, failed_at}
+use Rattle.shared_hall.specs.Seats.{knows_of}
+use Rattle.tile_top.proofs.Fronting.{behind_as, given_left, given_well}
 use Rattle.tile_top.proofs.serves.retire_hall.Goals as goal
-use Rattle.tile_top.proofs.serves.retire_hall.Goals.{in-Ok, in_default, in_default-2}
 
-pub returns-after-answer-clause-front : goal.returns-after-answer-clause-front
-returns-after-answer-clause-front g c = record {
+pub returns-in-Some-clause-front : goal.returns-in-Some-clause-front
+returns-in-Some-clause-front g c = record {
   retired = retire_outcome c.retire-given.result;
   retires = c.retire-given.ensures.entry;
-  ended = elim c.match-answer.branch [
-    | in-Ok w ↦ inl (w.status-is, ap g.K.Sink.held w.sink-is)
-    | in_default w ↦ inr (w.if-before-eq0.true, failed_at c.retire-given.result (c.in-Some.disk, c.in-Some.answer) c.in-Some.is w.in_default.not-Ok, end_as _ _ _ _ _ _ _ _ (ap g.K.Sink.held (sym w.sink-is)) refl (sym w.status-is) w.end-status.ensures.told)
-    | in_default-2 w ↦ inl (w.status-is, ap g.K.Sink.held w.sink-is)
-  ];
+  ended = behind_as _ _ _ _ _ _ (ap retire_outcome c.in-Some.is) c.end_behind.ensures.ended;
 }
+
+pub returns-in-Some-clause-safe : goal.returns-in-Some-clause-safe
+returns-in-Some-clause-safe g c told =
+    let r = c.retire-given.ensures in
+    given_left g.D.Disk.images g.D.Disk.left_since (knows_of c.args.seat) (knows_of c.retire-given.new.seat) c.retire-given.result (c.in-Some.disk, c.in-Some.answer) c.in-Some.is r.entry (r.safe told) (r.stands told)
+
+pub returns-in-None-clause-front : goal.returns-in-None-clause-front
+returns-in-None-clause-front g c = record {
+  retired = retire_outcome c.retire-given.result;
+  retires = c.retire-given.ensures.entry;
+  ended = behind_as _ _ _ _ _ _ (ap retire_outcome c.in-None.is) c.end_behind-in-None.ensures.ended;
+}
+
+pub returns-in-None-clause-given : goal.returns-in-None-clause-given
+returns-in-None-clause-given g c settled = absurd (given_well (knows_of c.args.seat) (knows_of c.retire-given.new.seat) c.retire-given.result c.in-None.is c.retire-given.ensures.entry settled)

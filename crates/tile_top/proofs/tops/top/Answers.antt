@@ -13,9 +13,9 @@ returns-in-None-clause-replay g c asked =
     let seen = g.D.Disk.seen c.args.disk in
     let p = c.replay_script-scripted in
     let w = c.without_hall in
-    subst (λ (o : Option g.row.D.Denot). Replays seen (λ world logged deeds. (s : Sides) → seen ≡ Some s → g.D.Disk.crashes c.args.disk ≡ true → IfSome o (λ d. IsSafeFor g.D.Disk.left_since d (opens world logged ∷ deeds)))
+    subst (λ (o : Option g.row.D.Denot). Replays seen (λ world logged deeds. (s : Sides) → seen ≡ Some s → g.D.Disk.crashes c.args.disk ≡ true → IfSome o (λ d. IsSafeFor g.D.Disk.images g.D.Disk.left_since d (opens world logged ∷ deeds)))
     (g.S.Source.left c.args.source.now) (g.S.Source.left p.new.source) (g.K.Sink.held c.args.sink.now) (g.K.Sink.held p.new.sink) w.result.status) (sym w.ensures.disk)
-    (subst (λ (n : ℕ). Replays seen (λ world logged deeds. (s : Sides) → seen ≡ Some s → g.D.Disk.crashes c.args.disk ≡ true → IsSafeFor g.D.Disk.left_since p.result.disk (opens world logged ∷ deeds))
+    (subst (λ (n : ℕ). Replays seen (λ world logged deeds. (s : Sides) → seen ≡ Some s → g.D.Disk.crashes c.args.disk ≡ true → IsSafeFor g.D.Disk.images g.D.Disk.left_since p.result.disk (opens world logged ∷ deeds))
     (g.S.Source.left c.args.source.now) (g.S.Source.left p.new.source) (g.K.Sink.held c.args.sink.now) (g.K.Sink.held p.new.sink) n) (sym w.ensures.status) p.ensures.told)
 
 pub returns-in-None-2-clause-check : goal.returns-in-None-2-clause-check
@@ -23,7 +23,7 @@ returns-in-None-2-clause-check g c asked =
     let seen = g.D.Disk.seen c.args.disk in
     let p = c.check_disk-scripted in
     let w = c.without_hall-in-None-2 in
-    subst (λ (o : Option g.row.D.Denot). Checks seen (HasGeneration g.D.Disk.crashes g.D.Disk.seen g.D.Disk.images) (λ world logged answered. (s : Sides) → seen ≡ Some s → g.D.Disk.crashes c.args.disk ≡ true → IfSome o (λ d. IsSafeFor g.D.Disk.left_since d (opens world logged ∷ retired answered)))
+    subst (λ (o : Option g.row.D.Denot). Checks seen (λ m. IfSome o (λ d. HasGeneration g.D.Disk.crashes g.D.Disk.seen g.D.Disk.images d m)) (λ world logged answered. (s : Sides) → seen ≡ Some s → g.D.Disk.crashes c.args.disk ≡ true → IfSome o (λ d. IsSafeFor g.D.Disk.images g.D.Disk.left_since d (opens world logged ∷ retired answered)))
     (g.K.Sink.held c.args.sink.now) (g.K.Sink.held p.new.sink) w.result.status) (sym w.ensures.disk)
-    (subst (λ (n : ℕ). Checks seen (HasGeneration g.D.Disk.crashes g.D.Disk.seen g.D.Disk.images) (λ world logged answered. (s : Sides) → seen ≡ Some s → g.D.Disk.crashes c.args.disk ≡ true → IsSafeFor g.D.Disk.left_since p.result.disk (opens world logged ∷ retired answered))
+    (subst (λ (n : ℕ). Checks seen (HasGeneration g.D.Disk.crashes g.D.Disk.seen g.D.Disk.images p.result.disk) (λ world logged answered. (s : Sides) → seen ≡ Some s → g.D.Disk.crashes c.args.disk ≡ true → IsSafeFor g.D.Disk.images g.D.Disk.left_since p.result.disk (opens world logged ∷ retired answered))
     (g.K.Sink.held c.args.sink.now) (g.K.Sink.held p.new.sink) n) (sym w.ensures.status) p.ensures.told)

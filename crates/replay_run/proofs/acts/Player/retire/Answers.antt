@@ -8,5 +8,5 @@ use Rattle.replay_run.proofs.acts.Player.retire.Goals as goal
 pub returns-clause-safe : goal.returns-clause-safe
 returns-clause-safe g c before s =
     let e = c.retire-answer.ensures in
-    subst (λ d. IsSafeFor g.D.Disk.left_since d (before ++ retired c.retire-answer.result)) (sym c.into_disk.ensures)
+    subst (λ d. IsSafeFor g.D.Disk.images g.D.Disk.left_since d (before ++ retired c.retire-answer.result)) (sym c.into_disk.ensures)
     (retires_safe g.D.Disk.crashes g.D.Disk.seen g.D.Disk.images g.D.Disk.moment g.D.Disk.left_since g.D.Disk.faults (λ d. record { counts_now = g.met.D.Disk.counts_now d; only_now = g.met.D.Disk.only_now d }) c.args.self.core c.retire-answer.new.self c.retire-answer.result before s e.step e.later (λ f. e.cause (called_failed c.retire-answer.result f)) e.log)
