@@ -26,8 +26,6 @@ use Rattle.durable_core.specs.declared.rewritings.Rewriting.TheVariants as rewri
 use Rattle.durable_core.specs.declared.rewritings.LastCopied.{LastCopied}
 use Rattle.durable_core.specs.declared.rewritings.LastCopied.TheVariants as last
 use Rattle.durable_core.specs.Rewriting.{Item, of_channel, of_object, change_of, changes_of, is_channel_left, is_object_left, items_left, last_of, last_behind, IsCopiedTo, IsCopyWhile, asked_for, rewriting_after}
-use Rattle.durable_core.specs.Words.{asks_rewriting}
-use Rattle.world_model.specs.declared.events.Asked.{Asked}
 use Rattle.world_model.specs.declared.events.Called.{Called}
 use Rattle.world_model.specs.declared.events.Called.TheVariants as called
 
@@ -321,16 +319,16 @@ asked_copies generation rewriting.Idle copied batches copies = by (nat_lt genera
 asked_copies generation rewriting.Asked copied batches copies = copies
 asked_copies generation (rewriting.Going last) copied batches copies = copies
 
-pub copies_asked : (answer : Called) (request : Asked) (generation : ℕ) (r : Rewriting) (copied batches : List Bytes) → IsCopyWhile r copied batches
-    → IsCopyWhile (rewriting_after answer request generation r) copied batches
-copies_asked called.Ok request generation r copied batches copies = by (asks_rewriting request)
+pub copies_asked : (answer : Called) (asks : Bool) (generation : ℕ) (r : Rewriting) (copied batches : List Bytes) → IsCopyWhile r copied batches
+    → IsCopyWhile (rewriting_after answer asks generation r) copied batches
+copies_asked called.Ok asks generation r copied batches copies = by asks
   where
     by : (b : Bool) → IsCopyWhile (if b then asked_for generation r else r) copied batches
     by true = asked_copies generation r copied batches copies
     by false = copies
-copies_asked called.Full request generation r copied batches copies = copies
-copies_asked called.Gone request generation r copied batches copies = copies
-copies_asked called.LogFault request generation r copied batches copies = copies
-copies_asked called.Stopped request generation r copied batches copies = copies
-copies_asked called.Spent request generation r copied batches copies = copies
-copies_asked called.Memory request generation r copied batches copies = copies
+copies_asked called.Full asks generation r copied batches copies = copies
+copies_asked called.Gone asks generation r copied batches copies = copies
+copies_asked called.LogFault asks generation r copied batches copies = copies
+copies_asked called.Stopped asks generation r copied batches copies = copies
+copies_asked called.Spent asks generation r copied batches copies = copies
+copies_asked called.Memory asks generation r copied batches copies = copies

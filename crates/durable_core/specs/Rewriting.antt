@@ -6,13 +6,11 @@ use Rattle.world_data.specs.declared.objects.Object.{Object}
 use Rattle.world_data.specs.declared.worlds.Change.{Change}
 use Rattle.world_data.specs.declared.worlds.Change.TheVariants.{Put, SetChan}
 use Rattle.world_data.specs.declared.worlds.World.{World}
-use Rattle.world_model.specs.declared.events.Asked.{Asked}
 use Rattle.world_model.specs.declared.events.Called.{Called}
 use Rattle.world_model.specs.declared.events.Called.TheVariants as called
 use Rattle.journal.specs.Openings.{AreWhole}
 use Rattle.log_record.specs.Copying.{IsPart}
 use Rattle.log_worlds.specs.Recorded.{record_fault, world_in}
-use Rattle.durable_core.specs.Words.{asks_rewriting}
 use Rattle.next_items.specs.Copies.{is_behind, is_behind_name}
 use Rattle.durable_core.specs.declared.rewritings.LastCopied.{LastCopied}
 use Rattle.durable_core.specs.declared.rewritings.LastCopied.TheVariants as last
@@ -108,10 +106,10 @@ asked_for generation rewriting.Idle = if nat_lt generation (2 ^ 63) then rewriti
 asked_for generation rewriting.Asked = rewriting.Asked
 asked_for generation (rewriting.Going last) = rewriting.Going last
 
--- a call that was done with these words asks for one
-abbrev pub rewriting_after : Called → Asked → ℕ → Rewriting → Rewriting
-rewriting_after called.Ok request generation r = if asks_rewriting request then asked_for generation r else r
-rewriting_after answer request generation r = r
+-- behind a call that asks for one, where it was done
+abbrev pub rewriting_after : Called → Bool → ℕ → Rewriting → Rewriting
+rewriting_after called.Ok asks generation r = if asks then asked_for generation r else r
+rewriting_after answer asks generation r = r
 
 abbrev pub is_asked : Rewriting → Bool
 is_asked rewriting.Idle = false

@@ -6,7 +6,7 @@ ghost use Rattle.outside.specs.Sides.{Sides};
 ghost use Rattle.world_data.specs.Limits.{max_moment, take_frames};
 ghost use Rattle.world_model.specs.Histories.{Step};
 ghost use Rattle.world_model.specs.Outcomes.{enter_outcome, take_outcome, given_count, is_proper};
-ghost use Rattle.world_model.specs.Halls.{NamesChanged};
+ghost use Rattle.world_model.specs.Halls.{NamesChanged, session_of};
 ghost use Rattle.world_model.specs.declared.events.Event.TheVariants as event;
 ghost use Rattle.world_model.specs.declared.events.Outcome.TheVariants as outcome;
 ghost use Rattle.journal.specs.Journals.{pending};
@@ -16,9 +16,11 @@ ghost use Rattle.log_record.specs.Journals.{Journal as Log};
 ghost use Rattle.log_record.specs.Recovery.{Recovers};
 ghost use Rattle.durable_core.specs.Written.{IsMirrored, KeepsSided, Sided, sided_next, sided_with};
 ghost use Rattle.durable_core.specs.Rewriting.{is_ending, next_shown, rewriting_after};
+ghost use Rattle.durable_core.specs.Words.{is_served_rewriting};
 ghost use Rattle.tile_core.specs.Answered.{MayCall, IsAnswered, AreSessions, StayNamed};
 ghost use Rattle.tile_core.specs.CoreStates.{most_kept};
 
+use crate::rewritings::asks_rewriting;
 use crate::tails::{PENDING, Tail};
 use outside::{Disk, Failed};
 use std::alloc::Global;
@@ -124,6 +126,13 @@ impl<D: Disk> DurableCore<D> {
         }
     }
 
+    // Whether a session asks for a rewriting that it is served: one with subscriptions is refused it.
+    fn serves_rewriting(&self, session: u32, asked: &Asked) -> bool
+        ensures { result ≡ is_served_rewriting (session_of (hall_of self.now) session) asked.now }
+    {
+        asks_rewriting(asked) && !self.core.has_subscriptions(session)
+    }
+
     /// Makes a call of a session at a moment: the objects that are due then are deleted, what is asked is done, and its reply
     /// is put last in the session's queue; each session that listens is told of what changed. A session whose queue has no room for what
     /// comes for it is cut: it keeps the frames that it has, and is served no more. A broken protocol, as QUIT, lets the session end
@@ -152,7 +161,8 @@ impl<D: Disk> DurableCore<D> {
         ensures cause { result ≡ Called.LogFault → Rose (D.faults (disk_of self.old)) (D.faults (disk_of self.new)) }
         ensures later { D.faults (disk_of self.old) ≤ D.faults (disk_of self.new) }
         ensures told { D.crashes (disk_of self.new) ≡ D.crashes (disk_of self.old) }
-        ensures rewriting { self.new.tail.rewriting ≡ rewriting_after result asked.now (generation_of self.old) self.old.tail.rewriting }
+        ensures rewriting { self.new.tail.rewriting
+            ≡ rewriting_after result (is_served_rewriting (session_of (hall_of self.old) session) asked.now) (generation_of self.old) self.old.tail.rewriting }
         ensures generation { generation_of self.new ≡ generation_of self.old }
         ensures written { (hall_of self.new).stopped ≡ false → IsMirrored D.crashes D.seen D.images self.old.tail.journal self.new.tail.journal }
         ensures log { (j : Log) → KeepsLogOf D.crashes D.seen D.images self.old j
@@ -161,12 +171,13 @@ impl<D: Disk> DurableCore<D> {
         if self.is_stopped() {
             return Called::Stopped;
         }
+        let rewrites = self.serves_rewriting(session, asked);
         match self.tail.commit_long(self.core.may_call(session)) {
             Ok(()) => {
                 let called = self
                     .core
                     .call(session, moment, asked, touched, &mut self.tail);
-                self.tail.note(called, asked);
+                self.tail.note(called, rewrites);
                 called
             }
             Err(Failed) => {

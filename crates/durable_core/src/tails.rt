@@ -8,12 +8,12 @@ ghost use Rattle.log_record.specs.Journals as log;
 ghost use Rattle.durable_core.specs.Written.{IsMirrored, KeepsSided, Sided, sided_with};
 ghost use Rattle.durable_core.specs.Rewriting.{asked_for, is_asked, is_going, rewriting_after};
 
-use crate::rewritings::{Rewriting, asks_rewriting};
+use crate::rewritings::Rewriting;
 use byte_text::NoMemory;
 use journal::Journal;
 use outside::{Disk, Failed};
 use tile_core::Ledger;
-use world_model::{Asked, Called};
+use world_model::Called;
 
 /// Where so many bytes are pending, the next call or tick commits them first.
 pub const PENDING: u64 = 4_194_304;
@@ -109,13 +109,13 @@ impl<D: Disk> Tail<D> {
     }
 
     /// Notes how a call ended: one that was done and asked for a rewriting begins it with the next step.
-    pub(crate) fn note(&mut self, called: Called, asked: &Asked)
+    pub(crate) fn note(&mut self, called: Called, asks: bool)
         ensures journal { self.new.journal ≡ self.old.journal }
-        ensures rewriting { self.new.rewriting ≡ rewriting_after called asked.now self.old.journal.log.generation self.old.rewriting }
+        ensures rewriting { self.new.rewriting ≡ rewriting_after called asks self.old.journal.log.generation self.old.rewriting }
     {
         match called {
             Called::Ok => {
-                if asks_rewriting(asked) {
+                if asks {
                     self.ask();
                 }
             }

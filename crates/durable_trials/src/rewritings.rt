@@ -167,3 +167,16 @@ fn a_log_is_rewritten_beside_calls(rt: HostRuntime) -> Result<(), Fail> {
     speak(&rt, alloc, disk, read)?;
     Ok(())
 }
+
+#[test]
+fn a_refused_rewriting_is_not_begun(rt: HostRuntime) -> Result<(), Fail> {
+    let alloc = rt.alloc();
+    let refused = "enter -> 1
+        SUBSCRIBE x -> subscribe x :1
+        AOFSHRINK -> -ERR only SUBSCRIBE, PSUBSCRIBE, PING and QUIT are served while subscribed
+        step -> ok
+        step -> ok
+        generation -> 1";
+    speak(&rt, alloc, disk_failing(alloc, &[])?, refused)?;
+    Ok(())
+}

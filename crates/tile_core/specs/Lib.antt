@@ -13,6 +13,7 @@ pub mod Ledgers
 pub mod Answered
 pub mod Beside
 pub mod Dropping
+pub mod Subscribers
 pub mod Subscribing
 pub mod Asking
 pub mod Contexts

@@ -8,11 +8,12 @@ ghost use Rattle.world_data.specs.Worlds.{empty_world, is_sorted_world};
 ghost use Rattle.world_data.specs.declared.worlds.Change.TheVariants as change;
 ghost use Rattle.world_model.specs.Histories.{Step, is_spent, opening_hall};
 ghost use Rattle.world_model.specs.Outcomes.{enter_outcome, take_outcome, given_count, is_proper};
-ghost use Rattle.world_model.specs.Halls.{NamesChanged};
+ghost use Rattle.world_model.specs.Halls.{NamesChanged, session_of};
 ghost use Rattle.world_model.specs.declared.events.Event.TheVariants as event;
 ghost use Rattle.world_model.specs.declared.events.Outcome.TheVariants as outcome;
 ghost use Rattle.log_record.specs.Words.{IsRecorded};
 ghost use Rattle.next_items.specs.Copies.{is_next_channel, is_next_object, name_in, place_in};
+ghost use Rattle.tile_core.specs.Subscribers.{has_subscriptions};
 ghost use Rattle.tile_core.specs.CoreStates.{CoreState, most_kept};
 ghost use Rattle.tile_core.specs.Moves.{IsAccepted};
 ghost use Rattle.tile_core.specs.Ledgers.{IsRecordedBy};
@@ -292,6 +293,16 @@ impl Core {
     {
         match position_of(self.sessions.as_slice(), session) {
             Some(at) => self.sessions[at].frames() > 0,
+            None => false,
+        }
+    }
+
+    /// Whether the session holds a subscription.
+    pub fn has_subscriptions(&self, session: u32) -> bool
+        ensures { result ≡ has_subscriptions (session_of self.now.hall session) }
+    {
+        match position_of(self.sessions.as_slice(), session) {
+            Some(at) => self.sessions[at].subscriptions().len() > 0,
             None => false,
         }
     }

@@ -33,7 +33,7 @@ returns-in-Ok-clause-log g c j keeps =
     let step = lifted old.core.hall c.call-called.new.self.hall event (outcome.Answered answer) _ _ old.goes_on (c.call-called.ensures.stopped ∙ old.goes_on) going going c.call-called.ensures.step in
     let leads = c.in-Ok.ensures.log j (keeps going).kept in
     served D.crashes D.seen D.images D.moment D.left_since g.met.D.Disk.as_read g.met.D.Disk.counts_now g.met.D.Disk.only_now old _ c.commit_long.new.self c.call-called.new.ledger event answer j leads.0 going step keeps c.commit_long.ensures.told leads.1 took c.note.ensures.journal
-    (λ copied batches copies. subst (λ (r : Rewriting). IsCopyWhile r copied batches) (sym c.note.ensures.rewriting) (copies_asked answer c.args.asked.now _ c.call-called.new.ledger.rewriting copied batches copies)) refl
+    (λ copied batches copies. subst (λ (r : Rewriting). IsCopyWhile r copied batches) (sym c.note.ensures.rewriting) (copies_asked answer _ _ c.call-called.new.ledger.rewriting copied batches copies)) refl
 
 pub returns-in-Err-clause-log : goal.returns-in-Err-clause-log
 returns-in-Err-clause-log g c j keeps =
