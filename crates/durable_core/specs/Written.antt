@@ -1,5 +1,5 @@
 -- The batches on both sides of a log: what each commit and each step of a rewriting writes.
-use Rattle.std.specs.Prelude.{◌⊎◌, Bool, List, [], ◌∷◌, Option, take}
+use Rattle.std.specs.Prelude.{◌⊎◌, ℕ, Bool, List, [], ◌∷◌, Option, take}
 use Rattle.byte_text.specs.Names.{Bytes}
 use Rattle.world_data.specs.declared.worlds.World.{World}
 use Rattle.outside.specs.Sides.{Sides}
@@ -15,6 +15,10 @@ use Rattle.durable_core.specs.declared.rewritings.Rewriting.TheVariants as rewri
 pub record Sided : Type 0 where
   pub batches : List Bytes
   pub copied : List Bytes
+
+-- so many bytes that are pending are much
+abbrev pub much : ℕ
+much = 4194304
 
 -- a batch more, on both
 abbrev pub sided_with : Bytes → Sided → Sided

@@ -14,14 +14,14 @@ ghost use Rattle.log_record.specs.Batches.{records_text};
 ghost use Rattle.log_record.specs.EventWrites.{changes_of, writes_of};
 ghost use Rattle.log_record.specs.Journals.{Journal as Log};
 ghost use Rattle.log_record.specs.Recovery.{Recovers};
-ghost use Rattle.durable_core.specs.Written.{IsMirrored, KeepsSided, Sided, sided_next, sided_with};
+ghost use Rattle.durable_core.specs.Written.{IsMirrored, KeepsSided, Sided, much, sided_next, sided_with};
 ghost use Rattle.durable_core.specs.Rewriting.{is_ending, next_shown, rewriting_after};
 ghost use Rattle.durable_core.specs.Words.{is_served_rewriting};
 ghost use Rattle.tile_core.specs.Answered.{MayCall, IsAnswered, AreSessions, StayNamed};
 ghost use Rattle.tile_core.specs.CoreStates.{most_kept};
 
 use crate::rewritings::asks_rewriting;
-use crate::tails::{PENDING, Tail};
+use crate::tails::Tail;
 use outside::{Disk, Failed};
 use std::alloc::Global;
 use tile_core::Core;
@@ -156,7 +156,7 @@ impl<D: Disk> DurableCore<D> {
         ensures done { (hall_of self.old).stopped ≡ false → MayCall (hall_of self.old) session
             → (result ≡ Called.Ok) ⊎ ((result ≡ Called.Memory) ⊎ (result ≡ Called.LogFault)) }
         ensures answered { result ≡ Called.Ok → IsAnswered (hall_of self.old) (hall_of self.new) moment session asked.now }
-        ensures long { result ≡ Called.Ok → PENDING ≤ length (pending self.old.tail.journal)
+        ensures long { result ≡ Called.Ok → much ≤ length (pending self.old.tail.journal)
             → pending self.new.tail.journal ≡ records_text (changes_of (writes_of (hall_of self.old) (event.Call session moment asked.now))) }
         ensures cause { result ≡ Called.LogFault → Rose (D.faults (disk_of self.old)) (D.faults (disk_of self.new)) }
         ensures later { D.faults (disk_of self.old) ≤ D.faults (disk_of self.new) }
@@ -198,7 +198,7 @@ impl<D: Disk> DurableCore<D> {
         ensures kept { StayNamed touched.old touched.new }
         ensures room { AreSessions touched.new (hall_of self.new) }
         ensures logged { (hall_of self.new).logged ≤ (hall_of self.old).logged + most_kept }
-        ensures long { result ≡ Called.Ok → PENDING ≤ length (pending self.old.tail.journal)
+        ensures long { result ≡ Called.Ok → much ≤ length (pending self.old.tail.journal)
             → pending self.new.tail.journal ≡ records_text (changes_of (writes_of (hall_of self.old) (event.Tick moment))) }
         ensures cause { result ≡ Called.LogFault → Rose (D.faults (disk_of self.old)) (D.faults (disk_of self.new)) }
         ensures later { D.faults (disk_of self.old) ≤ D.faults (disk_of self.new) }

@@ -5,7 +5,7 @@ ghost use Rattle.byte_text.specs.Names.{Bytes};
 ghost use Rattle.outside.specs.Causes.{HasCause};
 ghost use Rattle.journal.specs.Journals.{pending};
 ghost use Rattle.log_record.specs.Journals as log;
-ghost use Rattle.durable_core.specs.Written.{IsMirrored, KeepsSided, Sided, sided_with};
+ghost use Rattle.durable_core.specs.Written.{IsMirrored, KeepsSided, Sided, much, sided_with};
 ghost use Rattle.durable_core.specs.Rewriting.{asked_for, is_asked, is_going, rewriting_after};
 
 use crate::rewritings::Rewriting;
@@ -77,7 +77,7 @@ impl<D: Disk> Tail<D> {
         ensures log { (j : log.Journal) → IsKeptBy D.crashes D.seen D.images self.old j
             → (k : log.Journal) × LeadsTo D.crashes D.seen D.images D.moment D.left_since self.old self.new result j k }
         ensures written { OnOk result (IsMirrored D.crashes D.seen D.images self.old.journal self.new.journal) }
-        ensures long { may ≡ true → PENDING ≤ length (pending self.old.journal) → OnOk result (pending self.new.journal ≡ []) }
+        ensures long { may ≡ true → much ≤ length (pending self.old.journal) → OnOk result (pending self.new.journal ≡ []) }
         ensures may { OnErr result (may ≡ true) }
         ensures works { OnOk result (self.new.journal.failed ≡ false) }
         ensures failed { OnErr result (self.new.journal.failed ≡ true) }
