@@ -1,5 +1,5 @@
 -- Groups one behind another.
-use Rattle.std.proofs.Common.{◌≡◌, ◌⊎◌, ◌≤◌, ℕ, ◌+◌, Bool, false, List, [], ◌∷◌, ◌++◌, refl, sym, ap, ◌∙◌, subst, inl, inr, arith, append_assoc}
+use Rattle.std.proofs.Common.{◌≡◌, ◌⊎◌, ◌≤◌, ◌<◌, ℕ, ◌+◌, Bool, false, List, [], ◌∷◌, ◌++◌, refl, sym, ap, ◌∙◌, subst, inl, inr, arith, append_assoc}
 use Rattle.std.specs.Prelude.{Option, Some, None, min}
 use Rattle.std.proofs.lemmas.List.{append-nil}
 use Rattle.std.proofs.lemmas.Grind.{flat_map-append}
@@ -12,7 +12,7 @@ use Rattle.session_run.specs.Gains.{Gains, gains_more}
 use Rattle.serve_run.specs.declared.starts.Fate.{Fate}
 use Rattle.serve_run.specs.declared.tends.ServeEnd.{ServeEnd}
 use Rattle.serve_run.specs.declared.tends.ServeEnd.TheVariants as end
-use Rattle.serve_run.specs.Links.{Joins, TendsOn, TendsLast, IsLast, Tends, serve_end, refusals, fate_acts, tick_act, rewrite_act}
+use Rattle.serve_run.specs.Links.{Joins, TendsOn, TendsLast, IsLast, Tends, serve_end, refusals, fate_acts, tick_act, rewrite_act, rewrite_steps, rewrites, tend_acts}
 use Rattle.serve_run.specs.Rounds.{State, state_of, Group, IsLost, group_acts, groups_acts, AreGroups, link_jobs, groups_jobs, groups_refusals, groups_starved, groups_links, groups_callers, link_callers, lost_count, lost_callers, fate_starved, Rounds, EndsBy, RoundTurn, RoundsOn, ServesLinks}
 
 -- what stays as it was while no link is served: the spawner's counts, and the sessions that were starved; a caller may have come
@@ -47,19 +47,21 @@ last_round told old new last lost g i = record {
   later = i.later;
 }
 
--- a Tick and a Rewrite
+-- a Tick and the Rewrites behind it
 pub idle_round : (told : Option ℕ) (old new : State) → TendsOn told old.knows new.knows → Idles old new false → Rounds told old new [] false
-idle_round told old new t i = record {
-  groups = record { moment = t.moment; link = None } ∷ [];
-  gains = t.gains;
-  are = (t.is_told, tt, tt);
-  jobs_are = i.jobs;
-  refused = not_fewer old.refused new.refused i.refused;
-  starved_are = none_more old.starved new.starved i.starved;
-  joined_are = joined_none old.joined new.joined 0 i.joined;
-  callers_are = i.callers;
-  later = i.later;
-}
+idle_round told old new t i =
+    let acts = tend_acts t.moment in
+    record {
+      groups = record { moment = t.moment; link = None } ∷ [];
+      gains = subst (λ (l : List Act). Gains old.knows new.knows l) (sym (append-nil ((acts ++ []) ++ []) ∙ append-nil (acts ++ []) ∙ append-nil acts)) t.gains;
+      are = (t.is_told, tt, tt);
+      jobs_are = i.jobs;
+      refused = not_fewer old.refused new.refused i.refused;
+      starved_are = none_more old.starved new.starved i.starved;
+      joined_are = joined_none old.joined new.joined 0 i.joined;
+      callers_are = i.callers;
+      later = i.later;
+    }
 
 -- a link came, and what was done for it
 pub record Links (old new : State) (fate : Fate) : Type 0 where
@@ -78,7 +80,7 @@ link_round told old new mid fate t j l =
     record {
       groups = g ∷ [];
       gains = subst (λ (l : List Act). Gains old.knows new.knows l) (sym (append-nil (x ++ []) ∙ append-nil x))
-          (gains_more old.knows mid new.knows (tick_act t.moment called.Ok ∷ rewrite_act called.Ok ∷ []) ((event.Enter, j.entered) ∷ fate_acts j.entered fate) t.gains j.gains);
+          (gains_more old.knows mid new.knows (tend_acts t.moment) ((event.Enter, j.entered) ∷ fate_acts j.entered fate) t.gains j.gains);
       are = (t.is_told, j.is_fate, tt);
       jobs_are = j.jobs_are;
       refused = omega (arith, few);
@@ -168,12 +170,12 @@ ends_last end.Memory told limit last old new i = inl i
 no_entry : (a : Act) (more : List Act) → [] ≡ a ∷ more → ⊥
 no_entry a more e = absurd (cc)
 
-not_none : (a b c : Act) → ([] ≡ a ∷ []) ⊎ ([] ≡ b ∷ c ∷ []) → ⊥
-not_none a b c (inl x) = no_entry a [] x
-not_none a b c (inr x) = no_entry b (c ∷ []) x
+not_none : (m : ℕ) (c : Called) → ([] ≡ tick_act m c ∷ []) ⊎ ((n : ℕ) × (n < rewrite_steps) × ([] ≡ tick_act m called.Ok ∷ rewrites n ++ rewrite_act c ∷ [])) → ⊥
+not_none m c (inl x) = no_entry (tick_act m c) [] x
+not_none m c (inr x) = no_entry (tick_act m called.Ok) (rewrites x.0 ++ rewrite_act c ∷ []) x.2
 
 some_last : (told : Option ℕ) (e : ServeEnd) (lost : Bool) (last : List Act) → IsLast told e last → IsLost lost last
-some_last told e lost [] i = absurd (not_none (tick_act i.0 i.1) (tick_act i.0 called.Ok) (rewrite_act i.1) i.4)
+some_last told e lost [] i = absurd (not_none i.0 i.1 i.4)
 some_last told e lost (a ∷ last) i = tt
 
 pub tend_last : (told : Option ℕ) (limit : ℕ) (old new : State) (lost : Bool) (e : ServeEnd) → TendsLast told old.knows new.knows e → Idles old new lost → new.joined ≤ limit → ServesLinks told limit old new e

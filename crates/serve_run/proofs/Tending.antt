@@ -1,14 +1,15 @@
--- A Tick and a Rewrite.
-use Rattle.std.proofs.Common.{◌≡◌, ℕ, [], ◌∷◌, refl, subst, inl, inr}
+-- A Tick and the Rewrites behind it.
+use Rattle.std.proofs.Common.{◌≡◌, ◌<◌, ℕ, ◌+◌, List, [], ◌∷◌, ◌++◌, refl, subst, inl, inr}
 use Rattle.std.specs.Prelude.{Option, Some, None}
+use Rattle.std.proofs.lemmas.List.{replicate_more}
 use Rattle.world_model.specs.declared.events.Called.{Called}
 use Rattle.world_model.specs.declared.events.Called.TheVariants as called
-use Rattle.world_model.specs.Seats.{Knows, Adds}
+use Rattle.world_model.specs.Seats.{Knows, Act, Adds}
 use Rattle.world_model.specs.declared.events.Event.TheVariants as event
 use Rattle.world_model.specs.declared.events.Outcome.TheVariants as outcome
-use Rattle.session_run.specs.Gains.{Makes, made}
+use Rattle.session_run.specs.Gains.{Gains, Makes, made, gains_last}
 use Rattle.serve_run.specs.declared.tends.ServeEnd.{ServeEnd}
-use Rattle.serve_run.specs.Links.{serve_end, tick_act, rewrite_act, IsTold, Tends}
+use Rattle.serve_run.specs.Links.{serve_end, tick_act, rewrite_act, rewrite_steps, rewrites, IsTold, Rewritten, Tends}
 
 pub tends_tick : (told : Option ℕ) (old new : Knows) (m : ℕ) (c : Called) (e : ServeEnd) → IsTold told m → serve_end c ≡ Some e → Adds (event.Tick m) (outcome.Answered c) old new → Tends told old new (Some e)
 tends_tick told old new m c e t is adds = record { last = tick_act m c ∷ []; gains = (new, made (event.Tick m) (outcome.Answered c) old new adds, refl); is_last = (m, c, t, is, inl refl) }
@@ -22,12 +23,26 @@ fine called.Stopped e = absurd (cc)
 fine called.Spent e = absurd (cc)
 fine called.Memory e = absurd (cc)
 
-pub tends_both : (told : Option ℕ) (old mid new : Knows) (m : ℕ) (c d : Called) → IsTold told m → serve_end c ≡ None → Adds (event.Tick m) (outcome.Answered c) old mid → Adds event.Rewrite (outcome.Answered d) mid new → Tends told old new (serve_end d)
-tends_both told old mid new m c d t is tick rewrite = by d (serve_end d) refl (made event.Rewrite (outcome.Answered d) mid new rewrite)
+-- one more Rewrite behind those that were answered Ok
+pub rewrote_next : (old mid new : Knows) (n : ℕ) (c : Called) → serve_end c ≡ None → Gains old mid (rewrites n) → Adds event.Rewrite (outcome.Answered c) mid new → Gains old new (rewrites (n + 1))
+rewrote_next old mid new n c is before adds =
+    let one : Makes (rewrite_act called.Ok) mid new = subst (λ (x : Called). Makes (rewrite_act x) mid new) (fine c is) (made event.Rewrite (outcome.Answered c) mid new adds) in
+    subst (λ (l : List Act). Gains old new l) (replicate_more n (rewrite_act called.Ok)) (gains_last old mid new (rewrites n) (rewrite_act called.Ok) before one)
+
+-- a Rewrite that brings the end
+pub rewrote_last : (old mid new : Knows) (n : ℕ) (c : Called) (e : ServeEnd) → n < rewrite_steps → serve_end c ≡ Some e → Gains old mid (rewrites n) → Adds event.Rewrite (outcome.Answered c) mid new → Rewritten old new (Some e)
+rewrote_last old mid new n c e few is before adds = (n, c, few, is, gains_last old mid new (rewrites n) (rewrite_act c) before (made event.Rewrite (outcome.Answered c) mid new adds))
+
+pub tends_all : (told : Option ℕ) (old mid new : Knows) (m : ℕ) (c : Called) (o : Option ServeEnd) → IsTold told m → serve_end c ≡ None → Adds (event.Tick m) (outcome.Answered c) old mid → Rewritten mid new o → Tends told old new o
+tends_all told old mid new m c o t is tick rewritten = by o rewritten
   where
     ticked : Makes (tick_act m called.Ok) old mid
     ticked = subst (λ (x : Called). Makes (tick_act m x) old mid) (fine c is) (made (event.Tick m) (outcome.Answered c) old mid tick)
 
-    by : (d : Called) (o : Option ServeEnd) → serve_end d ≡ o → Makes (rewrite_act d) mid new → Tends told old new o
-    by d None e rewrite = record { moment = m; is_told = t; gains = (mid, ticked, (new, subst (λ (x : Called). Makes (rewrite_act x) mid new) (fine d e) rewrite, refl)) }
-    by d (Some x) e rewrite = record { last = tick_act m called.Ok ∷ rewrite_act d ∷ []; gains = (mid, ticked, (new, rewrite, refl)); is_last = (m, d, t, e, inr refl) }
+    by : (o : Option ServeEnd) → Rewritten mid new o → Tends told old new o
+    by None r = record { moment = m; is_told = t; gains = (mid, ticked, r) }
+    by (Some e) r = record {
+      last = tick_act m called.Ok ∷ rewrites r.0 ++ rewrite_act r.1 ∷ [];
+      gains = (mid, ticked, r.4);
+      is_last = (m, r.1, t, r.3, inr (r.0, r.2, refl));
+    }

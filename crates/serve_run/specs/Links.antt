@@ -1,5 +1,5 @@
 -- What the loop of a server does for one accept.
-use Rattle.std.specs.Prelude.{◌≡◌, ◌⊎◌, ◌≤◌, ℕ, ◌+◌, Bool, true, false, List, [], ◌∷◌, min, Option, Some, None, MatchOption}
+use Rattle.std.specs.Prelude.{◌≡◌, ◌⊎◌, ◌≤◌, ◌<◌, ℕ, ◌+◌, Bool, true, false, List, [], ◌∷◌, ◌++◌, replicate, min, Option, Some, None, MatchOption}
 use Rattle.outside.specs.Causes.{next_count, most_count}
 use Rattle.world_model.specs.declared.events.Called.{Called}
 use Rattle.world_model.specs.declared.events.Called.TheVariants as called
@@ -12,6 +12,7 @@ use Rattle.serve_run.specs.declared.starts.Fate.{Fate}
 use Rattle.serve_run.specs.declared.starts.Fate.TheVariants.{Refused, Served, Unread, Dropped, Starved}
 use Rattle.serve_run.specs.declared.tends.ServeEnd.{ServeEnd}
 use Rattle.serve_run.specs.declared.tends.ServeEnd.TheVariants as end
+use Rattle.serve_run.specs.declared.tends.TheConstants.{REWRITE_STEPS}
 
 -- the entries behind the Enter of a session
 abbrev pub start_acts : ℕ → Fate → List Act
@@ -77,18 +78,37 @@ tick_act m c = (event.Tick m, outcome.Answered c)
 abbrev pub rewrite_act : Called → Act
 rewrite_act c = (event.Rewrite, outcome.Answered c)
 
+-- the steps of rewriting behind each Tick, a constant of the code
+abbrev pub rewrite_steps : ℕ
+rewrite_steps = REWRITE_STEPS
+
+-- so many Rewrites, each answered Ok
+abbrev pub rewrites : ℕ → List Act
+rewrites n = replicate n (rewrite_act called.Ok)
+
 abbrev pub IsTold : Option ℕ → ℕ → Type 0
 IsTold told m = MatchOption told (Unit {0}) (λ x. m ≡ x)
 
--- a Tick at the clock's moment and a Rewrite, both answered Ok; or the first of them that was answered otherwise was the last
+-- the Rewrites behind a Tick: all of them, each answered Ok; or those up to the first that was answered otherwise, which brings the end
+abbrev pub Rewritten : Knows → Knows → Option ServeEnd → Type 0
+Rewritten old new None = Gains old new (rewrites rewrite_steps)
+Rewritten old new (Some e) = (n : ℕ) × (c : Called) × (n < rewrite_steps) × (serve_end c ≡ Some e) × Gains old new (rewrites n ++ rewrite_act c ∷ [])
+
+-- a Tick and the Rewrites behind it, each answered Ok
+abbrev pub tend_acts : ℕ → List Act
+tend_acts m = tick_act m called.Ok ∷ rewrites rewrite_steps
+
+-- these, the Tick at the clock's moment
 pub record TendsOn (told : Option ℕ) (old new : Knows) : Type 0 where
   pub moment : ℕ
   pub is_told : IsTold told moment
-  pub gains : Gains old new (tick_act moment called.Ok ∷ rewrite_act called.Ok ∷ [])
+  pub gains : Gains old new (tend_acts moment)
 
--- the entries of a group that ends with the answer that brings the end
+-- the entries of a group that ends with the answer that brings the end: that of the Tick, or of one of the Rewrites, where the Tick and
+-- the Rewrites before it were answered Ok
 abbrev pub IsLast : Option ℕ → ServeEnd → List Act → Type 0
-IsLast told e last = (m : ℕ) × (c : Called) × IsTold told m × (serve_end c ≡ Some e) × ((last ≡ tick_act m c ∷ []) ⊎ (last ≡ tick_act m called.Ok ∷ rewrite_act c ∷ []))
+IsLast told e last = (m : ℕ) × (c : Called) × IsTold told m × (serve_end c ≡ Some e)
+    × ((last ≡ tick_act m c ∷ []) ⊎ ((n : ℕ) × (n < rewrite_steps) × (last ≡ tick_act m called.Ok ∷ rewrites n ++ rewrite_act c ∷ [])))
 
 pub record TendsLast (told : Option ℕ) (old new : Knows) (end : ServeEnd) : Type 0 where
   pub last : List Act

@@ -1,7 +1,6 @@
 -- What the loop of a server does, accept by accept.
 use Rattle.std.specs.Prelude.{◌≡◌, ◌⊎◌, ◌≤◌, ℕ, ◌+◌, Bool, true, false, List, [], ◌∷◌, ◌++◌, flat_map, min, Option, Some, None}
 use Rattle.outside.specs.Causes.{Rose, most_count, next_count}
-use Rattle.world_model.specs.declared.events.Called.TheVariants as called
 use Rattle.world_model.specs.declared.events.Event.TheVariants as event
 use Rattle.world_model.specs.declared.events.Outcome.{Outcome}
 use Rattle.world_model.specs.Seats.{Knows, Act}
@@ -10,7 +9,7 @@ use Rattle.serve_run.specs.declared.starts.Fate.{Fate}
 use Rattle.serve_run.specs.declared.starts.Fate.TheVariants.{Starved}
 use Rattle.serve_run.specs.declared.tends.ServeEnd.{ServeEnd}
 use Rattle.serve_run.specs.declared.tends.ServeEnd.TheVariants as end
-use Rattle.serve_run.specs.Links.{jobs_after, refusals, fate_acts, IsFate, tick_act, rewrite_act, IsTold, IsLast}
+use Rattle.serve_run.specs.Links.{jobs_after, refusals, fate_acts, IsFate, tend_acts, IsTold, IsLast}
 
 -- where a server stands: what its seat has seen; the spawner's jobs and failures; the door's callers, ends and failures; and how many
 -- callers the loop has counted, and how many sessions that it removed for want of memory
@@ -42,9 +41,9 @@ abbrev pub link_acts : Option Came → List Act
 link_acts None = []
 link_acts (Some l) = (event.Enter, l.entered) ∷ fate_acts l.entered l.fate
 
--- the entries of a group: a Tick, a Rewrite, and for a link one Enter and at most one Remove of the session entered
+-- the entries of a group: a Tick and the Rewrites behind it, and for a link one Enter and at most one Remove of the session entered
 abbrev pub group_acts : Group → List Act
-group_acts g = tick_act g.moment called.Ok ∷ rewrite_act called.Ok ∷ link_acts g.link
+group_acts g = tend_acts g.moment ++ link_acts g.link
 
 abbrev pub groups_acts : List Group → List Act
 groups_acts groups = flat_map group_acts groups
@@ -140,7 +139,7 @@ EndsBy end.Stopped told limit last old new = IsLast told end.Stopped last
 EndsBy end.Spent told limit last old new = IsLast told end.Spent last
 EndsBy end.Memory told limit last old new = IsLast told end.Memory last ⊎ (last ≡ [])
 
--- nothing is done for a caller only where the loop ended at the Tick or Rewrite behind its accept
+-- nothing is done for a caller only where the loop ended at the Tick or a Rewrite behind its accept
 abbrev pub IsLost : Bool → List Act → Type 0
 IsLost lost [] = lost ≡ false
 IsLost lost (a ∷ last) = Unit {0}

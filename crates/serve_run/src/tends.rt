@@ -1,14 +1,19 @@
-//! The Tick and the Rewrite behind each accept.
+//! The Tick and the Rewrites behind each accept.
 
 ghost use Rattle.std.specs.Prelude.{◌≡◌, ℕ};
 ghost use Rattle.std.specs.Arc.{arc_value};
-ghost use Rattle.serve_run.specs.Links.{Tends, serve_end};
+ghost use Rattle.serve_run.specs.Links.{Tends, Rewritten, serve_end};
 
 use crate::shared::Shared;
 use outside::{Bell, Clock};
 use session_run::ring_touched;
 use std::sync::Wait;
 use world_model::{Called, HallApi, Touched};
+
+// The steps of rewriting behind each Tick. The door is asked for a caller about ten times a second, and a step copies at most 256 items:
+// one step each time would take minutes over a large world. Each step is a turn of its own, so the turns of the sessions come between
+// them. Where no rewriting is under way a step only commits what is pending.
+const REWRITE_STEPS: u32 = 16;
 
 /// How the loop of a server ended.
 #[derive(Clone, Copy, Debug, PartialEq, Eq)]
@@ -37,7 +42,22 @@ fn serve_end(answer: Called) -> Option<ServeEnd>
     }
 }
 
-/// Makes a Tick and a Rewrite, and rings for the sessions that were touched. The end that they bring.
+// Makes the Rewrites that stand behind a Tick, up to the first that brings an end. That end.
+fn step_rewrites<H: HallApi, R: Wait>(rt: &R, hall: &H, seat: &mut H::Seat) -> Option<ServeEnd>
+    requires { H.is_of hall.now seat.old }
+    ensures seat { H.is_of hall.now seat.new }
+    ensures rewritten { Rewritten (H.knows seat.old) (H.knows seat.new) result }
+{
+    for _ in 0..REWRITE_STEPS {
+        let rewritten = hall.step_rewrite(rt, seat);
+        if let Some(end) = serve_end(rewritten) {
+            return Some(end);
+        }
+    }
+    None
+}
+
+/// Makes a Tick and the Rewrites behind it, and rings for the sessions that were touched. The end that they bring.
 pub(crate) fn tend<H: HallApi + Drop, C: Clock, B: Bell + Drop, G: Drop, R: Wait>(
     rt: &R,
     shared: &Shared<H, B, G>,
@@ -54,9 +74,6 @@ pub(crate) fn tend<H: HallApi + Drop, C: Clock, B: Bell + Drop, G: Drop, R: Wait
     ring_touched(&*shared.bell, &touched);
     match serve_end(ticked) {
         Some(end) => (Some(end), touched),
-        None => {
-            let rewritten = shared.hall.step_rewrite(rt, seat);
-            (serve_end(rewritten), touched)
-        }
+        None => (step_rewrites(rt, &*shared.hall, seat), touched),
     }
 }

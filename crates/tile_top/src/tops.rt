@@ -117,14 +117,15 @@ pub fn out_of_memory<K: Sink, D: Disk + Drop>(sink: &mut K) -> Ended<D>
 /// and that disk is safe for that world.
 ///
 /// With `serve`. All entries that the server's seat has seen are a legal history that opens with the disk's world, and its own are those
-/// of whole groups, one for each look for a caller: a tick, a rewriting, and for a caller who came the entering of a session, and its
-/// closing or removal where it was not served; and then the retirement. Each caller who came is counted, and was served, or dropped for a
-/// reason that is named. Status 0: the door told its end, or N callers came; the bytes written are the lines `listening ADDR`, `served N`,
-/// and `starved M` where sessions were removed for want of memory. Status 8 comes only where the door has failed, 5 where a tick or
-/// rewriting found the hall stopped, or the log failed at the retirement, 9 where one found the machine's log at its greatest length, 7
-/// where memory wanted, 4 where the sink failed. Where the disk tells what it holds and what a crash may leave, the disk that is handed
-/// back is safe for all that the seat has seen. Where the retirement was answered Ok, as at status 0, it is handed back, and whatever a crash
-/// leaves of it is the world of all of that.
+/// of whole groups, one for each look for a caller: a tick, as many steps of rewriting as the loop makes behind each, and for a caller who
+/// came the entering of a session, and its closing or removal where it was not served; then, where a tick or a step brought the end, a
+/// group up to that one; and then the retirement. Each caller who came is counted, and was served, or dropped for a reason that is named.
+/// Status 0: the door told its end, or N callers came; the bytes written are the lines `listening ADDR`, `served N`, and `starved M` where
+/// sessions were removed for want of memory. Status 8 comes only where the door has failed, 5 where a tick or a step of rewriting found
+/// the hall stopped, or the log failed at the retirement, 9 where one found the machine's log at its greatest length, 7 where memory
+/// wanted, 4 where the sink failed. Where the disk tells what it holds and what a crash may leave, the disk that is handed back is safe
+/// for all that the seat has seen. Where the retirement was answered Ok, as at status 0, it is handed back, and whatever a crash leaves of
+/// it is the world of all of that.
 ///
 /// With `load`. Status 0: the bytes written are the four lines that N and SEED determine: what the sessions of the workload are given
 /// by the steps of a machine that begins with the empty world, and the number of objects in the end. At 7, which stands for want of
