@@ -36,6 +36,7 @@ fn open_hall<D: Disk + Drop>(
     ensures first { IfOk result (λ r. IsFirst (D.seen disk) (knows_of r.1)) }
     ensures handed { IfOk result (λ r. handed_of r.0 ≡ disk) }
     ensures damaged { (s : Sides) → D.seen disk ≡ Some s → IfErr result (λ u. (side : Side) (place : ℕ) → u.why ≡ fault_of.Damaged side place → Damaged s side place) }
+    ensures cause { IfErr result (λ u. u.why ≡ fault_of.Disk → Rose (D.faults disk) (D.faults u.disk)) }
 {
     let handed = Snapshot::of(&disk);
     match DurableCore::open(alloc, disk) {
@@ -134,6 +135,7 @@ where
         (K.held sink.old) (K.held sink.new) result.status (option_map knows_of result.front) }
     ensures safe { tells D.crashes D.seen (handed_of hall) ≡ true
         → IfSome result.front (λ last. IfSome result.disk (λ d. IsLeft D.images D.left_since d (knows_of last))) }
+    ensures some { is_some result.front ≡ true }
     ensures given { IfSome result.front (λ last. IsSettled (knows_of last).seen → is_some result.disk ≡ true) }
     ensures sink { K.faults sink.old ≤ K.faults sink.new }
     ensures door { L.faults door.old ≤ L.faults door.new }
@@ -186,6 +188,8 @@ where
         (K.held sink.old) (K.held sink.new) result.status (option_map knows_of result.front) }
     ensures safe { tells D.crashes D.seen disk ≡ true
         → IfSome result.front (λ last. IfSome result.disk (λ d. IsLeft D.images D.left_since d (knows_of last))) }
+    ensures handed { result.front ≡ None → is_some result.disk ≡ true }
+    ensures disk { result.front ≡ None → result.status ≡ 5 → IfSome result.disk (λ d. Rose (D.faults disk) (D.faults d)) }
     ensures given { IfSome result.front (λ last. IsSettled (knows_of last).seen → is_some result.disk ≡ true) }
     ensures sink { K.faults sink.old ≤ K.faults sink.new }
     ensures door { L.faults door.old ≤ L.faults door.new }

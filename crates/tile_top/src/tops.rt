@@ -168,7 +168,7 @@ where
         → IsEnd (K.held sink.old) (K.held sink.new) 1 usage_line result.status }
     ensures unread { (IsReplay (map string_bytes words.now) → ⊥) → source.new ≡ source.old }
     ensures untouched { (IsReplay (map string_bytes words.now) → ⊥) → (IsCheck (map string_bytes words.now) → ⊥) → serve_of (map string_bytes words.now) ≡ None → result.disk ≡ Some disk }
-    ensures handed { serve_of (map string_bytes words.now) ≡ None → is_some result.disk ≡ true }
+    ensures handed { result.front ≡ None → is_some result.disk ≡ true }
     ensures apart { serve_of (map string_bytes words.now) ≡ None → (door.new ≡ door.old) × (spawner.new ≡ spawner.old) }
     ensures alone { serve_of (map string_bytes words.now) ≡ None → result.front ≡ None }
     ensures source { S.faults source.old ≤ S.faults source.new }
@@ -176,7 +176,7 @@ where
     ensures door { L.faults door.old ≤ L.faults door.new }
     ensures read { result.status ≡ 3 → Rose (S.faults source.old) (S.faults source.new) }
     ensures write { result.status ≡ 4 → Rose (K.faults sink.old) (K.faults sink.new) }
-    ensures disk { serve_of (map string_bytes words.now) ≡ None → result.status ≡ 5 → IfSome result.disk (λ d. Rose (D.faults disk) (D.faults d)) }
+    ensures disk { result.front ≡ None → result.status ≡ 5 → IfSome result.disk (λ d. Rose (D.faults disk) (D.faults d)) }
     ensures accept { result.status ≡ 8 → Rose (L.faults door.old) (L.faults door.new) }
 {
     match serve_words(words) {
