@@ -175,23 +175,18 @@ impl<T: Turned> TurnLock<T> {
         leaves_late
     }
 
-    // Does what was posted, in a few passes, in each the late works last. Nobody sleeps on while they are done. Late works that were posted
-    // while another one was done come before all others, since that one may have served them too.
-    fn combine(&self, seat: &mut Seat<T>, value: &mut T, behind_late: bool, asleep: &mut Sleepers)
+    // Does what was posted, in a few passes, in each the late works last. Nobody sleeps on while they are done.
+    fn combine(&self, seat: &mut Seat<T>, value: &mut T, asleep: &mut Sleepers)
         requires { IsAtWork T.opening T.stands self.now seat.old value.old }
         ensures work { IsAtWork T.opening T.stands self.now seat.new value.new }
         ensures keeps { Keeps seat.old.me.0 seat.new.me.0 }
     {
-        if behind_late && self.any_posted() {
-            self.pass(seat, value, true, asleep);
-        }
         for _ in 0..PASSES {
             if !self.any_posted() {
                 return;
             }
             if self.pass(seat, value, false, asleep) {
                 self.wake(asleep);
-                self.pass(seat, value, true, asleep);
                 self.pass(seat, value, true, asleep);
             }
         }
@@ -226,13 +221,12 @@ impl<T: Turned> TurnLock<T> {
     {
         let mut value = self.take_out(seat);
         let mut asleep = Sleepers::none();
-        let is_late = work.is_late();
-        if is_late && self.any_posted() {
+        if work.is_late() && self.any_posted() {
             self.pass(seat, &mut value, false, &mut asleep);
             self.wake(&mut asleep);
         }
         let out = self.run_own(seat, &mut value, work);
-        self.combine(seat, &mut value, is_late, &mut asleep);
+        self.combine(seat, &mut value, &mut asleep);
         self.give_back(seat, value);
         self.wake(&mut asleep);
         self.look_again(seat);
@@ -247,7 +241,7 @@ impl<T: Turned> TurnLock<T> {
     {
         let mut value = self.take_out(seat);
         let mut asleep = Sleepers::none();
-        self.combine(seat, &mut value, false, &mut asleep);
+        self.combine(seat, &mut value, &mut asleep);
         self.give_back(seat, value);
         self.wake(&mut asleep);
     }
