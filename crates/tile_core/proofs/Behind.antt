@@ -1,7 +1,6 @@
 -- What is staged write by write, behind what was staged before.
 use Rattle.std.proofs.Common.{◌≡◌, ℕ, zero, suc, ◌+◌, Bool, true, false, not, refl, sym, ap, ◌∙◌, subst, List, [], ◌∷◌, ◌++◌, take, map, arith}
-use Rattle.std.specs.Prelude.{Some, None, Option, Result, Ok, Err, OnOk, find, filter, slice_get, if◌then◌else◌, ◌&&◌}
-use Rattle.std.proofs.lemmas.List.{map-append}
+use Rattle.std.specs.Prelude.{Some, None, Result, Ok, Err, OnOk, find, filter, slice_get, if◌then◌else◌, ◌&&◌}
 use Rattle.byte_text.specs.Names.{Bytes, same}
 use Rattle.byte_text.specs.ByteOrder.{same_equal}
 use Rattle.fence_model.specs.Writes.{Write, loud, quiet, dels}

@@ -1,6 +1,6 @@
 -- What SETCHAN, DELCHAN, PDELCHAN and CHANS do.
-use Rattle.std.proofs.Common.{◌≡◌, ℕ, ◌+◌, ◌≤◌, ◌<◌, Bool, true, false, refl, ap, ◌∙◌, lit<, List, [], ◌∷◌, ◌++◌, length, append-nil, arith}
-use Rattle.std.specs.Prelude.{Some, None, codes, find, is_none, map, nat_le, ◌&&◌}
+use Rattle.std.proofs.Common.{◌≡◌, ℕ, ◌≤◌, ◌<◌, true, false, refl, ap, lit<, List, [], ◌∷◌, length, append-nil, arith}
+use Rattle.std.specs.Prelude.{Some, None, codes, is_none, map, nat_le, ◌&&◌}
 use Rattle.std.proofs.lemmas.Bool.Decides.{nat_tests}
 use Rattle.byte_text.specs.Names.{Bytes}
 use Rattle.byte_text.specs.Globs.{is_sound_glob}
@@ -19,7 +19,7 @@ use Rattle.world_data.specs.declared.channels.Watch.TheVariants.{Spot, Roam}
 use Rattle.world_data.specs.declared.objects.Object.{Object}
 use Rattle.world_data.specs.declared.worlds.World.{World}
 use Rattle.world_data.specs.declared.worlds.Change.TheVariants as change
-use Rattle.world_model.specs.Effects.{Effect, says, changes, refuses, fits, missing, effect, setchan_effect, settled_channel, watch_over, within_reply}
+use Rattle.world_model.specs.Effects.{says, changes, refuses, fits, missing, effect, setchan_effect, settled_channel, watch_over, within_reply}
 use Rattle.world_model.specs.Replies.{channel_reply}
 use Rattle.world_model.specs.Sound.{is_sound_setting, takes_areas}
 use Rattle.world_model.specs.declared.commands.AreaWords.TheVariants as area_words

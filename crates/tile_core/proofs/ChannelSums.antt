@@ -1,16 +1,16 @@
 -- The weight of channels, and what changes of them make of it.
 use Rattle.std.proofs.Common.{◌≡◌, ℕ, zero, suc, ◌+◌, ◌≤◌, Bool, true, false, not, refl, sym, ap, ◌∙◌, subst, List, [], ◌∷◌, ◌++◌, map, take, drop, append-nil, arith}
-use Rattle.std.specs.Prelude.{Some, None, sum_by, find, filter, slice_get, if◌then◌else◌, ◌||◌}
-use Rattle.std.specs.List.{list_all, list_any, AllByRecursion}
+use Rattle.std.specs.Prelude.{Some, sum_by, filter, slice_get, if◌then◌else◌, ◌||◌}
+use Rattle.std.specs.List.{list_any, AllByRecursion}
 use Rattle.std.proofs.lemmas.List.{map-append, take-append-drop}
 use Rattle.std.proofs.lemmas.List.Elements.{filter-append}
 use Rattle.std.proofs.lemmas.List.Sums.{sum_by-cons, sum_by-append}
-use Rattle.byte_text.specs.Names.{Bytes, before, same}
-use Rattle.byte_text.specs.ByteOrder.{before_tie, before_self, before_trans, other_behind, same_refl, same_equal}
+use Rattle.byte_text.specs.Names.{Bytes, same}
+use Rattle.byte_text.specs.ByteOrder.{same_refl, same_equal}
 use Rattle.byte_text.specs.Globs.{glob_meets}
 use Rattle.ordered_lists.specs.Lists.{put_in}
 use Rattle.fence_model.specs.Writes.{Write, quiet}
-use Rattle.world_data.specs.Worlds.{are_channels, channel_before, is_named}
+use Rattle.world_data.specs.Worlds.{channel_before, is_named}
 use Rattle.world_data.specs.declared.channels.Channel.{Channel}
 use Rattle.world_data.specs.declared.worlds.Change.TheVariants as change
 use Rattle.world_model.specs.Replies.{channel_reply}
@@ -18,7 +18,7 @@ use Rattle.deliveries.specs.Staging.{records_len}
 use Rattle.tile_core.specs.declared.channel_plans.Dropped.{Dropped}
 use Rattle.tile_core.specs.Dropping.{met_channels, names_of, drops, IsDropped, IsDroppedOf}
 use Rattle.record_lengths.specs.Lengths.{len_of_channel}
-use Rattle.tile_core.specs.Planned.{channels_weight, without_names}
+use Rattle.tile_core.specs.Planned.{without_names}
 use Rattle.tile_core.proofs.Listings.{one_more}
 
 -- what is put is part of the weight

@@ -1,5 +1,5 @@
 -- The frame of a refusal of words is short.
-use Rattle.std.proofs.Common.{◌≡◌, ◌⊎◌, inl, inr, ℕ, ◌≤◌, Bool, true, false, refl, sym, subst, lit≤, List, [], ◌∷◌, ◌++◌, length, length-append, length-take, arith}
+use Rattle.std.proofs.Common.{◌≡◌, ℕ, ◌≤◌, Bool, true, false, refl, sym, subst, lit≤, List, [], ◌∷◌, ◌++◌, length, length-append, length-take, arith}
 use Rattle.std.proofs.lemmas.List.{length-map}
 use Rattle.std.specs.Prelude.{Option, Some, None, Result, Ok, Err, map, codes, nat_le, if◌then◌else◌, ◌&&◌, not, is_some}
 use Rattle.std.specs.List.{AllByRecursion, list_any}

@@ -1,9 +1,8 @@
 -- What holds of the objects after what is done to them.
-use Rattle.std.proofs.Common.{◌≡◌, ℕ, zero, suc, ◌+◌, ◌≤◌, Bool, true, false, not, sym, ap, ◌∙◌, List, [], ◌∷◌, drop, arith}
-use Rattle.std.specs.Prelude.{Some, filter, slice_get, if◌then◌else◌}
+use Rattle.std.proofs.Common.{◌≡◌, ℕ, zero, suc, ◌+◌, ◌≤◌, not, sym, ap, ◌∙◌, List, [], ◌∷◌, drop, arith}
+use Rattle.std.specs.Prelude.{Some, filter, slice_get}
 use Rattle.std.specs.List.{AllByRecursion}
 use Rattle.byte_text.specs.Names.{Bytes}
-use Rattle.ordered_lists.specs.Lists.{put_in}
 use Rattle.world_data.specs.Worlds.{object_before, has_key, is_at}
 use Rattle.world_data.specs.declared.objects.Object.{Object}
 use Rattle.tile_core.specs.declared.moves.Move.{Move}

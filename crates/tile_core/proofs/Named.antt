@@ -1,5 +1,5 @@
 -- The hall whose store and sessions are as they were is the hall as it was.
-use Rattle.std.proofs.Common.{◌≡◌, ◌≢◌, ℕ, List, length, map, sym, ap, ◌∙◌, subst}
+use Rattle.std.proofs.Common.{◌≡◌, ℕ, List, map, sym, ap, ◌∙◌, subst}
 use Rattle.world_data.specs.declared.worlds.World.{World}
 use Rattle.world_model.specs.Halls as halls
 use Rattle.world_model.specs.Halls.{Hall, NamesChanged}

@@ -7,7 +7,6 @@ use Rattle.world_model.specs.Halls.{placed_each}
 use Rattle.deliveries.specs.Placing.{each_number}
 use Rattle.session_mail.specs.Fans.{ArePlaced}
 use Rattle.session_mail.specs.Sessions.{State, session_of}
-use Rattle.tile_core.specs.Sessions.{AreOthers}
 use Rattle.tile_core.specs.Answered.{is_named, AreNamed, AreRoomy, StayNamed}
 
 -- one more is named

@@ -1,6 +1,6 @@
 -- What a SET does, by the object that stands there, and what a put does, by the weight behind it.
 use Rattle.std.proofs.Common.{◌≡◌, ℕ, ◌≤◌, ◌<◌, Bool, true, false, not, refl, sym, ap, ◌∙◌, List, [], ◌∷◌, length, Bor, arith}
-use Rattle.std.specs.Prelude.{Option, Some, None, IfSome, IfNone, is_some, is_none, option_map, find, codes, nat_le, nat_lt, ◌&&◌}
+use Rattle.std.specs.Prelude.{Option, Some, None, IfSome, IfNone, is_some, is_none, option_map, find, nat_le, nat_lt, ◌&&◌}
 use Rattle.std.proofs.lemmas.Bool.Decides.{nat_tests}
 use Rattle.byte_text.specs.Names.{Bytes}
 use Rattle.byte_text.specs.Replies.{fine, frame_text}

@@ -1,5 +1,5 @@
 -- Taking, closing and removing, in the words of the parts of a core.
-use Rattle.std.proofs.Common.{◌≡◌, ℕ, ◌<◌, refl, sym, subst, true, false, List, [], length, take, drop}
+use Rattle.std.proofs.Common.{◌≡◌, ℕ, ◌<◌, refl, sym, subst, true, false, List, length, take, drop}
 use Rattle.std.specs.Prelude.{Some, slice_get, slice_set, remove}
 use Rattle.world_data.specs.Limits.{take_frames}
 use Rattle.world_model.specs.Halls.{Hall}

@@ -1,8 +1,6 @@
 use Rattle.std.proofs.Common.{◌≡◌, true, false, refl, sym, ◌∙◌}
-use Rattle.std.specs.Prelude.{codes}
 use Rattle.std.specs.List.{list_any}
 use Rattle.world_data.specs.Worlds.{has_key}
-use Rattle.world_model.specs.Replies.{error}
 use Rattle.world_model.specs.Refusals.{refusal_reply}
 use Rattle.world_model.specs.declared.faults.Refusal.TheVariants as refusal
 use Rattle.keyspace.specs.Entries.{objects_in}

@@ -1,4 +1,4 @@
-use Rattle.std.proofs.Common.{◌≡◌, ℕ, ◌∙◌, map}
+use Rattle.std.proofs.Common.{ℕ, ◌∙◌, map}
 use Rattle.byte_text.specs.Replies.{array}
 use Rattle.world_model.specs.Replies.{channel_reply}
 use Rattle.world_model.specs.Subscriptions.{Sub}

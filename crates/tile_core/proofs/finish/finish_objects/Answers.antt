@@ -1,4 +1,4 @@
-use Rattle.std.proofs.Common.{◌≡◌, Bool, sym, ap, ◌∙◌}
+use Rattle.std.proofs.Common.{Bool, sym, ap, ◌∙◌}
 use Rattle.world_model.specs.Halls.{placed}
 use Rattle.deliveries.specs.Plans.{ending}
 use Rattle.session_mail.specs.Sessions.{session_of}

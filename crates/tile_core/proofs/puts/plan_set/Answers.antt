@@ -1,11 +1,11 @@
 use Rattle.std.proofs.Common.{◌≡◌, ◌≤◌, ◌<◌, length, lit≤, subst, ap, ◌∙◌, sym, refl, true, false, List, Bor, arith}
-use Rattle.std.specs.Prelude.{codes, is_none, option_map}
+use Rattle.std.specs.Prelude.{is_none, option_map}
 use Rattle.std.proofs.lemmas.Result.{IfOk-weaker}
 use Rattle.byte_text.specs.Names.{Bytes}
 use Rattle.byte_text.specs.Replies.{fine}
 use Rattle.world_data.specs.Limits.{max_fields, max_objects, max_reply}
 use Rattle.world_data.specs.Filters.{Field, with_values}
-use Rattle.world_model.specs.Replies.{null, error}
+use Rattle.world_model.specs.Replies.{null}
 use Rattle.world_model.specs.Effects.{Effect, given_and_cleared, is_kept_back}
 use Rattle.world_data.specs.declared.objects.Object.{Object}
 use Rattle.world_model.specs.Refusals.{refusal_reply}

@@ -1,14 +1,11 @@
 use Rattle.std.proofs.Common.{◌≡◌, ◌≤◌, ◌<◌, ℕ, List, length, map, refl, sym, ap, ◌∙◌, subst, arith}
-use Rattle.std.specs.Prelude.{Some, slice_get, slice_set}
+use Rattle.std.specs.Prelude.{Some, slice_get}
 use Rattle.std.proofs.lemmas.Option.{slice_get_read}
 use Rattle.world_data.specs.declared.worlds.World.{World}
-use Rattle.fence_model.specs.Writes.{Write}
 use Rattle.world_model.specs.Subscriptions.{Sub}
 use Rattle.keyspace.specs.Entries.{objects_in}
 use Rattle.deliveries.specs.Plans.{effect_of_asked}
-use Rattle.deliveries.specs.Staging.{after_all}
 use Rattle.session_mail.specs.Sessions.{State, session_of}
-use Rattle.session_mail.specs.Fans.{HaveStaged}
 use Rattle.session_mail.specs.FanLaws.{same_set}
 use Rattle.tile_core.specs.Moves.{world_with}
 use Rattle.tile_core.specs.Planned.{IsPlanned}

@@ -1,4 +1,4 @@
-use Rattle.std.proofs.Common.{◌≡◌, subst, sym}
+use Rattle.std.proofs.Common.{subst, sym}
 use Rattle.keyspace.specs.Entries.{objects_in}
 use Rattle.world_model.specs.declared.commands.Command.{Command}
 use Rattle.tile_core.specs.Beside.{IsCounted}

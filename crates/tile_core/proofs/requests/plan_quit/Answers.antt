@@ -1,7 +1,6 @@
-use Rattle.std.proofs.Common.{◌≡◌, ◌≤◌, ℕ, true, lit≤, length, subst, ap, ◌∙◌, sym, List}
+use Rattle.std.proofs.Common.{◌≡◌, ◌≤◌, ℕ, true, lit≤, length, subst, sym}
 use Rattle.byte_text.specs.Names.{Bytes}
 use Rattle.byte_text.specs.Replies.{fine, frame_text}
-use Rattle.byte_text.specs.declared.replies.Piece.{Piece}
 use Rattle.world_data.specs.Limits.{max_reply}
 use Rattle.keyspace.specs.Entries.{objects_in}
 use Rattle.tile_core.specs.Moves.{world_in}

@@ -1,4 +1,4 @@
-use Rattle.std.proofs.Common.{◌≡◌, arith}
+use Rattle.std.proofs.Common.{arith}
 use Rattle.record_lengths.specs.ChannelSums.{new_weight, changed_weight}
 use Rattle.tile_core.proofs.setchans.weight_after.Goals as goal
 

@@ -1,5 +1,5 @@
 use Rattle.keyspace.specs.Entries.{objects_in}
-use Rattle.std.proofs.Common.{◌≡◌, sym, ap, subst}
+use Rattle.std.proofs.Common.{sym, subst}
 use Rattle.tile_core.specs.declared.planned.Planned.{Planned}
 use Rattle.tile_core.specs.Moves.{world_with}
 use Rattle.tile_core.specs.Ready.{planned_writes}

@@ -1,4 +1,4 @@
-use Rattle.std.proofs.Common.{◌≡◌, ◌<◌, ◌+◌, ℕ, true, false, refl, sym, ap, ◌∙◌, subst, inl, inr, List, length, arith}
+use Rattle.std.proofs.Common.{◌≡◌, ◌<◌, ◌+◌, ℕ, true, false, sym, ap, ◌∙◌, subst, inl, inr, List, length, arith}
 use Rattle.std.specs.Prelude.{Some, slice_get, ◌⊎◌, []}
 use Rattle.ordered_lists.specs.Reading.{stands_at}
 use Rattle.session_mail.specs.Sessions.{State}

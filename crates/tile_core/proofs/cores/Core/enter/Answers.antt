@@ -1,4 +1,4 @@
-use Rattle.std.proofs.Common.{◌≡◌, ◌+◌, ◌++◌, ◌∷◌, [], List, length, length-append, sym, ap, ◌∙◌, subst, arith, rules, refl}
+use Rattle.std.proofs.Common.{◌≡◌, ◌+◌, ◌++◌, ◌∷◌, [], List, length, length-append, sym, ap, ◌∙◌, subst, arith, rules}
 use Rattle.session_mail.specs.Sessions.{State}
 use Rattle.session_mail.specs.Fans.{AreBare}
 use Rattle.tile_core.specs.Sessions.{Rises}
