@@ -15,7 +15,7 @@ ghost use Rattle.session_mail.specs.Sessions.{AreSoundSubs};
 ghost use Rattle.keyspace.specs.Entries.{objects_in};
 ghost use Rattle.tile_core.specs.Asking.{IsAsked};
 ghost use Rattle.tile_core.specs.Beside.{is_of_channels, is_of_objects, is_weighed, IsCounted};
-ghost use Rattle.tile_core.specs.Contexts.{IsContext};
+ghost use Rattle.tile_core.specs.Contexts.{IsContext, IsPlannedIn, kept_world};
 ghost use Rattle.tile_core.specs.CoreStates.{AreKept, most_kept};
 ghost use Rattle.tile_core.specs.Moves.{world_in, world_with};
 ghost use Rattle.tile_core.specs.Planned.{channels_weight, IsPlanned};
@@ -286,8 +286,7 @@ fn plan_of_channels(
     requires light { context.total + context.channels ≤ most_kept }
     requires asked { IsAsked command }
     requires of_channels { is_of_channels command ≡ true }
-    ensures { IfOk result (λ p. (now : ℕ) (held : List Sub) → IsPlanned (world_with context.entry.hub.now.channels (objects_in context.entry.objects.now)) context.entry.total held
-        (effect (world_with context.entry.hub.now.channels (objects_in context.entry.objects.now)) now [] command) p) }
+    ensures { IfOk result (λ p. (now : ℕ) (held : List Sub) → IsPlanned (kept_world context.entry) context.entry.total held (effect (kept_world context.entry) now [] command) p) }
 {
     let Context {
         objects,
@@ -344,8 +343,7 @@ fn plan_open(
     requires context { IsContext context }
     requires asked { IsAsked command }
     requires may_ask { (has_subs context.subs.now && not (is_served_subscribed command)) ≡ false }
-    ensures { IfOk result (λ p. IsPlanned (world_with context.entry.hub.now.channels (objects_in context.entry.objects.now)) context.entry.total context.entry.subs.now
-        (effect (world_with context.entry.hub.now.channels (objects_in context.entry.objects.now)) context.entry.now context.entry.subs.now command) p) }
+    ensures { IfOk result (λ p. IsPlannedIn context.entry (effect (kept_world context.entry) context.entry.now context.entry.subs.now command) p) }
 {
     if is_of_objects(&command) {
         return plan_beside(alloc, context, command, steps);
@@ -389,8 +387,7 @@ fn plan_served(
 ) -> Result<Planned, NoMemory>
     requires context { IsContext context }
     requires asked { IsAsked command }
-    ensures { IfOk result (λ p. IsPlanned (world_with context.entry.hub.now.channels (objects_in context.entry.objects.now)) context.entry.total context.entry.subs.now
-        (effect (world_with context.entry.hub.now.channels (objects_in context.entry.objects.now)) context.entry.now context.entry.subs.now command) p) }
+    ensures { IfOk result (λ p. IsPlannedIn context.entry (effect (kept_world context.entry) context.entry.now context.entry.subs.now command) p) }
 {
     if is_refused(context.subs, &command) {
         let refusal = say_refusal(alloc, context.total, Refusal::Subscribed)?;
@@ -407,8 +404,7 @@ fn plan_words(
     steps: &mut Steps<Visits>,
 ) -> Result<Planned, NoMemory>
     requires context { IsContext context }
-    ensures { IfOk result (λ p. IsPlanned (world_with context.entry.hub.now.channels (objects_in context.entry.objects.now)) context.entry.total context.entry.subs.now
-        (effect_of_read (world_with context.entry.hub.now.channels (objects_in context.entry.objects.now)) context.entry.now context.entry.subs.now (reads words.now)) p) }
+    ensures { IfOk result (λ p. IsPlannedIn context.entry (effect_of_read (kept_world context.entry) context.entry.now context.entry.subs.now (reads words.now)) p) }
 {
     served_commands();
     // A request is within its limits, and so is what a refusal shows of it.
@@ -430,8 +426,7 @@ pub(crate) fn plan_asked(
     steps: &mut Steps<Visits>,
 ) -> Result<Planned, NoMemory>
     requires context { IsContext context }
-    ensures { IfOk result (λ p. IsPlanned (world_with context.entry.hub.now.channels (objects_in context.entry.objects.now)) context.entry.total context.entry.subs.now
-        (effect_of_asked (world_with context.entry.hub.now.channels (objects_in context.entry.objects.now)) context.entry.now context.entry.subs.now asked.now) p) }
+    ensures { IfOk result (λ p. IsPlannedIn context.entry (effect_of_asked (kept_world context.entry) context.entry.now context.entry.subs.now asked.now) p) }
 {
     match asked {
         Asked::Words(words) => { plan_words(alloc, context, words, steps) }
