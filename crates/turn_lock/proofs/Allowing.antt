@@ -1,5 +1,5 @@
 -- Each step of a turn at the lock itself keeps the rule, and tells what it tells.
-use Rattle.std.proofs.Common.{◌≡◌, ℕ, ◌<◌, eqb, Bool, true, false, List, [], ◌∷◌, ◌++◌, length, set, get_or, refl, sym, ap, ◌∙◌, subst, inl, inr, ⊎_elim, arith}
+use Rattle.std.proofs.Common.{◌≡◌, ℕ, ◌<◌, eqb, Bool, true, false, List, [], ◌∷◌, length, set, get_or, refl, sym, ap, ◌∙◌, subst, inl, inr, ⊎_elim, arith}
 use Rattle.std.specs.Prelude.{Option, Some, None, IfSome, slice_get}
 use Rattle.std.proofs.lemmas.List.{set-get_or}
 use mathlib.Core.Option.{some, none}
@@ -19,11 +19,11 @@ use Rattle.turn_lock.specs.Turned.{NoneKept}
 use Rattle.turn_lock.specs.Seats.{places_behind, at_stage, worked}
 use Rattle.turn_lock.specs.Rule.{Story, OneHistory}
 use Rattle.turn_lock.specs.Tells.{opened, locked, added, freed, compared}
-use Rattle.turn_lock.proofs.Cases.{works_is, put_from, put_before, put_behind}
+use Rattle.turn_lock.proofs.Cases.{works_is, put_behind}
 use Rattle.turn_lock.proofs.Views.{there}
 use Rattle.turn_lock.proofs.Beginnings.{prefix_self, prefix_more, prefix_shorter}
 use Rattle.turn_lock.proofs.Ordered.{among_left, among_right, range_within}
-use Rattle.turn_lock.proofs.Moving.{moved, owns, has_places}
+use Rattle.turn_lock.proofs.Moving.{none_changed, with_more, follows_seats, follows_more, moved, owns, has_places}
 use Rattle.turn_lock.proofs.Stepping.{lock_step, kept_more, knows_of, knows_told, mine_before}
 
 module _ {T O E W A : Type 0} (stands : T → List E → Type 0) (kept : E → Bool) (entries : W → A → T → List E) (gives_to : W → T → A → T → Type 0) where
@@ -38,16 +38,8 @@ module _ {T O E W A : Type 0} (stands : T → List E → Type 0) (kept : E → B
       (moved stands kept entries gives_to s r g 0 id v w s.words s.homes
       record {
         at = at;
-        size = refl;
-        words = refl;
-        homes = refl;
-        word_else = λ q ne. refl;
-        home_else = λ q ne. refl;
-        grows = λ l p. p;
-        owner = λ k lt. refl;
-        chief = refl;
-        poster = λ q ne. refl;
-        numbers = λ q ne. refl;
+        table = none_changed 0 s.words s.homes;
+        story = follows_seats g 0 g.poster g.holder (λ q ne. refl);
         holder = λ z. refl;
         lock = λ j ne h z. (refl, z, refl);
         others = λ j ne z ps one. absurd (omega (arith, z));
@@ -125,24 +117,14 @@ module _ {T O E W A : Type 0} (stands : T → List E → Type 0) (kept : E → B
       let own : id ≡ g.holder = (f.works g.log works).1 in
       let held : get_or s.words 0 0 ≡ 0 = (f.works g.log works).2 in
       let w : View O E W = worked v g.log es in
-      let log : List E = g.log ++ es in
-      let owner : ℕ → ℕ = put_from g.owner (length g.log) id in
-      let g' : Story E = record { size = g.size; log = log; owner = owner; poster = g.poster; numbers = g.numbers; holder = g.holder; chief = g.chief } in
-      let k = knows_told log g.log es owner g.chief id v.known f.seen (prefix_self log) (mine_before g.log g.owner g.chief id id v.known (knows_of f)) f.ascends f.first
+      let g' : Story E = with_more g es id g.numbers in
+      let k = knows_told g'.log g.log es g'.owner g.chief id v.known f.seen (prefix_self g'.log) (mine_before g.log g.owner g.chief id id v.known (knows_of f)) f.ascends f.first
       (λ n among. put_behind g.owner (length g.log) id n (range_within n (length g.log) (length es) among).0) in
       moved stands kept entries gives_to s r g' 0 id v w s.words s.homes
       record {
         at = at;
-        size = refl;
-        words = refl;
-        homes = refl;
-        word_else = λ q ne. refl;
-        home_else = λ q ne. refl;
-        grows = λ l p. prefix_more l g.log es p;
-        owner = λ n lt. put_before g.owner (length g.log) id n lt;
-        chief = refl;
-        poster = λ q ne. refl;
-        numbers = λ q ne. refl;
+        table = none_changed 0 s.words s.homes;
+        story = follows_more g 0 es id g.numbers (λ q ne. refl);
         holder = λ z. refl;
         lock = λ j ne h z. absurd (ne (h ∙ sym own));
         others = λ j ne z ps one. absurd (omega (arith, z));

@@ -1,7 +1,7 @@
 -- Each step of a turn at a place keeps the rule, and tells what it tells.
-use Rattle.std.proofs.Common.{◌≡◌, ◌≢◌, ◌⊎◌, ℕ, ◌<◌, ◌≤◌, eqb, Bool, true, false, List, [], ◌∷◌, ◌++◌, length, set, get_or, refl, sym, ap, ◌∙◌, subst, inl, inr, ⊎_elim, arith, length-set}
+use Rattle.std.proofs.Common.{◌≡◌, ◌≢◌, ◌⊎◌, ℕ, ◌<◌, ◌≤◌, eqb, Bool, true, false, List, [], ◌∷◌, ◌++◌, length, set, get_or, refl, sym, ap, ◌∙◌, subst, inl, inr, ⊎_elim, arith}
 use Rattle.std.specs.Prelude.{Option, Some, None, IfSome, slice_get}
-use Rattle.std.proofs.lemmas.List.{get_or-set_same, get_or-set_other}
+use Rattle.std.proofs.lemmas.List.{get_or-set_same}
 use mathlib.Core.Option.{Option as Maybe, some, none}
 use mathlib.Core.List.{IsPrefix}
 use mathlib.Core.Logic.{dite}
@@ -9,7 +9,7 @@ use native.Mathlib.Decide.{dec_le}
 use lib.ListN.{get_elem?}
 use prog.Atomic.{either}
 use Rattle.atomic_table.specs.Table.{State, Me, Act, Valid, carried_after, step, stepped, keeps, takes, gives, Allows}
-use Rattle.atomic_table.proofs.Lists.{set_here, set_else, set_again, exchanged}
+use Rattle.atomic_table.proofs.Lists.{set_here, set_again, exchanged}
 use Rattle.turn_lock.specs.declared.seat.View.{View}
 use Rattle.turn_lock.specs.declared.seat.Held.{Held}
 use Rattle.turn_lock.specs.declared.seat.Known.{Known}
@@ -22,11 +22,11 @@ use Rattle.turn_lock.specs.Turned.{NeverKept}
 use Rattle.turn_lock.specs.Seats.{OwnsKept, OwnPlaces, places_behind, at_post, with_hand, served, told, answered}
 use Rattle.turn_lock.specs.Rule.{IsPosted, IsPlace, Story, Made, OneHistory}
 use Rattle.turn_lock.specs.Tells.{claimed, put, same, fetched, done, collected, left}
-use Rattle.turn_lock.proofs.Cases.{works_is, holds_is, posts_is, put_at, put_here, put_else, put_from, put_before, put_behind}
+use Rattle.turn_lock.proofs.Cases.{works_is, holds_is, posts_is, put_at, put_here, put_else, put_behind}
 use Rattle.turn_lock.proofs.Views.{there, one_there}
 use Rattle.turn_lock.proofs.Beginnings.{prefix_self, prefix_more}
 use Rattle.turn_lock.proofs.Ordered.{among_left, among_right, range_within}
-use Rattle.turn_lock.proofs.Moving.{moved, owns, has_places, view_after}
+use Rattle.turn_lock.proofs.Moving.{word_changed, both_changed, with_more, follows_more, moved, owns, has_places, view_after}
 use Rattle.turn_lock.proofs.Stepping.{own_step, posted_step, kept_more, knows_of, knows_told, mine_before, claim_stays, post_stays}
 use Rattle.turn_lock.proofs.Allowing.{stays}
 
@@ -119,8 +119,7 @@ module _ {T O E W A : Type 0} (stands : T → List E → Type 0) (kept : E → B
               empty = empty;
               before = posted;
               after = to;
-              homes = refl;
-              home_else = λ q ne. refl;
+              table = word_changed p word_b s.words s.homes;
               out = λ e. e;
               holds = λ q x e. absurd (cc (empty, e));
               lies = subst (λ (vs : List (View O E W)). (u : View O E W) × (x : W) × (get_elem? vs (g.poster p) ≡ some u) × (u.post ≡ Posts p x)
@@ -156,8 +155,7 @@ module _ {T O E W A : Type 0} (stands : T → List E → Type 0) (kept : E → B
               empty = empty;
               before = posted;
               after = posted;
-              homes = length-set s.homes p none;
-              home_else = λ q ne. set_else s.homes p q none ne;
+              table = both_changed p (get_or s.words p 0) none s.words s.homes;
               out = λ _. laid;
               holds = λ q y e. (own, k.2, (holds_is e).0, laid);
               lies = (u.0, x, u.1, u.2, inr (w, subst (λ (z : ℕ). get_elem? (set s.views id w) z ≡ some w) own here, refl));
@@ -197,13 +195,12 @@ module _ {T O E W A : Type 0} (stands : T → List E → Type 0) (kept : E → B
       let nz : 0 ≢ p = λ z. omega (arith, z, low) in
       let home : Maybe (Option (Held T W A)) = some (Some (Answered a)) in
       let ws : List ℕ = set s.words p 6 in
-      let we : (q : ℕ) → q ≢ p → get_or ws q 0 ≡ get_or s.words q 0 = λ q ne. get_or-set_other s.words p q 6 0 ne in
+      let table = both_changed p 6 home s.words s.homes in
+      let we : (q : ℕ) → q ≢ p → get_or ws q 0 ≡ get_or s.words q 0 = table.word_else in
       let now : get_or ws p 0 ≡ 6 = get_or-set_same s.words p 6 0 (omega (arith, high, deep, r.wide, r.deep)) in
       let laid : get_elem? (set s.homes p home) p ≡ some home = set_here s.homes p home (omega (arith, high, deep)) in
-      let log : List E = g.log ++ es in
-      let grown : (l : List E) → IsPrefix l g.log → IsPrefix l log = λ l q. prefix_more l g.log es q in
       let w : View O E W = served me.0 g.log es in
-      let g' : Story E = record { size = g.size; log = log; owner = put_from g.owner (length g.log) (g.poster p); poster = g.poster; numbers = put_at g.numbers p (places_behind g.log es); holder = g.holder; chief = g.chief } in
+      let g' : Story E = with_more g es (g.poster p) (put_at g.numbers p (places_behind g.log es)) in
       let numbered : put_at g.numbers p (places_behind g.log es) p ≡ places_behind g.log es = put_here g.numbers p (places_behind g.log es) in
       let h = (r.place p k.2).posted k.3 in
       let x_is : x ≡ h.1 = ⊎_elim
@@ -218,23 +215,15 @@ module _ {T O E W A : Type 0} (stands : T → List E → Type 0) (kept : E → B
       moved stands kept entries gives_to s r g' p id me.0 w ws (set s.homes p home)
       record {
         at = at;
-        size = refl;
-        words = length-set s.words p 6;
-        homes = length-set s.homes p home;
-        word_else = we;
-        home_else = λ q ne. set_else s.homes p q home ne;
-        grows = grown;
-        owner = λ n lt. put_before g.owner (length g.log) (g.poster p) n lt;
-        chief = refl;
-        poster = λ q ne. refl;
-        numbers = λ q ne. put_else g.numbers p (places_behind g.log es) q ne;
+        table = table;
+        story = follows_more g p es (g.poster p) (put_at g.numbers p (places_behind g.log es)) (λ q ne. put_else g.numbers p (places_behind g.log es) q ne);
         holder = λ z. refl;
         lock = λ j ne h z. absurd (ne (h ∙ sym own));
         others = λ j ne z ps le. (ps, (λ one. absurd (omega (arith, one, two))), (λ _. omega (arith, now)), (λ is. absurd (omega (arith, is, six))));
         serves = λ j ne z h held ps out. absurd (ne (h ∙ sym own));
         mine = record {
-          seen = grown me.0.known.seen f.seen;
-          merged = grown me.0.merged f.merged;
+          seen = prefix_more me.0.known.seen g.log es f.seen;
+          merged = prefix_more me.0.merged g.log es f.merged;
           mine = mine_before g.log g.owner g.chief id (g.poster p) me.0.known (knows_of f);
           ascends = f.ascends;
           first = f.first;
@@ -262,7 +251,7 @@ module _ {T O E W A : Type 0} (stands : T → List E → Type 0) (kept : E → B
             u.1,
             u.2.0,
             laid,
-            record { old = old; new = new; before = g.log; sees = subst (λ (n : Known O E). IsPrefix n.seen g.log) (sym u.2.1) poster_fits.seen; begins = prefix_self log; here = sym numbered; stood = stood; gave = gave; stand = stand },
+            record { old = old; new = new; before = g.log; sees = subst (λ (n : Known O E). IsPrefix n.seen g.log) (sym u.2.1) poster_fits.seen; begins = prefix_self g'.log; here = sym numbered; stood = stood; gave = gave; stand = stand },
             λ n among. put_behind g.owner (length g.log) (g.poster p) n (range_within n (length g.log) (length es) (subst (IsAmong n) numbered among)).0,
           );
         };

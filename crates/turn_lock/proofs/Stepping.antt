@@ -1,14 +1,14 @@
 -- The kinds of step: at the word of the lock, at the seat's own place, and at a place where a work is posted.
-use Rattle.std.proofs.Common.{◌≡◌, ◌≢◌, ◌⊎◌, ℕ, ◌+◌, ◌-◌, ◌<◌, ◌≤◌, Bool, true, false, List, ◌++◌, length, set, get_or, refl, sym, ap, ◌∙◌, subst, inl, inr, ⊎_elim, arith, length-append, length-set}
+use Rattle.std.proofs.Common.{◌≡◌, ◌≢◌, ◌⊎◌, ℕ, ◌+◌, ◌-◌, ◌<◌, ◌≤◌, Bool, true, false, List, ◌++◌, length, set, get_or, refl, sym, ap, ◌∙◌, subst, inl, inr, ⊎_elim, arith, length-append}
 use Rattle.std.specs.Prelude.{Option, Some, None, slice_get}
-use Rattle.std.proofs.lemmas.List.{get_or-set_same, get_or-set_other}
+use Rattle.std.proofs.lemmas.List.{get_or-set_same}
 use mathlib.Core.Option.{Option as Maybe, none, some}
 use mathlib.Core.List.{IsPrefix}
 use mathlib.Core.Logic.{dite}
 use native.Mathlib.Decide.{ℕ_discrete}
 use lib.ListN.{get_elem?}
 use Rattle.atomic_table.specs.Table.{State}
-use Rattle.atomic_table.proofs.Lists.{set_here, set_else}
+use Rattle.atomic_table.proofs.Lists.{set_here}
 use Rattle.turn_lock.specs.declared.seat.View.{View}
 use Rattle.turn_lock.specs.declared.seat.Held.{Held}
 use Rattle.turn_lock.specs.declared.seat.Known.{Known}
@@ -27,7 +27,7 @@ use Rattle.turn_lock.proofs.Cases.{works_is, claims_is, posts_is, put_at, put_he
 use Rattle.turn_lock.proofs.Views.{there}
 use Rattle.turn_lock.proofs.Beginnings.{more_entry, entry_within, entry_has, prefix_length}
 use Rattle.turn_lock.proofs.Ordered.{among_either, range_within, range_has, ascends_more}
-use Rattle.turn_lock.proofs.Moving.{moved}
+use Rattle.turn_lock.proofs.Moving.{OneChanged, both_changed, with_seats, follows_seats, moved}
 
 not_zero : (q : ℕ) → 0 < q → q ≢ 0
 not_zero q h e = omega (arith, h, e)
@@ -106,8 +106,8 @@ pub post_stays : (old new : List ℕ) (p q : ℕ) → ((k : ℕ) → k ≢ p →
 post_stays old new p q else_same two was = dite (ℕ_discrete q p) (λ is. subst (λ (z : ℕ). 2 ≤ get_or new z 0) (sym is) two) (λ no. subst (λ (z : ℕ). 2 ≤ z) (sym (else_same q no)) was)
 
 -- the word of the lock and the stage of the seat that has it
-abbrev pub Has : {E : Type 0} → ℕ → Stage E → List E → Type 0
-Has n stage log = (n ≡ 0) × (stage ≡ Works log)
+abbrev pub WorksOn : {E : Type 0} → ℕ → Stage E → List E → Type 0
+WorksOn n stage log = (n ≡ 0) × (stage ≡ Works log)
 
 -- the same where the value is home again
 abbrev pub Frees : {T E W A : Type 0} → (T → List E → Type 0) → ℕ → Stage E → Maybe (Option (Held T W A)) → List E → Type 0
@@ -126,7 +126,7 @@ Posted {T} {E} {W} kept entries gives p n home post first = (x : W) × IsPosted 
 module _ {T O E W A : Type 0} (stands : T → List E → Type 0) (kept : E → Bool) (entries : W → A → T → List E) (gives : W → T → A → T → Type 0) where
   -- a step at the word of the lock by the seat that has the lock, or that takes it where no seat has it
   pub lock_step : (s : State (Option (Held T W A)) (View O E W)) (r : OneHistory stands kept entries gives s) (id n : ℕ) (v : View O E W) (stage : Stage E) (home : Maybe (Option (Held T W A))) → get_elem? s.views id ≡ some v → 0 < length s.homes → v.hand ≡ Empty
-      → (get_or s.words 0 0 ≡ 0 → id ≡ r.story.holder) → Has n stage r.story.log ⊎ Frees stands n stage home r.story.log
+      → (get_or s.words 0 0 ≡ 0 → id ≡ r.story.holder) → WorksOn n stage r.story.log ⊎ Frees stands n stage home r.story.log
       → OneHistory stands kept entries gives record { words = set s.words 0 n; homes = set s.homes 0 home; views = set s.views id (at_stage v stage) }
   lock_step s r id n v stage home at some_slots empty own after =
       let g = r.story in
@@ -134,23 +134,15 @@ module _ {T O E W A : Type 0} (stands : T → List E → Type 0) (kept : E → B
       let w : View O E W = at_stage v stage in
       let ws : List ℕ = set s.words 0 n in
       let hs : List (Maybe (Option (Held T W A))) = set s.homes 0 home in
-      let g' : Story E = record { size = g.size; log = g.log; owner = g.owner; poster = g.poster; numbers = g.numbers; holder = id; chief = g.chief } in
-      let we : (q : ℕ) → q ≢ 0 → get_or ws q 0 ≡ get_or s.words q 0 = λ q ne. get_or-set_other s.words 0 q n 0 ne in
+      let table = both_changed 0 n home s.words s.homes in
+      let we : (q : ℕ) → q ≢ 0 → get_or ws q 0 ≡ get_or s.words q 0 = table.word_else in
       let now : get_or ws 0 0 ≡ n = get_or-set_same s.words 0 n 0 (omega (arith, some_slots, r.wide, r.deep)) in
-      let works : get_or ws 0 0 ≡ 0 → stage ≡ Works g.log = λ z. ⊎_elim (λ (a : Has n stage g.log). a.1) (λ (a : Frees stands n stage home g.log). let one : n ≡ 1 = a.0 in absurd (omega (arith, one, now, z))) after in
-      moved stands kept entries gives s r g' 0 id v w ws hs
+      let works : get_or ws 0 0 ≡ 0 → stage ≡ Works g.log = λ z. ⊎_elim (λ (a : WorksOn n stage g.log). a.1) (λ (a : Frees stands n stage home g.log). let one : n ≡ 1 = a.0 in absurd (omega (arith, one, now, z))) after in
+      moved stands kept entries gives s r (with_seats g g.poster id) 0 id v w ws hs
       record {
         at = at;
-        size = refl;
-        words = length-set s.words 0 n;
-        homes = length-set s.homes 0 home;
-        word_else = we;
-        home_else = λ q ne. set_else s.homes 0 q home ne;
-        grows = λ l p. p;
-        owner = λ k lt. refl;
-        chief = refl;
-        poster = λ q ne. refl;
-        numbers = λ q ne. refl;
+        table = table;
+        story = follows_seats g 0 g.poster id (λ q ne. refl);
         holder = own;
         lock = λ j ne h z. absurd (ne (h ∙ sym (own z)));
         others = λ j ne z ps one. absurd (omega (arith, z));
@@ -161,8 +153,8 @@ module _ {T O E W A : Type 0} (stands : T → List E → Type 0) (kept : E → B
           mine = f.mine;
           ascends = f.ascends;
           first = f.first;
-          opens = λ e. ⊎_elim (λ (a : Has n stage g.log). let is = a.1 in absurd (cc (is, e))) (λ (a : Frees stands n stage home g.log). let is = a.1 in absurd (cc (is, e))) after;
-          works = λ G e. ⊎_elim (λ (a : Has n stage g.log). (works_is (sym e ∙ a.1), refl, now ∙ a.0)) (λ (a : Frees stands n stage home g.log). let is = a.1 in absurd (cc (is, e))) after;
+          opens = λ e. ⊎_elim (λ (a : WorksOn n stage g.log). let is = a.1 in absurd (cc (is, e))) (λ (a : Frees stands n stage home g.log). let is = a.1 in absurd (cc (is, e))) after;
+          works = λ G e. ⊎_elim (λ (a : WorksOn n stage g.log). (works_is (sym e ∙ a.1), refl, now ∙ a.0)) (λ (a : Frees stands n stage home g.log). let is = a.1 in absurd (cc (is, e))) after;
           hand = λ q x e. absurd (cc (empty, e));
           claims = λ q e. let b = f.claims q e in (b.0, b.1, we q (not_zero q b.0.0) ∙ b.2);
           posts = λ q x e. let b = f.posts q x e in (b.0, b.1, subst (λ (z : ℕ). 2 ≤ z) (sym (we q (not_zero q b.0.0))) b.2, b.3);
@@ -175,7 +167,7 @@ module _ {T O E W A : Type 0} (stands : T → List E → Type 0) (kept : E → B
         owns = λ k a. a;
         takes = λ x z e six k among. absurd (omega (arith, z));
         place = λ z lt. absurd (omega (arith, z));
-        value = λ z. ⊎_elim (λ (a : Has n stage g.log). let zero : n ≡ 0 = a.0 in absurd (omega (arith, zero, now, z)))
+        value = λ z. ⊎_elim (λ (a : WorksOn n stage g.log). let zero : n ≡ 0 = a.0 in absurd (omega (arith, zero, now, z)))
             (λ (a : Frees stands n stage home g.log). (a.2, set_here s.homes 0 home some_slots ∙ ap some a.3, a.4)) after;
         first = λ k e there_is ke. inl there_is;
       }
@@ -206,10 +198,11 @@ module _ {T O E W A : Type 0} (stands : T → List E → Type 0) (kept : E → B
       let w : View O E W = record { known = k; merged = v.merged; stage = v.stage; hand = v.hand; post = post } in
       let ws : List ℕ = set s.words p n in
       let hs : List (Maybe (Option (Held T W A))) = set s.homes p home in
-      let g' : Story E = record { size = g.size; log = g.log; owner = g.owner; poster = put_at g.poster p id; numbers = g.numbers; holder = g.holder; chief = g.chief } in
+      let g' : Story E = with_seats g (put_at g.poster p id) g.holder in
+      let table = both_changed p n home s.words s.homes in
       let nz : 0 ≢ p = λ z. omega (arith, z, low) in
-      let we : (q : ℕ) → q ≢ p → get_or ws q 0 ≡ get_or s.words q 0 = λ q ne. get_or-set_other s.words p q n 0 ne in
-      let he : (q : ℕ) → q ≢ p → get_elem? hs q ≡ get_elem? s.homes q = λ q ne. set_else s.homes p q home ne in
+      let we : (q : ℕ) → q ≢ p → get_or ws q 0 ≡ get_or s.words q 0 = table.word_else in
+      let he : (q : ℕ) → q ≢ p → get_elem? hs q ≡ get_elem? s.homes q = table.home_else in
       let now : get_or ws p 0 ≡ n = get_or-set_same s.words p n 0 (omega (arith, inside, r.wide)) in
       let laid : get_elem? hs p ≡ some home = set_here s.homes p home (omega (arith, inside, r.deep)) in
       let mine : put_at g.poster p id p ≡ id = put_here g.poster p id in
@@ -240,16 +233,8 @@ module _ {T O E W A : Type 0} (stands : T → List E → Type 0) (kept : E → B
       moved stands kept entries gives s r g' p id v w ws hs
       record {
         at = o.at;
-        size = refl;
-        words = length-set s.words p n;
-        homes = length-set s.homes p home;
-        word_else = we;
-        home_else = he;
-        grows = λ l p. p;
-        owner = λ k lt. refl;
-        chief = refl;
-        poster = λ q ne. put_else g.poster p id q ne;
-        numbers = λ q ne. refl;
+        table = table;
+        story = follows_seats g p (put_at g.poster p id) g.holder (λ q ne. put_else g.poster p id q ne);
         holder = λ z. refl;
         lock = λ j ne h z. (refl, we 0 nz ∙ z, he 0 nz);
         others = λ j ne z ps le. absurd (ne (sym ps ∙ o.own le));
@@ -285,8 +270,7 @@ module _ {T O E W A : Type 0} (stands : T → List E → Type 0) (kept : E → B
     pub empty : v.hand ≡ Empty
     pub before : IsPosted (get_or s.words p 0)
     pub after : IsPosted n
-    pub homes : length hs ≡ length s.homes
-    pub home_else : (q : ℕ) → q ≢ p → get_elem? hs q ≡ get_elem? s.homes q
+    pub table : OneChanged p s.words (set s.words p n) s.homes hs
     pub out : get_elem? s.homes p ≡ some none → get_elem? hs p ≡ some none
     pub holds : (q : ℕ) (x : W) → hand ≡ Holds q x → (id ≡ g.holder) × (get_or s.words 0 0 ≡ 0) × (p ≡ q) × (get_elem? hs p ≡ some none)
     pub lies : (u : View O E W) × (x : W) × (get_elem? (set s.views id (with_hand v hand)) (g.poster p) ≡ some u) × (u.post ≡ Posts p x)
@@ -307,24 +291,16 @@ module _ {T O E W A : Type 0} (stands : T → List E → Type 0) (kept : E → B
       let w : View O E W = with_hand v hand in
       let ws : List ℕ = set s.words p n in
       let nz : 0 ≢ p = λ z. omega (arith, z, low) in
-      let we : (q : ℕ) → q ≢ p → get_or ws q 0 ≡ get_or s.words q 0 = λ q ne. get_or-set_other s.words p q n 0 ne in
+      let we : (q : ℕ) → q ≢ p → get_or ws q 0 ≡ get_or s.words q 0 = o.table.word_else in
       let now : get_or ws p 0 ≡ n = get_or-set_same s.words p n 0 (omega (arith, inside, r.wide)) in
       let posted : IsPosted (get_or ws p 0) = (omega (arith, now, n_two), omega (arith, now, n_six)) in
       moved stands kept entries gives s r g p id v w ws hs
       record {
         at = o.at;
-        size = refl;
-        words = length-set s.words p n;
-        homes = o.homes;
-        word_else = we;
-        home_else = o.home_else;
-        grows = λ l p. p;
-        owner = λ k lt. refl;
-        chief = refl;
-        poster = λ q ne. refl;
-        numbers = λ q ne. refl;
+        table = o.table;
+        story = follows_seats g p g.poster g.holder (λ q ne. refl);
         holder = λ z. refl;
-        lock = λ j ne h z. (refl, we 0 nz ∙ z, o.home_else 0 nz);
+        lock = λ j ne h z. (refl, we 0 nz ∙ z, o.table.home_else 0 nz);
         others = λ j ne z ps le. (ps, (λ one. absurd (omega (arith, one, two))), (λ _. posted.0), (λ is. absurd (omega (arith, is, six))));
         serves = λ j ne z h held ps out. (posted, o.out out);
         mine = record {
@@ -333,7 +309,7 @@ module _ {T O E W A : Type 0} (stands : T → List E → Type 0) (kept : E → B
           mine = f.mine;
           ascends = f.ascends;
           first = f.first;
-          opens = λ e. let h = f.opens e in (h.0, h.1, we 0 nz ∙ h.2, o.home_else 0 nz ∙ h.3);
+          opens = λ e. let h = f.opens e in (h.0, h.1, we 0 nz ∙ h.2, o.table.home_else 0 nz ∙ h.3);
           works = λ G e. let h = f.works G e in (h.0, h.1, we 0 nz ∙ h.2);
           hand = λ q x e. let h = o.holds q x e in subst (λ (z : ℕ). (id ≡ g.holder) × (get_or ws 0 0 ≡ 0) × IsPlace g.size z × IsPosted (get_or ws z 0) × (get_elem? hs z ≡ some none)) h.2 (h.0, we 0 nz ∙ h.1, o.place, posted, h.3);
           claims = λ q e. let h = f.claims q e in (h.0, h.1, claim_stays s.words ws p q we two h.2);
@@ -347,6 +323,6 @@ module _ {T O E W A : Type 0} (stands : T → List E → Type 0) (kept : E → B
         owns = λ k a. a;
         takes = λ x z e is k among. absurd (omega (arith, is, six));
         place = λ _ _. record { empty = λ e. absurd (omega (arith, e, now, n_two)); claimed = λ e. absurd (omega (arith, e, now, n_two)); posted = λ _. o.lies; done = λ e. absurd (omega (arith, e, now, n_six)) };
-        value = λ z. let h = r.value (sym (we 0 nz) ∙ z) in (h.0, o.home_else 0 nz ∙ h.1, h.2);
+        value = λ z. let h = r.value (sym (we 0 nz) ∙ z) in (h.0, o.table.home_else 0 nz ∙ h.1, h.2);
         first = λ k e there_is ke. inl there_is;
       }
