@@ -1,4 +1,4 @@
-use Rattle.std.proofs.Common.{length, arith}
+use Rattle.std.proofs.Common.{arith}
 use Rattle.tile_core.proofs.Calls.{as_many}
 use Rattle.tile_core.proofs.Completing.{can_placed}
 use Rattle.tile_core.proofs.finish.complete.Goals as goal

@@ -1,5 +1,4 @@
 use Rattle.std.proofs.Common.{◌≡◌, ◌∷◌, [], refl, ap, ◌∙◌, subst}
-use Rattle.std.specs.Prelude.{Some}
 use Rattle.byte_text.specs.Names.{Bytes}
 use Rattle.world_data.specs.Worlds.{object_at}
 use Rattle.world_data.specs.declared.worlds.Change.TheVariants as change
