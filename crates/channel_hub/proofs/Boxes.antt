@@ -14,8 +14,8 @@ use Rattle.fence_index.specs.Boxed.{AreSame, IsAmong, IsOneMore, weight_on}
 use Rattle.fence_index.specs.Marks.{mark_of}
 use Rattle.fence_index.specs.Numbered.{AreBoxed, weight_if}
 use Rattle.fence_index.specs.Reasons.{Reason}
-use Rattle.channel_hub.specs.Hubs.{are_other, mark_in}
-use Rattle.channel_hub.proofs.Slots.{differs, others_apart}
+use Rattle.channel_hub.specs.Hubs.{mark_in}
+use Rattle.ordered_lists.specs.Slots.{are_other, differs, others_apart}
 
 sum_there : {A : Type 0} (f : A → ℕ) (xs : List A) (at : ℕ) (x : A) → slice_get xs at ≡ Some x → sum_by f (remove xs at) + f x ≡ sum_by f xs
 sum_there f xs at x is =

@@ -18,7 +18,8 @@ use Rattle.world_data.specs.declared.channels.Channel.{Channel}
 use Rattle.world_data.specs.Worlds.{are_channels, channel_before, is_named}
 use Rattle.fence_index.specs.Candidates.{is_named as is_candidate, round_of}
 use Rattle.fence_index.specs.Marks.{mark_of}
-use Rattle.channel_hub.specs.Hubs.{Stores, may_concern}
+use Rattle.ordered_lists.specs.Slots.{Stores}
+use Rattle.channel_hub.specs.Hubs.{may_concern}
 use Rattle.channel_hub.proofs.NamesInOrder.{ascending_rise, same_names, sorted_rise}
 use Rattle.channel_hub.proofs.Sorted.{sorted_map}
 

@@ -8,8 +8,8 @@ use Rattle.ordered_lists.specs.NameOrder.{partitioned, named_held, named_free}
 use Rattle.ordered_lists.specs.Places.{free_at_end}
 use Rattle.world_data.specs.declared.channels.Channel.{Channel}
 use Rattle.world_data.specs.Worlds.{are_channels}
-use Rattle.channel_hub.specs.Hubs.{Stores, stands_before}
-use Rattle.channel_hub.proofs.Slots.{as_many, stored_or}
+use Rattle.channel_hub.specs.Hubs.{stands_before}
+use Rattle.ordered_lists.specs.Slots.{Stores, as_many, stored_or}
 
 module _ (f : ℕ → Option Channel) (order : List ℕ) (xs : List Channel) (stored : Stores f order xs) (name : Bytes) where
   -- what stands in the slot at a place

@@ -7,9 +7,9 @@ use Rattle.ordered_lists.specs.Ascending.{ascends-remove}
 use Rattle.ordered_lists.specs.Lists.{IsHeld, IsFree, put_in}
 use Rattle.world_data.specs.declared.channels.Channel.{Channel}
 use Rattle.world_data.specs.Worlds.{channel_before, is_named}
-use Rattle.channel_hub.specs.Hubs.{AreInOrder, are_other, channels_in}
+use Rattle.channel_hub.specs.Hubs.{AreInOrder, channels_in}
 use Rattle.channel_hub.proofs.ChannelsByName.{left, put_by_name, put_free, put_held, removed_by_name}
-use Rattle.channel_hub.proofs.Slots.{apart_insert, as_many, as_stored, free_slot, others_apart, read_off, stored_at, stored_insert, stored_remove, stored_set}
+use Rattle.ordered_lists.specs.Slots.{are_other, apart_insert, as_many, as_stored, free_slot, others_apart, read_off, stored_at, stored_insert, stored_remove, stored_set}
 
 pub none_in_order : (f : ℕ → Option Channel) → AreInOrder f []
 none_in_order f = record { stored = refl; apart = refl; by_name = refl }

@@ -1,9 +1,10 @@
 -- What a contract sees of a hub, and what it keeps.
-use Rattle.std.specs.Prelude.{◌≡◌, ◌<◌, ℕ, Bool, true, false, not, nat_eq, ◌&&◌, List, Option, Some, None, is_some, filter_map, map, option_map}
+use Rattle.std.specs.Prelude.{◌≡◌, ◌<◌, ℕ, Bool, true, false, ◌&&◌, List, Option, Some, None, is_some, filter_map, option_map}
 use Rattle.std.specs.List.{AllByRecursion}
 use Rattle.byte_text.specs.Names.{Bytes, before}
 use Rattle.planar_geom.specs.Points.{Bounds}
 use Rattle.ordered_lists.specs.Lists.{ascends}
+use Rattle.ordered_lists.specs.Slots.{Stores, are_other}
 use Rattle.fence_model.specs.Messages.{watches}
 use Rattle.world_data.specs.Worlds.{are_channels}
 use Rattle.world_data.specs.declared.channels.Channel.{Channel}
@@ -28,13 +29,6 @@ abbrev pub AreWhole : List Channel → Type 0
 AreWhole channels = AllByRecursion (λ c. IsWholeWatch c.fence.watch) channels
 
 -- channels in slots
-
--- each of these slots has one of the items, in their order
-abbrev pub Stores : {A : Type 0} → (ℕ → Option A) → List ℕ → List A → Type 0
-Stores slots order xs = map slots order ≡ map Some xs
-
-abbrev pub are_other : ℕ → ℕ → Bool
-are_other s t = not (nat_eq s t)
 
 -- the channels in these slots
 abbrev pub channels_in : (ℕ → Option Channel) → List ℕ → List Channel

@@ -3,3 +3,4 @@ pub mod Reading
 pub mod Ascending
 pub mod Places
 pub mod NameOrder
+pub mod Slots

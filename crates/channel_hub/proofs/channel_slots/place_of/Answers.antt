@@ -3,7 +3,7 @@ use Rattle.std.proofs.lemmas.List.Sorted.{IsPartitionPoint-from_clause}
 use Rattle.slab.specs.Slab.{get}
 use Rattle.channel_hub.specs.Hubs.{channels_in, stands_before}
 use Rattle.channel_hub.proofs.Halving.{free_behind, free_there, held_there, slots_partitioned}
-use Rattle.channel_hub.proofs.Slots.{has_one}
+use Rattle.ordered_lists.specs.Slots.{has_one}
 use Rattle.channel_hub.proofs.channel_slots.place_of.Goals as goal
 
 pub index-requires : goal.index-requires

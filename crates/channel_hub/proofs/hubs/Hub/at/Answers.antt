@@ -2,7 +2,7 @@ use Rattle.ordered_lists.specs.Reading.{stands_at}
 use Rattle.slab.specs.Slab.{get}
 use Rattle.channel_hub.specs.Hubs.{channels_in}
 use Rattle.channel_hub.proofs.Order.{seat, within_order}
-use Rattle.channel_hub.proofs.Slots.{has_at}
+use Rattle.ordered_lists.specs.Slots.{has_at}
 use Rattle.channel_hub.proofs.hubs.Hub.at.Goals as goal
 
 pub index-requires-2 : goal.index-requires-2

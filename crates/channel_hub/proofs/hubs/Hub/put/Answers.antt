@@ -8,7 +8,7 @@ use Rattle.channel_hub.specs.Hubs.{AreInOrder, AreWhole, channels_in, mark_in}
 use Rattle.channel_hub.proofs.Boxes.{boxed_insert, boxed_set, is_among}
 use Rattle.channel_hub.proofs.ChannelsByName.{found, lacking}
 use Rattle.channel_hub.proofs.Order.{channels_insert, channels_set, order_insert, order_set, seat, within_order}
-use Rattle.channel_hub.proofs.Slots.{free_slot, has_at}
+use Rattle.ordered_lists.specs.Slots.{free_slot, has_at}
 use Rattle.channel_hub.proofs.Whole.{none_prepared, whole_put}
 use Rattle.channel_hub.proofs.hubs.Hub.put.Goals as goal
 

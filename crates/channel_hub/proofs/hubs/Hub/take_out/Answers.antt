@@ -8,7 +8,7 @@ use Rattle.channel_hub.specs.Hubs.{AreInOrder, AreWhole, channels_in, mark_in}
 use Rattle.channel_hub.proofs.Boxes.{boxed_remove, is_among}
 use Rattle.channel_hub.proofs.ChannelsByName.{found, lacking, none_left}
 use Rattle.channel_hub.proofs.Order.{channels_remove, order_remove, seat, within_order}
-use Rattle.channel_hub.proofs.Slots.{has_at}
+use Rattle.ordered_lists.specs.Slots.{has_at}
 use Rattle.channel_hub.proofs.Whole.{whole_left}
 use Rattle.channel_hub.proofs.hubs.Hub.take_out.Goals as goal
 
