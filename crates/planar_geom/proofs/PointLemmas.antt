@@ -1,10 +1,11 @@
 -- Points, coordinates and boxes.
 use Rattle.std.proofs.Common.{◌≡◌, ℕ, ◌+◌, ◌<◌, ℤ, pos, negsuc, ◌+ℤ◌, ◌*ℤ◌, ◌≤ℤ◌, arith, refl, sym, ap, ◌∙◌, List, [], ◌∷◌, length, get_or, drop, suc, add-one, drop-cons}
-use Rattle.std.specs.Prelude.{Some, None, unwrap_or, fold, flat_map}
+use Rattle.std.specs.Prelude.{None, unwrap_or, fold, flat_map}
 use Rattle.std.proofs.lemmas.List.Sums.{fold-append}
 use Rattle.std.specs.Int.{int_div_euclid}
 use Rattle.std.proofs.lemmas.Int.{ints}
-use Rattle.planar_geom.specs.Points.{Point, Bounds, pt, bounds, IsCoordinate, with_point, grown, square}
+use Rattle.planar_geom.specs.Points.{Point, pt, bounds, IsCoordinate, grown, square}
+use Rattle.planar_geom.specs.GrownBoxes.{fold-grown}
 use Rattle.planar_geom.specs.Figures.{dot}
 use Rattle.planar_geom.specs.Shapes.{box_of_points}
 
@@ -34,11 +35,6 @@ pub fold-rest : {X A B : Type 0} (f : B → A → B) (g : X → List A) (a : B) 
 fold-rest f g a xs i x h e =
     let rest : drop i xs ≡ x ∷ drop (i + 1) xs = rw add-one (drop-cons xs i x h ∙ ap (λ y. y ∷ drop (suc i) xs) (sym e)) in
     sym (fold-append f a (g x) (flat_map g (drop (i + 1) xs))) ∙ ap (λ ys. fold f a (flat_map g ys)) (sym rest)
-
--- a box that grows round points is the least box round what it held and them
-pub fold-grown : (b : Bounds) (ps : List Point) → fold grown (Some b) ps ≡ Some (fold with_point b ps)
-fold-grown b [] = refl
-fold-grown b (p ∷ ps) = fold-grown (with_point b p) ps
 
 -- the box grown from nothing round points is the least box round them
 pub grown-box : (ps : List Point) → unwrap_or (fold grown None ps) (bounds (pt (pos 0) (pos 0)) (pt (pos 0) (pos 0))) ≡ box_of_points ps

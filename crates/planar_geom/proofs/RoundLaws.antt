@@ -4,7 +4,7 @@ use Rattle.std.specs.Prelude.{Option, Some, None, fold}
 use Rattle.std.specs.Int.{int_min, int_max}
 use Rattle.std.proofs.lemmas.Int.{ints, int_min_is, int_max_is}
 use Rattle.planar_geom.specs.Points.{Point, Bounds, bounds, with_point, box_of_points, box_round_both, grown, joined}
-use Rattle.planar_geom.proofs.PointLemmas.{fold-grown}
+use Rattle.planar_geom.specs.GrownBoxes.{fold-grown}
 
 least : (b l h p : ℤ) → l ≤ℤ h → int_min (int_min (int_min b l) h) p ≡ int_min (int_min b (int_min l p)) (int_max h p)
 least b l h p le = omega (arith, ints, int_min_is b l, int_min_is (int_min b l) h, int_min_is (int_min (int_min b l) h) p, int_min_is l p, int_max_is h p, int_min_is b (int_min l p), int_min_is (int_min b (int_min l p)) (int_max h p))

@@ -1,4 +1,5 @@
 pub mod Points
+pub mod GrownBoxes
 pub mod Figures
 pub mod Standings
 pub mod Shapes

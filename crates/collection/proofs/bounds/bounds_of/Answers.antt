@@ -9,7 +9,7 @@ use Rattle.collection.proofs.bounds.bounds_of.Goals as goal
 
 pub loop-i-preserved : goal.loop-i-preserved
 loop-i-preserved c = record {
-  taken_in = taken_more c.args.objects.now.objects c.loop-i.i c.at.result.now c.loop-i.round c.round_shape.result c.at.ensures c.round_shape.ensures ∙ c.loop-i.invariant.taken_in;
+  taken_in = taken_more c.args.objects.now.objects c.loop-i.i c.at.result.now c.loop-i.round c.with_shape.result c.at.ensures c.with_shape.ensures ∙ c.loop-i.invariant.taken_in;
   some = λ lt e. cc;
 }
 
