@@ -1,32 +1,25 @@
 -- A list of keys of objects in slots: an edit of the keys and their slots is an edit of the objects.
-use Rattle.std.proofs.Common.{◌≡◌, ◌≢◌, ◌<◌, ◌≤◌, ◌+◌, ℕ, zero, suc, Bool, true, false, refl, sym, ap, ◌∙◌, subst, List, [], ◌∷◌, ◌++◌, length, take, drop, get_or, arith}
+use Rattle.std.proofs.Common.{◌≡◌, ◌≢◌, ◌<◌, ◌+◌, ℕ, zero, suc, Bool, true, false, refl, sym, ap, ◌∙◌, subst, List, [], ◌∷◌, ◌++◌, length, take, drop, get_or, arith}
 use Rattle.std.specs.Prelude.{Option, Some, None, is_some, IsSome, nat_eq, not, ◌&&◌, ◌||◌, slice_get}
 use Rattle.std.specs.List.{list_all, list_any, insert, remove, slice_set}
-use Rattle.std.proofs.lemmas.Bool.Decides.{nat_tests}
+use Rattle.std.proofs.lemmas.Option.{slice_get-get_or}
 use Rattle.std.proofs.lemmas.List.{take-append-drop, drop-drop}
 use Rattle.std.proofs.lemmas.List.Elements.{filter_map-append}
 use Rattle.byte_text.specs.Names.{Bytes, before}
 use Rattle.byte_text.specs.ByteOrder.{before_trans}
+use Rattle.ordered_lists.specs.Lists.{ascends}
 use Rattle.ordered_lists.specs.Reading.{both_of}
+use Rattle.ordered_lists.specs.Ascending.{ascends-remove}
+use Rattle.ordered_lists.specs.Slots.{Stores, are_other, as_many, free_slot, others_apart, read_off, stored_set}
+use Rattle.ordered_lists.specs.Slots.{apart_insert as put_apart, stored_at as item_at, stored_insert as stored_with, stored_remove as stored_without, has_one as has_item}
 use Rattle.run_list.specs.Runs.{is_cut}
 use Rattle.collection.specs.Objects.{id_before, are_by_id}
 use Rattle.world_data.specs.declared.objects.Object.{Object}
 use Rattle.collection.specs.Slotted.{objects_at, are_stored, are_apart, AreSlotted, stands_before}
 
-neither : (a b : Bool) → (a || b) ≡ false → (a ≡ false) × (b ≡ false)
-neither a b e = (grind arith, grind arith)
-
 pub some_of : (o : Option Object) → is_some o ≡ true → (x : Object) × (o ≡ Some x)
 some_of None e = absurd (cc)
 some_of (Some x) e = (x, refl)
-
-differs : (a b : ℕ) → nat_eq a b ≡ false → b ≢ a
-differs a b e = λ s. absurd (grind (arith, nat_tests))
-
-none_at : (q : ℕ → Bool) (ks : List ℕ) (i d : ℕ) → i < length ks → list_any q ks ≡ false → q (get_or ks i d) ≡ false
-none_at q [] i d lt none = absurd (omega arith)
-none_at q (k ∷ ks) zero d lt none = (neither (q k) (list_any q ks) none).0
-none_at q (k ∷ ks) (suc i) d lt none = none_at q ks i d (omega arith) (neither (q k) (list_any q ks) none).1
 
 not_true : (b : Bool) → not b ≡ true → b ≡ false
 not_true b e = grind arith
@@ -37,192 +30,97 @@ is_not b e = grind arith
 both : (a b : Bool) → a ≡ true → b ≡ true → (a && b) ≡ true
 both a b p q = grind arith
 
-any_of_two : (a b : Bool) → a ≡ false → b ≡ false → (a || b) ≡ false
-any_of_two a b p q = grind arith
+-- keys that each have an object store their objects
 
-turned_eq : (a b : ℕ) → nat_eq a b ≡ false → nat_eq b a ≡ false
-turned_eq a b e = grind (arith, nat_tests)
+stores : (f : ℕ → Option Object) (ks : List ℕ) → are_stored f ks ≡ true → Stores f ks (objects_at f ks)
+stores f [] all = refl
+stores f (k ∷ ks) all =
+    let p = both_of (is_some (f k)) (are_stored f ks) all in
+    let x = some_of (f k) p.0 in
+    rw x.1 (ap (λ (l : List (Option Object)). Some x.0 ∷ l) (stores f ks p.1))
 
--- what a key without an object is not
-unlike : (f : ℕ → Option Object) (key k : ℕ) (b : Bool) → nat_eq key k ≡ b → f key ≡ None → is_some (f k) ≡ true → b ≡ false
-unlike f key k false e none some = refl
-unlike f key k true e none some =
-    let same : key ≡ k = grind (arith, nat_tests) in
-    let gone : f k ≡ None = ap f (sym same) ∙ none in
-    absurd (cc)
+all_stored : (f : ℕ → Option Object) (ks : List ℕ) (xs : List Object) → Stores f ks xs → are_stored f ks ≡ true
+all_stored f [] xs e = refl
+all_stored f (k ∷ ks) [] e = absurd (cc)
+all_stored f (k ∷ ks) (x ∷ xs) e =
+    let here : f k ≡ Some x = cc in
+    let rest : Stores f ks xs = cc in
+    rw here (all_stored f ks xs rest)
+
+-- keys of which none stands twice are each other than those behind it
+
+neither_of : (a b : Bool) → not (a || b) ≡ (not a && not b)
+neither_of true b = refl
+neither_of false b = refl
+
+none_is : (key : ℕ) (ks : List ℕ) → not (list_any (nat_eq key) ks) ≡ list_all (are_other key) ks
+none_is key [] = refl
+none_is key (k ∷ ks) = neither_of (nat_eq key k) (list_any (nat_eq key) ks) ∙ ap (λ (b : Bool). are_other key k && b) (none_is key ks)
+
+each_other : (ks : List ℕ) → are_apart ks ≡ ascends are_other ks
+each_other [] = refl
+each_other (k ∷ ks) = ap (λ (b : Bool). b && are_apart ks) (none_is k ks) ∙ ap (λ (b : Bool). list_all (are_other k) ks && b) (each_other ks)
 
 pub free_key : (f : ℕ → Option Object) (key : ℕ) (ks : List ℕ) → f key ≡ None → are_stored f ks ≡ true → list_any (nat_eq key) ks ≡ false
-free_key f key [] none all = refl
-free_key f key (k ∷ ks) none all =
-    let p = both_of (is_some (f k)) (are_stored f ks) all in
-    any_of_two (nat_eq key k) (list_any (nat_eq key) ks) (unlike f key k (nat_eq key k) refl none p.0) (free_key f key ks none p.1)
+free_key f key ks none all = not_true (list_any (nat_eq key) ks) (none_is key ks ∙ free_slot f key ks (objects_at f ks) none (stores f ks all))
 
 pub length_at : (f : ℕ → Option Object) (ks : List ℕ) → are_stored f ks ≡ true → length (objects_at f ks) ≡ length ks
-length_at f [] all = refl
-length_at f (k ∷ ks) all =
-    let p = both_of (is_some (f k)) (are_stored f ks) all in
-    let x = some_of (f k) p.0 in
-    rw x.1 (ap suc (length_at f ks p.1))
+length_at f ks all = sym (as_many f ks (objects_at f ks) (stores f ks all))
 
 pub get_at : (f : ℕ → Option Object) (ks : List ℕ) (i d : ℕ) → i < length ks → are_stored f ks ≡ true → slice_get (objects_at f ks) i ≡ f (get_or ks i d)
-get_at f [] i d lt all = absurd (omega arith)
-get_at f (k ∷ ks) zero d lt all =
-    let p = both_of (is_some (f k)) (are_stored f ks) all in
-    let x = some_of (f k) p.0 in
-    rw x.1 refl
-get_at f (k ∷ ks) (suc i) d lt all =
-    let p = both_of (is_some (f k)) (are_stored f ks) all in
-    let x = some_of (f k) p.0 in
-    rw x.1 (get_at f ks i d (omega arith) p.1)
+get_at f ks i d lt all = sym (item_at f ks (objects_at f ks) i (get_or ks i d) (stores f ks all) (slice_get-get_or ks i d lt))
 
 pub stored_at : (f : ℕ → Option Object) (ks : List ℕ) (i d : ℕ) → i < length ks → are_stored f ks ≡ true → is_some (f (get_or ks i d)) ≡ true
-stored_at f [] i d lt all = absurd (omega arith)
-stored_at f (k ∷ ks) zero d lt all = (both_of (is_some (f k)) (are_stored f ks) all).0
-stored_at f (k ∷ ks) (suc i) d lt all = stored_at f ks i d (omega arith) (both_of (is_some (f k)) (are_stored f ks) all).1
+stored_at f ks i d lt all = has_item f ks (objects_at f ks) i d (stores f ks all) lt
+
+-- the key that was read at a place stands there
+there : (ks : List ℕ) (i d key : ℕ) → i < length ks → key ≡ get_or ks i d → slice_get ks i ≡ Some key
+there ks i d key lt is = slice_get-get_or ks i d lt ∙ ap Some (sym is)
 
 module _ (f g : ℕ → Option Object) (key : ℕ) (others : (other : ℕ) → other ≢ key → g other ≡ f other) where
-  -- the same objects, where the key that changed is not among these
-  same_at : (ks : List ℕ) → list_any (nat_eq key) ks ≡ false → objects_at g ks ≡ objects_at f ks
-  same_at [] none = refl
-  same_at (k ∷ ks) none =
-      let p = neither (nat_eq key k) (list_any (nat_eq key) ks) none in
-      rw (others k (differs key k p.0), same_at ks p.1) refl
-
-  same_stored : (ks : List ℕ) → list_any (nat_eq key) ks ≡ false → are_stored f ks ≡ true → are_stored g ks ≡ true
-  same_stored [] none all = refl
-  same_stored (k ∷ ks) none all =
-      let p = neither (nat_eq key k) (list_any (nat_eq key) ks) none in
-      let q = both_of (is_some (f k)) (are_stored f ks) all in
-      both (is_some (g k)) (are_stored g ks) (ap is_some (others k (differs key k p.0)) ∙ q.0) (same_stored ks p.1 q.1)
-
   -- a new key at a place
-  pub insert_at : (x : Object) (ks : List ℕ) (i : ℕ) → are_stored f ks ≡ true → list_any (nat_eq key) ks ≡ false → g key ≡ Some x → i ≤ length ks → objects_at g (insert ks i key) ≡ insert (objects_at f ks) i x
-  insert_at x [] zero all none new le = rw new refl
-  insert_at x [] (suc i) all none new le = absurd (omega arith)
-  insert_at x (k ∷ ks) zero all none new le =
-      let q = both_of (is_some (f k)) (are_stored f ks) all in
-      let y = some_of (f k) q.0 in
-      let p = neither (nat_eq key k) (list_any (nat_eq key) ks) none in
-      rw (new, others k (differs key k p.0), y.1, same_at ks p.1) refl
-  insert_at x (k ∷ ks) (suc i) all none new le =
-      let q = both_of (is_some (f k)) (are_stored f ks) all in
-      let y = some_of (f k) q.0 in
-      let p = neither (nat_eq key k) (list_any (nat_eq key) ks) none in
-      rw (others k (differs key k p.0), y.1) (ap (λ (l : List Object). y.0 ∷ l) (insert_at x ks i q.1 p.1 new (omega arith)))
+  stores_insert : (x : Object) (ks : List ℕ) (i : ℕ) → are_stored f ks ≡ true → list_any (nat_eq key) ks ≡ false → g key ≡ Some x → Stores g (insert ks i key) (insert (objects_at f ks) i x)
+  stores_insert x ks i all none new =
+      let other = sym (none_is key ks) ∙ is_not (list_any (nat_eq key) ks) none in
+      stored_with f g key others ks (objects_at f ks) i x (stores f ks all) other new
 
-  stored_insert : (x : Object) (ks : List ℕ) (i : ℕ) → are_stored f ks ≡ true → list_any (nat_eq key) ks ≡ false → g key ≡ Some x → are_stored g (insert ks i key) ≡ true
-  stored_insert x [] zero all none new = rw new refl
-  stored_insert x [] (suc i) all none new = rw new refl
-  stored_insert x (k ∷ ks) zero all none new = both (is_some (g key)) (are_stored g (k ∷ ks)) (ap is_some new) (same_stored (k ∷ ks) none all)
-  stored_insert x (k ∷ ks) (suc i) all none new =
-      let q = both_of (is_some (f k)) (are_stored f ks) all in
-      let p = neither (nat_eq key k) (list_any (nat_eq key) ks) none in
-      both (is_some (g k)) (are_stored g (insert ks i key)) (ap is_some (others k (differs key k p.0)) ∙ q.0) (stored_insert x ks i q.1 p.1 new)
+  pub insert_at : (x : Object) (ks : List ℕ) (i : ℕ) → are_stored f ks ≡ true → list_any (nat_eq key) ks ≡ false → g key ≡ Some x → objects_at g (insert ks i key) ≡ insert (objects_at f ks) i x
+  insert_at x ks i all none new = read_off g (insert ks i key) (insert (objects_at f ks) i x) (stores_insert x ks i all none new)
 
   -- a key that is taken out
-  pub remove_at : (ks : List ℕ) (i d : ℕ) → are_stored f ks ≡ true → are_apart ks ≡ true → i < length ks → key ≡ get_or ks i d → objects_at g (remove ks i) ≡ remove (objects_at f ks) i
-  remove_at [] i d all apart lt is = absurd (omega arith)
-  remove_at (k ∷ ks) zero d all apart lt is =
-      let q = both_of (is_some (f k)) (are_stored f ks) all in
-      let y = some_of (f k) q.0 in
-      let p = both_of (not (list_any (nat_eq k) ks)) (are_apart ks) apart in
-      let none = subst (λ (n : ℕ). list_any (nat_eq n) ks ≡ false) (sym is) (not_true (list_any (nat_eq k) ks) p.0) in
-      rw y.1 (same_at ks none)
-  remove_at (k ∷ ks) (suc i) d all apart lt is =
-      let q = both_of (is_some (f k)) (are_stored f ks) all in
-      let y = some_of (f k) q.0 in
-      let p = both_of (not (list_any (nat_eq k) ks)) (are_apart ks) apart in
-      let other = subst (λ (n : ℕ). nat_eq k n ≡ false) (sym is) (none_at (nat_eq k) ks i d (omega arith) (not_true (list_any (nat_eq k) ks) p.0)) in
-      rw (others k (differs key k (turned_eq k key other)), y.1) (ap (λ (l : List Object). y.0 ∷ l) (remove_at ks i d q.1 p.1 (omega arith) is))
+  stores_remove : (ks : List ℕ) (i d : ℕ) → are_stored f ks ≡ true → are_apart ks ≡ true → i < length ks → key ≡ get_or ks i d → Stores g (remove ks i) (remove (objects_at f ks) i)
+  stores_remove ks i d all apart lt is =
+      stored_without f g key others ks (objects_at f ks) i (stores f ks all) (others_apart ks i key (there ks i d key lt is) (sym (each_other ks) ∙ apart))
 
-  stored_remove : (ks : List ℕ) (i d : ℕ) → are_stored f ks ≡ true → are_apart ks ≡ true → i < length ks → key ≡ get_or ks i d → are_stored g (remove ks i) ≡ true
-  stored_remove [] i d all apart lt is = absurd (omega arith)
-  stored_remove (k ∷ ks) zero d all apart lt is =
-      let q = both_of (is_some (f k)) (are_stored f ks) all in
-      let p = both_of (not (list_any (nat_eq k) ks)) (are_apart ks) apart in
-      let none = subst (λ (n : ℕ). list_any (nat_eq n) ks ≡ false) (sym is) (not_true (list_any (nat_eq k) ks) p.0) in
-      same_stored ks none q.1
-  stored_remove (k ∷ ks) (suc i) d all apart lt is =
-      let q = both_of (is_some (f k)) (are_stored f ks) all in
-      let p = both_of (not (list_any (nat_eq k) ks)) (are_apart ks) apart in
-      let other = subst (λ (n : ℕ). nat_eq k n ≡ false) (sym is) (none_at (nat_eq k) ks i d (omega arith) (not_true (list_any (nat_eq k) ks) p.0)) in
-      both (is_some (g k)) (are_stored g (remove ks i)) (ap is_some (others k (differs key k (turned_eq k key other))) ∙ q.0) (stored_remove ks i d q.1 p.1 (omega arith) is)
+  pub remove_at : (ks : List ℕ) (i d : ℕ) → are_stored f ks ≡ true → are_apart ks ≡ true → i < length ks → key ≡ get_or ks i d → objects_at g (remove ks i) ≡ remove (objects_at f ks) i
+  remove_at ks i d all apart lt is = read_off g (remove ks i) (remove (objects_at f ks) i) (stores_remove ks i d all apart lt is)
 
   -- a key that has another object
+  stores_set : (x : Object) (ks : List ℕ) (i d : ℕ) → are_stored f ks ≡ true → are_apart ks ≡ true → i < length ks → key ≡ get_or ks i d → g key ≡ Some x → Stores g ks (slice_set (objects_at f ks) i x)
+  stores_set x ks i d all apart lt is new = stored_set f g key others ks (objects_at f ks) i x (stores f ks all) (sym (each_other ks) ∙ apart) (there ks i d key lt is) new
+
   pub set_at : (x : Object) (ks : List ℕ) (i d : ℕ) → are_stored f ks ≡ true → are_apart ks ≡ true → i < length ks → key ≡ get_or ks i d → g key ≡ Some x → objects_at g ks ≡ slice_set (objects_at f ks) i x
-  set_at x [] i d all apart lt is new = absurd (omega arith)
-  set_at x (k ∷ ks) zero d all apart lt is new =
-      let q = both_of (is_some (f k)) (are_stored f ks) all in
-      let y = some_of (f k) q.0 in
-      let p = both_of (not (list_any (nat_eq k) ks)) (are_apart ks) apart in
-      let none = subst (λ (n : ℕ). list_any (nat_eq n) ks ≡ false) (sym is) (not_true (list_any (nat_eq k) ks) p.0) in
-      let here : g k ≡ Some x = ap g (sym is) ∙ new in
-      rw (y.1, here, same_at ks none) refl
-  set_at x (k ∷ ks) (suc i) d all apart lt is new =
-      let q = both_of (is_some (f k)) (are_stored f ks) all in
-      let y = some_of (f k) q.0 in
-      let p = both_of (not (list_any (nat_eq k) ks)) (are_apart ks) apart in
-      let other = subst (λ (n : ℕ). nat_eq k n ≡ false) (sym is) (none_at (nat_eq k) ks i d (omega arith) (not_true (list_any (nat_eq k) ks) p.0)) in
-      rw (others k (differs key k (turned_eq k key other)), y.1) (ap (λ (l : List Object). y.0 ∷ l) (set_at x ks i d q.1 p.1 (omega arith) is new))
+  set_at x ks i d all apart lt is new = read_off g ks (slice_set (objects_at f ks) i x) (stores_set x ks i d all apart lt is new)
 
-  stored_set : (x : Object) (ks : List ℕ) (i d : ℕ) → are_stored f ks ≡ true → are_apart ks ≡ true → i < length ks → key ≡ get_or ks i d → g key ≡ Some x → are_stored g ks ≡ true
-  stored_set x [] i d all apart lt is new = absurd (omega arith)
-  stored_set x (k ∷ ks) zero d all apart lt is new =
-      let q = both_of (is_some (f k)) (are_stored f ks) all in
-      let p = both_of (not (list_any (nat_eq k) ks)) (are_apart ks) apart in
-      let none = subst (λ (n : ℕ). list_any (nat_eq n) ks ≡ false) (sym is) (not_true (list_any (nat_eq k) ks) p.0) in
-      let here : g k ≡ Some x = ap g (sym is) ∙ new in
-      both (is_some (g k)) (are_stored g ks) (ap is_some here) (same_stored ks none q.1)
-  stored_set x (k ∷ ks) (suc i) d all apart lt is new =
-      let q = both_of (is_some (f k)) (are_stored f ks) all in
-      let p = both_of (not (list_any (nat_eq k) ks)) (are_apart ks) apart in
-      let other = subst (λ (n : ℕ). nat_eq k n ≡ false) (sym is) (none_at (nat_eq k) ks i d (omega arith) (not_true (list_any (nat_eq k) ks) p.0)) in
-      both (is_some (g k)) (are_stored g ks) (ap is_some (others k (differs key k (turned_eq k key other))) ∙ q.0) (stored_set x ks i d q.1 p.1 (omega arith) is new)
+  module _ (ks : List ℕ) (s : AreSlotted f ks) where
+    pub slotted_insert : (x : Object) (i : ℕ) → f key ≡ None → g key ≡ Some x → AreSlotted g (insert ks i key)
+    slotted_insert x i free new =
+        let none = free_key f key ks free s.stored in
+        record {
+          stored = all_stored g (insert ks i key) (insert (objects_at f ks) i x) (stores_insert x ks i s.stored none new);
+          apart = each_other (insert ks i key) ∙ put_apart ks i key (sym (each_other ks) ∙ s.apart) (free_slot f key ks (objects_at f ks) free (stores f ks s.stored));
+        }
 
-any_insert : (q : ℕ → Bool) (ks : List ℕ) (i key : ℕ) → q key ≡ false → list_any q ks ≡ false → list_any q (insert ks i key) ≡ false
-any_insert q [] zero key here none = any_of_two (q key) false here refl
-any_insert q [] (suc i) key here none = any_of_two (q key) false here refl
-any_insert q (k ∷ ks) zero key here none = any_of_two (q key) (list_any q (k ∷ ks)) here none
-any_insert q (k ∷ ks) (suc i) key here none =
-    let p = neither (q k) (list_any q ks) none in
-    any_of_two (q k) (list_any q (insert ks i key)) p.0 (any_insert q ks i key here p.1)
+    pub slotted_remove : (i d : ℕ) → i < length ks → key ≡ get_or ks i d → AreSlotted g (remove ks i)
+    slotted_remove i d lt is =
+        record {
+          stored = all_stored g (remove ks i) (remove (objects_at f ks) i) (stores_remove ks i d s.stored s.apart lt is);
+          apart = each_other (remove ks i) ∙ ascends-remove are_other ks i (sym (each_other ks) ∙ s.apart);
+        }
 
-apart_insert : (ks : List ℕ) (i key : ℕ) → are_apart ks ≡ true → list_any (nat_eq key) ks ≡ false → are_apart (insert ks i key) ≡ true
-apart_insert [] zero key apart none = refl
-apart_insert [] (suc i) key apart none = refl
-apart_insert (k ∷ ks) zero key apart none = both (not (list_any (nat_eq key) (k ∷ ks))) (are_apart (k ∷ ks)) (is_not (list_any (nat_eq key) (k ∷ ks)) none) apart
-apart_insert (k ∷ ks) (suc i) key apart none =
-    let p = both_of (not (list_any (nat_eq k) ks)) (are_apart ks) apart in
-    let q = neither (nat_eq key k) (list_any (nat_eq key) ks) none in
-    both (not (list_any (nat_eq k) (insert ks i key))) (are_apart (insert ks i key)) (is_not (list_any (nat_eq k) (insert ks i key)) (any_insert (nat_eq k) ks i key (turned_eq key k q.0) (not_true (list_any (nat_eq k) ks) p.0))) (apart_insert ks i key p.1 q.1)
-
-any_remove : (q : ℕ → Bool) (ks : List ℕ) (i : ℕ) → list_any q ks ≡ false → list_any q (remove ks i) ≡ false
-any_remove q [] zero none = refl
-any_remove q [] (suc i) none = refl
-any_remove q (k ∷ ks) zero none = (neither (q k) (list_any q ks) none).1
-any_remove q (k ∷ ks) (suc i) none =
-    let p = neither (q k) (list_any q ks) none in
-    any_of_two (q k) (list_any q (remove ks i)) p.0 (any_remove q ks i p.1)
-
-apart_remove : (ks : List ℕ) (i : ℕ) → are_apart ks ≡ true → are_apart (remove ks i) ≡ true
-apart_remove [] zero apart = refl
-apart_remove [] (suc i) apart = refl
-apart_remove (k ∷ ks) zero apart = (both_of (not (list_any (nat_eq k) ks)) (are_apart ks) apart).1
-apart_remove (k ∷ ks) (suc i) apart =
-    let p = both_of (not (list_any (nat_eq k) ks)) (are_apart ks) apart in
-    both (not (list_any (nat_eq k) (remove ks i))) (are_apart (remove ks i)) (is_not (list_any (nat_eq k) (remove ks i)) (any_remove (nat_eq k) ks i (not_true (list_any (nat_eq k) ks) p.0))) (apart_remove ks i p.1)
-
-module _ (f g : ℕ → Option Object) (key : ℕ) (others : (other : ℕ) → other ≢ key → g other ≡ f other) (ks : List ℕ) (s : AreSlotted f ks) where
-  pub slotted_insert : (x : Object) (i : ℕ) → f key ≡ None → g key ≡ Some x → AreSlotted g (insert ks i key)
-  slotted_insert x i free new =
-      let none = free_key f key ks free s.stored in
-      record { stored = stored_insert f g key others x ks i s.stored none new; apart = apart_insert ks i key s.apart none }
-
-  pub slotted_remove : (i d : ℕ) → i < length ks → key ≡ get_or ks i d → AreSlotted g (remove ks i)
-  slotted_remove i d lt is = record { stored = stored_remove f g key others ks i d s.stored s.apart lt is; apart = apart_remove ks i s.apart }
-
-  pub slotted_set : (x : Object) (i d : ℕ) → i < length ks → key ≡ get_or ks i d → g key ≡ Some x → AreSlotted g ks
-  slotted_set x i d lt is new = record { stored = stored_set f g key others x ks i d s.stored s.apart lt is new; apart = s.apart }
+    pub slotted_set : (x : Object) (i d : ℕ) → i < length ks → key ≡ get_or ks i d → g key ≡ Some x → AreSlotted g ks
+    slotted_set x i d lt is new =
+        record { stored = all_stored g ks (slice_set (objects_at f ks) i x) (stores_set x ks i d s.stored s.apart lt is new); apart = s.apart }
 
 pub gone : (o : Option Object) → o ≡ None → is_some o ≡ true → ⊥
 gone None e some = cc

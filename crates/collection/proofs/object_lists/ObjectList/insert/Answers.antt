@@ -38,9 +38,7 @@ put_due-requires-clause-apart g c =
     let o = others_insert f keys c.self.inside.dues.items key c.args.i vacant c.self.invariant.expiring in
     let kept = others_kept f g key done.others (insert keys c.args.i key) c.self.inside.dues.items o in
     let none = free_key f key keys vacant c.self.invariant.slotted.stored in
-    let within = rw (← c.self.view_is) at c.requires.within in
-    let le = subst (λ (n : ℕ). c.args.i ≤ n) (length_at f keys c.self.invariant.slotted.stored) within in
-    let objects = insert_at f g key done.others c.args.object keys c.args.i c.self.invariant.slotted.stored none done.changed le in
+    let objects = insert_at f g key done.others c.args.object keys c.args.i c.self.invariant.slotted.stored none done.changed in
     let asc = rw (← c.self.view_is) at c.requires.by_id in
     let slotted = slotted_insert f g key done.others keys c.self.invariant.slotted c.args.object c.args.i vacant done.changed in
     others_apart g (insert keys c.args.i key) key c.self.inside.dues.items kept slotted.stored (subst (λ (l : List Object). are_by_id l ≡ true) (sym objects) asc) (among_new key keys c.args.i)
@@ -88,9 +86,7 @@ returns-clause-objects g c =
     let keys = c.self.inside.keys.items in
     let done = c.insert_reserved-key.ensures.updates in
     let none = free_key f key keys c.insert_reserved-key.ensures.was_vacant c.self.invariant.slotted.stored in
-    let within = rw (← c.self.view_is) at c.requires.within in
-    let le = subst (λ (n : ℕ). c.args.i ≤ n) (length_at f keys c.self.invariant.slotted.stored) within in
-    rw (← c.self.view_is, c.insert.ensures.items) (insert_at f g key done.others c.args.object keys c.args.i c.self.invariant.slotted.stored none done.changed le)
+    rw (← c.self.view_is, c.insert.ensures.items) (insert_at f g key done.others c.args.object keys c.args.i c.self.invariant.slotted.stored none done.changed)
 
 pub returns-clause-cost : goal.returns-clause-cost
 returns-clause-cost g c =
