@@ -1,5 +1,5 @@
 -- What holds of a stored world, and the world that its parts are.
-use Rattle.std.specs.Prelude.{◌≡◌, ℕ, ◌<◌, ◌^◌, List, length, sum_by}
+use Rattle.std.specs.Prelude.{◌≡◌, ℕ, ◌<◌, ◌^◌, Bool, true, false, List, length, sum_by}
 use Rattle.world_data.specs.declared.objects.Object.{Object}
 use Rattle.world_data.specs.declared.worlds.World.{World}
 use Rattle.world_data.specs.declared.worlds.Change.{Change}
@@ -16,6 +16,15 @@ HasFew (Drop key) = Unit {0}
 HasFew Flush = Unit {0}
 HasFew (SetChan c) = Unit {0}
 HasFew (DelChan name) = Unit {0}
+
+-- a change that puts something, which takes memory
+abbrev pub is_put : Change → Bool
+is_put (Put o) = true
+is_put (Del key id) = false
+is_put (Drop key) = false
+is_put Flush = false
+is_put (SetChan c) = true
+is_put (DelChan name) = false
 
 -- objects of this weight, so few that each has a place
 pub record AreStored (objects : List Object) (weight : ℕ) : Type 0 where

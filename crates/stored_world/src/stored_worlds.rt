@@ -1,10 +1,10 @@
 //! A stored world, and the parts that it is taken apart into.
 
-ghost use Rattle.std.specs.Prelude.{◌≡◌, ◌-◌, ◌<◌, ◌^◌, length, sum_by, unwrap_or, OnOk, OnErr};
+ghost use Rattle.std.specs.Prelude.{◌≡◌, ◌-◌, ◌<◌, ◌^◌, true, length, sum_by, unwrap_or, OnOk, OnErr};
 ghost use Rattle.world_data.specs.Worlds.{empty_world, after};
 ghost use Rattle.record_lengths.specs.Lengths.{len_of, len_of_channel, HaveFewFields};
 ghost use Rattle.collection.specs.Objects.{least_due};
-ghost use Rattle.stored_world.specs.Stored.{HasFew, world_of};
+ghost use Rattle.stored_world.specs.Stored.{HasFew, is_put, world_of};
 
 use crate::stored_channels::StoredChannels;
 use crate::stored_objects::StoredObjects;
@@ -73,6 +73,7 @@ impl StoredWorld {
         requires { HasFew change }
         ensures ok { OnOk result (self.new ≡ after self.old change) }
         ensures err { OnErr result (self.new ≡ self.old) }
+        ensures put { OnErr result (is_put change ≡ true) }
     {
         match change {
             Change::Put(object) => self.objects.put(object),

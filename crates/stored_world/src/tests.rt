@@ -5,7 +5,7 @@ ghost use Rattle.stored_world.specs.Stored.{HasFew};
 
 use super::*;
 use byte_text::{Name, NoMemory, Request, Text};
-use planar_geom::{Area, Part, Parts, Pt, Shape};
+use planar_geom::{Area, Pt, Shape};
 use std::alloc::Global;
 use std::test::Fail;
 use world_data::{Change, Channel, Fence, Fields, Kind, Object, Tests, Wanted, Watch};
@@ -18,14 +18,10 @@ fn name(alloc: Global, bytes: &[u8]) -> Result<Name, NoMemory> {
 }
 
 fn spot(alloc: Global) -> Result<Shape, NoMemory> {
-    let mut parts = Parts::new(alloc);
-    let Some(p) = Pt::of(1, 2) else {
+    let Some(at) = Pt::of(1, 2) else {
         return Err(NoMemory);
     };
-    if parts.push(Part::Spot(p)).is_err() {
-        return Err(NoMemory);
-    }
-    match Shape::of(parts) {
+    match Shape::point(alloc, at) {
         Ok(shape) => Ok(shape),
         Err(_) => Err(NoMemory),
     }
