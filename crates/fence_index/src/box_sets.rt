@@ -85,7 +85,8 @@ impl BoxSet {
 
     /// Whether there is no box.
     pub(crate) fn is_empty(&self) -> bool
-        ensures { result ≡ true → self.now.pairs ≡ [] }
+        ensures none { result ≡ true → self.now.pairs ≡ [] }
+        ensures some { self.now.pairs ≡ [] → result ≡ true }
     {
         self.len == 0
     }

@@ -81,7 +81,8 @@ impl KeyBoxes {
 
     /// Whether there is no box.
     pub(crate) fn is_empty(&self) -> bool
-        ensures { result ≡ true → (r : Reason) → (part r self.now).pairs ≡ [] }
+        ensures none { result ≡ true → (r : Reason) → (part r self.now).pairs ≡ [] }
+        ensures some { ((r : Reason) → (part r self.now).pairs ≡ []) → result ≡ true }
     {
         self.near.is_empty() && self.wide.is_empty() && self.always.is_empty()
     }

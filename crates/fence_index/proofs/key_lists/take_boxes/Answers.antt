@@ -43,7 +43,7 @@ returns-then-is_empty-clause-weights c = λ r key w.
     let within : at < length (slice_set xs at t) = subst (λ (n : ℕ). at < n) (sym (length-set xs at t)) held.within in
     let got = stands_at (slice_set xs at t) at u within c.index.ensures in
     let a = weights_taken r key w m c.args.number xs at s t is (key_there m.key xs at s held is) c.take.ensures.key (c.take.ensures.pairs r w) in
-    let b = weights_empty r key w (slice_set xs at t) at u got (c.is_empty.ensures c.if-is_empty.true r) in
+    let b = weights_empty r key w (slice_set xs at t) at u got (c.is_empty.ensures.none c.if-is_empty.true r) in
     rw c.remove.ensures.items (omega (arith, a, b))
 
 pub returns-then-is_empty-clause-kept : goal.returns-then-is_empty-clause-kept
