@@ -1,14 +1,11 @@
 -- The boxes of objects in a tree, as an object comes or goes.
-use Rattle.std.proofs.Common.{◌≡◌, ◌≢◌, ◌<◌, ◌≤◌, ◌+◌, ℕ, zero, suc, Bool, true, false, cond, refl, sym, ap, ◌∙◌, subst, List, [], ◌∷◌, length, get_or, All, arith}
+use Rattle.std.proofs.Common.{◌≡◌, ◌≢◌, ◌<◌, ◌≤◌, ◌+◌, ℕ, zero, suc, Bool, true, false, refl, sym, ap, ◌∙◌, subst, List, [], ◌∷◌, length, get_or, All, arith}
 use Rattle.std.specs.Prelude.{Option, nat_eq, not, ◌&&◌, ◌||◌}
 use Rattle.std.specs.List.{sum_by, Contains, insert, remove}
-use Rattle.std.specs.Ordering.{int_eq}
-use Rattle.std.proofs.lemmas.Bool.Decides.{nat_tests, Decides-int_eq}
+use Rattle.std.proofs.lemmas.Bool.Decides.{nat_tests}
 use Rattle.std.proofs.lemmas.List.Elements.{All-nil, All-cons, All-head, All-tail}
-use Rattle.std.proofs.lemmas.List.Sums.{sum_by-append, sum_by-cons, sum_by-insert, sum_by-remove}
-use Rattle.ordered_lists.specs.Reading.{both_of}
-use Rattle.planar_geom.specs.Points.{Point, Bounds}
-use Rattle.rtree.specs.Pairs.{Pair, pair, IsWith, IsTaken}
+use Rattle.std.proofs.lemmas.List.Sums.{sum_by-cons, sum_by-insert, sum_by-remove}
+use Rattle.rtree.specs.Pairs.{Pair, pair}
 use Rattle.tree_pairs.specs.OnePair.{stands}
 use Rattle.world_data.specs.declared.objects.Object.{Object}
 use Rattle.collection.specs.Deadlines.{is_among}

@@ -1,7 +1,7 @@
 use Rattle.std.proofs.Common.{ap, arith}
 use Rattle.rtree.specs.Pairs.{pair}
 use Rattle.tree_pairs.specs.OnePair.{more_with, more_taken}
-use Rattle.collection.proofs.Cheap.{no_more, twice, unchanged}
+use Rattle.collection.proofs.Cheap.{no_more, twice}
 use Rattle.collection.proofs.box_lists.move_box.Goals as goal
 
 pub returns-clause-pairs : goal.returns-clause-pairs

@@ -6,10 +6,9 @@ use Rattle.collection.specs.Boxed.{box_in, pair_at, IsMoved}
 use Rattle.slab.specs.Slab.{get}
 use Rattle.world_data.specs.declared.objects.Object.{Object}
 use Rattle.collection.specs.Objects.{are_by_id}
-use Rattle.collection.specs.Deadlines.{is_expiring}
 use Rattle.collection.proofs.Numbers.{among_at}
 use Rattle.collection.proofs.Slots.{within_keys, stored_at, get_at, has_one, set_at, slotted_set}
-use Rattle.collection.proofs.Dues.{AreOthers, others_taken, others_kept, others_apart, others_fewer, dues_put, listed}
+use Rattle.collection.proofs.Dues.{others_taken, others_kept, others_apart, others_fewer, dues_put, listed}
 use Rattle.collection.proofs.InTree.{pair_there, tree_set}
 use Rattle.collection.proofs.Cheap.{as_many}
 use Rattle.collection.proofs.object_lists.ObjectList.exchange.Goals as goal
