@@ -1,9 +1,9 @@
 -- The object behind a key and an id is the next one of its key, or else the first one of the next key that has one.
 use Rattle.std.proofs.Common.{◌≡◌, ◌<◌, ℕ, zero, suc, Bool, true, false, refl, sym, ap, ◌∙◌, subst, List, [], ◌∷◌, length, arith}
-use Rattle.std.specs.Prelude.{Option, Some, None, IfSome, ◌&&◌, ◌||◌, filter, find, map, slice_get, if◌then◌else◌}
+use Rattle.std.specs.Prelude.{Option, Some, None, IfSome, ◌&&◌, ◌||◌, filter, find, map, slice_get}
 use Rattle.std.specs.List.{list_all, list_any}
 use Rattle.byte_text.specs.Names.{Bytes, same, before}
-use Rattle.byte_text.specs.ByteOrder.{before_trans, before_asym, before_self, same_refl, same_equal, other_before, other_behind}
+use Rattle.byte_text.specs.ByteOrder.{before_trans, same_refl, same_equal, other_before, other_behind}
 use Rattle.ordered_lists.specs.Lists.{ascends, distinct}
 use Rattle.ordered_lists.specs.Reading.{both_of}
 use Rattle.world_data.specs.Worlds.{object_before, are_objects, has_key}

@@ -1,10 +1,10 @@
 -- A place is found by halving, among items of which some have nothing.
 use Rattle.std.proofs.Common.{◌≡◌, ◌<◌, ◌≤◌, ◌+◌, ℕ, zero, suc, Bool, true, false, refl, sym, ap, ◌∙◌, subst, List, [], ◌∷◌, length, arith}
-use Rattle.std.specs.Prelude.{Option, Some, None, IfSome, ◌&&◌, slice_get, filter, find, nat_lt, if◌then◌else◌}
+use Rattle.std.specs.Prelude.{Option, Some, None, IfSome, ◌&&◌, slice_get, filter, find, nat_lt}
 use Rattle.std.proofs.lemmas.Bool.Decides.{nat_tests}
 use Rattle.std.specs.List.{list_all}
 use Rattle.ordered_lists.specs.Lists.{ascends}
-use Rattle.ordered_lists.specs.Reading.{both_of, all_at}
+use Rattle.ordered_lists.specs.Reading.{both_of}
 use Rattle.next_items.specs.Copies.{IsInFront, IsAtBack, AreBare}
 
 stands_within : {A : Type 0} (xs : List A) (k : ℕ) (s : A) → slice_get xs k ≡ Some s → k < length xs

@@ -1,5 +1,4 @@
 -- The first object of the next key.
-use Rattle.keyspace.specs.Entries.{objects_in}
 use Rattle.next_items.specs.Copies.{is_next_key, name_in}
 use Rattle.next_items.proofs.NextKeys.{place_held, first_next}
 use Rattle.next_items.proofs.copies.first_of_next.Goals as goal

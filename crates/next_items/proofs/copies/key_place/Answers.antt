@@ -1,11 +1,10 @@
 -- Halving comes to the first key behind another that has an object.
-use Rattle.std.proofs.Common.{◌≡◌, ◌≤◌, ◌<◌, ℕ, Bool, true, false, length, arith, sym, ◌∙◌}
+use Rattle.std.proofs.Common.{◌≡◌, ◌≤◌, ℕ, Bool, true, false, arith, sym, ◌∙◌}
 use Rattle.std.specs.Prelude.{filter, nat_le}
 use Rattle.std.proofs.lemmas.Bool.Decides.{nat_tests}
 use Rattle.ordered_lists.specs.Lists.{ascends}
 use Rattle.keyspace.specs.Entries.{key_before, has_objects, objects_in}
 use Rattle.next_items.specs.Copies.{has_key_behind}
-use Rattle.byte_text.specs.Names.{before}
 use Rattle.next_items.proofs.Walking.{bare_back, held_found}
 use Rattle.next_items.proofs.Rising.{key_up, key_down}
 use Rattle.next_items.proofs.NextKeys.{held_ascend}

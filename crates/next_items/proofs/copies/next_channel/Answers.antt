@@ -1,6 +1,6 @@
 -- Where no name is given, the first channel is the next one.
-use Rattle.std.proofs.Common.{ap, ◌∙◌, subst, sym}
-use Rattle.std.specs.Prelude.{◌≡◌, None, find}
+use Rattle.std.proofs.Common.{ap, ◌∙◌, sym}
+use Rattle.std.specs.Prelude.{find}
 use Rattle.next_items.specs.Copies.{is_next_channel, name_in}
 use Rattle.next_items.proofs.Walking.{first_any}
 use Rattle.next_items.proofs.copies.next_channel.Goals as goal
