@@ -3,22 +3,17 @@
 use super::*;
 use byte_text::{Name, NoMemory, Text, push_u64};
 use collection::Collection;
-use planar_geom::{Area, BBox, Part, Parts, Pt, Shape};
+use planar_geom::{Area, BBox, Pt, Shape};
 use rtree::{NoLedger, Steps};
 use std::alloc::Global;
 use std::test::Fail;
 use world_data::{Fields, Kind, Object, Page, Query, Rule, Shown, Tests};
 
 fn spot(alloc: Global) -> Result<Shape, NoMemory> {
-    let mut parts = Parts::new(alloc);
-    match Pt::of(0, 0) {
-        Some(p) => match parts.push(Part::Spot(p)) {
-            Ok(()) => {}
-            Err(_) => return Err(NoMemory),
-        },
-        None => return Err(NoMemory),
-    }
-    match Shape::of(parts) {
+    let Some(at) = Pt::of(0, 0) else {
+        return Err(NoMemory);
+    };
+    match Shape::point(alloc, at) {
         Ok(shape) => Ok(shape),
         Err(_) => Err(NoMemory),
     }
