@@ -3,22 +3,17 @@
 use super::*;
 use byte_text::{Name, NoMemory, Text, push_u64};
 use collection::Collection;
-use planar_geom::{Part, Parts, Pt, Shape};
+use planar_geom::{Pt, Shape};
 use rtree::{NoLedger, Steps};
 use std::alloc::Global;
 use std::test::Fail;
 use world_data::{Fields, Object, Page, Query, Rule, Shown, Tests};
 
 fn spot(alloc: Global, x: i64, y: i64) -> Result<Shape, NoMemory> {
-    let mut parts = Parts::new(alloc);
-    match Pt::of(x, y) {
-        Some(p) => match parts.push(Part::Spot(p)) {
-            Ok(()) => {}
-            Err(_) => return Err(NoMemory),
-        },
-        None => return Err(NoMemory),
-    }
-    match Shape::of(parts) {
+    let Some(at) = Pt::of(x, y) else {
+        return Err(NoMemory);
+    };
+    match Shape::point(alloc, at) {
         Ok(shape) => Ok(shape),
         Err(_) => Err(NoMemory),
     }
