@@ -15,3 +15,4 @@ pub mod FormLaws
 pub mod MadeForms
 pub mod PrefixLaws
 pub mod SoundLaws
+pub mod TableParts

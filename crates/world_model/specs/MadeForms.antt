@@ -1,9 +1,9 @@
 -- What every value that a form spells keeps to.
-use Rattle.std.proofs.Common.{◌≡◌, ℕ, zero, suc, Bool, true, false, refl, List, [], ◌∷◌, ◌++◌, length, ◌+◌}
+use Rattle.std.proofs.Common.{◌≡◌, ℕ, zero, suc, Bool, true, false, refl, subst, List, [], ◌∷◌, length, ◌+◌}
 use Rattle.std.specs.Prelude.{flat_map, Option, Some, None}
 use Rattle.byte_text.specs.Names.{Bytes}
-use Rattle.world_model.specs.Grammar.{Due, Reading, spells, runs_out, Form, go_on, ◌>>=◌, ◌>>◌, done, ◌or◌, one_of, where_, read_as, one_word, maybe, at_most_times, repeated, once_or_more}
-use Rattle.world_model.specs.FormLaws.{Each}
+use Rattle.world_model.specs.Grammar.{Due, Reading, spells, runs_out, Form, go_on, ◌>>=◌, ◌>>◌, done, ◌or◌, one_of, where_, read_as, one_word, maybe, at_most_times, repeated, once_or_more, live, spelled}
+use Rattle.world_model.specs.FormLaws.{Each, each_append}
 
 -- a reading that spells a value spells one with the property
 abbrev pub Said : {A : Type 0} → (A → Type 0) → Reading A → Type 0
@@ -12,10 +12,6 @@ Said P (runs_out due) = Unit {0}
 
 pub record Makes {A : Type 0} (P : A → Type 0) (f : Form A) : Type 0 where
   pub made : (words : List Bytes) → Each (Said P) (f words)
-
-each_append : {A : Type 0} (P : Reading A → Type 0) (xs ys : List (Reading A)) → Each P xs → Each P ys → Each P (xs ++ ys)
-each_append P [] ys p q = q
-each_append P (x ∷ xs) ys p q = (p.0, each_append P xs ys p.1 q)
 
 pub makes_done : {A : Type 0} (P : A → Type 0) (a : A) → P a → Makes P (done a)
 makes_done P a p = record { made = λ words. (p, tt) }
@@ -81,3 +77,10 @@ module _ {S : Type 0} (P : S → Type 0) (step : S → Form S) (keeps : (s : S) 
 
   pub makes_once : (s : S) → P s → Makes P (once_or_more step s)
   makes_once s p = makes_bind P P (step s) (repeated step) (keeps s p) (λ t q. makes_repeated t q)
+
+-- what words spell as a whole, of the readings of them that all have a property
+pub spelled_said : {A : Type 0} (P : A → Type 0) (rs : List (Reading A)) (a : A) → Each (Said P) rs → spelled (live rs) ≡ Some a → P a
+spelled_said P [] a all e = absurd cc
+spelled_said P (spells b [] ∷ rs) a all e = let same : b ≡ a = cc in subst P same all.0
+spelled_said P (spells b (w ∷ rest) ∷ rs) a all e = spelled_said P rs a all.1 e
+spelled_said P (runs_out due ∷ rs) a all e = spelled_said P rs a all.1 e

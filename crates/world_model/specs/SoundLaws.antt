@@ -12,7 +12,7 @@ use Rattle.geo_text.specs.Texts.{Shape, shape_of, stored_or, walked, point_text,
 use Rattle.geo_text.specs.declared.faults.GeoFault.{GeoFault}
 use Rattle.geo_text.specs.StoredLaws.{point_back, bounds_back}
 use Rattle.world_data.specs.Limits.{max_coord, max_meters, max_tests}
-use Rattle.world_model.specs.Grammar.{Form, Reading, spells, runs_out, done, word, maybe, ◌>>=◌, ◌>>◌, ◌or◌, repeated, live, spelled, a_word, a_coordinate, a_geojson}
+use Rattle.world_model.specs.Grammar.{Form, Reading, spells, runs_out, done, word, maybe, ◌>>=◌, ◌>>◌, ◌or◌, repeated, a_word, a_coordinate, a_geojson}
 use Rattle.world_model.specs.Kinds.{when, name, glob, meters, coordinate_from, coordinate, lat_lon, four, geojson, accepted}
 use Rattle.world_model.specs.Commands as table
 use Rattle.world_model.specs.Sound.{IsSoundCommand, is_sound_from, is_sound_reach, takes_areas}
@@ -26,7 +26,7 @@ use Rattle.world_data.specs.declared.queries.Shown.TheVariants as shown
 use Rattle.world_model.specs.declared.commands.Command.{Command}
 use Rattle.world_model.specs.declared.commands.Command.TheVariants as command
 use Rattle.world_model.specs.FormLaws.{Each}
-use Rattle.world_model.specs.MadeForms.{Makes, Said, makes_done, makes_or, makes_none, makes_where, makes_word, makes_bind, makes_behind, makes_then, makes_maybe, makes_any, makes_repeated, makes_once}
+use Rattle.world_model.specs.MadeForms.{Makes, Said, makes_done, makes_or, makes_none, makes_where, makes_word, makes_bind, makes_behind, makes_then, makes_maybe, makes_any, makes_repeated, makes_once, spelled_said}
 use Rattle.world_data.specs.FieldLaws.{with_values-are_fields}
 
 -- kinds of word
@@ -271,12 +271,6 @@ makes_table =
     first (makes_names (codes "SUBSCRIBE") command.Subscribe (λ ws. tt)) (first (makes_some (codes "PSUBSCRIBE") command.Psubscribe (λ ws all. all)) (makes_none IsSoundCommand)))))))))))))))))))))))))))
 
 -- what is spelled is sound
-
-spelled_said : {A : Type 0} (P : A → Type 0) (rs : List (Reading A)) (a : A) → Each (Said P) rs → spelled (live rs) ≡ Some a → P a
-spelled_said P [] a all e = absurd cc
-spelled_said P (spells b [] ∷ rs) a all e = let same : b ≡ a = cc in subst P same all.0
-spelled_said P (spells b (w ∷ rest) ∷ rs) a all e = spelled_said P rs a all.1 e
-spelled_said P (runs_out due ∷ rs) a all e = spelled_said P rs a all.1 e
 
 pub spellings_are_sound : (words : List Bytes) (c : Command) → table.command_spelled words ≡ Some c → IsSoundCommand c
 unfolding table.readings
