@@ -12,11 +12,6 @@ use Rattle.cmd_words.specs.Progress.{Place, Follows, Reads, answers}
 use Rattle.cmd_words.proofs.Gets.{moves_on}
 use Rattle.cmd_words.specs.declared.faults.CommandFault.{CommandFault}
 
--- each reading of one form or another
-pub each_both : {A : Type 0} (P : Reading A → Type 0) (xs ys : List (Reading A)) → Each P xs → Each P ys → Each P (xs ++ ys)
-each_both P [] ys p q = q
-each_both P (x ∷ xs) ys p q = (p.0, each_both P xs ys p.1 q)
-
 module _ {A B C : Type 0} (g : A → Form B) (h : B → Form C) where
   behind : (rs : List (Reading A)) → flat_map (go_on h) (flat_map (go_on g) rs) ≡ flat_map (go_on (λ a. g a >>= h)) rs
   behind [] = refl

@@ -9,14 +9,13 @@ use Rattle.world_model.specs.Grammar.{Form, a_word, Reading, runs_out, ◌>>=◌
 use Rattle.world_model.specs.Kinds.{glob, list_of}
 use Rattle.world_model.specs.Commands.{FenceOptions, fence_option, test, detect_names, command_names}
 use Rattle.world_model.specs.declared.commands.Command.{Command}
-use Rattle.world_model.specs.FormLaws.{Each, Takes, fair_done, fair_word, takes_bind}
+use Rattle.world_model.specs.FormLaws.{Each, Takes, fair_done, fair_word, takes_bind, each_append}
 use Rattle.cmd_words.specs.Progress.{IsWordDue}
 use Rattle.cmd_words.specs.Options.{LacksOption}
 use Rattle.cmd_words.specs.FenceWords.{with_test, behind_word, option_name, may_come, fence_table}
 use Rattle.cmd_words.specs.declared.fence_options.FenceWord.{FenceWord}
 use Rattle.cmd_words.specs.declared.fence_options.FenceWord.TheVariants as option
 use Rattle.cmd_words.proofs.Gets.{lower_word}
-use Rattle.cmd_words.proofs.Binds.{each_both}
 use Rattle.cmd_words.proofs.OptionWords.{takes_where, takes_behind, takes_alone, nothing, absent_when}
 use Rattle.cmd_words.proofs.Options.{OptionLaws, absent_both, due_if}
 use Rattle.cmd_words.proofs.SearchWords.{takes_test}
@@ -24,12 +23,12 @@ use Rattle.cmd_words.proofs.SearchWords.{takes_test}
 -- every option takes a word
 takes_option : (near : Bool) (o : FenceOptions) → Takes (fence_option near o)
 takes_option near o words =
-    each_both _ _ _ (takes_where (is_none o.glob) _ (takes_behind (codes "MATCH") glob _ (fair_word a_word _)) words) (
-    each_both _ _ _ (takes_where (nat_lt (length o.tests) max_tests) _ (takes_bind test _ takes_test (λ t. fair_done (with_test o t))) words) (
-    each_both _ _ _ (takes_where (not o.fence) _ (takes_alone (codes "FENCE") _) words) (
-    each_both _ _ _ (takes_where (is_none o.detect && not o.nodwell) _ (takes_behind (codes "DETECT") (list_of detect_names) _ (fair_word a_word _)) words) (
-    each_both _ _ _ (takes_where (is_none o.commands) _ (takes_behind (codes "COMMANDS") (list_of command_names) _ (fair_word a_word _)) words) (
-    each_both _ _ _ (takes_where (near && not o.nodwell && is_none o.detect) _ (takes_alone (codes "NODWELL") _) words) tt)))))
+    each_append _ _ _ (takes_where (is_none o.glob) _ (takes_behind (codes "MATCH") glob _ (fair_word a_word _)) words) (
+    each_append _ _ _ (takes_where (nat_lt (length o.tests) max_tests) _ (takes_bind test _ takes_test (λ t. fair_done (with_test o t))) words) (
+    each_append _ _ _ (takes_where (not o.fence) _ (takes_alone (codes "FENCE") _) words) (
+    each_append _ _ _ (takes_where (is_none o.detect && not o.nodwell) _ (takes_behind (codes "DETECT") (list_of detect_names) _ (fair_word a_word _)) words) (
+    each_append _ _ _ (takes_where (is_none o.commands) _ (takes_behind (codes "COMMANDS") (list_of command_names) _ (fair_word a_word _)) words) (
+    each_append _ _ _ (takes_where (near && not o.nodwell && is_none o.detect) _ (takes_alone (codes "NODWELL") _) words) tt)))))
 
 -- a word that begins an option
 
@@ -84,12 +83,12 @@ module _ (near : Bool) (o : FenceOptions) (w : Bytes) (rest more : List Bytes) (
 -- where the words run out, words are due that another option could begin with
 due_options : (near : Bool) (o : FenceOptions) → Each IsWordDue (fence_option near o [])
 due_options near o =
-    each_both _ _ _ (due_if (is_none o.glob) (runs_out a_word ∷ []) (tt, tt)) (
-    each_both _ _ _ (due_if (nat_lt (length o.tests) max_tests) (runs_out a_word ∷ runs_out a_word ∷ []) (tt, (tt, tt))) (
-    each_both _ _ _ (due_if (not o.fence) (runs_out a_word ∷ []) (tt, tt)) (
-    each_both _ _ _ (due_if (is_none o.detect && not o.nodwell) (runs_out a_word ∷ []) (tt, tt)) (
-    each_both _ _ _ (due_if (is_none o.commands) (runs_out a_word ∷ []) (tt, tt)) (
-    each_both _ _ _ (due_if (near && not o.nodwell && is_none o.detect) (runs_out a_word ∷ []) (tt, tt)) tt)))))
+    each_append _ _ _ (due_if (is_none o.glob) (runs_out a_word ∷ []) (tt, tt)) (
+    each_append _ _ _ (due_if (nat_lt (length o.tests) max_tests) (runs_out a_word ∷ runs_out a_word ∷ []) (tt, (tt, tt))) (
+    each_append _ _ _ (due_if (not o.fence) (runs_out a_word ∷ []) (tt, tt)) (
+    each_append _ _ _ (due_if (is_none o.detect && not o.nodwell) (runs_out a_word ∷ []) (tt, tt)) (
+    each_append _ _ _ (due_if (is_none o.commands) (runs_out a_word ∷ []) (tt, tt)) (
+    each_append _ _ _ (due_if (near && not o.nodwell && is_none o.detect) (runs_out a_word ∷ []) (tt, tt)) tt)))))
 
 pub fence_laws : (near : Bool) → OptionLaws (fence_table near)
 fence_laws near = record {

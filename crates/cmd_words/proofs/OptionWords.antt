@@ -16,7 +16,7 @@ use Rattle.world_model.specs.declared.commands.Only.{Only}
 use Rattle.world_model.specs.declared.commands.Only.TheVariants.{Absent, Present}
 use Rattle.world_model.specs.declared.commands.Command.{Command}
 use Rattle.world_model.specs.declared.faults.WordFault.TheVariants as fault
-use Rattle.world_model.specs.FormLaws.{Takes, Fair, fair_done, fair_word, fair_bind, takes_word, takes_bind}
+use Rattle.world_model.specs.FormLaws.{Takes, Fair, fair_done, fair_word, fair_bind, takes_word, takes_bind, each_append}
 use Rattle.cmd_words.specs.Progress.{Place, all_words, IsBehind, Moves, Follows, Reads, IsFault, IsRefusal, answers, answered}
 use Rattle.cmd_words.specs.declared.set_options.OptionWord.{OptionWord}
 use Rattle.cmd_words.specs.declared.set_options.OptionWord.TheVariants as option
@@ -25,7 +25,7 @@ use Rattle.cmd_words.specs.declared.object_places.PlaceWord.TheVariants as at
 use Rattle.cmd_words.specs.Sets.{options_and_place, option_name, may_come, LacksOption, place_name, LacksPlace, ReadsPlace, Goes, Refuses}
 use Rattle.cmd_words.proofs.Gets.{lower_word, step, moves, moves_on}
 use Rattle.cmd_words.proofs.Follows.{stopped, now, no_more, some_more, open_by, shut_by, ran_out}
-use Rattle.cmd_words.proofs.Binds.{unrolled, done_behind, each_both}
+use Rattle.cmd_words.proofs.Binds.{unrolled, done_behind}
 use Rattle.cmd_words.specs.declared.faults.CommandFault.{CommandFault}
 use Rattle.cmd_words.specs.declared.faults.CommandFault.TheVariants.{Memory}
 
@@ -46,10 +46,10 @@ fair_field = fair_bind name _ (fair_word a_word _) (λ n. fair_bind integer _ (f
 
 takes_option : (o : SetOptions) → Takes (set_option o)
 takes_option o words =
-    each_both _ _ _ (takes_behind (codes "FIELD") field _ fair_field words) (
-    each_both _ _ _ (takes_where (is_none o.after_ex) _ (takes_behind (codes "EX") seconds _ (fair_word a_word _)) words) (
-    each_both _ _ _ (takes_where (is_none o.only) _ (takes_alone (codes "NX") _) words) (
-    each_both _ _ _ (takes_where (is_none o.only) _ (takes_alone (codes "XX") _) words) tt)))
+    each_append _ _ _ (takes_behind (codes "FIELD") field _ fair_field words) (
+    each_append _ _ _ (takes_where (is_none o.after_ex) _ (takes_behind (codes "EX") seconds _ (fair_word a_word _)) words) (
+    each_append _ _ _ (takes_where (is_none o.only) _ (takes_alone (codes "NX") _) words) (
+    each_append _ _ _ (takes_where (is_none o.only) _ (takes_alone (codes "XX") _) words) tt)))
 
 pub unroll : (o : SetOptions) (next : SetOptions → Bytes × Shape → Form Command) (words : List Bytes)
     → options_and_place o next words ≡ (place >>= next o) words ++ (set_option o >>= λ p. options_and_place p next) words

@@ -4,8 +4,7 @@ use Rattle.std.specs.Prelude.{Option, Some, None, flat_map}
 use Rattle.byte_text.specs.Names.{Bytes}
 use Rattle.byte_text.specs.Requests.{AreShort, max_word}
 use Rattle.world_model.specs.Grammar.{Due, Reading, spells, runs_out, Form, go_on, ◌>>=◌, done, ◌or◌, one_of, where_, read_as, one_word, at_most_times, repeated}
-use Rattle.world_model.specs.FormLaws.{Each}
-use Rattle.cmd_words.proofs.Binds.{each_both}
+use Rattle.world_model.specs.FormLaws.{Each, each_append}
 
 -- the value costs so much that, with the words that are left, it is no more than what was paid; the words that are left are short
 abbrev pub Paid : {A : Type 0} → (A → ℕ) → (A → Type 0) → ℕ → Reading A → Type 0
@@ -25,7 +24,7 @@ pub pays_done : {A : Type 0} (before : ℕ) (size : A → ℕ) (P : A → Type 0
 pays_done before size P a le p = record { pays = λ words short. ((omega arith, p, short), tt) }
 
 pub pays_or : {A : Type 0} {before : ℕ} {size : A → ℕ} {P : A → Type 0} {f g : Form A} → Pays before size P f → Pays before size P g → Pays before size P (f or g)
-pays_or {before = before} {size = size} {P = P} {f = f} {g = g} p q = record { pays = λ words short. each_both (Paid size P (before + length words)) (f words) (g words) (p.pays words short) (q.pays words short) }
+pays_or {before = before} {size = size} {P = P} {f = f} {g = g} p q = record { pays = λ words short. each_append (Paid size P (before + length words)) (f words) (g words) (p.pays words short) (q.pays words short) }
 
 pub pays_none : {A : Type 0} {before : ℕ} {size : A → ℕ} {P : A → Type 0} → Pays before size P (one_of {A = A} [])
 pays_none = record { pays = λ words short. tt }
@@ -49,7 +48,7 @@ module _ {A : Type 0} (before : ℕ) (size : A → ℕ) (P : A → Type 0) (due 
 module _ {A B : Type 0} (size : A → ℕ) (P : A → Type 0) (cost : B → ℕ) (Q : B → Type 0) (g : A → Form B) (goes : (a : A) → P a → Pays (size a) cost Q (g a)) where
   paid_behind : (n : ℕ) (rs : List (Reading A)) → Each (Paid size P n) rs → Each (Paid cost Q n) (flat_map (go_on g) rs)
   paid_behind n [] all = tt
-  paid_behind n (spells a rest ∷ rs) all = each_both (Paid cost Q n) (g a rest) (flat_map (go_on g) rs)
+  paid_behind n (spells a rest ∷ rs) all = each_append (Paid cost Q n) (g a rest) (flat_map (go_on g) rs)
       (more_paid cost Q (size a + length rest) n all.0.0 (g a rest) ((goes a all.0.1).pays rest all.0.2)) (paid_behind n rs all.1)
   paid_behind n (runs_out due ∷ rs) all = (tt, paid_behind n rs all.1)
 

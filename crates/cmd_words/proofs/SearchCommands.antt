@@ -13,8 +13,7 @@ use Rattle.world_data.specs.declared.channels.Kind.{Kind}
 use Rattle.world_data.specs.declared.queries.Shown.{Shown}
 use Rattle.world_data.specs.declared.queries.Shown.TheVariants as shown
 use Rattle.world_model.specs.declared.commands.Command.{Command}
-use Rattle.world_model.specs.FormLaws.{Each}
-use Rattle.cmd_words.proofs.Binds.{each_both}
+use Rattle.world_model.specs.FormLaws.{Each, each_append}
 use Rattle.cmd_words.specs.Progress.{Place, IsWordDue, all_words, IsBehind, Moves, Follows, Parses, ParsesAhead, Reads, ReadsBeside, Answers, IsAhead, IsSilent, WantsWord, IsEnd, IsNot, IsOne, IsRefusal, Took, a_name, answers, answered}
 use Rattle.cmd_words.specs.Options.{options_then, IsNoOption, ReadsOptions}
 use Rattle.cmd_words.specs.SearchWords.{search_table, output_name, ReadsOutput}
@@ -178,7 +177,7 @@ module _ {A : Type 0} (form : (A → Form Command) → Form Command) (make : Byt
       let d = due (make key o) in
       let next : SearchOptions → Form Command = λ p. form (make key p) in
       let rest : List (Reading Command) = behind_options (search_table false) (search_laws false) o next in
-      let all_due : Each IsWordDue (d.0 ∷ (d.1 ++ rest)) = each_both IsWordDue (d.0 ∷ d.1) rest d.3 (options_due (search_table false) (search_laws false) o next) in
+      let all_due : Each IsWordDue (d.0 ∷ (d.1 ++ rest)) = each_append IsWordDue (d.0 ∷ d.1) rest d.3 (options_due (search_table false) (search_laws false) o next) in
       let there : options_then (search_table false) o next [] ≡ d.0 ∷ (d.1 ++ rest) = unroll (search_table false) (search_laws false) o next [] ∙ ap (λ (l : List (Reading Command)). l ++ rest) d.2 in
       wants_by mid d.0 (d.1 ++ rest) (now mid (options_then (search_table false) o next) (options_done (search_table false) (search_laws false) no_search_options (λ k p. form (make k p)) quiet old behind_key key a h mid o g) ∙ ap live there ∙ due_live (d.0 ∷ (d.1 ++ rest)) all_due) all_due
 

@@ -10,14 +10,13 @@ use Rattle.world_model.specs.Kinds.{name, glob, integer, between, bound}
 use Rattle.world_model.specs.Commands.{SearchOptions, search_option, test}
 use Rattle.world_data.specs.declared.filters.Test.TheVariants.{Range, Among}
 use Rattle.world_model.specs.declared.commands.Command.{Command}
-use Rattle.world_model.specs.FormLaws.{Each, Takes, Fair, fair_done, fair_word, fair_bind, takes_word, takes_bind}
+use Rattle.world_model.specs.FormLaws.{Each, Takes, Fair, fair_done, fair_word, fair_bind, takes_word, takes_bind, each_append}
 use Rattle.cmd_words.specs.Progress.{IsWordDue}
 use Rattle.cmd_words.specs.Options.{LacksOption}
 use Rattle.cmd_words.specs.SearchWords.{range_test, among_test, with_test, behind_word, option_name, may_come, search_table}
 use Rattle.cmd_words.specs.declared.search_options.SearchWord.{SearchWord}
 use Rattle.cmd_words.specs.declared.search_options.SearchWord.TheVariants as option
 use Rattle.cmd_words.proofs.Gets.{lower_word}
-use Rattle.cmd_words.proofs.Binds.{each_both}
 use Rattle.cmd_words.proofs.OptionWords.{takes_where, takes_behind, takes_alone, nothing, absent_when}
 use Rattle.cmd_words.proofs.Options.{OptionLaws, absent_both, due_if}
 
@@ -34,17 +33,17 @@ fair_among : Fair among_test
 fair_among = fair_bind name _ (fair_word a_word _) (λ n. fair_bind (between 1 _) _ (fair_word a_word _) (λ count. fair_bind (times count integer) _ (fair_times count integer (fair_word a_word _)) (λ values. fair_done (Among n values))))
 
 pub takes_test : Takes test
-takes_test words = each_both _ _ _ (takes_bind (word (codes "WHERE")) (λ _. range_test) (takes_word a_word _) (λ _. fair_range) words) (takes_bind (word (codes "WHEREIN")) (λ _. among_test) (takes_word a_word _) (λ _. fair_among) words)
+takes_test words = each_append _ _ _ (takes_bind (word (codes "WHERE")) (λ _. range_test) (takes_word a_word _) (λ _. fair_range) words) (takes_bind (word (codes "WHEREIN")) (λ _. among_test) (takes_word a_word _) (λ _. fair_among) words)
 
 takes_option : (ordered : Bool) (o : SearchOptions) → Takes (search_option ordered o)
 takes_option ordered o words =
-    each_both _ _ _ (takes_where (is_none o.glob) _ (takes_behind (codes "MATCH") glob _ (fair_word a_word _)) words) (
-    each_both _ _ _ (takes_where (is_none o.cursor) _ (takes_behind (codes "CURSOR") (between 0 4294967295) _ (fair_word a_word _)) words) (
-    each_both _ _ _ (takes_where (is_none o.limit) _ (takes_behind (codes "LIMIT") (between 1 max_limit) _ (fair_word a_word _)) words) (
-    each_both _ _ _ (takes_where (not o.bare) _ (takes_alone (codes "NOFIELDS") _) words) (
-    each_both _ _ _ (takes_where (ordered && is_none o.down) _ (takes_alone (codes "ASC") _) words) (
-    each_both _ _ _ (takes_where (ordered && is_none o.down) _ (takes_alone (codes "DESC") _) words) (
-    each_both _ _ _ (takes_where (nat_lt (length o.tests) max_tests) _ (takes_bind test _ takes_test (λ t. fair_done (with_test o t))) words) tt))))))
+    each_append _ _ _ (takes_where (is_none o.glob) _ (takes_behind (codes "MATCH") glob _ (fair_word a_word _)) words) (
+    each_append _ _ _ (takes_where (is_none o.cursor) _ (takes_behind (codes "CURSOR") (between 0 4294967295) _ (fair_word a_word _)) words) (
+    each_append _ _ _ (takes_where (is_none o.limit) _ (takes_behind (codes "LIMIT") (between 1 max_limit) _ (fair_word a_word _)) words) (
+    each_append _ _ _ (takes_where (not o.bare) _ (takes_alone (codes "NOFIELDS") _) words) (
+    each_append _ _ _ (takes_where (ordered && is_none o.down) _ (takes_alone (codes "ASC") _) words) (
+    each_append _ _ _ (takes_where (ordered && is_none o.down) _ (takes_alone (codes "DESC") _) words) (
+    each_append _ _ _ (takes_where (nat_lt (length o.tests) max_tests) _ (takes_bind test _ takes_test (λ t. fair_done (with_test o t))) words) tt))))))
 
 -- a word that begins an option
 
@@ -104,13 +103,13 @@ module _ (ordered : Bool) (o : SearchOptions) (w : Bytes) (rest more : List Byte
 -- where the words run out, words are due that another option could begin with
 due_options : (ordered : Bool) (o : SearchOptions) → Each IsWordDue (search_option ordered o [])
 due_options ordered o =
-    each_both _ _ _ (due_if (is_none o.glob) (runs_out a_word ∷ []) (tt, tt)) (
-    each_both _ _ _ (due_if (is_none o.cursor) (runs_out a_word ∷ []) (tt, tt)) (
-    each_both _ _ _ (due_if (is_none o.limit) (runs_out a_word ∷ []) (tt, tt)) (
-    each_both _ _ _ (due_if (not o.bare) (runs_out a_word ∷ []) (tt, tt)) (
-    each_both _ _ _ (due_if (ordered && is_none o.down) (runs_out a_word ∷ []) (tt, tt)) (
-    each_both _ _ _ (due_if (ordered && is_none o.down) (runs_out a_word ∷ []) (tt, tt)) (
-    each_both _ _ _ (due_if (nat_lt (length o.tests) max_tests) (runs_out a_word ∷ runs_out a_word ∷ []) (tt, (tt, tt))) tt))))))
+    each_append _ _ _ (due_if (is_none o.glob) (runs_out a_word ∷ []) (tt, tt)) (
+    each_append _ _ _ (due_if (is_none o.cursor) (runs_out a_word ∷ []) (tt, tt)) (
+    each_append _ _ _ (due_if (is_none o.limit) (runs_out a_word ∷ []) (tt, tt)) (
+    each_append _ _ _ (due_if (not o.bare) (runs_out a_word ∷ []) (tt, tt)) (
+    each_append _ _ _ (due_if (ordered && is_none o.down) (runs_out a_word ∷ []) (tt, tt)) (
+    each_append _ _ _ (due_if (ordered && is_none o.down) (runs_out a_word ∷ []) (tt, tt)) (
+    each_append _ _ _ (due_if (nat_lt (length o.tests) max_tests) (runs_out a_word ∷ runs_out a_word ∷ []) (tt, (tt, tt))) tt))))))
 
 pub search_laws : (ordered : Bool) → OptionLaws (search_table ordered)
 search_laws ordered = record {

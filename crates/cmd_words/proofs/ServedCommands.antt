@@ -3,7 +3,7 @@ use Rattle.std.proofs.Common.{◌≡◌, ◌<◌, Bool, true, false, not, refl, 
 use Rattle.std.specs.Prelude.{◌&&◌, Option, Some, None, is_none, unwrap_or, Ok, codes, IfSome, nat_lt}
 use Rattle.std.specs.List.{AllByRecursion}
 use Rattle.byte_text.specs.Names.{Bytes, is_name}
-use Rattle.world_model.specs.Grammar.{Form, Reading, spells, runs_out, done, word, maybe, ◌>>=◌, ◌>>◌, ◌or◌, where_, repeated, once_or_more, live, spelled, a_word}
+use Rattle.world_model.specs.Grammar.{Form, done, word, maybe, ◌>>=◌, ◌>>◌, ◌or◌, where_, repeated, once_or_more, a_word}
 use Rattle.world_model.specs.Kinds.{name, glob, seconds, meters, lat_lon, four, geojson, when}
 use Rattle.world_data.specs.Limits.{max_tests}
 use Rattle.byte_text.specs.Globs.{is_well_formed}
@@ -18,9 +18,8 @@ use Rattle.world_data.specs.declared.queries.Shown.TheVariants as shown
 use Rattle.world_model.specs.declared.commands.Only.TheVariants.{Any}
 use Rattle.world_model.specs.declared.commands.Command.{Command}
 use Rattle.world_model.specs.declared.commands.Command.TheVariants as command
-use Rattle.cmd_words.proofs.Binds.{each_both}
-use Rattle.world_model.specs.FormLaws.{Each}
-use Rattle.world_model.specs.MadeForms.{Makes, Said, makes_done, makes_or, makes_none, makes_where, makes_word, makes_bind, makes_behind, makes_then, makes_maybe, makes_repeated}
+use Rattle.world_model.specs.FormLaws.{Each, each_append}
+use Rattle.world_model.specs.MadeForms.{Makes, Said, makes_done, makes_or, makes_none, makes_where, makes_word, makes_bind, makes_behind, makes_then, makes_maybe, makes_repeated, spelled_said}
 use Rattle.world_model.specs.SoundLaws.{reads_sound}
 use Rattle.cmd_words.specs.Laws.{IsServed, IsOfObject, IsPattern, IsById, IsKept}
 
@@ -242,43 +241,37 @@ makes_shrink = makes_then Keeps (word (codes "AOFSHRINK")) _ (makes_done Keeps c
 module _ (words : List Bytes) where
   table_keeps : Each (Said Keeps) (table.command_table words)
   table_keeps =
-      each_both (Said Keeps) _ _ (makes_set.made words) (
-      each_both (Said Keeps) _ _ (makes_get.made words) (
-      each_both (Said Keeps) _ _ (makes_del.made words) (
-      each_both (Said Keeps) _ _ (makes_pdel.made words) (
-      each_both (Said Keeps) _ _ (makes_drop.made words) (
-      each_both (Said Keeps) _ _ (makes_fset.made words) (
-      each_both (Said Keeps) _ _ (makes_fget.made words) (
-      each_both (Said Keeps) _ _ (makes_expire.made words) (
-      each_both (Said Keeps) _ _ (makes_persist.made words) (
-      each_both (Said Keeps) _ _ (makes_ttl.made words) (
-      each_both (Said Keeps) _ _ (makes_keys.made words) (
-      each_both (Said Keeps) _ _ (makes_bounds.made words) (
-      each_both (Said Keeps) _ _ (makes_stats.made words) (
-      each_both (Said Keeps) _ _ (makes_flush.made words) (
-      each_both (Said Keeps) _ _ (makes_shrink.made words) (
-      each_both (Said Keeps) _ _ (makes_ping.made words) (
-      each_both (Said Keeps) _ _ (makes_quit.made words) (
-      each_both (Said Keeps) _ _ (makes_scan.made words) (
-      each_both (Said Keeps) _ _ ((makes_search (codes "WITHIN") Within).made words) (
-      each_both (Said Keeps) _ _ ((makes_search (codes "INTERSECTS") Intersects).made words) (
-      each_both (Said Keeps) _ _ (makes_nearby.made words) (
-      each_both (Said Keeps) _ _ (makes_setchan.made words) (
-      each_both (Said Keeps) _ _ (makes_delchan.made words) (
-      each_both (Said Keeps) _ _ (makes_pdelchan.made words) (
-      each_both (Said Keeps) _ _ (makes_chans.made words) (
-      each_both (Said Keeps) _ _ (makes_subscribe.made words) (
-      each_both (Said Keeps) _ _ (makes_psubscribe.made words) tt))))))))))))))))))))))))))
-
-said : (rs : List (Reading Command)) (c : Command) → Each (Said Keeps) rs → spelled (live rs) ≡ Some c → Keeps c
-said [] c all e = absurd cc
-said (spells d [] ∷ rs) c all e = let same : d ≡ c = cc in subst Keeps same all.0
-said (spells d (w ∷ rest) ∷ rs) c all e = said rs c all.1 e
-said (runs_out due ∷ rs) c all e = said rs c all.1 e
+      each_append (Said Keeps) _ _ (makes_set.made words) (
+      each_append (Said Keeps) _ _ (makes_get.made words) (
+      each_append (Said Keeps) _ _ (makes_del.made words) (
+      each_append (Said Keeps) _ _ (makes_pdel.made words) (
+      each_append (Said Keeps) _ _ (makes_drop.made words) (
+      each_append (Said Keeps) _ _ (makes_fset.made words) (
+      each_append (Said Keeps) _ _ (makes_fget.made words) (
+      each_append (Said Keeps) _ _ (makes_expire.made words) (
+      each_append (Said Keeps) _ _ (makes_persist.made words) (
+      each_append (Said Keeps) _ _ (makes_ttl.made words) (
+      each_append (Said Keeps) _ _ (makes_keys.made words) (
+      each_append (Said Keeps) _ _ (makes_bounds.made words) (
+      each_append (Said Keeps) _ _ (makes_stats.made words) (
+      each_append (Said Keeps) _ _ (makes_flush.made words) (
+      each_append (Said Keeps) _ _ (makes_shrink.made words) (
+      each_append (Said Keeps) _ _ (makes_ping.made words) (
+      each_append (Said Keeps) _ _ (makes_quit.made words) (
+      each_append (Said Keeps) _ _ (makes_scan.made words) (
+      each_append (Said Keeps) _ _ ((makes_search (codes "WITHIN") Within).made words) (
+      each_append (Said Keeps) _ _ ((makes_search (codes "INTERSECTS") Intersects).made words) (
+      each_append (Said Keeps) _ _ (makes_nearby.made words) (
+      each_append (Said Keeps) _ _ (makes_setchan.made words) (
+      each_append (Said Keeps) _ _ (makes_delchan.made words) (
+      each_append (Said Keeps) _ _ (makes_pdelchan.made words) (
+      each_append (Said Keeps) _ _ (makes_chans.made words) (
+      each_append (Said Keeps) _ _ (makes_subscribe.made words) (
+      each_append (Said Keeps) _ _ (makes_psubscribe.made words) tt))))))))))))))))))))))))))
 
 spelled_keeps : (words : List Bytes) (c : Command) → table.command_spelled words ≡ Some c → Keeps c
 unfolding table.readings
-spelled_keeps words c e = said (table.command_table words) c (table_keeps words) e
+spelled_keeps words c e = spelled_said Keeps (table.command_table words) c (table_keeps words) e
 
 ok_of : (words : List Bytes) (o : Option Command) (c : Command) → table.ok_or_fault words o ≡ Ok c → o ≡ Some c
 ok_of words (Some d) c e = ap Some (cc e)

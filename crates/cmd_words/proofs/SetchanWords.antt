@@ -8,7 +8,7 @@ use Rattle.world_data.specs.declared.channels.Kind.TheVariants as kind
 use Rattle.world_model.specs.Grammar.{Form, Reading, spells, runs_out, a_word, a_coordinate, a_geojson, go_on, done, live}
 use Rattle.world_model.specs.Commands.{FenceOptions, no_fence_options, readings, reads, wrong_count}
 use Rattle.world_model.specs.declared.commands.Command.{Command}
-use Rattle.world_model.specs.FormLaws.{Each}
+use Rattle.world_model.specs.FormLaws.{Each, each_append}
 use Rattle.cmd_words.specs.Progress.{Place, all_words, Follows, Parses, ParsesAhead, Answers, IsAhead, IsWordDue, WantsWord, IsEnd, IsRefusal, a_name, answers}
 use Rattle.cmd_words.specs.Options.{IsNoOption, Refuses, ReadsOptions, options_then}
 use Rattle.cmd_words.specs.FenceWords.{fence_table, IsApart}
@@ -18,7 +18,6 @@ use Rattle.cmd_words.specs.declared.fence_areas.FenceArea.{FenceArea}
 use Rattle.cmd_words.proofs.Gets.{lower_word, moves, step}
 use Rattle.cmd_words.proofs.Follows.{now, finished}
 use Rattle.cmd_words.proofs.Ends.{end_refused}
-use Rattle.cmd_words.proofs.Binds.{each_both}
 use Rattle.cmd_words.proofs.Ahead.{ahead, wants_by, none_ahead, due_live}
 use Rattle.cmd_words.proofs.Options.{behind_options, options_due, unroll, options_refused, options_done, same_words, next_ahead}
 use Rattle.cmd_words.proofs.FenceWords.{fence_laws, fence_due}
@@ -57,7 +56,7 @@ wants_some p rs e d =
     wants_by p d.0 d.1 there d.3
 
 more_due : (rs more : List (Reading Command)) → SomeDue rs → Each IsWordDue more → SomeDue (rs ++ more)
-more_due rs more d e = (d.0, d.1 ++ more, ap (λ (l : List (Reading Command)). l ++ more) d.2, each_both IsWordDue (d.0 ∷ d.1) more d.3 e)
+more_due rs more d e = (d.0, d.1 ++ more, ap (λ (l : List (Reading Command)). l ++ more) d.2, each_append IsWordDue (d.0 ∷ d.1) more d.3 e)
 
 first_behind : {S : Type 0} (g : S → Form Command) (rs : List (Reading S)) (first : Reading S) (others : List (Reading S)) → rs ≡ first ∷ others → Each IsWordDue rs → Each IsWordDue (flat_map (go_on g) rs) → SomeDue (flat_map (go_on g) rs)
 first_behind g [] first others e d f = absurd cc
