@@ -1,19 +1,20 @@
 //! The options of SETCHAN: for which objects a fence is, and what is wanted of it.
 
-ghost use Rattle.std.specs.Prelude.{◌≡◌, Bool, true, IfOk, IfErr, OnOk};
+ghost use Rattle.std.specs.Prelude.{◌≡◌, Bool, true, IfOk};
 ghost use Rattle.world_model.specs.Commands.{no_fence_options, wanted_of, wants as wants_name};
 ghost use Rattle.cmd_words.specs.Progress.{Reads};
 ghost use Rattle.cmd_words.specs.Options.{TakesOption, ReadsOptions};
-ghost use Rattle.cmd_words.specs.FenceWords.{fence_table, behind_word, may_come, with_test, IsApart};
+ghost use Rattle.cmd_words.specs.FenceWords.{fence_table, behind_word, may_come, IsApart};
 
 use crate::faults::CommandFault;
 use crate::listed_names::{ListKind, ListedNames};
 use crate::request_reader::Reader;
+use crate::tests_read::push_test;
 use byte_text::Name;
 use std::alloc::Global;
 use std::marker::Model;
 use world_data::{MAX_TESTS, Wanted};
-use world_model::{Test, Tests};
+use world_model::Tests;
 
 /// The word that an option begins with: MATCH, WHERE, WHEREIN, FENCE, DETECT, COMMANDS or NODWELL.
 #[derive(Clone, Copy)]
@@ -59,17 +60,6 @@ impl FenceOptions {
             detect: None,
             commands: None,
             nodwell: false,
-        }
-    }
-
-    // One more test.
-    fn push(&mut self, test: Test) -> Result<(), CommandFault>
-        ensures ok { OnOk result (self.new ≡ with_test self.old test) }
-        ensures err { IfErr result (λ why. why ≡ CommandFault.Memory) }
-    {
-        match self.tests.push(test) {
-            Ok(()) => Ok(()),
-            Err(_) => Err(CommandFault::Memory),
         }
     }
 
@@ -156,12 +146,12 @@ fn with_option(
         }
         FenceWord::Where => {
             let test = reader.range_test()?;
-            options.push(test)?;
+            push_test(&mut options.tests, test)?;
             Ok(options)
         }
         FenceWord::WhereIn => {
             let test = reader.among_test()?;
-            options.push(test)?;
+            push_test(&mut options.tests, test)?;
             Ok(options)
         }
         FenceWord::Fence => {

@@ -24,6 +24,7 @@ mod searches;
 mod set_options;
 mod setchans;
 mod sets;
+mod tests_read;
 mod word_kinds;
 
 pub use commands::command_of;

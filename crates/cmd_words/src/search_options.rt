@@ -1,18 +1,19 @@
 //! The options of a search: which objects are sought, and which part of them is shown.
 
-ghost use Rattle.std.specs.Prelude.{◌≡◌, ◌∷◌, [], ◌++◌, Some, IfErr, OnOk};
+ghost use Rattle.std.specs.Prelude.{◌≡◌};
 ghost use Rattle.world_model.specs.Commands.{no_search_options, query_of};
 ghost use Rattle.cmd_words.specs.Progress.{Reads};
 ghost use Rattle.cmd_words.specs.Options.{TakesOption, ReadsOptions};
-ghost use Rattle.cmd_words.specs.SearchWords.{behind_word, with_test, search_table};
+ghost use Rattle.cmd_words.specs.SearchWords.{behind_word, search_table};
 
 use crate::faults::CommandFault;
 use crate::request_reader::Reader;
+use crate::tests_read::push_test;
 use byte_text::Name;
 use std::alloc::Global;
 use std::marker::Model;
 use world_data::{MAX_LIMIT, MAX_TESTS};
-use world_model::{Query, Rule, Shown, Test, Tests};
+use world_model::{Query, Rule, Shown, Tests};
 
 /// The LIMIT where none is given.
 const USUAL_LIMIT: u32 = 100;
@@ -62,17 +63,6 @@ impl SearchOptions {
             limit: None,
             bare: false,
             down: None,
-        }
-    }
-
-    // One more test.
-    fn push(&mut self, test: Test) -> Result<(), CommandFault>
-        ensures ok { OnOk result (self.new ≡ with_test self.old test) }
-        ensures err { IfErr result (λ why. why ≡ CommandFault.Memory) }
-    {
-        match self.tests.push(test) {
-            Ok(()) => Ok(()),
-            Err(_) => Err(CommandFault::Memory),
         }
     }
 
@@ -180,12 +170,12 @@ fn with_option(
         }
         SearchWord::Where => {
             let test = reader.range_test()?;
-            options.push(test)?;
+            push_test(&mut options.tests, test)?;
             Ok(options)
         }
         SearchWord::WhereIn => {
             let test = reader.among_test()?;
-            options.push(test)?;
+            push_test(&mut options.tests, test)?;
             Ok(options)
         }
     }

@@ -1,4 +1,3 @@
-use Rattle.std.proofs.Common.{refl}
 use Rattle.std.specs.Prelude.{Some}
 use Rattle.std.proofs.lemmas.Result.{err_from_is_err_and}
 use Rattle.world_model.specs.Grammar.{done}
@@ -23,16 +22,16 @@ returns-in_err-test-in-Where-clause-reads c =
     let p = err_from_is_err_and c.from_residual-in_err-test-in-Where.result c.from_residual-in_err-test-in-Where.ensures.1 in
     rw (p.1, p.2, c.in-Where.is) (bind_fails range_test (λ x. done (with_test c.args.options x)) c.args.reader.now c.range_test.new.self c.range_test.new.self _ c.in_err-test-in-Where.ensures)
 
-pub returns-in_ok-push-in-Where-clause-reads : goal.returns-in_ok-push-in-Where-clause-reads
-returns-in_ok-push-in-Where-clause-reads c = rw (c.in-Where.is, c.in_ok-push-in-Where.ensures.ok) (value_read range_test with_test c.args.options _ refl c.args.reader.now c.range_test.new.self c.in_ok-test-in-Where.test c.in_ok-test-in-Where.ensures)
+pub returns-in_ok-push_test-in-Where-clause-reads : goal.returns-in_ok-push_test-in-Where-clause-reads
+returns-in_ok-push_test-in-Where-clause-reads c = rw (c.in-Where.is, c.in_ok-push_test-in-Where.ensures.ok) (value_read range_test with_test c.args.options _ c.options-in-Where.view_is c.args.reader.now c.range_test.new.self c.in_ok-test-in-Where.test c.in_ok-test-in-Where.ensures)
 
 pub returns-in_err-test-in-WhereIn-clause-reads : goal.returns-in_err-test-in-WhereIn-clause-reads
 returns-in_err-test-in-WhereIn-clause-reads c =
     let p = err_from_is_err_and c.from_residual-in_err-test-in-WhereIn.result c.from_residual-in_err-test-in-WhereIn.ensures.1 in
     rw (p.1, p.2, c.in-WhereIn.is) (bind_fails among_test (λ x. done (with_test c.args.options x)) c.args.reader.now c.among_test.new.self c.among_test.new.self _ c.in_err-test-in-WhereIn.ensures)
 
-pub returns-in_ok-push-in-WhereIn-clause-reads : goal.returns-in_ok-push-in-WhereIn-clause-reads
-returns-in_ok-push-in-WhereIn-clause-reads c = rw (c.in-WhereIn.is, c.in_ok-push-in-WhereIn.ensures.ok) (value_read among_test with_test c.args.options _ refl c.args.reader.now c.among_test.new.self c.in_ok-test-in-WhereIn.test c.in_ok-test-in-WhereIn.ensures)
+pub returns-in_ok-push_test-in-WhereIn-clause-reads : goal.returns-in_ok-push_test-in-WhereIn-clause-reads
+returns-in_ok-push_test-in-WhereIn-clause-reads c = rw (c.in-WhereIn.is, c.in_ok-push_test-in-WhereIn.ensures.ok) (value_read among_test with_test c.args.options _ c.options-in-WhereIn.view_is c.args.reader.now c.among_test.new.self c.in_ok-test-in-WhereIn.test c.in_ok-test-in-WhereIn.ensures)
 
 pub returns-in_err-list-in-Detect-clause-reads : goal.returns-in_err-list-in-Detect-clause-reads
 returns-in_err-list-in-Detect-clause-reads c =
