@@ -22,12 +22,11 @@ use Rattle.world_data.specs.declared.channels.Watch.TheVariants as watch
 use Rattle.world_data.specs.declared.channels.Wanted.{Wanted}
 use Rattle.world_data.specs.declared.filters.Test.{Test}
 use Rattle.world_data.specs.declared.worlds.Change.TheVariants.{SetChan}
-use Rattle.world_model.specs.Grammar.{a_word, a_geojson, Form, Reading, spells, runs_out, go_on, done, word, maybe, ◌or◌, ◌>>=◌, ◌>>◌, where_, one_of, repeated, live, spelled}
+use Rattle.world_model.specs.Grammar.{a_word, a_geojson, Form, go_on, done, word, maybe, ◌or◌, ◌>>=◌, ◌>>◌, where_, one_of, repeated, live, spelled}
 use Rattle.world_model.specs.Kinds.{when, name, glob, lat_lon, four, meters, geojson, list_of, accepted}
 use Rattle.world_model.specs.Commands as table
 use Rattle.world_model.specs.Effects.{settled_channel}
-use Rattle.world_model.specs.FormLaws.{Each}
-use Rattle.world_model.specs.MadeForms.{Makes, Said, makes_done, makes_or, makes_none, makes_bind, makes_behind, makes_then, makes_repeated}
+use Rattle.world_model.specs.MadeForms.{Makes, makes_done, makes_or, makes_none, makes_bind, makes_behind, makes_then, makes_repeated, spelled_said}
 use Rattle.world_model.specs.declared.commands.AreaWords.{AreaWords}
 use Rattle.world_model.specs.declared.commands.AreaWords.TheVariants.{Given, Of}
 use Rattle.world_model.specs.declared.commands.Command.{Command}
@@ -524,15 +523,9 @@ makes_table =
     first (makes_some (codes "SUBSCRIBE") name command.Subscribe (λ ws. tt)) (
     first (makes_some (codes "PSUBSCRIBE") glob command.Psubscribe (λ ws. tt)) (makes_none IsRespelled)))))))))))))))))))))))))))
 
-said : {A : Type 0} (P : A → Type 0) (rs : List (Reading A)) (a : A) → Each (Said P) rs → spelled (live rs) ≡ Some a → P a
-said P [] a all e = absurd (cc e)
-said P (spells b [] ∷ rs) a all e = let it : b ≡ a = cc e in subst P it all.0
-said P (spells b (w ∷ rest) ∷ rs) a all e = said P rs a all.1 e
-said P (runs_out due ∷ rs) a all e = said P rs a all.1 e
-
 respelled : (words : List Bytes) (c : Command) → table.command_spelled words ≡ Some c → IsRespelled c
 unfolding table.readings
-respelled words c e = said IsRespelled (table.command_table words) c (makes_table.made words) e
+respelled words c e = spelled_said IsRespelled (table.command_table words) c (makes_table.made words) e
 
 spelled_again : (c d : Channel) (from : Option AreaWords) → Spells d from → table.command_spelled (record_words (SetChan d)) ≡ Some (command.Setchan d from)
 unfolding table.readings
