@@ -1,11 +1,11 @@
 -- What a form spells counts no more words than it took, beyond those that were counted before.
-use Rattle.std.proofs.Common.{◌≡◌, ℕ, zero, suc, ◌+◌, ◌≤◌, Bool, true, false, List, [], ◌∷◌, ◌++◌, length, refl, ap, arith}
+use Rattle.std.proofs.Common.{◌≡◌, ℕ, zero, suc, ◌+◌, ◌≤◌, Bool, true, false, List, [], ◌∷◌, length, refl, ap, arith}
 use Rattle.std.specs.Prelude.{flat_map, Option, Some, None}
 use Rattle.std.specs.List.{AllByRecursion}
 use Rattle.byte_text.specs.Names.{Bytes}
 use Rattle.byte_text.specs.Requests.{AreShort, max_word}
 use Rattle.world_model.specs.Grammar.{Due, a_word, Reading, spells, runs_out, Form, go_on, ◌>>=◌, ◌>>◌, done, ◌or◌, one_of, where_, read_as, one_word, word, at_most_times, repeated, times}
-use Rattle.world_model.specs.FormLaws.{Each}
+use Rattle.world_model.specs.FormLaws.{Each, each_append, each_map}
 
 -- a value that was read counts, with the words that are left, so much at most; none of these words is too long
 abbrev pub Counts : {A : Type 0} → (A → ℕ) → (A → Type 0) → ℕ → Reading A → Type 0
@@ -14,14 +14,6 @@ Counts count P most (runs_out due) = Unit {0}
 
 pub record Costs {A : Type 0} (before : ℕ) (count : A → ℕ) (P : A → Type 0) (f : Form A) : Type 0 where
   pub cost : (words : List Bytes) → AreShort words → Each (Counts count P (before + length words)) (f words)
-
-pub each_append : {A : Type 0} (P : Reading A → Type 0) (xs ys : List (Reading A)) → Each P xs → Each P ys → Each P (xs ++ ys)
-each_append P [] ys p q = q
-each_append P (x ∷ xs) ys p q = (p.0, each_append P xs ys p.1 q)
-
-pub each_map : {A : Type 0} (P Q : Reading A → Type 0) → ((r : Reading A) → P r → Q r) → (xs : List (Reading A)) → Each P xs → Each Q xs
-each_map P Q h [] p = tt
-each_map P Q h (x ∷ xs) p = (h x p.0, each_map P Q h xs p.1)
 
 module _ {A : Type 0} (before : ℕ) (count : A → ℕ) (P : A → Type 0) where
   pub costs_done : (a : A) → count a ≤ before → P a → Costs before count P (done a)

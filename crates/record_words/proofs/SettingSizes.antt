@@ -2,7 +2,6 @@
 use Rattle.std.proofs.Common.{◌≡◌, ℕ, ◌+◌, ◌≤◌, Bool, true, false, List, [], ◌∷◌, ◌++◌, length, refl, ap, subst, arith, length-append}
 use Rattle.std.specs.Prelude.{Option, Some, None, Result, Ok, Err, codes, decimal, pos, neg_ℤ, not, is_none}
 use Rattle.std.specs.Fmt.{signed_decimal}
-use Rattle.std.specs.List.{AllByRecursion}
 use Rattle.byte_text.specs.Names.{Bytes}
 use Rattle.byte_text.specs.Requests.{FitsRequest, IsRequest, AreShort, max_word}
 use Rattle.geo_text.specs.Texts.{Shape, shape_of}
@@ -18,9 +17,10 @@ use Rattle.world_data.specs.declared.channels.Kind.TheVariants.{Within, Intersec
 use Rattle.world_data.specs.declared.channels.Watch.{Watch}
 use Rattle.world_data.specs.declared.channels.Watch.TheVariants as watch
 use Rattle.world_data.specs.declared.worlds.Change.TheVariants.{SetChan}
-use Rattle.world_model.specs.Grammar.{a_coordinate, a_geojson, Reading, spells, runs_out, Form, ◌>>=◌, ◌>>◌, ◌or◌, done, one_of, where_, word, repeated, live, spelled}
-use Rattle.world_model.specs.FormLaws.{Each}
-use Rattle.world_model.specs.MadeForms.{Said, Makes, makes_done, makes_behind}
+use Rattle.world_model.specs.Grammar.{a_coordinate, a_geojson, Reading, spells, runs_out, Form, ◌>>=◌, ◌>>◌, done, where_, word, repeated}
+use Rattle.world_model.specs.FormLaws.{each_map}
+use Rattle.world_model.specs.MadeForms.{Said}
+use Rattle.world_model.specs.TableParts.{SetsNone, setting_said}
 use Rattle.world_model.specs.Kinds.{name, glob, meters, coordinate_from, coordinate, lat_lon, four, geojson, accepted}
 use Rattle.world_model.specs.Commands as table
 use Rattle.world_model.specs.Effects.{settled_channel}
@@ -34,7 +34,7 @@ use Rattle.log_record.specs.RecordsBack.{channel_back, near_back}
 use Rattle.record_words.specs.Reading.{IsName, IsNumber}
 use Rattle.record_words.specs.Recorded.{SettingsAreRecorded}
 use Rattle.record_words.proofs.Sizes.{IsSmall, AreSmall, small, small_name, small_number, small_append, AreLight, light_of, light_append, light_text, light_fits}
-use Rattle.record_words.proofs.Costs.{Counts, Costs, each_append, each_map, costs_done, costs_none, costs_or, costs_where, costs_word, costs_bind, costs_then}
+use Rattle.record_words.proofs.Costs.{Counts, Costs, costs_done, costs_none, costs_or, costs_where, costs_word, costs_bind, costs_then}
 use Rattle.record_words.proofs.SettingWords.{costs_whole, costs_meters, costs_name, costs_glob, options_count, AreFine, with_options, costs_options, options_few, options_small}
 
 -- areas
@@ -219,72 +219,15 @@ of_setting n (spells (command.Setchan c from) rest) x = let le = x.0 in let s = 
 of_setting n (spells c rest) x = tt
 of_setting n (runs_out due) x = tt
 
--- what the form spells of these words is within them
-record Holds (words : List Bytes) (f : Form Command) : Type 0 where
-  within : Each (Said (IsWithin (length words))) (f words)
-
--- the forms one behind another, and this one behind them
-abbrev before : List (Form Command) → Form Command → Form Command
-before [] g = g
-before (f ∷ fs) g = f or before fs g
-
-abbrev of_objects : List (Form Command)
-of_objects = table.set_command ∷ table.get_command ∷ table.of_key_and_id (codes "DEL") command.Del ∷ table.pdel_command ∷ table.of_one (codes "DROP") name command.Drop ∷ table.fset_command ∷ table.fget_command ∷ []
-
-abbrev of_keys : List (Form Command)
-of_keys = table.expire_command ∷ table.of_key_and_id (codes "PERSIST") command.Persist ∷ table.of_key_and_id (codes "TTL") command.Ttl ∷ table.of_one (codes "KEYS") glob command.Keys ∷ table.of_one (codes "BOUNDS") name command.Bounds ∷ table.of_some (codes "STATS") name command.Stats ∷ []
-
-abbrev of_searches : List (Form Command)
-of_searches = table.of_none (codes "FLUSHDB") command.Flush ∷ table.of_none (codes "AOFSHRINK") command.Shrink ∷ table.of_none (codes "PING") command.Ping ∷ table.of_none (codes "QUIT") command.Quit ∷
-    table.scan_command ∷ table.search_command (codes "WITHIN") Within ∷ table.search_command (codes "INTERSECTS") Intersects ∷ table.nearby_command ∷ []
-
-abbrev of_channels : List (Form Command)
-of_channels = table.of_one (codes "DELCHAN") name command.Delchan ∷ table.of_one (codes "PDELCHAN") glob command.Pdelchan ∷ table.of_one (codes "CHANS") glob command.Chans ∷ table.of_some (codes "SUBSCRIBE") name command.Subscribe ∷ table.of_some (codes "PSUBSCRIBE") glob command.Psubscribe ∷ []
-
-module _ (words : List Bytes) where
-  abbrev Are : Command → Type 0
-  Are = IsWithin (length words)
-
-  abbrev AreOthers : List (Form Command) → Type 0
-  AreOthers fs = AllByRecursion (λ f. Makes Are f) fs
-
-  holds_or : (f g : Form Command) → Each (Said Are) (f words) → Holds words g → Holds words (f or g)
-  holds_or f g p q = record { within = each_append (Said Are) (f words) (g words) p q.within }
-
-  -- the other commands are no settings
-
-  objects_are : AreOthers of_objects
-  objects_are = search (makes_behind, makes_done) depth 60 fits 4000
-
-  keys_are : AreOthers of_keys
-  keys_are = search (makes_behind, makes_done) depth 60 fits 4000
-
-  searches_are : AreOthers of_searches
-  searches_are = search (makes_behind, makes_done) depth 60 fits 4000
-
-  channels_are : AreOthers of_channels
-  channels_are = search (makes_behind, makes_done) depth 60 fits 4000
-
-  holds_before : (fs : List (Form Command)) (g : Form Command) → AreOthers fs → Holds words g → Holds words (before fs g)
-  holds_before [] g are p = p
-  holds_before (f ∷ fs) g are p = holds_or f (before fs g) (are.0.made words) (holds_before fs g are.1 p)
-
-  holds_table : AreShort words → Holds words table.command_table
-  holds_table short =
-      let setting = each_map (Counts with_setting IsSized (0 + length words)) (Said Are) (of_setting (length words)) (table.setchan_command words) (costs_setchan.cost words short) in
-      let none : Holds words (one_of []) = record { within = tt } in
-      holds_before of_objects _ objects_are (holds_before of_keys _ keys_are (holds_before of_searches _ searches_are (
-      holds_or table.setchan_command _ setting (holds_before of_channels (one_of []) channels_are none))))
-
-said_within : (n : ℕ) (rs : List (Reading Command)) (c : Command) → Each (Said (IsWithin n)) rs → spelled (live rs) ≡ Some c → IsWithin n c
-said_within n [] c all e = absurd (cc e)
-said_within n (spells b [] ∷ rs) c all e = let it : b ≡ c = cc e in subst (IsWithin n) it all.0
-said_within n (spells b (w ∷ rest) ∷ rs) c all e = said_within n rs c all.1 e
-said_within n (runs_out due ∷ rs) c all e = said_within n rs c all.1 e
+-- another command is no setting
+others_within : (n : ℕ) (c : Command) → SetsNone c → IsWithin n c
+others_within n (command.Setchan c from) none = absurd none
+others_within n c none = tt
 
 spelled_within : (words : List Bytes) (c : Command) → AreShort words → table.command_spelled words ≡ Some c → IsWithin (length words) c
-unfolding table.readings
-spelled_within words c short e = said_within (length words) (table.command_table words) c (holds_table words short).within e
+spelled_within words c short e =
+    let settings = each_map (Counts with_setting IsSized (0 + length words)) (Said (IsWithin (length words))) (of_setting (length words)) (table.setchan_command words) (costs_setchan.cost words short) in
+    setting_said (IsWithin (length words)) (others_within (length words)) words c settings e
 
 -- a record whose words are few and light
 

@@ -1,7 +1,6 @@
 -- The area that the words of a setting give stands in the channel that they ask for.
-use Rattle.std.proofs.Common.{◌≡◌, true, false, refl, subst, List, [], ◌∷◌}
+use Rattle.std.proofs.Common.{◌≡◌, true, false, refl, subst, List}
 use Rattle.std.specs.Prelude.{Some, None, codes}
-use Rattle.std.specs.List.{AllByRecursion}
 use Rattle.byte_text.specs.Names.{Bytes}
 use Rattle.planar_geom.specs.declared.shapes.Area.{Area}
 use Rattle.world_data.specs.declared.channels.Channel.{Channel}
@@ -10,10 +9,10 @@ use Rattle.world_data.specs.declared.channels.Kind.TheVariants.{Within, Intersec
 use Rattle.world_data.specs.declared.channels.Watch.TheVariants as watch
 use Rattle.world_model.specs.Commands as table
 use Rattle.world_model.specs.Effects.{watch_over}
-use Rattle.world_model.specs.FormLaws.{Each}
-use Rattle.world_model.specs.Grammar.{Form, Reading, spells, runs_out, ◌>>◌, ◌or◌, one_of, where_, word, repeated, live, spelled}
+use Rattle.world_model.specs.Grammar.{Form, ◌>>◌, ◌or◌, where_, word, repeated}
 use Rattle.world_model.specs.Kinds.{name, glob, meters, lat_lon, four, geojson}
-use Rattle.world_model.specs.MadeForms.{Makes, Said, makes_behind, makes_bind, makes_done, makes_none, makes_or, makes_then, makes_where}
+use Rattle.world_model.specs.MadeForms.{Makes, makes_behind, makes_bind, makes_done, makes_none, makes_or, makes_then, makes_where}
+use Rattle.world_model.specs.TableParts.{SetsNone, setting_said}
 use Rattle.world_model.specs.declared.commands.AreaWords.{AreaWords}
 use Rattle.world_model.specs.declared.commands.AreaWords.TheVariants.{Given, Of}
 use Rattle.world_model.specs.declared.commands.Command.{Command}
@@ -66,54 +65,10 @@ makes_setchan : Makes Stands table.setchan_command
 makes_setchan = makes_then Stands (word (codes "SETCHAN")) _ (makes_behind Stands name _ (λ channel.
     first (makes_over (codes "WITHIN") Within channel) (first (makes_over (codes "INTERSECTS") Intersects channel) (first (makes_near channel) (makes_none Stands)))))
 
--- the forms one behind another, and this one behind them
-abbrev before : List (Form Command) → Form Command → Form Command
-before [] g = g
-before (f ∷ fs) g = f or before fs g
-
-abbrev of_objects : List (Form Command)
-of_objects = table.set_command ∷ table.get_command ∷ table.of_key_and_id (codes "DEL") command.Del ∷ table.pdel_command ∷ table.of_one (codes "DROP") name command.Drop ∷ table.fset_command ∷ table.fget_command ∷ []
-
-abbrev of_keys : List (Form Command)
-of_keys = table.expire_command ∷ table.of_key_and_id (codes "PERSIST") command.Persist ∷ table.of_key_and_id (codes "TTL") command.Ttl ∷ table.of_one (codes "KEYS") glob command.Keys ∷ table.of_one (codes "BOUNDS") name command.Bounds ∷ table.of_some (codes "STATS") name command.Stats ∷ []
-
-abbrev of_searches : List (Form Command)
-of_searches = table.of_none (codes "FLUSHDB") command.Flush ∷ table.of_none (codes "AOFSHRINK") command.Shrink ∷ table.of_none (codes "PING") command.Ping ∷ table.of_none (codes "QUIT") command.Quit ∷
-    table.scan_command ∷ table.search_command (codes "WITHIN") Within ∷ table.search_command (codes "INTERSECTS") Intersects ∷ table.nearby_command ∷ []
-
-abbrev of_channels : List (Form Command)
-of_channels = table.of_one (codes "DELCHAN") name command.Delchan ∷ table.of_one (codes "PDELCHAN") glob command.Pdelchan ∷ table.of_one (codes "CHANS") glob command.Chans ∷ table.of_some (codes "SUBSCRIBE") name command.Subscribe ∷ table.of_some (codes "PSUBSCRIBE") glob command.Psubscribe ∷ []
-
--- the other commands are no settings
-
-abbrev AreOthers : List (Form Command) → Type 0
-AreOthers fs = AllByRecursion (λ f. Makes Stands f) fs
-
-objects_are : AreOthers of_objects
-objects_are = search (makes_behind, makes_done) depth 60 fits 4000
-
-keys_are : AreOthers of_keys
-keys_are = search (makes_behind, makes_done) depth 60 fits 4000
-
-searches_are : AreOthers of_searches
-searches_are = search (makes_behind, makes_done) depth 60 fits 4000
-
-channels_are : AreOthers of_channels
-channels_are = search (makes_behind, makes_done) depth 60 fits 4000
-
-makes_before : (fs : List (Form Command)) (g : Form Command) → AreOthers fs → Makes Stands g → Makes Stands (before fs g)
-makes_before [] g are p = p
-makes_before (f ∷ fs) g are p = makes_or Stands f (before fs g) are.0 (makes_before fs g are.1 p)
-
-makes_table : Makes Stands table.command_table
-makes_table = makes_before of_objects _ objects_are (makes_before of_keys _ keys_are (makes_before of_searches _ searches_are (makes_or Stands table.setchan_command _ makes_setchan (makes_before of_channels (one_of []) channels_are (makes_none Stands)))))
-
-said_stands : (rs : List (Reading Command)) (c : Command) → Each (Said Stands) rs → spelled (live rs) ≡ Some c → Stands c
-said_stands [] c all e = absurd (cc e)
-said_stands (spells b [] ∷ rs) c all e = let it : b ≡ c = cc e in subst Stands it all.0
-said_stands (spells b (w ∷ rest) ∷ rs) c all e = said_stands rs c all.1 e
-said_stands (runs_out due ∷ rs) c all e = said_stands rs c all.1 e
+-- another command is no setting
+others_stand : (c : Command) → SetsNone c → Stands c
+others_stand (command.Setchan c from) none = absurd none
+others_stand c none = tt
 
 pub area_stands : (words : List Bytes) (c : Channel) (a : Area) → table.command_spelled words ≡ Some (command.Setchan c (Some (Given a))) → watch_over c.fence.watch a ≡ c.fence.watch
-unfolding table.readings
-area_stands words c a e = said_stands (table.command_table words) (command.Setchan c (Some (Given a))) (makes_table.made words) e
+area_stands words c a e = setting_said Stands others_stand words (command.Setchan c (Some (Given a))) (makes_setchan.made words) e
