@@ -13,11 +13,11 @@ use Rattle.world_model.specs.Effects.{settled_channel}
 use Rattle.world_model.specs.declared.commands.AreaWords.TheVariants.{Given, Of}
 use Rattle.world_model.specs.declared.commands.Command.TheVariants as command
 use Rattle.log_record.specs.Words.{IsRecorded, is_kept, is_kept_deadline}
+use Rattle.record_words.specs.declared.limits.TheConstants.{MOST_FIELDS}
 
--- the most fields of an object whose record fits a request, with a deadline as without: `SET key id`, three words a field,
--- `AT deadline` and `OBJECT text` are 4,096 words then
+-- the most fields of an object whose record fits a request: the constant of the code
 abbrev pub most_fields : ℕ
-most_fields = 1363
+most_fields = MOST_FIELDS
 
 pub record ChangesAreRecorded : Type 0 where
   -- the text is no longer than a word may be, as that of each object that a command or a record gave

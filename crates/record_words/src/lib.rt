@@ -7,9 +7,11 @@ mod changes;
 mod channels;
 mod faults;
 mod laws;
+mod limits;
 mod puts;
 mod record_reader;
 
 pub use changes::change_of;
 pub use faults::RecordFault;
 pub use laws::changes_are_recorded;
+pub use limits::MOST_FIELDS;

@@ -17,12 +17,9 @@ use crate::planned::{ChannelMove, Planned};
 use crate::ready::Ready;
 use byte_text::{MAX_WORD, Name, NoMemory, Text};
 use record_text::{push_del, push_delchan, push_drop, push_flush, push_put, push_setchan};
-use record_words::changes_are_recorded;
+use record_words::{MOST_FIELDS, changes_are_recorded};
 use std::alloc::Global;
 use world_model::{Channel, NameList, Object};
-
-/// The most fields of an object whose record fits a request.
-const MOST_FIELDS: usize = 1_363;
 
 /// The text of the records keeps its memory for the next call, where it has no more bytes than this.
 const MOST_KEPT: usize = 65_536;
