@@ -72,6 +72,17 @@ going_last n old mid new held0 held held' faults0 faults faults' end g t =
       legal = t.legal;
     }
 
+-- the same, where the end was told of the take
+pub going_told : (n : ℕ) (old mid new : Knows) (held0 held held' : Option (List ℕ)) (faults0 faults faults' : ℕ) (told took : Option OutEnd) → told ≡ took → told ≡ None
+    → Going n old mid held0 held faults0 faults → WritesTurn n mid new held held' faults faults' took → Going n old new held0 held' faults0 faults'
+going_told n old mid new held0 held held' faults0 faults faults' told took is none g t =
+    going_on n old mid new held0 held held' faults0 faults faults' g (subst (λ (r : Option OutEnd). WritesTurn n mid new held held' faults faults' r) (sym is ∙ none) t)
+
+pub last_told : (n : ℕ) (old mid new : Knows) (held0 held held' : Option (List ℕ)) (faults0 faults faults' : ℕ) (told took : Option OutEnd) (end : OutEnd) → told ≡ took → told ≡ Some end
+    → Going n old mid held0 held faults0 faults → WritesTurn n mid new held held' faults faults' took → WritesSession n old new held0 held' faults0 faults' end
+last_told n old mid new held0 held held' faults0 faults faults' told took end is some g t =
+    going_last n old mid new held0 held held' faults0 faults faults' end g (subst (λ (r : Option OutEnd). WritesTurn n mid new held held' faults faults' r) (sym is ∙ some) t)
+
 takes_more : (n : ℕ) (xs ys : List Outcome) → map (take_act n) (xs ++ ys) ≡ map (take_act n) xs ++ map (take_act n) ys
 takes_more n [] ys = refl
 takes_more n (x ∷ xs) ys = ap (λ (l : List Act). take_act n x ∷ l) (takes_more n xs ys)

@@ -36,50 +36,6 @@ fn pass_on<K: Sink + Drop, R: Wait>(rt: &R, session: u32, hand: Hand<K>) -> Hand
 }
 
 // Reads blocks and serves their requests, up to an end.
-fn read_on<H: HallServe, S: Source, K: Sink + Drop, C: Clock, B: Bell, G: Gate, R: Wait>(
-    rt: &R,
-    hall: &H,
-    seat: &mut H::Seat,
-    session: u32,
-    source: &mut S,
-    clock: &C,
-    bell: &B,
-    room: &B,
-    gate: &G,
-    hand: Hand<K>,
-    block: &mut [u8],
-) -> (InEnd, Writing<K>)
-    requires seat { H.HallApi.is_of hall.now seat.old }
-    requires fit { IsFit hand.writing }
-    requires some { 0 < length block.old }
-    requires fresh { hand.reader ≡ Some [] }
-    ensures seat { H.HallApi.is_of hall.now seat.new }
-    ensures fit { IsFit result.1 }
-    ensures over { result.0 ≡ ended.OutEnded → is_over result.1 ≡ true }
-    ensures reads { WithTakes
-        (ReadsOn session (C.told clock.now)
-        (H.HallApi.knows seat.old) (H.HallApi.knows seat.new)
-        (S.left source.old) (S.left source.new) (S.faults source.old) (S.faults source.new) result.0)
-        (Goes K.held K.faults session hand.writing result.1) }
-{
-    let mut hand = hand;
-    for _ in rt.forever() {
-        let (end, back) = read_block(
-            rt, hall, seat, session, source, clock, bell, room, gate, hand, block,
-        );
-        hand = back;
-        if let Some(end) = end {
-            return (end, hand.writing);
-        }
-        if hand.writing.is_over() {
-            return (InEnd::OutEnded, hand.writing);
-        }
-        hand = pass_on(rt, session, hand);
-    }
-    unreachable!()
-}
-
-// The same, with what it takes made first.
 fn read_all<H: HallServe, S: Source, K: Sink + Drop, C: Clock, B: Bell, G: Gate, R: Wait>(
     rt: &R,
     alloc: Global,
@@ -107,10 +63,11 @@ fn read_all<H: HallServe, S: Source, K: Sink + Drop, C: Clock, B: Bell, G: Gate,
     let Ok(touched) = Touched::new(alloc) else {
         return (InEnd::Memory, writing);
     };
-    let Ok(mut block) = vec![in alloc; 0u8; BLOCK] else {
+    let Ok(mut bytes) = vec![in alloc; 0u8; BLOCK] else {
         return (InEnd::Memory, writing);
     };
-    let hand = Hand {
+    let block = &mut bytes[..];
+    let mut hand = Hand {
         reader: Requests::new(alloc),
         asked: AskedList::new(alloc),
         touched,
@@ -118,9 +75,20 @@ fn read_all<H: HallServe, S: Source, K: Sink + Drop, C: Clock, B: Bell, G: Gate,
         listens: false,
         writing,
     };
-    read_on(
-        rt, hall, seat, session, source, clock, bell, room, gate, hand, &mut block,
-    )
+    for _ in rt.forever() {
+        let (end, back) = read_block(
+            rt, hall, seat, session, source, clock, bell, room, gate, hand, block,
+        );
+        hand = back;
+        if let Some(end) = end {
+            return (end, hand.writing);
+        }
+        if hand.writing.is_over() {
+            return (InEnd::OutEnded, hand.writing);
+        }
+        hand = pass_on(rt, session, hand);
+    }
+    unreachable!()
 }
 
 /// Reads a session's requests and makes their calls in order, up to an end, and closes the session. In each turn of calls it takes the

@@ -129,38 +129,6 @@ pub(crate) fn take_turn<H: HallApi, K: Sink, B: Bell, R: Wait>(
     write_taken(rt, hall, seat, session, sink, room, frames, text, taken)
 }
 
-// Takes once, and waits for the bell where there was no frame. None where the session goes on.
-fn write_turn<H: HallApi, K: Sink, B: Bell, R: Wait>(
-    rt: &R,
-    hall: &H,
-    seat: &mut H::Seat,
-    session: u32,
-    sink: &mut K,
-    bell: &B,
-    room: &B,
-    frames: &mut Frames,
-    text: &mut Vec<u8>,
-) -> Option<OutEnd>
-    requires seat { H.is_of hall.now seat.old }
-    requires bare { frames.old.list ≡ [] }
-    requires places { frames.old.places ≡ take_frames }
-    ensures seat { H.is_of hall.now seat.new }
-    ensures bare { frames.new.list ≡ [] }
-    ensures places { frames.new.places ≡ take_frames }
-    ensures turn { WritesTurn session
-        (H.knows seat.old) (H.knows seat.new)
-        (K.held sink.old) (K.held sink.new) (K.faults sink.old) (K.faults sink.new) result }
-{
-    let mark = bell.mark(session);
-    let took = take_turn(rt, hall, seat, session, sink, room, frames, text);
-    // Where frames were given it is taken from again before the writer waits: another's call may have cut the session behind them, and
-    // nobody rings for that any more.
-    if let Took::Dry = took {
-        bell.wait(rt, session, mark);
-    }
-    took_end(took)
-}
-
 /// Takes a session's frames and writes them, until the session has ended. `bell` rings where frames were placed, `room` is rung
 /// where frames were taken. At WriteFault the session is removed.
 pub fn session_out<H: HallApi, K: Sink, B: Bell, R: Wait>(
@@ -185,8 +153,15 @@ pub fn session_out<H: HallApi, K: Sink, B: Bell, R: Wait>(
         (K.held sink.old) (K.held sink.new) (K.faults sink.old) (K.faults sink.new) result }
 {
     for _ in rt.forever() {
-        if let Some(end) = write_turn(rt, hall, seat, session, sink, bell, room, frames, text) {
+        let mark = bell.mark(session);
+        let took = take_turn(rt, hall, seat, session, sink, room, frames, text);
+        if let Some(end) = took_end(took) {
             return end;
+        }
+        // Where frames were given it is taken from again before the writer waits: another's call may have cut the session behind them,
+        // and nobody rings for that any more.
+        if let Took::Dry = took {
+            bell.wait(rt, session, mark);
         }
     }
     unreachable!()
