@@ -108,55 +108,6 @@ where
     }
 }
 
-// Accepts up to an end.
-fn serve_on<
-    H: HallSplit + HallServe + Send + Sync + Drop + 'static,
-    L: Door,
-    C: Clock + Send + Drop + 'static,
-    B: Bell + Send + Sync + Drop + 'static,
-    G: Gate + Send + Sync + Drop + 'static,
-    P: Spawner<Jobs<H, L, C, B, G>>,
-    R: Wait + Threads + Copy + Send + Sync + 'static,
->(
-    rt: &R,
-    alloc: Global,
-    shared: &Shared<H, B, G>,
-    seat: &mut H::Seat,
-    door: &mut L,
-    clock: &C,
-    spawner: &mut P,
-    touched: Touched,
-    counts: &mut Counts,
-    limit: u32,
-) -> ServeEnd
-where
-    H::Seat: Send + Drop + 'static,
-    L::In: Send + Drop + 'static,
-    L::Out: Send + Drop + 'static,
-    requires seat { H.HallApi.is_of (arc_value shared.now.hall) seat.old }
-    requires room { counts.old.joined < limit }
-    requires few { counts.old.starved ≤ counts.old.joined }
-    ensures seat { H.HallApi.is_of (arc_value shared.now.hall) seat.new }
-    ensures serves { ServesLinks (C.told clock.now) limit
-        (state_of (H.HallApi.knows seat.old) (P.jobs spawner.old) (P.faults spawner.old)
-        (L.links door.old) (L.ends door.old) (L.faults door.old) counts.old.joined counts.old.starved)
-        (state_of (H.HallApi.knows seat.new) (P.jobs spawner.new) (P.faults spawner.new)
-        (L.links door.new) (L.ends door.new) (L.faults door.new) counts.new.joined counts.new.starved)
-        result }
-{
-    let mut touched = touched;
-    for _ in rt.forever() {
-        let (end, back) = round(
-            rt, alloc, shared, seat, door, clock, spawner, touched, counts, limit,
-        );
-        touched = back;
-        if let Some(end) = end {
-            return end;
-        }
-    }
-    unreachable!()
-}
-
 // Serves links up to the limit or an end.
 fn serve_up_to<
     H: HallSplit + HallServe + Send + Sync + Drop + 'static,
@@ -195,12 +146,19 @@ where
     if counts.joined == limit {
         return ServeEnd::Done;
     }
-    let Ok(touched) = Touched::new(alloc) else {
+    let Ok(mut touched) = Touched::new(alloc) else {
         return ServeEnd::Memory;
     };
-    serve_on(
-        rt, alloc, shared, seat, door, clock, spawner, touched, counts, limit,
-    )
+    for _ in rt.forever() {
+        let (end, back) = round(
+            rt, alloc, shared, seat, door, clock, spawner, touched, counts, limit,
+        );
+        touched = back;
+        if let Some(end) = end {
+            return end;
+        }
+    }
+    unreachable!()
 }
 
 /// Serves links by two jobs each, up to `limit` of them or an end, and waits for the jobs.

@@ -1,7 +1,7 @@
 use Rattle.std.proofs.Common.{◌≤◌, ◌<◌}
 use Rattle.std.specs.Arc.{arc_value}
 use Rattle.serve_run.specs.Rounds.{RoundsOn, state_of}
-use Rattle.serve_run.proofs.rounds.serve_on.Given as goal
+use Rattle.serve_run.proofs.rounds.serve_up_to.Given as goal
 
 abbrev pub invariant-loop : goal.invariant-loop
 invariant-loop g l = record {
