@@ -19,7 +19,7 @@ use Rattle.session_run.specs.declared.writings.Writing.{Writing}
 use Rattle.session_run.specs.Calls.{ServesList}
 use Rattle.session_run.specs.Ends.{end_of, PartOn, ServesPart, ServesBlock, BlockTurn, ReadsOn}
 use Rattle.session_run.specs.Feeds.{IsFill, Feeds, asked_behind}
-use Rattle.session_run.specs.Gains.{GainsBoth, WithTakes}
+use Rattle.session_run.specs.Gains.{Gains, GainsBoth, WithTakes}
 use Rattle.session_run.specs.Outs.{WritesSome, WritesBehind}
 use Rattle.session_run.specs.Writings.{Goes}
 use Rattle.session_run.proofs.Calling.{turn_gains}
@@ -28,14 +28,16 @@ use Rattle.session_run.proofs.Mixing.{both_behind}
 use Rattle.session_run.proofs.Serving.{Reading, reading_on, reading_over, reading_last, rest_from, part_next, part_dry, part_end, list_on, list_broken, list_memory, ended_ok}
 
 -- the calls of a turn and the take behind them, and what was written behind that
-pub turn_behind : (n m : ℕ) (old mid new : Knows) (asks : List Asked) (served : ℕ) (end : Called) (takes : List Act) (held held' : Option Bytes) (faults faults' : ℕ) (told out : Option OutEnd)
-    → 0 < length asks → IsCount served end (length asks) → AddsCalls (call_acts n m asks served end ++ takes) old mid → WritesBehind n takes mid new held held' faults faults' told → told ≡ out
-    → WithTakes (GainsBoth old new (call_acts n m asks served end)) (WritesSome n held held' faults faults' out)
-turn_behind n m old mid new asks served end takes held held' faults faults' told out some count adds w is = (
-  takes ++ w.rest,
-  both_behind old mid new (call_acts n m asks served end) takes w.rest (turn_gains n m old mid asks served end takes some count adds) w.gains,
-  subst (λ (r : Option OutEnd). WritesSome n held held' faults faults' r (takes ++ w.rest)) is w.writes,
-)
+pub turn_behind : (n m : ℕ) (old mid new : Knows) (asks : List Asked) (served : ℕ) (end : Called) (takes : List Act) (writes : List Act → Type 0)
+    → 0 < length asks → IsCount served end (length asks) → AddsCalls (call_acts n m asks served end ++ takes) old mid → WithTakes (Gains mid new) (λ rest. writes (takes ++ rest))
+    → WithTakes (GainsBoth old new (call_acts n m asks served end)) writes
+turn_behind n m old mid new asks served end takes writes some count adds w =
+    (takes ++ w.0, both_behind old mid new (call_acts n m asks served end) takes w.0 (turn_gains n m old mid asks served end takes some count adds) w.1, w.2)
+
+-- what was written behind a take, by the end that was told
+pub behind_told : (n : ℕ) (takes : List Act) (old new : Knows) (held held' : Option Bytes) (faults faults' : ℕ) (told end : Option OutEnd) → told ≡ end → WritesBehind n takes old new held held' faults faults' told
+    → WithTakes (Gains old new) (λ rest. WritesSome n held held' faults faults' end (takes ++ rest))
+behind_told n takes old new held held' faults faults' told end is w = (w.rest, w.gains, subst (λ (r : Option OutEnd). WritesSome n held held' faults faults' r (takes ++ w.rest)) is w.writes)
 
 -- what a part is whose requests were all called
 abbrev pub part_of : Fill → Part

@@ -4,6 +4,7 @@ use Rattle.std.specs.Prelude.{Option}
 use Rattle.std.proofs.lemmas.List.{append-nil}
 use Rattle.byte_text.specs.Names.{Bytes}
 use Rattle.world_model.specs.Seats.{Act}
+use Rattle.session_run.specs.Outs.{WritesOn, WritesLast}
 use Rattle.session_run.specs.Writings.{Goes, Writes, Leaves, is_over}
 use Rattle.session_run.specs.declared.writings.Outlet.{Outlet}
 use Rattle.session_run.specs.declared.writings.Writing.{Writing}
@@ -34,6 +35,12 @@ module _ {K : Type 0} (held : K → Option Bytes) (faults : K → ℕ) (n : ℕ)
       subst (λ (l : List Act). Goes held faults n (Ended o end) z (l ++ b)) (sym g.0) (subst (λ (w : Writing K). Goes held faults n w z b) g.1 h)
   goes_more Handed y z a b g h =
       subst (λ (l : List Act). Goes held faults n Handed z (l ++ b)) (sym g.0) (subst (λ (w : Writing K). Goes held faults n w z b) g.1 h)
+
+  -- only the sink of an outlet counts
+  pub goes_from : (o p : Outlet K) (w : Writing K) (took : List Act) → o.sink ≡ p.sink → Goes held faults n (Alone o) w took → Goes held faults n (Alone p) w took
+  goes_from o p (Alone q) took e g = subst (λ (s : K). WritesOn n (held s) (held q.sink) (faults s) (faults q.sink) took) e g
+  goes_from o p (Ended q end) took e g = subst (λ (s : K). WritesLast n (held s) (held q.sink) (faults s) (faults q.sink) end took) e g
+  goes_from o p Handed took e g = record { sink = g.sink; writes = subst (λ (s : K). WritesOn n (held s) (held g.sink) (faults s) (faults g.sink) took) e g.writes }
 
   -- where who reads writes no more
   pub goes_writes : (o : Outlet K) (w : Writing K) (took : List Act) → Goes held faults n (Alone o) w took → Leaves w → Writes held faults n o w took

@@ -1,10 +1,11 @@
 //! One turn of a session: its calls, and where its reader writes the take behind them.
 
-ghost use Rattle.std.specs.Prelude.{◌≡◌, ◌≤◌, ◌<◌, ℕ, [], length, true};
+ghost use Rattle.std.specs.Prelude.{◌≡◌, ◌≤◌, ◌<◌, ℕ, ◌++◌, length, true};
 ghost use Rattle.std.specs.List.{list_all};
 ghost use Rattle.world_data.specs.Limits.{max_moment, take_frames};
+ghost use Rattle.hall_turns.specs.Turns.{take_acts, taken_count};
 ghost use Rattle.world_model.specs.Outcomes.{is_proper, call_acts, IsCount};
-ghost use Rattle.session_run.specs.Gains.{GainsBoth, WithTakes};
+ghost use Rattle.session_run.specs.Gains.{Gains, GainsBoth, WithTakes};
 ghost use Rattle.session_run.specs.Writings.{IsFit, Goes};
 ghost use Rattle.session_run.specs.declared.writings.Writing.TheVariants as writing;
 
@@ -13,36 +14,27 @@ use crate::writings::{Outlet, Writing, write_behind};
 use hall_turns::HallServe;
 use outside::{Bell, Sink};
 use std::sync::Wait;
-use world_model::{Answers, AskedList, Touched};
+use world_model::{Answers, AskedList, HallApi, Taken, Touched};
 
-// Makes calls and a take in one turn, and writes what it gave and what waits behind it.
-fn turn_alone<H: HallServe, K: Sink, B: Bell, R: Wait>(
+// Writes what the take of a turn gave and what waits behind it.
+fn write_alone<H: HallApi, K: Sink, B: Bell, R: Wait>(
     rt: &R,
     hall: &H,
     seat: &mut H::Seat,
     session: u32,
-    moment: u64,
-    asked: AskedList,
-    touched: Touched,
-    bell: &B,
     room: &B,
     outlet: Outlet<K>,
+    taken: Option<Taken>,
     ends: bool,
-) -> (Answers, AskedList, Touched, Writing<K>)
-    requires seat { H.HallApi.is_of hall.now seat.old }
-    requires moment { moment ≤ max_moment }
-    requires some { 0 < length asked }
-    requires few { length asked ≤ 64 }
-    requires proper { list_all is_proper asked ≡ true }
-    requires bare { outlet.frames.list ≡ [] }
+) -> Writing<K>
+    requires seat { H.is_of hall.now seat.old }
     requires places { outlet.frames.places ≡ take_frames }
-    ensures seat { H.HallApi.is_of hall.now seat.new }
-    ensures count { IsCount result.0.served result.0.end (length asked) }
-    ensures back { result.1 ≡ asked }
-    ensures fit { IsFit result.3 }
-    ensures turn { WithTakes
-        (GainsBoth (H.HallApi.knows seat.old) (H.HallApi.knows seat.new) (call_acts session moment asked result.0.served result.0.end))
-        (Goes K.held K.faults session (writing.Alone outlet) result.3) }
+    requires count { length outlet.frames.list ≡ taken_count taken }
+    ensures seat { H.is_of hall.now seat.new }
+    ensures fit { IsFit result }
+    ensures writes { WithTakes
+        (Gains (H.knows seat.old) (H.knows seat.new))
+        (λ rest. Goes K.held K.faults session (writing.Alone outlet) result (take_acts session taken outlet.frames.list ++ rest)) }
 {
     let Outlet {
         mut sink,
@@ -50,16 +42,6 @@ fn turn_alone<H: HallServe, K: Sink, B: Bell, R: Wait>(
         mut text,
         writer,
     } = outlet;
-    let (answers, asked, touched, taken) = hall.calls_and_take(
-        rt,
-        seat,
-        session,
-        moment,
-        asked,
-        touched,
-        &mut frames,
-    );
-    ring_touched(bell, &touched);
     let end = write_behind(
         rt,
         hall,
@@ -79,8 +61,8 @@ fn turn_alone<H: HallServe, K: Sink, B: Bell, R: Wait>(
         writer,
     };
     match end {
-        Some(end) => (answers, asked, touched, Writing::Ended(outlet, end)),
-        None => (answers, asked, touched, Writing::Alone(outlet)),
+        Some(end) => Writing::Ended(outlet, end),
+        None => Writing::Alone(outlet),
     }
 }
 
@@ -114,9 +96,20 @@ pub(crate) fn turn_once<H: HallServe, K: Sink, B: Bell, R: Wait>(
         (Goes K.held K.faults session writing result.3) }
 {
     match writing {
-        Writing::Alone(outlet) => turn_alone(
-            rt, hall, seat, session, moment, asked, touched, bell, room, outlet, ends,
-        ),
+        Writing::Alone(mut outlet) => {
+            let (answers, asked, touched, taken) = hall.calls_and_take(
+                rt,
+                seat,
+                session,
+                moment,
+                asked,
+                touched,
+                &mut outlet.frames,
+            );
+            ring_touched(bell, &touched);
+            let writing = write_alone(rt, hall, seat, session, room, outlet, taken, ends);
+            (answers, asked, touched, writing)
+        }
         other => {
             let (answers, asked, touched) = hall.calls(rt, seat, session, moment, asked, touched);
             ring_touched(bell, &touched);
