@@ -43,7 +43,10 @@ enum Found {
 
 impl<R: Net<Listener = TcpListener, Stream = TcpStream> + rt::Clock + Copy + Drop> TcpDoor<R> {
     /// A door that is not open yet. Each write to a caller fails after `patience`, more than zero, where the caller takes nothing.
-    pub fn new(rt: R, alloc: Global, patience: Duration) -> TcpDoor<R> {
+    pub fn new(rt: R, alloc: Global, patience: Duration) -> TcpDoor<R>
+        ensures faults { result.faults ≡ 0 }
+        ensures links { result.links ≡ 0 }
+    {
         TcpDoor {
             rt,
             alloc,

@@ -152,7 +152,9 @@ impl<R: Files<File = File> + Copy + Drop> Folder<R> {
 
 impl<R: Files<File = File> + Copy + Drop> FolderDisk<R> {
     /// The disk in the current folder of this runtime. No file is opened yet.
-    pub fn new(rt: R) -> FolderDisk<R> {
+    pub fn new(rt: R) -> FolderDisk<R>
+        ensures { result.faults ≡ 0 }
+    {
         FolderDisk {
             folder: Folder {
                 rt,

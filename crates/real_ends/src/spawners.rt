@@ -17,7 +17,10 @@ pub struct ThreadSpawner {
 
 impl ThreadSpawner {
     /// Nothing was started yet.
-    pub fn new(alloc: Global) -> ThreadSpawner {
+    pub fn new(alloc: Global) -> ThreadSpawner
+        ensures faults { result.starts.faults ≡ 0 }
+        ensures jobs { result.starts.jobs ≡ 0 }
+    {
         ThreadSpawner {
             starts: ListedSpawner::new(alloc, Vec::new(alloc)),
         }

@@ -1,6 +1,6 @@
 //! Standard input and output, or another reader and writer.
 
-ghost use Rattle.std.specs.Prelude.{None};
+ghost use Rattle.std.specs.Prelude.{◌≡◌, None};
 
 use outside::{Failed, Sink, Source};
 use std::io::{Read, Write};
@@ -14,7 +14,9 @@ pub struct StdinSource<R: Read + Drop> {
 
 impl<R: Read + Drop> StdinSource<R> {
     /// Nothing was read yet, and nothing has failed.
-    pub fn new(reader: R) -> StdinSource<R> {
+    pub fn new(reader: R) -> StdinSource<R>
+        ensures { result.faults ≡ 0 }
+    {
         StdinSource { reader, faults: 0 }
     }
 }
@@ -44,7 +46,9 @@ pub struct StdoutSink<W: Write + Drop> {
 
 impl<W: Write + Drop> StdoutSink<W> {
     /// Nothing was written yet, and nothing has failed.
-    pub fn new(writer: W) -> StdoutSink<W> {
+    pub fn new(writer: W) -> StdoutSink<W>
+        ensures { result.faults ≡ 0 }
+    {
         StdoutSink { writer, faults: 0 }
     }
 }
