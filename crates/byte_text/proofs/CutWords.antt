@@ -1,5 +1,5 @@
 -- Words that lie in one buffer.
-use Rattle.std.proofs.Common.{◌≡◌, ℕ, zero, suc, ◌+◌, ◌-◌, ◌<◌, ◌≤◌, List, [], ◌∷◌, ◌++◌, length, take, drop, get_or, slice_get, Some, refl, sym, ap, subst, ◌∙◌, arith, length-append, length-take, length-drop, drop_at, append_assoc, append-nil, flat_map, drop_of_length-le}
+use Rattle.std.proofs.Common.{◌≡◌, ℕ, zero, suc, ◌+◌, ◌-◌, ◌<◌, ◌≤◌, List, [], ◌∷◌, ◌++◌, length, take, drop, get_or, slice_get, Some, refl, sym, ap, subst, ◌∙◌, arith, length-append, length-take, length-drop, drop_at, append-nil, flat_map, drop_of_length-le}
 use Rattle.std.proofs.lemmas.List.{take-append-le, drop-append-le}
 use Rattle.byte_text.specs.Names.{Bytes}
 use Rattle.byte_text.specs.Lines.{bulk_text}

@@ -1,5 +1,5 @@
 -- A rewriting: what was copied is a part of the world, which each batch and each item keeps, and which is the world where no item is left.
-use Rattle.std.proofs.Common.{◌≡◌, ◌∙◌, ◌^◌, ◌&&◌, ◌||◌, ℕ, Bool, true, false, not, List, [], ◌∷◌, ◌++◌, refl, sym, ap, subst, append-nil, arith}
+use Rattle.std.proofs.Common.{◌≡◌, ◌∙◌, ◌^◌, ◌&&◌, ◌||◌, ℕ, Bool, true, false, not, List, [], ◌∷◌, ◌++◌, refl, sym, ap, subst, arith}
 use Rattle.std.specs.Prelude.{filter, flat_map, nat_lt, map, if◌then◌else◌}
 use Rattle.std.specs.List.{AllByRecursion, list_all}
 use Rattle.byte_text.specs.Names.{Bytes}
@@ -7,13 +7,13 @@ use Rattle.byte_text.specs.ByteOrder.{before_trans, same_equal, same_refl}
 use Rattle.ordered_lists.specs.Lists.{ascends}
 use Rattle.ordered_lists.specs.Reading.{both_of}
 use Rattle.world_data.specs.Worlds.{after, object_before, channel_before, are_objects, are_channels, is_sorted_world, empty_world}
-use Rattle.world_data.specs.WorldLaws.{object_asym, object_trans, channel_asym, channel_trans, keeps_order}
+use Rattle.world_data.specs.WorldLaws.{object_asym, channel_asym, keeps_order}
 use Rattle.world_data.specs.declared.channels.Channel.{Channel}
 use Rattle.world_data.specs.declared.objects.Object.{Object}
 use Rattle.world_data.specs.declared.worlds.Change.{Change}
 use Rattle.world_data.specs.declared.worlds.Change.TheVariants.{Put, SetChan}
 use Rattle.world_data.specs.declared.worlds.World.{World}
-use Rattle.log_record.specs.Copying.{ties, IsPicked, IsPart, StandsIn}
+use Rattle.log_record.specs.Copying.{ties, IsPicked, StandsIn}
 use Rattle.log_record.specs.CopyingLaws.{parts_grow}
 use Rattle.log_record.specs.Folding.{folded}
 use Rattle.log_record.specs.Batches.{records_text}

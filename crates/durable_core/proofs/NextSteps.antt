@@ -1,8 +1,8 @@
 -- What a step of a rewriting shows.
-use Rattle.std.proofs.Common.{◌≡◌, ◌≢◌, ◌∙◌, ◌+◌, ℕ, Bool, false, List, [], ◌∷◌, length, Result, Ok, Err, OnOk, refl, sym, ap, arith}
-use Rattle.std.specs.Prelude.{drop, take, if◌then◌else◌}
+use Rattle.std.proofs.Common.{◌≡◌, ◌≢◌, ◌∙◌, ℕ, false, List, [], ◌∷◌, length, Result, Ok, Err, OnOk, refl, sym, ap, arith}
+use Rattle.std.specs.Prelude.{drop, take}
 use Rattle.world_data.specs.declared.worlds.World.{World}
-use Rattle.durable_core.specs.Rewriting.{Item, Shown, going, is_ending, items_left, next_shown, shown_by}
+use Rattle.durable_core.specs.Rewriting.{Item, going, is_ending, next_shown, shown_by}
 use Rattle.durable_core.specs.Steps.{IsCopyStep, next_generation}
 use Rattle.durable_core.specs.declared.pieces.NextPiece.{NextPiece}
 use Rattle.durable_core.specs.declared.rewritings.Rewriting.{Rewriting}

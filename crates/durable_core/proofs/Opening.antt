@@ -1,17 +1,14 @@
 -- The world of a log is sound, and a core over it has a log and stands at an opening.
 use Rattle.std.proofs.Common.{◌≡◌, ◌∙◌, ◌&&◌, ℕ, Bool, true, false, List, [], ◌∷◌, Option, Some, refl, sym, ap, subst}
-use Rattle.std.specs.Prelude.{flat_map}
 use Rattle.std.specs.List.{AllByRecursion, list_all}
 use Rattle.byte_text.specs.Names.{Bytes, is_name}
 use Rattle.outside.specs.Sides.{Sides, IfTold}
 use Rattle.world_data.specs.Filters.{are_fields}
 use Rattle.world_data.specs.Records.{record_words}
 use Rattle.world_data.specs.Sound.{IsSoundObject, IsSoundWorld, is_sound_channel}
-use Rattle.world_data.specs.WorldLaws.{keeps_order}
-use Rattle.world_data.specs.Worlds.{after, empty_world, is_sorted_world}
+use Rattle.world_data.specs.Worlds.{after, is_sorted_world}
 use Rattle.world_data.specs.declared.channels.Channel.{Channel}
 use Rattle.world_data.specs.declared.objects.Object.{Object}
-use Rattle.world_data.specs.declared.worlds.Change.{Change}
 use Rattle.world_data.specs.declared.worlds.Change.TheVariants.{Put, SetChan}
 use Rattle.world_data.specs.declared.worlds.World.{World}
 use Rattle.world_model.specs.Halls.{Hall}
@@ -21,13 +18,12 @@ use Rattle.journal.specs.Journals.{Keeps, pending}
 use Rattle.journal.specs.KeptLaws.{kept_told}
 use Rattle.journal.specs.declared.openings.OpenFault.TheVariants.{Memory}
 use Rattle.journal.specs.declared.journals.Journal.{Journal}
-use Rattle.log_record.specs.Folding.{folded}
 use Rattle.log_record.specs.RecordsRead.{record_read}
 use Rattle.log_record.specs.Recovery.{Recovers}
 use Rattle.log_record.specs.Laws.{Stood}
 use Rattle.log_record.specs.TurnLaws.{openings_stand}
 use Rattle.log_record.specs.Words.{IsRecorded, is_kept_deadline, is_kept_field}
-use Rattle.log_worlds.specs.Recorded.{changes_in, world_in}
+use Rattle.log_worlds.specs.Recorded.{world_in}
 use Rattle.world_opening.specs.Opened.{IsOpened, AreRecorded}
 use Rattle.durable_core.specs.Kept.{IsKeptBy, settled_log}
 use Rattle.durable_core.specs.Logged.{hall_of, disk_of}

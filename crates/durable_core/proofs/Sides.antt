@@ -1,16 +1,13 @@
 -- What a step of a rewriting writes.
-use Rattle.std.proofs.Common.{◌≡◌, ◌∙◌, ◌⊎◌, ℕ, Bool, List, [], ◌∷◌, Option, Result, Ok, Err, OnOk, refl, sym, ap, inl, inr}
+use Rattle.std.proofs.Common.{◌≡◌, ◌∙◌, ℕ, List, [], sym, ap}
 use Rattle.std.specs.Prelude.{take}
 use Rattle.byte_text.specs.Names.{Bytes}
 use Rattle.world_data.specs.declared.worlds.World.{World}
-use Rattle.outside.specs.Sides.{Sides}
 use Rattle.log_sides.specs.Texts.{committed}
-use Rattle.journal.specs.Journals.{pending}
-use Rattle.journal.specs.declared.journals.Journal.{Journal}
 use Rattle.log_record.specs.Batches.{records_text}
-use Rattle.durable_core.specs.Rewriting.{Item, changes_of, items_left}
+use Rattle.durable_core.specs.Rewriting.{Item, changes_of}
 use Rattle.durable_core.specs.Steps.{IsNextStep}
-use Rattle.durable_core.specs.Written.{IsMirrored, KeepsSided, Sided, sided_next, sided_on, sided_with}
+use Rattle.durable_core.specs.Written.{Sided, sided_next, sided_on}
 use Rattle.durable_core.specs.declared.rewritings.Rewriting.{Rewriting}
 use Rattle.durable_core.specs.declared.steps.RewriteStep.{RewriteStep}
 use Rattle.durable_core.specs.declared.steps.RewriteStep.TheVariants as step

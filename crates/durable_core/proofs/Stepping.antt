@@ -1,11 +1,8 @@
 -- The steps of a rewriting, each of which leads from a log to the same log.
-use Rattle.std.proofs.Common.{◌≡◌, ◌∙◌, ℕ, Bool, true, List, [], ◌++◌, Option, Result, Ok, Err, ⊎_elim, refl, sym, ap, subst, inl, inr}
+use Rattle.std.proofs.Common.{◌≡◌, ◌∙◌, ℕ, Bool, true, List, [], Option, Result, Ok, Err, ⊎_elim, refl, sym, ap, subst, inl, inr}
 use Rattle.std.specs.Prelude.{◌⊎◌, take, drop}
-use Rattle.std.specs.List.{AllByRecursion}
-use Rattle.std.proofs.lemmas.List.{take-append-drop}
 use Rattle.byte_text.specs.Names.{Bytes}
 use Rattle.world_data.specs.declared.worlds.World.{World}
-use Rattle.world_data.specs.declared.worlds.Change.{Change}
 use Rattle.outside.specs.Sides.{Sides}
 use Rattle.outside.specs.Crashes.{LeavesOnly}
 use Rattle.outside.specs.CrashLaws.{then, weaker}
@@ -14,14 +11,13 @@ use Rattle.journal.specs.Logs.{HoldsLog, HoldsEither}
 use Rattle.journal.specs.Journals.{Keeps, pending}
 use Rattle.journal.specs.Openings.{AreWhole}
 use Rattle.log_record.specs.Batches.{records_text}
-use Rattle.log_record.specs.Folding.{folded}
 use Rattle.log_record.specs.Recovery.{Recovers, RecoversEither}
 use Rattle.log_record.specs.Journals as log
 use Rattle.log_worlds.specs.Recorded.{record_fault, world_in}
 use Rattle.log_worlds.specs.BatchesHeld.{committed_world, committed_whole, held_recovers}
 use Rattle.durable_core.specs.Kept.{IsKeptBy, LeadsTo}
-use Rattle.durable_core.specs.Pieces.{HasTaken, IsNextPiece}
-use Rattle.durable_core.specs.Rewriting.{Item, changes_of, items_left, last_behind, IsCopiedTo, IsCopy, IsCopyWhile}
+use Rattle.durable_core.specs.Pieces.{IsNextPiece}
+use Rattle.durable_core.specs.Rewriting.{changes_of, items_left, last_behind, IsCopiedTo, IsCopy, IsCopyWhile}
 use Rattle.durable_core.specs.declared.pieces.NextPiece.{NextPiece}
 use Rattle.durable_core.specs.declared.rewritings.LastCopied.{LastCopied}
 use Rattle.durable_core.specs.declared.rewritings.LastCopied.TheVariants as last

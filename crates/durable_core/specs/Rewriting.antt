@@ -1,5 +1,5 @@
 -- How a log is rewritten: the items of a world are copied one behind another, and each batch is copied beside them.
-use Rattle.std.specs.Prelude.{◌≡◌, ◌^◌, ℕ, Bool, true, false, not, nat_lt, List, [], ◌∷◌, ◌++◌, filter, map, drop, if◌then◌else◌}
+use Rattle.std.specs.Prelude.{◌^◌, ℕ, Bool, true, false, not, nat_lt, List, [], ◌∷◌, ◌++◌, filter, map, drop, if◌then◌else◌}
 use Rattle.byte_text.specs.Names.{Bytes}
 use Rattle.world_data.specs.declared.channels.Channel.{Channel}
 use Rattle.world_data.specs.declared.objects.Object.{Object}

@@ -1,5 +1,5 @@
 -- Fields are written one after another.
-use Rattle.std.proofs.Common.{◌≡◌, ℕ, zero, suc, ◌+◌, ◌<◌, List, [], ◌∷◌, ◌++◌, length, flat_map, drop, refl, arith, ap, ◌∙◌, subst, add-one, append_assoc, sym}
+use Rattle.std.proofs.Common.{◌≡◌, ℕ, zero, suc, ◌+◌, ◌<◌, List, [], ◌∷◌, ◌++◌, length, drop, refl, arith, ap, ◌∙◌, subst, add-one, append_assoc, sym}
 use Rattle.std.specs.Prelude.{Option, Some, IfSome, slice_get, codes}
 use Rattle.byte_text.specs.Names.{Bytes}
 use Rattle.world_data.specs.Filters.{Field}

@@ -1,5 +1,5 @@
 -- Pieces that were written one after another, the last of which may have failed.
-use Rattle.std.proofs.Common.{◌≡◌, List, [], ◌∷◌, ◌++◌, OnOk, Result, Ok, Err, refl, ap, ◌∙◌, append_assoc}
+use Rattle.std.proofs.Common.{◌≡◌, ◌++◌, OnOk, Result, Ok, Err, ap, ◌∙◌, append_assoc}
 use Rattle.byte_text.specs.Names.{Bytes}
 
 pub two : {E : Type 0} (r : Result (Unit {0}) E) (old p t one new : Bytes) → one ≡ old ++ p → OnOk r (new ≡ one ++ t) → OnOk r (new ≡ old ++ (p ++ t))

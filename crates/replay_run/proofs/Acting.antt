@@ -1,5 +1,5 @@
 -- What one line does to the hall and to the readers.
-use Rattle.std.proofs.Common.{◌≡◌, ℕ, refl, sym, ap, ◌∙◌, subst, List}
+use Rattle.std.proofs.Common.{◌≡◌, ℕ, sym, ap, ◌∙◌, subst, List}
 use Rattle.std.specs.Prelude.{Option, slice_set}
 use Rattle.byte_text.specs.Names.{Bytes}
 use Rattle.world_model.specs.Halls.{Hall}

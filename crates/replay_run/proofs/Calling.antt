@@ -1,6 +1,6 @@
 -- What comes of one call of a core.
-use Rattle.std.proofs.Common.{arith, ◌+◌, ◌++◌, ◌≡◌, ◌≢◌, ◌≤◌, ℕ, Bool, true, false, refl, sym, ap, subst, ◌∙◌, List, [], ◌∷◌, inl, inr}
-use Rattle.std.specs.Prelude.{Option, Some, None, Result, Ok, Err, IfOk, IfErr, OnOk, min}
+use Rattle.std.proofs.Common.{arith, ◌+◌, ◌++◌, ◌≡◌, ◌≢◌, ◌≤◌, ℕ, Bool, true, false, refl, sym, ap, subst, ◌∙◌, List, [], ◌∷◌, inr}
+use Rattle.std.specs.Prelude.{Option, Some, None, Result, Ok, Err, IfOk, IfErr, min}
 use Rattle.std.proofs.Math.Nat.{min-le_left, min-le_right, le-min}
 use Rattle.byte_text.specs.Names.{Bytes}
 use Rattle.outside.specs.Causes.{Rose, most_count}
@@ -14,7 +14,7 @@ use Rattle.world_model.specs.declared.events.Taken.{Taken}
 use Rattle.world_model.specs.declared.events.Taken.TheVariants as taken
 use Rattle.world_model.specs.declared.events.Event.{Event}
 use Rattle.world_model.specs.declared.events.Outcome.{Outcome}
-use Rattle.world_model.specs.declared.events.Outcome.TheVariants.{Done, Entered, TooMany, Answered, Given, Empty, Ended}
+use Rattle.world_model.specs.declared.events.Outcome.TheVariants.{Empty, Ended}
 use Rattle.log_record.specs.Journals.{Journal, TellsNow}
 use Rattle.durable_core.specs.Logged.{hall_of, disk_of, KeepsLogOf, GoesOn}
 use Rattle.durable_core.specs.declared.cores.DurableCore.{DurableCore}

@@ -1,9 +1,8 @@
 -- A session is entered, which has a reader from then on.
-use Rattle.std.proofs.Common.{◌≡◌, ◌≤◌, ◌≢◌, ℕ, Bool, true, false, refl, sym, ap, subst, ◌∙◌, List, [], ◌∷◌, inr, arith}
+use Rattle.std.proofs.Common.{◌≡◌, ◌≤◌, ◌≢◌, ℕ, Bool, true, false, refl, sym, ap, ◌∙◌, List, [], ◌∷◌, inr, arith}
 use Rattle.std.specs.Prelude.{Option, Some, Result, Ok, Err, IfOk, IfErr}
 use Rattle.byte_text.specs.Names.{Bytes}
 use Rattle.outside.specs.Sides.{Sides}
-use Rattle.outside.specs.Causes.{Rose}
 use Rattle.world_model.specs.Histories.{Step, answer, is_log_fault}
 use Rattle.world_model.specs.declared.events.Called.TheVariants as called
 use Rattle.world_model.specs.declared.events.Event.TheVariants as event
@@ -16,7 +15,7 @@ use Rattle.replay_run.specs.declared.halts.Halt.TheVariants as halted
 use Rattle.replay_run.specs.declared.readers.Reader.{Reader}
 use Rattle.replay_run.specs.Outputs.{printed}
 use Rattle.replay_run.specs.Readers.{with_entered}
-use Rattle.replay_run.specs.Traces.{Deed, does, trace}
+use Rattle.replay_run.specs.Traces.{does, trace}
 use Rattle.replay_run.specs.Scripts.{Enters}
 use Rattle.replay_run.specs.Undone.{Fails}
 use Rattle.replay_run.specs.Standing.{StaysSafe, Comes}

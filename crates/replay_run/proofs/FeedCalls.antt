@@ -1,5 +1,5 @@
 -- Calls of the bytes that come to a reader, over a disk.
-use Rattle.std.proofs.Common.{◌≡◌, ◌≤◌, ℕ, Bool, false, refl, sym, ap, subst, ◌∙◌, List, [], ◌∷◌, ◌++◌, length, drop}
+use Rattle.std.proofs.Common.{◌≡◌, ℕ, Bool, false, refl, sym, ap, subst, List, [], ◌++◌, drop}
 use Rattle.std.specs.Prelude.{Option, Some, None, Result, Ok, Err, IfOk, IfErr, codes, slice_set}
 use Rattle.std.proofs.lemmas.List.{append-nil}
 use Rattle.byte_text.specs.Names.{Bytes}
@@ -10,18 +10,17 @@ use Rattle.outside.specs.Sides.{Sides}
 use Rattle.world_model.specs.Halls.{Hall}
 use Rattle.world_model.specs.declared.events.Asked.TheVariants.{Broken}
 use Rattle.world_model.specs.declared.events.Event.TheVariants as event
-use Rattle.durable_core.specs.Logged.{hall_of, disk_of}
+use Rattle.durable_core.specs.Logged.{hall_of}
 use Rattle.durable_core.specs.declared.cores.DurableCore.{DurableCore}
 use Rattle.replay_run.specs.declared.halts.Halt.{Halt}
 use Rattle.replay_run.specs.declared.halts.Halt.TheVariants as halted
 use Rattle.replay_run.specs.declared.readers.Reader.{Reader}
 use Rattle.replay_run.specs.Readers.{Unread, reader_of}
-use Rattle.replay_run.specs.Played.{Played}
-use Rattle.replay_run.specs.Traces.{Deed, Trace, trace, no_trace, printing, joined}
+use Rattle.replay_run.specs.Traces.{Deed, Trace, trace, printing}
 use Rattle.replay_run.specs.Scripts.{Makes, FedTo, Feeds}
 use Rattle.replay_run.specs.Undone.{Fails, WantsMemory, FedFails, FeedsFails}
 use Rattle.replay_run.specs.Steps.{IsBrokenOff, BreakingFails, IsStep}
-use Rattle.replay_run.specs.Standing.{StaysSafe, Comes}
+use Rattle.replay_run.specs.Standing.{Comes}
 use Rattle.replay_run.proofs.Present.{IsAt}
 use Rattle.replay_run.proofs.Feeding.{Goes, goes_more, wants_fed, made_fed}
 use Rattle.replay_run.proofs.Acting.{fed_at, fails_at}

@@ -3,13 +3,12 @@ use Rattle.std.proofs.Common.{◌≡◌, ◌≢◌, ◌⊎◌, ℕ, ◌+◌, Boo
 use Rattle.std.specs.Prelude.{Option, None, Some}
 use Rattle.std.proofs.lemmas.List.{append-nil}
 use Rattle.std.specs.Io.KnownBytes.{Appends}
-use mathlib.Core.List.{IsPrefix}
 use Rattle.byte_text.specs.Names.{Bytes}
 use Rattle.script_text.specs.Lines.{line}
 use Rattle.script_text.specs.declared.lines.ScriptLine.{ScriptLine}
 use Rattle.script_text.specs.declared.lines.ScriptLine.TheVariants as says
 use Rattle.world_model.specs.Halls.{Hall}
-use Rattle.world_model.specs.Histories.{StepBy, Step, answer, doing, refusal_going}
+use Rattle.world_model.specs.Histories.{StepBy, Step, answer, refusal_going}
 use Rattle.world_model.specs.declared.events.Called.{Called}
 use Rattle.world_model.specs.declared.events.Called.TheVariants as called
 use Rattle.world_model.specs.declared.events.Event.TheVariants as event
@@ -26,7 +25,7 @@ use Rattle.replay_run.specs.Reads.{OnLine, IsOneLine, IsFirstLine, HasNoLine}
 use Rattle.replay_run.specs.Traces.{Deed, Trace, trace, no_trace, joined}
 use Rattle.replay_run.specs.Scripts.{IsLine, Does, Runs, Reopens, reopened_line}
 use Rattle.replay_run.specs.Undone.{FailsOn, ReopenFails, IsUndone}
-use Rattle.replay_run.specs.Plays.{AreDone, Retires, retired, IsReadOf, IsRead, IsBefore, IsHalted, IsCut, OnTurn, OnPlay, ActsOn, OnLineDone, IsTold, end_of}
+use Rattle.replay_run.specs.Plays.{AreDone, Retires, retired, IsReadOf, IsRead, IsBefore, IsCut, OnTurn, OnPlay, ActsOn, OnLineDone, IsTold, end_of}
 use Rattle.replay_run.proofs.GoingOn.{while_going}
 use Rattle.replay_run.proofs.Traces.{joined_assoc, joined_nothing}
 use Rattle.outside.specs.Writing.{appends_more, appends_nothing}

@@ -1,11 +1,10 @@
 -- The length of the log is told by nothing else that a step does, but where it has come to its end.
 use Rattle.std.proofs.Common.{◌≡◌, ◌≢◌, ℕ, Bool, true, false, refl, sym, ap, ◌∙◌, List, [], ◌∷◌, inl, inr}
-use Rattle.std.specs.Prelude.{Option, Some, None, Result, Ok, Err, option_map, map, max, if◌then◌else◌, nat_le}
+use Rattle.std.specs.Prelude.{Option, Some, None, Result, Ok, Err, option_map, map, max, if◌then◌else◌}
 use Rattle.byte_text.specs.Names.{Bytes}
 use Rattle.byte_text.specs.Replies.{frame_text}
 use Rattle.fence_model.specs.Writes.{Write, dels}
 use Rattle.world_data.specs.Expiry.{expired}
-use Rattle.world_data.specs.Limits.{most_logged}
 use Rattle.world_model.specs.Effects.{Effect}
 use Rattle.world_model.specs.Commands.{reads}
 use Rattle.world_model.specs.Subscriptions.{with_subs}

@@ -2,8 +2,6 @@
 use Rattle.std.proofs.Common.{◌≡◌, ◌≢◌, ◌≤◌, ◌⊎◌, ℕ, zero, suc, Bool, true, false, List, [], ◌∷◌, ◌++◌, length, take, refl, sym, ap, subst, ◌∙◌, arith, inl, inr, append_assoc}
 use Rattle.std.specs.Prelude.{Option, Some, min}
 use Rattle.std.proofs.lemmas.List.{take_all}
-use Rattle.byte_text.specs.Names.{Bytes}
-use Rattle.append_log.specs.Logs.{IsFresh}
 use Rattle.outside.specs.Causes.{most_count, Rose}
 use Rattle.outside.specs.Sides.{Sides, IfTold}
 use Rattle.outside.specs.Crashes.{LeavesOnly}
@@ -11,7 +9,7 @@ use Rattle.outside.specs.CrashLaws.{weaker}
 use Rattle.world_data.specs.Sound.{IsSoundWorld}
 use Rattle.world_data.specs.declared.worlds.World.{World}
 use Rattle.world_model.specs.Halls.{Hall}
-use Rattle.world_model.specs.Histories.{opening_hall, Step, Reaches, answer, is_log_fault, acked_count, IsLegal, EndsWith}
+use Rattle.world_model.specs.Histories.{opening_hall, Step, answer, is_log_fault, acked_count, EndsWith}
 use Rattle.world_model.specs.declared.events.Called.{Called}
 use Rattle.world_model.specs.declared.events.Called.TheVariants as called
 use Rattle.world_model.specs.declared.events.Event.TheVariants as event
@@ -19,17 +17,17 @@ use Rattle.world_model.specs.declared.events.Entry.{Entry}
 use Rattle.world_model.specs.declared.events.Opening.{Opening}
 use Rattle.journal.specs.Journals.{pending}
 use Rattle.journal.specs.Logs.{HoldsLog}
-use Rattle.journal.specs.Openings.{AreWhole, IsLeftByOpening}
+use Rattle.journal.specs.Openings.{IsLeftByOpening}
 use Rattle.log_sides.specs.States.{IsLog}
 use Rattle.log_record.specs.Acknowledged.{acked_take}
-use Rattle.log_record.specs.Journals.{Journal, Turn, TellsNow}
+use Rattle.log_record.specs.Journals.{Journal, TellsNow}
 use Rattle.log_record.specs.Recovery.{Recovers, Holds}
 use Rattle.log_record.specs.RecoveryLaws.{one_world}
 use Rattle.log_record.specs.Safety.{Run, moment_after, RecoversPassed, IsSafe, Passes, entries_of, start_of, RunPasses, Safe, SafeRun}
 use Rattle.log_record.specs.SafetyLaws.{passed_still, committed_passed}
 use Rattle.log_record.specs.Runs.{and_then, RunStood}
 use Rattle.log_record.specs.RunLaws.{openings_keep_runs_safe}
-use Rattle.log_worlds.specs.Recorded.{record_fault, world_in}
+use Rattle.log_worlds.specs.Recorded.{world_in}
 use Rattle.durable_core.specs.Kept.{settled_log}
 use Rattle.durable_core.specs.Logged.{hall_of, disk_of, generation_of, IsLogOf, KeepsLogOf, GoesOn}
 use Rattle.durable_core.specs.Opened.{IsOpening}
@@ -40,7 +38,6 @@ use Rattle.journal.specs.declared.openings.OpenFault.TheVariants as fault_of
 use Rattle.replay_run.specs.declared.halts.Halt.TheVariants as halted
 use Rattle.replay_run.specs.declared.readers.Reader.{Reader}
 use Rattle.replay_run.specs.Checks.{HasGeneration}
-use Rattle.replay_run.specs.Played.{Played}
 use Rattle.replay_run.specs.Scripts.{Reopens}
 use Rattle.replay_run.specs.Undone.{halt_at, ReopenFails}
 use Rattle.replay_run.specs.Traces.{Deed, opens, does}

@@ -1,5 +1,5 @@
 -- What a line says is done.
-use Rattle.std.proofs.Common.{◌≡◌, ℕ, Bool, refl, sym, subst, List, []}
+use Rattle.std.proofs.Common.{◌≡◌, ℕ, Bool, sym, subst, List}
 use Rattle.std.specs.Prelude.{Option, Result}
 use Rattle.byte_text.specs.Names.{Bytes}
 use Rattle.outside.specs.Sides.{Sides}

@@ -1,15 +1,15 @@
 -- A disk stays safe over the calls of a core, for a run that shows all that was made.
-use Rattle.std.proofs.Common.{◌≡◌, ◌≢◌, ◌≤◌, ◌<◌, ◌^◌, ◌+◌, ◌-◌, ◌⊎◌, ◌||◌, ℕ, suc, Bool, true, false, List, [], ◌∷◌, ◌++◌, length, take, refl, sym, ap, subst, ◌∙◌, arith, inl, inr, append_assoc, length-append, map}
+use Rattle.std.proofs.Common.{◌≡◌, ◌≤◌, ◌<◌, ◌^◌, ◌+◌, ◌-◌, ◌⊎◌, ◌||◌, ℕ, Bool, true, false, List, [], ◌∷◌, ◌++◌, length, refl, sym, ap, subst, ◌∙◌, arith, inl, inr, append_assoc, length-append}
 use Rattle.std.specs.Prelude.{Option, min, nat_lt}
 use Rattle.std.proofs.lemmas.Bool.{ltb-false}
 use Rattle.std.proofs.lemmas.Bool.Decides.{nat_tests}
-use Rattle.std.proofs.lemmas.List.{append-nil, take_all}
+use Rattle.std.proofs.lemmas.List.{append-nil}
 use Rattle.std.proofs.Math.Nat.{min-le_left, min-le_right, le-min, min-eq_left, min-eq_right}
 use Rattle.outside.specs.Causes.{most_count, Rose}
 use Rattle.outside.specs.Crashes.{EachImage}
 use Rattle.outside.specs.Sides.{Sides}
 use Rattle.world_model.specs.Halls.{Hall}
-use Rattle.world_model.specs.Histories.{opening_hall, Step, Reaches, Follows, gives_disk, is_log_fault, answer, IsLegal, EndsWith, IsRun}
+use Rattle.world_model.specs.Histories.{opening_hall, Step, Reaches, gives_disk, is_log_fault, answer, IsLegal, EndsWith, IsRun}
 use Rattle.world_model.specs.declared.events.Called.TheVariants as called
 use Rattle.world_model.specs.declared.events.Event.{Event}
 use Rattle.world_model.specs.declared.events.Event.TheVariants.{Enter, Call, Take, Tick, Close, Remove, Rewrite, Retire}
@@ -18,8 +18,8 @@ use Rattle.world_model.specs.declared.events.Entry.{Entry}
 use Rattle.world_model.specs.declared.events.Opening.{Opening}
 use Rattle.log_record.specs.Journals.{Journal, Turn, TellsNow}
 use Rattle.log_record.specs.Recovery.{Recovers}
-use Rattle.log_record.specs.Safety.{Run, moment_after, count_after, out_after, entries_of, start_of, RecoversPassed, RunPasses, SafeRun, ComesNext}
-use Rattle.log_record.specs.Runs.{and_then, RunStood}
+use Rattle.log_record.specs.Safety.{Run, moment_after, count_after, out_after, entries_of, RecoversPassed, RunPasses, ComesNext}
+use Rattle.log_record.specs.Runs.{and_then}
 use Rattle.log_record.specs.RunLaws.{turns_keep_runs_safe}
 use Rattle.log_record.specs.LeadingLaws.{leads_on, passes_all}
 use Rattle.log_record.specs.Acknowledged.{moment_last}

@@ -1,5 +1,5 @@
 -- Traces one behind another.
-use Rattle.std.proofs.Common.{◌≡◌, refl, sym, ap, ◌∙◌, List, [], ◌++◌, append_assoc}
+use Rattle.std.proofs.Common.{◌≡◌, ap, ◌∙◌, List, append_assoc}
 use Rattle.std.proofs.lemmas.List.{append-nil}
 use Rattle.byte_text.specs.Names.{Bytes}
 use Rattle.replay_run.specs.Traces.{Deed, Trace, no_trace, joined}

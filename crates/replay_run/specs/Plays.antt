@@ -21,7 +21,7 @@ use Rattle.replay_run.specs.Traces.{Deed, does, Trace}
 use Rattle.replay_run.specs.Played.{Played}
 use Rattle.replay_run.specs.Scripts.{opening, Acts, IsLine, Does, Runs, reopened_line}
 use Rattle.replay_run.specs.Openings.{Opens, IsDamagedAt}
-use Rattle.replay_run.specs.Undone.{FailsOn, IsUndone, WantsMemory}
+use Rattle.replay_run.specs.Undone.{FailsOn, IsUndone}
 use Rattle.replay_run.specs.declared.turns.Acted.{Acted}
 use Rattle.replay_run.specs.declared.turns.Acted.TheVariants.{Printed, Reopen, Outside}
 use Rattle.replay_run.specs.declared.halts.Halt.{Halt}

@@ -1,11 +1,11 @@
 -- What a line says names no moment behind the last one.
-use Rattle.std.proofs.Common.{◌≡◌, ◌≤◌, ℕ, Bool, true, false, refl, sym, subst, List, [], ◌∷◌, arith}
+use Rattle.std.proofs.Common.{◌≡◌, ◌≤◌, ℕ, Bool, true, false, refl, subst, List, [], ◌∷◌, arith}
 use Rattle.std.specs.Prelude.{Option, Some, None, Result, Ok, Err, IfOk, ◌&&◌, nat_le, nat_lt, if◌then◌else◌, option_map, option_and_then, codes, length}
 use Rattle.std.proofs.lemmas.Bool.Decides.{nat_tests}
 use Rattle.byte_text.specs.Names.{Bytes, same}
 use Rattle.byte_text.specs.Numbers.{natural}
 use Rattle.script_text.specs.Words.{words}
-use Rattle.script_text.specs.Lines.{max_line, max_moment, session, moment, piece, bare_line, numbered_line, feed_line, line_of_words, is_silent, line, IsAnswer, KeepsMoment}
+use Rattle.script_text.specs.Lines.{max_line, max_moment, session, moment, piece, line_of_words, is_silent, line, IsAnswer, KeepsMoment}
 use Rattle.script_text.specs.declared.lines.ScriptLine.{ScriptLine}
 use Rattle.script_text.specs.declared.lines.ScriptLine.TheVariants.{Nothing, Enter, Feed, Take, Tick, Close, Step, Reopen}
 use Rattle.script_text.specs.declared.lines.LineFault.{LineFault}

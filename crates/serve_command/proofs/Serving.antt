@@ -1,6 +1,6 @@
 -- What serving keeps of the counts outside.
 use Rattle.std.proofs.Common.{◌≡◌, ℕ, ap, ◌∙◌}
-use Rattle.serve_command.specs.Serves.{Counted, counted}
+use Rattle.serve_command.specs.Serves.{counted}
 
 -- only the door's failures were counted
 pub only_faults : (jobs refused callers ends faults callers' ends' faults' : ℕ) → callers' ≡ callers → ends' ≡ ends

@@ -1,7 +1,7 @@
 -- Sessions before and after something that was done to each of them.
-use Rattle.std.specs.Prelude.{◌≡◌, ◌≤◌, ℕ, zero, suc, List, [], ◌∷◌, ◌++◌, map}
+use Rattle.std.specs.Prelude.{◌≡◌, ◌≤◌, ℕ, zero, suc, List, [], ◌∷◌}
 use Rattle.std.specs.List.{AllByRecursion}
-use Rattle.fence_model.specs.Messages.{Message, messages}
+use Rattle.fence_model.specs.Messages.{Message}
 use Rattle.fence_model.specs.Writes.{Write}
 use Rattle.world_model.specs.Halls.{placed_each}
 use Rattle.deliveries.specs.Staging.{listens, frames_each, heard}

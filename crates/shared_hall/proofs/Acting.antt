@@ -1,12 +1,11 @@
 -- What each call of a core is to its history: an act.
-use Rattle.std.proofs.Common.{◌≡◌, ◌≤◌, ℕ, Bool, true, false, List, [], Option, Result, Ok, Err, refl, sym, ap, ◌∙◌, subst, arith, true≢false}
-use Rattle.std.specs.Prelude.{if◌then◌else◌, Some, None, ◌||◌}
+use Rattle.std.proofs.Common.{◌≡◌, ◌≤◌, ℕ, Bool, true, false, List, Option, Result, Ok, Err, refl, sym, ap, ◌∙◌, subst, arith, true≢false}
+use Rattle.std.specs.Prelude.{Some, ◌||◌}
 use Rattle.byte_text.specs.Names.{Bytes}
 use Rattle.outside.specs.Causes.{Rose}
 use Rattle.outside.specs.Sides.{Sides}
-use Rattle.outside.specs.CrashLaws.{begins}
 use Rattle.world_model.specs.Halls.{Hall}
-use Rattle.world_model.specs.Histories.{Step, StepBy, Ending, refusal, refusal_going, when_stopped, stopped, is_log_fault}
+use Rattle.world_model.specs.Histories.{Step, when_stopped, stopped, is_log_fault}
 use Rattle.world_model.specs.Outcomes.{enter_outcome, take_outcome}
 use Rattle.world_model.specs.Seats.{Act}
 use Rattle.world_model.specs.declared.events.Called.{Called}
@@ -19,7 +18,7 @@ use Rattle.world_model.specs.declared.events.Event.{Event}
 use Rattle.world_model.specs.declared.events.Event.TheVariants.{Enter, Call, Take, Tick, Close, Remove, Rewrite, Retire}
 use Rattle.world_model.specs.declared.events.Outcome.{Outcome}
 use Rattle.world_model.specs.declared.events.Outcome.TheVariants.{Answered}
-use Rattle.log_record.specs.Journals.{Journal, Turn, TellsNow, IsDurable, shows, whole}
+use Rattle.log_record.specs.Journals.{Journal, Turn, TellsNow, shows}
 use Rattle.log_record.specs.Laws.{KeepsSafe}
 use Rattle.log_record.specs.TurnLaws.{turn_keeps_safe}
 use Rattle.durable_core.specs.Logged.{hall_of, disk_of, KeepsLogOf, GoesOn}
@@ -28,7 +27,7 @@ use Rattle.durable_core.specs.declared.cores.DurableCore.{DurableCore}
 use Rattle.shared_hall.specs.Cores.{hall_in, disk_in, has_left, KeepsIn, Acts}
 use Rattle.shared_hall.specs.Times.{is_retire}
 use Rattle.shared_hall.specs.declared.places.Place.{Place}
-use Rattle.shared_hall.specs.declared.places.Place.TheVariants.{Inside, Out}
+use Rattle.shared_hall.specs.declared.places.Place.TheVariants.{Inside}
 
 -- which answers say that the log failed
 

@@ -2,12 +2,11 @@
 use Rattle.std.proofs.Common.{◌≡◌, ℕ, zero, suc, ◌+◌, Bool, false, List, [], ◌∷◌, ◌++◌, length, map, take, drop, refl, sym, ap, ◌∙◌, subst, take-append-drop}
 use Rattle.std.specs.Prelude.{Option, Some}
 use Rattle.std.specs.List.{range_with_len}
-use mathlib.Core.List.{map-append}
 use Rattle.outside.specs.Sides.{Sides}
 use Rattle.turn_lock.specs.declared.seat.Known.{Known}
 use Rattle.turn_lock.specs.Seats.{Turn, OwnsKept, OwnPlaces}
 use Rattle.turn_lock.specs.Turned.{NoneKept}
-use Rattle.world_model.specs.Halls.{Hall, NamesChanged}
+use Rattle.world_model.specs.Halls.{NamesChanged}
 use Rattle.world_model.specs.Histories.{IsLegal, Reaches}
 use Rattle.world_model.specs.Laws.{StepsLeadToOne}
 use Rattle.world_model.specs.Outcomes.{call_act, call_acts, last_call}
@@ -19,8 +18,8 @@ use Rattle.world_model.specs.declared.events.Entry.{Entry}
 use Rattle.world_model.specs.declared.events.Opening.{Opening}
 use Rattle.hall_turns.specs.Turns.{AddsServed}
 use Rattle.shared_hall.specs.Cores.{hall_in, tells, StandsIn}
-use Rattle.shared_hall.specs.Times.{Time, entry_at, entries_at, is_retire, is_retirement}
-use Rattle.shared_hall.specs.Turns.{acts, Gives, CallsNamed, StepsBy}
+use Rattle.shared_hall.specs.Times.{Time, entries_at, is_retire, is_retirement}
+use Rattle.shared_hall.specs.Turns.{acts, Gives, CallsNamed}
 use Rattle.shared_hall.specs.declared.places.Begun.{Begun}
 use Rattle.shared_hall.specs.declared.places.Place.{Place}
 use Rattle.shared_hall.specs.declared.works.HallWork.{HallWork}

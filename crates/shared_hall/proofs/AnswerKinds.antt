@@ -4,7 +4,7 @@ use Rattle.std.specs.Prelude.{Result, Option, None, Some, Bool}
 use Rattle.world_data.specs.Frames.{FrameList}
 use Rattle.world_data.specs.Limits.{take_frames}
 use Rattle.outside.specs.Sides.{Sides}
-use Rattle.world_model.specs.Halls.{Hall, NamesChanged}
+use Rattle.world_model.specs.Halls.{NamesChanged}
 use Rattle.world_model.specs.Outcomes.{enter_outcome, take_outcome, given_count, call_acts, IsCount}
 use Rattle.world_model.specs.Seats.{Knows, AddsCalls, AddsNamed}
 use Rattle.world_model.specs.declared.events.Answers.{Answers}

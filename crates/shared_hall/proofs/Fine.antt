@@ -2,7 +2,7 @@
 use Rattle.std.proofs.Common.{◌≡◌, Bool, true, false, refl, sym, ap, ◌∙◌, inl, inr, subst, true≢false}
 use Rattle.std.specs.Prelude.{Option, Some, None, if◌then◌else◌}
 use Rattle.world_model.specs.Halls.{Hall}
-use Rattle.world_model.specs.Histories.{Ending, Step, StepBy, refusal, refusal_going, when_stopped, answer, doing, is_log_fault, first_of, enter_tests, call_tests, take_tests, tick_tests}
+use Rattle.world_model.specs.Histories.{Ending, Step, StepBy, refusal, refusal_going, when_stopped, doing, is_log_fault, first_of, enter_tests, call_tests, take_tests, tick_tests}
 use Rattle.world_model.specs.declared.events.Event.{Event}
 use Rattle.world_model.specs.declared.events.Event.TheVariants.{Enter, Call, Take, Tick, Close, Remove, Rewrite, Retire}
 use Rattle.world_model.specs.declared.events.Outcome.{Outcome}

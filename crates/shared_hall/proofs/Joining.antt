@@ -1,7 +1,7 @@
 -- Two seats of one hall, and what they show together.
-use Rattle.std.proofs.Common.{◌≡◌, ◌⊎◌, ◌<◌, ℕ, Bool, true, false, List, [], ◌∷◌, ◌++◌, length, refl, sym, ap, ◌∙◌, subst, inl, inr, ⊎_elim, true≢false, arith}
-use Rattle.std.specs.Prelude.{◌||◌, ◌&&◌, ◌==◌, not, nat_lt, if◌then◌else◌, Option, Some}
-use Rattle.std.specs.List.{list_all, list_any}
+use Rattle.std.proofs.Common.{◌≡◌, ◌⊎◌, ◌<◌, ℕ, Bool, true, false, List, [], ◌∷◌, length, refl, sym, ap, ◌∙◌, subst, inl, inr, ⊎_elim, true≢false, arith}
+use Rattle.std.specs.Prelude.{◌||◌, ◌&&◌, ◌==◌, not, nat_lt, if◌then◌else◌, Some}
+use Rattle.std.specs.List.{list_all}
 use Rattle.std.proofs.lemmas.Bool.Decides.{nat_tests}
 use mathlib.Core.List.{IsPrefix}
 use Rattle.ordered_lists.specs.Lists.{ascends}
@@ -9,7 +9,7 @@ use Rattle.turn_lock.specs.declared.seat.Known.{Known}
 use Rattle.turn_lock.specs.Places.{IsAmong, AllAfter, Ascends, insert, merge, longer}
 use Rattle.turn_lock.specs.Seats.{OwnPlaces, AreApart, joined_known, split_known}
 use Rattle.world_model.specs.Histories.{IsLegal}
-use Rattle.world_model.specs.Seats.{Knows, Begins, AreOfOne, IsJoined, are_ascending, are_apart, are_seen, is_among}
+use Rattle.world_model.specs.Seats.{Begins, AreOfOne, IsJoined, are_ascending, are_apart, are_seen, is_among}
 use Rattle.world_model.specs.declared.events.Entry.{Entry}
 use Rattle.world_model.specs.declared.events.Opening.{Opening}
 use Rattle.shared_hall.specs.declared.places.Begun.{Begun}

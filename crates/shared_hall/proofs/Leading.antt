@@ -1,9 +1,9 @@
 -- What leads from one state of a core to another, act by act.
-use Rattle.std.proofs.Common.{◌≡◌, ℕ, Bool, true, false, List, [], ◌∷◌, ◌++◌, length, map, take, refl, sym, ap, ◌∙◌, subst, inl, inr}
+use Rattle.std.proofs.Common.{◌≡◌, ℕ, Bool, false, List, [], ◌∷◌, ◌++◌, map, refl, sym, ap, ◌∙◌, subst, inl, inr}
 use Rattle.std.specs.Prelude.{◌||◌}
 use Rattle.outside.specs.Sides.{Sides}
 use Rattle.world_model.specs.Halls.{Hall, NamesChanged}
-use Rattle.world_model.specs.Histories.{Step, Leads, Reaches, IsLegal, opening_hall, is_log_fault, gives_disk}
+use Rattle.world_model.specs.Histories.{Step, Leads, Reaches, opening_hall, is_log_fault, gives_disk}
 use Rattle.world_model.specs.Laws.{StepsLeadToOne}
 use Rattle.world_model.specs.Seats.{Act, act_of, NamesChangedBy}
 use Rattle.world_model.specs.declared.events.Entry.{Entry}
@@ -11,7 +11,7 @@ use Rattle.world_model.specs.declared.events.Opening.{Opening}
 use Rattle.log_record.specs.Journals.{Journal}
 use Rattle.shared_hall.specs.Times.{is_retire}
 use Rattle.shared_hall.specs.Turns.{StepsBy}
-use Rattle.shared_hall.specs.Standing.{IsAct, FrontBy, EndsBy, TurnBy, Stands}
+use Rattle.shared_hall.specs.Standing.{IsAct, FrontBy, TurnBy}
 
 module _ {S D : Type 0} (hall : S → Hall) (disk : S → D) (is_out : S → Bool) (is_log : S → Journal → Type 0)
     (crashes : D → Bool) (images : D → Sides → Type 0) (moment : D → ℕ) (left_since : D → ℕ → Sides → Type 0) (faults : D → ℕ) where

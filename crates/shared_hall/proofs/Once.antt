@@ -1,8 +1,7 @@
 -- The first seat has seen each retirement of its hall, as each is its own.
 use Rattle.std.proofs.Common.{◌≡◌, ◌≤◌, ◌<◌, ◌⊎◌, ◌||◌, ◌+◌, ℕ, zero, suc, Bool, true, false, List, [], ◌∷◌, ◌++◌, length, refl, sym, ap, ◌∙◌, subst, arith, inl, inr, ⊎_elim, true≢false}
-use Rattle.std.specs.Prelude.{Option, Some, slice_get}
+use Rattle.std.specs.Prelude.{Some, slice_get}
 use Rattle.std.specs.List.{list_any, range_with_len}
-use mathlib.Core.List.{IsPrefix}
 use Rattle.turn_lock.specs.declared.seat.Known.{Known}
 use Rattle.turn_lock.specs.Places.{IsAmong}
 use Rattle.turn_lock.specs.Seats.{Turn, OwnsKept, OwnPlaces}

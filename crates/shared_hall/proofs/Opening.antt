@@ -1,6 +1,6 @@
 -- A hall that has no history yet.
-use Rattle.std.proofs.Common.{◌≡◌, ◌≤◌, ℕ, zero, suc, Bool, true, false, List, [], take, Option, refl, sym, ap, ◌∙◌, subst, arith, true≢false}
-use Rattle.std.specs.Prelude.{if◌then◌else◌, Some, is_some, ◌&&◌}
+use Rattle.std.proofs.Common.{◌≡◌, ◌≤◌, ℕ, zero, suc, Bool, true, false, [], take, Option, refl, sym, ap, ◌∙◌, subst, arith, true≢false}
+use Rattle.std.specs.Prelude.{if◌then◌else◌}
 use Rattle.outside.specs.Sides.{Sides}
 use Rattle.turn_lock.specs.Seats.{first_known}
 use Rattle.turn_lock.specs.declared.seat.Known.{Known}
@@ -11,11 +11,11 @@ use Rattle.world_model.specs.declared.events.Entry.{Entry}
 use Rattle.world_model.specs.declared.events.Opening.{Opening}
 use Rattle.log_record.specs.Journals.{Journal}
 use Rattle.log_record.specs.Laws.{Stood}
-use Rattle.log_record.specs.Safety.{IsSafe, Passes, Safe}
+use Rattle.log_record.specs.Safety.{Safe}
 use Rattle.durable_core.specs.Kept.{settled_log}
-use Rattle.durable_core.specs.Logged.{hall_of, disk_of, KeepsLogOf}
+use Rattle.durable_core.specs.Logged.{hall_of, disk_of}
 use Rattle.durable_core.specs.declared.cores.DurableCore.{DurableCore}
-use Rattle.shared_hall.specs.Cores.{hall_in, disk_in, tells, begun, opening_with, time_with, StandsFor, StandsIn, IsOpenedOn}
+use Rattle.shared_hall.specs.Cores.{hall_in, disk_in, tells, begun, opening_with, StandsFor, StandsIn, IsOpenedOn}
 use Rattle.shared_hall.specs.Seats.{shown, first_knows}
 use Rattle.shared_hall.specs.declared.places.Begun.{Begun}
 use Rattle.shared_hall.specs.declared.places.HallCore.{HallCore}

@@ -1,16 +1,14 @@
 -- Entries that end later: the history leads to the same hall, and a disk that is safe for it stays so.
-use Rattle.std.proofs.Common.{◌≡◌, ◌≤◌, ◌||◌, ◌==◌, ◌+◌, ℕ, zero, suc, Bool, true, false, List, [], ◌∷◌, ◌++◌, length, map, take, refl, sym, ap, ◌∙◌, subst, arith, true≢false, length-append}
+use Rattle.std.proofs.Common.{◌≡◌, ◌≤◌, ◌||◌, ◌==◌, ◌+◌, ℕ, zero, suc, Bool, true, false, List, [], ◌∷◌, ◌++◌, length, map, take, refl, sym, ap, ◌∙◌, subst, arith, true≢false}
 use Rattle.std.specs.Prelude.{if◌then◌else◌}
 use Rattle.std.proofs.lemmas.List.{take_all}
-use mathlib.Core.List.{map-append}
 use Rattle.outside.specs.Sides.{Sides}
 use Rattle.world_model.specs.Halls.{Hall}
-use Rattle.world_model.specs.Histories.{opening_hall, Step, Follows, Leads, Reaches, gives_disk, gave, acked_count, is_log_fault}
+use Rattle.world_model.specs.Histories.{opening_hall, Follows, Leads, Reaches, gives_disk, gave, acked_count, is_log_fault}
 use Rattle.world_model.specs.Seats.{Act, act_of}
 use Rattle.world_model.specs.declared.events.Entry.{Entry}
 use Rattle.world_model.specs.declared.events.Opening.{Opening}
-use Rattle.world_data.specs.declared.worlds.World.{World}
-use Rattle.log_record.specs.Safety.{moment_after, count_after, out_after, Passes, RecoversPassed, IsSafe, Safe}
+use Rattle.log_record.specs.Safety.{moment_after, count_after, out_after, Safe}
 use Rattle.log_record.specs.Laws.{Stood}
 use Rattle.log_record.specs.Journals.{Journal}
 use Rattle.log_record.specs.LeadingLaws.{not_before, moments_ascend}

@@ -1,5 +1,5 @@
 -- What a retirement tells.
-use Rattle.std.proofs.Common.{◌≡◌, ℕ, Bool, true, false, List, [], ◌∷◌, refl, sym, ap, ◌∙◌, subst}
+use Rattle.std.proofs.Common.{◌≡◌, ℕ, Bool, true, [], ◌∷◌, sym, ap, ◌∙◌, subst}
 use Rattle.std.specs.Prelude.{Option, None, Some, is_some, not, min, IfSome}
 use Rattle.std.specs.List.{list_any}
 use Rattle.outside.specs.Causes.{most_count}
@@ -13,7 +13,7 @@ use Rattle.world_model.specs.declared.events.Called.TheVariants as called
 use Rattle.world_model.specs.declared.events.Event.TheVariants as event
 use Rattle.log_record.specs.Recovery.{Recovers}
 use Rattle.log_record.specs.Safety.{Safe, count_after}
-use Rattle.shared_hall.specs.Cores.{disk_in, has_left, tells}
+use Rattle.shared_hall.specs.Cores.{has_left, tells}
 use Rattle.shared_hall.specs.Seats.{IsDone}
 use Rattle.shared_hall.specs.Times.{is_retirement}
 use Rattle.shared_hall.specs.Turns.{acts, retire_outcome, Gives, GivesOut}

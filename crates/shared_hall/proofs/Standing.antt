@@ -1,26 +1,25 @@
 -- How a core goes on standing for its history, act by act and turn by turn.
-use Rattle.std.proofs.Common.{◌≡◌, ◌≤◌, ◌<◌, ◌⊎◌, ◌||◌, ◌+◌, ℕ, Bool, true, false, List, [], ◌∷◌, ◌++◌, length, map, min, refl, sym, ap, ◌∙◌, subst, arith, inl, inr, ⊎_elim, true≢false, append_assoc, append-nil, length-append, le_refl}
-use Rattle.std.specs.Prelude.{if◌then◌else◌, ◌&&◌, ◌-◌, ◌^◌, nat_le}
+use Rattle.std.proofs.Common.{◌≡◌, ◌≤◌, ◌<◌, ◌⊎◌, ◌||◌, ◌+◌, ℕ, Bool, true, false, List, [], ◌∷◌, ◌++◌, map, min, refl, sym, ap, ◌∙◌, subst, arith, inl, inr, true≢false, append_assoc, append-nil}
+use Rattle.std.specs.Prelude.{◌-◌, ◌^◌, nat_le}
 use Rattle.std.proofs.lemmas.Bool.Decides.{nat_tests}
 use Rattle.std.specs.List.{list_any}
 use Rattle.std.proofs.lemmas.List.Folds.{list_any-append}
 use Rattle.outside.specs.Causes.{Rose, most_count}
 use Rattle.outside.specs.Sides.{Sides}
 use Rattle.world_model.specs.Halls.{Hall}
-use Rattle.world_model.specs.Histories.{Step, Follows, Leads, Reaches, gives_disk, is_log_fault, opening_hall}
+use Rattle.world_model.specs.Histories.{gives_disk, opening_hall}
 use Rattle.world_model.specs.Seats.{Act, act_of}
 use Rattle.world_model.specs.declared.events.Event.{Event}
 use Rattle.world_model.specs.declared.events.Event.TheVariants.{Enter, Call, Take, Tick, Close, Remove, Rewrite, Retire}
-use Rattle.world_model.specs.declared.events.Outcome.{Outcome}
 use Rattle.world_model.specs.declared.events.Entry.{Entry}
 use Rattle.world_model.specs.declared.events.Opening.{Opening}
 use Rattle.log_record.specs.Journals.{Journal}
-use Rattle.log_record.specs.Laws.{KeepsSafe, Stood}
+use Rattle.log_record.specs.Laws.{Stood}
 use Rattle.log_record.specs.Safety.{moment_after, count_after, out_after, ComesNext}
 use Rattle.log_record.specs.Acknowledged.{moment_last}
 use Rattle.log_record.specs.LeadingLaws.{leads_on}
 use Rattle.shared_hall.specs.Times.{Time, time_of, entry_at, entries_at, is_retire, is_retirement}
-use Rattle.shared_hall.specs.Standing.{IsAct, FrontBy, EndsBy, TurnBy, Stands}
+use Rattle.shared_hall.specs.Standing.{IsAct, FrontBy, TurnBy, Stands}
 use Rattle.shared_hall.proofs.Raising.{ArePlain, Raises, raised, raise_reaches, raise_stood, raised_past}
 
 -- an entry that gave the disk out is a retirement

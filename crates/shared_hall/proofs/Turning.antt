@@ -1,12 +1,8 @@
 -- The acts of a turn, one behind another.
-use Rattle.std.proofs.Common.{◌≡◌, ◌≤◌, ℕ, Bool, true, false, List, [], ◌∷◌, ◌++◌, Option, refl, sym, ap, ◌∙◌, subst, true≢false}
-use Rattle.std.specs.Prelude.{Some, if◌then◌else◌}
+use Rattle.std.proofs.Common.{◌≡◌, ◌≤◌, ℕ, Bool, false, List, [], ◌∷◌, ◌++◌, Option, sym, ap, ◌∙◌, subst}
 use Rattle.outside.specs.Sides.{Sides}
-use Rattle.world_model.specs.Halls.{Hall}
-use Rattle.world_model.specs.Histories.{Step, StepBy, when_stopped, refusal_going, is_log_fault}
+use Rattle.world_model.specs.Histories.{is_log_fault}
 use Rattle.world_model.specs.Seats.{Act}
-use Rattle.world_model.specs.declared.events.Event.{Event}
-use Rattle.world_model.specs.declared.events.Outcome.{Outcome}
 use Rattle.std.specs.declared.snapshot.Snapshot.{Snapshot}
 use Rattle.shared_hall.specs.Cores.{hall_in, disk_in, has_left, tells, time_with, KeepsIn, Acts, ActsInFront, TurnsBy, StandsIn, StandsFor}
 use Rattle.shared_hall.specs.Times.{entries_at, is_retire}

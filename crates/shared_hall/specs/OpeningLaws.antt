@@ -1,5 +1,5 @@
 -- What an opening gives is fit for a hall.
-use Rattle.std.proofs.Common.{◌≡◌, ℕ, Bool, true, false, [], ◌∙◌, Option, Some, None, refl, sym, true≢false}
+use Rattle.std.proofs.Common.{◌≡◌, ℕ, Bool, true, false, ◌∙◌, Option, Some, None, refl, sym, true≢false}
 use Rattle.std.specs.Prelude.{◌&&◌, is_some}
 use Rattle.outside.specs.Sides.{Sides}
 use Rattle.world_data.specs.Sound.{IsSoundWorld}

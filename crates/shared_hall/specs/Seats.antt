@@ -3,7 +3,6 @@ use Rattle.std.specs.List.{list_any}
 use Rattle.shared_hall.specs.Times.{is_retirement}
 use Rattle.std.specs.Prelude.{◌≡◌, ℕ, Bool, true, Option, None, Some, List, [], ◌++◌, take, length}
 use Rattle.atomic_table.specs.declared.shared.Seat.{Seat}
-use Rattle.turn_lock.specs.declared.lock.TurnLock.{TurnLock}
 use Rattle.turn_lock.specs.declared.seat.Held.{Held}
 use Rattle.turn_lock.specs.declared.seat.Known.{Known}
 use Rattle.turn_lock.specs.declared.seat.View.{View}

@@ -1,5 +1,5 @@
 -- The time of a disk, and what happens in a turn as entries that end at such times.
-use Rattle.std.specs.Prelude.{◌≡◌, ℕ, min, Bool, true, false, List, [], ◌∷◌, if◌then◌else◌}
+use Rattle.std.specs.Prelude.{ℕ, min, Bool, true, false, List, [], ◌∷◌, if◌then◌else◌}
 use Rattle.outside.specs.Causes.{most_count}
 use Rattle.world_model.specs.Seats.{Act}
 use Rattle.world_model.specs.declared.events.Event.{Event}

@@ -1,5 +1,5 @@
 -- What is held when more is subscribed: it stays in front, so that it can be cut back to.
-use Rattle.std.proofs.Common.{◌≡◌, ◌≤◌, ℕ, Bool, true, false, refl, sym, ◌∙◌, ap, subst, List, [], ◌∷◌, ◌++◌, length, take, append_assoc, append-nil, arith}
+use Rattle.std.proofs.Common.{◌≡◌, ◌≤◌, Bool, true, false, refl, sym, ◌∙◌, ap, subst, List, [], ◌∷◌, ◌++◌, length, take, append_assoc, append-nil, arith}
 use Rattle.std.specs.List.{list_any}
 use Rattle.world_model.specs.Subscriptions.{Sub, same_sub, with_sub, with_subs}
 

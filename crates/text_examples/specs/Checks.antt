@@ -6,7 +6,7 @@ use Rattle.byte_text.specs.JsonText.{quoted}
 use Rattle.byte_text.specs.Globs.{glob_meets, is_well_formed}
 use Rattle.byte_text.specs.Requests.{request_text}
 use Rattle.byte_text.specs.Replies.{frame_text, array, bulk, number}
-use Rattle.byte_text.specs.Streams.{request, found, begun, broken, stream_of, holds, fails}
+use Rattle.byte_text.specs.Streams.{request, begun, broken, stream_of, holds, fails}
 use Rattle.byte_text.specs.declared.texts.TextFault.TheVariants.{Empty, TooLong as too_long_name, NotUtf8, NotNumber}
 use Rattle.byte_text.specs.declared.faults.RespFault.TheVariants.{BadType, BadLength, BadEnd, TooMany, TooLong}
 

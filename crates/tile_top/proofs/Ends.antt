@@ -4,17 +4,15 @@ use Rattle.std.specs.Prelude.{Option, is_some, map, IsTrue, bytes_eq, true}
 use Rattle.std.proofs.lemmas.Bool.Decides.{nat_tests}
 use Rattle.std.proofs.lemmas.List.{append-nil}
 use Rattle.std.specs.Io.KnownBytes.{Appends}
-use mathlib.Core.List.{IsPrefix}
 use Rattle.byte_text.specs.Names.{Bytes}
 use Rattle.outside.specs.Sides.{Sides}
 use Rattle.outside.specs.Writing.{appends_more}
 use Rattle.world_data.specs.declared.worlds.World.{World}
-use Rattle.serve_command.specs.Ends.{IsEnd, disk_line, memory_line, spent_line}
+use Rattle.serve_command.specs.Ends.{IsEnd, memory_line}
 use Rattle.replay_run.specs.TextLines.{TextLine}
 use Rattle.replay_run.specs.Traces.{Deed}
 use Rattle.replay_run.specs.Played.{Played}
 use Rattle.replay_run.specs.Scripts.{opening}
-use Rattle.replay_run.specs.Openings.{Opens}
 use Rattle.replay_run.specs.Plays.{AreDone, IsRead, IsFaulty, IsBefore, IsHalted, IsWithinLine, IsCut, OnPlay, OnReplay}
 use Rattle.replay_run.specs.declared.ends.ReplayEnd.{ReplayEnd}
 use Rattle.replay_run.specs.declared.ends.ReplayEnd.TheVariants as ended
@@ -23,7 +21,7 @@ use Rattle.replay_run.specs.declared.halts.Halt.TheVariants as halted
 use Rattle.world_model.specs.declared.events.Called.{Called}
 use Rattle.world_model.specs.declared.events.Called.TheVariants as called
 use Rattle.outside.specs.declared.sides.Side.{Side}
-use Rattle.tile_top.specs.Tops.{IsHaltEnd, IsReplayEnd, IsStopped, Plays, IsUnopened, Replays, status_of, line_of, damaged_line, script_line, read_line}
+use Rattle.tile_top.specs.Tops.{IsHaltEnd, IsReplayEnd, IsStopped, Plays, Replays, status_of, line_of, damaged_line, script_line, read_line}
 
 -- the last line of a damage, of a line that is none of a script, and of a read fault
 pub damage_ends : (halt : Halt) (side : Side) (place : ℕ) (held held' : Option Bytes) (text : Bytes) (status : ℕ) → halt ≡ halted.Damaged side place → text ≡ damaged_line side place → IsEnd held held' 6 text status → IsHaltEnd halt held held' status

@@ -1,6 +1,6 @@
 -- What becomes of a look at a disk and of serving on its world.
-use Rattle.std.proofs.Common.{◌≡◌, ◌≢◌, ◌⊎◌, ℕ, Bool, true, refl, sym, ap, ◌∙◌, subst, List, [], ◌∷◌, ◌++◌, length, inl, inr}
-use Rattle.std.specs.Prelude.{Option, None, Some, is_some, option_map, IfSome, Result, Ok, Err, IfOk, codes, decimal, map}
+use Rattle.std.proofs.Common.{◌≡◌, ◌≢◌, ◌⊎◌, ℕ, true, refl, sym, ap, ◌∙◌, subst, List, [], ◌∷◌, ◌++◌, length, inl, inr}
+use Rattle.std.specs.Prelude.{Option, None, Some, is_some, option_map, IfSome, Result, Ok, IfOk, codes, decimal, map}
 use Rattle.byte_text.specs.Names.{Bytes}
 use Rattle.outside.specs.Crashes.{EachImage}
 use Rattle.outside.specs.Sides.{Sides}

@@ -13,7 +13,7 @@ use Rattle.world_model.specs.declared.events.Event.TheVariants as event
 use Rattle.world_model.specs.declared.events.Outcome.{Outcome}
 use Rattle.log_record.specs.Recovery.{Recovers}
 use Rattle.log_record.specs.Safety.{Safe}
-use Rattle.serve_command.specs.Ends.{IsEnd, disk_line, memory_line}
+use Rattle.serve_command.specs.Ends.{IsEnd, disk_line}
 use Rattle.serve_command.specs.Words.{Serve}
 use Rattle.serve_command.specs.Serves.{Serves, Counted}
 use Rattle.replay_run.specs.Openings.{Opens, IsDamagedAt}

@@ -1,20 +1,14 @@
 -- What the program promises of its words and its status.
-use Rattle.std.specs.Prelude.{◌≡◌, ◌≢◌, ◌⊎◌, ℕ, Bool, true, List, [], ◌∷◌, ◌++◌, length, Option, Some, None, is_some, codes, decimal}
-use Rattle.std.specs.Io.KnownBytes.{Appends}
+use Rattle.std.specs.Prelude.{◌≡◌, ◌⊎◌, ℕ, Bool, List, [], ◌∷◌, ◌++◌, length, Option, is_some, codes, decimal}
 use mathlib.Core.List.{IsPrefix}
 use Rattle.byte_text.specs.Names.{Bytes}
 use Rattle.outside.specs.Sides.{Sides}
 use Rattle.outside.specs.declared.sides.Side.{Side}
 use Rattle.outside.specs.declared.sides.Side.TheVariants.{A, B}
 use Rattle.world_data.specs.declared.worlds.World.{World}
-use Rattle.world_model.specs.Histories.{IsLegal, answer}
-use Rattle.world_model.specs.Seats.{Knows, Adds}
 use Rattle.world_model.specs.declared.events.Called.TheVariants as called
 use Rattle.world_model.specs.declared.events.Event.TheVariants as event
-use Rattle.world_model.specs.declared.events.Outcome.{Outcome}
 use Rattle.serve_command.specs.Ends.{IsEnd, disk_line, memory_line, spent_line}
-use Rattle.serve_command.specs.Words.{Serve}
-use Rattle.serve_command.specs.Serves.{Serves, Counted}
 use Rattle.replay_run.specs.Traces.{Deed}
 use Rattle.replay_run.specs.Played.{Played}
 use Rattle.replay_run.specs.Scripts.{opening}

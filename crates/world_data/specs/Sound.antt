@@ -1,7 +1,7 @@
 -- Sound areas, queries, channels, objects and worlds, which the calls of the crates above take, hand out and keep.
-use Rattle.std.specs.Prelude.{◌≡◌, Bool, true, false, ◌&&◌, nat_le, Option, Some, None, Ok}
+use Rattle.std.specs.Prelude.{◌≡◌, Bool, true, false, ◌&&◌, nat_le, Ok}
 use Rattle.std.specs.List.{list_all, AllByRecursion}
-use Rattle.byte_text.specs.Names.{Bytes, is_name}
+use Rattle.byte_text.specs.Names.{is_name}
 use Rattle.byte_text.specs.Globs.{is_well_formed, is_sound_glob}
 use Rattle.planar_geom.specs.declared.shapes.Area.{Area}
 use Rattle.planar_geom.specs.declared.shapes.Area.TheVariants.{Rect, Disc, Figure}

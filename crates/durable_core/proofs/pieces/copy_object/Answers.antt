@@ -1,4 +1,4 @@
-use Rattle.std.proofs.Common.{◌≡◌, ◌∙◌, ap, refl, sym}
+use Rattle.std.proofs.Common.{◌∙◌, ap, refl, sym}
 use Rattle.byte_text.specs.Names.{Bytes}
 use Rattle.world_data.specs.declared.worlds.Change.TheVariants.{Put}
 use Rattle.next_items.specs.Copies.{is_next_object, place_in}

@@ -1,4 +1,4 @@
-use Rattle.std.specs.Prelude.{option_map, not, true, false}
+use Rattle.std.specs.Prelude.{option_map, true}
 use Rattle.std.proofs.Common.{◌≡◌, rules}
 use Rattle.fence_table.proofs.Wants.{both}
 use Rattle.fence_table.proofs.raises.raised_by_put.Goals as goal

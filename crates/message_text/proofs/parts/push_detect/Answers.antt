@@ -1,4 +1,4 @@
-use Rattle.std.proofs.Common.{◌≡◌, ◌++◌, subst, [], ◌∷◌, codes}
+use Rattle.std.proofs.Common.{◌≡◌, ◌++◌, subst, codes}
 use Rattle.fence_model.specs.Messages.{detect_name}
 use Rattle.byte_text.specs.Names.{Bytes}
 use Rattle.message_text.proofs.Pieces.{three}

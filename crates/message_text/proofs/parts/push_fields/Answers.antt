@@ -1,4 +1,4 @@
-use Rattle.std.proofs.Common.{◌≡◌, ◌++◌, ◌<◌, ◌∷◌, [], length, take, arith, codes, subst, sym}
+use Rattle.std.proofs.Common.{◌≡◌, ◌++◌, ◌<◌, length, take, arith, codes, subst, sym}
 use Rattle.byte_text.specs.Names.{Bytes}
 use Rattle.byte_text.specs.TextLaws.{kept_append, kept_through}
 use Rattle.message_text.specs.Parts.{fields_part}

@@ -1,4 +1,4 @@
-use Rattle.std.proofs.Common.{◌≡◌, ◌++◌, length, take, ◌≤◌}
+use Rattle.std.proofs.Common.{◌≡◌, ◌++◌, length, take}
 use Rattle.message_text.specs.Parts.{fields_part}
 use Rattle.message_text.proofs.FieldTexts.{rest_of}
 use Rattle.message_text.proofs.parts.push_fields.Given as goal

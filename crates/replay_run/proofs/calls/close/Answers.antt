@@ -1,4 +1,4 @@
-use Rattle.std.proofs.Common.{refl, ap, sym, subst, arith, ◌≤◌, true, ◌≡◌}
+use Rattle.std.proofs.Common.{refl, ap, arith, ◌≤◌}
 use Rattle.world_model.specs.declared.events.Event.TheVariants as event
 use Rattle.world_model.specs.declared.events.Outcome.TheVariants.{Done}
 use Rattle.durable_core.specs.declared.tails.Tail.{Tail}

@@ -1,4 +1,3 @@
-use Rattle.std.proofs.Common.{refl}
 use Rattle.replay_run.proofs.FeedCalls.{broken_comes, dead_comes, unfed_comes}
 use Rattle.replay_run.proofs.feeds.break_off.Goals as goal
 

@@ -1,5 +1,4 @@
-use Rattle.std.proofs.Common.{List, [], Option, subst, sym, refl}
-use Rattle.std.specs.Prelude.{None}
+use Rattle.std.proofs.Common.{List, [], Option, subst, sym}
 use Rattle.std.proofs.lemmas.Result.{err_from_is_err_and}
 use Rattle.byte_text.specs.Names.{Bytes}
 use Rattle.resp_frames.specs.RequestReader.{IsFed}

@@ -1,4 +1,4 @@
-use Rattle.std.proofs.Common.{◌≡◌, refl, subst, sym}
+use Rattle.std.proofs.Common.{refl, subst}
 use mathlib.Core.List.{IsPrefix}
 use Rattle.std.specs.Io.KnownBytes.{Appends}
 use Rattle.byte_text.specs.Names.{Bytes}

@@ -1,4 +1,4 @@
-use Rattle.std.proofs.Common.{◌≡◌, refl, subst, inr, [], true}
+use Rattle.std.proofs.Common.{refl, subst, inr, [], true}
 use Rattle.byte_text.specs.Names.{Bytes}
 use Rattle.replay_run.specs.declared.streams.LineEnd.TheVariants as read
 use Rattle.replay_run.specs.declared.turns.Turn.{Turn}

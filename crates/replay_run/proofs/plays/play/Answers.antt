@@ -1,5 +1,5 @@
-use Rattle.std.proofs.Common.{◌≡◌, ◌≢◌, ◌≤◌, ◌+◌, ◌⊎◌, ◌++◌, arith, refl, sym, ap, subst, ◌∙◌, false, true, List, [], inl, inr, append_assoc}
-use Rattle.std.specs.Prelude.{Option, Some, min}
+use Rattle.std.proofs.Common.{◌≡◌, ◌≢◌, ◌≤◌, ◌+◌, ◌⊎◌, ◌++◌, arith, sym, ap, subst, ◌∙◌, false, true, List, [], inl, inr, append_assoc}
+use Rattle.std.specs.Prelude.{Some}
 use Rattle.outside.specs.Causes.{Rose}
 use Rattle.outside.specs.Sides.{Sides}
 use Rattle.world_model.specs.declared.events.Called.TheVariants as called
@@ -7,7 +7,7 @@ use Rattle.durable_core.specs.Logged.{hall_of, disk_of}
 use Rattle.replay_run.specs.declared.ends.ReplayEnd.{ReplayEnd}
 use Rattle.replay_run.specs.declared.halts.Halt.TheVariants as halted
 use Rattle.replay_run.specs.declared.turns.Turn.{Turn}
-use Rattle.replay_run.specs.declared.turns.Turn.TheVariants.{Next, End, Halted}
+use Rattle.replay_run.specs.declared.turns.Turn.TheVariants.{End, Halted}
 use Rattle.replay_run.specs.Traces.{Deed}
 use Rattle.replay_run.specs.Undone.{halt_at}
 use Rattle.replay_run.specs.Standing.{IsSafeFor}

@@ -1,4 +1,4 @@
-use Rattle.std.proofs.Common.{◌≡◌, ◌++◌, map, arith}
+use Rattle.std.proofs.Common.{◌++◌, map}
 use Rattle.byte_text.specs.Replies.{array, bulk}
 use Rattle.reply_text.proofs.WordParts.{written, begun}
 use Rattle.reply_text.proofs.channels.push_words.Goals as goal

@@ -1,4 +1,4 @@
-use Rattle.std.proofs.Common.{[], ◌∷◌, length, refl, sym, ap}
+use Rattle.std.proofs.Common.{length, refl, sym, ap}
 use Rattle.world_data.specs.Frames.{FrameList}
 use Rattle.world_model.specs.Outcomes.{call_acts, take_outcome}
 use Rattle.world_model.specs.declared.events.Event.TheVariants as event

@@ -1,4 +1,4 @@
-use Rattle.std.proofs.Common.{List, [], ◌∷◌, map, take, ℕ, refl, ◌∙◌, subst, arith, ◌≡◌}
+use Rattle.std.proofs.Common.{List, map, take, ℕ, refl, ◌∙◌, subst, arith, ◌≡◌}
 use Rattle.world_model.specs.Seats.{Act}
 use Rattle.world_model.specs.Outcomes.{call_act, call_acts}
 use Rattle.world_model.specs.declared.events.Called.TheVariants as called

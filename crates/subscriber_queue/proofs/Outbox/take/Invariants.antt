@@ -1,6 +1,5 @@
-use Rattle.std.proofs.Common.{◌≡◌, ◌+◌, ◌≤◌, length, take, drop, min}
+use Rattle.std.proofs.Common.{◌≡◌, ◌+◌, length, take, drop, min}
 use Rattle.world_data.specs.Limits.{take_frames}
-use Rattle.world_data.specs.Frames.{FrameList}
 use Rattle.subscriber_queue.proofs.Outbox.take.Given as goal
 
 abbrev pub invariant-loop : goal.invariant-loop

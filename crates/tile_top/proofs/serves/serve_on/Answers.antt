@@ -1,7 +1,6 @@
 use denote.Exit.{no}
-use denote.Param.Send.{sendable, arg_send, arg_sync, param_send, param_sync}
-use Rattle.std.proofs.Common.{refl, sym, ap, ◌∙◌}
-use Rattle.std.proofs.Crossing.{crosses}
+use denote.Param.Send.{arg_send, arg_sync, param_send, param_sync}
+use Rattle.std.proofs.Common.{sym, ap, ◌∙◌}
 use Rattle.std.proofs.option.Option.TheSendSync as option
 use Rattle.atomic_table.proofs.shared.Seat.TheSendSync as seat
 use Rattle.turn_lock.proofs.seat.Held.TheSendSync as held

@@ -1,4 +1,4 @@
-use Rattle.std.proofs.Common.{◌∙◌, sym}
+use Rattle.std.proofs.Common.{◌∙◌}
 use Rattle.durable_core.specs.Rewriting.{items_left}
 use Rattle.durable_core.proofs.NextSteps.{some_left}
 use Rattle.durable_core.proofs.tails.Tail.next_step.Goals as goal

@@ -3,7 +3,7 @@ use Rattle.world_data.specs.declared.worlds.World.{World}
 use Rattle.journal.specs.Keeping.{new_gate}
 use Rattle.log_record.specs.Journals as log
 use Rattle.durable_core.specs.Steps.{IsNextStep}
-use Rattle.durable_core.proofs.Stepping.{then_done, then_faulted}
+use Rattle.durable_core.proofs.Stepping.{then_done}
 use Rattle.durable_core.proofs.tails.Tail.step.Goals as goal
 
 pub returns-in-Ok-make-clause-log : goal.returns-in-Ok-make-clause-log

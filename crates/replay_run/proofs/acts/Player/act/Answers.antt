@@ -1,4 +1,4 @@
-use Rattle.std.proofs.Common.{◌∙◌, refl, ap, subst, inl, inr, []}
+use Rattle.std.proofs.Common.{◌∙◌, refl, ap, subst, inl, inr}
 use Rattle.std.specs.Prelude.{Ok, Err, Some}
 use Rattle.script_text.specs.Lines.{line, IsAnswer}
 use Rattle.script_text.specs.declared.lines.LineFault.{LineFault}

@@ -1,5 +1,5 @@
-use Rattle.std.proofs.Common.{◌≡◌, refl, sym, ap, subst, false}
-use Rattle.std.specs.Prelude.{Err, Some, codes}
+use Rattle.std.proofs.Common.{◌≡◌, refl, sym, ap}
+use Rattle.std.specs.Prelude.{Err, codes}
 use Rattle.std.proofs.lemmas.Result.{err_from_is_err_and}
 use Rattle.world_model.specs.Histories.{answer, is_log_fault}
 use Rattle.world_model.specs.Outcomes.{enter_outcome}

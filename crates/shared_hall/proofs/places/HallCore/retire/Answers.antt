@@ -1,7 +1,6 @@
 use Rattle.std.proofs.Common.{refl, sym, ap, subst, ◌∙◌}
 use Rattle.world_model.specs.declared.events.Event.TheVariants as event
 use Rattle.world_model.specs.declared.events.Outcome.TheVariants as outcome
-use Rattle.world_model.specs.Halls.{Hall}
 use Rattle.world_model.specs.Histories.{stopped}
 use Rattle.durable_core.specs.Logged.{hall_of, disk_of}
 use Rattle.durable_core.specs.declared.cores.DurableCore.{DurableCore}
