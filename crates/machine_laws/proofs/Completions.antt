@@ -22,7 +22,7 @@ use Rattle.world_model.specs.declared.commands.Command.TheVariants as command
 use Rattle.std.proofs.lemmas.Bool.Decides.{nat_tests}
 use Rattle.std.proofs.lemmas.List.{append-nil}
 use Rattle.byte_text.specs.ByteOrder.{same_refl}
-use Rattle.world_model.specs.FormLaws.{Each, Left, Out, Spells, Takes, Fair, fair_done, fair_bind, fair_word, takes_word, takes_bind}
+use Rattle.world_model.specs.FormLaws.{each_append, Left, Out, Spells, Takes, Fair, fair_done, fair_bind, fair_word, takes_word, takes_bind}
 use Rattle.world_model.specs.PrefixLaws.{Taking}
 use Rattle.world_data.specs.declared.queries.Rule.TheVariants.{Kept, Nearest}
 use Rattle.world_model.specs.MadeForms.{Makes, makes_done, makes_or, makes_none, makes_behind, makes_then, makes_any, makes_word}
@@ -256,11 +256,7 @@ after_word : {B : Type 0} (n : Bytes) (g : Form B) → Fair g → Takes (word n 
 after_word n g fair = takes_bind (word n) (λ _. g) (takes_word a_word _) (λ _. fair)
 
 takes_or : {A : Type 0} (f g : Form A) → Takes f → Takes g → Takes (f or g)
-takes_or {A = A} f g p q ws = each_both (Left ◌<◌ (length ws)) (f ws) (g ws) (p ws) (q ws)
-  where
-    each_both : (P : Reading A → Type 0) (xs ys : List (Reading A)) → Each P xs → Each P ys → Each P (xs ++ ys)
-    each_both P [] ys a b = b
-    each_both P (x ∷ xs) ys a b = (a.0, each_both P xs ys a.1 b)
+takes_or f g p q ws = each_append (Left ◌<◌ (length ws)) (f ws) (g ws) (p ws) (q ws)
 
 takes_where : {A : Type 0} (test : Bool) (f : Form A) → Takes f → Takes (where_ test f)
 takes_where true f p ws = p ws

@@ -1,7 +1,7 @@
 -- The weight behind a change.
 use Rattle.std.proofs.lemmas.List.Sums.{sum_by-cons}
 use Rattle.std.proofs.Common.{◌≡◌, ◌∙◌, ℕ, ◌+◌, Bool, true, false, not, refl, sym, ap, subst, List, [], ◌∷◌, arith}
-use Rattle.std.specs.Prelude.{filter, sum_by, ◌&&◌}
+use Rattle.std.specs.Prelude.{filter, sum_by}
 use Rattle.std.specs.List.{list_all}
 use Rattle.byte_text.specs.Names.{Bytes, before, same}
 use Rattle.ordered_lists.specs.Lists.{ascends, put_in}
@@ -14,6 +14,7 @@ use Rattle.world_data.specs.declared.worlds.Change.{Change}
 use Rattle.world_data.specs.declared.worlds.Change.TheVariants.{Put, Del, Drop, Flush, SetChan, DelChan}
 use Rattle.byte_text.specs.ByteOrder.{before_tie, before_asym, same_refl, same_equal}
 use Rattle.ordered_lists.specs.NameOrder.{pair_trans, pair_tie, name_trans, name_tie}
+use Rattle.ordered_lists.specs.Reading.{both_of}
 use Rattle.machine_laws.specs.Weights.{object_len, channel_len, gained, lost}
 
 abbrev total : {A : Type 0} → (A → ℕ) → List A → ℕ
@@ -36,14 +37,6 @@ parted_total f p (x ∷ xs) = parted_test f p x xs (p x) refl (parted_total f p 
 -- what is kept and what is taken away weigh as much as all
 parted : {A : Type 0} (f : A → ℕ) (p : A → Bool) (xs : List A) → sum_by f (filter (λ x. not (p x)) xs) + sum_by f (filter p xs) ≡ sum_by f xs
 parted f p xs = rw (as_total f (filter (λ x. not (p x)) xs), as_total f (filter p xs), as_total f xs) (parted_total f p xs)
-
-and_left : (a b : Bool) → (a && b) ≡ true → a ≡ true
-and_left true b e = refl
-and_left false b e = e
-
-and_right : (a b : Bool) → (a && b) ≡ true → b ≡ true
-and_right true b e = e
-and_right false b e = absurd cc
 
 module _ {A : Type 0} (f : A → ℕ) (lt : A → A → Bool) (tie : A → A → Bool)
     (before_no : (x y : A) → lt x y ≡ true → tie x y ≡ false) (behind_no : (x y : A) → lt y x ≡ true → tie x y ≡ false) (tied : (x y : A) → lt x y ≡ false → lt y x ≡ false → tie x y ≡ true)
@@ -72,7 +65,9 @@ module _ {A : Type 0} (f : A → ℕ) (lt : A → A → Bool) (tie : A → A →
 
   put_total : (x : A) (ys : List A) → ascends lt ys ≡ true → total f (put_in lt x ys) + total f (filter (tie x) ys) ≡ total f ys + f x
   put_total x [] asc = omega arith
-  put_total x (y ∷ ys) asc = put_test x y ys (lt x y) (lt y x) refl refl (and_left _ _ asc) (put_total x ys (and_right _ _ asc))
+  put_total x (y ∷ ys) asc =
+      let parts = both_of (list_all (lt y) ys) (ascends lt ys) asc in
+      put_test x y ys (lt x y) (lt y x) refl refl parts.0 (put_total x ys parts.1)
 
   put_counted : (x : A) (ys : List A) → ascends lt ys ≡ true → sum_by f (put_in lt x ys) + sum_by f (filter (tie x) ys) ≡ sum_by f ys + f x
   put_counted x ys asc = rw (as_total f (put_in lt x ys), as_total f (filter (tie x) ys), as_total f ys) (put_total x ys asc)
