@@ -1,10 +1,13 @@
 -- Words that are coordinates, and words with a fraction.
-use Rattle.std.proofs.Common.{◌≡◌, ◌<◌, ◌≤◌, ◌+◌, ℕ, ℤ, zero, suc, inl, inr, ◌≤ℤ◌, ◌<ℤ◌, pos, negsuc, Bool, true, false, refl, ap, [], ◌∷◌, length, drop, get_or, arith, rules}
+use Rattle.std.proofs.Common.{◌≡◌, ◌<◌, ◌+◌, ℕ, ℤ, inl, inr, ◌≤ℤ◌, ◌<ℤ◌, pos, negsuc, Bool, true, false, refl, ap, [], ◌∷◌, length, drop, get_or, arith, rules}
 use Rattle.std.specs.Prelude.{Option, Some, None, Ok, Err, ◌&&◌, int_le, option_and_then, if◌then◌else◌}
+use Rattle.std.proofs.lemmas.Bool.{and_from, false_from_ne_true}
+use Rattle.std.proofs.lemmas.List.{drop_all}
 use Rattle.byte_text.specs.Names.{Bytes}
 use Rattle.byte_text.specs.Numbers.{whole, read_whole, number_or_fault}
 use Rattle.byte_text.specs.declared.texts.TextFault.{TextFault}
 use Rattle.planar_geom.specs.Points.{pt, bounds, bounds_of}
+use Rattle.ordered_lists.specs.Reading.{both_of}
 use Rattle.world_data.specs.Limits.{max_coord}
 use Rattle.world_model.specs.Commands.{without_minus, are_digits}
 use Rattle.world_model.specs.Grammar.{Due}
@@ -18,19 +21,7 @@ least = negsuc 9223372036854775807
 abbrev most : ℤ
 most = pos 9223372036854775807
 
-not_true : (b : Bool) → (b ≡ true → ⊥) → b ≡ false
-not_true true fails = absurd (fails refl)
-not_true false fails = refl
-
-pub both : (a b : Bool) → (a && b) ≡ true → (a ≡ true) × (b ≡ true)
-both true true e = (refl, refl)
-both true false e = absurd cc
-both false b e = absurd cc
-
-and_true : (a b : Bool) → a ≡ true → b ≡ true → (a && b) ≡ true
-and_true a b p q = rw (p, q) refl
-
-is_le : (a b : ℤ) → int_le a b ≡ true → a ≤ℤ b
+pub is_le : (a b : ℤ) → int_le a b ≡ true → a ≤ℤ b
 is_le a b e = search rules
 
 le_is : (a b : ℤ) → a ≤ℤ b → int_le a b ≡ true
@@ -68,11 +59,11 @@ coordinate_above low z w e more =
     dropped false z = refl
 
 outside : (low x : ℤ) → least ≤ℤ low → (int_le least x && int_le x most) ≡ false → (int_le low x && int_le x (pos max_coord)) ≡ false
-outside low x l out = not_true (int_le low x && int_le x (pos max_coord)) (λ e.
-    let h = both (int_le low x) (int_le x (pos max_coord)) e in
+outside low x l out = false_from_ne_true (int_le low x && int_le x (pos max_coord)) (λ e.
+    let h = both_of (int_le low x) (int_le x (pos max_coord)) e in
     let above : int_le least x ≡ true = le_is least x (le_trans least low x l (is_le low x h.0)) in
     let below : int_le x most ≡ true = le_is x most (le_trans x (pos max_coord) most (is_le x (pos max_coord) h.1) (search rules)) in
-    let whole_in = and_true (int_le least x) (int_le x most) above below in
+    let whole_in = and_from (int_le least x) (int_le x most) above below in
     absurd (cc (whole_in, out)))
 
 none_within : (o : Option ℤ) (low : ℤ) (f : TextFault) → least ≤ℤ low → number_or_fault (option_and_then (λ x. if int_le least x && int_le x most then Some x else None) o) ≡ Err f
@@ -94,14 +85,8 @@ pub minus_taken : (w : Bytes) (d : ℕ) → 0 < length w → get_or w 0 d ≡ 45
 minus_taken [] d some e = absurd (omega arith)
 minus_taken (b ∷ w) d some e = rw e refl
 
-past : (n : Bytes) (k : ℕ) → length n ≤ k → drop k n ≡ []
-past [] zero le = refl
-past [] (suc k) le = refl
-past (b ∷ n) zero le = absurd (omega arith)
-past (b ∷ n) (suc k) le = past n k (omega arith)
-
 pub no_point : (b : Bool) (n : Bytes) → (b && are_digits (drop (length n + 1) n)) ≡ false
-no_point true n = rw (past n (length n + 1) (omega arith)) refl
+no_point true n = rw (drop_all (length n + 1) n (omega arith)) refl
 no_point false n = refl
 
 -- a word that is refused

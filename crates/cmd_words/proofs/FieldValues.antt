@@ -9,10 +9,9 @@ use Rattle.ordered_lists.specs.Lists.{ascends, put_in}
 use Rattle.world_data.specs.Filters.{Field, field_before, is_zero, last_values, with_values}
 use Rattle.world_model.specs.Commands.{cleared_of}
 use Rattle.byte_text.specs.ByteOrder.{before_trans, before_tie}
-use Rattle.ordered_lists.specs.Reading.{filter-all, filter-passes}
+use Rattle.ordered_lists.specs.Reading.{both_of, filter-all, filter-passes}
 use Rattle.world_data.specs.FieldLaws.{last_values-ascends}
 use Rattle.cmd_words.specs.Sets.{mark_of}
-use Rattle.cmd_words.proofs.Coordinates.{both}
 
 abbrev is_kept : Field → Bool
 is_kept f = not (is_zero f)
@@ -64,7 +63,7 @@ module _ (f y : Field) (ys : List Field) (all : list_all (field_before y) ys ≡
 -- fields that are not kept make no difference
 put_among : (f : Field) (ys : List Field) → ascends field_before ys ≡ true → filter is_kept (put_in field_before f (filter is_kept ys)) ≡ filter is_kept (put_in field_before f ys)
 put_among f [] a = refl
-put_among f (y ∷ ys) a = let h = both (list_all (field_before y) ys) (ascends field_before ys) a in put_either f y ys h.0 (put_among f ys h.1) (is_kept y) refl
+put_among f (y ∷ ys) a = let h = both_of (list_all (field_before y) ys) (ascends field_before ys) a in put_either f y ys h.0 (put_among f ys h.1) (is_kept y) refl
 
 values_snoc : (found given : List Field) (f : Field) → last_values found (given ++ f ∷ []) ≡ put_in field_before f (last_values found given)
 values_snoc found [] f = refl

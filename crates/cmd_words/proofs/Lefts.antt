@@ -1,16 +1,14 @@
 -- A word that is read moves from the words that are left to those that were read.
-use Rattle.std.proofs.Common.{◌≡◌, ℕ, ◌≤◌, zero, false, refl, subst, sym, arith, ◌+◌, ◌<◌, List, [], ◌∷◌, ◌++◌, length, take, drop, drop-cons, length-drop, add-one, ap, ◌∙◌, suc}
+use Rattle.std.proofs.Common.{◌≡◌, ℕ, ◌≤◌, false, refl, subst, sym, arith, ◌+◌, ◌<◌, List, [], ◌∷◌, ◌++◌, length, take, drop, length-drop, ap, ◌∙◌}
 use Rattle.std.specs.Prelude.{Some, slice_get}
 use Rattle.std.proofs.lemmas.Option.{get_or_from_slice_get}
-use Rattle.std.proofs.lemmas.List.{take_more}
+use Rattle.std.proofs.lemmas.List.{take_more, drop_all}
 use Rattle.byte_text.specs.Names.{Bytes, is_word}
 use Rattle.world_model.specs.Commands.{shown_of}
 use Rattle.world_model.specs.declared.faults.WordFault.TheVariants as fault
 use Rattle.cmd_words.specs.Progress.{Place, place_at, IsBehind, IsNot, IsFault, IsRefusal}
+use Rattle.cmd_words.specs.LeftWords.{one_less}
 use Rattle.cmd_words.specs.declared.faults.CommandFault.{CommandFault}
-
-pub one_less : (words : List Bytes) (read : ℕ) (w : Bytes) → read < length words → slice_get words read ≡ Some w → drop read words ≡ w ∷ drop (read + 1) words
-one_less words read w lt e = rw add-one (drop-cons words read w lt ∙ ap (λ v. v ∷ drop (suc read) words) (get_or_from_slice_get words read w w e))
 
 pub one_more : (words : List Bytes) (read : ℕ) (w : Bytes) → read < length words → slice_get words read ≡ Some w → take (read + 1) words ≡ take read words ++ w ∷ []
 one_more words read w lt e = take_more words read w lt ∙ ap (λ v. take read words ++ v ∷ []) (get_or_from_slice_get words read w w e)
@@ -18,14 +16,8 @@ one_more words read w lt e = take_more words read w lt ∙ ap (λ v. take read w
 pub behind : (words : List Bytes) (read : ℕ) (w : Bytes) (p : Place) → place_at words read ≡ p → read < length words → slice_get words read ≡ Some w → IsBehind w p (place_at words (read + 1))
 behind words read w p e lt g = subst (λ (q : Place). IsBehind w q (place_at words (read + 1))) e (record { left = one_less words read w lt g; read = one_more words read w lt g })
 
-past : (words : List Bytes) (read : ℕ) → length words ≤ read → drop read words ≡ []
-past [] zero h = refl
-past [] (suc read) h = refl
-past (w ∷ words) zero h = absurd (omega arith)
-past (w ∷ words) (suc read) h = past words read (omega arith)
-
 pub none_left : (words : List Bytes) (read : ℕ) (p : Place) → place_at words read ≡ p → length words ≤ read → p.left ≡ []
-none_left words read p e h = subst (λ (q : Place). q.left ≡ []) e (past words read h)
+none_left words read p e h = subst (λ (q : Place). q.left ≡ []) e (drop_all read words h)
 
 pub one_left : (words : List Bytes) (read : ℕ) (w : Bytes) (p : Place) → place_at words read ≡ p → read < length words → slice_get words read ≡ Some w → p.left ≡ w ∷ drop (read + 1) words
 one_left words read w p e lt g = subst (λ (q : Place). q.left ≡ w ∷ drop (read + 1) words) e (one_less words read w lt g)

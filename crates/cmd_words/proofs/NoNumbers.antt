@@ -11,8 +11,8 @@ use Rattle.byte_text.specs.Names.{Bytes, same}
 use Rattle.byte_text.specs.Numbers.{whole, whole_within, signed_value}
 use Rattle.byte_text.specs.ByteOrder.{same_equal}
 use Rattle.byte_text.specs.NumberLaws.{AreDigits, AreDigits-decimal}
+use Rattle.ordered_lists.specs.Reading.{both_of}
 use Rattle.world_data.specs.Limits.{max_coord}
-use Rattle.cmd_words.proofs.Coordinates.{both}
 
 abbrev first_of : ℕ → Bytes → ℕ
 first_of other [] = other
@@ -41,7 +41,7 @@ within_is low high z None e = absurd cc
 within_is low high z (Some x) e = by (int_le low x && int_le x high) refl e
   where
     by : (b : Bool) → (int_le low x && int_le x high) ≡ b → (if b then Some x else None) ≡ Some z → (Some x ≡ Some z) × (int_le low z ≡ true) × (int_le z high ≡ true)
-    by true t f = let it : x ≡ z = cc f in let h = both (int_le low x) (int_le x high) t in (f, subst (λ y. int_le low y ≡ true) it h.0, subst (λ y. int_le y high ≡ true) it h.1)
+    by true t f = let it : x ≡ z = cc f in let h = both_of (int_le low x) (int_le x high) t in (f, subst (λ y. int_le low y ≡ true) it h.0, subst (λ y. int_le y high ≡ true) it h.1)
     by false t f = absurd cc
 
 -- the word begins with a letter, so it is no coordinate

@@ -1,8 +1,9 @@
 -- What every command that is asked for keeps to.
-use Rattle.std.proofs.Common.{◌≡◌, ◌<◌, Bool, true, false, not, refl, ap, subst, List, [], ◌∷◌, ◌++◌, length, arith}
+use Rattle.std.proofs.Common.{◌≡◌, ◌<◌, Bool, true, false, not, refl, subst, List, [], ◌∷◌, ◌++◌, length, arith}
 use Rattle.std.specs.Prelude.{◌&&◌, Option, Some, None, is_none, unwrap_or, Ok, codes, IfSome, nat_lt}
 use Rattle.std.specs.List.{AllByRecursion}
 use Rattle.byte_text.specs.Names.{Bytes, is_name}
+use Rattle.ordered_lists.specs.Reading.{both_of}
 use Rattle.world_model.specs.Grammar.{Form, done, word, maybe, ◌>>=◌, ◌>>◌, ◌or◌, where_, repeated, once_or_more, a_word}
 use Rattle.world_model.specs.Kinds.{name, glob, seconds, meters, lat_lon, four, geojson, when}
 use Rattle.world_data.specs.Limits.{max_tests}
@@ -21,6 +22,7 @@ use Rattle.world_model.specs.declared.commands.Command.TheVariants as command
 use Rattle.world_model.specs.FormLaws.{Each, each_append}
 use Rattle.world_model.specs.MadeForms.{Makes, Said, makes_done, makes_or, makes_none, makes_where, makes_word, makes_bind, makes_behind, makes_then, makes_maybe, makes_repeated, spelled_said}
 use Rattle.world_model.specs.SoundLaws.{reads_sound}
+use Rattle.cmd_words.specs.ReadLaws.{when_is, ok_spelled}
 use Rattle.cmd_words.specs.Laws.{IsServed, IsOfObject, IsPattern, IsById, IsKept}
 
 abbrev IsName : Bytes → Type 0
@@ -30,23 +32,14 @@ IsName w = is_name w ≡ true
 abbrev Keeps : Command → Type 0
 Keeps c = IsSoundCommand c → IsServed c
 
-when_is : (test : Bool) (a b : Bytes) → when test a ≡ Some b → (test ≡ true) × (a ≡ b)
-when_is true a b e = (refl, cc)
-when_is false a b e = absurd cc
-
 name_is : (w n : Bytes) → when (is_name w) w ≡ Some n → IsName n
 name_is w n e = let h = when_is (is_name w) w n e in subst IsName h.1 h.0
 
 makes_name : Makes IsName name
 makes_name = makes_word IsName a_word (λ w. when (is_name w) w) name_is
 
-both_true : (a b : Bool) → (a && b) ≡ true → (a ≡ true) × (b ≡ true)
-both_true true true e = (refl, refl)
-both_true true false e = absurd cc
-both_true false b e = absurd cc
-
 glob_is : (w p : Bytes) → when (is_name w && is_well_formed w) w ≡ Some p → IsPattern p
-glob_is w p e = let h = when_is (is_name w && is_well_formed w) w p e in subst IsPattern h.1 (both_true (is_name w) (is_well_formed w) h.0)
+glob_is w p e = let h = when_is (is_name w && is_well_formed w) w p e in subst IsPattern h.1 (both_of (is_name w) (is_well_formed w) h.0)
 
 makes_glob : Makes IsPattern glob
 makes_glob = makes_word IsPattern a_word (λ w. when (is_name w && is_well_formed w) w) glob_is
@@ -273,9 +266,5 @@ spelled_keeps : (words : List Bytes) (c : Command) → table.command_spelled wor
 unfolding table.readings
 spelled_keeps words c e = spelled_said Keeps (table.command_table words) c (table_keeps words) e
 
-ok_of : (words : List Bytes) (o : Option Command) (c : Command) → table.ok_or_fault words o ≡ Ok c → o ≡ Some c
-ok_of words (Some d) c e = ap Some (cc e)
-ok_of words None c e = absurd cc
-
 pub commands_are_served : (words : List Bytes) (c : Command) → reads words ≡ Ok c → IsServed c
-commands_are_served words c e = spelled_keeps words c (ok_of words (table.command_spelled words) c e) (reads_sound words c e)
+commands_are_served words c e = spelled_keeps words c (ok_spelled words (table.command_spelled words) c e) (reads_sound words c e)

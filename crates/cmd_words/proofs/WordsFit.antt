@@ -1,16 +1,19 @@
 -- The normal words of a channel are within the limits of a request.
-use Rattle.std.proofs.Common.{◌≡◌, ◌<◌, ◌≤◌, ◌+◌, ◌*◌, ◌^◌, ℕ, ℤ, pos, negsuc, zero, suc, Bool, true, false, not, refl, sym, ◌∙◌, ap, subst, List, [], ◌∷◌, ◌++◌, length, map, arith, length-append, ◌≤ℤ◌, rules}
+use Rattle.std.proofs.Common.{◌≡◌, ◌<◌, ◌≤◌, ◌+◌, ◌^◌, ℕ, ℤ, pos, negsuc, zero, suc, Bool, true, false, not, refl, sym, ◌∙◌, ap, subst, List, [], ◌∷◌, ◌++◌, length, map, arith, length-append, ◌≤ℤ◌, rules}
 use Rattle.std.specs.Prelude.{Option, Some, None, Result, Ok, Err, codes, decimal, filter, flat_map, is_none, if◌then◌else◌, ◌&&◌, nat_le, nat_lt, int_le, neg_ℤ, option_and_then, ◌-◌}
-use Rattle.std.specs.List.{AllByRecursion, list_all}
+use Rattle.std.specs.List.{list_all}
 use Rattle.std.specs.Fmt.{signed_decimal}
+use Rattle.std.proofs.lemmas.Bool.{leb-true}
 use Rattle.std.proofs.lemmas.Fmt.{length-decimal-le}
+use Rattle.std.proofs.lemmas.List.{length-map}
 use Rattle.std.proofs.lemmas.Grind.{flat_map-append}
 use Rattle.byte_text.specs.Names.{Bytes, is_name}
 use Rattle.byte_text.specs.Numbers.{whole, natural, whole_within}
-use Rattle.byte_text.specs.Requests.{FitsRequest, AreShort, total, max_word}
+use Rattle.byte_text.specs.Requests.{FitsRequest, max_word}
 use Rattle.planar_geom.specs.Points.{Point, Bounds, pt}
 use Rattle.geo_text.specs.Texts.{Shape, shape_of, with_commas}
 use Rattle.geo_text.specs.declared.faults.GeoFault.{GeoFault}
+use Rattle.ordered_lists.specs.Reading.{both_of}
 use Rattle.world_data.specs.Limits.{max_coord, max_meters, max_values, max_tests}
 use Rattle.world_data.specs.declared.channels.Kind.{Kind}
 use Rattle.world_data.specs.declared.channels.Kind.TheVariants as kind
@@ -22,66 +25,33 @@ use Rattle.world_model.specs.Commands as table
 use Rattle.world_model.specs.declared.commands.Command.{Command}
 use Rattle.world_model.specs.declared.commands.Command.TheVariants as command
 use Rattle.world_model.specs.FormLaws.{Each}
-use Rattle.cmd_words.specs.ShortRequests.{total_short, each_short}
+use Rattle.cmd_words.specs.SmallWords.{IsSmall, AreSmall, small, small_name, small_decimal, small_append, short_back, AreLight, light_of, light_append}
+use Rattle.cmd_words.specs.ReadLaws.{when_is, ok_spelled}
 use Rattle.cmd_words.specs.Progress.{Place, all_words, Follows, a_name}
 use Rattle.cmd_words.specs.Areas.{box_area, figure_area, disc_area, object_area}
 use Rattle.cmd_words.specs.FenceAreas.{around, beside, watched, words_of}
 use Rattle.cmd_words.specs.Channels.{kind_name, is_near, channel_words, setchan_of, behind_key, behind_setchan}
 use Rattle.cmd_words.specs.declared.fence_areas.FenceArea.{FenceArea}
 use Rattle.cmd_words.specs.declared.fence_areas.FenceArea.TheVariants as area
+use Rattle.cmd_words.proofs.Coordinates.{is_le}
 use Rattle.cmd_words.proofs.Pays.{Paid, Pays, pays_done, pays_or, pays_none, pays_where, pays_word, pays_bind, pays_repeated}
 
--- words of at most 255 bytes
-
-abbrev IsSmall : Bytes → Type 0
-IsSmall w = length w ≤ 255
-
-abbrev AreSmall : List Bytes → Type 0
-AreSmall words = AllByRecursion IsSmall words
-
-small_append : (xs ys : List Bytes) → AreSmall xs → AreSmall ys → AreSmall (xs ++ ys)
-small_append [] ys p q = q
-small_append (x ∷ xs) ys p q = (p.0, small_append xs ys p.1 q)
-
-nat_is_le : (a b : ℕ) → nat_le a b ≡ true → a ≤ b
-nat_is_le a b e = search rules
-
-int_is_le : (a b : ℤ) → int_le a b ≡ true → a ≤ℤ b
-int_is_le a b e = search rules
-
--- a word that is written out
-small : (w : Bytes) → nat_le (length w) 255 ≡ true → IsSmall w
-small w e = nat_is_le (length w) 255 e
-
-when_is : {A : Type 0} (test : Bool) (a b : A) → when test a ≡ Some b → (test ≡ true) × (a ≡ b)
-when_is true a b e = (refl, cc)
-when_is false a b e = absurd cc
-
-both_true : (a b : Bool) → (a && b) ≡ true → (a ≡ true) × (b ≡ true)
-both_true true true e = (refl, refl)
-both_true true false e = absurd cc
-both_true false b e = absurd cc
-
-small_name : (w : Bytes) → is_name w ≡ true → IsSmall w
-small_name w e = let h = both_true _ _ e in let k = both_true _ _ h.0 in nat_is_le (length w) 255 k.1
+-- names and patterns
 
 name_is : (w n : Bytes) → when (is_name w) w ≡ Some n → IsSmall n
 name_is w n e = let h = when_is (is_name w) w n e in subst IsSmall h.1 (small_name w h.0)
 
 glob_is : (b : Bool) (w p : Bytes) → when (is_name w && b) w ≡ Some p → IsSmall p
-glob_is b w p e = let h = when_is (is_name w && b) w p e in let t = both_true (is_name w) b h.0 in subst IsSmall h.1 (small_name w t.0)
+glob_is b w p e = let h = when_is (is_name w && b) w p e in let t = both_of (is_name w) b h.0 in subst IsSmall h.1 (small_name w t.0)
 
 -- the texts of numbers
-
-small_decimal : (n : ℕ) → n < 10000000000000000000 → IsSmall (decimal n)
-small_decimal n lt = let l = length-decimal-le 19 n (omega arith) (omega (arith, lt)) (omega (arith, lt)) in omega (arith, l)
 
 record IsWord (z : ℤ) : Type 0 where
   low : neg_ℤ (pos 9223372036854775808) ≤ℤ z
   high : z ≤ℤ pos 9223372036854775807
 
 small_signed : (z : ℤ) → IsWord z → IsSmall (signed_decimal z)
-small_signed (pos n) h = let high = h.high in let lt : n < 10000000000000000000 = grind arith in small_decimal n lt
+small_signed (pos n) h = let high = h.high in let lt : n < 2 ^ 64 = grind arith in small_decimal n lt
 small_signed (negsuc n) h =
     let low = h.low in
     let lt : suc n < 10000000000000000000 = grind arith in
@@ -96,12 +66,12 @@ placed_word z h = let l = h.least in let g = h.greatest in record { low = search
 
 within_is : (low high z : ℤ) (o : Option ℤ) → option_and_then (λ x. if int_le low x && int_le x high then Some x else None) o ≡ Some z → (low ≤ℤ z) × (z ≤ℤ high)
 within_is low high z None e = absurd cc
-within_is low high z (Some x) e = let h = when_is (int_le low x && int_le x high) x z e in let t = both_true (int_le low x) (int_le x high) h.0 in
-    (int_is_le low z (subst (λ y. int_le low y ≡ true) h.1 t.0), int_is_le z high (subst (λ y. int_le y high ≡ true) h.1 t.1))
+within_is low high z (Some x) e = let h = when_is (int_le low x && int_le x high) x z e in let t = both_of (int_le low x) (int_le x high) h.0 in
+    (is_le low z (subst (λ y. int_le low y ≡ true) h.1 t.0), is_le z high (subst (λ y. int_le y high ≡ true) h.1 t.1))
 
 natural_is : (low high n : ℕ) (o : Option ℕ) → option_and_then (λ x. if nat_le low x && nat_le x high then Some x else None) o ≡ Some n → n ≤ high
 natural_is low high n None e = absurd cc
-natural_is low high n (Some x) e = let h = when_is (nat_le low x && nat_le x high) x n e in let t = both_true (nat_le low x) (nat_le x high) h.0 in nat_is_le n high (subst (λ y. nat_le y high ≡ true) h.1 t.1)
+natural_is low high n (Some x) e = let h = when_is (nat_le low x && nat_le x high) x n e in let t = both_of (nat_le low x) (nat_le x high) h.0 in leb-true n high (subst (λ y. nat_le y high ≡ true) h.1 t.1)
 
 -- forms of one word, and what is behind them
 
@@ -179,10 +149,6 @@ bound_is w (Some z) e = by (is_endless w) refl (whole_within (neg_ℤ (pos (2 ^ 
 integer_is : (w : Bytes) (z : ℤ) → whole_within (neg_ℤ (pos (2 ^ 63))) (pos (2 ^ 63 - 1)) w ≡ Some z → IsSmall (signed_decimal z)
 integer_is w z e = let h = within_is (neg_ℤ (pos (2 ^ 63))) (pos (2 ^ 63 - 1)) z (whole w) e in small_signed z (record { low = h.0; high = h.1 })
 
-map_length : {A B : Type 0} (f : A → B) (xs : List A) → length (map f xs) ≡ length xs
-map_length f [] = refl
-map_length f (x ∷ xs) = ap suc (map_length f xs)
-
 abbrev AreNumbers : ℕ → List ℤ → Type 0
 AreNumbers n values = (length values ≡ n) × AreSmall (map signed_decimal values)
 
@@ -206,7 +172,7 @@ module _ (before : ℕ) where
   pays_wherein_test = then_word before with_test SmallTest (codes "WHEREIN") _ (then_name (before + 1) with_test SmallTest _ (λ n s.
       then_one (before + 1 + 1) (λ count. count ≤ max_values) a_word _ (λ w count l e. natural_is 1 max_values count (natural w) e) with_test SmallTest _ (λ count few.
       pays_bind (λ (values : List ℤ). before + 1 + 1 + 1 + length values) (AreNumbers count) with_test SmallTest _
-      (λ values v. let same = map_length signed_decimal values in let count_is = v.0 in
+      (λ values v. let same = length-map values signed_decimal in let count_is = v.0 in
       pays_done (before + 1 + 1 + 1 + length values) with_test SmallTest (Among n values) (omega (arith, same)) (small (codes "WHEREIN") refl, (s, (small_decimal (length values) (omega (arith, few, count_is)), v.1))))
       (before + 1 + 1 + 1) (times count integer) (pays_times (before + 1 + 1 + 1) count))))
 
@@ -268,89 +234,66 @@ module _ (o : table.FenceOptions) (s : SmallOptions o) where
       pays_or (pays_where (options_cost o) options_cost SmallOptions (is_none o.commands) _ (λ t. list_pays (codes "COMMANDS") table.command_names (λ l. record o { commands = Some l }) (λ l. (omega arith, s)))) (
       pays_or (pays_where (options_cost o) options_cost SmallOptions (near && not o.nodwell && is_none o.detect) _ (λ t. nodwell_pays)) pays_none)))))
 
--- words of which one may be a long text
-abbrev AreLean : List Bytes → Type 0
-AreLean words = AreShort words × (total words ≤ 255 * length words + max_word)
-
-lean_small : (words : List Bytes) → AreSmall words → AreLean words
-lean_small words s = let t = total_short words s in (each_short words s, omega (arith, t))
-
-total_append : (xs ys : List Bytes) → total (xs ++ ys) ≡ total xs + total ys
-total_append [] ys = omega arith
-total_append (x ∷ xs) ys = let ih = total_append xs ys in omega (arith, ih)
-
-short_append : (xs ys : List Bytes) → AreShort xs → AreShort ys → AreShort (xs ++ ys)
-short_append [] ys p q = q
-short_append (x ∷ xs) ys p q = (p.0, short_append xs ys p.1 q)
-
-lean_append : (xs ys : List Bytes) → AreSmall xs → AreLean ys → AreLean (xs ++ ys)
-lean_append xs ys s l =
-    let sum = total_append xs ys in
-    let count = length-append xs ys in
-    let front = total_short xs s in
-    let back = l.1 in
-    (short_append xs ys (each_short xs s) l.0, omega (arith, sum, count, front, back))
-
 -- what is watched
 
-abbrev LeanArea : table.AreaRead → Type 0
-LeanArea a = AreLean a.words
+abbrev LightArea : table.AreaRead → Type 0
+LightArea a = AreLight a.words
 
 module _ (before : ℕ) where
   abbrev with_area : table.AreaRead → ℕ
   with_area a = before + length a.words
 
-  box_pays : Pays before with_area LeanArea (word (codes "BOUNDS") >> four >>= λ b. done (box_area b))
-  box_pays = pays_bind (λ (b : Bounds). before + 1 + 4) SmallBox with_area LeanArea _
-      (λ b s. pays_done (before + 1 + 4) with_area LeanArea (box_area b) (omega arith) (lean_small (box_area b).words (small (codes "BOUNDS") refl, (s.0.0, (s.0.1, (s.1.0, (s.1.1, tt)))))))
+  box_pays : Pays before with_area LightArea (word (codes "BOUNDS") >> four >>= λ b. done (box_area b))
+  box_pays = pays_bind (λ (b : Bounds). before + 1 + 4) SmallBox with_area LightArea _
+      (λ b s. pays_done (before + 1 + 4) with_area LightArea (box_area b) (omega arith) (light_of (box_area b).words (small (codes "BOUNDS") refl, (s.0.0, (s.0.1, (s.1.0, (s.1.1, tt)))))))
       before (word (codes "BOUNDS") >> four) (then_word before (λ (b : Bounds). before + 1 + 4) SmallBox (codes "BOUNDS") four (pays_box (before + 1)))
 
   text_is : (w : Bytes) (t : Bytes × Shape) (r : Result Shape GeoFault) → length w ≤ max_word → accepted w r ≡ Some t → length t.0 ≤ max_word
   text_is w t (Ok shape) l e = let same : (w, shape) ≡ t = cc in subst (λ (x : Bytes × Shape). length x.0 ≤ max_word) same l
   text_is w t (Err fault) l e = absurd cc
 
-  figure_pays : Pays before with_area LeanArea (word (codes "OBJECT") >> geojson >>= λ t. done (figure_area t))
-  figure_pays = pays_bind (λ (t : Bytes × Shape). before + 1 + 1) (λ t. length t.0 ≤ max_word) with_area LeanArea _
-      (λ t s. pays_done (before + 1 + 1) with_area LeanArea (figure_area t) (omega arith) ((omega arith, (s, tt)), omega (arith, s)))
+  figure_pays : Pays before with_area LightArea (word (codes "OBJECT") >> geojson >>= λ t. done (figure_area t))
+  figure_pays = pays_bind (λ (t : Bytes × Shape). before + 1 + 1) (λ t. length t.0 ≤ max_word) with_area LightArea _
+      (λ t s. pays_done (before + 1 + 1) with_area LightArea (figure_area t) (omega arith) ((omega arith, (s, tt)), omega (arith, s)))
       before (word (codes "OBJECT") >> geojson) (then_word before (λ (t : Bytes × Shape). before + 1 + 1) (λ t. length t.0 ≤ max_word) (codes "OBJECT") geojson
       (one (before + 1) (λ t. length t.0 ≤ max_word) a_geojson _ (λ w t l e. text_is w t (shape_of w) l e)))
 
-  disc_pays : Pays before with_area LeanArea (word (codes "CIRCLE") >> lat_lon >>= λ p. meters >>= λ r. done (disc_area p r))
-  disc_pays = pays_bind (λ (p : Point). before + 1 + 2) SmallPoint with_area LeanArea _
-      (λ p s. then_meters (before + 1 + 2) with_area LeanArea _ (λ r m. pays_done (before + 1 + 2 + 1) with_area LeanArea (disc_area p r) (omega arith) (lean_small (disc_area p r).words (small (codes "CIRCLE") refl, (s.0, (s.1, (m, tt)))))))
+  disc_pays : Pays before with_area LightArea (word (codes "CIRCLE") >> lat_lon >>= λ p. meters >>= λ r. done (disc_area p r))
+  disc_pays = pays_bind (λ (p : Point). before + 1 + 2) SmallPoint with_area LightArea _
+      (λ p s. then_meters (before + 1 + 2) with_area LightArea _ (λ r m. pays_done (before + 1 + 2 + 1) with_area LightArea (disc_area p r) (omega arith) (light_of (disc_area p r).words (small (codes "CIRCLE") refl, (s.0, (s.1, (m, tt)))))))
       before (word (codes "CIRCLE") >> lat_lon) (then_word before (λ (p : Point). before + 1 + 2) SmallPoint (codes "CIRCLE") lat_lon (pays_point (before + 1)))
 
-  object_pays : Pays before with_area LeanArea (word (codes "GET") >> name >>= λ key. name >>= λ id. done (object_area key id))
-  object_pays = pays_bind (λ (key : Bytes). before + 1 + 1) IsSmall with_area LeanArea _
-      (λ key k. then_name (before + 1 + 1) with_area LeanArea _ (λ id i. pays_done (before + 1 + 1 + 1) with_area LeanArea (object_area key id) (omega arith) (tt, omega arith)))
+  object_pays : Pays before with_area LightArea (word (codes "GET") >> name >>= λ key. name >>= λ id. done (object_area key id))
+  object_pays = pays_bind (λ (key : Bytes). before + 1 + 1) IsSmall with_area LightArea _
+      (λ key k. then_name (before + 1 + 1) with_area LightArea _ (λ id i. pays_done (before + 1 + 1 + 1) with_area LightArea (object_area key id) (omega arith) (tt, omega arith)))
       before (word (codes "GET") >> name) (then_word before (λ (key : Bytes). before + 1 + 1) IsSmall (codes "GET") name (one (before + 1) IsSmall a_word _ (λ w n l e. name_is w n e)))
 
-  area_pays : Pays before with_area LeanArea table.area
+  area_pays : Pays before with_area LightArea table.area
   area_pays = pays_or box_pays (pays_or figure_pays (pays_or disc_pays (pays_or object_pays pays_none)))
 
-abbrev LeanFence : FenceArea → Type 0
-LeanFence x = AreLean (words_of x)
+abbrev LightFence : FenceArea → Type 0
+LightFence x = AreLight (words_of x)
 
 module _ (before : ℕ) where
   abbrev with_fence : FenceArea → ℕ
   with_fence x = before + length (words_of x)
 
-  around_pays : Pays (before + 1) with_fence LeanFence around
-  around_pays = pays_bind (λ (p : Point). before + 1 + 2) SmallPoint with_fence LeanFence _
-      (λ p s. then_meters (before + 1 + 2) with_fence LeanFence _ (λ r m. pays_done (before + 1 + 2 + 1) with_fence LeanFence (area.Around p r) (omega arith) (lean_small (words_of (area.Around p r)) (small (codes "POINT") refl, (s.0, (s.1, (m, tt)))))))
+  around_pays : Pays (before + 1) with_fence LightFence around
+  around_pays = pays_bind (λ (p : Point). before + 1 + 2) SmallPoint with_fence LightFence _
+      (λ p s. then_meters (before + 1 + 2) with_fence LightFence _ (λ r m. pays_done (before + 1 + 2 + 1) with_fence LightFence (area.Around p r) (omega arith) (light_of (words_of (area.Around p r)) (small (codes "POINT") refl, (s.0, (s.1, (m, tt)))))))
       (before + 1) lat_lon (pays_point (before + 1))
 
-  beside_pays : Pays (before + 1) with_fence LeanFence beside
-  beside_pays = then_name (before + 1) with_fence LeanFence _ (λ key k. then_glob (before + 1 + 1) with_fence LeanFence _ (λ pattern p. then_meters (before + 1 + 1 + 1) with_fence LeanFence _
-      (λ r m. pays_done (before + 1 + 1 + 1 + 1) with_fence LeanFence (area.Beside key pattern r) (omega arith) (lean_small (words_of (area.Beside key pattern r)) (small (codes "ROAM") refl, (k, (p, (m, tt))))))))
+  beside_pays : Pays (before + 1) with_fence LightFence beside
+  beside_pays = then_name (before + 1) with_fence LightFence _ (λ key k. then_glob (before + 1 + 1) with_fence LightFence _ (λ pattern p. then_meters (before + 1 + 1 + 1) with_fence LightFence _
+      (λ r m. pays_done (before + 1 + 1 + 1 + 1) with_fence LightFence (area.Beside key pattern r) (omega arith) (light_of (words_of (area.Beside key pattern r)) (small (codes "ROAM") refl, (k, (p, (m, tt))))))))
 
-  module _ (cost : Command → ℕ) (Q : Command → Type 0) (o : table.FenceOptions) (next : FenceArea → Form Command) (goes : (x : FenceArea) → LeanFence x → Pays (with_fence x) cost Q (next x)) where
+  module _ (cost : Command → ℕ) (Q : Command → Type 0) (o : table.FenceOptions) (next : FenceArea → Form Command) (goes : (x : FenceArea) → LightFence x → Pays (with_fence x) cost Q (next x)) where
     watched_pays : (kind : Kind) → Pays before cost Q (watched kind o next)
-    watched_pays kind.Within = pays_bind (with_area before) LeanArea cost Q _ (λ a l. goes (area.Given a) l) before table.area (area_pays before)
-    watched_pays kind.Intersects = pays_bind (with_area before) LeanArea cost Q _ (λ a l. goes (area.Given a) l) before table.area (area_pays before)
+    watched_pays kind.Within = pays_bind (with_area before) LightArea cost Q _ (λ a l. goes (area.Given a) l) before table.area (area_pays before)
+    watched_pays kind.Intersects = pays_bind (with_area before) LightArea cost Q _ (λ a l. goes (area.Given a) l) before table.area (area_pays before)
     watched_pays kind.Near =
-        pays_or (pays_where before cost Q (not o.nodwell) _ (λ t. then_word before cost Q (codes "POINT") _ (pays_bind with_fence LeanFence cost Q next goes (before + 1) around around_pays))) (
-        pays_or (pays_where before cost Q (is_none o.detect) _ (λ t. then_word before cost Q (codes "ROAM") _ (pays_bind with_fence LeanFence cost Q next goes (before + 1) beside beside_pays))) pays_none)
+        pays_or (pays_where before cost Q (not o.nodwell) _ (λ t. then_word before cost Q (codes "POINT") _ (pays_bind with_fence LightFence cost Q next goes (before + 1) around around_pays))) (
+        pays_or (pays_where before cost Q (is_none o.detect) _ (λ t. then_word before cost Q (codes "ROAM") _ (pays_bind with_fence LightFence cost Q next goes (before + 1) beside beside_pays))) pays_none)
 
 -- the words of the options
 
@@ -380,7 +323,7 @@ module _ (called : Bytes) (names : List Bytes) (short : IsSmall called) (few : n
       by false e =
           let a = commas_length (filter (table.wants found) names) in
           let b = filter_cost (table.wants found) names in
-          let c = nat_is_le (text_cost names) 255 few in
+          let c = leb-true (text_cost names) 255 few in
           rw e (short, (omega (arith, a, b, c), tt))
 
 all_wanted : (names : List Bytes) → list_all (table.wants None) names ≡ true
@@ -445,9 +388,9 @@ abbrev words_cost : Command → ℕ
 words_cost (command.Setchan c from) = 2 + length c.words
 words_cost c = 0
 
-abbrev LeanChannel : Command → Type 0
-LeanChannel (command.Setchan c from) = AreLean c.words
-LeanChannel c = Unit {0}
+abbrev LightChannel : Command → Type 0
+LightChannel (command.Setchan c from) = AreLight c.words
+LightChannel c = Unit {0}
 
 small_kind : (kind : Kind) → IsSmall (kind_name kind)
 small_kind kind.Within = small (codes "WITHIN") refl
@@ -455,48 +398,40 @@ small_kind kind.Intersects = small (codes "INTERSECTS") refl
 small_kind kind.Near = small (codes "NEARBY") refl
 
 module _ (n : Bytes) (kind : Kind) (key : Bytes) (small_key : IsSmall key) (o : table.FenceOptions) (s : SmallOptions o) (fenced : o.fence ≡ true) where
-  setting_pays : (x : FenceArea) → LeanFence x → Pays (with_fence (options_cost o) x) words_cost LeanChannel (done (setchan_of n kind key o x))
-  setting_pays x lean =
+  setting_pays : (x : FenceArea) → LightFence x → Pays (with_fence (options_cost o) x) words_cost LightChannel (done (setchan_of n kind key o x))
+  setting_pays x light =
       let count = options_length o s fenced in
       let parts = length-append (table.option_words o) (words_of x) in
-      pays_done (with_fence (options_cost o) x) words_cost LeanChannel (setchan_of n kind key o x) (omega (arith, count, parts))
-      (lean_append (kind_name kind ∷ key ∷ table.option_words o) (words_of x) (small_kind kind, (small_key, options_small o s)) lean)
+      pays_done (with_fence (options_cost o) x) words_cost LightChannel (setchan_of n kind key o x) (omega (arith, count, parts))
+      (light_append (kind_name kind ∷ key ∷ table.option_words o) (words_of x) (small_kind kind, (small_key, options_small o s)) light)
 
-key_pays : (n : Bytes) (kind : Kind) → Pays 3 words_cost LeanChannel (a_name (behind_key n kind))
-key_pays n kind = then_name 3 words_cost LeanChannel (behind_key n kind) (λ key small_key.
-    pays_bind options_cost SmallOptions words_cost LeanChannel _
-    (λ o s. pays_where (options_cost o) words_cost LeanChannel o.fence _ (λ fenced. watched_pays (options_cost o) words_cost LeanChannel o (λ x. done (setchan_of n kind key o x)) (setting_pays n kind key small_key o s fenced) kind))
+key_pays : (n : Bytes) (kind : Kind) → Pays 3 words_cost LightChannel (a_name (behind_key n kind))
+key_pays n kind = then_name 3 words_cost LightChannel (behind_key n kind) (λ key small_key.
+    pays_bind options_cost SmallOptions words_cost LightChannel _
+    (λ o s. pays_where (options_cost o) words_cost LightChannel o.fence _ (λ fenced. watched_pays (options_cost o) words_cost LightChannel o (λ x. done (setchan_of n kind key o x)) (setting_pays n kind key small_key o s fenced) kind))
     4 _ (pays_repeated options_cost SmallOptions (table.fence_option (is_near kind)) (λ o s. option_pays o s (is_near kind)) table.no_fence_options (tt, tt)))
 
-setchan_pays : Pays 1 words_cost LeanChannel (a_name behind_setchan)
-setchan_pays = then_name 1 words_cost LeanChannel behind_setchan (λ n s.
-    pays_or (then_word 2 words_cost LeanChannel (codes "WITHIN") _ (key_pays n kind.Within)) (
-    pays_or (then_word 2 words_cost LeanChannel (codes "INTERSECTS") _ (key_pays n kind.Intersects)) (
-    pays_or (then_word 2 words_cost LeanChannel (codes "NEARBY") _ (key_pays n kind.Near)) pays_none)))
+setchan_pays : Pays 1 words_cost LightChannel (a_name behind_setchan)
+setchan_pays = then_name 1 words_cost LightChannel behind_setchan (λ n s.
+    pays_or (then_word 2 words_cost LightChannel (codes "WITHIN") _ (key_pays n kind.Within)) (
+    pays_or (then_word 2 words_cost LightChannel (codes "INTERSECTS") _ (key_pays n kind.Intersects)) (
+    pays_or (then_word 2 words_cost LightChannel (codes "NEARBY") _ (key_pays n kind.Near)) pays_none)))
 
-spelled_paid : (m : ℕ) (rs : List (Reading Command)) (c : Command) → Each (Paid words_cost LeanChannel m) rs → spelled (live rs) ≡ Some c → (words_cost c ≤ m) × LeanChannel c
+spelled_paid : (m : ℕ) (rs : List (Reading Command)) (c : Command) → Each (Paid words_cost LightChannel m) rs → spelled (live rs) ≡ Some c → (words_cost c ≤ m) × LightChannel c
 spelled_paid m [] c all e = absurd cc
-spelled_paid m (spells b [] ∷ rs) c all e = let same : b ≡ c = cc in subst (λ (x : Command). (words_cost x ≤ m) × LeanChannel x) same (omega (arith, all.0.0), all.0.1)
+spelled_paid m (spells b [] ∷ rs) c all e = let same : b ≡ c = cc in subst (λ (x : Command). (words_cost x ≤ m) × LightChannel x) same (omega (arith, all.0.0), all.0.1)
 spelled_paid m (spells b (w ∷ rest) ∷ rs) c all e = spelled_paid m rs c all.1 e
 spelled_paid m (runs_out due ∷ rs) c all e = spelled_paid m rs c all.1 e
-
-short_back : (xs ys : List Bytes) → AreShort (xs ++ ys) → AreShort ys
-short_back [] ys s = s
-short_back (x ∷ xs) ys s = short_back xs ys s.1
-
-spelled_by : (words : List Bytes) (o : Option Command) (c : Command) → table.ok_or_fault words o ≡ Ok c → o ≡ Some c
-spelled_by words (Some d) c e = ap Some (cc e)
-spelled_by words None c e = absurd cc
 
 -- the normal words of a channel that words spell are within the limits
 pub setchan_fits : (p : Place) (n : Bytes) (kind : Kind) (key : Bytes) (o : table.FenceOptions) (x : FenceArea) → Follows p (a_name behind_setchan) → FitsRequest (all_words p) → table.reads (all_words p) ≡ Ok (setchan_of n kind key o x) → FitsRequest (channel_words kind key o x)
 setchan_fits p n kind key o x h fits e =
-    let said = spelled_by (all_words p) (table.command_spelled (all_words p)) (setchan_of n kind key o x) e in
+    let said = ok_spelled (all_words p) (table.command_spelled (all_words p)) (setchan_of n kind key o x) e in
     let there : spelled (live (a_name behind_setchan p.left)) ≡ Some (setchan_of n kind key o x) = sym (ap spelled (h.goes p.left)) ∙ said in
     let paid = spelled_paid (1 + length p.left) (a_name behind_setchan p.left) (setchan_of n kind key o x) (setchan_pays.pays p.left (short_back p.read p.left fits.short)) there in
     let count = length-append p.read p.left in
     let few = fits.few in
     let begun = h.begun in
     let enough = paid.0 in
-    let lean = paid.1.1 in
-    record { few = omega (arith, count, few, begun, enough); short = paid.1.0; small = omega (arith, count, few, begun, enough, lean) }
+    let light = paid.1.1 in
+    record { few = omega (arith, count, few, begun, enough); short = paid.1.0; small = omega (arith, count, few, begun, enough, light) }

@@ -11,5 +11,8 @@ pub mod ListTexts
 pub mod Searches
 pub mod Laws
 pub mod ShortRequests
+pub mod SmallWords
+pub mod LeftWords
+pub mod ReadLaws
 pub mod CommandNames
 pub mod NameLists
