@@ -4,6 +4,7 @@ use Rattle.std.specs.Prelude.{Ok, Err, codes, flat_map}
 use Rattle.std.specs.Fmt.{signed_decimal}
 use Rattle.std.specs.List.{list_all}
 use Rattle.std.proofs.lemmas.Grind.{flat_map-append}
+use Rattle.std.proofs.lemmas.Bool.{and_from}
 use Rattle.byte_text.specs.Names.{Bytes}
 use Rattle.byte_text.specs.Numbers.{signed_value}
 use Rattle.byte_text.specs.NumberLaws.{signed_back}
@@ -17,7 +18,7 @@ use Rattle.record_words.specs.declared.faults.RecordFault.{RecordFault}
 use Rattle.record_words.specs.declared.faults.RecordFault.TheVariants.{NotRecord, Memory}
 use Rattle.record_words.specs.Reading.{BeginsNot, Reads, IsNumber, value_words, IsValue, AreKept, ReadsFields}
 use Rattle.record_words.proofs.LeftWords.{heads_same, rests_same}
-use Rattle.record_words.proofs.Parts.{both, number_kept}
+use Rattle.record_words.proofs.Parts.{number_kept}
 
 abbrev pub texts : List Field → List Bytes
 texts fields = flat_map field_words fields
@@ -59,21 +60,21 @@ kept_right [] gs all = all
 kept_right (f ∷ fs) gs all = kept_right fs gs (both_of (is_kept_field f) (list_all is_kept_field (fs ++ gs)) all).1
 
 kept_snoc : (fs : List Field) (f : Field) → list_all is_kept_field fs ≡ true → IsValue f → list_all is_kept_field (fs ++ f ∷ []) ≡ true
-kept_snoc [] f all kept = both (is_kept_field f) true kept refl
+kept_snoc [] f all kept = and_from (is_kept_field f) true kept refl
 kept_snoc (g ∷ fs) f all kept =
     let parts = both_of (is_kept_field g) (list_all is_kept_field fs) all in
-    both (is_kept_field g) (list_all is_kept_field (fs ++ f ∷ [])) parts.0 (kept_snoc fs f parts.1 kept)
+    and_from (is_kept_field g) (list_all is_kept_field (fs ++ f ∷ [])) parts.0 (kept_snoc fs f parts.1 kept)
 
 nonzero_left : (fs gs : List Field) → list_all (λ f. not (is_zero f)) (fs ++ gs) ≡ true → list_all (λ f. not (is_zero f)) fs ≡ true
 nonzero_left [] gs all = refl
 nonzero_left (f ∷ fs) gs all =
     let parts = both_of (not (is_zero f)) (list_all (λ f. not (is_zero f)) (fs ++ gs)) all in
-    both (not (is_zero f)) (list_all (λ f. not (is_zero f)) fs) parts.0 (nonzero_left fs gs parts.1)
+    and_from (not (is_zero f)) (list_all (λ f. not (is_zero f)) fs) parts.0 (nonzero_left fs gs parts.1)
 
 are_left : (fs gs : List Field) → are_fields (fs ++ gs) ≡ true → are_fields fs ≡ true
 are_left fs gs are =
     let parts = both_of (ascends field_before (fs ++ gs)) (list_all (λ f. not (is_zero f)) (fs ++ gs)) are in
-    both (ascends field_before fs) (list_all (λ f. not (is_zero f)) fs) (ascends-left field_before fs gs parts.0) (nonzero_left fs gs parts.1)
+    and_from (ascends field_before fs) (list_all (λ f. not (is_zero f)) fs) (ascends-left field_before fs gs parts.0) (nonzero_left fs gs parts.1)
 
 module _ (old : List Bytes) (fields : List Field) (left : List Bytes) (goes : Goes old fields left) where
   -- the fields of another reading of the same words, behind those that were read

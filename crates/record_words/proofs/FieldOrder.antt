@@ -2,23 +2,16 @@
 use Rattle.std.proofs.Common.{◌≡◌, ◌<◌, ◌-◌, Bool, true, false, not, List, [], ◌∷◌, ◌++◌, length, refl, sym, ap, subst, ◌∙◌, arith}
 use Rattle.std.specs.Prelude.{Some, IfSome, ◌&&◌, filter, if◌then◌else◌, slice_get}
 use Rattle.std.specs.List.{list_all}
+use Rattle.std.proofs.lemmas.Bool.{and_from, and_right}
 use Rattle.byte_text.specs.Names.{Bytes, before}
 use Rattle.ordered_lists.specs.Lists.{ascends, put_in}
 use Rattle.ordered_lists.specs.NameOrder.{name_trans}
 use Rattle.ordered_lists.specs.Reading.{both_of, filter-all}
 use Rattle.world_data.specs.Filters.{Field, field_before, is_zero, with_values, are_fields}
 use Rattle.world_data.specs.FieldLaws.{field_asym}
-use Rattle.record_words.proofs.Parts.{both}
 
 abbrev nonzero : Field → Bool
 nonzero f = not (is_zero f)
-
-field_trans : (f g h : Field) → field_before f g ≡ true → field_before g h ≡ true → field_before f h ≡ true
-field_trans = name_trans (λ (f : Field). f.0)
-
-not_second : (a b : Bool) → b ≡ false → (a && b) ≡ false
-not_second true b e = e
-not_second false b e = refl
 
 with_true : (a b : Bool) → b ≡ true → (a && b) ≡ a
 with_true true b e = e
@@ -75,27 +68,27 @@ ascends_last g (h ∷ fs) f asc = by (field_before (last_of h fs) f) (ascends_la
     above e =
         let under : field_before g h ≡ true = (both_of (field_before g h) (list_all (field_before g) fs) parts.0).0 in
         let over = (both_of (list_all (field_before h) (fs ++ f ∷ [])) (ascends field_before (fs ++ f ∷ [])) e).0 in
-        field_trans g h f under (last_passes (field_before h) fs f over)
+        name_trans (λ (f : Field). f.0) g h f under (last_passes (field_before h) fs f over)
 
     by : (b : Bool) → ascends field_before ((h ∷ fs) ++ f ∷ []) ≡ b → ascends field_before ((g ∷ h ∷ fs) ++ f ∷ []) ≡ b
     by true e =
-        let all : list_all (field_before g) ((h ∷ fs) ++ f ∷ []) ≡ true = all_snoc (field_before g) (h ∷ fs) f ∙ both (list_all (field_before g) (h ∷ fs)) (field_before g f) parts.0 (above e) in
-        both (list_all (field_before g) ((h ∷ fs) ++ f ∷ [])) (ascends field_before ((h ∷ fs) ++ f ∷ [])) all e
-    by false e = not_second (list_all (field_before g) ((h ∷ fs) ++ f ∷ [])) (ascends field_before ((h ∷ fs) ++ f ∷ [])) e
+        let all : list_all (field_before g) ((h ∷ fs) ++ f ∷ []) ≡ true = all_snoc (field_before g) (h ∷ fs) f ∙ and_from (list_all (field_before g) (h ∷ fs)) (field_before g f) parts.0 (above e) in
+        and_from (list_all (field_before g) ((h ∷ fs) ++ f ∷ [])) (ascends field_before ((h ∷ fs) ++ f ∷ [])) all e
+    by false e = and_right (list_all (field_before g) ((h ∷ fs) ++ f ∷ [])) (ascends field_before ((h ∷ fs) ++ f ∷ [])) e
 
 last_there : (g : Field) (fs : List Field) → slice_get (g ∷ fs) (length fs) ≡ Some (last_of g fs)
 last_there g [] = refl
 last_there g (h ∷ fs) = last_there h fs
 
 pub zero_last : (fs : List Field) (f : Field) → is_zero f ≡ true → are_fields (fs ++ f ∷ []) ≡ false
-zero_last fs f e = not_second (ascends field_before (fs ++ f ∷ [])) (list_all nonzero (fs ++ f ∷ []))
-    (all_snoc nonzero fs f ∙ not_second (list_all nonzero fs) (nonzero f) (ap not e))
+zero_last fs f e = and_right (ascends field_before (fs ++ f ∷ [])) (list_all nonzero (fs ++ f ∷ []))
+    (all_snoc nonzero fs f ∙ and_right (list_all nonzero fs) (nonzero f) (ap not e))
 
 -- a field that is not zero may be last exactly where the last of the others, if any, stands before it
 
 nonzero_last : (fs : List Field) (f : Field) → are_fields fs ≡ true → is_zero f ≡ false → list_all nonzero (fs ++ f ∷ []) ≡ true
 nonzero_last fs f are other = all_snoc nonzero fs f
-    ∙ both (list_all nonzero fs) (nonzero f) (both_of (ascends field_before fs) (list_all nonzero fs) are).1 (ap not other)
+    ∙ and_from (list_all nonzero fs) (nonzero f) (both_of (ascends field_before fs) (list_all nonzero fs) are).1 (ap not other)
 
 pub only_one : (fs : List Field) (f : Field) → is_zero f ≡ false → length fs ≡ 0 → are_fields (fs ++ f ∷ []) ≡ true
 only_one [] f other none = nonzero_last [] f refl other

@@ -1,10 +1,11 @@
 -- The words that are left, and the next of them.
-use Rattle.std.proofs.Common.{◌≡◌, ℕ, ◌+◌, ◌<◌, ◌≤◌, zero, suc, Bool, true, false, List, [], ◌∷◌, length, drop, drop-cons, length-drop, add-one, refl, sym, ap, ◌∙◌, arith}
+use Rattle.std.proofs.Common.{◌≡◌, ℕ, ◌+◌, ◌<◌, ◌≤◌, Bool, true, false, List, [], ◌∷◌, length, drop, length-drop, refl, sym, ap, ◌∙◌, arith}
 use Rattle.std.specs.Prelude.{Some, slice_get, ◌&&◌, Result, Ok, Err, is_ok}
-use Rattle.std.proofs.lemmas.Option.{get_or_from_slice_get}
+use Rattle.std.proofs.lemmas.List.{drop_all}
 use Rattle.byte_text.specs.Names.{Bytes, same}
 use Rattle.byte_text.specs.ByteOrder.{same_refl, same_equal}
 use Rattle.log_record.specs.Words.{same_words}
+use Rattle.cmd_words.specs.LeftWords.{one_less}
 use Rattle.record_words.specs.Reading.{BeginsNot, IsEnd, IsNotOne}
 use Rattle.record_words.specs.declared.faults.RecordFault.{RecordFault}
 use Rattle.record_words.specs.declared.faults.RecordFault.TheVariants.{NotRecord, Memory}
@@ -18,21 +19,12 @@ rests_same v w vs ws e = cc e
 pub nothing_is : (w : Bytes) (ws : List Bytes) → [] ≡ w ∷ ws → ⊥
 nothing_is w ws e = cc e
 
-one_less : (words : List Bytes) (read : ℕ) (w : Bytes) → read < length words → slice_get words read ≡ Some w → drop read words ≡ w ∷ drop (read + 1) words
-one_less words read w lt e = rw add-one (drop-cons words read w lt ∙ ap (λ v. v ∷ drop (suc read) words) (get_or_from_slice_get words read w w e))
-
-past : (words : List Bytes) (read : ℕ) → length words ≤ read → drop read words ≡ []
-past [] zero h = refl
-past [] (suc read) h = refl
-past (w ∷ words) zero h = absurd (omega arith)
-past (w ∷ words) (suc read) h = past words read (omega arith)
-
 module _ (words : List Bytes) (read : ℕ) (left : List Bytes) (is : drop read words ≡ left) where
   pub next_left : (w : Bytes) → read < length words → slice_get words read ≡ Some w → left ≡ w ∷ drop (read + 1) words
   next_left w lt e = sym is ∙ one_less words read w lt e
 
   pub none_left : length words ≤ read → left ≡ []
-  none_left h = sym is ∙ past words read h
+  none_left h = sym is ∙ drop_all read words h
 
   pub more_left : read < length words → left ≡ [] → ⊥
   more_left lt none =
@@ -74,7 +66,7 @@ module _ (words old left : List Bytes) (at : ℕ) (so_far : same_words words old
   goes_at w new lt g e = so_far ∙ ap (λ l. same_words l left) (one_less words at w lt g) ∙ same_next w (drop (at + 1) words) left new e
 
   pub ends_at : (r : Result (Unit {0}) RecordFault) (b : Bool) → length words ≤ at → IsEnd left r → b ≡ is_ok r → b ≡ same_words words old
-  ends_at r b le end is = is ∙ by left r end ∙ sym (so_far ∙ ap (λ l. same_words l left) (past words at le))
+  ends_at r b le end is = is ∙ by left r end ∙ sym (so_far ∙ ap (λ l. same_words l left) (drop_all at words le))
     where
       by : (l : List Bytes) (r : Result (Unit {0}) RecordFault) → IsEnd l r → is_ok r ≡ same_words [] l
       by l (Ok u) e = rw e refl

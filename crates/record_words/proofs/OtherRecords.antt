@@ -1,6 +1,7 @@
 -- The records of deletions and of channels' ends, and words that are no record.
 use Rattle.std.proofs.Common.{◌≡◌, Bool, true, false, List, [], ◌∷◌, refl, sym, ap, subst, ◌∙◌}
 use Rattle.std.specs.Prelude.{Option, Some, None, Result, Ok, Err, IfOk, IfErr, codes, ◌&&◌, if◌then◌else◌}
+use Rattle.std.proofs.lemmas.Bool.{and_from}
 use Rattle.byte_text.specs.Names.{Bytes, is_name, same}
 use Rattle.byte_text.specs.ByteOrder.{same_equal}
 use Rattle.byte_text.specs.Requests.{request_text}
@@ -14,7 +15,6 @@ use Rattle.record_words.specs.declared.faults.RecordFault.{RecordFault}
 use Rattle.record_words.specs.declared.faults.RecordFault.TheVariants.{NotRecord, Memory}
 use Rattle.record_words.specs.Reading.{BeginsNot, Reads, name_words, IsName, IsEnd, IsChangeOf}
 use Rattle.record_words.proofs.LeftWords.{rests_same}
-use Rattle.record_words.proofs.Parts.{both}
 
 -- a change that is not kept has no record
 not_kept : (words : List Bytes) (c : Change) → (is_kept c ≡ true → ⊥) → if_recorded words (Some c) ≡ None
@@ -52,7 +52,7 @@ module _ (old : List Bytes) where
 
       pub del_found : two ≡ [] → IsChangeOf (codes "DEL" ∷ old) (Ok (Del key id))
       del_found end =
-          let kept : is_kept (Del key id) ≡ true = both (is_name key) (is_name id) key_read.1 id_read.1 in
+          let kept : is_kept (Del key id) ≡ true = and_from (is_name key) (is_name id) key_read.1 id_read.1 in
           let words : old ≡ key ∷ id ∷ [] = key_read.0 ∙ ap (λ l. key ∷ l) (id_read.0 ∙ ap (λ l. id ∷ l) end) in
           subst (λ l. change_of_words (codes "DEL" ∷ l) ≡ Some (Del key id)) (sym words) (del_back key id kept)
 

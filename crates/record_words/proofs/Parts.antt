@@ -1,7 +1,8 @@
 -- One word is read, and the parts of a field.
-use Rattle.std.proofs.Common.{◌≡◌, ℕ, ℤ, pos, negsuc, ◌≤◌, Bool, List, [], ◌∷◌, true, refl, sym, ap, subst, ◌∙◌, arith}
-use Rattle.std.specs.Prelude.{Option, Some, None, Result, Ok, Err, int_le, nat_le, neg_ℤ, ◌-◌, ◌&&◌, ◌^◌}
+use Rattle.std.proofs.Common.{◌≡◌, ℤ, pos, negsuc, ◌≤◌, Bool, List, [], ◌∷◌, true, refl, sym, ap, subst, ◌∙◌, arith}
+use Rattle.std.specs.Prelude.{Option, Some, None, Result, Ok, Err, int_le, neg_ℤ, ◌-◌, ◌&&◌, ◌^◌}
 use Rattle.std.specs.Fmt.{signed_decimal}
+use Rattle.std.proofs.lemmas.Bool.{and_from, le-leb}
 use Rattle.std.proofs.lemmas.Bool.Decides.{nat_tests}
 use Rattle.byte_text.specs.Names.{Bytes, is_name, name_fault, IsNameOf}
 use Rattle.byte_text.specs.declared.texts.TextFault.{TextFault}
@@ -36,25 +37,19 @@ high z = int_le z (pos (2 ^ 63 - 1))
 pub name_kept : (f : Field) → IsValue f → IsName f.0
 name_kept f kept = first (is_name f.0) (low f.1) (first (is_name f.0 && low f.1) (high f.1) kept)
 
-pub both : (a b : Bool) → a ≡ true → b ≡ true → (a && b) ≡ true
-both a b e f = rw e f
-
 pub number_kept : (f : Field) → IsValue f → IsNumber f.1
-number_kept f kept = fits_of f.1 (both (low f.1) (high f.1) (second (is_name f.0) (low f.1) (first (is_name f.0 && low f.1) (high f.1) kept)) (second (is_name f.0 && low f.1) (high f.1) kept))
-
-pub le_true : (n m : ℕ) → n ≤ m → nat_le n m ≡ true
-le_true n m h = grind (arith, nat_tests)
+number_kept f kept = fits_of f.1 (and_from (low f.1) (high f.1) (second (is_name f.0) (low f.1) (first (is_name f.0 && low f.1) (high f.1) kept)) (second (is_name f.0 && low f.1) (high f.1) kept))
 
 low_of : (z : ℤ) → IsNumber z → low z ≡ true
 low_of (pos n) fits = refl
-low_of (negsuc n) fits = let limit = fits.sfits in let small : n ≤ 9223372036854775807 = grind arith in le_true n 9223372036854775807 small
+low_of (negsuc n) fits = let limit = fits.sfits in let small : n ≤ 9223372036854775807 = grind arith in le-leb n 9223372036854775807 small
 
 high_of : (z : ℤ) → IsNumber z → high z ≡ true
-high_of (pos n) fits = let limit = fits.sfits in let small : n ≤ 9223372036854775807 = grind arith in le_true n 9223372036854775807 small
+high_of (pos n) fits = let limit = fits.sfits in let small : n ≤ 9223372036854775807 = grind arith in le-leb n 9223372036854775807 small
 high_of (negsuc n) fits = refl
 
 pub kept_of : (f : Field) → IsName f.0 → IsNumber f.1 → IsValue f
-kept_of f is fits = both (is_name f.0 && low f.1) (high f.1) (both (is_name f.0) (low f.1) is (low_of f.1 fits)) (high_of f.1 fits)
+kept_of f is fits = and_from (is_name f.0 && low f.1) (high f.1) (and_from (is_name f.0) (low f.1) is (low_of f.1 fits)) (high_of f.1 fits)
 
 -- a field is read
 

@@ -2,7 +2,7 @@
 use Rattle.std.proofs.Common.{◌≡◌, ℕ, ◌≤◌, Bool, true, false, List, [], ◌∷◌, ◌++◌, refl, sym, ap, subst, ◌∙◌, append_assoc, arith}
 use Rattle.std.specs.Prelude.{Option, Some, None, IfNone, Result, Ok, Err, codes, decimal, ◌&&◌}
 use Rattle.std.specs.List.{list_all}
-use Rattle.std.proofs.lemmas.Bool.{leb-true}
+use Rattle.std.proofs.lemmas.Bool.{and_from, le-leb, leb-true}
 use Rattle.byte_text.specs.Names.{Bytes, is_name, same}
 use Rattle.byte_text.specs.ByteOrder.{same_refl}
 use Rattle.geo_text.specs.Texts.{Shape, shape_of}
@@ -22,7 +22,6 @@ use Rattle.record_words.specs.declared.faults.RecordFault.{RecordFault}
 use Rattle.record_words.specs.declared.faults.RecordFault.TheVariants.{NotRecord, Memory}
 use Rattle.record_words.specs.Reading.{BeginsNot, Reads, name_words, IsName, moment_words, IsMoment, AreKept, ReadsFields, ReadsDeadline, IsNotOne, ReadsText, IsPlaceOf, IsChangeOf, one_word, text_words}
 use Rattle.record_words.proofs.LeftWords.{heads_same, rests_same}
-use Rattle.record_words.proofs.Parts.{both, le_true}
 use Rattle.record_words.proofs.FieldLists.{texts, fields_same}
 
 -- words that are written out
@@ -50,7 +49,7 @@ module _ (old mid : List Bytes) (begins : old ≡ codes "AT" ∷ mid) where
   moment_refused new Memory none = tt
 
   pub moment_found : (n : ℕ) (new : List Bytes) → Reads moment_words IsMoment mid new (Ok n) → ReadsDeadline old new (Ok (Some n))
-  moment_found n new read = let lt = read.1 in (begins ∙ ap (λ l. codes "AT" ∷ l) read.0, le_true n 18446744073709551615 (omega (arith, lt)), tt)
+  moment_found n new read = let lt = read.1 in (begins ∙ ap (λ l. codes "AT" ∷ l) read.0, le-leb n 18446744073709551615 (omega (arith, lt)), tt)
 
 -- the deadline and what is behind it are the same in every reading
 deadline_same : (d e : Option ℕ) (x y : List Bytes) → IfNone d (BeginsNot (codes "AT") x) → BeginsNot (codes "AT") y → deadline_words d ++ x ≡ deadline_words e ++ y → x ≡ y
@@ -144,9 +143,9 @@ module _ (o : Object) (kept : is_kept (Put o) ≡ true) where
 
 pub all_kept : (o : Object) → IsName o.key → IsName o.id → AreKept o.fields → is_kept_deadline o.deadline ≡ true → is_kept (Put o) ≡ true
 all_kept o key id fields deadline =
-    both (is_name o.key && is_name o.id && are_fields o.fields && list_all is_kept_field o.fields) (is_kept_deadline o.deadline)
-    (both (is_name o.key && is_name o.id && are_fields o.fields) (list_all is_kept_field o.fields)
-    (both (is_name o.key && is_name o.id) (are_fields o.fields) (both (is_name o.key) (is_name o.id) key id) fields.ordered) fields.kept) deadline
+    and_from (is_name o.key && is_name o.id && are_fields o.fields && list_all is_kept_field o.fields) (is_kept_deadline o.deadline)
+    (and_from (is_name o.key && is_name o.id && are_fields o.fields) (list_all is_kept_field o.fields)
+    (and_from (is_name o.key && is_name o.id) (are_fields o.fields) (and_from (is_name o.key) (is_name o.id) key id) fields.ordered) fields.kept) deadline
 
 -- what is behind the fields begins with no field, and what is behind the deadline with none
 no_field_behind : (d : Option ℕ) (text : Bytes) → BeginsNot (codes "FIELD") (deadline_words d ++ text_words text)

@@ -31,9 +31,10 @@ use Rattle.world_model.specs.declared.commands.Command.TheVariants as command
 use Rattle.log_record.specs.Words.{IsRecorded, SettingsAreNormal}
 use Rattle.log_record.specs.RecordsRead.{fits_of}
 use Rattle.log_record.specs.RecordsBack.{channel_back, near_back}
+use Rattle.cmd_words.specs.SmallWords.{IsSmall, AreSmall, small, small_name, small_append, AreLight, light_of, light_append}
 use Rattle.record_words.specs.Reading.{IsName, IsNumber}
 use Rattle.record_words.specs.Recorded.{SettingsAreRecorded}
-use Rattle.record_words.proofs.Sizes.{IsSmall, AreSmall, small, small_name, small_number, small_append, AreLight, light_of, light_append, light_text, light_fits}
+use Rattle.record_words.proofs.Sizes.{small_number, light_text, light_fits}
 use Rattle.record_words.proofs.Costs.{Counts, Costs, costs_done, costs_none, costs_or, costs_where, costs_word, costs_bind, costs_then}
 use Rattle.record_words.proofs.SettingWords.{costs_whole, costs_meters, costs_name, costs_glob, options_count, AreFine, with_options, costs_options, options_few, options_small}
 

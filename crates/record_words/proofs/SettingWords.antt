@@ -1,9 +1,10 @@
 -- The normal words of a setting are short, and no more than the words that spell it.
-use Rattle.std.proofs.Common.{◌≡◌, ℕ, ℤ, pos, negsuc, suc, ◌+◌, ◌-◌, ◌^◌, ◌≤◌, Bool, true, false, List, [], ◌∷◌, ◌++◌, length, map, refl, sym, ap, subst, arith, length-append}
+use Rattle.std.proofs.Common.{◌≡◌, ℕ, ℤ, pos, negsuc, ◌+◌, ◌-◌, ◌^◌, ◌≤◌, Bool, true, false, List, [], ◌∷◌, ◌++◌, length, map, refl, sym, ap, subst, arith, length-append}
 use Rattle.std.specs.Prelude.{Option, Some, None, IfSome, codes, decimal, filter, flat_map, nat_le, int_le, neg_ℤ, option_and_then, ◌&&◌, not, is_none, if◌then◌else◌, nat_lt}
 use Rattle.std.specs.Fmt.{signed_decimal}
 use Rattle.std.specs.List.{AllByRecursion, list_all}
 use Rattle.std.proofs.lemmas.Bool.{leb-true}
+use Rattle.std.proofs.lemmas.List.{length-map}
 use Rattle.byte_text.specs.Names.{Bytes, is_name}
 use Rattle.byte_text.specs.Numbers.{whole, natural, whole_within, natural_within}
 use Rattle.byte_text.specs.Globs.{is_well_formed}
@@ -15,8 +16,10 @@ use Rattle.world_model.specs.Grammar.{Due, a_word, Form, ◌>>=◌, ◌>>◌, �
 use Rattle.world_model.specs.Kinds.{when, name, glob, integer, between, meters, bound, bound_of, list_of}
 use Rattle.world_model.specs.Commands as table
 use Rattle.log_record.specs.RecordsRead.{first, second, fits_of}
+use Rattle.cmd_words.specs.ReadLaws.{when_is}
+use Rattle.cmd_words.specs.SmallWords.{IsSmall, AreSmall, small, small_name, small_decimal, small_append}
 use Rattle.record_words.specs.Reading.{IsName, IsNumber}
-use Rattle.record_words.proofs.Sizes.{IsSmall, AreSmall, small, small_name, small_decimal, small_number, small_append}
+use Rattle.record_words.proofs.Sizes.{small_number}
 use Rattle.record_words.proofs.Costs.{Costs, costs_done, costs_none, costs_or, costs_where, costs_word, costs_bind, costs_then, costs_repeated, AreSo, costs_times}
 
 -- numbers
@@ -67,17 +70,13 @@ costs_meters before = costs_between before 0 max_meters refl
 
 -- names
 
-when_so : {A : Type 0} (t : Bool) (a b : A) → when t a ≡ Some b → (t ≡ true) × (a ≡ b)
-when_so true a b e = (refl, cc e)
-when_so false a b e = absurd (cc e)
-
 pub costs_name : (before : ℕ) → Costs before (λ n. before + 1) IsName name
 costs_name before = costs_word before (λ n. before + 1) IsName a_word (λ w. when (is_name w) w) (λ w n short e.
-    let is = when_so (is_name w) w n e in (omega arith, subst IsName is.1 is.0))
+    let is = when_is (is_name w) w n e in (omega arith, subst IsName is.1 is.0))
 
 pub costs_glob : (before : ℕ) → Costs before (λ n. before + 1) IsSmall glob
 costs_glob before = costs_word before (λ n. before + 1) IsSmall a_word (λ w. when (is_name w && is_well_formed w) w) (λ w n short e.
-    let is = when_so (is_name w && is_well_formed w) w n e in (omega arith, subst IsSmall is.1 (small_name w (first (is_name w) (is_well_formed w) is.0))))
+    let is = when_is (is_name w && is_well_formed w) w n e in (omega arith, subst IsSmall is.1 (small_name w (first (is_name w) (is_well_formed w) is.0))))
 
 -- tests
 
@@ -102,10 +101,6 @@ numbers_small : (values : List ℤ) → AllByRecursion IsNumber values → AreSm
 numbers_small [] fit = tt
 numbers_small (z ∷ values) fit = (small_number z fit.0, numbers_small values fit.1)
 
-numbers_count : (values : List ℤ) → length (map signed_decimal values) ≡ length values
-numbers_count [] = refl
-numbers_count (z ∷ values) = ap suc (numbers_count values)
-
 module _ (before : ℕ) where
   abbrev with_test : Test → ℕ
   with_test t = before + length (table.test_words t)
@@ -126,7 +121,7 @@ module _ (before : ℕ) where
       costs_bind (before + 1 + 1) (λ k. before + 1 + 1 + 1) (λ k. IsSmall (decimal k)) with_test IsSmallTest (between 1 max_values) _ (costs_between (before + 1 + 1) 1 max_values refl) (λ count counted.
       costs_bind (before + 1 + 1 + 1) (λ values. before + 1 + 1 + 1 + count) (AreSo IsNumber count) with_test IsSmallTest (times count integer) _
       (costs_times IsNumber integer costs_integer count (before + 1 + 1 + 1)) (λ values are.
-      let many = numbers_count values in
+      let many = length-map values signed_decimal in
       let so = are.0 in
       costs_done (before + 1 + 1 + 1 + count) with_test IsSmallTest (Among n values) (omega (arith, many, so))
       (small (codes "WHEREIN") refl, (small_name n named, (subst (λ k. IsSmall (decimal k)) (sym so) counted, numbers_small values are.1)))))))

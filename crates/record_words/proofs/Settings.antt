@@ -12,6 +12,7 @@ use Rattle.world_model.specs.declared.commands.Command.{Command}
 use Rattle.world_model.specs.declared.commands.Command.TheVariants as command
 use Rattle.world_model.specs.declared.faults.WordFault.{WordFault}
 use Rattle.cmd_words.specs.Progress.{IfRefused}
+use Rattle.cmd_words.specs.ReadLaws.{ok_spelled}
 use Rattle.cmd_words.specs.declared.faults.CommandFault.{CommandFault}
 use Rattle.cmd_words.specs.declared.faults.CommandFault.TheVariants.{Refused}
 use Rattle.log_record.specs.Words.{change_of_words, if_recorded, settled, same_words}
@@ -25,10 +26,6 @@ by_spelling behind = refl
 
 spelled : (words behind : List Bytes) → words ≡ codes "SETCHAN" ∷ behind → change_of_words words ≡ if_recorded words (settled (command_spelled words))
 spelled words behind is = subst (λ w. change_of_words w ≡ if_recorded w (settled (command_spelled w))) (sym is) (by_spelling behind)
-
-ok_spelled : (words : List Bytes) (o : Option Command) (c : Command) → ok_or_fault words o ≡ Ok c → o ≡ Some c
-ok_spelled words (Some d) c e = ap Some (cc e)
-ok_spelled words None c e = absurd (cc e)
 
 none_spelled : (words : List Bytes) (o : Option Command) (f : WordFault) → ok_or_fault words o ≡ Err f → o ≡ None
 none_spelled words (Some d) f e = absurd (cc e)

@@ -1,12 +1,12 @@
 -- How long the records of objects and of deletions are, so that they fit a request.
 use Rattle.std.proofs.Common.{◌≡◌, ℕ, ℤ, pos, negsuc, suc, ◌+◌, ◌*◌, ◌^◌, ◌<◌, ◌≤◌, true, List, [], ◌∷◌, ◌++◌, length, refl, sym, ap, subst, arith, append_assoc, length-append}
-use Rattle.std.specs.Prelude.{Option, Some, None, Ok, codes, decimal, nat_le}
+use Rattle.std.specs.Prelude.{Option, Some, None, Ok, codes, nat_le}
 use Rattle.std.specs.Fmt.{signed_decimal}
-use Rattle.std.specs.List.{AllByRecursion, list_all}
+use Rattle.std.specs.List.{list_all}
 use Rattle.std.proofs.lemmas.Bool.{leb-true}
 use Rattle.std.proofs.lemmas.Fmt.{length-decimal-le}
 use Rattle.byte_text.specs.Names.{Bytes, is_name}
-use Rattle.byte_text.specs.Requests.{IsRequest, AreShort, total, max_word}
+use Rattle.byte_text.specs.Requests.{IsRequest, max_word}
 use Rattle.geo_text.specs.Texts.{shape_of}
 use Rattle.ordered_lists.specs.Reading.{both_of}
 use Rattle.world_data.specs.Filters.{Field}
@@ -17,34 +17,12 @@ use Rattle.log_record.specs.Words.{IsRecorded, is_kept, is_kept_field, is_kept_d
 use Rattle.log_record.specs.RecordsRead.{record_read}
 use Rattle.log_record.specs.RecordsBack.{object_back, del_back, drop_back, flush_back, delchan_back}
 use Rattle.cmd_words.specs.ShortRequests.{total_short, each_short}
-use Rattle.record_words.specs.Reading.{IsName, IsNumber}
+use Rattle.cmd_words.specs.SmallWords.{IsSmall, AreSmall, small, small_name, small_decimal, small_append, total_append, short_append, short_back, AreLight}
+use Rattle.record_words.specs.Reading.{IsNumber}
 use Rattle.record_words.specs.Recorded.{ChangesAreRecorded, most_fields}
 use Rattle.record_words.proofs.Parts.{name_kept, number_kept}
 use Rattle.record_words.proofs.FieldLists.{texts}
 use Rattle.record_words.proofs.PutParts.{key_kept, id_kept, fields_kept, deadline_kept, all_kept}
-
-abbrev pub IsSmall : Bytes → Type 0
-IsSmall w = length w ≤ 255
-
-abbrev pub AreSmall : List Bytes → Type 0
-AreSmall words = AllByRecursion IsSmall words
-
-pub small_append : (xs ys : List Bytes) → AreSmall xs → AreSmall ys → AreSmall (xs ++ ys)
-small_append [] ys p q = q
-small_append (x ∷ xs) ys p q = (p.0, small_append xs ys p.1 q)
-
--- a word that is written out
-pub small : (w : Bytes) → nat_le (length w) 255 ≡ true → IsSmall w
-small w e = leb-true (length w) 255 e
-
-pub small_name : (w : Bytes) → IsName w → IsSmall w
-small_name w e =
-    let h = both_of _ _ e in
-    let k = both_of _ _ h.0 in
-    small w k.1
-
-pub small_decimal : (n : ℕ) → n < 2 ^ 64 → IsSmall (decimal n)
-small_decimal n lt = let l = length-decimal-le 20 n (omega arith) (omega (arith, lt)) (omega (arith, lt)) in omega (arith, l)
 
 pub small_number : (z : ℤ) → IsNumber z → IsSmall (signed_decimal z)
 small_number (pos n) fits = let limit = fits.sfits in let lt : n < 2 ^ 64 = grind arith in small_decimal n lt
@@ -72,18 +50,6 @@ deadline_count : (d : Option ℕ) → length (deadline_words d) ≤ 2
 deadline_count None = omega arith
 deadline_count (Some n) = omega arith
 
-total_append : (xs ys : List Bytes) → total (xs ++ ys) ≡ total xs + total ys
-total_append [] ys = omega arith
-total_append (x ∷ xs) ys = let ih = total_append xs ys in omega (arith, ih)
-
-short_append : (xs ys : List Bytes) → AreShort xs → AreShort ys → AreShort (xs ++ ys)
-short_append [] ys p q = q
-short_append (x ∷ xs) ys p q = (p.0, short_append xs ys p.1 q)
-
-short_back : (xs ys : List Bytes) → AreShort (xs ++ ys) → AreShort ys
-short_back [] ys s = s
-short_back (x ∷ xs) ys s = short_back xs ys s.1
-
 -- words of at most 255 bytes, and one that may be longer
 pub behind_small : (front : List Bytes) (text : Bytes) → AreSmall front → length front ≤ 4095 → length text ≤ max_word → IsRequest (front ++ text ∷ [])
 behind_small front text s few short =
@@ -99,21 +65,7 @@ behind_small front text s few short =
       };
     }
 
--- words of which one may be as long as a word can be, and the others small
-abbrev pub AreLight : List Bytes → Type 0
-AreLight words = AreShort words × (total words ≤ 255 * length words + max_word)
-
-pub light_of : (words : List Bytes) → AreSmall words → AreLight words
-light_of words s = let t = total_short words s in (each_short words s, omega (arith, t))
-
-pub light_append : (xs ys : List Bytes) → AreSmall xs → AreLight ys → AreLight (xs ++ ys)
-light_append xs ys s light =
-    let t = total_append xs ys in
-    let m = total_short xs s in
-    let n = length-append xs ys in
-    let l = light.1 in
-    (short_append xs ys (each_short xs s) light.0, omega (arith, t, m, n, l))
-
+-- words of which one may be as long as a word can be
 pub light_text : (called text : Bytes) → IsSmall called → length text ≤ max_word → AreLight (called ∷ text ∷ [])
 light_text called text s short = ((omega (arith, s), (short, tt)), omega (arith, s, short))
 
