@@ -8,6 +8,7 @@ use Rattle.world_model.specs.declared.events.Called.{Called}
 use Rattle.world_model.specs.declared.events.Called.TheVariants as called
 use Rattle.world_model.specs.declared.events.Event.TheVariants as event
 use Rattle.world_model.specs.Seats.{Knows, Act}
+use Rattle.session_run.specs.CauseLaws.{rose_later}
 use Rattle.session_run.specs.Gains.{Gains, gains_more}
 use Rattle.serve_run.specs.declared.starts.Fate.{Fate}
 use Rattle.serve_run.specs.declared.tends.ServeEnd.{ServeEnd}
@@ -206,9 +207,6 @@ full_round told limit old new r all = record { last = []; lost = false; rounds =
 
 pub memory_round : (told : Option ℕ) (limit : ℕ) (old new : State) → new.knows ≡ old.knows → Idles old new false → new.joined ≤ limit → ServesLinks told limit old new end.Memory
 memory_round told limit old new same i w = record { last = []; lost = false; rounds = last_round told old new [] false same i; is_lost = refl; ended = inr refl; within = w }
-
-rose_later : (x y z : ℕ) → x ≤ y → Rose y z → Rose x z
-rose_later x y z h r = omega (arith, h, r)
 
 ends_more : (e : ServeEnd) (told : Option ℕ) (limit : ℕ) (last : List Act) (old mid new : State) → mid.ends ≡ old.ends → old.faults ≤ mid.faults → EndsBy e told limit last mid new → EndsBy e told limit last old new
 ends_more end.Done told limit last old mid new same later e = (e.0, subst (λ (k : ℕ). Rose k new.ends ⊎ (new.joined ≡ limit)) same e.1)

@@ -9,6 +9,7 @@ use Rattle.world_model.specs.declared.events.EnterFault.TheVariants as refused
 use Rattle.world_model.specs.declared.events.Called.TheVariants as called
 use Rattle.world_model.specs.declared.events.Event.TheVariants as event
 use Rattle.world_model.specs.declared.events.Outcome.TheVariants as outcome
+use Rattle.session_run.specs.CauseLaws.{rose_later}
 use Rattle.session_run.specs.Gains.{Gains, gains_more, gains_one, made}
 use Rattle.serve_run.specs.declared.starts.Fate.{Fate}
 use Rattle.serve_run.specs.declared.starts.Fate.TheVariants.{Refused, Unread, Dropped, Starved}
@@ -16,9 +17,6 @@ use Rattle.serve_run.specs.Links.{Starts, Joins, start_acts}
 
 none_refused : (faults : ℕ) → min (faults + 0) most_count ≤ faults
 none_refused faults = omega arith
-
-one_refused : (a b c : ℕ) → a ≤ b → Rose b c → min (a + 1) most_count ≤ c
-one_refused a b c h r = omega (arith, h, r)
 
 -- the session was removed for want of memory
 pub starts_none : (n : ℕ) (old new : Knows) (jobs faults : ℕ) → Adds (event.Remove n) outcome.Done old new → Starts n old new jobs jobs faults faults Starved
@@ -35,7 +33,7 @@ starts_dropped n old mid new jobs jobs' faults faults' same a j r = record {
   gains = subst (λ (k : Knows). Gains k new ((event.Remove n, outcome.Done) ∷ [])) same (gains_one mid new (event.Remove n, outcome.Done) (made (event.Remove n) outcome.Done mid new a));
   entered = refl;
   jobs_are = j;
-  refused = one_refused faults faults faults' (omega arith) r;
+  refused = rose_later faults faults faults' (omega arith) r;
 }
 
 -- the second job was refused
@@ -44,7 +42,7 @@ starts_unread n old mid new jobs j1 j2 faults f1 f2 same a j k h r = record {
   gains = subst (λ (k : Knows). Gains k new ((event.Remove n, outcome.Done) ∷ [])) same (gains_one mid new (event.Remove n, outcome.Done) (made (event.Remove n) outcome.Done mid new a));
   entered = refl;
   jobs_are = k ∙ j;
-  refused = one_refused faults f1 f2 h r;
+  refused = rose_later faults f1 f2 h r;
 }
 
 pub joins_entered : (n : ℕ) (old mid new : Knows) (jobs jobs' faults faults' : ℕ) (fate : Fate) → Adds event.Enter (outcome.Entered n) old mid → Starts n mid new jobs jobs' faults faults' fate → Joins old new jobs jobs' faults faults' fate

@@ -1,7 +1,8 @@
 -- Calls one behind another.
 use Rattle.std.proofs.Common.{◌≡◌, ◌≤◌, ◌<◌, ◌+◌, ℕ, zero, suc, Bool, true, false, List, [], ◌∷◌, ◌++◌, length, take, drop, refl, sym, ap, ◌∙◌, subst, arith, append_assoc, length-drop, length-append}
-use Rattle.std.specs.Prelude.{Option, Some, None, MatchOption, map, slice_get, ◌&&◌, ◌||◌}
+use Rattle.std.specs.Prelude.{Option, Some, None, MatchOption, map, slice_get, ◌||◌}
 use Rattle.std.specs.List.{list_all, list_any}
+use Rattle.ordered_lists.specs.Reading.{both_of}
 use Rattle.world_model.specs.Outcomes.{is_proper}
 use Rattle.world_model.specs.declared.events.Asked.{Asked}
 use Rattle.world_model.specs.declared.events.Called.{Called}
@@ -74,12 +75,7 @@ drop_none (a ∷ asks) = drop_none asks
 proper_drop : (asks : List Asked) (n : ℕ) → list_all is_proper asks ≡ true → list_all is_proper (drop n asks) ≡ true
 proper_drop asks zero h = h
 proper_drop [] (suc n) h = h
-proper_drop (a ∷ asks) (suc n) h = proper_drop asks n (rest (is_proper a) (list_all is_proper asks) h)
-  where
-    rest : (x y : Bool) → (x && y) ≡ true → y ≡ true
-    rest true y k = k
-    rest false true k = refl
-    rest false false k = k
+proper_drop (a ∷ asks) (suc n) h = proper_drop asks n (both_of (is_proper a) (list_all is_proper asks) h).1
 
 pub some_acts : (n m : ℕ) (asks : List Asked) (served : ℕ) (end : Called) → 0 < length asks → IsCount served end (length asks) → 0 < length (call_acts n m asks served end)
 some_acts n m [] served end some count = absurd (omega (arith, some))

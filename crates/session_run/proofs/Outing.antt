@@ -11,6 +11,7 @@ use Rattle.outside.specs.Causes.{Rose}
 use Rattle.world_model.specs.Seats.{Knows, Act, Adds}
 use Rattle.world_model.specs.declared.events.Event.TheVariants as event
 use Rattle.world_model.specs.declared.events.Outcome.TheVariants as outcome
+use Rattle.session_run.specs.CauseLaws.{rose_later}
 use Rattle.session_run.specs.Gains.{Gains, Makes, gains_more, gains_last, gains_one, made}
 use Rattle.session_run.specs.declared.outs.OutEnd.{OutEnd}
 use Rattle.session_run.specs.declared.outs.OutEnd.TheVariants.{Ended, WriteFault, LogFault, Stopped}
@@ -49,9 +50,6 @@ wrote_more LogFault held0 held held' a b p w = appends_more held0 held held' a b
 wrote_more Stopped held0 held held' a b p w = appends_more held0 held held' a b p w
 wrote_more WriteFault held0 held held' a b p w = (a ++ w.0, (w.1.0, append_assoc a w.0 w.1.0 ∙ ap (λ (l : List ℕ). a ++ l) w.1.1), appends_more held0 held held' a w.0 p w.2)
 
-rose : (a b c : ℕ) → a ≤ b → Rose b c → Rose a c
-rose a b c h r = omega (arith, h, r)
-
 pub going_last : (n : ℕ) (old mid new : Knows) (held0 held held' : Option (List ℕ)) (faults0 faults faults' : ℕ) (end : OutEnd)
     → Going n old mid held0 held faults0 faults → TakesLast n mid new held held' faults faults' end → WritesSession n old new held0 held' faults0 faults' end
 going_last n old mid new held0 held held' faults0 faults faults' end g t =
@@ -67,7 +65,7 @@ going_last n old mid new held0 held held' faults0 faults faults' end g t =
       went_on = g.went_on;
       is_last = t.is_last;
       wrote = subst (λ (l : List ℕ). Wrote end held0 held' l) (sym (bytes_snoc g.takes t.taken)) (wrote_more end held0 held held' (bytes_given g.takes) (given_bytes t.taken) g.wrote t.wrote);
-      cause = λ is. rose faults0 faults faults' a (t.cause is);
+      cause = λ is. rose_later faults0 faults faults' a (t.cause is);
       later = omega (arith, a, b);
       legal = t.legal;
     }
@@ -126,7 +124,7 @@ module _ (n : ℕ) (held0 held held' : Option (List ℕ)) (faults0 faults faults
         is_last = t.is_last;
         wrote = subst (λ (l : List ℕ). Wrote end held0 held' l) (sym (ap bytes_given same ∙ flat_map-append given_bytes g.takes all))
             (wrote_more end held0 held held' (bytes_given g.takes) (bytes_given all) g.wrote t.wrote);
-        cause = λ is. rose faults0 faults faults' x (t.cause is);
+        cause = λ is. rose_later faults0 faults faults' x (t.cause is);
         later = omega (arith, x, y);
       }
 

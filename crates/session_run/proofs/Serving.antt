@@ -14,6 +14,7 @@ use Rattle.world_model.specs.declared.events.Called.TheVariants as called
 use Rattle.world_model.specs.declared.events.Event.TheVariants as event
 use Rattle.world_model.specs.declared.events.Outcome.TheVariants as outcome
 use Rattle.world_model.specs.Seats.{Knows, Act, Adds}
+use Rattle.session_run.specs.CauseLaws.{rose_later}
 use Rattle.session_run.specs.Gains.{Gains, GainsBoth, SeesLegal, gains_one, made}
 use Rattle.session_run.proofs.Mixing.{both_none, both_more, both_calls, both_takes}
 use Rattle.session_run.specs.Calls.{Call, call_of, Serves, IsStop, ServesList}
@@ -196,9 +197,6 @@ reading_on n told old mid new a b c x y z held held' k l r t =
       later = omega (arith, before, now);
     }
 
-rose : (a b c : ℕ) → a ≤ b → Rose b c → Rose a c
-rose a b c h r = omega (arith, h, r)
-
 pub reading_last : (n : ℕ) (told : Option ℕ) (old mid new : Knows) (a b c : Option Bytes) (x y z : ℕ) (held : Held) (end : InEnd) (k l : List Act) → Reading n told old mid a b x y held k → BlockLast n told mid new b c y z held end l → ReadsOn n told old new a c x z end (k ++ l)
 reading_last n told old mid new a b c x y z held end k l r t =
     let before : x ≤ y = r.later in
@@ -215,7 +213,7 @@ reading_last n told old mid new a b c x y z held end k l r t =
       serves = subst (λ (l : List Asked). Serves told (p.calls ++ t.calls) l t.unasked) (sym all) (serves_behind told p.calls t.calls p.asks (asked_behind held t.block) t.unasked p.serves t.serves);
       ends = subst (λ (l : List Asked). EndsAt told end t.stop l t.unasked) (sym all) (ends_behind told end t.stop p.asks (asked_behind held t.block) t.unasked t.ends);
       at_end = t.at_end;
-      cause = λ is. rose x y z before (t.cause is);
+      cause = λ is. rose_later x y z before (t.cause is);
       later = omega (arith, before, now);
     }
 

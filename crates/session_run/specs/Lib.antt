@@ -5,3 +5,4 @@ pub mod Feeds
 pub mod Ends
 pub mod Writings
 pub mod Jobs
+pub mod CauseLaws
