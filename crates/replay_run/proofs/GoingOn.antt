@@ -1,7 +1,7 @@
 -- A hall that goes on goes on behind an event, unless the log failed or it was retired; and what its answers say.
-use Rattle.std.proofs.Common.{◌≡◌, ◌≢◌, ◌≤◌, ℕ, ◌+◌, Bool, true, false, refl, sym, ap, subst, ◌∙◌, List, [], ◌∷◌, inl, inr, arith}
-use Rattle.std.specs.Prelude.{Option, Some, None, nat_le, max, map, if◌then◌else◌}
-use Rattle.std.proofs.lemmas.Bool.Decides.{nat_tests}
+use Rattle.std.proofs.Common.{◌≡◌, ◌≢◌, ℕ, ◌+◌, Bool, true, false, refl, sym, ap, subst, ◌∙◌, List, [], ◌∷◌, inl, inr}
+use Rattle.std.specs.Prelude.{Option, Some, None, max, map, if◌then◌else◌}
+use Rattle.std.proofs.lemmas.Bool.{leb-true}
 use Rattle.byte_text.specs.Names.{Bytes}
 use Rattle.fence_model.specs.Writes.{Write, dels}
 use Rattle.world_data.specs.Expiry.{expired}
@@ -171,9 +171,6 @@ not_found_stopped h next e o goes s = going_not h next e o (while_going h.stoppe
 
 -- what is answered where the log is at its greatest length
 
-long_log : (a b : ℕ) → nat_le a b ≡ true → a ≤ b
-long_log a b t = grind (arith, nat_tests)
-
 not_spent : (h : Hall) (e : Event) → (doing h e).0 ≢ answer called.Spent
 not_spent h Enter is = cc
 not_spent h (Call n m asked) is = cc
@@ -219,4 +216,4 @@ going_short h next Retire s = done_short h next Retire s
 pub found_spent : (h next : Hall) (e : Event) → h.stopped ≡ false → Step h e (answer called.Spent) next → IsSpent h e × (next ≡ h)
 found_spent h next e goes s =
     let long = going_short h next e (while_going h.stopped h next e (answer called.Spent) goes s) in
-    (record { long = long_log most_logged h.logged long.0; step = subst (λ (z : Hall). Step h e (answer called.Spent) z) long.1 s }, long.1)
+    (record { long = leb-true most_logged h.logged long.0; step = subst (λ (z : Hall). Step h e (answer called.Spent) z) long.1 s }, long.1)

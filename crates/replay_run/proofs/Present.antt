@@ -69,9 +69,3 @@ none_found n [] e = (refl, refl)
 none_found n (r ∷ readers) e =
     let all : length (r ∷ readers) ≤ position_or_len (is_of n) (r ∷ readers) = none_by (position_or_len (is_of n) (r ∷ readers)) (length (r ∷ readers)) (nat_lt (position_or_len (is_of n) (r ∷ readers)) (length (r ∷ readers))) refl (sym e) in
     none_of n (r ∷ readers) r (λ k l. fails_before_first (is_of n) (r ∷ readers) k r (omega (arith, l, all)))
-
--- what is read at a place where something stands
-pub read_at : {A : Type 0} (xs : List A) (i : ℕ) (x d : A) → slice_get xs i ≡ Some x → get_or xs i d ≡ x
-read_at [] i x d at = absurd (cc)
-read_at (y ∷ ys) zero x d at = let is : y ≡ x = cc in is
-read_at (y ∷ ys) (suc i) x d at = read_at ys i x d at

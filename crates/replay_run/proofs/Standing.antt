@@ -1,8 +1,7 @@
 -- A disk stays safe over the calls of a core, for a run that shows all that was made.
 use Rattle.std.proofs.Common.{◌≡◌, ◌≤◌, ◌<◌, ◌^◌, ◌+◌, ◌-◌, ◌⊎◌, ◌||◌, ℕ, Bool, true, false, List, [], ◌∷◌, ◌++◌, length, refl, sym, ap, subst, ◌∙◌, arith, inl, inr, append_assoc, length-append}
 use Rattle.std.specs.Prelude.{Option, min, nat_lt}
-use Rattle.std.proofs.lemmas.Bool.{ltb-false}
-use Rattle.std.proofs.lemmas.Bool.Decides.{nat_tests}
+use Rattle.std.proofs.lemmas.Bool.{ltb-true, ltb-false}
 use Rattle.std.proofs.lemmas.List.{append-nil}
 use Rattle.std.proofs.Math.Nat.{min-le_left, min-le_right, le-min, min-eq_left, min-eq_right}
 use Rattle.outside.specs.Causes.{most_count, Rose}
@@ -117,10 +116,7 @@ pub counted_later : (a b : ℕ) → a ≤ b → min a most_count ≤ min b most_
 counted_later a b le = let left = min-le_left a most_count in le-min (omega (arith, left, le)) (min-le_right a most_count)
 
 one_of : (t : Bool) (a b : ℕ) → nat_lt a b ≡ t → (min a b ≡ a) ⊎ (min a b ≡ b)
-one_of true a b e = let less : a < b = nat_lt_is a b e in inl (min-eq_left (omega (arith, less)))
-  where
-    nat_lt_is : (a b : ℕ) → nat_lt a b ≡ true → a < b
-    nat_lt_is a b e = grind (arith, nat_tests)
+one_of true a b e = let less : a < b = ltb-true a b e in inl (min-eq_left (omega (arith, less)))
 one_of false a b e = inr (min-eq_right (ltb-false a b e))
 
 count_rose : (c a b : ℕ) → c ≤ min a most_count → Rose a b → (c < min b most_count) ⊎ (min b most_count ≡ 2 ^ 64 - 1)
