@@ -1,8 +1,9 @@
 -- Calls one behind another.
 use Rattle.std.proofs.Common.{◌≡◌, ◌≢◌, ◌<◌, ℕ, zero, suc, ◌+◌, Bool, true, false, true≢false, List, [], ◌∷◌, ◌++◌, map, take, drop, refl, sym, ap, ◌∙◌, arith}
-use Rattle.std.specs.Prelude.{Some, slice_get, ◌&&◌}
+use Rattle.std.specs.Prelude.{Some, slice_get}
 use Rattle.std.specs.List.{list_all}
 use Rattle.std.proofs.lemmas.List.{append-nil}
+use Rattle.ordered_lists.specs.Reading.{all_at}
 use Rattle.world_model.specs.Halls.{Hall, session_of, NamesChanged}
 use Rattle.world_model.specs.Seats.{Act}
 use Rattle.world_model.specs.Outcomes.{is_proper, call_act, last_call, call_acts, IsCount}
@@ -20,15 +21,8 @@ next_of f (y ∷ xs) (suc i) x at = ap (λ (zs : List Act). f y ∷ zs) (next_of
 pub next_call : (f : Asked → Act) (xs : List Asked) (i : ℕ) (x : Asked) → slice_get xs i ≡ Some x → map f (take i xs) ++ f x ∷ [] ≡ map f (take (i + 1) xs)
 next_call f xs i x at = let one : suc i ≡ i + 1 = omega arith in next_of f xs i x at ∙ ap (λ (n : ℕ). map f (take n xs)) one
 
-both : (a b : Bool) → (a && b) ≡ true → (a ≡ true) × (b ≡ true)
-both true true e = (refl, refl)
-both true false e = absurd (true≢false (sym e))
-both false b e = absurd (true≢false (sym e))
-
 pub is_proper_at : (xs : List Asked) (i : ℕ) (x : Asked) → list_all is_proper xs ≡ true → slice_get xs i ≡ Some x → is_proper x ≡ true
-is_proper_at [] i x all at = absurd (cc)
-is_proper_at (y ∷ xs) zero x all at = let is : y ≡ x = cc in ap is_proper (sym is) ∙ (both (is_proper y) (list_all is_proper xs) all).0
-is_proper_at (y ∷ xs) (suc i) x all at = is_proper_at xs i x (both (is_proper y) (list_all is_proper xs) all).1 at
+is_proper_at xs i x all at = all_at is_proper xs i x at all
 
 last_one : (n m : ℕ) (end : Called) (x : Asked) (xs : List Asked) → end ≢ called.Ok → last_call n m end (x ∷ xs) ≡ call_act n m end x ∷ []
 last_one n m called.Ok x xs not_ok = absurd (not_ok refl)

@@ -1,7 +1,8 @@
 -- Two seats of one hall, and what they show together.
 use Rattle.std.proofs.Common.{◌≡◌, ◌⊎◌, ◌<◌, ℕ, Bool, true, false, List, [], ◌∷◌, length, refl, sym, ap, ◌∙◌, subst, inl, inr, ⊎_elim, true≢false, arith}
-use Rattle.std.specs.Prelude.{◌||◌, ◌&&◌, ◌==◌, not, nat_lt, if◌then◌else◌, Some}
+use Rattle.std.specs.Prelude.{◌||◌, ◌==◌, not, nat_lt, if◌then◌else◌, Some}
 use Rattle.std.specs.List.{list_all}
+use Rattle.std.proofs.lemmas.Bool.{and_from, lt-ltb}
 use Rattle.std.proofs.lemmas.Bool.Decides.{nat_tests}
 use mathlib.Core.List.{IsPrefix}
 use Rattle.ordered_lists.specs.Lists.{ascends}
@@ -15,24 +16,17 @@ use Rattle.world_model.specs.declared.events.Opening.{Opening}
 use Rattle.shared_hall.specs.declared.places.Begun.{Begun}
 use Rattle.shared_hall.specs.Seats.{opening_in, shown}
 
-both : (a b : Bool) → a ≡ true → b ≡ true → (a && b) ≡ true
-both true b p q = q
-both false b p q = absurd (true≢false (sym p))
-
-is_later : (x y : ℕ) → x < y → nat_lt x y ≡ true
-is_later x y lt = grind (arith, nat_tests)
-
 all_later : (x : ℕ) (xs : List ℕ) → AllAfter x xs → list_all (nat_lt x) xs ≡ true
 all_later x [] p = refl
-all_later x (y ∷ ys) p = both (nat_lt x y) (list_all (nat_lt x) ys) (is_later x y p.0) (all_later x ys p.1)
+all_later x (y ∷ ys) p = and_from (nat_lt x y) (list_all (nat_lt x) ys) (lt-ltb x y p.0) (all_later x ys p.1)
 
 pub they_ascend : (xs : List ℕ) → Ascends xs → are_ascending xs ≡ true
 they_ascend [] p = refl
-they_ascend (x ∷ xs) p = both (list_all (nat_lt x) xs) (ascends nat_lt xs) (all_later x xs p.0) (they_ascend xs p.1)
+they_ascend (x ∷ xs) p = and_from (list_all (nat_lt x) xs) (ascends nat_lt xs) (all_later x xs p.0) (they_ascend xs p.1)
 
 all_within : (n : ℕ) (xs : List ℕ) → ((place : ℕ) → IsAmong place xs → place < n) → list_all (λ p. nat_lt p n) xs ≡ true
 all_within n [] p = refl
-all_within n (x ∷ xs) p = both (nat_lt x n) (list_all (λ q. nat_lt q n) xs) (is_later x n (p x (inl refl))) (all_within n xs (λ place among. p place (inr among)))
+all_within n (x ∷ xs) p = and_from (nat_lt x n) (list_all (λ q. nat_lt q n) xs) (lt-ltb x n (p x (inl refl))) (all_within n xs (λ place among. p place (inr among)))
 
 pub they_are_seen : {D : Type 0} (k : Known (Begun D) Entry) → OwnPlaces k → are_seen (shown k) ≡ true
 they_are_seen k own = all_within (length k.seen) k.mine own.are_seen
@@ -57,7 +51,7 @@ none_of p xs apart = by (is_among xs p) refl
 
 pub they_are_apart : (xs ys : List ℕ) → ((place : ℕ) → IsAmong place xs → IsAmong place ys → ⊥) → are_apart xs ys ≡ true
 they_are_apart [] ys apart = refl
-they_are_apart (x ∷ xs) ys apart = both (not (is_among ys x)) (are_apart xs ys) (none_of x ys (apart x (inl refl))) (they_are_apart xs ys (λ place among. apart place (inr among)))
+they_are_apart (x ∷ xs) ys apart = and_from (not (is_among ys x)) (are_apart xs ys) (none_of x ys (apart x (inl refl))) (they_are_apart xs ys (λ place among. apart place (inr among)))
 
 swapped : (a b c : Bool) → (b || (a || c)) ≡ (a || (b || c))
 swapped true true c = refl

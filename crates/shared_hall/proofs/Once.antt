@@ -2,18 +2,11 @@
 use Rattle.std.proofs.Common.{◌≡◌, ◌≤◌, ◌<◌, ◌⊎◌, ◌||◌, ◌+◌, ℕ, zero, suc, Bool, true, false, List, [], ◌∷◌, ◌++◌, length, refl, sym, ap, ◌∙◌, subst, arith, inl, inr, ⊎_elim, true≢false}
 use Rattle.std.specs.Prelude.{Some, slice_get}
 use Rattle.std.specs.List.{list_any, range_with_len}
+use Rattle.std.proofs.lemmas.Bool.{or_right}
+use Rattle.std.proofs.lemmas.Option.{slice_get_within}
 use Rattle.turn_lock.specs.declared.seat.Known.{Known}
 use Rattle.turn_lock.specs.Places.{IsAmong}
 use Rattle.turn_lock.specs.Seats.{Turn, OwnsKept, OwnPlaces}
-
-any_or : (a b : Bool) → b ≡ true → (a || b) ≡ true
-any_or true b is = refl
-any_or false b is = is
-
-within : {E : Type 0} (es : List E) (at : ℕ) (e : E) → slice_get es at ≡ Some e → at < length es
-within [] at e here = absurd (cc)
-within (d ∷ es) zero e here = omega arith
-within (d ∷ es) (suc at) e here = omega (arith, within es at e here)
 
 in_front : {E : Type 0} (es fs : List E) (at : ℕ) → at < length es → slice_get (es ++ fs) at ≡ slice_get es at
 in_front [] fs at short = absurd (omega (arith, short))
@@ -49,10 +42,10 @@ module _ {E : Type 0} (kept : E → Bool) where
   kept_at : (es : List E) (at : ℕ) (e : E) → slice_get es at ≡ Some e → kept e ≡ true → list_any kept es ≡ true
   kept_at [] at e here is = absurd (cc)
   kept_at (d ∷ es) zero e here is = let same : d ≡ e = cc in ap (λ (x : E). kept x || list_any kept es) same ∙ ap (λ (b : Bool). b || list_any kept es) is
-  kept_at (d ∷ es) (suc at) e here is = any_or (kept d) (list_any kept es) (kept_at es at e here is)
+  kept_at (d ∷ es) (suc at) e here is = or_right (kept d) (list_any kept es) (kept_at es at e here is)
 
   any_front : (es fs : List E) → list_any kept es ≡ true → list_any kept (es ++ fs) ≡ true
-  any_front es fs any = let k = find_kept es any in kept_at (es ++ fs) k.at k.entry (in_front es fs k.at (within es k.at k.entry k.here) ∙ k.here) k.is
+  any_front es fs any = let k = find_kept es any in kept_at (es ++ fs) k.at k.entry (in_front es fs k.at (slice_get_within es k.at k.entry k.here) ∙ k.here) k.is
 
 module _ {O E : Type 0} (kept : E → Bool) where
   -- what is kept before a turn of the first seat, it had seen
@@ -62,7 +55,7 @@ module _ {O E : Type 0} (kept : E → Bool) where
       found : list_any kept log ≡ true → list_any kept k.seen ≡ true
       found any =
           let x = find_kept kept log any in
-          let short = within log x.at x.entry x.here in
+          let short = slice_get_within log x.at x.entry x.here in
           let now : slice_get l.seen x.at ≡ Some x.entry = ap (λ (es : List E). slice_get es x.at) t.seen ∙ in_front log made x.at short ∙ x.here in
           let among = subst (λ (places : List ℕ). IsAmong x.at places) t.mine (keeps (t.first ∙ first) x.at x.entry now x.is) in
           let mine = ⊎_elim (λ (a : IsAmong x.at k.mine). a) (λ b. absurd (omega (arith, short, not_before x.at (length log) (length made) b))) (among_either x.at k.mine (range_with_len (length log) (length made)) among) in

@@ -1,7 +1,8 @@
 -- What an opening gives is fit for a hall.
-use Rattle.std.proofs.Common.{◌≡◌, ℕ, Bool, true, false, ◌∙◌, Option, Some, None, refl, sym, true≢false}
-use Rattle.std.specs.Prelude.{◌&&◌, is_some}
+use Rattle.std.proofs.Common.{◌≡◌, ℕ, Bool, true, ◌∙◌, Option, Some, None, refl, sym, true≢false}
+use Rattle.std.specs.Prelude.{is_some}
 use Rattle.outside.specs.Sides.{Sides}
+use Rattle.ordered_lists.specs.Reading.{both_of}
 use Rattle.world_data.specs.Sound.{IsSoundWorld}
 use Rattle.world_model.specs.Histories.{opening_hall}
 use Rattle.durable_core.specs.Kept.{settled_log}
@@ -9,11 +10,6 @@ use Rattle.durable_core.specs.Logged.{hall_of, disk_of, IsLogOf}
 use Rattle.durable_core.specs.Opened.{IsOpening}
 use Rattle.durable_core.specs.declared.cores.DurableCore.{DurableCore}
 use Rattle.shared_hall.specs.Cores.{tells, IsOpenedOn}
-
-both : (a b : Bool) → (a && b) ≡ true → (a ≡ true) × (b ≡ true)
-both true true is = (refl, refl)
-both true false is = (refl, is)
-both false b is = absurd (true≢false (sym is))
 
 contents : (o : Option Sides) → is_some o ≡ true → (s : Sides) × (o ≡ Some s)
 contents None is = absurd (true≢false (sym is))
@@ -28,10 +24,10 @@ pub is_opened_on : {D : Type 0} (crashes : D → Bool) (seen : D → Option Side
 is_opened_on crashes seen images moment left_since faults c handed hall sound told log safe = record {
   hall = hall;
   sound = sound;
-  told = λ tells. told ∙ (both (crashes handed) (is_some (seen handed)) tells).0;
-  kept = λ tells _. let s = contents (seen handed) (both (crashes handed) (is_some (seen handed)) tells).1 in log s.0 s.1;
+  told = λ tells. told ∙ (both_of (crashes handed) (is_some (seen handed)) tells).0;
+  kept = λ tells _. let s = contents (seen handed) (both_of (crashes handed) (is_some (seen handed)) tells).1 in log s.0 s.1;
   stood = λ tells.
-      let has = both (crashes handed) (is_some (seen handed)) tells in
+      let has = both_of (crashes handed) (is_some (seen handed)) tells in
       let s = contents (seen handed) has.1 in
       let o = safe s.0 s.1 has.0 in
       (o.opening, o.world, o.logged, o.stood);
