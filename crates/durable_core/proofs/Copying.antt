@@ -2,10 +2,11 @@
 use Rattle.std.proofs.Common.{◌≡◌, ◌∙◌, ◌^◌, ◌&&◌, ◌||◌, ℕ, Bool, true, false, not, List, [], ◌∷◌, ◌++◌, refl, sym, ap, subst, arith}
 use Rattle.std.specs.Prelude.{filter, flat_map, nat_lt, map, if◌then◌else◌}
 use Rattle.std.specs.List.{AllByRecursion, list_all}
+use Rattle.std.proofs.lemmas.Bool.{or_right}
 use Rattle.byte_text.specs.Names.{Bytes}
 use Rattle.byte_text.specs.ByteOrder.{before_trans, same_equal, same_refl}
 use Rattle.ordered_lists.specs.Lists.{ascends}
-use Rattle.ordered_lists.specs.Reading.{both_of}
+use Rattle.ordered_lists.specs.Reading.{both_of, filter-all}
 use Rattle.world_data.specs.Worlds.{after, object_before, channel_before, are_objects, are_channels, is_sorted_world, empty_world}
 use Rattle.world_data.specs.WorldLaws.{object_asym, channel_asym, keeps_order}
 use Rattle.world_data.specs.declared.channels.Channel.{Channel}
@@ -40,10 +41,6 @@ module _ {A : Type 0} (copied more : A → Bool) where
       parts : ((not (more x) || copied x) ≡ true) × (list_all (λ y. not (more y) || copied y) xs ≡ true)
       parts = both_of (not (more x) || copied x) (list_all (λ y. not (more y) || copied y) xs) all
 
-      or_true : (a : Bool) → (a || true) ≡ true
-      or_true true = refl
-      or_true false = refl
-
       or_false : (a : Bool) → (a || false) ≡ a
       or_false true = refl
       or_false false = refl
@@ -59,12 +56,8 @@ module _ {A : Type 0} (copied more : A → Bool) where
   picks_more part all is every = record {
     picked = λ x. is.picked x || more x;
     part_is = is.part_is ∙ sym (same_filter is.picked is.enough all every);
-    enough = λ x e. either (is.picked x) (more x) e;
+    enough = λ x e. or_right (is.picked x) (more x) e;
   }
-    where
-      either : (a b : Bool) → b ≡ true → (a || b) ≡ true
-      either true b e = refl
-      either false b e = e
 
 -- a list in an order, and the items that are left of it
 
@@ -72,10 +65,6 @@ module _ {A : Type 0} (lt : A → A → Bool) (asym : (x y : A) → lt x y ≡ t
   irreflexive : (x : A) (b : Bool) → lt x x ≡ b → lt x x ≡ false
   irreflexive x true e = asym x x e
   irreflexive x false e = e
-
-  all_pass : (p : A → Bool) (xs : List A) → list_all p xs ≡ true → filter p xs ≡ xs
-  all_pass p [] all = refl
-  all_pass p (x ∷ xs) all = let parts = both_of (p x) (list_all p xs) all in rw parts.0 (ap (λ l. x ∷ l) (all_pass p xs parts.1))
 
   module _ (left : A → Bool) (rises : (x y : A) → lt x y ≡ true → left x ≡ true → left y ≡ true) where
     all_left : (x : A) (xs : List A) → left x ≡ true → list_all (lt x) xs ≡ true → list_all left xs ≡ true
@@ -108,8 +97,8 @@ module _ {A : Type 0} (lt : A → A → Bool) (asym : (x y : A) → lt x y ≡ t
             let here : y ∷ filter left ys ≡ x ∷ rest = rw e at is in
             let it : y ≡ x = cc in
             let behind : filter left ys ≡ rest = cc in
-            let all : filter left ys ≡ ys = all_pass left ys (all_left y ys e parts.0) in
-            subst (λ z. filter (lt z) (y ∷ ys) ≡ rest) it (rw (irreflexive y (lt y y) refl) (all_pass (lt y) ys parts.0 ∙ sym all ∙ behind))
+            let all : filter left ys ≡ ys = filter-all left ys (all_left y ys e parts.0) in
+            subst (λ z. filter (lt z) (y ∷ ys) ≡ rest) it (rw (irreflexive y (lt y y) refl) (filter-all (lt y) ys parts.0 ∙ sym all ∙ behind))
         by false e ih =
             let later : filter left ys ≡ x ∷ rest = rw e at is in
             let up = first_passes (lt y) ys x rest parts.0 later in

@@ -1,6 +1,6 @@
 -- What a call of a core owes to its log, from what its journal and its hall did.
 use Rattle.std.specs.Prelude.{if◌then◌else◌}
-use Rattle.std.proofs.Common.{◌≡◌, ◌≢◌, ◌∙◌, ◌⊎◌, ◌≤◌, ℕ, Bool, true, false, ◌&&◌, ◌||◌, List, [], ◌∷◌, ◌++◌, Option, Some, Result, Ok, Err, refl, sym, ap, subst, append-nil, inl, inr}
+use Rattle.std.proofs.Common.{◌≡◌, ◌≢◌, ◌∙◌, ◌⊎◌, ◌≤◌, ℕ, Bool, true, false, ◌&&◌, ◌||◌, List, [], ◌++◌, Option, Some, Result, Ok, Err, refl, sym, ap, subst, append-nil, inl, inr}
 use Rattle.std.specs.List.{AllByRecursion}
 use Rattle.std.proofs.lemmas.Grind.{flat_map-append}
 use Rattle.byte_text.specs.Names.{Bytes}
@@ -45,12 +45,9 @@ use Rattle.durable_core.specs.Rewriting.{IsCopyWhile}
 use Rattle.durable_core.specs.Steps.{IsEnded, ended}
 use Rattle.durable_core.specs.declared.rewritings.Rewriting.{Rewriting}
 use Rattle.durable_core.specs.declared.tails.Tail.{Tail}
+use Rattle.durable_core.proofs.Taking.{all_append}
 
 -- records
-
-all_append : (xs ys : List Change) → AllByRecursion IsRecorded xs → AllByRecursion IsRecorded ys → AllByRecursion IsRecorded (xs ++ ys)
-all_append [] ys one other = other
-all_append (x ∷ xs) ys one other = (one.0, all_append xs ys one.1 other)
 
 -- the changes of an event that makes none
 none_if : (b : Bool) (none : List Write) → none ≡ [] → (if b then none else []) ≡ []

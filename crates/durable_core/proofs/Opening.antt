@@ -1,6 +1,7 @@
 -- The world of a log is sound, and a core over it has a log and stands at an opening.
 use Rattle.std.proofs.Common.{◌≡◌, ◌∙◌, ◌&&◌, ℕ, Bool, true, false, List, [], ◌∷◌, Option, Some, refl, sym, ap, subst}
 use Rattle.std.specs.List.{AllByRecursion, list_all}
+use Rattle.std.proofs.lemmas.Bool.{and_from}
 use Rattle.byte_text.specs.Names.{Bytes, is_name}
 use Rattle.outside.specs.Sides.{Sides, IfTold}
 use Rattle.world_data.specs.Filters.{are_fields}
@@ -54,14 +55,10 @@ objects_sound : (objects : List Object) → AllByRecursion (λ o. IsRecorded (Pu
 objects_sound [] are = tt
 objects_sound (o ∷ objects) are = (object_sound o are.0, objects_sound objects are.1)
 
-both : (a b : Bool) → a ≡ true → b ≡ true → (a && b) ≡ true
-both true b is too = too
-both false b is too = is
-
 channels_sound : (channels : List Channel) → AllByRecursion (λ c. IsRecorded (SetChan c)) channels → list_all is_sound_channel channels ≡ true
 channels_sound [] are = refl
 channels_sound (c ∷ channels) are =
-    both (is_sound_channel c) (list_all is_sound_channel channels) (record_read (record_words (SetChan c)) (SetChan c) are.0.read_back).2 (channels_sound channels are.1)
+    and_from (is_sound_channel c) (list_all is_sound_channel channels) (record_read (record_words (SetChan c)) (SetChan c) are.0.read_back).2 (channels_sound channels are.1)
 
 pub world_sound : (batches : List Bytes) (w : World) → w ≡ world_in batches → AreRecorded w → IsSoundWorld w
 world_sound batches w is are = record {

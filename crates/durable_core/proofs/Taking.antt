@@ -1,6 +1,6 @@
 -- A piece takes the items that are left one behind another.
 use Rattle.std.proofs.Common.{◌≡◌, ◌∙◌, ◌≤◌, ◌+◌, ℕ, Bool, true, false, List, [], ◌∷◌, ◌++◌, length, take, drop, refl, sym, ap, subst, append_assoc, append-nil, length-append, arith}
-use Rattle.std.specs.Prelude.{Option, Some, None, Result, Ok, Err, IfOk, filter, find, map}
+use Rattle.std.specs.Prelude.{Option, Some, None, filter, find, map}
 use Rattle.std.specs.List.{AllByRecursion}
 use Rattle.std.proofs.Math.Seq.{take-append_seam, drop-append_seam}
 use Rattle.std.proofs.lemmas.List.{map-append, take_all, drop_all}
@@ -19,10 +19,6 @@ use Rattle.durable_core.specs.declared.rewritings.LastCopied.{LastCopied}
 use Rattle.durable_core.specs.Rewriting.{Item, of_channel, of_object, change_of, changes_of, items_left, last_of, last_behind}
 use Rattle.durable_core.specs.Pieces.{Took, TookFirst, HasTaken, HasTakenSome}
 use Rattle.durable_core.proofs.Copying.{next_left}
-
-pub if_ok_map : {T E : Type 0} (r : Result T E) (P Q : T → Type 0) → ((x : T) → P x → Q x) → IfOk r P → IfOk r Q
-if_ok_map (Ok x) P Q f p = f x p
-if_ok_map (Err e) P Q f p = tt
 
 -- what is found is the first of those that pass
 
@@ -84,7 +80,7 @@ last_one : (from : LastCopied) (items : List Item) (item : Item) → last_behind
 last_one from [] item = refl
 last_one from (i ∷ items) item = last_one (last_of i) items item
 
-all_append : (xs ys : List Change) → AllByRecursion IsRecorded xs → AllByRecursion IsRecorded ys → AllByRecursion IsRecorded (xs ++ ys)
+pub all_append : (xs ys : List Change) → AllByRecursion IsRecorded xs → AllByRecursion IsRecorded ys → AllByRecursion IsRecorded (xs ++ ys)
 all_append [] ys one other = other
 all_append (x ∷ xs) ys one other = (one.0, all_append xs ys one.1 other)
 

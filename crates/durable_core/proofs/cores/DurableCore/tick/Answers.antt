@@ -1,5 +1,6 @@
-use Rattle.std.proofs.Common.{◌≡◌, ◌∙◌, sym, refl, subst}
-use Rattle.std.specs.Prelude.{Bool, true, false, not, ◌++◌}
+use Rattle.std.proofs.Common.{◌∙◌, sym, refl, subst}
+use Rattle.std.specs.Prelude.{true, false, ◌++◌}
+use Rattle.std.proofs.lemmas.Bool.{not-true}
 use Rattle.world_model.specs.Halls.{Hall}
 use Rattle.world_model.specs.declared.events.Event.TheVariants as event
 use Rattle.world_model.specs.declared.events.Outcome.TheVariants as outcome
@@ -11,10 +12,6 @@ use Rattle.durable_core.specs.Logged.{hall_of}
 use Rattle.durable_core.specs.StepLaws.{tick_goes, fails, same_hall}
 use Rattle.durable_core.proofs.Going.{faulted, led, lifted, served, stays}
 use Rattle.durable_core.proofs.cores.DurableCore.tick.Goals as goal
-
-not_true : (b : Bool) → not b ≡ true → b ≡ false
-not_true true is = absurd (cc is)
-not_true false is = refl
 
 pub returns-then-is_stopped-clause-log : goal.returns-then-is_stopped-clause-log
 returns-then-is_stopped-clause-log g c j keeps =
@@ -41,6 +38,6 @@ returns-in-Err-clause-log g c j keeps =
     let old = c.args.self.now in
     let event = event.Tick c.args.moment in
     let going = sym c.is_stopped.ensures ∙ c.if-is_stopped.false in
-    let step = fails (hall_of old) _ event refl going (tick_goes (hall_of old) c.args.moment (sym c.is_spent.ensures ∙ not_true c.is_spent.result c.in-Err.ensures.may)) refl in
+    let step = fails (hall_of old) _ event refl going (tick_goes (hall_of old) c.args.moment (sym c.is_spent.ensures ∙ not-true c.is_spent.result c.in-Err.ensures.may)) refl in
     let leads = c.in-Err.ensures.log j (keeps going).kept in
     faulted D.crashes D.seen D.images D.moment D.left_since g.met.D.Disk.as_read g.met.D.Disk.counts_now g.met.D.Disk.only_now _ old _ event (outcome.Answered called.LogFault) j leads.0 going refl step keeps c.commit_long.ensures.told leads.1 refl
