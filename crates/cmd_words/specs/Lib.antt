@@ -14,5 +14,6 @@ pub mod ShortRequests
 pub mod SmallWords
 pub mod LeftWords
 pub mod ReadLaws
+pub mod GivenFields
 pub mod CommandNames
 pub mod NameLists
