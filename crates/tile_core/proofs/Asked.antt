@@ -2,12 +2,13 @@
 use Rattle.world_model.specs.declared.commands.Command.{Command}
 use Rattle.world_model.specs.declared.commands.Command.TheVariants as command
 use Rattle.cmd_words.specs.Laws.{IsPattern, IsServed}
-use Rattle.std.proofs.Common.{◌≡◌, true, false, refl, ap, List, [], ◌∷◌}
-use Rattle.std.specs.Prelude.{Option, Some, None, Ok}
+use Rattle.cmd_words.specs.ReadLaws.{ok_spelled}
+use Rattle.std.proofs.Common.{◌≡◌, true, false, refl, List, [], ◌∷◌}
+use Rattle.std.specs.Prelude.{Some, Ok}
 use Rattle.std.specs.List.{AllByRecursion}
 use Rattle.byte_text.specs.Names.{Bytes, is_name}
 use Rattle.byte_text.specs.Requests.{FitsRequest}
-use Rattle.world_model.specs.Commands.{command_spelled, ok_or_fault, reads}
+use Rattle.world_model.specs.Commands.{command_spelled, reads}
 use Rattle.deliveries.specs.Plans.{subscribes}
 use Rattle.session_mail.specs.Sessions.{AreSoundSubs}
 use Rattle.tile_core.specs.Subscribing.{subs_of}
@@ -23,12 +24,8 @@ sound [] all = tt
 sound (p ∷ patterns) all = (all.0.1, sound patterns all.1)
 
 -- what words ask for they spell
-ok_of : (words : List Bytes) (o : Option Command) (c : Command) → ok_or_fault words o ≡ Ok c → o ≡ Some c
-ok_of words (Some d) c e = ap Some (cc e)
-ok_of words None c e = absurd (cc e)
-
 spelled_of : (words : List Bytes) (c : Command) → reads words ≡ Ok c → command_spelled words ≡ Some c
-spelled_of words c e = ok_of words (command_spelled words) c e
+spelled_of words c e = ok_spelled words (command_spelled words) c e
 
 pub served_asked : (words : List Bytes) → FitsRequest words → (c : Command) → reads words ≡ Ok c → IsServed c → IsAsked c
 served_asked words fits (command.Set key id given cleared after_ex only text shape) e s = s

@@ -1,8 +1,10 @@
 -- What is staged write by write, behind what was staged before.
-use Rattle.std.proofs.Common.{◌≡◌, ℕ, zero, suc, ◌+◌, Bool, true, false, not, refl, sym, ap, ◌∙◌, subst, List, [], ◌∷◌, ◌++◌, take, map, arith}
-use Rattle.std.specs.Prelude.{Some, None, Result, Ok, Err, OnOk, find, filter, slice_get, if◌then◌else◌, ◌&&◌}
+use Rattle.std.proofs.Common.{◌≡◌, ℕ, zero, suc, ◌+◌, Bool, true, false, not, refl, sym, ap, ◌∙◌, subst, List, [], ◌∷◌, ◌++◌, take, map}
+use Rattle.std.specs.Prelude.{Some, None, Result, Ok, Err, OnOk, find, filter, slice_get, if◌then◌else◌}
+use Rattle.std.proofs.lemmas.List.{append-nil, append_assoc}
 use Rattle.byte_text.specs.Names.{Bytes, same}
 use Rattle.byte_text.specs.ByteOrder.{same_equal}
+use Rattle.ordered_lists.specs.Reading.{both_of}
 use Rattle.fence_model.specs.Writes.{Write, loud, quiet, dels}
 use Rattle.world_data.specs.Worlds.{after, has_key, is_at, object_at}
 use Rattle.world_data.specs.declared.channels.Channel.{Channel}
@@ -24,23 +26,15 @@ use Rattle.tile_core.specs.Staged.{StagesBehind, dels_of}
 use Rattle.tile_core.proofs.Weights.{found_at}
 use Rattle.record_lengths.specs.ObjectSums.{next_take}
 
-all_there : {A : Type 0} (xs : List A) → xs ++ [] ≡ xs
-all_there [] = refl
-all_there {A} (x ∷ xs) = ap (λ (ys : List A). x ∷ ys) (all_there xs)
-
-in_turn : {A : Type 0} (a b c : List A) → (a ++ b) ++ c ≡ a ++ (b ++ c)
-in_turn [] b c = refl
-in_turn {A} (x ∷ a) b c = ap (λ (ys : List A). x ∷ ys) (in_turn a b c)
-
 -- nothing is staged behind
 pub behind_none : (w : World) (ss : List State) → StagesBehind w [] ss ss
-behind_none w ss first writes is staged = subst (λ (ws : List Write). HaveStaged first ws ss) (sym (all_there writes)) staged
+behind_none w ss first writes is staged = subst (λ (ws : List Write). HaveStaged first ws ss) (sym (append-nil writes)) staged
 
 -- one more write
 pub behind_more : (w : World) (more : List Write) (d : Write) (IsSuch : World → Type 0) (old mid new : List State) → StagesBehind w more old mid → IsSuch (after_all w more) → IsStagedIn IsSuch d mid new → StagesBehind w (more ++ d ∷ []) old new
 behind_more w more d IsSuch old mid new behind such staged first writes is before =
     let there : after_all first (writes ++ more) ≡ after_all w more = after_append first writes more ∙ ap (λ (v : World). after_all v more) is in
-    subst (λ (ws : List Write). HaveStaged first ws new) (in_turn writes more (d ∷ []))
+    subst (λ (ws : List Write). HaveStaged first ws new) (append_assoc writes more (d ∷ []))
     (staged.behind first (writes ++ more) (subst IsSuch (sym there) such) (behind first writes is before))
 
 -- one write alone
@@ -101,10 +95,7 @@ still_there key j id (x ∷ xs) o e = by (is_at key j x) refl (is_at key id x) r
     by true p true q ih = absurd (gone x p q (rw p at e))
       where
         id_of : (k i : Bytes) → is_at k i x ≡ true → x.id ≡ i
-        id_of k i t = same_equal x.id i (right (has_key k x) (same x.id i) t)
-          where
-            right : (a b : Bool) → (a && b) ≡ true → b ≡ true
-            right a b t = grind arith
+        id_of k i t = same_equal x.id i (both_of (has_key k x) (same x.id i) t).1
 
         none_left : (i : Bytes) (ys : List Object) → find (is_at key i) (filter (λ p. not (is_at key i p)) ys) ≡ None
         none_left i [] = refl
@@ -162,9 +153,9 @@ module _ (cs : List Channel) (xs : List Object) (key : Bytes) (ids : List Bytes)
 -- quiet writes stage nothing
 
 quiet_names : QuietBringsNothing → (names : List Bytes) (first : World) (writes : List Write) (ss : List State) → HaveStaged first writes ss → HaveStaged first (writes ++ map (λ n. quiet (change.DelChan n)) names) ss
-quiet_names law [] first writes ss staged = subst (λ (ws : List Write). HaveStaged first ws ss) (sym (all_there writes)) staged
+quiet_names law [] first writes ss staged = subst (λ (ws : List Write). HaveStaged first ws ss) (sym (append-nil writes)) staged
 quiet_names law (name ∷ names) first writes ss staged =
-    subst (λ (ws : List Write). HaveStaged first ws ss) (in_turn writes (quiet (change.DelChan name) ∷ []) (map (λ n. quiet (change.DelChan n)) names))
+    subst (λ (ws : List Write). HaveStaged first ws ss) (append_assoc writes (quiet (change.DelChan name) ∷ []) (map (λ n. quiet (change.DelChan n)) names))
     (quiet_names law names first (writes ++ quiet (change.DelChan name) ∷ []) ss (law first writes (change.DelChan name) ss staged))
 
 pub behind_channels : QuietBringsNothing → (w : World) (action : ChannelMove) (ss : List State) → StagesBehind w (channel_writes action) ss ss

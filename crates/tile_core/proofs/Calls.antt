@@ -1,6 +1,7 @@
 -- Calls and ticks, in the words of the parts of a core.
 use Rattle.std.proofs.Common.{◌≡◌, ◌≢◌, ℕ, zero, suc, ◌+◌, ◌<◌, ◌≤◌, Bool, true, false, refl, sym, ap, ◌∙◌, subst, inl, inr, List, [], ◌∷◌, ◌++◌, length, max, map}
 use Rattle.std.specs.Prelude.{Some, Option, Result, Ok, Err, option_map, slice_get, slice_set, filter, ◌⊎◌, if◌then◌else◌}
+use Rattle.std.proofs.lemmas.List.{append-nil}
 use Rattle.byte_text.specs.Names.{Bytes}
 use Rattle.byte_text.specs.Replies.{frame_text}
 use Rattle.world_data.specs.Limits.{most_logged}
@@ -174,14 +175,10 @@ asked_as h s (Broken fault) = refl
 
 -- the clock
 
-all_there : (os : List Object) → os ++ [] ≡ os
-all_there [] = refl
-all_there (o ∷ os) = ap (λ (ps : List Object). o ∷ ps) (all_there os)
-
 -- what was taken out is what is due
 gone_are : (objects : List Object) (now total : ℕ) (rest : List Object) (g : Expired) → IsExpired objects now total rest g → sorted_by due_before (filter (is_due now) objects) ≡ g.held.items
 gone_are objects now total rest g e =
-    sym (sym (all_there g.held.items) ∙ ap (λ (os : List Object). g.held.items ++ sorted_by due_before os) (sym e.none) ∙ e.taken.order)
+    sym (sym (append-nil g.held.items) ∙ ap (λ (os : List Object). g.held.items ++ sorted_by due_before os) (sym e.none) ∙ e.taken.order)
 
 pub with_channels : (cs : List Channel) (xs held : List Object) → after_all (world_with cs xs) (dels held) ≡ world_with cs (after_all (world_of xs) (dels held)).objects
 with_channels cs xs [] = refl
@@ -341,11 +338,7 @@ module _ (before : Store) (now logged drawn : ℕ) (ss mid new : List State) (mo
               none = sym writes_are ∙ is
 
               all_heard : HaveStaged (world_at before) (dels held) mid
-              all_heard = subst (λ (ws : List Write). HaveStaged (world_at before) ws mid) (ap (λ (ws : List Write). dels held ++ ws) none ∙ nothing_more (dels held)) ready.staged
-                where
-                  nothing_more : (ws : List Write) → ws ++ [] ≡ ws
-                  nothing_more [] = refl
-                  nothing_more (w ∷ ws) = ap (λ (vs : List Write). w ∷ vs) (nothing_more ws)
+              all_heard = subst (λ (ws : List Write). HaveStaged (world_at before) ws mid) (ap (λ (ws : List Write). dels held ++ ws) none ∙ append-nil (dels held)) ready.staged
 
               frames : List Bytes
               frames = heard (world_at before) (dels held) (listens (session_of caller))

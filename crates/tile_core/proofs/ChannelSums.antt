@@ -2,6 +2,7 @@
 use Rattle.std.proofs.Common.{◌≡◌, ℕ, zero, suc, ◌+◌, ◌≤◌, Bool, true, false, not, refl, sym, ap, ◌∙◌, subst, List, [], ◌∷◌, ◌++◌, map, take, drop, append-nil, arith}
 use Rattle.std.specs.Prelude.{Some, sum_by, filter, slice_get, if◌then◌else◌, ◌||◌}
 use Rattle.std.specs.List.{list_any, AllByRecursion}
+use Rattle.std.proofs.lemmas.Bool.{or_right}
 use Rattle.std.proofs.lemmas.List.{map-append, take-append-drop}
 use Rattle.std.proofs.lemmas.List.Elements.{filter-append}
 use Rattle.std.proofs.lemmas.List.Sums.{sum_by-cons, sum_by-append}
@@ -117,12 +118,8 @@ more_met : (pattern : Bytes) (y : Channel) (cs ds : List Channel) → AreMet pat
 more_met pattern y [] ds all = tt
 more_met pattern y (x ∷ cs) ds all = (λ m. by (glob_meets pattern y.name) (all.0 m), more_met pattern y cs ds all.1)
   where
-    or_true : (b : Bool) → (b || true) ≡ true
-    or_true true = refl
-    or_true false = refl
-
     by : (b : Bool) → list_any (same x.name) (names_of (met_channels pattern ds)) ≡ true → list_any (same x.name) (names_of (if b then y ∷ met_channels pattern ds else met_channels pattern ds)) ≡ true
-    by true h = rw h (or_true (same x.name y.name))
+    by true h = rw h (or_right (same x.name y.name) true refl)
     by false h = h
 
 all_met : (pattern : Bytes) (cs : List Channel) → AreMet pattern cs cs

@@ -1,7 +1,7 @@
 -- Subscriptions one after another, and what confirms them.
 use Rattle.std.proofs.Common.{◌≡◌, ℕ, zero, suc, ◌+◌, ◌≤◌, ◌<◌, ◌^◌, Bool, true, false, refl, sym, ap, ◌∙◌, subst, lit≤, List, [], ◌∷◌, ◌++◌, length, map, length-append, arith}
 use Rattle.std.specs.Prelude.{decimal, nat_le, nat_lt, ◌&&◌, if◌then◌else◌}
-use Rattle.std.specs.List.{AllByRecursion, list_all, list_any}
+use Rattle.std.specs.List.{AllByRecursion, list_all}
 use Rattle.std.proofs.lemmas.Bool.Decides.{nat_tests}
 use Rattle.std.proofs.lemmas.Fmt.{length-decimal-le}
 use Rattle.std.proofs.lemmas.List.{map-append}
@@ -13,11 +13,12 @@ use Rattle.world_data.specs.Limits.{max_reply, max_subs}
 use Rattle.world_data.specs.declared.worlds.World.{World}
 use Rattle.world_model.specs.Effects.{Effect, effect, refuses, within_reply}
 use Rattle.world_model.specs.Replies.{confirmation, confirmations}
-use Rattle.world_model.specs.Subscriptions.{Sub, same_sub, with_sub, with_subs, has_subs}
+use Rattle.world_model.specs.Subscriptions.{Sub, with_sub, with_subs, has_subs}
 use Rattle.world_model.specs.declared.faults.Refusal.TheVariants as refusal
 use Rattle.deliveries.specs.Plans.{HasShortWords, subscribes}
 use Rattle.reply_text.specs.Confirmations.{called_of}
-use Rattle.session_mail.specs.Sessions.{AreSoundSubs, is_sound_sub}
+use Rattle.session_mail.specs.FanLaws.{sound_with_sub}
+use Rattle.session_mail.specs.Sessions.{AreSoundSubs}
 use Rattle.subscriptions.specs.SubscribeLaws.{no_fewer}
 use Rattle.subscriptions.specs.Subscribed.{sub}
 use Rattle.tile_core.specs.Subscribing.{subs_of, subscribing}
@@ -52,20 +53,9 @@ too_many_first held pattern (v ∷ words) (suc i) w at more = too_many_first (wi
 
 -- patterns stay well formed
 
-sound_last : (held : List Sub) (s : Sub) → AreSoundSubs held → is_sound_sub s ≡ true → AreSoundSubs (held ++ s ∷ [])
-sound_last [] s all one = (one, tt)
-sound_last (x ∷ held) s all one = (all.0, sound_last held s all.1 one)
-
-sound_one : (held : List Sub) (s : Sub) → AreSoundSubs held → is_sound_sub s ≡ true → AreSoundSubs (with_sub held s)
-sound_one held s all one = by (list_any (same_sub s) held)
-  where
-    by : (b : Bool) → AreSoundSubs (if b then held else held ++ s ∷ [])
-    by true = all
-    by false = sound_last held s all one
-
 pub sound_all : (held subs : List Sub) → AreSoundSubs held → AreSoundSubs subs → AreSoundSubs (with_subs held subs)
 sound_all held [] all more = all
-sound_all held (s ∷ subs) all more = sound_all (with_sub held s) subs (sound_one held s all more.0) more.1
+sound_all held (s ∷ subs) all more = sound_all (with_sub held s) subs (sound_with_sub held s all more.0) more.1
 
 -- confirmations are short
 

@@ -5,6 +5,7 @@ use Rattle.std.specs.List.{AllByRecursion, list_all}
 use Rattle.std.proofs.Math.ListN.{length-set}
 use Rattle.byte_text.specs.Names.{Bytes}
 use Rattle.ordered_lists.specs.Lists.{put_in}
+use Rattle.ordered_lists.specs.Reading.{both_of, got_at}
 use Rattle.world_data.specs.Sound.{is_sound_channel}
 use Rattle.world_data.specs.Worlds.{is_sorted_world, are_objects, are_channels, after, channel_before, is_at, is_named}
 use Rattle.fence_model.specs.Writes.{Write, quiet}
@@ -35,18 +36,9 @@ use Rattle.tile_core.specs.Dues.{IsTaken}
 use Rattle.tile_core.proofs.Moving.{all_moved}
 use Rattle.tile_core.proofs.Present.{rises_set, rises_remove}
 
--- what is read at a place where something stands
-pub read_at : {A : Type 0} (xs : List A) (i : ℕ) (s d : A) → slice_get xs i ≡ Some s → get_or xs i d ≡ s
-read_at [] i s d at = absurd (cc)
-read_at (y ∷ ys) zero s d at = cc
-read_at (y ∷ ys) (suc i) s d at = read_at ys i s d at
-
 -- a session that may be served is the one read at its place
 pub served_is : (sessions : List State) (n i : ℕ) (sv : IsServed sessions n (Ok i)) (r : State) → r ≡ get_or sessions i r → r ≡ sv.0.session
-served_is sessions n i sv r e = e ∙ read_at sessions i sv.0.session r sv.0.here
-
-pub first_of : (a b : Bool) → (a && b) ≡ true → a ≡ true
-first_of a b e = grind arith
+served_is sessions n i sv r e = e ∙ got_at sessions i sv.0.session r sv.0.here
 
 pub both : (a : Bool) → a ≡ true → (a && true) ≡ true
 both a e = grind arith
@@ -98,7 +90,7 @@ kept_after objects total kept e p is = record {
   sorted =
       let all = sorted_all (world_of objects) (writes_of p.action p.loud) (both (are_objects objects) kept.sorted) in
       let left = subst (λ (w : World). is_sorted_world w ≡ true) (move_done [] objects p.action p.loud) all in
-      first_of (are_objects (moved objects p.action)) (are_channels (channels_left p.action [])) left;
+      (both_of (are_objects (moved objects p.action)) (are_channels (channels_left p.action [])) left).0;
   accepted = all_moved IsAccepted objects p.action is.accepted kept.accepted;
   few = all_moved HasFewFields objects p.action is.few kept.few;
   weighed = is.weight_is;
@@ -214,9 +206,3 @@ present_remove drawn sessions i lt present = record {
   rises = rises_remove 0 drawn sessions i lt present.rises;
   few = let less = shorter sessions i lt in let few = present.few in omega (arith, less, few);
 }
-
--- what stands at a place is within the list
-pub within : {A : Type 0} (xs : List A) (i : ℕ) (x : A) → slice_get xs i ≡ Some x → i < length xs
-within [] i x at = absurd (cc)
-within (y ∷ ys) zero x at = omega arith
-within (y ∷ ys) (suc i) x at = let ih = within ys i x at in omega (arith, ih)

@@ -3,8 +3,9 @@ use Rattle.std.proofs.Common.{◌≡◌, ◌≢◌, ℕ, zero, suc, ◌<◌, ◌
 use Rattle.std.specs.Prelude.{Some, slice_get, get_or, nat_lt}
 use Rattle.std.specs.List.{list_all}
 use Rattle.std.proofs.lemmas.Bool.Decides.{nat_tests}
+use Rattle.std.proofs.lemmas.Option.{slice_get_within}
 use Rattle.std.specs.List.Sorted.{IsPartitionedBy}
-use Rattle.ordered_lists.specs.Reading.{got_at}
+use Rattle.ordered_lists.specs.Reading.{all_at, all_get, got_at}
 use Rattle.session_mail.specs.Sessions.{State}
 use Rattle.tile_core.specs.Sessions.{Rises, number_before, are_rising}
 
@@ -14,31 +15,15 @@ first_of x xs r = grind arith
 rest_of : (x : State) (xs : List State) → are_rising (x ∷ xs) ≡ true → are_rising xs ≡ true
 rest_of x xs r = grind arith
 
-all_got : (p : State → Bool) (xs : List State) (j : ℕ) (d : State) → j < length xs → list_all p xs ≡ true → p (get_or xs j d) ≡ true
-all_got p [] j d lt all = absurd (omega (arith, lt))
-all_got p (x ∷ xs) zero d lt all = grind arith
-all_got p (x ∷ xs) (suc j) d lt all = let rest : list_all p xs ≡ true = grind arith in all_got p xs j d (omega (arith, lt)) rest
-
 -- those of lesser numbers stand in front
 pub parted : (n : ℕ) (xs : List State) → are_rising xs ≡ true → IsPartitionedBy (λ s. nat_lt s.number n) xs
 parted n [] r i j d le lt h = absurd (omega arith)
 parted n (x ∷ xs) r zero zero d le lt h = h
 parted n (x ∷ xs) r zero (suc j) d le lt h =
-    let less : number_before x (get_or xs j d) ≡ true = all_got (number_before x) xs j d (omega arith) (first_of x xs r) in
+    let less : number_before x (get_or xs j d) ≡ true = all_get (number_before x) xs j d (omega arith) (first_of x xs r) in
     grind (arith, nat_tests)
 parted n (x ∷ xs) r (suc i) zero d le lt h = absurd (omega arith)
 parted n (x ∷ xs) r (suc i) (suc j) d le lt h = parted n xs (rest_of x xs r) i j d (omega arith) (omega arith) h
-
--- where something stands is within the list
-stands_within : {A : Type 0} (xs : List A) (k : ℕ) (s : A) → slice_get xs k ≡ Some s → k < length xs
-stands_within [] k s at = absurd (cc)
-stands_within (x ∷ xs) zero s at = omega arith
-stands_within (x ∷ xs) (suc k) s at = let ih = stands_within xs k s at in omega (arith, ih)
-
-all_at : (p : State → Bool) (xs : List State) (k : ℕ) (s : State) → slice_get xs k ≡ Some s → list_all p xs ≡ true → p s ≡ true
-all_at p [] k s at all = absurd (cc)
-all_at p (x ∷ xs) zero s at all = let is : x ≡ s = cc in subst (λ (t : State). p t ≡ true) is (grind arith)
-all_at p (x ∷ xs) (suc k) s at all = let rest : list_all p xs ≡ true = grind arith in all_at p xs k s at rest
 
 -- a later session has a greater number
 later : (xs : List State) (i k : ℕ) (x s : State) → are_rising xs ≡ true → slice_get xs i ≡ Some x → slice_get xs k ≡ Some s → i < k → x.number < s.number
@@ -60,7 +45,7 @@ module _ (xs : List State) (n at : ℕ) (k : ℕ) (s : State) (here : slice_get 
 
   -- all are in front
   pub all_lesser : ((j : ℕ) (d : State) → 0 ≤ j → j < at → nat_lt (get_or xs j d).number n ≡ true) → at ≡ length xs → s.number ≢ n
-  all_lesser front end = let lt = stands_within xs k s here in lesser front (omega (arith, lt, end))
+  all_lesser front end = let lt = slice_get_within xs k s here in lesser front (omega (arith, lt, end))
 
   -- the first one that is not in front has another number, and so has each behind it
   pub other : are_rising xs ≡ true → ((j : ℕ) (d : State) → 0 ≤ j → j < at → nat_lt (get_or xs j d).number n ≡ true)

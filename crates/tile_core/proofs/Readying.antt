@@ -2,6 +2,7 @@
 use Rattle.std.proofs.Common.{◌≡◌, ℕ, zero, suc, ◌<◌, true, true≢false, inl, inr, refl, sym, ap, ◌∙◌, subst, List, [], ◌∷◌, ◌++◌, length, map, arith}
 use Rattle.std.specs.Prelude.{Some, None, Option, slice_get, slice_set}
 use Rattle.std.specs.List.{AllByRecursion, list_all}
+use Rattle.std.proofs.lemmas.List.{append-nil}
 use Rattle.byte_text.specs.Names.{Bytes}
 use Rattle.world_data.specs.Worlds.{after}
 use Rattle.world_data.specs.declared.objects.Object.{Object}
@@ -153,13 +154,9 @@ staged_set w writes (x ∷ ss) (suc i) s v at same staged all = (all.0, staged_s
 -- where there is room for what is staged, it is all
 roomy : (frames all some : List Bytes) → Suffice frames all some → have_room frames some ≡ true → have_room frames all ≡ true
 roomy frames all some f room = elim f.enough [
-  | inl none ↦ ap (have_room frames) (f.front ∙ ap (λ (rest : List Bytes). some ++ rest) none ∙ nothing_more some) ∙ room
+  | inl none ↦ ap (have_room frames) (f.front ∙ ap (λ (rest : List Bytes). some ++ rest) none ∙ append-nil some) ∙ room
   | inr full ↦ absurd (true≢false (sym room ∙ full))
 ]
-  where
-    nothing_more : (fs : List Bytes) → fs ++ [] ≡ fs
-    nothing_more [] = refl
-    nothing_more (x ∷ fs) = ap (λ (gs : List Bytes). x ∷ gs) (nothing_more fs)
 
 -- what is planned is read back from its records
 can_record : (w : World) (total : ℕ) (held : List Sub) (e : Effect) (p : Planned) → IsPlanned w total held e p → CanRecord p

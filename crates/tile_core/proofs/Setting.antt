@@ -1,6 +1,7 @@
 -- What a SET does, by the object that stands there, and what a put does, by the weight behind it.
 use Rattle.std.proofs.Common.{◌≡◌, ℕ, ◌≤◌, ◌<◌, Bool, true, false, not, refl, sym, ap, ◌∙◌, List, [], ◌∷◌, length, Bor, arith}
 use Rattle.std.specs.Prelude.{Option, Some, None, IfSome, IfNone, is_some, is_none, option_map, find, nat_le, nat_lt, ◌&&◌}
+use Rattle.std.proofs.lemmas.Bool.{and_right}
 use Rattle.std.proofs.lemmas.Bool.Decides.{nat_tests}
 use Rattle.byte_text.specs.Names.{Bytes}
 use Rattle.byte_text.specs.Replies.{fine, frame_text}
@@ -106,11 +107,7 @@ module _ (xs : List Object) (x : Object) (given : List Field) (cleared : List By
       pub put_more : length xs < max_objects → setting ≡ put_or_full (world_of xs) (whole fields deadline) fine true
       put_more lt =
           let t : nat_le max_objects (length xs) ≡ false = grind (arith, nat_tests) in
-          put_it (rw t (ends (is_none old)))
-        where
-          ends : (b : Bool) → (b && false) ≡ false
-          ends true = refl
-          ends false = refl
+          put_it (rw t (and_right (is_none old) false refl))
 
 -- a put, by the weight behind it
 module _ (xs : List Object) (x : Object) (reply : List Piece) (is_loud : Bool) where

@@ -2,6 +2,7 @@
 use Rattle.std.proofs.Common.{◌≡◌, ◌+◌, ◌≤◌, ◌^◌, ◌-◌, true, sym, ap, ◌∙◌, subst, List, [], ◌∷◌, arith}
 use Rattle.std.specs.Prelude.{sum_by, unwrap_or}
 use Rattle.std.specs.List.{AllByRecursion, list_all}
+use Rattle.ordered_lists.specs.Reading.{both_of}
 use Rattle.world_data.specs.Sound.{IsSoundObject, IsSoundWorld, is_sound_channel}
 use Rattle.world_data.specs.Worlds.{are_channels, are_objects}
 use Rattle.world_data.specs.declared.channels.Channel.{Channel}
@@ -18,7 +19,6 @@ use Rattle.tile_core.specs.Moves.{IsAccepted}
 use Rattle.tile_core.specs.Planned.{IsRecordedChannel}
 use Rattle.tile_core.specs.Stores.{IsStore}
 use Rattle.tile_core.specs.declared.stores.Store.{Store}
-use Rattle.tile_core.proofs.Finishing.{first_of}
 use Rattle.tile_core.proofs.Soonest.{are_due_from}
 use Rattle.tile_core.proofs.Weights.{weight_sum}
 
@@ -37,7 +37,7 @@ module _ (w : World) (sound : IsSoundWorld w) (few : HaveFewFields w.objects) (r
   pub stored : (s : Store) → IsStore (record s { objects = p.objects; weight = p.weight; due_from = p.due_from; hub = p.hub; channel_weight = p.channel_weight })
   stored s = record {
     kept = record {
-      sorted = subst (λ (xs : List Object). are_objects xs ≡ true) (sym objects) (first_of (are_objects w.objects) (are_channels w.channels) sound.sorted);
+      sorted = subst (λ (xs : List Object). are_objects xs ≡ true) (sym objects) (both_of (are_objects w.objects) (are_channels w.channels) sound.sorted).0;
       accepted = subst (AllByRecursion IsAccepted) (sym objects) (are_accepted w.objects sound.objects);
       few = subst HaveFewFields (sym objects) few;
       weighed = weighs ∙ ap (sum_by len_of) (sym objects) ∙ sym (weight_sum (objects_in p.objects));

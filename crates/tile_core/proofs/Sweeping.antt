@@ -2,6 +2,7 @@
 use Rattle.std.proofs.Common.{◌≡◌, ℕ, zero, suc, ◌+◌, ◌≤◌, Bool, true, false, not, refl, sym, ap, ◌∙◌, subst, List, [], ◌∷◌, ◌++◌, take, map, arith}
 use Rattle.std.specs.Prelude.{filter, sum_by, slice_get, Some, if◌then◌else◌, ◌&&◌, ◌||◌}
 use Rattle.std.specs.List.{list_any, AllByRecursion}
+use Rattle.std.proofs.lemmas.Bool.{or_right}
 use Rattle.std.proofs.lemmas.List.{map-append}
 use Rattle.std.proofs.lemmas.List.Elements.{filter-append}
 use Rattle.std.proofs.lemmas.List.Sums.{sum_by-cons, sum_by-append}
@@ -130,12 +131,8 @@ more_met : (pattern key : Bytes) (y : Object) (xs ys : List Object) → AreMet p
 more_met pattern key y [] ys all = tt
 more_met pattern key y (x ∷ xs) ys all = (λ k m. by (has_key key y) (glob_meets pattern y.id) refl (all.0 k m), more_met pattern key y xs ys all.1)
   where
-    or_true : (b : Bool) → (b || true) ≡ true
-    or_true true = refl
-    or_true false = refl
-
     by : (a b : Bool) → glob_meets pattern y.id ≡ b → list_any (same x.id) (ids_of (met pattern (filter (has_key key) ys))) ≡ true → list_any (same x.id) (ids_of (met pattern (if a then y ∷ filter (has_key key) ys else filter (has_key key) ys))) ≡ true
-    by true true e h = rw (e, h) (or_true (same x.id y.id))
+    by true true e h = rw (e, h) (or_right (same x.id y.id) true refl)
     by true false e h = rw e h
     by false b e h = h
 

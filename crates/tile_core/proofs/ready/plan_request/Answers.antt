@@ -1,6 +1,7 @@
 use Rattle.std.proofs.Common.{◌≡◌, ◌≤◌, ◌<◌, ℕ, List, length, map, refl, sym, ap, ◌∙◌, subst, arith}
 use Rattle.std.specs.Prelude.{Some, slice_get}
 use Rattle.std.proofs.lemmas.Option.{slice_get_read}
+use Rattle.ordered_lists.specs.Reading.{got_at}
 use Rattle.world_data.specs.declared.worlds.World.{World}
 use Rattle.world_model.specs.Subscriptions.{Sub}
 use Rattle.keyspace.specs.Entries.{objects_in}
@@ -12,7 +13,6 @@ use Rattle.tile_core.specs.Planned.{IsPlanned}
 use Rattle.tile_core.specs.Ready.{planned_writes, reply_count}
 use Rattle.tile_core.specs.Staged.{StagesBehind}
 use Rattle.tile_core.specs.Stores.{world_at}
-use Rattle.tile_core.proofs.Finishing.{read_at}
 use Rattle.tile_core.proofs.Present.{get_set}
 use Rattle.tile_core.proofs.Readying.{as_long, roomier, same_world, staged_set}
 use Rattle.tile_core.proofs.ready.plan_request.Goals as goal
@@ -53,7 +53,7 @@ returns-clause-planned c =
     let behind : StagesBehind (world_at store) (planned_writes p) old mid = subst (λ (w : World). StagesBehind w (planned_writes p) old mid) world c.in_ok-stage_planned.ensures.staged in
     record {
       plan = λ t here.
-          let subs : c.subscriptions.result.now ≡ t.subs = c.subscriptions.ensures.same ∙ ap (λ (x : State). x.subs) (c.index.ensures ∙ read_at old c.args.at t c.index.result.now here) in
+          let subs : c.subscriptions.result.now ≡ t.subs = c.subscriptions.ensures.same ∙ ap (λ (x : State). x.subs) (c.index.ensures ∙ got_at old c.args.at t c.index.result.now here) in
           subst (λ (held : List Sub). IsPlanned (world_at store) store.weight held (effect_of_asked (world_at store) c.args.now held c.args.asked.now) p) subs c.in_ok-planned.ensures;
       staged = λ first writes is staged. staged_set first _ mid c.args.at s v at c.reserve.ensures.same c.reserve.ensures.staged (behind first writes is staged);
       room = c.in_ok-make_room_for.ensures.room;

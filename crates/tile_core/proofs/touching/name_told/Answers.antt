@@ -1,9 +1,9 @@
 use Rattle.std.proofs.Common.{◌≡◌, ◌<◌, ◌+◌, ℕ, true, false, sym, ap, ◌∙◌, subst, inl, inr, List, length, arith}
 use Rattle.std.specs.Prelude.{Some, slice_get, ◌⊎◌, []}
+use Rattle.std.proofs.lemmas.Option.{slice_get_within}
 use Rattle.ordered_lists.specs.Reading.{stands_at}
 use Rattle.session_mail.specs.Sessions.{State}
 use Rattle.tile_core.specs.Answered.{AreRoomy, StayNamed, is_named}
-use Rattle.tile_core.proofs.Finishing.{within}
 use Rattle.tile_core.proofs.NamedChanges.{is_it, named_all, named_next, room_for_one, stay, still_roomy, with_name}
 use Rattle.tile_core.proofs.touching.name_told.Goals as goal
 use Rattle.tile_core.proofs.touching.name_told.Goals.{then-is_told, else-is_told}
@@ -48,4 +48,4 @@ pub returns-clause-named : goal.returns-clause-named
 returns-clause-named c =
     let l = c.loop-i in
     let xs = c.args.sessions.now in
-    named_all l.touched xs (λ k s at. l.invariant.2 k s (let lt : k < length xs = within xs k s at in omega (arith, lt, c.loop-i-test.false)) at)
+    named_all l.touched xs (λ k s at. l.invariant.2 k s (let lt : k < length xs = slice_get_within xs k s at in omega (arith, lt, c.loop-i-test.false)) at)

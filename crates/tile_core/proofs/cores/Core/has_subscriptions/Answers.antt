@@ -1,13 +1,13 @@
 use Rattle.std.proofs.Common.{◌≡◌, ℕ, true, false, sym, ap, ◌∙◌, subst, List, [], ◌∷◌, length, arith}
 use Rattle.std.specs.Prelude.{nat_lt}
 use Rattle.std.proofs.lemmas.Bool.Decides.{nat_tests}
+use Rattle.ordered_lists.specs.Reading.{got_at}
 use Rattle.world_model.specs.Halls.{session_of}
 use Rattle.world_model.specs.Subscriptions.{Sub, has_subs}
 use Rattle.session_mail.specs.Sessions.{State}
 use Rattle.tile_core.specs.Subscribers.{has_subscriptions}
 use Rattle.tile_core.specs.CoreStates.{CoreState}
 use Rattle.tile_core.specs.Sessions.{AreOthers, IsAt, are_rising}
-use Rattle.tile_core.proofs.Finishing.{read_at}
 use Rattle.tile_core.proofs.Halving.{rising}
 use Rattle.tile_core.proofs.Present.{found, none_found}
 use Rattle.tile_core.proofs.cores.Core.has_subscriptions.Goals as goal
@@ -29,7 +29,7 @@ returns-in-Some c =
     let n = c.args.session in
     let at = subst (λ (xs : List State). IsAt xs n c.in-Some.at) c.as_slice.ensures.value c.in-Some.ensures.found in
     let s = at.session in
-    let is : c.index.result.now ≡ s = c.index.ensures ∙ read_at ss c.in-Some.at s c.index.result.now at.here in
+    let is : c.index.result.now ≡ s = c.index.ensures ∙ got_at ss c.in-Some.at s c.index.result.now at.here in
     let count : c.len.result ≡ length s.subs = c.len.ensures.count ∙ ap length (c.subscriptions.ensures.same ∙ ap (λ (t : State). t.subs) is) in
     subst (λ (v : CoreState). nat_lt 0 c.len.result ≡ has_subscriptions (session_of v.hall n)) c.self.view_is
     (counted c.len.result s.subs count ∙ sym (ap has_subscriptions (found 0 k.drawn ss c.in-Some.at n s c.self.invariant.present.rises at.here at.numbered)))

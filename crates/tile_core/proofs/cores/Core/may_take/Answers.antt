@@ -1,13 +1,13 @@
 use Rattle.std.proofs.Common.{◌≡◌, ℕ, ◌<◌, Bool, true, false, refl, sym, ap, ◌∙◌, subst, List, length, arith}
 use Rattle.std.specs.Prelude.{Decides, nat_lt}
 use Rattle.std.proofs.lemmas.Bool.Decides.{nat_tests}
+use Rattle.ordered_lists.specs.Reading.{got_at}
 use Rattle.session_mail.specs.Sessions.{State}
 use Rattle.tile_core.specs.Answered.{MayTake}
 use Rattle.tile_core.specs.CoreStates.{CoreState}
 use Rattle.tile_core.specs.Sessions.{AreOthers, IsAt, are_rising}
 use Rattle.tile_core.specs.Stores.{hall_of}
 use Rattle.tile_core.proofs.Answered.{no_more_to_take, none_to_take, some_to_take}
-use Rattle.tile_core.proofs.Finishing.{read_at}
 use Rattle.tile_core.proofs.Halving.{rising}
 use Rattle.tile_core.proofs.cores.Core.may_take.Goals as goal
 
@@ -31,7 +31,7 @@ returns-in-Some c =
     let n = c.args.session in
     let at = subst (λ (xs : List State). IsAt xs n c.in-Some.at) c.as_slice.ensures.value c.in-Some.ensures.found in
     let s = at.session in
-    let is : c.index.result.now ≡ s = c.index.ensures ∙ read_at ss c.in-Some.at s c.index.result.now at.here in
+    let is : c.index.result.now ≡ s = c.index.ensures ∙ got_at ss c.in-Some.at s c.index.result.now at.here in
     let count : c.frames.result ≡ length s.mail.frames = c.frames.ensures ∙ ap (λ (t : State). length t.mail.frames) is in
     let rises = c.self.invariant.present.rises in
     subst (λ (v : CoreState). Decides (nat_lt 0 c.frames.result) (MayTake v.hall n)) c.self.view_is

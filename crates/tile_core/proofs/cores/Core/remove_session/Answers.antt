@@ -1,5 +1,6 @@
 use Rattle.std.proofs.Common.{◌≡◌, true, List, sym, subst}
 use Rattle.std.specs.Prelude.{remove}
+use Rattle.std.proofs.lemmas.Option.{slice_get_within}
 use Rattle.world_model.specs.Histories.{Step}
 use Rattle.world_model.specs.declared.events.Event.TheVariants as event
 use Rattle.world_model.specs.declared.events.Outcome.TheVariants as outcome
@@ -10,7 +11,7 @@ use Rattle.tile_core.specs.Stores.{hall_of, ArePresent}
 use Rattle.tile_core.specs.Sessions.{IsAt, AreOthers, are_rising}
 use Rattle.tile_core.proofs.Halving.{rising}
 use Rattle.tile_core.proofs.Takes.{remove_absent, remove_present}
-use Rattle.tile_core.proofs.Finishing.{bare_remove, present_remove, within}
+use Rattle.tile_core.proofs.Finishing.{bare_remove, present_remove}
 use Rattle.tile_core.proofs.cores.Core.remove_session.Goals as goal
 
 pub position_of-requires : goal.position_of-requires
@@ -25,7 +26,7 @@ invariant_of-self c =
     record {
       kept = c.self.invariant.kept;
       early = c.self.invariant.early;
-      present = subst (ArePresent k.drawn) (sym c.remove.ensures.items) (present_remove k.drawn k.sessions.items c.in-Some.at (within k.sessions.items c.in-Some.at at.session at.here) c.self.invariant.present);
+      present = subst (ArePresent k.drawn) (sym c.remove.ensures.items) (present_remove k.drawn k.sessions.items c.in-Some.at (slice_get_within k.sessions.items c.in-Some.at at.session at.here) c.self.invariant.present);
       bare = subst AreBare (sym c.remove.ensures.items) (bare_remove k.sessions.items c.in-Some.at c.self.invariant.bare);
     }
 

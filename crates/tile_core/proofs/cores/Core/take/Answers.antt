@@ -1,5 +1,7 @@
 use Rattle.std.proofs.Common.{◌≡◌, ℕ, ◌<◌, ◌≤◌, true, List, [], length, length-take, take, drop, sym, ap, ◌∙◌, subst, arith}
 use Rattle.std.specs.Prelude.{slice_set, remove}
+use Rattle.std.proofs.lemmas.Option.{slice_get_within}
+use Rattle.ordered_lists.specs.Reading.{got_at}
 use Rattle.world_data.specs.Limits.{take_frames}
 use Rattle.world_data.specs.Frames.{FrameList}
 use Rattle.byte_text.specs.Names.{Bytes}
@@ -14,7 +16,7 @@ use Rattle.tile_core.specs.Stores.{hall_of, ArePresent}
 use Rattle.tile_core.specs.Sessions.{IsAt, AreOthers, is_open, are_rising}
 use Rattle.tile_core.proofs.Halving.{rising}
 use Rattle.tile_core.proofs.Takes.{absent, empty, ended, given}
-use Rattle.tile_core.proofs.Finishing.{bare_at, bare_remove, bare_set, read_at, within, present_set, present_remove}
+use Rattle.tile_core.proofs.Finishing.{bare_at, bare_remove, bare_set, present_set, present_remove}
 use Rattle.tile_core.proofs.cores.Core.take.Goals as goal
 
 some_of : (a b : ℕ) → a ≡ b → 0 < a → 0 < b
@@ -39,7 +41,7 @@ pub invariant_of-self : goal.invariant_of-self
 invariant_of-self c =
     let k = c.self.inside in
     let at = subst (λ (ss : List State). IsAt ss c.args.session c.in-Some.at) c.as_slice.ensures.value c.in-Some.ensures.found in
-    let is : c.index_mut.result.now ≡ at.session = c.index_mut.ensures.value ∙ read_at k.sessions.items c.in-Some.at at.session c.index_mut.result.now at.here in
+    let is : c.index_mut.result.now ≡ at.session = c.index_mut.ensures.value ∙ got_at k.sessions.items c.in-Some.at at.session c.index_mut.result.now at.here in
     let same : c.take_frames.new.self.number ≡ at.session.number = ap (λ (h : Session). h.number) c.take_frames.ensures.left ∙ ap (λ (s : State). s.number) is in
     let staged : c.take_frames.new.self.mail.staged ≡ [] = c.take_frames.ensures.staged ∙ ap (λ (s : State). s.mail.staged) is ∙ bare_at k.sessions.items c.in-Some.at at.session c.self.invariant.bare at.here in
     record { kept = c.self.invariant.kept; early = c.self.invariant.early; present = present_set k.drawn k.sessions.items c.in-Some.at at.session c.take_frames.new.self c.self.invariant.present at.here same; bare = bare_set k.sessions.items c.in-Some.at c.take_frames.new.self c.self.invariant.bare staged }
@@ -48,8 +50,8 @@ pub returns-then-frames-gt0-clause-step : goal.returns-then-frames-gt0-clause-st
 returns-then-frames-gt0-clause-step c =
     let k = c.self.inside in
     let at = subst (λ (ss : List State). IsAt ss c.args.session c.in-Some.at) c.as_slice.ensures.value c.in-Some.ensures.found in
-    let read : c.index.result.now ≡ at.session = c.index.ensures ∙ read_at k.sessions.items c.in-Some.at at.session c.index.result.now at.here in
-    let is : c.index_mut.result.now ≡ at.session = c.index_mut.ensures.value ∙ read_at k.sessions.items c.in-Some.at at.session c.index_mut.result.now at.here in
+    let read : c.index.result.now ≡ at.session = c.index.ensures ∙ got_at k.sessions.items c.in-Some.at at.session c.index.result.now at.here in
+    let is : c.index_mut.result.now ≡ at.session = c.index_mut.ensures.value ∙ got_at k.sessions.items c.in-Some.at at.session c.index_mut.result.now at.here in
     let left : session_of c.take_frames.new.self ≡ record (session_of at.session) { frames = drop take_frames at.session.mail.frames } = c.take_frames.ensures.left ∙ ap (λ (s : State). record (session_of s) { frames = drop take_frames s.mail.frames }) is in
     let count : c.frames.result ≡ length at.session.mail.frames = c.frames.ensures ∙ ap (λ (s : State). length s.mail.frames) read in
     let some : 0 < length at.session.mail.frames = some_of c.frames.result (length at.session.mail.frames) count c.if-frames-gt0.true in
@@ -66,8 +68,8 @@ pub returns-then-is_live-clause-step : goal.returns-then-is_live-clause-step
 returns-then-is_live-clause-step c =
     let k = c.self.inside in
     let at = subst (λ (ss : List State). IsAt ss c.args.session c.in-Some.at) c.as_slice.ensures.value c.in-Some.ensures.found in
-    let is : c.index.result.now ≡ at.session = c.index.ensures ∙ read_at k.sessions.items c.in-Some.at at.session c.index.result.now at.here in
-    let also : c.index-2.result.now ≡ at.session = c.index-2.ensures ∙ read_at k.sessions.items c.in-Some.at at.session c.index-2.result.now at.here in
+    let is : c.index.result.now ≡ at.session = c.index.ensures ∙ got_at k.sessions.items c.in-Some.at at.session c.index.result.now at.here in
+    let also : c.index-2.result.now ≡ at.session = c.index-2.ensures ∙ got_at k.sessions.items c.in-Some.at at.session c.index-2.result.now at.here in
     let none : length at.session.mail.frames ≡ 0 = none_of c.frames.result (length at.session.mail.frames) (c.frames.ensures ∙ ap (λ (s : State). length s.mail.frames) is) c.if-frames-gt0.false in
     let lives = sym (ap is_open also) ∙ sym c.is_live.ensures ∙ c.if-is_live.true in
     let step = empty k.store k.clock k.logged k.drawn k.sessions.items c.args.session c.in-Some.at at.session c.self.invariant.present.rises at.here at.numbered lives none in
@@ -80,7 +82,7 @@ invariant_of-self-2 c =
     record {
       kept = c.self.invariant.kept;
       early = c.self.invariant.early;
-      present = subst (ArePresent k.drawn) (sym c.remove.ensures.items) (present_remove k.drawn k.sessions.items c.in-Some.at (within k.sessions.items c.in-Some.at at.session at.here) c.self.invariant.present);
+      present = subst (ArePresent k.drawn) (sym c.remove.ensures.items) (present_remove k.drawn k.sessions.items c.in-Some.at (slice_get_within k.sessions.items c.in-Some.at at.session at.here) c.self.invariant.present);
       bare = subst AreBare (sym c.remove.ensures.items) (bare_remove k.sessions.items c.in-Some.at c.self.invariant.bare);
     }
 
@@ -88,8 +90,8 @@ pub returns-clause-step : goal.returns-clause-step
 returns-clause-step c =
     let k = c.self.inside in
     let at = subst (λ (ss : List State). IsAt ss c.args.session c.in-Some.at) c.as_slice.ensures.value c.in-Some.ensures.found in
-    let is : c.index.result.now ≡ at.session = c.index.ensures ∙ read_at k.sessions.items c.in-Some.at at.session c.index.result.now at.here in
-    let also : c.index-2.result.now ≡ at.session = c.index-2.ensures ∙ read_at k.sessions.items c.in-Some.at at.session c.index-2.result.now at.here in
+    let is : c.index.result.now ≡ at.session = c.index.ensures ∙ got_at k.sessions.items c.in-Some.at at.session c.index.result.now at.here in
+    let also : c.index-2.result.now ≡ at.session = c.index-2.ensures ∙ got_at k.sessions.items c.in-Some.at at.session c.index-2.result.now at.here in
     let none : length at.session.mail.frames ≡ 0 = none_of c.frames.result (length at.session.mail.frames) (c.frames.ensures ∙ ap (λ (s : State). length s.mail.frames) is) c.if-frames-gt0.false in
     let closed_ = sym (ap is_open also) ∙ sym c.is_live.ensures ∙ c.if-is_live.false in
     let step = ended k.store k.clock k.logged k.drawn k.sessions.items c.args.session c.in-Some.at at.session c.self.invariant.present.rises at.here at.numbered closed_ none in
