@@ -3,6 +3,7 @@ use Rattle.std.proofs.Common.{◌≡◌, ℕ, zero, suc, ◌+◌, ◌-◌, ◌<�
 use Rattle.std.proofs.lemmas.List.{take-append-le, drop-append-le}
 use Rattle.byte_text.specs.Names.{Bytes}
 use Rattle.byte_text.specs.Lines.{bulk_text}
+use Rattle.byte_text.specs.TextLaws.{kept_same}
 use Rattle.byte_text.specs.Requests.{cut, start_of, Ascend, total, max_request}
 
 pub length-cut : (start : ℕ) (ends : List ℕ) (bytes : Bytes) → length (cut start ends bytes) ≡ length ends
@@ -19,11 +20,7 @@ pub cut-push : (start : ℕ) (ends : List ℕ) (bytes word : Bytes) → Ascend s
 cut-push start [] bytes word h =
     let size : length (bytes ++ word) - start ≡ length word = omega (arith, h, length-append bytes word) in
     let behind : drop start (bytes ++ word) ≡ word = drop_at bytes word start (sym h) in
-    ap (λ n. take n (drop start (bytes ++ word)) ∷ []) size ∙ ap (λ t. take (length word) t ∷ []) behind ∙ ap (λ t. t ∷ []) (take_whole word)
-  where
-    take_whole : (w : Bytes) → take (length w) w ≡ w
-    take_whole [] = refl
-    take_whole (x ∷ w) = ap (λ (t : Bytes). x ∷ t) (take_whole w)
+    ap (λ n. take n (drop start (bytes ++ word)) ∷ []) size ∙ ap (λ t. take (length word) t ∷ []) behind ∙ ap (λ t. t ∷ []) (kept_same word)
 cut-push start (e ∷ ends) bytes word h =
     let inside : e ≤ length bytes = last_is_last e ends (length bytes) h.1 in
     let front : drop start (bytes ++ word) ≡ drop start bytes ++ word = drop-append-le start bytes word (omega (arith, inside, h.0)) in

@@ -1,11 +1,13 @@
 -- The readers of canonical numbers answer what their definitions say.
-use Rattle.std.proofs.Common.{arith, ◌≡◌, ℕ, ℤ, pos, negsuc, ◌^◌, ◌<◌, ◌≤◌, int_le, decimal, Ok, Err, Result, Option, Some, None, ◌∙◌, sym, ap, refl, subst, w64, Bool, true, false, true≢false, nat_le, ◌&&◌, if◌then◌else◌, MatchResult}
+use Rattle.std.proofs.Common.{arith, ◌≡◌, ℕ, ℤ, pos, negsuc, ◌^◌, ◌<◌, ◌≤◌, int_le, decimal, Ok, Err, Result, Option, Some, None, ◌∙◌, sym, ap, refl, subst, w64, Bool, true, false, nat_le, ◌&&◌, if◌then◌else◌, MatchResult}
 use Rattle.std.specs.Fmt.{signed_decimal}
+use Rattle.std.specs.Cmp.Derive.{both_true}
 use Rattle.byte_text.specs.ByteOrder.{same_refl, same_equal}
 use Rattle.std.proofs.lemmas.Bool.{le-leb, leb-true}
 use mir.Val.{SFits as FitsSigned}
 use Rattle.byte_text.specs.Names.{Bytes, same}
 use Rattle.byte_text.specs.Numbers.{digits_value, signed_value, whole, natural, number_or_fault, read_natural, read_whole}
+use Rattle.byte_text.specs.TestLaws.{both_of}
 use Rattle.byte_text.specs.NumberLaws.{digits_back, signed_back}
 use Rattle.byte_text.specs.declared.texts.TextFault.{TextFault}
 use Rattle.byte_text.specs.declared.texts.TextFault.TheVariants.{NotNumber}
@@ -38,30 +40,19 @@ natural_fits n = nat_le 0 n && nat_le n 18446744073709551615
 abbrev whole_fits : ℤ → Bool
 whole_fits z = int_le (negsuc 9223372036854775807) z && int_le z (pos 9223372036854775807)
 
-both : (a b : Bool) → a ≡ true → b ≡ true → (a && b) ≡ true
-both a b p q = rw (p, q) refl
-
-second : (a b : Bool) → (a && b) ≡ true → b ≡ true
-second true b e = e
-second false b e = absurd (true≢false (sym e))
-
-first : (a b : Bool) → (a && b) ≡ true → a ≡ true
-first true b e = refl
-first false b e = absurd (true≢false (sym e))
-
 natural_fits_by : (n : ℕ) → n < 2 ^ 64 → natural_fits n ≡ true
-natural_fits_by n small = both _ _ (le-leb 0 n (omega arith)) (le-leb n 18446744073709551615 (omega (arith, small)))
+natural_fits_by n small = both_true (le-leb 0 n (omega arith)) (le-leb n 18446744073709551615 (omega (arith, small)))
 
 by_natural_fits : (n : ℕ) → natural_fits n ≡ true → n < 2 ^ 64
-by_natural_fits n e = omega (arith, leb-true n 18446744073709551615 (second (nat_le 0 n) _ e))
+by_natural_fits n e = omega (arith, leb-true n 18446744073709551615 (both_of (nat_le 0 n) _ e).1)
 
 whole_fits_by : (z : ℤ) → FitsSigned w64 z → whole_fits z ≡ true
 whole_fits_by (pos n) fits = le-leb n 9223372036854775807 (omega (arith, fits.sfits))
-whole_fits_by (negsuc n) fits = both _ _ (le-leb n 9223372036854775807 (omega (arith, fits.sfits))) refl
+whole_fits_by (negsuc n) fits = both_true (le-leb n 9223372036854775807 (omega (arith, fits.sfits))) refl
 
 by_whole_fits : (z : ℤ) → whole_fits z ≡ true → FitsSigned w64 z
 by_whole_fits (pos n) e = let l : n ≤ 9223372036854775807 = leb-true n 9223372036854775807 e in record { sfits = omega (arith, l) }
-by_whole_fits (negsuc n) e = let l : n ≤ 9223372036854775807 = leb-true n 9223372036854775807 (first (int_le (negsuc 9223372036854775807) (negsuc n)) _ e) in record { sfits = omega (arith, l) }
+by_whole_fits (negsuc n) e = let l : n ≤ 9223372036854775807 = leb-true n 9223372036854775807 (both_of (int_le (negsuc 9223372036854775807) (negsuc n)) _ e).0 in record { sfits = omega (arith, l) }
 
 -- the reader's answer is the definition's
 read_natural_by : (w : Bytes) (r : Result ℕ TextFault) (o : Option ℕ) → natural w ≡ o → MatchResult r (λ n. (n < 2 ^ 64) × (w ≡ decimal n)) (λ e. e ≡ NotNumber)

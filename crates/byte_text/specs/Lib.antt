@@ -12,4 +12,7 @@ pub mod LineLaws
 pub mod TextLaws
 pub mod StreamTexts
 pub mod StreamFound
+pub mod Grammars
+pub mod StreamLaws
 pub mod ListLaws
+pub mod TestLaws

@@ -1,5 +1,5 @@
 -- What is read as a request is a request's text.
-use Rattle.std.proofs.Common.{◌≡◌, ℕ, zero, suc, ◌+◌, ◌-◌, ◌*◌, ◌/◌, ◌%◌, ◌<◌, ◌≤◌, ◌^◌, Bool, true, false, nat_le, ◌&&◌, ◌==◌, List, [], ◌∷◌, ◌++◌, length, take, drop, flat_map, decimal, Option, Some, None, IfSome, refl, sym, ap, subst, ◌∙◌, append_assoc, append-nil, arith, if◌then◌else◌, rules, true≢false}
+use Rattle.std.proofs.Common.{◌≡◌, ℕ, zero, suc, ◌+◌, ◌-◌, ◌*◌, ◌/◌, ◌%◌, ◌<◌, ◌≤◌, ◌^◌, Bool, true, false, nat_le, ◌&&◌, ◌==◌, List, [], ◌∷◌, ◌++◌, length, take, drop, flat_map, decimal, Option, Some, None, IfSome, refl, sym, ap, subst, ◌∙◌, append_assoc, append-nil, arith, if◌then◌else◌, rules}
 use Rattle.std.proofs.lemmas.Bool.{leb-true}
 use Rattle.std.proofs.lemmas.List.{take-append-drop, length-take}
 use Rattle.std.proofs.lemmas.Fmt.{decimal_step, decimal_digit}
@@ -9,6 +9,7 @@ use Rattle.byte_text.specs.Requests.{AreShort, request_text, IsRequest, max_word
 use Rattle.byte_text.specs.Streams.{Front, Grammar, ◌>>=◌, ◌>>◌, done, found, begun, broken, read_then, byte, bytes_of, is_digit, with_digit, with_byte, one_more, unless_fault, number_end, number_line, count_limit, word_limit, word, words, request}
 use Rattle.byte_text.specs.declared.faults.RespFault.{RespFault}
 use Rattle.byte_text.specs.declared.faults.RespFault.TheVariants.{BadType, BadEnd, TooMany, TooLong}
+use Rattle.byte_text.specs.TestLaws.{both_of}
 use Rattle.byte_text.specs.LineLaws.{line-append, bulk_text-append}
 use Rattle.byte_text.specs.StreamTexts.{word_end, behind_length, others, with_word, behind_count}
 
@@ -68,14 +69,10 @@ digit_text (Some (suc m)) d n small fits e =
     let last : n % 10 ≡ d = omega (arith, is) in
     rw (decimal_step n (omega (arith, is)) fits, front, last) refl
 
-both_true : (a b : Bool) → (a && b) ≡ true → (a ≡ true) × (b ≡ true)
-both_true true b e = (refl, e)
-both_true false b e = absurd (true≢false (sym e))
-
 -- a byte that goes on with a number is a digit
 byte_text : (so_far : Option ℕ) (b n : ℕ) (t : Bool) → is_digit b ≡ t → n < 2 ^ 64 → (if t then with_digit so_far (b - 48) else None) ≡ Some n → digits_text (Some n) ≡ digits_text so_far ++ b ∷ []
 byte_text so_far b n true t fits e =
-    let h = both_true (nat_le 48 b) (nat_le b 57) t in
+    let h = both_of (nat_le 48 b) (nat_le b 57) t in
     let low : 48 ≤ b = leb-true 48 b h.0 in
     let high : b ≤ 57 = leb-true b 57 h.1 in
     let is : 48 + (b - 48) ≡ b = omega (arith, low) in
@@ -130,7 +127,7 @@ number_found limit i (b ∷ bytes) so_far n r f e = number_test limit i so_far b
 -- ---- words
 
 word_limit_by : (allowed n : ℕ) (t : Bool) → (nat_le n max_word && nat_le n allowed) ≡ t → (if t then None else Some TooLong) ≡ None → (n ≤ max_word) × (n ≤ allowed)
-word_limit_by allowed n true t e = let h = both_true (nat_le n max_word) (nat_le n allowed) t in (leb-true n max_word h.0, leb-true n allowed h.1)
+word_limit_by allowed n true t e = let h = both_of (nat_le n max_word) (nat_le n allowed) t in (leb-true n max_word h.0, leb-true n allowed h.1)
 word_limit_by allowed n false t e = absurd (cc e)
 
 within : (allowed n : ℕ) → word_limit allowed n ≡ None → (n ≤ max_word) × (n ≤ allowed)

@@ -111,6 +111,10 @@ behind_count n = do
   byte 10 BadEnd
   words n max_request
 
+-- it has a byte
+pub text_long : (ws : List Bytes) → 0 < length (request_text ws)
+text_long ws = omega arith
+
 pub request_read : (ws : List Bytes) (x : Bytes) → IsRequest ws → request (request_text ws ++ x) ≡ found ws x
 unfolding request
 request_read ws x is =

@@ -1,9 +1,8 @@
 -- The index has each channel under its slot, as a channel comes, goes, or takes the place of another.
-use Rattle.std.proofs.Common.{◌≡◌, ◌≢◌, ◌+◌, ℕ, true, refl, ap, ◌∙◌, List, [], ◌∷◌, get_or, arith}
+use Rattle.std.proofs.Common.{◌≡◌, ◌≢◌, ℕ, true, refl, ap, ◌∙◌, List, [], ◌∷◌, arith}
 use Rattle.std.specs.Prelude.{Option, Some, option_map, slice_get}
 use Rattle.std.specs.List.{list_all, sum_by, insert, remove}
-use Rattle.std.proofs.lemmas.List.Sums.{sum_by-cons, sum_by-insert, sum_by-remove}
-use Rattle.std.proofs.lemmas.Option.{slice_get_within, get_or_from_slice_get}
+use Rattle.std.proofs.lemmas.List.Sums.{sum_by-cons, sum_by-insert}
 use Rattle.ordered_lists.specs.Lists.{ascends}
 use Rattle.ordered_lists.specs.Reading.{both_of}
 use Rattle.byte_text.specs.Names.{Bytes}
@@ -14,14 +13,9 @@ use Rattle.fence_index.specs.Boxed.{AreSame, IsAmong, IsOneMore, weight_on}
 use Rattle.fence_index.specs.Marks.{mark_of}
 use Rattle.fence_index.specs.Numbered.{AreBoxed, weight_if}
 use Rattle.fence_index.specs.Reasons.{Reason}
+use Rattle.fence_index.specs.SumLaws.{sum_remove}
 use Rattle.channel_hub.specs.Hubs.{mark_in}
 use Rattle.ordered_lists.specs.Slots.{are_other, differs, others_apart}
-
-sum_there : {A : Type 0} (f : A → ℕ) (xs : List A) (at : ℕ) (x : A) → slice_get xs at ≡ Some x → sum_by f (remove xs at) + f x ≡ sum_by f xs
-sum_there f xs at x is =
-    let a = sum_by-remove f xs at x (slice_get_within xs at x is) in
-    let b : f (get_or xs at x) ≡ f x = ap f (get_or_from_slice_get xs at x x is) in
-    omega (arith, a, b)
 
 -- what the channel in a slot weighs under it
 abbrev weight : (ℕ → Option Channel) → Reason → Bytes → (Pair → ℕ) → ℕ → ℕ
@@ -37,7 +31,7 @@ same_boxed f order old new same boxed = λ r key w. same r key w ∙ boxed r key
 pub is_among : (f : ℕ → Option Channel) (order : List ℕ) (boxes : List KeyBoxes) (at s : ℕ) (c : Channel) → slice_get order at ≡ Some s → f s ≡ Some c → AreBoxed (mark_in f) order boxes → IsAmong (mark_of c) s boxes
 is_among f order boxes at s c is has boxed = λ r w.
     let key = c.fence.key in
-    let a = sum_there (weight f r key w) order at s is in
+    let a = sum_remove (weight f r key w) order at s is in
     let b = boxed r key w in
     let d = here_weighs f s c r key w has in
     omega (arith, a, b, d)
@@ -70,7 +64,7 @@ module _ (f g : ℕ → Option Channel) (slot : ℕ) (others : (other : ℕ) →
   boxed_remove order few many at c is apart has more boxed = λ r key w.
       let a = more r key w in
       let b = boxed r key w in
-      let d = sum_there (weight f r key w) order at slot is in
+      let d = sum_remove (weight f r key w) order at slot is in
       let e = sums_there r key w (remove order at) (others_apart order at slot is apart) in
       let h = here_weighs f slot c r key w has in
       omega (arith, a, b, d, e, h)
@@ -82,8 +76,8 @@ module _ (f g : ℕ → Option Channel) (slot : ℕ) (others : (other : ℕ) →
       let a = less r key w in
       let b = more r key w in
       let e = boxed r key w in
-      let h = sum_there (weight f r key w) order at slot is in
-      let i = sum_there (weight g r key w) order at slot is in
+      let h = sum_remove (weight f r key w) order at slot is in
+      let i = sum_remove (weight g r key w) order at slot is in
       let j = sums_there r key w (remove order at) (others_apart order at slot is apart) in
       let k = here_weighs f slot c r key w has in
       let l = here_weighs g slot d r key w gets in

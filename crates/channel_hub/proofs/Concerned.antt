@@ -13,7 +13,7 @@ use Rattle.byte_text.specs.Names.{Bytes, before}
 use Rattle.byte_text.specs.ByteOrder.{same_refl, other_before}
 use Rattle.planar_geom.specs.Points.{Bounds}
 use Rattle.ordered_lists.specs.Lists.{ascends}
-use Rattle.ordered_lists.specs.Reading.{both_of}
+use Rattle.ordered_lists.specs.Reading.{both_of, all-filter}
 use Rattle.world_data.specs.declared.channels.Channel.{Channel}
 use Rattle.world_data.specs.Worlds.{are_channels, channel_before, is_named}
 use Rattle.fence_index.specs.Candidates.{is_named as is_candidate, round_of}
@@ -103,10 +103,6 @@ each_among [] = refl
 each_among (k ∷ ks) =
     let here : list_any (nat_eq k) (k ∷ ks) ≡ true = rw (same_number k) refl in
     rw (here, all_more k ks ks (each_among ks)) refl
-
-all_left : {A : Type 0} (q p : A → Bool) (xs : List A) → list_all q xs ≡ true → list_all q (filter p xs) ≡ true
-all_left q p [] all = refl
-all_left q p (x ∷ xs) all = let ih = all_left q p xs in grind arith
 
 -- those that pass a test, in slots
 
@@ -225,14 +221,14 @@ module _ (f : ℕ → Option Channel) (ks : List ℕ) (xs : List Channel) (store
 
     among : list_all (λ n. list_any (nat_eq n) ks) ns ≡ true
     among =
-        let in_named = all_left (λ n. list_any (nat_eq n) ks) (λ k. q (f k)) ks (each_among ks) in
+        let in_named = all-filter (λ n. list_any (nat_eq n) ks) (λ k. q (f k)) ks (each_among ks) in
         none_sum (λ n. list_any (nat_eq n) ks) ns (sums (λ n. cond (list_any (nat_eq n) ks) 0 1) ∙ sum_none (λ n. list_any (nat_eq n) ks) named in_named)
 
     pub concerned_are : sorted ≡ filter (may_concern key old new) xs
     concerned_are =
         let whole = passing f (may_concern key old new) q (λ c. refl) ks xs stored in
         let own = All-permutation (IsOwn xs) (filter_map f ns) sorted moved (all_own f ks xs stored asc ns among) in
-        let in_named = all_left (λ n. list_any (nat_eq n) ks) (λ k. q (f k)) ks (each_among ks) in
+        let in_named = all-filter (λ n. list_any (nat_eq n) ks) (λ k. q (f k)) ks (each_among ks) in
         let own' = subst (All (IsOwn xs)) whole (all_own f ks xs stored asc named in_named) in
         let names = same_names (map (λ (c : Channel). c.name) sorted) (map (λ (c : Channel). c.name) (filter (may_concern key old new) xs))
         (sorted_rise (map (λ (c : Channel). c.name) sorted) (sorted_map (λ (c : Channel). c.name) (λ x y. is_lt (slice_cmp nat_cmp x y)) sorted up))

@@ -6,9 +6,9 @@ use Rattle.std.proofs.lemmas.Option.{get_or_from_slice_get}
 use Rattle.byte_text.specs.Names.{Bytes}
 use Rattle.ordered_lists.specs.Lists.{put_in}
 use Rattle.world_data.specs.Filters.{Field, field_before, is_zero, last_values, with_values}
+use Rattle.world_data.specs.FieldLaws.{one_given}
 use Rattle.world_model.specs.Commands.{cleared_of}
 use Rattle.cmd_words.specs.Sets.{mark_of}
-use Rattle.cmd_words.specs.GivenFields.{one_given}
 
 abbrev is_kept : Field → Bool
 is_kept f = not (is_zero f)

@@ -5,7 +5,7 @@ use Rattle.std.specs.List.{slice_get}
 use Rattle.std.proofs.lemmas.Grind.{flat_map-append}
 use Rattle.std.proofs.lemmas.List.{append-nil, map-append}
 use Rattle.byte_text.specs.Names.{Bytes}
-use Rattle.world_data.proofs.RequestLaws.{take_next}
+use Rattle.byte_text.specs.ListLaws.{take_next}
 
 module _ {A : Type 0} (xs : List A) (i : ℕ) (x : A) (at : slice_get xs i ≡ Some x) (old into grown : List Bytes) where
   -- the words of the part at a place were put last

@@ -22,7 +22,6 @@ pub mod FenceWords
 pub mod FenceAreas
 pub mod SetchanWords
 pub mod SetchanHead
-pub mod Pays
 pub mod WordsFit
 pub mod Pieces
 pub mod ScanWords

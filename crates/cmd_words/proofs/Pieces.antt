@@ -3,7 +3,8 @@ use Rattle.std.proofs.Common.{◌≡◌, ℕ, refl, List, [], ◌∷◌}
 use Rattle.std.specs.Prelude.{◌==◌}
 use Rattle.std.specs.List.{slice_split, onto_first}
 use Rattle.byte_text.specs.Names.{Bytes}
-use Rattle.world_model.specs.Kinds.{pieces, joins_first}
+use Rattle.geo_text.specs.Texts.{joins_first}
+use Rattle.world_model.specs.Kinds.{pieces}
 
 first_onto : (b : ℕ) (words : List Bytes) → joins_first b words ≡ onto_first b words
 first_onto b [] = refl

@@ -22,7 +22,8 @@ use Rattle.world_model.specs.declared.commands.Command.TheVariants as command
 use Rattle.world_model.specs.FormLaws.{Each, each_append}
 use Rattle.world_model.specs.MadeForms.{Makes, Said, makes_done, makes_or, makes_none, makes_where, makes_word, makes_bind, makes_behind, makes_then, makes_maybe, makes_repeated, spelled_said}
 use Rattle.world_model.specs.SoundLaws.{reads_sound}
-use Rattle.cmd_words.specs.ReadLaws.{when_is, ok_spelled}
+use Rattle.world_model.specs.SoundLaws.{when_is}
+use Rattle.cmd_words.specs.ReadLaws.{ok_spelled}
 use Rattle.cmd_words.specs.Laws.{IsServed, IsOfObject, IsPattern, IsById, IsKept}
 
 abbrev IsName : Bytes → Type 0

@@ -12,8 +12,10 @@ pub mod Searches
 pub mod Laws
 pub mod ShortRequests
 pub mod SmallWords
+pub mod Costs
+pub mod SettingWords
+pub mod SettingSizes
 pub mod LeftWords
 pub mod ReadLaws
-pub mod GivenFields
 pub mod CommandNames
 pub mod NameLists

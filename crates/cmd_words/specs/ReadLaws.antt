@@ -1,14 +1,9 @@
--- A word that is read passed the test of its kind, and a command that is read was spelled.
-use Rattle.std.proofs.Common.{◌≡◌, Bool, true, false, refl, ap, List}
+-- A command that is read was spelled.
+use Rattle.std.proofs.Common.{◌≡◌, ap, List}
 use Rattle.std.specs.Prelude.{Option, Some, None, Ok}
 use Rattle.byte_text.specs.Names.{Bytes}
-use Rattle.world_model.specs.Kinds.{when}
 use Rattle.world_model.specs.Commands.{ok_or_fault}
 use Rattle.world_model.specs.declared.commands.Command.{Command}
-
-pub when_is : {A : Type 0} (test : Bool) (a b : A) → when test a ≡ Some b → (test ≡ true) × (a ≡ b)
-when_is true a b e = (refl, cc e)
-when_is false a b e = absurd (cc e)
 
 pub ok_spelled : (words : List Bytes) (o : Option Command) (c : Command) → ok_or_fault words o ≡ Ok c → o ≡ Some c
 ok_spelled words (Some d) c e = ap Some (cc e)

@@ -7,6 +7,7 @@ use Rattle.ordered_lists.specs.Reading.{both_of}
 use Rattle.world_data.specs.declared.objects.Object.{Object}
 use Rattle.collection.specs.Objects.{earlier, least_due}
 use Rattle.collection.specs.Deadlines.{has_deadline}
+use Rattle.collection.specs.DueLaws.{earlier_assoc}
 
 -- the least of the first deadline and of those behind it
 abbrev least_of : List Object → Option ℕ
@@ -22,15 +23,9 @@ right_none : (a : Option ℕ) → earlier a None ≡ a
 right_none None = refl
 right_none (Some a) = refl
 
-grouped : (a b c : Option ℕ) → earlier (earlier a b) c ≡ earlier a (earlier b c)
-grouped None b c = refl
-grouped (Some a) None c = refl
-grouped (Some a) (Some b) None = refl
-grouped (Some a) (Some b) (Some c) = ap Some (grind arith)
-
 least_from : (found : Option ℕ) (xs : List Object) → fold (λ found o. earlier found o.deadline) found xs ≡ earlier found (least_of xs)
 least_from found [] = sym (right_none found)
-least_from found (x ∷ xs) = least_from (earlier found x.deadline) xs ∙ grouped found x.deadline (least_of xs)
+least_from found (x ∷ xs) = least_from (earlier found x.deadline) xs ∙ earlier_assoc found x.deadline (least_of xs)
 
 least_is : (xs : List Object) → least_due xs ≡ least_of xs
 least_is xs = least_from None xs

@@ -1,10 +1,10 @@
 -- Lists of numbers, no number twice: what is among them, and their places in an order.
 use Rattle.std.proofs.Common.{◌≡◌, ◌<◌, ◌≤◌, ◌+◌, ℕ, zero, suc, Bool, true, false, refl, sym, ap, ◌∙◌, List, [], ◌∷◌, length, take, drop, get_or, arith}
-use Rattle.std.specs.Prelude.{nat_eq, not, ◌&&◌, ◌||◌, filter, slice_get, IfSome, if◌then◌else◌}
+use Rattle.std.specs.Prelude.{nat_eq, not, ◌&&◌, ◌||◌, filter, slice_get, IfSome}
 use Rattle.std.specs.List.{list_all, insert, remove}
 use Rattle.std.proofs.lemmas.Bool.Decides.{nat_tests}
 use Rattle.ordered_lists.specs.Lists.{ascends}
-use Rattle.ordered_lists.specs.Reading.{both_of}
+use Rattle.ordered_lists.specs.Reading.{both_of, filter-most}
 use Rattle.run_list.specs.Runs.{is_cut}
 use Rattle.collection.specs.Deadlines.{is_among}
 use Rattle.collection.specs.Slotted.{are_apart}
@@ -79,17 +79,9 @@ among_without k x (y ∷ ys) =
     let ih = among_without k x ys in
     grind arith
 
-left_of : (q : ℕ → Bool) (ys : List ℕ) → length (filter q ys) ≤ length ys
-left_of q [] = omega arith
-left_of q (y ∷ ys) = one_more (q y) (left_of q ys)
-  where
-    one_more : (b : Bool) → length (filter q ys) ≤ length ys → length (if b then y ∷ filter q ys else filter q ys) ≤ length (y ∷ ys)
-    one_more true le = omega (arith, le)
-    one_more false le = omega (arith, le)
-
 fewer : (x : ℕ) (ys : List ℕ) → is_among x ys ≡ true → length (filter (λ y. not (nat_eq y x)) ys) + 1 ≤ length ys
 fewer x [] any = absurd (cc)
-fewer x (y ∷ ys) any = this_one (nat_eq y x) (nat_eq x y) refl refl (left_of (λ y. not (nat_eq y x)) ys) (fewer x ys)
+fewer x (y ∷ ys) any = this_one (nat_eq y x) (nat_eq x y) refl refl (filter-most (λ y. not (nat_eq y x)) ys) (fewer x ys)
   where
     this_one : (b c : Bool) → nat_eq y x ≡ b → nat_eq x y ≡ c → length (filter (λ y. not (nat_eq y x)) ys) ≤ length ys
         → (is_among x ys ≡ true → length (filter (λ y. not (nat_eq y x)) ys) + 1 ≤ length ys)

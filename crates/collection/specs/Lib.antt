@@ -7,3 +7,4 @@ pub mod Places
 pub mod PlaceLaws
 pub mod Nearing
 pub mod Costs
+pub mod DueLaws

@@ -1,5 +1,5 @@
 -- What is staged for a session is what it hears.
-use Rattle.std.proofs.Common.{◌≡◌, ℕ, ◌==◌, Bool, true, false, refl, ◌∙◌, ap, List, [], ◌∷◌, ◌++◌, arith}
+use Rattle.std.proofs.Common.{◌≡◌, ℕ, ◌==◌, Bool, true, false, refl, ◌∙◌, ap, List, [], ◌∷◌, ◌++◌, append-nil, arith}
 use Rattle.std.specs.Prelude.{map, flat_map, if◌then◌else◌}
 use Rattle.std.specs.List.{AllByRecursion}
 use Rattle.std.proofs.lemmas.Bool.Decides.{nat_tests}
@@ -9,6 +9,7 @@ use Rattle.fence_model.specs.Messages.{Message, messages}
 use Rattle.fence_model.specs.Writes.{Write}
 use Rattle.world_model.specs.Halls.{Session, is_live, is_session, frames_for, sent_to, deliveries_of, deliveries}
 use Rattle.world_data.specs.declared.worlds.World.{World}
+use Rattle.world_model.specs.SessionLaws.{other_way}
 use Rattle.deliveries.specs.Staging.{Delivery, HaveOwnNumbers, staged, frames_to, all_to, listens, frames_each, heard_of, heard}
 use Rattle.deliveries.specs.Placing.{all_by}
 
@@ -32,9 +33,6 @@ pub to_other : (n k : ℕ) (frames : List Bytes) → (n == k) ≡ false → fram
 to_other n k [] e = refl
 to_other n k (f ∷ frames) e = rw e (to_other n k frames e)
 
-other_way : (a b : ℕ) → (a == b) ≡ false → (b == a) ≡ false
-other_way a b e = grind (arith, nat_tests)
-
 pub sent_is : (m : Message) (s : Session) → sent_to m s ≡ all_to s.number (frames_for m (listens s))
 sent_is m s = by (is_live s)
   where
@@ -50,10 +48,6 @@ to_none n m (s ∷ sessions) all =
     to_append n (sent_to m s) (flat_map (sent_to m) sessions)
     ∙ ap (λ (fs : List Bytes). fs ++ frames_to n (flat_map (sent_to m) sessions)) (ap (frames_to n) (sent_is m s) ∙ to_other n s.number (frames_for m (listens s)) (other_way s.number n all.0))
     ∙ to_none n m sessions all.1
-
-all_there : (fs : List Bytes) → fs ++ [] ≡ fs
-all_there [] = refl
-all_there (f ∷ fs) = ap (λ (gs : List Bytes). f ∷ gs) (all_there fs)
 
 -- each session is sent a message that it hears
 abbrev Gets : List Session → Session → Type 0
@@ -75,7 +69,7 @@ all_get (s ∷ sessions) own = (
   (λ m. to_append s.number (sent_to m s) (flat_map (sent_to m) sessions)
       ∙ ap (λ (fs : List Bytes). fs ++ frames_to s.number (flat_map (sent_to m) sessions)) (ap (frames_to s.number) (sent_is m s) ∙ to_own s.number (frames_for m (listens s)))
       ∙ ap (λ (fs : List Bytes). frames_for m (listens s) ++ fs) (to_none s.number m sessions own.0)
-      ∙ all_there (frames_for m (listens s))),
+      ∙ append-nil (frames_for m (listens s))),
   all_by (λ t. (is_session s.number t ≡ false) × Gets sessions t) (Gets (s ∷ sessions)) (one_more s sessions) sessions
       (both (λ t. is_session s.number t ≡ false) (Gets sessions) sessions own.0 (all_get sessions own.1)),
 )

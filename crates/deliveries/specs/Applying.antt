@@ -1,7 +1,8 @@
 -- Changes in order, session by session, and by what is staged.
-use Rattle.std.proofs.Common.{◌≡◌, inl, inr, ℕ, ◌+◌, ◌≤◌, ◌==◌, Bool, true, false, ◌&&◌, length, length-append, refl, sym, ◌∙◌, ap, List, [], ◌∷◌, ◌++◌, arith}
+use Rattle.std.proofs.Common.{◌≡◌, inl, inr, ℕ, ◌+◌, ◌≤◌, ◌==◌, Bool, true, false, ◌&&◌, length, length-append, refl, sym, ◌∙◌, ap, List, [], ◌∷◌, ◌++◌, append-nil, append_assoc, arith}
 use Rattle.std.specs.Prelude.{map, nat_le}
 use Rattle.std.specs.List.{AllByRecursion}
+use Rattle.std.proofs.Math.Bool.{and-false}
 use Rattle.std.proofs.lemmas.List.Sums.{sum_by-append}
 use Rattle.std.proofs.lemmas.Bool.Decides.{nat_tests}
 use Rattle.byte_text.specs.Names.{Bytes}
@@ -80,19 +81,11 @@ no_more_room s (g ∷ fs) (f ∷ frames) e =
     (nat_le (length s.frames + length (f ∷ frames)) cap_frames) (nat_le (frame_bytes s.frames + frame_bytes (f ∷ frames)) cap_bytes) refl refl
     (omega (arith, length-append (g ∷ fs) (f ∷ frames))) (omega (arith, sum_by-append length (g ∷ fs) (f ∷ frames))) e
   where
-    and_false : (z : Bool) → (z && false) ≡ false
-    and_false true = refl
-    and_false false = refl
-
     less_room : (a b m k l t : ℕ) (x y : Bool) → nat_le (a + m) cap_frames ≡ x → nat_le (b + l) cap_bytes ≡ y → m ≤ k → l ≤ t → (x && y) ≡ false
         → (nat_le (a + k) cap_frames && nat_le (b + t) cap_bytes) ≡ false
     less_room a b m k l t true true p q u v e = absurd (cc)
-    less_room a b m k l t true false p q u v e = let f : nat_le (b + t) cap_bytes ≡ false = grind (arith, nat_tests) in rw f (and_false (nat_le (a + k) cap_frames))
+    less_room a b m k l t true false p q u v e = let f : nat_le (b + t) cap_bytes ≡ false = grind (arith, nat_tests) in rw f (and-false (nat_le (a + k) cap_frames))
     less_room a b m k l t false y p q u v e = let f : nat_le (a + k) cap_frames ≡ false = grind (arith, nat_tests) in rw f refl
-
-all_there : (fs : List Bytes) → fs ++ [] ≡ fs
-all_there [] = refl
-all_there (f ∷ fs) = ap (λ (gs : List Bytes). f ∷ gs) (all_there fs)
 
 -- without room it is cut on the way, and takes nothing more
 cut_behind : (s : Session) (fs some rest : List Bytes) (b : Bool) → is_live s ≡ b → has_room_for s some ≡ false
@@ -109,7 +102,7 @@ cut_behind s fs some rest false e no_room =
 pub suffices : (s : Session) (fs all some : List Bytes) → Suffice s.frames all some
     → placed_each (placed_each s fs) all ≡ placed_each (placed_each s fs) some
 suffices s fs all some f = ap (placed_each (placed_each s fs)) f.front ∙ elim f.enough [
-  | inl none ↦ ap (λ (rest : List Bytes). placed_each (placed_each s fs) (some ++ rest)) none ∙ ap (placed_each (placed_each s fs)) (all_there some)
+  | inl none ↦ ap (λ (rest : List Bytes). placed_each (placed_each s fs) (some ++ rest)) none ∙ ap (placed_each (placed_each s fs)) (append-nil some)
   | inr no_room ↦ cut_behind s fs some f.rest (is_live s) refl no_room
 ]
 
@@ -150,7 +143,7 @@ apply_staged h writes fs ss o e list has =
 -- what is staged with the sessions of the start is such a list
 pub staged_is : (w : World) (ss : List Session) (writes : List Write) → HaveOwnNumbers ss → AreStaged w writes ss (staged w ss writes)
 staged_is w ss writes o = all_by (λ s. frames_to s.number (staged w ss writes) ≡ heard w writes (listens s)) (λ s. Suffice s.frames (heard w writes (listens s)) (frames_to s.number (staged w ss writes)))
-    (λ s e. record { rest = []; front = sym e ∙ sym (all_there (frames_to s.number (staged w ss writes))); enough = inl refl }) ss (addressed w writes ss o)
+    (λ s e. record { rest = []; front = sym e ∙ sym (append-nil (frames_to s.number (staged w ss writes))); enough = inl refl }) ss (addressed w writes ss o)
 
 pub staging_sound : (h : Hall) (writes : List Write) → HaveOwnNumbers h.sessions
     → apply_all h writes ≡ place_all (record h { world = after_all h.world writes; logged = h.logged + records_len writes }) (staged h.world h.sessions writes)
@@ -163,13 +156,9 @@ pub lists_serve : (h : Hall) (writes : List Write) (before : List Session) (betw
     → apply_all h writes ≡ record h { world = after_all h.world writes; logged = h.logged + records_len writes; sessions = placed_all h.sessions list }
 lists_serve h writes before between list o e has = apply_staged h writes (λ s. frames_to s.number between) before o (e ∙ own before between) list has
 
-append_twice : (a b c : List Bytes) → (a ++ b) ++ c ≡ a ++ (b ++ c)
-append_twice [] b c = refl
-append_twice (x ∷ a) b c = ap (λ (fs : List Bytes). x ∷ fs) (append_twice a b c)
-
 pub enough : (s : Session) (all some more : List Bytes) → Suffice s.frames all some → has_room_for s some ≡ false
     → Suffice s.frames (all ++ more) some
-enough s all some more f no_room = record { rest = f.rest ++ more; front = ap (λ (fs : List Bytes). fs ++ more) f.front ∙ append_twice some f.rest more; enough = inr no_room }
+enough s all some more f no_room = record { rest = f.rest ++ more; front = ap (λ (fs : List Bytes). fs ++ more) f.front ∙ append_assoc some f.rest more; enough = inr no_room }
 
 pub all_suffice : (s : Session) (all : List Bytes) → Suffice s.frames all all
-all_suffice s all = record { rest = []; front = sym (all_there all); enough = inl refl }
+all_suffice s all = record { rest = []; front = sym (append-nil all); enough = inl refl }

@@ -1,5 +1,5 @@
 -- A call, session by session: each is brought all that it hears of what is due and of the call, and then the caller has its replies.
-use Rattle.std.proofs.Common.{◌≡◌, inl, inr, ℕ, ◌+◌, ◌==◌, max, Bool, true, false, ◌&&◌, refl, sym, ◌∙◌, ap, subst, List, [], ◌∷◌, ◌++◌, arith}
+use Rattle.std.proofs.Common.{◌≡◌, inl, inr, ℕ, ◌+◌, ◌==◌, max, Bool, true, false, ◌&&◌, refl, sym, ◌∙◌, ap, subst, List, [], ◌∷◌, ◌++◌, append-nil, arith}
 use Rattle.std.specs.Prelude.{◌⊎◌, Option, Some, None, find, map, Result, Ok, Err, if◌then◌else◌}
 use Rattle.std.specs.List.{AllByRecursion}
 use Rattle.std.proofs.lemmas.Bool.Decides.{nat_tests}
@@ -25,10 +25,6 @@ use Rattle.deliveries.specs.Quiet.{heard_none, heard_append}
 use Rattle.deliveries.specs.Effects.{four_keep}
 use Rattle.deliveries.specs.Calls.{plan_does_call}
 use Rattle.deliveries.specs.Serving.{found_holds}
-
-append_none : (fs : List Bytes) → fs ++ [] ≡ fs
-append_none [] = refl
-append_none (f ∷ fs) = ap (λ (gs : List Bytes). f ∷ gs) (append_none fs)
 
 changed_number : (b : Bool) (subs : List Sub) (s : Session) → (if b then subscribing subs s else s).number ≡ s.number
 changed_number true subs s = refl
@@ -88,7 +84,7 @@ module _ (w : World) (first second : List Write) (subs : List Sub) (n : ℕ) (fr
   one_same : (s : Session) → Knows s → frames_to s.number brings ≡ [] → brought_to (replied (joins (due_to s))) ≡ replied (joins (all_to_it s))
   one_same s k none =
       let t = due_to s in
-      let same : t ≡ all_to_it s = ap (placed_each s) (sym (hears_all s k ∙ ap (λ (fs : List Bytes). frames_to s.number dues ++ fs) none ∙ append_none (frames_to s.number dues))) in
+      let same : t ≡ all_to_it s = ap (placed_each s) (sym (hears_all s k ∙ ap (λ (fs : List Bytes). frames_to s.number dues ++ fs) none ∙ append-nil (frames_to s.number dues))) in
       brings_none s (replied (joins t)) (number_stays s t (each_number s (frames_to s.number dues))) none
       ∙ ap (λ (x : Session). replied (joins x)) same
 

@@ -15,11 +15,12 @@ use Rattle.world_data.specs.Frames.{frame_bytes}
 use Rattle.world_model.specs.Histories.{is_full}
 use Rattle.world_data.specs.declared.worlds.World.{World}
 use Rattle.world_model.specs.declared.events.Asked.{Asked}
+use Rattle.world_model.specs.SessionLaws.{found_number}
 use Rattle.deliveries.specs.Staging.{HaveOwnNumbers, after_all, records_len, staged, frames_to, all_to, placed_all, has_room_for, listens, heard}
 use Rattle.deliveries.specs.Plans.{Part, CallPlan, IsPartOf, IsCallPlan, IsAnswer, FitBehind, IsReplied, caller_behind, effect_of_asked, part_of, part_if, subscribing, ending, finish}
 use Rattle.deliveries.specs.Addressing.{addressed, to_own}
 use Rattle.deliveries.specs.Applying.{staged_is}
-use Rattle.deliveries.specs.Serving.{takes_all, found_holds, found_number, number_is}
+use Rattle.deliveries.specs.Serving.{takes_all, found_holds, number_is}
 use Rattle.deliveries.specs.Calls.{plan_does_call, due_staged}
 use Rattle.deliveries.specs.Quiet.{heard_none}
 use Rattle.deliveries.specs.Touched.{placed_some, caller_some}

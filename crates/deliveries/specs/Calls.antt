@@ -17,11 +17,12 @@ use Rattle.world_model.specs.declared.commands.Command.{Command}
 use Rattle.world_model.specs.declared.faults.WordFault.{WordFault}
 use Rattle.world_model.specs.declared.events.Asked.{Asked}
 use Rattle.world_model.specs.declared.events.Asked.TheVariants.{Words, Broken}
+use Rattle.world_model.specs.SessionLaws.{found_number}
 use Rattle.deliveries.specs.Staging.{AreStaged, Suffice, Delivery, HaveOwnNumbers, after_all, records_len, staged, frames_to, all_to, changed_at, placed_all, has_room_for}
 use Rattle.deliveries.specs.Plans.{Part, CallPlan, IsPart, IsPartOf, IsCallPlan, SubscribesOrChanges, caller_behind, effect_of_read, effect_of_asked, subscribing, ended_if, with_part, with_parts, last_world, part_length, finish}
 use Rattle.deliveries.specs.Placing.{map_same, all_by, of_sessions, own, map_none, map_twice, each_append, dead_takes_none, each_number}
 use Rattle.deliveries.specs.Applying.{apply_staged, staged_is}
-use Rattle.deliveries.specs.Serving.{found_placed, found_number, number_is, lives_on, takes_all}
+use Rattle.deliveries.specs.Serving.{found_placed, number_is, lives_on, takes_all}
 use Rattle.deliveries.specs.Effects.{either}
 
 -- the steps of an effect, in the sessions alone

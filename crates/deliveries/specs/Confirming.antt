@@ -8,17 +8,19 @@ use Rattle.std.proofs.lemmas.Fmt.{length-decimal-le}
 use Rattle.byte_text.specs.Names.{Bytes, max_name}
 use Rattle.byte_text.specs.Lines.{line, line_end, bulk_text}
 use Rattle.byte_text.specs.Requests.{max_words}
-use Rattle.byte_text.specs.Replies.{frame_text, array, bulk, number}
+use Rattle.byte_text.specs.Replies.{frame_text}
 use Rattle.world_data.specs.Limits.{max_reply, max_subs}
 use Rattle.world_model.specs.Subscriptions.{Sub, same_sub, has_subs, with_sub, with_subs}
-use Rattle.world_model.specs.Replies.{confirmations}
+use Rattle.world_model.specs.Replies.{confirmation, confirmations}
 use Rattle.world_model.specs.declared.faults.Refusal.TheVariants as refusal
 use Rattle.world_model.specs.Effects.{Effect, refuses, subscribe_effect, within_reply, effect}
 use Rattle.world_data.specs.Frames.{frame_bytes}
 use Rattle.world_data.specs.declared.worlds.World.{World}
 use Rattle.world_model.specs.declared.commands.Command.{Command}
 use Rattle.world_model.specs.declared.commands.Command.TheVariants as command
-use Rattle.deliveries.specs.Plans.{FitBehind, HasShortWords, subscribes}
+use Rattle.deliveries.specs.Plans.{FitBehind, HasShortWords, subs_of, subscribes}
+
+-- one confirmation is short
 
 digits : (n : ℕ) → n < 2 ^ 64 → length (decimal n) ≤ 20
 digits n lt = length-decimal-le 20 n (omega arith) (omega (arith, lt)) lt
@@ -32,12 +34,11 @@ bulk_len b lt = let d = digits (length b) lt in omega (arith, d, length-append (
 joined_len : (a b c d : Bytes) → length a ≤ 30 → length b ≤ 40 → length c ≤ 290 → length d ≤ 30 → length (a ++ (b ++ (c ++ (d ++ [])))) ≤ 400
 joined_len a b c d p q r s = omega (arith, p, q, r, s, length-append a (b ++ (c ++ (d ++ []))), length-append b (c ++ (d ++ [])), length-append c (d ++ []), length-append d [])
 
-frame_len : (called word : Bytes) (k : ℕ) → length called ≤ 10 → length word ≤ max_name → k < 2 ^ 64
-    → length (frame_text (array (bulk called ∷ bulk word ∷ number k ∷ []))) ≤ 400
-frame_len called word k p q r =
-    joined_len (line 42 (decimal 3)) (bulk_text called) (bulk_text word) (line 58 (decimal k)) (omega (arith, digits 3 (omega arith), line_len 42 (decimal 3)))
+pub confirmation_len : (called : Bytes) (s : Sub) (k : ℕ) → length called ≤ 10 → length s.word ≤ max_name → k < 2 ^ 64 → length (frame_text (confirmation called (s, k))) ≤ 400
+confirmation_len called s k p q r =
+    joined_len (line 42 (decimal 3)) (bulk_text called) (bulk_text s.word) (line 58 (decimal k)) (omega (arith, digits 3 (omega arith), line_len 42 (decimal 3)))
     (omega (arith, p, bulk_len called (omega (arith, p))))
-    (omega (arith, q, bulk_len word (omega (arith, q))))
+    (omega (arith, q, bulk_len s.word (omega (arith, q))))
     (omega (arith, digits k r, line_len 58 (decimal k)))
 
 with_len : (held : List Sub) (s : Sub) → length (with_sub held s) ≤ length held + 1
@@ -47,7 +48,7 @@ with_len held s = by (list_any (same_sub s) held)
     by true = omega arith
     by false = omega (arith, length-append held (s ∷ []))
 
-abbrev AreShort : List Sub → Type 0
+abbrev pub AreShort : List Sub → Type 0
 AreShort subs = AllByRecursion (λ s. length s.word ≤ max_name) subs
 
 abbrev frames_of : Bytes → List Sub → List Sub → List Bytes
@@ -63,8 +64,8 @@ bytes_of called held [] p a b = omega arith
 bytes_of called held (s ∷ subs) p a b =
     let more = with_len held s in
     let ih = bytes_of called (with_sub held s) subs p a.1 (omega (arith, b, more)) in
-    let one = frame_len called s.word (length (with_sub held s)) p a.0 (omega (arith, b, more)) in
-    omega (arith, ih, one, sum_by-cons length (frame_text (array (bulk called ∷ bulk s.word ∷ number (length (with_sub held s)) ∷ []))) (frames_of called (with_sub held s) subs))
+    let one = confirmation_len called s (length (with_sub held s)) p a.0 (omega (arith, b, more)) in
+    omega (arith, ih, one, sum_by-cons length (frame_text (confirmation called (s, length (with_sub held s)))) (frames_of called (with_sub held s) subs))
 
 -- all but the confirmations are short refusals
 record Fits (e : Effect) : Type 0 where
@@ -74,10 +75,7 @@ if_fits : (b : Bool) (e f : Effect) → Fits e → Fits f → Fits (if b then e 
 if_fits true e f p q = p
 if_fits false e f p q = q
 
-abbrev subs_of : Bool → List Bytes → List Sub
-subs_of pattern words = map (λ n. record { pattern = pattern; word = n }) words
-
-short_subs : (pattern : Bool) (words : List Bytes) → AllByRecursion (λ w. length w ≤ max_name) words → AreShort (subs_of pattern words)
+pub short_subs : (pattern : Bool) (words : List Bytes) → AllByRecursion (λ w. length w ≤ max_name) words → AreShort (subs_of pattern words)
 short_subs pattern [] all = tt
 short_subs pattern (w ∷ words) all = (all.0, short_subs pattern words all.1)
 

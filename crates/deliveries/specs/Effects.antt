@@ -1,6 +1,6 @@
 -- What effects are made of: one reply and no subscription, or subscriptions and no change.
 use Rattle.std.proofs.Common.{◌≡◌, inl, inr, ℕ, ◌≤◌, ◌==◌, ◌+◌, ◌*◌, Bool, true, false, not, ◌&&◌, refl, sym, ap, ◌∙◌, lit≤, List, [], ◌∷◌, length, arith}
-use Rattle.std.specs.Prelude.{map, Option, Some, None, Result, Ok, Err, nat_le, nat_lt, is_none, codes, if◌then◌else◌}
+use Rattle.std.specs.Prelude.{Option, Some, None, Result, Ok, Err, nat_le, nat_lt, is_none, codes, if◌then◌else◌}
 use Rattle.std.specs.List.{AllByRecursion, list_all}
 use Rattle.std.proofs.lemmas.Bool.Decides.{nat_tests}
 use Rattle.byte_text.specs.Names.{Bytes}
@@ -30,7 +30,7 @@ use Rattle.world_model.specs.declared.faults.WordFault.{WordFault}
 use Rattle.world_model.specs.declared.events.Asked.{Asked}
 use Rattle.world_model.specs.declared.events.Asked.TheVariants.{Words, Broken}
 use Rattle.world_model.specs.Commands.{reads}
-use Rattle.deliveries.specs.Plans.{IsAnswer, SubscribesOrChanges, subscribes, effect_of_read, effect_of_asked}
+use Rattle.deliveries.specs.Plans.{IsAnswer, SubscribesOrChanges, subs_of, subscribes, effect_of_read, effect_of_asked}
 
 -- one reply and no subscription
 record IsPlain (e : Effect) : Type 0 where
@@ -181,9 +181,6 @@ subscribe_keeps called held subs =
     let e : Effect = subscribe_effect called held subs in
     let p : Keeps e = if_keeps (nat_lt max_subs (length (with_subs held subs))) (refuses refusal.TooManySubscriptions) (record { replies = confirmations called held subs; subs = subs; writes = []; closes = false }) (no_change _ _ _) (no_change _ _ _) in
     if_keeps (list_all (λ r. nat_le (length (frame_text r)) max_reply) e.replies) e (refuses refusal.ReplyTooLong) p (no_change _ _ _)
-
-abbrev subs_of : Bool → List Bytes → List Sub
-subs_of pattern words = map (λ n. record { pattern = pattern; word = n }) words
 
 both_keep : (w : World) (now : ℕ) (held : List Sub) (c : Command) → subscribes c ≡ true → Keeps (effect w now held c)
 unfolding effect

@@ -1,26 +1,16 @@
 -- Placing a list: each session takes the frames that are for its number.
-use Rattle.std.proofs.Common.{◌≡◌, ◌⊎◌, inl, inr, ℕ, Bool, true, false, not, refl, sym, ◌∙◌, ap, List, [], ◌∷◌, ◌++◌}
+use Rattle.std.proofs.Common.{◌≡◌, ◌⊎◌, inl, inr, ℕ, Bool, true, false, refl, sym, ◌∙◌, ap, List, [], ◌∷◌, ◌++◌}
 use Rattle.std.specs.Prelude.{map, if◌then◌else◌}
 use Rattle.std.specs.List.{AllByRecursion}
 use Rattle.byte_text.specs.Names.{Bytes}
 use Rattle.world_model.specs.Halls.{Hall, Session, cut, is_live, is_session, has_room, placed, placed_each, place, place_all}
+pub use Rattle.world_model.specs.SessionLaws.{placed_number, each_append}
 use Rattle.deliveries.specs.Staging.{Delivery, frames_to, changed_at, placed_all, listens}
 
 -- placing keeps a session's number
-number_of : (b : Bool) (s t : Session) (n : ℕ) → s.number ≡ n → t.number ≡ n → (if b then s else t).number ≡ n
-number_of true s t n p q = p
-number_of false s t n p q = q
-
-pub placed_number : (frame : Bytes) (s : Session) → (placed frame s).number ≡ s.number
-placed_number frame s = number_of (not (is_live s)) s _ s.number refl (number_of (has_room s frame) _ _ s.number refl refl)
-
 pub each_number : (s : Session) (frames : List Bytes) → (placed_each s frames).number ≡ s.number
 each_number s [] = refl
 each_number s (f ∷ frames) = each_number (placed f s) frames ∙ placed_number f s
-
-pub each_append : (s : Session) (a b : List Bytes) → placed_each s (a ++ b) ≡ placed_each (placed_each s a) b
-each_append s [] b = refl
-each_append s (f ∷ a) b = each_append (placed f s) a b
 
 -- maps over sessions
 pub map_twice : (f g k : Session → Session) → ((s : Session) → f (g s) ≡ k s) → (ss : List Session) → map f (map g ss) ≡ map k ss
@@ -67,15 +57,12 @@ of_sessions h (d ∷ list) = of_sessions (place h d) list
 
 -- placing leaves a session that is served with its subscriptions, or cuts it
 
-dead : (s : Session) (frames : List Bytes) → is_live s ≡ false → placed_each s frames ≡ s
-dead s [] e = refl
-dead s (f ∷ frames) e = ap (λ (t : Session). placed_each t frames) (still f e) ∙ dead s frames e
+pub dead_takes_none : (s : Session) (frames : List Bytes) → is_live s ≡ false → placed_each s frames ≡ s
+dead_takes_none s [] e = refl
+dead_takes_none s (f ∷ frames) e = ap (λ (t : Session). placed_each t frames) (still f e) ∙ dead_takes_none s frames e
   where
     still : (f : Bytes) → is_live s ≡ false → placed f s ≡ s
     still f e = rw e refl
-
-pub dead_takes_none : (s : Session) (frames : List Bytes) → is_live s ≡ false → placed_each s frames ≡ s
-dead_takes_none = dead
 
 pub takes_it : (s : Session) (f : Bytes) → is_live s ≡ true → has_room s f ≡ true → placed f s ≡ record s { frames = s.frames ++ f ∷ [] }
 takes_it s f e r = rw (e, r) refl
@@ -88,7 +75,7 @@ step_hears : (s : Session) (f : Bytes) → (listens (placed f s) ≡ listens s) 
 step_hears s f = by (is_live s) refl (has_room s f) refl
   where
     by : (a : Bool) → is_live s ≡ a → (b : Bool) → has_room s f ≡ b → (listens (placed f s) ≡ listens s) ⊎ (is_live (placed f s) ≡ false)
-    by false e b r = inl (ap listens (dead s (f ∷ []) e))
+    by false e b r = inl (ap listens (dead_takes_none s (f ∷ []) e))
     by true e true r = inl (ap listens (takes_it s f e r))
     by true e false r = inr (ap is_live (is_cut s f e r))
 
@@ -96,5 +83,5 @@ pub each_hears : (s : Session) (frames : List Bytes) → (listens (placed_each s
 each_hears s [] = inl refl
 each_hears s (f ∷ frames) = elim (step_hears s f) [
   | inl e ↦ elim (each_hears (placed f s) frames) [ inl g ↦ inl (g ∙ e) | inr g ↦ inr g ]
-  | inr e ↦ inr (ap is_live (dead (placed f s) frames e) ∙ e)
+  | inr e ↦ inr (ap is_live (dead_takes_none (placed f s) frames e) ∙ e)
 ]

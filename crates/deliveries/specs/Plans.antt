@@ -169,6 +169,10 @@ pub record IsReplied (old new : Option Session) (frames : List Bytes) : Type 0 w
   pub placed : after.frames ≡ before.frames ++ frames
   pub uncut : after.stage ≢ cut
 
+-- a subscription to each of the words
+abbrev pub subs_of : Bool → List Bytes → List Sub
+subs_of pattern words = map (λ n. record { pattern = pattern; word = n }) words
+
 -- the words of a command that subscribes are no more and no longer than those of a request
 abbrev pub HasShortWords : Command → Type 0
 HasShortWords (command.Subscribe words) = (length words ≤ max_words) × AllByRecursion (λ w. length w ≤ max_name) words

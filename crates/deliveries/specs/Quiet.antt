@@ -1,5 +1,5 @@
 -- Where no frame is staged.
-use Rattle.std.proofs.Common.{◌≡◌, Bool, true, false, refl, sym, ◌∙◌, ap, List, [], ◌∷◌, ◌++◌}
+use Rattle.std.proofs.Common.{◌≡◌, Bool, true, false, refl, sym, ◌∙◌, ap, List, [], ◌∷◌, ◌++◌, append_assoc}
 use Rattle.std.specs.Prelude.{flat_map, if◌then◌else◌}
 use Rattle.std.specs.List.{AllByRecursion}
 use Rattle.byte_text.specs.Names.{Bytes}
@@ -75,24 +75,16 @@ dels_of_objects [] = tt
 dels_of_objects (o ∷ os) = (tt, dels_of_objects os)
 
 -- in turn
-append_assoc_ : (a b c : List Delivery) → (a ++ b) ++ c ≡ a ++ (b ++ c)
-append_assoc_ [] b c = refl
-append_assoc_ (x ∷ a) b c = ap (λ (list : List Delivery). x ∷ list) (append_assoc_ a b c)
-
 pub staged_append : (w : World) (ss : List Session) (a b : List Write) → staged w ss (a ++ b) ≡ staged w ss a ++ staged (after_all w a) ss b
 staged_append w ss [] b = refl
-staged_append w ss (d ∷ a) b = ap (λ (list : List Delivery). deliveries w ss d ++ list) (staged_append (after w d.change) ss a b) ∙ sym (append_assoc_ (deliveries w ss d) (staged (after w d.change) ss a) (staged (after_all (after w d.change) a) ss b))
+staged_append w ss (d ∷ a) b = ap (λ (list : List Delivery). deliveries w ss d ++ list) (staged_append (after w d.change) ss a b) ∙ sym (append_assoc (deliveries w ss d) (staged (after w d.change) ss a) (staged (after_all (after w d.change) a) ss b))
 
 pub after_append : (w : World) (a b : List Write) → after_all w (a ++ b) ≡ after_all (after_all w a) b
 after_append w [] b = refl
 after_append w (d ∷ a) b = after_append (after w d.change) a b
 
-append_frames : (a b c : List Bytes) → (a ++ b) ++ c ≡ a ++ (b ++ c)
-append_frames [] b c = refl
-append_frames (x ∷ a) b c = ap (λ (frames : List Bytes). x ∷ frames) (append_frames a b c)
-
 pub heard_append : (w : World) (a b : List Write) (subs : List Sub) → heard w (a ++ b) subs ≡ heard w a subs ++ heard (after_all w a) b subs
 heard_append w [] b subs = refl
 heard_append w (d ∷ a) b subs =
     ap (λ (frames : List Bytes). heard_of w d subs ++ frames) (heard_append (after w d.change) a b subs)
-    ∙ sym (append_frames (heard_of w d subs) (heard (after w d.change) a subs) (heard (after_all (after w d.change) a) b subs))
+    ∙ sym (append_assoc (heard_of w d subs) (heard (after w d.change) a subs) (heard (after_all (after w d.change) a) b subs))

@@ -1,27 +1,17 @@
 -- Sessions found by number, and whether one is still served behind frames that were placed on it.
-use Rattle.std.proofs.Common.{◌≡◌, ℕ, ◌+◌, ◌==◌, ◌≤◌, Bool, true, false, ◌&&◌, refl, sym, ◌∙◌, ap, subst, List, [], ◌∷◌, ◌++◌, length, length-append, arith}
-use Rattle.std.specs.Prelude.{Some, find, map, option_map, nat_lt, nat_le, if◌then◌else◌}
+use Rattle.std.proofs.Common.{◌≡◌, ℕ, ◌+◌, ◌≤◌, Bool, true, false, ◌&&◌, refl, sym, ◌∙◌, ap, subst, List, [], ◌∷◌, ◌++◌, append-nil, length, length-append, arith}
+use Rattle.std.specs.Prelude.{Some, find, option_map, nat_lt, nat_le, if◌then◌else◌}
 use Rattle.std.specs.List.{AllByRecursion}
+use Rattle.std.proofs.Math.Bool.{and-false}
 use Rattle.std.proofs.lemmas.List.Sums.{sum_by-cons, sum_by-append}
 use Rattle.std.proofs.lemmas.Bool.Decides.{nat_tests}
 use Rattle.byte_text.specs.Names.{Bytes}
 use Rattle.world_data.specs.Limits.{cap_frames, cap_bytes}
 use Rattle.world_model.specs.Halls.{Session, cut, is_live, is_session, has_room, placed, placed_each}
 use Rattle.world_data.specs.Frames.{frame_bytes}
+use Rattle.world_model.specs.SessionLaws.{found_map}
 use Rattle.deliveries.specs.Staging.{Delivery, frames_to, placed_all, has_room_for}
 use Rattle.deliveries.specs.Placing.{own, each_number, takes_it, is_cut, dead_takes_none}
-
--- the session of a number among sessions that were each changed, but for their numbers
-module _ (g : Session → Session) (keeps : (s : Session) → (g s).number ≡ s.number) where
-  found_test : (n : ℕ) (s : Session) (b : Bool) (rest : List Session) → is_session n s ≡ b
-      → find (is_session n) (map g rest) ≡ option_map g (find (is_session n) rest)
-      → find (is_session n) (map g (s ∷ rest)) ≡ option_map g (find (is_session n) (s ∷ rest))
-  found_test n s true rest e ih = let f : is_session n (g s) ≡ true = ap (λ m. m == n) (keeps s) ∙ e in rw (f, e) refl
-  found_test n s false rest e ih = let f : is_session n (g s) ≡ false = ap (λ m. m == n) (keeps s) ∙ e in rw (f, e) ih
-
-  pub found_map : (n : ℕ) (sessions : List Session) → find (is_session n) (map g sessions) ≡ option_map g (find (is_session n) sessions)
-  found_map n [] = refl
-  found_map n (s ∷ rest) = found_test n s _ rest refl (found_map n rest)
 
 pub found_placed : (n : ℕ) (ss : List Session) (list : List Delivery)
     → find (is_session n) (placed_all ss list) ≡ option_map (λ s. placed_each s (frames_to s.number list)) (find (is_session n) ss)
@@ -34,16 +24,6 @@ found_holds P n s (t ∷ rest) all f = by (is_session n t) refl (found_holds P n
   where
     by : (b : Bool) → is_session n t ≡ b → (find (is_session n) rest ≡ Some s → P s) → (if b then Some t else find (is_session n) rest) ≡ Some s → P s
     by true is ih e = let same : t ≡ s = cc in subst P same all.0
-    by false is ih e = ih e
-
--- a session that is found has the number
-pub found_number : (n : ℕ) (s : Session) (ss : List Session) → find (is_session n) ss ≡ Some s → is_session n s ≡ true
-found_number n s [] f = absurd (cc)
-found_number n s (t ∷ rest) f = by (is_session n t) refl (found_number n s rest) f
-  where
-    by : (b : Bool) → is_session n t ≡ b → (find (is_session n) rest ≡ Some s → is_session n s ≡ true)
-        → (if b then Some t else find (is_session n) rest) ≡ Some s → is_session n s ≡ true
-    by true is ih e = let same : t ≡ s = cc in subst (λ (u : Session). is_session n u ≡ true) same is
     by false is ih e = ih e
 
 pub number_is : (n : ℕ) (s : Session) → is_session n s ≡ true → s.number ≡ n
@@ -60,11 +40,7 @@ room_one a b l false y p q e = absurd (cc)
 room_none : (a b l m t : ℕ) (x y : Bool) → nat_lt a cap_frames ≡ x → nat_le (b + l) cap_bytes ≡ y → 1 ≤ m → l ≤ t → (x && y) ≡ false
     → (nat_le (a + m) cap_frames && nat_le (b + t) cap_bytes) ≡ false
 room_none a b l m t true true p q u v e = absurd (cc)
-room_none a b l m t true false p q u v e = let f : nat_le (b + t) cap_bytes ≡ false = grind (arith, nat_tests) in rw f (and_false (nat_le (a + m) cap_frames))
-  where
-    and_false : (z : Bool) → (z && false) ≡ false
-    and_false true = refl
-    and_false false = refl
+room_none a b l m t true false p q u v e = let f : nat_le (b + t) cap_bytes ≡ false = grind (arith, nat_tests) in rw f (and-false (nat_le (a + m) cap_frames))
 room_none a b l m t false y p q u v e = let f : nat_le (a + m) cap_frames ≡ false = grind (arith, nat_tests) in rw f refl
 
 step_room : (s : Session) (f : Bytes) (fs : List Bytes) → has_room s f ≡ true
@@ -100,10 +76,6 @@ lives_on s (f ∷ fs) e = by (has_room s f) refl (lives_on (record s { frames = 
         ∙ ap is_live (dead_takes_none (record s { stage = cut; subs = [] }) fs refl)
         ∙ sym (step_no_room s f fs r)
 
-all_there : (fs : List Bytes) → fs ++ [] ≡ fs
-all_there [] = refl
-all_there (f ∷ fs) = ap (λ (gs : List Bytes). f ∷ gs) (all_there fs)
-
 one_by_one : (a : List Bytes) (f : Bytes) (b : List Bytes) → (a ++ f ∷ []) ++ b ≡ a ++ f ∷ b
 one_by_one [] f b = refl
 one_by_one (x ∷ a) f b = ap (λ (gs : List Bytes). x ∷ gs) (one_by_one a f b)
@@ -111,7 +83,7 @@ one_by_one (x ∷ a) f b = ap (λ (gs : List Bytes). x ∷ gs) (one_by_one a f b
 -- its frames then stand behind those that it had
 pub takes_all : (s : Session) (fs : List Bytes) → is_live s ≡ true → has_room_for s fs ≡ true
     → placed_each s fs ≡ record s { frames = s.frames ++ fs }
-takes_all s [] e r = ap (λ (fs : List Bytes). record s { frames = fs }) (sym (all_there s.frames))
+takes_all s [] e r = ap (λ (fs : List Bytes). record s { frames = fs }) (sym (append-nil s.frames))
 takes_all s (f ∷ fs) e r = by (has_room s f) refl (takes_all (record s { frames = s.frames ++ f ∷ [] }) fs e)
   where
     by : (b : Bool) → has_room s f ≡ b

@@ -3,9 +3,10 @@ use Rattle.std.proofs.Common.{◌≡◌, ℕ, ◌==◌, Bool, true, false, ◌||
 use Rattle.std.specs.Prelude.{Option, Some, None, find, option_map, if◌then◌else◌}
 use Rattle.std.proofs.lemmas.Bool.Decides.{nat_tests}
 use Rattle.world_model.specs.Halls.{Hall, Session, closing, is_live, is_session, session_of, placed_each}
+use Rattle.world_model.specs.SessionLaws.{found_map, found_number}
 use Rattle.deliveries.specs.Staging.{Delivery, frames_to, all_to, names, changed_at, placed_all}
 use Rattle.deliveries.specs.Plans.{Part, CallPlan, subscribing, ending, ended_if, with_part, with_parts, part_names, plan_names, finish}
-use Rattle.deliveries.specs.Serving.{found_map, found_placed, found_number, number_is}
+use Rattle.deliveries.specs.Serving.{found_placed, number_is}
 
 -- the session of a number, changed
 pub placed_some : (n : ℕ) (s : Session) (ss : List Session) (list : List Delivery) → find (is_session n) ss ≡ Some s

@@ -17,6 +17,7 @@ use Rattle.fence_index.specs.Held.{Fits, weight_of}
 use Rattle.fence_index.specs.Reasons.{Reason, Near, Wide, Always, box_for, spot}
 use Rattle.fence_index.specs.Boxed.{AreFound, HasRoom, HasRoomIn, IsFresh, are_by_key, found, key_before, met_weight, other_box, other_reason, part, weight_in, weight_on}
 use Rattle.fence_index.proofs.Sums.{sum_met}
+use Rattle.fence_index.specs.SumLaws.{sum_remove}
 
 abbrev pub IsKeyHeld : Bytes → List KeyBoxes → ℕ → Type 0
 IsKeyHeld key boxes at = IsHeld (λ s. before s.key key) (λ s. before key s.key) boxes at
@@ -130,20 +131,6 @@ weights_taken r key w m n boxes at s t is sk tk less =
     let a = sum_set (weight_at r key w) boxes at s t is in
     let b = weight_more r key w m n t s (tk ∙ sk) sk (sym less) in
     omega (arith, a, b)
-
-pub sum_remove : {A : Type 0} (f : A → ℕ) (xs : List A) (i : ℕ) (x : A) → slice_get xs i ≡ Some x → sum_by f (remove xs i) + f x ≡ sum_by f xs
-sum_remove f [] zero x is = absurd (cc)
-sum_remove f [] (suc i) x is = absurd (cc)
-sum_remove f (z ∷ xs) zero x is =
-    let s : z ≡ x = cc in
-    let e : f z ≡ f x = ap f s in
-    let a = sum_by-cons f z xs in
-    omega (arith, e, a)
-sum_remove f (z ∷ xs) (suc i) x is =
-    let ih = sum_remove f xs i x is in
-    let a = sum_by-cons f z xs in
-    let b = sum_by-cons f z (remove xs i) in
-    omega (arith, ih, a, b)
 
 -- the first boxes of a key
 pub weights_first : (r : Reason) (key : Bytes) (w : Pair → ℕ) (m : Mark) (n : ℕ) (boxes : List KeyBoxes) (at : ℕ) (s t : KeyBoxes) → IsFresh m s → t.key ≡ s.key

@@ -5,3 +5,4 @@ pub mod Held
 pub mod Reasons
 pub mod Boxed
 pub mod Numbered
+pub mod SumLaws

@@ -1,13 +1,8 @@
 -- What is left of a list behind a place.
-use Rattle.std.proofs.Common.{◌≡◌, ℕ, zero, suc, ◌+◌, ◌<◌, Bool, true, false, List, [], ◌∷◌, length, drop, refl, ap, sym, arith, ◌∙◌}
+use Rattle.std.proofs.Common.{◌≡◌, ℕ, zero, suc, ◌+◌, Bool, true, false, List, [], ◌∷◌, length, drop, refl, ap, sym, arith, ◌∙◌}
 use Rattle.std.specs.Prelude.{Some, slice_get, ◌&&◌, ◌||◌}
 use Rattle.std.specs.List.{list_all, list_any}
 use Rattle.byte_text.specs.ListLaws.{drop_next}
-
-pub item : {A : Type 0} (xs : List A) (i : ℕ) → i < length xs → (x : A) × (slice_get xs i ≡ Some x)
-item [] i lt = absurd (omega arith)
-item (y ∷ xs) zero lt = (y, refl)
-item (y ∷ xs) (suc i) lt = let less : i < length xs = omega arith in item xs i less
 
 pub behind_all : {A : Type 0} (xs : List A) (i : ℕ) → length xs ≡ i → drop i xs ≡ []
 behind_all [] zero e = refl

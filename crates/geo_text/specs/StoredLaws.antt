@@ -7,6 +7,8 @@ use Rattle.std.proofs.lemmas.Bool.Decides.{nat_tests}
 use Rattle.std.proofs.lemmas.Fmt.{decimal_by_steps}
 use mir.Val.{SFits}
 use mir.Syntax.{w64}
+use Rattle.std.specs.Cmp.Derive.{both_true}
+use Rattle.byte_text.specs.TestLaws.{both_of, is_le}
 use Rattle.byte_text.specs.Names.{Bytes, same}
 use Rattle.byte_text.specs.Numbers.{signed_value}
 use Rattle.byte_text.specs.ByteOrder.{same_refl, same_equal}
@@ -17,9 +19,6 @@ use Rattle.geo_text.specs.Texts.{Shape, is_of_number, joins_first, digit_runs, n
 
 le_is : (a b : ℤ) → a ≤ℤ b → int_le a b ≡ true
 le_is a b le = search rules
-
-is_le : (a b : ℤ) → int_le a b ≡ true → a ≤ℤ b
-is_le a b e = search rules
 
 fits_in : (a : ℤ) → IsCoordinate a → SFits w64 a
 fits_in a c = search rules
@@ -94,31 +93,20 @@ box_is b h =
     let y = le_is _ _ h.y_ordered in
     grind arith
 
-and_left : (a b : Bool) → (a && b) ≡ true → a ≡ true
-and_left true b e = refl
-and_left false b e = e
-
-and_right : (a b : Bool) → (a && b) ≡ true → b ≡ true
-and_right true b e = e
-and_right false b e = grind arith
-
 coordinate_in : (a : ℤ) → is_coordinate a ≡ true → IsCoordinate a
-coordinate_in a e = record { low = is_le _ _ (and_left _ _ e); high = is_le _ _ (and_right _ _ e) }
+coordinate_in a e = record { low = is_le _ _ (both_of _ _ e).0; high = is_le _ _ (both_of _ _ e).1 }
 
 is_plane : (p : Point) → in_plane p ≡ true → InPlane p
-is_plane p e = record { x_in = coordinate_in p.x (and_left _ _ e); y_in = coordinate_in p.y (and_right _ _ e) }
+is_plane p e = record { x_in = coordinate_in p.x (both_of _ _ e).0; y_in = coordinate_in p.y (both_of _ _ e).1 }
 
 stored : (test : Bool) (shape : Shape) → test ≡ true → (if test then Some shape else None) ≡ Some shape
 stored test shape e = ap (λ (t : Bool). if t then Some shape else None) e
-
-both : (a b : Bool) → a ≡ true → b ≡ true → (a && b) ≡ true
-both a b p q = grind arith
 
 -- the text of a point is read back
 pub point_back : (p : Point) → InPlane p → stored_shape (point_text p) ≡ Some (Spot p ∷ [])
 point_back p h =
     let numbers : numbers_in (point_text p) ≡ p.x ∷ p.y ∷ [] = position_first p 125 [] h refl in
-    ap (stored_by (point_text p)) numbers ∙ stored (in_plane p && same (point_text p) (point_text p)) (Spot p ∷ []) (both _ _ (plane_is p h) (same_refl (point_text p)))
+    ap (stored_by (point_text p)) numbers ∙ stored (in_plane p && same (point_text p) (point_text p)) (Spot p ∷ []) (both_true (plane_is p h) (same_refl (point_text p)))
 
 abbrev coordinates_of : List Point → List ℤ
 coordinates_of [] = []
@@ -144,7 +132,7 @@ corners_in b h =
 pub bounds_back : (b : Bounds) → IsBox b → stored_shape (bounds_text b) ≡ Some (Face (corners b ∷ []) ∷ [])
 bounds_back b h =
     let numbers : numbers_in (bounds_text b) ≡ coordinates_of (corners b) ++ [] = positions_first b.min (pt b.max.x b.min.y ∷ b.max ∷ pt b.min.x b.max.y ∷ b.min ∷ []) (93 ∷ 125 ∷ []) (corners_in b h) in
-    ap (stored_by (bounds_text b)) numbers ∙ stored (is_box b && same (bounds_text b) (bounds_text b)) (Face (corners b ∷ []) ∷ []) (both _ _ (box_is b h) (same_refl (bounds_text b)))
+    ap (stored_by (bounds_text b)) numbers ∙ stored (is_box b && same (bounds_text b) (bounds_text b)) (Face (corners b ∷ []) ∷ []) (both_true (box_is b h) (same_refl (bounds_text b)))
 
 -- what no point and no box is stored as
 
@@ -154,12 +142,13 @@ no_point text none p true false e f = refl
 no_point text none p false b e f = refl
 
 low_is : (b : Bounds) → is_low_of b.min b.max ≡ true → in_plane b.min ≡ true → in_plane b.max ≡ true → IsBox b
-low_is b e low high = record { min_in_plane = is_plane b.min low; max_in_plane = is_plane b.max high; x_ordered = is_le _ _ (and_left _ _ e); y_ordered = is_le _ _ (and_right _ _ e) }
+low_is b e low high = record { min_in_plane = is_plane b.min low; max_in_plane = is_plane b.max high; x_ordered = is_le _ _ (both_of _ _ e).0; y_ordered = is_le _ _ (both_of _ _ e).1 }
 
 is_boxed : (b : Bounds) → is_box b ≡ true → IsBox b
 is_boxed b e =
-    let corners_ok = and_left (in_plane b.min && in_plane b.max) (is_low_of b.min b.max) e in
-    low_is b (and_right (in_plane b.min && in_plane b.max) (is_low_of b.min b.max) e) (and_left _ _ corners_ok) (and_right _ _ corners_ok)
+    let parts = both_of (in_plane b.min && in_plane b.max) (is_low_of b.min b.max) e in
+    let corners = both_of (in_plane b.min) (in_plane b.max) parts.0 in
+    low_is b parts.1 corners.0 corners.1
 
 no_box : (text : Bytes) → ((b : Bounds) → IsBox b → text ≢ bounds_text b) → (c : Bounds) → (a b : Bool) → is_box c ≡ a → same (bounds_text c) text ≡ b → (if a && b then Some (Face (corners c ∷ []) ∷ []) else None) ≡ None
 no_box text none c true true e f = absurd (none c (is_boxed c e) (sym (same_equal (bounds_text c) text f)))

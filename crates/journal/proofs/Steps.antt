@@ -9,13 +9,13 @@ use Rattle.outside.specs.CrashLaws.{weaker}
 use Rattle.log_sides.specs.Texts.{StandsFor, written, max_side}
 use Rattle.log_sides.specs.States.{HasNow, IsHeld, SideIsSafe, IsLeft, SideLeads, IsLog}
 use Rattle.log_sides.specs.Making.{IsShut}
-use Rattle.log_sides.specs.Crashing.{leads_other, safe_weaker}
+use Rattle.log_sides.specs.Crashing.{other_other, leads_other, safe_weaker}
 use Rattle.log_sides.specs.Sealing.{length-sealed}
 use Rattle.log_rewrite.specs.NewSides.{IsNewSide, IsPart}
 use Rattle.log_rewrite.specs.declared.rewriters.Rewriter.{Rewriter}
 use Rattle.journal.specs.Logs.{IsBehind}
 use Rattle.journal.specs.Keeping.{IsBeside, IsKept, new_gate}
-use Rattle.journal.specs.Standing.{other_other, older_behind, behind_short}
+use Rattle.journal.specs.Standing.{older_behind, behind_short}
 
 module _ {D : Type 0} (crashes : D → Bool) (seen : D → Option Sides) (images : D → Sides → Type 0) (moment : D → ℕ) (left_since : D → ℕ → Sides → Type 0) where
   -- what is held of the other side
@@ -156,10 +156,6 @@ new_gate_small (Some r) = omega (arith, r.placed)
 pub written_fits : (records : Bytes) (n : ℕ) → n ≤ 2 ^ 62 → (0 < length records → n + length records + 10 ≤ 2 ^ 62) → n + length (written records) ≤ 2 ^ 62
 written_fits [] n small fits = omega (arith, small)
 written_fits (byte ∷ bytes) n small fits = let room = fits (omega arith) in omega (arith, room, length-sealed (byte ∷ bytes))
-
-pub written_short : (records : Bytes) → length (written records) ≤ length records + 10
-written_short [] = omega arith
-written_short (byte ∷ bytes) = omega (arith, length-sealed (byte ∷ bytes))
 
 -- what stands beside the side in use, as bytes
 pub record IsRead (crashes : Bool) (seen : Option Sides) (images : Sides → Type 0) (there : Side) (g : ℕ) : Type 0 where

@@ -1,6 +1,7 @@
 -- Which side is in use, beside what stands on the other one.
 use Rattle.std.specs.Prelude.{nat_lt, if◌then◌else◌}
 use Rattle.std.proofs.Common.{◌≡◌, ◌⊎◌, ◌+◌, ◌≤◌, ◌<◌, ◌∙◌, ◌==◌, ◌||◌, ℕ, Bool, true, false, not, List, [], ◌∷◌, length, refl, sym, ap, subst, inl, inr, arith, eqb-true}
+use Rattle.std.proofs.lemmas.Bool.{le-ltb, ltb-false}
 use Rattle.std.proofs.lemmas.Bool.Decides.{nat_tests}
 use Rattle.byte_text.specs.Names.{Bytes}
 use Rattle.outside.specs.declared.sides.Side.{Side}
@@ -9,17 +10,14 @@ use Rattle.outside.specs.Sides.{Sides, side_of, other_side}
 use Rattle.log_sides.specs.Texts.{StandsFor, open_gate, max_side}
 use Rattle.log_sides.specs.Making.{IsShut, IsNotOpen}
 use Rattle.log_sides.specs.Closing.{shut_closed}
+use Rattle.log_sides.specs.Crashing.{other_other}
 use Rattle.append_log.specs.Heads.{head_of, start_of}
-use Rattle.append_log.specs.Once.{stands_head}
+use Rattle.append_log.specs.Once.{if_false, stands_head}
 use Rattle.append_log.specs.Logs.{StandsIn}
 use Rattle.append_log.specs.declared.side_heads.Head.{Head}
 use Rattle.append_log.specs.declared.side_heads.Head.TheVariants.{TooLong, Shut, Wrong, Open}
 use Rattle.append_log.specs.declared.side_heads.Start.TheVariants.{Standing, Damaged}
 use Rattle.journal.specs.Logs.{leaves_in_use, IsBehind, HoldsLog, HoldsEither}
-
-if_false : {X : Type 0} (b : Bool) (x y : X) → b ≡ false → (if b then x else y) ≡ y
-if_false true x y e = absurd (let clash : true ≡ false = e in cc)
-if_false false x y e = refl
 
 if_true : {X : Type 0} (b : Bool) (x y : X) → b ≡ true → (if b then x else y) ≡ x
 if_true true x y e = refl
@@ -36,12 +34,6 @@ not_after x y e = grind (arith, nat_tests)
 
 below : (x y : ℕ) → x < y → nat_lt x y ≡ true
 below x y e = grind (arith, nat_tests)
-
-not_below : (a b : ℕ) → b ≤ a → nat_lt a b ≡ false
-not_below a b le = grind (arith, nat_tests)
-
-at_most : (a b : ℕ) → nat_lt a b ≡ false → b ≤ a
-at_most a b e = grind (arith, nat_tests)
 
 first : (b : Head) (g n : ℕ) → leaves_in_use g b ≡ true → start_of (Open g n) b ≡ Standing A g n
 first TooLong g n e = absurd (let clash : false ≡ true = e in cc)
@@ -61,10 +53,6 @@ pub stands_in : (c : Sides) (side : Side) (g : ℕ) (batches : List Bytes) → S
 stands_in c A g batches stands behind = record { used = ap (λ (h : Head). start_of h (head_of c.b)) (stands_head g batches c.a stands) ∙ first (head_of c.b) g (length c.a) behind; stands = stands }
 stands_in c B g batches stands behind = record { used = ap (λ (h : Head). start_of (head_of c.a) h) (stands_head g batches c.b stands) ∙ second (head_of c.a) g (length c.b) behind; stands = stands }
 
-pub other_other : (side : Side) → other_side (other_side side) ≡ side
-other_other A = refl
-other_other B = refl
-
 closed_by : (t u : Bool) → (t ≡ false → u ≡ true → ⊥) → (t || not u) ≡ true
 closed_by true u f = refl
 closed_by false false f = refl
@@ -75,8 +63,8 @@ pub not_open_head : (side : Bytes) → IsNotOpen side → head_of side ≡ Shut 
 not_open_head [] closed = refl
 not_open_head (b ∷ bytes) closed =
     let len = length (b ∷ bytes) in
-    let shut : (nat_lt len 17 || not (b == open_gate)) ≡ true = closed_by (nat_lt len 17) (b == open_gate) (λ long opened. closed.shut (record { long = at_most len 17 long; gate = eqb-true b open_gate opened })) in
-    if_false (nat_lt max_side len) TooLong _ (not_below max_side len closed.short) ∙ if_true (nat_lt len 17 || not (b == open_gate)) (Shut len) _ shut
+    let shut : (nat_lt len 17 || not (b == open_gate)) ≡ true = closed_by (nat_lt len 17) (b == open_gate) (λ long opened. closed.shut (record { long = ltb-false len 17 long; gate = eqb-true b open_gate opened })) in
+    if_false (nat_lt max_side len) TooLong _ (le-ltb max_side len closed.short) ∙ if_true (nat_lt len 17 || not (b == open_gate)) (Shut len) _ shut
 
 pub not_open_behind : (g : ℕ) (side : Bytes) → IsNotOpen side → IsBehind g side
 not_open_behind g side closed = ap (leaves_in_use g) (not_open_head side closed)
@@ -94,7 +82,7 @@ not_long false h g e = refl
 
 -- and none that does is too long
 pub behind_short : (g : ℕ) (side : Bytes) → IsBehind g side → length side ≤ max_side
-behind_short g side behind = at_most max_side (length side) (not_long (nat_lt max_side (length side)) _ g behind)
+behind_short g side behind = ltb-false max_side (length side) (not_long (nat_lt max_side (length side)) _ g behind)
 
 -- so the sides hold its batches
 pub holds : (c : Sides) (side : Side) (g : ℕ) (batches : List Bytes) → StandsFor g batches (side_of c side) → IsBehind g (side_of c (other_side side))

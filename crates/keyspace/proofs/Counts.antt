@@ -8,9 +8,9 @@ use Rattle.ordered_lists.specs.Lists.{put_in}
 use Rattle.world_data.specs.Worlds.{has_key}
 use Rattle.world_data.specs.declared.objects.Object.{Object}
 use Rattle.collection.specs.Objects.{id_before, has_id, are_by_id}
-use Rattle.ordered_lists.specs.Ascending.{all_remove}
+use Rattle.ordered_lists.specs.Ascending.{all_remove, all-put_in}
 use Rattle.byte_text.specs.ByteOrder.{same_refl, other_before, other_behind}
-use Rattle.ordered_lists.specs.Reading.{both_of}
+use Rattle.ordered_lists.specs.Reading.{both_of, all-filter}
 use Rattle.collection.specs.IdOrder.{tied, ties, none_behind, kept_behind, behind_first, behind_tied, put_by_id, left_by_id, removed_by_id}
 use Rattle.keyspace.specs.Entries.{Entry}
 use Rattle.keyspace.specs.KeyOrder.{is_entry}
@@ -40,25 +40,17 @@ pub length_left : (id : Bytes) (xs : List Object) → are_by_id xs ≡ true → 
 length_left id [] asc = refl
 length_left id (x ∷ xs) asc = length_left_case id x xs asc (same x.id id) refl (length_left id xs (both_of (list_all (id_before x) xs) (are_by_id xs) asc).1)
 
-all_put : {A : Type 0} (lt : A → A → Bool) (q : A → Bool) (x : A) (xs : List A) → q x ≡ true → list_all q xs ≡ true → list_all q (put_in lt x xs) ≡ true
-all_put lt q x [] h all = rw h refl
-all_put lt q x (y ∷ ys) h all = let ih = all_put lt q x ys h in grind arith
-
-all_left : {A : Type 0} (p q : A → Bool) (xs : List A) → list_all p xs ≡ true → list_all p (filter q xs) ≡ true
-all_left p q [] all = refl
-all_left p q (x ∷ xs) all = let ih = all_left p q xs in grind arith
-
 module _ (e f : Entry) (h : is_entry e ≡ true) (k : f.key ≡ e.key) where
   pub put_entry : (o : Object) → o.key ≡ e.key → f.objects ≡ put_in id_before o e.objects → is_entry f ≡ true
   put_entry o t is =
       let p = both_of (list_all (has_key e.key) e.objects) (are_by_id e.objects) h in
       let own : has_key e.key o ≡ true = subst (λ (n : Bytes). same n e.key ≡ true) (sym t) (same_refl e.key) in
-      rw (is, k, all_put id_before (has_key e.key) o e.objects own p.0, put_by_id o e.objects p.1) refl
+      rw (is, k, all-put_in (has_key e.key) id_before o e.objects own p.0, put_by_id o e.objects p.1) refl
 
   pub left_entry : (id : Bytes) → f.objects ≡ filter (λ o. not (has_id id o)) e.objects → is_entry f ≡ true
   left_entry id is =
       let p = both_of (list_all (has_key e.key) e.objects) (are_by_id e.objects) h in
-      rw (is, k, all_left (has_key e.key) (λ o. not (has_id id o)) e.objects p.0, left_by_id id e.objects p.1) refl
+      rw (is, k, all-filter (has_key e.key) (λ o. not (has_id id o)) e.objects p.0, left_by_id id e.objects p.1) refl
 
   pub removed_entry : (at : ℕ) → f.objects ≡ remove e.objects at → is_entry f ≡ true
   removed_entry at is =

@@ -10,6 +10,7 @@ use Rattle.collection.specs.Objects.{earlier, least_due}
 use Rattle.ordered_lists.specs.Reading.{both_of}
 use Rattle.keyspace.specs.Entries.{Entry, objects_in}
 use Rattle.collection.specs.Deadlines.{has_deadline, IsFirst, IsFirstDue}
+use Rattle.collection.specs.DueLaws.{earlier_assoc}
 use Rattle.keyspace.specs.FirstDue.{is_later, is_no_sooner, IsSoonest, Soonest, sooner, Took}
 use Rattle.keyspace.proofs.Parts.{all_both}
 
@@ -79,16 +80,6 @@ later due = record { none = refl; both = later_both due }
 
 pub no_sooner : (due : ℕ) → Least (is_no_sooner due)
 no_sooner due = record { none = refl; both = no_sooner_both due }
-
--- the least of all is that of the first and of the last
-earlier_assoc : (a b c : Option ℕ) → earlier (earlier a b) c ≡ earlier a (earlier b c)
-earlier_assoc None b c = refl
-earlier_assoc (Some a) None c = refl
-earlier_assoc (Some a) (Some b) None = refl
-earlier_assoc (Some a) (Some b) (Some c) = ap (λ (n : ℕ). Some n) (min_min a b c)
-  where
-    min_min : (a b c : ℕ) → min (min a b) c ≡ min a (min b c)
-    min_min a b c = omega arith
 
 earlier_none : (a : Option ℕ) → a ≡ earlier a None
 earlier_none None = refl

@@ -3,13 +3,14 @@ use Rattle.std.proofs.Common.{◌≡◌, get_or, ◌<◌, ◌≤◌, ◌+◌, �
 use Rattle.std.specs.Prelude.{Option, Some, None, filter, find, nat_lt, nat_le, ◌&&◌, ◌==◌, slice_get, if◌then◌else◌}
 use Rattle.std.specs.List.{list_all, slice_set}
 use Rattle.std.proofs.lemmas.Bool.Decides.{nat_tests}
-use Rattle.ordered_lists.specs.Lists.{ascends, insert_by, sorted_by}
+use Rattle.ordered_lists.specs.Lists.{ascends, sorted_by}
 use Rattle.world_data.specs.Worlds.{object_before, are_objects, is_at, has_key}
 use Rattle.world_data.specs.Expiry.{is_due, due_before}
 use Rattle.world_data.specs.declared.objects.Object.{Object}
 use Rattle.byte_text.specs.ByteOrder.{same_refl, same_equal, other_before, other_behind}
-use Rattle.ordered_lists.specs.Reading.{all_at, filter-all, both_of, stands_at}
+use Rattle.ordered_lists.specs.Reading.{all_at, filter-all, both_of, stands_at, all-middle}
 use Rattle.ordered_lists.specs.NameOrder.{pair_asym}
+use Rattle.ordered_lists.specs.Sorting.{all-sorted_by, insert_by-first}
 use Rattle.collection.specs.Objects.{least_due, are_by_id}
 use Rattle.keyspace.specs.Entries.{Entry, objects_in}
 use Rattle.keyspace.specs.KeyOrder.{is_entry, are_entries}
@@ -19,34 +20,18 @@ use Rattle.keyspace.proofs.Keys.{Stands, stands_here, split_at, all_take, all_dr
 use Rattle.keyspace.proofs.Dues.{all_as, later, no_sooner, least_all, least_each, none_sooner, others_later}
 
 module _ {A : Type 0} (lt : A → A → Bool) where
-  all_insert_by : (q : A → Bool) (x : A) (xs : List A) → q x ≡ true → list_all q xs ≡ true → list_all q (insert_by lt x xs) ≡ true
-  all_insert_by q x [] h all = rw h refl
-  all_insert_by q x (y ∷ ys) h all = let ih = all_insert_by q x ys h in grind arith
-
-  all_sorted_by : (q : A → Bool) (xs : List A) → list_all q xs ≡ true → list_all q (sorted_by lt xs) ≡ true
-  all_sorted_by q [] all = refl
-  all_sorted_by q (x ∷ xs) all = let p = both_of (q x) (list_all q xs) all in all_insert_by q x (sorted_by lt xs) p.0 (all_sorted_by q xs p.1)
-
-  insert_first : (x : A) (xs : List A) → list_all (λ y. not (lt y x)) xs ≡ true → insert_by lt x xs ≡ x ∷ xs
-  insert_first x [] all = refl
-  insert_first x (y ∷ ys) all = grind arith
-
   -- one that stands before all in front of it and behind none of the others is sorted to the front
   sorted_first : (o : A) (xs ys : List A) → list_all (lt o) xs ≡ true → list_all (λ p. not (lt p o)) ys ≡ true → sorted_by lt (xs ++ o ∷ ys) ≡ o ∷ sorted_by lt (xs ++ ys)
-  sorted_first o [] ys front back = insert_first o (sorted_by lt ys) (all_sorted_by (λ p. not (lt p o)) ys back)
+  sorted_first o [] ys front back = insert_by-first lt o (sorted_by lt ys) (all-sorted_by lt (λ p. not (lt p o)) ys back)
   sorted_first o (x ∷ xs) ys front back =
       let p = both_of (lt o x) (list_all (lt o) xs) front in
       rw (sorted_first o xs ys p.1 back, p.0) refl
-
-  all_middle : (q : A → Bool) (xs : List A) (o : A) (ys : List A) → list_all q (xs ++ o ∷ ys) ≡ true → q o ≡ true
-  all_middle q [] o ys all = (both_of (q o) (list_all q ys) all).0
-  all_middle q (x ∷ xs) o ys all = all_middle q xs o ys (both_of (q x) (list_all q (xs ++ o ∷ ys)) all).1
 
   ascends_front : (xs : List A) (o : A) (ys : List A) → ascends lt (xs ++ o ∷ ys) ≡ true → list_all (λ p. lt p o) xs ≡ true
   ascends_front [] o ys asc = refl
   ascends_front (x ∷ xs) o ys asc =
       let p = both_of (list_all (lt x) (xs ++ o ∷ ys)) (ascends lt (xs ++ o ∷ ys)) asc in
-      rw (all_middle (lt x) xs o ys p.0, ascends_front xs o ys p.1) refl
+      rw (all-middle (lt x) xs o ys p.0, ascends_front xs o ys p.1) refl
 
   ascends_back : (xs : List A) (o : A) (ys : List A) → ascends lt (xs ++ o ∷ ys) ≡ true → list_all (lt o) ys ≡ true
   ascends_back [] o ys asc = (both_of (list_all (lt o) ys) (ascends lt ys) asc).0

@@ -4,7 +4,7 @@ use Prim.Native.String.{String}
 use Rattle.byte_text.specs.Names.{Bytes}
 use Rattle.planar_geom.specs.Points.{pt}
 use Rattle.planar_geom.specs.declared.shapes.Part.TheVariants.{Spot}
-use Rattle.world_model.specs.Kinds.{joins_first}
+use Rattle.geo_text.specs.Texts.{joins_first}
 use Rattle.world_data.specs.Worlds.{empty_world}
 use Rattle.world_model.specs.Commands.{command_spelled}
 use Rattle.world_data.specs.Records.{record_words}

@@ -4,6 +4,7 @@ use Rattle.std.specs.Prelude.{Option, Some, None, codes, decimal, neg_ℤ, int_l
 use Rattle.std.specs.List.{list_any, list_all, AllByRecursion}
 use Rattle.std.specs.Fmt.{signed_decimal}
 use Rattle.std.specs.Str.{str_to_ascii_lowercase}
+use Rattle.std.proofs.lemmas.Bool.{or_right}
 use Rattle.byte_text.specs.Names.{Bytes, same, is_name}
 use Rattle.byte_text.specs.Numbers.{whole, natural, whole_within, natural_within, signed_value, digits_value}
 use Rattle.byte_text.specs.Globs.{is_well_formed}
@@ -15,9 +16,12 @@ use Rattle.world_data.specs.Limits.{max_coord, max_meters, max_values}
 use Rattle.world_data.specs.declared.filters.Test.{Test}
 use Rattle.world_data.specs.declared.filters.Test.TheVariants.{Range, Among}
 use Rattle.world_model.specs.Grammar.{Form, done, word, a_word, times, ◌>>=◌}
-use Rattle.world_model.specs.Kinds.{when, name, glob, integer, between, meters, coordinate_from, coordinate, lat_lon, four, geojson, accepted, bound, bound_of, pieces, joins_first, is_in, list_of}
+use Rattle.world_model.specs.Kinds.{when, name, glob, integer, between, meters, coordinate_from, coordinate, lat_lon, four, geojson, accepted, bound, bound_of, pieces, is_in, list_of}
+use Rattle.geo_text.specs.Texts.{joins_first}
 use Rattle.world_model.specs.Commands.{test, where_test, wherein_test, test_words, bound_word, wants}
+use Rattle.world_model.specs.SoundLaws.{when_is}
 use Rattle.world_model.specs.MadeForms.{Makes, makes_done, makes_or, makes_word, makes_bind, makes_then}
+use Rattle.log_record.specs.RecordsRead.{first}
 use Rattle.log_record.proofs.ReadBack.{Reads, literal, reads_done, reads_word, reads_bind, reads_then, reads_left, reads_right}
 
 -- numbers
@@ -82,21 +86,17 @@ makes_meters = makes_between 0 max_meters
 
 -- names
 
-when_is : {A : Type 0} (t : Bool) (a b : A) → when t a ≡ Some b → a ≡ b
-when_is true a b e = cc e
-when_is false a b e = absurd (cc e)
-
 abbrev pub IsNamed : Bytes → Type 0
 IsNamed w = when (is_name w) w ≡ Some w
 
 pub makes_name : Makes IsNamed name
-makes_name = makes_word IsNamed a_word (λ w. when (is_name w) w) (λ w a e. subst (λ v. when (is_name v) v ≡ Some a) (when_is (is_name w) w a e) e)
+makes_name = makes_word IsNamed a_word (λ w. when (is_name w) w) (λ w a e. subst (λ v. when (is_name v) v ≡ Some a) (when_is (is_name w) w a e).1 e)
 
 abbrev pub IsPattern : Bytes → Type 0
 IsPattern w = when (is_name w && is_well_formed w) w ≡ Some w
 
 pub makes_glob : Makes IsPattern glob
-makes_glob = makes_word IsPattern a_word (λ w. when (is_name w && is_well_formed w) w) (λ w a e. subst (λ v. when (is_name v && is_well_formed v) v ≡ Some a) (when_is (is_name w && is_well_formed w) w a e) e)
+makes_glob = makes_word IsPattern a_word (λ w. when (is_name w && is_well_formed w) w) (λ w a e. subst (λ v. when (is_name v && is_well_formed v) v ≡ Some a) (when_is (is_name w && is_well_formed w) w a e).1 e)
 
 -- bounds of a range
 
@@ -228,25 +228,17 @@ list_reader names w = let found = pieces (str_to_ascii_lowercase w) in when (lis
 abbrev pub WantsSome : List Bytes → List Bytes → Type 0
 WantsSome names found = list_any (wants (Some found)) names ≡ true
 
-or_true : (a : Bool) → (a || true) ≡ true
-or_true true = refl
-or_true false = refl
-
 by_name : (n : Bytes) (names : List Bytes) (x : Bytes) (found : List Bytes) (b : Bool) → same x n ≡ b → (c : Bool) → is_in names x ≡ c → (same x n || is_in names x) ≡ true → (is_in names x ≡ true → WantsSome names (x ∷ found)) → WantsSome (n ∷ names) (x ∷ found)
 by_name n names x found true here c in_others e others = let again : same n x ≡ true = subst (λ v. same n v ≡ true) (sym (same_equal x n here)) (same_refl n) in ap (λ b. (b || list_any (same n) found) || list_any (wants (Some (x ∷ found))) names) again
-by_name n names x found false other true in_others e others = ap (λ b. wants (Some (x ∷ found)) n || b) (others in_others) ∙ or_true (wants (Some (x ∷ found)) n)
+by_name n names x found false other true in_others e others = ap (λ b. wants (Some (x ∷ found)) n || b) (others in_others) ∙ or_right (wants (Some (x ∷ found)) n) true refl
 by_name n names x found false other false in_others e others = absurd (cc (other, in_others, e, ap (λ a. a || is_in names x) other, ap (λ a. false || a) in_others))
 
 some_wanted : (names : List Bytes) (x : Bytes) (found : List Bytes) → is_in names x ≡ true → WantsSome names (x ∷ found)
 some_wanted [] x found e = absurd (cc e)
 some_wanted (n ∷ names) x found e = by_name n names x found (same x n) refl (is_in names x) refl e (some_wanted names x found)
 
-one_of_two : (a b : Bool) → (a && b) ≡ true → a ≡ true
-one_of_two true b e = refl
-one_of_two false b e = absurd (cc e)
-
 some_piece : (names : List Bytes) (found : List Bytes) → (x : Bytes) (more : List Bytes) → found ≡ x ∷ more → list_all (is_in names) found ≡ true → WantsSome names found
-some_piece names found x more e all = subst (WantsSome names) (sym e) (some_wanted names x more (one_of_two (is_in names x) (list_all (is_in names) more) (subst (λ l. list_all (is_in names) l ≡ true) e all)))
+some_piece names found x more e all = subst (WantsSome names) (sym e) (some_wanted names x more (first (is_in names x) (list_all (is_in names) more) (subst (λ l. list_all (is_in names) l ≡ true) e all)))
 
 some_pieces : (w : Bytes) → (x : Bytes) × (more : List Bytes) × (pieces w ≡ x ∷ more)
 some_pieces [] = ([], [], refl)
@@ -260,15 +252,12 @@ some_pieces (b ∷ w) = by_comma (b == 44)
     by_comma true = ([], pieces w, refl)
     by_comma false = joined_first (pieces w)
 
-when_true : {A : Type 0} (t : Bool) (a b : A) → when t a ≡ Some b → t ≡ true
-when_true true a b e = refl
-when_true false a b e = absurd (cc e)
-
 list_made : (names : List Bytes) (w : Bytes) (found : List Bytes) → list_reader names w ≡ Some found → WantsSome names found
 list_made names w found e =
     let all = pieces (str_to_ascii_lowercase w) in
     let some = some_pieces (str_to_ascii_lowercase w) in
-    subst (WantsSome names) (when_is (list_all (is_in names) all) all found e) (some_piece names all some.0 some.1 some.2 (when_true (list_all (is_in names) all) all found e))
+    let read = when_is (list_all (is_in names) all) all found e in
+    subst (WantsSome names) read.1 (some_piece names all some.0 some.1 some.2 read.0)
 
 pub makes_list : (names : List Bytes) → Makes (WantsSome names) (list_of names)
 makes_list names = makes_word (WantsSome names) a_word (list_reader names) (list_made names)

@@ -5,6 +5,7 @@ use Rattle.std.specs.List.{list_all, AllByRecursion}
 use Rattle.std.specs.Fmt.{signed_decimal}
 use Rattle.byte_text.specs.Names.{Bytes, is_name}
 use Rattle.byte_text.specs.Globs.{is_well_formed}
+use Rattle.ordered_lists.specs.Reading.{each-append}
 use Rattle.world_data.specs.declared.queries.Rule.TheVariants.{Kept, Nearest}
 use Rattle.world_data.specs.declared.queries.Shown.TheVariants as shown
 use Rattle.byte_text.specs.Numbers.{natural_within}
@@ -22,16 +23,17 @@ use Rattle.world_data.specs.declared.channels.Watch.TheVariants as watch
 use Rattle.world_data.specs.declared.channels.Wanted.{Wanted}
 use Rattle.world_data.specs.declared.filters.Test.{Test}
 use Rattle.world_data.specs.declared.worlds.Change.TheVariants.{SetChan}
-use Rattle.world_model.specs.Grammar.{a_word, a_geojson, Form, go_on, done, word, maybe, ◌or◌, ◌>>=◌, ◌>>◌, where_, one_of, repeated, live, spelled}
+use Rattle.world_model.specs.Grammar.{a_word, a_geojson, Form, go_on, done, word, maybe, ◌>>=◌, ◌>>◌, where_, one_of, repeated, live, spelled}
 use Rattle.world_model.specs.Kinds.{when, name, glob, lat_lon, four, meters, geojson, list_of, accepted}
 use Rattle.world_model.specs.Commands as table
 use Rattle.world_model.specs.Effects.{settled_channel}
-use Rattle.world_model.specs.MadeForms.{Makes, makes_done, makes_or, makes_none, makes_bind, makes_behind, makes_then, makes_repeated, spelled_said}
+use Rattle.world_model.specs.MadeForms.{Makes, makes_done, makes_none, makes_bind, makes_behind, makes_then, makes_repeated, spelled_said, makes_if, first}
 use Rattle.world_model.specs.declared.commands.AreaWords.{AreaWords}
 use Rattle.world_model.specs.declared.commands.AreaWords.TheVariants.{Given, Of}
 use Rattle.world_model.specs.declared.commands.Command.{Command}
 use Rattle.world_model.specs.declared.commands.Command.TheVariants as command
 use Rattle.log_record.specs.Words.{SettingsAreNormal}
+use Rattle.log_record.specs.RecordsRead.{second}
 use Rattle.log_record.proofs.ReadBack.{Reads, literal, reads_done, reads_word, reads_bind, reads_then, reads_here, reads_there, reads_where, none_where, skip, over, Goes, stays, goes_then, goes_all}
 use Rattle.log_record.proofs.NormalForms.{IsNamed, IsPattern, IsNormalTest, IsNatural, IsPlace, IsBox, IsText, WantsSome, makes_name, makes_glob, makes_test, makes_list, makes_meters, makes_lat_lon, makes_four, makes_geojson, reads_lat_lon, reads_four}
 use Rattle.log_record.proofs.NormalLists.{five, three, five_read, three_read, five_in, three_in}
@@ -46,17 +48,6 @@ pub record AreNormal (near : Bool) (o : table.FenceOptions) : Type 0 where
   pub commands : IfSome o.commands (WantsSome table.command_names)
   pub lone : (o.nodwell && is_some o.detect) ≡ false
   pub only_near : o.nodwell ≡ true → near ≡ true
-
-makes_if : {A : Type 0} (P : A → Type 0) (test : Bool) (f : Form A) → (test ≡ true → Makes P f) → Makes P (where_ test f)
-makes_if P true f p = p refl
-makes_if P false f p = record { made = λ words. tt }
-
-first : {A : Type 0} {P : A → Type 0} {f g : Form A} → Makes P f → Makes P g → Makes P (f or g)
-first {P = P} {f = f} {g = g} p q = makes_or P f g p q
-
-all_snoc : {A : Type 0} (P : A → Type 0) (xs : List A) (x : A) → AllByRecursion P xs → P x → AllByRecursion P (xs ++ x ∷ [])
-all_snoc P [] x all p = (p, tt)
-all_snoc P (y ∷ xs) x all p = (all.0, all_snoc P xs x all.1 p)
 
 alone : (n : Bool) (d : Option (List Bytes)) → (is_none d && not n) ≡ true → n ≡ false
 alone false d e = refl
@@ -75,7 +66,7 @@ makes_option near o h =
     first (makes_if P (is_none o.glob) _ (λ t. makes_bind IsPattern P (word (codes "MATCH") >> glob) _ (makes_then IsPattern (word (codes "MATCH")) glob makes_glob) (λ p is. makes_done P _
     (record { glob = is; tests = h.tests; few = h.few; detect = h.detect; commands = h.commands; lone = h.lone; only_near = h.only_near })))) (
     first (makes_if P (nat_lt (length o.tests) max_tests) _ (λ few. makes_bind IsNormalTest P table.test _ makes_test (λ t is. makes_done P _
-    (record { glob = h.glob; tests = all_snoc IsNormalTest o.tests t h.tests is; few = let less : length o.tests < max_tests = grind (few, arith) in omega (arith, less, length-append o.tests (t ∷ [])); detect = h.detect; commands = h.commands; lone = h.lone; only_near = h.only_near })))) (
+    (record { glob = h.glob; tests = each-append IsNormalTest o.tests (t ∷ []) h.tests (is, tt); few = let less : length o.tests < max_tests = grind (few, arith) in omega (arith, less, length-append o.tests (t ∷ [])); detect = h.detect; commands = h.commands; lone = h.lone; only_near = h.only_near })))) (
     first (makes_if P (not o.fence) _ (λ t. makes_then P (word (codes "FENCE")) _ (makes_done P _
     (record { glob = h.glob; tests = h.tests; few = h.few; detect = h.detect; commands = h.commands; lone = h.lone; only_near = h.only_near })))) (
     first (makes_if P (is_none o.detect && not o.nodwell) _ (λ t. makes_bind (WantsSome table.detect_names) P (word (codes "DETECT") >> list_of table.detect_names) _ (makes_then (WantsSome table.detect_names) (word (codes "DETECT")) (list_of table.detect_names) (makes_list table.detect_names)) (λ l is. makes_done P _
@@ -109,17 +100,13 @@ left : (a b : Bool) → (a && b) ≡ true → true ≡ a
 left true b e = refl
 left false b e = absurd (cc e)
 
-right : (a b : Bool) → (a && b) ≡ true → b ≡ true
-right true b e = e
-right false b e = absurd (cc e)
-
 five_of_all : (l : List Bytes) (b : Bool) → list_all (table.wants (Some l)) table.detect_names ≡ b → SameFive (if b then None else Some (filter (table.wants (Some l)) table.detect_names)) (Some l)
 five_of_all l true all =
     let w : Bytes → Bool = table.wants (Some l) in
-    let two = right (w (codes "inside")) _ all in
-    let three = right (w (codes "outside")) _ two in
-    let four = right (w (codes "enter")) _ three in
-    let five = right (w (codes "exit")) _ four in
+    let two = second (w (codes "inside")) _ all in
+    let three = second (w (codes "outside")) _ two in
+    let four = second (w (codes "enter")) _ three in
+    let five = second (w (codes "exit")) _ four in
     record { inside = left (w (codes "inside")) _ all; outside = left (w (codes "outside")) _ two; enter = left (w (codes "enter")) _ three; exit = left (w (codes "exit")) _ four; cross = left (w (codes "cross")) _ five }
 five_of_all l false some =
     let w : Bytes → Bool = table.wants (Some l) in
@@ -133,8 +120,8 @@ same_five (Some l) = five_of_all l (list_all (table.wants (Some l)) table.detect
 three_of_all : (l : List Bytes) (b : Bool) → list_all (table.wants (Some l)) table.command_names ≡ b → SameThree (if b then None else Some (filter (table.wants (Some l)) table.command_names)) (Some l)
 three_of_all l true all =
     let w : Bytes → Bool = table.wants (Some l) in
-    let two = right (w (codes "set")) _ all in
-    let three = right (w (codes "del")) _ two in
+    let two = second (w (codes "set")) _ all in
+    let three = second (w (codes "del")) _ two in
     record { set = left (w (codes "set")) _ all; del = left (w (codes "del")) _ two; drop = left (w (codes "drop")) _ three }
 three_of_all l false some =
     let w : Bytes → Bool = table.wants (Some l) in

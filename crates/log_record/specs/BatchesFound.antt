@@ -8,7 +8,7 @@ use Rattle.world_data.specs.declared.worlds.Change.{Change}
 use Rattle.log_record.specs.Words.{IsRecorded}
 use Rattle.log_record.specs.Batches.{AreBytes, number_bytes, number_of, records_text, batch_text, open_gate, records_in, Batches, with_changes, batch_behind, first_batches, batches_in, all_changes, AreRecorded}
 use Rattle.log_record.specs.Readings.{open_batches}
-use Rattle.log_record.specs.BatchesRead.{eight}
+use Rattle.log_sides.specs.Torn.{length-number_bytes}
 use Rattle.log_record.specs.RecordsFound.{records_found}
 
 pub all_take : (n : ℕ) (bytes : Bytes) → AreBytes bytes → AreBytes (take n bytes)
@@ -76,7 +76,7 @@ with_commas at bytes changes b others are small within records rest is =
       closed = rest.closed;
       recorded = ((records.0, omega (arith, size, small, within)), rest.recorded);
       changes = ap (λ (c : Batches). c.changes) (sym is) ∙ ap (λ (l : List Change). changes ++ l) rest.changes;
-      place = omega (arith, ap (λ (c : Batches). c.gate) is, rest.place, size, length-append (open_gate ∷ batch_text changes) (open_batches rest.batches), length-append (number_bytes (length (records_text changes))) (records_text changes), eight (length (records_text changes)));
+      place = omega (arith, ap (λ (c : Batches). c.gate) is, rest.place, size, length-append (open_gate ∷ batch_text changes) (open_batches rest.batches), length-append (number_bytes (length (records_text changes))) (records_text changes), length-number_bytes (length (records_text changes)));
     }
 
 -- the steps of reading

@@ -1,13 +1,12 @@
 -- Batches of records are read back.
-use Rattle.std.proofs.Common.{arith, ◌≡◌, ℕ, zero, suc, ◌+◌, ◌-◌, ◌^◌, ◌<◌, ◌≤◌, true, false, List, [], ◌∷◌, ◌++◌, length, take, drop, Option, Some, Result, Ok, Err, decimal, flat_map, option_map, refl, sym, ap, ◌∙◌, append_assoc, length-append, nat_le, if◌then◌else◌, ◌==◌, le-leb}
+use Rattle.std.proofs.Common.{arith, ◌≡◌, ℕ, zero, suc, ◌+◌, ◌-◌, ◌^◌, ◌<◌, ◌≤◌, true, false, List, [], ◌∷◌, ◌++◌, length, take, drop, Option, Some, Result, Ok, Err, option_map, refl, sym, ap, ◌∙◌, append_assoc, length-append, nat_le, if◌then◌else◌, ◌==◌, le-leb}
 use Rattle.std.specs.List.{AllByRecursion}
 use Rattle.std.proofs.lemmas.Nat.{from_be_bytes-to_be_bytes_8}
-use Rattle.std.proofs.lemmas.List.{drop-drop}
+use Rattle.std.proofs.lemmas.List.{drop-drop, take_at, drop_at}
 use Rattle.byte_text.specs.Names.{Bytes}
-use Rattle.byte_text.specs.Lines.{line_end, bulk_text}
-use Rattle.byte_text.specs.Requests.{request_text}
 use Rattle.byte_text.specs.Streams.{request}
-use Rattle.byte_text.specs.StreamTexts.{request_read}
+use Rattle.byte_text.specs.StreamTexts.{request_read, text_long}
+use Rattle.log_sides.specs.Torn.{length-number_bytes}
 use Rattle.world_data.specs.Records.{record_words, record_text}
 use Rattle.world_data.specs.declared.worlds.Change.{Change}
 use Rattle.log_record.specs.Words.{IsRecorded}
@@ -16,13 +15,7 @@ use Rattle.log_record.specs.Readings.{open_batches}
 
 -- records
 
-cons_long : (b : ℕ) (bytes : Bytes) → 0 < length (b ∷ bytes)
-cons_long b bytes = omega arith
-
-text_long : (words : List Bytes) → 0 < length (request_text words)
-text_long words = cons_long 42 ((decimal (length words) ++ line_end) ++ flat_map bulk_text words)
-
-front_read : (c : Change) (rest : Bytes) → IsRecorded c → record_front (request (record_text c ++ rest)) ≡ Some (c, rest)
+pub front_read : (c : Change) (rest : Bytes) → IsRecorded c → record_front (request (record_text c ++ rest)) ≡ Some (c, rest)
 front_read c rest is = ap record_front (request_read (record_words c) rest is.fits) ∙ ap (option_map (λ (d : Change). (d, rest))) is.read_back
 
 first_read : (n at : ℕ) (changes : List Change) → AllByRecursion IsRecorded changes → length (records_text changes) ≤ n
@@ -41,18 +34,6 @@ records_read at changes are = first_read (length (records_text changes)) at chan
 
 -- batches
 
-pub eight : (n : ℕ) → length (number_bytes n) ≡ 8
-unfolding number_bytes
-eight n = refl
-
-take_front : (xs ys : Bytes) → take (length xs) (xs ++ ys) ≡ xs
-take_front [] ys = refl
-take_front (x ∷ xs) ys = ap (λ l. x ∷ l) (take_front xs ys)
-
-drop_front : (xs ys : Bytes) → drop (length xs) (xs ++ ys) ≡ ys
-drop_front [] ys = refl
-drop_front (x ∷ xs) ys = drop_front xs ys
-
 -- whatever a batch holds, so many bytes of it are read as records
 pub framed_read : (at : ℕ) (batch rest : Bytes) (next : ℕ → Bytes → Result Batches ℕ) → length batch < 2 ^ 64
     → batch_behind at ((number_bytes (length batch) ++ batch) ++ rest) next ≡ with_changes (records_in (at + 9) batch) (next (at + 9 + length batch) rest)
@@ -62,9 +43,9 @@ framed_read at batch rest next small =
     let bytes = number_bytes n ++ (batch ++ rest) in
     let assoc : (number_bytes n ++ batch) ++ rest ≡ bytes = append_assoc (number_bytes n) batch rest in
     let number : number_of (take 8 bytes) ≡ n = from_be_bytes-to_be_bytes_8 n small in
-    let long : nat_le (8 + n) (length bytes) ≡ true = le-leb (8 + n) (length bytes) (omega (arith, length-append (number_bytes n) (batch ++ rest), length-append batch rest, eight n)) in
-    let inside : take n (drop 8 bytes) ≡ batch = take_front batch rest in
-    let behind : drop (8 + n) bytes ≡ rest = sym (drop-drop n 8 bytes) ∙ drop_front batch rest in
+    let long : nat_le (8 + n) (length bytes) ≡ true = le-leb (8 + n) (length bytes) (omega (arith, length-append (number_bytes n) (batch ++ rest), length-append batch rest, length-number_bytes n)) in
+    let inside : take n (drop 8 bytes) ≡ batch = take_at batch rest n refl in
+    let behind : drop (8 + n) bytes ≡ rest = sym (drop-drop n 8 bytes) ∙ drop_at batch rest n refl in
     ap (λ (l : Bytes). batch_behind at l next) assoc
     ∙ ap (λ (m : ℕ). if nat_le (8 + m) (length bytes) then with_changes (records_in (at + 9) (take m (drop 8 bytes))) (next (at + 9 + m) (drop (8 + m) bytes)) else Err (at + 1)) number
     ∙ rw long (ap (λ (l : Bytes). with_changes (records_in (at + 9) l) (next (at + 9 + n) (drop (8 + n) bytes))) inside
@@ -90,7 +71,7 @@ first_batches_read (suc n) at gate (changes ∷ batches) stale closed are few =
     let assoc : open_batches (changes ∷ batches) ++ gate ∷ stale ≡ open_gate ∷ (batch_text changes ++ rest) = append_assoc (open_gate ∷ batch_text changes) (open_batches batches) (gate ∷ stale) in
     let behind = first_batches_read n (at + 9 + size) gate batches stale closed are.1 (omega (arith, few)) in
     let long : at + 9 + size + length (open_batches batches) ≡ at + length (open_batches (changes ∷ batches)) =
-    omega (arith, length-append (open_gate ∷ batch_text changes) (open_batches batches), length-append (number_bytes size) (records_text changes), eight size) in
+    omega (arith, length-append (open_gate ∷ batch_text changes) (open_batches batches), length-append (number_bytes size) (records_text changes), length-number_bytes size) in
     ap (first_batches (suc n) at) assoc
     ∙ batch_read at changes rest (first_batches n) are.0.0 are.0.1
     ∙ ap (with_changes (Ok changes)) behind

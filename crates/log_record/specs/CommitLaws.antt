@@ -1,21 +1,17 @@
 -- The calls of a commit.
-use Rattle.std.proofs.Common.{arith, ◌≡◌, ℕ, ◌+◌, ◌≤◌, Bool, List, [], ◌∷◌, length, drop, ◌++◌, Option, Some, refl, sym, ap, subst, ◌∙◌}
+use Rattle.std.proofs.Common.{arith, ◌≡◌, ℕ, ◌+◌, ◌≤◌, Bool, List, [], ◌∷◌, length, drop, ◌++◌, Option, Some, sym, ap, subst, ◌∙◌}
 use Rattle.byte_text.specs.Names.{Bytes}
 use Rattle.world_data.specs.declared.worlds.Change.{Change}
 use Rattle.outside.specs.declared.sides.Side.{Side}
-use Rattle.outside.specs.declared.sides.Side.TheVariants.{A, B}
 use Rattle.outside.specs.Sides.{Sides, side_of, with_side, On, Told, IfTold}
 use Rattle.outside.specs.Disks.{Torn, write_over, Follows, Elapses}
 use Rattle.outside.specs.Crashes.{EachImage, IsSettled, LeavesOnly}
 use Rattle.outside.specs.CrashLaws.{begins, write_carries, sync_carries, followed, told_next, if_told}
+use Rattle.log_sides.specs.Crashing.{given}
 use Rattle.log_record.specs.Batches.{open_gate, closed_gate}
 use Rattle.log_record.specs.Readings.{gate_place, side_over}
 use Rattle.log_record.specs.Standing.{InUse, StandsBy, StandsByEither, behind_gate, IsWritten, IsTold, IsAt, IsReady, IsPlaced, IsCommitted}
 use Rattle.log_record.specs.StandingLaws.{write_stands, batch_written, gate_stands, gate_is_open, either_older}
-
-with_there : (s : Sides) (side : Side) (bytes : Bytes) → side_of (with_side s side bytes) side ≡ bytes
-with_there s A bytes = refl
-with_there s B bytes = refl
 
 -- what the batch's side reads as
 placed_text : (u : InUse) (changes : List Change) (side : Side) (gate : ℕ) (piece : Bytes) (s : Sides) → IsAt u side gate
@@ -47,7 +43,7 @@ module _ {D : Type 0} (crashes : D → Bool) (seen : D → Option Sides) (images
       let one = told_next (seen old) (seen mid) s (λ s t. t ≡ with_side s side (write_over at piece (side_of s side))) told written in
       let two = told_next (seen mid) (seen new) one.0 (λ s t. t ≡ s) one.1 same in
       let settled = if_told (seen mid) one.0 (λ s. IsSettled (images new) side (side_of s side)) one.1 durable in
-      let bytes : side_of one.0 side ≡ write_over at piece (side_of s side) = ap (λ (t : Sides). side_of t side) one.2 ∙ with_there s side (write_over at piece (side_of s side)) in
+      let bytes : side_of one.0 side ≡ write_over at piece (side_of s side) = ap (λ (t : Sides). side_of t side) one.2 ∙ given s side (write_over at piece (side_of s side)) in
       ((two.0, two.1), λ c image. settled c image ∙ bytes)
 
   -- the batch

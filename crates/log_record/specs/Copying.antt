@@ -1,16 +1,13 @@
 -- A rewriting: the world that the new side holds is a part of the world that is committed, and comes to be all of it.
-use Rattle.std.specs.Prelude.{◌≡◌, Bool, true, false, not, ◌&&◌, ◌||◌, List, ◌∷◌, ◌++◌, filter}
+use Rattle.std.specs.Prelude.{◌≡◌, Bool, true, false, ◌||◌, List, ◌∷◌, ◌++◌, filter}
 use Rattle.std.specs.List.{list_all}
+use Rattle.ordered_lists.specs.Lists.{ties}
 use Rattle.world_data.specs.Worlds.{object_before, channel_before, is_sorted_world, empty_world, after}
 use Rattle.world_data.specs.declared.worlds.Change.{Change}
 use Rattle.world_data.specs.declared.worlds.Change.TheVariants.{Put, SetChan}
 use Rattle.world_data.specs.declared.objects.Object.{Object}
 use Rattle.world_data.specs.declared.channels.Channel.{Channel}
 use Rattle.world_data.specs.declared.worlds.World.{World}
-
--- neither stands before the other
-abbrev pub ties : {A : Type 0} → (A → A → Bool) → A → A → Bool
-ties lt x y = not (lt x y) && not (lt y x)
 
 -- some of a list's items, all those among them that are copied already
 pub record IsPicked {A : Type 0} (copied : A → Bool) (part all : List A) : Type 0 where

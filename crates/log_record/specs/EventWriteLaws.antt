@@ -10,7 +10,7 @@ use Rattle.world_model.specs.Commands.{reads}
 use Rattle.world_data.specs.Records.{record_len}
 use Rattle.world_data.specs.Worlds.{after}
 use Rattle.world_model.specs.Halls.{Hall, Session, is_live, session_of, place, place_all, deliveries, apply, apply_all, change_session, due, close_session, closed_if, do_effect, effect_of, do_asked, do_live, do_call}
-use Rattle.world_model.specs.Histories.{Ending, first_of, refusal, refusal_going, when_stopped, doing, stopped, enter_tests, call_tests, take_tests, tick_tests}
+use Rattle.world_model.specs.Histories.{Ending, refusal, doing, stopped}
 use Rattle.world_data.specs.declared.worlds.World.{World}
 use Rattle.world_data.specs.declared.worlds.Change.{Change}
 use Rattle.world_model.specs.declared.events.Asked.{Asked}
@@ -20,7 +20,8 @@ use Rattle.world_model.specs.declared.events.Event.TheVariants.{Enter, Call, Tak
 use Rattle.log_record.specs.Folding.{folded}
 use Rattle.log_record.specs.EventWrites.{changes_of, logged_by, due_writes, asked_writes, live_writes, call_writes, writes_of, writes_by, is_fine, Does}
 use Rattle.log_record.specs.Laws.{StepsMakeTheirWrites}
-use Rattle.log_record.specs.StepCases.{step_by_cases}
+use Rattle.log_record.specs.StepCases.{step_by_cases, refusal_by_cases}
+use Rattle.log_record.specs.AnswerLaws.{stopped_says}
 
 pub folded-append : (w : World) (one other : List Change) → folded w (one ++ other) ≡ folded (folded w one) other
 folded-append w [] other = refl
@@ -106,36 +107,15 @@ done_does h Retire = does_none h (stopped h) refl refl
 abbrev Idle : Hall → Ending → Type 0
 Idle h e = (is_fine e.0 ≡ false) × (e.1.world ≡ h.world) × (e.1.logged ≡ h.logged)
 
-abbrev AllIdle : Hall → List (Bool × Ending) → Type 0
-AllIdle h [] = Unit {0}
-AllIdle h (e ∷ endings) = Idle h e.1 × AllIdle h endings
-
-first_idle : (h : Hall) (endings : List (Bool × Ending)) → AllIdle h endings → IfSome (first_of endings) (Idle h)
-first_idle h [] all = tt
-first_idle h (e ∷ endings) all = elim (e.0) as (λ b. IfSome (if b then Some e.1 else first_of endings) (Idle h)) [ true ↦ all.0 | false ↦ first_idle h endings all.1 ]
-
-going_idle : (h : Hall) (event : Event) → IfSome (refusal_going h event) (Idle h)
-going_idle h Enter = first_idle h (enter_tests h) ((refl, refl, refl), tt)
-going_idle h (Call n moment asked) = first_idle h (call_tests h n) ((refl, refl, refl), ((refl, refl, refl), ((refl, refl, refl), tt)))
-going_idle h (Take n) = first_idle h (take_tests h n) ((refl, refl, refl), ((refl, refl, refl), tt))
-going_idle h (Tick moment) = first_idle h (tick_tests h) ((refl, refl, refl), tt)
-going_idle h (Close n) = tt
-going_idle h (Remove n) = tt
-going_idle h Rewrite = tt
-going_idle h Retire = tt
-
-stopped_idle : (event : Event) → is_fine (when_stopped event) ≡ false
-stopped_idle Enter = refl
-stopped_idle (Call n moment asked) = refl
-stopped_idle (Take n) = refl
-stopped_idle (Tick moment) = refl
-stopped_idle (Close n) = refl
-stopped_idle (Remove n) = refl
-stopped_idle Rewrite = refl
-stopped_idle Retire = refl
-
 refusal_idle : (h : Hall) (event : Event) → IfSome (refusal h event) (Idle h)
-refusal_idle h event = elim (h.stopped) as (λ b. IfSome (if b then Some (when_stopped event, h) else refusal_going h event) (Idle h)) [ true ↦ (stopped_idle event, refl, refl) | false ↦ going_idle h event ]
+refusal_idle h event = refusal_by_cases (Idle h) h event (λ stops. ((stopped_says event).not_fine, refl, refl)) (record {
+  too_many = λ holds. (refl, refl, refl);
+  spent = λ holds. (refl, refl, refl);
+  no_session = λ n holds. (refl, refl, refl);
+  no_room = λ n holds. (refl, refl, refl);
+  at_end = λ n holds. (refl, refl, refl);
+  nothing_now = λ n holds. (refl, refl, refl);
+})
 
 idle_does : (h : Hall) (event : Event) (x : Option Ending) → IfSome x (Idle h) → IfSome x (λ e. Does h e.1 (writes_by h event e.0))
 idle_does h event None idle = tt

@@ -67,6 +67,11 @@ settles Rewrite = true
 settles Retire = true
 settles event = false
 
+-- a retirement, which gives the disk out
+abbrev pub is_retire : Event → Bool
+is_retire Retire = true
+is_retire event = false
+
 -- behind it a crash leaves the hall's world: frames were given, or a step of rewriting or a retirement was done
 abbrev pub shows : Event → Outcome → Bool
 shows event outcome = given outcome || (settles event && is_fine outcome)

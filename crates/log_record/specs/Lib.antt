@@ -22,6 +22,7 @@ pub mod StandingLaws
 pub mod CommitLaws
 pub mod MakingLaws
 pub mod StepCases
+pub mod AnswerLaws
 pub mod EventWriteLaws
 pub mod PendingLaws
 pub mod JournalLaws

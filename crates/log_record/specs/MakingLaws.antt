@@ -1,5 +1,6 @@
 -- A side that is made begins to stand when its own gate opens.
 use Rattle.std.proofs.Common.{arith, ◌≡◌, ◌⊎◌, inl, inr, ℕ, suc, ◌+◌, ◌<◌, ◌≤◌, ◌&&◌, Bool, true, false, [], ◌∷◌, ◌++◌, length, take, length-take, refl, sym, ap, subst, ◌∙◌, ◌==◌, eqb-true, nat_le}
+use Rattle.std.proofs.lemmas.Bool.{and_right}
 use Rattle.byte_text.specs.Names.{Bytes}
 use Rattle.outside.specs.declared.sides.Side.{Side}
 use Rattle.outside.specs.declared.sides.Side.TheVariants.{A, B}
@@ -7,28 +8,21 @@ use Rattle.outside.specs.Sides.{Sides, side_of, other_side, On}
 use Rattle.outside.specs.SideLaws.{on_keeps}
 use Rattle.outside.specs.Disks.{Torn, CutOrNot}
 use Rattle.outside.specs.WriteLaws.{torn_parts}
+use Rattle.log_sides.specs.Crashing.{other_other}
+use Rattle.log_sides.specs.Torn.{one_byte}
 use Rattle.log_record.specs.Batches.{open_gate}
 use Rattle.log_record.specs.Readings.{header, open_batches, side_over, max_side, is_open, generation_of, header_fault, IsOlder}
 use Rattle.log_record.specs.Standing.{InUse, IsInUse, StandsBy, IsMade}
 use Rattle.log_record.specs.SidesRead.{side_right, side_generation}
 
-and_false : (a : Bool) → (a && false) ≡ false
-and_false true = refl
-and_false false = refl
-
 -- a side whose gate is not open is not open
 pub not_open : (own : ℕ) (bytes : Bytes) → (own == open_gate) ≡ false → is_open (own ∷ bytes) ≡ false
-not_open own bytes e = ap (λ (b : Bool). nat_le 17 (length (own ∷ bytes)) && b) e ∙ and_false (nat_le 17 (length (own ∷ bytes)))
+not_open own bytes e = ap (λ (b : Bool). nat_le 17 (length (own ∷ bytes)) && b) e ∙ and_right (nat_le 17 (length (own ∷ bytes))) false refl
 
 pub not_open_older : (generation : ℕ) (bytes : Bytes) → is_open bytes ≡ false → IsOlder generation bytes
 not_open_older generation bytes e opened = absurd (cc (e, opened))
 
 -- a torn write of the first byte
-one_byte : (other : Bytes) → length other ≡ 1 → (b : ℕ) × (other ≡ b ∷ [])
-one_byte [] e = absurd (omega (arith, e))
-one_byte (b ∷ []) e = (b, refl)
-one_byte (b ∷ c ∷ more) e = absurd (omega (arith, e))
-
 pub torn_first : (own : ℕ) (bytes new : Bytes) → Torn 0 1 (own ∷ bytes) new → (b : ℕ) × (new ≡ b ∷ bytes)
 torn_first own bytes new torn =
     let p = torn_parts 0 1 (own ∷ bytes) new (omega arith) torn in
@@ -43,10 +37,6 @@ torn_keeps_first at n own bytes (b ∷ new) torn = (new, ap (λ (k : ℕ). k ∷
 pub cut_keeps_first : (n own : ℕ) (bytes new : Bytes) → CutOrNot (suc n) (own ∷ bytes) new → (more : Bytes) × (new ≡ own ∷ more)
 cut_keeps_first n own bytes new (inl kept) = (bytes, kept)
 cut_keeps_first n own bytes new (inr cut) = (take n bytes, cut)
-
-twice : (side : Side) → other_side (other_side side) ≡ side
-twice A = refl
-twice B = refl
 
 back : (side : Side) (c d : Sides) → side_of c (other_side (other_side side)) ≡ side_of d (other_side (other_side side))
     → side_of c side ≡ side_of d side
@@ -77,7 +67,7 @@ finished old new d c is there newer by made step b text long false e =
     inl (other_stands old (Torn 0 1) d c by step (ap is_open text ∙ not_open b (header new.generation ++ (open_batches new.batches ++ made.gate ∷ made.stale)) e) long)
 finished old new d c is there newer by made step b text long true e =
     let kept : side_of c old.side ≡ side_of d old.side = back old.side c d (on_keeps (other_side old.side) (Torn 0 1) d c step) in
-    let turned : other_side new.side ≡ old.side = ap other_side there ∙ twice old.side in
+    let turned : other_side new.side ≡ old.side = ap other_side there ∙ other_other old.side in
     let beside : side_of c (other_side new.side) ≡ side_over old.generation old.batches by.gate by.stale = ap (side_of c) turned ∙ kept ∙ by.text in
     let less : generation_of (side_of c (other_side new.side)) < new.generation = omega (arith, ap generation_of beside, side_generation old.generation by.gate old.batches by.stale is.fits, newer) in
     inr (record {

@@ -1,14 +1,15 @@
 -- What is kept, and has its shape, is read back from its record.
-use Rattle.std.proofs.Common.{arith, ◌≡◌, ℕ, ℤ, pos, negsuc, int_le, ◌≤◌, ◌&&◌, Bool, true, List, [], ◌∷◌, ◌++◌, Option, Some, None, Ok, codes, flat_map, refl, ap, ◌∙◌, append_assoc}
+use Rattle.std.proofs.Common.{arith, ◌≡◌, ℕ, ℤ, pos, negsuc, int_le, ◌≤◌, ◌&&◌, true, List, [], ◌∷◌, ◌++◌, Option, Some, None, Ok, codes, flat_map, refl, ap, ◌∙◌, append_assoc}
 use Rattle.std.specs.Fmt.{signed_decimal}
 use Rattle.std.specs.List.{list_all}
 use Rattle.std.proofs.lemmas.Bool.{leb-true}
+use Rattle.std.proofs.lemmas.Bool.{and_from}
 use Rattle.byte_text.specs.Names.{Bytes, is_name}
 use Rattle.byte_text.specs.Numbers.{signed_value}
 use Rattle.byte_text.specs.NumberLaws.{digits_back, signed_back}
 use Rattle.geo_text.specs.Texts.{shape_of}
 use Rattle.world_data.specs.Filters.{Field, are_fields}
-use Rattle.world_data.specs.Records.{deadline_words, field_words, record_words}
+use Rattle.world_data.specs.Records.{deadline_words, field_words, record_words, is_kept_field, is_kept_deadline, is_kept}
 use Rattle.world_data.specs.declared.objects.Object.{Object}
 use Rattle.world_data.specs.declared.worlds.Change.{Change}
 use Rattle.world_data.specs.declared.worlds.Change.TheVariants.{Put, Del, Drop, Flush, SetChan, DelChan}
@@ -18,17 +19,14 @@ use Rattle.world_data.specs.declared.channels.Channel.{Channel}
 use Rattle.world_model.specs.declared.commands.AreaWords.TheVariants.{Given}
 use Rattle.world_model.specs.declared.commands.Command.{Command}
 use Rattle.world_model.specs.declared.commands.Command.TheVariants as command
-use Rattle.log_record.specs.Words.{settled, fields_front, deadline_front, put_with, put_text, put_of, could_be, is_kept_field, is_kept_deadline, is_kept, same_words, if_recorded, change_of_words}
+use Rattle.log_record.specs.Words.{settled, fields_front, deadline_front, put_with, put_text, put_of, could_be, same_words, if_recorded, change_of_words}
 use Rattle.log_record.specs.RecordsRead.{first, second, fits_of, same_are_words}
-
-both : (a b : Bool) → a ≡ true → b ≡ true → (a && b) ≡ true
-both a b e f = rw e f
 
 field_fits : (f : Field) → is_kept_field f ≡ true → (int_le (negsuc 9223372036854775807) f.1 && int_le f.1 (pos 9223372036854775807)) ≡ true
 field_fits f kept =
     let low = int_le (negsuc 9223372036854775807) f.1 in
     let high = int_le f.1 (pos 9223372036854775807) in
-    both low high (second (is_name f.0) low (first (is_name f.0 && low) high kept)) (second (is_name f.0 && low) high kept)
+    and_from low high (second (is_name f.0) low (first (is_name f.0 && low) high kept)) (second (is_name f.0 && low) high kept)
 
 -- fields at the front of words that begin with no field
 fields_back : (fields : List Field) (rest : List Bytes) → fields_front rest ≡ ([], rest) → list_all is_kept_field fields ≡ true

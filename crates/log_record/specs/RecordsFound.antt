@@ -23,7 +23,8 @@ ok_is cs ds e = cc e
 err_not : (at : ℕ) (cs : List Change) → Err at ≡ Ok cs → ⊥
 err_not at cs e = cc e
 
-is_recorded : (words : List Bytes) (c : Change) → IsRequest words → change_of_words words ≡ Some c → IsRecorded c
+-- what words are the record of has a record
+pub is_recorded : (words : List Bytes) (c : Change) → IsRequest words → change_of_words words ≡ Some c → IsRecorded c
 is_recorded words c fits e = let is = (record_read words c e).0 in record { read_back = ap change_of_words is ∙ e; fits = subst IsRequest (sym is) fits }
 
 text_is : (words : List Bytes) (c : Change) → change_of_words words ≡ Some c → request_text words ≡ record_text c

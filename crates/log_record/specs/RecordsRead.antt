@@ -8,7 +8,7 @@ use mir.Val.{SFits as FitsSigned}
 use Rattle.geo_text.specs.Texts.{Shape, shape_of}
 use Rattle.geo_text.specs.declared.faults.GeoFault.{GeoFault}
 use Rattle.world_data.specs.Filters.{Field}
-use Rattle.world_data.specs.Records.{record_words}
+use Rattle.world_data.specs.Records.{record_words, is_kept}
 use Rattle.world_model.specs.Commands.{command_spelled}
 use Rattle.world_data.specs.Sound.{is_sound_channel, is_sound_area}
 use Rattle.world_model.specs.Sound.{IsSoundCommand, takes_areas}
@@ -17,7 +17,7 @@ use Rattle.world_data.specs.declared.worlds.Change.{Change}
 use Rattle.world_model.specs.declared.commands.AreaWords.TheVariants.{Given}
 use Rattle.world_model.specs.declared.commands.Command.{Command}
 use Rattle.world_model.specs.declared.commands.Command.TheVariants as command
-use Rattle.log_record.specs.Words.{fields_front, deadline_front, put_with, put_text, put_of, del_of, drop_of, flush_of, delchan_of, settled, setchan_of, could_be, is_kept, same_words, if_recorded, change_of_words, HasShape}
+use Rattle.log_record.specs.Words.{fields_front, deadline_front, put_with, put_text, put_of, del_of, drop_of, flush_of, delchan_of, settled, setchan_of, could_be, same_words, if_recorded, change_of_words, HasShape}
 
 -- tests
 

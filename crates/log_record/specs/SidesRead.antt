@@ -12,12 +12,13 @@ use Rattle.log_record.specs.Folding.{folded}
 use Rattle.log_record.specs.Batches.{number_bytes, open_gate, batches_in, all_changes, AreRecorded}
 use Rattle.log_record.specs.Readings.{header, open_batches, side_over, gate_place, header_len, max_side, is_open, generation_of, header_fault, too_long, wrong_header, equal_generations, no_header, first_cause, cause_of, side_in_use, reading_of, side_reading, reading_in_use, unless_damaged, reading, Reading, stands, IsOlder}
 use Rattle.log_record.specs.Laws.{SidesStand, EmptyIsFresh}
-use Rattle.log_record.specs.BatchesRead.{batches_read, eight}
+use Rattle.log_sides.specs.Torn.{length-number_bytes}
+use Rattle.log_record.specs.BatchesRead.{batches_read}
 
 side_open : (generation gate : ℕ) (batches : List (List Change)) (stale : Bytes) → is_open (side_over generation batches gate stale) ≡ true
 side_open generation gate batches stale =
     let bytes = side_over generation batches gate stale in
-    let long : nat_le 17 (length bytes) ≡ true = le-leb 17 (length bytes) (omega (arith, length-append (header generation) (open_batches batches ++ gate ∷ stale), length-append (open_batches batches) (gate ∷ stale), eight generation)) in
+    let long : nat_le 17 (length bytes) ≡ true = le-leb 17 (length bytes) (omega (arith, length-append (header generation) (open_batches batches ++ gate ∷ stale), length-append (open_batches batches) (gate ∷ stale), length-number_bytes generation)) in
     rw long refl
 
 pub side_generation : (generation gate : ℕ) (batches : List (List Change)) (stale : Bytes) → generation < 2 ^ 64

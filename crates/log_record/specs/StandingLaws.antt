@@ -8,7 +8,9 @@ use Rattle.outside.specs.Sides.{Sides, side_of, other_side, On}
 use Rattle.outside.specs.SideLaws.{on_keeps}
 use Rattle.outside.specs.Disks.{Torn, write_over}
 use Rattle.outside.specs.WriteLaws.{torn_parts, torn_within, write_over-within}
+use Rattle.log_sides.specs.Torn.{one_byte, length-number_bytes}
 use Rattle.std.specs.List.{AllByRecursion}
+use Rattle.std.proofs.lemmas.List.{take_at, drop_at}
 use Rattle.world_data.specs.Worlds.{empty_world}
 use Rattle.log_record.specs.Words.{IsRecorded}
 use Rattle.log_record.specs.Folding.{folded}
@@ -16,7 +18,6 @@ use Rattle.log_record.specs.Batches.{open_gate, closed_gate, batch_text, records
 use Rattle.log_record.specs.Readings.{header, open_batches, side_over, gate_place, max_side, IsOlder}
 use Rattle.log_record.specs.Recovery.{Recovers, world_read}
 use Rattle.log_record.specs.Standing.{InUse, IsInUse, world_of, with_batch, StandsBy, IsWritten, behind_gate}
-use Rattle.log_record.specs.BatchesRead.{eight}
 use Rattle.log_record.specs.EventWriteLaws.{folded-append}
 use Rattle.log_record.specs.SidesRead.{sides_stand}
 
@@ -37,24 +38,15 @@ abbrev front : ℕ → List (List Change) → Bytes
 front generation batches = open_gate ∷ (header generation ++ open_batches batches)
 
 front_long : (generation : ℕ) (batches : List (List Change)) → length (front generation batches) ≡ gate_place batches
-front_long generation batches = omega (arith, length-append (header generation) (open_batches batches), eight generation)
+front_long generation batches = omega (arith, length-append (header generation) (open_batches batches), length-number_bytes generation)
 
 front_text : (generation : ℕ) (batches : List (List Change)) (gate : ℕ) (stale : Bytes)
     → side_over generation batches gate stale ≡ front generation batches ++ gate ∷ stale
 front_text generation batches gate stale = ap (λ (l : Bytes). open_gate ∷ l) (sym (append_assoc (header generation) (open_batches batches) (gate ∷ stale)))
 
-take_front : (xs ys : Bytes) → take (length xs) (xs ++ ys) ≡ xs
-take_front [] ys = refl
-take_front (x ∷ xs) ys = ap (λ l. x ∷ l) (take_front xs ys)
-
-drop_front : (xs ys : Bytes) → drop (length xs) (xs ++ ys) ≡ ys
-drop_front [] ys = refl
-drop_front (x ∷ xs) ys = drop_front xs ys
-
 -- a text with a part in front, cut at the end of that part
 cut_at : (n : ℕ) (xs ys text : Bytes) → text ≡ xs ++ ys → length xs ≡ n → (take n text ≡ xs) × (drop n text ≡ ys)
-cut_at n xs ys text is long =
-    (ap (take n) is ∙ ap (λ (k : ℕ). take k (xs ++ ys)) (sym long) ∙ take_front xs ys, ap (drop n) is ∙ ap (λ (k : ℕ). drop k (xs ++ ys)) (sym long) ∙ drop_front xs ys)
+cut_at n xs ys text is long = (ap (take n) is ∙ take_at xs ys n long, ap (drop n) is ∙ drop_at xs ys n long)
 
 one_more : (xs : Bytes) (gate : ℕ) (stale : Bytes) → xs ++ gate ∷ stale ≡ (xs ++ gate ∷ []) ++ stale
 one_more xs gate stale = sym (append_assoc xs (gate ∷ []) stale)
@@ -76,12 +68,6 @@ torn_behind generation gate n batches stale new torn =
           ∙ append_assoc (front generation batches) (gate ∷ []) more ∙ sym (front_text generation batches gate more),
     )
 
--- a torn write of the gate leaves some byte there
-one_byte : (other : Bytes) → length other ≡ 1 → (b : ℕ) × (other ≡ b ∷ [])
-one_byte [] e = absurd (omega (arith, e))
-one_byte (b ∷ []) e = (b, refl)
-one_byte (b ∷ c ∷ more) e = absurd (omega (arith, e))
-
 gate_written : (generation gate b : ℕ) (batches : List (List Change)) (stale : Bytes)
     → write_over (gate_place batches) (b ∷ []) (side_over generation batches gate stale) ≡ side_over generation batches b stale
 gate_written generation gate b batches stale =
@@ -95,6 +81,7 @@ gate_written generation gate b batches stale =
     ∙ ap (λ (l : Bytes). l ++ (b ∷ []) ++ drop (p + 1) old) before.0 ∙ ap (λ (l : Bytes). front generation batches ++ (b ∷ []) ++ l) after.1
     ∙ append_assoc (front generation batches) (b ∷ []) stale ∙ sym (front_text generation batches b stale)
 
+-- a torn write of the gate leaves some byte there
 torn_gate : (generation gate : ℕ) (batches : List (List Change)) (stale new : Bytes)
     → Torn (gate_place batches) 1 (side_over generation batches gate stale) new
     → (b : ℕ) × (new ≡ side_over generation batches b stale)

@@ -13,7 +13,7 @@ use Rattle.world_data.specs.declared.channels.Channel.{Channel}
 use Rattle.world_data.specs.Filters.{Field, are_fields}
 use Rattle.world_model.specs.Commands.{command_spelled}
 use Rattle.world_data.specs.Sound.{is_sound_channel}
-use Rattle.world_data.specs.Records.{record_words}
+use Rattle.world_data.specs.Records.{record_words, is_kept}
 use Rattle.world_data.specs.declared.worlds.Change.{Change}
 use Rattle.world_data.specs.declared.worlds.Change.TheVariants.{Put, Del, Drop, Flush, SetChan, DelChan}
 use Rattle.world_model.specs.declared.commands.AreaWords.TheVariants.{Given, Of}
@@ -81,24 +81,6 @@ could_be (called ∷ words) =
     if same called (codes "FLUSHDB") then flush_of words else
     if same called (codes "SETCHAN") then setchan_of words else
     if same called (codes "DELCHAN") then delchan_of words else None
-
--- a field's name is a name, and its value has 64 bits
-abbrev pub is_kept_field : Field → Bool
-is_kept_field f = is_name f.0 && int_le (neg_ℤ (pos (2 ^ 63))) f.1 && int_le f.1 (pos (2 ^ 63 - 1))
-
--- a deadline has 64 bits
-abbrev pub is_kept_deadline : Option ℕ → Bool
-is_kept_deadline None = true
-is_kept_deadline (Some d) = nat_le d (2 ^ 64 - 1)
-
--- names are names, fields stand in order and are not 0, numbers have 64 bits
-abbrev pub is_kept : Change → Bool
-is_kept (Put o) = is_name o.key && is_name o.id && are_fields o.fields && list_all is_kept_field o.fields && is_kept_deadline o.deadline
-is_kept (Del key id) = is_name key && is_name id
-is_kept (Drop key) = is_name key
-is_kept Flush = true
-is_kept (SetChan c) = is_name c.name
-is_kept (DelChan name) = is_name name
 
 -- an object's text has its shape, and a channel is sound
 abbrev pub HasShape : Change → Type 0

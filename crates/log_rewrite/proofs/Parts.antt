@@ -9,7 +9,6 @@ use Rattle.log_sides.specs.Texts.{StandsFor, IsGeneration, open_gate, header, ba
 use Rattle.log_sides.specs.Making.{IsBare, head_text}
 use Rattle.log_sides.specs.Closing.{head_written}
 use Rattle.log_sides.specs.Torn.{one_byte, gate_written, batches_text-append}
-use Rattle.log_sides.specs.Sealing.{length-sealed}
 use Rattle.log_rewrite.specs.NewSides.{IsPart, rear_text, ShutOrStands}
 
 -- the header was written behind a gate that stood alone
@@ -82,7 +81,3 @@ part_torn generation batches old new numbered room part torn =
     by_gate : (b : ℕ) → new ≡ b ∷ (rear_text generation batches ++ 0 ∷ []) → (b ≡ open_gate) ⊎ (b ≢ open_gate) → ShutOrStands generation batches new
     by_gate b text (inl is) = inr (opened generation batches new b numbered room is text)
     by_gate b text (inr closed) = inl (record { gate = b; closed = closed; rest = rear_text generation batches ++ 0 ∷ []; is = text; short = omega (arith, room, ap length text, length-append (rear_text generation batches) (0 ∷ [])) })
-
-pub written_short : (records : Bytes) → length (written records) ≤ length records + 10
-written_short [] = omega arith
-written_short (byte ∷ bytes) = omega (arith, length-sealed (byte ∷ bytes))

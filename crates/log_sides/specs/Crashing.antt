@@ -17,6 +17,10 @@ pub given : (s : Sides) (side : Side) (bytes : Bytes) → side_of (with_side s s
 given s A bytes = refl
 given s B bytes = refl
 
+pub other_other : (side : Side) → other_side (other_side side) ≡ side
+other_other A = refl
+other_other B = refl
+
 -- what a disk tells is the one thing that it tells
 told_settled : (o : Option Sides) (s : Sides) (side : Side) → o ≡ Some s → IsSettled (λ t. o ≡ Some t) side (side_of s side)
 told_settled o s side told t e = let same : t ≡ s = cc in ap (λ (u : Sides). side_of u side) same

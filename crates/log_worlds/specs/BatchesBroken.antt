@@ -1,6 +1,6 @@
 -- Where a side is damaged for a journal, it is for the log's definitions.
 use Rattle.std.proofs.Common.{◌≡◌, ◌⊎◌, ◌∙◌, ◌+◌, ◌-◌, ◌≤◌, ◌<◌, ◌^◌, ℕ, zero, suc, false, nat_le, List, [], ◌∷◌, ◌++◌, length, take, drop, Option, None, Some, Result, Ok, Err, refl, sym, ap, inl, inr, arith, append_assoc, append-nil, length-append}
-use Rattle.std.specs.Prelude.{nat_lt}
+use Rattle.std.proofs.lemmas.Bool.{ltb-false}
 use Rattle.std.proofs.lemmas.Bool.Decides.{nat_tests}
 use Rattle.byte_text.specs.Names.{Bytes}
 use Rattle.byte_text.specs.Streams.{request}
@@ -8,12 +8,12 @@ use Rattle.world_data.specs.declared.worlds.Change.{Change}
 use Rattle.outside.specs.declared.sides.Side.{Side}
 use Rattle.outside.specs.Sides.{Sides, side_of}
 use Rattle.log_sides.specs.Texts.{open_gate, number_bytes, header, framed, batches_text, front_text, gate_place, max_side}
-use Rattle.log_sides.specs.Torn.{length-framed}
+use Rattle.log_sides.specs.Torn.{length-framed, length-number_bytes}
 use Rattle.append_log.specs.Heads.{head_of}
 use Rattle.append_log.specs.Reading.{number_in, HasNoGate, HasNoBatch}
 use Rattle.journal.specs.Openings.{AreWhole, HasNoRecord, IsBroken, IsDamaged}
 use Rattle.log_record.specs.Batches.{number_of, record_front, with_record, records_behind, first_records, records_in, with_changes, first_batches, batches_in}
-use Rattle.log_record.specs.BatchesRead.{framed_read, eight}
+use Rattle.log_record.specs.BatchesRead.{framed_read}
 use Rattle.log_record.specs.Readings.{reading, reading_of, reading_in_use, side_in_use, cause_of, unless_damaged, generation_of, header_len, Damaged}
 use Rattle.log_worlds.specs.Recorded.{fault_of, changes_in, record_fault}
 use Rattle.log_worlds.specs.HeadsRead.{head_says}
@@ -95,7 +95,7 @@ unfolding number_bytes
 behind_header g batches tail = refl
 
 place_behind : (g : ℕ) (batches : List Bytes) → gate_place g batches ≡ 16 + length (batches_text batches)
-place_behind g batches = omega (arith, length-append (header g) (batches_text batches), eight g)
+place_behind g batches = omega (arith, length-append (header g) (batches_text batches), length-number_bytes g)
 
 broken_text : (g place : ℕ) (batches : List Bytes) (side tail : Bytes) → AreWhole record_fault batches → length side ≤ max_side → side ≡ front_text g batches ++ tail
     → ((k at : ℕ) → at ≡ gate_place g batches → first_batches (suc k) at tail ≡ Err place) → batches_in header_len (drop header_len side) ≡ Err place
@@ -137,12 +137,9 @@ heads_are_damaged : (s : Sides) (side : Side) (place : ℕ) → cause_of s ≡ S
 unfolding reading
 heads_are_damaged s side place is = ap (λ (c : Option (Side × ℕ)). unless_damaged c (reading_in_use s (side_in_use s))) is
 
-at_most : (a b : ℕ) → nat_lt a b ≡ false → b ≤ a
-at_most a b e = grind (arith, nat_tests)
-
 -- damage is found where the definitions have it
 pub damaged_reads : (s : Sides) (side : Side) (place : ℕ) → IsDamaged record_fault s side place → Damaged s side place
 damaged_reads s side place (inl heads) = heads_are_damaged s side place (heads_damaged s (head_of s.a) (head_of s.b) side place (head_says s.a) (head_says s.b) heads)
 damaged_reads s side place (inr broken) =
     let kept = heads_used s (head_of s.a) (head_of s.b) side broken.generation broken.len (head_says s.a) (head_says s.b) broken.used in
-    used_damaged s side broken.generation place kept (broken_reads broken.generation place (side_of s side) (at_most max_side (length (side_of s side)) kept.short) broken.broken)
+    used_damaged s side broken.generation place kept (broken_reads broken.generation place (side_of s side) (ltb-false max_side (length (side_of s side)) kept.short) broken.broken)

@@ -5,7 +5,7 @@ use Rattle.byte_text.specs.Names.{Bytes}
 use Rattle.planar_geom.specs.Points.{pt}
 use Rattle.planar_geom.specs.declared.shapes.Area.TheVariants.{Rect}
 use Rattle.planar_geom.specs.declared.shapes.Part.TheVariants.{Spot}
-use Rattle.world_model.specs.Kinds.{joins_first}
+use Rattle.geo_text.specs.Texts.{joins_first}
 use Rattle.world_model.specs.Commands.{reads}
 use Rattle.world_model.specs.declared.commands.Command.TheVariants as command
 use Rattle.world_model.specs.declared.faults.WordFault.{WordFault}

@@ -1,5 +1,5 @@
 -- Every beginning of a command can be finished.
-use Rattle.std.proofs.Common.{◌≡◌, ◌⊎◌, inl, inr, ◌<◌, ℕ, ℤ, pos, Bool, true, false, refl, sym, subst, List, [], ◌∷◌, ◌++◌, length, arith, suc, zero, ◌+◌}
+use Rattle.std.proofs.Common.{◌≡◌, ◌⊎◌, inl, inr, ℕ, ℤ, pos, Bool, true, false, refl, sym, subst, List, [], ◌∷◌, ◌++◌, length, arith, suc, zero, ◌+◌}
 use Rattle.std.specs.Prelude.{Option, Some, None, codes, nat_lt, is_none, not, ◌&&◌, neg_ℤ, int_le, decimal, option_and_then, if◌then◌else◌}
 use Rattle.std.specs.Fmt.{signed_decimal, digits}
 use Rattle.std.specs.Str.{chars, is_utf8, str_to_ascii_lowercase}
@@ -22,11 +22,11 @@ use Rattle.world_model.specs.declared.commands.Command.TheVariants as command
 use Rattle.std.proofs.lemmas.Bool.Decides.{nat_tests}
 use Rattle.std.proofs.lemmas.List.{append-nil}
 use Rattle.byte_text.specs.ByteOrder.{same_refl}
-use Rattle.world_model.specs.FormLaws.{each_append, Left, Out, Spells, Takes, Fair, fair_done, fair_bind, fair_word, takes_word, takes_bind}
+use Rattle.world_model.specs.FormLaws.{Out, Spells, Takes, Fair, fair_done, fair_bind, fair_word, fair_times, takes_word, takes_bind, takes_or, takes_where, spells_left, spells_right}
 use Rattle.world_model.specs.PrefixLaws.{Taking}
 use Rattle.world_data.specs.declared.queries.Rule.TheVariants.{Kept, Nearest}
-use Rattle.world_model.specs.MadeForms.{Makes, makes_done, makes_or, makes_none, makes_behind, makes_then, makes_any, makes_word}
-use Rattle.machine_laws.proofs.Finishing.{Finished, Weak, Good, good_done, good_or, good_or_weak, weak_or, weak_none, weak_where, good_word, good_any, weak_any, good_bind, good_repeated, good_loop, spells_left, spells_right, through}
+use Rattle.world_model.specs.MadeForms.{Makes, makes_done, makes_none, makes_behind, makes_then, makes_any, makes_word, makes_if, first}
+use Rattle.machine_laws.proofs.Finishing.{Finished, Weak, Good, good_done, good_or, good_or_weak, weak_or, weak_none, weak_where, good_word, good_any, weak_any, good_bind, good_repeated, good_loop, through}
 
 -- kinds of word
 
@@ -255,17 +255,6 @@ weak_fence_option near o =
 after_word : {B : Type 0} (n : Bytes) (g : Form B) → Fair g → Takes (word n >> g)
 after_word n g fair = takes_bind (word n) (λ _. g) (takes_word a_word _) (λ _. fair)
 
-takes_or : {A : Type 0} (f g : Form A) → Takes f → Takes g → Takes (f or g)
-takes_or f g p q ws = each_append (Left ◌<◌ (length ws)) (f ws) (g ws) (p ws) (q ws)
-
-takes_where : {A : Type 0} (test : Bool) (f : Form A) → Takes f → Takes (where_ test f)
-takes_where true f p ws = p ws
-takes_where false f p ws = tt
-
-fair_times : {A : Type 0} (n : ℕ) (f : Form A) → Fair f → Fair (times n f)
-fair_times zero f p = fair_done []
-fair_times (suc n) f p = fair_bind f _ p (λ a. fair_bind (times n f) _ (fair_times n f p) (λ rest. fair_done (a ∷ rest)))
-
 takes_test : Takes table.test
 takes_test = takes_or table.where_test table.wherein_test
     (after_word (codes "WHERE") _ (search (fair_bind, fair_done, fair_word) depth 40 fits 2000))
@@ -363,13 +352,6 @@ weak_near_area channel key o =
 abbrev Apart : Options → Type 0
 Apart o = (o.nodwell && not (is_none o.detect)) ≡ false
 
-makes_if : {A : Type 0} (P : A → Type 0) (test : Bool) (f : Form A) → (test ≡ true → Makes P f) → Makes P (where_ test f)
-makes_if P true f p = p refl
-makes_if P false f p = record { made = λ words. tt }
-
-either_makes : {A : Type 0} {P : A → Type 0} {f g : Form A} → Makes P f → Makes P g → Makes P (f or g)
-either_makes {P = P} {f = f} {g = g} p q = makes_or P f g p q
-
 no_dwell : (o : Options) (l : List Bytes) → (is_none o.detect && not o.nodwell) ≡ true → Apart (record o { detect = Some l })
 no_dwell o l e = grind arith
 
@@ -378,12 +360,12 @@ no_detect o e = grind arith
 
 makes_apart : (o : Options) → Apart o → Makes Apart (table.fence_option true o)
 makes_apart o h =
-    either_makes (makes_if Apart (is_none o.glob) _ (λ e. makes_behind Apart (word (codes "MATCH") >> glob) _ (λ p. makes_done Apart _ h))) (
-    either_makes (makes_if Apart (nat_lt (length o.tests) max_tests) _ (λ e. makes_behind Apart table.test _ (λ t. makes_done Apart _ h))) (
-    either_makes (makes_if Apart (not o.fence) _ (λ e. makes_then Apart (word (codes "FENCE")) _ (makes_done Apart _ h))) (
-    either_makes (makes_if Apart (is_none o.detect && not o.nodwell) _ (λ e. makes_behind Apart (word (codes "DETECT") >> list_of table.detect_names) _ (λ l. makes_done Apart (record o { detect = Some l }) (no_dwell o l e)))) (
-    either_makes (makes_if Apart (is_none o.commands) _ (λ e. makes_behind Apart (word (codes "COMMANDS") >> list_of table.command_names) _ (λ l. makes_done Apart _ h))) (
-    either_makes (makes_if Apart (true && not o.nodwell && is_none o.detect) _ (λ e. makes_then Apart (word (codes "NODWELL")) _ (makes_done Apart (record o { nodwell = true }) (no_detect o e)))) (makes_none Apart))))))
+    first (makes_if Apart (is_none o.glob) _ (λ e. makes_behind Apart (word (codes "MATCH") >> glob) _ (λ p. makes_done Apart _ h))) (
+    first (makes_if Apart (nat_lt (length o.tests) max_tests) _ (λ e. makes_behind Apart table.test _ (λ t. makes_done Apart _ h))) (
+    first (makes_if Apart (not o.fence) _ (λ e. makes_then Apart (word (codes "FENCE")) _ (makes_done Apart _ h))) (
+    first (makes_if Apart (is_none o.detect && not o.nodwell) _ (λ e. makes_behind Apart (word (codes "DETECT") >> list_of table.detect_names) _ (λ l. makes_done Apart (record o { detect = Some l }) (no_dwell o l e)))) (
+    first (makes_if Apart (is_none o.commands) _ (λ e. makes_behind Apart (word (codes "COMMANDS") >> list_of table.command_names) _ (λ l. makes_done Apart _ h))) (
+    first (makes_if Apart (true && not o.nodwell && is_none o.detect) _ (λ e. makes_then Apart (word (codes "NODWELL")) _ (makes_done Apart (record o { nodwell = true }) (no_detect o e)))) (makes_none Apart))))))
 
 abbrev near_tail : (channel key : Bytes) → Options → Form Command
 near_tail channel key o = where_ o.fence (table.near_area channel key o)

@@ -15,6 +15,7 @@ use Rattle.world_data.specs.declared.worlds.Change.TheVariants.{Put, Del, Drop, 
 use Rattle.byte_text.specs.ByteOrder.{before_tie, before_asym, same_refl, same_equal}
 use Rattle.ordered_lists.specs.NameOrder.{pair_trans, pair_tie, name_trans, name_tie}
 use Rattle.ordered_lists.specs.Reading.{both_of}
+use Rattle.ordered_lists.specs.Ascending.{behind_earlier, behind_tied}
 use Rattle.machine_laws.specs.Weights.{object_len, channel_len, gained, lost}
 
 abbrev total : {A : Type 0} → (A → ℕ) → List A → ℕ
@@ -46,21 +47,17 @@ module _ {A : Type 0} (f : A → ℕ) (lt : A → A → Bool) (tie : A → A →
   none_tie x [] all = refl
   none_tie x (y ∷ ys) all = let ih = none_tie x ys in let here = before_no x y in grind arith
 
-  all_later : (x y : A) (zs : List A) → ((z : A) → lt y z ≡ true → lt x z ≡ true) → list_all (lt y) zs ≡ true → list_all (lt x) zs ≡ true
-  all_later x y [] h all = refl
-  all_later x y (z ∷ zs) h all = let ih = all_later x y zs h in let here = h z in grind arith
-
   put_test : (x y : A) (ys : List A) (a b : Bool) → lt x y ≡ a → lt y x ≡ b → list_all (lt y) ys ≡ true
       → total f (put_in lt x ys) + total f (filter (tie x) ys) ≡ total f ys + f x
       → total f (put_in lt x (y ∷ ys)) + total f (filter (tie x) (y ∷ ys)) ≡ total f (y ∷ ys) + f x
   put_test x y ys true b e g all ih =
       let no_y = before_no x y e in
-      let later = none_tie x ys (all_later x y ys (λ z q. trans x y z e q) all) in
+      let later = none_tie x ys (behind_earlier lt trans tie_trans x y ys e all) in
       rw (e, no_y) (omega (arith, later))
   put_test x y ys false true e g all ih = let no_y = behind_no x y g in rw (e, g, no_y) (omega (arith, ih))
   put_test x y ys false false e g all ih =
       let it_is = tied x y e g in
-      let later = none_tie x ys (all_later x y ys (λ z q. tie_trans x y z e g q) all) in
+      let later = none_tie x ys (behind_tied lt trans tie_trans x y ys e g all) in
       rw (e, g, it_is) (omega (arith, later))
 
   put_total : (x : A) (ys : List A) → ascends lt ys ≡ true → total f (put_in lt x ys) + total f (filter (tie x) ys) ≡ total f ys + f x

@@ -4,7 +4,7 @@ use Rattle.std.specs.Prelude.{flat_map, Option, Some, None}
 use Rattle.std.proofs.lemmas.List.{append_assoc}
 use Rattle.byte_text.specs.Names.{Bytes}
 use Rattle.world_model.specs.Grammar.{Due, Reading, spells, runs_out, Form, go_on, ◌>>=◌, done, ◌or◌, one_of, where_, read_as, one_word, at_most_times, repeated}
-use Rattle.world_model.specs.FormLaws.{Each, Out, Spells, Takes}
+use Rattle.world_model.specs.FormLaws.{Each, Out, Spells, Takes, spells_left, spells_right}
 use Rattle.world_model.specs.PrefixLaws.{enough}
 use Rattle.world_model.specs.MadeForms.{Makes, Said, makes_any, makes_repeated}
 
@@ -44,17 +44,6 @@ spells_split a rest (spells b other ∷ xs) ys (inr s) = lifted (spells_split a 
     lifted (inl t) = inl (inr t)
     lifted (inr t) = inr t
 spells_split a rest (runs_out due ∷ xs) ys s = spells_split a rest xs ys s
-
-pub spells_left : {A : Type 0} (a : A) (rest : List Bytes) (xs ys : List (Reading A)) → Spells a rest xs → Spells a rest (xs ++ ys)
-spells_left a rest [] ys s = absurd s
-spells_left a rest (spells b other ∷ xs) ys (inl e) = inl e
-spells_left a rest (spells b other ∷ xs) ys (inr s) = inr (spells_left a rest xs ys s)
-spells_left a rest (runs_out due ∷ xs) ys s = spells_left a rest xs ys s
-
-pub spells_right : {A : Type 0} (a : A) (rest : List Bytes) (xs ys : List (Reading A)) → Spells a rest ys → Spells a rest (xs ++ ys)
-spells_right a rest [] ys s = s
-spells_right a rest (spells b other ∷ xs) ys s = inr (spells_right a rest xs ys s)
-spells_right a rest (runs_out due ∷ xs) ys s = spells_right a rest xs ys s
 
 -- what is spelled behind a form
 

@@ -1,12 +1,13 @@
 -- Messages staged one after another: of the pairs of a roaming channel, and of some channels.
 use Rattle.std.proofs.Common.{◌≡◌, ◌≤◌, ◌<◌, ℕ, ◌+◌, Bool, true, refl, sym, ◌∙◌, ap, subst, List, [], ◌∷◌, ◌++◌, length, take, map, flat_map, arith}
-use Rattle.std.specs.Prelude.{Option, Some, None, IfSome, find, filter, option_map, slice_get}
+use Rattle.std.specs.Prelude.{Option, Some, None, IfSome, find, option_map, slice_get}
 use Rattle.std.specs.List.{list_all}
-use Rattle.std.proofs.lemmas.List.{take_more, take_all, append-nil, map-append, length-map}
+use Rattle.std.proofs.lemmas.List.{take_all, append-nil, map-append, length-map}
 use Rattle.std.proofs.lemmas.Grind.{flat_map-append}
 use Rattle.std.proofs.lemmas.Option.{slice_get_within, get_or_from_slice_get, slice_get-map, slice_get-get_or}
 use Rattle.ordered_lists.specs.Reading.{all_get}
 use Rattle.byte_text.specs.Names.{Bytes}
+use Rattle.byte_text.specs.ListLaws.{take_next}
 use Rattle.fence_model.specs.Messages.{Message, roam_payload}
 use Rattle.collection.specs.Objects.{has_id}
 use Rattle.roam_fence.specs.Pairs.{is_near_now, shown}
@@ -19,26 +20,18 @@ use Rattle.session_mail.specs.FanLaws.{brought_both}
 use Rattle.message_fan.specs.Raises.{ArePairs, sent, detect_of}
 use Rattle.message_fan.proofs.Payloads.{pair_in}
 
-one_more : {A : Type 0} (xs : List A) (i : ℕ) (x : A) → slice_get xs i ≡ Some x → take (i + 1) xs ≡ take i xs ++ x ∷ []
-one_more xs i x at = take_more xs i x (slice_get_within xs i x at) ∙ ap (λ y. take i xs ++ y ∷ []) (get_or_from_slice_get xs i x x at)
-
 -- channels one by one
 pub channel_more : (on : Channel → List Message) (a b d : List State) (channels : List Channel) (i : ℕ) (c : Channel) → slice_get channels i ≡ Some c
     → AreBrought (flat_map on (take i channels)) a b → AreBrought (on c) b d → AreBrought (flat_map on (take (i + 1) channels)) a d
 channel_more on a b d channels i c at done next =
     let before = take i channels in
     let whole : flat_map on (take (i + 1) channels) ≡ flat_map on before ++ on c =
-    ap (flat_map on) (one_more channels i c at) ∙ flat_map-append on before (c ∷ []) ∙ ap (λ (ms : List Message). flat_map on before ++ ms) (append-nil (on c)) in
+    ap (flat_map on) (take_next channels i c at) ∙ flat_map-append on before (c ∷ []) ∙ ap (λ (ms : List Message). flat_map on before ++ ms) (append-nil (on c)) in
     subst (λ (ms : List Message). AreBrought ms a d) (sym whole) (brought_both (flat_map on before) (on c) a b d done next)
 
 -- behind the last of them all are
 pub all_channels : (on : Channel → List Message) (a b : List State) (channels : List Channel) (i : ℕ) → length channels ≤ i → AreBrought (flat_map on (take i channels)) a b → AreBrought (flat_map on channels) a b
 all_channels on a b channels i long done = subst (λ (cs : List Channel). AreBrought (flat_map on cs) a b) (take_all i channels long) done
-
--- what all pass, those that pass another test do
-pub all_left : {A : Type 0} (q p : A → Bool) (xs : List A) → list_all q xs ≡ true → list_all q (filter p xs) ≡ true
-all_left q p [] all = refl
-all_left q p (x ∷ xs) all = let ih = all_left q p xs in grind arith
 
 -- what all items pass, the one at a place does
 pub passes_at : {A : Type 0} (test : A → Bool) (xs : List A) (i : ℕ) (x : A) → list_all test xs ≡ true → slice_get xs i ≡ Some x → test x ≡ true
@@ -53,7 +46,7 @@ module _ (c : Channel) (new : Object) (a b : List State) where
   pair_more d list i x at done next =
       let before = take i list in
       let whole : raised (take (i + 1) list) ≡ raised before ++ raised (x ∷ []) =
-      ap raised (one_more list i x at) ∙ ap (sent c) (map-append (roam_payload c.name new) before (x ∷ [])) ∙ map-append (λ p. (c.name, p)) (map (roam_payload c.name new) before) (map (roam_payload c.name new) (x ∷ [])) in
+      ap raised (take_next list i x at) ∙ ap (sent c) (map-append (roam_payload c.name new) before (x ∷ [])) ∙ map-append (λ p. (c.name, p)) (map (roam_payload c.name new) before) (map (roam_payload c.name new) (x ∷ [])) in
       subst (λ (ms : List Message). AreBrought ms a d) (sym whole) (brought_both (raised before) (raised (x ∷ [])) a b d done next)
 
   -- the pair at a place is raised where its other object is found by the id that is shown

@@ -4,7 +4,6 @@ use Rattle.std.specs.Prelude.{map, filter, filter_map, find, Option, Some, None,
 use Rattle.std.specs.List.{AllByRecursion, list_all}
 use Rattle.byte_text.specs.Names.{Bytes, before}
 use Rattle.byte_text.specs.ByteOrder.{other_before, same_refl}
-use Rattle.ordered_lists.specs.Lists.{put_in}
 use Rattle.ordered_lists.specs.Reading.{both_of}
 use Rattle.world_data.specs.Worlds.{object_at, objects_of, has_key}
 use Rattle.world_data.specs.declared.objects.Object.{Object}
@@ -240,16 +239,3 @@ pub pair_in : (objects : List Object) (list : List (Object × Detect)) (i : ℕ)
 pair_in objects [] i x all at = absurd (cc)
 pair_in objects (y ∷ list) zero x all at = let is : y ≡ x = cc in subst (IsPair objects) is all.0
 pair_in objects (y ∷ list) (suc i) x all at = pair_in objects list i x all.1 at
-
--- a list of which all pass a test stays such a one with one more
-
-pub all_put : {A : Type 0} (test : A → Bool) (lt : A → A → Bool) (x : A) (ys : List A) → test x ≡ true → list_all test ys ≡ true → list_all test (put_in lt x ys) ≡ true
-all_put test lt x [] one all = rw one refl
-all_put test lt x (y ∷ ys) one all =
-    let both = both_of (test y) (list_all test ys) all in
-    by (lt x y) (lt y x) both.0 both.1 (all_put test lt x ys one both.1)
-  where
-    by : (b c : Bool) → test y ≡ true → list_all test ys ≡ true → list_all test (put_in lt x ys) ≡ true → list_all test (if b then x ∷ y ∷ ys else if c then y ∷ put_in lt x ys else x ∷ ys) ≡ true
-    by true c first rest ih = rw (one, first) rest
-    by false true first rest ih = rw first ih
-    by false false first rest ih = rw one rest

@@ -2,13 +2,9 @@
 use Rattle.std.proofs.Common.{◌≡◌, ℕ, zero, suc, ◌+◌, ◌<◌, List, [], ◌∷◌, ◌++◌, length, drop, refl, arith, ap, ◌∙◌, subst, add-one, append_assoc, sym}
 use Rattle.std.specs.Prelude.{Option, Some, IfSome, slice_get, codes}
 use Rattle.byte_text.specs.Names.{Bytes}
+use Rattle.byte_text.specs.ListLaws.{item_at}
 use Rattle.world_data.specs.Filters.{Field}
 use Rattle.message_text.specs.Parts.{field_part, fields_part, more_fields}
-
-item : (fields : List Field) (i : ℕ) → i < length fields → (f : Field) × (slice_get fields i ≡ Some f)
-item [] i lt = absurd (omega arith)
-item (g ∷ fields) zero lt = (g, refl)
-item (g ∷ fields) (suc i) lt = let less : i < length fields = omega arith in item fields i less
 
 step : (fields : List Field) (i : ℕ) (f : Field) → slice_get fields i ≡ Some f → more_fields (drop i fields) ≡ 44 ∷ (field_part f ++ more_fields (drop (suc i) fields))
 step [] i f is = absurd (cc)
@@ -23,8 +19,8 @@ rest_of fields i = more_fields (drop i fields) ++ codes "}"
 pub written : (fields : List Field) (i : ℕ) (before after whole : Bytes) → i < length fields
     → IfSome (slice_get fields i) (λ f. after ≡ before ++ 44 ∷ field_part f) → before ++ rest_of fields i ≡ whole → after ++ rest_of fields (i + 1) ≡ whole
 written fields i before after whole lt field w =
-    let f = (item fields i lt).0 in
-    let at = (item fields i lt).1 in
+    let f = (item_at fields i lt).0 in
+    let at = (item_at fields i lt).1 in
     let made : after ≡ before ++ 44 ∷ field_part f = subst (λ (o : Option Field). IfSome o (λ f. after ≡ before ++ 44 ∷ field_part f)) at field in
     let rest : rest_of fields i ≡ (44 ∷ field_part f) ++ rest_of fields (suc i) = ap (λ (t : Bytes). t ++ codes "}") (step fields i f at) ∙ append_assoc (44 ∷ field_part f) (more_fields (drop (suc i) fields)) (codes "}") in
     rw (made, add-one, append_assoc before (44 ∷ field_part f) (rest_of fields (suc i)), ← rest) w

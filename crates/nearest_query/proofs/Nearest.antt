@@ -7,14 +7,14 @@ use Rattle.byte_text.specs.ByteOrder.{before_asym}
 use Rattle.planar_geom.specs.Points.{Point}
 use Rattle.ordered_lists.specs.Lists.{sorted_by, insert_by}
 use Rattle.ordered_lists.specs.Ascending.{ascends-filter}
-use Rattle.ordered_lists.specs.Reading.{both_of}
+use Rattle.ordered_lists.specs.Reading.{both_of, all-filter, filter-all, filter-both, filter-passes}
 use Rattle.world_data.specs.declared.objects.Object.{Object}
 use Rattle.world_data.specs.declared.queries.Query.{Query}
 use Rattle.fence_model.specs.Queries.{distance, meets_query, within_reach, nearer, near_matches, page_items, page_ids, is_count}
 use Rattle.collection.specs.Nearing.{is_farther}
 use Rattle.collection.specs.Objects.{are_by_id, id_before}
 use Rattle.nearest_query.specs.Found.{near_found, is_reached, nearer_box, is_given, found_so_far}
-use Rattle.nearest_query.proofs.Sorting.{all_filter, filter_all, filter_both, filter_both_of, passing, sorted_split, sorted_tied, same_sorted}
+use Rattle.nearest_query.proofs.Sorting.{filter_both_of, sorted_split, sorted_tied, same_sorted}
 
 by_nearness : (p : Point) (x y : Object) → id_before x y ≡ true → nearer p y x ≡ nearer_box p y x
 by_nearness p x y b = let other = before_asym x.id y.id b in grind arith
@@ -61,7 +61,7 @@ module _ (q : Query) (p : Point) (reach : Option ℕ) (objects : List Object) wh
 
   -- what holds of all objects holds of those found
   of_found : (t : Object → Bool) → list_all t objects ≡ true → list_all t found ≡ true
-  of_found t all = all_filter t (within_reach p reach) (filter (meets_query q) objects) (all_filter t (meets_query q) objects all)
+  of_found t all = all-filter t (within_reach p reach) (filter (meets_query q) objects) (all-filter t (meets_query q) objects all)
 
   -- those given so far, and those that were not
   pub split_given : (given : Option ℕ) → sorted_by (nearer_box p) found ≡ found_so_far q p reach given objects ++ sorted_by (nearer_box p) (filter (λ o. not (is_given p given o)) found)
@@ -75,14 +75,14 @@ module _ (q : Query) (p : Point) (reach : Option ℕ) (objects : List Object) wh
 
   -- once all was given
   pub given_all : (given : Option ℕ) → are_by_id objects ≡ true → list_all (is_given p given) found ≡ true → found_so_far q p reach given objects ≡ near_matches q p reach objects
-  given_all given asc all = ap (sorted_by (nearer_box p)) (filter_all (is_given p given) found all) ∙ all_found asc
+  given_all given asc all = ap (sorted_by (nearer_box p)) (filter-all (is_given p given) found all) ∙ all_found asc
 
   pub all_given : (given : Option ℕ) → list_all (is_given p given) objects ≡ true → list_all (is_given p given) found ≡ true
   all_given given all = of_found (is_given p given) all
 
   -- once what is left is out of reach
   pub none_reached : (given : Option ℕ) (d : ℕ) → is_reached reach d ≡ false → list_all (λ o. not (is_farther given (distance p o)) || nat_le d (distance p o)) objects ≡ true → list_all (is_given p given) found ≡ true
-  none_reached given d far least = walked (filter (meets_query q) objects) (all_filter (λ o. not (is_farther given (distance p o)) || nat_le d (distance p o)) (meets_query q) objects least)
+  none_reached given d far least = walked (filter (meets_query q) objects) (all-filter (λ o. not (is_farther given (distance p o)) || nat_le d (distance p o)) (meets_query q) objects least)
     where
       walked : (os : List Object) → list_all (λ o. not (is_farther given (distance p o)) || nat_le d (distance p o)) os ≡ true → list_all (is_given p given) (filter (within_reach p reach) os) ≡ true
       walked [] all = refl
@@ -125,12 +125,12 @@ module _ (q : Query) (p : Point) (reach : Option ℕ) (objects : List Object) wh
     next_given near =
         let now = filter (is_given p (Some d)) found in
         let split = sorted_split (nearer_box p) (is_given p given) (λ x y low high. given_apart given (distance p x) (distance p y) low high) now in
-        let before : filter (is_given p given) now ≡ filter (is_given p given) found = filter_both (is_given p (Some d)) (is_given p given) (is_given p given) found (λ x h. given_then given d (distance p x) far h) (λ x h. refl) in
+        let before : filter (is_given p given) now ≡ filter (is_given p given) found = filter-both (is_given p (Some d)) (is_given p given) (is_given p given) found (λ x h. given_then given d (distance p x) far h) (λ x h. refl) in
         let newly : filter (λ o. not (is_given p given o)) now ≡ filter (λ o. nat_eq (distance p o) d) found =
         filter_both_of (λ o. not (is_farther given (distance p o)) || nat_le d (distance p o)) (is_given p (Some d)) (λ o. not (is_given p given o)) (λ o. nat_eq (distance p o) d) found (of_found (λ o. not (is_farther given (distance p o)) || nat_le d (distance p o)) least)
         (λ x i h. not_now d (distance p x) h) (λ x i h. given_now given d (distance p x) far i h) in
         let alike : sorted_by (nearer_box p) (filter (λ o. nat_eq (distance p o) d) found) ≡ filter (λ o. nat_eq (distance p o) d) found =
-        sorted_tied (nearer_box p) (λ o. nat_eq (distance p o) d) (λ x y a b. as_far (distance p x) (distance p y) a b) (filter (λ o. nat_eq (distance p o) d) found) (passing (λ o. nat_eq (distance p o) d) found) in
+        sorted_tied (nearer_box p) (λ o. nat_eq (distance p o) d) (λ x y a b. as_far (distance p x) (distance p y) a b) (filter (λ o. nat_eq (distance p o) d) found) (filter-passes (λ o. nat_eq (distance p o) d) found) in
         split
         ∙ ap (λ (l : List Object). sorted_by (nearer_box p) l ++ sorted_by (nearer_box p) (filter (λ o. not (is_given p given o)) now)) before
         ∙ ap (λ (l : List Object). found_so_far q p reach given objects ++ sorted_by (nearer_box p) l) newly

@@ -3,41 +3,11 @@ use Rattle.std.proofs.Common.{◌≡◌, Bool, true, false, not, refl, sym, ap, 
 use Rattle.std.specs.Prelude.{filter}
 use Rattle.std.specs.List.{list_all}
 use Rattle.ordered_lists.specs.Lists.{sorted_by, insert_by, ascends}
-use Rattle.ordered_lists.specs.Reading.{both_of}
+use Rattle.ordered_lists.specs.Reading.{both_of, filter-passes, all-weaker}
+use Rattle.ordered_lists.specs.Sorting.{all-sorted_by, insert_by-first}
 
 module _ {A : Type 0} where
-  pub all_weaker : (t u : A → Bool) (xs : List A) → list_all t xs ≡ true → ((x : A) → t x ≡ true → u x ≡ true) → list_all u xs ≡ true
-  all_weaker t u [] all each = refl
-  all_weaker t u (x ∷ xs) all each = let p = both_of (t x) (list_all t xs) all in rw (each x p.0, all_weaker t u xs p.1 each) refl
-
-  pub all_filter : (t u : A → Bool) (xs : List A) → list_all t xs ≡ true → list_all t (filter u xs) ≡ true
-  all_filter t u [] all = refl
-  all_filter t u (x ∷ xs) all = let p = both_of (t x) (list_all t xs) all in chosen (u x) refl p.0 (all_filter t u xs p.1)
-    where
-      chosen : (b : Bool) → u x ≡ b → t x ≡ true → list_all t (filter u xs) ≡ true → list_all t (filter u (x ∷ xs)) ≡ true
-      chosen true e here ih = rw (e, here) ih
-      chosen false e here ih = rw e ih
-
-  pub passing : (t : A → Bool) (xs : List A) → list_all t (filter t xs) ≡ true
-  passing t [] = refl
-  passing t (x ∷ xs) = chosen (t x) refl (passing t xs)
-    where
-      chosen : (b : Bool) → t x ≡ b → list_all t (filter t xs) ≡ true → list_all t (filter t (x ∷ xs)) ≡ true
-      chosen true e ih = rw (e, e) ih
-      chosen false e ih = rw e ih
-
-  -- what passes both of two tests, told by one
-  pub filter_both : (t u v : A → Bool) (xs : List A) → ((x : A) → t x ≡ false → v x ≡ false) → ((x : A) → t x ≡ true → u x ≡ v x) → filter u (filter t xs) ≡ filter v xs
-  filter_both t u v [] none same = refl
-  filter_both t u v (x ∷ xs) none same = chosen (t x) refl (v x) refl (filter_both t u v xs none same)
-    where
-      chosen : (b : Bool) → t x ≡ b → (d : Bool) → v x ≡ d → filter u (filter t xs) ≡ filter v xs → filter u (filter t (x ∷ xs)) ≡ filter v (x ∷ xs)
-      chosen true e true f ih = let g : u x ≡ true = same x e ∙ f in rw (e, g, f) (ap (λ (l : List A). x ∷ l) ih)
-      chosen true e false f ih = let g : u x ≡ false = same x e ∙ f in rw (e, g, f) ih
-      chosen false e true f ih = absurd (true≢false (sym f ∙ none x e))
-      chosen false e false f ih = rw (e, f) ih
-
-  -- the same where each of the items has a property
+  -- what passes both of two tests, told by one, where each of the items has a property
   pub filter_both_of : (h t u v : A → Bool) (xs : List A) → list_all h xs ≡ true → ((x : A) → h x ≡ true → t x ≡ false → v x ≡ false) → ((x : A) → h x ≡ true → t x ≡ true → u x ≡ v x) → filter u (filter t xs) ≡ filter v xs
   filter_both_of h t u v [] all none same = refl
   filter_both_of h t u v (x ∷ xs) all none same =
@@ -50,21 +20,9 @@ module _ {A : Type 0} where
       chosen false e true f i ih = absurd (true≢false (sym f ∙ none x i e))
       chosen false e false f i ih = rw (e, f) ih
 
-  pub filter_all : (t : A → Bool) (xs : List A) → list_all t xs ≡ true → filter t xs ≡ xs
-  filter_all t [] all = refl
-  filter_all t (x ∷ xs) all = let p = both_of (t x) (list_all t xs) all in rw p.0 (ap (λ (l : List A). x ∷ l) (filter_all t xs p.1))
-
 module _ {A : Type 0} (lt : A → A → Bool) where
-  insert_first : (x : A) (zs : List A) → list_all (λ z. not (lt z x)) zs ≡ true → insert_by lt x zs ≡ x ∷ zs
-  insert_first x [] all = refl
-  insert_first x (z ∷ zs) all = chosen (lt z x) refl (both_of (not (lt z x)) (list_all (λ z. not (lt z x)) zs) all).0
-    where
-      chosen : (b : Bool) → lt z x ≡ b → not (lt z x) ≡ true → insert_by lt x (z ∷ zs) ≡ x ∷ z ∷ zs
-      chosen true e n = absurd (true≢false (sym n ∙ ap not e))
-      chosen false e n = rw e refl
-
   insert_low : (x : A) (ys zs : List A) → list_all (λ z. not (lt z x)) zs ≡ true → insert_by lt x (ys ++ zs) ≡ insert_by lt x ys ++ zs
-  insert_low x [] zs all = insert_first x zs all
+  insert_low x [] zs all = insert_by-first lt x zs all
   insert_low x (y ∷ ys) zs all = chosen (lt y x) refl (insert_low x ys zs all)
     where
       chosen : (b : Bool) → lt y x ≡ b → insert_by lt x (ys ++ zs) ≡ insert_by lt x ys ++ zs → insert_by lt x ((y ∷ ys) ++ zs) ≡ insert_by lt x (y ∷ ys) ++ zs
@@ -74,18 +32,6 @@ module _ {A : Type 0} (lt : A → A → Bool) where
   insert_high : (x : A) (ys zs : List A) → list_all (λ y. lt y x) ys ≡ true → insert_by lt x (ys ++ zs) ≡ ys ++ insert_by lt x zs
   insert_high x [] zs all = refl
   insert_high x (y ∷ ys) zs all = let p = both_of (lt y x) (list_all (λ y. lt y x) ys) all in rw p.0 (ap (λ (l : List A). y ∷ l) (insert_high x ys zs p.1))
-
-  all_insert : (t : A → Bool) (x : A) (ys : List A) → t x ≡ true → list_all t ys ≡ true → list_all t (insert_by lt x ys) ≡ true
-  all_insert t x [] here all = rw here refl
-  all_insert t x (y ∷ ys) here all = let p = both_of (t y) (list_all t ys) all in chosen (lt y x) refl p.0 p.1 (all_insert t x ys here p.1)
-    where
-      chosen : (b : Bool) → lt y x ≡ b → t y ≡ true → list_all t ys ≡ true → list_all t (insert_by lt x ys) ≡ true → list_all t (insert_by lt x (y ∷ ys)) ≡ true
-      chosen true e first rest ih = rw (e, first) ih
-      chosen false e first rest ih = rw (e, here, first) rest
-
-  all_sorted : (t : A → Bool) (xs : List A) → list_all t xs ≡ true → list_all t (sorted_by lt xs) ≡ true
-  all_sorted t [] all = refl
-  all_sorted t (x ∷ xs) all = let p = both_of (t x) (list_all t xs) all in all_insert t x (sorted_by lt xs) p.0 (all_sorted t xs p.1)
 
   -- a sorted list where each of a kind is less than each of the others: those of the kind, sorted, and the others, sorted
   pub sorted_split : (low : A → Bool) → ((x y : A) → low x ≡ true → low y ≡ false → (lt x y ≡ true) × (lt y x ≡ false)) → (xs : List A)
@@ -107,14 +53,14 @@ module _ {A : Type 0} (lt : A → A → Bool) where
           → sorted_by lt (x ∷ xs) ≡ sorted_by lt (filter low (x ∷ xs)) ++ sorted_by lt (filter (λ x. not (low x)) (x ∷ xs))
       chosen true e ih =
           let behind : list_all (λ z. not (lt z x)) (sorted_by lt (filter (λ x. not (low x)) xs)) ≡ true =
-          all_weaker (λ z. not (low z)) (λ z. not (lt z x)) (sorted_by lt (filter (λ x. not (low x)) xs)) (all_sorted (λ z. not (low z)) (filter (λ x. not (low x)) xs) (passing (λ x. not (low x)) xs)) (λ z n. ap not ((apart x z e (not_true (low z) n)).1)) in
+          all-weaker (λ z. not (low z)) (λ z. not (lt z x)) (sorted_by lt (filter (λ x. not (low x)) xs)) (λ z n. ap not ((apart x z e (not_true (low z) n)).1)) (all-sorted_by lt (λ z. not (low z)) (filter (λ x. not (low x)) xs) (filter-passes (λ x. not (low x)) xs)) in
           ap (insert_by lt x) ih ∙ insert_low x (sorted_by lt (filter low xs)) (sorted_by lt (filter (λ x. not (low x)) xs)) behind ∙ shape
         where
           shape : insert_by lt x (sorted_by lt (filter low xs)) ++ sorted_by lt (filter (λ x. not (low x)) xs) ≡ sorted_by lt (filter low (x ∷ xs)) ++ sorted_by lt (filter (λ x. not (low x)) (x ∷ xs))
           shape = rw e refl
       chosen false e ih =
           let front : list_all (λ y. lt y x) (sorted_by lt (filter low xs)) ≡ true =
-          all_weaker low (λ y. lt y x) (sorted_by lt (filter low xs)) (all_sorted low (filter low xs) (passing low xs)) (λ y l. (apart y x l e).0) in
+          all-weaker low (λ y. lt y x) (sorted_by lt (filter low xs)) (λ y l. (apart y x l e).0) (all-sorted_by lt low (filter low xs) (filter-passes low xs)) in
           ap (insert_by lt x) ih ∙ insert_high x (sorted_by lt (filter low xs)) (sorted_by lt (filter (λ x. not (low x)) xs)) front ∙ shape
         where
           shape : sorted_by lt (filter low xs) ++ insert_by lt x (sorted_by lt (filter (λ x. not (low x)) xs)) ≡ sorted_by lt (filter low (x ∷ xs)) ++ sorted_by lt (filter (λ x. not (low x)) (x ∷ xs))
@@ -125,7 +71,7 @@ module _ {A : Type 0} (lt : A → A → Bool) where
   sorted_tied t tied [] all = refl
   sorted_tied t tied (x ∷ xs) all =
       let p = both_of (t x) (list_all t xs) all in
-      ap (insert_by lt x) (sorted_tied t tied xs p.1) ∙ insert_first x xs (all_weaker t (λ z. not (lt z x)) xs p.1 (λ z h. ap not (tied x z p.0 h)))
+      ap (insert_by lt x) (sorted_tied t tied xs p.1) ∙ insert_by-first lt x xs (all-weaker t (λ z. not (lt z x)) xs (λ z h. ap not (tied x z p.0 h)) p.1)
 
 -- of items in front of which none of a later one stands by an order, those that tie are in that order already
 module _ {A : Type 0} (less by : A → A → Bool) (nearer : A → A → Bool) (is : (x y : A) → by x y ≡ true → nearer y x ≡ less y x) where
@@ -137,4 +83,4 @@ module _ {A : Type 0} (less by : A → A → Bool) (nearer : A → A → Bool) (
   same_sorted [] asc = refl
   same_sorted (x ∷ xs) asc =
       let b = both_of (list_all (by x) xs) (ascends by xs) asc in
-      ap (insert_by nearer x) (same_sorted xs b.1) ∙ same_insert x (sorted_by less xs) (all_sorted less (by x) xs b.0)
+      ap (insert_by nearer x) (same_sorted xs b.1) ∙ same_insert x (sorted_by less xs) (all-sorted_by less (by x) xs b.0)

@@ -4,13 +4,14 @@ use Rattle.std.specs.Prelude.{Option, Some, None, IfSome, ◌&&◌, ◌||◌, fi
 use Rattle.std.specs.List.{list_all, list_any}
 use Rattle.byte_text.specs.Names.{Bytes, same, before}
 use Rattle.byte_text.specs.ByteOrder.{before_trans, same_refl, same_equal, other_before, other_behind}
+use Rattle.byte_text.specs.ListLaws.{item_at}
 use Rattle.ordered_lists.specs.Lists.{ascends, distinct}
 use Rattle.ordered_lists.specs.Reading.{both_of}
 use Rattle.world_data.specs.Worlds.{object_before, are_objects, has_key}
 use Rattle.world_data.specs.declared.objects.Object.{Object}
 use Rattle.keyspace.specs.Entries.{Entry, key_before, has_objects, objects_in}
 use Rattle.next_items.specs.Copies.{is_behind, has_id_behind, IsFirstOf, FirstOf}
-use Rattle.next_items.proofs.Walking.{stands, got}
+use Rattle.next_items.proofs.Walking.{got}
 
 abbrev keys : List Object → List Bytes
 keys os = map (λ o. o.key) os
@@ -247,7 +248,7 @@ first_is p (x ∷ xs) = by (p x) refl (first_is p xs)
 module _ (es : List Entry) (at : ℕ) (within : at < length es) (held : IfSome (slice_get es at) (λ e. has_objects e ≡ true))
     (k : Bytes) (read : IfSome (slice_get es at) (λ e. k ≡ e.key)) where
   here : (e : Entry) × (slice_get es at ≡ Some e)
-  here = stands es at within
+  here = item_at es at within
 
   is_key : k ≡ here.0.key
   is_key = got (λ e. k ≡ e.key) es at here.0 here.1 read

@@ -4,13 +4,14 @@ use Rattle.std.specs.Prelude.{Some, IfSome, filter, slice_get}
 use Rattle.ordered_lists.specs.Lists.{ascends}
 use Rattle.byte_text.specs.Names.{Bytes, before}
 use Rattle.byte_text.specs.ByteOrder.{before_trans}
+use Rattle.byte_text.specs.ListLaws.{item_at}
 use Rattle.world_data.specs.Worlds.{channel_before}
 use Rattle.world_data.specs.declared.objects.Object.{Object}
 use Rattle.world_data.specs.declared.channels.Channel.{Channel}
 use Rattle.collection.specs.Objects.{id_before}
 use Rattle.keyspace.specs.Entries.{Entry, key_before, has_objects}
 use Rattle.next_items.specs.Copies.{is_behind_name, has_id_behind, has_key_behind, IsInFront, IsAtBack, AreBare}
-use Rattle.next_items.proofs.Walking.{go_up, go_down, stands, got}
+use Rattle.next_items.proofs.Walking.{go_up, go_down, got}
 
 pub channels_rise : (name : Bytes) (c d : Channel) → channel_before c d ≡ true → is_behind_name name c ≡ true → is_behind_name name d ≡ true
 channels_rise name c d lt behind = before_trans name c.name d.name behind lt
@@ -25,7 +26,7 @@ keys_rise key e f lt behind = before_trans key e.key f.key behind lt
 module _ (key : Bytes) (es : List Entry) (asc : ascends key_before (filter has_objects es) ≡ true) (at : ℕ) (within : at < length es)
     (held : IfSome (slice_get es at) (λ e. has_objects e ≡ true)) (k : Bytes) (read : IfSome (slice_get es at) (λ e. k ≡ e.key)) where
   here : (e : Entry) × (slice_get es at ≡ Some e)
-  here = stands es at within
+  here = item_at es at within
 
   has_some : has_objects here.0 ≡ true
   has_some = got (λ e. has_objects e ≡ true) es at here.0 here.1 held

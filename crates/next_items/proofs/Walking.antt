@@ -159,12 +159,6 @@ held_found {A} has test xs low high at le front back from bare held =
     by None e h = subst (λ o. IfSome o (λ x. (has x && test x) ≡ true)) (sym e) tt
     by (Some x) e h = subst (λ o. IfSome o (λ y. (has y && test y) ≡ true)) (sym e) (both_true (has x) (test x) h (back at x (omega (arith, le, from)) e h))
 
--- what stands at a place within
-pub stands : {A : Type 0} (xs : List A) (at : ℕ) → at < length xs → (x : A) × (slice_get xs at ≡ Some x)
-stands [] at lt = absurd (omega (arith, lt))
-stands (x ∷ xs) zero lt = (x, refl)
-stands (x ∷ xs) (suc at) lt = stands xs at (omega (arith, lt))
-
 -- what holds of the one at a place
 pub got : {A : Type 0} (P : A → Type 0) (xs : List A) (at : ℕ) (x : A) → slice_get xs at ≡ Some x → IfSome (slice_get xs at) P → P x
 got {A} P xs at x is h = subst (λ (o : Option A). IfSome o P) is h

@@ -1,5 +1,5 @@
 -- Lists in an order: strictly ascending ones, sorting that keeps ties, and names each once.
-use Rattle.std.specs.Prelude.{◌≡◌, ◌<◌, ◌≤◌, ℕ, Bool, true, false, ◌&&◌, List, [], ◌∷◌, length, take, slice_get, IfSome, if◌then◌else◌}
+use Rattle.std.specs.Prelude.{◌≡◌, ◌<◌, ◌≤◌, ℕ, Bool, true, false, not, ◌&&◌, List, [], ◌∷◌, length, take, slice_get, IfSome, if◌then◌else◌}
 use Rattle.std.specs.List.{list_all, list_any}
 use Rattle.byte_text.specs.Names.{Bytes, same}
 
@@ -7,6 +7,10 @@ use Rattle.byte_text.specs.Names.{Bytes, same}
 abbrev pub ascends : {A : Type 0} → (A → A → Bool) → List A → Bool
 ascends lt [] = true
 ascends lt (x ∷ xs) = list_all (lt x) xs && ascends lt xs
+
+-- neither stands before the other
+abbrev pub ties : {A : Type 0} → (A → A → Bool) → A → A → Bool
+ties lt x y = not (lt x y) && not (lt y x)
 
 -- an ascending list with x at its place, in place of the one that ties with it
 abbrev pub put_in : {A : Type 0} → (A → A → Bool) → A → List A → List A

@@ -4,7 +4,7 @@ use Rattle.std.specs.Prelude.{Option, Some, None, filter, find, IfSome}
 use Rattle.std.specs.List.{list_all, slice_get, remove}
 use Rattle.std.specs.List.Sorted.{IsPartitionedBy, IsPartitionPoint}
 use Rattle.ordered_lists.specs.Lists.{ascends, IsHeld, IsFree}
-use Rattle.ordered_lists.specs.Reading.{both_of, all_get, filter-all, front_all, stands_at, past_end}
+use Rattle.ordered_lists.specs.Reading.{both_of, all_get, filter-all, filter-none, all-weaker, front_all, stands_at, past_end}
 
 -- a test that what stands before passes too splits an ascending list
 pub partitioned_by : {A : Type 0} (lt : A → A → Bool) (q : A → Bool) → ((x y : A) → lt x y ≡ true → q y ≡ true → q x ≡ true) → (xs : List A) → ascends lt xs ≡ true → IsPartitionedBy q xs
@@ -17,10 +17,6 @@ partitioned_by lt q down (x ∷ xs) asc (suc i) zero d le within h = absurd (ome
 partitioned_by lt q down (x ∷ xs) asc (suc i) (suc j) d le within h = partitioned_by lt q down xs (both_of (list_all (lt x) xs) (ascends lt xs) asc).1 i j d (omega arith) (omega arith) h
 
 -- a list that is split so: those that pass the test are in front of the place, and the others behind it
-
-filter-none : {A : Type 0} (q : A → Bool) (xs : List A) → list_all (λ x. not (q x)) xs ≡ true → filter q xs ≡ []
-filter-none q [] all = refl
-filter-none q (x ∷ xs) all = let ih = filter-none q xs in grind arith
 
 back_all : {A : Type 0} (q : A → Bool) (xs : List A) (at : ℕ) → ((k : ℕ) (d : A) → at ≤ k → k < length xs → q (get_or xs k d) ≡ false) → list_all (λ x. not (q x)) (drop at xs) ≡ true
 back_all q [] zero f = refl
@@ -92,8 +88,7 @@ pub record IsSought {A : Type 0} (lt : A → A → Bool) (in_front is_behind is_
 
 module _ {A : Type 0} (lt : A → A → Bool) (in_front is_behind is_it : A → Bool) (o : IsSought lt in_front is_behind is_it) where
   pub all_behind : (x : A) (xs : List A) → ((y : A) → lt x y ≡ true → is_behind y ≡ true) → list_all (lt x) xs ≡ true → list_all is_behind xs ≡ true
-  all_behind x [] h all = refl
-  all_behind x (y ∷ xs) h all = let ih = all_behind x xs h in let here = h y in grind arith
+  all_behind x xs = all-weaker (lt x) is_behind xs
 
   pub none_behind : (xs : List A) → list_all is_behind xs ≡ true → find is_it xs ≡ None
   none_behind [] all = refl

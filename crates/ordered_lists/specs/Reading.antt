@@ -1,7 +1,7 @@
--- Reading lists at places, and tests of all their items.
-use Rattle.std.proofs.Common.{◌≡◌, ◌<◌, ◌≤◌, ◌+◌, ℕ, zero, suc, Bool, true, false, refl, sym, ◌∙◌, ap, subst, List, [], ◌∷◌, length, take, get_or, add-one, arith}
-use Rattle.std.specs.Prelude.{Some, Result, Ok, Err, filter, IfSome, OnOk, OnErr, ◌&&◌}
-use Rattle.std.specs.List.{list_all, slice_get, slice_set, insert, remove}
+-- Reading lists at places, tests of all their items, and the items that pass one.
+use Rattle.std.proofs.Common.{◌≡◌, ◌<◌, ◌≤◌, ◌+◌, ℕ, zero, suc, Bool, true, false, not, refl, sym, ◌∙◌, ap, subst, List, [], ◌∷◌, ◌++◌, length, take, get_or, add-one, arith}
+use Rattle.std.specs.Prelude.{Some, Result, Ok, Err, filter, IfSome, OnOk, OnErr, ◌&&◌, if◌then◌else◌}
+use Rattle.std.specs.List.{list_all, AllByRecursion, slice_get, slice_set, insert, remove}
 
 pub both_of : (a b : Bool) → (a && b) ≡ true → (a ≡ true) × (b ≡ true)
 both_of a b e = (grind arith, grind arith)
@@ -59,6 +59,67 @@ filter-all q (x ∷ xs) all = let ih = filter-all q xs in grind arith
 pub filter-passes : {A : Type 0} (q : A → Bool) (xs : List A) → list_all q (filter q xs) ≡ true
 filter-passes q [] = refl
 filter-passes q (x ∷ xs) = let ih = filter-passes q xs in grind arith
+
+pub filter-none : {A : Type 0} (q : A → Bool) (xs : List A) → list_all (λ x. not (q x)) xs ≡ true → filter q xs ≡ []
+filter-none q [] all = refl
+filter-none q (x ∷ xs) all = let ih = filter-none q xs in grind arith
+
+pub filter-nothing : {A : Type 0} (xs : List A) → filter (λ x. false) xs ≡ []
+filter-nothing [] = refl
+filter-nothing (x ∷ xs) = filter-nothing xs
+
+-- no more items pass than there are
+pub filter-most : {A : Type 0} (q : A → Bool) (xs : List A) → length (filter q xs) ≤ length xs
+filter-most q [] = omega arith
+filter-most q (x ∷ xs) = by (q x) (filter-most q xs)
+  where
+    by : (b : Bool) → length (filter q xs) ≤ length xs → length (if b then x ∷ filter q xs else filter q xs) ≤ length (x ∷ xs)
+    by true le = omega (arith, le)
+    by false le = omega (arith, le)
+
+-- what passes both of two tests, told by one
+pub filter-both : {A : Type 0} (p q r : A → Bool) (xs : List A) → ((x : A) → p x ≡ false → r x ≡ false) → ((x : A) → p x ≡ true → q x ≡ r x)
+    → filter q (filter p xs) ≡ filter r xs
+filter-both p q r [] none same = refl
+filter-both p q r (x ∷ xs) none same = let ih = filter-both p q r xs none same in let off = none x in let on = same x in grind arith
+
+-- what all items pass, those that pass another test pass
+pub all-filter : {A : Type 0} (p q : A → Bool) (xs : List A) → list_all p xs ≡ true → list_all p (filter q xs) ≡ true
+all-filter p q [] all = refl
+all-filter p q (x ∷ xs) all = let ih = all-filter p q xs in grind arith
+
+pub each-filter : {A : Type 0} (P : A → Type 0) (q : A → Bool) (xs : List A) → AllByRecursion P xs → AllByRecursion P (filter q xs)
+each-filter P q [] each = tt
+each-filter P q (x ∷ xs) each = by (q x) (each-filter P q xs each.1)
+  where
+    by : (b : Bool) → AllByRecursion P (filter q xs) → AllByRecursion P (if b then x ∷ filter q xs else filter q xs)
+    by true more = (each.0, more)
+    by false more = more
+
+-- a test that whatever passes another passes too
+pub all-weaker : {A : Type 0} (p q : A → Bool) (xs : List A) → ((x : A) → p x ≡ true → q x ≡ true) → list_all p xs ≡ true → list_all q xs ≡ true
+all-weaker p q [] weaker all = refl
+all-weaker p q (x ∷ xs) weaker all = let ih = all-weaker p q xs weaker in let here = weaker x in grind arith
+
+-- all of two lists, one behind the other
+pub all-append : {A : Type 0} (p : A → Bool) (xs ys : List A) → list_all p xs ≡ true → list_all p ys ≡ true → list_all p (xs ++ ys) ≡ true
+all-append p [] ys all more = more
+all-append p (x ∷ xs) ys all more = let ih = all-append p xs ys in grind arith
+
+pub each-append : {A : Type 0} (P : A → Type 0) (xs ys : List A) → AllByRecursion P xs → AllByRecursion P ys → AllByRecursion P (xs ++ ys)
+each-append P [] ys each more = more
+each-append P (x ∷ xs) ys each more = (each.0, each-append P xs ys each.1 more)
+
+pub all-left : {A : Type 0} (p : A → Bool) (xs ys : List A) → list_all p (xs ++ ys) ≡ true → list_all p xs ≡ true
+all-left p [] ys all = refl
+all-left p (x ∷ xs) ys all = let ih = all-left p xs ys in grind arith
+
+pub all-right : {A : Type 0} (p : A → Bool) (xs ys : List A) → list_all p (xs ++ ys) ≡ true → list_all p ys ≡ true
+all-right p [] ys all = all
+all-right p (x ∷ xs) ys all = all-right p xs ys (both_of (p x) (list_all p (xs ++ ys)) all).1
+
+pub all-middle : {A : Type 0} (p : A → Bool) (xs : List A) (x : A) (ys : List A) → list_all p (xs ++ x ∷ ys) ≡ true → p x ≡ true
+all-middle p xs x ys all = (both_of (p x) (list_all p ys) (all-right p xs (x ∷ ys) all)).0
 
 -- an item that fails the test is not put in
 pub filter-insert : {A : Type 0} (q : A → Bool) (xs : List A) (p : ℕ) (x : A) → list_all q xs ≡ true → q x ≡ false → filter q (insert xs p x) ≡ xs

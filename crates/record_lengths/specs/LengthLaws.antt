@@ -8,6 +8,7 @@ use Rattle.byte_text.specs.Lines.{line, bulk_text}
 use Rattle.world_data.specs.Filters.{Field}
 use Rattle.world_data.specs.Records.{record_len, record_words, field_words, deadline_words}
 use Rattle.byte_text.specs.Requests.{AreShort, FitsRequest, max_request, max_word, max_words, total}
+use Rattle.byte_text.specs.ListLaws.{item_at}
 use Rattle.world_data.specs.declared.channels.Channel.{Channel}
 use Rattle.world_data.specs.declared.objects.Object.{Object}
 use Rattle.world_data.specs.declared.worlds.Change.TheVariants as change
@@ -71,16 +72,11 @@ put_sum o count head set key id fields deadline object text is a b c d e f g h =
 pub field_step : (fs : List Field) (i sum n : ℕ) (name : Bytes) (value : ℤ) → i < length fs → IfSome (slice_get fs i) (λ f. name ≡ f.0) → IfSome (slice_get fs i) (λ f. value ≡ f.1)
     → sum ≡ words_len (flat_map field_words (take i fs)) → n ≡ words_len (field_words (name, value)) → sum + n ≡ words_len (flat_map field_words (take (i + 1) fs))
 field_step fs i sum n name value lt named valued before now =
-    let s = there fs i lt in
+    let s = item_at fs i lt in
     let name_is : name ≡ s.0.0 = subst (λ (o : Option Field). IfSome o (λ f. name ≡ f.0)) s.1 named in
     let value_is : value ≡ s.0.1 = subst (λ (o : Option Field). IfSome o (λ f. value ≡ f.1)) s.1 valued in
     let field_is : n ≡ words_len (field_words s.0) = now ∙ ap (λ (m : Bytes). words_len (field_words (m, value))) name_is ∙ ap (λ (v : ℤ). words_len (field_words (s.0.0, v))) value_is in
     omega (arith, before, field_is, next_field fs i s.0 s.1)
-  where
-    there : (xs : List Field) (j : ℕ) → j < length xs → (x : Field) × (slice_get xs j ≡ Some x)
-    there [] j lt = absurd (omega (arith, lt))
-    there (y ∷ ys) zero lt = (y, refl)
-    there (y ∷ ys) (suc j) lt = there ys j (omega (arith, lt))
 
 -- an object has no more fields than its record has bytes
 pub fields_weigh : (o : Object) → length o.fields ≤ record_len (change.Put o)

@@ -1,25 +1,13 @@
 -- The words of a put, and their text.
-use Rattle.std.proofs.Common.{◌≡◌, ◌∙◌, ◌+◌, ◌*◌, ℕ, List, [], ◌∷◌, ◌++◌, length, refl, sym, ap, arith, append_assoc, append-nil, length-append, flat_map}
+use Rattle.std.proofs.Common.{◌≡◌, ◌∙◌, ◌+◌, ℕ, [], ◌∷◌, ◌++◌, length, refl, sym, ap, append_assoc, append-nil, flat_map}
 use Rattle.std.specs.Prelude.{codes, decimal}
 use Rattle.byte_text.specs.Names.{Bytes}
 use Rattle.byte_text.specs.Lines.{line, bulk_text}
-use Rattle.world_data.specs.Filters.{Field}
 use Rattle.world_data.specs.Records.{deadline_words, field_words, record_text, record_words}
 use Rattle.world_data.specs.declared.objects.Object.{Object}
 use Rattle.world_data.specs.declared.worlds.Change.TheVariants as change
 use Rattle.record_text.specs.Texts.{words_text}
 use Rattle.record_text.proofs.Growing.{words-append}
-
--- a field has three words
-field_count : (fs : List Field) → length (flat_map field_words fs) ≡ 3 * length fs
-field_count [] = refl
-field_count (f ∷ fs) = let ih = field_count fs in omega (arith, ih)
-
-pub put_words : (o : Object) → length (record_words (change.Put o)) ≡ 5 + 3 * length o.fields + length (deadline_words o.deadline)
-put_words o =
-    let fields = flat_map field_words o.fields in
-    let rest = codes "OBJECT" ∷ o.text ∷ [] in
-    omega (arith, field_count o.fields, length-append (fields ++ deadline_words o.deadline) rest, length-append fields (deadline_words o.deadline))
 
 in_order : (into a b c d e f g h : Bytes) → (((((((into ++ a) ++ b) ++ c) ++ d) ++ e) ++ f) ++ g) ++ h ≡ into ++ (a ++ (b ++ (c ++ (d ++ ((e ++ f) ++ (g ++ (h ++ [])))))))
 in_order into a b c d e f g h = simp (append_assoc, append-nil) refl

@@ -1,25 +1,19 @@
 -- A text grows by one part at a time.
-use Rattle.std.proofs.Common.{◌≡◌, ◌∙◌, ◌+◌, ◌<◌, Bool, true, ◌&&◌, ℕ, ℤ, zero, suc, List, [], ◌∷◌, ◌++◌, length, drop, refl, sym, ap, subst, arith, append_assoc, flat_map}
-use Rattle.std.specs.Prelude.{Option, Some, slice_get, IfSome}
+use Rattle.std.proofs.Common.{◌≡◌, ◌∙◌, ◌+◌, ◌<◌, Bool, true, ◌&&◌, ℕ, ℤ, List, [], ◌∷◌, ◌++◌, length, drop, refl, sym, ap, subst, append_assoc, flat_map}
+use Rattle.std.specs.Prelude.{Option, slice_get, IfSome}
 use Rattle.std.specs.List.{list_all}
 use Rattle.byte_text.specs.Names.{Bytes}
 use Rattle.byte_text.specs.Lines.{bulk_text}
-use Rattle.byte_text.specs.ListLaws.{drop_next, one_more}
+use Rattle.byte_text.specs.ListLaws.{drop_next, one_more, item_at}
 use Rattle.world_data.specs.Filters.{Field}
-use Rattle.world_data.specs.Records.{field_words}
-use Rattle.log_record.specs.Words.{is_kept_field}
+use Rattle.world_data.specs.Records.{field_words, is_kept_field}
 use Rattle.record_text.specs.Texts.{words_text, field_text}
-
-there : (fs : List Field) (i : ℕ) → i < length fs → (f : Field) × (slice_get fs i ≡ Some f)
-there [] i lt = absurd (omega (arith, lt))
-there (f ∷ fs) zero lt = (f, refl)
-there (f ∷ fs) (suc i) lt = there fs i (omega (arith, lt))
 
 -- the field at a place was written
 pub one_field : (fs : List Field) (i : ℕ) (name : Bytes) (value : ℤ) (into grown whole : Bytes) → i < length fs → IfSome (slice_get fs i) (λ f. name ≡ f.0) → IfSome (slice_get fs i) (λ f. value ≡ f.1)
     → grown ≡ into ++ field_text (name, value) → into ++ flat_map field_text (drop i fs) ≡ whole → grown ++ flat_map field_text (drop (i + 1) fs) ≡ whole
 one_field fs i name value into grown whole lt named valued is before =
-    let s = there fs i lt in
+    let s = item_at fs i lt in
     let name_is : name ≡ s.0.0 = subst (λ (o : Option Field). IfSome o (λ f. name ≡ f.0)) s.1 named in
     let value_is : value ≡ s.0.1 = subst (λ (o : Option Field). IfSome o (λ f. value ≡ f.1)) s.1 valued in
     one_more field_text fs i s.0 into grown whole s.1 (is ∙ ap (λ (m : Bytes). into ++ field_text (m, value)) name_is ∙ ap (λ (v : ℤ). into ++ field_text (s.0.0, v)) value_is) before
@@ -28,7 +22,7 @@ one_field fs i name value into grown whole lt named valued is before =
 pub one_kept : (fs : List Field) (i : ℕ) (name : Bytes) (value : ℤ) → i < length fs → IfSome (slice_get fs i) (λ f. name ≡ f.0) → IfSome (slice_get fs i) (λ f. value ≡ f.1)
     → is_kept_field (name, value) ≡ true → list_all is_kept_field (drop i fs) ≡ list_all is_kept_field fs → list_all is_kept_field (drop (i + 1) fs) ≡ list_all is_kept_field fs
 one_kept fs i name value lt named valued is before =
-    let s = there fs i lt in
+    let s = item_at fs i lt in
     let name_is : name ≡ s.0.0 = subst (λ (o : Option Field). IfSome o (λ f. name ≡ f.0)) s.1 named in
     let value_is : value ≡ s.0.1 = subst (λ (o : Option Field). IfSome o (λ f. value ≡ f.1)) s.1 valued in
     let one : is_kept_field s.0 ≡ true = ap (λ (m : Bytes). is_kept_field (m, s.0.1)) (sym name_is) ∙ ap (λ (v : ℤ). is_kept_field (name, v)) (sym value_is) ∙ is in

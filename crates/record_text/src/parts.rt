@@ -2,9 +2,8 @@
 
 ghost use Rattle.std.specs.Prelude.{◌≡◌, ◌<◌, ◌++◌, ◌∷◌, [], true, codes, length, take, flat_map, OnOk};
 ghost use Rattle.std.specs.List.{list_all};
-ghost use Rattle.log_record.specs.Words.{is_kept_deadline, is_kept_field};
+ghost use Rattle.world_data.specs.Records.{is_kept_deadline, is_kept_field, deadline_words, field_words};
 ghost use Rattle.world_data.specs.Filters.{are_fields};
-ghost use Rattle.world_data.specs.Records.{deadline_words, field_words};
 ghost use Rattle.record_text.specs.Texts.{words_text};
 
 use byte_text::{Name, NoMemory, Text, push_bulk};

@@ -1,8 +1,7 @@
 //! The record of a change is written.
 
 ghost use Rattle.std.specs.Prelude.{◌≡◌, ◌++◌, ◌∷◌, [], ◌+◌, ◌*◌, ◌≤◌, true, codes, length, take, OnOk, OnErr};
-ghost use Rattle.log_record.specs.Words.{is_kept};
-ghost use Rattle.world_data.specs.Records.{deadline_words, record_text, record_words};
+ghost use Rattle.world_data.specs.Records.{is_kept, deadline_words, record_text, record_words};
 ghost use Rattle.world_data.specs.declared.worlds.Change.TheVariants as change;
 
 use crate::parts::{push_deadline, push_fields};

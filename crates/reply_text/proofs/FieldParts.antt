@@ -5,6 +5,7 @@ use Rattle.byte_text.specs.Names.{Bytes}
 use Rattle.byte_text.specs.Replies.{bulk}
 use Rattle.byte_text.specs.declared.replies.Piece.{Piece}
 use Rattle.byte_text.specs.declared.replies.Piece.TheVariants as piece
+use Rattle.byte_text.specs.ListLaws.{item_at}
 use Rattle.world_data.specs.Filters.{Field}
 use Rattle.world_model.specs.Replies.{number_text}
 
@@ -24,19 +25,14 @@ step [] i f is = absurd (cc)
 step (g ∷ fields) zero f is = let e : g ≡ f = cc in rw e refl
 step (g ∷ fields) (suc i) f is = step fields i f is
 
-item : (fields : List Field) (i : ℕ) → i < length fields → (f : Field) × (slice_get fields i ≡ Some f)
-item [] i lt = absurd (omega arith)
-item (g ∷ fields) zero lt = (g, refl)
-item (g ∷ fields) (suc i) lt = let less : i < length fields = omega arith in item fields i less
-
 -- a field is written, and the rest is as it was
 pub written : (fields : List Field) (i : ℕ) (name : Bytes) (before between after whole : List Piece) → i < length fields
     → IfSome (slice_get fields i) (λ f. name ≡ f.0) → between ≡ before ++ bulk name
     → IfSome (slice_get fields i) (λ f. after ≡ between ++ number_text f.1)
     → before ++ pieces (drop i fields) ≡ whole → after ++ pieces (drop (i + 1) fields) ≡ whole
 written fields i name before between after whole lt called first second w =
-    let f = (item fields i lt).0 in
-    let at = (item fields i lt).1 in
+    let f = (item_at fields i lt).0 in
+    let at = (item_at fields i lt).1 in
     let is : name ≡ f.0 = subst (λ (o : Option Field). IfSome o (λ f. name ≡ f.0)) at called in
     let made : after ≡ between ++ number_text f.1 = subst (λ (o : Option Field). IfSome o (λ f. after ≡ between ++ number_text f.1)) at second in
     rw (made, first, is, add-one, append_assoc, append_assoc, ← step fields i f at) w

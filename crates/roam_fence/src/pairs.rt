@@ -106,6 +106,7 @@ fn reach_of(meters: u32, object: &Object) -> BBox
     ensures is_box { IsBox result }
 {
     let reach = area_box(&Area::Disc(centre(box_of(&object.shape)), meters));
+    // A box that tells its corner is one.
     let _low = reach.min();
     reach
 }

@@ -115,6 +115,7 @@ fn take_one(hub: &mut Hub, weight: u64, name: &Name) -> u64
     ensures channels { hub.new.channels ≡ filter (λ c. not (is_named name.now c)) hub.old.channels }
     ensures weighed { result ≡ sum_by len_of_channel hub.new.channels }
 {
+    // What is counted stands in order.
     let _count = hub.len();
     match hub.take_out(name) {
         Some(taken) => weight - channel_len(&taken),

@@ -9,9 +9,8 @@ use Rattle.std.specs.List.{AllByRecursion}
 use Rattle.byte_text.specs.Names.{Bytes, is_name}
 use Rattle.byte_text.specs.Requests.{FitsRequest}
 use Rattle.world_model.specs.Commands.{command_spelled, reads}
-use Rattle.deliveries.specs.Plans.{subscribes}
+use Rattle.deliveries.specs.Plans.{subs_of, subscribes}
 use Rattle.session_mail.specs.Sessions.{AreSoundSubs}
-use Rattle.tile_core.specs.Subscribing.{subs_of}
 use Rattle.tile_core.specs.Asking.{IsAsked}
 use Rattle.tile_core.specs.Beside.{is_of_channels, is_of_objects}
 

@@ -2,6 +2,8 @@
 use Rattle.std.proofs.Common.{◌≡◌, ℕ, zero, suc, ◌+◌, Bool, true, false, not, refl, sym, ap, ◌∙◌, subst, List, [], ◌∷◌, ◌++◌, take, map}
 use Rattle.std.specs.Prelude.{Some, None, Result, Ok, Err, OnOk, find, filter, slice_get, if◌then◌else◌}
 use Rattle.std.proofs.lemmas.List.{append-nil, append_assoc}
+use Rattle.std.proofs.lemmas.Option.{same_Some}
+use Rattle.byte_text.specs.ListLaws.{take_next}
 use Rattle.byte_text.specs.Names.{Bytes, same}
 use Rattle.byte_text.specs.ByteOrder.{same_equal}
 use Rattle.ordered_lists.specs.Reading.{both_of}
@@ -24,7 +26,6 @@ use Rattle.tile_core.specs.Dues.{AllStand}
 use Rattle.tile_core.specs.Moves.{AllThere, world_with}
 use Rattle.tile_core.specs.Staged.{StagesBehind, dels_of}
 use Rattle.tile_core.proofs.Weights.{found_at}
-use Rattle.record_lengths.specs.ObjectSums.{next_take}
 
 -- nothing is staged behind
 pub behind_none : (w : World) (ss : List State) → StagesBehind w [] ss ss
@@ -40,9 +41,6 @@ behind_more w more d IsSuch old mid new behind such staged first writes is befor
 -- one write alone
 pub behind_one : (w : World) (d : Write) (IsSuch : World → Type 0) (old new : List State) → IsSuch w → IsStagedIn IsSuch d old new → StagesBehind w (d ∷ []) old new
 behind_one w d IsSuch old new such staged first writes is before = staged.behind first writes (subst IsSuch (sym is) such) before
-
-pub take_next : {A : Type 0} (xs : List A) (i : ℕ) (x : A) → slice_get xs i ≡ Some x → take (i + 1) xs ≡ take i xs ++ x ∷ []
-take_next xs i x at = sym (next_take xs i x at)
 
 pub take_none : {A : Type 0} (xs : List A) → take 0 xs ≡ []
 take_none [] = refl
@@ -137,7 +135,7 @@ module _ (cs : List Channel) (xs : List Object) (key : Bytes) (ids : List Bytes)
       let w = world_with cs xs in
       let e = each_there w key ids i id there at in
       let f = each_found w key ids i id e.0 there at e.1 in
-      let is : e.0 ≡ o = some_is e.0 o (sym f ∙ found) in
+      let is : e.0 ≡ o = same_Some e.0 o (sym f ∙ found) in
       let own = found_at key id xs o found in
       let stands : object_at here o.key o.id ≡ Some o =
       ap (λ (k : Bytes). object_at here k o.id) own.0 ∙ ap (λ (k : Bytes). object_at here key k) own.1 ∙ e.1 ∙ ap (λ (p : Object). Some p) is in
@@ -146,9 +144,6 @@ module _ (cs : List Channel) (xs : List Object) (key : Bytes) (ids : List Bytes)
       let one = behind_more w (dels_of key (take i ids)) (loud (change.Del o.key o.id)) (IsBeforeDel cs o) old mid new behind such staged in
       subst (λ (ws : List Write). StagesBehind w ws old new)
       (ap (λ (d : Write). dels_of key (take i ids) ++ d ∷ []) named ∙ sym (each_more key (take i ids) id) ∙ ap (dels_of key) (sym (take_next ids i id at))) one
-    where
-      some_is : (a b : Object) → Some a ≡ Some b → a ≡ b
-      some_is a b e = cc
 
 -- quiet writes stage nothing
 

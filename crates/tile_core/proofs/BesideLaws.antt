@@ -117,43 +117,24 @@ module _ (cs : List Channel) (os : List Object) where
   pub unweighed : (now : ℕ) (c : Command) → is_of_objects c ≡ true → is_weighed c ≡ false → effect w now [] c ≡ effect v now [] c
   unfolding effect
   unweighed now (command.Set key id given cleared after_ex only text shape) e u = absurd (cc)
-  unweighed now (command.Get key id with_fields how) e u = refl
-  unweighed now (command.Del key id) e u = refl
-  unweighed now (command.Pdel key pattern) e u = refl
-  unweighed now (command.Drop key) e u = refl
   unweighed now (command.Fset key id given cleared) e u = absurd (cc)
-  unweighed now (command.Fget key id field) e u = refl
   unweighed now (command.Expire key id s) e u = absurd (cc)
-  unweighed now (command.Persist key id) e u = refl
-  unweighed now (command.Ttl key id) e u = refl
-  unweighed now (command.Keys pattern) e u = refl
-  unweighed now (command.Bounds key) e u = refl
-  unweighed now (command.Stats keys) e u = refl
-  unweighed now command.Flush e u = refl
-  unweighed now command.Shrink e u = refl
-  unweighed now command.Ping e u = refl
-  unweighed now command.Quit e u = refl
-  unweighed now (command.Scan key q) e u = refl
-  unweighed now (command.Search key q from) e u = refl
-  unweighed now (command.Nearby key q p reach) e u = refl
   unweighed now (command.Setchan c from) e u = absurd (cc)
   unweighed now (command.Delchan name) e u = absurd (cc)
   unweighed now (command.Pdelchan pattern) e u = absurd (cc)
   unweighed now (command.Chans pattern) e u = absurd (cc)
   unweighed now (command.Subscribe names) e u = absurd (cc)
   unweighed now (command.Psubscribe patterns) e u = absurd (cc)
+  unweighed now c e u = refl
 
   -- and leave the objects no heavier
   lighter : (total : ℕ) → AreKept os total → (now : ℕ) (c : Command) → is_of_objects c ≡ true → is_weighed c ≡ false → Calm (effect v now [] c)
   unfolding effect
-  lighter total kept now (command.Set key id given cleared after_ex only text shape) e u = absurd (cc)
   lighter total kept now (command.Get key id with_fields how) e u = within_calm (command_effect v now [] (command.Get key id with_fields how)) (object_calm (object_at v key id) _ _ tt (λ o here. tt))
   lighter total kept now (command.Del key id) e u = within_calm (command_effect v now [] (command.Del key id)) (object_calm (object_at v key id) _ _ tt (λ o here. tt))
   lighter total kept now (command.Pdel key pattern) e u = within_calm (command_effect v now [] (command.Pdel key pattern)) (dels_calm _)
   lighter total kept now (command.Drop key) e u = within_calm (command_effect v now [] (command.Drop key)) (if_calm (list_any (has_key key) os) (changes (number 1) (loud (change.Drop key) ∷ [])) (says (number 0)) tt tt)
-  lighter total kept now (command.Fset key id given cleared) e u = absurd (cc)
   lighter total kept now (command.Fget key id field) e u = within_calm (command_effect v now [] (command.Fget key id field)) (with_calm key id _ (λ o. tt))
-  lighter total kept now (command.Expire key id s) e u = absurd (cc)
   lighter total kept now (command.Persist key id) e u = within_calm (command_effect v now [] (command.Persist key id)) (object_calm (object_at v key id) _ _ tt (λ o here. persist_calm total kept key id o here))
   lighter total kept now (command.Ttl key id) e u = within_calm (command_effect v now [] (command.Ttl key id)) (object_calm (object_at v key id) _ _ tt (λ o here. tt))
   lighter total kept now (command.Keys pattern) e u = within_calm (command_effect v now [] (command.Keys pattern)) tt
@@ -166,12 +147,7 @@ module _ (cs : List Channel) (os : List Object) where
   lighter total kept now (command.Scan key q) e u = within_calm (command_effect v now [] (command.Scan key q)) tt
   lighter total kept now (command.Search key q from) e u = within_calm (command_effect v now [] (command.Search key q from)) (resolved_calm from _ (λ a words. tt))
   lighter total kept now (command.Nearby key q p reach) e u = within_calm (command_effect v now [] (command.Nearby key q p reach)) tt
-  lighter total kept now (command.Setchan c from) e u = absurd (cc)
-  lighter total kept now (command.Delchan name) e u = absurd (cc)
-  lighter total kept now (command.Pdelchan pattern) e u = absurd (cc)
-  lighter total kept now (command.Chans pattern) e u = absurd (cc)
-  lighter total kept now (command.Subscribe names) e u = absurd (cc)
-  lighter total kept now (command.Psubscribe patterns) e u = absurd (cc)
+  lighter total kept now c e u = absurd (cc)
 
   -- puts are weighed with the channels
 
@@ -282,12 +258,8 @@ module _ (cs : List Channel) (os : List Object) where
   no_heavier Clear is_loud calm = omega (arith, weight_sum [])
 
   left_light : (action : Move) (behind : ℕ) → behind + channels_weight cs ≤ most_kept → behind + channels_weight (channels_left action cs) ≤ most_kept
-  left_light Stay behind less = less
-  left_light (Put o) behind less = less
-  left_light (Delete key id) behind less = less
-  left_light (DeleteEach key ids) behind less = less
-  left_light (Leave key) behind less = less
   left_light Clear behind less = omega (arith, less)
+  left_light action behind less = less
 
   -- a put by the weight behind it, and what puts nothing
 
@@ -296,32 +268,21 @@ module _ (cs : List Channel) (os : List Object) where
       let over : max_weight < weight (world_with cs (put_in object_before o os)) = omega (arith, is, more, weight_beside (put_in object_before o os)) in
       let t : nat_le (weight (world_with cs (put_in object_before o os))) max_weight ≡ false = grind (arith, nat_tests) in
       rw t refl
-  heavy_put Stay is_loud behind put is more = absurd (cc)
-  heavy_put (Delete key id) is_loud behind put is more = absurd (cc)
-  heavy_put (DeleteEach key ids) is_loud behind put is more = absurd (cc)
-  heavy_put (Leave key) is_loud behind put is more = absurd (cc)
-  heavy_put Clear is_loud behind put is more = absurd (cc)
+  heavy_put action is_loud behind put is more = absurd (cc)
 
   light_put : (action : Move) (is_loud : Bool) (behind : ℕ) → is_put action ≡ true → behind ≡ weight (world_of (moved os action)) → behind + channels_weight cs ≤ max_weight → is_too_heavy w (writes_of action is_loud) ≡ false
   light_put (Put o) is_loud behind put is less =
       let under : weight (world_with cs (put_in object_before o os)) ≤ max_weight = omega (arith, is, less, weight_beside (put_in object_before o os)) in
       let t : nat_le (weight (world_with cs (put_in object_before o os))) max_weight ≡ true = grind (arith, nat_tests) in
       rw t refl
-  light_put Stay is_loud behind put is less = absurd (cc)
-  light_put (Delete key id) is_loud behind put is less = absurd (cc)
-  light_put (DeleteEach key ids) is_loud behind put is less = absurd (cc)
-  light_put (Leave key) is_loud behind put is less = absurd (cc)
-  light_put Clear is_loud behind put is less = absurd (cc)
+  light_put action is_loud behind put is less = absurd (cc)
 
   no_put : (action : Move) (is_loud : Bool) → is_put action ≡ false → (is_too_heavy w (writes_of action is_loud) ≡ false) × AreLighter (writes_of action is_loud)
   no_put (Put o) is_loud put = absurd (cc)
-  no_put Stay is_loud put = (refl, tt)
-  no_put (Delete key id) is_loud put = (refl, tt)
   no_put (DeleteEach key []) is_loud put = (refl, tt)
   no_put (DeleteEach key (id ∷ [])) is_loud put = (refl, tt)
   no_put (DeleteEach key (id ∷ other ∷ ids)) is_loud put = (refl, tt)
-  no_put (Leave key) is_loud put = (refl, tt)
-  no_put Clear is_loud put = (refl, tt)
+  no_put action is_loud put = (refl, tt)
 
   calm_or : (e : Effect) → is_too_heavy w e.writes ≡ false → or_full w e ≡ e
   calm_or e t = rw t refl
@@ -368,30 +329,7 @@ module _ (cs : List Channel) (os : List Object) where
 held_out : (u : World) (now : ℕ) (held : List Sub) (c : Command) → subscribes c ≡ false → command_effect u now held c ≡ command_effect u now [] c
 held_out u now held (command.Subscribe names) e = absurd (cc)
 held_out u now held (command.Psubscribe patterns) e = absurd (cc)
-held_out u now held (command.Set key id given cleared after_ex only text shape) e = refl
-held_out u now held (command.Get key id with_fields how) e = refl
-held_out u now held (command.Del key id) e = refl
-held_out u now held (command.Pdel key pattern) e = refl
-held_out u now held (command.Drop key) e = refl
-held_out u now held (command.Fset key id given cleared) e = refl
-held_out u now held (command.Fget key id field) e = refl
-held_out u now held (command.Expire key id s) e = refl
-held_out u now held (command.Persist key id) e = refl
-held_out u now held (command.Ttl key id) e = refl
-held_out u now held (command.Keys pattern) e = refl
-held_out u now held (command.Bounds key) e = refl
-held_out u now held (command.Stats keys) e = refl
-held_out u now held command.Flush e = refl
-held_out u now held command.Shrink e = refl
-held_out u now held command.Ping e = refl
-held_out u now held command.Quit e = refl
-held_out u now held (command.Scan key q) e = refl
-held_out u now held (command.Search key q from) e = refl
-held_out u now held (command.Nearby key q p reach) e = refl
-held_out u now held (command.Setchan c from) e = refl
-held_out u now held (command.Delchan name) e = refl
-held_out u now held (command.Pdelchan pattern) e = refl
-held_out u now held (command.Chans pattern) e = refl
+held_out u now held c e = refl
 
 pub served_alike : (u : World) (now : ℕ) (held : List Sub) (c : Command) → subscribes c ≡ false → (has_subs held && not (is_served_subscribed c)) ≡ false → effect u now held c ≡ effect u now [] c
 unfolding effect
@@ -414,30 +352,7 @@ open_as u now held c d is s e = ap (effect u now held) is ∙ served_alike u now
 pub none_subscribes : (c : Command) → is_of_objects c ≡ true → subscribes c ≡ false
 none_subscribes (command.Subscribe names) e = absurd (cc)
 none_subscribes (command.Psubscribe patterns) e = absurd (cc)
-none_subscribes (command.Set key id given cleared after_ex only text shape) e = refl
-none_subscribes (command.Get key id with_fields how) e = refl
-none_subscribes (command.Del key id) e = refl
-none_subscribes (command.Pdel key pattern) e = refl
-none_subscribes (command.Drop key) e = refl
-none_subscribes (command.Fset key id given cleared) e = refl
-none_subscribes (command.Fget key id field) e = refl
-none_subscribes (command.Expire key id s) e = refl
-none_subscribes (command.Persist key id) e = refl
-none_subscribes (command.Ttl key id) e = refl
-none_subscribes (command.Keys pattern) e = refl
-none_subscribes (command.Bounds key) e = refl
-none_subscribes (command.Stats keys) e = refl
-none_subscribes command.Flush e = refl
-none_subscribes command.Shrink e = refl
-none_subscribes command.Ping e = refl
-none_subscribes command.Quit e = refl
-none_subscribes (command.Scan key q) e = refl
-none_subscribes (command.Search key q from) e = refl
-none_subscribes (command.Nearby key q p reach) e = refl
-none_subscribes (command.Setchan c from) e = refl
-none_subscribes (command.Delchan name) e = refl
-none_subscribes (command.Pdelchan pattern) e = refl
-none_subscribes (command.Chans pattern) e = refl
+none_subscribes c e = refl
 
 -- no more values change than are given
 pub changed_few : (old : List Field) (given : List Field) → changed_count old given ≤ length given

@@ -1,7 +1,8 @@
 -- A call that is completed is the machine's.
 use Rattle.std.proofs.Common.{◌≡◌, ℕ, zero, suc, ◌+◌, ◌*◌, ◌<◌, ◌≤◌, Bool, true, false, true≢false, refl, sym, ap, ◌∙◌, subst, List, [], ◌∷◌, ◌++◌, length, max, map, lit≤, arith}
 use Rattle.std.specs.Prelude.{Some, None, Option, Ok, find, slice_get, slice_set, if◌then◌else◌}
-use Rattle.std.specs.List.{AllByRecursion}
+use Rattle.std.proofs.lemmas.Option.{same_Some}
+use Rattle.byte_text.specs.ListLaws.{holds_at}
 use Rattle.byte_text.specs.Names.{Bytes}
 use Rattle.byte_text.specs.Replies.{frame_text}
 use Rattle.world_data.specs.Limits.{max_moment, max_reply, most_logged}
@@ -46,9 +47,6 @@ use Rattle.tile_core.proofs.Finishing.{bare_at, bare_set, present_set}
 use Rattle.tile_core.proofs.NamedChanges.{changed_named, placed_named, roomy_as}
 use Rattle.tile_core.proofs.Present.{found}
 use Rattle.tile_core.proofs.Readying.{as_long, same_at}
-
-same_is : (a b : State) → Some a ≡ Some b → a ≡ b
-same_is a b e = cc
 
 pub all_bare : (old new : List State) → ArePlaced old new → AreBare new
 all_bare old new p = bare_all IsPlaced (λ s t q. q.bare) old new p
@@ -123,7 +121,7 @@ module _ (before : Store) (now logged drawn : ℕ) (ss mid : List State) (n i mo
       by (Some p) q = (
         sound_answer (world_at store) store.weight ready.caller.subs (effect_of_asked (world_at store) moment_now ready.caller.subs asked) p q.plan,
         q.room,
-        λ t at. subst (λ (u : State). reply_count p ≤ u.mail.spare) (same_is ready.caller t (sym ready.here ∙ at)) q.spare,
+        λ t at. subst (λ (u : State). reply_count p ≤ u.mail.spare) (same_Some ready.caller t (sym ready.here ∙ at)) q.spare,
       )
 
   pub short : g.length + length_if r.planned ≤ 2 * most_kept
@@ -164,7 +162,7 @@ module _ (before : Store) (now logged drawn : ℕ) (ss mid : List State) (n i mo
 
     caller_number : (p : Planned) (d : IsDone store placed_ i p last new) → d.caller.number ≡ n
     caller_number p d =
-        let is : d.caller ≡ at_placed.0 = same_is d.caller at_placed.0 (sym d.here ∙ at_placed.1) in
+        let is : d.caller ≡ at_placed.0 = same_Some d.caller at_placed.0 (sym d.here ∙ at_placed.1) in
         ap (λ (t : State). t.number) is ∙ ap (λ (h : halls.Session). h.number) at_placed.2.same ∙ each_number (session_of ready.caller) ready.caller.mail.staged ∙ number_is
 
     -- the parts stay sound
@@ -192,7 +190,7 @@ module _ (before : Store) (now logged drawn : ℕ) (ss mid : List State) (n i mo
     step = subst (λ (k : ℕ). Step hall (Call n moment asked) (Answered called.Ok) (hall_of last k (logged + len) drawn new)) (sym is_now) (by r.planned ready_m.rest completed.done completed.length_is)
       where
         same_caller : ready_m.caller ≡ ready.caller
-        same_caller = same_is ready_m.caller ready.caller (sym ready_m.here ∙ ready.here)
+        same_caller = same_Some ready_m.caller ready.caller (sym ready_m.here ∙ ready.here)
 
         was : session_of ready_m.caller ≡ session_of s
         was = ap session_of same_caller ∙ as_was
@@ -206,7 +204,7 @@ module _ (before : Store) (now logged drawn : ℕ) (ss mid : List State) (n i mo
             (subst (λ (w : World). Step hall (Call n moment asked) (Answered called.Ok) (record (hall_of last m (logged + g.length) drawn placed_) { world = w })) (sym d.1) cut))
         by (Some p) q d is =
             let t = placed_at mid placed_ i ready_m.caller completed.are_placed ready_m.here in
-            let one : d.caller ≡ t.0 = same_is d.caller t.0 (sym d.here ∙ t.1) in
+            let one : d.caller ≡ t.0 = same_Some d.caller t.0 (sym d.here ∙ t.1) in
             let reply : session_of d.answered ≡ replied p (session_of t.0) = d.reply ∙ ap (λ (x : State). replied p (session_of x)) one in
             let whole = done before now logged drawn ss mid placed_ moment store g present.rises same ready_m.expired ready_m.channels n i asked s sv.0.here sv.0.numbered sv.1 sv.2 unspent completed.are_placed ready_m.caller ready_m.here was p q last d.world d.answered reply in
             let sum : logged + len ≡ (logged + g.length) + planned_length p = omega (arith, is) in
@@ -220,7 +218,7 @@ module _ (before : Store) (now logged drawn : ℕ) (ss mid : List State) (n i mo
         ∙ ap (λ (more : List Write). dels g.held.items ++ more) (by r.planned ready_m.rest completed.done)
       where
         same_caller : ready_m.caller ≡ ready.caller
-        same_caller = same_is ready_m.caller ready.caller (sym ready_m.here ∙ ready.here)
+        same_caller = same_Some ready_m.caller ready.caller (sym ready_m.here ∙ ready.here)
 
         was : session_of ready_m.caller ≡ session_of s
         was = ap session_of same_caller ∙ as_was
@@ -229,7 +227,7 @@ module _ (before : Store) (now logged drawn : ℕ) (ss mid : List State) (n i mo
         by None q d = cut_writes before now logged drawn ss mid placed_ moment store g present.rises same ready_m.expired ready_m.channels n i asked s sv.0.here sv.0.numbered sv.1 sv.2 unspent completed.are_placed ready_m.caller ready_m.here was q.0 q.1
         by (Some p) q d =
             let t = placed_at mid placed_ i ready_m.caller completed.are_placed ready_m.here in
-            let one : d.caller ≡ t.0 = same_is d.caller t.0 (sym d.here ∙ t.1) in
+            let one : d.caller ≡ t.0 = same_Some d.caller t.0 (sym d.here ∙ t.1) in
             let reply : session_of d.answered ≡ replied p (session_of t.0) = d.reply ∙ ap (λ (x : State). replied p (session_of x)) one in
             done_writes before now logged drawn ss mid placed_ moment store g present.rises same ready_m.expired ready_m.channels n i asked s sv.0.here sv.0.numbered sv.1 sv.2 unspent completed.are_placed ready_m.caller ready_m.here was p q last d.world d.answered reply
 
@@ -266,16 +264,13 @@ module _ (before : Store) (now logged drawn : ℕ) (ss mid : List State) (n i mo
         own = found 0 drawn ss i n s present.rises sv.0.here sv.0.numbered
 
         is_s : h_s ≡ session_of s
-        is_s = some_is h_s (session_of s) (sym in_hall ∙ own)
-          where
-            some_is : (a b : halls.Session) → Some a ≡ Some b → a ≡ b
-            some_is a b e = cc
+        is_s = same_Some h_s (session_of s) (sym in_hall ∙ own)
 
         no_subs : s.subs ≡ []
         no_subs = sym (ap (λ (h : halls.Session). h.subs) is_s) ∙ bare
 
         same_caller : ready_m.caller ≡ ready.caller
-        same_caller = same_is ready_m.caller ready.caller (sym ready_m.here ∙ ready.here)
+        same_caller = same_Some ready_m.caller ready.caller (sym ready_m.here ∙ ready.here)
 
         was : session_of ready_m.caller ≡ session_of s
         was = ap session_of same_caller ∙ as_was
@@ -301,20 +296,15 @@ module _ (before : Store) (now logged drawn : ℕ) (ss mid : List State) (n i mo
         nothing_staged all [] frames e f = refl
         nothing_staged all (x ∷ some) frames e f = absurd (let k : (x ∷ some) ++ f.rest ≡ [] = sym f.front ∙ e in cc)
 
-        all_at : (P : State → Type 0) (xs : List State) (k : ℕ) (x : State) → AllByRecursion P xs → slice_get xs k ≡ Some x → P x
-        all_at P [] k x all at = absurd (cc)
-        all_at P (y ∷ xs) zero x all at = let is : y ≡ x = cc in subst P is all.0
-        all_at P (y ∷ xs) (suc k) x all at = all_at P xs k x all.1 at
-
         by : (p : Option Planned) → IsRestReady before store g m asked ready_m.caller mid p → IsDoneIf store placed_ i p last new → len ≡ g.length + length_if p
             → IsReplied (halls.session_of hall n) (halls.session_of after n) (map frame_text (effect_of_asked (due hall moment).world (max hall.now moment) h_s.subs asked).replies)
         by None q d is =
             let c = ready_m.caller in
-            let staged = all_at (λ t. Suffice t.mail.frames (heard (world_at before) (dels g.held.items) (listens (session_of t))) t.mail.staged) mid i c q.0 ready_m.here in
+            let staged = holds_at (λ t. Suffice t.mail.frames (heard (world_at before) (dels g.held.items) (listens (session_of t))) t.mail.staged) mid i c q.0 ready_m.here in
             absurd (true≢false (sym (nothing_staged (heard (world_at before) (dels g.held.items) (listens (session_of c))) c.mail.staged c.mail.frames (hears_nothing (dels g.held.items)) staged) ∙ q.1))
         by (Some p) q d is =
             let t = placed_at mid placed_ i ready_m.caller completed.are_placed ready_m.here in
-            let one : d.caller ≡ t.0 = same_is d.caller t.0 (sym d.here ∙ t.1) in
+            let one : d.caller ≡ t.0 = same_Some d.caller t.0 (sym d.here ∙ t.1) in
             let reply : session_of d.answered ≡ replied p (session_of t.0) = d.reply ∙ ap (λ (x : State). replied p (session_of x)) one in
             let whole = made before now logged drawn ss mid placed_ moment store g present.rises same ready_m.expired ready_m.channels n i asked s sv.0.here sv.0.numbered sv.1 sv.2 unspent completed.are_placed ready_m.caller ready_m.here was p q last d.world d.answered reply in
             let subs_are : ready_m.caller.subs ≡ h_s.subs = ap (λ (h : halls.Session). h.subs) (was ∙ sym is_s) in

@@ -2,6 +2,7 @@
 use Rattle.std.proofs.Common.{◌≡◌, ◌≢◌, ℕ, zero, suc, ◌+◌, ◌<◌, ◌≤◌, Bool, true, false, refl, sym, ap, ◌∙◌, subst, inl, inr, List, [], ◌∷◌, ◌++◌, length, max, map}
 use Rattle.std.specs.Prelude.{Some, Option, Result, Ok, Err, option_map, slice_get, slice_set, filter, ◌⊎◌, if◌then◌else◌}
 use Rattle.std.proofs.lemmas.List.{append-nil}
+use Rattle.std.proofs.lemmas.Option.{same_Some}
 use Rattle.byte_text.specs.Names.{Bytes}
 use Rattle.byte_text.specs.Replies.{frame_text}
 use Rattle.world_data.specs.Limits.{most_logged}
@@ -360,10 +361,7 @@ module _ (before : Store) (now logged drawn : ℕ) (ss mid new : List State) (mo
                   mapped_twice (y ∷ ys) (suc k) x e = mapped_twice ys k x e
 
               one : session_of p.0 ≡ placed_each (session_of caller) frames
-              one = some_is (session_of p.0) (placed_each (session_of caller) frames) stands
-                where
-                  some_is : (a b : halls.Session) → Some a ≡ Some b → a ≡ b
-                  some_is a b e = cc
+              one = same_Some (session_of p.0) (placed_each (session_of caller) frames) stands
 
               kept : p.0.subs ≡ caller.subs
               kept = ap (λ (h : halls.Session). h.subs) (one ∙ takes_all (session_of caller) frames live_caller ready.roomy)

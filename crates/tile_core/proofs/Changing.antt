@@ -7,6 +7,7 @@ use Rattle.std.proofs.lemmas.List.Sums.{sum_by_push}
 use Rattle.byte_text.specs.Names.{Bytes}
 use Rattle.byte_text.specs.Replies.{number}
 use Rattle.planar_geom.specs.Points.{same_int}
+use Rattle.byte_text.specs.ListLaws.{item_at}
 use Rattle.world_data.specs.Limits.{max_fields}
 use Rattle.world_data.specs.Worlds.{object_at, has_key}
 use Rattle.world_data.specs.Filters.{Field, with_values, value_of}
@@ -17,7 +18,7 @@ use Rattle.world_data.specs.declared.worlds.World.{World}
 use Rattle.world_model.specs.declared.faults.Refusal.TheVariants as refusal
 use Rattle.world_model.specs.declared.commands.Command.TheVariants as command
 use Rattle.tile_core.specs.Plans.{put_or_full}
-use Rattle.tile_core.proofs.FieldOrder.{there, zero_more}
+use Rattle.tile_core.proofs.FieldOrder.{zero_more}
 use Rattle.record_lengths.specs.ObjectSums.{take_more}
 
 -- an object that is not there
@@ -81,7 +82,7 @@ module _ (old : List Field) where
   pub next_given : (given : List Field) (i : ℕ) (name : Bytes) (value : ℤ) (count d : ℕ) → i < length given → IfSome (slice_get given i) (λ f. name ≡ f.0) → IfSome (slice_get given i) (λ f. value ≡ f.1)
       → count ≡ changed_count old (take i given) → d ≡ (if not (same_int (value_of old name) value) then 1 else 0) → count + d ≡ changed_count old (take (i + 1) given)
   next_given given i name value count d lt named valued before now =
-      let s = there given i lt in
+      let s = item_at given i lt in
       let name_is : name ≡ s.0.0 = subst (λ (o : Option Field). IfSome o (λ f. name ≡ f.0)) s.1 named in
       let value_is : value ≡ s.0.1 = subst (λ (o : Option Field). IfSome o (λ f. value ≡ f.1)) s.1 valued in
       let this : d ≡ (if is_changed s.0 then 1 else 0) = now ∙ ap (λ (m : Bytes). if not (same_int (value_of old m) value) then 1 else 0) name_is ∙ ap (λ (v : ℤ). if not (same_int (value_of old s.0.0) v) then 1 else 0) value_is in

@@ -20,7 +20,7 @@ use Rattle.tile_core.specs.declared.channel_plans.Dropped.{Dropped}
 use Rattle.tile_core.specs.Dropping.{met_channels, names_of, drops, IsDropped, IsDroppedOf}
 use Rattle.record_lengths.specs.Lengths.{len_of_channel}
 use Rattle.tile_core.specs.Planned.{without_names}
-use Rattle.tile_core.proofs.Listings.{one_more}
+use Rattle.byte_text.specs.ListLaws.{take_next}
 
 -- what is put is part of the weight
 pub put_part : (x : Channel) (cs : List Channel) → len_of_channel x ≤ sum_by len_of_channel (put_in channel_before x cs)
@@ -69,7 +69,7 @@ one_dropped pattern cs c total old new s n =
     }
 
 pub next_dropped : (pattern : Bytes) (cs : List Channel) (i : ℕ) (c : Channel) (total : ℕ) (old new : Dropped) → slice_get cs i ≡ Some c → IsDroppedOf pattern (take i cs) total old → IsDropped pattern c old new → IsDroppedOf pattern (take (i + 1) cs) total new
-next_dropped pattern cs i c total old new at s n = subst (λ (ds : List Channel). IsDroppedOf pattern ds total new) (sym (one_more cs i c at)) (one_dropped pattern (take i cs) c total old new s n)
+next_dropped pattern cs i c total old new at s n = subst (λ (ds : List Channel). IsDroppedOf pattern ds total new) (sym (take_next cs i c at)) (one_dropped pattern (take i cs) c total old new s n)
 
 -- the changes, by the names
 pub drops_of : (cs : List Channel) → drops cs ≡ map (λ n. quiet (change.DelChan n)) (names_of cs)
@@ -150,12 +150,12 @@ left_weight pattern cs =
 pub met_next : (pattern : Bytes) (c : Channel) (cs : List Channel) (i : ℕ) → slice_get cs i ≡ Some c → glob_meets pattern c.name ≡ true → met_channels pattern (take (i + 1) cs) ≡ met_channels pattern (take i cs) ++ c ∷ []
 met_next pattern c cs i at e =
     let one : met_channels pattern (c ∷ []) ≡ c ∷ [] = rw e refl in
-    ap (met_channels pattern) (one_more cs i c at) ∙ filter-append (λ (d : Channel). glob_meets pattern d.name) (take i cs) (c ∷ []) ∙ ap (λ (ds : List Channel). met_channels pattern (take i cs) ++ ds) one
+    ap (met_channels pattern) (take_next cs i c at) ∙ filter-append (λ (d : Channel). glob_meets pattern d.name) (take i cs) (c ∷ []) ∙ ap (λ (ds : List Channel). met_channels pattern (take i cs) ++ ds) one
 
 pub unmet_next : (pattern : Bytes) (c : Channel) (cs : List Channel) (i : ℕ) → slice_get cs i ≡ Some c → glob_meets pattern c.name ≡ false → met_channels pattern (take (i + 1) cs) ≡ met_channels pattern (take i cs)
 unmet_next pattern c cs i at e =
     let none : met_channels pattern (c ∷ []) ≡ [] = rw e refl in
-    ap (met_channels pattern) (one_more cs i c at) ∙ filter-append (λ (d : Channel). glob_meets pattern d.name) (take i cs) (c ∷ []) ∙ ap (λ (ds : List Channel). met_channels pattern (take i cs) ++ ds) none ∙ append-nil (met_channels pattern (take i cs))
+    ap (met_channels pattern) (take_next cs i c at) ∙ filter-append (λ (d : Channel). glob_meets pattern d.name) (take i cs) (c ∷ []) ∙ ap (λ (ds : List Channel). met_channels pattern (take i cs) ++ ds) none ∙ append-nil (met_channels pattern (take i cs))
 
 pub met_first : (pattern : Bytes) (cs : List Channel) (n : ℕ) → map channel_reply (met_channels pattern cs) ≡ map channel_reply (met_channels pattern (take n cs)) ++ map channel_reply (met_channels pattern (drop n cs))
 met_first pattern cs n =

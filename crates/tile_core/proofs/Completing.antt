@@ -1,6 +1,7 @@
 -- What was made ready is done, whatever room it leaves.
 use Rattle.std.proofs.Common.{◌≡◌, ℕ, ◌<◌, ◌≤◌, sym, ap, ◌∙◌, List, length, arith}
 use Rattle.std.specs.Prelude.{Some, None, Option, slice_get}
+use Rattle.std.proofs.lemmas.Option.{same_Some}
 use Rattle.session_mail.specs.Sessions.{State}
 use Rattle.session_mail.specs.Fans.{ArePlaced}
 use Rattle.tile_core.specs.declared.planned.Planned.{Planned}
@@ -9,9 +10,6 @@ use Rattle.tile_core.specs.Ready.{CanComplete, IsDoneIf, reply_count}
 use Rattle.tile_core.specs.Stores.{IsStore, world_at}
 use Rattle.tile_core.proofs.Calls.{placed_at}
 use Rattle.tile_core.proofs.Readying.{there_is}
-
-same_is : (a b : State) → Some a ≡ Some b → a ≡ b
-same_is a b e = cc
 
 -- placing leaves the room
 pub can_placed : (store : Store) (old new : List State) (at : ℕ) (p : Option Planned) → at < length old → ArePlaced old new → CanComplete store old at p → CanComplete store new at p
@@ -22,7 +20,7 @@ can_placed store old new at (Some p) lt placed_ can = (can.0, can.1, spare)
     spare t here =
         let s = there_is old at lt in
         let u = placed_at old new at s.0 placed_ s.1 in
-        let is : u.0 ≡ t = same_is u.0 t (sym u.1 ∙ here) in
+        let is : u.0 ≡ t = same_Some u.0 t (sym u.1 ∙ here) in
         let same : u.0.mail.spare ≡ t.mail.spare = ap (λ (x : State). x.mail.spare) is in
         let before = can.2 s.0 s.1 in
         let kept = u.2.spare in

@@ -1,12 +1,11 @@
 -- Subscriptions one after another, and what confirms them.
-use Rattle.std.proofs.Common.{◌≡◌, ℕ, zero, suc, ◌+◌, ◌≤◌, ◌<◌, ◌^◌, Bool, true, false, refl, sym, ap, ◌∙◌, subst, lit≤, List, [], ◌∷◌, ◌++◌, length, map, length-append, arith}
-use Rattle.std.specs.Prelude.{decimal, nat_le, nat_lt, ◌&&◌, if◌then◌else◌}
+use Rattle.std.proofs.Common.{◌≡◌, ℕ, zero, suc, ◌+◌, ◌≤◌, ◌<◌, Bool, true, false, refl, sym, ap, ◌∙◌, subst, lit≤, List, [], ◌∷◌, ◌++◌, length, map, arith}
+use Rattle.std.specs.Prelude.{nat_le, nat_lt, ◌&&◌, if◌then◌else◌}
 use Rattle.std.specs.List.{AllByRecursion, list_all}
 use Rattle.std.proofs.lemmas.Bool.Decides.{nat_tests}
-use Rattle.std.proofs.lemmas.Fmt.{length-decimal-le}
 use Rattle.std.proofs.lemmas.List.{map-append}
+use Rattle.byte_text.specs.ListLaws.{take_next}
 use Rattle.byte_text.specs.Names.{Bytes, is_name, max_name}
-use Rattle.byte_text.specs.Lines.{line, line_end, bulk_text}
 use Rattle.byte_text.specs.Replies.{frame_text}
 use Rattle.byte_text.specs.Requests.{max_words}
 use Rattle.world_data.specs.Limits.{max_reply, max_subs}
@@ -15,14 +14,14 @@ use Rattle.world_model.specs.Effects.{Effect, effect, refuses, within_reply}
 use Rattle.world_model.specs.Replies.{confirmation, confirmations}
 use Rattle.world_model.specs.Subscriptions.{Sub, with_sub, with_subs, has_subs}
 use Rattle.world_model.specs.declared.faults.Refusal.TheVariants as refusal
-use Rattle.deliveries.specs.Plans.{HasShortWords, subscribes}
+use Rattle.deliveries.specs.Confirming.{AreShort, confirmation_len, short_subs}
+use Rattle.deliveries.specs.Plans.{HasShortWords, subs_of, subscribes}
 use Rattle.reply_text.specs.Confirmations.{called_of}
 use Rattle.session_mail.specs.FanLaws.{sound_with_sub}
 use Rattle.session_mail.specs.Sessions.{AreSoundSubs}
 use Rattle.subscriptions.specs.SubscribeLaws.{no_fewer}
 use Rattle.subscriptions.specs.Subscribed.{sub}
-use Rattle.tile_core.specs.Subscribing.{subs_of, subscribing}
-use Rattle.tile_core.proofs.Listings.{one_more}
+use Rattle.tile_core.specs.Subscribing.{subscribing}
 use Rattle.std.specs.Prelude.{Some, slice_get, take}
 
 -- one more
@@ -40,7 +39,7 @@ frames_more called held subs s =
     ap (map frame_text) (confirmed_more called held subs s) ∙ map-append frame_text (confirmations called held subs) (confirmation called (s, length (with_sub (with_subs held subs) s)) ∷ [])
 
 pub subs_more : (pattern : Bool) (words : List Bytes) (i : ℕ) (w : Bytes) → slice_get words i ≡ Some w → subs_of pattern (take (i + 1) words) ≡ subs_of pattern (take i words) ++ sub pattern w ∷ []
-subs_more pattern words i w at = ap (subs_of pattern) (one_more words i w at) ∙ map-append (sub pattern) (take i words) (w ∷ [])
+subs_more pattern words i w at = ap (subs_of pattern) (take_next words i w at) ∙ map-append (sub pattern) (take i words) (w ∷ [])
 
 -- where one word of them is too many, all are
 pub too_many_first : (held : List Sub) (pattern : Bool) (words : List Bytes) (i : ℕ) (w : Bytes) → slice_get words i ≡ Some w → max_subs < length (with_sub (with_subs held (subs_of pattern (take i words))) (sub pattern w)) → max_subs < length (with_subs held (subs_of pattern words))
@@ -59,33 +58,11 @@ sound_all held (s ∷ subs) all more = sound_all (with_sub held s) subs (sound_w
 
 -- confirmations are short
 
-digits : (n : ℕ) → n < 2 ^ 64 → length (decimal n) ≤ 20
-digits n lt = length-decimal-le 20 n (omega arith) (omega (arith, lt)) lt
-
-line_len : (mark : ℕ) (t : Bytes) → length (line mark t) ≡ length t + 3
-line_len mark t = omega (arith, length-append t (13 ∷ 10 ∷ []))
-
-bulk_len : (b : Bytes) → length b < 2 ^ 64 → length (bulk_text b) ≤ length b + 25
-bulk_len b lt = let d = digits (length b) lt in omega (arith, d, length-append (line 36 (decimal (length b))) (b ++ line_end), line_len 36 (decimal (length b)), length-append b line_end)
-
-joined_len : (a b c d : Bytes) → length a ≤ 30 → length b ≤ 40 → length c ≤ 290 → length d ≤ 30 → length (a ++ (b ++ (c ++ (d ++ [])))) ≤ 400
-joined_len a b c d p q r s = omega (arith, p, q, r, s, length-append a (b ++ (c ++ (d ++ []))), length-append b (c ++ (d ++ [])), length-append c (d ++ []), length-append d [])
-
-frame_len : (called : Bytes) (s : Sub) (k : ℕ) → length called ≤ 10 → length s.word ≤ max_name → k ≤ max_subs → length (frame_text (confirmation called (s, k))) ≤ 400
-frame_len called s k p q r =
-    joined_len (line 42 (decimal 3)) (bulk_text called) (bulk_text s.word) (line 58 (decimal k)) (omega (arith, digits 3 (omega arith), line_len 42 (decimal 3)))
-    (omega (arith, p, bulk_len called (omega (arith, p))))
-    (omega (arith, q, bulk_len s.word (omega (arith, q))))
-    (omega (arith, digits k (omega (arith, r)), line_len 58 (decimal k)))
-
-abbrev AreShort : List Sub → Type 0
-AreShort subs = AllByRecursion (λ s. length s.word ≤ max_name) subs
-
 all_fit : (called : Bytes) (held subs : List Sub) → length called ≤ 10 → AreShort subs → length (with_subs held subs) ≤ max_subs → list_all (λ r. nat_le (length (frame_text r)) max_reply) (confirmations called held subs) ≡ true
 all_fit called held [] p a few = refl
 all_fit called held (s ∷ subs) p a few =
     let count : length (with_sub held s) ≤ max_subs = omega (arith, few, no_fewer (with_sub held s) subs) in
-    let one = frame_len called s (length (with_sub held s)) p a.0 count in
+    let one = confirmation_len called s (length (with_sub held s)) p a.0 (omega (arith, count)) in
     let t : nat_le (length (frame_text (confirmation called (s, length (with_sub held s))))) max_reply ≡ true = fits_frame (length (frame_text (confirmation called (s, length (with_sub held s))))) one in
     rw t (all_fit called (with_sub held s) subs p a.1 few)
   where
@@ -99,10 +76,6 @@ short_called false = lit≤ tt
 words_of : (pattern : Bool) (words : List Bytes) → HasShortWords (subscribing pattern words) → AllByRecursion (λ w. length w ≤ max_name) words
 words_of true words s = s.1
 words_of false words s = s.1
-
-short_subs : (pattern : Bool) (words : List Bytes) → AllByRecursion (λ w. length w ≤ max_name) words → AreShort (subs_of pattern words)
-short_subs pattern [] all = tt
-short_subs pattern (w ∷ words) all = (all.0, short_subs pattern words all.1)
 
 -- what the command does
 

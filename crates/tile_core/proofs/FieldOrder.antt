@@ -1,26 +1,22 @@
 -- Giving values to fields one by one.
-use Rattle.std.proofs.Common.{◌≡◌, ℕ, ℤ, zero, suc, ◌+◌, ◌<◌, true, not, refl, sym, ap, ◌∙◌, subst, List, [], ◌∷◌, ◌++◌, length, take, arith}
+use Rattle.std.proofs.Common.{◌≡◌, ℕ, ℤ, zero, suc, ◌+◌, ◌<◌, true, not, sym, ap, ◌∙◌, subst, List, [], ◌∷◌, ◌++◌, length, take, arith}
 use Rattle.std.specs.Prelude.{Option, Some, IfSome, pos, map, slice_get}
 use Rattle.std.specs.List.{list_all}
+use Rattle.byte_text.specs.ListLaws.{item_at}
 use Rattle.byte_text.specs.Names.{Bytes}
 use Rattle.ordered_lists.specs.Reading.{filter-all}
 use Rattle.world_data.specs.Filters.{Field, is_zero, are_fields, with_values}
+use Rattle.world_data.specs.FieldLaws.{one_given}
 use Rattle.record_lengths.specs.ObjectSums.{take_more}
-use Rattle.cmd_words.specs.GivenFields.{one_given}
 
 pub none_given : (fields : List Field) → are_fields fields ≡ true → fields ≡ with_values fields []
 none_given fields are = let all : list_all (λ f. not (is_zero f)) fields ≡ true = grind arith in sym (filter-all (λ (f : Field). not (is_zero f)) fields all)
-
-pub there : {A : Type 0} (xs : List A) (i : ℕ) → i < length xs → (x : A) × (slice_get xs i ≡ Some x)
-there [] i lt = absurd (omega (arith, lt))
-there (y ∷ ys) zero lt = (y, refl)
-there (y ∷ ys) (suc i) lt = there ys i (omega (arith, lt))
 
 -- the value at a place is given
 pub given_at : (fields given : List Field) (i : ℕ) (name : Bytes) (value : ℤ) → are_fields fields ≡ true → i < length given → IfSome (slice_get given i) (λ f. name ≡ f.0) → IfSome (slice_get given i) (λ f. value ≡ f.1)
     → with_values (with_values fields (take i given)) ((name, value) ∷ []) ≡ with_values fields (take (i + 1) given)
 given_at fields given i name value are lt named valued =
-    let s = there given i lt in
+    let s = item_at given i lt in
     let name_is : name ≡ s.0.0 = subst (λ (o : Option Field). IfSome o (λ f. name ≡ f.0)) s.1 named in
     let value_is : value ≡ s.0.1 = subst (λ (o : Option Field). IfSome o (λ f. value ≡ f.1)) s.1 valued in
     let one : suc i ≡ i + 1 = omega arith in

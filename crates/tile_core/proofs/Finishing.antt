@@ -5,7 +5,7 @@ use Rattle.std.specs.List.{AllByRecursion, list_all}
 use Rattle.std.proofs.Math.ListN.{length-set}
 use Rattle.byte_text.specs.Names.{Bytes}
 use Rattle.ordered_lists.specs.Lists.{put_in}
-use Rattle.ordered_lists.specs.Reading.{both_of, got_at}
+use Rattle.ordered_lists.specs.Reading.{both_of, got_at, each-filter}
 use Rattle.world_data.specs.Sound.{is_sound_channel}
 use Rattle.world_data.specs.Worlds.{is_sorted_world, are_objects, are_channels, after, channel_before, is_at, is_named}
 use Rattle.fence_model.specs.Writes.{Write, quiet}
@@ -27,7 +27,7 @@ use Rattle.record_lengths.specs.Lengths.{HasFewFields}
 use Rattle.tile_core.specs.Moves.{IsAccepted, world_of, world_with, moved, without_each}
 use Rattle.tile_core.specs.Sessions.{IsServed}
 use Rattle.tile_core.specs.Plans.{IsPlan, writes_of}
-use Rattle.stored_world.specs.ListLaws.{all_left, all_put}
+use Rattle.ordered_lists.specs.Ascending.{each-put_in}
 use Rattle.tile_core.specs.Planned.{IsRecordedChannel, IsRecordedMove, IsSoundMove, channel_writes, channels_left, channels_moved, channels_weight, weight_left, without_names}
 use Rattle.tile_core.specs.Staged.{dels_of}
 use Rattle.tile_core.specs.CoreStates.{AreKept, most_kept}
@@ -144,10 +144,10 @@ sound_left Clear cs all = refl
 recorded_without : (names : List Bytes) (cs : List Channel) → AllByRecursion IsRecordedChannel cs → AllByRecursion IsRecordedChannel (without_names names cs)
 recorded_without [] cs all = all
 recorded_without (name ∷ names) cs all =
-    recorded_without names (filter (λ c. not (is_named name c)) cs) (all_left IsRecordedChannel (λ c. not (is_named name c)) cs all)
+    recorded_without names (filter (λ c. not (is_named name c)) cs) (each-filter IsRecordedChannel (λ c. not (is_named name c)) cs all)
 
 pub recorded_moved : (action : ChannelMove) (cs : List Channel) → IsRecordedMove action → AllByRecursion IsRecordedChannel cs → AllByRecursion IsRecordedChannel (channels_moved action cs)
-recorded_moved (Set c) cs r all = all_put IsRecordedChannel channel_before c cs r all
+recorded_moved (Set c) cs r all = each-put_in IsRecordedChannel channel_before c cs r all
 recorded_moved (Drop names) cs r all = recorded_without names cs all
 
 pub recorded_left : (action : Move) (cs : List Channel) → AllByRecursion IsRecordedChannel cs → AllByRecursion IsRecordedChannel (channels_left action cs)

@@ -1,10 +1,9 @@
 -- Items that are pushed one after another.
-use Rattle.std.proofs.Common.{◌≡◌, ◌≢◌, ◌+◌, ◌≤◌, ◌<◌, ℕ, zero, suc, Bool, true, false, refl, sym, ◌∙◌, ap, subst, List, [], ◌∷◌, ◌++◌, length, take, drop, map, length-append, arith}
+use Rattle.std.proofs.Common.{◌≡◌, ◌≢◌, ◌+◌, ◌≤◌, ◌<◌, ℕ, Bool, true, false, refl, sym, ◌∙◌, ap, subst, List, [], ◌∷◌, ◌++◌, length, take, drop, map, length-append, arith}
 use Rattle.std.specs.Prelude.{filter, find, reverse, slice_get, Option, Some, None, IfSome, if◌then◌else◌}
-use Rattle.std.proofs.lemmas.List.{take_more, reverse-append, append-nil, map-append, take-append-drop}
+use Rattle.std.proofs.lemmas.List.{reverse-append, append-nil, map-append, take-append-drop}
 use Rattle.std.proofs.lemmas.List.Elements.{filter-append}
 use Rattle.std.proofs.lemmas.Grind.{flat_map-append}
-use Rattle.std.proofs.lemmas.Option.{slice_get_within, get_or_from_slice_get}
 use Rattle.byte_text.specs.Names.{Bytes, before}
 use Rattle.byte_text.specs.Globs.{glob_meets}
 use Rattle.byte_text.specs.Replies.{piece_text, frame_text, array, bulk, number}
@@ -37,12 +36,10 @@ use Rattle.world_data.specs.declared.queries.Query.{Query}
 use Rattle.world_data.specs.declared.queries.Rule.{Rule}
 use Rattle.world_data.specs.declared.queries.Rule.TheVariants as rule
 use Rattle.collection.specs.Objects.{id_before, has_id, are_by_id}
+use Rattle.byte_text.specs.ListLaws.{item_at, take_next}
 use Rattle.byte_text.specs.ByteOrder.{other_before, same_refl}
 use Rattle.ordered_lists.specs.Reading.{both_of}
 use Rattle.tile_core.specs.Listings.{keys_met, joined, listing, objects_of_ids, AreItems, IsFirst, IsTooLong}
-
-pub one_more : {A : Type 0} (xs : List A) (i : ℕ) (x : A) → slice_get xs i ≡ Some x → take (i + 1) xs ≡ take i xs ++ x ∷ []
-one_more xs i x e = take_more xs i x (slice_get_within xs i x e) ∙ ap (λ y. take i xs ++ y ∷ []) (get_or_from_slice_get xs i x x e)
 
 joined_more : (replies : List (List Piece)) (reply : List Piece) → joined (replies ++ reply ∷ []) ≡ joined replies ++ reply
 joined_more replies reply = flat_map-append (λ r. r) replies (reply ∷ []) ∙ ap (λ r. joined replies ++ r) (append-nil reply)
@@ -92,16 +89,10 @@ met_not pattern e h g = rw h (rw g refl)
 met_empty : (pattern : Bytes) (e : Entry) → has_objects e ≡ false → keys_met pattern (e ∷ []) ≡ []
 met_empty pattern e h = rw h refl
 
--- an item of a list at a place within it
-stands : {A : Type 0} (xs : List A) (i : ℕ) → i < length xs → (x : A) × (slice_get xs i ≡ Some x)
-stands [] i lt = absurd (omega (lt, arith))
-stands (x ∷ xs) zero lt = (x, refl)
-stands (x ∷ xs) (suc i) lt = stands xs i (omega (lt, arith))
-
 module _ (pattern key : Bytes) (entries : List Entry) (i n : ℕ) (within : i < length entries)
     (named : IfSome (slice_get entries i) (λ e. key ≡ e.key)) (counted : IfSome (slice_get entries i) (λ e. n ≡ length e.objects)) where
   entry : (e : Entry) × (slice_get entries i ≡ Some e)
-  entry = stands entries i within
+  entry = item_at entries i within
 
   name_is : key ≡ entry.0.key
   name_is = subst (λ x. IfSome x (λ e. key ≡ e.key)) entry.1 named
@@ -110,7 +101,7 @@ module _ (pattern key : Bytes) (entries : List Entry) (i n : ℕ) (within : i < 
   count_is = subst (λ x. IfSome x (λ e. n ≡ length e.objects)) entry.1 counted
 
   one_more_met : keys_met pattern (take (i + 1) entries) ≡ keys_met pattern (take i entries) ++ keys_met pattern (entry.0 ∷ [])
-  one_more_met = ap (keys_met pattern) (one_more entries i entry.0 entry.1) ∙ met_both pattern (take i entries) (entry.0 ∷ [])
+  one_more_met = ap (keys_met pattern) (take_next entries i entry.0 entry.1) ∙ met_both pattern (take i entries) (entry.0 ∷ [])
 
   same_as : {ks : List Bytes} → keys_met pattern (entry.0 ∷ []) ≡ ks → keys_met pattern (take (i + 1) entries) ≡ keys_met pattern (take i entries) ++ ks
   same_as e = one_more_met ∙ ap (λ ks. keys_met pattern (take i entries) ++ ks) e
@@ -208,12 +199,12 @@ all_listed objects (o ∷ found) firsts = rw firsts.0 (ap (λ os. o ∷ os) (all
 pub id_more : (objects : List Object) (ids : List Bytes) (i : ℕ) (id : Bytes) (o : Object) → slice_get ids i ≡ Some id → find (has_id id) objects ≡ Some o → objects_of_ids objects (take (i + 1) ids) ≡ objects_of_ids objects (take i ids) ++ o ∷ []
 id_more objects ids i id o at there =
     let alone : objects_of_ids objects (id ∷ []) ≡ o ∷ [] = rw there refl in
-    ap (objects_of_ids objects) (one_more ids i id at) ∙ filter_map-append (λ n. find (has_id n) objects) (take i ids) (id ∷ []) ∙ ap (λ os. objects_of_ids objects (take i ids) ++ os) alone
+    ap (objects_of_ids objects) (take_next ids i id at) ∙ filter_map-append (λ n. find (has_id n) objects) (take i ids) (id ∷ []) ∙ ap (λ os. objects_of_ids objects (take i ids) ++ os) alone
 
 pub id_lost : (objects : List Object) (ids : List Bytes) (i : ℕ) (id : Bytes) → slice_get ids i ≡ Some id → find (has_id id) objects ≡ None → objects_of_ids objects (take (i + 1) ids) ≡ objects_of_ids objects (take i ids)
 id_lost objects ids i id at absent =
     let alone : objects_of_ids objects (id ∷ []) ≡ [] = rw absent refl in
-    ap (objects_of_ids objects) (one_more ids i id at) ∙ filter_map-append (λ n. find (has_id n) objects) (take i ids) (id ∷ []) ∙ ap (λ os. objects_of_ids objects (take i ids) ++ os) alone ∙ append-nil (objects_of_ids objects (take i ids))
+    ap (objects_of_ids objects) (take_next ids i id at) ∙ filter_map-append (λ n. find (has_id n) objects) (take i ids) (id ∷ []) ∙ ap (λ os. objects_of_ids objects (take i ids) ++ os) alone ∙ append-nil (objects_of_ids objects (take i ids))
 
 -- the objects of the first ids come first
 pub ids_first : (objects : List Object) (ids : List Bytes) (n : ℕ) → objects_of_ids objects ids ≡ objects_of_ids objects (take n ids) ++ objects_of_ids objects (drop n ids)

@@ -9,7 +9,8 @@ use Rattle.tile_core.specs.declared.moves.Move.{Move}
 use Rattle.tile_core.specs.declared.moves.Move.TheVariants.{Stay, Put, Delete, DeleteEach, Leave, Clear}
 use Rattle.tile_core.specs.Moves.{moved, without_each, HoldsOfPut}
 use Rattle.tile_core.specs.Dues.{IsDueFrom, AreDueFrom}
-use Rattle.stored_world.specs.ListLaws.{all_left, all_put}
+use Rattle.ordered_lists.specs.Reading.{each-filter}
+use Rattle.ordered_lists.specs.Ascending.{each-put_in}
 
 -- the ids that are left, after one more is taken out
 next_out : (key : Bytes) (ids : List Bytes) (i : ℕ) (id : Bytes) (xs : List Object) → slice_get ids i ≡ Some id → without_each key (drop i ids) xs ≡ without_each key (drop (suc i) ids) (filter (λ o. not (is_at key id o)) xs)
@@ -25,14 +26,14 @@ one_out key ids i id xs ys at is = let one : i + 1 ≡ suc i = omega arith in ap
 module _ (P : Object → Type 0) where
   all_without : (key : Bytes) (ids : List Bytes) (xs : List Object) → AllByRecursion P xs → AllByRecursion P (without_each key ids xs)
   all_without key [] xs ps = ps
-  all_without key (id ∷ ids) xs ps = all_without key ids (filter (λ o. not (is_at key id o)) xs) (all_left P (λ o. not (is_at key id o)) xs ps)
+  all_without key (id ∷ ids) xs ps = all_without key ids (filter (λ o. not (is_at key id o)) xs) (each-filter P (λ o. not (is_at key id o)) xs ps)
 
   pub all_moved : (xs : List Object) (action : Move) → HoldsOfPut P action → AllByRecursion P xs → AllByRecursion P (moved xs action)
   all_moved xs Stay h ps = ps
-  all_moved xs (Put o) h ps = all_put P object_before o xs h ps
-  all_moved xs (Delete key id) h ps = all_left P (λ o. not (is_at key id o)) xs ps
+  all_moved xs (Put o) h ps = each-put_in P object_before o xs h ps
+  all_moved xs (Delete key id) h ps = each-filter P (λ o. not (is_at key id o)) xs ps
   all_moved xs (DeleteEach key ids) h ps = all_without key ids xs ps
-  all_moved xs (Leave key) h ps = all_left P (λ o. not (has_key key o)) xs ps
+  all_moved xs (Leave key) h ps = each-filter P (λ o. not (has_key key o)) xs ps
   all_moved xs Clear h ps = tt
 
 -- what is due from a moment on is not due before an earlier one

@@ -2,6 +2,7 @@
 use Rattle.std.proofs.Common.{◌≡◌, ◌≢◌, ℕ, zero, suc, ◌+◌, ◌<◌, ◌≤◌, Bool, true, false, true≢false, refl, sym, ap, ◌∙◌, subst, inl, inr, List, [], ◌∷◌, ◌++◌, length, length-append, arith}
 use Rattle.std.specs.Prelude.{Some, map, find, filter, slice_get, slice_set, ◌==◌, ◌⊎◌, nat_lt, if◌then◌else◌}
 use Rattle.std.proofs.lemmas.Bool.Decides.{nat_tests}
+use Rattle.std.proofs.lemmas.Option.{same_Some}
 use Rattle.world_model.specs.Halls as halls
 use Rattle.world_model.specs.Halls.{placed_each}
 use Rattle.deliveries.specs.Placing.{each_number}
@@ -180,15 +181,12 @@ pub named_next : (named more : List ℕ) (sessions : List State) (i : ℕ) (s : 
     → (k : ℕ) (t : State) → k < i + 1 → slice_get sessions k ≡ Some t → (t.mail.staged ≡ []) ⊎ (is_named more t.number ≡ true)
 named_next named more sessions i s at kept before here k t lt there = by (nat_lt k i) refl
   where
-    same_is : (a b : State) → Some a ≡ Some b → a ≡ b
-    same_is a b e = cc
-
     by : (b : Bool) → nat_lt k i ≡ b → (t.mail.staged ≡ []) ⊎ (is_named more t.number ≡ true)
     by true e = elim (before k t (grind (arith, nat_tests)) there) [ inl none ↦ inl none | inr told ↦ inr (kept t.number told) ]
     by false e =
         let le : i ≤ k = grind (arith, nat_tests) in
         let is : k ≡ i = omega (arith, lt, le) in
-        let same : s ≡ t = same_is s t (sym at ∙ ap (slice_get sessions) (sym is) ∙ there) in
+        let same : s ≡ t = same_Some s t (sym at ∙ ap (slice_get sessions) (sym is) ∙ there) in
         subst (λ (u : State). (u.mail.staged ≡ []) ⊎ (is_named more u.number ≡ true)) same here
 
 pub named_all : (named : List ℕ) (sessions : List State) → ((k : ℕ) (t : State) → slice_get sessions k ≡ Some t → (t.mail.staged ≡ []) ⊎ (is_named named t.number ≡ true)) → AreNamed named sessions

@@ -3,6 +3,8 @@ use Rattle.std.proofs.Common.{◌≡◌, ℕ, zero, suc, ◌<◌, true, true≢f
 use Rattle.std.specs.Prelude.{Some, None, Option, slice_get, slice_set}
 use Rattle.std.specs.List.{AllByRecursion, list_all}
 use Rattle.std.proofs.lemmas.List.{append-nil}
+use Rattle.std.proofs.lemmas.Option.{same_Some}
+use Rattle.byte_text.specs.ListLaws.{holds_at}
 use Rattle.byte_text.specs.Names.{Bytes}
 use Rattle.world_data.specs.Worlds.{after}
 use Rattle.world_data.specs.declared.objects.Object.{Object}
@@ -134,11 +136,6 @@ same_at (x ∷ xs) (y ∷ ys) zero s t e a b =
     ap session_of (sym p) ∙ first ∙ ap session_of q
 same_at (x ∷ xs) (y ∷ ys) (suc i) s t e a b = let rest : map session_of xs ≡ map session_of ys = cc in same_at xs ys i s t rest a b
 
-all_at : (P : State → Type 0) (xs : List State) (i : ℕ) (s : State) → AllByRecursion P xs → slice_get xs i ≡ Some s → P s
-all_at P [] i s all at = absurd (cc)
-all_at P (x ∷ xs) zero s all at = let is : x ≡ s = cc in subst P is all.0
-all_at P (x ∷ xs) (suc i) s all at = all_at P xs i s all.1 at
-
 -- a session that has more room has the same staged
 pub staged_set : (w : World) (writes : List Write) (ss : List State) (i : ℕ) (s v : State) → slice_get ss i ≡ Some s → session_of v ≡ session_of s → v.mail.staged ≡ s.mail.staged → HaveStaged w writes ss → HaveStaged w writes (slice_set ss i v)
 staged_set w writes [] i s v at same staged all = absurd (cc)
@@ -211,11 +208,8 @@ module _ (before mid store : Store) (now : ℕ) (asked : Asked) (at : ℕ) (g : 
     where
       by : (q : Option Planned) → IsRestBehind mid now asked at store one two q → IsRestReady before store g now asked second.0 two q
       by None r =
-          let is : second.0 ≡ first.0 = same_is second.0 first.0 (sym second.1 ∙ ap (λ (xs : List State). slice_get xs at) r.0 ∙ first.1) in
+          let is : second.0 ≡ first.0 = same_Some second.0 first.0 (sym second.1 ∙ ap (λ (xs : List State). slice_get xs at) r.0 ∙ first.1) in
           (subst (λ (xs : List State). HaveStaged (world_at before) (dels g.held.items) xs) (sym r.0) taken.staged, ap (λ (s : State). has_room_left s.mail) is ∙ r.1 first.0 first.1)
-        where
-          same_is : (a b : State) → Some a ≡ Some b → a ≡ b
-          same_is a b e = cc
       by (Some q) r =
           let planned = r.0 in
           let subs : second.0.subs ≡ first.0.subs = ap (λ (h : halls.Session). h.subs) same_caller in
@@ -224,7 +218,7 @@ module _ (before mid store : Store) (now : ℕ) (asked : Asked) (at : ℕ) (g : 
           record {
             roomy = subst (λ (h : halls.Session). has_room_for h (heard (world_at before) (dels g.held.items) (listens h)) ≡ true) (sym same_caller)
                 (roomy first.0.mail.frames (heard (world_at before) (dels g.held.items) (listens (session_of first.0))) first.0.mail.staged
-                (all_at (λ s. Suffice s.mail.frames (heard (world_at before) (dels g.held.items) (listens (session_of s))) s.mail.staged) one at first.0 taken.staged first.1)
+                (holds_at (λ s. Suffice s.mail.frames (heard (world_at before) (dels g.held.items) (listens (session_of s))) s.mail.staged) one at first.0 taken.staged first.1)
                 (r.1 first.0 first.1));
             plan = subst (λ (w : World). IsPlanned w store.weight second.0.subs (effect_of_asked w now second.0.subs asked) q) (sym world)
                 (subst (λ (n : ℕ). IsPlanned (world_at mid) n second.0.subs (effect_of_asked (world_at mid) now second.0.subs asked) q) (sym weight)

@@ -21,7 +21,7 @@ use Rattle.tile_core.specs.Moves.{IsAccepted, world_of}
 use Rattle.record_lengths.specs.Lengths.{len_of, HasFewFields}
 use Rattle.deliveries.specs.Staging.{after_all, records_len}
 use Rattle.tile_core.specs.Dues.{AllStand, AreDueFrom, IsTaken, IsTakenOut, HaveRoom, with_back}
-use Rattle.stored_world.specs.ListLaws.{all_left}
+use Rattle.ordered_lists.specs.Reading.{each-filter}
 use Rattle.record_lengths.specs.LengthLaws.{del_short, put_sum}
 use Rattle.tile_core.proofs.Standing.{back_there, found_holds, found_sum, shorter}
 use Rattle.tile_core.proofs.Weights.{weight_sum}
@@ -140,8 +140,8 @@ module _ (old : List Object) (now total : ℕ) (xs held : List Object) (len rest
         world = world_last (world_of old) held o ∙ ap (λ (w : World). after w (change.Del o.key o.id)) t.world;
         stand = stand_last (world_of old) held o t.stand (subst (λ (w : World). object_at w o.key o.id ≡ Some o) (sym t.world) here);
         sorted = ascends-filter object_before others xs t.sorted;
-        few = all_left HasFewFields others xs t.few;
-        accepted = all_left IsAccepted others xs t.accepted;
+        few = each-filter HasFewFields others xs t.few;
+        accepted = each-filter IsAccepted others xs t.accepted;
         length_is = let all = length_last held o in omega (arith, all, long, t.length_is);
         rest_is = let w = taken_sum len_of o.key o.id xs o t.sorted here in omega (arith, w, light, t.rest_is, weight_sum xs, weight_sum left);
         small = let short = del_short o (found_holds (is_at o.key o.id) o HasFewFields xs here t.few) in omega (arith, short, long, light, t.small);

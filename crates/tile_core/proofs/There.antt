@@ -9,7 +9,7 @@ use Rattle.world_data.specs.Worlds.{are_objects, object_before, has_key, is_at}
 use Rattle.world_data.specs.declared.objects.Object.{Object}
 use Rattle.tile_core.specs.Moves.{AllThere}
 use Rattle.tile_core.specs.Sweeps.{met}
-use Rattle.stored_world.specs.ListLaws.{all_left}
+use Rattle.ordered_lists.specs.Reading.{each-filter}
 use Rattle.tile_core.proofs.Sweeping.{HaveKey, keyed}
 use Rattle.record_lengths.specs.ObjectSums.{at_is, other_at}
 
@@ -116,6 +116,6 @@ pub met_there : (pattern key : Bytes) (xs : List Object) → are_objects xs ≡ 
 met_there pattern key xs asc =
     let held = filter (has_key key) xs in
     let gone = met pattern held in
-    let keys : HaveKey key gone = all_left (λ o. o.key ≡ key) (λ o. glob_meets pattern o.id) held (keyed key xs) in
-    let found : AreFound xs gone = all_left (λ y. find (is_at y.key y.id) xs ≡ Some y) (λ o. glob_meets pattern o.id) held (all_left (λ y. find (is_at y.key y.id) xs ≡ Some y) (has_key key) xs (all_found xs asc)) in
+    let keys : HaveKey key gone = each-filter (λ o. o.key ≡ key) (λ o. glob_meets pattern o.id) held (keyed key xs) in
+    let found : AreFound xs gone = each-filter (λ y. find (is_at y.key y.id) xs ≡ Some y) (λ o. glob_meets pattern o.id) held (each-filter (λ y. find (is_at y.key y.id) xs ≡ Some y) (has_key key) xs (all_found xs asc)) in
     each_there key gone xs keys (some_objects (λ o. glob_meets pattern o.id) held (some_objects (has_key key) xs asc)) (at_key key xs gone keys found)

@@ -1,6 +1,7 @@
 -- What EXPIRE, PERSIST and TTL do.
 use Rattle.std.proofs.Common.{◌≡◌, ℕ, ◌+◌, ◌*◌, false, refl, sym, ◌∙◌, lit<, [], ◌∷◌}
 use Rattle.std.specs.Prelude.{Option, Some, None}
+use Rattle.std.proofs.lemmas.Option.{same_Some}
 use Rattle.byte_text.specs.Names.{Bytes}
 use Rattle.byte_text.specs.Replies.{number}
 use Rattle.world_data.specs.Worlds.{object_at}
@@ -46,9 +47,6 @@ module _ (w : World) (now : ℕ) (key id : Bytes) where
 
 -- an object without its deadline
 
-some_is : (o x : Object) → Some o ≡ Some x → o ≡ x
-some_is o x e = cc
-
 no_some : {A B : Type 0} (x : A) → None ≡ Some x → B
 no_some x e = absurd (cc)
 
@@ -57,7 +55,7 @@ bare_is o x e = by o.deadline refl
   where
     by : (d : Option ℕ) → o.deadline ≡ d → (m : ℕ) × (o.deadline ≡ Some m) × (record o { deadline = None } ≡ x)
     by None is = let t : without_deadline o ≡ None = rw is refl in no_some x (sym t ∙ e)
-    by (Some m) is = let t : without_deadline o ≡ Some (record o { deadline = None }) = rw is refl in (m, is, some_is (record o { deadline = None }) x (sym t ∙ e))
+    by (Some m) is = let t : without_deadline o ≡ Some (record o { deadline = None }) = rw is refl in (m, is, same_Some (record o { deadline = None }) x (sym t ∙ e))
 
 pub bare_already : (o : Object) → without_deadline o ≡ None → o.deadline ≡ None
 bare_already o e = by o.deadline refl

@@ -12,7 +12,7 @@ use Rattle.world_model.specs.declared.commands.Command.{Command}
 use Rattle.world_model.specs.declared.commands.Command.TheVariants as command
 use Rattle.cmd_words.specs.Laws.{IsServed}
 use Rattle.session_mail.specs.Sessions.{AreSoundSubs}
-use Rattle.tile_core.specs.Subscribing.{subs_of}
+use Rattle.deliveries.specs.Plans.{subs_of}
 
 -- the words of a request ask for the setting
 pub record IsSettingOf (c : Channel) (from : Option AreaWords) : Type 0 where

@@ -324,6 +324,7 @@ impl Core {
         ensures accepted { IfSome result (λ o. IsAccepted o.now) }
         ensures sorted { is_sorted_world self.now.hall.world ≡ true }
     {
+        // What is counted stands in order.
         let _count = self.store.hub.len();
         next_object(&self.store.objects, after)
     }

@@ -30,6 +30,7 @@ pub(crate) fn with_values(
 ) -> Result<Fields, NoMemory>
     ensures { IfOk result (λ new. new ≡ with_values fields (given_and_cleared given.now cleared.now)) }
 {
+    // What is counted stands in order.
     let _count = fields.len();
     let mut fields = with_given(alloc, fields, given)?;
     for i in 0..cleared.len() {

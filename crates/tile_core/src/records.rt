@@ -22,7 +22,7 @@ use std::alloc::Global;
 use world_model::{Channel, NameList, Object};
 
 /// The text of the records keeps its memory for the next call, where it has no more bytes than this.
-const MOST_KEPT: usize = 65_536;
+const KEPT_ROOM: usize = 65_536;
 
 /// Appends the record of the put of an object, which is read back from it. One that no request puts, as its record would be too long for
 /// one, is want of memory.
@@ -30,6 +30,7 @@ pub fn push_object(into: &mut Text, object: &Object) -> Result<(), NoMemory>
     requires { IsAccepted object.now }
     ensures { OnOk result (IsPushed (change.Put object.now) into.old into.new) }
 {
+    // A law, of which nothing is left at run time.
     changes_are_recorded();
     if object.fields.len() > MOST_FIELDS || object.text.len() > MAX_WORD {
         return Err(NoMemory);
@@ -60,6 +61,7 @@ fn push_written(into: &mut Text, object: &Object) -> Result<(), NoMemory>
 fn push_one(into: &mut Text, key: &Name, id: &Name) -> Result<(), NoMemory>
     ensures { OnOk result (ArePushed (loud (change.Del key.now id.now) ∷ []) into.old into.new) }
 {
+    // A law, of which nothing is left at run time.
     changes_are_recorded();
     push_del(into, key, id)
 }
@@ -90,6 +92,7 @@ fn push_move(into: &mut Text, action: &Move) -> Result<(), NoMemory>
     requires { HoldsOfPut IsAccepted action.now }
     ensures { OnOk result ((is_loud : Bool) → ArePushed (writes_of action.now is_loud) into.old into.new) }
 {
+    // A law, of which nothing is left at run time.
     changes_are_recorded();
     match action {
         Move::Stay => Ok(()),
@@ -105,6 +108,7 @@ fn push_move(into: &mut Text, action: &Move) -> Result<(), NoMemory>
 fn push_dropped(into: &mut Text, names: &NameList) -> Result<(), NoMemory>
     ensures { OnOk result (ArePushed (dropped_of names.now) into.old into.new) }
 {
+    // A law, of which nothing is left at run time.
     changes_are_recorded();
     for i in 0..names.len() {
         push_delchan(into, names.at(i))?;
@@ -171,7 +175,7 @@ pub(crate) fn record_ready<L: Ledger>(
     ensures err { OnErr result ((ledger.new ≡ ledger.old) ⊎ L.stays ledger.old ledger.new) }
 {
     let taken = hand_over(records, ready, ledger);
-    if records.len() > MOST_KEPT {
+    if records.len() > KEPT_ROOM {
         *records = Text::new(alloc);
     }
     taken

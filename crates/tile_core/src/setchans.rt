@@ -201,6 +201,7 @@ fn plan_over(
     let Some(object) = objects.get(key, id) else {
         return Ok(Planned::Objects(plan_missing(alloc, objects, total, key)?));
     };
+    // A law, of which nothing is left at run time.
     changes_are_recorded();
     let settled = channel_at(alloc, channel, object)?;
     plan_channel(alloc, objects, hub, total, channels, settled)
@@ -224,6 +225,7 @@ pub(crate) fn plan_setchan(
     ensures { IfOk result (λ p. (now : ℕ) (held : List Sub) → IsPlanned (world_with hub.now.channels (objects_in objects.now)) total held
         (effect (world_with hub.now.channels (objects_in objects.now)) now [] (command.Setchan channel area)) p) }
 {
+    // A law, of which nothing is left at run time.
     changes_are_recorded();
     match area {
         None => plan_channel(alloc, objects, hub, total, channels, channel),

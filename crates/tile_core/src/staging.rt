@@ -82,6 +82,7 @@ fn stage_one(
     ensures same { map session_of sessions.new.items ≡ map session_of sessions.old.items }
     ensures staged { OnOk result (StagesBehind (world_with hub.now.channels (objects_in objects.now)) (loud (change.Del key.now id.now) ∷ []) sessions.old.items sessions.new.items) }
 {
+    // A law, of which nothing is left at run time.
     turn_laws();
     if hub.len() == 0 {
         return Ok(());
@@ -106,6 +107,7 @@ fn stage_object(
     ensures same { map session_of sessions.new.items ≡ map session_of sessions.old.items }
     ensures staged { OnOk result (StagesBehind (world_with hub.now.channels (objects_in objects.now)) (record { change = change.Put object.now; loud = loud } ∷ []) sessions.old.items sessions.new.items) }
 {
+    // A law, of which nothing is left at run time.
     turn_laws();
     if !loud {
         return Ok(());
@@ -133,6 +135,7 @@ fn stage_move(
     ensures same { map session_of sessions.new.items ≡ map session_of sessions.old.items }
     ensures staged { OnOk result (StagesBehind (world_with hub.now.channels (objects_in objects.now)) (writes_of action.now loud) sessions.old.items sessions.new.items) }
 {
+    // A law, of which nothing is left at run time.
     turn_laws();
     match action {
         Move::Stay | Move::Clear => Ok(()),
@@ -157,6 +160,7 @@ pub(crate) fn stage_planned(
     ensures same { map session_of sessions.new.items ≡ map session_of sessions.old.items }
     ensures staged { OnOk result (StagesBehind (world_with hub.now.channels (objects_in objects.now)) (planned_writes planned.now) sessions.old.items sessions.new.items) }
 {
+    // A law, of which nothing is left at run time.
     turn_laws();
     match planned {
         Planned::Objects(plan) => {

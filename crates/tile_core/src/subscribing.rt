@@ -17,7 +17,8 @@ ghost use Rattle.keyspace.specs.Entries.{objects_in};
 ghost use Rattle.tile_core.specs.CoreStates.{AreKept, most_kept};
 ghost use Rattle.tile_core.specs.Moves.{world_with};
 ghost use Rattle.tile_core.specs.Planned.{channels_weight, IsPlanned};
-ghost use Rattle.tile_core.specs.Subscribing.{subs_of, subscribing};
+ghost use Rattle.deliveries.specs.Plans.{subs_of};
+ghost use Rattle.tile_core.specs.Subscribing.{subscribing};
 
 use crate::answers::say_refusal;
 use crate::planned::{Confirmed, Planned};

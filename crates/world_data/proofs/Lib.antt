@@ -1,2 +1,1 @@
-pub mod RequestLaws
 pub mod Soundness

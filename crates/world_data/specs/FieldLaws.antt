@@ -1,18 +1,19 @@
--- Fields stay in order, without doubles and without zeros.
-use Rattle.std.proofs.Common.{◌≡◌, ℕ, true, false, not, sym, ap, List, [], ◌∷◌, arith}
-use Rattle.std.specs.Prelude.{ℤ}
+-- Fields stay in order, without doubles and without zeros, also where values are given one by one.
+use Rattle.std.proofs.Common.{◌≡◌, ℕ, true, false, not, refl, sym, ap, ◌∙◌, List, [], ◌∷◌, ◌++◌, arith}
+use Rattle.std.specs.Prelude.{ℤ, filter}
 use Rattle.std.specs.List.{list_all, slice_set, insert, remove}
 use Rattle.byte_text.specs.Names.{Bytes, before}
 use Rattle.ordered_lists.specs.Ascending.{ascends-put_in, ascends-filter, put_in-set, put_in-insert}
+use Rattle.ordered_lists.specs.Picked.{put_in-kept}
 use Rattle.ordered_lists.specs.NameOrder.{name_trans, name_tie, name_asym}
-use Rattle.ordered_lists.specs.Reading.{filter-all, filter-passes, filter-set, filter-insert, all-set, all-insert}
+use Rattle.ordered_lists.specs.Reading.{both_of, filter-all, filter-passes, filter-set, filter-insert, all-set, all-insert}
 use Rattle.ordered_lists.specs.Lists.{ascends, put_in, IsHeld, IsFree}
 use Rattle.world_data.specs.Filters.{Field, field_before, is_zero, last_values, with_values, are_fields}
 
-field_trans : (f g h : Field) → field_before f g ≡ true → field_before g h ≡ true → field_before f h ≡ true
+pub field_trans : (f g h : Field) → field_before f g ≡ true → field_before g h ≡ true → field_before f h ≡ true
 field_trans = name_trans (λ (f : Field). f.0)
 
-field_tie : (f g h : Field) → field_before f g ≡ false → field_before g f ≡ false → field_before g h ≡ true → field_before f h ≡ true
+pub field_tie : (f g h : Field) → field_before f g ≡ false → field_before g f ≡ false → field_before g h ≡ true → field_before f h ≡ true
 field_tie = name_tie (λ (f : Field). f.0)
 
 pub field_asym : (f g : Field) → field_before f g ≡ true → field_before g f ≡ false
@@ -28,6 +29,19 @@ with_values-are_fields fields given are =
     let asc : ascends field_before fields ≡ true → ascends field_before (with_values fields given) ≡ true = λ a. ascends-filter field_before (λ f. not (is_zero f)) (last_values fields given) (last_values-ascends fields given a) in
     let all = filter-passes (λ f. not (is_zero f)) (last_values fields given) in
     grind arith
+
+values_snoc : (found given : List Field) (f : Field) → last_values found (given ++ f ∷ []) ≡ put_in field_before f (last_values found given)
+values_snoc found [] f = refl
+values_snoc found (g ∷ given) f = values_snoc (put_in field_before g found) given f
+
+-- one value more
+pub one_given : (fields given : List Field) (f : Field) → are_fields fields ≡ true
+    → with_values (with_values fields given) (f ∷ []) ≡ with_values fields (given ++ f ∷ [])
+one_given fields given f are =
+    let asc = (both_of (ascends field_before fields) (list_all (λ f. not (is_zero f)) fields) are).0 in
+    put_in-kept field_before field_asym field_trans field_tie (λ f. not (is_zero f)) f (last_values fields given)
+    (last_values-ascends fields given asc)
+    ∙ ap (filter (λ f. not (is_zero f))) (sym (values_snoc fields given f))
 
 module _ (fields : List Field) (n : Bytes) (v : ℤ) (at : ℕ) (are : are_fields fields ≡ true) where
   nonzero : list_all (λ f. not (is_zero f)) fields ≡ true

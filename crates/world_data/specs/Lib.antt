@@ -7,4 +7,6 @@ pub mod Frames
 pub mod Sound
 pub mod Laws
 pub mod FieldLaws
+pub mod LastField
 pub mod WorldLaws
+pub mod RequestLaws

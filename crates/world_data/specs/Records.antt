@@ -1,8 +1,10 @@
--- The record of a change: the words that the log keeps of it, and their length.
-use Rattle.std.specs.Prelude.{ℕ, ℤ, ◌+◌, List, [], ◌∷◌, ◌++◌, length, Option, Some, None, codes, decimal, flat_map, sum_by}
+-- The record of a change: the words that the log keeps of it, their length, and which changes are kept.
+use Rattle.std.specs.Prelude.{ℕ, ℤ, pos, neg_ℤ, ◌+◌, ◌-◌, ◌^◌, Bool, true, ◌&&◌, nat_le, int_le, List, [], ◌∷◌, ◌++◌, length, Option, Some, None, codes, decimal, flat_map, sum_by}
+use Rattle.std.specs.List.{list_all}
 use Rattle.std.specs.Fmt.{signed_decimal}
-use Rattle.byte_text.specs.Names.{Bytes}
+use Rattle.byte_text.specs.Names.{Bytes, is_name}
 use Rattle.byte_text.specs.Requests.{request_text}
+use Rattle.world_data.specs.Filters.{Field, are_fields}
 use Rattle.world_data.specs.declared.worlds.World.{World}
 use Rattle.world_data.specs.declared.worlds.Change.{Change}
 use Rattle.world_data.specs.declared.worlds.Change.TheVariants.{Put, Del, Drop, Flush, SetChan, DelChan}
@@ -32,3 +34,21 @@ record_len change = length (record_text change)
 -- the bytes of the records of all that a world holds
 abbrev pub weight : World → ℕ
 weight w = sum_by (λ o. record_len (Put o)) w.objects + sum_by (λ c. record_len (SetChan c)) w.channels
+
+-- a field's name is a name, and its value has 64 bits
+abbrev pub is_kept_field : Field → Bool
+is_kept_field f = is_name f.0 && int_le (neg_ℤ (pos (2 ^ 63))) f.1 && int_le f.1 (pos (2 ^ 63 - 1))
+
+-- a deadline has 64 bits
+abbrev pub is_kept_deadline : Option ℕ → Bool
+is_kept_deadline None = true
+is_kept_deadline (Some d) = nat_le d (2 ^ 64 - 1)
+
+-- names are names, fields stand in order and are not 0, numbers have 64 bits
+abbrev pub is_kept : Change → Bool
+is_kept (Put o) = is_name o.key && is_name o.id && are_fields o.fields && list_all is_kept_field o.fields && is_kept_deadline o.deadline
+is_kept (Del key id) = is_name key && is_name id
+is_kept (Drop key) = is_name key
+is_kept Flush = true
+is_kept (SetChan c) = is_name c.name
+is_kept (DelChan name) = is_name name

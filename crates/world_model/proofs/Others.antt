@@ -3,10 +3,11 @@ use Rattle.std.proofs.Common.{◌≡◌, inl, inr, ◌+◌, ℕ, Bool, true, fal
 use Rattle.std.specs.Prelude.{Option, Some, None, find, map, filter, if◌then◌else◌, option_map, max, drop}
 use Rattle.std.proofs.lemmas.Bool.Decides.{nat_tests}
 use Rattle.byte_text.specs.Names.{Bytes}
-use Rattle.world_model.specs.Halls.{Hall, Session, closing, effect_of, is_live, is_session, session_of, change_session, without_session, has_room, placed, placed_each, place, place_all, apply, apply_all, due, closed_if, close_session, do_effect, do_asked, do_live, do_call, deliveries}
+use Rattle.world_model.specs.Halls.{Hall, Session, closing, effect_of, is_live, is_session, session_of, change_session, without_session, placed, placed_each, place, place_all, apply, apply_all, due, closed_if, close_session, do_effect, do_asked, do_live, do_call, deliveries}
 use Rattle.world_model.specs.Effects.{Effect}
 use Rattle.fence_model.specs.Writes.{Write, dels}
 use Rattle.world_data.specs.Expiry.{expired}
+use Rattle.world_model.specs.SessionLaws.{number_of, placed_number, each_append, found_map, found_number, other_way}
 use Rattle.world_model.specs.Laws.{OnlyPlaced, is_about}
 use Rattle.world_data.specs.Worlds.{after}
 use Rattle.world_data.specs.Records.{record_len}
@@ -23,44 +24,11 @@ use Rattle.world_model.specs.declared.events.Outcome.{Outcome}
 use Rattle.world_model.specs.declared.events.Asked.{Asked}
 use Rattle.world_model.specs.declared.events.Asked.TheVariants.{Words, Broken}
 
--- placing keeps a session's number
-
-number_of : (b : Bool) (s t : Session) (n : ℕ) → s.number ≡ n → t.number ≡ n → (if b then s else t).number ≡ n
-number_of true s t n p q = p
-number_of false s t n p q = q
-
-placed_number : (frame : Bytes) (s : Session) → (placed frame s).number ≡ s.number
-placed_number frame s = number_of (not (is_live s)) s _ s.number refl (number_of (has_room s frame) _ _ s.number refl refl)
-
--- the session of a number among sessions that were each changed, but for their numbers
-module _ (g : Session → Session) (keeps : (s : Session) → (g s).number ≡ s.number) where
-  found_test : (n : ℕ) (s : Session) (b : Bool) (rest : List Session) → is_session n s ≡ b → find (is_session n) (map g rest) ≡ option_map g (find (is_session n) rest)
-      → find (is_session n) (map g (s ∷ rest)) ≡ option_map g (find (is_session n) (s ∷ rest))
-  found_test n s true rest e ih = let f : is_session n (g s) ≡ true = ap (λ m. m == n) (keeps s) ∙ e in rw (f, e) refl
-  found_test n s false rest e ih = let f : is_session n (g s) ≡ false = ap (λ m. m == n) (keeps s) ∙ e in rw (f, e) ih
-
-  found_map : (n : ℕ) (sessions : List Session) → find (is_session n) (map g sessions) ≡ option_map g (find (is_session n) sessions)
-  found_map n [] = refl
-  found_map n (s ∷ rest) = found_test n s _ rest refl (found_map n rest)
-
--- a session that is found has the number
-found_by : (n : ℕ) (t s : Session) (rest : List Session) (b : Bool) → is_session n t ≡ b → (find (is_session n) rest ≡ Some s → is_session n s ≡ true) → find (is_session n) (t ∷ rest) ≡ Some s → is_session n s ≡ true
-found_by n t s rest true is ih f = let same : t ≡ s = cc (rw is at f) in subst (λ u. is_session n u ≡ true) same is
-found_by n t s rest false is ih f = ih (rw is at f)
-
-found_number : (n : ℕ) (sessions : List Session) (s : Session) → find (is_session n) sessions ≡ Some s → is_session n s ≡ true
-found_number n [] s e = absurd cc
-found_number n (t ∷ rest) s e = found_by n t s rest _ refl (found_number n rest s) e
-
 -- placing on sessions, in turn
 
 only_refl : (o : Option Session) → OnlyPlaced o o
 only_refl None = tt
 only_refl (Some s) = ([], refl)
-
-each_append : (s : Session) (a b : List Bytes) → placed_each s (a ++ b) ≡ placed_each (placed_each s a) b
-each_append s [] b = refl
-each_append s (f ∷ a) b = each_append (placed f s) a b
 
 only_trans : (o p q : Option Session) → OnlyPlaced o p → OnlyPlaced p q → OnlyPlaced o q
 only_trans None None q a b = b
@@ -76,9 +44,6 @@ only_same o p e = subst (OnlyPlaced o) (sym e) (only_refl o)
 differs : (n m k : ℕ) → (n == m) ≡ false → (k == n) ≡ true → (k == m) ≡ false
 differs n m k e f = grind (arith, nat_tests)
 
-other_way : (a b : ℕ) → (a == b) ≡ false → (b == a) ≡ false
-other_way a b e = grind (arith, nat_tests)
-
 -- a change of one session, as a change of all
 abbrev at_number : (Session → Session) → ℕ → Session → Session
 at_number f m s = if is_session m s then f s else s
@@ -92,7 +57,7 @@ unnamed_found f n m (Some s) e is = let other : is_session m s ≡ false = diffe
 
 -- a change of another session
 unnamed : (f : Session → Session) (n m : ℕ) (h : Hall) → ((s : Session) → (f s).number ≡ s.number) → (n == m) ≡ false → session_of (change_session f m h) n ≡ session_of h n
-unnamed f n m h keeps e = found_map (at_number f m) (keeps_at f m keeps) n h.sessions ∙ unnamed_found f n m (session_of h n) e (found_number n h.sessions)
+unnamed f n m h keeps e = found_map (at_number f m) (keeps_at f m keeps) n h.sessions ∙ unnamed_found f n m (session_of h n) e (λ s. found_number n s h.sessions)
 
 placed_on : (frame : Bytes) (m : ℕ) (o : Option Session) → OnlyPlaced o (option_map (at_number (placed frame) m) o)
 placed_on frame m None = tt
@@ -160,7 +125,7 @@ found_only h (Some s) m asked n other is = live_only (is_live s) h s asked n (se
 
 call_only : (h : Hall) (m : ℕ) (asked : Asked) (n : ℕ) → (n == m) ≡ false → OnlyPlaced (session_of h n) (session_of (do_call h m asked) n)
 unfolding do_call
-call_only h m asked n other = found_only h (session_of h m) m asked n other (found_number m h.sessions)
+call_only h m asked n other = found_only h (session_of h m) m asked n other (λ s. found_number m s h.sessions)
 
 -- sessions that come and go
 

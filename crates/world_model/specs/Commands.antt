@@ -13,7 +13,8 @@ use Rattle.geo_text.specs.declared.faults.GeoFault.{GeoFault}
 use Rattle.world_data.specs.Limits.{max_limit, max_tests, max_values}
 use Rattle.world_data.specs.Filters.{Field, last_values, is_zero}
 use Rattle.world_model.specs.Grammar.{Form, Reading, ◌>>=◌, ◌>>◌, ◌or◌, done, one_of, where_, word, maybe, repeated, once_or_more, times, live, spelled, goes_on, wants_coordinate, wants_geojson}
-use Rattle.world_model.specs.Kinds.{name, glob, integer, between, meters, seconds, lat_lon, four, geojson, bound, list_of, is_in, is_digit}
+use Rattle.world_model.specs.Kinds.{name, glob, integer, between, meters, seconds, lat_lon, four, geojson, bound, list_of, is_in}
+use Rattle.byte_text.specs.Streams.{is_digit}
 use Rattle.world_data.specs.declared.filters.Test.{Test}
 use Rattle.world_data.specs.declared.filters.Test.TheVariants.{Range, Among}
 use Rattle.world_data.specs.declared.channels.Kind.{Kind}

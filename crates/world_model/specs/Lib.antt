@@ -16,3 +16,4 @@ pub mod MadeForms
 pub mod PrefixLaws
 pub mod SoundLaws
 pub mod TableParts
+pub mod SessionLaws

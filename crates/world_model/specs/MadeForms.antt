@@ -19,6 +19,10 @@ makes_done P a p = record { made = λ words. (p, tt) }
 pub makes_or : {A : Type 0} (P : A → Type 0) (f g : Form A) → Makes P f → Makes P g → Makes P (f or g)
 makes_or P f g p q = record { made = λ words. each_append (Said P) (f words) (g words) (p.made words) (q.made words) }
 
+-- the same, by what the forms are
+pub first : {A : Type 0} {P : A → Type 0} {f g : Form A} → Makes P f → Makes P g → Makes P (f or g)
+first {P = P} {f = f} {g = g} p q = makes_or P f g p q
+
 pub makes_none : {A : Type 0} (P : A → Type 0) → Makes P (one_of [])
 makes_none P = record { made = λ words. tt }
 
@@ -28,6 +32,11 @@ makes_first P f fs p q = record { made = λ words. each_append (Said P) (f words
 pub makes_where : {A : Type 0} (P : A → Type 0) (test : Bool) (f : Form A) → Makes P f → Makes P (where_ test f)
 makes_where P true f p = p
 makes_where P false f p = record { made = λ words. tt }
+
+-- a form that is read where a test holds may rest on it
+pub makes_if : {A : Type 0} (P : A → Type 0) (test : Bool) (f : Form A) → (test ≡ true → Makes P f) → Makes P (where_ test f)
+makes_if P true f p = p refl
+makes_if P false f p = record { made = λ words. tt }
 
 read_made : {A : Type 0} (P : A → Type 0) (o : Option A) (words : List Bytes) → ((a : A) → o ≡ Some a → P a) → Each (Said P) (read_as o words)
 read_made P None words h = tt

@@ -2,6 +2,8 @@
 use Rattle.std.proofs.Common.{◌≡◌, ℕ, ℤ, pos, Bool, true, false, refl, sym, ◌∙◌, ap, subst, List, [], ◌∷◌, ◌++◌, arith, ◌≤ℤ◌, rules}
 use Rattle.std.specs.Prelude.{Option, Some, None, Result, Ok, Err, ◌&&◌, int_le, nat_le, neg_ℤ, codes, option_and_then, if◌then◌else◌, is_none, not, length, nat_lt}
 use Rattle.std.specs.List.{list_all}
+use Rattle.std.specs.Cmp.Derive.{both_true}
+use Rattle.byte_text.specs.TestLaws.{both_of, is_le}
 use Rattle.byte_text.specs.Names.{Bytes, is_name}
 use Rattle.byte_text.specs.Numbers.{whole, natural, whole_within, natural_within}
 use Rattle.byte_text.specs.Globs.{is_well_formed, is_sound_glob}
@@ -12,7 +14,7 @@ use Rattle.geo_text.specs.Texts.{Shape, shape_of, stored_or, walked, point_text,
 use Rattle.geo_text.specs.declared.faults.GeoFault.{GeoFault}
 use Rattle.geo_text.specs.StoredLaws.{point_back, bounds_back}
 use Rattle.world_data.specs.Limits.{max_coord, max_meters, max_tests}
-use Rattle.world_model.specs.Grammar.{Form, Reading, spells, runs_out, done, word, maybe, ◌>>=◌, ◌>>◌, ◌or◌, repeated, a_word, a_coordinate, a_geojson}
+use Rattle.world_model.specs.Grammar.{Form, Reading, spells, runs_out, done, word, maybe, ◌>>=◌, ◌>>◌, repeated, a_word, a_coordinate, a_geojson}
 use Rattle.world_model.specs.Kinds.{when, name, glob, meters, coordinate_from, coordinate, lat_lon, four, geojson, accepted}
 use Rattle.world_model.specs.Commands as table
 use Rattle.world_model.specs.Sound.{IsSoundCommand, is_sound_from, is_sound_reach, takes_areas}
@@ -26,39 +28,32 @@ use Rattle.world_data.specs.declared.queries.Shown.TheVariants as shown
 use Rattle.world_model.specs.declared.commands.Command.{Command}
 use Rattle.world_model.specs.declared.commands.Command.TheVariants as command
 use Rattle.world_model.specs.FormLaws.{Each}
-use Rattle.world_model.specs.MadeForms.{Makes, Said, makes_done, makes_or, makes_none, makes_where, makes_word, makes_bind, makes_behind, makes_then, makes_maybe, makes_any, makes_repeated, makes_once, spelled_said}
+use Rattle.world_model.specs.MadeForms.{Makes, Said, first, makes_done, makes_none, makes_where, makes_word, makes_bind, makes_behind, makes_then, makes_maybe, makes_any, makes_repeated, makes_once, spelled_said}
 use Rattle.world_data.specs.FieldLaws.{with_values-are_fields}
 
 -- kinds of word
 
-when_is : {A : Type 0} (test : Bool) (a b : A) → when test a ≡ Some b → (test ≡ true) × (a ≡ b)
+-- a word that is read passed the test of its kind
+pub when_is : {A : Type 0} (test : Bool) (a b : A) → when test a ≡ Some b → (test ≡ true) × (a ≡ b)
 when_is true a b e = (refl, cc)
 when_is false a b e = absurd cc
 
-both_true : (a b : Bool) → (a && b) ≡ true → (a ≡ true) × (b ≡ true)
-both_true true true e = (refl, refl)
-both_true true false e = absurd cc
-both_true false b e = absurd cc
-
 well_formed : (w p : Bytes) → when (is_name w && is_well_formed w) w ≡ Some p → is_well_formed p ≡ true
-well_formed w p e = let h = when_is (is_name w && is_well_formed w) w p e in let t = both_true (is_name w) (is_well_formed w) h.0 in subst (λ x. is_well_formed x ≡ true) h.1 t.1
+well_formed w p e = let h = when_is (is_name w && is_well_formed w) w p e in let t = both_of (is_name w) (is_well_formed w) h.0 in subst (λ x. is_well_formed x ≡ true) h.1 t.1
 
 makes_glob : Makes (λ p. is_well_formed p ≡ true) glob
 makes_glob = makes_word (λ p. is_well_formed p ≡ true) a_word (λ w. when (is_name w && is_well_formed w) w) well_formed
 
 within_is : (low high z : ℤ) (o : Option ℤ) → option_and_then (λ x. if int_le low x && int_le x high then Some x else None) o ≡ Some z → (int_le low z ≡ true) × (int_le z high ≡ true)
 within_is low high z None e = absurd cc
-within_is low high z (Some x) e = let h = when_is (int_le low x && int_le x high) x z e in let t = both_true (int_le low x) (int_le x high) h.0 in (subst (λ y. int_le low y ≡ true) h.1 t.0, subst (λ y. int_le y high ≡ true) h.1 t.1)
+within_is low high z (Some x) e = let h = when_is (int_le low x && int_le x high) x z e in let t = both_of (int_le low x) (int_le x high) h.0 in (subst (λ y. int_le low y ≡ true) h.1 t.0, subst (λ y. int_le y high ≡ true) h.1 t.1)
 
 natural_is_within : (low high n : ℕ) (o : Option ℕ) → option_and_then (λ x. if nat_le low x && nat_le x high then Some x else None) o ≡ Some n → nat_le n high ≡ true
 natural_is_within low high n None e = absurd cc
-natural_is_within low high n (Some x) e = let h = when_is (nat_le low x && nat_le x high) x n e in let t = both_true (nat_le low x) (nat_le x high) h.0 in subst (λ y. nat_le y high ≡ true) h.1 t.1
+natural_is_within low high n (Some x) e = let h = when_is (nat_le low x && nat_le x high) x n e in let t = both_of (nat_le low x) (nat_le x high) h.0 in subst (λ y. nat_le y high ≡ true) h.1 t.1
 
 makes_meters : Makes (λ r. nat_le r max_meters ≡ true) meters
 makes_meters = makes_word (λ r. nat_le r max_meters ≡ true) a_word (natural_within 0 max_meters) (λ w n e. natural_is_within 0 max_meters n (natural w) e)
-
-is_le : (a b : ℤ) → int_le a b ≡ true → a ≤ℤ b
-is_le a b e = search rules
 
 makes_from : (low : ℤ) → Makes (λ z. (low ≤ℤ z) × (z ≤ℤ pos max_coord)) (coordinate_from low)
 makes_from low = makes_word (λ z. (low ≤ℤ z) × (z ≤ℤ pos max_coord)) a_coordinate (whole_within low (pos max_coord))
@@ -108,9 +103,6 @@ accepted_is w (Err fault) t e = absurd cc
 makes_geojson : Makes HasShape geojson
 makes_geojson = makes_word HasShape a_geojson (λ w. accepted w (shape_of w)) (λ w t e. let h = accepted_is w (shape_of w) t e in ap shape_of (sym h.0) ∙ h.1)
 
-first : {A : Type 0} {P : A → Type 0} {f g : Form A} → Makes P f → Makes P g → Makes P (f or g)
-first {P = P} {f = f} {g = g} p q = makes_or P f g p q
-
 behind_word : {A B : Type 0} (P : A → Type 0) (Q : B → Type 0) (called : Bytes) (f : Form A) (g : A → Form B) → Makes P f → ((a : A) → P a → Makes Q (g a)) → Makes Q (word called >> f >>= g)
 behind_word P Q called f g p goes = makes_bind P Q (word called >> f) g (makes_then P (word called) f p) goes
 
@@ -147,24 +139,30 @@ makes_area =
 
 -- searches
 
+-- the options of a search say of its glob what a glob says, and nothing where none is given
+module _ (IsSaid : Option Bytes → Type 0) (IsGlob : Bytes → Type 0) (is_glob : Makes IsGlob glob) (said : (p : Bytes) → IsGlob p → IsSaid (Some p)) where
+  abbrev Options : table.SearchOptions → Type 0
+  Options o = IsSaid o.glob
+
+  makes_search_option : (ordered : Bool) (o : table.SearchOptions) → Options o → Makes Options (table.search_option ordered o)
+  makes_search_option ordered o h =
+      first (makes_where Options (is_none o.glob) _ (behind_word IsGlob Options (codes "MATCH") glob _ is_glob (λ p w. makes_done Options _ (said p w)))) (
+      first (makes_where Options (is_none o.cursor) _ (makes_behind Options (word (codes "CURSOR") >> _) _ (λ n. makes_done Options _ h))) (
+      first (makes_where Options (is_none o.limit) _ (makes_behind Options (word (codes "LIMIT") >> _) _ (λ n. makes_done Options _ h))) (
+      first (makes_where Options (not o.bare) _ (makes_then Options (word (codes "NOFIELDS")) _ (makes_done Options _ h))) (
+      first (makes_where Options (ordered && is_none o.down) _ (makes_then Options (word (codes "ASC")) _ (makes_done Options _ h))) (
+      first (makes_where Options (ordered && is_none o.down) _ (makes_then Options (word (codes "DESC")) _ (makes_done Options _ h))) (
+      first (makes_where Options (nat_lt (length o.tests) max_tests) _ (makes_behind Options table.test _ (λ t. makes_done Options _ h)))
+      (makes_none Options)))))))
+
+  pub makes_search_options : (ordered : Bool) → IsSaid None → Makes (λ o. IsSaid o.glob) (repeated (table.search_option ordered) table.no_search_options)
+  makes_search_options ordered none = makes_repeated Options (table.search_option ordered) (makes_search_option ordered) table.no_search_options none
+
 abbrev SoundOptions : table.SearchOptions → Type 0
 SoundOptions o = is_sound_glob o.glob ≡ true
 
-makes_search_option : (ordered : Bool) (o : table.SearchOptions) → SoundOptions o → Makes SoundOptions (table.search_option ordered o)
-makes_search_option ordered o h =
-    first (makes_where SoundOptions (is_none o.glob) _ (behind_word (λ p. is_well_formed p ≡ true) SoundOptions (codes "MATCH") glob _ makes_glob (λ p w. makes_done SoundOptions _ w))) (
-    first (makes_where SoundOptions (is_none o.cursor) _ (makes_behind SoundOptions (word (codes "CURSOR") >> _) _ (λ n. makes_done SoundOptions _ h))) (
-    first (makes_where SoundOptions (is_none o.limit) _ (makes_behind SoundOptions (word (codes "LIMIT") >> _) _ (λ n. makes_done SoundOptions _ h))) (
-    first (makes_where SoundOptions (not o.bare) _ (makes_then SoundOptions (word (codes "NOFIELDS")) _ (makes_done SoundOptions _ h))) (
-    first (makes_where SoundOptions (ordered && is_none o.down) _ (makes_then SoundOptions (word (codes "ASC")) _ (makes_done SoundOptions _ h))) (
-    first (makes_where SoundOptions (ordered && is_none o.down) _ (makes_then SoundOptions (word (codes "DESC")) _ (makes_done SoundOptions _ h))) (
-    first (makes_where SoundOptions (nat_lt (length o.tests) max_tests) _ (makes_behind SoundOptions table.test _ (λ t. makes_done SoundOptions _ h))) (makes_none SoundOptions)))))))
-
-makes_search_options : (ordered : Bool) → Makes SoundOptions (repeated (table.search_option ordered) table.no_search_options)
-makes_search_options ordered = makes_repeated SoundOptions (table.search_option ordered) (makes_search_option ordered) table.no_search_options refl
-
-and_true : (a b : Bool) → a ≡ true → b ≡ true → (a && b) ≡ true
-and_true a b p q = rw (p, q) refl
+sound_options : (ordered : Bool) → Makes SoundOptions (repeated (table.search_option ordered) table.no_search_options)
+sound_options ordered = makes_search_options (λ g. is_sound_glob g ≡ true) (λ p. is_well_formed p ≡ true) makes_glob (λ p w. w) ordered refl
 
 scan_rule_sound : (down : Option Bool) → is_sound_rule (table.scan_rule down) ≡ true
 scan_rule_sound None = refl
@@ -172,20 +170,20 @@ scan_rule_sound (Some true) = refl
 scan_rule_sound (Some false) = refl
 
 makes_scan : Makes IsSoundCommand table.scan_command
-makes_scan = makes_then IsSoundCommand (word (codes "SCAN")) _ (makes_behind IsSoundCommand name _ (λ key. makes_bind SoundOptions IsSoundCommand _ _ (makes_search_options true) (λ o h.
-    makes_behind IsSoundCommand (maybe shown.Objects table.output) _ (λ how. makes_done IsSoundCommand (command.Scan key (table.query_of o how (table.scan_rule o.down))) (and_true _ _ h (scan_rule_sound o.down))))))
+makes_scan = makes_then IsSoundCommand (word (codes "SCAN")) _ (makes_behind IsSoundCommand name _ (λ key. makes_bind SoundOptions IsSoundCommand _ _ (sound_options true) (λ o h.
+    makes_behind IsSoundCommand (maybe shown.Objects table.output) _ (λ how. makes_done IsSoundCommand (command.Scan key (table.query_of o how (table.scan_rule o.down))) (both_true h (scan_rule_sound o.down))))))
 
 makes_search : (called : Bytes) (kind : Kind) → ((a : Area) → is_sound_area a ≡ true → is_sound_rule (Kept kind a) ≡ true) → Makes IsSoundCommand (table.search_command called kind)
-makes_search called kind sound = makes_then IsSoundCommand (word called) _ (makes_behind IsSoundCommand name _ (λ key. makes_bind SoundOptions IsSoundCommand _ _ (makes_search_options false) (λ o h.
-    makes_behind IsSoundCommand (maybe shown.Objects table.output) _ (λ how. makes_bind SoundArea IsSoundCommand table.area _ makes_area (λ a s. makes_done IsSoundCommand (command.Search key (table.query_of o how (Kept kind a.area)) a.from) (and_true _ _ h (sound a.area s.0), s.1))))))
+makes_search called kind sound = makes_then IsSoundCommand (word called) _ (makes_behind IsSoundCommand name _ (λ key. makes_bind SoundOptions IsSoundCommand _ _ (sound_options false) (λ o h.
+    makes_behind IsSoundCommand (maybe shown.Objects table.output) _ (λ how. makes_bind SoundArea IsSoundCommand table.area _ makes_area (λ a s. makes_done IsSoundCommand (command.Search key (table.query_of o how (Kept kind a.area)) a.from) (both_true h (sound a.area s.0), s.1))))))
 
 makes_reach : Makes (λ r. is_sound_reach r ≡ true) (maybe None (meters >>= λ r. done (Some r)))
 makes_reach = makes_maybe (λ r. is_sound_reach r ≡ true) None _ refl (makes_bind (λ r. nat_le r max_meters ≡ true) (λ r. is_sound_reach r ≡ true) meters _ makes_meters (λ r h. makes_done (λ x. is_sound_reach x ≡ true) (Some r) h))
 
 makes_nearby : Makes IsSoundCommand table.nearby_command
-makes_nearby = makes_then IsSoundCommand (word (codes "NEARBY")) _ (makes_behind IsSoundCommand name _ (λ key. makes_bind SoundOptions IsSoundCommand _ _ (makes_search_options false) (λ o h.
+makes_nearby = makes_then IsSoundCommand (word (codes "NEARBY")) _ (makes_behind IsSoundCommand name _ (λ key. makes_bind SoundOptions IsSoundCommand _ _ (sound_options false) (λ o h.
     makes_behind IsSoundCommand (maybe shown.Objects table.output) _ (λ how. makes_then IsSoundCommand (word (codes "POINT")) _ (makes_behind IsSoundCommand lat_lon _ (λ at.
-    makes_bind (λ r. is_sound_reach r ≡ true) IsSoundCommand _ _ makes_reach (λ r s. makes_done IsSoundCommand (command.Nearby key (table.query_of o how Nearest) at r) (and_true _ _ h refl, s))))))))
+    makes_bind (λ r. is_sound_reach r ≡ true) IsSoundCommand _ _ makes_reach (λ r s. makes_done IsSoundCommand (command.Nearby key (table.query_of o how Nearest) at r) (both_true h refl, s))))))))
 
 -- channels
 
@@ -206,14 +204,14 @@ makes_fence_options near = makes_repeated SoundFence (table.fence_option near) (
 
 makes_setchan_area : (called : Bytes) (kind : Kind) (channel : Bytes) → ((a : Area) → is_sound_area a ≡ true → (is_sound_watch (watch.Spot kind a) ≡ true) × (takes_areas (watch.Spot kind a) ≡ true)) → Makes IsSoundCommand (table.setchan_area called kind channel)
 makes_setchan_area called kind channel sound = makes_then IsSoundCommand (word called) _ (makes_behind IsSoundCommand name _ (λ key. makes_bind SoundFence IsSoundCommand _ _ (makes_fence_options false) (λ o h.
-    makes_bind SoundArea IsSoundCommand _ _ (makes_where SoundArea o.fence table.area makes_area) (λ a s. let t = sound a.area s.0 in makes_done IsSoundCommand _ (and_true _ _ (and_true _ _ h t.0) (and_true _ _ s.1 t.1))))))
+    makes_bind SoundArea IsSoundCommand _ _ (makes_where SoundArea o.fence table.area makes_area) (λ a s. let t = sound a.area s.0 in makes_done IsSoundCommand _ (both_true (both_true h t.0) (both_true s.1 t.1))))))
 
 makes_near_area : (channel key : Bytes) (o : table.FenceOptions) → SoundFence o → Makes IsSoundCommand (table.near_area channel key o)
 makes_near_area channel key o h =
     first (makes_where IsSoundCommand (not o.nodwell) _ (makes_behind IsSoundCommand (word (codes "POINT") >> lat_lon) _ (λ p.
-    makes_bind (λ r. nat_le r max_meters ≡ true) IsSoundCommand meters _ makes_meters (λ r s. makes_done IsSoundCommand _ (and_true _ _ h (and_true _ _ s refl)))))) (
+    makes_bind (λ r. nat_le r max_meters ≡ true) IsSoundCommand meters _ makes_meters (λ r s. makes_done IsSoundCommand _ (both_true h (both_true s refl)))))) (
     first (makes_where IsSoundCommand (is_none o.detect) _ (makes_behind IsSoundCommand (word (codes "ROAM") >> name) _ (λ other.
-    makes_bind (λ p. is_well_formed p ≡ true) IsSoundCommand glob _ makes_glob (λ p w. makes_behind IsSoundCommand meters _ (λ r. makes_done IsSoundCommand _ (and_true _ _ h w)))))) (makes_none IsSoundCommand))
+    makes_bind (λ p. is_well_formed p ≡ true) IsSoundCommand glob _ makes_glob (λ p w. makes_behind IsSoundCommand meters _ (λ r. makes_done IsSoundCommand _ (both_true h w)))))) (makes_none IsSoundCommand))
 
 makes_setchan_near : (channel : Bytes) → Makes IsSoundCommand (table.setchan_near channel)
 makes_setchan_near channel = makes_then IsSoundCommand (word (codes "NEARBY")) _ (makes_behind IsSoundCommand name _ (λ key. makes_bind SoundFence IsSoundCommand _ _ (makes_fence_options true) (λ o h.
@@ -276,9 +274,10 @@ pub spellings_are_sound : (words : List Bytes) (c : Command) → table.command_s
 unfolding table.readings
 spellings_are_sound words c e = spelled_said IsSoundCommand (table.command_table words) c (makes_table.made words) e
 
-ok_of : (words : List Bytes) (o : Option Command) (c : Command) → table.ok_or_fault words o ≡ Ok c → o ≡ Some c
-ok_of words (Some d) c e = ap Some (cc e)
-ok_of words None c e = absurd cc
+-- a command that is read was spelled
+pub ok_spelled : (words : List Bytes) (o : Option Command) (c : Command) → table.ok_or_fault words o ≡ Ok c → o ≡ Some c
+ok_spelled words (Some d) c e = ap Some (cc e)
+ok_spelled words None c e = absurd cc
 
 pub reads_sound : (words : List Bytes) (c : Command) → table.reads words ≡ Ok c → IsSoundCommand c
-reads_sound words c e = spellings_are_sound words c (ok_of words (table.command_spelled words) c e)
+reads_sound words c e = spellings_are_sound words c (ok_spelled words (table.command_spelled words) c e)

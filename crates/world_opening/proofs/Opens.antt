@@ -1,6 +1,7 @@
 -- What is replayed of a disk is opened.
 use Rattle.std.proofs.Common.{◌≡◌, ◌∙◌, ℕ, Bool, List, [], ◌∷◌, ◌++◌, length, Option, refl, sym, ap, subst, arith, length-append}
 use Rattle.byte_text.specs.Names.{Bytes}
+use Rattle.byte_text.specs.StreamTexts.{text_long}
 use Rattle.outside.specs.Sides.{Sides}
 use Rattle.world_data.specs.Records.{record_words}
 use Rattle.world_data.specs.declared.worlds.Change.{Change}
@@ -13,7 +14,6 @@ use Rattle.log_worlds.specs.Recorded.{record_fault, world_in}
 use Rattle.log_worlds.specs.BatchesHeld.{held_recovers}
 use Rattle.world_opening.specs.Replayed.{Replayed, Stands, StandsFor}
 use Rattle.world_opening.specs.Opened.{IsOpened}
-use Rattle.world_opening.proofs.Reading.{text_long}
 
 -- no bytes are the records of no change
 no_changes : (changes : List Change) (rest : Bytes) → [] ≡ records_text changes ++ rest → changes ≡ []

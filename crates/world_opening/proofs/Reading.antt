@@ -1,33 +1,22 @@
 -- Records behind one another, and what stands behind the last of them.
-use Rattle.std.proofs.Common.{◌≡◌, ℕ, zero, suc, ◌+◌, ◌-◌, ◌≤◌, ◌<◌, List, [], ◌∷◌, ◌++◌, length, take, drop, flat_map, Option, Some, None, Err, option_map, decimal, refl, sym, ap, subst, ◌∙◌, arith, append_assoc, append-nil, length-append}
+use Rattle.std.proofs.Common.{◌≡◌, ℕ, zero, suc, ◌+◌, ◌-◌, ◌≤◌, ◌<◌, List, [], ◌∷◌, ◌++◌, length, take, drop, Option, Some, None, Err, option_map, refl, sym, ap, ◌∙◌, arith, append_assoc, append-nil, length-append}
 use Rattle.std.specs.List.{AllByRecursion}
 use Rattle.std.proofs.lemmas.List.{append_cancel_right, take-append-drop}
 use Rattle.byte_text.specs.Names.{Bytes}
-use Rattle.byte_text.specs.Lines.{line_end, bulk_text}
-use Rattle.byte_text.specs.Requests.{IsRequest, request_text}
+use Rattle.byte_text.specs.Requests.{request_text}
 use Rattle.byte_text.specs.Streams.{Front, found, begun, broken, request}
 use Rattle.byte_text.specs.declared.faults.RespFault.{RespFault}
-use Rattle.byte_text.specs.StreamTexts.{request_read}
+use Rattle.byte_text.specs.StreamTexts.{request_read, text_long}
 use Rattle.byte_text.specs.StreamFound.{request_found}
 use Rattle.world_data.specs.Records.{record_words, record_text}
 use Rattle.world_data.specs.declared.worlds.Change.{Change}
 use Rattle.log_record.specs.Words.{IsRecorded, change_of_words}
 use Rattle.log_record.specs.Batches.{records_text, record_front, with_record, records_behind, first_records, records_in}
-use Rattle.log_record.specs.BatchesRead.{records_read}
-use Rattle.log_record.specs.RecordsRead.{record_read}
+use Rattle.log_record.specs.BatchesRead.{front_read, records_read}
 use Rattle.log_worlds.specs.Recorded.{fault_of, changes_of, record_fault, changes_in}
 use Rattle.world_opening.specs.Replayed.{IsNoRecord}
 
 -- what is read of whole records, where what stands behind them is none
-
-front_read : (c : Change) (rest : Bytes) → IsRecorded c → record_front (request (record_text c ++ rest)) ≡ Some (c, rest)
-front_read c rest is = ap record_front (request_read (record_words c) rest is.fits) ∙ ap (option_map (λ (d : Change). (d, rest))) is.read_back
-
-cons_long : (b : ℕ) (bytes : Bytes) → 0 < length (b ∷ bytes)
-cons_long b bytes = omega arith
-
-pub text_long : (words : List Bytes) → 0 < length (request_text words)
-text_long words = cons_long 42 ((decimal (length words) ++ line_end) ++ flat_map bulk_text words)
 
 broken_off : (n at : ℕ) (b : ℕ) (tail : Bytes) → record_front (request (b ∷ tail)) ≡ None → first_records n at (b ∷ tail) ≡ Err at
 broken_off zero at b tail none = refl
@@ -86,12 +75,6 @@ ends_there held bytes words n is =
     let read = request_found (held ++ bytes) words (drop n bytes) is in
     append_cancel_right (held ++ take n bytes) (request_text words) (drop n bytes)
     (append_assoc held (take n bytes) (drop n bytes) ∙ ap (λ (l : Bytes). held ++ l) (take-append-drop n bytes) ∙ read.1)
-
--- what words are the record of has a record
-pub is_recorded : (words : List Bytes) (c : Change) → IsRequest words → change_of_words words ≡ Some c → IsRecorded c
-is_recorded words c fits is =
-    let same = (record_read words c is).0 in
-    record { read_back = ap change_of_words same ∙ is; fits = subst IsRequest (sym same) fits }
 
 -- refused bytes
 

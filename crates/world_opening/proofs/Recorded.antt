@@ -1,7 +1,9 @@
 -- The objects and channels of a world that recorded changes made have records.
-use Rattle.std.proofs.Common.{◌≡◌, not, List, [], ◌∷◌, ◌++◌, length, flat_map, Some, ap, sym, subst, arith}
+use Rattle.std.proofs.Common.{◌≡◌, not, List, [], ◌∷◌, length, flat_map, Some, ap, sym, subst, arith}
 use Rattle.std.specs.List.{AllByRecursion}
 use Rattle.byte_text.specs.Names.{Bytes}
+use Rattle.ordered_lists.specs.Reading.{each-append, each-filter}
+use Rattle.ordered_lists.specs.Ascending.{each-put_in}
 use Rattle.world_data.specs.Worlds.{after, empty_world, object_before, channel_before, is_at, has_key, is_named}
 use Rattle.world_data.specs.declared.objects.Object.{Object}
 use Rattle.world_data.specs.declared.channels.Channel.{Channel}
@@ -19,13 +21,7 @@ use Rattle.log_record.specs.RecordsFound.{records_found}
 use Rattle.log_worlds.specs.BatchesHeld.{read_whole}
 use Rattle.log_record.specs.Batches.{records_in}
 use Rattle.log_worlds.specs.Recorded.{record_fault, changes_in, world_in}
-use Rattle.stored_world.specs.ListLaws.{all_put, all_left}
 use Rattle.world_opening.specs.Opened.{AreRecorded}
-
-module _ {A : Type 0} (P : A → Type 0) where
-  all_append : (xs ys : List A) → AllByRecursion P xs → AllByRecursion P ys → AllByRecursion P (xs ++ ys)
-  all_append [] ys ps qs = qs
-  all_append (x ∷ xs) ys ps qs = (ps.0, all_append xs ys ps.1 qs)
 
 abbrev has_record : Object → Type 0
 has_record o = IsRecorded (Put o)
@@ -34,12 +30,12 @@ abbrev channel_has : Channel → Type 0
 channel_has c = IsRecorded (SetChan c)
 
 after_one : (w : World) (c : Change) → IsRecorded c → AreRecorded w → AreRecorded (after w c)
-after_one w (Put o) is are = record { objects = all_put has_record object_before o w.objects is are.objects; channels = are.channels }
-after_one w (Del key id) is are = record { objects = all_left has_record (λ o. not (is_at key id o)) w.objects are.objects; channels = are.channels }
-after_one w (Drop key) is are = record { objects = all_left has_record (λ o. not (has_key key o)) w.objects are.objects; channels = are.channels }
+after_one w (Put o) is are = record { objects = each-put_in has_record object_before o w.objects is are.objects; channels = are.channels }
+after_one w (Del key id) is are = record { objects = each-filter has_record (λ o. not (is_at key id o)) w.objects are.objects; channels = are.channels }
+after_one w (Drop key) is are = record { objects = each-filter has_record (λ o. not (has_key key o)) w.objects are.objects; channels = are.channels }
 after_one w Flush is are = record { objects = tt; channels = tt }
-after_one w (SetChan c) is are = record { objects = are.objects; channels = all_put channel_has channel_before c w.channels is are.channels }
-after_one w (DelChan name) is are = record { objects = are.objects; channels = all_left channel_has (λ c. not (is_named name c)) w.channels are.channels }
+after_one w (SetChan c) is are = record { objects = are.objects; channels = each-put_in channel_has channel_before c w.channels is are.channels }
+after_one w (DelChan name) is are = record { objects = are.objects; channels = each-filter channel_has (λ c. not (is_named name c)) w.channels are.channels }
 
 after_each : (w : World) (changes : List Change) → AllByRecursion IsRecorded changes → AreRecorded w → AreRecorded (folded w changes)
 after_each w [] are rest = rest
@@ -49,7 +45,7 @@ all_recorded : (batches : List Bytes) → AreWhole record_fault batches → AllB
 all_recorded [] whole = tt
 all_recorded (batch ∷ batches) whole =
     let one = records_found 0 batch (changes_in batch) (read_whole (records_in 0 batch) whole.0) in
-    all_append IsRecorded (changes_in batch) (flat_map changes_in batches) one.0 (all_recorded batches whole.1)
+    each-append IsRecorded (changes_in batch) (flat_map changes_in batches) one.0 (all_recorded batches whole.1)
 
 pub world_recorded : (batches : List Bytes) (w : World) → AreWhole record_fault batches → w ≡ world_in batches → AreRecorded w
 world_recorded batches w whole is = subst AreRecorded (sym is) (after_each empty_world (flat_map changes_in batches) (all_recorded batches whole) (record { objects = tt; channels = tt }))

@@ -1,12 +1,12 @@
 -- What a replay stands for after the next bytes, and where it refuses them.
 use Rattle.std.proofs.Common.{◌≡◌, ℕ, ◌+◌, ◌-◌, ◌≤◌, ◌<◌, List, [], ◌∷◌, ◌++◌, length, take, drop, flat_map, Option, Some, None, refl, sym, ap, subst, ◌∙◌, arith, append_assoc, append-nil, length-append}
-use Rattle.std.specs.List.{AllByRecursion}
 use Rattle.std.proofs.lemmas.List.{length-take, length-drop, take_all, take-append-drop}
 use Rattle.std.proofs.Math.Seq.{take-add}
 use Rattle.byte_text.specs.Names.{Bytes}
 use Rattle.byte_text.specs.Requests.{IsRequest, request_text}
 use Rattle.byte_text.specs.Streams.{found, begun, broken, request}
 use Rattle.byte_text.specs.declared.faults.RespFault.{RespFault}
+use Rattle.ordered_lists.specs.Reading.{each-append}
 use Rattle.world_data.specs.Records.{record_text}
 use Rattle.world_data.specs.Worlds.{after, empty_world}
 use Rattle.world_data.specs.declared.worlds.Change.{Change}
@@ -16,9 +16,10 @@ use Rattle.log_record.specs.Folding.{folded}
 use Rattle.log_record.specs.EventWriteLaws.{folded-append}
 use Rattle.log_record.specs.Batches.{records_text}
 use Rattle.log_record.specs.RecordsRead.{record_read}
+use Rattle.log_record.specs.RecordsFound.{is_recorded}
 use Rattle.log_worlds.specs.Recorded.{record_fault, changes_in, world_in}
 use Rattle.world_opening.specs.Replayed.{Stands, IsNoRecord}
-use Rattle.world_opening.proofs.Reading.{nothing_begun, ends_there, is_recorded, words_refused, bytes_refused, cut_off, all_whole}
+use Rattle.world_opening.proofs.Reading.{nothing_begun, ends_there, words_refused, bytes_refused, cut_off, all_whole}
 
 -- no batch
 pub stands_first : Stands empty_world (Some []) 0 0 [] []
@@ -67,10 +68,6 @@ module _ (world : World) (held : Bytes) (taken place : ℕ) (batches : List Byte
   with_one [] c = append-nil (record_text c)
   with_one (d ∷ changes) c = ap (λ (l : Bytes). record_text d ++ l) (with_one changes c) ∙ sym (append_assoc (record_text d) (records_text changes) (record_text c))
 
-  are_recorded : (changes : List Change) (c : Change) → AllByRecursion IsRecorded changes → IsRecorded c → AllByRecursion IsRecorded (changes ++ c ∷ [])
-  are_recorded [] c are is = (is, tt)
-  are_recorded (d ∷ changes) c are is = (are.0, are_recorded changes c are.1 is)
-
   more_text : (bytes : Bytes) (words : List Bytes) (n : ℕ) (c : Change) → request_text words ≡ record_text c → held ++ take n bytes ≡ request_text words
       → part ++ take n bytes ≡ records_text (stands.changes ++ c ∷ [])
   more_text bytes words n c same ends =
@@ -87,7 +84,7 @@ module _ (world : World) (held : Bytes) (taken place : ℕ) (batches : List Byte
         changes = stands.changes ++ c ∷ [];
         beginning = [];
         text = text ∙ sym (append-nil (records_text (stands.changes ++ c ∷ [])));
-        recorded = are_recorded stands.changes c stands.recorded (is_recorded words c is of);
+        recorded = each-append IsRecorded stands.changes (c ∷ []) stands.recorded (is_recorded words c is of, tt);
         goes_on = nothing_begun;
         waits = refl;
         taken_is = long;

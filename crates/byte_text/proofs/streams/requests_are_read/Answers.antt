@@ -1,6 +1,6 @@
 use Rattle.byte_text.specs.StreamTexts.{request_read}
 use Rattle.byte_text.specs.StreamFound.{request_found}
-use Rattle.byte_text.proofs.StreamLaws.{begun_ends, beginning_begins, broken_stays}
+use Rattle.byte_text.specs.StreamLaws.{begun_ends, beginning_begins, broken_stays}
 use Rattle.byte_text.proofs.streams.requests_are_read.Goals as goal
 
 pub returns-clause-text : goal.returns-clause-text

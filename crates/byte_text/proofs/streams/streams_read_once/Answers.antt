@@ -1,4 +1,4 @@
-use Rattle.byte_text.proofs.StreamLaws.{stream_fed, stream_found, stream_begun, stream_broken}
+use Rattle.byte_text.specs.StreamLaws.{stream_fed, stream_found, stream_begun, stream_broken}
 use Rattle.byte_text.proofs.streams.streams_read_once.Goals as goal
 
 pub returns-clause-cut : goal.returns-clause-cut

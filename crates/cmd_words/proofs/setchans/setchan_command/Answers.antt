@@ -51,7 +51,7 @@ channel_words-requires c =
     c.name-3.new.self c.in_ok-key.key c.in_ok-key.ensures c.read_options.new.reader o options c.read_fence_area.new.reader c.in_ok-area.area c.in_ok-area.ensures in
     let read = setchan_read c.args.reader.now c.name.new.self c.in_ok-name.name c.in_ok-name.ensures c.requires c.read_kind.new.reader c.in_ok-kind.kind c.in_ok-kind.ensures
     c.name-3.new.self c.in_ok-key.key c.in_ok-key.ensures c.read_options.new.reader o options c.read_fence_area.new.reader c.in_ok-area.area c.in_ok-area.ensures c.in_ok-end.ensures in
-    setchan_fits c.args.reader.now c.in_ok-name.name c.in_ok-kind.kind c.in_ok-key.key o c.in_ok-area.area c.requires (subst FitsRequest same c.len.ensures.fits) read
+    setchan_fits c.args.reader.now c.in_ok-name.name c.in_ok-kind.kind c.in_ok-key.key o c.in_ok-area.area (subst FitsRequest same c.len.ensures.fits) read
 
 pub returns-in-Ok : goal.returns-in-Ok
 returns-in-Ok c =

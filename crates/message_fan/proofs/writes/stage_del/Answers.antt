@@ -1,6 +1,7 @@
 use Rattle.std.proofs.Common.{◌≡◌, ◌∙◌, true, sym, ap, subst, List, filter, flat_map}
 use Rattle.std.specs.List.{list_all}
 use Rattle.std.proofs.lemmas.Result.{on_ok_weaker}
+use Rattle.ordered_lists.specs.Reading.{all-filter}
 use Rattle.world_data.specs.Sound.{is_sound_channel}
 use Rattle.world_data.specs.declared.channels.Channel.{Channel}
 use Rattle.world_data.specs.declared.worlds.Change.TheVariants.{Del}
@@ -9,14 +10,13 @@ use Rattle.channel_hub.specs.Hubs.{del_may_concern}
 use Rattle.channel_hub.specs.MessageLaws.{messages_on}
 use Rattle.session_mail.specs.Fans.{AreBrought}
 use Rattle.message_fan.specs.Stagings.{IsBeforeDel}
-use Rattle.message_fan.proofs.Going.{all_left}
 use Rattle.message_fan.proofs.Turns.{staged_in}
 use Rattle.message_fan.proofs.writes.stage_del.Goals as goal
 
 pub stage_del_at-requires : goal.stage_del_at-requires
 stage_del_at-requires g c =
     subst (λ (cs : List Channel). list_all is_sound_channel cs ≡ true) (sym c.in_ok-concerned.ensures.channels)
-    (all_left is_sound_channel (del_may_concern c.args.old.now) c.args.hub.now.channels c.requires)
+    (all-filter is_sound_channel (del_may_concern c.args.old.now) c.args.hub.now.channels c.requires)
 
 pub returns-clause-staged : goal.returns-clause-staged
 returns-clause-staged g c =

@@ -2,6 +2,7 @@ use Rattle.std.proofs.Common.{◌≡◌, ◌∙◌, true, sym, ap, subst, List, 
 use Rattle.std.specs.Prelude.{option_map}
 use Rattle.std.specs.List.{list_all}
 use Rattle.std.proofs.lemmas.Result.{on_ok_weaker}
+use Rattle.ordered_lists.specs.Reading.{all-filter}
 use Rattle.world_data.specs.Sound.{is_sound_channel}
 use Rattle.world_data.specs.declared.channels.Channel.{Channel}
 use Rattle.world_data.specs.declared.worlds.Change.TheVariants.{Put}
@@ -11,7 +12,6 @@ use Rattle.channel_hub.specs.MessageLaws.{messages_on}
 use Rattle.keyspace.specs.Entries.{objects_in}
 use Rattle.session_mail.specs.Fans.{AreBrought}
 use Rattle.message_fan.specs.Stagings.{IsBeforePut}
-use Rattle.message_fan.proofs.Going.{all_left}
 use Rattle.message_fan.proofs.Turns.{staged_in}
 use Rattle.message_fan.proofs.writes.stage_put.Goals as goal
 
@@ -19,7 +19,7 @@ pub stage_put_at-requires : goal.stage_put_at-requires
 stage_put_at-requires g c =
     let channels = c.args.hub.now.channels in
     let test = put_may_concern (option_map (λ o. o.now) c.args.old) c.args.new.now in
-    subst (λ (cs : List Channel). list_all is_sound_channel cs ≡ true) (sym c.in_ok-candidates.ensures.channels) (all_left is_sound_channel test channels c.requires)
+    subst (λ (cs : List Channel). list_all is_sound_channel cs ≡ true) (sym c.in_ok-candidates.ensures.channels) (all-filter is_sound_channel test channels c.requires)
 
 pub returns-clause-staged : goal.returns-clause-staged
 returns-clause-staged g c =

@@ -3,7 +3,7 @@ use Rattle.std.specs.Prelude.{flat_map}
 use Rattle.std.specs.List.{list_all}
 use Rattle.byte_text.specs.Names.{Bytes}
 use Rattle.byte_text.specs.TextLaws.{kept_through}
-use Rattle.log_record.specs.Words.{is_kept_field}
+use Rattle.world_data.specs.Records.{is_kept_field}
 use Rattle.record_text.specs.Texts.{field_text}
 use Rattle.record_text.proofs.Growing.{one_field, one_kept, fields_are}
 use Rattle.record_text.proofs.parts.push_fields.Goals as goal

@@ -1,7 +1,7 @@
 use Rattle.std.proofs.Common.{◌≡◌, ◌++◌, take, drop, length}
 use Rattle.std.specs.Prelude.{flat_map}
 use Rattle.std.specs.List.{list_all}
-use Rattle.log_record.specs.Words.{is_kept_field}
+use Rattle.world_data.specs.Records.{is_kept_field}
 use Rattle.record_text.specs.Texts.{field_text}
 use Rattle.record_text.proofs.parts.push_fields.Given as goal
 

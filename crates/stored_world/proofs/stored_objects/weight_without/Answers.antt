@@ -1,16 +1,16 @@
 use Rattle.std.proofs.Common.{ap, subst, sym, arith}
 use Rattle.std.specs.Prelude.{sum_by}
+use Rattle.ordered_lists.specs.Reading.{each-filter}
 use Rattle.world_data.specs.Worlds.{has_key}
 use Rattle.keyspace.specs.Entries.{objects_in}
 use Rattle.record_lengths.specs.Lengths.{HasFewFields, len_of, HaveFewFields}
 use Rattle.record_lengths.specs.ObjectSums.{parts_sum}
-use Rattle.stored_world.specs.ListLaws.{all_left}
 use Rattle.stored_world.proofs.stored_objects.weight_without.Goals as goal
 
 pub weight_less-requires-clause-fields : goal.weight_less-requires-clause-fields
 weight_less-requires-clause-fields c =
     let key = c.args.key.now in
-    subst HaveFewFields (sym c.in-Some.ensures.some) (all_left HasFewFields (has_key key) (objects_in c.args.objects.now) c.requires.fields)
+    subst HaveFewFields (sym c.in-Some.ensures.some) (each-filter HasFewFields (has_key key) (objects_in c.args.objects.now) c.requires.fields)
 
 pub weight_less-requires-clause-weighed : goal.weight_less-requires-clause-weighed
 weight_less-requires-clause-weighed c =

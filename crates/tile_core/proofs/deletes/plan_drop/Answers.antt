@@ -16,7 +16,7 @@ use Rattle.record_lengths.specs.Lengths.{HaveFewFields, len_of, HasFewFields}
 use Rattle.tile_core.proofs.Answering.{answers_ever, count_fits, within_changes}
 use Rattle.tile_core.proofs.Weights.{weight_sum, some_sum}
 use Rattle.record_lengths.specs.ObjectSums.{parts_sum}
-use Rattle.stored_world.specs.ListLaws.{all_left}
+use Rattle.ordered_lists.specs.Reading.{each-filter}
 use Rattle.tile_core.proofs.Removing.{drop_some, drop_none, any_key}
 use Rattle.tile_core.proofs.deletes.plan_drop.Goals as goal
 
@@ -34,7 +34,7 @@ returns-then-len-eq0 c =
     answers_ever xs c.args.total c.requires _ (number 0) _ refl c.say_count-then-len-eq0.ensures _ (λ (now : ℕ). drop_none (world_in c.args.objects.now) now c.args.key (sym none))
 
 pub weight_less-weight-requires-clause-fields : goal.weight_less-weight-requires-clause-fields
-weight_less-weight-requires-clause-fields c = subst HaveFewFields (sym c.in-Some.ensures.some) (all_left HasFewFields (has_key c.args.key) (objects_in c.args.objects.now) c.requires.few)
+weight_less-weight-requires-clause-fields c = subst HaveFewFields (sym c.in-Some.ensures.some) (each-filter HasFewFields (has_key c.args.key) (objects_in c.args.objects.now) c.requires.few)
 
 pub weight_less-weight-requires-clause-weighed : goal.weight_less-weight-requires-clause-weighed
 weight_less-weight-requires-clause-weighed c =

@@ -17,7 +17,7 @@ use Rattle.record_lengths.specs.Lengths.{HaveFewFields, len_of, HasFewFields}
 use Rattle.tile_core.specs.Sweeps.{met, IsSweptOf}
 use Rattle.tile_core.proofs.Answering.{answers_ever, count_fits, within_changes}
 use Rattle.tile_core.proofs.Weights.{weight_sum, some_sum}
-use Rattle.stored_world.specs.ListLaws.{all_left}
+use Rattle.ordered_lists.specs.Reading.{each-filter}
 use Rattle.tile_core.proofs.Removing.{swept, swept_none}
 use Rattle.tile_core.proofs.Sweeping.{dels_short, keyed, dels_of, left_sum}
 use Rattle.tile_core.proofs.There.{met_there}
@@ -28,7 +28,7 @@ returns-in_default c =
     answers_ever (objects_in c.args.objects.now) c.args.total c.requires.kept _ (number 0) _ refl c.say_count.ensures _ (λ (now : ℕ). swept_none (world_in c.args.objects.now) now c.args.key c.args.pattern.now c.in_default.ensures.none)
 
 pub sweep-requires-clause-few : goal.sweep-requires-clause-few
-sweep-requires-clause-few c = subst HaveFewFields (sym c.in-Some.ensures.some) (all_left HasFewFields (has_key c.args.key) (objects_in c.args.objects.now) c.requires.kept.few)
+sweep-requires-clause-few c = subst HaveFewFields (sym c.in-Some.ensures.some) (each-filter HasFewFields (has_key c.args.key) (objects_in c.args.objects.now) c.requires.kept.few)
 
 pub sweep-requires-clause-weighed : goal.sweep-requires-clause-weighed
 sweep-requires-clause-weighed c =
@@ -50,10 +50,10 @@ returns c =
     let frame_is : c.in_ok-count_frame.field-0 ≡ frame_text (number (length gone)) = c.in_ok-count_frame.ensures ∙ ap (λ (n : ℕ). frame_text (number n)) count in
     let left : sum_by len_of (without_each key c.in_ok-swept.swept.ids xs) + sum_by len_of gone ≡ sum_by len_of xs =
     ap (λ (ids : List Bytes). sum_by len_of (without_each key ids xs) + sum_by len_of gone) s.ids ∙ left_sum pattern key xs in
-    let few = all_left HasFewFields (λ o. glob_meets pattern o.id) held (all_left HasFewFields (has_key key) xs c.requires.kept.few) in
+    let few = each-filter HasFewFields (λ o. glob_meets pattern o.id) held (each-filter HasFewFields (has_key key) xs c.requires.kept.few) in
     let short = dels_short gone few in
     let told : dels gone ≡ map (λ id. loud (change.Del key id)) c.in_ok-swept.swept.ids =
-    dels_of key gone (all_left (λ o. o.key ≡ key) (λ o. glob_meets pattern o.id) held (keyed key xs)) ∙ ap (map (λ (id : Bytes). loud (change.Del key id))) (sym s.ids) in
+    dels_of key gone (each-filter (λ o. o.key ≡ key) (λ o. glob_meets pattern o.id) held (keyed key xs)) ∙ ap (map (λ (id : Bytes). loud (change.Del key id))) (sym s.ids) in
     λ (now : ℕ). record {
       reply = number (length gone);
       is = swept (world_in c.args.objects.now) now key pattern ∙ within_changes (number (length gone)) (dels gone) fits ∙ ap (changes (number (length gone))) told;

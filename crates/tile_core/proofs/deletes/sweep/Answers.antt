@@ -8,7 +8,7 @@ use Rattle.tile_core.proofs.Sweeping.{next_swept, few_take, dels_short}
 use Rattle.stored_world.specs.ListLaws.{there_holds}
 use Rattle.tile_core.proofs.Weights.{some_sum}
 use Rattle.record_lengths.specs.ObjectSums.{next_weighs}
-use Rattle.stored_world.specs.ListLaws.{all_left}
+use Rattle.ordered_lists.specs.Reading.{each-filter}
 use Rattle.tile_core.proofs.deletes.sweep.Goals as goal
 
 pub sweep_one-requires-clause-few : goal.sweep_one-requires-clause-few
@@ -18,7 +18,7 @@ pub sweep_one-requires-clause-small : goal.sweep_one-requires-clause-small
 sweep_one-requires-clause-small c =
     let pattern = c.args.pattern.now in
     let front = take c.loop-i.i c.args.objects.now.objects in
-    let short = dels_short (met pattern front) (all_left HasFewFields (λ o. glob_meets pattern o.id) front (few_take c.args.objects.now.objects c.loop-i.i c.requires.few)) in
+    let short = dels_short (met pattern front) (each-filter HasFewFields (λ o. glob_meets pattern o.id) front (few_take c.args.objects.now.objects c.loop-i.i c.requires.few)) in
     omega (arith, short, c.loop-i.invariant.length_is, c.loop-i.invariant.weight_is, c.requires.light)
 
 pub sweep_one-requires-clause-weighed : goal.sweep_one-requires-clause-weighed

@@ -8,7 +8,7 @@ use Rattle.world_model.specs.Replies.{confirmation, confirmations}
 use Rattle.world_model.specs.Subscriptions.{Sub, with_sub, with_subs}
 use Rattle.reply_text.specs.Confirmations.{called_of}
 use Rattle.subscriptions.specs.Subscribed.{sub}
-use Rattle.tile_core.specs.Subscribing.{subs_of}
+use Rattle.deliveries.specs.Plans.{subs_of}
 use Rattle.tile_core.proofs.Confirmed.{with_more, frames_more, subs_more, too_many_first}
 use Rattle.tile_core.proofs.subscribing.confirm_each.Goals as goal
 

@@ -3,7 +3,7 @@ use Rattle.byte_text.specs.Replies.{frame_text}
 use Rattle.world_model.specs.Replies.{confirmations}
 use Rattle.world_model.specs.Subscriptions.{with_subs}
 use Rattle.reply_text.specs.Confirmations.{called_of}
-use Rattle.tile_core.specs.Subscribing.{subs_of}
+use Rattle.deliveries.specs.Plans.{subs_of}
 use Rattle.tile_core.proofs.subscribing.confirm_each.Given as goal
 
 -- the words so far are subscribed to and confirmed

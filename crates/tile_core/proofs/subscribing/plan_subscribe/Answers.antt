@@ -12,7 +12,8 @@ use Rattle.session_mail.specs.Sessions.{AreSoundSubs}
 use Rattle.reply_text.specs.Confirmations.{called_of}
 use Rattle.keyspace.specs.Entries.{objects_in}
 use Rattle.tile_core.specs.Moves.{world_with}
-use Rattle.tile_core.specs.Subscribing.{subs_of, subscribing}
+use Rattle.deliveries.specs.Plans.{subs_of}
+use Rattle.tile_core.specs.Subscribing.{subscribing}
 use Rattle.tile_core.proofs.Confirmed.{accepted, refused, it_subscribes, sound_all, held_few, short_words}
 use Rattle.tile_core.proofs.Planning.{says_planned}
 use Rattle.tile_core.proofs.subscribing.plan_subscribe.Goals as goal

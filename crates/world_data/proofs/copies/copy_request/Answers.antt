@@ -1,6 +1,6 @@
 use Rattle.std.proofs.Common.{◌++◌, ◌∷◌, [], ◌+◌, ap, sym, ◌∙◌, subst}
 use Rattle.byte_text.specs.Requests.{FitsRequest}
-use Rattle.world_data.proofs.RequestLaws.{take_next, fits_take}
+use Rattle.world_data.specs.RequestLaws.{take_next, fits_take}
 use Rattle.world_data.proofs.copies.copy_request.Goals as goal
 
 pub push-requires : goal.push-requires

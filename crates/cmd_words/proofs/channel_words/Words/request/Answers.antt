@@ -3,7 +3,8 @@ use Rattle.std.specs.Prelude.{Some}
 use Rattle.std.specs.List.{slice_get}
 use Rattle.std.proofs.lemmas.Option.{slice_get_read}
 use Rattle.byte_text.specs.Requests.{FitsRequest}
-use Rattle.world_data.proofs.RequestLaws.{take_next, fits_take}
+use Rattle.byte_text.specs.ListLaws.{take_next}
+use Rattle.world_data.specs.RequestLaws.{fits_take}
 use Rattle.cmd_words.proofs.channel_words.Words.request.Goals as goal
 
 pub push-requires : goal.push-requires

@@ -1,10 +1,11 @@
 use Rattle.std.proofs.Common.{◌∙◌, length, refl, ap, arith, inr}
 use Rattle.std.proofs.lemmas.Result.{on_ok_weaker}
 use Rattle.outside.specs.CrashLaws.{then, weaker}
+use Rattle.log_sides.specs.Sealing.{written_short}
 use Rattle.log_sides.specs.Texts.{committed, written}
 use Rattle.journal.specs.Logs.{HoldsLog, HoldsEither}
 use Rattle.journal.specs.Keeping.{new_gate}
-use Rattle.journal.proofs.Steps.{kept_same, new_gate_small, written_fits, written_short}
+use Rattle.journal.proofs.Steps.{kept_same, new_gate_small, written_fits}
 use Rattle.journal.proofs.journals.Journal.commit_both.Goals as goal
 
 pub mirror_batch-requires : goal.mirror_batch-requires

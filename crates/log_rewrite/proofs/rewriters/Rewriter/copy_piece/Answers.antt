@@ -1,6 +1,6 @@
 use Rattle.std.proofs.Common.{ap, length, arith}
 use Rattle.std.proofs.lemmas.Result.{on_ok_weaker}
-use Rattle.log_rewrite.proofs.Parts.{written_short}
+use Rattle.log_sides.specs.Sealing.{written_short}
 use Rattle.log_rewrite.proofs.rewriters.Rewriter.copy_piece.Goals as goal
 
 pub mirror-requires : goal.mirror-requires

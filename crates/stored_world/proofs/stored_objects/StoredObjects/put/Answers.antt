@@ -1,9 +1,9 @@
 use Rattle.std.proofs.Common.{◌+◌, ◌<◌, ◌^◌, refl, ap, sym, subst, List, length, arith}
+use Rattle.ordered_lists.specs.Ascending.{each-put_in}
 use Rattle.world_data.specs.Worlds.{object_before}
 use Rattle.world_data.specs.declared.objects.Object.{Object}
 use Rattle.keyspace.specs.Entries.{objects_in}
 use Rattle.record_lengths.specs.Lengths.{HasFewFields, HaveFewFields}
-use Rattle.stored_world.specs.ListLaws.{all_put}
 use Rattle.stored_world.proofs.stored_objects.StoredObjects.put.Goals as goal
 
 pub invariant_of-self-2 : goal.invariant_of-self-2
@@ -15,6 +15,6 @@ invariant_of-self-2 c =
     let few : length xs + 1 < 2 ^ 32 = c.if-not-may_count.ensures.few refl in
     record {
       weighed = c.exchange-self-inside.ensures.weighed;
-      fields = subst HaveFewFields (sym c.exchange-self-inside.ensures.objects) (all_put HasFewFields object_before c.args.object more c.requires fields);
+      fields = subst HaveFewFields (sym c.exchange-self-inside.ensures.objects) (each-put_in HasFewFields object_before c.args.object more c.requires fields);
       few = omega (arith, few, same, c.exchange-self-inside.ensures.len);
     }

@@ -8,7 +8,7 @@ use Rattle.byte_text.specs.Streams.{Front, found, begun, broken, request, holds,
 use Rattle.byte_text.specs.declared.faults.RespFault.{RespFault}
 use Rattle.byte_text.specs.StreamTexts.{request_read}
 use Rattle.byte_text.specs.StreamFound.{request_found}
-use Rattle.byte_text.proofs.Grammars.{IsMore, open_request}
+use Rattle.byte_text.specs.Grammars.{IsMore, open_request}
 
 -- more bytes behind a request, and behind a fault
 more_of : (bytes more : Bytes) (x : Front (List Bytes)) → request bytes ≡ x → IsMore more x (request (bytes ++ more))
