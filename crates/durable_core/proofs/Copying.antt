@@ -5,8 +5,9 @@ use Rattle.std.specs.List.{AllByRecursion, list_all}
 use Rattle.std.proofs.lemmas.Bool.{or_right}
 use Rattle.byte_text.specs.Names.{Bytes}
 use Rattle.byte_text.specs.ByteOrder.{before_trans, same_equal, same_refl}
-use Rattle.ordered_lists.specs.Lists.{ascends}
-use Rattle.ordered_lists.specs.Reading.{both_of, filter-all}
+use Rattle.ordered_lists.specs.Lists.{ascends, ties}
+use Rattle.ordered_lists.specs.Reading.{both_of, filter-all, filter-nothing, all-weaker}
+use Rattle.ordered_lists.specs.Ascending.{irreflexive}
 use Rattle.world_data.specs.Worlds.{after, object_before, channel_before, are_objects, are_channels, is_sorted_world, empty_world}
 use Rattle.world_data.specs.WorldLaws.{object_asym, channel_asym, keeps_order}
 use Rattle.world_data.specs.declared.channels.Channel.{Channel}
@@ -14,7 +15,7 @@ use Rattle.world_data.specs.declared.objects.Object.{Object}
 use Rattle.world_data.specs.declared.worlds.Change.{Change}
 use Rattle.world_data.specs.declared.worlds.Change.TheVariants.{Put, SetChan}
 use Rattle.world_data.specs.declared.worlds.World.{World}
-use Rattle.log_record.specs.Copying.{ties, IsPicked, StandsIn}
+use Rattle.log_record.specs.Copying.{IsPicked, StandsIn}
 use Rattle.log_record.specs.CopyingLaws.{parts_grow}
 use Rattle.log_record.specs.Folding.{folded}
 use Rattle.log_record.specs.Batches.{records_text}
@@ -62,17 +63,7 @@ module _ {A : Type 0} (copied more : A → Bool) where
 -- a list in an order, and the items that are left of it
 
 module _ {A : Type 0} (lt : A → A → Bool) (asym : (x y : A) → lt x y ≡ true → lt y x ≡ false) where
-  irreflexive : (x : A) (b : Bool) → lt x x ≡ b → lt x x ≡ false
-  irreflexive x true e = asym x x e
-  irreflexive x false e = e
-
   module _ (left : A → Bool) (rises : (x y : A) → lt x y ≡ true → left x ≡ true → left y ≡ true) where
-    all_left : (x : A) (xs : List A) → left x ≡ true → list_all (lt x) xs ≡ true → list_all left xs ≡ true
-    all_left x [] e all = refl
-    all_left x (y ∷ ys) e all =
-        let parts = both_of (lt x y) (list_all (lt x) ys) all in
-        rw (rises x y parts.0 e) (all_left x ys e parts.1)
-
     first_passes : (p : A → Bool) (xs : List A) (x : A) (rest : List A) → list_all p xs ≡ true → filter left xs ≡ x ∷ rest → p x ≡ true
     first_passes p [] x rest all is = absurd (cc)
     first_passes p (y ∷ ys) x rest all is = by (left y) refl (first_passes p ys x rest parts.1)
@@ -97,15 +88,15 @@ module _ {A : Type 0} (lt : A → A → Bool) (asym : (x y : A) → lt x y ≡ t
             let here : y ∷ filter left ys ≡ x ∷ rest = rw e at is in
             let it : y ≡ x = cc in
             let behind : filter left ys ≡ rest = cc in
-            let all : filter left ys ≡ ys = filter-all left ys (all_left y ys e parts.0) in
-            subst (λ z. filter (lt z) (y ∷ ys) ≡ rest) it (rw (irreflexive y (lt y y) refl) (filter-all (lt y) ys parts.0 ∙ sym all ∙ behind))
+            let all : filter left ys ≡ ys = filter-all left ys (all-weaker (lt y) left ys (λ z behind. rises y z behind e) parts.0) in
+            subst (λ z. filter (lt z) (y ∷ ys) ≡ rest) it (rw (irreflexive lt asym y) (filter-all (lt y) ys parts.0 ∙ sym all ∙ behind))
         by false e ih =
             let later : filter left ys ≡ x ∷ rest = rw e at is in
             let up = first_passes (lt y) ys x rest parts.0 later in
             rw (asym y x up) (ih later)
 
     self_ties : (x : A) → ties lt x x ≡ true
-    self_ties x = let none = irreflexive x (lt x x) refl in rw none refl
+    self_ties x = let none = irreflexive lt asym x in rw none refl
 
     -- each item that is not behind the first that is left ties with it, or is not left
     pub none_between : (xs : List A) (x : A) (rest : List A) → ascends lt xs ≡ true → filter left xs ≡ x ∷ rest
@@ -176,10 +167,6 @@ object_first [] [] o rest is = absurd (cc)
 object_first [] (p ∷ os) o rest is = (os, refl, (let it : p ≡ o = cc in ap (λ (q : Object). q ∷ os) it), cc)
 object_first (d ∷ cs) os o rest is = absurd (cc)
 
-pub filter_none : {A : Type 0} (xs : List A) → filter (λ x. false) xs ≡ []
-filter_none [] = refl
-filter_none (x ∷ xs) = filter_none xs
-
 all_true : {A : Type 0} (p : A → Bool) (xs : List A) → ((x : A) → p x ≡ true) → list_all p xs ≡ true
 all_true p [] every = refl
 all_true p (x ∷ xs) every = rw (every x) (all_true p xs every)
@@ -219,7 +206,7 @@ module _ (w : World) (sorted : is_sorted_world w ≡ true) where
       → filter (is_object_left last) w.objects ≡ filter (λ o. true) w.objects
   objects_behind last.Nothing c ds is = refl
   objects_behind (last.Channel name) c ds is = refl
-  objects_behind (last.Object key id) c ds is = absurd (let none = filter_none w.channels in let clash : c ∷ ds ≡ [] = sym is ∙ none in cc)
+  objects_behind (last.Object key id) c ds is = absurd (let none = filter-nothing w.channels in let clash : c ∷ ds ≡ [] = sym is ∙ none in cc)
 
   -- behind the first item that is left stand the others
   pub next_left : (last : LastCopied) (item : Item) (rest : List Item) → items_left last w ≡ item ∷ rest → items_left (last_of item) w ≡ rest
@@ -232,7 +219,7 @@ module _ (w : World) (sorted : is_sorted_world w ≡ true) where
   next_left last (of_object o) rest is =
       let split = object_first (filter (is_channel_left last) w.channels) (filter (is_object_left last) w.objects) o rest is in
       let objects = others_left object_before object_asym (is_object_left last) (objects_rise last) w.objects o split.0 objects_ascend split.2 in
-      ap (λ (cs : List Channel). map of_channel cs ++ map of_object (filter (object_before o) w.objects)) (filter_none w.channels)
+      ap (λ (cs : List Channel). map of_channel cs ++ map of_object (filter (object_before o) w.objects)) (filter-nothing w.channels)
       ∙ ap (map of_object) objects ∙ split.3
 
   -- the first item that is left is copied

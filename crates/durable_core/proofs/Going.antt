@@ -1,22 +1,20 @@
 -- What a call of a core owes to its log, from what its journal and its hall did.
 use Rattle.std.specs.Prelude.{if◌then◌else◌}
-use Rattle.std.proofs.Common.{◌≡◌, ◌≢◌, ◌∙◌, ◌⊎◌, ◌≤◌, ℕ, Bool, true, false, ◌&&◌, ◌||◌, List, [], ◌++◌, Option, Some, Result, Ok, Err, refl, sym, ap, subst, append-nil, inl, inr}
+use Rattle.std.proofs.Common.{◌≡◌, ◌≢◌, ◌∙◌, ◌⊎◌, ◌≤◌, ℕ, Bool, true, false, ◌&&◌, ◌||◌, List, [], ◌++◌, Option, Some, Ok, Err, refl, sym, ap, subst, append-nil, inl, inr}
 use Rattle.std.specs.List.{AllByRecursion}
 use Rattle.std.proofs.lemmas.Grind.{flat_map-append}
 use Rattle.byte_text.specs.Names.{Bytes}
+use Rattle.ordered_lists.specs.Reading.{each-append}
 use Rattle.world_data.specs.Records.{record_text}
 use Rattle.world_data.specs.declared.worlds.Change.{Change}
 use Rattle.world_data.specs.declared.worlds.World.{World}
 use Rattle.fence_model.specs.Writes.{Write}
 use Rattle.world_model.specs.Halls.{Hall}
 use Rattle.world_model.specs.Histories.{Step, answer, when_stopped}
-use Rattle.world_model.specs.Outcomes.{enter_outcome}
-use Rattle.world_model.specs.declared.events.EnterFault.{EnterFault}
-use Rattle.world_model.specs.declared.events.EnterFault.TheVariants as refused
 use Rattle.world_model.specs.declared.events.Called.{Called}
 use Rattle.world_model.specs.declared.events.Called.TheVariants as called
 use Rattle.world_model.specs.declared.events.Event.{Event}
-use Rattle.world_model.specs.declared.events.Event.TheVariants.{Enter, Call, Take, Tick, Close, Remove, Rewrite, Retire}
+use Rattle.world_model.specs.declared.events.Event.TheVariants.{Take, Rewrite, Retire}
 use Rattle.world_model.specs.declared.events.Outcome.{Outcome}
 use Rattle.world_model.specs.declared.events.Outcome.TheVariants.{Answered}
 use Rattle.outside.specs.Sides.{Sides, IfTold}
@@ -33,6 +31,7 @@ use Rattle.log_record.specs.Recovery.{Recovers, RecoversEither}
 use Rattle.log_record.specs.EventWrites.{changes_of, writes_of, writes_by, is_fine}
 use Rattle.log_record.specs.EventWriteLaws.{folded-append, steps_make_their_writes}
 use Rattle.log_record.specs.Journals as log
+use Rattle.log_record.specs.AnswerLaws.{stopped_says}
 use Rattle.log_record.specs.TurnLaws.{turn_keeps_safe}
 use Rattle.log_worlds.specs.Recorded.{record_fault, world_in}
 use Rattle.log_worlds.specs.BatchesHeld.{held_recovers}
@@ -45,7 +44,6 @@ use Rattle.durable_core.specs.Rewriting.{IsCopyWhile}
 use Rattle.durable_core.specs.Steps.{IsEnded, ended}
 use Rattle.durable_core.specs.declared.rewritings.Rewriting.{Rewriting}
 use Rattle.durable_core.specs.declared.tails.Tail.{Tail}
-use Rattle.durable_core.proofs.Taking.{all_append}
 
 -- records
 
@@ -56,23 +54,6 @@ none_if false none is = refl
 
 pub makes_none : (h : Hall) (event : Event) (outcome : Outcome) → writes_of h event ≡ [] → changes_of (writes_by h event outcome) ≡ []
 makes_none h event outcome none = ap changes_of (none_if (is_fine outcome) (writes_of h event) none)
-
--- a stopped hall shows nothing, nor does an entering
-stopped_hides : (event : Event) → log.shows event (when_stopped event) ≡ false
-stopped_hides Enter = refl
-stopped_hides (Call n moment asked) = refl
-stopped_hides (Take n) = refl
-stopped_hides (Tick moment) = refl
-stopped_hides (Close n) = refl
-stopped_hides (Remove n) = refl
-stopped_hides Rewrite = refl
-stopped_hides Retire = refl
-
-pub enter_hides : (r : Result ℕ EnterFault) → log.shows Enter (enter_outcome r) ≡ false
-enter_hides (Ok n) = refl
-enter_hides (Err refused.TooMany) = refl
-enter_hides (Err refused.Stopped) = refl
-enter_hides (Err refused.Memory) = refl
 
 pub take_hides : (n : ℕ) (outcome : Outcome) → log.given outcome ≡ false → log.shows (Take n) outcome ≡ false
 take_hides n outcome none = ap (λ (b : Bool). b || (false && is_fine outcome)) none
@@ -157,7 +138,7 @@ module _ {D : Type 0} (crashes : D → Bool) (seen : D → Option Sides) (images
   stays core event before is = record {
     after = before;
     log = λ going. absurd (cc);
-    owes = λ crash. owes_nothing (disk_of core) (hall_of core) (hall_of core) event (when_stopped event) before is is (stops (hall_of core) event is) (stopped_hides event);
+    owes = λ crash. owes_nothing (disk_of core) (hall_of core) (hall_of core) event (when_stopped event) before is is (stops (hall_of core) event is) (stopped_says event).not_shown;
   }
 
   -- a call that leaves the journal alone, and makes no change
@@ -199,7 +180,7 @@ module _ {D : Type 0} (crashes : D → Bool) (seen : D → Option Sides) (images
     whole = kept.whole;
     committed = kept.committed;
     pending_is = pends.pending_is ∙ ap (λ (l : Bytes). l ++ records_text changes) kept.pending_is ∙ sym (flat_map-append record_text k.pending changes);
-    recorded = all_append k.pending changes kept.recorded are;
+    recorded = each-append IsRecorded k.pending changes kept.recorded are;
     copies = subst (λ (r : Rewriting). IsCopyWhile r kept.copied kept.batches) (sym pends.rewriting) kept.copies;
   }
 

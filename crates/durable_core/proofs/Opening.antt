@@ -5,7 +5,7 @@ use Rattle.std.proofs.lemmas.Bool.{and_from}
 use Rattle.byte_text.specs.Names.{Bytes, is_name}
 use Rattle.outside.specs.Sides.{Sides, IfTold}
 use Rattle.world_data.specs.Filters.{are_fields}
-use Rattle.world_data.specs.Records.{record_words}
+use Rattle.world_data.specs.Records.{record_words, is_kept_deadline, is_kept_field}
 use Rattle.world_data.specs.Sound.{IsSoundObject, IsSoundWorld, is_sound_channel}
 use Rattle.world_data.specs.Worlds.{after, is_sorted_world}
 use Rattle.world_data.specs.declared.channels.Channel.{Channel}
@@ -23,7 +23,7 @@ use Rattle.log_record.specs.RecordsRead.{record_read}
 use Rattle.log_record.specs.Recovery.{Recovers}
 use Rattle.log_record.specs.Laws.{Stood}
 use Rattle.log_record.specs.TurnLaws.{openings_stand}
-use Rattle.log_record.specs.Words.{IsRecorded, is_kept_deadline, is_kept_field}
+use Rattle.log_record.specs.Words.{IsRecorded}
 use Rattle.log_worlds.specs.Recorded.{world_in}
 use Rattle.world_opening.specs.Opened.{IsOpened, AreRecorded}
 use Rattle.durable_core.specs.Kept.{IsKeptBy, settled_log}

@@ -6,6 +6,7 @@ use Rattle.std.proofs.Math.Seq.{take-append_seam, drop-append_seam}
 use Rattle.std.proofs.lemmas.List.{map-append, take_all, drop_all}
 use Rattle.std.proofs.lemmas.Grind.{flat_map-append}
 use Rattle.byte_text.specs.Names.{Bytes}
+use Rattle.ordered_lists.specs.Reading.{each-append}
 use Rattle.world_data.specs.Records.{record_text}
 use Rattle.world_data.specs.Worlds.{is_sorted_world}
 use Rattle.world_data.specs.declared.channels.Channel.{Channel}
@@ -80,10 +81,6 @@ last_one : (from : LastCopied) (items : List Item) (item : Item) → last_behind
 last_one from [] item = refl
 last_one from (i ∷ items) item = last_one (last_of i) items item
 
-pub all_append : (xs ys : List Change) → AllByRecursion IsRecorded xs → AllByRecursion IsRecorded ys → AllByRecursion IsRecorded (xs ++ ys)
-all_append [] ys one other = other
-all_append (x ∷ xs) ys one other = (one.0, all_append xs ys one.1 other)
-
 pub taken_none : (from : LastCopied) (w : World) (piece : Piece) (last : LastCopied) → piece.records ≡ [] → piece.items ≡ 0 → last ≡ from → HasTakenSome from w 0 piece last
 taken_none from w piece last records items is = record {
   taken = [];
@@ -107,7 +104,7 @@ taken_one from w n old new last next sorted some took =
         records = took.records ∙ ap (λ (l : Bytes). l ++ record_text (change_of took.first)) has.records
             ∙ ap (λ (l : Bytes). records_text (changes_of some.taken) ++ l) (sym (append-nil (record_text (change_of took.first))))
             ∙ sym (flat_map-append record_text (changes_of some.taken) (change_of took.first ∷ [])) ∙ ap records_text (sym more);
-        recorded = subst (AllByRecursion IsRecorded) (sym more) (all_append (changes_of some.taken) (change_of took.first ∷ []) has.recorded (took.recorded, tt));
+        recorded = subst (AllByRecursion IsRecorded) (sym more) (each-append IsRecorded (changes_of some.taken) (change_of took.first ∷ []) has.recorded (took.recorded, tt));
         last_is = took.last_is ∙ sym (last_one from some.taken took.first);
         left = ap (λ (l : LastCopied). items_left l w) took.last_is ∙ next_left w sorted last took.first took.rest took.left_is;
       };

@@ -9,6 +9,7 @@ use Rattle.journal.specs.declared.journals.Journal.{Journal}
 use Rattle.log_record.specs.Batches.{records_text}
 use Rattle.durable_core.specs.Rewriting.{Item, changes_of, items_left}
 use Rattle.durable_core.specs.declared.rewritings.Rewriting.{Rewriting}
+use Rattle.durable_core.specs.declared.tails.TheConstants.{PENDING}
 use Rattle.durable_core.specs.declared.rewritings.Rewriting.TheVariants as rewriting
 
 -- the batches of the side in use, and those of the new side, where one is written
@@ -18,7 +19,7 @@ pub record Sided : Type 0 where
 
 -- so many bytes that are pending are much
 abbrev pub much : ℕ
-much = 4194304
+much = PENDING
 
 -- a batch more, on both
 abbrev pub sided_with : Bytes → Sided → Sided

@@ -4,10 +4,11 @@ use Rattle.byte_text.specs.Names.{Bytes}
 use Rattle.byte_text.specs.Numbers.{read_natural}
 use Rattle.byte_text.specs.declared.texts.TextFault.{TextFault}
 use Rattle.load_command.specs.declared.words.LoadWords.{LoadWords}
+use Rattle.load_command.specs.declared.words.TheConstants.{MOST_COMMANDS}
 
 -- at most so many commands are sent
 abbrev pub most_commands : ℕ
-most_commands = 1000000
+most_commands = MOST_COMMANDS
 
 -- a canonical number from 1 to the most
 abbrev pub as_commands : Result ℕ TextFault → Option ℕ

@@ -1,3 +1,4 @@
+pub mod CauseLaws
 pub mod Causes
 pub mod Clocks
 pub mod CrashLaws

@@ -1,5 +1,5 @@
 -- Fields are read one by one.
-use Rattle.std.proofs.Common.{◌≡◌, ◌<◌, ℤ, true, false, not, List, [], ◌∷◌, ◌++◌, length, refl, sym, ap, subst, ◌∙◌, append_assoc, arith}
+use Rattle.std.proofs.Common.{◌≡◌, ◌<◌, ℤ, true, false, List, [], ◌∷◌, ◌++◌, length, refl, sym, ap, subst, ◌∙◌, append_assoc, arith}
 use Rattle.std.specs.Prelude.{Ok, Err, codes, flat_map}
 use Rattle.std.specs.Fmt.{signed_decimal}
 use Rattle.std.specs.List.{list_all}
@@ -8,12 +8,10 @@ use Rattle.std.proofs.lemmas.Bool.{and_from}
 use Rattle.byte_text.specs.Names.{Bytes}
 use Rattle.byte_text.specs.Numbers.{signed_value}
 use Rattle.byte_text.specs.NumberLaws.{signed_back}
-use Rattle.ordered_lists.specs.Ascending.{ascends-left}
-use Rattle.ordered_lists.specs.Lists.{ascends}
-use Rattle.ordered_lists.specs.Reading.{both_of}
-use Rattle.world_data.specs.Filters.{Field, field_before, is_zero, are_fields}
-use Rattle.world_data.specs.Records.{field_words}
-use Rattle.log_record.specs.Words.{is_kept_field}
+use Rattle.ordered_lists.specs.Reading.{both_of, all-append, all-right}
+use Rattle.world_data.specs.Filters.{Field, are_fields}
+use Rattle.world_data.specs.LastField.{are_left}
+use Rattle.world_data.specs.Records.{field_words, is_kept_field}
 use Rattle.record_words.specs.declared.faults.RecordFault.{RecordFault}
 use Rattle.record_words.specs.declared.faults.RecordFault.TheVariants.{NotRecord, Memory}
 use Rattle.record_words.specs.Reading.{BeginsNot, Reads, IsNumber, value_words, IsValue, AreKept, ReadsFields}
@@ -55,26 +53,8 @@ split (f ∷ fs) (g ∷ gs) x y kf kg ends e =
     let more = split fs gs x y kept_f.1 kept_g.1 ends one.1 in
     (more.0, ap (λ l. g ∷ l) more.1 ∙ ap (λ h. h ∷ (fs ++ more.0)) (sym one.0), more.2)
 
-kept_right : (fs gs : List Field) → list_all is_kept_field (fs ++ gs) ≡ true → list_all is_kept_field gs ≡ true
-kept_right [] gs all = all
-kept_right (f ∷ fs) gs all = kept_right fs gs (both_of (is_kept_field f) (list_all is_kept_field (fs ++ gs)) all).1
-
 kept_snoc : (fs : List Field) (f : Field) → list_all is_kept_field fs ≡ true → IsValue f → list_all is_kept_field (fs ++ f ∷ []) ≡ true
-kept_snoc [] f all kept = and_from (is_kept_field f) true kept refl
-kept_snoc (g ∷ fs) f all kept =
-    let parts = both_of (is_kept_field g) (list_all is_kept_field fs) all in
-    and_from (is_kept_field g) (list_all is_kept_field (fs ++ f ∷ [])) parts.0 (kept_snoc fs f parts.1 kept)
-
-nonzero_left : (fs gs : List Field) → list_all (λ f. not (is_zero f)) (fs ++ gs) ≡ true → list_all (λ f. not (is_zero f)) fs ≡ true
-nonzero_left [] gs all = refl
-nonzero_left (f ∷ fs) gs all =
-    let parts = both_of (not (is_zero f)) (list_all (λ f. not (is_zero f)) (fs ++ gs)) all in
-    and_from (not (is_zero f)) (list_all (λ f. not (is_zero f)) fs) parts.0 (nonzero_left fs gs parts.1)
-
-are_left : (fs gs : List Field) → are_fields (fs ++ gs) ≡ true → are_fields fs ≡ true
-are_left fs gs are =
-    let parts = both_of (ascends field_before (fs ++ gs)) (list_all (λ f. not (is_zero f)) (fs ++ gs)) are in
-    and_from (ascends field_before fs) (list_all (λ f. not (is_zero f)) fs) (ascends-left field_before fs gs parts.0) (nonzero_left fs gs parts.1)
+kept_snoc fs f all kept = all-append is_kept_field fs (f ∷ []) all (and_from (is_kept_field f) true kept refl)
 
 module _ (old : List Bytes) (fields : List Field) (left : List Bytes) (goes : Goes old fields left) where
   -- the fields of another reading of the same words, behind those that were read
@@ -97,7 +77,8 @@ module _ (old : List Bytes) (fields : List Field) (left : List Bytes) (goes : Go
         by : (hs : List Field) → gs ≡ fields ++ hs → left ≡ texts hs ++ rest → A
         by [] is l = absurd (ends.other behind (sym l ∙ begins))
         by (h ∷ hs) is l = goal h hs
-            (both_of (is_kept_field h) (list_all is_kept_field hs) (kept_right fields (h ∷ hs) (subst (λ x. list_all is_kept_field x ≡ true) is kept.kept))).0
+            (both_of (is_kept_field h) (list_all is_kept_field hs)
+            (all-right is_kept_field fields (h ∷ hs) (subst (λ x. list_all is_kept_field x ≡ true) is kept.kept))).0
             (subst (λ x. are_fields x ≡ true) is kept.ordered)
             (rests_same (codes "FIELD") (codes "FIELD") behind (value_words h ++ (texts hs ++ rest)) (sym begins ∙ l))
 

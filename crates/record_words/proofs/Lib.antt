@@ -1,11 +1,8 @@
 pub mod LeftWords
 pub mod Parts
-pub mod FieldOrder
 pub mod FieldLists
 pub mod PutParts
 pub mod OtherRecords
 pub mod Settings
 pub mod Sizes
-pub mod Costs
-pub mod SettingWords
 pub mod SettingSizes

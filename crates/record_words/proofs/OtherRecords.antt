@@ -5,10 +5,10 @@ use Rattle.std.proofs.lemmas.Bool.{and_from}
 use Rattle.byte_text.specs.Names.{Bytes, is_name, same}
 use Rattle.byte_text.specs.ByteOrder.{same_equal}
 use Rattle.byte_text.specs.Requests.{request_text}
-use Rattle.world_data.specs.Records.{record_words, record_text}
+use Rattle.world_data.specs.Records.{record_words, record_text, is_kept}
 use Rattle.world_data.specs.declared.worlds.Change.{Change}
 use Rattle.world_data.specs.declared.worlds.Change.TheVariants.{Del, Drop, Flush, DelChan}
-use Rattle.log_record.specs.Words.{change_of_words, is_kept, if_recorded, same_words, put_of, del_of, drop_of, flush_of, setchan_of, delchan_of}
+use Rattle.log_record.specs.Words.{change_of_words, if_recorded, same_words, put_of, del_of, drop_of, flush_of, setchan_of, delchan_of}
 use Rattle.log_record.specs.RecordsRead.{first, second, record_read}
 use Rattle.log_record.specs.RecordsBack.{del_back, drop_back, flush_back, delchan_back}
 use Rattle.record_words.specs.declared.faults.RecordFault.{RecordFault}

@@ -11,11 +11,11 @@ use Rattle.geojson_model.specs.Answers.{Fails, Gives}
 use Rattle.geojson_model.specs.declared.faults.ShapeFault.{ShapeFault}
 use Rattle.geojson_model.specs.declared.faults.ShapeFault.TheVariants.{Refused}
 use Rattle.world_data.specs.Filters.{Field, are_fields}
-use Rattle.world_data.specs.Records.{deadline_words, record_words}
+use Rattle.world_data.specs.Records.{deadline_words, record_words, is_kept, is_kept_field, is_kept_deadline}
 use Rattle.world_data.specs.declared.objects.Object.{Object}
 use Rattle.world_data.specs.declared.worlds.Change.{Change}
 use Rattle.world_data.specs.declared.worlds.Change.TheVariants.{Put, Del, Drop, Flush, SetChan, DelChan}
-use Rattle.log_record.specs.Words.{change_of_words, is_kept, is_kept_field, is_kept_deadline, HasShape}
+use Rattle.log_record.specs.Words.{change_of_words, HasShape}
 use Rattle.log_record.specs.RecordsRead.{first, second, record_read}
 use Rattle.log_record.specs.RecordsBack.{object_back}
 use Rattle.record_words.specs.declared.faults.RecordFault.{RecordFault}

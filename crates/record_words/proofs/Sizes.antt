@@ -1,42 +1,31 @@
 -- How long the records of objects and of deletions are, so that they fit a request.
-use Rattle.std.proofs.Common.{◌≡◌, ℕ, ℤ, pos, negsuc, suc, ◌+◌, ◌*◌, ◌^◌, ◌<◌, ◌≤◌, true, List, [], ◌∷◌, ◌++◌, length, refl, sym, ap, subst, arith, append_assoc, length-append}
+use Rattle.std.proofs.Common.{◌≡◌, ℕ, ◌+◌, ◌*◌, ◌<◌, ◌≤◌, true, List, [], ◌∷◌, ◌++◌, length, refl, sym, ap, subst, arith, append_assoc, length-append}
 use Rattle.std.specs.Prelude.{Option, Some, None, Ok, codes, nat_le}
-use Rattle.std.specs.Fmt.{signed_decimal}
 use Rattle.std.specs.List.{list_all}
 use Rattle.std.proofs.lemmas.Bool.{leb-true}
-use Rattle.std.proofs.lemmas.Fmt.{length-decimal-le}
 use Rattle.byte_text.specs.Names.{Bytes, is_name}
 use Rattle.byte_text.specs.Requests.{IsRequest, max_word}
 use Rattle.geo_text.specs.Texts.{shape_of}
 use Rattle.ordered_lists.specs.Reading.{both_of}
 use Rattle.world_data.specs.Filters.{Field}
-use Rattle.world_data.specs.Records.{deadline_words, record_words}
+use Rattle.world_data.specs.Records.{deadline_words, record_words, is_kept, is_kept_field, is_kept_deadline}
 use Rattle.world_data.specs.declared.objects.Object.{Object}
 use Rattle.world_data.specs.declared.worlds.Change.TheVariants.{Put, Del, Drop, Flush, DelChan}
-use Rattle.log_record.specs.Words.{IsRecorded, is_kept, is_kept_field, is_kept_deadline}
+use Rattle.log_record.specs.Words.{IsRecorded}
 use Rattle.log_record.specs.RecordsRead.{record_read}
 use Rattle.log_record.specs.RecordsBack.{object_back, del_back, drop_back, flush_back, delchan_back}
 use Rattle.cmd_words.specs.ShortRequests.{total_short, each_short}
-use Rattle.cmd_words.specs.SmallWords.{IsSmall, AreSmall, small, small_name, small_decimal, small_append, total_append, short_append, short_back, AreLight}
-use Rattle.record_words.specs.Reading.{IsNumber}
-use Rattle.record_words.specs.Recorded.{ChangesAreRecorded, most_fields}
+use Rattle.cmd_words.specs.SmallWords.{AreSmall, small, small_name, small_decimal, small_signed, small_append, total_append, short_append, short_back, AreLight}
+use Rattle.record_words.specs.Recorded.{ChangesAreRecorded, most_fields, most_fields_fit, one_more_does_not}
 use Rattle.record_words.proofs.Parts.{name_kept, number_kept}
 use Rattle.record_words.proofs.FieldLists.{texts}
 use Rattle.record_words.proofs.PutParts.{key_kept, id_kept, fields_kept, deadline_kept, all_kept}
-
-pub small_number : (z : ℤ) → IsNumber z → IsSmall (signed_decimal z)
-small_number (pos n) fits = let limit = fits.sfits in let lt : n < 2 ^ 64 = grind arith in small_decimal n lt
-small_number (negsuc n) fits =
-    let limit = fits.sfits in
-    let lt : suc n < 2 ^ 64 = grind arith in
-    let l = length-decimal-le 20 (suc n) (omega arith) (omega (arith, lt)) (omega (arith, lt)) in
-    omega (arith, l)
 
 small_texts : (fields : List Field) → list_all is_kept_field fields ≡ true → AreSmall (texts fields)
 small_texts [] kept = tt
 small_texts (f ∷ fields) kept =
     let parts = both_of (is_kept_field f) (list_all is_kept_field fields) kept in
-    (small (codes "FIELD") refl, (small_name f.0 (name_kept f parts.0), (small_number f.1 (number_kept f parts.0), small_texts fields parts.1)))
+    (small (codes "FIELD") refl, (small_name f.0 (name_kept f parts.0), (small_signed f.1 (number_kept f parts.0), small_texts fields parts.1)))
 
 texts_count : (fields : List Field) → length (texts fields) ≡ 3 * length fields
 texts_count [] = refl
@@ -66,9 +55,6 @@ behind_small front text s few short =
     }
 
 -- words of which one may be as long as a word can be
-pub light_text : (called text : Bytes) → IsSmall called → length text ≤ max_word → AreLight (called ∷ text ∷ [])
-light_text called text s short = ((omega (arith, s), (short, tt)), omega (arith, s, short))
-
 pub light_fits : (words : List Bytes) → AreLight words → 0 < length words → length words ≤ 4096 → IsRequest words
 light_fits words light some few = let l = light.1 in record { some = some; fits = record { few = few; short = light.0; small = omega (arith, l, few) } }
 
@@ -113,7 +99,7 @@ put_recorded o kept shape few short =
     let d = deadline_count o.deadline in
     record {
       read_back = object_back o kept shape;
-      fits = subst IsRequest (sym (fronted o)) (behind_small (front o) o.text (front_small o kept) (omega (arith, n, d, few)) short);
+      fits = subst IsRequest (sym (fronted o)) (behind_small (front o) o.text (front_small o kept) (omega (arith, n, d, few, most_fields_fit)) short);
     }
 
 put_within : (o : Object) → IsRequest (record_words (Put o)) → (length o.fields ≤ most_fields) × (length o.text ≤ max_word)
@@ -122,7 +108,7 @@ put_within o request =
     let n = front_count o in
     let m = length-append (front o) (o.text ∷ []) in
     let few = fits.few in
-    (omega (arith, n, m, few), (short_back (front o) (o.text ∷ []) fits.short).0)
+    (omega (arith, n, m, few, one_more_does_not), (short_back (front o) (o.text ∷ []) fits.short).0)
 
 with_deadline : (o : Object) (deadline : Option ℕ) → IsRecorded (Put o) → is_kept_deadline deadline ≡ true → IsRecorded (Put (record o { deadline = deadline }))
 with_deadline o deadline recorded also =
@@ -145,6 +131,7 @@ changes_are_recorded = record {
     read_back = drop_back key kept;
     fits = all_small (record_words (Drop key)) (small (codes "DROP") refl, (small_name key kept, tt)) refl refl;
   };
+  most = λ o recorded. (put_within o recorded.fits).0;
   flush = record { read_back = flush_back; fits = all_small (record_words Flush) (small (codes "FLUSHDB") refl, tt) refl refl };
   channel_ends = λ name kept. record {
     read_back = delchan_back name kept;

@@ -7,12 +7,12 @@ use mir.Syntax.{w64}
 use mir.Val.{SFits as FitsSigned}
 use Rattle.geo_text.specs.Texts.{Shape, shape_of}
 use Rattle.world_data.specs.Filters.{Field, are_fields}
-use Rattle.world_data.specs.Records.{field_words, deadline_words}
+use Rattle.world_data.specs.Records.{field_words, deadline_words, is_kept_field, is_kept_deadline}
 use Rattle.world_data.specs.declared.worlds.Change.{Change}
 use Rattle.world_model.specs.declared.commands.AreaWords.{AreaWords}
 use Rattle.world_model.specs.declared.commands.AreaWords.TheVariants.{Given, Of}
 use Rattle.world_model.specs.declared.commands.Command.{Command}
-use Rattle.log_record.specs.Words.{change_of_words, is_kept_field, is_kept_deadline, if_recorded, settled}
+use Rattle.log_record.specs.Words.{change_of_words, if_recorded, settled}
 use Rattle.record_words.specs.declared.faults.RecordFault.{RecordFault}
 use Rattle.record_words.specs.declared.faults.RecordFault.TheVariants.{NotRecord, Memory}
 

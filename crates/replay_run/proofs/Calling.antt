@@ -1,21 +1,16 @@
 -- What comes of one call of a core.
 use Rattle.std.proofs.Common.{arith, ◌+◌, ◌++◌, ◌≡◌, ◌≢◌, ◌≤◌, ℕ, Bool, true, false, refl, sym, ap, subst, ◌∙◌, List, [], ◌∷◌, inr}
-use Rattle.std.specs.Prelude.{Option, Some, None, Result, Ok, Err, IfOk, IfErr, min}
+use Rattle.std.specs.Prelude.{Option, Some, None, is_some, Result, Ok, Err, IfOk, IfErr, min}
 use Rattle.std.proofs.Math.Nat.{min-le_left, min-le_right, le-min}
 use Rattle.byte_text.specs.Names.{Bytes}
 use Rattle.outside.specs.Causes.{Rose, most_count}
 use Rattle.outside.specs.Sides.{Sides}
 use Rattle.world_model.specs.Halls.{Hall}
 use Rattle.world_model.specs.Histories.{Step, answer, is_log_fault}
-use Rattle.world_model.specs.Outcomes.{take_outcome}
-use Rattle.world_model.specs.declared.events.Called.{Called}
 use Rattle.world_model.specs.declared.events.Called.TheVariants as called
-use Rattle.world_model.specs.declared.events.Taken.{Taken}
-use Rattle.world_model.specs.declared.events.Taken.TheVariants as taken
 use Rattle.world_model.specs.declared.events.Event.{Event}
 use Rattle.world_model.specs.declared.events.Outcome.{Outcome}
-use Rattle.world_model.specs.declared.events.Outcome.TheVariants.{Empty, Ended}
-use Rattle.log_record.specs.Journals.{Journal, TellsNow}
+use Rattle.log_record.specs.Journals.{Journal, TellsNow, is_retire}
 use Rattle.durable_core.specs.Logged.{hall_of, disk_of, KeepsLogOf, GoesOn}
 use Rattle.durable_core.specs.declared.cores.DurableCore.{DurableCore}
 use Rattle.replay_run.specs.declared.halts.Halt.{Halt}
@@ -25,24 +20,8 @@ use Rattle.replay_run.specs.Traces.{Deed, does, trace}
 use Rattle.replay_run.specs.Scripts.{Makes}
 use Rattle.replay_run.specs.Undone.{Fails, IsUnprinted}
 use Rattle.replay_run.specs.Standing.{StaysSafe, Comes}
-use Rattle.replay_run.proofs.GoingOn.{is_retire, goes_on, found_spent}
+use Rattle.replay_run.proofs.GoingOn.{goes_on, found_spent}
 use Rattle.replay_run.proofs.Standing.{stays_safe, stays_same, stays_more}
-
-pub called_failed : (c : Called) → is_log_fault (answer c) ≡ true → c ≡ called.LogFault
-called_failed called.LogFault e = refl
-called_failed called.Ok e = absurd (cc)
-called_failed called.Full e = absurd (cc)
-called_failed called.Gone e = absurd (cc)
-called_failed called.Stopped e = absurd (cc)
-called_failed called.Spent e = absurd (cc)
-called_failed called.Memory e = absurd (cc)
-
-pub taken_failed : (t : Taken) (frames : List Bytes) → is_log_fault (take_outcome t frames) ≡ true → t ≡ taken.LogFault
-taken_failed (taken.Some n) frames e = absurd (cc)
-taken_failed taken.Empty frames e = absurd (cc)
-taken_failed taken.Ended frames e = absurd (cc)
-taken_failed taken.LogFault frames e = refl
-taken_failed taken.Stopped frames e = absurd (cc)
 
 -- what is printed of an ending tells that the log did not fail
 works : (o : Outcome) (out : Bytes) → printed o ≡ Some out → o ≢ answer called.LogFault
@@ -55,16 +34,17 @@ fails_of halted.Spent h next e o goes s is =
     (spent.0, spent.1, ap (λ (z : Outcome). does e z ∷ []) is)
 fails_of halted.DiskFault h next e o goes s is = (subst (λ (z : Outcome). Step h e z next) is s, ap (λ (z : Outcome). does e z ∷ []) is)
 fails_of (halted.Damaged side place) h next e o goes s is = absurd is
-fails_of halted.Memory h next e o goes s is = inr (o, s, refl)
+fails_of halted.Memory h next e o goes s is = inr (o, s, refl, is)
 
 -- a text that was made, or memory wanted
 pub printed_as : (r : Result Bytes Halt) (o : Outcome) (x : Bytes) → printed o ≡ Some x → IfOk r (λ t. t ≡ x) → IfOk r (λ out. printed o ≡ Some out)
 printed_as (Ok t) o x is same = is ∙ ap (λ (z : Bytes). Some z) (sym same)
 printed_as (Err halt) o x is same = tt
 
-pub wants_memory : (r : Result Bytes Halt) (o : Outcome) → IfErr r (λ halt. halt ≡ halted.Memory) → IfErr r (λ halt. IsUnprinted halt o)
-wants_memory (Ok t) o is = tt
-wants_memory (Err halt) o is = subst (λ (z : Halt). IsUnprinted z o) (sym is) tt
+pub wants_memory : (r : Result Bytes Halt) (o : Outcome) → is_some (printed o) ≡ true → IfErr r (λ halt. halt ≡ halted.Memory)
+    → IfErr r (λ halt. IsUnprinted halt o)
+wants_memory (Ok t) o some is = tt
+wants_memory (Err halt) o some is = subst (λ (z : Halt). IsUnprinted z o) (sym is) (inr some)
 
 -- a count that rose behind a first part rose
 pub rose_before : (a b c : ℕ) → a ≤ b → Rose b c → Rose a c

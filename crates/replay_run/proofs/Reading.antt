@@ -6,7 +6,8 @@ use Rattle.std.specs.Prelude.{Option, if◌then◌else◌, ◌==◌}
 use Rattle.std.proofs.lemmas.Bool.Decides.{nat_tests}
 use Rattle.std.specs.Io.KnownBytes.{Consumes, Keeps, IsAtEnd}
 use Rattle.replay_run.specs.declared.streams.LineEnd.TheVariants.{Line, End, TooLong}
-use Rattle.replay_run.specs.TextLines.{TextLine, in_front, lines, size, max_line, max_script}
+use Rattle.replay_run.specs.TextLines.{TextLine, in_front, lines, size, max_script}
+use Rattle.script_text.specs.Lines.{max_line}
 use Rattle.replay_run.specs.Reads.{OnLine, IsFirstLine, IsOneLine}
 
 -- the lines with these bytes in front of the first

@@ -4,6 +4,7 @@ use Rattle.std.specs.Prelude.{Option, Some, min}
 use Rattle.std.proofs.lemmas.List.{take_all}
 use Rattle.outside.specs.Causes.{most_count, Rose}
 use Rattle.outside.specs.Sides.{Sides, IfTold}
+use Rattle.outside.specs.declared.sides.Side.{Side}
 use Rattle.outside.specs.Crashes.{LeavesOnly}
 use Rattle.outside.specs.CrashLaws.{weaker}
 use Rattle.world_data.specs.Sound.{IsSoundWorld}
@@ -19,10 +20,12 @@ use Rattle.journal.specs.Journals.{pending}
 use Rattle.journal.specs.Logs.{HoldsLog}
 use Rattle.journal.specs.Openings.{IsLeftByOpening}
 use Rattle.log_sides.specs.States.{IsLog}
+use Rattle.log_record.specs.AnswerLaws.{call_failed}
 use Rattle.log_record.specs.Acknowledged.{acked_take}
 use Rattle.log_record.specs.Journals.{Journal, TellsNow}
+use Rattle.log_record.specs.Readings.{Damaged}
 use Rattle.log_record.specs.Recovery.{Recovers, Holds}
-use Rattle.log_record.specs.RecoveryLaws.{one_world}
+use Rattle.log_record.specs.RecoveryLaws.{one_world, recovered_is_whole}
 use Rattle.log_record.specs.Safety.{Run, moment_after, RecoversPassed, IsSafe, Passes, entries_of, start_of, RunPasses, Safe, SafeRun}
 use Rattle.log_record.specs.SafetyLaws.{passed_still, committed_passed}
 use Rattle.log_record.specs.Runs.{and_then, RunStood}
@@ -40,9 +43,9 @@ use Rattle.replay_run.specs.declared.readers.Reader.{Reader}
 use Rattle.replay_run.specs.Checks.{HasGeneration}
 use Rattle.replay_run.specs.Scripts.{Reopens}
 use Rattle.replay_run.specs.Undone.{halt_at, ReopenFails}
+use Rattle.replay_run.specs.HaltLaws.{unspent_at, damaged_at}
 use Rattle.replay_run.specs.Traces.{Deed, opens, does}
 use Rattle.replay_run.specs.Standing.{IsSafeFor, IsBehind, StandsBehind, StaysSafe, Logs}
-use Rattle.replay_run.proofs.Calling.{called_failed}
 use Rattle.replay_run.proofs.Playing.{not_ok}
 use Rattle.replay_run.proofs.Standing.{one_more, one_last, safe_for, after_all, deeds_then, run_then, counted_later}
 
@@ -264,15 +267,15 @@ module _ {D : Type 0} (crashes : D → Bool) (seen : D → Option Sides) (images
   pub unretired : (old mid : DurableCore D) (disk : D) (readers : List Reader) (c : Called) → disk ≡ disk_of mid → c ≢ called.Ok → (hall_of old).stopped ≡ false → Step (hall_of old) event.Retire (answer c) (hall_of mid) → (hall_of mid).stopped ≡ true
       → faults (disk_of old) ≤ faults (disk_of mid) → (c ≡ called.LogFault → Rose (faults (disk_of old)) (faults (disk_of mid)))
       → ((j : Journal) → KeepsLogOf crashes seen images old j → GoesOn crashes seen images moment left_since old mid event.Retire (answer c) j)
-      → (deeds : List Deed) × (last : Hall) × ((told : Bool) → ReopenFails told halted.DiskFault (record { hall = hall_of old; readers = readers }) deeds last) × (last.stopped ≡ true)
+      → (deeds : List Deed) × (last : Hall) × ((told : Bool) → (told ≡ true → Logs crashes seen images old) → ReopenFails told halted.DiskFault (record { hall = hall_of old; readers = readers }) deeds last) × (last.stopped ≡ true)
       × ((before : List Deed) → StandsBehind crashes seen images moment left_since faults old before → IsSafeFor images left_since disk (before ++ deeds))
   unretired old mid disk readers c is apart goes step stops later cause log =
       let failed : c ≡ called.LogFault = not_ok (hall_of old) (hall_of mid) c goes step apart in (
         does event.Retire (answer c) ∷ [],
         hall_of mid,
-        λ told. inl (subst (λ (z : Called). Step (hall_of old) event.Retire (answer z) (hall_of mid)) failed step, ap (λ (z : Called). does event.Retire (answer z) ∷ []) failed),
+        λ told logs. inl (subst (λ (z : Called). Step (hall_of old) event.Retire (answer z) (hall_of mid)) failed step, ap (λ (z : Called). does event.Retire (answer z) ∷ []) failed),
         stops,
-        λ before s. subst (λ (d : D). IsSafeFor images left_since d (before ++ does event.Retire (answer c) ∷ [])) (sym is) (retires_safe old mid c before s step later (λ f. cause (called_failed c f)) log),
+        λ before s. subst (λ (d : D). IsSafeFor images left_since d (before ++ does event.Retire (answer c) ∷ [])) (sym is) (retires_safe old mid c before s step later (λ f. cause (call_failed c f)) log),
       )
 
   -- what a core that was retired leaves behind: sides that are recovered as its world
@@ -285,12 +288,13 @@ module _ {D : Type 0} (crashes : D → Bool) (seen : D → Option Sides) (images
       → ((j : Journal) → KeepsLogOf crashes seen images old j → GoesOn crashes seen images moment left_since old mid event.Retire (answer called.Ok) j) → LeftBy old mid
       → ((d : D) → IfTold (seen d) (images d)) → ((c : Sides) → HoldsLog [] c → Recovers c (world_in []))
       → ((s : Sides) → seen disk ≡ Some s → crashes disk ≡ true → LeavesOnly moment left_since disk new (IsLeftByOpening (images disk) s))
-      → (deeds : List Deed) × (last : Hall) × ((told : Bool) → ReopenFails told (halt_at why) (record { hall = hall_of old; readers = readers }) deeds last) × (last.stopped ≡ true)
+      → ((s : Sides) → seen disk ≡ Some s → (side : Side) (place : ℕ) → why ≡ fault_of.Damaged side place → Damaged s side place)
+      → (deeds : List Deed) × (last : Hall) × ((told : Bool) → (told ≡ true → Logs crashes seen images old) → ReopenFails told (halt_at why) (record { hall = hall_of old; readers = readers }) deeds last) × (last.stopped ≡ true)
       × ((before : List Deed) → StandsBehind crashes seen images moment left_since faults old before → IsSafeFor images left_since new (before ++ deeds))
-  unopened_again old mid disk new readers why is step stops later told log left as_read held leaves = (
+  unopened_again old mid disk new readers why is step stops later told log left as_read held leaves damaged = (
     does event.Retire (answer called.Ok) ∷ [],
     hall_of mid,
-    λ told. inr (inl (unspent why, step, refl)),
+    λ told logs. inr (inl (unspent_at why, whole told logs, step, refl)),
     stops,
     λ before s.
         let l = left s.behind.log s.kept refl in
@@ -301,10 +305,13 @@ module _ {D : Type 0} (crashes : D → Bool) (seen : D → Option Sides) (images
         (retires_behind old mid called.Ok before s step later (λ e. absurd (cc)) log),
   )
     where
-      unspent : (why : OpenFault) → halt_at why ≢ halted.Spent
-      unspent (fault_of.Damaged side place) e = absurd (cc)
-      unspent fault_of.Disk e = absurd (cc)
-      unspent fault_of.Memory e = absurd (cc)
+      -- what a retirement left is recovered, and so it is not damaged
+      whole : (told : Bool) → (told ≡ true → Logs crashes seen images old)
+          → told ≡ true → (side : Side) (place : ℕ) → halt_at why ≢ halted.Damaged side place
+      whole told logs e side place is_it =
+          let j = logs e in
+          let l = left j.0 j.1 refl in
+          recovered_is_whole l.0 (hall_of mid).world side place l.2 (damaged l.0 (ap seen is ∙ l.1) side place (damaged_at why side place is_it))
 
   -- a disk that was opened again
   pub opened_again : (old mid new : DurableCore D) (disk : D) (readers : List Reader) → disk ≡ disk_of mid → Step (hall_of old) event.Retire (answer called.Ok) (hall_of mid)

@@ -15,18 +15,17 @@ use Rattle.world_model.specs.declared.events.Event.TheVariants.{Enter, Call, Tak
 use Rattle.world_model.specs.declared.events.Outcome.{Outcome}
 use Rattle.world_model.specs.declared.events.Entry.{Entry}
 use Rattle.world_model.specs.declared.events.Opening.{Opening}
-use Rattle.log_record.specs.Journals.{Journal, Turn, TellsNow}
+use Rattle.log_record.specs.Journals.{Journal, Turn, TellsNow, is_retire}
 use Rattle.log_record.specs.Recovery.{Recovers}
 use Rattle.log_record.specs.Safety.{Run, moment_after, count_after, out_after, entries_of, RecoversPassed, RunPasses, ComesNext}
 use Rattle.log_record.specs.Runs.{and_then}
 use Rattle.log_record.specs.RunLaws.{turns_keep_runs_safe}
 use Rattle.log_record.specs.LeadingLaws.{leads_on, passes_all}
-use Rattle.log_record.specs.Acknowledged.{moment_last}
+use Rattle.log_record.specs.Acknowledged.{moment_last, count_last}
 use Rattle.durable_core.specs.Logged.{hall_of, disk_of, KeepsLogOf, GoesOn}
 use Rattle.durable_core.specs.declared.cores.DurableCore.{DurableCore}
 use Rattle.replay_run.specs.Traces.{Deed, opens, does, done_by, deeds_of}
 use Rattle.replay_run.specs.Standing.{IsSafeFor, IsBehind, StandsBehind, StaysSafe}
-use Rattle.replay_run.proofs.GoingOn.{is_retire}
 
 -- what a run shows
 
@@ -65,10 +64,6 @@ run_then ((q, es) ∷ []) o p entries is ends legal = (is.0, (ends, legal))
 run_then ((q, es) ∷ (r, fs) ∷ run) o p entries is ends legal = (is.0, run_then ((r, fs) ∷ run) o p entries is.1 ends legal)
 
 -- the last entry
-
-pub count_last : (count : ℕ) (entries : List Entry) (e : Entry) → count_after count (entries ++ e ∷ []) ≡ e.count
-count_last count [] e = refl
-count_last count (d ∷ entries) e = count_last d.count entries e
 
 out_last : (b : Bool) (entries : List Entry) (e : Entry) → out_after b (entries ++ e ∷ []) ≡ (out_after b entries || gives_disk e)
 out_last b [] e = refl

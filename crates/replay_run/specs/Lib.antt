@@ -6,6 +6,7 @@ pub mod Played
 pub mod Readers
 pub mod Scripts
 pub mod Undone
+pub mod HaltLaws
 pub mod Steps
 pub mod Cuts
 pub mod OneOutput

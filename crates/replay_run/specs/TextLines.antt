@@ -1,5 +1,7 @@
 -- The lines of a text.
 use Rattle.std.specs.Prelude.{ℕ, ◌+◌, ◌≤◌, ◌==◌, Bool, true, false, if◌then◌else◌, List, [], ◌∷◌, length}
+use Rattle.script_text.specs.Lines.{max_line}
+use Rattle.replay_run.specs.declared.streams.TheConstants.{MAX_SCRIPT}
 
 -- a line: its bytes without the line feed, and whether a line feed ends it
 pub record TextLine : Type 0 where
@@ -25,12 +27,9 @@ abbrev pub size_of_all : List TextLine → ℕ
 size_of_all [] = 0
 size_of_all (l ∷ ls) = size l + size_of_all ls
 
--- the greatest number of bytes of a line, and of a script
-abbrev pub max_line : ℕ
-max_line = 1048576
-
+-- the greatest number of bytes of a script
 abbrev pub max_script : ℕ
-max_script = 1073741824
+max_script = MAX_SCRIPT
 
 -- a line that stands behind this many bytes keeps the limits
 pub record IsShort (before : ℕ) (l : TextLine) : Type 0 where

@@ -1,10 +1,11 @@
 -- Lines that are not done, and end a script: why, and what is made of them.
-use Rattle.std.specs.Prelude.{◌≡◌, ◌≢◌, ◌⊎◌, ◌≤◌, ℕ, Bool, List, [], ◌∷◌, ◌++◌, Option, None, Some, map}
+use Rattle.std.specs.Prelude.{◌≡◌, ◌≢◌, ◌⊎◌, ◌≤◌, ℕ, Bool, true, List, [], ◌∷◌, ◌++◌, Option, None, Some, is_some, map}
 use Rattle.byte_text.specs.Names.{Bytes}
 use Rattle.byte_text.specs.Streams.{stream_of}
 use Rattle.script_text.specs.Lines.{line}
 use Rattle.script_text.specs.declared.lines.ScriptLine.{ScriptLine}
 use Rattle.script_text.specs.declared.lines.ScriptLine.TheVariants as says
+use Rattle.outside.specs.declared.sides.Side.{Side}
 use Rattle.world_data.specs.Limits.{most_logged}
 use Rattle.world_model.specs.Halls.{Hall}
 use Rattle.world_model.specs.Histories.{Step, answer}
@@ -18,6 +19,7 @@ use Rattle.replay_run.specs.declared.halts.Halt.{Halt}
 use Rattle.replay_run.specs.declared.halts.Halt.TheVariants as halted
 use Rattle.replay_run.specs.declared.readers.Reader.{Reader}
 use Rattle.replay_run.specs.TextLines.{TextLine, IsShort}
+use Rattle.replay_run.specs.Outputs.{printed}
 use Rattle.replay_run.specs.Readers.{Unread, asked_by, reader_of}
 use Rattle.replay_run.specs.Traces.{Deed, does, Trace}
 use Rattle.replay_run.specs.Played.{Played}
@@ -34,20 +36,25 @@ pub record IsSpent (h : Hall) (e : Event) : Type 0 where
   pub long : most_logged ≤ h.logged
   pub step : Step h e (answer called.Spent) h
 
+-- memory wanted for an event, or for what is printed of its ending
+abbrev pub IsLacking : Outcome → Type 0
+IsLacking o = (o ≡ answer called.Memory) ⊎ (is_some (printed o) ≡ true)
+
 -- an event that ends a script, and what is made of it: the log is at its greatest length, or fails; where memory wants, it was not
--- made, or nothing was printed of it
+-- made, or memory wanted for it or for its text
 abbrev pub Fails : Halt → Hall → Event → List Deed → Hall → Type 0
 Fails halted.Spent h e deeds next = IsSpent h e × (next ≡ h) × (deeds ≡ does e (answer called.Spent) ∷ [])
 Fails halted.DiskFault h e deeds next = Step h e (answer called.LogFault) next × (deeds ≡ does e (answer called.LogFault) ∷ [])
 Fails (halted.Damaged side place) h e deeds next = ⊥
-Fails halted.Memory h e deeds next = ((deeds ≡ []) × (next ≡ h)) ⊎ ((outcome : Outcome) × Step h e outcome next × (deeds ≡ does e outcome ∷ []))
+Fails halted.Memory h e deeds next = ((deeds ≡ []) × (next ≡ h))
+    ⊎ ((outcome : Outcome) × Step h e outcome next × (deeds ≡ does e outcome ∷ []) × IsLacking outcome)
 
 -- an ending of which nothing is printed, and why
 abbrev pub IsUnprinted : Halt → Outcome → Type 0
 IsUnprinted halted.Spent o = o ≡ answer called.Spent
 IsUnprinted halted.DiskFault o = o ≡ answer called.LogFault
 IsUnprinted (halted.Damaged side place) o = ⊥
-IsUnprinted halted.Memory o = Unit {0}
+IsUnprinted halted.Memory o = IsLacking o
 
 -- memory wants, and nothing is made
 abbrev pub WantsMemory : Halt → Hall → List Deed → Hall → Type 0
@@ -68,10 +75,11 @@ abbrev pub FeedsFails : Halt → Hall → ℕ → ℕ → Bytes → Option Reade
 FeedsFails halt h n m bytes None deeds last = WantsMemory halt h deeds last
 FeedsFails halt h n m bytes (Some r) deeds last = FedFails halt h n m r.unread bytes deeds last
 
--- the retirement fails; or the disk is not opened behind it; or it was, and memory wants
+-- the retirement fails; or the disk is not opened behind it, which is not damaged where it tells what it holds; or it was, and memory wants
 abbrev pub ReopenFails : Bool → Halt → Played → List Deed → Hall → Type 0
 ReopenFails told halt p deeds last = Fails halt p.hall event.Retire deeds last
-    ⊎ (((halt ≢ halted.Spent) × Step p.hall event.Retire (answer called.Ok) last × (deeds ≡ does event.Retire (answer called.Ok) ∷ []))
+    ⊎ (((halt ≢ halted.Spent) × (told ≡ true → (side : Side) (place : ℕ) → halt ≢ halted.Damaged side place)
+    × Step p.hall event.Retire (answer called.Ok) last × (deeds ≡ does event.Retire (answer called.Ok) ∷ []))
     ⊎ ((halt ≡ halted.Memory) × (next : Played) × Reopens told p deeds next × (last ≡ next.hall)))
 
 -- what is made of a line that is not done

@@ -39,6 +39,7 @@ pub fn check<D: Disk>(alloc: Global, disk: D) -> Result<Checked<D>, Unopened<D>>
     ensures generation { (s : Sides) → D.seen disk ≡ Some s → IfOk result (λ c. c.answer ≡ Called.Ok → HasGeneration D.crashes D.seen D.images c.disk c.generation) }
     ensures damaged { (s : Sides) → D.seen disk ≡ Some s → IfErr result (λ u. (side : Side) (place : ℕ) → u.why ≡ fault_of.Damaged side place → Damaged s side place) }
     ensures later { IfOk result (λ c. D.faults disk ≤ D.faults c.disk) }
+    ensures left { IfErr result (λ u. D.faults disk ≤ D.faults u.disk) }
     ensures retire_cause { IfOk result (λ c. c.answer ≡ Called.LogFault → Rose (D.faults disk) (D.faults c.disk)) }
     ensures cause { IfErr result (λ u. u.why ≡ fault_of.Disk → Rose (D.faults disk) (D.faults u.disk)) }
 {

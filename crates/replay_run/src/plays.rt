@@ -119,7 +119,10 @@ fn one_turn<S: Source, K: Sink, D: Disk>(
         × StaysSafe D.crashes D.seen D.images D.moment D.left_since D.faults player.core r.player.core deeds) }
     ensures done { IfOk result (λ r. r.turn ≢ Turn.Again) }
     ensures goes { IfOk result (λ r. r.turn ≡ Turn.Next → (hall_of r.player.core).stopped ≡ false) }
-    ensures failed { IfErr result (λ u. (deeds : List Deed) × (last : Hall) × ((told : Bool) → (l : TextLine) × IsFirstLine (S.left source.old) (S.left source.new) l × IsUndone told (halt_at u.why) used.old (played player) l deeds last)
+    ensures failed { IfErr result (λ u. (deeds : List Deed) × (last : Hall)
+        × ((told : Bool) → (told ≡ true → Logs D.crashes D.seen D.images player.core)
+        → (l : TextLine) × IsFirstLine (S.left source.old) (S.left source.new) l
+        × IsUndone told (halt_at u.why) used.old (played player) l deeds last)
         × (last.stopped ≡ true) × (K.held sink.new ≡ K.held sink.old)
         × ((before : List Deed) → StandsBehind D.crashes D.seen D.images D.moment D.left_since D.faults player.core before → IsSafeFor D.images D.left_since u.disk (before ++ deeds))) }
     ensures piece { IsOneLine (S.left source.old) (S.left source.new) }
@@ -222,6 +225,7 @@ pub fn replay<S: Source, K: Sink, D: Disk>(
         result.end (S.left source.old) (S.left source.new) (K.held sink.old) (K.held sink.new) }
     ensures source { S.faults source.old ≤ S.faults source.new }
     ensures sink { K.faults sink.old ≤ K.faults sink.new }
+    ensures disk { D.faults disk ≤ D.faults result.disk }
     ensures read_cause { result.end ≡ ReplayEnd.ReadFault → Rose (S.faults source.old) (S.faults source.new) }
     ensures write_cause { result.end ≡ ReplayEnd.WriteFault → Rose (K.faults sink.old) (K.faults sink.new) }
     ensures disk_cause { (result.end ≡ ReplayEnd.Halted Halt.DiskFault) ⊎ (result.end ≡ ReplayEnd.Unopened Halt.DiskFault) → Rose (D.faults disk) (D.faults result.disk) }

@@ -34,6 +34,7 @@ impl<D: Disk> Player<D> {
             → IfOk result (λ p. StandsBehind D.crashes D.seen D.images D.moment D.left_since D.faults p.core (opens (hall_of p.core).world (hall_of p.core).logged ∷ [])) }
         ensures damaged { (s : Sides) → D.seen disk ≡ Some s → IfErr result (λ u. (side : Side) (place : ℕ) → u.why ≡ fault_of.Damaged side place → Damaged s side place) }
         ensures later { IfOk result (λ p. D.faults disk ≤ D.faults (disk_of p.core)) }
+        ensures left { IfErr result (λ u. D.faults disk ≤ D.faults u.disk) }
         ensures cause { IfErr result (λ u. u.why ≡ fault_of.Disk → Rose (D.faults disk) (D.faults u.disk)) }
     {
         let (Ok(frames), Ok(touched)) = (Frames::new(alloc), Touched::new(alloc)) else {
@@ -60,7 +61,9 @@ impl<D: Disk> Player<D> {
         ensures again { IfOk result (λ p. (deeds : List Deed) × ((told : Bool) → (told ≡ true → Logs D.crashes D.seen D.images self.core) → Reopens told (played self) deeds (played p))
             × StaysSafe D.crashes D.seen D.images D.moment D.left_since D.faults self.core p.core deeds) }
         ensures goes { IfOk result (λ p. (hall_of p.core).stopped ≡ false) }
-        ensures failed { IfErr result (λ u. (deeds : List Deed) × (last : Hall) × ((told : Bool) → ReopenFails told (halt_at u.why) (played self) deeds last) × (last.stopped ≡ true)
+        ensures failed { IfErr result (λ u. (deeds : List Deed) × (last : Hall)
+            × ((told : Bool) → (told ≡ true → Logs D.crashes D.seen D.images self.core) → ReopenFails told (halt_at u.why) (played self) deeds last)
+            × (last.stopped ≡ true)
             × ((before : List Deed) → StandsBehind D.crashes D.seen D.images D.moment D.left_since D.faults self.core before → IsSafeFor D.images D.left_since u.disk (before ++ deeds))) }
         ensures later { IfOk result (λ p. D.faults (disk_of self.core) ≤ D.faults (disk_of p.core)) }
         ensures left { IfErr result (λ u. D.faults (disk_of self.core) ≤ D.faults u.disk) }

@@ -7,9 +7,7 @@ ghost use Rattle.replay_run.specs.TextLines.{max_script};
 ghost use Rattle.replay_run.specs.Reads.{IsOneLine, OnLine};
 
 use outside::{Failed, Source};
-
-/// The greatest number of bytes of a line.
-const MAX_LINE: usize = 1 << 20;
+use script_text::MAX_LINE;
 
 /// The greatest number of bytes of a script.
 const MAX_SCRIPT: u64 = 1 << 30;

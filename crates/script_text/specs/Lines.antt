@@ -10,14 +10,15 @@ use Rattle.script_text.specs.declared.lines.ScriptLine.{ScriptLine}
 use Rattle.script_text.specs.declared.lines.ScriptLine.TheVariants.{Nothing, Enter, Feed, Take, Tick, Close, Step, Reopen}
 use Rattle.script_text.specs.declared.lines.LineFault.{LineFault}
 use Rattle.script_text.specs.declared.lines.LineFault.TheVariants.{Outside, Memory}
+use Rattle.script_text.specs.declared.lines.TheConstants.{MAX_LINE, LAST_MOMENT}
 
 -- the most bytes of a line
 abbrev pub max_line : ℕ
-max_line = 1048576
+max_line = MAX_LINE
 
 -- the last moment, in milliseconds
 abbrev pub max_moment : ℕ
-max_moment = 9007199254740991
+max_moment = LAST_MOMENT
 
 -- the number of a session: canonical, of 32 bits
 abbrev pub session : Bytes → Option ℕ

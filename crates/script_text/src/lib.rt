@@ -6,7 +6,7 @@ mod line_words;
 mod lines;
 
 pub use frame_lines::push_frame_line;
-pub use lines::{LineFault, ScriptLine, line_of};
+pub use lines::{LineFault, MAX_LINE, ScriptLine, line_of};
 
 #[cfg(test)]
 mod tests;

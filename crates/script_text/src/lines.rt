@@ -13,6 +13,12 @@ use byte_text::{NoMemory, Text, read_u64};
 use percent_encoding::percent_decode;
 use std::alloc::Global;
 
+/// The greatest number of bytes of a line.
+pub const MAX_LINE: usize = 1 << 20;
+
+/// The last moment of a line, in milliseconds.
+const LAST_MOMENT: u64 = (1 << 53) - 1;
+
 /// What a line of a script says.
 #[derive(Drop)]
 pub enum ScriptLine {
@@ -64,13 +70,7 @@ fn moment(text: &[u8]) -> Option<u64>
     ensures { result ≡ says.moment text.now }
 {
     match read_u64(text) {
-        Ok(n) => {
-            if n <= 9_007_199_254_740_991 {
-                Some(n)
-            } else {
-                None
-            }
-        }
+        Ok(n) => { if n <= LAST_MOMENT { Some(n) } else { None } }
         Err(_) => None,
     }
 }
@@ -206,7 +206,7 @@ pub fn line_of(alloc: Global, bytes: &[u8]) -> Result<ScriptLine, LineFault>
 fn read_line(alloc: Global, bytes: &[u8]) -> Result<ScriptLine, LineFault>
     ensures { IsAnswer (says.line bytes.now) result }
 {
-    if bytes.len() > 1_048_576 {
+    if bytes.len() > MAX_LINE {
         return Err(LineFault::Outside);
     }
     if is_silent(bytes) {

@@ -1,9 +1,10 @@
 -- Objects in the order of a rule.
-use Rattle.std.proofs.Common.{◌≡◌, ◌+◌, ◌≤◌, ℕ, zero, suc, Bool, refl, ap, add-one, List, [], ◌∷◌, ◌++◌, length, take, arith}
+use Rattle.std.proofs.Common.{◌≡◌, ◌∙◌, ◌+◌, ◌≤◌, ℕ, Bool, refl, ap, List, [], ◌∷◌, ◌++◌, length, take, arith}
 use Rattle.std.specs.Prelude.{filter, reverse, slice_get, Some, if◌then◌else◌}
 use Rattle.std.proofs.lemmas.List.{length-reverse, take_all}
 use Rattle.std.proofs.lemmas.List.Elements.{filter-append}
 use Rattle.std.proofs.lemmas.Grind.{common_steps, reverse_onto}
+use Rattle.byte_text.specs.ListLaws.{take_next}
 use Rattle.fence_model.specs.Queries.{in_order}
 use Rattle.world_data.specs.declared.objects.Object.{Object}
 use Rattle.world_data.specs.declared.queries.Rule.{Rule}
@@ -33,18 +34,9 @@ length_in_order Down objects = length-reverse objects
 length_in_order (Kept kind a) objects = refl
 length_in_order Nearest objects = refl
 
-take_suc : {A : Type 0} (xs : List A) (i : ℕ) (x : A) → slice_get xs i ≡ Some x → take (suc i) xs ≡ take i xs ++ x ∷ []
-take_suc [] i x is = absurd cc
-take_suc (y ∷ xs) zero x is = let same : y ≡ x = cc in cc
-take_suc (y ∷ xs) (suc i) x is = ap (λ l. y ∷ l) (take_suc xs i x is)
-
 -- one more item is read
 pub noted : {A : Type 0} (p : A → Bool) (xs : List A) (i : ℕ) (x : A) → slice_get xs i ≡ Some x → filter p (take (i + 1) xs) ≡ filter p (take i xs) ++ filter p (x ∷ [])
-noted p xs i x is = rw (add-one, take_suc xs i x is) (filter-append p (take i xs) (x ∷ []))
-
-pub no_more : {A : Type 0} (p : A → Bool) (xs : List A) → length (filter p xs) ≤ length xs
-no_more p [] = omega arith
-no_more p (x ∷ xs) = let ih = no_more p xs in grind (arith, common_steps)
+noted p xs i x is = ap (filter p) (take_next xs i x is) ∙ filter-append p (take i xs) (x ∷ [])
 
 -- and all were read
 pub all_found : (p : Object → Bool) (rule : Rule) (objects : List Object) (i : ℕ) → length objects ≤ i → filter p (take i (in_order rule objects)) ≡ in_order rule (filter p objects)

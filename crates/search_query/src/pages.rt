@@ -1,6 +1,6 @@
 //! Pages of what a query finds.
 
-ghost use Rattle.std.specs.Prelude.{◌≡◌, ◌<◌, ◌≤◌, ◌+◌, ◌^◌, ◌++◌, ◌∷◌, [], List, ◌&&◌, true, not, if◌then◌else◌, length, filter, reverse, slice_get, Some, nat_lt, nat_le, IfOk, OnOk};
+ghost use Rattle.std.specs.Prelude.{◌≡◌, ◌<◌, ◌≤◌, ◌+◌, ◌^◌, ◌++◌, ◌∷◌, [], List, ◌&&◌, true, false, not, if◌then◌else◌, length, filter, reverse, slice_get, Some, nat_lt, nat_le, IfOk, OnOk};
 ghost use Rattle.fence_model.specs.Queries.{IsPageOf, matches, meets_query, page_ids, is_count};
 ghost use Rattle.world_data.specs.declared.objects.Object.{Object};
 ghost use Rattle.byte_text.specs.Globs.{is_sound_glob};
@@ -20,8 +20,8 @@ use world_data::{NameList, Object, Page, Query, Rule, Shown};
 
 /// The page of what the query finds among the objects of a key: their ids from place `cursor` on, at most `limit`, and where the
 /// next page begins; of a count the number of all that is found. Where the query has an area only objects are looked at whose box
-/// meets the area's box, and the steps rise by the nodes of the tree that are visited, one at least where there is an object. For
-/// want of memory the page may hold anything.
+/// meets the area's box, and the steps rise by the nodes of the tree that are visited, one at least where there is an object; where
+/// it has none no node is visited. For want of memory the page may hold anything.
 pub fn page<L: Ledger>(
     alloc: Global,
     collection: &Collection,
@@ -32,6 +32,7 @@ pub fn page<L: Ledger>(
     requires pattern { is_sound_glob query.now.glob ≡ true }
     ensures page { OnOk result (IsPageOf query.now (matches query.now collection.now.objects) into.new) }
     ensures visits { has_area query.now.rule ≡ true → IsVisited collection.now.objects steps.old.count steps.new.count }
+    ensures none { has_area query.now.rule ≡ false → steps.new.count ≡ steps.old.count }
 {
     into.ids.clear();
     let found = match &query.rule {

@@ -3,10 +3,11 @@ use Rattle.std.specs.Prelude.{ℕ, Bool, true, not, ◌&&◌, ◌==◌, nat_le, 
 use Rattle.byte_text.specs.Names.{Bytes}
 use Rattle.byte_text.specs.Numbers.{read_natural}
 use Rattle.byte_text.specs.declared.texts.TextFault.{TextFault}
+use Rattle.serve_command.specs.declared.words.TheConstants.{MOST_LINKS}
 
 -- so many callers are served where the words say nothing else, and at most
 abbrev pub most_links : ℕ
-most_links = 1000000000
+most_links = MOST_LINKS
 
 -- where to listen, and how many callers are served
 pub record Serve : Type 0 where

@@ -8,7 +8,7 @@ use Rattle.world_model.specs.declared.events.Called.{Called}
 use Rattle.world_model.specs.declared.events.Called.TheVariants as called
 use Rattle.world_model.specs.declared.events.Event.TheVariants as event
 use Rattle.world_model.specs.Seats.{Knows, Act}
-use Rattle.session_run.specs.CauseLaws.{rose_later}
+use Rattle.outside.specs.CauseLaws.{rose_later}
 use Rattle.session_run.specs.Gains.{Gains, gains_more}
 use Rattle.serve_run.specs.declared.starts.Fate.{Fate}
 use Rattle.serve_run.specs.declared.tends.ServeEnd.{ServeEnd}
@@ -145,21 +145,11 @@ rounds_more told old mid new last lost r t =
 
 no_done : (c : Called) → serve_end c ≡ Some end.Done → ⊥
 no_done called.Ok e = absurd (cc)
-no_done called.Full e = absurd (cc)
-no_done called.Gone e = absurd (cc)
-no_done called.LogFault e = absurd (cc)
-no_done called.Stopped e = absurd (cc)
-no_done called.Spent e = absurd (cc)
-no_done called.Memory e = absurd (cc)
+no_done c e = absurd (cc)
 
 no_door : (c : Called) → serve_end c ≡ Some end.DoorFault → ⊥
 no_door called.Ok e = absurd (cc)
-no_door called.Full e = absurd (cc)
-no_door called.Gone e = absurd (cc)
-no_door called.LogFault e = absurd (cc)
-no_door called.Stopped e = absurd (cc)
-no_door called.Spent e = absurd (cc)
-no_door called.Memory e = absurd (cc)
+no_door c e = absurd (cc)
 
 ends_last : (e : ServeEnd) (told : Option ℕ) (limit : ℕ) (last : List Act) (old new : State) → IsLast told e last → EndsBy e told limit last old new
 ends_last end.Done told limit last old new i = absurd (no_done i.1 i.3)

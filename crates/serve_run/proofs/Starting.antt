@@ -9,7 +9,7 @@ use Rattle.world_model.specs.declared.events.EnterFault.TheVariants as refused
 use Rattle.world_model.specs.declared.events.Called.TheVariants as called
 use Rattle.world_model.specs.declared.events.Event.TheVariants as event
 use Rattle.world_model.specs.declared.events.Outcome.TheVariants as outcome
-use Rattle.session_run.specs.CauseLaws.{rose_later}
+use Rattle.outside.specs.CauseLaws.{rose_later}
 use Rattle.session_run.specs.Gains.{Gains, gains_more, gains_one, made}
 use Rattle.serve_run.specs.declared.starts.Fate.{Fate}
 use Rattle.serve_run.specs.declared.starts.Fate.TheVariants.{Refused, Unread, Dropped, Starved}

@@ -16,12 +16,7 @@ tends_tick told old new m c e t is adds = record { last = tick_act m c ∷ []; g
 
 fine : (c : Called) → serve_end c ≡ None → c ≡ called.Ok
 fine called.Ok e = refl
-fine called.Full e = absurd (cc)
-fine called.Gone e = absurd (cc)
-fine called.LogFault e = absurd (cc)
-fine called.Stopped e = absurd (cc)
-fine called.Spent e = absurd (cc)
-fine called.Memory e = absurd (cc)
+fine c e = absurd (cc)
 
 -- one more Rewrite behind those that were answered Ok
 pub rewrote_next : (old mid new : Knows) (n : ℕ) (c : Called) → serve_end c ≡ None → Gains old mid (rewrites n) → Adds event.Rewrite (outcome.Answered c) mid new → Gains old new (rewrites (n + 1))

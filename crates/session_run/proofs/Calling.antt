@@ -2,6 +2,7 @@
 use Rattle.std.proofs.Common.{◌≡◌, ◌≤◌, ◌<◌, ◌+◌, ℕ, zero, suc, Bool, true, false, List, [], ◌∷◌, ◌++◌, length, take, drop, refl, sym, ap, ◌∙◌, subst, arith, append_assoc, length-drop, length-append}
 use Rattle.std.specs.Prelude.{Option, Some, None, MatchOption, map, slice_get, ◌||◌}
 use Rattle.std.specs.List.{list_all, list_any}
+use Rattle.std.proofs.lemmas.Option.{same_Some}
 use Rattle.ordered_lists.specs.Reading.{both_of}
 use Rattle.world_model.specs.Outcomes.{is_proper}
 use Rattle.world_model.specs.declared.events.Asked.{Asked}
@@ -26,12 +27,7 @@ next_more c asks more i = (i.0 ++ more, ap (λ (l : List Asked). l ++ more) i.1)
 
 behind_more : (answer : Called) (a : Asked) (asks more : List Asked) → behind answer ((a ∷ asks) ++ more) ≡ behind answer (a ∷ asks) ++ more
 behind_more called.Ok a asks more = refl
-behind_more called.Full a asks more = refl
-behind_more called.Gone a asks more = refl
-behind_more called.LogFault a asks more = refl
-behind_more called.Stopped a asks more = refl
-behind_more called.Spent a asks more = refl
-behind_more called.Memory a asks more = refl
+behind_more answer a asks more = refl
 
 behind_next : (c : Call) (asks more : List Asked) → IsNext c asks → behind c.answer (asks ++ more) ≡ behind c.answer asks ++ more
 behind_next c asks more i = subst (λ (l : List Asked). behind c.answer (l ++ more) ≡ behind c.answer l ++ more) (sym i.1) (behind_more c.answer c.asked i.0 more)
@@ -80,22 +76,12 @@ proper_drop (a ∷ asks) (suc n) h = proper_drop asks n (both_of (is_proper a) (
 pub some_acts : (n m : ℕ) (asks : List Asked) (served : ℕ) (end : Called) → 0 < length asks → IsCount served end (length asks) → 0 < length (call_acts n m asks served end)
 some_acts n m [] served end some count = absurd (omega (arith, some))
 some_acts n m (a ∷ asks) zero called.Ok some count = absurd (omega (arith, count))
-some_acts n m (a ∷ asks) zero called.Full some count = omega arith
-some_acts n m (a ∷ asks) zero called.Gone some count = omega arith
-some_acts n m (a ∷ asks) zero called.LogFault some count = omega arith
-some_acts n m (a ∷ asks) zero called.Stopped some count = omega arith
-some_acts n m (a ∷ asks) zero called.Spent some count = omega arith
-some_acts n m (a ∷ asks) zero called.Memory some count = omega arith
+some_acts n m (a ∷ asks) zero end some count = omega arith
 some_acts n m (a ∷ asks) (suc served) end some count = omega arith
 
 pub served_within : (end : Called) (served most : ℕ) → IsCount served end most → served ≤ most
 served_within called.Ok served most count = omega (arith, count)
-served_within called.Full served most count = omega (arith, count)
-served_within called.Gone served most count = omega (arith, count)
-served_within called.LogFault served most count = omega (arith, count)
-served_within called.Stopped served most count = omega (arith, count)
-served_within called.Spent served most count = omega (arith, count)
-served_within called.Memory served most count = omega (arith, count)
+served_within end served most count = omega (arith, count)
 
 -- what the calls of a turn and a take behind them added
 pub turn_gains : (n m : ℕ) (old new : Knows) (asks : List Asked) (served : ℕ) (end : Called) (takes : List Act) → 0 < length asks → IsCount served end (length asks) → AddsCalls (call_acts n m asks served end ++ takes) old new
@@ -134,8 +120,8 @@ module _ (n m : ℕ) (told : Option ℕ) (old new : Knows) (took : List Act) (as
       ∙ ap (λ (l : List Act). l ++ call_of n c ∷ []) (sym (oks_are n m (take served asks))) ∙ sym (map_more n oks (c ∷ [])))
       g
 
-  turn_full : IsCount served called.Full (length asks) → GainsBoth old new (call_acts n m asks served called.Full) took → ServesOn n told old new asks (drop served asks) took
-  turn_full count g =
+  pub turn_waits : IsCount served called.Full (length asks) → GainsBoth old new (call_acts n m asks served called.Full) took → ServesOn n told old new asks (drop served asks) took
+  turn_waits count g =
       let left = next_left asks served count in
       let oks = map (ok_call m) (take served asks) in
       let c : Call = record { moment = m; asked = left.0; answer = called.Full } in
@@ -172,16 +158,10 @@ module _ (n m : ℕ) (told : Option ℕ) (old new : Knows) (took : List Act) (as
   turn_ends called.Spent ne count g = turn_stop called.Spent (λ a more. refl) count (λ stop s. s) count g
   turn_ends called.Memory ne count g = turn_stop called.Memory (λ a more. refl) count (λ stop s. s) count g
 
-  pub turn_waits : IsCount served called.Full (length asks) → GainsBoth old new (call_acts n m asks served called.Full) took → ServesOn n told old new asks (drop served asks) took
-  turn_waits count g = turn_full count g
-
-same_asked : (a b : Asked) → Some a ≡ Some b → a ≡ b
-same_asked a b e = cc
-
 -- the requests from a place on, of which the first is at hand
 pub any_next : (p : Asked → Bool) (asks : List Asked) (i : ℕ) (a : Asked) → slice_get asks i ≡ Some a → list_any p (drop i asks) ≡ (p a || list_any p (drop (i + 1) asks))
 any_next p [] i a at = absurd (cc)
-any_next p (b ∷ asks) zero a at = ap (λ (x : Asked). p x || list_any p asks) (same_asked b a at)
+any_next p (b ∷ asks) zero a at = ap (λ (x : Asked). p x || list_any p asks) (same_Some b a at)
 any_next p (b ∷ asks) (suc i) a at =
     let same : suc (i + 1) ≡ suc i + 1 = omega arith in
     any_next p asks i a at ∙ ap (λ (n : ℕ). p a || list_any p (drop n (b ∷ asks))) same

@@ -6,7 +6,10 @@ use Rattle.std.proofs.lemmas.List.{append-nil}
 use Rattle.std.proofs.lemmas.List.Folds.{list_all-append}
 use Rattle.byte_text.specs.Names.{Bytes}
 use Rattle.byte_text.specs.Requests.{IsRequest, request_text}
-use Rattle.byte_text.specs.Streams.{found, begun, broken, request, stream_of, with_first, only_rest, only_fault}
+use Rattle.byte_text.specs.Streams.{found, broken, request, stream_of}
+use Rattle.byte_text.specs.StreamTexts.{request_read}
+use Rattle.byte_text.specs.StreamFound.{request_found}
+use Rattle.byte_text.specs.StreamLaws.{stream_found, stream_begun, stream_broken, broken_stays}
 use Rattle.byte_text.specs.declared.faults.RespFault.{RespFault}
 use Rattle.resp_frames.specs.declared.faults.FeedFault.TheVariants as feed
 use Rattle.resp_frames.specs.RequestReader.{Held, IsFed, IsNotFed}
@@ -15,57 +18,47 @@ use Rattle.world_model.specs.declared.events.Asked.{Asked}
 use Rattle.world_model.specs.declared.events.Asked.TheVariants.{Words, Broken}
 use Rattle.session_run.specs.Feeds.{asked_by, asked_behind, Feeds, Reads, ReadsFault}
 
--- what is said of a stream by its front
-pub record Laws : Type 0 where
-  pub found_first : (bytes behind : Bytes) (words : List Bytes) → request bytes ≡ found words behind → stream_of bytes ≡ with_first words (stream_of behind)
-  pub begun_rest : (bytes : Bytes) → request bytes ≡ begun → stream_of bytes ≡ only_rest bytes
-  pub broken_fault : (bytes : Bytes) (fault : RespFault) → request bytes ≡ broken fault → stream_of bytes ≡ only_fault fault
-  pub found_text : (bytes behind : Bytes) (words : List Bytes) → request bytes ≡ found words behind → IsRequest words × (bytes ≡ request_text words ++ behind)
-  pub text_found : (words : List Bytes) (behind : Bytes) → IsRequest words → request (request_text words ++ behind) ≡ found words behind
-  pub broken_more : (bytes more : Bytes) (fault : RespFault) → request bytes ≡ broken fault → request (bytes ++ more) ≡ broken fault
-
 proper_words : (words : List Bytes) → IsRequest words → is_proper (Words words) ≡ true
 proper_words [] r = absurd (omega (arith, r.some))
 proper_words (w ∷ words) r = refl
 
-module _ (laws : Laws) where
-  found_more : (bytes behind more : Bytes) (words : List Bytes) → request bytes ≡ found words behind → request (bytes ++ more) ≡ found words (behind ++ more)
-  found_more bytes behind more words e =
-      let t = laws.found_text bytes behind words e in
-      ap request (ap (λ (l : Bytes). l ++ more) t.1 ∙ append_assoc (request_text words) behind more) ∙ laws.text_found words (behind ++ more) t.0
+found_more : (bytes behind more : Bytes) (words : List Bytes) → request bytes ≡ found words behind → request (bytes ++ more) ≡ found words (behind ++ more)
+found_more bytes behind more words e =
+    let t = request_found bytes words behind e in
+    ap request (ap (λ (l : Bytes). l ++ more) t.1 ∙ append_assoc (request_text words) behind more) ∙ request_read words (behind ++ more) t.0
 
-  pub reads_next : (old new : Held) (bytes : Bytes) (taken : ℕ) (words : List Bytes) (before now : List Asked) → IsFed old new bytes taken (Some words) → now ≡ before ++ Words words ∷ []
-      → (taken ≤ length bytes) × Reads old bytes new (drop taken bytes) before now
-  reads_next None new bytes taken words before now fed pushed = absurd fed
-  reads_next (Some held) new bytes taken words before now fed pushed = (
-    fed.1,
-    record {
-      ask = Words words;
-      pushed = pushed;
-      proper = proper_words words fed.3;
-      feeds = record {
-        goes = λ more. subst (λ (h : Held). asked_behind (Some held) (bytes ++ more) ≡ Words words ∷ asked_behind h (drop taken bytes ++ more)) (sym fed.2)
-            (ap asked_by (ap stream_of (sym (append_assoc held bytes more)) ∙ laws.found_first ((held ++ bytes) ++ more) (drop taken bytes ++ more) words (found_more (held ++ bytes) (drop taken bytes) more words fed.0)));
-      };
-    },
-  )
+pub reads_next : (old new : Held) (bytes : Bytes) (taken : ℕ) (words : List Bytes) (before now : List Asked) → IsFed old new bytes taken (Some words) → now ≡ before ++ Words words ∷ []
+    → (taken ≤ length bytes) × Reads old bytes new (drop taken bytes) before now
+reads_next None new bytes taken words before now fed pushed = absurd fed
+reads_next (Some held) new bytes taken words before now fed pushed = (
+  fed.1,
+  record {
+    ask = Words words;
+    pushed = pushed;
+    proper = proper_words words fed.3;
+    feeds = record {
+      goes = λ more. subst (λ (h : Held). asked_behind (Some held) (bytes ++ more) ≡ Words words ∷ asked_behind h (drop taken bytes ++ more)) (sym fed.2)
+          (ap asked_by (ap stream_of (sym (append_assoc held bytes more)) ∙ stream_found ((held ++ bytes) ++ more) (drop taken bytes ++ more) words (found_more (held ++ bytes) (drop taken bytes) more words fed.0)));
+    };
+  },
+)
 
-  pub reads_dry : (old new : Held) (bytes : Bytes) (taken : ℕ) → IsFed old new bytes taken None → Feeds old bytes new [] [] × (asked_behind new [] ≡ [])
-  reads_dry None new bytes taken fed = absurd fed
-  reads_dry (Some held) new bytes taken fed = (
-    record { goes = λ more. subst (λ (h : Held). asked_behind (Some held) (bytes ++ more) ≡ asked_behind h more) (sym fed.2) (ap (λ (l : Bytes). asked_by (stream_of l)) (sym (append_assoc held bytes more))) },
-    subst (λ (h : Held). asked_behind h [] ≡ []) (sym fed.2) (ap asked_by (ap stream_of (append-nil (held ++ bytes)) ∙ laws.begun_rest (held ++ bytes) fed.0)),
-  )
+pub reads_dry : (old new : Held) (bytes : Bytes) (taken : ℕ) → IsFed old new bytes taken None → Feeds old bytes new [] [] × (asked_behind new [] ≡ [])
+reads_dry None new bytes taken fed = absurd fed
+reads_dry (Some held) new bytes taken fed = (
+  record { goes = λ more. subst (λ (h : Held). asked_behind (Some held) (bytes ++ more) ≡ asked_behind h more) (sym fed.2) (ap (λ (l : Bytes). asked_by (stream_of l)) (sym (append_assoc held bytes more))) },
+  subst (λ (h : Held). asked_behind h [] ≡ []) (sym fed.2) (ap asked_by (ap stream_of (append-nil (held ++ bytes)) ∙ stream_begun (held ++ bytes) fed.0)),
+)
 
-  broken_feeds : (held bytes : Bytes) (new : Held) (fault : RespFault) → request (held ++ bytes) ≡ broken fault → new ≡ None → Feeds (Some held) bytes new [] (Broken fault ∷ [])
-  broken_feeds held bytes new fault e is = record {
-    goes = λ more. subst (λ (h : Held). asked_behind (Some held) (bytes ++ more) ≡ Broken fault ∷ asked_behind h more) (sym is)
-        (ap asked_by (ap stream_of (sym (append_assoc held bytes more)) ∙ laws.broken_fault ((held ++ bytes) ++ more) fault (laws.broken_more (held ++ bytes) more fault e)));
-  }
+broken_feeds : (held bytes : Bytes) (new : Held) (fault : RespFault) → request (held ++ bytes) ≡ broken fault → new ≡ None → Feeds (Some held) bytes new [] (Broken fault ∷ [])
+broken_feeds held bytes new fault e is = record {
+  goes = λ more. subst (λ (h : Held). asked_behind (Some held) (bytes ++ more) ≡ Broken fault ∷ asked_behind h more) (sym is)
+      (ap asked_by (ap stream_of (sym (append_assoc held bytes more)) ∙ stream_broken ((held ++ bytes) ++ more) fault (broken_stays (held ++ bytes) more fault e)));
+}
 
-  pub reads_fault : (old new : Held) (bytes : Bytes) (fault : RespFault) (before now : List Asked) → IsNotFed old new bytes (feed.Broken fault) → now ≡ before ++ Broken fault ∷ [] → ReadsFault old bytes new before now
-  reads_fault None new bytes fault before now fed pushed = absurd (cc)
-  reads_fault (Some held) new bytes fault before now fed pushed = record { fault = fault; pushed = pushed; proper = refl; feeds = broken_feeds held bytes new fault fed.0 fed.1; dead = fed.1 }
+pub reads_fault : (old new : Held) (bytes : Bytes) (fault : RespFault) (before now : List Asked) → IsNotFed old new bytes (feed.Broken fault) → now ≡ before ++ Broken fault ∷ [] → ReadsFault old bytes new before now
+reads_fault None new bytes fault before now fed pushed = absurd (cc)
+reads_fault (Some held) new bytes fault before now fed pushed = record { fault = fault; pushed = pushed; proper = refl; feeds = broken_feeds held bytes new fault fed.0 fed.1; dead = fed.1 }
 
 pub feeds_none : (held : Held) (bytes : Bytes) → Feeds held bytes held bytes []
 feeds_none held bytes = record { goes = λ more. refl }

@@ -11,7 +11,7 @@ use Rattle.outside.specs.Causes.{Rose}
 use Rattle.world_model.specs.Seats.{Knows, Act, Adds}
 use Rattle.world_model.specs.declared.events.Event.TheVariants as event
 use Rattle.world_model.specs.declared.events.Outcome.TheVariants as outcome
-use Rattle.session_run.specs.CauseLaws.{rose_later}
+use Rattle.outside.specs.CauseLaws.{rose_later}
 use Rattle.session_run.specs.Gains.{Gains, Makes, gains_more, gains_last, gains_one, made}
 use Rattle.session_run.specs.declared.outs.OutEnd.{OutEnd}
 use Rattle.session_run.specs.declared.outs.OutEnd.TheVariants.{Ended, WriteFault, LogFault, Stopped}

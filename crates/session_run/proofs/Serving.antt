@@ -14,7 +14,7 @@ use Rattle.world_model.specs.declared.events.Called.TheVariants as called
 use Rattle.world_model.specs.declared.events.Event.TheVariants as event
 use Rattle.world_model.specs.declared.events.Outcome.TheVariants as outcome
 use Rattle.world_model.specs.Seats.{Knows, Act, Adds}
-use Rattle.session_run.specs.CauseLaws.{rose_later}
+use Rattle.outside.specs.CauseLaws.{rose_later}
 use Rattle.session_run.specs.Gains.{Gains, GainsBoth, SeesLegal, gains_one, made}
 use Rattle.session_run.proofs.Mixing.{both_none, both_more, both_calls, both_takes}
 use Rattle.session_run.specs.Calls.{Call, call_of, Serves, IsStop, ServesList}

@@ -5,4 +5,3 @@ pub mod Feeds
 pub mod Ends
 pub mod Writings
 pub mod Jobs
-pub mod CauseLaws

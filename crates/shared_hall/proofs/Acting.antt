@@ -1,77 +1,24 @@
 -- What each call of a core is to its history: an act.
-use Rattle.std.proofs.Common.{◌≡◌, ◌≤◌, ℕ, Bool, true, false, List, Option, Result, Ok, Err, refl, sym, ap, ◌∙◌, subst, arith, true≢false}
-use Rattle.std.specs.Prelude.{Some, ◌||◌}
-use Rattle.byte_text.specs.Names.{Bytes}
+use Rattle.std.proofs.Common.{◌≡◌, ◌≤◌, ℕ, Bool, true, false, Option, refl, sym, ap, ◌∙◌, subst, arith, true≢false}
+use Rattle.std.specs.Prelude.{◌||◌}
 use Rattle.outside.specs.Causes.{Rose}
 use Rattle.outside.specs.Sides.{Sides}
 use Rattle.world_model.specs.Halls.{Hall}
 use Rattle.world_model.specs.Histories.{Step, when_stopped, stopped, is_log_fault}
-use Rattle.world_model.specs.Outcomes.{enter_outcome, take_outcome}
 use Rattle.world_model.specs.Seats.{Act}
-use Rattle.world_model.specs.declared.events.Called.{Called}
-use Rattle.world_model.specs.declared.events.Called.TheVariants as called
-use Rattle.world_model.specs.declared.events.Taken.{Taken}
-use Rattle.world_model.specs.declared.events.Taken.TheVariants as taken
-use Rattle.world_model.specs.declared.events.EnterFault.{EnterFault}
-use Rattle.world_model.specs.declared.events.EnterFault.TheVariants as refused
 use Rattle.world_model.specs.declared.events.Event.{Event}
-use Rattle.world_model.specs.declared.events.Event.TheVariants.{Enter, Call, Take, Tick, Close, Remove, Rewrite, Retire}
+use Rattle.world_model.specs.declared.events.Event.TheVariants.{Retire}
 use Rattle.world_model.specs.declared.events.Outcome.{Outcome}
-use Rattle.world_model.specs.declared.events.Outcome.TheVariants.{Answered}
-use Rattle.log_record.specs.Journals.{Journal, Turn, TellsNow, shows}
+use Rattle.log_record.specs.Journals.{Journal, Turn, TellsNow, is_retire}
+use Rattle.log_record.specs.AnswerLaws.{stopped_says}
 use Rattle.log_record.specs.Laws.{KeepsSafe}
 use Rattle.log_record.specs.TurnLaws.{turn_keeps_safe}
 use Rattle.durable_core.specs.Logged.{hall_of, disk_of, KeepsLogOf, GoesOn}
 use Rattle.durable_core.specs.StepLaws.{stops, same_hall}
 use Rattle.durable_core.specs.declared.cores.DurableCore.{DurableCore}
 use Rattle.shared_hall.specs.Cores.{hall_in, disk_in, has_left, KeepsIn, Acts}
-use Rattle.shared_hall.specs.Times.{is_retire}
 use Rattle.shared_hall.specs.declared.places.Place.{Place}
 use Rattle.shared_hall.specs.declared.places.Place.TheVariants.{Inside}
-
--- which answers say that the log failed
-
-pub call_failed : (c : Called) → is_log_fault (Answered c) ≡ true → c ≡ called.LogFault
-call_failed called.Ok is = absurd (true≢false (sym is))
-call_failed called.Full is = absurd (true≢false (sym is))
-call_failed called.Gone is = absurd (true≢false (sym is))
-call_failed called.LogFault is = refl
-call_failed called.Stopped is = absurd (true≢false (sym is))
-call_failed called.Spent is = absurd (true≢false (sym is))
-call_failed called.Memory is = absurd (true≢false (sym is))
-
-pub take_failed : (t : Taken) (frames : List Bytes) → is_log_fault (take_outcome t frames) ≡ true → t ≡ taken.LogFault
-take_failed (taken.Some n) frames is = absurd (true≢false (sym is))
-take_failed taken.Empty frames is = absurd (true≢false (sym is))
-take_failed taken.Ended frames is = absurd (true≢false (sym is))
-take_failed taken.LogFault frames is = refl
-take_failed taken.Stopped frames is = absurd (true≢false (sym is))
-
-pub enter_never_fails : (r : Result ℕ EnterFault) → is_log_fault (enter_outcome r) ≡ false
-enter_never_fails (Ok n) = refl
-enter_never_fails (Err refused.TooMany) = refl
-enter_never_fails (Err refused.Stopped) = refl
-enter_never_fails (Err refused.Memory) = refl
-
-stopped_fine : (event : Event) → is_log_fault (when_stopped event) ≡ false
-stopped_fine Enter = refl
-stopped_fine (Call n moment asked) = refl
-stopped_fine (Take n) = refl
-stopped_fine (Tick moment) = refl
-stopped_fine (Close n) = refl
-stopped_fine (Remove n) = refl
-stopped_fine Rewrite = refl
-stopped_fine Retire = refl
-
-stopped_shows_nothing : (event : Event) → shows event (when_stopped event) ≡ false
-stopped_shows_nothing Enter = refl
-stopped_shows_nothing (Call n moment asked) = refl
-stopped_shows_nothing (Take n) = refl
-stopped_shows_nothing (Tick moment) = refl
-stopped_shows_nothing (Close n) = refl
-stopped_shows_nothing (Remove n) = refl
-stopped_shows_nothing Rewrite = refl
-stopped_shows_nothing Retire = refl
 
 module _ {D : Type 0} (crashes : D → Bool) (seen : D → Option Sides) (images : D → Sides → Type 0) (moment : D → ℕ) (left_since : D → ℕ → Sides → Type 0) (faults : D → ℕ) where
   abbrev Acted : Place D → Place D → Act → Type 0
@@ -117,7 +64,7 @@ module _ {D : Type 0} (crashes : D → Bool) (seen : D → Option Sides) (images
       record {
         step = step;
         later = omega arith;
-        cause = λ failed. absurd (true≢false (sym failed ∙ stopped_fine event));
+        cause = λ failed. absurd (true≢false (sym failed ∙ (stopped_says event).no_fault));
         told = refl;
         out = left ∙ sym (ap (λ (b : Bool). b || is_retire event) left);
         stays = λ _. refl;
@@ -127,7 +74,7 @@ module _ {D : Type 0} (crashes : D → Bool) (seen : D → Option Sides) (images
               leaves = λ goes. absurd (true≢false (sym is ∙ goes));
               durable = λ goes. absurd (true≢false (sym is ∙ goes));
               logs = λ goes. absurd (true≢false (sym is ∙ goes));
-              shown = λ shown. absurd (true≢false (sym shown ∙ stopped_shows_nothing event));
+              shown = λ shown. absurd (true≢false (sym shown ∙ (stopped_says event).not_shown));
             } in
             (j, kept, omega arith, turn_keeps_safe images moment left_since d d h h j j event (when_stopped event) (tells d) (tells d) step turn);
       }

@@ -17,8 +17,9 @@ use Rattle.world_model.specs.declared.events.Called.TheVariants as called
 use Rattle.world_model.specs.declared.events.Entry.{Entry}
 use Rattle.world_model.specs.declared.events.Opening.{Opening}
 use Rattle.hall_turns.specs.Turns.{AddsServed}
+use Rattle.log_record.specs.Journals.{is_retire}
 use Rattle.shared_hall.specs.Cores.{hall_in, tells, StandsIn}
-use Rattle.shared_hall.specs.Times.{Time, entries_at, is_retire, is_retirement}
+use Rattle.shared_hall.specs.Times.{Time, entries_at, is_retirement}
 use Rattle.shared_hall.specs.Turns.{acts, Gives, CallsNamed}
 use Rattle.shared_hall.specs.declared.places.Begun.{Begun}
 use Rattle.shared_hall.specs.declared.places.Place.{Place}

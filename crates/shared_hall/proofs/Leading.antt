@@ -8,8 +8,7 @@ use Rattle.world_model.specs.Laws.{StepsLeadToOne}
 use Rattle.world_model.specs.Seats.{Act, act_of, NamesChangedBy}
 use Rattle.world_model.specs.declared.events.Entry.{Entry}
 use Rattle.world_model.specs.declared.events.Opening.{Opening}
-use Rattle.log_record.specs.Journals.{Journal}
-use Rattle.shared_hall.specs.Times.{is_retire}
+use Rattle.log_record.specs.Journals.{Journal, is_retire}
 use Rattle.shared_hall.specs.Turns.{StepsBy}
 use Rattle.shared_hall.specs.Standing.{IsAct, FrontBy, TurnBy}
 

@@ -13,12 +13,12 @@ use Rattle.world_model.specs.declared.events.Event.{Event}
 use Rattle.world_model.specs.declared.events.Event.TheVariants.{Enter, Call, Take, Tick, Close, Remove, Rewrite, Retire}
 use Rattle.world_model.specs.declared.events.Entry.{Entry}
 use Rattle.world_model.specs.declared.events.Opening.{Opening}
-use Rattle.log_record.specs.Journals.{Journal}
+use Rattle.log_record.specs.Journals.{Journal, is_retire}
 use Rattle.log_record.specs.Laws.{Stood}
 use Rattle.log_record.specs.Safety.{moment_after, count_after, out_after, ComesNext}
-use Rattle.log_record.specs.Acknowledged.{moment_last}
+use Rattle.log_record.specs.Acknowledged.{moment_last, count_last}
 use Rattle.log_record.specs.LeadingLaws.{leads_on}
-use Rattle.shared_hall.specs.Times.{Time, time_of, entry_at, entries_at, is_retire, is_retirement}
+use Rattle.shared_hall.specs.Times.{Time, time_of, entry_at, entries_at, is_retirement}
 use Rattle.shared_hall.specs.Standing.{IsAct, FrontBy, TurnBy, Stands}
 use Rattle.shared_hall.proofs.Raising.{ArePlain, Raises, raised, raise_reaches, raise_stood, raised_past}
 
@@ -58,10 +58,6 @@ out_retired false (e ∷ log) out = by (λ more. out_retired false log more) (gi
     by : (out_after false log ≡ true → list_any is_retirement log ≡ true) → (b : Bool) → gives_disk e ≡ b → (is_retirement e || list_any is_retirement log) ≡ true
     by rest true is = ap (λ (r : Bool). r || list_any is_retirement log) (gives_retires e.event e is)
     by rest false is = by_head (is_retirement e) (rest (subst (λ (g : Bool). out_after g log ≡ true) is out))
-
-count_last : (start : ℕ) (entries : List Entry) (e : Entry) → count_after start (entries ++ e ∷ []) ≡ e.count
-count_last start [] e = refl
-count_last start (d ∷ entries) e = count_last d.count entries e
 
 -- the count that a fault shows
 rose_counted : (c before now : ℕ) → c ≤ min before most_count → before ≤ now → Rose before now → (c < min now most_count) ⊎ (min now most_count ≡ 2 ^ 64 - 1)

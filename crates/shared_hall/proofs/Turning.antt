@@ -4,8 +4,9 @@ use Rattle.outside.specs.Sides.{Sides}
 use Rattle.world_model.specs.Histories.{is_log_fault}
 use Rattle.world_model.specs.Seats.{Act}
 use Rattle.std.specs.declared.snapshot.Snapshot.{Snapshot}
+use Rattle.log_record.specs.Journals.{is_retire}
 use Rattle.shared_hall.specs.Cores.{hall_in, disk_in, has_left, tells, time_with, KeepsIn, Acts, ActsInFront, TurnsBy, StandsIn, StandsFor}
-use Rattle.shared_hall.specs.Times.{entries_at, is_retire}
+use Rattle.shared_hall.specs.Times.{entries_at}
 use Rattle.shared_hall.specs.declared.places.Begun.{Begun}
 use Rattle.shared_hall.specs.declared.places.HallCore.{HallCore}
 use Rattle.shared_hall.proofs.Standing.{turn_stands}

@@ -9,10 +9,10 @@ use Rattle.world_model.specs.Histories.{Step, Reaches, is_log_fault}
 use Rattle.world_model.specs.Seats.{Act}
 use Rattle.world_model.specs.declared.events.Entry.{Entry}
 use Rattle.world_model.specs.declared.events.Opening.{Opening}
-use Rattle.log_record.specs.Journals.{Journal}
+use Rattle.log_record.specs.Journals.{Journal, is_retire}
 use Rattle.log_record.specs.Laws.{KeepsSafe, Stood}
 use Rattle.log_record.specs.Safety.{moment_after, count_after}
-use Rattle.shared_hall.specs.Times.{time_of, is_retire, is_retirement}
+use Rattle.shared_hall.specs.Times.{time_of, is_retirement}
 
 -- Of a state: its hall, its disk, whether the disk was given out, and the journals that its log keeps
 module _ {S D : Type 0} (hall : S → Hall) (disk : S → D) (is_out : S → Bool) (is_log : S → Journal → Type 0)

@@ -1,10 +1,9 @@
 -- The time of a disk, and what happens in a turn as entries that end at such times.
-use Rattle.std.specs.Prelude.{ℕ, min, Bool, true, false, List, [], ◌∷◌, if◌then◌else◌}
+use Rattle.std.specs.Prelude.{ℕ, min, Bool, List, [], ◌∷◌, if◌then◌else◌}
 use Rattle.outside.specs.Causes.{most_count}
 use Rattle.world_model.specs.Seats.{Act}
-use Rattle.world_model.specs.declared.events.Event.{Event}
-use Rattle.world_model.specs.declared.events.Event.TheVariants.{Retire}
 use Rattle.world_model.specs.declared.events.Entry.{Entry}
+use Rattle.log_record.specs.Journals.{is_retire}
 
 pub record Time : Type 0 where
   pub moment : ℕ
@@ -22,10 +21,6 @@ abbrev pub entries_at : Time → Time → List Act → List Entry
 entries_at begun ended [] = []
 entries_at begun ended (a ∷ []) = entry_at ended a ∷ []
 entries_at begun ended (a ∷ b ∷ acts) = entry_at begun a ∷ entries_at begun ended (b ∷ acts)
-
-abbrev pub is_retire : Event → Bool
-is_retire Retire = true
-is_retire event = false
 
 abbrev pub is_retirement : Entry → Bool
 is_retirement e = is_retire e.event

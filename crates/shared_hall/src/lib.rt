@@ -6,8 +6,6 @@ mod acts;
 mod answers;
 mod halls;
 mod places;
-#[cfg(test)]
-mod tests;
 mod values;
 mod works;
 

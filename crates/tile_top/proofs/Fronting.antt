@@ -25,26 +25,20 @@ use Rattle.serve_command.specs.Serves.{Serves, Counted}
 use Rattle.shared_hall.specs.Turns.{retire_outcome}
 use Rattle.replay_run.specs.Openings.{IsDamagedAt}
 use Rattle.replay_run.specs.Undone.{halt_at}
+use Rattle.replay_run.specs.HaltLaws.{unspent_at, damaged_at}
 use Rattle.replay_run.specs.declared.halts.Halt.{Halt}
 use Rattle.replay_run.specs.declared.halts.Halt.TheVariants as halted
 use Rattle.tile_top.specs.Tops.{check_line}
 use Rattle.tile_top.specs.Fronts.{EndsBehind, Fronts, IsFirst, IsLeft, IsRetired, IsSettled}
 
--- an opening does not find the log at its greatest length
-pub unspent_at : (why : OpenFault) (h : Halt) → h ≡ halt_at why → h ≢ halted.Spent
-unspent_at (fault_of.Damaged side place) h is e = absurd (cc)
-unspent_at fault_of.Disk h is e = absurd (cc)
-unspent_at fault_of.Memory h is e = absurd (cc)
-
-fault_behind : (why : OpenFault) (side : Side) (place : ℕ) → halt_at why ≡ halted.Damaged side place → why ≡ fault_of.Damaged side place
-fault_behind (fault_of.Damaged a n) side place e = cc
-fault_behind fault_of.Disk side place e = absurd (cc)
-fault_behind fault_of.Memory side place e = absurd (cc)
+-- what is told of an opening that failed
+pub unspent_as : (why : OpenFault) (h : Halt) → h ≡ halt_at why → h ≢ halted.Spent
+unspent_as why h is e = unspent_at why (sym is ∙ e)
 
 pub damaged_as : (seen : Option Sides) (why : OpenFault) (h : Halt) → h ≡ halt_at why
     → ((s : Sides) → seen ≡ Some s → (side : Side) (place : ℕ) → why ≡ fault_of.Damaged side place → Damaged s side place)
     → (side : Side) (place : ℕ) → h ≡ halted.Damaged side place → IsDamagedAt seen side place
-damaged_as seen why h is of side place e s told = of s told side place (fault_behind why side place (sym is ∙ e))
+damaged_as seen why h is of side place e s told = of s told side place (damaged_at why side place (sym is ∙ e))
 
 -- a last line, told of what is the same
 pub end_as : (held mid held' : Option Bytes) (at : ℕ) (text line : Bytes) (status status' : ℕ) → mid ≡ held' → text ≡ line → status ≡ status' → IsEnd held mid at text status → IsEnd held held' at line status'

@@ -49,9 +49,13 @@ line_of halted.DiskFault = disk_line
 line_of (halted.Damaged side place) = damaged_line side place
 line_of halted.Memory = memory_line
 
+-- a side of a disk is damaged: of the lines of what goes on no more, that of a damage alone is made in memory
+abbrev pub IsDamage : Halt → Type 0
+IsDamage halt = (side : Side) × (place : ℕ) × (halt ≡ halted.Damaged side place)
+
 -- its last line was written, or in part; or memory wanted for it, and that was
 abbrev pub IsHaltEnd : Halt → Option Bytes → Option Bytes → ℕ → Type 0
-IsHaltEnd halt held held' status = IsEnd held held' (status_of halt) (line_of halt) status ⊎ IsEnd held held' 7 memory_line status
+IsHaltEnd halt held held' status = IsEnd held held' (status_of halt) (line_of halt) status ⊎ (IsDamage halt × IsEnd held held' 7 memory_line status)
 
 -- the end of a script: its last line is written behind the output
 abbrev pub IsReplayEnd : ReplayEnd → Option Bytes → Option Bytes → ℕ → Type 0
@@ -63,11 +67,12 @@ IsReplayEnd (ended.Halted halt) held held' status = IsHaltEnd halt held held' st
 IsReplayEnd (ended.Unopened halt) held held' status = IsHaltEnd halt held held' status
 
 -- writing failed: in the output of the last line that was read, or in the last line of the status that was due
-abbrev pub IsStopped : Bool → Played → (List Deed → Type 0) → Option Bytes → Option Bytes → Option Bytes → Option Bytes → Type 0
-IsStopped told first Ends left0 left held0 held = IsWithinLine told first Ends left0 left held0 held
+abbrev pub IsStopped : Bool → Played → (List Deed → Type 0) → Type 0 → Option Bytes → Option Bytes → Option Bytes → Option Bytes → Type 0
+IsStopped told first Ends ReadFailed left0 left held0 held = IsWithinLine told first Ends left0 left held0 held
     ⊎ (((number : ℕ) × (part : Bytes) × IsPrefix part (script_line number) × IsFaulty told first Ends left0 left held0 held number part)
-    ⊎ (((part : Bytes) × (IsPrefix part read_line ⊎ IsPrefix part memory_line) × IsBefore told first Ends left0 left held0 held part)
-    ⊎ ((halt : Halt) × (part : Bytes) × (IsPrefix part (line_of halt) ⊎ IsPrefix part memory_line) × IsCut told first Ends left0 left held0 held halt part)))
+    ⊎ (((part : Bytes) × ((ReadFailed × IsPrefix part read_line) ⊎ IsPrefix part memory_line) × IsBefore told first Ends left0 left held0 held part)
+    ⊎ ((halt : Halt) × (part : Bytes) × (IsPrefix part (line_of halt) ⊎ (IsDamage halt × IsPrefix part memory_line))
+    × IsCut told first Ends left0 left held0 held halt part)))
 
 -- the program's words are this one alone
 abbrev pub IsReplay : List Bytes → Type 0
@@ -78,15 +83,16 @@ IsCheck words = words ≡ codes "check" ∷ []
 
 -- What a script's play did and its status says: done, or a line that is none of a script, or a read or a write that failed, or one that
 -- was not done. At each status the lines before the last one that was read were done, and their whole output was written before it was
--- read. At 7 memory wanted, also for the line of another status.
-pub record Plays (told : Bool) (first : Played) (Ends : List Deed → Type 0) (left0 left held0 held : Option Bytes) (status : ℕ) : Type 0 where
+-- read. At 7 memory wanted, also for the line of a damage or of a line that is none of a script. `ReadFailed` is what holds where a read failed.
+pub record Plays (told : Bool) (first : Played) (Ends : List Deed → Type 0) (ReadFailed : Type 0) (left0 left held0 held : Option Bytes) (status : ℕ) : Type 0 where
   pub done : status ≡ 0 → IsDone told first Ends left0 left held0 held
   pub script : status ≡ 2 → (number : ℕ) × IsFaulty told first Ends left0 left held0 held number (script_line number)
   pub read : status ≡ 3 → IsBefore told first Ends left0 left held0 held read_line
-  pub write : status ≡ 4 → IsStopped told first Ends left0 left held0 held
+  pub write : status ≡ 4 → IsStopped told first Ends ReadFailed left0 left held0 held
   pub disk : status ≡ 5 → IsCut told first Ends left0 left held0 held halted.DiskFault disk_line
   pub damaged : status ≡ 6 → (side : Side) × (place : ℕ) × IsCut told first Ends left0 left held0 held (halted.Damaged side place) (damaged_line side place)
-  pub memory : status ≡ 7 → IsBefore told first Ends left0 left held0 held memory_line ⊎ ((halt : Halt) × IsCut told first Ends left0 left held0 held halt memory_line)
+  pub memory : status ≡ 7 → IsBefore told first Ends left0 left held0 held memory_line
+      ⊎ ((halt : Halt) × ((halt ≡ halted.Memory) ⊎ IsDamage halt) × IsCut told first Ends left0 left held0 held halt memory_line)
   pub spent : status ≡ 9 → IsCut told first Ends left0 left held0 held halted.Spent spent_line
   pub few : (status ≡ 0) ⊎ ((status ≡ 2) ⊎ ((status ≡ 3) ⊎ ((status ≡ 4) ⊎ ((status ≡ 5) ⊎ ((status ≡ 6) ⊎ ((status ≡ 7) ⊎ (status ≡ 9)))))))
 
@@ -98,9 +104,10 @@ pub record IsUnopened (seen : Option Sides) (left0 left held0 held : Option Byte
   pub ended : IsHaltEnd why between held status
 
 -- the disk was not opened, or with some world and length of its log, and then the script was played
-abbrev pub Replays : Option Sides → (World → ℕ → List Deed → Type 0) → Option Bytes → Option Bytes → Option Bytes → Option Bytes → ℕ → Type 0
-Replays seen Ends left0 left held0 held status = IsUnopened seen left0 left held0 held status
-    ⊎ ((w : World) × (logged : ℕ) × Opens seen w logged × Plays (is_some seen) (opening w logged) (Ends w logged) left0 left held0 held status)
+abbrev pub Replays : Option Sides → (World → ℕ → List Deed → Type 0) → Type 0 → Option Bytes → Option Bytes → Option Bytes → Option Bytes → ℕ → Type 0
+Replays seen Ends ReadFailed left0 left held0 held status = IsUnopened seen left0 left held0 held status
+    ⊎ ((w : World) × (logged : ℕ) × Opens seen w logged
+    × Plays (is_some seen) (opening w logged) (Ends w logged) ReadFailed left0 left held0 held status)
 
 -- the line of a world and the generation of its log
 abbrev pub check_line : World → ℕ → Bytes

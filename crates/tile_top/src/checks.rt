@@ -38,6 +38,7 @@ pub(crate) fn check_disk<K: Sink, D: Disk>(alloc: Global, sink: &mut K, disk: D)
     ensures told { Checks (D.seen disk) (HasGeneration D.crashes D.seen D.images result.disk) (λ w logged answered. (s : Sides) → D.seen disk ≡ Some s → D.crashes disk ≡ true → IsSafeFor D.images D.left_since result.disk (opens w logged ∷ retired answered))
         (K.held sink.old) (K.held sink.new) result.status }
     ensures sink { K.faults sink.old ≤ K.faults sink.new }
+    ensures later { D.faults disk ≤ D.faults result.disk }
     ensures write { result.status ≡ 4 → Rose (K.faults sink.old) (K.faults sink.new) }
     ensures disk { result.status ≡ 5 → Rose (D.faults disk) (D.faults result.disk) }
 {

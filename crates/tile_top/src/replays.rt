@@ -27,9 +27,10 @@ pub(crate) fn replay_script<S: Source, K: Sink, D: Disk>(
     disk: D,
 ) -> Scripted<D>
     ensures told { Replays (D.seen disk) (λ w logged deeds. (s : Sides) → D.seen disk ≡ Some s → D.crashes disk ≡ true → IsSafeFor D.images D.left_since result.disk (opens w logged ∷ deeds))
-        (S.left source.old) (S.left source.new) (K.held sink.old) (K.held sink.new) result.status }
+        (Rose (S.faults source.old) (S.faults source.new)) (S.left source.old) (S.left source.new) (K.held sink.old) (K.held sink.new) result.status }
     ensures source { S.faults source.old ≤ S.faults source.new }
     ensures sink { K.faults sink.old ≤ K.faults sink.new }
+    ensures later { D.faults disk ≤ D.faults result.disk }
     ensures read { result.status ≡ 3 → Rose (S.faults source.old) (S.faults source.new) }
     ensures write { result.status ≡ 4 → Rose (K.faults sink.old) (K.faults sink.new) }
     ensures disk { result.status ≡ 5 → Rose (D.faults disk) (D.faults result.disk) }

@@ -36,6 +36,7 @@ fn open_hall<D: Disk + Drop>(
     ensures first { IfOk result (λ r. IsFirst (D.seen disk) (knows_of r.1)) }
     ensures handed { IfOk result (λ r. handed_of r.0 ≡ disk) }
     ensures damaged { (s : Sides) → D.seen disk ≡ Some s → IfErr result (λ u. (side : Side) (place : ℕ) → u.why ≡ fault_of.Damaged side place → Damaged s side place) }
+    ensures left { IfErr result (λ u. D.faults disk ≤ D.faults u.disk) }
     ensures cause { IfErr result (λ u. u.why ≡ fault_of.Disk → Rose (D.faults disk) (D.faults u.disk)) }
 {
     let handed = Snapshot::of(&disk);
@@ -189,6 +190,7 @@ where
     ensures safe { tells D.crashes D.seen disk ≡ true
         → IfSome result.front (λ last. IfSome result.disk (λ d. IsLeft D.images D.left_since d (knows_of last))) }
     ensures handed { result.front ≡ None → is_some result.disk ≡ true }
+    ensures later { result.front ≡ None → IfSome result.disk (λ d. D.faults disk ≤ D.faults d) }
     ensures disk { result.front ≡ None → result.status ≡ 5 → IfSome result.disk (λ d. Rose (D.faults disk) (D.faults d)) }
     ensures given { IfSome result.front (λ last. IsSettled (knows_of last).seen → is_some result.disk ≡ true) }
     ensures sink { K.faults sink.old ≤ K.faults sink.new }

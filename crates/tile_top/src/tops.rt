@@ -153,7 +153,7 @@ where
     L::In: Send + Drop + 'static,
     L::Out: Send + Drop + 'static,
     ensures replay { IsReplay (map string_bytes words.now) → Replays (D.seen disk) (λ w logged deeds. (s : Sides) → D.seen disk ≡ Some s → D.crashes disk ≡ true → IfSome result.disk (λ d. IsSafeFor D.images D.left_since d (opens w logged ∷ deeds)))
-        (S.left source.old) (S.left source.new) (K.held sink.old) (K.held sink.new) result.status }
+        (Rose (S.faults source.old) (S.faults source.new)) (S.left source.old) (S.left source.new) (K.held sink.old) (K.held sink.new) result.status }
     ensures check { IsCheck (map string_bytes words.now) → Checks (D.seen disk) (λ n. IfSome result.disk (λ d. HasGeneration D.crashes D.seen D.images d n)) (λ w logged answered. (s : Sides) → D.seen disk ≡ Some s → D.crashes disk ≡ true → IfSome result.disk (λ d. IsSafeFor D.images D.left_since d (opens w logged ∷ retired answered)))
         (K.held sink.old) (K.held sink.new) result.status }
     ensures serve { IfSome (serve_of (map string_bytes words.now)) (λ s. Fronts (D.seen disk) (C.told clock.now) s
@@ -174,6 +174,7 @@ where
     ensures source { S.faults source.old ≤ S.faults source.new }
     ensures sink { K.faults sink.old ≤ K.faults sink.new }
     ensures door { L.faults door.old ≤ L.faults door.new }
+    ensures later { result.front ≡ None → IfSome result.disk (λ d. D.faults disk ≤ D.faults d) }
     ensures read { result.status ≡ 3 → Rose (S.faults source.old) (S.faults source.new) }
     ensures write { result.status ≡ 4 → Rose (K.faults sink.old) (K.faults sink.new) }
     ensures disk { result.front ≡ None → result.status ≡ 5 → IfSome result.disk (λ d. Rose (D.faults disk) (D.faults d)) }

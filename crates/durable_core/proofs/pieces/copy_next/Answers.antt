@@ -6,7 +6,7 @@ use Rattle.next_items.specs.Copies.{is_behind}
 use Rattle.durable_core.specs.declared.rewritings.LastCopied.{LastCopied}
 use Rattle.durable_core.specs.Pieces.{Took}
 use Rattle.durable_core.specs.Rewriting.{Item, items_left, of_object}
-use Rattle.durable_core.proofs.Copying.{filter_none}
+use Rattle.ordered_lists.specs.Reading.{filter-nothing}
 use Rattle.durable_core.proofs.Taking.{objects_behind}
 use Rattle.durable_core.proofs.pieces.copy_next.Goals as goal
 
@@ -25,4 +25,4 @@ returns-in-Object-clause-took c =
     let none = λ (x : Channel). false in
     subst (λ (l : LastCopied). IfOk c.copy_object.result (Took (λ (item : Item). item) (items_left l w) c.args.piece.now c.copy_object.new.piece)) (sym c.in-Object.is)
     (IfOk-weaker c.copy_object.result (Took of_object os c.args.piece.now c.copy_object.new.piece) (Took (λ (item : Item). item) _ c.args.piece.now c.copy_object.new.piece)
-    (λ r took. objects_behind (filter none w.channels) os c.args.piece.now c.args.piece.now c.copy_object.new.piece r (filter_none w.channels) refl took) c.copy_object.ensures.took)
+    (λ r took. objects_behind (filter none w.channels) os c.args.piece.now c.args.piece.now c.copy_object.new.piece r (filter-nothing w.channels) refl took) c.copy_object.ensures.took)

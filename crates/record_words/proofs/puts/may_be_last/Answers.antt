@@ -1,7 +1,7 @@
 use Rattle.std.proofs.Common.{◌≡◌, true, false, sym, ◌∙◌, arith}
 use Rattle.std.proofs.Math.Facts.{to_z-of_z}
 use Rattle.world_data.specs.Filters.{is_zero}
-use Rattle.record_words.proofs.FieldOrder.{zero_last, only_one, behind_last}
+use Rattle.world_data.specs.LastField.{zero_last, only_one, behind_last}
 use Rattle.record_words.proofs.puts.may_be_last.Goals as goal
 
 pub returns-then-is_nothing : goal.returns-then-is_nothing

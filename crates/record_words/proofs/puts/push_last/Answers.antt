@@ -3,7 +3,7 @@ use Rattle.std.proofs.Math.Facts.{to_z-of_z}
 use mir.Syntax.{w64}
 use mir.Val.{SFits}
 use Rattle.world_data.specs.Filters.{are_fields}
-use Rattle.record_words.proofs.FieldOrder.{set_last}
+use Rattle.world_data.specs.LastField.{set_last}
 use Rattle.record_words.proofs.puts.push_last.Goals as goal
 
 pub returns-then-not-may_be_last-clause-refused : goal.returns-then-not-may_be_last-clause-refused

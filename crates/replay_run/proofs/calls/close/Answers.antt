@@ -12,5 +12,5 @@ returns g c =
     record {
       made = comes_of g.D.Disk.crashes g.D.Disk.seen g.D.Disk.images g.D.Disk.moment g.D.Disk.left_since g.D.Disk.faults (λ d. record { counts_now = g.met.D.Disk.counts_now d; only_now = g.met.D.Disk.only_now d })
           c.args.core.now c.close_session.new.self (event.Close c.args.session) Done c.text_of.result refl c.requires.goes e.step (ap g.D.Disk.crashes (ap (λ (t : Tail _). t.journal.disk) e.tail)) later (λ f. absurd (cc)) e.log
-          (printed_as c.text_of.result Done _ refl c.text_of.ensures.text) (wants_memory c.text_of.result Done c.text_of.ensures.memory);
+          (printed_as c.text_of.result Done _ refl c.text_of.ensures.text) (wants_memory c.text_of.result Done refl c.text_of.ensures.memory);
     }

@@ -26,8 +26,8 @@ returns-in-Err-clause-failed g c =
     let none : n.0 ≡ [] = (n.1 true).2 in (
       f.0,
       f.1,
-      λ told. again_fails told (halt_at c.in-Err.unopened.why) (g.S.Source.left c.args.source.now) (g.S.Source.left c.next_line.new.source) (g.K.Sink.held c.args.sink.now) (g.K.Sink.held c.next_line.new.sink)
-          (played c.args.player) (played c.next_line.new.player) f.1 c.args.used.now c.next_line.new.used n.0 f.0 (n.1 told) (f.2 told),
+      λ told logs. again_fails told (halt_at c.in-Err.unopened.why) (g.S.Source.left c.args.source.now) (g.S.Source.left c.next_line.new.source) (g.K.Sink.held c.args.sink.now) (g.K.Sink.held c.next_line.new.sink)
+          (played c.args.player) (played c.next_line.new.player) f.1 c.args.used.now c.next_line.new.used n.0 f.0 (n.1 told) (f.2 told (λ e. n.2.logs (logs e))),
       f.3,
       (n.1 true).0,
       λ before s. f.4 before (subst (λ (z : List Deed). StandsBehind g.D.Disk.crashes g.D.Disk.seen g.D.Disk.images g.D.Disk.moment g.D.Disk.left_since g.D.Disk.faults c.next_line.new.player.core z) (ap (λ (z : List Deed). before ++ z) none ∙ append-nil before) (n.2.stands before s)),

@@ -114,7 +114,7 @@ returns-in-Err-clause-told g c told crashes seen past logs stands =
     subst (λ (z : List Deed). IsSafeFor g.D.Disk.images g.D.Disk.left_since disk z) (append_assoc past i.going.0 f.0) (f.5 (past ++ i.going.0) (i.going.2.stands past (stands s is crash))) in
     let cut = ends_unopened told (played c.args.first) (λ deeds. (s : Sides) → seen ≡ Some s → crashes ≡ true → IsSafeFor g.D.Disk.images g.D.Disk.left_since disk (past ++ deeds))
     (g.S.Source.left c.args.source.now) (g.S.Source.left c.loop-turned.source) (g.S.Source.left c.one_turn.new.source) (g.K.Sink.held c.args.sink.now) (g.K.Sink.held c.loop-turned.sink) (g.K.Sink.held c.one_turn.new.sink)
-    c.loop-turned.number c.loop-turned.used c.one_turn.new.used (played c.loop-turned.player) (played c.loop-turned.player) i.going.0 f.0 (i.going.1 told logs) (halt_at c.in-Err.unopened.why) f.1 f.4 (f.2 told) f.3 ends in
+    c.loop-turned.number c.loop-turned.used c.one_turn.new.used (played c.loop-turned.player) (played c.loop-turned.player) i.going.0 f.0 (i.going.1 told logs) (halt_at c.in-Err.unopened.why) f.1 f.4 (f.2 told (λ is. i.going.2.logs (logs is))) f.3 ends in
     subst (λ z. IsCut told (played c.args.first) (λ deeds. (s : Sides) → seen ≡ Some s → crashes ≡ true → IsSafeFor g.D.Disk.images g.D.Disk.left_since disk (past ++ deeds)) (g.S.Source.left c.args.source.now) (g.S.Source.left c.one_turn.new.source) (g.K.Sink.held c.args.sink.now) (g.K.Sink.held c.one_turn.new.sink) z []) (sym c.halt_of.ensures) cut
 
 pub returns-in-Err-clause-disk : goal.returns-in-Err-clause-disk

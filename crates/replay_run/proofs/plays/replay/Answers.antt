@@ -1,4 +1,4 @@
-use Rattle.std.proofs.Common.{◌≡◌, ◌⊎◌, refl, subst, false, true, [], ◌∷◌, ◌++◌, inl, inr}
+use Rattle.std.proofs.Common.{◌≡◌, ◌⊎◌, ◌≤◌, arith, refl, subst, false, true, [], ◌∷◌, ◌++◌, inl, inr}
 use Rattle.std.specs.Prelude.{Option, None, Some, is_some}
 use Rattle.outside.specs.Causes.{Rose}
 use Rattle.outside.specs.Sides.{Sides}
@@ -31,6 +31,12 @@ returns-in-Ok-clause-told g c =
       e.opened,
       subst (λ (p : Played). OnPlay (is_some seen) p (λ deeds. (s : Sides) → seen ≡ Some s → crashes ≡ true → IsSafeFor g.D.Disk.images g.D.Disk.left_since c.play.result.disk (opens h.world h.logged ∷ deeds)) c.play.result.end (g.S.Source.left c.args.source.now) (g.S.Source.left c.play.new.source) (g.K.Sink.held c.args.sink.now) (g.K.Sink.held c.play.new.sink)) e.first plays,
     )
+
+pub returns-in-Ok-clause-disk : goal.returns-in-Ok-clause-disk
+returns-in-Ok-clause-disk g c =
+    let before : g.D.Disk.faults c.args.disk ≤ g.D.Disk.faults (disk_of c.in-Ok.player.core) = c.in-Ok.ensures.later in
+    let now : g.D.Disk.faults (disk_of c.in-Ok.player.core) ≤ g.D.Disk.faults c.play.result.disk = c.play.ensures.disk in
+    omega (arith, before, now)
 
 pub returns-in-Ok-clause-disk_cause : goal.returns-in-Ok-clause-disk_cause
 returns-in-Ok-clause-disk_cause g c is = by_end is

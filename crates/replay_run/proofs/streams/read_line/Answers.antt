@@ -1,7 +1,8 @@
 use Rattle.std.proofs.Common.{◌≡◌, ◌+◌, ◌≤◌, ◌<◌, ℕ, List, [], ◌∷◌, ◌++◌, length, length-append, arith, rules, subst, ap, ◌∙◌, sym}
 use Rattle.std.specs.Prelude.{Option, MatchOption}
 use Rattle.std.specs.Io.KnownBytes.{Consumes, Keeps, IsAtEnd}
-use Rattle.replay_run.specs.TextLines.{max_line, max_script}
+use Rattle.replay_run.specs.TextLines.{max_script}
+use Rattle.script_text.specs.Lines.{max_line}
 use Rattle.replay_run.specs.declared.streams.LineEnd.TheVariants.{Line}
 use Rattle.replay_run.specs.Reads.{OnLine}
 use Rattle.replay_run.proofs.Reading.{Reads, Plain, one_line_kept, one_line_more, plain_more, reads_more, reads_line, reads_last, reads_long, reads_past}

@@ -1,5 +1,6 @@
 use Rattle.std.proofs.Common.{◌≡◌, ◌≤◌, ◌+◌, ◌-◌, length}
-use Rattle.replay_run.specs.TextLines.{max_line, max_script}
+use Rattle.replay_run.specs.TextLines.{max_script}
+use Rattle.script_text.specs.Lines.{max_line}
 use Rattle.replay_run.proofs.Reading.{Reads, Plain}
 use Rattle.replay_run.proofs.streams.read_line.Given as goal
 

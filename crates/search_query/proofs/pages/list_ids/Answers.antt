@@ -1,16 +1,17 @@
 use Rattle.std.proofs.Common.{◌≡◌, ◌+◌, ◌≤◌, ℕ, true, sym, ap, subst, ◌∙◌, length, take, arith}
 use Rattle.std.specs.Prelude.{filter, slice_get, Some}
 use Rattle.std.proofs.lemmas.List.{length-take}
+use Rattle.ordered_lists.specs.Reading.{filter-most}
 use Rattle.fence_model.specs.Queries.{in_order, matches, meets_query, page_ids}
 use Rattle.search_query.specs.Pages.{is_past}
-use Rattle.search_query.proofs.InOrder.{all_found, by_direction, filter_in_order, no_more, noted}
+use Rattle.search_query.proofs.InOrder.{all_found, by_direction, filter_in_order, noted}
 use Rattle.search_query.specs.PageLaws.{ids_first, enough_first, read_first, count_all}
 use Rattle.search_query.proofs.pages.list_ids.Goals as goal
 
 pub note-requires-clause-room : goal.note-requires-clause-room
 note-requires-clause-room c =
     let seen = take c.loop-i.i (in_order c.args.query.now.rule c.args.collection.now.objects) in
-    let few : length (filter (meets_query c.args.query.now) seen) ≤ length seen = no_more (meets_query c.args.query.now) seen in
+    let few : length (filter (meets_query c.args.query.now) seen) ≤ length seen = filter-most (meets_query c.args.query.now) seen in
     let read : length seen ≤ c.loop-i.i = rw (length-take c.loop-i.i (in_order c.args.query.now.rule c.args.collection.now.objects)) (omega arith) in
     omega (arith, few, read)
 

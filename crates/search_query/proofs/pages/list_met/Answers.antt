@@ -1,6 +1,7 @@
 use Rattle.std.proofs.Common.{◌≡◌, ◌+◌, ◌≤◌, ℕ, true, sym, ap, subst, ◌∙◌, length, take, arith}
 use Rattle.std.specs.Prelude.{filter, slice_get, Some}
 use Rattle.std.proofs.lemmas.List.{length-take, take_all}
+use Rattle.ordered_lists.specs.Reading.{filter-most}
 use Rattle.planar_geom.specs.Points.{Bounds}
 use Rattle.planar_geom.specs.Relations.{area_box}
 use Rattle.fence_model.specs.Queries.{matches, meets_query, page_ids}
@@ -9,7 +10,7 @@ use Rattle.collection.specs.PlaceLaws.{count_places}
 use Rattle.search_query.specs.Pages.{is_past}
 use Rattle.search_query.specs.PageLaws.{ids_first, enough_first, read_first, count_all}
 use Rattle.search_query.proofs.InArea.{met_all}
-use Rattle.search_query.proofs.InOrder.{no_more, noted}
+use Rattle.search_query.proofs.InOrder.{noted}
 use Rattle.search_query.proofs.pages.list_met.Goals as goal
 
 pub listed-requires-clause-places : goal.listed-requires-clause-places
@@ -21,7 +22,7 @@ pub note-requires-clause-room : goal.note-requires-clause-room
 note-requires-clause-room g c =
     let p = meets_query c.args.query.now in
     let seen = take c.loop-i.i (filter (meets_box (area_box c.args.area.now)) c.args.collection.now.objects) in
-    let few : length (filter p seen) ≤ length seen = no_more p seen in
+    let few : length (filter p seen) ≤ length seen = filter-most p seen in
     let read : length seen ≤ c.loop-i.i = rw (length-take c.loop-i.i (filter (meets_box (area_box c.args.area.now)) c.args.collection.now.objects)) (omega arith) in
     let count = c.loop-i.invariant.count in
     omega (arith, few, read, count)

@@ -3,16 +3,14 @@ use Rattle.std.specs.Prelude.{Option}
 use Rattle.byte_text.specs.Names.{Bytes}
 use Rattle.resp_frames.specs.RequestReader.{IsFed, IsNotFed}
 use Rattle.resp_frames.specs.declared.faults.FeedFault.{FeedFault}
-use Rattle.session_run.proofs.Feeding.{Laws, reads_next, reads_fault}
+use Rattle.session_run.proofs.Feeding.{reads_next, reads_fault}
 use Rattle.session_run.proofs.batches.feed_next.Goals as goal
 
 pub returns-then-push : goal.returns-then-push
 returns-then-push c =
-    let laws : Laws = record { found_first = c.streams_read_once.ensures.found; begun_rest = c.streams_read_once.ensures.begun; broken_fault = c.streams_read_once.ensures.broken; found_text = c.requests_are_read.ensures.found; text_found = c.requests_are_read.ensures.text; broken_more = c.requests_are_read.ensures.broken } in
     let fed = subst (λ (o : Option (List Bytes)). IsFed c.args.reader.now c.feed.new.self c.args.piece.now c.in-Ok.fed.taken o) c.in-Some.is c.in-Ok.ensures.fed in
-    reads_next laws c.args.reader.now c.feed.new.self c.args.piece.now c.in-Ok.fed.taken c.in-Some.request c.args.asked.now c.push.new.asked fed (c.push.ensures.pushed c.if-push.true)
+    reads_next c.args.reader.now c.feed.new.self c.args.piece.now c.in-Ok.fed.taken c.in-Some.request c.args.asked.now c.push.new.asked fed (c.push.ensures.pushed c.if-push.true)
 
 pub returns-then-push-2 : goal.returns-then-push-2
 returns-then-push-2 c =
-    let laws : Laws = record { found_first = c.streams_read_once.ensures.found; begun_rest = c.streams_read_once.ensures.begun; broken_fault = c.streams_read_once.ensures.broken; found_text = c.requests_are_read.ensures.found; text_found = c.requests_are_read.ensures.text; broken_more = c.requests_are_read.ensures.broken } in
-    reads_fault laws c.args.reader.now c.feed.new.self c.args.piece.now c.in-Err-Broken.fault c.args.asked.now c.push-in-Err-Broken.new.asked (subst (λ (f : FeedFault). IsNotFed c.args.reader.now c.feed.new.self c.args.piece.now f) c.in-Err-Broken.field-0-is c.in-Err-Broken.ensures.fault) (c.push-in-Err-Broken.ensures.pushed c.if-push-2.true)
+    reads_fault c.args.reader.now c.feed.new.self c.args.piece.now c.in-Err-Broken.fault c.args.asked.now c.push-in-Err-Broken.new.asked (subst (λ (f : FeedFault). IsNotFed c.args.reader.now c.feed.new.self c.args.piece.now f) c.in-Err-Broken.field-0-is c.in-Err-Broken.ensures.fault) (c.push-in-Err-Broken.ensures.pushed c.if-push-2.true)

@@ -1,5 +1,5 @@
 use Rattle.std.proofs.Common.{inl, inr, refl, sym, ap, ◌∙◌}
-use Rattle.tile_top.proofs.Fronting.{checked_line, damaged_as, end_as, not_done, unspent_at}
+use Rattle.tile_top.proofs.Fronting.{checked_line, damaged_as, end_as, not_done, unspent_as}
 use Rattle.tile_top.proofs.checks.check_disk.Goals as goal
 use Rattle.tile_top.proofs.checks.check_disk.Goals.{in-Ok-Ok, in-Ok-Err, in_default+in-Ok-1, in_default+in-Err-1}
 
@@ -30,7 +30,7 @@ returns-after-found-clause-told g c =
 pub returns-in-Err-clause-told : goal.returns-in-Err-clause-told
 returns-in-Err-clause-told g c = inl (record {
   why = c.halt_of.result;
-  unspent = unspent_at c.in-Err.unopened.why c.halt_of.result c.halt_of.ensures;
+  unspent = unspent_as c.in-Err.unopened.why c.halt_of.result c.halt_of.ensures;
   damaged = damaged_as _ c.in-Err.unopened.why c.halt_of.result c.halt_of.ensures c.in-Err.ensures.damaged;
   ended = c.end_halt-status.ensures.told;
 })

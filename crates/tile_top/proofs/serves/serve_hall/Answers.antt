@@ -1,5 +1,5 @@
 use Rattle.std.proofs.Common.{refl}
-use Rattle.tile_top.proofs.Fronting.{damaged_as, unspent_at}
+use Rattle.tile_top.proofs.Fronting.{damaged_as, unspent_as}
 use Rattle.tile_top.proofs.serves.serve_hall.Goals as goal
 
 pub returns-in-Ok-clause-serves : goal.returns-in-Ok-clause-serves
@@ -9,7 +9,7 @@ pub returns-in-Err-clause-serves : goal.returns-in-Err-clause-serves
 returns-in-Err-clause-serves g c = record {
   same = refl;
   why = c.halt_of.result;
-  unspent = unspent_at c.in-Err.unopened.why c.halt_of.result c.halt_of.ensures;
+  unspent = unspent_as c.in-Err.unopened.why c.halt_of.result c.halt_of.ensures;
   damaged = damaged_as _ c.in-Err.unopened.why c.halt_of.result c.halt_of.ensures c.in-Err.ensures.damaged;
   ended = c.end_halt.ensures.told;
 }

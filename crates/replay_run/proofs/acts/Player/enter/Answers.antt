@@ -1,4 +1,4 @@
-use Rattle.std.proofs.Common.{◌≡◌, refl, sym, ap}
+use Rattle.std.proofs.Common.{◌≡◌, refl, sym, ap, inl, inr}
 use Rattle.std.specs.Prelude.{Err, codes}
 use Rattle.std.proofs.lemmas.Result.{err_from_is_err_and}
 use Rattle.world_model.specs.Histories.{answer, is_log_fault}
@@ -20,7 +20,7 @@ returns-in_err-add_reader-in-Ok g c =
     let p = err_from_is_err_and c.from_residual.result c.from_residual.ensures.1 in
     record {
       made = comes_at g.D.Disk.crashes g.D.Disk.seen g.D.Disk.images g.D.Disk.moment g.D.Disk.left_since g.D.Disk.faults c.args.self.now.core c.enter.new.self _ _ c.from_residual.result p.0 p.0 p.1 refl
-          (enter_lost g.D.Disk.crashes g.D.Disk.seen g.D.Disk.images g.D.Disk.moment g.D.Disk.left_since g.D.Disk.faults (λ d. record { counts_now = g.met.D.Disk.counts_now d; only_now = g.met.D.Disk.only_now d }) c.args.self.now.core c.enter.new.self c.args.self.now.readers.items c.add_reader.new.readers.items (Entered c.in-Ok.session) p.0 p.2 e.step (ap (λ (t : Tail _). t.journal.disk) e.tail) refl e.log);
+          (enter_lost g.D.Disk.crashes g.D.Disk.seen g.D.Disk.images g.D.Disk.moment g.D.Disk.left_since g.D.Disk.faults (λ d. record { counts_now = g.met.D.Disk.counts_now d; only_now = g.met.D.Disk.only_now d }) c.args.self.now.core c.enter.new.self c.args.self.now.readers.items c.add_reader.new.readers.items (Entered c.in-Ok.session) p.0 p.2 (inr refl) e.step (ap (λ (t : Tail _). t.journal.disk) e.tail) refl e.log);
     }
 
 pub returns-in_ok-add_reader-in-Ok : goal.returns-in_ok-add_reader-in-Ok
@@ -46,4 +46,4 @@ returns-in-Err-Memory g c =
     let e = c.in-Err-Memory.ensures in
     let o : Outcome = enter_outcome (Err c.in-Err-Memory.field-0) in
     let is : o ≡ answer called.Memory = ap (λ (f : EnterFault). enter_outcome (Err f)) c.in-Err-Memory.field-0-is in
-    record { made = enter_lost g.D.Disk.crashes g.D.Disk.seen g.D.Disk.images g.D.Disk.moment g.D.Disk.left_since g.D.Disk.faults (λ d. record { counts_now = g.met.D.Disk.counts_now d; only_now = g.met.D.Disk.only_now d }) c.args.self.now.core c.enter.new.self c.args.self.now.readers.items c.args.self.now.readers.items o _ refl e.step (ap (λ (t : Tail _). t.journal.disk) e.tail) (ap is_log_fault is) e.log }
+    record { made = enter_lost g.D.Disk.crashes g.D.Disk.seen g.D.Disk.images g.D.Disk.moment g.D.Disk.left_since g.D.Disk.faults (λ d. record { counts_now = g.met.D.Disk.counts_now d; only_now = g.met.D.Disk.only_now d }) c.args.self.now.core c.enter.new.self c.args.self.now.readers.items c.args.self.now.readers.items o _ refl (inl is) e.step (ap (λ (t : Tail _). t.journal.disk) e.tail) (ap is_log_fault is) e.log }

@@ -20,7 +20,7 @@ pub returns-in-Ok-clause-failed : goal.returns-in-Ok-clause-failed
 returns-in-Ok-clause-failed g c =
     let e = c.in-Ok.ensures in
     unopened_again g.D.Disk.crashes g.D.Disk.seen g.D.Disk.images g.D.Disk.moment g.D.Disk.left_since g.D.Disk.faults (λ d. record { counts_now = g.met.D.Disk.counts_now d; only_now = g.met.D.Disk.only_now d }) c.args.self.core c.retire-answer.new.self c.into_disk-disk.result c.in-Err.unopened.disk c.args.self.readers.items c.in-Err.unopened.why c.into_disk-disk.ensures e.step e.stopped e.later e.told e.log e.left
-    g.met.D.Disk.as_read (λ s h. c.held_batches_are_recovered.ensures.held [] s tt h) c.in-Err.ensures.leaves
+    g.met.D.Disk.as_read (λ s h. c.held_batches_are_recovered.ensures.held [] s tt h) c.in-Err.ensures.leaves c.in-Err.ensures.damaged
 
 pub returns : goal.returns
 returns g c =

@@ -6,7 +6,8 @@ use Rattle.durable_core.specs.Logged.{hall_of, disk_of}
 use Rattle.durable_core.specs.declared.cores.DurableCore.{DurableCore}
 use Rattle.shared_hall.specs.Cores.{hall_in, disk_in, has_left, KeepsIn}
 use Rattle.shared_hall.specs.declared.places.Place.{Place}
-use Rattle.shared_hall.proofs.Acting.{call_failed, does_nothing, retired}
+use Rattle.log_record.specs.AnswerLaws.{call_failed}
+use Rattle.shared_hall.proofs.Acting.{does_nothing, retired}
 use Rattle.shared_hall.proofs.places.HallCore.retire.Goals as goal
 
 pub returns-clause-act : goal.returns-clause-act

@@ -1,7 +1,8 @@
 use Rattle.std.proofs.Common.{refl}
 use Rattle.world_model.specs.declared.events.Event.TheVariants as event
 use Rattle.world_model.specs.declared.events.Outcome.TheVariants as outcome
-use Rattle.shared_hall.proofs.Acting.{call_failed, does_inside, does_nothing}
+use Rattle.log_record.specs.AnswerLaws.{call_failed}
+use Rattle.shared_hall.proofs.Acting.{does_inside, does_nothing}
 use Rattle.shared_hall.proofs.places.HallCore.step_rewrite.Goals as goal
 
 pub returns-in-Inside-clause-act : goal.returns-in-Inside-clause-act

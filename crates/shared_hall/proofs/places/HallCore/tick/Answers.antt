@@ -4,7 +4,8 @@ use Rattle.world_model.specs.declared.events.Outcome.TheVariants as outcome
 use Rattle.world_model.specs.Halls.{Hall, NamesChanged}
 use Rattle.tile_core.specs.Answered.{AreSessions}
 use Rattle.durable_core.specs.Logged.{hall_of}
-use Rattle.shared_hall.proofs.Acting.{call_failed, does_inside, does_nothing, hall_inside}
+use Rattle.log_record.specs.AnswerLaws.{call_failed}
+use Rattle.shared_hall.proofs.Acting.{does_inside, does_nothing, hall_inside}
 use Rattle.shared_hall.proofs.places.HallCore.tick.Goals as goal
 
 pub tick-requires-clause-room : goal.tick-requires-clause-room
