@@ -1,27 +1,13 @@
 //! Sessions that enter, call, take and end, and a world that is changed and read.
 
-use byte_text::{Request, RespFault, Text};
+use byte_text::{RespFault, Text};
 use std::alloc::Global;
 use std::process::Abort;
 use std::test::Fail;
+use test_lines::asked;
 use tile_core::*;
 use world_data::MAX_MOMENT;
 use world_model::{Asked, Called, Frames, Taken, Touched};
-
-// The request of a line's words, which are split at spaces.
-pub(crate) fn request(alloc: Global, line: &str) -> Result<Request, Fail> {
-    let mut words = Request::new(alloc);
-    for word in line.split(' ') {
-        if words.words() >= 64 {
-            return Err(Fail::from("a test's line has few words"));
-        }
-        if word.len() > 255 {
-            return Err(Fail::from("a test's word is short"));
-        }
-        words.push(word.as_bytes())?;
-    }
-    Ok(words)
-}
 
 // How the call of a session with a line at a moment is answered.
 fn called(
@@ -31,18 +17,12 @@ fn called(
     moment: u64,
     line: &str,
 ) -> Result<Called, Fail> {
-    let words = request(alloc, line)?;
-    if words.words() == 0 || moment > MAX_MOMENT {
-        return Err(Fail::from("a test's request is proper"));
+    let asked = asked(alloc, line)?;
+    if moment > MAX_MOMENT {
+        return Err(Fail::from("a test's moment is proper"));
     }
     let mut touched = Touched::new(alloc)?;
-    let answer = core.call(
-        session,
-        moment,
-        &Asked::Words(words),
-        &mut touched,
-        &mut NoLedger,
-    );
+    let answer = core.call(session, moment, &asked, &mut touched, &mut NoLedger);
     if touched.names(session) != (answer == Called::Ok) {
         return Err(Fail::from("the session that was answered is named, and no other"));
     }

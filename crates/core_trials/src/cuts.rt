@@ -1,26 +1,17 @@
 //! A subscriber that never takes is cut, and another hears on.
 
-use crate::lines::plain_request;
 use std::alloc::Global;
 use std::process::Abort;
 use std::test::Fail;
+use test_lines::asked;
 use tile_core::{Core, NoLedger};
-use world_model::{Asked, Called, Frames, Taken, Touched};
+use world_model::{Called, Frames, Taken, Touched};
 
 // How the call of a session with a line is answered.
 fn called(alloc: Global, core: &mut Core, session: u32, line: &str) -> Result<Called, Fail> {
-    let words = plain_request(alloc, line)?;
-    if words.words() == 0 {
-        return Err(Fail::from("a trial's request is proper"));
-    }
+    let asked = asked(alloc, line)?;
     let mut touched = Touched::new(alloc)?;
-    Ok(core.call(
-        session,
-        0,
-        &Asked::Words(words),
-        &mut touched,
-        &mut NoLedger,
-    ))
+    Ok(core.call(session, 0, &asked, &mut touched, &mut NoLedger))
 }
 
 // How many frames a session takes until there is none.

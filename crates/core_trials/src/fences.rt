@@ -1,11 +1,12 @@
 //! The core and a plain program that tests every channel at every write: two listeners have to hear the same from both.
 
 use crate::board::{Board, Watch, letter, name};
-use crate::lines::{Fill, Numbers, filled, plain_request};
+use crate::lines::{Fill, Numbers, filled};
 use byte_text::{NoMemory, Request, Text, push_i64};
 use std::alloc::Global;
 use std::process::Abort;
 use std::test::Fail;
+use test_lines::request;
 use tile_core::{Core, NoLedger};
 use world_model::{Asked, Called, Frames, Taken, Touched};
 
@@ -130,7 +131,7 @@ fn open(alloc: Global, core: &mut Core) -> Result<(), Fail> {
         if core.enter() != Ok(session) {
             return Err(Fail::from("a session is entered"));
         }
-        asked(alloc, core, session, plain_request(alloc, line)?)?;
+        asked(alloc, core, session, request(alloc, line)?)?;
         taken(alloc, core, session)?;
     }
     Ok(())

@@ -74,16 +74,6 @@ pub(crate) trait Fill {
     fn push_word(&mut self, out: &mut Text, word: &str) -> Result<(), NoMemory>;
 }
 
-/// Each word stands for itself.
-#[derive(Drop)]
-pub(crate) struct AsItStands;
-
-impl Fill for AsItStands {
-    fn push_word(&mut self, out: &mut Text, word: &str) -> Result<(), NoMemory> {
-        out.push(word.as_bytes())
-    }
-}
-
 impl Fill for Numbers {
     fn push_word(&mut self, out: &mut Text, word: &str) -> Result<(), NoMemory> {
         push_chosen(out, self, word)
@@ -143,9 +133,4 @@ pub(crate) fn filled<F: Fill>(alloc: Global, form: &str, fill: &mut F) -> Result
 pub(crate) fn request(alloc: Global, numbers: &mut Numbers) -> Result<Request, Fail> {
     let form = FORMS[numbers.below(24) as usize];
     filled(alloc, form, numbers)
-}
-
-/// A line as it stands, as a request.
-pub(crate) fn plain_request(alloc: Global, line: &str) -> Result<Request, Fail> {
-    filled(alloc, line, &mut AsItStands)
 }

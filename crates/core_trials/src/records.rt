@@ -1,13 +1,13 @@
 //! The records that a ledger takes of calls.
 
-use crate::calls::request;
 use byte_text::{NoMemory, Text};
 use std::alloc::Global;
 use std::process::Abort;
 use std::test::Fail;
+use test_lines::asked;
 use tile_core::{Core, Ledger};
 use world_data::MAX_MOMENT;
-use world_model::{Asked, Called, Touched};
+use world_model::{Called, Touched};
 
 // A ledger that keeps what it took last.
 #[derive(Drop)]
@@ -30,15 +30,15 @@ impl Ledger for Last {
 
 // The records of a line's call of session 1 at a moment.
 fn records_of(alloc: Global, core: &mut Core, moment: u64, line: &str) -> Result<Text, Fail> {
-    let words = request(alloc, line)?;
-    if words.words() == 0 || moment > MAX_MOMENT {
-        return Err(Fail::from("a test's request is proper"));
+    let asked = asked(alloc, line)?;
+    if moment > MAX_MOMENT {
+        return Err(Fail::from("a test's moment is proper"));
     }
     let mut touched = Touched::new(alloc)?;
     let mut last = Last {
         records: Text::new(alloc),
     };
-    let called = core.call(1, moment, &Asked::Words(words), &mut touched, &mut last);
+    let called = core.call(1, moment, &asked, &mut touched, &mut last);
     if called != Called::Ok {
         return Err(Fail::from("a test's call is done"));
     }

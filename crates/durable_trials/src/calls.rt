@@ -1,28 +1,14 @@
 //! Calls of a core over a disk in memory that are asked for by lines of words.
 
-use byte_text::{NoMemory, Request, Text};
+use byte_text::{NoMemory, Text};
 use durable_core::DurableCore;
 use outside::{Disk, MemoryDisk, Side};
 use std::alloc::Global;
 use std::process::Abort;
 use std::test::Fail;
+use test_lines::asked;
 use world_data::MAX_MOMENT;
-use world_model::{Asked, Called, EnterFault, Frames, Taken, Touched};
-
-// The request of a line's words, which are split at spaces.
-fn request(alloc: Global, line: &str) -> Result<Request, Fail> {
-    let mut words = Request::new(alloc);
-    for word in line.split(' ') {
-        if words.words() >= 64 {
-            return Err(Fail::from("a test's line has few words"));
-        }
-        if word.len() > 255 {
-            return Err(Fail::from("a test's word is short"));
-        }
-        words.push(word.as_bytes())?;
-    }
-    Ok(words)
-}
+use world_model::{Called, EnterFault, Frames, Taken, Touched};
 
 /// How the call of the first session with a line at moment 0 is answered.
 pub(crate) fn called(
@@ -30,12 +16,9 @@ pub(crate) fn called(
     core: &mut DurableCore<MemoryDisk>,
     line: &str,
 ) -> Result<Called, Fail> {
-    let words = request(alloc, line)?;
-    if words.words() == 0 {
-        return Err(Fail::from("a test's request is proper"));
-    }
+    let asked = asked(alloc, line)?;
     let mut touched = Touched::new(alloc)?;
-    Ok(core.call(1, 0, &Asked::Words(words), &mut touched))
+    Ok(core.call(1, 0, &asked, &mut touched))
 }
 
 /// How a tick is answered.

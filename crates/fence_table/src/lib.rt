@@ -5,6 +5,3 @@ mod detections;
 mod raises;
 
 pub use raises::{Pair, raised};
-
-#[cfg(test)]
-mod tests;

@@ -1,61 +1,30 @@
 //! A hub that is changed and asked.
 
-use byte_text::{Name, NoMemory, Request, Text};
+use crate::strips::{on_strip, strip};
+use byte_text::{NoMemory, Text};
 use channel_hub::*;
-use planar_geom::{Area, BBox, Pt, area_box};
+use planar_geom::{BBox, area_box};
 use rtree::{NoLedger, Steps};
 use std::alloc::Global;
 use std::process::Abort;
 use std::test::Fail;
-use world_data::{Channel, Fence, Kind, Tests, Wanted, Watch};
-
-fn name(alloc: Global, bytes: &[u8]) -> Result<Name, NoMemory> {
-    match Name::of(alloc, bytes) {
-        Ok(name) => Ok(name),
-        Err(_) => Err(NoMemory),
-    }
-}
-
-// The box from (low, 0) to (high, 10).
-fn strip(low: i64, high: i64) -> Result<BBox, NoMemory> {
-    let (Some(min), Some(max)) = (Pt::of(low, 0), Pt::of(high, 10)) else {
-        return Err(NoMemory);
-    };
-    match BBox::of(min, max) {
-        Some(strip) => Ok(strip),
-        None => Err(NoMemory),
-    }
-}
+use test_samples::{channel, name};
+use world_data::{Channel, Watch};
 
 // A channel of this name on a strip, which wants `exit` alone.
-fn channel(
+fn telling_exit(
     alloc: Global,
     called: &[u8],
     key: &[u8],
     low: i64,
     high: i64,
 ) -> Result<Channel, NoMemory> {
-    let wanted = Wanted {
-        inside: false,
-        outside: false,
-        enter: false,
-        exit: true,
-        cross: false,
-        set: true,
-        del: true,
-        drop: true,
-    };
-    Ok(Channel {
-        name: name(alloc, called)?,
-        fence: Fence {
-            key: name(alloc, key)?,
-            glob: None,
-            tests: Tests::new(alloc),
-            wanted,
-            watch: Watch::Spot(Kind::Within, Area::Rect(strip(low, high)?)),
-        },
-        words: Request::new(alloc),
-    })
+    let mut channel = channel(alloc, called, key, on_strip(low, high)?)?;
+    channel.fence.wanted.inside = false;
+    channel.fence.wanted.outside = false;
+    channel.fence.wanted.enter = false;
+    channel.fence.wanted.cross = false;
+    Ok(channel)
 }
 
 // Puts such a channel, and tells where the area of the one that it replaces begins, -1 for none.
@@ -66,7 +35,7 @@ fn put(
     key: &[u8],
     area: (i64, i64),
 ) -> Result<i32, NoMemory> {
-    let channel = channel(alloc, called, key, area.0, area.1)?;
+    let channel = telling_exit(alloc, called, key, area.0, area.1)?;
     hub.prepare(alloc, &channel)?;
     Ok(start(hub.put(channel).as_ref()))
 }

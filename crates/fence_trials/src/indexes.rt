@@ -1,62 +1,25 @@
 //! Channels of two keys, and which of them are named.
 
-use byte_text::{Name, NoMemory, Request, Text};
+use crate::strips::{on_strip, strip};
+use byte_text::{NoMemory, Text};
 use fence_index::*;
-use planar_geom::{Area, BBox, Pt};
+use planar_geom::BBox;
 use rtree::{Ids, NoLedger, Steps, Visits};
 use std::alloc::Global;
 use std::process::Abort;
 use std::test::Fail;
-use world_data::{Channel, Fence, Kind, Tests, Wanted, Watch};
-
-fn name(alloc: Global, bytes: &[u8]) -> Result<Name, NoMemory> {
-    match Name::of(alloc, bytes) {
-        Ok(name) => Ok(name),
-        Err(_) => Err(NoMemory),
-    }
-}
-
-// The box from (low, 0) to (high, 10).
-fn strip(low: i64, high: i64) -> Result<BBox, NoMemory> {
-    let (Some(min), Some(max)) = (Pt::of(low, 0), Pt::of(high, 10)) else {
-        return Err(NoMemory);
-    };
-    match BBox::of(min, max) {
-        Some(strip) => Ok(strip),
-        None => Err(NoMemory),
-    }
-}
-
-fn spot(low: i64, high: i64) -> Result<Watch, NoMemory> {
-    Ok(Watch::Spot(Kind::Within, Area::Rect(strip(low, high)?)))
-}
+use test_samples::{channel, name};
+use world_data::{Channel, Watch};
 
 fn roam(alloc: Global) -> Result<Watch, NoMemory> {
     Ok(Watch::Roam(name(alloc, b"people")?, name(alloc, b"*")?, 10, false))
 }
 
-fn channel(alloc: Global, key: &[u8], outside: bool, watch: Watch) -> Result<Channel, NoMemory> {
-    let wanted = Wanted {
-        inside: true,
-        outside,
-        enter: true,
-        exit: true,
-        cross: true,
-        set: true,
-        del: true,
-        drop: true,
-    };
-    Ok(Channel {
-        name: name(alloc, b"fence")?,
-        fence: Fence {
-            key: name(alloc, key)?,
-            glob: None,
-            tests: Tests::new(alloc),
-            wanted,
-            watch,
-        },
-        words: Request::new(alloc),
-    })
+// A channel that wants everything but `outside`, where that is not wanted.
+fn telling(alloc: Global, key: &[u8], outside: bool, watch: Watch) -> Result<Channel, NoMemory> {
+    let mut channel = channel(alloc, b"fence", key, watch)?;
+    channel.fence.wanted.outside = outside;
+    Ok(channel)
 }
 
 fn put(
@@ -99,31 +62,31 @@ fn fill(alloc: Global, index: &mut FenceIndex) -> Result<(), NoMemory> {
         alloc,
         index,
         5,
-        &channel(alloc, b"gulls", false, spot(0, 9)?)?,
+        &telling(alloc, b"gulls", false, on_strip(0, 9)?)?,
     )?;
     put(
         alloc,
         index,
         4,
-        &channel(alloc, b"fleet", false, spot(40, 49)?)?,
+        &telling(alloc, b"fleet", false, on_strip(40, 49)?)?,
     )?;
     put(
         alloc,
         index,
         2,
-        &channel(alloc, b"fleet", true, spot(20, 29)?)?,
+        &telling(alloc, b"fleet", true, on_strip(20, 29)?)?,
     )?;
     put(
         alloc,
         index,
         1,
-        &channel(alloc, b"fleet", false, spot(0, 9)?)?,
+        &telling(alloc, b"fleet", false, on_strip(0, 9)?)?,
     )?;
     put(
         alloc,
         index,
         3,
-        &channel(alloc, b"fleet", false, roam(alloc)?)?,
+        &telling(alloc, b"fleet", false, roam(alloc)?)?,
     )
 }
 
@@ -161,7 +124,7 @@ fn numbers_of(rt: &impl Abort, alloc: Global, index: &mut FenceIndex) -> Result<
 
 // Another channel comes to the west of `fleet`, and goes.
 fn pass_by(alloc: Global, index: &mut FenceIndex) -> Result<(), NoMemory> {
-    let passing = channel(alloc, b"fleet", false, spot(0, 9)?)?;
+    let passing = telling(alloc, b"fleet", false, on_strip(0, 9)?)?;
     index.prepare(alloc, &passing)?;
     index.put(&passing, 6);
     index.take_out(&passing, 6);
@@ -196,7 +159,7 @@ fn a_channel_goes(rt: HostRuntime) -> Result<(), Fail> {
 fn put_thousand(alloc: Global, index: &mut FenceIndex) -> Result<(), NoMemory> {
     for i in 0..1000u32 {
         let low = i64::from(i) * 20;
-        let channel = channel(alloc, b"fleet", false, spot(low, low + 9)?)?;
+        let channel = telling(alloc, b"fleet", false, on_strip(low, low + 9)?)?;
         put(alloc, index, i as usize, &channel)?;
     }
     Ok(())

@@ -5,3 +5,5 @@
 mod hubs;
 #[cfg(test)]
 mod indexes;
+#[cfg(test)]
+mod strips;

@@ -1,77 +1,23 @@
 //! Two threads share a hall.
 
-ghost use Rattle.std.specs.Prelude.{◌≡◌, IfOk, IfSome, length, true};
-ghost use Rattle.std.specs.List.{list_all};
 ghost use Rattle.std.specs.Arc.{arc_value};
-ghost use Rattle.world_model.specs.Outcomes.{is_proper};
 ghost use Rattle.hall_trials.specs.Halls.{IsSeatOf};
 
-use byte_text::{Request, Text};
-use durable_core::DurableCore;
+use crate::ends::{hall_over, taken};
+use byte_text::Text;
 use hall_turns::HallServe;
 use outside::PlainDisk;
 use shared_hall::{HallSeat, SharedHall};
 use std::alloc::{AllocError, Global};
-use std::snapshot::Snapshot;
 use std::sync::{Arc, Wait};
 use std::test::Fail;
 use std::thread;
 use std::thread::{JoinHandle, Threads};
-use world_model::{Answers, Asked, AskedList, Called, Frames, HallApi, HallSplit, Taken, Touched};
+use test_lines::asked_list;
+use world_model::{Answers, Called, Frames, HallApi, HallSplit, Taken, Touched};
 
 // What is answered to one who gets what was set at 1 2.
 const POINT: &str = "$36\r\n{\"type\":\"Point\",\"coordinates\":[2,1]}\r\n";
-
-// The request of a line's words, which are split at spaces. None for want of memory, or where the line is no test's.
-fn request(alloc: Global, line: &str) -> Option<Request> {
-    let mut words = Request::new(alloc);
-    for word in line.split(' ') {
-        if words.words() >= 64 {
-            return None;
-        }
-        if word.len() > 255 {
-            return None;
-        }
-        words.push(word.as_bytes()).ok()?;
-    }
-    Some(words)
-}
-
-// The first of the frames that a take of a session gives, or nothing.
-fn taken<R: Wait>(
-    rt: &R,
-    alloc: Global,
-    hall: &SharedHall<PlainDisk>,
-    seat: &mut HallSeat<PlainDisk>,
-    session: u32,
-) -> Option<Text>
-    requires { IsSeatOf hall.now seat.old }
-    ensures { IsSeatOf hall.now seat.new }
-{
-    let mut frames = Frames::new(alloc).ok()?;
-    hall.take(rt, seat, session, &mut frames);
-    let mut text = Text::new(alloc);
-    if !frames.is_empty() {
-        text.push(frames.at(0)).ok()?;
-    }
-    Some(text)
-}
-
-// The one request of a line.
-fn asked_by(alloc: Global, line: &str) -> Option<AskedList>
-    ensures one { IfSome result (λ a. length a ≡ 1) }
-    ensures proper { IfSome result (λ a. list_all is_proper a ≡ true) }
-{
-    let words = request(alloc, line)?;
-    if words.words() == 0 {
-        return None;
-    }
-    let mut asked = AskedList::new(alloc);
-    match asked.push(Asked::Words(words)) {
-        Ok(()) => Some(asked),
-        Err(_) => None,
-    }
-}
 
 // What a session is answered to a line.
 fn answered<R: Wait>(
@@ -85,7 +31,7 @@ fn answered<R: Wait>(
     requires { IsSeatOf hall.now seat.old }
     ensures { IsSeatOf hall.now seat.new }
 {
-    let asked = asked_by(alloc, line)?;
+    let asked = asked_list(alloc, line).ok()?;
     let touched = Touched::new(alloc).ok()?;
     let (answers, _asked, touched) = hall.calls(rt, seat, session, 0, asked, touched);
     let whole = Answers {
@@ -110,7 +56,7 @@ fn served<R: Wait>(
     requires { IsSeatOf hall.now seat.old }
     ensures { IsSeatOf hall.now seat.new }
 {
-    let asked = asked_by(alloc, line)?;
+    let asked = asked_list(alloc, line).ok()?;
     let touched = Touched::new(alloc).ok()?;
     let mut frames = Frames::new(alloc).ok()?;
     let (_answers, _asked, _touched, taken) = hall.calls_and_take(
@@ -127,21 +73,6 @@ fn served<R: Wait>(
         text.push(frames.at(0)).ok()?;
     }
     Some((taken, text))
-}
-
-// A hall over an empty disk, and its first seat.
-fn hall_at(alloc: Global) -> Result<(SharedHall<PlainDisk>, HallSeat<PlainDisk>), Fail>
-    ensures { IfOk result (λ r. IsSeatOf r.0 r.1) }
-{
-    let disk = PlainDisk::new(alloc);
-    let handed = Snapshot::of(&disk);
-    let Ok(core) = DurableCore::open(alloc, disk) else {
-        return Err(Fail::from("an empty disk is opened"));
-    };
-    match SharedHall::new(alloc, core, handed) {
-        Ok(made) => Ok(made),
-        Err(_core) => Err(Fail::from(AllocError)),
-    }
 }
 
 fn is_answered<R: Wait>(
@@ -200,7 +131,7 @@ fn a_take_comes_in_the_turn_of_a_call_that_leaves_nothing_pending(
     rt: HostRuntime,
 ) -> Result<(), Fail> {
     let alloc = rt.alloc();
-    let (hall, mut seat) = hall_at(alloc)?;
+    let (hall, mut seat) = hall_over(alloc, PlainDisk::new(alloc))?;
     let Ok(session) = hall.enter(&rt, &mut seat) else {
         return Err(Fail::from(AllocError));
     };
@@ -220,7 +151,7 @@ fn a_take_comes_in_the_turn_of_a_call_that_leaves_nothing_pending(
 #[test]
 fn what_one_thread_sets_another_reads(rt: HostRuntime) -> Result<(), Fail> {
     let alloc = rt.alloc();
-    let (hall, mut seat) = hall_at(alloc)?;
+    let (hall, mut seat) = hall_over(alloc, PlainDisk::new(alloc))?;
     let hall = Arc::new(alloc, hall)?;
     let child = start(rt, alloc, &hall, &mut seat)?;
     assert!(rt; child.join(&rt));

@@ -5,6 +5,3 @@ mod messages;
 mod parts;
 
 pub use messages::push_message;
-
-#[cfg(test)]
-mod tests;

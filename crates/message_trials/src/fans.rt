@@ -1,106 +1,42 @@
 //! What one session hears of writes, by two channels that watch strips and one that roams.
 
-ghost use Rattle.std.specs.Prelude.{◌≡◌, [], true, None, IfOk};
+ghost use Rattle.std.specs.Prelude.{◌≡◌, true, IfOk};
 ghost use Rattle.std.specs.List.{list_all};
 ghost use Rattle.world_data.specs.Sound.{is_sound_channel, is_sound_watch};
-ghost use Rattle.world_model.specs.Subscriptions.{with_sub};
-ghost use Rattle.subscriptions.specs.Subscribed.{sub};
 
-use byte_text::{Name, NoMemory, Request, Text};
+use crate::mails::{last, patterned, pushed};
+use crate::watches::roaming;
+use byte_text::{NoMemory, Text};
 use channel_hub::Hub;
-use glob_match::well_formed;
 use keyspace::Keyspace;
 use message_fan::*;
-use planar_geom::{Area, BBox, Pt, Shape};
+use planar_geom::Area;
 use rtree::{NoLedger, Steps};
 use session_mail::{Session, place_staged};
 use std::alloc::Global;
 use std::test::Fail;
-use subscriptions::Subscriptions;
-use world_data::{Channel, Fence, Fields, Frames, Kind, Object, Tests, Wanted, Watch};
-
-fn name(alloc: Global, bytes: &[u8]) -> Result<Name, NoMemory> {
-    match Name::of(alloc, bytes) {
-        Ok(name) => Ok(name),
-        Err(_) => Err(NoMemory),
-    }
-}
-
-fn text(alloc: Global, bytes: &[u8]) -> Result<Text, NoMemory> {
-    let mut text = Text::new(alloc);
-    text.push(bytes)?;
-    Ok(text)
-}
-
-fn spot(x: i64, y: i64) -> Result<Pt, NoMemory> {
-    match Pt::of(x, y) {
-        Some(at) => Ok(at),
-        None => Err(NoMemory),
-    }
-}
+use test_samples::{bounds, channel, name, object};
+use world_data::{Channel, Kind, Object, Watch};
 
 // A point of a key at this x.
-fn object(alloc: Global, key: &[u8], id: &[u8], x: i64) -> Result<Object, NoMemory> {
-    let Ok(shape) = Shape::point(alloc, spot(x, 5)?) else {
-        return Err(NoMemory);
-    };
-    Ok(Object {
-        key: name(alloc, key)?,
-        id: name(alloc, id)?,
-        text: text(alloc, b"{}")?,
-        shape,
-        fields: Fields::new(alloc),
-        deadline: None,
-    })
+fn gone_to(alloc: Global, key: &[u8], id: &[u8], x: i64) -> Result<Object, NoMemory> {
+    object(alloc, key, id, x, 5)
 }
 
 // The strip from one x to another.
 fn strip(low: i64, high: i64) -> Result<Watch, NoMemory>
     ensures { IfOk result (λ w. is_sound_watch w ≡ true) }
 {
-    match BBox::of(spot(low, 0)?, spot(high, 10)?) {
-        Some(strip) => Ok(Watch::Spot(Kind::Within, Area::Rect(strip))),
-        None => Err(NoMemory),
-    }
-}
-
-// All of `gulls` within 10 meters.
-fn gulls(alloc: Global) -> Result<Watch, NoMemory>
-    ensures { IfOk result (λ w. is_sound_watch w ≡ true) }
-{
-    let pattern = name(alloc, b"*")?;
-    if !well_formed(pattern.bytes()) {
-        return Err(NoMemory);
-    }
-    Ok(Watch::Roam(name(alloc, b"gulls")?, pattern, 10, false))
+    let strip = Area::Rect(bounds((low, 0), (high, 10))?);
+    Ok(Watch::Spot(Kind::Within, strip))
 }
 
 // A channel on `fleet` that wants everything.
-fn channel(alloc: Global, called: &[u8], watch: Watch) -> Result<Channel, NoMemory>
+fn of_fleet(alloc: Global, called: &[u8], watch: Watch) -> Result<Channel, NoMemory>
     requires { is_sound_watch watch ≡ true }
     ensures { IfOk result (λ c. is_sound_channel c ≡ true) }
 {
-    let wanted = Wanted {
-        inside: true,
-        outside: true,
-        enter: true,
-        exit: true,
-        cross: true,
-        set: true,
-        del: true,
-        drop: true,
-    };
-    Ok(Channel {
-        name: name(alloc, called)?,
-        fence: Fence {
-            key: name(alloc, b"fleet")?,
-            glob: None,
-            tests: Tests::new(alloc),
-            wanted,
-            watch,
-        },
-        words: Request::new(alloc),
-    })
+    channel(alloc, called, b"fleet", watch)
 }
 
 fn put(alloc: Global, hub: &mut Hub, channel: Channel) -> Result<(), NoMemory>
@@ -118,54 +54,21 @@ fn put_strips(alloc: Global, hub: &mut Hub) -> Result<(), NoMemory>
     requires { list_all is_sound_channel hub.old.channels ≡ true }
     ensures { list_all is_sound_channel hub.new.channels ≡ true }
 {
-    put(alloc, hub, channel(alloc, b"west", strip(0, 9)?)?)?;
-    put(alloc, hub, channel(alloc, b"east", strip(20, 29)?)?)
+    put(alloc, hub, of_fleet(alloc, b"west", strip(0, 9)?)?)?;
+    put(alloc, hub, of_fleet(alloc, b"east", strip(20, 29)?)?)
 }
 
-// A subscription to a pattern.
-fn subscribed(alloc: Global, pattern: &Name) -> Result<Subscriptions, NoMemory>
-    ensures { IfOk result (λ subs. subs ≡ with_sub [] (sub true pattern.now)) }
-{
-    let mut subs = Subscriptions::new(alloc);
-    match subs.subscribe(alloc, pattern, true) {
-        Ok(_) => Ok(subs),
-        Err(_) => Err(NoMemory),
-    }
-}
-
-// A session that hears all.
-fn listener(alloc: Global) -> Result<Session, NoMemory> {
-    let pattern = name(alloc, b"*")?;
-    if !well_formed(pattern.bytes()) {
-        return Err(NoMemory);
-    }
-    let subs = subscribed(alloc, &pattern)?;
-    let mut session = Session::new(alloc, 1);
-    session.set_subscriptions(subs);
-    Ok(session)
-}
-
-// That session alone.
+// A session alone that hears all.
 fn hearer(alloc: Global) -> Result<Vec<Session>, NoMemory> {
     let mut sessions = Vec::new(alloc);
-    match sessions.push(listener(alloc)?) {
-        Ok(()) => Ok(sessions),
-        Err(_) => Err(NoMemory),
-    }
+    pushed(&mut sessions, patterned(alloc, 1, b"*")?)?;
+    Ok(sessions)
 }
 
 // The frames that it is given.
 fn taken(alloc: Global, sessions: &mut Vec<Session>) -> Result<Text, NoMemory> {
     place_staged(sessions);
-    let mut all = Text::new(alloc);
-    let mut frames = Frames::new(alloc)?;
-    if let Some(mut session) = sessions.pop() {
-        session.take_frames(&mut frames);
-    }
-    for i in 0..frames.len() {
-        all.push(frames.at(i))?;
-    }
-    Ok(all)
+    last(alloc, sessions)
 }
 
 // Appends the frame of a message: the channel's name, the payload's length, and the payload from its command up to the hook, and behind it.
@@ -199,12 +102,12 @@ fn moved(
 ) -> Result<Text, NoMemory>
     requires { list_all is_sound_channel hub.now.channels ≡ true }
 {
-    let new = object(alloc, b"fleet", b"t", to)?;
+    let new = gone_to(alloc, b"fleet", b"t", to)?;
     let mut sessions = hearer(alloc)?;
     let mut steps = Steps::new(NoLedger);
     match from {
         Some(from) => {
-            let old = object(alloc, b"fleet", b"t", from)?;
+            let old = gone_to(alloc, b"fleet", b"t", from)?;
             stage_put(
                 alloc,
                 hub,
@@ -307,7 +210,7 @@ fn deleted_among(alloc: Global, hub: &mut Hub) -> Result<Text, NoMemory>
     requires { list_all is_sound_channel hub.old.channels ≡ true }
 {
     put_strips(alloc, hub)?;
-    let old = object(alloc, b"fleet", b"t", 5)?;
+    let old = gone_to(alloc, b"fleet", b"t", 5)?;
     let mut sessions = hearer(alloc)?;
     stage_del(alloc, hub, &mut sessions, &old, &mut Steps::new(NoLedger))?;
     taken(alloc, &mut sessions)
@@ -357,7 +260,7 @@ fn ends(rt: HostRuntime) -> Result<(), Fail> {
 }
 
 fn settle(alloc: Global, objects: &mut Keyspace, id: &[u8], x: i64) -> Result<(), NoMemory> {
-    let gull = object(alloc, b"gulls", id, x)?;
+    let gull = gone_to(alloc, b"gulls", id, x)?;
     objects.prepare(&gull.key)?;
     if objects.len() < 9 {
         objects.put(gull, &mut Steps::new(NoLedger));
@@ -369,7 +272,11 @@ fn settle(alloc: Global, objects: &mut Keyspace, id: &[u8], x: i64) -> Result<()
 fn roamed_among(alloc: Global, hub: &mut Hub, objects: &mut Keyspace) -> Result<Text, NoMemory>
     requires { list_all is_sound_channel hub.old.channels ≡ true }
 {
-    put(alloc, hub, channel(alloc, b"near", gulls(alloc)?)?)?;
+    put(
+        alloc,
+        hub,
+        of_fleet(alloc, b"near", roaming(alloc, b"gulls", false)?)?,
+    )?;
     settle(alloc, objects, b"v", 105)?;
     settle(alloc, objects, b"u", 5)?;
     moved(alloc, hub, objects, Some(108), 7)

@@ -1,5 +1,17 @@
-//! Tests of what a write sends to the sessions that listen.
+//! Tests of what a write raises, of the messages that tell of it, and of the sessions that hear them.
 #![tactic(auto)]
 
 #[cfg(test)]
+mod detections;
+#[cfg(test)]
 mod fans;
+#[cfg(test)]
+mod mails;
+#[cfg(test)]
+mod matches;
+#[cfg(test)]
+mod payloads;
+#[cfg(test)]
+mod roams;
+#[cfg(test)]
+mod watches;

@@ -4,6 +4,3 @@
 mod pages;
 
 pub use pages::near_page;
-
-#[cfg(test)]
-mod tests;

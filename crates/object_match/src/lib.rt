@@ -10,6 +10,3 @@ pub use areas::meets_area;
 pub use fences::{is_in_fence, meets_fence};
 pub use patterns::meets_glob;
 pub use queries::meets_query;
-
-#[cfg(test)]
-mod tests;

@@ -1,4 +1,5 @@
-// The real things, over the loopback and in the current folder.
+//! The real things, over the loopback and in the current folder.
+
 use crate::{FolderDisk, TcpDoor, TcpSink, TcpSource, ThreadSpawner, WallClock};
 use outside::{
     Accepted, Clock, Disk, Door, Failed, Job, Link, MAX_MOMENT, Side, Sink, Source, Spawner, Tally,

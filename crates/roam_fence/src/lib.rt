@@ -6,6 +6,3 @@ mod pairs;
 
 pub use lists::RoamList;
 pub use pairs::near_pairs;
-
-#[cfg(test)]
-mod tests;

@@ -4,6 +4,3 @@
 mod pages;
 
 pub use pages::{end_page, is_past, note, page};
-
-#[cfg(test)]
-mod tests;

@@ -11,6 +11,3 @@ mod sessions;
 pub use fans::{place_staged, stage_message, unstage};
 pub use mailboxes::Mailbox;
 pub use sessions::{Session, Stage};
-
-#[cfg(test)]
-mod tests;

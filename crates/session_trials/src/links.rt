@@ -3,7 +3,7 @@
 ghost use Rattle.std.specs.Arc.{arc_value};
 
 use crate::halls::{Crossing, hall_at, shared_by};
-use crate::texts::{MESSAGE, PING, PONG, SET, SETCHAN, SUBSCRIBED, push_line, push_times};
+use crate::texts::{MESSAGE, PING, PONG, SET, SETCHAN, SUBSCRIBED, push_times};
 use byte_text::Text;
 use outside::{Gate, HandClock, ListDoor, ListedSpawner, NoGate, PlainBell, PlainDisk};
 use serve_run::{ServeEnd, Served, Shared, serve};
@@ -12,6 +12,7 @@ use std::alloc::{AllocError, Global};
 use std::sync::Wait;
 use std::test::Fail;
 use std::thread::Threads;
+use test_lines::push_line;
 use world_model::HallApi;
 
 // Serves the callers of a door, where the start of this number is refused.

@@ -1,24 +1,22 @@
 //! Sessions without threads of their own.
 
-ghost use Rattle.std.specs.Prelude.{◌≡◌, [], IfOk, IfSome, length, true};
+ghost use Rattle.std.specs.Prelude.{◌≡◌, [], IfOk};
 ghost use Rattle.std.specs.Arc.{arc_value};
-ghost use Rattle.std.specs.List.{list_all};
 ghost use Rattle.world_data.specs.Limits.{take_frames};
-ghost use Rattle.world_model.specs.Outcomes.{is_proper};
 
 use crate::halls::{hall_at, shared_by};
-use crate::texts::{MESSAGE, PING, PONG, SET, SETCHAN, SUBSCRIBED, push_line, push_times};
+use crate::texts::{MESSAGE, PING, PONG, SET, SETCHAN, SUBSCRIBED, push_times};
 use byte_text::Text;
 use crossbeam_channel::bounded;
 use outside::{BytesSink, BytesSource, HandClock, NoGate, PlainBell, PlainDisk};
-use resp_frames::Requests;
 use serve_run::Shared;
 use session_run::{InEnd, OutEnd, Outlet, Writing, session_in, session_out};
 use shared_hall::{HallSeat, SharedHall};
 use std::alloc::{AllocError, Global};
 use std::sync::Wait;
 use std::test::Fail;
-use world_model::{Answers, Asked, AskedList, Called, Frames, HallApi, Touched};
+use test_lines::{asked_list, push_line};
+use world_model::{Answers, Called, Frames, HallApi, Touched};
 
 // How the reading of a session ended and its writing, and what was written.
 #[derive(Drop)]
@@ -126,24 +124,6 @@ fn a_sink_fails(rt: HostRuntime) -> Result<(), Fail> {
     Ok(())
 }
 
-// The one request of a line.
-fn asked_by(alloc: Global, line: &str) -> Option<AskedList>
-    ensures one { IfSome result (λ a. length a ≡ 1) }
-    ensures proper { IfSome result (λ a. list_all is_proper a ≡ true) }
-{
-    let mut text = Text::new(alloc);
-    push_line(&mut text, line).ok()?;
-    let words = Requests::new(alloc).feed(text.bytes()).ok()?.request?;
-    if words.words() == 0 {
-        return None;
-    }
-    let mut asked = AskedList::new(alloc);
-    match asked.push(Asked::Words(words)) {
-        Ok(()) => Some(asked),
-        Err(_) => None,
-    }
-}
-
 // A session that subscribes to the yard.
 fn listener<R: Wait>(
     rt: &R,
@@ -155,7 +135,7 @@ fn listener<R: Wait>(
     ensures { ⟦<SharedHall<PlainDisk> as HallApi>⟧.is_of hall.now seat.new }
 {
     let session = hall.enter(rt, seat).ok()?;
-    let asked = asked_by(alloc, "SUBSCRIBE yard")?;
+    let asked = asked_list(alloc, "SUBSCRIBE yard").ok()?;
     let touched = Touched::new(alloc).ok()?;
     let (answers, _asked, _touched) = hall.calls(rt, seat, session, 0, asked, touched);
     let whole = Answers {

@@ -1,6 +1,6 @@
 //! Requests, replies and messages.
 
-use byte_text::{NoMemory, Text, push_array_head, push_bulk};
+use byte_text::{NoMemory, Text};
 
 /// A request.
 pub(crate) const PING: &[u8] = b"*1\r\n$4\r\nPING\r\n";
@@ -20,15 +20,6 @@ pub(crate) const MESSAGE: &str =
 
 /// What is answered to one who subscribes to the yard.
 pub(crate) const SUBSCRIBED: &[u8] = b"*3\r\n$9\r\nsubscribe\r\n$4\r\nyard\r\n:1\r\n";
-
-/// Appends an array of the words of a line, which stand between spaces.
-pub(crate) fn push_line(text: &mut Text, line: &str) -> Result<(), NoMemory> {
-    push_array_head(text, line.split(' ').count())?;
-    for word in line.split(' ') {
-        push_bulk(text, word.as_bytes())?;
-    }
-    Ok(())
-}
 
 /// Appends a piece so often.
 pub(crate) fn push_times(text: &mut Text, piece: &[u8], times: u32) -> Result<(), NoMemory> {

@@ -1,28 +1,12 @@
 //! A collection that is changed and read.
 
-use byte_text::{Name, NoMemory, Text};
+use byte_text::{Name, NoMemory};
 use collection::*;
-use planar_geom::{BBox, Part, Parts, Pt, Shape};
 use rtree::{Ids, NoLedger, Steps, Visits};
 use std::alloc::Global;
 use std::process::Abort;
 use std::test::Fail;
-use world_data::{Fields, Object};
-
-fn spot(alloc: Global, x: i64, y: i64) -> Result<Shape, NoMemory> {
-    let mut parts = Parts::new(alloc);
-    match Pt::of(x, y) {
-        Some(p) => match parts.push(Part::Spot(p)) {
-            Ok(()) => {}
-            Err(_) => return Err(NoMemory),
-        },
-        None => return Err(NoMemory),
-    }
-    match Shape::of(parts) {
-        Ok(shape) => Ok(shape),
-        Err(_) => Err(NoMemory),
-    }
-}
+use test_samples::{at, bounds, object};
 
 // Puts an object of this id, deadline and place, and gives the deadline of the one that stood there, 0 for none.
 fn put(
@@ -32,16 +16,10 @@ fn put(
     deadline: Option<u64>,
     place: (i64, i64),
 ) -> Result<Option<u64>, Fail> {
-    let object = Object {
-        key: Name::of(alloc, b"fleet")?,
-        id: Name::of(alloc, id)?,
-        text: Text::new(alloc),
-        shape: spot(alloc, place.0, place.1)?,
-        fields: Fields::new(alloc),
-        deadline,
-    };
+    let mut truck = object(alloc, b"fleet", id, place.0, place.1)?;
+    truck.deadline = deadline;
     collection.prepare()?;
-    match collection.put(object, &mut Steps::new(NoLedger)) {
+    match collection.put(truck, &mut Steps::new(NoLedger)) {
         Some(old) => Ok(Some(old.deadline.unwrap_or(0))),
         None => Ok(None),
     }
@@ -171,15 +149,7 @@ fn met_in(
     side: i64,
     steps: &mut Steps<Visits>,
 ) -> Result<(usize, Option<usize>), NoMemory> {
-    let Some(low) = Pt::of(0, 0) else {
-        return Err(NoMemory);
-    };
-    let Some(high) = Pt::of(side, side) else {
-        return Err(NoMemory);
-    };
-    let Some(square) = BBox::of(low, high) else {
-        return Err(NoMemory);
-    };
+    let square = bounds((0, 0), (side, side))?;
     let mut places = Ids::new(alloc);
     trucks.met(alloc, square, &mut places, steps)?;
     let first = if places.is_empty() {
@@ -214,12 +184,9 @@ fn distances(
     alloc: Global,
     trucks: &Collection,
 ) -> Result<(Option<u64>, usize, Option<u64>), NoMemory> {
-    let Some(origin) = Pt::of(0, 0) else {
-        return Err(NoMemory);
-    };
     let mut steps = Steps::new(NoLedger);
     let mut places = Ids::new(alloc);
-    let mut walk = trucks.near(alloc, origin)?;
+    let mut walk = trucks.near(alloc, at(0, 0)?)?;
     let first = walk.next(&mut places, &mut steps)?;
     let count = places.len();
     let second = walk.next(&mut places, &mut steps)?;

@@ -1,28 +1,12 @@
 //! Objects of two keys that are put, found and taken out.
 
-use byte_text::{Name, NoMemory, Text};
+use byte_text::Name;
 use keyspace::*;
-use planar_geom::{Part, Parts, Pt, Shape};
 use rtree::{NoLedger, Steps, Visits};
 use std::alloc::Global;
 use std::process::Abort;
 use std::test::Fail;
-use world_data::{Fields, Object};
-
-fn spot(alloc: Global) -> Result<Shape, NoMemory> {
-    let mut parts = Parts::new(alloc);
-    match Pt::of(1, 2) {
-        Some(p) => match parts.push(Part::Spot(p)) {
-            Ok(()) => {}
-            Err(_) => return Err(NoMemory),
-        },
-        None => return Err(NoMemory),
-    }
-    match Shape::of(parts) {
-        Ok(shape) => Ok(shape),
-        Err(_) => Err(NoMemory),
-    }
-}
+use test_samples::object;
 
 // Puts an object of this key, id and deadline, and says whether one stood there.
 fn put(
@@ -32,14 +16,8 @@ fn put(
     id: &[u8],
     deadline: Option<u64>,
 ) -> Result<bool, Fail> {
-    let object = Object {
-        key: Name::of(alloc, key)?,
-        id: Name::of(alloc, id)?,
-        text: Text::new(alloc),
-        shape: spot(alloc)?,
-        fields: Fields::new(alloc),
-        deadline,
-    };
+    let mut object = object(alloc, key, id, 1, 2)?;
+    object.deadline = deadline;
     all.prepare(&object.key)?;
     if all.len() > 9 {
         return Ok(false);

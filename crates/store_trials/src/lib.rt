@@ -1,4 +1,4 @@
-//! Tests of lists in runs, collections and keyspaces.
+//! Tests of lists in runs, of collections and pages of them, of keyspaces, and of worlds as they are kept.
 #![tactic(auto)]
 
 #[cfg(test)]
@@ -6,4 +6,8 @@ mod collections;
 #[cfg(test)]
 mod keyspaces;
 #[cfg(test)]
+mod pages;
+#[cfg(test)]
 mod runs;
+#[cfg(test)]
+mod worlds;

@@ -8,6 +8,3 @@ mod weights;
 
 pub use stored_worlds::{StoreParts, StoredWorld};
 pub use weights::weight_less;
-
-#[cfg(test)]
-mod tests;

@@ -4,26 +4,12 @@ use byte_text::{NoMemory, Request, Text};
 use std::alloc::Global;
 use std::process::Abort;
 use std::test::Fail;
+use test_lines::request;
 
 /// What reads the words of a line.
 pub(crate) trait Reads {
     /// Appends what words are read as.
     fn push_read(&self, alloc: Global, out: &mut Text, words: &Request) -> Result<(), NoMemory>;
-}
-
-// The request of a line's words, which are split at spaces.
-fn request(alloc: Global, line: &str) -> Result<Request, Fail> {
-    let mut words = Request::new(alloc);
-    for word in line.split(' ') {
-        if words.words() >= 64 {
-            return Err(Fail::from("a test's line has few words"));
-        }
-        if word.len() > 255 {
-            return Err(Fail::from("a test's word is short"));
-        }
-        words.push(word.as_bytes())?;
-    }
-    Ok(words)
 }
 
 /// A line is read as this.

@@ -5,31 +5,19 @@ ghost use Rattle.byte_text.specs.Replies.{IsFrame};
 
 use byte_text::{Name, NoMemory, Piece, Reply, Request, RespFault, Text};
 use geo_text::GeoFault;
-use planar_geom::{Area, BBox, Line, Part, Parts, Points, Pt, Shape};
+use planar_geom::{Area, BBox, Line, Part, Parts, Points, Shape};
 use reply_text::*;
 use std::alloc::Global;
 use std::process::Abort;
 use std::test::Fail;
-use world_data::{Channel, Fence, Kind, Wanted, Watch};
+use test_samples::{at, bounds, channel};
+use world_data::{Channel, Kind, Watch};
 use world_model::{Fields, Object, Query, Refusal, Rule, Shown, Tests, WordFault};
-
-fn text_of(alloc: Global, bytes: &[u8]) -> Result<Text, NoMemory> {
-    let mut text = Text::new(alloc);
-    text.push(bytes)?;
-    Ok(text)
-}
-
-fn point(x: i64, y: i64) -> Result<Pt, NoMemory> {
-    match Pt::of(x, y) {
-        Some(p) => Ok(p),
-        None => Err(NoMemory),
-    }
-}
 
 // The shape of the segment from (-5, 7) to (20, 30).
 fn segment(alloc: Global) -> Result<Shape, NoMemory> {
     let mut points = Points::new(alloc);
-    for p in [point(-5, 7)?, point(20, 30)?] {
+    for p in [at(-5, 7)?, at(20, 30)?] {
         if points.push(p).is_err() {
             return Err(NoMemory);
         }
@@ -55,7 +43,7 @@ fn truck(alloc: Global) -> Result<Object, Fail> {
     Ok(Object {
         key: Name::of(alloc, b"fleet")?,
         id: Name::of(alloc, b"truck1")?,
-        text: text_of(alloc, b"{}")?,
+        text: Text::of(alloc, b"{}")?,
         shape: segment(alloc)?,
         fields,
         deadline: None,
@@ -138,7 +126,7 @@ fn item(alloc: Global, id: &[u8], n: i64) -> Result<Object, Fail> {
     Ok(Object {
         key: Name::of(alloc, b"fleet")?,
         id: Name::of(alloc, id)?,
-        text: text_of(alloc, b"{}")?,
+        text: Text::of(alloc, b"{}")?,
         shape: segment(alloc)?,
         fields,
         deadline: None,
@@ -210,35 +198,18 @@ fn items(rt: HostRuntime) -> Result<(), Fail> {
 }
 
 // A channel of this name, of which the first of the normal words is given.
-fn channel(alloc: Global, name: &[u8]) -> Result<Channel, Fail> {
-    let area = corners()?;
+fn worded(alloc: Global, name: &[u8]) -> Result<Channel, Fail> {
+    let area = Area::Rect(corners()?);
     let mut words = Request::new(alloc);
     words.push(b"WITHIN")?;
-    Ok(Channel {
-        name: Name::of(alloc, name)?,
-        fence: Fence {
-            key: Name::of(alloc, b"fleet")?,
-            glob: None,
-            tests: Tests::new(alloc),
-            wanted: Wanted {
-                inside: true,
-                outside: true,
-                enter: true,
-                exit: true,
-                cross: true,
-                set: true,
-                del: true,
-                drop: true,
-            },
-            watch: Watch::Spot(Kind::Within, Area::Rect(area)),
-        },
-        words,
-    })
+    let mut channel = channel(alloc, name, b"fleet", Watch::Spot(Kind::Within, area))?;
+    channel.words = words;
+    Ok(channel)
 }
 
 // Appends such a channel to a list.
 fn push_channel(alloc: Global, items: &mut ItemFrames, name: &[u8]) -> Result<(), Fail> {
-    let channel = channel(alloc, name)?;
+    let channel = worded(alloc, name)?;
     items.push_channel(&channel)?;
     Ok(())
 }
@@ -281,11 +252,8 @@ fn confirmations(rt: HostRuntime) -> Result<(), Fail> {
 }
 
 // The box from (1, 2) to (3, 4).
-fn corners() -> Result<BBox, Fail> {
-    match BBox::of(point(1, 2)?, point(3, 4)?) {
-        Some(bounds) => Ok(bounds),
-        None => Err(Fail::from("a box")),
-    }
+fn corners() -> Result<BBox, NoMemory> {
+    bounds((1, 2), (3, 4))
 }
 
 // What is told of a key with objects, and of one without.
@@ -367,25 +335,25 @@ fn refusals(rt: HostRuntime) -> Result<(), Fail> {
     is_refusal(
         &rt,
         alloc,
-        WordFault::Unknown(text_of(alloc, b"f\x07o \x7f")?),
+        WordFault::Unknown(Text::of(alloc, b"f\x07o \x7f")?),
         b"-ERR unknown command 'f?o ?'\r\n",
     )?;
     is_refusal(
         &rt,
         alloc,
-        WordFault::WrongCount(text_of(alloc, b"get")?),
+        WordFault::WrongCount(Text::of(alloc, b"get")?),
         b"-ERR wrong number of arguments for 'get' command\r\n",
     )?;
     is_refusal(
         &rt,
         alloc,
-        WordFault::Invalid(text_of(alloc, b"~")?),
+        WordFault::Invalid(Text::of(alloc, b"~")?),
         b"-ERR invalid argument '~'\r\n",
     )?;
     is_refusal(
         &rt,
         alloc,
-        WordFault::Fraction(text_of(alloc, b"1.5")?),
+        WordFault::Fraction(Text::of(alloc, b"1.5")?),
         b"-ERR coordinate is not a whole number '1.5'\r\n",
     )?;
     is_refusal(
@@ -398,7 +366,7 @@ fn refusals(rt: HostRuntime) -> Result<(), Fail> {
 
 // A text of so many bytes, at most 4,194,304.
 fn long_text(alloc: Global, bytes: usize) -> Result<Text, Fail> {
-    let mut text = text_of(alloc, b"x")?;
+    let mut text = Text::of(alloc, b"x")?;
     for _ in 0..22 {
         let half = text.copy()?;
         text.push(half.bytes())?;
@@ -413,7 +381,7 @@ fn bulk_answer(alloc: Global, bytes: usize) -> Result<(Result<(), ReplyFault>, u
     if reply.push(Piece::Bulk(long_text(alloc, bytes)?)).is_err() {
         return Err(Fail::from("no memory"));
     }
-    let mut into = text_of(alloc, b"+OK\r\n")?;
+    let mut into = Text::of(alloc, b"+OK\r\n")?;
     let answer = push_reply(&mut into, &reply);
     Ok((answer, into.len()))
 }

@@ -1,72 +1,17 @@
 //! The plain program with ample memory.
 
-ghost use Rattle.std.specs.Prelude.{◌≡◌, IfOk};
-
-use byte_text::{Name, NoMemory, Request, Text};
-use planar_geom::{Area, Part, Parts, Pt, Shape};
+use byte_text::{Name, NoMemory, Text};
+use planar_geom::Area;
 use std::alloc::Global;
 use std::test::Fail;
+use test_samples::{channel, object, spot};
 use world_data::*;
 
-fn text_of(alloc: Global, bytes: &[u8]) -> Result<Text, NoMemory> {
-    let mut text = Text::new(alloc);
-    text.push(bytes)?;
-    Ok(text)
-}
-
-fn shape_of(alloc: Global) -> Result<Shape, NoMemory> {
-    let mut parts = Parts::new(alloc);
-    match Pt::of(1, 2) {
-        Some(p) => match parts.push(Part::Spot(p)) {
-            Ok(()) => {}
-            Err(_) => return Err(NoMemory),
-        },
-        None => return Err(NoMemory),
-    }
-    match Shape::of(parts) {
-        Ok(shape) => Ok(shape),
-        Err(_) => Err(NoMemory),
-    }
-}
-
-fn object_of(alloc: Global, key: Name, id: Name, deadline: u64) -> Result<Object, NoMemory>
-    ensures { IfOk result (λ o. (o.key ≡ key) × (o.id ≡ id)) }
-{
-    Ok(Object {
-        key,
-        id,
-        text: text_of(alloc, b"{}")?,
-        shape: shape_of(alloc)?,
-        fields: Fields::new(alloc),
-        deadline: Some(deadline),
-    })
-}
-
-fn channel_of(alloc: Global, name: Name, key: Name) -> Result<Channel, NoMemory>
-    ensures { IfOk result (λ c. c.name ≡ name) }
-{
-    let wanted = Wanted {
-        inside: true,
-        outside: true,
-        enter: true,
-        exit: true,
-        cross: true,
-        set: true,
-        del: true,
-        drop: true,
-    };
-    let watch = Watch::Spot(Kind::Within, Area::Figure(shape_of(alloc)?));
-    Ok(Channel {
-        name,
-        fence: Fence {
-            key,
-            glob: None,
-            tests: Tests::new(alloc),
-            wanted,
-            watch,
-        },
-        words: Request::new(alloc),
-    })
+// The object of the key `k` and this id, which expires at 7.
+fn mortal(alloc: Global, id: &[u8]) -> Result<Object, NoMemory> {
+    let mut object = object(alloc, b"k", id, 1, 2)?;
+    object.deadline = Some(7);
+    Ok(object)
 }
 
 #[test]
@@ -121,9 +66,9 @@ fn tests_on_fields(rt: HostRuntime) -> Result<(), Fail> {
 fn objects_in_order(rt: HostRuntime) -> Result<(), Fail> {
     let alloc = rt.alloc();
     let mut world = World::new(alloc);
-    let object = object_of(alloc, Name::of(alloc, b"k")?, Name::of(alloc, b"b")?, 7)?;
+    let object = mortal(alloc, b"b")?;
     world.fold(Change::Put(object.copy(alloc)?))?;
-    let before = object_of(alloc, Name::of(alloc, b"k")?, Name::of(alloc, b"a")?, 7)?;
+    let before = mortal(alloc, b"a")?;
     world.fold(Change::Put(before))?;
     assert_eq!(rt; world.objects.len(), 2);
     let last = world.objects.pop();
@@ -135,7 +80,8 @@ fn objects_in_order(rt: HostRuntime) -> Result<(), Fail> {
 fn channels_in_order(rt: HostRuntime) -> Result<(), Fail> {
     let alloc = rt.alloc();
     let mut world = World::new(alloc);
-    let channel = channel_of(alloc, Name::of(alloc, b"z")?, Name::of(alloc, b"k")?)?;
+    let area = Area::Figure(spot(alloc, 1, 2)?);
+    let channel = channel(alloc, b"z", b"k", Watch::Spot(Kind::Within, area))?;
     world.fold(Change::SetChan(channel.copy(alloc)?))?;
     assert_eq!(rt; world.channels.len(), 1);
     let last = world.channels.pop();
@@ -147,7 +93,7 @@ fn channels_in_order(rt: HostRuntime) -> Result<(), Fail> {
 fn frames_of_a_take(rt: HostRuntime) -> Result<(), Fail> {
     let alloc = rt.alloc();
     let mut frames = Frames::new(alloc)?;
-    frames.put(text_of(alloc, b"+OK\r\n")?);
+    frames.put(Text::of(alloc, b"+OK\r\n")?);
     let moved = frames.move_out();
     assert!(rt; frames.is_empty());
     assert_eq!(rt; moved.len(), 1);

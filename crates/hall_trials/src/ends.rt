@@ -3,10 +3,10 @@
 ghost use Rattle.std.specs.Prelude.{◌≡◌, true, IfOk};
 ghost use Rattle.shared_hall.specs.Seats.{knows_of};
 
-use super::*;
 use byte_text::Text;
 use durable_core::DurableCore;
 use outside::{Disk, MemoryDisk, PlainDisk};
+use shared_hall::{HallSeat, SharedHall};
 use std::alloc::{AllocError, Global};
 use std::process::Abort;
 use std::snapshot::Snapshot;
@@ -14,8 +14,11 @@ use std::sync::Wait;
 use std::test::Fail;
 use world_model::{Called, EnterFault, Frames, HallApi, Taken, Touched};
 
-// A hall over a disk, and its first seat.
-fn hall_over<D: Disk + Drop>(alloc: Global, disk: D) -> Result<(SharedHall<D>, HallSeat<D>), Fail>
+/// A hall over a disk, and its first seat.
+pub(crate) fn hall_over<D: Disk + Drop>(
+    alloc: Global,
+    disk: D,
+) -> Result<(SharedHall<D>, HallSeat<D>), Fail>
     ensures of { IfOk result (λ r. ⟦<SharedHall<D> as HallApi>⟧.is_of r.0 r.1) }
     ensures first { IfOk result (λ r. (knows_of r.1).first ≡ true) }
 {
@@ -29,8 +32,8 @@ fn hall_over<D: Disk + Drop>(alloc: Global, disk: D) -> Result<(SharedHall<D>, H
     }
 }
 
-// The first of the frames that a take of a session gives, or nothing.
-fn taken<D: Disk + Drop, R: Wait>(
+/// The first of the frames that a take of a session gives, or nothing.
+pub(crate) fn taken<D: Disk + Drop, R: Wait>(
     rt: &R,
     alloc: Global,
     hall: &SharedHall<D>,

@@ -2,81 +2,31 @@
 
 ghost use Rattle.std.specs.Prelude.{◌≡◌, None, IfOk};
 
-use super::*;
-use byte_text::{Name, NoMemory, Request, Text};
-use planar_geom::{Area, BBox, Pt, Shape};
+use byte_text::NoMemory;
+use fence_table::{Pair, raised};
+use planar_geom::Area;
 use std::alloc::Global;
 use std::test::Fail;
-use world_data::{Channel, Detect, Fence, Fields, Kind, Object, Raised, Tests, Wanted, Watch};
-
-fn name(alloc: Global, bytes: &[u8]) -> Result<Name, NoMemory> {
-    match Name::of(alloc, bytes) {
-        Ok(name) => Ok(name),
-        Err(_) => Err(NoMemory),
-    }
-}
-
-fn at(x: i64, y: i64) -> Result<Pt, NoMemory> {
-    match Pt::of(x, y) {
-        Some(point) => Ok(point),
-        None => Err(NoMemory),
-    }
-}
-
-fn object(alloc: Global, x: i64, y: i64) -> Result<Object, NoMemory> {
-    let Ok(shape) = Shape::point(alloc, at(x, y)?) else {
-        return Err(NoMemory);
-    };
-    Ok(Object {
-        key: name(alloc, b"k")?,
-        id: name(alloc, b"a")?,
-        text: Text::new(alloc),
-        shape,
-        fields: Fields::new(alloc),
-        deadline: None,
-    })
-}
-
-fn square() -> Result<BBox, NoMemory> {
-    match BBox::of(at(0, 0)?, at(10, 10)?) {
-        Some(square) => Ok(square),
-        None => Err(NoMemory),
-    }
-}
+use test_samples::{bounds, channel, object};
+use world_data::{Channel, Detect, Kind, Raised, Watch};
 
 // A channel on the square that wants all of DETECT but `inside`, where that is not wanted, and all of COMMANDS.
-fn channel(alloc: Global, inside: bool) -> Result<Channel, NoMemory>
+fn watching(alloc: Global, inside: bool) -> Result<Channel, NoMemory>
     ensures { IfOk result (λ c. c.fence.glob ≡ None) }
 {
-    Ok(Channel {
-        name: name(alloc, b"z")?,
-        fence: Fence {
-            key: name(alloc, b"k")?,
-            glob: None,
-            tests: Tests::new(alloc),
-            wanted: Wanted {
-                inside,
-                outside: true,
-                enter: true,
-                exit: true,
-                cross: true,
-                set: true,
-                del: true,
-                drop: true,
-            },
-            watch: Watch::Spot(Kind::Within, Area::Rect(square()?)),
-        },
-        words: Request::new(alloc),
-    })
+    let square = Area::Rect(bounds((0, 0), (10, 10))?);
+    let mut channel = channel(alloc, b"z", b"k", Watch::Spot(Kind::Within, square))?;
+    channel.fence.wanted.inside = inside;
+    Ok(channel)
 }
 
 // What a put raises that moves the object from one point, where it was there, to another.
 fn moved(alloc: Global, from: Option<(i64, i64)>, to: (i64, i64)) -> Result<Pair, NoMemory> {
-    let channel = channel(alloc, true)?;
-    let new = object(alloc, to.0, to.1)?;
+    let channel = watching(alloc, true)?;
+    let new = object(alloc, b"k", b"a", to.0, to.1)?;
     match from {
         Some((x, y)) => {
-            let old = object(alloc, x, y)?;
+            let old = object(alloc, b"k", b"a", x, y)?;
             Ok(raised(&channel, Some(&old), Some(&new)))
         }
         None => Ok(raised(&channel, None, Some(&new))),
@@ -117,9 +67,9 @@ fn puts(rt: HostRuntime) -> Result<(), Fail> {
 #[test]
 fn wanted(rt: HostRuntime) -> Result<(), Fail> {
     let alloc = rt.alloc();
-    let inside = object(alloc, 1, 1)?;
-    let beside = object(alloc, 1, 11)?;
-    let quiet = channel(alloc, false)?;
+    let inside = object(alloc, b"k", b"a", 1, 1)?;
+    let beside = object(alloc, b"k", b"a", 1, 11)?;
+    let quiet = watching(alloc, false)?;
     assert_eq!(rt;
         raised(&quiet, Some(&inside), Some(&inside)),
         pair(None, None)

@@ -3,29 +3,13 @@
 ghost use Rattle.std.specs.Prelude.{IfOk};
 ghost use Rattle.stored_world.specs.Stored.{HasFew};
 
-use super::*;
-use byte_text::{Name, NoMemory, Request, Text};
-use planar_geom::{Area, Pt, Shape};
+use byte_text::{NoMemory, Text};
+use planar_geom::Area;
 use std::alloc::Global;
 use std::test::Fail;
-use world_data::{Change, Channel, Fence, Fields, Kind, Object, Tests, Wanted, Watch};
-
-fn name(alloc: Global, bytes: &[u8]) -> Result<Name, NoMemory> {
-    match Name::of(alloc, bytes) {
-        Ok(name) => Ok(name),
-        Err(_) => Err(NoMemory),
-    }
-}
-
-fn spot(alloc: Global) -> Result<Shape, NoMemory> {
-    let Some(at) = Pt::of(1, 2) else {
-        return Err(NoMemory);
-    };
-    match Shape::point(alloc, at) {
-        Ok(shape) => Ok(shape),
-        Err(_) => Err(NoMemory),
-    }
-}
+use stored_world::{StoreParts, StoredWorld};
+use test_samples::{at, channel, name, object};
+use world_data::{Change, Kind, Watch};
 
 fn put(
     alloc: Global,
@@ -36,44 +20,19 @@ fn put(
 ) -> Result<Change, NoMemory>
     ensures { IfOk result HasFew }
 {
-    Ok(Change::Put(Object {
-        key: name(alloc, key)?,
-        id: name(alloc, id)?,
-        text: Text::of(alloc, text)?,
-        shape: spot(alloc)?,
-        fields: Fields::new(alloc),
-        deadline,
-    }))
+    let mut object = object(alloc, key, id, 1, 2)?;
+    object.text = Text::of(alloc, text)?;
+    object.deadline = deadline;
+    Ok(Change::Put(object))
 }
 
 // A channel of this name on a disc of this radius, with no words.
 fn setting(alloc: Global, called: &[u8], radius: u32) -> Result<Change, NoMemory>
     ensures { IfOk result HasFew }
 {
-    let Some(centre) = Pt::of(0, 0) else {
-        return Err(NoMemory);
-    };
-    let wanted = Wanted {
-        inside: true,
-        outside: false,
-        enter: true,
-        exit: true,
-        cross: false,
-        set: true,
-        del: true,
-        drop: true,
-    };
-    Ok(Change::SetChan(Channel {
-        name: name(alloc, called)?,
-        fence: Fence {
-            key: name(alloc, b"k")?,
-            glob: None,
-            tests: Tests::new(alloc),
-            wanted,
-            watch: Watch::Spot(Kind::Near, Area::Disc(centre, radius)),
-        },
-        words: Request::new(alloc),
-    }))
+    let disc = Area::Disc(at(0, 0)?, radius);
+    let watch = Watch::Spot(Kind::Near, disc);
+    Ok(Change::SetChan(channel(alloc, called, b"k", watch)?))
 }
 
 // The changes of a letter each, from a list that some tests begin.

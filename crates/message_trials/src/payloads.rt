@@ -1,69 +1,24 @@
 //! Payloads, byte for byte.
 
-use super::*;
-use byte_text::{Name, NoMemory, Request, Text};
-use planar_geom::{Area, Pt, Shape};
+use byte_text::{NoMemory, Text};
+use message_text::push_message;
+use planar_geom::Area;
 use std::alloc::Global;
 use std::test::Fail;
-use world_data::{Channel, Detect, Fence, Fields, Kind, Object, Raised, Tests, Wanted, Watch};
-
-fn name(alloc: Global, bytes: &[u8]) -> Result<Name, NoMemory> {
-    match Name::of(alloc, bytes) {
-        Ok(name) => Ok(name),
-        Err(_) => Err(NoMemory),
-    }
-}
-
-fn text(alloc: Global, bytes: &[u8]) -> Result<Text, NoMemory> {
-    let mut text = Text::new(alloc);
-    text.push(bytes)?;
-    Ok(text)
-}
-
-fn shape(alloc: Global, x: i64, y: i64) -> Result<Shape, NoMemory> {
-    let Some(at) = Pt::of(x, y) else {
-        return Err(NoMemory);
-    };
-    match Shape::point(alloc, at) {
-        Ok(shape) => Ok(shape),
-        Err(_) => Err(NoMemory),
-    }
-}
+use test_samples::{channel, name, object, spot};
+use world_data::{Channel, Detect, Kind, Object, Raised, Watch};
 
 // A point of the key `people` with this text.
 fn person(alloc: Global, id: &[u8], stored: &[u8], x: i64) -> Result<Object, NoMemory> {
-    Ok(Object {
-        key: name(alloc, b"people")?,
-        id: name(alloc, id)?,
-        text: text(alloc, stored)?,
-        shape: shape(alloc, x, 0)?,
-        fields: Fields::new(alloc),
-        deadline: None,
-    })
+    let mut object = object(alloc, b"people", id, x, 0)?;
+    object.text = Text::of(alloc, stored)?;
+    Ok(object)
 }
 
 // The channel `z` on the key `people`.
-fn channel(alloc: Global) -> Result<Channel, NoMemory> {
-    Ok(Channel {
-        name: name(alloc, b"z")?,
-        fence: Fence {
-            key: name(alloc, b"people")?,
-            glob: None,
-            tests: Tests::new(alloc),
-            wanted: Wanted {
-                inside: true,
-                outside: true,
-                enter: true,
-                exit: true,
-                cross: true,
-                set: true,
-                del: true,
-                drop: true,
-            },
-            watch: Watch::Spot(Kind::Within, Area::Figure(shape(alloc, 0, 0)?)),
-        },
-        words: Request::new(alloc),
-    })
+fn on_people(alloc: Global) -> Result<Channel, NoMemory> {
+    let area = Area::Figure(spot(alloc, 0, 0)?);
+    channel(alloc, b"z", b"people", Watch::Spot(Kind::Within, area))
 }
 
 // What is told of a point at (5, 0) and, where it roams, of one at (0, 0), put behind a text that stands there.
@@ -83,10 +38,10 @@ fn told(alloc: Global, raised: Raised, fields: &[(&[u8], i64)]) -> Result<Text, 
         b"{\"type\":\"Point\",\"coordinates\":[0,0]}",
         0,
     )?;
-    let mut into = text(alloc, b"> ")?;
+    let mut into = Text::of(alloc, b"> ")?;
     push_message(
         &mut into,
-        &channel(alloc)?,
+        &on_people(alloc)?,
         raised,
         Some(&object),
         Some(&other),

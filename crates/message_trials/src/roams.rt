@@ -3,73 +3,27 @@
 ghost use Rattle.std.specs.Prelude.{◌≡◌, true, None, IfOk};
 ghost use Rattle.world_data.specs.Sound.{is_sound_watch};
 
-use super::*;
-use byte_text::{Name, NoMemory, Text};
+use crate::watches::roaming;
+use byte_text::{NoMemory, Text};
 use collection::Collection;
-use glob_match::well_formed;
-use planar_geom::{Pt, Shape};
+use roam_fence::{RoamList, near_pairs};
 use rtree::{NoLedger, Steps};
 use std::alloc::Global;
 use std::test::Fail;
-use world_data::{Fence, Fields, Object, Tests, Wanted, Watch};
-
-fn name(alloc: Global, bytes: &[u8]) -> Result<Name, NoMemory> {
-    match Name::of(alloc, bytes) {
-        Ok(name) => Ok(name),
-        Err(_) => Err(NoMemory),
-    }
-}
+use test_samples::{fence, object};
+use world_data::{Fence, Object};
 
 // A point of the key `people` at this x.
 fn person(alloc: Global, id: &[u8], x: i64) -> Result<Object, NoMemory> {
-    let Some(at) = Pt::of(x, 0) else {
-        return Err(NoMemory);
-    };
-    let Ok(shape) = Shape::point(alloc, at) else {
-        return Err(NoMemory);
-    };
-    Ok(Object {
-        key: name(alloc, b"people")?,
-        id: name(alloc, id)?,
-        text: Text::new(alloc),
-        shape,
-        fields: Fields::new(alloc),
-        deadline: None,
-    })
+    object(alloc, b"people", id, x, 0)
 }
 
-// What a channel is told of that watches people within 10 meters of people.
-fn watch(alloc: Global, nodwell: bool) -> Result<Watch, NoMemory>
-    ensures { IfOk result (λ w. is_sound_watch w ≡ true) }
-{
-    let pattern = name(alloc, b"*")?;
-    if !well_formed(pattern.bytes()) {
-        return Err(NoMemory);
-    }
-    Ok(Watch::Roam(name(alloc, b"people")?, pattern, 10, nodwell))
-}
-
-fn fence(alloc: Global, nodwell: bool) -> Result<Fence, NoMemory>
+// The fence round all people that watches for people within 10 meters.
+fn near_people(alloc: Global, nodwell: bool) -> Result<Fence, NoMemory>
     ensures glob { IfOk result (λ f. f.glob ≡ None) }
     ensures watch { IfOk result (λ f. is_sound_watch f.watch ≡ true) }
 {
-    let wanted = Wanted {
-        inside: true,
-        outside: true,
-        enter: true,
-        exit: true,
-        cross: true,
-        set: true,
-        del: true,
-        drop: true,
-    };
-    Ok(Fence {
-        key: name(alloc, b"people")?,
-        glob: None,
-        tests: Tests::new(alloc),
-        wanted,
-        watch: watch(alloc, nodwell)?,
-    })
+    fence(alloc, b"people", roaming(alloc, b"people", nodwell)?)
 }
 
 // Puts `a` at 0.
@@ -91,7 +45,7 @@ fn told_of(
     to: i64,
 ) -> Result<Text, NoMemory> {
     settle(alloc, people)?;
-    let fence = fence(alloc, nodwell)?;
+    let fence = near_people(alloc, nodwell)?;
     let new = person(alloc, id, to)?;
     let mut pairs = RoamList::new(alloc);
     let mut steps = Steps::new(NoLedger);

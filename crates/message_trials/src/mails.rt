@@ -4,20 +4,14 @@ ghost use Rattle.std.specs.Prelude.{◌≡◌, [], IfOk};
 ghost use Rattle.world_model.specs.Subscriptions.{with_sub};
 ghost use Rattle.subscriptions.specs.Subscribed.{sub};
 
-use super::*;
 use byte_text::{Name, NoMemory, Text};
 use glob_match::well_formed;
+use session_mail::{Session, place_staged, stage_message, unstage};
 use std::alloc::Global;
 use std::test::Fail;
 use subscriptions::Subscriptions;
+use test_samples::name;
 use world_data::Frames;
-
-fn name(alloc: Global, bytes: &[u8]) -> Result<Name, NoMemory> {
-    match Name::of(alloc, bytes) {
-        Ok(name) => Ok(name),
-        Err(_) => Err(NoMemory),
-    }
-}
 
 // One subscription.
 fn subscribed(alloc: Global, word: &Name, pattern: bool) -> Result<Subscriptions, NoMemory>
@@ -38,8 +32,8 @@ fn named(alloc: Global, number: u32, word: &[u8]) -> Result<Session, NoMemory> {
     Ok(session)
 }
 
-// A session that has subscribed to a pattern.
-fn patterned(alloc: Global, number: u32, word: &[u8]) -> Result<Session, NoMemory> {
+/// A session that has subscribed to a pattern.
+pub(crate) fn patterned(alloc: Global, number: u32, word: &[u8]) -> Result<Session, NoMemory> {
     let word = name(alloc, word)?;
     if !well_formed(word.bytes()) {
         return Err(NoMemory);
@@ -61,15 +55,16 @@ fn taken(alloc: Global, mut session: Session) -> Result<Text, NoMemory> {
     Ok(text)
 }
 
-fn pushed(sessions: &mut Vec<Session>, session: Session) -> Result<(), NoMemory> {
+/// Puts a session last.
+pub(crate) fn pushed(sessions: &mut Vec<Session>, session: Session) -> Result<(), NoMemory> {
     match sessions.push(session) {
         Ok(()) => Ok(()),
         Err(_) => Err(NoMemory),
     }
 }
 
-// What the last session was told.
-fn last(alloc: Global, sessions: &mut Vec<Session>) -> Result<Text, NoMemory> {
+/// What the last session was told.
+pub(crate) fn last(alloc: Global, sessions: &mut Vec<Session>) -> Result<Text, NoMemory> {
     match sessions.pop() {
         Some(session) => taken(alloc, session),
         None => Ok(Text::new(alloc)),
@@ -78,8 +73,7 @@ fn last(alloc: Global, sessions: &mut Vec<Session>) -> Result<Text, NoMemory> {
 
 // Stages the message `{}` of the channel `gate` for the sessions, and places it where it is to be.
 fn told(alloc: Global, sessions: &mut Vec<Session>, placed: bool) -> Result<(), NoMemory> {
-    let mut payload = Text::new(alloc);
-    payload.push(b"{}")?;
+    let payload = Text::of(alloc, b"{}")?;
     stage_message(alloc, sessions, &name(alloc, b"gate")?, &payload)?;
     if placed {
         place_staged(sessions);

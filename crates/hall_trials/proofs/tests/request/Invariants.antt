@@ -1,5 +1,0 @@
-use Rattle.cmd_words.specs.ShortRequests.{AreShort}
-use Rattle.hall_trials.proofs.tests.request.Given as goal
-
-abbrev pub invariant-loop-word : goal.invariant-loop-word
-invariant-loop-word l = AreShort l.words
