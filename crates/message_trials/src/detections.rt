@@ -8,7 +8,7 @@ use planar_geom::Area;
 use std::alloc::Global;
 use std::test::Fail;
 use test_samples::{bounds, channel, object};
-use world_data::{Channel, Detect, Kind, Raised, Watch};
+use world_data::{Channel, Detect, Kind, Object, Raised, Watch};
 
 // A channel on the square that wants all of DETECT but `inside`, where that is not wanted, and all of COMMANDS.
 fn watching(alloc: Global, inside: bool) -> Result<Channel, NoMemory>
@@ -20,69 +20,63 @@ fn watching(alloc: Global, inside: bool) -> Result<Channel, NoMemory>
     Ok(channel)
 }
 
-// What a put raises that moves the object from one point, where it was there, to another.
-fn moved(alloc: Global, from: Option<(i64, i64)>, to: (i64, i64)) -> Result<Pair, NoMemory> {
-    let channel = watching(alloc, true)?;
-    let new = object(alloc, b"k", b"a", to.0, to.1)?;
-    match from {
-        Some((x, y)) => {
-            let old = object(alloc, b"k", b"a", x, y)?;
-            Ok(raised(&channel, Some(&old), Some(&new)))
-        }
-        None => Ok(raised(&channel, None, Some(&new))),
+// The object at this point, where it is at one.
+fn placed(alloc: Global, at: Option<(i64, i64)>) -> Result<Option<Object>, NoMemory> {
+    match at {
+        Some((x, y)) => Ok(Some(object(alloc, b"k", b"a", x, y)?)),
+        None => Ok(None),
     }
 }
 
-fn pair(first: Option<Detect>, second: Option<Detect>) -> Pair {
+// What is raised where the object moves from one point to another: a first put moves it from nowhere, and a del moves it there.
+fn moved(
+    alloc: Global,
+    inside: bool,
+    from: Option<(i64, i64)>,
+    to: Option<(i64, i64)>,
+) -> Result<Pair, NoMemory> {
+    let old = placed(alloc, from)?;
+    let new = placed(alloc, to)?;
+    let channel = watching(alloc, inside)?;
+    Ok(raised(&channel, old.as_ref(), new.as_ref()))
+}
+
+// What a letter stands for.
+fn item(letter: u8) -> Option<Raised> {
+    match letter {
+        b'i' => Some(Raised::Set(Detect::Inside)),
+        b'o' => Some(Raised::Set(Detect::Outside)),
+        b'e' => Some(Raised::Set(Detect::Enter)),
+        b'x' => Some(Raised::Set(Detect::Exit)),
+        b'c' => Some(Raised::Set(Detect::Cross)),
+        b'd' => Some(Raised::Del),
+        _ => None,
+    }
+}
+
+fn pair(first: u8, second: u8) -> Pair {
     Pair {
-        first: first.map(Raised::Set),
-        second: second.map(Raised::Set),
+        first: item(first),
+        second: item(second),
     }
 }
 
 #[test]
-fn puts(rt: HostRuntime) -> Result<(), Fail> {
+fn puts_and_dels(rt: HostRuntime) -> Result<(), Fail> {
     let alloc = rt.alloc();
-    let outside = pair(Some(Detect::Outside), None);
-    let enter = pair(Some(Detect::Enter), Some(Detect::Inside));
-    assert_eq!(rt; moved(alloc, None, (-5, 5))?, outside);
-    assert_eq!(rt; moved(alloc, Some((-5, 5)), (-5, 6))?, outside);
-    assert_eq!(rt;
-        moved(alloc, Some((-5, 5)), (15, 5))?,
-        pair(Some(Detect::Cross), Some(Detect::Outside))
-    );
-    assert_eq!(rt; moved(alloc, None, (1, 1))?, enter);
-    assert_eq!(rt; moved(alloc, Some((-5, 5)), (0, 5))?, enter);
-    assert_eq!(rt;
-        moved(alloc, Some((1, 1)), (1, 1))?,
-        pair(Some(Detect::Inside), None)
-    );
-    assert_eq!(rt;
-        moved(alloc, Some((1, 1)), (11, 1))?,
-        pair(Some(Detect::Exit), Some(Detect::Outside))
-    );
-    Ok(())
-}
-
-#[test]
-fn wanted(rt: HostRuntime) -> Result<(), Fail> {
-    let alloc = rt.alloc();
-    let inside = object(alloc, b"k", b"a", 1, 1)?;
-    let beside = object(alloc, b"k", b"a", 1, 11)?;
-    let quiet = watching(alloc, false)?;
-    assert_eq!(rt;
-        raised(&quiet, Some(&inside), Some(&inside)),
-        pair(None, None)
-    );
-    let nothing = raised(&quiet, Some(&beside), None);
-    assert_eq!(rt; nothing, pair(None, None));
-    let del = raised(&quiet, Some(&inside), None);
-    assert_eq!(rt;
-        del,
-        Pair {
-            first: Some(Raised::Del),
-            second: None
-        }
-    );
+    for (inside, from, to, first, second) in [
+        (true, None, Some((-5, 5)), b'o', b'-'),
+        (true, Some((-5, 5)), Some((-5, 6)), b'o', b'-'),
+        (true, Some((-5, 5)), Some((15, 5)), b'c', b'o'),
+        (true, None, Some((1, 1)), b'e', b'i'),
+        (true, Some((-5, 5)), Some((0, 5)), b'e', b'i'),
+        (true, Some((1, 1)), Some((1, 1)), b'i', b'-'),
+        (true, Some((1, 1)), Some((11, 1)), b'x', b'o'),
+        (false, Some((1, 1)), Some((1, 1)), b'-', b'-'),
+        (false, Some((1, 11)), None, b'-', b'-'),
+        (false, Some((1, 1)), None, b'd', b'-'),
+    ] {
+        assert_eq!(rt; moved(alloc, inside, from, to)?, pair(first, second));
+    }
     Ok(())
 }

@@ -4,8 +4,8 @@ ghost use Rattle.std.specs.Prelude.{◌≡◌, true, IfOk};
 ghost use Rattle.std.specs.List.{list_all};
 ghost use Rattle.world_data.specs.Sound.{is_sound_channel, is_sound_watch};
 
-use crate::mails::{last, patterned, pushed};
-use crate::watches::roaming;
+use crate::mails::{hearers, last};
+use crate::samples::roaming;
 use byte_text::{NoMemory, Text};
 use channel_hub::Hub;
 use keyspace::Keyspace;
@@ -17,11 +17,6 @@ use std::alloc::Global;
 use std::test::Fail;
 use test_samples::{bounds, channel, name, object};
 use world_data::{Channel, Kind, Object, Watch};
-
-// A point of a key at this x.
-fn gone_to(alloc: Global, key: &[u8], id: &[u8], x: i64) -> Result<Object, NoMemory> {
-    object(alloc, key, id, x, 5)
-}
 
 // The strip from one x to another.
 fn strip(low: i64, high: i64) -> Result<Watch, NoMemory>
@@ -49,218 +44,168 @@ fn put(alloc: Global, hub: &mut Hub, channel: Channel) -> Result<(), NoMemory>
     Ok(())
 }
 
+// The channel of this name on a strip.
+fn put_strip(
+    alloc: Global,
+    hub: &mut Hub,
+    called: &[u8],
+    low: i64,
+    high: i64,
+) -> Result<(), NoMemory>
+    requires { list_all is_sound_channel hub.old.channels ≡ true }
+    ensures { list_all is_sound_channel hub.new.channels ≡ true }
+{
+    let channel = of_fleet(alloc, called, strip(low, high)?)?;
+    put(alloc, hub, channel)
+}
+
 // `west` from 0 to 9, and then `east` from 20 to 29.
 fn put_strips(alloc: Global, hub: &mut Hub) -> Result<(), NoMemory>
     requires { list_all is_sound_channel hub.old.channels ≡ true }
     ensures { list_all is_sound_channel hub.new.channels ≡ true }
 {
-    put(alloc, hub, of_fleet(alloc, b"west", strip(0, 9)?)?)?;
-    put(alloc, hub, of_fleet(alloc, b"east", strip(20, 29)?)?)
+    put_strip(alloc, hub, b"west", 0, 9)?;
+    put_strip(alloc, hub, b"east", 20, 29)
 }
 
-// A session alone that hears all.
-fn hearer(alloc: Global) -> Result<Vec<Session>, NoMemory> {
-    let mut sessions = Vec::new(alloc);
-    pushed(&mut sessions, patterned(alloc, 1, b"*")?)?;
-    Ok(sessions)
+// `t` of `fleet`, at this x.
+fn t(alloc: Global, x: i64) -> Result<Object, NoMemory> {
+    object(alloc, b"fleet", b"t", x, 5)
 }
 
-// The frames that it is given.
-fn taken(alloc: Global, sessions: &mut Vec<Session>) -> Result<Text, NoMemory> {
-    place_staged(sessions);
-    last(alloc, sessions)
+// The same, where there is an x.
+fn t_at(alloc: Global, x: Option<i64>) -> Result<Option<Object>, NoMemory> {
+    match x {
+        Some(x) => Ok(Some(t(alloc, x)?)),
+        None => Ok(None),
+    }
 }
 
-// Appends the frame of a message: the channel's name, the payload's length, and the payload from its command up to the hook, and behind it.
-fn push_frame(
-    into: &mut Text,
-    called: &[u8],
-    length: &[u8],
-    head: &[u8],
-    tail: &[u8],
-) -> Result<(), NoMemory> {
-    into.push(b"*4\r\n$8\r\npmessage\r\n$1\r\n*\r\n$4\r\n")?;
-    into.push(called)?;
-    into.push(b"\r\n$")?;
-    into.push(length)?;
-    into.push(b"\r\n{\"command\":\"")?;
-    into.push(head)?;
-    into.push(b"\",\"hook\":\"")?;
-    into.push(called)?;
-    into.push(b"\",\"key\":\"fleet\"")?;
-    into.push(tail)?;
-    into.push(b"}\r\n")
+// A write: `t` is put, which stood at a place before or nowhere, `t` is deleted, or a key is dropped.
+#[derive(Clone, Copy)]
+enum Write<'a> {
+    Put(Option<i64>, i64),
+    Del(i64),
+    Drop(&'a [u8]),
 }
 
-// What the session hears where `t` of `fleet` is put, which stood at a place before or nowhere.
-fn moved(
+// Stages what a put of `t` raises.
+fn stage_move(
     alloc: Global,
     hub: &Hub,
     objects: &Keyspace,
+    sessions: &mut Vec<Session>,
     from: Option<i64>,
     to: i64,
-) -> Result<Text, NoMemory>
+) -> Result<(), NoMemory>
     requires { list_all is_sound_channel hub.now.channels ≡ true }
 {
-    let new = gone_to(alloc, b"fleet", b"t", to)?;
-    let mut sessions = hearer(alloc)?;
+    let old = t_at(alloc, from)?;
+    let new = t(alloc, to)?;
     let mut steps = Steps::new(NoLedger);
-    match from {
-        Some(from) => {
-            let old = gone_to(alloc, b"fleet", b"t", from)?;
-            stage_put(
-                alloc,
-                hub,
-                objects,
-                &mut sessions,
-                Some(&old),
-                &new,
-                &mut steps,
-            )?;
-        }
-        None => stage_put(alloc, hub, objects, &mut sessions, None, &new, &mut steps)?,
-    }
-    taken(alloc, &mut sessions)
+    stage_put(
+        alloc,
+        hub,
+        objects,
+        sessions,
+        old.as_ref(),
+        &new,
+        &mut steps,
+    )
 }
 
-fn moved_among(alloc: Global, hub: &mut Hub, from: Option<i64>, to: i64) -> Result<Text, NoMemory>
-    requires { list_all is_sound_channel hub.old.channels ≡ true }
+// Stages what a write raises.
+fn stage(
+    alloc: Global,
+    hub: &Hub,
+    objects: &Keyspace,
+    sessions: &mut Vec<Session>,
+    write: Write<'_>,
+) -> Result<(), NoMemory>
+    requires { list_all is_sound_channel hub.now.channels ≡ true }
 {
-    put_strips(alloc, hub)?;
-    moved(alloc, hub, &Keyspace::new(alloc), from, to)
+    match write {
+        Write::Put(from, to) => stage_move(alloc, hub, objects, sessions, from, to),
+        Write::Del(x) => {
+            let old = t(alloc, x)?;
+            stage_del(alloc, hub, sessions, &old, &mut Steps::new(NoLedger))
+        }
+        Write::Drop(key) => stage_drop(alloc, hub, sessions, &name(alloc, key)?),
+    }
 }
 
-fn moved_by_strips(alloc: Global, from: Option<i64>, to: i64) -> Result<Text, NoMemory> {
-    moved_among(alloc, &mut Hub::new(alloc), from, to)
+// What a session that hears all hears of a write.
+fn heard(alloc: Global, hub: &Hub, objects: &Keyspace, write: Write<'_>) -> Result<Text, NoMemory>
+    requires { list_all is_sound_channel hub.now.channels ≡ true }
+{
+    let mut sessions = hearers(alloc, &[(1, b"*", true)])?;
+    stage(alloc, hub, objects, &mut sessions, write)?;
+    place_staged(&mut sessions);
+    last(alloc, &mut sessions)
 }
-
-const OBJECT: &[u8] = b",\"id\":\"t\",\"object\":{}";
 
 // Over `east`, and out of `west`: the channels by name.
-fn over_and_out(alloc: Global) -> Result<Text, NoMemory> {
-    let mut all = Text::new(alloc);
-    push_frame(
-        &mut all,
-        b"east",
-        b"83",
-        b"set\",\"detect\":\"cross",
-        OBJECT,
-    )?;
-    push_frame(
-        &mut all,
-        b"east",
-        b"85",
-        b"set\",\"detect\":\"outside",
-        OBJECT,
-    )?;
-    push_frame(&mut all, b"west", b"82", b"set\",\"detect\":\"exit", OBJECT)?;
-    push_frame(
-        &mut all,
-        b"west",
-        b"85",
-        b"set\",\"detect\":\"outside",
-        OBJECT,
-    )?;
-    Ok(all)
-}
+const OVER_AND_OUT: &[u8] = b"\
+    *4\r\n$8\r\npmessage\r\n$1\r\n*\r\n$4\r\neast\r\n$83\r\n{\"command\":\"set\",\"detect\":\"cross\",\"hook\":\"east\",\"key\":\"fleet\",\"id\":\"t\",\"object\":{}}\r\n\
+    *4\r\n$8\r\npmessage\r\n$1\r\n*\r\n$4\r\neast\r\n$85\r\n{\"command\":\"set\",\"detect\":\"outside\",\"hook\":\"east\",\"key\":\"fleet\",\"id\":\"t\",\"object\":{}}\r\n\
+    *4\r\n$8\r\npmessage\r\n$1\r\n*\r\n$4\r\nwest\r\n$82\r\n{\"command\":\"set\",\"detect\":\"exit\",\"hook\":\"west\",\"key\":\"fleet\",\"id\":\"t\",\"object\":{}}\r\n\
+    *4\r\n$8\r\npmessage\r\n$1\r\n*\r\n$4\r\nwest\r\n$85\r\n{\"command\":\"set\",\"detect\":\"outside\",\"hook\":\"west\",\"key\":\"fleet\",\"id\":\"t\",\"object\":{}}\r\n";
 
 // Into `west`.
-fn into_west(alloc: Global) -> Result<Text, NoMemory> {
-    let mut all = Text::new(alloc);
-    push_frame(
-        &mut all,
-        b"east",
-        b"85",
-        b"set\",\"detect\":\"outside",
-        OBJECT,
-    )?;
-    push_frame(
-        &mut all,
-        b"west",
-        b"83",
-        b"set\",\"detect\":\"enter",
-        OBJECT,
-    )?;
-    push_frame(
-        &mut all,
-        b"west",
-        b"84",
-        b"set\",\"detect\":\"inside",
-        OBJECT,
-    )?;
-    Ok(all)
-}
+const INTO_WEST: &[u8] = b"\
+    *4\r\n$8\r\npmessage\r\n$1\r\n*\r\n$4\r\neast\r\n$85\r\n{\"command\":\"set\",\"detect\":\"outside\",\"hook\":\"east\",\"key\":\"fleet\",\"id\":\"t\",\"object\":{}}\r\n\
+    *4\r\n$8\r\npmessage\r\n$1\r\n*\r\n$4\r\nwest\r\n$83\r\n{\"command\":\"set\",\"detect\":\"enter\",\"hook\":\"west\",\"key\":\"fleet\",\"id\":\"t\",\"object\":{}}\r\n\
+    *4\r\n$8\r\npmessage\r\n$1\r\n*\r\n$4\r\nwest\r\n$84\r\n{\"command\":\"set\",\"detect\":\"inside\",\"hook\":\"west\",\"key\":\"fleet\",\"id\":\"t\",\"object\":{}}\r\n";
 
-#[test]
-fn puts(rt: HostRuntime) -> Result<(), Fail> {
-    let alloc = rt.alloc();
-    assert_eq!(rt;
-        moved_by_strips(alloc, Some(5), 35)?.bytes(),
-        over_and_out(alloc)?.bytes()
-    );
-    assert_eq!(rt;
-        moved_by_strips(alloc, None, 5)?.bytes(),
-        into_west(alloc)?.bytes()
-    );
-    Ok(())
-}
+// At 5, in `west` alone.
+const DEL_OF_WEST: &[u8] = b"\
+    *4\r\n$8\r\npmessage\r\n$1\r\n*\r\n$4\r\nwest\r\n$54\r\n{\"command\":\"del\",\"hook\":\"west\",\"key\":\"fleet\",\"id\":\"t\"}\r\n";
 
-// What it hears where `t` at 5 is deleted.
-fn deleted_among(alloc: Global, hub: &mut Hub) -> Result<Text, NoMemory>
+// Each channel on `fleet`.
+const BOTH_DROPS: &[u8] = b"\
+    *4\r\n$8\r\npmessage\r\n$1\r\n*\r\n$4\r\neast\r\n$46\r\n{\"command\":\"drop\",\"hook\":\"east\",\"key\":\"fleet\"}\r\n\
+    *4\r\n$8\r\npmessage\r\n$1\r\n*\r\n$4\r\nwest\r\n$46\r\n{\"command\":\"drop\",\"hook\":\"west\",\"key\":\"fleet\"}\r\n";
+
+// What is heard of a write where the strips are put.
+fn heard_among(alloc: Global, hub: &mut Hub, write: Write<'_>) -> Result<Text, NoMemory>
     requires { list_all is_sound_channel hub.old.channels ≡ true }
 {
     put_strips(alloc, hub)?;
-    let old = gone_to(alloc, b"fleet", b"t", 5)?;
-    let mut sessions = hearer(alloc)?;
-    stage_del(alloc, hub, &mut sessions, &old, &mut Steps::new(NoLedger))?;
-    taken(alloc, &mut sessions)
+    heard(alloc, hub, &Keyspace::new(alloc), write)
 }
 
-// What it hears where a key is dropped.
-fn dropped_among(alloc: Global, hub: &mut Hub, key: &[u8]) -> Result<Text, NoMemory>
-    requires { list_all is_sound_channel hub.old.channels ≡ true }
-{
-    put_strips(alloc, hub)?;
-    let mut sessions = hearer(alloc)?;
-    stage_drop(alloc, hub, &mut sessions, &name(alloc, key)?)?;
-    taken(alloc, &mut sessions)
-}
-
-fn deleted(alloc: Global) -> Result<Text, NoMemory> {
-    deleted_among(alloc, &mut Hub::new(alloc))
-}
-
-fn dropped(alloc: Global, key: &[u8]) -> Result<Text, NoMemory> {
-    dropped_among(alloc, &mut Hub::new(alloc), key)
-}
-
-fn del_of_west(alloc: Global) -> Result<Text, NoMemory> {
-    let mut all = Text::new(alloc);
-    push_frame(&mut all, b"west", b"54", b"del", b",\"id\":\"t\"")?;
-    Ok(all)
-}
-
-fn both_drops(alloc: Global) -> Result<Text, NoMemory> {
-    let mut all = Text::new(alloc);
-    push_frame(&mut all, b"east", b"46", b"drop", b"")?;
-    push_frame(&mut all, b"west", b"46", b"drop", b"")?;
-    Ok(all)
+fn heard_by_strips(alloc: Global, write: Write<'_>) -> Result<Text, NoMemory> {
+    heard_among(alloc, &mut Hub::new(alloc), write)
 }
 
 #[test]
-fn ends(rt: HostRuntime) -> Result<(), Fail> {
+fn strips(rt: HostRuntime) -> Result<(), Fail> {
     let alloc = rt.alloc();
-    assert_eq!(rt; deleted(alloc)?.bytes(), del_of_west(alloc)?.bytes());
-    assert_eq!(rt;
-        dropped(alloc, b"fleet")?.bytes(),
-        both_drops(alloc)?.bytes()
-    );
-    assert_eq!(rt; dropped(alloc, b"gulls")?.bytes(), b"".as_slice());
+    let table: [(Write<'_>, &[u8]); 5] = [
+        (Write::Put(Some(5), 35), OVER_AND_OUT),
+        (Write::Put(None, 5), INTO_WEST),
+        (Write::Del(5), DEL_OF_WEST),
+        (Write::Drop(b"fleet"), BOTH_DROPS),
+        (Write::Drop(b"gulls"), b""),
+    ];
+    for (write, frames) in table {
+        assert_eq!(rt; heard_by_strips(alloc, write)?.bytes(), frames);
+    }
     Ok(())
 }
 
+// `near`, which roams over the gulls.
+fn put_near(alloc: Global, hub: &mut Hub) -> Result<(), NoMemory>
+    requires { list_all is_sound_channel hub.old.channels ≡ true }
+    ensures { list_all is_sound_channel hub.new.channels ≡ true }
+{
+    let channel = of_fleet(alloc, b"near", roaming(alloc, b"gulls", false)?)?;
+    put(alloc, hub, channel)
+}
+
+// Puts a gull.
 fn settle(alloc: Global, objects: &mut Keyspace, id: &[u8], x: i64) -> Result<(), NoMemory> {
-    let gull = gone_to(alloc, b"gulls", id, x)?;
+    let gull = object(alloc, b"gulls", id, x, 5)?;
     objects.prepare(&gull.key)?;
     if objects.len() < 9 {
         objects.put(gull, &mut Steps::new(NoLedger));
@@ -268,53 +213,25 @@ fn settle(alloc: Global, objects: &mut Keyspace, id: &[u8], x: i64) -> Result<()
     Ok(())
 }
 
-// What it hears where `t` goes from 108 to 7 and gulls stand at 5 and 105.
-fn roamed_among(alloc: Global, hub: &mut Hub, objects: &mut Keyspace) -> Result<Text, NoMemory>
+// What is heard where `t` goes from 108 to 7 and gulls stand at 5 and 105.
+fn heard_by_near(alloc: Global, hub: &mut Hub, objects: &mut Keyspace) -> Result<Text, NoMemory>
     requires { list_all is_sound_channel hub.old.channels ≡ true }
 {
-    put(
-        alloc,
-        hub,
-        of_fleet(alloc, b"near", roaming(alloc, b"gulls", false)?)?,
-    )?;
+    put_near(alloc, hub)?;
     settle(alloc, objects, b"v", 105)?;
     settle(alloc, objects, b"u", 5)?;
-    moved(alloc, hub, objects, Some(108), 7)
+    heard(alloc, hub, objects, Write::Put(Some(108), 7))
 }
-
-fn roamed(alloc: Global) -> Result<Text, NoMemory> {
-    roamed_among(alloc, &mut Hub::new(alloc), &mut Keyspace::new(alloc))
-}
-
-const NEARBY: &[u8] =
-    b",\"id\":\"t\",\"object\":{},\"nearby\":{\"key\":\"gulls\",\"id\":\"u\",\"object\":{},\"meters\":2}";
-
-const FARAWAY: &[u8] =
-    b",\"id\":\"t\",\"object\":{},\"faraway\":{\"key\":\"gulls\",\"id\":\"v\",\"object\":{},\"meters\":98}";
 
 // `u` is near, and `v` no more, by id.
-fn both_gulls(alloc: Global) -> Result<Text, NoMemory> {
-    let mut all = Text::new(alloc);
-    push_frame(
-        &mut all,
-        b"near",
-        b"139",
-        b"set\",\"detect\":\"roam",
-        NEARBY,
-    )?;
-    push_frame(
-        &mut all,
-        b"near",
-        b"141",
-        b"set\",\"detect\":\"roam",
-        FARAWAY,
-    )?;
-    Ok(all)
-}
+const BOTH_GULLS: &[u8] = b"\
+    *4\r\n$8\r\npmessage\r\n$1\r\n*\r\n$4\r\nnear\r\n$139\r\n{\"command\":\"set\",\"detect\":\"roam\",\"hook\":\"near\",\"key\":\"fleet\",\"id\":\"t\",\"object\":{},\"nearby\":{\"key\":\"gulls\",\"id\":\"u\",\"object\":{},\"meters\":2}}\r\n\
+    *4\r\n$8\r\npmessage\r\n$1\r\n*\r\n$4\r\nnear\r\n$141\r\n{\"command\":\"set\",\"detect\":\"roam\",\"hook\":\"near\",\"key\":\"fleet\",\"id\":\"t\",\"object\":{},\"faraway\":{\"key\":\"gulls\",\"id\":\"v\",\"object\":{},\"meters\":98}}\r\n";
 
 #[test]
 fn pairs(rt: HostRuntime) -> Result<(), Fail> {
     let alloc = rt.alloc();
-    assert_eq!(rt; roamed(alloc)?.bytes(), both_gulls(alloc)?.bytes());
+    let heard = heard_by_near(alloc, &mut Hub::new(alloc), &mut Keyspace::new(alloc))?;
+    assert_eq!(rt; heard.bytes(), BOTH_GULLS);
     Ok(())
 }

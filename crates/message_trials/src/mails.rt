@@ -1,10 +1,9 @@
 //! What a session is told of a message, and the cut of one whose queue is full.
 
-ghost use Rattle.std.specs.Prelude.{◌≡◌, [], IfOk};
-ghost use Rattle.world_model.specs.Subscriptions.{with_sub};
-ghost use Rattle.subscriptions.specs.Subscribed.{sub};
+ghost use Rattle.std.specs.Prelude.{IfOk};
+ghost use Rattle.session_mail.specs.Sessions.{AreSoundSubs};
 
-use byte_text::{Name, NoMemory, Text};
+use byte_text::{NoMemory, Text};
 use glob_match::well_formed;
 use session_mail::{Session, place_staged, stage_message, unstage};
 use std::alloc::Global;
@@ -13,35 +12,42 @@ use subscriptions::Subscriptions;
 use test_samples::name;
 use world_data::Frames;
 
-// One subscription.
-fn subscribed(alloc: Global, word: &Name, pattern: bool) -> Result<Subscriptions, NoMemory>
-    ensures { IfOk result (λ subs. subs ≡ with_sub [] (sub pattern word.now)) }
+// One subscription, to a name or to a pattern.
+fn subscribed(alloc: Global, word: &[u8], pattern: bool) -> Result<Subscriptions, NoMemory>
+    ensures { IfOk result (λ subs. AreSoundSubs subs) }
 {
+    let word = name(alloc, word)?;
+    if pattern && !well_formed(word.bytes()) {
+        return Err(NoMemory);
+    }
     let mut subs = Subscriptions::new(alloc);
-    match subs.subscribe(alloc, word, pattern) {
+    match subs.subscribe(alloc, &word, pattern) {
         Ok(_) => Ok(subs),
         Err(_) => Err(NoMemory),
     }
 }
 
-// A session that has subscribed to a name.
-fn named(alloc: Global, number: u32, word: &[u8]) -> Result<Session, NoMemory> {
-    let subs = subscribed(alloc, &name(alloc, word)?, false)?;
+// A session that has subscribed to a word.
+fn hearing(alloc: Global, number: u32, word: &[u8], pattern: bool) -> Result<Session, NoMemory> {
+    let subs = subscribed(alloc, word, pattern)?;
     let mut session = Session::new(alloc, number);
     session.set_subscriptions(subs);
     Ok(session)
 }
 
-/// A session that has subscribed to a pattern.
-pub(crate) fn patterned(alloc: Global, number: u32, word: &[u8]) -> Result<Session, NoMemory> {
-    let word = name(alloc, word)?;
-    if !well_formed(word.bytes()) {
-        return Err(NoMemory);
+/// A session of each number, which has subscribed to the word: to a pattern, where that stands behind it.
+pub(crate) fn hearers(
+    alloc: Global,
+    words: &[(u32, &[u8], bool)],
+) -> Result<Vec<Session>, NoMemory> {
+    let mut sessions = Vec::new(alloc);
+    for (number, word, pattern) in words {
+        let session = hearing(alloc, *number, word, *pattern)?;
+        if sessions.push(session).is_err() {
+            return Err(NoMemory);
+        }
     }
-    let subs = subscribed(alloc, &word, true)?;
-    let mut session = Session::new(alloc, number);
-    session.set_subscriptions(subs);
-    Ok(session)
+    Ok(sessions)
 }
 
 // The first frames of a session, one behind another.
@@ -55,14 +61,6 @@ fn taken(alloc: Global, mut session: Session) -> Result<Text, NoMemory> {
     Ok(text)
 }
 
-/// Puts a session last.
-pub(crate) fn pushed(sessions: &mut Vec<Session>, session: Session) -> Result<(), NoMemory> {
-    match sessions.push(session) {
-        Ok(()) => Ok(()),
-        Err(_) => Err(NoMemory),
-    }
-}
-
 /// What the last session was told.
 pub(crate) fn last(alloc: Global, sessions: &mut Vec<Session>) -> Result<Text, NoMemory> {
     match sessions.pop() {
@@ -71,57 +69,71 @@ pub(crate) fn last(alloc: Global, sessions: &mut Vec<Session>) -> Result<Text, N
     }
 }
 
-// Stages the message `{}` of the channel `gate` for the sessions, and places it where it is to be.
-fn told(alloc: Global, sessions: &mut Vec<Session>, placed: bool) -> Result<(), NoMemory> {
-    let payload = Text::of(alloc, b"{}")?;
-    stage_message(alloc, sessions, &name(alloc, b"gate")?, &payload)?;
-    if placed {
-        place_staged(sessions);
-    } else {
-        unstage(sessions);
+// Stages a message of the channel `gate` so many times.
+fn stage(
+    alloc: Global,
+    sessions: &mut Vec<Session>,
+    payload: &[u8],
+    count: u32,
+) -> Result<(), NoMemory> {
+    let gate = name(alloc, b"gate")?;
+    let payload = Text::of(alloc, payload)?;
+    for _ in 0..count {
+        stage_message(alloc, sessions, &gate, &payload)?;
     }
     Ok(())
 }
 
-fn hearers(alloc: Global) -> Result<Vec<Session>, NoMemory> {
-    let mut sessions = Vec::new(alloc);
-    pushed(&mut sessions, named(alloc, 1, b"gate")?)?;
-    pushed(&mut sessions, patterned(alloc, 2, b"g*")?)?;
-    pushed(&mut sessions, named(alloc, 3, b"yard")?)?;
+// Stages the message `{}` twice, of which the second is placed.
+fn tell(alloc: Global, sessions: &mut Vec<Session>) -> Result<(), NoMemory> {
+    stage(alloc, sessions, b"{}", 1)?;
+    unstage(sessions);
+    stage(alloc, sessions, b"{}", 1)?;
+    place_staged(sessions);
+    Ok(())
+}
+
+// A name, a pattern and another name, of sessions that have been told.
+fn told(alloc: Global) -> Result<Vec<Session>, NoMemory> {
+    let words: [(u32, &[u8], bool); 3] = [
+        (1, b"gate", false),
+        (2, b"g*", true),
+        (3, b"yard", false),
+    ];
+    let mut sessions = hearers(alloc, words.as_slice())?;
+    tell(alloc, &mut sessions)?;
     Ok(sessions)
 }
 
 #[test]
 fn frames(rt: HostRuntime) -> Result<(), Fail> {
     let alloc = rt.alloc();
-    let mut sessions = hearers(alloc)?;
-    told(alloc, &mut sessions, false)?;
-    told(alloc, &mut sessions, true)?;
-    assert_eq!(rt; last(alloc, &mut sessions)?.bytes(), b"".as_slice());
-    assert_eq!(rt;
-        last(alloc, &mut sessions)?.bytes(),
-        b"*4\r\n$8\r\npmessage\r\n$2\r\ng*\r\n$4\r\ngate\r\n$2\r\n{}\r\n".as_slice()
-    );
-    assert_eq!(rt;
-        last(alloc, &mut sessions)?.bytes(),
-        b"*3\r\n$7\r\nmessage\r\n$4\r\ngate\r\n$2\r\n{}\r\n".as_slice()
-    );
+    let mut sessions = told(alloc)?;
+    let from_the_last_on: [&[u8]; 3] = [
+        b"",
+        b"*4\r\n$8\r\npmessage\r\n$2\r\ng*\r\n$4\r\ngate\r\n$2\r\n{}\r\n",
+        b"*3\r\n$7\r\nmessage\r\n$4\r\ngate\r\n$2\r\n{}\r\n",
+    ];
+    for frames in from_the_last_on {
+        assert_eq!(rt; last(alloc, &mut sessions)?.bytes(), frames);
+    }
     Ok(())
 }
 
-// Stages so many messages and places them; whether the last session is served then, and how many subscriptions it has.
-fn flooded(alloc: Global, count: u32) -> Result<(bool, usize), NoMemory> {
-    let mut sessions = Vec::new(alloc);
-    pushed(&mut sessions, named(alloc, 1, b"gate")?)?;
-    let (name, payload) = (name(alloc, b"gate")?, Text::new(alloc));
-    for _ in 0..count {
-        stage_message(alloc, &mut sessions, &name, &payload)?;
-    }
-    place_staged(&mut sessions);
+// Whether the last session is served, and how many subscriptions it has.
+fn served(sessions: &mut Vec<Session>) -> (bool, usize) {
     match sessions.pop() {
-        Some(session) => Ok((session.is_live(), session.subscriptions().len())),
-        None => Ok((false, 0)),
+        Some(session) => (session.is_live(), session.subscriptions().len()),
+        None => (false, 0),
     }
+}
+
+// Stages so many messages for a session and places them; whether it is served then, and how many subscriptions it has.
+fn flooded(alloc: Global, count: u32) -> Result<(bool, usize), NoMemory> {
+    let mut sessions = hearers(alloc, &[(1, b"gate", false)])?;
+    stage(alloc, &mut sessions, b"", count)?;
+    place_staged(&mut sessions);
+    Ok(served(&mut sessions))
 }
 
 #[test]

@@ -1,18 +1,40 @@
 //! Payloads, byte for byte.
 
+use crate::samples::fields;
 use byte_text::{NoMemory, Text};
 use message_text::push_message;
 use planar_geom::Area;
 use std::alloc::Global;
 use std::test::Fail;
-use test_samples::{channel, name, object, spot};
+use test_samples::{channel, object, spot};
 use world_data::{Channel, Detect, Kind, Object, Raised, Watch};
 
-// A point of the key `people` with this text.
-fn person(alloc: Global, id: &[u8], stored: &[u8], x: i64) -> Result<Object, NoMemory> {
-    let mut object = object(alloc, b"people", id, x, 0)?;
-    object.text = Text::of(alloc, stored)?;
-    Ok(object)
+// A point of the key `people` with this text and these fields.
+fn person(
+    alloc: Global,
+    id: &[u8],
+    stored: &[u8],
+    x: i64,
+    given: &[(&[u8], i64)],
+) -> Result<Object, NoMemory> {
+    let (text, fields) = (Text::of(alloc, stored)?, fields(alloc, given)?);
+    Ok(Object {
+        text,
+        fields,
+        ..object(alloc, b"people", id, x, 0)?
+    })
+}
+
+// A point at (5, 0).
+fn b(alloc: Global, given: &[(&[u8], i64)]) -> Result<Object, NoMemory> {
+    let stored = b"{\"type\":\"Point\",\"coordinates\":[5,0]}";
+    person(alloc, b"b", stored, 5, given)
+}
+
+// A point at (0, 0).
+fn a(alloc: Global) -> Result<Object, NoMemory> {
+    let stored = b"{\"type\":\"Point\",\"coordinates\":[0,0]}";
+    person(alloc, b"a", stored, 0, &[])
 }
 
 // The channel `z` on the key `people`.
@@ -21,82 +43,65 @@ fn on_people(alloc: Global) -> Result<Channel, NoMemory> {
     channel(alloc, b"z", b"people", Watch::Spot(Kind::Within, area))
 }
 
-// What is told of a point at (5, 0) and, where it roams, of one at (0, 0), put behind a text that stands there.
-fn told(alloc: Global, raised: Raised, fields: &[(&[u8], i64)]) -> Result<Text, NoMemory> {
-    let mut object = person(
-        alloc,
-        b"b",
-        b"{\"type\":\"Point\",\"coordinates\":[5,0]}",
-        5,
-    )?;
-    for field in fields {
-        object.fields.set(name(alloc, field.0)?, field.1)?;
-    }
-    let other = person(
-        alloc,
-        b"a",
-        b"{\"type\":\"Point\",\"coordinates\":[0,0]}",
-        0,
-    )?;
+// What is told of one object and, where it roams, of another, put behind a text that stands there.
+fn told_of(
+    alloc: Global,
+    raised: Raised,
+    object: &Object,
+    other: &Object,
+) -> Result<Text, NoMemory> {
+    let channel = on_people(alloc)?;
     let mut into = Text::of(alloc, b"> ")?;
-    push_message(
-        &mut into,
-        &on_people(alloc)?,
-        raised,
-        Some(&object),
-        Some(&other),
-    )?;
+    push_message(&mut into, &channel, raised, Some(object), Some(other))?;
     Ok(into)
 }
 
-#[test]
-fn areas(rt: HostRuntime) -> Result<(), Fail> {
-    let alloc = rt.alloc();
-    let plain = told(alloc, Raised::Set(Detect::Cross), &[])?;
-    assert_eq!(rt;
-        plain.bytes(),
-        b"> {\"command\":\"set\",\"detect\":\"cross\",\"hook\":\"z\",\"key\":\"people\",\"id\":\"b\",\"object\":{\"type\":\"Point\",\"coordinates\":[5,0]}}".as_slice()
-    );
-    let fielded = told(
-        alloc,
-        Raised::Set(Detect::Enter),
-        &[(b"speed", 55), (b"a\"ge", -7)],
-    )?;
-    assert_eq!(rt;
-        fielded.bytes(),
-        b"> {\"command\":\"set\",\"detect\":\"enter\",\"hook\":\"z\",\"key\":\"people\",\"id\":\"b\",\"object\":{\"type\":\"Point\",\"coordinates\":[5,0]},\"fields\":{\"a\\\"ge\":-7,\"speed\":55}}".as_slice()
-    );
-    Ok(())
+// What is told of `b`, with these fields, and of `a`.
+fn told(alloc: Global, raised: Raised, given: &[(&[u8], i64)]) -> Result<Text, NoMemory> {
+    let object = b(alloc, given)?;
+    let other = a(alloc)?;
+    told_of(alloc, raised, &object, &other)
 }
 
 #[test]
-fn ends(rt: HostRuntime) -> Result<(), Fail> {
+fn of_areas_and_roams(rt: HostRuntime) -> Result<(), Fail> {
     let alloc = rt.alloc();
-    let del = told(alloc, Raised::Del, &[])?;
-    assert_eq!(rt;
-        del.bytes(),
-        b"> {\"command\":\"del\",\"hook\":\"z\",\"key\":\"people\",\"id\":\"b\"}".as_slice()
-    );
-    let drop = told(alloc, Raised::Drop, &[])?;
-    assert_eq!(rt;
-        drop.bytes(),
-        b"> {\"command\":\"drop\",\"hook\":\"z\",\"key\":\"people\"}".as_slice()
-    );
-    Ok(())
-}
-
-#[test]
-fn roaming(rt: HostRuntime) -> Result<(), Fail> {
-    let alloc = rt.alloc();
-    let near = told(alloc, Raised::Set(Detect::Near), &[])?;
-    assert_eq!(rt;
-        near.bytes(),
-        b"> {\"command\":\"set\",\"detect\":\"roam\",\"hook\":\"z\",\"key\":\"people\",\"id\":\"b\",\"object\":{\"type\":\"Point\",\"coordinates\":[5,0]},\"nearby\":{\"key\":\"people\",\"id\":\"a\",\"object\":{\"type\":\"Point\",\"coordinates\":[0,0]},\"meters\":5}}".as_slice()
-    );
-    let far = told(alloc, Raised::Set(Detect::Far), &[])?;
-    assert_eq!(rt;
-        far.bytes(),
-        b"> {\"command\":\"set\",\"detect\":\"roam\",\"hook\":\"z\",\"key\":\"people\",\"id\":\"b\",\"object\":{\"type\":\"Point\",\"coordinates\":[5,0]},\"faraway\":{\"key\":\"people\",\"id\":\"a\",\"object\":{\"type\":\"Point\",\"coordinates\":[0,0]},\"meters\":5}}".as_slice()
-    );
+    let none: &[(&[u8], i64)] = &[];
+    let some: &[(&[u8], i64)] = &[(b"speed", 55), (b"a\"ge", -7)];
+    let table: [(Raised, &[(&[u8], i64)], &[u8]); 6] = [
+        (
+            Raised::Set(Detect::Cross),
+            none,
+            b"> {\"command\":\"set\",\"detect\":\"cross\",\"hook\":\"z\",\"key\":\"people\",\"id\":\"b\",\"object\":{\"type\":\"Point\",\"coordinates\":[5,0]}}",
+        ),
+        (
+            Raised::Set(Detect::Enter),
+            some,
+            b"> {\"command\":\"set\",\"detect\":\"enter\",\"hook\":\"z\",\"key\":\"people\",\"id\":\"b\",\"object\":{\"type\":\"Point\",\"coordinates\":[5,0]},\"fields\":{\"a\\\"ge\":-7,\"speed\":55}}",
+        ),
+        (
+            Raised::Del,
+            none,
+            b"> {\"command\":\"del\",\"hook\":\"z\",\"key\":\"people\",\"id\":\"b\"}",
+        ),
+        (
+            Raised::Drop,
+            none,
+            b"> {\"command\":\"drop\",\"hook\":\"z\",\"key\":\"people\"}",
+        ),
+        (
+            Raised::Set(Detect::Near),
+            none,
+            b"> {\"command\":\"set\",\"detect\":\"roam\",\"hook\":\"z\",\"key\":\"people\",\"id\":\"b\",\"object\":{\"type\":\"Point\",\"coordinates\":[5,0]},\"nearby\":{\"key\":\"people\",\"id\":\"a\",\"object\":{\"type\":\"Point\",\"coordinates\":[0,0]},\"meters\":5}}",
+        ),
+        (
+            Raised::Set(Detect::Far),
+            none,
+            b"> {\"command\":\"set\",\"detect\":\"roam\",\"hook\":\"z\",\"key\":\"people\",\"id\":\"b\",\"object\":{\"type\":\"Point\",\"coordinates\":[5,0]},\"faraway\":{\"key\":\"people\",\"id\":\"a\",\"object\":{\"type\":\"Point\",\"coordinates\":[0,0]},\"meters\":5}}",
+        ),
+    ];
+    for (raised, given, payload) in table {
+        assert_eq!(rt; told(alloc, raised, given)?.bytes(), payload);
+    }
     Ok(())
 }

@@ -3,7 +3,7 @@
 ghost use Rattle.std.specs.Prelude.{◌≡◌, true, None, IfOk};
 ghost use Rattle.world_data.specs.Sound.{is_sound_watch};
 
-use crate::watches::roaming;
+use crate::samples::roaming;
 use byte_text::{NoMemory, Text};
 use collection::Collection;
 use roam_fence::{RoamList, near_pairs};
@@ -18,12 +18,47 @@ fn person(alloc: Global, id: &[u8], x: i64) -> Result<Object, NoMemory> {
     object(alloc, b"people", id, x, 0)
 }
 
+// The same, where there is an x.
+fn person_at(alloc: Global, id: &[u8], x: Option<i64>) -> Result<Option<Object>, NoMemory> {
+    match x {
+        Some(x) => Ok(Some(person(alloc, id, x)?)),
+        None => Ok(None),
+    }
+}
+
 // The fence round all people that watches for people within 10 meters.
 fn near_people(alloc: Global, nodwell: bool) -> Result<Fence, NoMemory>
     ensures glob { IfOk result (λ f. f.glob ≡ None) }
     ensures watch { IfOk result (λ f. is_sound_watch f.watch ≡ true) }
 {
     fence(alloc, b"people", roaming(alloc, b"people", nodwell)?)
+}
+
+// `+` and the id of each that is near, `-` of each that is not any more.
+fn listed(alloc: Global, pairs: &RoamList) -> Result<Text, NoMemory> {
+    let mut text = Text::new(alloc);
+    for i in 0..pairs.len() {
+        text.push(if pairs.is_near(i) { b"+" } else { b"-" })?;
+        text.push(pairs.id(i).bytes())?;
+    }
+    Ok(text)
+}
+
+// What is told of the people by a fence where one of them is put.
+fn listed_by(
+    alloc: Global,
+    fence: &Fence,
+    people: &Collection,
+    old: Option<&Object>,
+    new: &Object,
+) -> Result<Text, NoMemory>
+    requires glob { fence.now.glob ≡ None }
+    requires watch { is_sound_watch fence.now.watch ≡ true }
+{
+    let mut pairs = RoamList::new(alloc);
+    let mut steps = Steps::new(NoLedger);
+    near_pairs(alloc, fence, people, old, new, &mut pairs, &mut steps)?;
+    listed(alloc, &pairs)
 }
 
 // Puts `a` at 0.
@@ -34,45 +69,19 @@ fn settle(alloc: Global, people: &mut Collection) -> Result<(), NoMemory> {
     Ok(())
 }
 
-// What is told of `a` at 0 where one person is put, who stood at a place before or nowhere: `+` and the id of each that is near, `-` of
-// each that is not any more.
-fn told_of(
+// What is told of `a` at 0 where one person is put, who stood at a place before or nowhere.
+fn told_among(
     alloc: Global,
     people: &mut Collection,
     nodwell: bool,
-    id: &[u8],
-    from: Option<i64>,
-    to: i64,
+    old: Option<&Object>,
+    new: &Object,
 ) -> Result<Text, NoMemory> {
     settle(alloc, people)?;
     let fence = near_people(alloc, nodwell)?;
-    let new = person(alloc, id, to)?;
-    let mut pairs = RoamList::new(alloc);
-    let mut steps = Steps::new(NoLedger);
-    match from {
-        Some(from) => {
-            let old = person(alloc, id, from)?;
-            near_pairs(
-                alloc,
-                &fence,
-                people,
-                Some(&old),
-                &new,
-                &mut pairs,
-                &mut steps,
-            )?;
-        }
-        None => near_pairs(alloc, &fence, people, None, &new, &mut pairs, &mut steps)?,
-    }
-    let mut text = Text::new(alloc);
-    for i in 0..pairs.len() {
-        text.push(if pairs.is_near(i) { b"+" } else { b"-" })?;
-        text.push(pairs.id(i).bytes())?;
-    }
-    Ok(text)
+    listed_by(alloc, &fence, people, old, new)
 }
 
-// What is told of `a` at 0.
 fn told(
     alloc: Global,
     nodwell: bool,
@@ -80,37 +89,27 @@ fn told(
     from: Option<i64>,
     to: i64,
 ) -> Result<Text, NoMemory> {
-    told_of(alloc, &mut Collection::new(alloc), nodwell, id, from, to)
+    let old = person_at(alloc, id, from)?;
+    let new = person(alloc, id, to)?;
+    let mut people = Collection::new(alloc);
+    told_among(alloc, &mut people, nodwell, old.as_ref(), &new)
 }
 
 #[test]
 fn near_and_far(rt: HostRuntime) -> Result<(), Fail> {
     let alloc = rt.alloc();
-    assert_eq!(rt; told(alloc, true, b"b", None, 5)?.bytes(), b"+a".as_slice());
-    assert_eq!(rt;
-        told(alloc, true, b"b", Some(5), 6)?.bytes(),
-        b"".as_slice()
-    );
-    assert_eq!(rt;
-        told(alloc, false, b"b", Some(5), 6)?.bytes(),
-        b"+a".as_slice()
-    );
-    assert_eq!(rt;
-        told(alloc, true, b"b", Some(6), 50)?.bytes(),
-        b"-a".as_slice()
-    );
-    assert_eq!(rt;
-        told(alloc, true, b"b", Some(50), 60)?.bytes(),
-        b"".as_slice()
-    );
-    assert_eq!(rt;
-        told(alloc, true, b"b", None, 10)?.bytes(),
-        b"+a".as_slice()
-    );
-    assert_eq!(rt; told(alloc, true, b"b", None, 11)?.bytes(), b"".as_slice());
-    assert_eq!(rt;
-        told(alloc, true, b"a", Some(0), 0)?.bytes(),
-        b"".as_slice()
-    );
+    let table: [(bool, &[u8], Option<i64>, i64, &[u8]); 8] = [
+        (true, b"b", None, 5, b"+a"),
+        (true, b"b", Some(5), 6, b""),
+        (false, b"b", Some(5), 6, b"+a"),
+        (true, b"b", Some(6), 50, b"-a"),
+        (true, b"b", Some(50), 60, b""),
+        (true, b"b", None, 10, b"+a"),
+        (true, b"b", None, 11, b""),
+        (true, b"a", Some(0), 0, b""),
+    ];
+    for (nodwell, id, from, to, pairs) in table {
+        assert_eq!(rt; told(alloc, nodwell, id, from, to)?.bytes(), pairs);
+    }
     Ok(())
 }
