@@ -6,6 +6,8 @@ mod collections;
 #[cfg(test)]
 mod keyspaces;
 #[cfg(test)]
+mod objects;
+#[cfg(test)]
 mod pages;
 #[cfg(test)]
 mod runs;

@@ -1,6 +1,6 @@
 //! A world that takes one change after another, and what its parts weigh.
 
-ghost use Rattle.std.specs.Prelude.{IfOk};
+ghost use Rattle.std.specs.Prelude.{◌≡◌, IfOk};
 ghost use Rattle.stored_world.specs.Stored.{HasFew};
 
 use byte_text::{NoMemory, Text};
@@ -9,7 +9,18 @@ use std::alloc::Global;
 use std::test::Fail;
 use stored_world::{StoreParts, StoredWorld};
 use test_samples::{at, channel, name, object};
-use world_data::{Change, Kind, Watch};
+use world_data::{Change, Kind, Object, Watch};
+
+// The object with a text and a deadline in place of its own.
+fn told(object: Object, text: Text, deadline: Option<u64>) -> Object
+    ensures { result.fields ≡ object.fields }
+{
+    Object {
+        text,
+        deadline,
+        ..object
+    }
+}
 
 fn put(
     alloc: Global,
@@ -20,10 +31,9 @@ fn put(
 ) -> Result<Change, NoMemory>
     ensures { IfOk result HasFew }
 {
-    let mut object = object(alloc, key, id, 1, 2)?;
-    object.text = Text::of(alloc, text)?;
-    object.deadline = deadline;
-    Ok(Change::Put(object))
+    let object = object(alloc, key, id, 1, 2)?;
+    let text = Text::of(alloc, text)?;
+    Ok(Change::Put(told(object, text, deadline)))
 }
 
 // A channel of this name on a disc of this radius, with no words.
