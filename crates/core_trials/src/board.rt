@@ -1,6 +1,6 @@
 //! Channels as a plain program: points on a line, and every channel is tested at every write.
 
-use crate::frames::{push_bulk, push_head};
+use crate::frames::{push_bulk, push_head, push_parts};
 use byte_text::{NoMemory, Text, push_i64, push_u64};
 use std::alloc::Global;
 
@@ -29,39 +29,26 @@ pub(crate) struct Board {
 
 /// The id of a point.
 pub(crate) fn letter(point: usize) -> &'static [u8] {
-    match point {
-        0 => b"a",
-        1 => b"b",
-        2 => b"c",
-        3 => b"d",
-        4 => b"e",
-        _ => b"f",
-    }
+    const LETTERS: [&[u8]; 6] = [b"a", b"b", b"c", b"d", b"e", b"f"];
+    LETTERS[point.min(5)]
 }
 
 /// The name of a channel.
 pub(crate) fn name(channel: usize) -> &'static [u8] {
-    match channel {
-        0 => b"c0",
-        1 => b"c1",
-        2 => b"c2",
-        _ => b"c3",
-    }
+    const NAMES: [&[u8]; 4] = [b"c0", b"c1", b"c2", b"c3"];
+    NAMES[channel.min(3)]
 }
 
 // Begins the payload of a message: the command, the detection, where there is one, and the channel.
 fn push_start(out: &mut Text, command: &[u8], channel: usize) -> Result<(), NoMemory> {
-    out.push(b"{\"command\":\"")?;
-    out.push(command)?;
+    push_parts(out, &[b"{\"command\":\"".as_slice(), command])?;
     out.push(b"\",\"hook\":\"")?;
     out.push(name(channel))?;
     out.push(b"\",\"key\":\"k\"")
 }
 
 fn push_id(out: &mut Text, point: usize) -> Result<(), NoMemory> {
-    out.push(b",\"id\":\"")?;
-    out.push(letter(point))?;
-    out.push(b"\"")
+    push_parts(out, &[b",\"id\":\"".as_slice(), letter(point), b"\""])
 }
 
 fn push_object(out: &mut Text, point: usize, place: i32) -> Result<(), NoMemory> {
@@ -69,6 +56,42 @@ fn push_object(out: &mut Text, point: usize, place: i32) -> Result<(), NoMemory>
     out.push(b",\"object\":{\"type\":\"Point\",\"coordinates\":[")?;
     push_i64(out, i64::from(place))?;
     out.push(b",0]}")
+}
+
+// Ends the payload of a message of two points: how the other stands to the one, the other, and how far it is.
+fn push_other(
+    out: &mut Text,
+    how: &[u8],
+    other: (usize, i32),
+    meters: u32,
+) -> Result<(), NoMemory> {
+    push_parts(out, &[b",\"".as_slice(), how, b"\":{\"key\":\"k\""])?;
+    push_object(out, other.0, other.1)?;
+    out.push(b",\"meters\":")?;
+    push_u64(out, u64::from(meters))?;
+    out.push(b"}}")
+}
+
+// The message to who hears a channel by name.
+fn push_named(out: &mut Text, channel: usize, payload: &[u8]) -> Result<(), NoMemory> {
+    push_head(out, 3)?;
+    push_bulk(out, b"message")?;
+    push_bulk(out, name(channel))?;
+    push_bulk(out, payload)
+}
+
+// The message to who hears a channel by a pattern.
+fn push_met(
+    out: &mut Text,
+    pattern: &[u8],
+    channel: usize,
+    payload: &[u8],
+) -> Result<(), NoMemory> {
+    push_head(out, 4)?;
+    push_bulk(out, b"pmessage")?;
+    push_bulk(out, pattern)?;
+    push_bulk(out, name(channel))?;
+    push_bulk(out, payload)
 }
 
 // What a SET raises on a stretch: up to two detections, in order.
@@ -153,30 +176,14 @@ impl Board {
         }
     }
 
-    fn push_pattern(
-        &mut self,
-        pattern: &[u8],
-        channel: usize,
-        payload: &[u8],
-    ) -> Result<(), NoMemory> {
-        push_head(&mut self.by_pattern, 4)?;
-        push_bulk(&mut self.by_pattern, b"pmessage")?;
-        push_bulk(&mut self.by_pattern, pattern)?;
-        push_bulk(&mut self.by_pattern, name(channel))?;
-        push_bulk(&mut self.by_pattern, payload)
-    }
-
     // The two sessions hear a message of a channel.
     fn tell(&mut self, channel: usize, payload: &[u8]) -> Result<(), NoMemory> {
         if channel == 0 || channel == 2 {
-            push_head(&mut self.by_name, 3)?;
-            push_bulk(&mut self.by_name, b"message")?;
-            push_bulk(&mut self.by_name, name(channel))?;
-            push_bulk(&mut self.by_name, payload)?;
+            push_named(&mut self.by_name, channel, payload)?;
         }
-        self.push_pattern(b"c*", channel, payload)?;
+        push_met(&mut self.by_pattern, b"c*", channel, payload)?;
         if channel == 1 {
-            self.push_pattern(b"*1", channel, payload)?;
+            push_met(&mut self.by_pattern, b"*1", channel, payload)?;
         }
         Ok(())
     }
@@ -208,13 +215,7 @@ impl Board {
         let mut payload = Text::new(self.alloc);
         push_start(&mut payload, b"set\",\"detect\":\"roam", channel)?;
         push_object(&mut payload, point.0, point.1)?;
-        payload.push(b",\"")?;
-        payload.push(how)?;
-        payload.push(b"\":{\"key\":\"k\"")?;
-        push_object(&mut payload, other.0, other.1)?;
-        payload.push(b",\"meters\":")?;
-        push_u64(&mut payload, u64::from(point.1.abs_diff(other.1)))?;
-        payload.push(b"}}")?;
+        push_other(&mut payload, how, other, point.1.abs_diff(other.1))?;
         self.tell(channel, payload.bytes())
     }
 
@@ -265,6 +266,14 @@ impl Board {
         Ok(())
     }
 
+    fn tell_delete(&mut self, channel: usize, point: usize) -> Result<(), NoMemory> {
+        let mut payload = Text::new(self.alloc);
+        push_start(&mut payload, b"del", channel)?;
+        push_id(&mut payload, point)?;
+        payload.push(b"}")?;
+        self.tell(channel, payload.bytes())
+    }
+
     /// A point is taken out, where it is there.
     pub(crate) fn delete(&mut self, point: usize) -> Result<(), NoMemory> {
         let old = self.place(point);
@@ -272,14 +281,18 @@ impl Board {
             if let Some(Watch::Stretch(low, high)) = self.watch(channel)
                 && is_on(old, low, high)
             {
-                let mut payload = Text::new(self.alloc);
-                push_start(&mut payload, b"del", channel)?;
-                push_id(&mut payload, point)?;
-                payload.push(b"}")?;
-                self.tell(channel, payload.bytes())?;
+                self.tell_delete(channel, point)?;
             }
         }
         self.put(point, None);
+        Ok(())
+    }
+
+    /// The points under a bound are taken out, where they are there.
+    pub(crate) fn delete_under(&mut self, bound: usize) -> Result<(), NoMemory> {
+        for point in 0..bound {
+            self.delete(point)?;
+        }
         Ok(())
     }
 
@@ -292,12 +305,22 @@ impl Board {
         }
         for channel in 0..CHANNELS {
             if any && self.watch(channel).is_some() {
-                let mut payload = Text::new(self.alloc);
-                push_start(&mut payload, b"drop", channel)?;
-                payload.push(b"}")?;
-                self.tell(channel, payload.bytes())?;
+                self.tell_drop(channel)?;
             }
         }
         Ok(())
+    }
+
+    fn tell_drop(&mut self, channel: usize) -> Result<(), NoMemory> {
+        let mut payload = Text::new(self.alloc);
+        push_start(&mut payload, b"drop", channel)?;
+        payload.push(b"}")?;
+        self.tell(channel, payload.bytes())
+    }
+
+    /// Both sessions have taken what they heard.
+    pub(crate) fn hear_anew(&mut self) {
+        self.by_name.truncate(0);
+        self.by_pattern.truncate(0);
     }
 }

@@ -1,14 +1,13 @@
 //! The core and a plain program that tests every channel at every write: two listeners have to hear the same from both.
 
+use crate::asking::{answered, asked_of, open};
 use crate::board::{Board, Watch, letter, name};
 use crate::lines::{Fill, Numbers, filled};
-use byte_text::{NoMemory, Request, Text, push_i64};
+use byte_text::{NoMemory, Text, push_i64};
 use std::alloc::Global;
-use std::process::Abort;
 use std::test::Fail;
-use test_lines::request;
-use tile_core::{Core, NoLedger};
-use world_model::{Asked, Called, Frames, Taken, Touched};
+use tile_core::Core;
+use world_model::{Frames, Taken};
 
 // What the letters of a line stand for: a point, a channel, two places and a distance.
 #[derive(Drop)]
@@ -21,14 +20,14 @@ struct Drawn {
 }
 
 impl Fill for Drawn {
-    fn push_word(&mut self, out: &mut Text, word: &str) -> Result<(), NoMemory> {
-        match word {
-            "P" => out.push(letter(self.point)),
-            "C" => out.push(name(self.channel)),
-            "L" => push_i64(out, i64::from(self.low)),
-            "H" => push_i64(out, i64::from(self.high)),
-            "M" => push_i64(out, i64::from(self.meters)),
-            other => out.push(other.as_bytes()),
+    fn push_word(&mut self, out: &mut Text, letter_of: u8) -> Result<(), NoMemory> {
+        match letter_of {
+            b'P' => out.push(letter(self.point)),
+            b'C' => out.push(name(self.channel)),
+            b'L' => push_i64(out, i64::from(self.low)),
+            b'H' => push_i64(out, i64::from(self.high)),
+            b'M' => push_i64(out, i64::from(self.meters)),
+            other => out.push(&[other]),
         }
     }
 }
@@ -44,133 +43,119 @@ fn draw(numbers: &mut Numbers) -> Drawn {
     }
 }
 
-const SET: &str = "SET k P POINT 0 L";
+// The lines that ask the core for one of the things. The last of them stands for each further choice.
+const LINES: [&str; 8] = [
+    "SETCHAN C INTERSECTS k FENCE BOUNDS -5 L 5 H",
+    "SETCHAN C NEARBY k FENCE ROAM k * M",
+    "SETCHAN C NEARBY k FENCE NODWELL ROAM k * M",
+    "DEL k P",
+    "PDEL k [a-c]",
+    "DELCHAN C",
+    "DROP k",
+    "SET k P POINT 0 L",
+];
 
-const STRETCH: &str = "SETCHAN C INTERSECTS k FENCE BOUNDS -5 L 5 H";
-
-const NEAR: &str = "SETCHAN C NEARBY k FENCE ROAM k * M";
-
-const NODWELL: &str = "SETCHAN C NEARBY k FENCE NODWELL ROAM k * M";
-
-// The plain program does one of the things, and gives the line that asks the core for the same.
-fn do_plainly(board: &mut Board, choice: u64, drawn: &Drawn) -> Result<&'static str, NoMemory> {
+// What the channel watches behind a choice that sets it or takes it away.
+fn watched(choice: usize, drawn: &Drawn) -> Option<Watch> {
     match choice {
-        0 => {
-            board.set_channel(drawn.channel, Some(Watch::Stretch(drawn.low, drawn.high)));
-            Ok(STRETCH)
-        }
-        1 => {
-            board.set_channel(drawn.channel, Some(Watch::Near(drawn.meters, false)));
-            Ok(NEAR)
-        }
-        2 => {
-            board.set_channel(drawn.channel, Some(Watch::Near(drawn.meters, true)));
-            Ok(NODWELL)
-        }
-        3 => {
-            board.delete(drawn.point)?;
-            Ok("DEL k P")
-        }
-        4 => {
-            for point in 0..3 {
-                board.delete(point)?;
-            }
-            Ok("PDEL k [a-c]")
-        }
-        5 => {
-            board.set_channel(drawn.channel, None);
-            Ok("DELCHAN C")
-        }
-        6 => {
-            board.drop_all()?;
-            Ok("DROP k")
-        }
-        _ => {
-            board.set(drawn.point, drawn.low)?;
-            Ok(SET)
-        }
+        0 => Some(Watch::Stretch(drawn.low, drawn.high)),
+        1 => Some(Watch::Near(drawn.meters, false)),
+        2 => Some(Watch::Near(drawn.meters, true)),
+        _ => None,
     }
 }
 
-fn asked(alloc: Global, core: &mut Core, session: u32, words: Request) -> Result<(), Fail> {
-    if words.words() == 0 {
-        return Err(Fail::from("a trial's request is proper"));
+// The plain program does one of the things.
+fn do_plainly(board: &mut Board, choice: usize, drawn: &Drawn) -> Result<(), NoMemory> {
+    match choice {
+        0 | 1 | 2 | 5 => {
+            board.set_channel(drawn.channel, watched(choice, drawn));
+            Ok(())
+        }
+        3 => board.delete(drawn.point),
+        4 => board.delete_under(3),
+        6 => board.drop_all(),
+        _ => board.set(drawn.point, drawn.low),
     }
-    let mut touched = Touched::new(alloc)?;
-    if core.call(
-        session,
-        0,
-        &Asked::Words(words),
-        &mut touched,
-        &mut NoLedger,
-    ) != Called::Ok
-    {
-        return Err(Fail::from("a call is done"));
+}
+
+// What the core is asked by a line of session 1. Its reply is taken.
+fn ask(alloc: Global, core: &mut Core, choice: usize, drawn: &mut Drawn) -> Option<()> {
+    let words = filled(alloc, LINES[choice.min(7)], drawn)?;
+    answered(alloc, core, 1, 0, &asked_of(words)?)?;
+    Some(())
+}
+
+// Both do one of the things.
+fn do_both(alloc: Global, core: &mut Core, board: &mut Board, numbers: &mut Numbers) -> Option<()> {
+    let choice = numbers.below(25) as usize;
+    let mut drawn = draw(numbers);
+    do_plainly(board, choice, &drawn).ok()?;
+    ask(alloc, core, choice, &mut drawn)
+}
+
+// What one take of a session gives goes behind a text; nothing where there is no frame.
+fn push_taken(alloc: Global, core: &mut Core, session: u32, text: &mut Text) -> Option<()> {
+    let mut frames = Frames::new(alloc).ok()?;
+    let Taken::Some(_) = core.take(session, &mut frames) else {
+        return None;
+    };
+    for i in 0..frames.len() {
+        text.push(frames.at(i)).ok()?;
     }
-    Ok(())
+    Some(())
 }
 
 // All that a session takes.
-fn taken(alloc: Global, core: &mut Core, session: u32) -> Result<Text, Fail> {
+fn all_taken(alloc: Global, core: &mut Core, session: u32) -> Text {
     let mut text = Text::new(alloc);
     for _ in 0..100 {
-        let mut frames = Frames::new(alloc)?;
-        let Taken::Some(_) = core.take(session, &mut frames) else {
+        if push_taken(alloc, core, session, &mut text).is_none() {
             break;
-        };
-        for i in 0..frames.len() {
-            text.push(frames.at(i))?;
         }
     }
-    Ok(text)
+    text
 }
 
-// Three sessions: the first asks, the second hears channels by name, the third by pattern. What they are told at first is taken.
-fn open(alloc: Global, core: &mut Core) -> Result<(), Fail> {
-    for (session, line) in [(1, "PING"), (2, "SUBSCRIBE c0 c2"), (3, "PSUBSCRIBE c* *1")] {
-        if core.enter() != Ok(session) {
-            return Err(Fail::from("a session is entered"));
-        }
-        asked(alloc, core, session, request(alloc, line)?)?;
-        taken(alloc, core, session)?;
-    }
-    Ok(())
-}
+// The first session asks, the second hears channels by name, the third by pattern.
+const OPENING: [(u32, &str); 3] = [(1, "PING"), (2, "SUBSCRIBE c0 c2"), (3, "PSUBSCRIBE c* *1")];
 
-fn hear_both(
-    rt: &impl Abort,
+// Whether the two listeners hear the same from both of one of the things.
+fn is_heard_alike(
     alloc: Global,
     core: &mut Core,
     board: &mut Board,
-) -> Result<(), Fail> {
-    open(alloc, core)?;
+    numbers: &mut Numbers,
+) -> Option<bool> {
+    board.hear_anew();
+    do_both(alloc, core, board, numbers)?;
+    let by_name = all_taken(alloc, core, 2);
+    let by_pattern = all_taken(alloc, core, 3);
+    Some(by_name.bytes() == board.by_name.bytes() && by_pattern.bytes() == board.by_pattern.bytes())
+}
+
+// How many of 400 things are heard alike, up to the first that is not. What the sessions are told at first is taken.
+fn heard_alike(alloc: Global, core: &mut Core, board: &mut Board) -> u32 {
+    if open(alloc, core, &OPENING).is_none() {
+        return 0;
+    }
+    for session in 1..=3 {
+        all_taken(alloc, core, session);
+    }
     let mut numbers = Numbers::new(11);
     for i in 0..400 {
-        let choice = numbers.below(25);
-        let mut drawn = draw(&mut numbers);
-        let line = do_plainly(board, choice, &drawn)?;
-        asked(alloc, core, 1, filled(alloc, line, &mut drawn)?)?;
-        taken(alloc, core, 1)?;
-        assert_eq!(rt;
-            taken(alloc, core, 2)?.bytes(),
-            board.by_name.bytes(),
-            "call {i}"
-        );
-        assert_eq!(rt;
-            taken(alloc, core, 3)?.bytes(),
-            board.by_pattern.bytes(),
-            "call {i}"
-        );
-        board.by_name = Text::new(alloc);
-        board.by_pattern = Text::new(alloc);
+        if is_heard_alike(alloc, core, board, &mut numbers) != Some(true) {
+            return i;
+        }
     }
-    Ok(())
+    400
 }
 
 #[test]
 fn listeners_hear_what_a_plain_program_tells(rt: HostRuntime) -> Result<(), Fail> {
     let alloc = rt.alloc();
-    let mut core = Core::new(alloc);
     let mut board = Board::new(alloc)?;
-    hear_both(&rt, alloc, &mut core, &mut board)
+    let mut core = Core::new(alloc);
+    assert_eq!(rt; heard_alike(alloc, &mut core, &mut board), 400);
+    Ok(())
 }

@@ -5,6 +5,14 @@ use planar_geom::{BBox, Pt};
 use std::alloc::Global;
 use world_model::Fields;
 
+/// Appends parts, one behind another.
+pub(crate) fn push_parts(out: &mut Text, parts: &[&[u8]]) -> Result<(), NoMemory> {
+    for part in parts.iter() {
+        out.push(part)?;
+    }
+    Ok(())
+}
+
 // A line of a mark and a number.
 fn push_line(out: &mut Text, mark: &[u8], n: i64) -> Result<(), NoMemory> {
     out.push(mark)?;

@@ -5,7 +5,6 @@ ghost use Rattle.cmd_words.specs.ShortRequests.{AreShort};
 
 use byte_text::{NoMemory, Request, Text, push_u64};
 use std::alloc::Global;
-use std::test::Fail;
 
 /// A generator of numbers: each is the next of a linear congruence.
 #[derive(Drop)]
@@ -60,6 +59,37 @@ const FORMS: [&str; 24] = [
     "SCAN k WHERE n -inf v COUNT",
 ];
 
+const KEYS: [&[u8]; 3] = [b"fleet", b"site", b"van"];
+
+const IDS: [&[u8]; 6] = [b"a", b"ab", b"b", b"ba", b"c", b"\xc3\xa9"];
+
+const NAMES: [&[u8]; 3] = [b"age", b"speed", b"load"];
+
+const VALUES: [&[u8]; 5] = [b"0", b"0", b"1", b"2", b"-7"];
+
+const PATTERNS: [&[u8]; 5] = [b"*", b"a*", b"?", b"[b-v]*", b"*a*"];
+
+/// What the words of a form stand for.
+pub(crate) trait Fill {
+    /// Appends the word that a word of one letter stands for.
+    fn push_word(&mut self, out: &mut Text, letter: u8) -> Result<(), NoMemory>;
+}
+
+impl Fill for Numbers {
+    fn push_word(&mut self, out: &mut Text, letter: u8) -> Result<(), NoMemory> {
+        match letter {
+            b'k' => push_choice(out, self, &KEYS),
+            b'i' => push_choice(out, self, &IDS),
+            b'n' => push_choice(out, self, &NAMES),
+            b'v' => push_choice(out, self, &VALUES),
+            b'p' => push_choice(out, self, &PATTERNS),
+            b's' | b'l' => push_u64(out, self.below(3) + 1),
+            b'c' => push_u64(out, self.below(40)),
+            other => out.push(&[other]),
+        }
+    }
+}
+
 fn push_choice(out: &mut Text, numbers: &mut Numbers, words: &[&[u8]]) -> Result<(), NoMemory> {
     if words.len() == 0 {
         return Ok(());
@@ -68,69 +98,41 @@ fn push_choice(out: &mut Text, numbers: &mut Numbers, words: &[&[u8]]) -> Result
     out.push(words[at])
 }
 
-/// What the words of a form stand for.
-pub(crate) trait Fill {
-    /// Appends the word that one of a form stands for.
-    fn push_word(&mut self, out: &mut Text, word: &str) -> Result<(), NoMemory>;
-}
-
-impl Fill for Numbers {
-    fn push_word(&mut self, out: &mut Text, word: &str) -> Result<(), NoMemory> {
-        push_chosen(out, self, word)
-    }
-}
-
-// The word that one of a form stands for.
-fn push_chosen(out: &mut Text, numbers: &mut Numbers, word: &str) -> Result<(), NoMemory> {
+// The word that one of a form stands for; one of more letters stands for itself.
+fn push_filled<F: Fill>(out: &mut Text, fill: &mut F, word: &[u8]) -> Result<(), NoMemory> {
     match word {
-        "k" => push_choice(out, numbers, &[b"fleet".as_slice(), b"site", b"van"]),
-        "i" => push_choice(
-            out,
-            numbers,
-            &[b"a".as_slice(), b"ab", b"b", b"ba", b"c", b"\xc3\xa9"],
-        ),
-        "n" => push_choice(out, numbers, &[b"age".as_slice(), b"speed", b"load"]),
-        "v" => push_choice(out, numbers, &[b"0".as_slice(), b"0", b"1", b"2", b"-7"]),
-        "p" => push_choice(
-            out,
-            numbers,
-            &[b"*".as_slice(), b"a*", b"?", b"[b-v]*", b"*a*"],
-        ),
-        "s" => push_u64(out, numbers.below(3) + 1),
-        "l" => push_u64(out, numbers.below(3) + 1),
-        "c" => push_u64(out, numbers.below(40)),
-        other => out.push(other.as_bytes()),
+        [letter] => fill.push_word(out, *letter),
+        other => out.push(other),
     }
 }
 
-// Adds a word to a line.
-fn push_proper(words: &mut Request, word: &[u8]) -> Result<(), Fail>
+// Adds a word to a line. Nothing where the line or the word is too long.
+fn push_proper(words: &mut Request, word: &[u8]) -> Option<()>
     requires short { AreShort words.old }
     ensures short { AreShort words.new }
 {
     if words.words() >= 64 {
-        return Err(Fail::from("a line has few words"));
+        return None;
     }
     if word.len() > 255 {
-        return Err(Fail::from("a word is short"));
+        return None;
     }
-    words.push(word)?;
-    Ok(())
+    words.push(word).ok()
 }
 
 /// A line, as a request.
-pub(crate) fn filled<F: Fill>(alloc: Global, form: &str, fill: &mut F) -> Result<Request, Fail> {
+pub(crate) fn filled<F: Fill>(alloc: Global, form: &str, fill: &mut F) -> Option<Request> {
     let mut words = Request::new(alloc);
     for word in form.split(' ') {
         let mut text = Text::new(alloc);
-        fill.push_word(&mut text, word)?;
+        push_filled(&mut text, fill, word.as_bytes()).ok()?;
         push_proper(&mut words, text.bytes())?;
     }
-    Ok(words)
+    Some(words)
 }
 
 /// A line of one of the forms, as a request.
-pub(crate) fn request(alloc: Global, numbers: &mut Numbers) -> Result<Request, Fail> {
+pub(crate) fn request(alloc: Global, numbers: &mut Numbers) -> Option<Request> {
     let form = FORMS[numbers.below(24) as usize];
     filled(alloc, form, numbers)
 }

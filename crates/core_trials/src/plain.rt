@@ -135,7 +135,6 @@ impl Plain {
     }
 
     fn done(&mut self, command: Command) -> Result<Text, NoMemory> {
-        let alloc = self.alloc;
         match command {
             Command::Set {
                 key,
@@ -147,51 +146,78 @@ impl Plain {
                 text,
                 shape,
             } => {
+                let deadline = match seconds {
+                    Some(seconds) => Some(self.deadline(seconds)),
+                    None => None,
+                };
                 let object = Object {
                     key,
                     id,
                     text,
                     shape,
                     fields,
-                    deadline: None,
+                    deadline,
                 };
-                self.set(object, &cleared, seconds, only)
+                self.set(object, &cleared, only)
             }
-            Command::Get {
-                key,
-                id,
-                with_fields,
-                shown,
-            } => self.get(&key, &id, with_fields, shown),
-            Command::Del { key, id } => self.delete(&key, &id),
-            Command::Pdel { key, glob } => self.delete_met(&key, &glob),
-            Command::Drop { key } => {
-                let had = self.has_key(&key);
-                self.objects
-                    .retain(|object: &Object| -> bool { object.key != key });
-                number(alloc, i64::from(had))
-            }
+            other => self.changed(&other),
+        }
+    }
+
+    // A command that changes objects, or one that reads.
+    fn changed(&mut self, command: &Command) -> Result<Text, NoMemory> {
+        match command {
+            Command::Del { key, id } => self.delete(key, id),
+            Command::Pdel { key, glob } => self.delete_met(key, glob),
+            Command::Drop { key } => self.drop_key(key),
             Command::Fset {
                 key,
                 id,
                 fields,
                 cleared,
-            } => self.fset(&key, &id, &fields, &cleared),
-            Command::Fget { key, id, field } => self.fget(&key, &id, &field),
-            Command::Expire { key, id, seconds } => self.expire(&key, &id, seconds),
-            Command::Persist { key, id } => self.persist(&key, &id),
-            Command::Ttl { key, id } => self.ttl(&key, &id),
-            Command::Keys { glob } => self.keys(&glob),
-            Command::Bounds { key } => self.bounds(&key),
-            Command::Stats { keys } => self.stats(&keys),
-            Command::Scan { key, query } => self.scan(&key, &query),
-            Command::Flush => {
-                self.objects.clear();
-                text_of(alloc, b"+OK\r\n")
-            }
-            Command::Ping => text_of(alloc, b"+PONG\r\n"),
-            _ => Ok(Text::new(alloc)),
+            } => self.fset(key, id, fields, cleared),
+            Command::Expire { key, id, seconds } => self.expire(key, id, *seconds),
+            Command::Persist { key, id } => self.persist(key, id),
+            Command::Flush => self.flush(),
+            other => self.read(other),
         }
+    }
+
+    // A command that reads. There is no reply to one that this program does not know.
+    fn read(&self, command: &Command) -> Result<Text, NoMemory> {
+        match command {
+            Command::Get {
+                key,
+                id,
+                with_fields,
+                shown,
+            } => self.get(key, id, *with_fields, *shown),
+            Command::Fget { key, id, field } => self.fget(key, id, field),
+            Command::Ttl { key, id } => self.ttl(key, id),
+            Command::Keys { glob } => self.keys(glob),
+            Command::Bounds { key } => self.bounds(key),
+            Command::Stats { keys } => self.stats(keys),
+            Command::Scan { key, query } => self.scan(key, query),
+            Command::Ping => text_of(self.alloc, b"+PONG\r\n"),
+            _ => Ok(Text::new(self.alloc)),
+        }
+    }
+
+    // The moment behind so many seconds.
+    fn deadline(&self, seconds: u32) -> u64 {
+        self.clock.saturating_add(1000 * u64::from(seconds))
+    }
+
+    fn flush(&mut self) -> Result<Text, NoMemory> {
+        self.objects.clear();
+        text_of(self.alloc, b"+OK\r\n")
+    }
+
+    fn drop_key(&mut self, key: &Name) -> Result<Text, NoMemory> {
+        let had = self.has_key(key);
+        self.objects
+            .retain(|object: &Object| -> bool { object.key != *key });
+        number(self.alloc, i64::from(had))
     }
 
     fn delete(&mut self, key: &Name, id: &Name) -> Result<Text, NoMemory> {
@@ -216,18 +242,7 @@ impl Plain {
         number(self.alloc, i64::try_from(gone).unwrap_or(i64::MAX))
     }
 
-    fn set(
-        &mut self,
-        object: Object,
-        cleared: &NameList,
-        seconds: Option<u32>,
-        only: Only,
-    ) -> Result<Text, NoMemory> {
-        let alloc = self.alloc;
-        let mut object = object;
-        if let Some(seconds) = seconds {
-            object.deadline = Some(self.clock.saturating_add(1000 * u64::from(seconds)));
-        }
+    fn set(&mut self, object: Object, cleared: &NameList, only: Only) -> Result<Text, NoMemory> {
         let at = self.place(&object.key, &object.id);
         let kept_back = match only {
             Only::Any => false,
@@ -235,15 +250,17 @@ impl Plain {
             Only::Present => at.is_none(),
         };
         if kept_back {
-            return text_of(alloc, b"$-1\r\n");
+            return text_of(self.alloc, b"$-1\r\n");
         }
-        let old = match at {
+        let mut object = object;
+        let mut fields = match at {
             Some(at) => self.objects.remove(at).fields,
-            None => Fields::new(alloc),
+            None => Fields::new(self.alloc),
         };
-        object.fields = with_values(alloc, old, &object.fields, cleared)?;
+        put_all(self.alloc, &mut fields, &object.fields, cleared)?;
+        object.fields = fields;
         self.insert(object)?;
-        text_of(alloc, b"+OK\r\n")
+        text_of(self.alloc, b"+OK\r\n")
     }
 
     // Puts an object that is not there into its place.
@@ -299,20 +316,9 @@ impl Plain {
         let Some(at) = self.place(key, id) else {
             return self.missing(key);
         };
-        let old = &self.objects[at].fields;
-        let mut count: i64 = 0;
-        for i in 0..given.len() {
-            if value_of(old, given.name(i)) != given.value(i) {
-                count = count.saturating_add(1);
-            }
-        }
-        for i in 0..cleared.len() {
-            if value_of(old, cleared.at(i)) != 0 {
-                count = count.saturating_add(1);
-            }
-        }
-        let fields = with_values(self.alloc, old.copy(self.alloc)?, given, cleared)?;
-        self.objects[at].fields = fields;
+        let fields = &mut self.objects[at].fields;
+        let count = changes(fields, given, cleared);
+        put_all(self.alloc, fields, given, cleared)?;
         number(self.alloc, count)
     }
 
@@ -333,7 +339,7 @@ impl Plain {
         let Some(at) = self.place(key, id) else {
             return number(self.alloc, 0);
         };
-        self.objects[at].deadline = Some(self.clock.saturating_add(1000 * u64::from(seconds)));
+        self.objects[at].deadline = Some(self.deadline(seconds));
         number(self.alloc, 1)
     }
 
@@ -359,23 +365,38 @@ impl Plain {
         }
     }
 
-    fn keys(&self, glob: &Name) -> Result<Text, NoMemory> {
-        let mut items = Text::new(self.alloc);
+    // Whether the key of the object at a place is that of none before it, and meets a pattern.
+    fn is_sought_key(&self, place: usize, glob: &Name) -> bool
+        requires { place < length self.now.objects.items }
+    {
+        let key = &self.objects[place].key;
+        let is_first = place == 0 || self.objects[place - 1].key != *key;
+        is_first && meets(glob, key)
+    }
+
+    // Appends the keys that meet a pattern. How many they are.
+    fn push_keys(&self, out: &mut Text, glob: &Name) -> Result<usize, NoMemory> {
         let mut count: usize = 0;
-        for (i, object) in self.objects.iter().enumerate() {
-            let is_first = i == 0 || self.objects[i - 1].key != object.key;
-            if is_first && meets(glob, &object.key) {
-                push_bulk(&mut items, object.key.bytes())?;
+        for place in 0..self.objects.len() {
+            if self.is_sought_key(place, glob) {
+                push_bulk(out, self.objects[place].key.bytes())?;
                 count = count.saturating_add(1);
             }
         }
+        Ok(count)
+    }
+
+    fn keys(&self, glob: &Name) -> Result<Text, NoMemory> {
+        let mut items = Text::new(self.alloc);
+        let count = self.push_keys(&mut items, glob)?;
         let mut out = Text::new(self.alloc);
         push_head(&mut out, count)?;
         out.push(items.bytes())?;
         Ok(out)
     }
 
-    fn bounds(&self, key: &Name) -> Result<Text, NoMemory> {
+    // The smallest box round the objects of a key.
+    fn round(&self, key: &Name) -> Option<BBox> {
         let mut round: Option<BBox> = None;
         for object in self.objects.iter() {
             if object.key == *key {
@@ -386,7 +407,11 @@ impl Plain {
                 });
             }
         }
-        let Some(b) = round else {
+        round
+    }
+
+    fn bounds(&self, key: &Name) -> Result<Text, NoMemory> {
+        let Some(b) = self.round(key) else {
             return text_of(self.alloc, b"*-1\r\n");
         };
         let mut out = Text::new(self.alloc);
@@ -394,7 +419,8 @@ impl Plain {
         Ok(out)
     }
 
-    fn push_stats(&self, out: &mut Text, key: &Name) -> Result<(), NoMemory> {
+    // How many objects of a key there are, and how many positions they have.
+    fn counted(&self, key: &Name) -> (i64, u64) {
         let mut count: i64 = 0;
         let mut points: u64 = 0;
         for object in self.objects.iter() {
@@ -403,13 +429,17 @@ impl Plain {
                 points = points.saturating_add(object.shape.positions());
             }
         }
+        (count, points)
+    }
+
+    fn push_stats(&self, out: &mut Text, key: &Name) -> Result<(), NoMemory> {
+        let (count, points) = self.counted(key);
         if count == 0 {
             return out.push(b"*-1\r\n");
         }
-        push_head(out, 4)?;
-        push_bulk(out, b"num_objects")?;
+        out.push(b"*4\r\n$11\r\nnum_objects\r\n")?;
         push_number(out, count)?;
-        push_bulk(out, b"num_points")?;
+        out.push(b"$10\r\nnum_points\r\n")?;
         push_number(out, i64::try_from(points).unwrap_or(i64::MAX))
     }
 
@@ -436,40 +466,71 @@ impl Plain {
         Ok(places)
     }
 
-    fn scan(&self, key: &Name, query: &Query) -> Result<Text, NoMemory> {
-        let places = self.sought(key, query)?;
-        let found = places.len();
-        if query.shown == Shown::Count {
-            return number(self.alloc, found as i64);
-        }
-        let first = found.min(query.cursor as usize);
-        let last = found.min(first.saturating_add(query.limit as usize));
-        let mut out = Text::new(self.alloc);
-        push_head(&mut out, 2)?;
-        push_number(&mut out, if last < found { last as i64 } else { 0 })?;
-        push_head(&mut out, last - first)?;
-        for place in places[first..last].iter() {
+    // Appends the items of the objects at some places.
+    fn push_items(&self, out: &mut Text, places: &[usize], query: &Query) -> Result<(), NoMemory> {
+        for place in places.iter() {
             if let Some(object) = self.objects.get(*place) {
-                push_item(self.alloc, &mut out, object, query)?;
+                push_item(self.alloc, out, object, query)?;
             }
         }
+        Ok(())
+    }
+
+    // Appends the page of a search that finds the objects at these places.
+    fn push_page(&self, out: &mut Text, places: &[usize], query: &Query) -> Result<(), NoMemory> {
+        let found = places.len();
+        let first = found.min(query.cursor as usize);
+        let last = found.min(first.saturating_add(query.limit as usize));
+        push_head(out, 2)?;
+        push_number(out, if last < found { last as i64 } else { 0 })?;
+        push_head(out, last - first)?;
+        self.push_items(out, &places[first..last], query)
+    }
+
+    fn scan(&self, key: &Name, query: &Query) -> Result<Text, NoMemory> {
+        let places = self.sought(key, query)?;
+        if query.shown == Shown::Count {
+            return number(self.alloc, places.len() as i64);
+        }
+        let mut out = Text::new(self.alloc);
+        self.push_page(&mut out, places.as_slice(), query)?;
         Ok(out)
     }
 }
 
-// The fields with these values given, and those of the names in `cleared` taken away.
-fn with_values(
-    alloc: Global,
-    fields: Fields,
-    given: &Fields,
-    cleared: &NameList,
-) -> Result<Fields, NoMemory> {
-    let mut fields = fields;
+// How many values are not as these ones, and of the names in `cleared` not 0.
+fn changes(fields: &Fields, given: &Fields, cleared: &NameList) -> i64 {
+    let mut count: i64 = 0;
     for i in 0..given.len() {
-        fields.set(given.name(i).copy(alloc)?, given.value(i))?;
+        if value_of(fields, given.name(i)) != given.value(i) {
+            count = count.saturating_add(1);
+        }
     }
     for i in 0..cleared.len() {
-        fields.set(cleared.at(i).copy(alloc)?, 0)?;
+        if value_of(fields, cleared.at(i)) != 0 {
+            count = count.saturating_add(1);
+        }
     }
-    Ok(fields)
+    count
+}
+
+// Gives a field a value.
+fn put(alloc: Global, fields: &mut Fields, name: &Name, value: i64) -> Result<(), NoMemory> {
+    fields.set(name.copy(alloc)?, value)
+}
+
+// Gives these values, and takes away those of the names in `cleared`.
+fn put_all(
+    alloc: Global,
+    fields: &mut Fields,
+    given: &Fields,
+    cleared: &NameList,
+) -> Result<(), NoMemory> {
+    for i in 0..given.len() {
+        put(alloc, fields, given.name(i), given.value(i))?;
+    }
+    for i in 0..cleared.len() {
+        put(alloc, fields, cleared.at(i), 0)?;
+    }
+    Ok(())
 }
