@@ -9,7 +9,7 @@ use std::alloc::Global;
 use std::test::Fail;
 use world_data::{Channel, Kind, Watch};
 use world_model::{
-    AreaWords, Command, Fields, NameList, Numbers, Only, Query, Rule, Shown, Test, WordFault,
+    AreaWords, Command, Fields, NameList, Numbers, Only, Query, Rule, Shown, Test, Tests, WordFault,
 };
 
 // A word, and two names behind it.
@@ -122,34 +122,6 @@ fn push_from(out: &mut Text, from: &AreaWords) -> Result<(), NoMemory> {
     }
 }
 
-// A search in an area, or of the nearest.
-fn push_search(out: &mut Text, command: &Command) -> Result<(), NoMemory> {
-    match command {
-        Command::Search { key, query, area } => {
-            out.push(b"search ")?;
-            out.push(key.bytes())?;
-            push_query(out, query)?;
-            push_from(out, area)
-        }
-        Command::Nearby {
-            key,
-            query,
-            at,
-            reach,
-        } => {
-            out.push(b"nearby ")?;
-            out.push(key.bytes())?;
-            push_query(out, query)?;
-            push_place(out, *at)?;
-            match reach {
-                Some(meters) => push_count(out, " up to ", *meters as u64),
-                None => Ok(()),
-            }
-        }
-        _ => out.push(b"another command"),
-    }
-}
-
 fn output_text(shown: Shown) -> &'static str {
     match shown {
         Shown::Count => " count",
@@ -160,21 +132,60 @@ fn output_text(shown: Shown) -> &'static str {
     }
 }
 
-fn push_query(out: &mut Text, query: &Query) -> Result<(), NoMemory> {
-    out.push(rule_text(&query.rule).as_bytes())?;
-    if let Some(glob) = &query.glob {
-        out.push(b" match ")?;
-        out.push(glob.bytes())?;
+// What a query asks of an object's id and fields.
+fn push_filter(out: &mut Text, glob: &Option<Name>, tests: &Tests) -> Result<(), NoMemory> {
+    if let Some(glob) = glob {
+        push_one(out, " match ", glob)?;
     }
-    for at in 0..query.tests.len() {
-        push_test(out, query.tests.at(at))?;
+    for at in 0..tests.len() {
+        push_test(out, tests.at(at))?;
     }
+    Ok(())
+}
+
+// Which part of what is found is shown, and how.
+fn push_page(out: &mut Text, query: &Query) -> Result<(), NoMemory> {
     push_count(out, " from ", query.cursor as u64)?;
     push_count(out, " to ", query.limit as u64)?;
-    if query.bare {
-        out.push(b" bare")?;
-    }
+    out.push(if query.bare { b" bare" } else { b"" })?;
     out.push(output_text(query.shown).as_bytes())
+}
+
+// A word, a key, and a query on it.
+fn push_query(out: &mut Text, called: &str, key: &Name, query: &Query) -> Result<(), NoMemory> {
+    push_one(out, called, key)?;
+    out.push(rule_text(&query.rule).as_bytes())?;
+    push_filter(out, &query.glob, &query.tests)?;
+    push_page(out, query)
+}
+
+// Where the nearest are looked for, and how far from there.
+fn push_reach(out: &mut Text, at: Pt, reach: Option<u32>) -> Result<(), NoMemory> {
+    push_place(out, at)?;
+    match reach {
+        Some(meters) => push_count(out, " up to ", meters as u64),
+        None => Ok(()),
+    }
+}
+
+// A search in an area, or of the nearest.
+fn push_search(out: &mut Text, command: &Command) -> Result<(), NoMemory> {
+    match command {
+        Command::Search { key, query, area } => {
+            push_query(out, "search ", key, query)?;
+            push_from(out, area)
+        }
+        Command::Nearby {
+            key,
+            query,
+            at,
+            reach,
+        } => {
+            push_query(out, "nearby ", key, query)?;
+            push_reach(out, *at, *reach)
+        }
+        _ => out.push(b"another command"),
+    }
 }
 
 // A command of an object's fields or deadline, or of a pattern or a query.
@@ -191,8 +202,7 @@ fn push_wider(out: &mut Text, command: &Command) -> Result<(), NoMemory> {
         }
         Command::Fget { key, id, field } => {
             push_two(out, "fget ", key, id)?;
-            out.push(b" ")?;
-            out.push(field.bytes())
+            push_one(out, " ", field)
         }
         Command::Expire { key, id, seconds } => {
             push_two(out, "expire ", key, id)?;
@@ -201,15 +211,8 @@ fn push_wider(out: &mut Text, command: &Command) -> Result<(), NoMemory> {
         Command::Persist { key, id } => push_two(out, "persist ", key, id),
         Command::Ttl { key, id } => push_two(out, "ttl ", key, id),
         Command::Pdel { key, glob } => push_two(out, "pdel ", key, glob),
-        Command::Keys { glob } => {
-            out.push(b"keys ")?;
-            out.push(glob.bytes())
-        }
-        Command::Scan { key, query } => {
-            out.push(b"scan ")?;
-            out.push(key.bytes())?;
-            push_query(out, query)
-        }
+        Command::Keys { glob } => push_one(out, "keys ", glob),
+        Command::Scan { key, query } => push_query(out, "scan ", key, query),
         _ => push_channels(out, command),
     }
 }
@@ -238,6 +241,12 @@ fn kind_text(kind: Kind) -> &'static str {
     }
 }
 
+// How near others are looked for, and whether each is told of once.
+fn push_dwell(out: &mut Text, meters: u32, nodwell: bool) -> Result<(), NoMemory> {
+    push_count(out, " ", meters as u64)?;
+    out.push(if nodwell { b" once" } else { b" often" })
+}
+
 fn push_watch(out: &mut Text, watch: &Watch) -> Result<(), NoMemory> {
     match watch {
         Watch::Spot(kind, area) => {
@@ -246,10 +255,17 @@ fn push_watch(out: &mut Text, watch: &Watch) -> Result<(), NoMemory> {
         }
         Watch::Roam(key, glob, meters, nodwell) => {
             push_two(out, " roam ", key, glob)?;
-            push_count(out, " ", *meters as u64)?;
-            out.push(if *nodwell { b" once" } else { b" often" })
+            push_dwell(out, *meters, *nodwell)
         }
     }
+}
+
+fn push_normal(out: &mut Text, words: &Request) -> Result<(), NoMemory> {
+    for at in 0..words.words() {
+        out.push(b" ")?;
+        out.push(words.word(at))?;
+    }
+    Ok(())
 }
 
 // The normal words of a channel, what it watches, and where its area is from.
@@ -259,10 +275,7 @@ fn push_setchan(
     area: &Option<AreaWords>,
 ) -> Result<(), NoMemory> {
     push_one(out, "setchan ", &channel.name)?;
-    for at in 0..channel.words.words() {
-        out.push(b" ")?;
-        out.push(channel.words.word(at))?;
-    }
+    push_normal(out, &channel.words)?;
     match area {
         Some(AreaWords::Of(key, id)) => push_two(out, " of ", key, id),
         _ => push_watch(out, &channel.fence.watch),
@@ -283,6 +296,27 @@ fn push_channels(out: &mut Text, command: &Command) -> Result<(), NoMemory> {
     }
 }
 
+// The fields of a command that sets a deadline, and that deadline.
+fn push_options(
+    out: &mut Text,
+    fields: &Fields,
+    cleared: &NameList,
+    seconds: Option<u32>,
+) -> Result<(), NoMemory> {
+    match seconds {
+        Some(seconds) => {
+            push_fields(out, fields, cleared)?;
+            push_count(out, " after ", seconds as u64)
+        }
+        None => Ok(()),
+    }
+}
+
+fn push_behind(out: &mut Text, text: &Text) -> Result<(), NoMemory> {
+    out.push(b" ")?;
+    out.push(text.bytes())
+}
+
 // The command, as a line of words.
 fn push_command(out: &mut Text, command: &Command) -> Result<(), NoMemory> {
     match command {
@@ -298,12 +332,8 @@ fn push_command(out: &mut Text, command: &Command) -> Result<(), NoMemory> {
             ..
         } => {
             push_two(out, only_text(*only), key, id)?;
-            if let Some(seconds) = seconds {
-                push_fields(out, fields, cleared)?;
-                push_count(out, " after ", *seconds as u64)?;
-            }
-            out.push(b" ")?;
-            out.push(text.bytes())
+            push_options(out, fields, cleared, *seconds)?;
+            push_behind(out, text)
         }
         Command::Del { key, id } => push_two(out, "del ", key, id),
         Command::Stats { keys } if keys.len() == 2 => out.push(b"stats of two"),

@@ -10,4 +10,6 @@ mod records;
 #[cfg(test)]
 mod replies;
 #[cfg(test)]
+mod samples;
+#[cfg(test)]
 mod world;

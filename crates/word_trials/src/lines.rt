@@ -12,6 +12,14 @@ pub(crate) trait Reads {
     fn push_read(&self, alloc: Global, out: &mut Text, words: &Request) -> Result<(), NoMemory>;
 }
 
+// What a line is read as.
+fn read<T: Reads>(alloc: Global, reader: &T, line: &str) -> Result<Text, NoMemory> {
+    let words = request(alloc, line)?;
+    let mut got = Text::new(alloc);
+    reader.push_read(alloc, &mut got, &words)?;
+    Ok(got)
+}
+
 /// A line is read as this.
 pub(crate) fn is_read<T: Reads>(
     rt: &impl Abort,
@@ -20,9 +28,7 @@ pub(crate) fn is_read<T: Reads>(
     line: &str,
     wanted: &str,
 ) -> Result<(), Fail> {
-    let words = request(alloc, line)?;
-    let mut got = Text::new(alloc);
-    reader.push_read(alloc, &mut got, &words)?;
+    let got = read(alloc, reader, line)?;
     assert_eq!(rt; got.bytes(), wanted.as_bytes(), "at {line}");
     Ok(())
 }

@@ -1,42 +1,49 @@
 //! The plain program with ample memory.
 
-use byte_text::{Name, NoMemory, Text};
+ghost use Rattle.std.specs.Prelude.{◌≡◌, length, IfOk};
+
+use crate::samples::fields;
+use byte_text::{NoMemory, Text};
 use planar_geom::Area;
 use std::alloc::Global;
 use std::test::Fail;
-use test_samples::{channel, object, spot};
+use test_samples::{channel, name, object, spot};
 use world_data::*;
 
-// The object of the key `k` and this id, which expires at 7.
-fn mortal(alloc: Global, id: &[u8]) -> Result<Object, NoMemory> {
-    let mut object = object(alloc, b"k", id, 1, 2)?;
-    object.deadline = Some(7);
-    Ok(object)
+// The value of the first field, and that of the second as JSON has it.
+fn values(alloc: Global, two: &Fields) -> Result<Text, NoMemory>
+    requires { length two.now ≡ 2 }
+{
+    let mut text = Text::new(alloc);
+    two.show(0, &mut text)?;
+    two.show_json(1, &mut text)?;
+    Ok(text)
 }
 
 #[test]
 fn fields_in_order(rt: HostRuntime) -> Result<(), Fail> {
     let alloc = rt.alloc();
-    let mut fields = Fields::new(alloc);
-    fields.set(Name::of(alloc, b"speed")?, 55)?;
-    fields.set(Name::of(alloc, b"age")?, -7)?;
-    fields.set(Name::of(alloc, b"width")?, 0)?;
-    let copy = fields.copy(alloc)?;
+    let copy = fields(alloc, &[(b"speed", 55), (b"age", -7), (b"width", 0)])?.copy(alloc)?;
     assert_eq!(rt; copy.len(), 2);
     assert_eq!(rt; copy.name(0).bytes(), b"age".as_slice());
     assert_eq!(rt; copy.value(1), 55);
-    let mut text = Text::new(alloc);
-    copy.show(0, &mut text)?;
-    copy.show_json(1, &mut text)?;
-    assert_eq!(rt; text.bytes(), b"-755".as_slice());
+    assert_eq!(rt; values(alloc, &copy)?.bytes(), b"-755".as_slice());
     Ok(())
+}
+
+// The list of the name `a`.
+fn one_name(alloc: Global) -> Result<NameList, NoMemory> {
+    let mut names = NameList::new(alloc);
+    match names.push(name(alloc, b"a")?) {
+        Ok(()) => Ok(names),
+        Err(_) => Err(NoMemory),
+    }
 }
 
 #[test]
 fn names(rt: HostRuntime) -> Result<(), Fail> {
     let alloc = rt.alloc();
-    let mut names = NameList::new(alloc);
-    assert!(rt; names.push(Name::of(alloc, b"a")?).is_ok());
+    let mut names = one_name(alloc)?;
     let copy = names.copy(alloc)?;
     names.clear();
     assert_eq!(rt; names.len(), 0);
@@ -45,55 +52,110 @@ fn names(rt: HostRuntime) -> Result<(), Fail> {
     Ok(())
 }
 
+// The list of the number -1.
+fn one_number(alloc: Global) -> Result<Numbers, NoMemory> {
+    let mut numbers = Numbers::new(alloc);
+    match numbers.push(-1) {
+        Ok(()) => Ok(numbers),
+        Err(_) => Err(NoMemory),
+    }
+}
+
+// The test that meets a field `a` of the value -1.
+fn among(alloc: Global) -> Result<Test, NoMemory> {
+    let numbers = one_number(alloc)?.copy(alloc)?;
+    Ok(Test::Among(name(alloc, b"a")?, numbers))
+}
+
+// That test alone.
+fn one_test(alloc: Global) -> Result<Tests, NoMemory> {
+    let mut tests = Tests::new(alloc);
+    match tests.push(among(alloc)?) {
+        Ok(()) => Ok(tests),
+        Err(_) => Err(NoMemory),
+    }
+}
+
 #[test]
 fn tests_on_fields(rt: HostRuntime) -> Result<(), Fail> {
     let alloc = rt.alloc();
-    let mut numbers = Numbers::new(alloc);
-    assert!(rt; numbers.push(-1).is_ok());
-    let mut tests = Tests::new(alloc);
-    assert!(rt;
-        tests
-            .push(Test::Among(Name::of(alloc, b"a")?, numbers.copy(alloc)?))
-            .is_ok()
-    );
-    let same = tests.copy(alloc)?;
+    let same = one_test(alloc)?.copy(alloc)?;
     assert_eq!(rt; same.len(), 1);
     assert!(rt; matches!(same.at(0), Test::Among(..)));
     Ok(())
+}
+
+// The object of the key `k` and this id, which expires at 7.
+fn mortal(alloc: Global, id: &[u8]) -> Result<Object, NoMemory> {
+    Ok(Object {
+        deadline: Some(7),
+        ..object(alloc, b"k", id, 1, 2)?
+    })
+}
+
+fn put(world: &mut World, object: Object) -> Result<(), NoMemory> {
+    world.fold(Change::Put(object))
+}
+
+// Puts a copy of `b`, and then `a`.
+fn put_two(alloc: Global, world: &mut World) -> Result<(), NoMemory> {
+    put(world, mortal(alloc, b"b")?.copy(alloc)?)?;
+    put(world, mortal(alloc, b"a")?)
+}
+
+// Whether the last of the objects has this id.
+fn is_last_object(world: &mut World, id: &[u8]) -> bool {
+    match world.objects.pop() {
+        Some(found) => found.id.bytes() == id,
+        None => false,
+    }
 }
 
 #[test]
 fn objects_in_order(rt: HostRuntime) -> Result<(), Fail> {
     let alloc = rt.alloc();
     let mut world = World::new(alloc);
-    let object = mortal(alloc, b"b")?;
-    world.fold(Change::Put(object.copy(alloc)?))?;
-    let before = mortal(alloc, b"a")?;
-    world.fold(Change::Put(before))?;
+    put_two(alloc, &mut world)?;
     assert_eq!(rt; world.objects.len(), 2);
-    let last = world.objects.pop();
-    assert!(rt; matches!(&last, Some(found) if found.id.bytes() == b"b".as_slice()));
+    assert!(rt; is_last_object(&mut world, b"b"));
     Ok(())
+}
+
+// A copy of the channel `z`.
+fn figure_channel(alloc: Global) -> Result<Channel, NoMemory> {
+    let area = Area::Figure(spot(alloc, 1, 2)?);
+    let channel = channel(alloc, b"z", b"k", Watch::Spot(Kind::Within, area))?;
+    channel.copy(alloc)
+}
+
+// Whether the last of the channels has this name.
+fn is_last_channel(world: &mut World, called: &[u8]) -> bool {
+    match world.channels.pop() {
+        Some(found) => found.name.bytes() == called,
+        None => false,
+    }
 }
 
 #[test]
 fn channels_in_order(rt: HostRuntime) -> Result<(), Fail> {
     let alloc = rt.alloc();
     let mut world = World::new(alloc);
-    let area = Area::Figure(spot(alloc, 1, 2)?);
-    let channel = channel(alloc, b"z", b"k", Watch::Spot(Kind::Within, area))?;
-    world.fold(Change::SetChan(channel.copy(alloc)?))?;
+    world.fold(Change::SetChan(figure_channel(alloc)?))?;
     assert_eq!(rt; world.channels.len(), 1);
-    let last = world.channels.pop();
-    assert!(rt; matches!(&last, Some(found) if found.name.bytes() == b"z".as_slice()));
+    assert!(rt; is_last_channel(&mut world, b"z"));
     Ok(())
+}
+
+// The frames of a take that has one.
+fn one_frame(alloc: Global) -> Result<Frames, NoMemory> {
+    let mut frames = Frames::new(alloc)?;
+    frames.put(Text::of(alloc, b"+OK\r\n")?);
+    Ok(frames)
 }
 
 #[test]
 fn frames_of_a_take(rt: HostRuntime) -> Result<(), Fail> {
-    let alloc = rt.alloc();
-    let mut frames = Frames::new(alloc)?;
-    frames.put(Text::of(alloc, b"+OK\r\n")?);
+    let mut frames = one_frame(rt.alloc())?;
     let moved = frames.move_out();
     assert!(rt; frames.is_empty());
     assert_eq!(rt; moved.len(), 1);
