@@ -7,7 +7,6 @@ use std::alloc::Global;
 use std::process::Abort;
 use std::test::Fail;
 use test_lines::asked;
-use world_data::MAX_MOMENT;
 use world_model::{Called, EnterFault, Frames, Taken, Touched};
 
 /// How the call of the first session with a line at moment 0 is answered.
@@ -21,17 +20,10 @@ pub(crate) fn called(
     Ok(core.call(1, 0, &asked, &mut touched))
 }
 
-/// How a tick is answered.
-pub(crate) fn ticked(
-    alloc: Global,
-    core: &mut DurableCore<MemoryDisk>,
-    moment: u64,
-) -> Result<Called, Fail> {
-    if moment > MAX_MOMENT {
-        return Err(Fail::from("a test's moment is proper"));
-    }
+// How a tick of moment 5 is answered.
+fn ticked(alloc: Global, core: &mut DurableCore<MemoryDisk>) -> Result<Called, Fail> {
     let mut touched = Touched::new(alloc)?;
-    Ok(core.tick(moment, &mut touched))
+    Ok(core.tick(5, &mut touched))
 }
 
 // Puts a line of a frame last in a text, behind a space where there is something, unless it is the head of a list or of a bulk string.
@@ -101,6 +93,16 @@ pub(crate) fn side(alloc: Global, disk: &mut MemoryDisk, side: Side) -> Result<V
     Ok(bytes)
 }
 
+/// Whether the first session enters.
+pub(crate) fn enters(core: &mut DurableCore<MemoryDisk>) -> bool {
+    matches!(core.enter(), Ok(1))
+}
+
+/// Whether the hall has stopped.
+pub(crate) fn is_stopped(core: &DurableCore<MemoryDisk>) -> bool {
+    core.is_stopped()
+}
+
 /// A core over a disk that can be opened.
 pub(crate) fn open(alloc: Global, disk: MemoryDisk) -> Result<DurableCore<MemoryDisk>, Fail> {
     match DurableCore::open(alloc, disk) {
@@ -118,7 +120,7 @@ pub(crate) fn do_nothing(
     let mut told = Text::new(alloc);
     assert!(rt; core.is_stopped());
     assert_eq!(rt; called(alloc, core, "SET k a POINT 1 2")?, Called::Stopped);
-    assert_eq!(rt; ticked(alloc, core, 5)?, Called::Stopped);
+    assert_eq!(rt; ticked(alloc, core)?, Called::Stopped);
     assert_eq!(rt; taken(alloc, core, &mut told)?, Taken::Stopped);
     assert_eq!(rt; core.enter(), Err(EnterFault::Stopped));
     assert_eq!(rt; core.step_rewrite(), Called::Stopped);

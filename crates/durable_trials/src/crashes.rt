@@ -1,7 +1,8 @@
 //! A script that rewrites its log, whose disk fails at each call in turn, and which a crash ends at each moment: what was acknowledged is
 //! there when the disk is opened again.
 
-use crate::calls::{answer, disk_failing, do_nothing, open};
+use crate::calls::{disk_failing, do_nothing, is_stopped, open};
+use crate::dialogues::hear;
 use crate::scripts::{NOTHING, Played, is_between, play, world_of};
 use durable_core::DurableCore;
 use journal::OpenFault;
@@ -9,7 +10,6 @@ use outside::{Disk, MemoryDisk};
 use std::alloc::Global;
 use std::process::Abort;
 use std::test::Fail;
-use world_model::Called;
 
 // A rewriting with calls between its steps, of objects before and behind what was copied, and another one.
 const SCRIPT: &str = "SET k c POINT 1 3 => :0 c 1 3 :-2
@@ -74,6 +74,13 @@ fn played(alloc: Global, lines: usize) -> Result<(Played, MemoryDisk), Fail> {
     Ok((played?, disk))
 }
 
+fn generation(alloc: Global, disk: MemoryDisk) -> Result<u64, Fail> {
+    let core = open(alloc, disk)?;
+    let generation = core.generation();
+    core.into_disk();
+    Ok(generation)
+}
+
 #[test]
 fn a_crash_at_any_moment_loses_nothing_that_was_acknowledged(rt: HostRuntime) -> Result<(), Fail> {
     let alloc = rt.alloc();
@@ -91,7 +98,7 @@ fn a_crash_at_any_moment_loses_nothing_that_was_acknowledged(rt: HostRuntime) ->
     assert_eq!(rt; before.stand, 12);
     assert_eq!(rt; before.asked, 12);
     let (_, disk) = played(alloc, 100)?;
-    assert_eq!(rt; open(alloc, disk)?.generation(), 3);
+    assert_eq!(rt; generation(alloc, disk)?, 3);
     Ok(())
 }
 
@@ -104,9 +111,8 @@ fn play_on(
     let played = play(alloc, core, SCRIPT, 100)?;
     if played.failed {
         do_nothing(rt, alloc, core)?;
-    } else {
-        assert!(rt; !core.is_stopped());
     }
+    assert_eq!(rt; is_stopped(core), played.failed);
     Ok(played)
 }
 
@@ -136,14 +142,8 @@ fn played_failing(
 // A whole rewriting: its beginning, one piece where there is an item, and its end.
 fn rewrite(rt: &impl Abort, alloc: Global, core: &mut DurableCore<MemoryDisk>) -> Result<(), Fail> {
     let generation = core.generation();
-    assert_eq!(rt; core.enter(), Ok(1));
-    assert_eq!(rt;
-        answer(alloc, core, "AOFSHRINK")?.bytes(),
-        b"+OK".as_slice()
-    );
-    for _ in 0..3 {
-        assert_eq!(rt; core.step_rewrite(), Called::Ok);
-    }
+    let rewriting = "enter -> 1\nAOFSHRINK -> +OK\nstep -> ok\nstep -> ok\nstep -> ok";
+    hear(rt, alloc, core, rewriting)?;
     assert_eq!(rt; core.generation(), generation.saturating_add(1));
     Ok(())
 }

@@ -1,6 +1,7 @@
-//! Dialogues with a core, as one text: each line has what is asked, ` -> `, and what comes of it.
+//! Dialogues with a core, as one text: each line has what is asked, ` -> `, and what comes of it. Behind `call` stand words that are asked for
+//! without a take of the answer.
 
-use crate::calls::{answer, open};
+use crate::calls::{answer, called, open};
 use byte_text::{Text, push_u64};
 use durable_core::DurableCore;
 use outside::MemoryDisk;
@@ -36,11 +37,15 @@ fn told(alloc: Global, core: &mut DurableCore<MemoryDisk>, line: &str) -> Result
         "generation" => number(alloc, core.generation()),
         "objects" => number(alloc, core.objects()),
         "channels" => number(alloc, core.channels()),
-        words => answer(alloc, core, words),
+        words => match words.strip_prefix("call ") {
+            Some(words) => ended(alloc, called(alloc, core, words)?),
+            None => answer(alloc, core, words),
+        },
     }
 }
 
-fn hear(
+/// Holds a dialogue with a core.
+pub(crate) fn hear(
     rt: &impl Abort,
     alloc: Global,
     core: &mut DurableCore<MemoryDisk>,

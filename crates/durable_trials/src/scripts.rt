@@ -3,12 +3,11 @@
 //! A line of a script is `take`, `step`, or the words that the first session asks for. Where the call changes the world, ` => ` and what the
 //! world reads as then stand behind the words.
 
-use crate::calls::{answer, called, disk_failing, do_nothing, open, taken};
+use crate::calls::{answer, called, enters, open, taken};
 use byte_text::Text;
 use durable_core::DurableCore;
-use outside::{Disk, MemoryDisk};
+use outside::MemoryDisk;
 use std::alloc::Global;
-use std::process::Abort;
 use std::test::Fail;
 use world_model::{Called, Taken};
 
@@ -16,7 +15,7 @@ use world_model::{Called, Taken};
 const EMPTY: &str = ":0 :-2";
 
 /// How far a script was played: how many of its changes were asked for, how many of these were acknowledged, and whether the disk failed.
-#[derive(Clone, Copy, Debug, Drop, PartialEq, Eq)]
+#[derive(Clone, Copy)]
 pub(crate) struct Played {
     pub(crate) asked: usize,
     pub(crate) stand: usize,
@@ -100,7 +99,7 @@ pub(crate) fn play(
     lines: usize,
 ) -> Result<Played, Fail> {
     let mut played = NOTHING;
-    if core.enter() != Ok(1) {
+    if !enters(core) {
         return Err(Fail::from("a session enters"));
     }
     for line in script.lines().take(lines) {
@@ -142,7 +141,7 @@ pub(crate) fn is_between(script: &str, least: usize, most: usize, text: &[u8]) -
 // What a core's world reads as: where its objects are, its channels, and a deadline.
 fn look(alloc: Global, core: &mut DurableCore<MemoryDisk>) -> Result<Text, Fail> {
     let mut world = Text::new(alloc);
-    if core.enter().is_err() {
+    if !enters(core) {
         return Err(Fail::from("a session enters"));
     }
     for line in ["SCAN k POINTS", "CHANS *", "TTL k d"] {

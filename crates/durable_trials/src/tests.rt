@@ -1,7 +1,8 @@
 //! A core over a disk in memory: the bytes of a side, and what was acknowledged is there when the disk is opened again, also where a call of
 //! it failed.
 
-use crate::calls::{answer, called, disk_failing, do_nothing, open, side, taken};
+use crate::calls::{called, disk_failing, do_nothing, enters, is_stopped, open, side, taken};
+use crate::dialogues::speak;
 use byte_text::Text;
 use durable_core::DurableCore;
 use journal::OpenFault;
@@ -11,25 +12,40 @@ use std::process::Abort;
 use std::test::Fail;
 use world_model::{Called, Taken};
 
+const ONE_WRITE: &[u8] =
+    b"\x01TFL\x01\0\0\0\0\0\0\0\0\0\0\x01\x01\0\0\0\0\0\0\0\x52*5\r\n$3\r\nSET\r\n$1\r\nk\r\n$1\r\na\r\n$6\r\nOBJECT\r\n$36\r\n{\"type\":\"Point\",\"coordinates\":[2,1]}\r\n\0";
+
 #[test]
 fn a_side_is_the_bytes_of_the_format(rt: HostRuntime) -> Result<(), Fail> {
     let alloc = rt.alloc();
-    let mut core = open(alloc, disk_failing(alloc, &[])?)?;
-    assert_eq!(rt; core.enter(), Ok(1));
-    assert_eq!(rt; called(alloc, &mut core, "SET k a POINT 1 2")?, Called::Ok);
-    assert_eq!(rt; core.retire(), Called::Ok);
-    let mut disk = core.into_disk();
-    let worked =
-        b"\x01TFL\x01\0\0\0\0\0\0\0\0\0\0\x01\x01\0\0\0\0\0\0\0\x52*5\r\n$3\r\nSET\r\n$1\r\nk\r\n$1\r\na\r\n$6\r\nOBJECT\r\n$36\r\n{\"type\":\"Point\",\"coordinates\":[2,1]}\r\n\0";
-    assert_eq!(rt;
-        side(alloc, &mut disk, Side::A)?.as_slice(),
-        worked.as_slice()
-    );
-    assert_eq!(rt; side(alloc, &mut disk, Side::B)?.len(), 0);
+    // Nobody takes the answer of the write.
+    let one_write = "enter -> 1\ncall SET k a POINT 1 2 -> ok\nretire -> ok";
+    let mut disk = speak(&rt, alloc, disk_failing(alloc, &[])?, one_write)?;
+    let sides: [(Side, &[u8]); 2] = [(Side::A, ONE_WRITE), (Side::B, b"")];
+    for (on, bytes) in sides {
+        assert_eq!(rt; side(alloc, &mut disk, on)?.as_slice(), bytes);
+    }
     Ok(())
 }
 
-// Three writes of one object each, each with a take. How many were acknowledged is answered.
+// A write with a take: whether it is acknowledged. A hall that fails at it does nothing from then on.
+fn write(
+    rt: &impl Abort,
+    alloc: Global,
+    core: &mut DurableCore<MemoryDisk>,
+    line: &str,
+) -> Result<bool, Fail> {
+    assert_eq!(rt; called(alloc, core, line)?, Called::Ok);
+    let end = taken(alloc, core, &mut Text::new(alloc))?;
+    if end == Taken::Some(1) {
+        return Ok(true);
+    }
+    assert_eq!(rt; end, Taken::LogFault);
+    do_nothing(rt, alloc, core)?;
+    Ok(false)
+}
+
+// Three writes of one object each, up to one that fails. How many were acknowledged is answered.
 fn script(rt: &impl Abort, alloc: Global, core: &mut DurableCore<MemoryDisk>) -> Result<u64, Fail> {
     let lines = [
         "SET k a POINT 1 2",
@@ -37,21 +53,25 @@ fn script(rt: &impl Abort, alloc: Global, core: &mut DurableCore<MemoryDisk>) ->
         "SET k c POINT 1 2",
     ];
     let mut acked = 0u64;
-    if core.enter().is_err() {
-        return Ok(0);
-    }
-    for line in lines {
-        assert_eq!(rt; called(alloc, core, line)?, Called::Ok);
-        match taken(alloc, core, &mut Text::new(alloc))? {
-            Taken::Some(1) => acked = acked.saturating_add(1),
-            end => {
-                assert_eq!(rt; end, Taken::LogFault);
-                do_nothing(rt, alloc, core)?;
+    if enters(core) {
+        for line in lines {
+            if !write(rt, alloc, core, line)? {
                 break;
             }
+            acked = acked.saturating_add(1);
         }
     }
-    assert_eq!(rt; core.is_stopped(), acked < 3);
+    Ok(acked)
+}
+
+// The same. The hall has stopped where not all were acknowledged.
+fn script_to_its_end(
+    rt: &impl Abort,
+    alloc: Global,
+    core: &mut DurableCore<MemoryDisk>,
+) -> Result<u64, Fail> {
+    let acked = script(rt, alloc, core)?;
+    assert_eq!(rt; is_stopped(core), acked < 3);
     Ok(acked)
 }
 
@@ -59,7 +79,7 @@ fn script(rt: &impl Abort, alloc: Global, core: &mut DurableCore<MemoryDisk>) ->
 fn script_over(rt: &impl Abort, alloc: Global, failing: u64) -> Result<(u64, MemoryDisk), Fail> {
     match DurableCore::open(alloc, disk_failing(alloc, &[failing])?) {
         Ok(mut core) => {
-            let acked = script(rt, alloc, &mut core);
+            let acked = script_to_its_end(rt, alloc, &mut core);
             let disk = core.into_disk();
             Ok((acked?, disk))
         }
@@ -71,7 +91,10 @@ fn script_over(rt: &impl Abort, alloc: Global, failing: u64) -> Result<(u64, Mem
 }
 
 fn objects(alloc: Global, disk: MemoryDisk) -> Result<u64, Fail> {
-    Ok(open(alloc, disk)?.objects())
+    let core = open(alloc, disk)?;
+    let objects = core.objects();
+    core.into_disk();
+    Ok(objects)
 }
 
 #[test]
