@@ -378,21 +378,28 @@ fn push_refusal(out: &mut Text, fault: &CommandFault) -> Result<(), NoMemory> {
     }
 }
 
-fn push_answer(out: &mut Text, read: &Result<Command, CommandFault>) -> Result<(), NoMemory> {
-    match read {
-        Ok(command) => push_command(out, command),
-        Err(fault) => push_refusal(out, fault),
-    }
-}
-
 // Reads commands.
 #[derive(Drop)]
 struct Commands;
 
 impl Reads for Commands {
-    fn push_read(&self, alloc: Global, out: &mut Text, words: &Request) -> Result<(), NoMemory> {
-        let read = command_of(alloc, words);
-        push_answer(out, &read)
+    type Read = Result<Command, CommandFault>;
+
+    fn read(&self, alloc: Global, words: &Request) -> Result<Command, CommandFault> {
+        command_of(alloc, words)
+    }
+
+    fn push_read(
+        &self,
+        _alloc: Global,
+        out: &mut Text,
+        _words: &Request,
+        read: &Result<Command, CommandFault>,
+    ) -> Result<(), NoMemory> {
+        match read {
+            Ok(command) => push_command(out, command),
+            Err(fault) => push_refusal(out, fault),
+        }
     }
 }
 

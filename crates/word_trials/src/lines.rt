@@ -8,16 +8,31 @@ use test_lines::request;
 
 /// What reads the words of a line.
 pub(crate) trait Reads {
-    /// Appends what words are read as.
-    fn push_read(&self, alloc: Global, out: &mut Text, words: &Request) -> Result<(), NoMemory>;
+    /// What words are read as.
+    type Read: Drop;
+
+    fn read(&self, alloc: Global, words: &Request) -> Self::Read;
+
+    /// Appends what the words were read as.
+    fn push_read(
+        &self,
+        alloc: Global,
+        out: &mut Text,
+        words: &Request,
+        read: &Self::Read,
+    ) -> Result<(), NoMemory>;
 }
 
-// What a line is read as.
-fn read<T: Reads>(alloc: Global, reader: &T, line: &str) -> Result<Text, NoMemory> {
-    let words = request(alloc, line)?;
-    let mut got = Text::new(alloc);
-    reader.push_read(alloc, &mut got, &words)?;
-    Ok(got)
+/// The text of what words are read as.
+pub(crate) fn read_text<T: Reads>(
+    alloc: Global,
+    reader: &T,
+    words: &Request,
+) -> Result<Text, NoMemory> {
+    let read = reader.read(alloc, words);
+    let mut text = Text::new(alloc);
+    reader.push_read(alloc, &mut text, words, &read)?;
+    Ok(text)
 }
 
 /// A line is read as this.
@@ -28,7 +43,7 @@ pub(crate) fn is_read<T: Reads>(
     line: &str,
     wanted: &str,
 ) -> Result<(), Fail> {
-    let got = read(alloc, reader, line)?;
+    let got = read_text(alloc, reader, &request(alloc, line)?)?;
     assert_eq!(rt; got.bytes(), wanted.as_bytes(), "at {line}");
     Ok(())
 }

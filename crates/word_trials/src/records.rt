@@ -1,6 +1,6 @@
 //! The records of changes, read back, with ample memory.
 
-use crate::lines::{Reads, are_read, is_read};
+use crate::lines::{Reads, are_read, is_read, read_text};
 use byte_text::{NoMemory, Request, Text, push_request, push_u64};
 use record_text::push_record;
 use record_words::{RecordFault, change_of};
@@ -45,17 +45,42 @@ fn is_written_again(alloc: Global, words: &Request, change: &Change) -> Result<b
     Ok(record.bytes() == sent.bytes())
 }
 
+// The kind of a change, where it is written again as it was read.
+fn push_change(
+    alloc: Global,
+    out: &mut Text,
+    words: &Request,
+    change: &Change,
+) -> Result<(), NoMemory> {
+    if is_written_again(alloc, words, change)? {
+        push_kind(out, change)
+    } else {
+        out.push(b"another record")
+    }
+}
+
 // Reads records.
 #[derive(Drop)]
 struct Records;
 
 impl Reads for Records {
-    fn push_read(&self, alloc: Global, out: &mut Text, words: &Request) -> Result<(), NoMemory> {
-        match change_of(alloc, words) {
-            Ok(change) if is_written_again(alloc, words, &change)? => push_kind(out, &change),
-            Ok(_) => out.push(b"another record"),
+    type Read = Result<Change, RecordFault>;
+
+    fn read(&self, alloc: Global, words: &Request) -> Result<Change, RecordFault> {
+        change_of(alloc, words)
+    }
+
+    fn push_read(
+        &self,
+        alloc: Global,
+        out: &mut Text,
+        words: &Request,
+        read: &Result<Change, RecordFault>,
+    ) -> Result<(), NoMemory> {
+        match read {
+            Ok(change) => push_change(alloc, out, words, change),
             Err(RecordFault::NotRecord) => out.push(b"no record"),
-            Err(_) => Err(NoMemory),
+            Err(RecordFault::Memory) => Err(NoMemory),
         }
     }
 }
@@ -138,8 +163,7 @@ fn other_words_are_no_record(rt: HostRuntime) -> Result<(), Fail> {
 #[test]
 fn no_words_are_no_record(rt: HostRuntime) -> Result<(), Fail> {
     let alloc = rt.alloc();
-    let mut got = Text::new(alloc);
-    Records.push_read(alloc, &mut got, &Request::new(alloc))?;
+    let got = read_text(alloc, &Records, &Request::new(alloc))?;
     assert_eq!(rt; got.bytes(), b"no record".as_slice());
     Ok(())
 }

@@ -9,6 +9,7 @@ use geo_text::GeoFault;
 use planar_geom::{Area, BBox, Line, Part, Parts, Points, Shape};
 use reply_text::*;
 use std::alloc::Global;
+use std::process::Abort;
 use std::test::Fail;
 use test_samples::{at, bounds, channel, name, object};
 use world_data::{Channel, Kind, Watch};
@@ -87,7 +88,12 @@ fn objects(rt: HostRuntime) -> Result<(), Fail> {
     Ok(())
 }
 
-// Appends a segment with the field `n`, which is none where it is 0.
+// A segment with the field `n`, which is none where it is 0.
+fn numbered(alloc: Global, id: &[u8], n: i64) -> Result<Object, NoMemory> {
+    item(alloc, id, &[(b"n", n)])
+}
+
+// Appends such a segment to a page.
 fn push_item(
     alloc: Global,
     items: &mut ItemFrames,
@@ -97,7 +103,7 @@ fn push_item(
 ) -> Result<(), ReplyFault>
     requires { query.now.shown ≢ Shown.Count }
 {
-    items.push_object(query, &item(alloc, id, &[(b"n", n)])?)
+    items.push_object(query, &numbered(alloc, id, n)?)
 }
 
 // The objects `a`, which has a field, and `b`, which has none.
@@ -282,15 +288,30 @@ fn reply(alloc: Global, told: Told<'_>) -> Result<Reply, NoMemory>
     }
 }
 
+// The text of a reply's frame.
+fn line(alloc: Global, reply: &Reply) -> Result<Text, ReplyFault>
+    requires { IsFrame reply.now }
+{
+    let mut text = Text::new(alloc);
+    push_reply(&mut text, reply)?;
+    Ok(text)
+}
+
 // The frame of a reply.
 fn frame(alloc: Global, told: Told<'_>) -> Result<Text, ReplyFault> {
     let reply = reply(alloc, told)?;
-    let mut frame = Text::new(alloc);
-    push_reply(&mut frame, &reply)?;
-    Ok(frame)
+    line(alloc, &reply)
 }
 
-const CONFIRMATIONS: [(Told<'static>, &[u8]); 2] = [
+// The frame of each reply is the one beside it.
+fn are_told(rt: &impl Abort, alloc: Global, rows: &[(Told<'_>, &[u8])]) -> Result<(), Fail> {
+    for (told, wanted) in rows {
+        assert_eq!(rt; frame(alloc, *told)?.bytes(), *wanted);
+    }
+    Ok(())
+}
+
+const CONFIRMATIONS: &[(Told<'static>, &[u8])] = &[
     (
         Told::Subscribed(false, 1),
         b"*3\r\n$9\r\nsubscribe\r\n$1\r\n*\r\n:1\r\n",
@@ -303,14 +324,10 @@ const CONFIRMATIONS: [(Told<'static>, &[u8]); 2] = [
 
 #[test]
 fn confirmations(rt: HostRuntime) -> Result<(), Fail> {
-    let alloc = rt.alloc();
-    for (told, wanted) in CONFIRMATIONS {
-        assert_eq!(rt; frame(alloc, told)?.bytes(), wanted);
-    }
-    Ok(())
+    are_told(&rt, rt.alloc(), CONFIRMATIONS)
 }
 
-const KEYS: [(Told<'static>, &[u8]); 3] = [
+const KEYS: &[(Told<'static>, &[u8])] = &[
     (
         Told::Bounds,
         b"*2\r\n*2\r\n$1\r\n2\r\n$1\r\n1\r\n*2\r\n$1\r\n4\r\n$1\r\n3\r\n",
@@ -324,11 +341,7 @@ const KEYS: [(Told<'static>, &[u8]); 3] = [
 
 #[test]
 fn keys(rt: HostRuntime) -> Result<(), Fail> {
-    let alloc = rt.alloc();
-    for (told, wanted) in KEYS {
-        assert_eq!(rt; frame(alloc, told)?.bytes(), wanted);
-    }
-    Ok(())
+    are_told(&rt, rt.alloc(), KEYS)
 }
 
 // A frame that needs no reply.
@@ -368,7 +381,7 @@ fn ready_frames(rt: HostRuntime) -> Result<(), Fail> {
     Ok(())
 }
 
-const PLAIN: [(Told<'static>, &[u8]); 6] = [
+const PLAIN: &[(Told<'static>, &[u8])] = &[
     (Told::Number(-2), b":-2\r\n"),
     (Told::Value(-55), b"$3\r\n-55\r\n"),
     (
@@ -388,14 +401,10 @@ const PLAIN: [(Told<'static>, &[u8]); 6] = [
 
 #[test]
 fn plain_replies(rt: HostRuntime) -> Result<(), Fail> {
-    let alloc = rt.alloc();
-    for (told, wanted) in PLAIN {
-        assert_eq!(rt; frame(alloc, told)?.bytes(), wanted);
-    }
-    Ok(())
+    are_told(&rt, rt.alloc(), PLAIN)
 }
 
-const REFUSALS: [(Told<'static>, &[u8]); 5] = [
+const REFUSALS: &[(Told<'static>, &[u8])] = &[
     (
         Told::Fault(Refused::Unknown, b"f\x07o \x7f"),
         b"-ERR unknown command 'f?o ?'\r\n",
@@ -420,11 +429,7 @@ const REFUSALS: [(Told<'static>, &[u8]); 5] = [
 
 #[test]
 fn refusals(rt: HostRuntime) -> Result<(), Fail> {
-    let alloc = rt.alloc();
-    for (told, wanted) in REFUSALS {
-        assert_eq!(rt; frame(alloc, told)?.bytes(), wanted);
-    }
-    Ok(())
+    are_told(&rt, rt.alloc(), REFUSALS)
 }
 
 // A text of so many bytes, at most 4,194,304.

@@ -20,14 +20,20 @@ fn values(alloc: Global, two: &Fields) -> Result<Text, NoMemory>
     Ok(text)
 }
 
+// A copy of fields, of which one is written 0.
+fn copied_fields(alloc: Global) -> Result<Fields, NoMemory> {
+    fields(alloc, &[(b"speed", 55), (b"age", -7), (b"width", 0)])?.copy(alloc)
+}
+
 #[test]
 fn fields_in_order(rt: HostRuntime) -> Result<(), Fail> {
-    let alloc = rt.alloc();
-    let copy = fields(alloc, &[(b"speed", 55), (b"age", -7), (b"width", 0)])?.copy(alloc)?;
+    let copy = copied_fields(rt.alloc())?;
     assert_eq!(rt; copy.len(), 2);
-    assert_eq!(rt; copy.name(0).bytes(), b"age".as_slice());
-    assert_eq!(rt; copy.value(1), 55);
-    assert_eq!(rt; values(alloc, &copy)?.bytes(), b"-755".as_slice());
+    assert_eq!(rt;
+        (copy.name(0).bytes(), copy.value(1)),
+        (b"age".as_slice(), 55)
+    );
+    assert_eq!(rt; values(rt.alloc(), &copy)?.bytes(), b"-755".as_slice());
     Ok(())
 }
 
@@ -40,14 +46,18 @@ fn one_name(alloc: Global) -> Result<NameList, NoMemory> {
     }
 }
 
-#[test]
-fn names(rt: HostRuntime) -> Result<(), Fail> {
-    let alloc = rt.alloc();
+// What is left of a list that is cleared, and what was copied of it before.
+fn cleared(alloc: Global) -> Result<(usize, NameList), NoMemory> {
     let mut names = one_name(alloc)?;
     let copy = names.copy(alloc)?;
     names.clear();
-    assert_eq!(rt; names.len(), 0);
-    assert_eq!(rt; copy.len(), 1);
+    Ok((names.len(), copy))
+}
+
+#[test]
+fn names(rt: HostRuntime) -> Result<(), Fail> {
+    let (left, copy) = cleared(rt.alloc())?;
+    assert_eq!(rt; (left, copy.len()), (0, 1));
     assert_eq!(rt; copy.at(0).bytes(), b"a".as_slice());
     Ok(())
 }
@@ -93,14 +103,14 @@ fn mortal(alloc: Global, id: &[u8]) -> Result<Object, NoMemory> {
     })
 }
 
-fn put(world: &mut World, object: Object) -> Result<(), NoMemory> {
-    world.fold(Change::Put(object))
+// A copy of such an object.
+fn copied(alloc: Global, id: &[u8]) -> Result<Object, NoMemory> {
+    mortal(alloc, id)?.copy(alloc)
 }
 
-// Puts a copy of `b`, and then `a`.
-fn put_two(alloc: Global, world: &mut World) -> Result<(), NoMemory> {
-    put(world, mortal(alloc, b"b")?.copy(alloc)?)?;
-    put(world, mortal(alloc, b"a")?)
+// Puts that copy.
+fn put(alloc: Global, world: &mut World, id: &[u8]) -> Result<(), NoMemory> {
+    world.fold(Change::Put(copied(alloc, id)?))
 }
 
 // Whether the last of the objects has this id.
@@ -115,17 +125,22 @@ fn is_last_object(world: &mut World, id: &[u8]) -> bool {
 fn objects_in_order(rt: HostRuntime) -> Result<(), Fail> {
     let alloc = rt.alloc();
     let mut world = World::new(alloc);
-    put_two(alloc, &mut world)?;
+    put(alloc, &mut world, b"b")?;
+    put(alloc, &mut world, b"a")?;
     assert_eq!(rt; world.objects.len(), 2);
     assert!(rt; is_last_object(&mut world, b"b"));
     Ok(())
 }
 
-// A copy of the channel `z`.
-fn figure_channel(alloc: Global) -> Result<Channel, NoMemory> {
+// The channel `z` on a figure.
+fn on_figure(alloc: Global) -> Result<Channel, NoMemory> {
     let area = Area::Figure(spot(alloc, 1, 2)?);
-    let channel = channel(alloc, b"z", b"k", Watch::Spot(Kind::Within, area))?;
-    channel.copy(alloc)
+    channel(alloc, b"z", b"k", Watch::Spot(Kind::Within, area))
+}
+
+// Sets a copy of it.
+fn set(alloc: Global, world: &mut World) -> Result<(), NoMemory> {
+    world.fold(Change::SetChan(on_figure(alloc)?.copy(alloc)?))
 }
 
 // Whether the last of the channels has this name.
@@ -140,7 +155,7 @@ fn is_last_channel(world: &mut World, called: &[u8]) -> bool {
 fn channels_in_order(rt: HostRuntime) -> Result<(), Fail> {
     let alloc = rt.alloc();
     let mut world = World::new(alloc);
-    world.fold(Change::SetChan(figure_channel(alloc)?))?;
+    set(alloc, &mut world)?;
     assert_eq!(rt; world.channels.len(), 1);
     assert!(rt; is_last_channel(&mut world, b"z"));
     Ok(())
