@@ -5,7 +5,7 @@ ghost use Rattle.std.specs.List.{list_all};
 ghost use Rattle.world_data.specs.Sound.{is_sound_channel, is_sound_watch};
 
 use crate::mails::{hearers, last};
-use crate::samples::roaming;
+use crate::watches::roaming;
 use byte_text::{NoMemory, Text};
 use channel_hub::Hub;
 use keyspace::Keyspace;

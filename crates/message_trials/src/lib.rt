@@ -14,4 +14,4 @@ mod payloads;
 #[cfg(test)]
 mod roams;
 #[cfg(test)]
-mod samples;
+mod watches;

@@ -2,13 +2,12 @@
 
 ghost use Rattle.std.specs.Prelude.{◌≡◌, None, IfOk};
 
-use crate::samples::fields;
 use byte_text::NoMemory;
 use object_match::{is_in_fence, meets_fence};
 use planar_geom::Area;
 use std::alloc::Global;
 use std::test::Fail;
-use test_samples::{all_wanted, bounds, name, object};
+use test_samples::{all_wanted, bounds, fields, name, object};
 use world_data::{Fence, Kind, Object, Test, Tests, Watch};
 
 // A truck of a speed.

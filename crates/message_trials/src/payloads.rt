@@ -1,12 +1,11 @@
 //! Payloads, byte for byte.
 
-use crate::samples::fields;
 use byte_text::{NoMemory, Text};
 use message_text::push_message;
 use planar_geom::Area;
 use std::alloc::Global;
 use std::test::Fail;
-use test_samples::{channel, object, spot};
+use test_samples::{channel, fields, object, spot};
 use world_data::{Channel, Detect, Kind, Object, Raised, Watch};
 
 // A point of the key `people` with this text and these fields.

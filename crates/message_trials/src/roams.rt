@@ -3,7 +3,7 @@
 ghost use Rattle.std.specs.Prelude.{◌≡◌, true, None, IfOk};
 ghost use Rattle.world_data.specs.Sound.{is_sound_watch};
 
-use crate::samples::roaming;
+use crate::watches::roaming;
 use byte_text::{NoMemory, Text};
 use collection::Collection;
 use roam_fence::{RoamList, near_pairs};

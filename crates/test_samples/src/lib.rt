@@ -7,5 +7,5 @@ mod objects;
 mod places;
 
 pub use fences::{all_wanted, channel, fence};
-pub use objects::{name, object};
+pub use objects::{fields, name, object};
 pub use places::{at, bounds, spot};

@@ -17,6 +17,15 @@ pub fn name(alloc: Global, bytes: &[u8]) -> Result<Name, NoMemory>
     }
 }
 
+/// These fields: each is given its value in turn, and goes where that is 0.
+pub fn fields(alloc: Global, given: &[(&[u8], i64)]) -> Result<Fields, NoMemory> {
+    let mut fields = Fields::new(alloc);
+    for (called, value) in given {
+        fields.set(name(alloc, called)?, *value)?;
+    }
+    Ok(fields)
+}
+
 /// The object of this key and id at the point with these coordinates: its text is `{}`, it has no field, and it stays.
 pub fn object(alloc: Global, key: &[u8], id: &[u8], x: i64, y: i64) -> Result<Object, NoMemory>
     ensures key { IfOk result (λ o. o.key ≡ key.now) }

@@ -10,6 +10,4 @@ mod records;
 #[cfg(test)]
 mod replies;
 #[cfg(test)]
-mod samples;
-#[cfg(test)]
 mod world;

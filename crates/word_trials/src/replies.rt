@@ -3,7 +3,6 @@
 ghost use Rattle.std.specs.Prelude.{◌≡◌, ◌≢◌, IfOk};
 ghost use Rattle.byte_text.specs.Replies.{IsFrame};
 
-use crate::samples::fields;
 use byte_text::{NoMemory, Piece, Reply, Request, RespFault, Text};
 use geo_text::GeoFault;
 use planar_geom::{Area, BBox, Line, Part, Parts, Points, Shape};
@@ -11,7 +10,7 @@ use reply_text::*;
 use std::alloc::Global;
 use std::process::Abort;
 use std::test::Fail;
-use test_samples::{at, bounds, channel, name, object};
+use test_samples::{at, bounds, channel, fields, name, object};
 use world_data::{Channel, Kind, Watch};
 use world_model::{Object, Query, Refusal, Rule, Shown, Tests, WordFault};
 

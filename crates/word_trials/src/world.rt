@@ -2,12 +2,11 @@
 
 ghost use Rattle.std.specs.Prelude.{◌≡◌, length, IfOk};
 
-use crate::samples::fields;
 use byte_text::{NoMemory, Text};
 use planar_geom::Area;
 use std::alloc::Global;
 use std::test::Fail;
-use test_samples::{channel, name, object, spot};
+use test_samples::{channel, fields, name, object, spot};
 use world_data::*;
 
 // The value of the first field, and that of the second as JSON has it.

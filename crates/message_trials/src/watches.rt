@@ -1,4 +1,4 @@
-//! Watches of channels that roam, and fields: what several of these tests are made of.
+//! Watches of channels that roam.
 
 ghost use Rattle.std.specs.Prelude.{◌≡◌, true, IfOk};
 ghost use Rattle.world_data.specs.Sound.{is_sound_watch};
@@ -7,7 +7,7 @@ use byte_text::NoMemory;
 use glob_match::well_formed;
 use std::alloc::Global;
 use test_samples::name;
-use world_data::{Fields, Watch};
+use world_data::Watch;
 
 /// All of a key within 10 meters, without those that were as near before where they are not to be told of again.
 pub(crate) fn roaming(alloc: Global, key: &[u8], nodwell: bool) -> Result<Watch, NoMemory>
@@ -18,13 +18,4 @@ pub(crate) fn roaming(alloc: Global, key: &[u8], nodwell: bool) -> Result<Watch,
         return Err(NoMemory);
     }
     Ok(Watch::Roam(name(alloc, key)?, pattern, 10, nodwell))
-}
-
-/// These fields.
-pub(crate) fn fields(alloc: Global, given: &[(&[u8], i64)]) -> Result<Fields, NoMemory> {
-    let mut fields = Fields::new(alloc);
-    for (called, value) in given {
-        fields.set(name(alloc, called)?, *value)?;
-    }
-    Ok(fields)
 }
