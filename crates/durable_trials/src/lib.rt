@@ -8,6 +8,8 @@ mod crashes;
 #[cfg(test)]
 mod dialogues;
 #[cfg(test)]
+mod openings;
+#[cfg(test)]
 mod rewritings;
 #[cfg(test)]
 mod scripts;

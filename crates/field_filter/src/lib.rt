@@ -10,9 +10,6 @@ use byte_text::Name;
 use ordered_lists::is_same;
 use world_data::{Fields, Numbers, Test, Tests};
 
-#[cfg(test)]
-mod tests;
-
 /// Whether the fields pass all tests. A missing field reads 0.
 pub fn passes(tests: &Tests, fields: &Fields) -> bool
     ensures { result ≡ passes tests.now fields.now }

@@ -7,6 +7,3 @@ mod signs;
 mod tokens;
 
 pub use matches::{glob_meets, well_formed};
-
-#[cfg(test)]
-mod tests;

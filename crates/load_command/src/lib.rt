@@ -6,6 +6,3 @@ mod words;
 
 pub use loads::load;
 pub use words::{LoadWords, load_words};
-
-#[cfg(test)]
-mod tests;

@@ -3,3 +3,7 @@
 
 #[cfg(test)]
 mod tests;
+#[cfg(test)]
+mod words;
+#[cfg(test)]
+mod workloads;

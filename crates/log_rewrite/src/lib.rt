@@ -5,6 +5,3 @@ mod rewriters;
 mod writes;
 
 pub use rewriters::{NewSide, Rewriter};
-
-#[cfg(test)]
-mod tests;

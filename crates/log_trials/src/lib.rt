@@ -5,3 +5,5 @@
 mod appends;
 #[cfg(test)]
 mod journals_kept;
+#[cfg(test)]
+mod rewritings;

@@ -12,6 +12,10 @@ mod matches;
 #[cfg(test)]
 mod payloads;
 #[cfg(test)]
+mod queues;
+#[cfg(test)]
 mod roams;
+#[cfg(test)]
+mod subscribers;
 #[cfg(test)]
 mod watches;

@@ -101,6 +101,3 @@ impl Bell for PlainBell {
         }
     }
 }
-
-#[cfg(test)]
-mod tests;

@@ -15,13 +15,3 @@ pub struct NoGate;
 impl Gate for NoGate {
     fn pass<R: Wait>(&self, _rt: &R, _session: u32, _nth: u64) {}
 }
-
-#[cfg(test)]
-mod tests {
-    use super::*;
-
-    #[test]
-    fn no_gate_lets_pass(rt: HostRuntime) {
-        NoGate.pass(&rt, 1, 1);
-    }
-}

@@ -262,6 +262,3 @@ fn change(
     *changed = Some(contents);
     applied
 }
-
-#[cfg(test)]
-mod tests;

@@ -9,6 +9,3 @@ mod writing;
 pub use writing::{
     push_del, push_delchan, push_drop, push_flush, push_put, push_record, push_setchan,
 };
-
-#[cfg(test)]
-mod tests;

@@ -7,6 +7,3 @@ mod lines;
 
 pub use frame_lines::push_frame_line;
 pub use lines::{LineFault, MAX_LINE, ScriptLine, line_of};
-
-#[cfg(test)]
-mod tests;

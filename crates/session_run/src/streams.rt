@@ -60,34 +60,3 @@ pub(crate) fn write_frames<K: Sink>(
     }
     write_each(sink, frames)
 }
-
-#[cfg(test)]
-mod tests {
-    use super::*;
-    use byte_text::Text;
-    use outside::BytesSink;
-    use std::alloc::Global;
-    use std::test::Fail;
-
-    // Frames of these bytes, written to a sink that takes a few at a call and fails at one: whether all were written, and which.
-    fn written(alloc: Global, failing: u64) -> Result<(bool, Vec<u8>), Fail> {
-        let mut frames = Frames::new(alloc)?;
-        frames.put(Text::of(alloc, b"+OK\r\n")?);
-        frames.put(Text::of(alloc, b":1\r\n")?);
-        let mut sink = BytesSink::new(alloc, 4, [failing].to_vec(alloc)?);
-        let all = write_frames(&mut sink, &frames, &mut Vec::new(alloc)).is_ok();
-        Ok((all, sink.written().to_vec(alloc)?))
-    }
-
-    #[test]
-    fn frames_go_out_whole_up_to_a_fault(rt: HostRuntime) -> Result<(), Fail> {
-        let alloc = rt.alloc();
-        let (all, bytes) = written(alloc, 9)?;
-        assert!(rt; all);
-        assert_eq!(rt; bytes.as_slice(), b"+OK\r\n:1\r\n".as_slice());
-        let (all, bytes) = written(alloc, 2)?;
-        assert!(rt; !all);
-        assert_eq!(rt; bytes.as_slice(), b"+OK\r".as_slice());
-        Ok(())
-    }
-}

@@ -26,13 +26,26 @@ struct Ended {
     written: Vec<u8>,
 }
 
-// Where the frames of a session go to: a sink that fails at one call.
-fn outlet_of(alloc: Global, failing: u64) -> Result<Outlet<BytesSink>, Fail>
+// A sink that takes so many bytes at a call, and fails at one.
+#[derive(Clone, Copy)]
+struct Takes {
+    bytes: usize,
+    failing: u64,
+}
+
+// Takes all that a turn brings at once, and never fails.
+const ALL: Takes = Takes {
+    bytes: 4096,
+    failing: 0,
+};
+
+// Where the frames of a session go to.
+fn outlet_of(alloc: Global, takes: Takes) -> Result<Outlet<BytesSink>, Fail>
     ensures list { IfOk result (λ o. o.frames.list ≡ []) }
     ensures places { IfOk result (λ o. o.frames.places ≡ take_frames) }
 {
     let (writer, _sinks) = bounded(alloc, 1)?;
-    let sink = BytesSink::new(alloc, 4096, [failing].to_vec(alloc)?);
+    let sink = BytesSink::new(alloc, takes.bytes.max(1), [takes.failing].to_vec(alloc)?);
     let frames = Frames::new(alloc)?;
     Ok(Outlet {
         sink,
@@ -42,14 +55,14 @@ fn outlet_of(alloc: Global, failing: u64) -> Result<Outlet<BytesSink>, Fail>
     })
 }
 
-// Serves a session alone, which asks for this, and whose sink fails at one call.
+// Serves a session alone, which asks for this, and whose frames go to such a sink.
 fn alone<R: Wait>(
     rt: &R,
     alloc: Global,
     shared: &Shared<SharedHall<PlainDisk>, PlainBell, NoGate>,
     seat: &mut HallSeat<PlainDisk>,
     text: &Text,
-    failing: u64,
+    takes: Takes,
 ) -> Result<Ended, Fail>
     requires { ⟦<SharedHall<PlainDisk> as HallApi>⟧.is_of (arc_value shared.now.hall) seat.old }
     ensures { ⟦<SharedHall<PlainDisk> as HallApi>⟧.is_of (arc_value shared.now.hall) seat.new }
@@ -57,7 +70,7 @@ fn alone<R: Wait>(
     let Ok(session) = shared.hall.enter(rt, seat) else {
         return Err(Fail::from(AllocError));
     };
-    let outlet = outlet_of(alloc, failing)?;
+    let outlet = outlet_of(alloc, takes)?;
     let mut source = BytesSource::new(text.bytes().to_vec(alloc)?, 1000, Vec::new(alloc));
     let (reading, writing) = session_in(
         rt,
@@ -92,10 +105,10 @@ fn left_by(alloc: Global, reading: InEnd, writing: Writing<BytesSink>) -> Result
 }
 
 // The same on a hall over an empty disk.
-fn alone_anew<R: Wait>(rt: &R, alloc: Global, text: &Text, failing: u64) -> Result<Ended, Fail> {
+fn alone_anew<R: Wait>(rt: &R, alloc: Global, text: &Text, takes: Takes) -> Result<Ended, Fail> {
     let (hall, mut seat) = hall_at(alloc)?;
     let shared = shared_by(alloc, hall, NoGate)?;
-    alone(rt, alloc, &shared, &mut seat, text, failing)
+    alone(rt, alloc, &shared, &mut seat, text, takes)
 }
 
 #[test]
@@ -103,10 +116,58 @@ fn a_source_ends_in_the_middle_of_a_request(rt: HostRuntime) -> Result<(), Fail>
     let alloc = rt.alloc();
     let mut text = Text::of(alloc, PING)?;
     text.push(&PING[..10])?;
-    let ended = alone_anew(&rt, alloc, &text, 0)?;
+    let ended = alone_anew(&rt, alloc, &text, ALL)?;
     assert_eq!(rt; ended.reading, InEnd::Over);
     assert_eq!(rt; ended.writing, Some(OutEnd::Ended));
     assert_eq!(rt; ended.written.as_slice(), PONG);
+    Ok(())
+}
+
+// What a session is written that sends these bytes.
+fn answered<R: Wait>(rt: &R, alloc: Global, bytes: &[u8], takes: Takes) -> Result<Vec<u8>, Fail> {
+    let text = Text::of(alloc, bytes)?;
+    Ok(alone_anew(rt, alloc, &text, takes)?.written)
+}
+
+#[test]
+fn requests_are_answered_up_to_where_their_bytes_end_or_break(rt: HostRuntime) -> Result<(), Fail> {
+    let alloc = rt.alloc();
+    for (bytes, frames) in [
+        (b"".as_slice(), b"".as_slice()),
+        (b"*1\r\n$4\r\nPING\r\n*1\r\n$4\r\nPI", b"+PONG\r\n"),
+        (
+            b"*1\r\n$4\r\nPING\r\n!",
+            b"+PONG\r\n-ERR protocol error: bad type\r\n",
+        ),
+    ] {
+        let written = answered(&rt, alloc, bytes, ALL)?;
+        assert_eq!(rt; written.as_slice(), frames);
+    }
+    Ok(())
+}
+
+// More requests than one turn carries.
+#[test]
+fn seventy_requests_are_answered(rt: HostRuntime) -> Result<(), Fail> {
+    let alloc = rt.alloc();
+    let mut text = Text::new(alloc);
+    push_times(&mut text, PING, 70)?;
+    let mut frames = Text::new(alloc);
+    push_times(&mut frames, PONG, 70)?;
+    let written = answered(&rt, alloc, text.bytes(), ALL)?;
+    assert_eq!(rt; written.as_slice(), frames.bytes());
+    Ok(())
+}
+
+// A sink that takes four bytes at a call.
+#[test]
+fn frames_go_out_whole_up_to_a_fault(rt: HostRuntime) -> Result<(), Fail> {
+    let alloc = rt.alloc();
+    let two = b"*1\r\n$4\r\nPING\r\n*1\r\n$4\r\nPING\r\n".as_slice();
+    for (failing, frames) in [(9, b"+PONG\r\n+PONG\r\n".as_slice()), (2, b"+PON")] {
+        let written = answered(&rt, alloc, two, Takes { bytes: 4, failing })?;
+        assert_eq!(rt; written.as_slice(), frames);
+    }
     Ok(())
 }
 
@@ -115,7 +176,8 @@ fn a_sink_fails(rt: HostRuntime) -> Result<(), Fail> {
     let alloc = rt.alloc();
     let mut text = Text::new(alloc);
     push_times(&mut text, PING, 100)?;
-    let ended = alone_anew(&rt, alloc, &text, 2)?;
+    let takes = Takes { failing: 2, ..ALL };
+    let ended = alone_anew(&rt, alloc, &text, takes)?;
     assert_eq!(rt; ended.reading, InEnd::OutEnded);
     assert_eq!(rt; ended.writing, Some(OutEnd::WriteFault));
     let mut written = Text::new(alloc);
@@ -190,7 +252,7 @@ fn told<R: Wait>(
     let Some(session) = listener(rt, alloc, &*shared.hall, seat) else {
         return Err(Fail::from(AllocError));
     };
-    alone(rt, alloc, shared, seat, text, 0)?;
+    alone(rt, alloc, shared, seat, text, ALL)?;
     heard(rt, alloc, shared, seat, session)
 }
 

@@ -4,6 +4,8 @@
 #[cfg(test)]
 mod collections;
 #[cfg(test)]
+mod fields_passed;
+#[cfg(test)]
 mod keyspaces;
 #[cfg(test)]
 mod objects;

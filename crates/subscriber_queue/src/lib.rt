@@ -118,39 +118,3 @@ impl Outbox {
         self.bytes
     }
 }
-
-#[cfg(test)]
-mod tests {
-    use super::*;
-    use std::test::Fail;
-
-    fn first(frames: &Frames) -> Option<&[u8]> {
-        if frames.is_empty() {
-            None
-        } else {
-            Some(frames.at(0))
-        }
-    }
-
-    #[test]
-    fn frames_come_in_order_and_the_bytes_are_limited(rt: HostRuntime) -> Result<(), Fail> {
-        let alloc = rt.alloc();
-        let mut outbox = Outbox::new(alloc);
-        for i in 0..70u8 {
-            let mut frame = Text::new(alloc);
-            frame.push(&[b'a' + i % 26])?;
-            outbox.reserve(1)?;
-            assert!(rt; outbox.place(frame).is_ok());
-        }
-        let mut long = Text::new(alloc);
-        long.push(vec![in alloc; 0u8; 6_291_387]?.as_slice())?;
-        outbox.reserve(1)?;
-        assert!(rt; outbox.place(long).is_err());
-        assert_eq!(rt; (outbox.frames(), outbox.bytes()), (70, 70));
-        let mut frames = Frames::new(alloc)?;
-        assert_eq!(rt; outbox.take(&mut frames), 64);
-        assert_eq!(rt; (outbox.frames(), outbox.bytes()), (6, 6));
-        assert_eq!(rt; first(&frames), Some(b"a".as_slice()));
-        Ok(())
-    }
-}

@@ -4,6 +4,3 @@
 mod held;
 
 pub use held::{SubscribeFault, Subscription, Subscriptions};
-
-#[cfg(test)]
-mod tests;

@@ -4,4 +4,8 @@
 #[cfg(test)]
 mod frames;
 #[cfg(test)]
+mod globs;
+#[cfg(test)]
+mod script_lines;
+#[cfg(test)]
 mod texts;

@@ -20,6 +20,3 @@ pub use lines::{Line, Role};
 pub use machines::Machine;
 pub use summaries::{Summary, push_summary};
 pub use workloads::Workload;
-
-#[cfg(test)]
-mod tests;

@@ -8,6 +8,3 @@ mod world_replays;
 
 pub use openings::{OpenedWorld, open_world};
 pub use world_replays::WorldReplay;
-
-#[cfg(test)]
-mod tests;

@@ -1,7 +1,7 @@
 //! Patterns and names from outside.
 
-use super::*;
 use byte_text::{Name, NameFault};
+use glob_match::{glob_meets, well_formed};
 use std::alloc::Global;
 use std::test::Fail;
 

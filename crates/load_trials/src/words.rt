@@ -1,6 +1,6 @@
 //! Words that ask for the workload and words that do not.
 
-use crate::words::{LoadWords, load_words};
+use load_command::{LoadWords, load_words};
 use std::alloc::Global;
 use std::test::Fail;
 

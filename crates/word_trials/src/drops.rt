@@ -1,7 +1,7 @@
 //! The record of a change, with ample memory.
 
-use crate::push_record;
 use byte_text::{Name, Text};
+use record_text::push_record;
 use std::test::Fail;
 use world_data::Change;
 

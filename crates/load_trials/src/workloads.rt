@@ -1,20 +1,32 @@
-//! The generator and the lines of a summary, against worked values.
+//! The lines of the workload and of a summary, against worked values.
 
-use crate::commands::command;
-use crate::draws::Draws;
-use crate::summaries::{Summary, push_summary};
 use byte_text::{Text, push_words};
+use std::alloc::Global;
 use std::test::Fail;
+use work_gen::{Role, Summary, Workload, push_summary};
+
+// Who asks for the last line of a workload, and for what.
+fn last_line(alloc: Global, commands: u32, seed: u64) -> Result<(Option<Role>, Text), Fail> {
+    let mut workload = Workload::new(commands, seed);
+    let mut role = None;
+    let mut text = Text::new(alloc);
+    for _ in 0..1_000 {
+        let Some(line) = workload.next_line(alloc)? else {
+            break;
+        };
+        role = Some(line.role);
+        text.truncate(0);
+        push_words(&mut text, &line.words)?;
+    }
+    Ok((role, text))
+}
 
 // The first draw from seed 0 is 167951807, which ends with a 7; so the one command deletes vehicle 0.
 #[test]
 fn the_one_command_of_seed_zero(rt: HostRuntime) -> Result<(), Fail> {
-    let alloc = rt.alloc();
-    let mut draws = Draws { state: 0 };
-    let words = command(alloc, 1, &mut draws)?;
-    let mut text = Text::new(alloc);
-    push_words(&mut text, &words)?;
+    let (role, text) = last_line(rt.alloc(), 1, 0)?;
     let due = b"$3\r\nDEL\r\n$5\r\nfleet\r\n$2\r\nv0\r\n".as_slice();
+    assert_eq!(rt; role, Some(Role::Sender));
     assert_eq!(rt; text.bytes(), due);
     Ok(())
 }

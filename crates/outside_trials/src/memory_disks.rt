@@ -1,6 +1,7 @@
 //! Images after crashes, and calls that fail.
 
-use super::*;
+use outside::{Disk, Failed, MemoryDisk, Side};
+use std::alloc::Global;
 use std::process::Abort;
 use std::test::Fail;
 

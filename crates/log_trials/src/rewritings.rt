@@ -1,6 +1,6 @@
 //! A whole rewriting over a disk in memory: what it writes, and each call failing once.
 
-use crate::{NewSide, Rewriter};
+use log_rewrite::{NewSide, Rewriter};
 use log_sides::{Batch, make_side};
 use outside::{Disk, Failed, MemoryDisk, Side};
 use std::alloc::Global;

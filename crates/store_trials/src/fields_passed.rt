@@ -1,9 +1,10 @@
 //! Tables of tests on one list of fields.
 
-use super::*;
 use byte_text::Name;
+use field_filter::{passes, value_of};
 use std::alloc::Global;
 use std::test::Fail;
+use world_data::{Fields, Numbers, Test, Tests};
 
 // The fields `age` 3 and `speed` -55.
 fn fields(alloc: Global) -> Result<Fields, Fail> {

@@ -1,33 +1,21 @@
 //! Disks whose sides were written byte by byte are opened as worlds.
 
-use super::*;
-use byte_text::{NoMemory, Text, push_array_head, push_bulk};
+use byte_text::{Text, push_array_head, push_bulk};
 use journal::OpenFault;
 use outside::{MemoryDisk, Side};
 use std::alloc::Global;
 use std::test::Fail;
+use test_lines::push_line;
+use world_opening::open_world;
 
 const POINT: &str = "{\"type\":\"Point\",\"coordinates\":[2,1]}";
-
-// Appends the request of a line's words, which are split at spaces.
-fn push_words(into: &mut Text, line: &str) -> Result<(), NoMemory> {
-    let mut count = 0u64;
-    for _ in line.split(' ') {
-        count = count.saturating_add(1);
-    }
-    push_array_head(into, count)?;
-    for word in line.split(' ') {
-        push_bulk(into, word.as_bytes())?;
-    }
-    Ok(())
-}
 
 // The records of some lines, which are split at line feeds; none of no line.
 fn records(alloc: Global, lines: &str) -> Result<Text, Fail> {
     let mut text = Text::new(alloc);
     for line in lines.split('\n') {
         if !line.is_empty() {
-            push_words(&mut text, line)?;
+            push_line(&mut text, line)?;
         }
     }
     Ok(text)

@@ -1,7 +1,7 @@
 //! Rings, and two threads that ring for one another and sleep between.
 
-use super::*;
-use std::sync::Arc;
+use outside::{Bell, PlainBell};
+use std::sync::{Arc, Wait};
 use std::test::Fail;
 use std::thread;
 

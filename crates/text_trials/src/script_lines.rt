@@ -1,7 +1,7 @@
 //! Lines from outside, and each call with ample memory.
 
-use super::*;
 use byte_text::Text;
+use script_text::{LineFault, ScriptLine, line_of, push_frame_line};
 use std::test::Fail;
 
 // The line's name by its first letter, `r` for `reopen` and `-` for an empty line, and its numbers.

@@ -1,9 +1,9 @@
 //! Subscriptions that are made, counted and cut.
 
-use super::*;
 use byte_text::Name;
 use std::alloc::Global;
 use std::test::Fail;
+use subscriptions::{SubscribeFault, Subscriptions};
 use world_data::MAX_SUBS;
 
 #[test]
