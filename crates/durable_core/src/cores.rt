@@ -18,7 +18,7 @@ ghost use Rattle.durable_core.specs.Written.{IsMirrored, KeepsSided, Sided, much
 ghost use Rattle.durable_core.specs.Rewriting.{is_ending, next_shown, rewriting_after};
 ghost use Rattle.durable_core.specs.Words.{is_served_rewriting};
 ghost use Rattle.tile_core.specs.Answered.{MayCall, IsAnswered, AreSessions, StayNamed};
-ghost use Rattle.tile_core.specs.CoreStates.{most_kept};
+ghost use Rattle.command_plans.specs.Kept.{most_kept};
 
 use crate::rewritings::asks_rewriting;
 use crate::tails::Tail;

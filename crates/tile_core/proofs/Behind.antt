@@ -19,13 +19,13 @@ use Rattle.session_mail.specs.Sessions.{State}
 use Rattle.session_mail.specs.Fans.{HaveStaged}
 use Rattle.message_fan.specs.Laws.{QuietBringsNothing}
 use Rattle.message_fan.specs.Stagings.{IsStagedIn, IsBeforeDel}
-use Rattle.tile_core.specs.declared.planned.ChannelMove.{ChannelMove}
-use Rattle.tile_core.specs.declared.planned.ChannelMove.TheVariants.{Set, Drop}
-use Rattle.tile_core.specs.Planned.{channel_writes}
+use Rattle.command_plans.specs.declared.planned.ChannelMove.{ChannelMove}
+use Rattle.command_plans.specs.declared.planned.ChannelMove.TheVariants.{Set, Drop}
+use Rattle.command_plans.specs.Planned.{channel_writes}
 use Rattle.tile_core.specs.Dues.{AllStand}
-use Rattle.tile_core.specs.Moves.{AllThere, world_with}
+use Rattle.command_plans.specs.Moves.{AllThere, world_with}
 use Rattle.tile_core.specs.Staged.{StagesBehind, dels_of}
-use Rattle.tile_core.proofs.Weights.{found_at}
+use Rattle.command_plans.specs.Weights.{found_at}
 
 -- nothing is staged behind
 pub behind_none : (w : World) (ss : List State) → StagesBehind w [] ss ss

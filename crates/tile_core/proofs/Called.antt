@@ -30,15 +30,15 @@ use Rattle.deliveries.specs.Staging.{Suffice, after_all, have_room, heard, liste
 use Rattle.session_mail.specs.Sessions.{State, session_of}
 use Rattle.session_mail.specs.Fans.{AreBare, ArePlaced, IsPlaced}
 use Rattle.session_mail.specs.FanLaws.{bare_all}
-use Rattle.tile_core.specs.CoreStates.{most_kept}
+use Rattle.command_plans.specs.Kept.{most_kept}
 use Rattle.tile_core.specs.declared.dues.Expired.{Expired}
-use Rattle.tile_core.specs.declared.planned.Planned.{Planned}
-use Rattle.tile_core.specs.declared.planned.Planned.TheVariants.{Objects, Channels, Subscribed}
+use Rattle.command_plans.specs.declared.planned.Planned.{Planned}
+use Rattle.command_plans.specs.declared.planned.Planned.TheVariants.{Objects, Channels, Subscribed}
 use Rattle.tile_core.specs.declared.ready.Ready.{Ready}
 use Rattle.tile_core.specs.declared.stores.Store.{Store}
 use Rattle.tile_core.specs.Answered.{AreNamed, AreRoomy, AreSessions, IsAnswered, is_named}
 use Rattle.tile_core.specs.Ledgers.{ready_writes, writes_if}
-use Rattle.tile_core.specs.Planned.{IsPlanned}
+use Rattle.command_plans.specs.Planned.{IsPlanned}
 use Rattle.tile_core.specs.Ready.{IsCompleted, IsDone, IsDoneIf, IsReady, IsRestReady, IsSoundAnswer, CanComplete, ending_if, length_if, planned_length, replied, reply_count}
 use Rattle.tile_core.specs.Sessions.{IsServed}
 use Rattle.tile_core.specs.Stores.{ArePresent, IsSound, IsStore, hall_of, world_at}

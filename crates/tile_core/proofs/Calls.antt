@@ -43,12 +43,12 @@ use Rattle.session_mail.specs.Sessions.{State, session_of}
 use Rattle.session_mail.specs.Fans.{ArePlaced, HaveStaged, IsPlaced}
 use Rattle.session_mail.specs.FanLaws.{hall_placed, placed_are}
 use Rattle.tile_core.specs.declared.dues.Expired.{Expired}
-use Rattle.tile_core.specs.declared.planned.Planned.{Planned}
-use Rattle.tile_core.specs.declared.planned.Planned.TheVariants.{Objects, Channels, Subscribed}
+use Rattle.command_plans.specs.declared.planned.Planned.{Planned}
+use Rattle.command_plans.specs.declared.planned.Planned.TheVariants.{Objects, Channels, Subscribed}
 use Rattle.tile_core.specs.declared.stores.Store.{Store}
-use Rattle.tile_core.specs.Moves.{world_of, world_with}
+use Rattle.command_plans.specs.Moves.{world_of, world_with}
 use Rattle.tile_core.specs.Dues.{IsExpired}
-use Rattle.tile_core.specs.Planned.{IsPlanned}
+use Rattle.command_plans.specs.Planned.{IsPlanned}
 use Rattle.tile_core.specs.Ready.{IsRequestReady, ending_if, planned_length, planned_writes, replied}
 use Rattle.tile_core.specs.Sessions.{is_open, is_full, Rises, AreOthers, IsServed}
 use Rattle.tile_core.specs.Stores.{hall_of, world_at}

@@ -4,7 +4,7 @@ use Rattle.std.specs.Prelude.{Some, None, Option, slice_get}
 use Rattle.std.proofs.lemmas.Option.{same_Some}
 use Rattle.session_mail.specs.Sessions.{State}
 use Rattle.session_mail.specs.Fans.{ArePlaced}
-use Rattle.tile_core.specs.declared.planned.Planned.{Planned}
+use Rattle.command_plans.specs.declared.planned.Planned.{Planned}
 use Rattle.tile_core.specs.declared.stores.Store.{Store}
 use Rattle.tile_core.specs.Ready.{CanComplete, IsDoneIf, reply_count}
 use Rattle.tile_core.specs.Stores.{IsStore, world_at}

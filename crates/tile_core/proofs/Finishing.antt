@@ -18,19 +18,19 @@ use Rattle.world_data.specs.declared.worlds.Change.TheVariants as change
 use Rattle.session_mail.specs.Sessions.{State}
 use Rattle.session_mail.specs.Fans.{AreBare}
 use Rattle.deliveries.specs.Staging.{after_all}
-use Rattle.tile_core.specs.declared.moves.Move.{Move}
-use Rattle.tile_core.specs.declared.moves.Move.TheVariants.{Stay, Put, Delete, DeleteEach, Leave, Clear}
-use Rattle.tile_core.specs.declared.planned.ChannelMove.{ChannelMove}
-use Rattle.tile_core.specs.declared.planned.ChannelMove.TheVariants.{Set, Drop}
-use Rattle.tile_core.specs.declared.plans.Plan.{Plan}
+use Rattle.command_plans.specs.declared.moves.Move.{Move}
+use Rattle.command_plans.specs.declared.moves.Move.TheVariants.{Stay, Put, Delete, DeleteEach, Leave, Clear}
+use Rattle.command_plans.specs.declared.planned.ChannelMove.{ChannelMove}
+use Rattle.command_plans.specs.declared.planned.ChannelMove.TheVariants.{Set, Drop}
+use Rattle.command_plans.specs.declared.plans.Plan.{Plan}
 use Rattle.record_lengths.specs.Lengths.{HasFewFields}
-use Rattle.tile_core.specs.Moves.{IsAccepted, world_of, world_with, moved, without_each}
+use Rattle.command_plans.specs.Moves.{IsAccepted, world_of, world_with, moved, without_each}
 use Rattle.tile_core.specs.Sessions.{IsServed}
-use Rattle.tile_core.specs.Plans.{IsPlan, writes_of}
+use Rattle.command_plans.specs.Plans.{IsPlan, writes_of}
 use Rattle.ordered_lists.specs.Ascending.{each-put_in}
-use Rattle.tile_core.specs.Planned.{IsRecordedChannel, IsRecordedMove, IsSoundMove, channel_writes, channels_left, channels_moved, channels_weight, weight_left, without_names}
+use Rattle.command_plans.specs.Planned.{IsRecordedChannel, IsRecordedMove, IsSoundMove, channel_writes, channels_left, channels_moved, channels_weight, weight_left, without_names}
 use Rattle.tile_core.specs.Staged.{dels_of}
-use Rattle.tile_core.specs.CoreStates.{AreKept, most_kept}
+use Rattle.command_plans.specs.Kept.{AreKept, most_kept}
 use Rattle.tile_core.specs.Stores.{ArePresent}
 use Rattle.tile_core.specs.Dues.{IsTaken}
 use Rattle.tile_core.proofs.Moving.{all_moved}

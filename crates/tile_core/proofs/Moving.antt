@@ -5,9 +5,9 @@ use Rattle.std.specs.List.{AllByRecursion}
 use Rattle.byte_text.specs.Names.{Bytes}
 use Rattle.world_data.specs.Worlds.{object_before, has_key, is_at}
 use Rattle.world_data.specs.declared.objects.Object.{Object}
-use Rattle.tile_core.specs.declared.moves.Move.{Move}
-use Rattle.tile_core.specs.declared.moves.Move.TheVariants.{Stay, Put, Delete, DeleteEach, Leave, Clear}
-use Rattle.tile_core.specs.Moves.{moved, without_each, HoldsOfPut}
+use Rattle.command_plans.specs.declared.moves.Move.{Move}
+use Rattle.command_plans.specs.declared.moves.Move.TheVariants.{Stay, Put, Delete, DeleteEach, Leave, Clear}
+use Rattle.command_plans.specs.Moves.{moved, without_each, HoldsOfPut}
 use Rattle.tile_core.specs.Dues.{IsDueFrom, AreDueFrom}
 use Rattle.ordered_lists.specs.Reading.{each-filter}
 use Rattle.ordered_lists.specs.Ascending.{each-put_in}

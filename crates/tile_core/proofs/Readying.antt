@@ -25,15 +25,15 @@ use Rattle.session_mail.specs.Sessions.{State, session_of}
 use Rattle.session_mail.specs.Fans.{AreBare, HaveStaged}
 use Rattle.session_mail.specs.FanLaws.{bare_staged}
 use Rattle.tile_core.specs.declared.dues.Expired.{Expired}
-use Rattle.tile_core.specs.declared.planned.Planned.{Planned}
-use Rattle.tile_core.specs.declared.planned.Planned.TheVariants.{Objects, Channels, Subscribed}
+use Rattle.command_plans.specs.declared.planned.Planned.{Planned}
+use Rattle.command_plans.specs.declared.planned.Planned.TheVariants.{Objects, Channels, Subscribed}
 use Rattle.tile_core.specs.declared.stores.Store.{Store}
-use Rattle.tile_core.specs.CoreStates.{AreKept}
+use Rattle.command_plans.specs.Kept.{AreKept}
 use Rattle.tile_core.specs.Dues.{AllStand, AreDueFrom, IsExpired, with_back}
 use Rattle.tile_core.specs.Ledgers.{CanRecord, CanRecordIf}
-use Rattle.tile_core.specs.Moves.{world_of, world_with}
+use Rattle.command_plans.specs.Moves.{world_of, world_with}
 use Rattle.world_data.specs.Sound.{is_sound_channel}
-use Rattle.tile_core.specs.Planned.{IsPlanned, IsRecordedChannel, channels_weight}
+use Rattle.command_plans.specs.Planned.{IsPlanned, IsRecordedChannel, channels_weight}
 use Rattle.tile_core.specs.Ready.{IsAsBefore, IsRoomier, IsDueTaken, IsReady, IsRestBehind, IsRestReady, IsUndone}
 use Rattle.tile_core.specs.Staged.{StagesBehind}
 use Rattle.tile_core.specs.Stores.{IsStore, world_at}

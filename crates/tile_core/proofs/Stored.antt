@@ -13,14 +13,14 @@ use Rattle.keyspace.specs.Entries.{objects_in}
 use Rattle.record_lengths.specs.Lengths.{HaveFewFields, len_of, len_of_channel}
 use Rattle.stored_world.specs.Stored.{world_of}
 use Rattle.stored_world.specs.declared.stored_worlds.StoreParts.{StoreParts}
-use Rattle.tile_core.specs.CoreStates.{most_kept}
+use Rattle.command_plans.specs.Kept.{most_kept}
 use Rattle.tile_core.specs.Dues.{AreDueFrom}
-use Rattle.tile_core.specs.Moves.{IsAccepted}
-use Rattle.tile_core.specs.Planned.{IsRecordedChannel}
+use Rattle.command_plans.specs.Moves.{IsAccepted}
+use Rattle.command_plans.specs.Planned.{IsRecordedChannel}
 use Rattle.tile_core.specs.Stores.{IsStore}
 use Rattle.tile_core.specs.declared.stores.Store.{Store}
 use Rattle.tile_core.proofs.Soonest.{are_due_from}
-use Rattle.tile_core.proofs.Weights.{weight_sum}
+use Rattle.command_plans.specs.Weights.{weight_sum}
 
 are_accepted : (xs : List Object) → AllByRecursion IsSoundObject xs → AllByRecursion IsAccepted xs
 are_accepted [] all = tt

@@ -13,11 +13,11 @@ use Rattle.log_record.specs.EventWrites.{writes_of}
 use Rattle.keyspace.specs.Entries.{objects_in}
 use Rattle.session_mail.specs.Sessions.{State, session_of}
 use Rattle.session_mail.specs.Fans.{ArePlaced}
-use Rattle.tile_core.specs.CoreStates.{most_kept}
+use Rattle.command_plans.specs.Kept.{most_kept}
 use Rattle.tile_core.specs.declared.dues.Expired.{Expired}
 use Rattle.tile_core.specs.declared.stores.Store.{Store}
 use Rattle.tile_core.specs.Answered.{AreNamed, AreRoomy, AreSessions, is_named}
-use Rattle.tile_core.specs.Moves.{world_with}
+use Rattle.command_plans.specs.Moves.{world_with}
 use Rattle.tile_core.specs.Ready.{IsDueTaken}
 use Rattle.tile_core.specs.Stores.{ArePresent, IsSound, IsStore, hall_of, world_at}
 use Rattle.tile_core.proofs.Called.{all_bare, numbers_placed}

@@ -12,7 +12,7 @@ use Rattle.world_data.specs.declared.worlds.Change.TheVariants as change
 use Rattle.world_data.specs.declared.worlds.World.{World}
 use Rattle.keyspace.specs.Entries.{Entry, room_for}
 use Rattle.tile_core.specs.declared.dues.Expired.{Expired}
-use Rattle.tile_core.specs.Moves.{IsAccepted, world_of}
+use Rattle.command_plans.specs.Moves.{IsAccepted, world_of}
 use Rattle.record_lengths.specs.Lengths.{HaveFewFields}
 use Rattle.deliveries.specs.Staging.{after_all, records_len}
 

@@ -10,11 +10,11 @@ use Rattle.world_model.specs.declared.events.Event.{Event}
 use Rattle.log_record.specs.Batches.{records_text}
 use Rattle.log_record.specs.EventWrites.{changes_of, writes_of}
 use Rattle.log_record.specs.Words.{IsRecorded}
-use Rattle.tile_core.specs.declared.planned.Planned.{Planned}
-use Rattle.tile_core.specs.declared.planned.Planned.TheVariants.{Objects, Channels, Subscribed}
+use Rattle.command_plans.specs.declared.planned.Planned.{Planned}
+use Rattle.command_plans.specs.declared.planned.Planned.TheVariants.{Objects, Channels, Subscribed}
 use Rattle.tile_core.specs.declared.ready.Ready.{Ready}
-use Rattle.tile_core.specs.Moves.{HoldsOfPut, IsAccepted}
-use Rattle.tile_core.specs.Planned.{IsRecordedMove}
+use Rattle.command_plans.specs.Moves.{HoldsOfPut, IsAccepted}
+use Rattle.command_plans.specs.Planned.{IsRecordedMove}
 use Rattle.tile_core.specs.Ready.{planned_writes}
 
 -- a ledger took the records of the writes that an event makes, each of which is read back from its record

@@ -1,9 +1,4 @@
-pub mod Moves
 pub mod Sessions
-pub mod Plans
-pub mod Planned
-pub mod Sweeps
-pub mod Listings
 pub mod Dues
 pub mod CoreStates
 pub mod Stores
@@ -11,9 +6,4 @@ pub mod Staged
 pub mod Ready
 pub mod Ledgers
 pub mod Answered
-pub mod Beside
-pub mod Dropping
 pub mod Subscribers
-pub mod Subscribing
-pub mod Asking
-pub mod Contexts

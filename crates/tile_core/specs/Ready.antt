@@ -16,17 +16,17 @@ use Rattle.session_mail.specs.Mail.{has_room_left}
 use Rattle.session_mail.specs.Sessions.{AreSoundSubs, State, session_of}
 use Rattle.session_mail.specs.Fans.{ArePlaced, HaveStaged}
 use Rattle.tile_core.specs.declared.dues.Expired.{Expired}
-use Rattle.tile_core.specs.declared.moves.Move.{Move}
-use Rattle.tile_core.specs.declared.planned.ChannelMove.{ChannelMove}
-use Rattle.tile_core.specs.declared.planned.ChannelMove.TheVariants.{Set, Drop}
-use Rattle.tile_core.specs.declared.planned.Planned.{Planned}
-use Rattle.tile_core.specs.declared.planned.Planned.TheVariants.{Objects, Channels, Subscribed}
+use Rattle.command_plans.specs.declared.moves.Move.{Move}
+use Rattle.command_plans.specs.declared.planned.ChannelMove.{ChannelMove}
+use Rattle.command_plans.specs.declared.planned.ChannelMove.TheVariants.{Set, Drop}
+use Rattle.command_plans.specs.declared.planned.Planned.{Planned}
+use Rattle.command_plans.specs.declared.planned.Planned.TheVariants.{Objects, Channels, Subscribed}
 use Rattle.tile_core.specs.declared.ready.Ready.{Ready}
 use Rattle.tile_core.specs.declared.stores.Store.{Store}
 use Rattle.tile_core.specs.Dues.{IsExpired, with_back}
-use Rattle.tile_core.specs.Moves.{HasRoom}
-use Rattle.tile_core.specs.Planned.{IsPlanned, channel_writes}
-use Rattle.tile_core.specs.Plans.{writes_of}
+use Rattle.command_plans.specs.Moves.{HasRoom}
+use Rattle.command_plans.specs.Planned.{IsPlanned, channel_writes}
+use Rattle.command_plans.specs.Plans.{writes_of}
 use Rattle.tile_core.specs.Staged.{StagesBehind}
 use Rattle.tile_core.specs.Stores.{IsStore, world_at}
 

@@ -9,9 +9,9 @@ use Rattle.keyspace.specs.Entries.{objects_in}
 use Rattle.session_mail.specs.Sessions.{State, session_of}
 use Rattle.session_mail.specs.Fans.{AreBare}
 use Rattle.tile_core.specs.declared.stores.Store.{Store}
-use Rattle.tile_core.specs.Moves.{world_with}
-use Rattle.tile_core.specs.Planned.{IsRecordedChannel, channels_weight}
-use Rattle.tile_core.specs.CoreStates.{AreKept, most_kept}
+use Rattle.command_plans.specs.Moves.{world_with}
+use Rattle.command_plans.specs.Planned.{IsRecordedChannel, channels_weight}
+use Rattle.command_plans.specs.Kept.{AreKept, most_kept}
 use Rattle.tile_core.specs.Dues.{AreDueFrom}
 use Rattle.tile_core.specs.Sessions.{Rises}
 

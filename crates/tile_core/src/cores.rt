@@ -14,8 +14,9 @@ ghost use Rattle.world_model.specs.declared.events.Outcome.TheVariants as outcom
 ghost use Rattle.log_record.specs.Words.{IsRecorded};
 ghost use Rattle.next_items.specs.Copies.{is_next_channel, is_next_object, name_in, place_in};
 ghost use Rattle.tile_core.specs.Subscribers.{has_subscriptions};
-ghost use Rattle.tile_core.specs.CoreStates.{CoreState, most_kept};
-ghost use Rattle.tile_core.specs.Moves.{IsAccepted};
+ghost use Rattle.tile_core.specs.CoreStates.{CoreState};
+ghost use Rattle.command_plans.specs.Kept.{most_kept};
+ghost use Rattle.command_plans.specs.Moves.{IsAccepted};
 ghost use Rattle.tile_core.specs.Ledgers.{IsRecordedBy};
 ghost use Rattle.tile_core.specs.Answered.{MayCall, MayTake, IsAnswered, AreSessions, StayNamed};
 

@@ -4,8 +4,8 @@ ghost use Rattle.std.specs.Prelude.{◌≡◌, ◌≢◌, ◌≤◌, ◌<◌, �
 ghost use Rattle.world_data.specs.Expiry.{is_due};
 ghost use Rattle.world_data.specs.Records.{weight};
 ghost use Rattle.keyspace.specs.Entries.{objects_in};
-ghost use Rattle.tile_core.specs.CoreStates.{AreKept, most_kept};
-ghost use Rattle.tile_core.specs.Moves.{world_of};
+ghost use Rattle.command_plans.specs.Kept.{AreKept, most_kept};
+ghost use Rattle.command_plans.specs.Moves.{world_of};
 ghost use Rattle.record_lengths.specs.Lengths.{HaveFewFields};
 ghost use Rattle.tile_core.specs.Dues.{IsDueFrom, AreDueFrom, HaveRoom, IsTaken, IsTakenOut, IsExpired, with_back};
 

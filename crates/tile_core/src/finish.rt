@@ -8,19 +8,18 @@ ghost use Rattle.keyspace.specs.Entries.{objects_in};
 ghost use Rattle.deliveries.specs.Staging.{after_all};
 ghost use Rattle.session_mail.specs.Sessions.{AreSoundSubs, session_of};
 ghost use Rattle.tile_core.specs.Dues.{IsDueFrom};
-ghost use Rattle.tile_core.specs.Moves.{HasRoom, HoldsOfPut, moved};
-ghost use Rattle.tile_core.specs.Planned.{IsPlanned, channels_left, channels_moved, weight_left, without_names};
+ghost use Rattle.command_plans.specs.Moves.{HasRoom, HoldsOfPut, moved};
+ghost use Rattle.command_plans.specs.Planned.{IsPlanned, channels_left, channels_moved, weight_left, without_names};
 ghost use Rattle.tile_core.specs.Ready.{CanComplete, HasRoomFor, IsCompleted, IsDoneIf, IsPreparedFor, IsSoundAnswer, ending_if, length_if, planned_length, planned_writes, replied, reply_count};
 ghost use Rattle.tile_core.specs.Stores.{IsStore, world_at};
 
 use crate::dues::release;
-use crate::moves::{Move, due_from_after, make_move};
-use crate::planned::{ChannelMove, ChannelPlan, Confirmed, Planned};
-use crate::plans::Plan;
+use crate::moves::{due_from_after, make_move};
 use crate::ready::Ready;
 use crate::stores::Store;
 use byte_text::Text;
 use channel_hub::Hub;
+use command_plans::{ChannelMove, ChannelPlan, Confirmed, Move, Plan, Planned};
 use session_mail::{Session, place_staged};
 use world_model::NameList;
 

@@ -1,32 +1,17 @@
-//! What is done to the objects of a world.
+//! Objects are changed as a plan says.
 
 ghost use Rattle.std.specs.Prelude.{◌≡◌, ◌<◌, ◌≤◌, ◌^◌, length, OnOk};
 ghost use Rattle.byte_text.specs.Names.{Bytes};
 ghost use Rattle.keyspace.specs.Entries.{objects_in, room_for};
 ghost use Rattle.tile_core.specs.Dues.{IsDueFrom};
-ghost use Rattle.tile_core.specs.Moves.{HasRoom, HoldsOfPut, moved, without_each};
+ghost use Rattle.command_plans.specs.Moves.{HasRoom, HoldsOfPut, moved, without_each};
 
 use crate::dues::earlier;
 use byte_text::{Name, NoMemory};
+use command_plans::Move;
 use keyspace::Keyspace;
 use rtree::{Steps, Visits};
-use world_model::{NameList, Object};
-
-/// What is done to the objects.
-#[derive(Drop)]
-pub(crate) enum Move {
-    Stay,
-    /// The object is put in its place.
-    Put(Object),
-    /// The object of this key and this id is taken out.
-    Delete(Name, Name),
-    /// The objects of a key that have these ids are taken out.
-    DeleteEach(Name, NameList),
-    /// The objects of this key are taken out.
-    Leave(Name),
-    /// All objects are.
-    Clear,
-}
+use world_model::NameList;
 
 /// Takes room for what is put. For want of memory the objects are as before.
 pub(crate) fn make_room(objects: &mut Keyspace, action: &Move) -> Result<(), NoMemory>

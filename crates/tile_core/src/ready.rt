@@ -12,16 +12,14 @@ ghost use Rattle.tile_core.specs.Ledgers.{AreTaken, CanRecordIf, ready_writes};
 ghost use Rattle.tile_core.specs.Ready.{HasRoomFor, IsAsBefore, IsDueTaken, IsPlannedBehind, IsReady, IsRestBehind, IsRoomier, IsUndone, reply_count};
 ghost use Rattle.tile_core.specs.Stores.{IsStore};
 
-use crate::contexts::Context;
 use crate::dues::{Expired, expire, put_back};
 use crate::ledgers::Ledger;
 use crate::moves::make_room;
-use crate::planned::{ChannelMove, Planned};
 use crate::records::record_ready;
-use crate::requests::plan_asked;
 use crate::staging::{stage_dels, stage_planned};
 use crate::stores::Store;
 use byte_text::{NoMemory, Text};
+use command_plans::{ChannelMove, Context, Planned, plan_asked};
 use session_mail::{Session, unstage};
 use std::alloc::Global;
 use world_model::Asked;

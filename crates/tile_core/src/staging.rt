@@ -10,15 +10,14 @@ ghost use Rattle.fence_model.specs.Writes.{loud, dels};
 ghost use Rattle.keyspace.specs.Entries.{objects_in};
 ghost use Rattle.session_mail.specs.Sessions.{session_of};
 ghost use Rattle.tile_core.specs.Dues.{AllStand};
-ghost use Rattle.tile_core.specs.Moves.{AllThere, HaveAllThere, world_with};
-ghost use Rattle.tile_core.specs.Plans.{writes_of};
+ghost use Rattle.command_plans.specs.Moves.{AllThere, HaveAllThere, world_with};
+ghost use Rattle.command_plans.specs.Plans.{writes_of};
 ghost use Rattle.tile_core.specs.Ready.{HoldsOfObjects, planned_writes};
 ghost use Rattle.tile_core.specs.Staged.{StagesBehind, dels_of};
 
-use crate::moves::Move;
-use crate::planned::Planned;
 use byte_text::{Name, NoMemory};
 use channel_hub::Hub;
+use command_plans::{Move, Planned};
 use keyspace::Keyspace;
 use message_fan::{stage_del, stage_drop, stage_put, turn_laws};
 use rtree::{Steps, Visits};

@@ -2,14 +2,11 @@
 
 use byte_text::NoMemory;
 use channel_hub::Hub;
+use command_plans::MOST_KEPT;
 use keyspace::Keyspace;
 use rtree::{Steps, Visits};
 use std::alloc::Global;
 use stored_world::{StoreParts, StoredWorld};
-
-/// The most that the records of a world may weigh, so that lengths and counts of them stay small numbers. No command makes a world of
-/// more than `MAX_WEIGHT`; one that is heavier, which a log may hold, is kept as it stands, and there is no memory for one of more than this.
-pub(crate) const MOST_KEPT: u64 = 68_719_476_736;
 
 /// A world as it is kept.
 #[derive(Drop)]
@@ -31,7 +28,7 @@ impl Store {
     ghost use Rattle.std.specs.List.{AllByRecursion};
     ghost use Rattle.world_data.specs.Sound.{IsSoundWorld};
     ghost use Rattle.world_data.specs.Worlds.{empty_world};
-    ghost use Rattle.tile_core.specs.Planned.{IsRecordedChannel};
+    ghost use Rattle.command_plans.specs.Planned.{IsRecordedChannel};
     ghost use Rattle.tile_core.specs.Stores.{IsStore, world_at};
 
     /// The empty world.

@@ -5,13 +5,13 @@ use Rattle.world_data.specs.declared.channels.Channel.{Channel}
 use Rattle.world_data.specs.declared.objects.Object.{Object}
 use Rattle.keyspace.specs.Entries.{objects_in}
 use Rattle.deliveries.specs.Staging.{after_all}
-use Rattle.tile_core.specs.declared.planned.Planned.{Planned}
-use Rattle.tile_core.specs.declared.planned.Planned.TheVariants.{Objects, Channels}
+use Rattle.command_plans.specs.declared.planned.Planned.{Planned}
+use Rattle.command_plans.specs.declared.planned.Planned.TheVariants.{Objects, Channels}
 use Rattle.tile_core.specs.declared.stores.Store.{Store}
-use Rattle.tile_core.specs.CoreStates.{AreKept}
+use Rattle.command_plans.specs.Kept.{AreKept}
 use Rattle.tile_core.specs.Dues.{AreDueFrom}
-use Rattle.tile_core.specs.Moves.{world_with, moved}
-use Rattle.tile_core.specs.Planned.{IsPlanned, IsRecordedChannel, channels_left, channels_moved, channels_weight}
+use Rattle.command_plans.specs.Moves.{world_with, moved}
+use Rattle.command_plans.specs.Planned.{IsPlanned, IsRecordedChannel, channels_left, channels_moved, channels_weight}
 use Rattle.tile_core.specs.Ready.{planned_writes}
 use Rattle.tile_core.specs.Stores.{IsStore, world_at}
 use Rattle.tile_core.proofs.Finishing.{channels_done, kept_after, move_done, recorded_left, recorded_moved, sound_left, sound_moved, weighed_left}

@@ -8,8 +8,8 @@ use Rattle.keyspace.specs.Entries.{objects_in}
 use Rattle.deliveries.specs.Plans.{effect_of_asked}
 use Rattle.session_mail.specs.Sessions.{State, session_of}
 use Rattle.session_mail.specs.FanLaws.{same_set}
-use Rattle.tile_core.specs.Moves.{world_with}
-use Rattle.tile_core.specs.Planned.{IsPlanned}
+use Rattle.command_plans.specs.Moves.{world_with}
+use Rattle.command_plans.specs.Planned.{IsPlanned}
 use Rattle.tile_core.specs.Ready.{planned_writes, reply_count}
 use Rattle.tile_core.specs.Staged.{StagesBehind}
 use Rattle.tile_core.specs.Stores.{world_at}

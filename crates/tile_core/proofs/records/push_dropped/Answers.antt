@@ -4,7 +4,7 @@ use Rattle.byte_text.specs.Names.{Bytes}
 use Rattle.fence_model.specs.Writes.{quiet}
 use Rattle.world_data.specs.declared.worlds.Change.TheVariants as change
 use Rattle.tile_core.specs.Ledgers.{ArePushed}
-use Rattle.tile_core.specs.Planned.{dropped_of}
+use Rattle.command_plans.specs.Planned.{dropped_of}
 use Rattle.tile_core.proofs.Pushing.{pushed_more, pushed_none, pushed_one}
 use Rattle.tile_core.proofs.records.push_dropped.Goals as goal
 

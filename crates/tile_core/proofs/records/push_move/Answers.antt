@@ -1,7 +1,7 @@
 use Rattle.std.proofs.Common.{Bool, OnOk, sym, subst}
-use Rattle.tile_core.specs.declared.moves.Move.{Move}
+use Rattle.command_plans.specs.declared.moves.Move.{Move}
 use Rattle.tile_core.specs.Ledgers.{ArePushed}
-use Rattle.tile_core.specs.Plans.{writes_of}
+use Rattle.command_plans.specs.Plans.{writes_of}
 use Rattle.tile_core.proofs.records.push_move.Goals as goal
 
 pub returns-in-Put : goal.returns-in-Put

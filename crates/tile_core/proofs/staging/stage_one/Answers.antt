@@ -5,10 +5,10 @@ use Rattle.world_data.specs.declared.worlds.Change.TheVariants as change
 use Rattle.fence_model.specs.Writes.{Write, loud}
 use Rattle.keyspace.specs.Entries.{objects_in}
 use Rattle.message_fan.specs.Stagings.{IsBeforeDel, IsStagedIn}
-use Rattle.tile_core.specs.Moves.{world_with}
+use Rattle.command_plans.specs.Moves.{world_with}
 use Rattle.tile_core.specs.Staged.{StagesBehind}
 use Rattle.tile_core.proofs.Behind.{behind_one, on_ok}
-use Rattle.tile_core.proofs.Weights.{found_at}
+use Rattle.command_plans.specs.Weights.{found_at}
 use Rattle.tile_core.proofs.staging.stage_one.Goals as goal
 
 pub returns-in-Some-clause-staged : goal.returns-in-Some-clause-staged

@@ -1,7 +1,7 @@
 use Rattle.keyspace.specs.Entries.{objects_in}
 use Rattle.std.proofs.Common.{sym, subst}
-use Rattle.tile_core.specs.declared.planned.Planned.{Planned}
-use Rattle.tile_core.specs.Moves.{world_with}
+use Rattle.command_plans.specs.declared.planned.Planned.{Planned}
+use Rattle.command_plans.specs.Moves.{world_with}
 use Rattle.tile_core.specs.Ready.{planned_writes}
 use Rattle.tile_core.specs.Staged.{StagesBehind}
 use Rattle.tile_core.proofs.Behind.{behind_channels}

@@ -1,6 +1,0 @@
-use Rattle.std.proofs.Common.{take}
-use Rattle.tile_core.specs.Dropping.{IsDroppedOf}
-use Rattle.tile_core.proofs.channel_plans.drop_each.Given as goal
-
-abbrev pub invariant-loop-i : goal.invariant-loop-i
-invariant-loop-i l = IsDroppedOf l.pattern (take l.i l.hub.channels) l.fn.channels l.dropped
