@@ -4,7 +4,7 @@
 use crate::calls::{called, disk_failing, do_nothing, enters, is_stopped, open, side, taken};
 use crate::dialogues::speak;
 use byte_text::Text;
-use durable_core::DurableCore;
+use durable_core::{DurableCore, PENDING};
 use journal::OpenFault;
 use outside::{MemoryDisk, Side};
 use std::alloc::Global;
@@ -26,6 +26,12 @@ fn a_side_is_the_bytes_of_the_format(rt: HostRuntime) -> Result<(), Fail> {
         assert_eq!(rt; side(alloc, &mut disk, on)?.as_slice(), bytes);
     }
     Ok(())
+}
+
+// The records that are pending where the next call or tick commits first: 4 MiB.
+#[test]
+fn so_much_may_be_pending(rt: HostRuntime) {
+    assert_eq!(rt; PENDING, 4_194_304);
 }
 
 // A write with a take: whether it is acknowledged. A hall that fails at it does nothing from then on.

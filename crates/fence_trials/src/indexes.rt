@@ -15,11 +15,15 @@ fn roam(alloc: Global) -> Result<Watch, NoMemory> {
     Ok(Watch::Roam(name(alloc, b"people")?, name(alloc, b"*")?, 10, false))
 }
 
+// The channel, which wants `outside` or does not.
+fn wanting(mut channel: Channel, outside: bool) -> Channel {
+    channel.fence.wanted.outside = outside;
+    channel
+}
+
 // A channel that wants everything but `outside`, where that is not wanted.
 fn telling(alloc: Global, key: &[u8], outside: bool, watch: Watch) -> Result<Channel, NoMemory> {
-    let mut channel = channel(alloc, b"fence", key, watch)?;
-    channel.fence.wanted.outside = outside;
-    Ok(channel)
+    Ok(wanting(channel(alloc, b"fence", key, watch)?, outside))
 }
 
 fn put(

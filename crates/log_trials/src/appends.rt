@@ -3,6 +3,7 @@
 use append_log::{AppendLog, Gate, LogFault, Reader, Start, start_log};
 use outside::{Disk, MemoryDisk, PlainDisk, Side};
 use std::alloc::Global;
+use std::process::Abort;
 use std::test::Fail;
 
 // A disk of which these calls fail.
@@ -87,36 +88,72 @@ fn a_fresh_side_and_two_batches(rt: HostRuntime) -> Result<(), Fail> {
     Ok(())
 }
 
+// Commits a batch.
+fn put(log: &mut AppendLog, disk: &mut MemoryDisk, batch: &[u8]) -> bool {
+    log.has_room(batch.len()) && log.push(batch).is_ok() && log.commit(disk).is_ok()
+}
+
+// Makes a side and commits a batch and then another: whether the second commit did.
+fn commits(alloc: Global, disk: &mut MemoryDisk) -> Result<bool, Fail> {
+    let Ok(mut log) = AppendLog::make(alloc, disk, Side::A, 1) else {
+        return Err(Fail::from("no log"));
+    };
+    if !put(&mut log, disk, b"xyz") {
+        return Err(Fail::from("no first commit"));
+    }
+    Ok(put(&mut log, disk, b"abcd"))
+}
+
+// What an image of the disk holds.
+fn held_at(disk: &MemoryDisk, moment: u64, choice: u64) -> Result<i64, Fail> {
+    if moment > disk.moment() {
+        return Err(Fail::from("a moment to come"));
+    }
+    let mut image = disk.image(moment, choice)?;
+    Ok(held(&mut image))
+}
+
+// Each image from a moment on holds what stood before or what stands after, and of the last moment what stands after where all was done.
+fn each_holds(
+    rt: &impl Abort,
+    disk: &MemoryDisk,
+    from: u64,
+    (before, after): (i64, i64),
+    done: bool,
+) -> Result<(), Fail> {
+    for moment in from..=disk.moment() {
+        for choice in 0u64..9 {
+            let found = held_at(disk, moment, choice)?;
+            let last = done && moment == disk.moment();
+            assert!(rt;
+                found == after || !last && found == before,
+                "{moment} {choice} {found}"
+            );
+        }
+    }
+    Ok(())
+}
+
 #[test]
 fn each_image_of_a_commit_holds_the_batches_before_or_after(rt: HostRuntime) -> Result<(), Fail> {
     let alloc = rt.alloc();
     // Making the side takes 8 calls, the first commit 4. Of the second one the first to the last fails, or none.
     for failing in 13u64..18 {
         let mut disk = disk_failing(alloc, &[failing])?;
-        let Ok(mut log) = AppendLog::make(alloc, &mut disk, Side::A, 1) else {
-            return Err(Fail::from("no log"));
-        };
-        assert!(rt; log.has_room(3));
-        assert_eq!(rt; log.push(b"xyz"), Ok(()));
-        assert_eq!(rt; log.commit(&mut disk), Ok(()));
-        assert!(rt; log.has_room(4));
-        assert_eq!(rt; log.push(b"abcd"), Ok(()));
-        let done = log.commit(&mut disk).is_ok();
+        let done = commits(alloc, &mut disk)?;
         assert_eq!(rt; done, failing == 17);
-        for moment in 12u64..=disk.moment() {
-            for choice in 0u64..9 {
-                assert!(rt; moment <= disk.moment());
-                let mut image = disk.image(moment, choice)?;
-                let found = held(&mut image);
-                assert!(rt;
-                    found == 1364 || found == 2758,
-                    "{failing} {moment} {choice} {found}"
-                );
-                assert!(rt; !(done && moment == disk.moment()) || found == 2758);
-            }
-        }
+        each_holds(&rt, &disk, 12, (1364, 2758), done)?;
     }
     Ok(())
+}
+
+// Makes a side: whether that was done, and failed for the disk alone.
+fn makes(alloc: Global, disk: &mut MemoryDisk) -> Result<bool, Fail> {
+    match AppendLog::make(alloc, disk, Side::A, 1) {
+        Ok(_) => Ok(true),
+        Err(LogFault::Disk) => Ok(false),
+        Err(_) => Err(Fail::from("another fault")),
+    }
 }
 
 #[test]
@@ -124,26 +161,9 @@ fn each_image_of_a_new_side_is_fresh_or_stands(rt: HostRuntime) -> Result<(), Fa
     let alloc = rt.alloc();
     for failing in 1u64..10 {
         let mut disk = disk_failing(alloc, &[failing])?;
-        let made = match AppendLog::make(alloc, &mut disk, Side::A, 1) {
-            Ok(_) => true,
-            Err(fault) => {
-                assert_eq!(rt; fault, LogFault::Disk);
-                false
-            }
-        };
+        let made = makes(alloc, &mut disk)?;
         assert_eq!(rt; made, failing == 9);
-        for moment in 0u64..=disk.moment() {
-            for choice in 0u64..9 {
-                assert!(rt; moment <= disk.moment());
-                let mut image = disk.image(moment, choice)?;
-                let found = held(&mut image);
-                assert!(rt;
-                    found == 0 || found == 1,
-                    "{failing} {moment} {choice} {found}"
-                );
-                assert!(rt; !(made && moment == disk.moment()) || found == 1);
-            }
-        }
+        each_holds(&rt, &disk, 0, (0, 1), made)?;
     }
     Ok(())
 }

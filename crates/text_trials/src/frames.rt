@@ -58,37 +58,43 @@ fn faults(rt: HostRuntime) {
     }
 }
 
+// Feeds a piece, and appends the requests that come of it. How many there are.
+fn feed(reader: &mut Requests, piece: &[u8], text: &mut Text) -> Result<u8, Fail> {
+    let mut rest = piece;
+    let mut requests = 0u8;
+    for _ in 0..3 {
+        let Ok(fed) = reader.feed(rest) else {
+            return Err(Fail::from("a fault"));
+        };
+        rest = rest.get(fed.taken..).unwrap_or(&[]);
+        if let Some(request) = fed.request {
+            requests = requests.saturating_add(1);
+            if request.words() > 0 {
+                push_request(text, &request)?;
+            }
+        }
+    }
+    Ok(requests)
+}
+
+// The requests of a stream that comes in pieces of this size: how many there are, and their bytes.
+fn requests_of(alloc: Global, stream: &[u8], size: usize) -> Result<(u8, Text), Fail> {
+    let mut reader = Requests::new(alloc);
+    let mut text = Text::new(alloc);
+    let mut requests = 0u8;
+    for piece in stream.chunks(size.max(1)) {
+        requests = requests.saturating_add(feed(&mut reader, piece, &mut text)?);
+    }
+    Ok((requests, text))
+}
+
 #[test]
 fn requests_in_any_cutting(rt: HostRuntime) -> Result<(), Fail> {
     let stream = b"*1\r\n$4\r\nPING\r\n*2\r\n$3\r\nDEL\r\n$0\r\n\r\n*";
     for size in 1..stream.len() + 1 {
-        let mut reader = Requests::new(rt.alloc());
-        let mut text = Text::new(rt.alloc());
-        let mut requests = 0u8;
-        for piece in stream.chunks(size) {
-            let mut rest = piece;
-            for _ in 0..3 {
-                match reader.feed(rest) {
-                    Ok(fed) => {
-                        let taken = fed.taken;
-                        if let Some(request) = fed.request {
-                            requests = requests.saturating_add(1);
-                            if request.words() > 0 {
-                                push_request(&mut text, &request)?;
-                            }
-                        }
-                        rest = rest.get(taken..).unwrap_or(&[]);
-                    }
-                    Err(fault) => assert_eq!(rt; Some(fault), None, "in pieces of {size}"),
-                }
-            }
-        }
-        assert_eq!(rt; requests, 2, "in pieces of {size}");
-        assert_eq!(rt;
-            text.bytes(),
-            &stream[..stream.len() - 1],
-            "in pieces of {size}"
-        );
+        let (requests, text) = requests_of(rt.alloc(), stream, size)?;
+        let whole = &stream[..stream.len() - 1];
+        assert_eq!(rt; (requests, text.bytes()), (2, whole), "in pieces of {size}");
     }
     Ok(())
 }

@@ -8,41 +8,72 @@ use std::alloc::Global;
 use std::collections::HashMap;
 use std::test::Fail;
 
+// Why these bytes are no name.
+fn refusal(alloc: Global, bytes: &[u8]) -> Option<TextFault> {
+    match Name::of(alloc, bytes) {
+        Err(NameFault::Refused(fault)) => Some(fault),
+        _ => None,
+    }
+}
+
 #[test]
-fn names(rt: HostRuntime) -> Result<(), Fail> {
+fn bytes_that_are_no_name(rt: HostRuntime) {
     let alloc = rt.alloc();
-    let long = [b'a'; 256];
-    assert!(rt;
-        matches!(
-            Name::of(alloc, b""),
-            Err(NameFault::Refused(TextFault::Empty))
-        )
-    );
-    assert!(rt;
-        matches!(
-            Name::of(alloc, &long),
-            Err(NameFault::Refused(TextFault::TooLong))
-        )
-    );
-    assert!(rt;
-        matches!(
-            Name::of(alloc, b"\xFF"),
-            Err(NameFault::Refused(TextFault::NotUtf8))
-        )
-    );
-    assert_eq!(rt; Name::of(alloc, &long[1..])?.bytes().len(), 255);
-    let one = Name::of(alloc, b"v1")?;
+    assert_eq!(rt; refusal(alloc, b""), Some(TextFault::Empty));
+    assert_eq!(rt; refusal(alloc, &[b'a'; 256]), Some(TextFault::TooLong));
+    assert_eq!(rt; refusal(alloc, b"\xFF"), Some(TextFault::NotUtf8));
+}
+
+#[test]
+fn the_longest_name(rt: HostRuntime) -> Result<(), Fail> {
+    let name = Name::of(rt.alloc(), &[b'a'; 255])?;
+    assert_eq!(rt; name.bytes().len(), 255);
+    Ok(())
+}
+
+// Whether one name comes before another that it does not equal.
+fn is_before(alloc: Global, one: &str, other: &str) -> Result<bool, NameFault> {
+    let one = Name::of(alloc, one.as_bytes())?;
+    let other = Name::of(alloc, other.as_bytes())?;
+    Ok(one < other && one != other)
+}
+
+// The earlier byte decides, among the first eight bytes and behind them.
+#[test]
+fn names_are_ordered(rt: HostRuntime) -> Result<(), Fail> {
+    for (one, other) in [
+        ("v1", "v10"),
+        ("truck01z", "truck02a"),
+        ("truck0000019", "truck0000020"),
+    ] {
+        let found = is_before(rt.alloc(), one, other)?;
+        assert!(rt; found, "{one} and {other}");
+    }
+    Ok(())
+}
+
+// Whether a name equals its copy, and the number that a table has for it: what is put under the name is found by the copy.
+fn found_by_copy(alloc: Global, name: &[u8]) -> Result<(bool, Option<u8>), Fail> {
+    let one = Name::of(alloc, name)?;
     let two = one.copy(alloc)?;
-    let ten = Name::of(alloc, b"v10")?;
-    assert_eq!(rt; two.bytes(), b"v1".as_slice());
-    assert!(rt; one == two && one < ten && ten != two);
-    // The earlier byte decides, among the first eight bytes and behind them.
-    assert!(rt; Name::of(alloc, b"truck01z")? < Name::of(alloc, b"truck02a")?);
-    assert!(rt; Name::of(alloc, b"truck0000019")? < Name::of(alloc, b"truck0000020")?);
+    let is_same = one == two && two.bytes() == name;
     let mut table = HashMap::new(alloc);
     table.insert(one, 7u8)?;
-    assert_eq!(rt; table.get(&two).copied(), Some(7));
-    assert_eq!(rt; table.get(&ten).copied(), None);
+    Ok((is_same, table.get(&two).copied()))
+}
+
+// What a table that has `v1` alone has for another name.
+fn found_by_other(alloc: Global, name: &[u8]) -> Result<Option<u8>, Fail> {
+    let mut table = HashMap::new(alloc);
+    table.insert(Name::of(alloc, b"v1")?, 7u8)?;
+    Ok(table.get(&Name::of(alloc, name)?).copied())
+}
+
+#[test]
+fn names_are_keys_of_a_table(rt: HostRuntime) -> Result<(), Fail> {
+    let alloc = rt.alloc();
+    assert_eq!(rt; found_by_copy(alloc, b"v1")?, (true, Some(7)));
+    assert_eq!(rt; found_by_other(alloc, b"v10")?, None);
     Ok(())
 }
 
@@ -71,30 +102,20 @@ fn numbers(rt: HostRuntime) -> Result<(), Fail> {
     assert_eq!(rt; read_i64(b"-9223372036854775808"), Ok(i64::MIN));
     assert_eq!(rt; read_u64(b"18446744073709551615"), Ok(u64::MAX));
     assert_eq!(rt; read_i64(b"0"), Ok(0));
-    for wrong in [
-        "",
-        "-",
-        "-0",
-        "+5",
-        "007",
-        " 1",
-        "1.0",
-        "9223372036854775808",
-    ] {
-        assert_eq!(rt;
-            read_i64(wrong.as_bytes()),
-            Err(TextFault::NotNumber),
-            "at {wrong}"
-        );
-    }
-    for wrong in ["", "-1", "00", "18446744073709551616", "1e3"] {
-        assert_eq!(rt;
-            read_u64(wrong.as_bytes()),
-            Err(TextFault::NotNumber),
-            "at {wrong}"
-        );
-    }
     Ok(())
+}
+
+// Texts that are no number stand between strokes.
+#[test]
+fn texts_that_are_no_number(rt: HostRuntime) {
+    for wrong in "|-|-0|+5|007| 1|1.0|9223372036854775808".split('|') {
+        let found = read_i64(wrong.as_bytes());
+        assert_eq!(rt; found, Err(TextFault::NotNumber), "at {wrong}");
+    }
+    for wrong in "|-1|00|18446744073709551616|1e3".split('|') {
+        let found = read_u64(wrong.as_bytes());
+        assert_eq!(rt; found, Err(TextFault::NotNumber), "at {wrong}");
+    }
 }
 
 #[test]
