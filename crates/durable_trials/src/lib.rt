@@ -1,4 +1,4 @@
-//! Trials of a core over a disk in memory. It holds tests alone.
+//! Trials of the opening of a disk and of a core over one, in memory. It holds tests alone.
 #![tactic(auto)]
 
 #[cfg(test)]

@@ -1,4 +1,4 @@
-//! Tests of the generated workload over a core.
+//! Tests of the generated workload, of the words that ask for it, and of its drive over a core.
 #![tactic(auto)]
 
 #[cfg(test)]

@@ -1,4 +1,4 @@
-//! Tests of the append log and of the journal.
+//! Tests of the append log, of the rewriting beside it and of the journal.
 #![tactic(auto)]
 
 #[cfg(test)]

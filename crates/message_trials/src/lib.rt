@@ -1,4 +1,4 @@
-//! Tests of what a write raises, of the messages that tell of it, and of the sessions that hear them.
+//! Tests of what a write raises, of the messages that tell of it, and of the sessions that hear them: their subscriptions and queues.
 #![tactic(auto)]
 
 #[cfg(test)]

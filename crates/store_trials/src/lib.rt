@@ -1,4 +1,4 @@
-//! Tests of lists in runs, of collections and pages of them, of keyspaces, and of worlds as they are kept.
+//! Tests of lists in runs, of what fields pass, of collections and pages of them, of keyspaces, and of worlds as they are kept.
 #![tactic(auto)]
 
 #[cfg(test)]

@@ -1,4 +1,4 @@
-//! Tests of texts, requests, replies and the frames of a stream.
+//! Tests of texts, requests, replies, the frames of a stream, patterns and the lines of a script.
 #![tactic(auto)]
 
 #[cfg(test)]
