@@ -1,6 +1,7 @@
 //! The log on a side of a disk: records are pushed, and a commit makes them stand.
 
-ghost use Rattle.std.specs.Prelude.{Decides, ◌≡◌, ◌+◌, ◌≤◌, ◌<◌, ◌^◌, ◌++◌, ℕ, List, [], take, length, OnOk, OnErr, IfOk, IfErr, MatchResult};
+ghost use Rattle.std.specs.Prelude.{Decides, ◌≡◌, ◌+◌, ◌≤◌, ◌<◌, ◌^◌, ◌++◌, ℕ, List, [], take, length, OnOk, OnErr};
+ghost use Rattle.std.specs.Prelude.{IfOk, IfErr, MatchResult};
 ghost use Rattle.byte_text.specs.Names.{Bytes};
 ghost use Rattle.outside.specs.Causes.{HasCause, Rose};
 ghost use Rattle.log_sides.specs.Texts.{StandsRound, IsGeneration, committed, written};
@@ -69,13 +70,17 @@ impl AppendLog {
         generation: u64,
     ) -> Result<AppendLog, LogFault>
         requires { IsGeneration generation }
-        ensures stands { (before : Bytes) → length before ≤ 2 ^ 62 → ReadsAs D.crashes D.seen D.images disk.old side before
+        ensures stands { (before : Bytes) → length before ≤ 2 ^ 62
+            → ReadsAs D.crashes D.seen D.images disk.old side before
             → IfOk result (λ log. LogOn D.crashes D.seen D.images disk.new side generation log.gate []) }
-        ensures either { (before : Bytes) → length before ≤ 2 ^ 62 → ReadsAs D.crashes D.seen D.images disk.old side before
+        ensures either { (before : Bytes) → length before ≤ 2 ^ 62
+            → ReadsAs D.crashes D.seen D.images disk.old side before
             → MatchResult result
-            (λ log. SideLeads D.crashes D.seen D.images D.moment D.left_since side (WhileMade generation before) disk.old disk.new)
+            (λ log. SideLeads D.crashes D.seen D.images D.moment D.left_since side
+            (WhileMade generation before) disk.old disk.new)
             (λ fault. fault ≡ LogFault.Disk
-            → SideLeads D.crashes D.seen D.images D.moment D.left_since side (WhileMade generation before) disk.old disk.new) }
+            → SideLeads D.crashes D.seen D.images D.moment D.left_since side
+            (WhileMade generation before) disk.old disk.new) }
         ensures memory { IfErr result (λ fault. fault ≡ LogFault.Memory → disk.new ≡ disk.old) }
         ensures told { D.crashes disk.new ≡ D.crashes disk.old }
         ensures later { D.faults disk.old ≤ D.faults disk.new }

@@ -1,4 +1,8 @@
 //! A batch is made to stand behind the closed gate of a side.
+//!
+//! Each call here and in `log_rewrite` makes at most four calls of the disk that write, cut or sync, which keeps the
+//! proofs small; larger work is put together from their contracts. `has_room` is exact: a caller without room may
+//! answer as for want of memory.
 
 ghost use Rattle.std.specs.Prelude.{◌≡◌, ◌+◌, ◌≤◌, ◌^◌, ℕ, List, length, OnOk};
 ghost use Rattle.byte_text.specs.Names.{Bytes};
@@ -17,9 +21,11 @@ pub(crate) fn append_batch<D: Disk>(
 ) -> Result<(), Failed>
     requires room { gate + length batch.now ≤ 2 ^ 62 }
     requires sealed { 10 ≤ length batch.now }
-    ensures stands { (g : ℕ) (bs : List Bytes) (b : Bytes) → batch.now ≡ sealed b → LogOn D.crashes D.seen D.images disk.old side g gate bs
+    ensures stands { (g : ℕ) (bs : List Bytes) (b : Bytes) → batch.now ≡ sealed b
+        → LogOn D.crashes D.seen D.images disk.old side g gate bs
         → OnOk result (SafeOn D.crashes D.seen D.images disk.new side (StandsFor g (with_batch bs b))) }
-    ensures either { (g : ℕ) (bs : List Bytes) (b : Bytes) → batch.now ≡ sealed b → LogOn D.crashes D.seen D.images disk.old side g gate bs
+    ensures either { (g : ℕ) (bs : List Bytes) (b : Bytes) → batch.now ≡ sealed b
+        → LogOn D.crashes D.seen D.images disk.old side g gate bs
         → SideLeads D.crashes D.seen D.images D.moment D.left_since side (StandsWithin g bs b) disk.old disk.new }
     ensures told { D.crashes disk.new ≡ D.crashes disk.old }
     ensures cause { HasCause (D.faults disk.old) (D.faults disk.new) result }

@@ -49,7 +49,8 @@ impl Head {
     // A side of so many bytes that begins with these.
     fn of(len: u64, first: &[u8; 16]) -> Head
         ensures head { result ≡ head_in len first.now }
-        ensures headed { (bytes : Bytes) → len ≡ length bytes → (16 ≤ len → first.now ≡ take 16 bytes) → IsOpenHead bytes result }
+        ensures headed { (bytes : Bytes) → len ≡ length bytes → (16 ≤ len → first.now ≡ take 16 bytes)
+            → IsOpenHead bytes result }
         ensures sized { IsSizedHead result }
     {
         Head::said(len, first)
@@ -120,8 +121,10 @@ pub fn start_log<D: Disk>(disk: &mut D) -> Result<Start, Failed>
     ensures start { (s : Sides) → D.seen disk.old ≡ Some s
         → IfOk result (λ start. (start ≡ start_of (head_of s.a) (head_of s.b)) × IsHeadedIn s start) }
     ensures sized { IfOk result IsSizedStart }
-    ensures a { (s : Sides) → D.seen disk.old ≡ Some s → OnOk result (SafeOn D.crashes D.seen D.images disk.new A (λ x. x ≡ s.a)) }
-    ensures b { (s : Sides) → D.seen disk.old ≡ Some s → OnOk result (SafeOn D.crashes D.seen D.images disk.new B (λ x. x ≡ s.b)) }
+    ensures a { (s : Sides) → D.seen disk.old ≡ Some s
+        → OnOk result (SafeOn D.crashes D.seen D.images disk.new A (λ x. x ≡ s.a)) }
+    ensures b { (s : Sides) → D.seen disk.old ≡ Some s
+        → OnOk result (SafeOn D.crashes D.seen D.images disk.new B (λ x. x ≡ s.b)) }
     ensures same { Told (D.seen disk.old) (D.seen disk.new) (λ s t. t ≡ s) }
     ensures crash { (c : Sides) → D.images disk.new c → D.images disk.old c }
     ensures moments { LeavesOnly D.moment D.left_since disk.old disk.new (D.images disk.old) }
@@ -176,8 +179,10 @@ fn look_at<D: Disk>(disk: &mut D, side: Side) -> Result<Head, Failed>
 }
 
 fn sync_both<D: Disk>(disk: &mut D) -> Result<(), Failed>
-    ensures a { (s : Sides) → D.seen disk.old ≡ Some s → OnOk result (SafeOn D.crashes D.seen D.images disk.new A (λ x. x ≡ s.a)) }
-    ensures b { (s : Sides) → D.seen disk.old ≡ Some s → OnOk result (SafeOn D.crashes D.seen D.images disk.new B (λ x. x ≡ s.b)) }
+    ensures a { (s : Sides) → D.seen disk.old ≡ Some s
+        → OnOk result (SafeOn D.crashes D.seen D.images disk.new A (λ x. x ≡ s.a)) }
+    ensures b { (s : Sides) → D.seen disk.old ≡ Some s
+        → OnOk result (SafeOn D.crashes D.seen D.images disk.new B (λ x. x ≡ s.b)) }
     ensures same { Told (D.seen disk.old) (D.seen disk.new) (λ s t. t ≡ s) }
     ensures crash { (c : Sides) → D.images disk.new c → D.images disk.old c }
     ensures moments { LeavesOnly D.moment D.left_since disk.old disk.new (D.images disk.old) }

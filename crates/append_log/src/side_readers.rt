@@ -1,6 +1,7 @@
 //! A side is read batch by batch, into a buffer that the caller gives.
 
-ghost use Rattle.std.specs.Prelude.{Ok, ◌≡◌, ◌+◌, ◌-◌, ◌≤◌, ◌<◌, ◌++◌, ℕ, List, [], ◌∷◌, take, drop, length, min, IfOk, ◌^◌};
+ghost use Rattle.std.specs.Prelude.{Ok, ◌≡◌, ◌+◌, ◌-◌, ◌≤◌, ◌<◌, ◌++◌, ℕ, List, [], ◌∷◌, take, drop, length, min, IfOk};
+ghost use Rattle.std.specs.Prelude.{◌^◌};
 ghost use Rattle.byte_text.specs.Names.{Bytes};
 ghost use Rattle.outside.specs.Causes.{HasCause};
 ghost use Rattle.log_sides.specs.States.{ReadsAs, SideLeads};
@@ -66,14 +67,16 @@ impl Reader {
 
     /// Reads the next gate, and the length of the batch behind it where it is open.
     pub fn next_batch<D: Disk>(&mut self, disk: &mut D) -> Result<Gate, Failed>
-        ensures gate { (g : ℕ) (bs : List Bytes) (bytes : Bytes) → ReadsAs D.crashes D.seen D.images disk.old self.old.side bytes
+        ensures gate { (g : ℕ) (bs : List Bytes) (bytes : Bytes)
+            → ReadsAs D.crashes D.seen D.images disk.old self.old.side bytes
             → IsAtGate g bs self.old.len self.old.at bytes
             → IfOk result (IsGateOf g bs bytes self.new.len self.new.left self.new.at) }
         ensures on { (n : ℕ) → result ≡ Ok (Gate.Open n) → self.old.at < self.new.at }
         ensures safe { (bytes : Bytes) → ReadsAs D.crashes D.seen D.images disk.old self.old.side bytes
             → ReadsAs D.crashes D.seen D.images disk.new self.old.side bytes }
         ensures same { (bytes : Bytes) → ReadsAs D.crashes D.seen D.images disk.old self.old.side bytes
-            → SideLeads D.crashes D.seen D.images D.moment D.left_since self.old.side (λ x. x ≡ bytes) disk.old disk.new }
+            → SideLeads D.crashes D.seen D.images D.moment D.left_since self.old.side
+            (λ x. x ≡ bytes) disk.old disk.new }
         ensures told { D.crashes disk.new ≡ D.crashes disk.old }
         ensures cause { HasCause (D.faults disk.old) (D.faults disk.new) result }
         ensures side { self.new.side ≡ self.old.side }
@@ -123,8 +126,10 @@ impl Reader {
 
     /// Passes over what is left of the batch that is read, without a look at it.
     pub fn skip(&mut self)
-        ensures at { (g : ℕ) (bs : List Bytes) (part bytes : Bytes) → IsInBatch g bs part self.old.len self.old.left self.old.at bytes
-            → IsAtGate g (with_batch bs (part ++ take self.old.left (drop self.old.at bytes))) self.new.len self.new.at bytes }
+        ensures at { (g : ℕ) (bs : List Bytes) (part bytes : Bytes)
+            → IsInBatch g bs part self.old.len self.old.left self.old.at bytes
+            → IsAtGate g
+            (with_batch bs (part ++ take self.old.left (drop self.old.at bytes))) self.new.len self.new.at bytes }
         ensures place { self.new.at ≡ self.old.at + self.old.left }
         ensures left { self.new.left ≡ 0 }
         ensures side { self.new.side ≡ self.old.side }
@@ -136,14 +141,16 @@ impl Reader {
 
     /// Reads on in a batch, as far as there is room, and answers how many bytes.
     pub fn next_piece<D: Disk>(&mut self, disk: &mut D, into: &mut [u8]) -> Result<usize, Failed>
-        ensures piece { (g : ℕ) (bs : List Bytes) (part bytes : Bytes) → ReadsAs D.crashes D.seen D.images disk.old self.old.side bytes
+        ensures piece { (g : ℕ) (bs : List Bytes) (part bytes : Bytes)
+            → ReadsAs D.crashes D.seen D.images disk.old self.old.side bytes
             → IsInBatch g bs part self.old.len self.old.left self.old.at bytes
             → IfOk result (λ n. (n ≡ min (length into.old) self.old.left)
             × IsInBatch g bs (part ++ take n into.new) self.new.len self.new.left self.new.at bytes) }
         ensures safe { (bytes : Bytes) → ReadsAs D.crashes D.seen D.images disk.old self.old.side bytes
             → ReadsAs D.crashes D.seen D.images disk.new self.old.side bytes }
         ensures same { (bytes : Bytes) → ReadsAs D.crashes D.seen D.images disk.old self.old.side bytes
-            → SideLeads D.crashes D.seen D.images D.moment D.left_since self.old.side (λ x. x ≡ bytes) disk.old disk.new }
+            → SideLeads D.crashes D.seen D.images D.moment D.left_since self.old.side
+            (λ x. x ≡ bytes) disk.old disk.new }
         ensures told { D.crashes disk.new ≡ D.crashes disk.old }
         ensures cause { HasCause (D.faults disk.old) (D.faults disk.new) result }
         ensures side { self.new.side ≡ self.old.side }

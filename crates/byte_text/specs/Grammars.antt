@@ -1,9 +1,11 @@
 -- Grammars read from the front: more bytes change nothing of what was read or refused, and what has begun can be ended.
-use Rattle.std.proofs.Common.{◌≡◌, ℕ, zero, suc, ◌+◌, ◌-◌, ◌<◌, ◌≤◌, Bool, true, false, nat_le, ◌==◌, [], ◌∷◌, ◌++◌, length, take, drop, Option, Some, None, refl, sym, ap, subst, ◌∙◌, append_assoc, append-nil, arith, if◌then◌else◌, length-append, replicate, rules}
+use Rattle.std.proofs.Common.{◌≡◌, ℕ, zero, suc, ◌+◌, ◌-◌, ◌<◌, ◌≤◌, Bool, true, false, nat_le, ◌==◌, [], ◌∷◌, ◌++◌, length, take, drop, Option, Some}
+use Rattle.std.proofs.Common.{None, refl, sym, ap, subst, ◌∙◌, append_assoc, append-nil, arith, if◌then◌else◌, length-append, replicate, rules}
 use Rattle.std.proofs.lemmas.Bool.{le-leb, lt-leb, leb-true, leb-false}
 use Rattle.std.proofs.lemmas.List.{take-append-le, length-replicate}
 use Rattle.byte_text.specs.Names.{Bytes}
-use Rattle.byte_text.specs.Streams.{Front, found, begun, broken, Grammar, read_then, ◌>>=◌, ◌>>◌, done, byte, bytes_of, with_byte, one_more, unless_fault, number_end, number_line, count_limit, word_limit, word, words, request}
+use Rattle.byte_text.specs.Streams.{Front, found, begun, broken, Grammar, read_then, ◌>>=◌, ◌>>◌, done, byte, bytes_of, with_byte, one_more}
+use Rattle.byte_text.specs.Streams.{unless_fault, number_end, number_line, count_limit, word_limit, word, words, request}
 use Rattle.byte_text.specs.declared.faults.RespFault.{RespFault}
 use Rattle.byte_text.specs.declared.faults.RespFault.TheVariants.{BadType, BadEnd}
 use Rattle.byte_text.specs.Requests.{max_request}
@@ -21,7 +23,8 @@ pub record Stable {A : Type 0} (g : Grammar A) : Type 0 where
 pub stable_done : {A : Type 0} (a : A) → Stable (done a)
 stable_done a = record { more = λ bytes more. refl }
 
-go_more : {A B : Type 0} (k : A → Grammar B) → ((a : A) → Stable (k a)) → (more : Bytes) (x y : Front A) → IsMore more x y → IsMore more (read_then k x) (read_then k y)
+go_more : {A B : Type 0} (k : A → Grammar B) → ((a : A) → Stable (k a)) → (more : Bytes) (x y : Front A) → IsMore more x y
+    → IsMore more (read_then k x) (read_then k y)
 go_more k s more (found a rest) y e = subst (λ z. IsMore more (k a rest) (read_then k z)) (sym e) ((s a).more rest more)
 go_more k s more begun y e = tt
 go_more k s more (broken fault) y e = ap (read_then k) e
@@ -30,7 +33,8 @@ pub stable_bind : {A B : Type 0} (g : Grammar A) (k : A → Grammar B) → Stabl
 stable_bind g k s t = record { more = λ bytes more. go_more k t more (g bytes) (g (bytes ++ more)) (s.more bytes more) }
 
 -- a choice by a test is more, where both its sides are
-choice_more : {A : Type 0} (more : Bytes) (t : Bool) (x x' y y' : Front A) → IsMore more x x' → IsMore more y y' → IsMore more (if t then x else y) (if t then x' else y')
+choice_more : {A : Type 0} (more : Bytes) (t : Bool) (x x' y y' : Front A) → IsMore more x x' → IsMore more y y'
+    → IsMore more (if t then x else y) (if t then x' else y')
 choice_more more true x x' y y' p q = p
 choice_more more false x x' y y' p q = q
 
@@ -46,7 +50,8 @@ drop-append zero xs ys l = refl
 drop-append (suc n) [] ys l = absurd (omega (arith, l))
 drop-append (suc n) (x ∷ xs) ys l = drop-append n xs ys (omega (arith, l))
 
-bytes_more : (n : ℕ) (bytes more : Bytes) (t : Bool) → nat_le n (length bytes) ≡ t → IsMore more (if t then found (take n bytes) (drop n bytes) else begun) (bytes_of n (bytes ++ more))
+bytes_more : (n : ℕ) (bytes more : Bytes) (t : Bool) → nat_le n (length bytes) ≡ t
+    → IsMore more (if t then found (take n bytes) (drop n bytes) else begun) (bytes_of n (bytes ++ more))
 bytes_more n bytes more true e =
     let l : n ≤ length bytes = leb-true n (length bytes) e in
     let all : nat_le n (length (bytes ++ more)) ≡ true = le-leb n (length (bytes ++ more)) (omega (arith, l, length-append bytes more)) in
@@ -60,7 +65,8 @@ unless_more : (more : Bytes) (fault : Option RespFault) (x y : Front ℕ) → Is
 unless_more more None x y e = e
 unless_more more (Some fault) x y e = refl
 
-one_more_more : (limit : ℕ → Option RespFault) (n : Option ℕ) (more : Bytes) (next next' : Option ℕ → Front ℕ) → ((m : Option ℕ) → IsMore more (next m) (next' m)) → IsMore more (one_more limit n next) (one_more limit n next')
+one_more_more : (limit : ℕ → Option RespFault) (n : Option ℕ) (more : Bytes) (next next' : Option ℕ → Front ℕ)
+    → ((m : Option ℕ) → IsMore more (next m) (next' m)) → IsMore more (one_more limit n next) (one_more limit n next')
 one_more_more limit None more next next' h = refl
 one_more_more limit (Some n) more next next' h = unless_more more (limit n) (next (Some n)) (next' (Some n)) (h (Some n))
 
@@ -68,13 +74,16 @@ end_more : (so_far : Option ℕ) (bytes more : Bytes) → IsMore more (number_en
 end_more None bytes more = refl
 end_more (Some n) bytes more = refl
 
-number_more : (limit : ℕ → Option RespFault) (bytes more : Bytes) (so_far : Option ℕ) → IsMore more (number_line limit so_far bytes) (number_line limit so_far (bytes ++ more))
+number_more : (limit : ℕ → Option RespFault) (bytes more : Bytes) (so_far : Option ℕ)
+    → IsMore more (number_line limit so_far bytes) (number_line limit so_far (bytes ++ more))
 number_more limit [] more so_far = tt
 number_more limit (b ∷ bytes) more so_far = choice_more more (b == 13)
     (number_end so_far bytes) (number_end so_far (bytes ++ more))
-    (one_more limit (with_byte so_far b) (λ n. number_line limit n bytes)) (one_more limit (with_byte so_far b) (λ n. number_line limit n (bytes ++ more)))
+    (one_more limit (with_byte so_far b) (λ n. number_line limit n bytes))
+    (one_more limit (with_byte so_far b) (λ n. number_line limit n (bytes ++ more)))
     (end_more so_far bytes more)
-    (one_more_more limit (with_byte so_far b) more (λ n. number_line limit n bytes) (λ n. number_line limit n (bytes ++ more)) (λ m. number_more limit bytes more m))
+    (one_more_more limit (with_byte so_far b) more (λ n. number_line limit n bytes) (λ n. number_line limit n (bytes ++ more))
+    (λ m. number_more limit bytes more m))
 
 pub stable_number : (limit : ℕ → Option RespFault) (so_far : Option ℕ) → Stable (number_line limit so_far)
 stable_number limit so_far = record { more = λ bytes more. number_more limit bytes more so_far }
@@ -108,11 +117,13 @@ quiet_bind k o begun e = tt
 quiet_bind k o (broken fault) e = absurd e
 
 -- what was read is read with more bytes
-more_read : {A : Type 0} (g : Grammar A) → Stable g → (bytes more : Bytes) (a : A) (rest : Bytes) → g bytes ≡ found a rest → g (bytes ++ more) ≡ found a (rest ++ more)
+more_read : {A : Type 0} (g : Grammar A) → Stable g → (bytes more : Bytes) (a : A) (rest : Bytes) → g bytes ≡ found a rest
+    → g (bytes ++ more) ≡ found a (rest ++ more)
 more_read g s bytes more a rest e = subst (λ x. IsMore more x (g (bytes ++ more))) e (s.more bytes more)
 
 -- the second part is ended, from the end of the first
-second_ends : {A B : Type 0} (g : Grammar A) (k : A → Grammar B) → Stable g → (bytes : Bytes) (a : A) (rest : Bytes) → g bytes ≡ found a rest → Ended (k a) rest → Ended (g >>= k) bytes
+second_ends : {A B : Type 0} (g : Grammar A) (k : A → Grammar B) → Stable g → (bytes : Bytes) (a : A) (rest : Bytes) → g bytes ≡ found a rest
+    → Ended (k a) rest → Ended (g >>= k) bytes
 second_ends g k s bytes a rest e d = record {
   byte = d.byte;
   more = d.more;
@@ -121,22 +132,26 @@ second_ends g k s bytes a rest e d = record {
 }
 
 -- the first part was ended; the second begins at its end
-then_second : {A B : Type 0} (g : Grammar A) (k : A → Grammar B) → Stable g → (bytes : Bytes) (d : Ended g bytes) → Open (k d.value) → (x : Front B) → k d.value [] ≡ x → Ended (g >>= k) bytes
+then_second : {A B : Type 0} (g : Grammar A) (k : A → Grammar B) → Stable g → (bytes : Bytes) (d : Ended g bytes) → Open (k d.value) → (x : Front B)
+    → k d.value [] ≡ x → Ended (g >>= k) bytes
 then_second g k s bytes d o (found b rest) e =
     let none : rest ≡ [] = subst IsQuiet e o.quiet in
     record { byte = d.byte; more = d.more; value = b; reads = ap (read_then k) d.reads ∙ e ∙ ap (found b) none }
 then_second g k s bytes d o begun e =
     let c = o.ends [] e in
-    let text : bytes ++ d.byte ∷ (d.more ++ c.byte ∷ c.more) ≡ bytes ++ d.byte ∷ d.more ++ c.byte ∷ c.more = sym (append_assoc bytes (d.byte ∷ d.more) (c.byte ∷ c.more)) in
+    let text : bytes ++ d.byte ∷ (d.more ++ c.byte ∷ c.more) ≡ bytes ++ d.byte ∷ d.more
+    ++ c.byte ∷ c.more = sym (append_assoc bytes (d.byte ∷ d.more) (c.byte ∷ c.more)) in
     record {
       byte = d.byte;
       more = d.more ++ c.byte ∷ c.more;
       value = c.value;
-      reads = ap (λ t. read_then k (g t)) text ∙ ap (read_then k) (more_read g s (bytes ++ d.byte ∷ d.more) (c.byte ∷ c.more) d.value [] d.reads) ∙ c.reads;
+      reads = ap (λ t. read_then k (g t)) text ∙ ap (read_then k) (more_read g s (bytes ++ d.byte ∷ d.more) (c.byte ∷ c.more) d.value [] d.reads)
+          ∙ c.reads;
     }
 then_second g k s bytes d o (broken fault) e = absurd (subst IsQuiet e o.quiet)
 
-bind_ends : {A B : Type 0} (g : Grammar A) (k : A → Grammar B) → Open g → ((a : A) → Open (k a)) → (bytes : Bytes) (x : Front A) → g bytes ≡ x → read_then k x ≡ begun → Ended (g >>= k) bytes
+bind_ends : {A B : Type 0} (g : Grammar A) (k : A → Grammar B) → Open g → ((a : A) → Open (k a)) → (bytes : Bytes) (x : Front A) → g bytes ≡ x
+    → read_then k x ≡ begun → Ended (g >>= k) bytes
 bind_ends g k o p bytes (found a rest) e h = second_ends g k o.stable bytes a rest e ((p a).ends rest h)
 bind_ends g k o p bytes begun e h = let d = o.ends bytes e in then_second g k o.stable bytes d (p d.value) (k d.value []) refl
 bind_ends g k o p bytes (broken fault) e h = absurd (cc h)
@@ -166,7 +181,8 @@ bytes_quiet : (n : ℕ) → IsQuiet (bytes_of n [])
 bytes_quiet zero = refl
 bytes_quiet (suc n) = rw (lt-leb (suc n) 0 (omega arith)) tt
 
-bytes_end : (n : ℕ) (bytes : Bytes) (t : Bool) → nat_le n (length bytes) ≡ t → (if t then found (take n bytes) (drop n bytes) else begun) ≡ begun → Ended (bytes_of n) bytes
+bytes_end : (n : ℕ) (bytes : Bytes) (t : Bool) → nat_le n (length bytes) ≡ t → (if t then found (take n bytes) (drop n bytes) else begun) ≡ begun
+    → Ended (bytes_of n) bytes
 bytes_end n bytes true e h = absurd (cc h)
 bytes_end n bytes false e h =
     let less : length bytes < n = leb-false n (length bytes) e in
@@ -191,33 +207,43 @@ pub record LetsDigit (limit : ℕ → Option RespFault) : Type 0 where
   pub fine : limit digit ≡ None
 
 -- a number goes on behind a byte as it does from the number that this byte makes
-number_behind : (limit : ℕ → Option RespFault) (so_far : Option ℕ) (b m : ℕ) (bytes : Bytes) → (b == 13) ≡ false → with_byte so_far b ≡ Some m → limit m ≡ None
+number_behind : (limit : ℕ → Option RespFault) (so_far : Option ℕ) (b m : ℕ) (bytes : Bytes) → (b == 13) ≡ false → with_byte so_far b ≡ Some m
+    → limit m ≡ None
     → number_line limit so_far (b ∷ bytes) ≡ number_line limit (Some m) bytes
 number_behind limit so_far b m bytes t o l = rw (t, o, l) refl
 
-end_ends : (limit : ℕ → Option RespFault) (so_far : Option ℕ) (bytes all : Bytes) → number_end so_far bytes ≡ begun → Ended (number_line limit so_far) all
+end_ends : (limit : ℕ → Option RespFault) (so_far : Option ℕ) (bytes all : Bytes) → number_end so_far bytes ≡ begun
+    → Ended (number_line limit so_far) all
 end_ends limit None bytes all e = absurd (cc e)
 end_ends limit (Some n) bytes all e = absurd (cc e)
 
-one_ends : (limit : ℕ → Option RespFault) (so_far : Option ℕ) (b : ℕ) (bytes : Bytes) → ((m : ℕ) → number_line limit (Some m) bytes ≡ begun → Ended (number_line limit (Some m)) bytes)
-    → (b == 13) ≡ false → (m : ℕ) → with_byte so_far b ≡ Some m → (l : Option RespFault) → limit m ≡ l → unless_fault l (number_line limit (Some m) bytes) ≡ begun → Ended (number_line limit so_far) (b ∷ bytes)
+one_ends : (limit : ℕ → Option RespFault) (so_far : Option ℕ) (b : ℕ) (bytes : Bytes)
+    → ((m : ℕ) → number_line limit (Some m) bytes ≡ begun → Ended (number_line limit (Some m)) bytes)
+    → (b == 13) ≡ false → (m : ℕ) → with_byte so_far b ≡ Some m → (l : Option RespFault) → limit m ≡ l
+    → unless_fault l (number_line limit (Some m) bytes) ≡ begun → Ended (number_line limit so_far) (b ∷ bytes)
 one_ends limit so_far b bytes go t m o None l e =
     let d = go m e in
     record { byte = d.byte; more = d.more; value = d.value; reads = number_behind limit so_far b m (bytes ++ d.byte ∷ d.more) t o l ∙ d.reads }
 one_ends limit so_far b bytes go t m o (Some fault) l e = absurd (cc e)
 
-digit_ends : (limit : ℕ → Option RespFault) (so_far : Option ℕ) (b : ℕ) (bytes : Bytes) → ((m : ℕ) → number_line limit (Some m) bytes ≡ begun → Ended (number_line limit (Some m)) bytes)
-    → (b == 13) ≡ false → (o : Option ℕ) → with_byte so_far b ≡ o → one_more limit o (λ n. number_line limit n bytes) ≡ begun → Ended (number_line limit so_far) (b ∷ bytes)
+digit_ends : (limit : ℕ → Option RespFault) (so_far : Option ℕ) (b : ℕ) (bytes : Bytes)
+    → ((m : ℕ) → number_line limit (Some m) bytes ≡ begun → Ended (number_line limit (Some m)) bytes)
+    → (b == 13) ≡ false → (o : Option ℕ) → with_byte so_far b ≡ o → one_more limit o (λ n. number_line limit n bytes) ≡ begun
+    → Ended (number_line limit so_far) (b ∷ bytes)
 digit_ends limit so_far b bytes go t None o e = absurd (cc e)
 digit_ends limit so_far b bytes go t (Some m) o e = one_ends limit so_far b bytes go t m o (limit m) refl e
 
-test_ends : (limit : ℕ → Option RespFault) (so_far : Option ℕ) (b : ℕ) (bytes : Bytes) → ((m : ℕ) → number_line limit (Some m) bytes ≡ begun → Ended (number_line limit (Some m)) bytes)
-    → (t : Bool) → (b == 13) ≡ t → (if t then number_end so_far bytes else one_more limit (with_byte so_far b) (λ n. number_line limit n bytes)) ≡ begun → Ended (number_line limit so_far) (b ∷ bytes)
+test_ends : (limit : ℕ → Option RespFault) (so_far : Option ℕ) (b : ℕ) (bytes : Bytes)
+    → ((m : ℕ) → number_line limit (Some m) bytes ≡ begun → Ended (number_line limit (Some m)) bytes)
+    → (t : Bool) → (b == 13) ≡ t → (if t then number_end so_far bytes else one_more limit (with_byte so_far b) (λ n. number_line limit n bytes))
+    ≡ begun → Ended (number_line limit so_far) (b ∷ bytes)
 test_ends limit so_far b bytes go true t e = end_ends limit so_far bytes (b ∷ bytes) e
 test_ends limit so_far b bytes go false t e = digit_ends limit so_far b bytes go t (with_byte so_far b) refl e
 
-number_ends : (limit : ℕ → Option RespFault) → LetsDigit limit → (bytes : Bytes) (so_far : Option ℕ) → number_line limit so_far bytes ≡ begun → Ended (number_line limit so_far) bytes
-number_ends limit h [] None e = record { byte = 48 + h.digit; more = 13 ∷ []; value = h.digit; reads = one_digit limit None h.digit h.digit (13 ∷ []) h.small refl h.fine }
+number_ends : (limit : ℕ → Option RespFault) → LetsDigit limit → (bytes : Bytes) (so_far : Option ℕ) → number_line limit so_far bytes ≡ begun
+    → Ended (number_line limit so_far) bytes
+number_ends limit h [] None e =
+    record { byte = 48 + h.digit; more = 13 ∷ []; value = h.digit; reads = one_digit limit None h.digit h.digit (13 ∷ []) h.small refl h.fine }
 number_ends limit h [] (Some n) e = record { byte = 13; more = []; value = n; reads = refl }
 number_ends limit h (b ∷ bytes) so_far e = test_ends limit so_far b bytes (λ m e. number_ends limit h bytes (Some m) e) (b == 13) refl e
 
@@ -235,14 +261,17 @@ count_one : LetsDigit count_limit
 count_one = record { digit = 1; small = omega arith; fine = refl }
 
 open_word_end : (text : Bytes) → Open (word_end text)
-open_word_end text = open_bind (byte 13 BadEnd) (λ u. byte 10 BadEnd >> done text) (open_byte 13 BadEnd) (λ u. open_bind (byte 10 BadEnd) (λ u. done text) (open_byte 10 BadEnd) (λ u. open_done text))
+open_word_end text = open_bind (byte 13 BadEnd) (λ u. byte 10 BadEnd >> done text) (open_byte 13 BadEnd)
+    (λ u. open_bind (byte 10 BadEnd) (λ u. done text) (open_byte 10 BadEnd) (λ u. open_done text))
 
 open_behind_length : (n : ℕ) → Open (behind_length n)
-open_behind_length n = open_bind (byte 10 BadEnd) (λ u. bytes_of n >>= word_end) (open_byte 10 BadEnd) (λ u. open_bind (bytes_of n) word_end (open_bytes_of n) open_word_end)
+open_behind_length n = open_bind (byte 10 BadEnd) (λ u. bytes_of n >>= word_end) (open_byte 10 BadEnd)
+    (λ u. open_bind (bytes_of n) word_end (open_bytes_of n) open_word_end)
 
 pub open_word : (allowed : ℕ) → Open (word allowed)
 open_word allowed = open_bind (byte 36 BadType) (λ u. number_line (word_limit allowed) None >>= behind_length) (open_byte 36 BadType)
-    (λ u. open_bind (number_line (word_limit allowed) None) behind_length (open_number (word_limit allowed) (word_zero allowed) None) open_behind_length)
+    (λ u. open_bind (number_line (word_limit allowed) None) behind_length
+    (open_number (word_limit allowed) (word_zero allowed) None) open_behind_length)
 
 pub open_words : (n allowed : ℕ) → Open (words n allowed)
 open_words zero allowed = open_done []

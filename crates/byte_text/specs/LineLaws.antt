@@ -14,11 +14,13 @@ NoReturn-append [] b p q = q
 NoReturn-append (x ∷ a) b p q = (p.0, NoReturn-append a b p.1 q)
 
 pub NoReturn-decimal : (n : ℕ) → n < 2 ^ 64 → NoReturn (decimal n)
-NoReturn-decimal = decimal_by_steps (λ n ds. NoReturn ds) (λ n l. ((λ e. grind arith), tt)) (λ n ds l h. NoReturn-append ds ((48 + n % 10) ∷ []) h ((λ e. grind arith), tt))
+NoReturn-decimal = decimal_by_steps (λ n ds. NoReturn ds) (λ n l. ((λ e. grind arith), tt))
+    (λ n ds l h. NoReturn-append ds ((48 + n % 10) ∷ []) h ((λ e. grind arith), tt))
 
 -- what stands behind a line, and behind a bulk string
 pub line-append : (mark : ℕ) (text x : Bytes) → line mark text ++ x ≡ mark ∷ (text ++ 13 ∷ 10 ∷ x)
 line-append mark text x = ap (λ (t : Bytes). mark ∷ t) (append_assoc text (13 ∷ 10 ∷ []) x)
 
 pub bulk_text-append : (w x : Bytes) → bulk_text w ++ x ≡ line 36 (decimal (length w)) ++ (w ++ 13 ∷ 10 ∷ x)
-bulk_text-append w x = append_assoc (line 36 (decimal (length w))) (w ++ 13 ∷ 10 ∷ []) x ∙ ap (λ (t : Bytes). line 36 (decimal (length w)) ++ t) (append_assoc w (13 ∷ 10 ∷ []) x)
+bulk_text-append w x = append_assoc (line 36 (decimal (length w))) (w ++ 13 ∷ 10 ∷ []) x
+    ∙ ap (λ (t : Bytes). line 36 (decimal (length w)) ++ t) (append_assoc w (13 ∷ 10 ∷ []) x)

@@ -1,5 +1,6 @@
 -- Lists of bytes: their order, words without regard to case, names.
-use Rattle.std.specs.Prelude.{ℕ, Bool, true, false, ◌&&◌, ◌||◌, ◌==◌, nat_eq, nat_lt, nat_le, List, [], ◌∷◌, length, bytes_eq, Option, Some, None, if◌then◌else◌, Result, Err, MatchResult, ◌≡◌}
+use Rattle.std.specs.Prelude.{ℕ, Bool, true, false, ◌&&◌, ◌||◌, ◌==◌, nat_eq, nat_lt, nat_le, List, [], ◌∷◌, length, bytes_eq, Option, Some, None}
+use Rattle.std.specs.Prelude.{if◌then◌else◌, Result, Err, MatchResult, ◌≡◌}
 use Rattle.std.specs.Str.{is_utf8, str_eq_ignore_ascii_case}
 use Rattle.byte_text.specs.declared.limits.TheConstants.{MAX_NAME}
 use Rattle.byte_text.specs.declared.texts.TextFault.{TextFault}
@@ -35,7 +36,8 @@ is_name w = nat_le 1 (length w) && nat_le (length w) max_name && is_utf8 w
 
 -- why the bytes are no name: the first cause that fits
 abbrev pub name_fault : Bytes → Option TextFault
-name_fault w = if nat_eq (length w) 0 then Some Empty else if nat_lt max_name (length w) then Some TooLong else if is_utf8 w then None else Some NotUtf8
+name_fault w = if nat_eq (length w) 0 then Some Empty else if nat_lt max_name (length w) then Some TooLong else if is_utf8 w then None else
+    Some NotUtf8
 
 -- an answer to bytes with this fault, if any: the fault; and for a name its bytes, or want of memory
 abbrev pub IsNameOf : Option TextFault → Bytes → Result Bytes NameFault → Type 0

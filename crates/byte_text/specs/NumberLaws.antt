@@ -1,5 +1,6 @@
 -- Laws of the texts of numbers: their bytes, and the number that is read back.
-use Rattle.std.proofs.Common.{arith, ◌≡◌, ℕ, suc, ◌+◌, ◌-◌, ◌*◌, ◌%◌, ℤ, pos, negsuc, ◌^◌, ◌<◌, ◌≤◌, [], ◌∷◌, ◌++◌, decimal, ◌∙◌, ap, refl, w64, fold, ne_eqb, Bool}
+use Rattle.std.proofs.Common.{arith, ◌≡◌, ℕ, suc, ◌+◌, ◌-◌, ◌*◌, ◌%◌, ℤ, pos, negsuc, ◌^◌, ◌<◌, ◌≤◌, [], ◌∷◌, ◌++◌, decimal, ◌∙◌, ap, refl, w64, fold}
+use Rattle.std.proofs.Common.{ne_eqb, Bool}
 use Rattle.std.specs.Prelude.{neg_ℤ, if◌then◌else◌}
 use Rattle.std.specs.Fmt.{signed_decimal}
 use Rattle.std.specs.List.{AllByRecursion}
@@ -17,7 +18,8 @@ AreDigits-append [] b p q = q
 AreDigits-append (x ∷ a) b p q = (p.0, AreDigits-append a b p.1 q)
 
 pub AreDigits-decimal : (n : ℕ) → n < 2 ^ 64 → AreDigits (decimal n)
-AreDigits-decimal = decimal_by_steps (λ n ds. AreDigits ds) (λ n l. ((grind arith, grind arith), tt)) (λ n ds l h. AreDigits-append ds ((48 + n % 10) ∷ []) h ((grind arith, grind arith), tt))
+AreDigits-decimal = decimal_by_steps (λ n ds. AreDigits ds) (λ n l. ((grind arith, grind arith), tt))
+    (λ n ds l h. AreDigits-append ds ((48 + n % 10) ∷ []) h ((grind arith, grind arith), tt))
 
 digits-append : (n : ℕ) (ds : Bytes) (d : ℕ) → fold (λ n b. 10 * n + (b - 48)) n (ds ++ d ∷ []) ≡ 10 * fold (λ n b. 10 * n + (b - 48)) n ds + (d - 48)
 digits-append n [] d = refl

@@ -1,5 +1,6 @@
 -- Canonical numbers: a word is the text of a number exactly as that number is printed.
-use Rattle.std.specs.Prelude.{ℕ, ◌+◌, ◌*◌, ◌-◌, ◌==◌, ◌&&◌, ℤ, pos, negsuc, Result, Ok, Err, neg_ℤ, int_le, [], ◌∷◌, fold, decimal, Option, Some, None, if◌then◌else◌, option_and_then, nat_le}
+use Rattle.std.specs.Prelude.{ℕ, ◌+◌, ◌*◌, ◌-◌, ◌==◌, ◌&&◌, ℤ, pos, negsuc, Result, Ok, Err, neg_ℤ, int_le, [], ◌∷◌, fold, decimal, Option, Some}
+use Rattle.std.specs.Prelude.{None, if◌then◌else◌, option_and_then, nat_le}
 use Rattle.std.specs.Fmt.{signed_decimal}
 use Rattle.byte_text.specs.Names.{Bytes, same}
 use Rattle.byte_text.specs.declared.texts.TextFault.{TextFault}

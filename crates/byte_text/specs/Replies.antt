@@ -23,8 +23,6 @@ abbrev pub frame_text : List Piece → Bytes
 frame_text reply = flat_map piece_text reply
 
 -- the text of frames, one behind another
-abbrev pub frames_text : List (List Piece) → Bytes
-frames_text frames = flat_map frame_text frames
 
 -- how many replies stand inside a piece
 abbrev pub inside : Piece → ℕ

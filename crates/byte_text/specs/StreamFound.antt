@@ -1,12 +1,15 @@
 -- What is read as a request is a request's text.
-use Rattle.std.proofs.Common.{◌≡◌, ℕ, zero, suc, ◌+◌, ◌-◌, ◌*◌, ◌/◌, ◌%◌, ◌<◌, ◌≤◌, ◌^◌, Bool, true, false, nat_le, ◌&&◌, ◌==◌, List, [], ◌∷◌, ◌++◌, length, take, drop, flat_map, decimal, Option, Some, None, IfSome, refl, sym, ap, subst, ◌∙◌, append_assoc, append-nil, arith, if◌then◌else◌, rules}
+use Rattle.std.proofs.Common.{◌≡◌, ℕ, zero, suc, ◌+◌, ◌-◌, ◌*◌, ◌/◌, ◌%◌, ◌<◌, ◌≤◌, ◌^◌, Bool, true, false, nat_le, ◌&&◌, ◌==◌, List, [], ◌∷◌, ◌++◌}
+use Rattle.std.proofs.Common.{length, take, drop, flat_map, decimal, Option, Some, None, IfSome, refl, sym, ap, subst, ◌∙◌, append_assoc, append-nil}
+use Rattle.std.proofs.Common.{arith, if◌then◌else◌, rules}
 use Rattle.std.proofs.lemmas.Bool.{leb-true}
 use Rattle.std.proofs.lemmas.List.{take-append-drop, length-take}
 use Rattle.std.proofs.lemmas.Fmt.{decimal_step, decimal_digit}
 use Rattle.byte_text.specs.Names.{Bytes}
 use Rattle.byte_text.specs.Lines.{line, bulk_text}
 use Rattle.byte_text.specs.Requests.{AreShort, request_text, IsRequest, max_word, max_words, max_request, total}
-use Rattle.byte_text.specs.Streams.{Front, Grammar, ◌>>=◌, ◌>>◌, done, found, begun, broken, read_then, byte, bytes_of, is_digit, with_digit, with_byte, one_more, unless_fault, number_end, number_line, count_limit, word_limit, word, words, request}
+use Rattle.byte_text.specs.Streams.{Front, Grammar, ◌>>=◌, ◌>>◌, done, found, begun, broken, read_then, byte, bytes_of, is_digit, with_digit}
+use Rattle.byte_text.specs.Streams.{with_byte, one_more, unless_fault, number_end, number_line, count_limit, word_limit, word, words, request}
 use Rattle.byte_text.specs.declared.faults.RespFault.{RespFault}
 use Rattle.byte_text.specs.declared.faults.RespFault.TheVariants.{BadType, BadEnd, TooMany, TooLong}
 use Rattle.byte_text.specs.TestLaws.{both_of}
@@ -25,7 +28,8 @@ parts k (found a rest) v r e = record { first = a; rest = rest; is = refl; secon
 parts k begun v r e = absurd (cc e)
 parts k (broken fault) v r e = absurd (cc e)
 
-test_found : (t : Bool) (bytes : Bytes) (fault : RespFault) (u : Unit {0}) (r : Bytes) → (if t then found (tt {0}) bytes else broken fault) ≡ found u r → (t ≡ true) × (bytes ≡ r)
+test_found : (t : Bool) (bytes : Bytes) (fault : RespFault) (u : Unit {0}) (r : Bytes)
+    → (if t then found (tt {0}) bytes else broken fault) ≡ found u r → (t ≡ true) × (bytes ≡ r)
 test_found true bytes fault u r e = (refl, cc e)
 test_found false bytes fault u r e = absurd (cc e)
 
@@ -39,7 +43,8 @@ byte_found wanted fault (b ∷ bytes) u r e =
     let same : b ≡ wanted = eq_test b wanted h.0 in
     cc (same, h.1)
 
-bytes_test : (n : ℕ) (bytes w r : Bytes) (t : Bool) → nat_le n (length bytes) ≡ t → (if t then found (take n bytes) (drop n bytes) else begun) ≡ found w r → (bytes ≡ w ++ r) × (length w ≡ n)
+bytes_test : (n : ℕ) (bytes w r : Bytes) (t : Bool) → nat_le n (length bytes) ≡ t
+    → (if t then found (take n bytes) (drop n bytes) else begun) ≡ found w r → (bytes ≡ w ++ r) × (length w ≡ n)
 bytes_test n bytes w r true l e =
     let front : take n bytes ≡ w = cc e in
     let back : drop n bytes ≡ r = cc e in
@@ -58,7 +63,8 @@ digits_text None = []
 digits_text (Some n) = decimal n
 
 -- the bytes of the number that one more digit makes
-digit_text : (so_far : Option ℕ) (d n : ℕ) → d < 10 → n < 2 ^ 64 → with_digit so_far d ≡ Some n → digits_text (Some n) ≡ digits_text so_far ++ (48 + d) ∷ []
+digit_text : (so_far : Option ℕ) (d n : ℕ) → d < 10 → n < 2 ^ 64 → with_digit so_far d ≡ Some n → digits_text (Some n) ≡ digits_text so_far
+    ++ (48 + d) ∷ []
 digit_text None d n small fits e =
     let is : d ≡ n = cc in
     subst (λ (k : ℕ). decimal k ≡ (48 + d) ∷ []) is (decimal_digit d small)
@@ -70,7 +76,8 @@ digit_text (Some (suc m)) d n small fits e =
     rw (decimal_step n (omega (arith, is)) fits, front, last) refl
 
 -- a byte that goes on with a number is a digit
-byte_text : (so_far : Option ℕ) (b n : ℕ) (t : Bool) → is_digit b ≡ t → n < 2 ^ 64 → (if t then with_digit so_far (b - 48) else None) ≡ Some n → digits_text (Some n) ≡ digits_text so_far ++ b ∷ []
+byte_text : (so_far : Option ℕ) (b n : ℕ) (t : Bool) → is_digit b ≡ t → n < 2 ^ 64 → (if t then with_digit so_far (b - 48) else None) ≡ Some n
+    → digits_text (Some n) ≡ digits_text so_far ++ b ∷ []
 byte_text so_far b n true t fits e =
     let h = both_of (nat_le 48 b) (nat_le b 57) t in
     let low : 48 ≤ b = leb-true 48 b h.0 in
@@ -89,7 +96,8 @@ record IsNumber (limit : ℕ → Option RespFault) (so_far : Option ℕ) (bytes 
   pub number_line : digits_text so_far ++ digits ≡ decimal n
   pub fine : limit n ≡ None
 
-end_found : (limit : ℕ → Option RespFault) (so_far : Option ℕ) (b : ℕ) (bytes : Bytes) (n : ℕ) (r : Bytes) → IfSome so_far (λ m. limit m ≡ None) → b ≡ 13 → number_end so_far bytes ≡ found n r → IsNumber limit so_far (b ∷ bytes) n r
+end_found : (limit : ℕ → Option RespFault) (so_far : Option ℕ) (b : ℕ) (bytes : Bytes) (n : ℕ) (r : Bytes) → IfSome so_far (λ m. limit m ≡ None)
+    → b ≡ 13 → number_end so_far bytes ≡ found n r → IsNumber limit so_far (b ∷ bytes) n r
 end_found limit None b bytes n r f t e = absurd (cc e)
 end_found limit (Some m) b bytes n r f t e =
     let is : m ≡ n = cc e in
@@ -100,13 +108,16 @@ unless_found : (l : Option RespFault) (x : Front ℕ) (n : ℕ) (r : Bytes) → 
 unless_found None x n r e = (refl, e)
 unless_found (Some fault) x n r e = absurd (cc e)
 
-one_more_found : (limit : ℕ → Option RespFault) (o : Option ℕ) (next : Option ℕ → Front ℕ) (n : ℕ) (r : Bytes) → one_more limit o next ≡ found n r → (m : ℕ) × (o ≡ Some m) × (limit m ≡ None) × (next (Some m) ≡ found n r)
+one_more_found : (limit : ℕ → Option RespFault) (o : Option ℕ) (next : Option ℕ → Front ℕ) (n : ℕ) (r : Bytes) → one_more limit o next ≡ found n r
+    → (m : ℕ) × (o ≡ Some m) × (limit m ≡ None) × (next (Some m) ≡ found n r)
 one_more_found limit None next n r e = absurd (cc e)
 one_more_found limit (Some m) next n r e = let h = unless_found (limit m) (next (Some m)) n r e in (m, refl, h.0, h.1)
 
-number_test : (limit : ℕ → Option RespFault) → IsLimit limit → (so_far : Option ℕ) (b : ℕ) (bytes : Bytes) (n : ℕ) (r : Bytes) → IfSome so_far (λ m. limit m ≡ None)
+number_test : (limit : ℕ → Option RespFault) → IsLimit limit → (so_far : Option ℕ) (b : ℕ) (bytes : Bytes) (n : ℕ) (r : Bytes)
+    → IfSome so_far (λ m. limit m ≡ None)
     → ((m : ℕ) → limit m ≡ None → number_line limit (Some m) bytes ≡ found n r → IsNumber limit (Some m) bytes n r)
-    → (t : Bool) → (b == 13) ≡ t → (if t then number_end so_far bytes else one_more limit (with_byte so_far b) (λ n. number_line limit n bytes)) ≡ found n r → IsNumber limit so_far (b ∷ bytes) n r
+    → (t : Bool) → (b == 13) ≡ t → (if t then number_end so_far bytes else one_more limit (with_byte so_far b) (λ n. number_line limit n bytes))
+    ≡ found n r → IsNumber limit so_far (b ∷ bytes) n r
 number_test limit i so_far b bytes n r f go true t e = end_found limit so_far b bytes n r f (eq_test b 13 t) e
 number_test limit i so_far b bytes n r f go false t e =
     let h = one_more_found limit (with_byte so_far b) (λ n. number_line limit n bytes) n r e in
@@ -120,13 +131,16 @@ number_test limit i so_far b bytes n r f go false t e =
       fine = others.fine;
     }
 
-number_found : (limit : ℕ → Option RespFault) → IsLimit limit → (bytes : Bytes) (so_far : Option ℕ) (n : ℕ) (r : Bytes) → IfSome so_far (λ m. limit m ≡ None) → number_line limit so_far bytes ≡ found n r → IsNumber limit so_far bytes n r
+number_found : (limit : ℕ → Option RespFault) → IsLimit limit → (bytes : Bytes) (so_far : Option ℕ) (n : ℕ) (r : Bytes)
+    → IfSome so_far (λ m. limit m ≡ None) → number_line limit so_far bytes ≡ found n r → IsNumber limit so_far bytes n r
 number_found limit i [] so_far n r f e = absurd (cc e)
-number_found limit i (b ∷ bytes) so_far n r f e = number_test limit i so_far b bytes n r f (λ m l e. number_found limit i bytes (Some m) n r l e) (b == 13) refl e
+number_found limit i (b ∷ bytes) so_far n r f e =
+    number_test limit i so_far b bytes n r f (λ m l e. number_found limit i bytes (Some m) n r l e) (b == 13) refl e
 
 -- ---- words
 
-word_limit_by : (allowed n : ℕ) (t : Bool) → (nat_le n max_word && nat_le n allowed) ≡ t → (if t then None else Some TooLong) ≡ None → (n ≤ max_word) × (n ≤ allowed)
+word_limit_by : (allowed n : ℕ) (t : Bool) → (nat_le n max_word && nat_le n allowed) ≡ t → (if t then None else Some TooLong) ≡ None → (n ≤ max_word)
+    × (n ≤ allowed)
 word_limit_by allowed n true t e = let h = both_of (nat_le n max_word) (nat_le n allowed) t in (leb-true n max_word h.0, leb-true n allowed h.1)
 word_limit_by allowed n false t e = absurd (cc e)
 
@@ -136,7 +150,8 @@ within allowed n e = word_limit_by allowed n (nat_le n max_word && nat_le n allo
 word_is_limit : (allowed : ℕ) → IsLimit (word_limit allowed)
 word_is_limit allowed n e = omega (arith, (within allowed n e).0)
 
-word_found : (allowed : ℕ) (bytes w r : Bytes) → word allowed bytes ≡ found w r → (bytes ≡ bulk_text w ++ r) × (length w ≤ max_word) × (length w ≤ allowed)
+word_found : (allowed : ℕ) (bytes w r : Bytes) → word allowed bytes ≡ found w r → (bytes ≡ bulk_text w ++ r) × (length w ≤ max_word)
+    × (length w ≤ allowed)
 word_found allowed bytes w r e =
     let p = parts (λ u. number_line (word_limit allowed) None >>= behind_length) (byte 36 BadType bytes) w r e in
     let q = parts behind_length (number_line (word_limit allowed) None p.rest) w r p.second in
@@ -150,11 +165,19 @@ word_found allowed bytes w r e =
     let text = bytes_found q.first s.rest t.first t.rest t.is in
     let limits = within allowed q.first size.fine in
     let n : length w ≡ q.first = sym (ap length is) ∙ text.1 in
-    let behind : t.rest ≡ 13 ∷ 10 ∷ r = byte_found 13 BadEnd t.rest u.first u.rest u.is ∙ ap (λ x. 13 ∷ x) (byte_found 10 BadEnd u.rest v.first v.rest v.is ∙ ap (λ x. 10 ∷ x) end) in
-    let body : q.rest ≡ 10 ∷ (w ++ 13 ∷ 10 ∷ r) = byte_found 10 BadEnd q.rest s.first s.rest s.is ∙ ap (λ x. 10 ∷ x) (text.0 ∙ ap (λ x. x ++ t.rest) is ∙ ap (λ x. w ++ x) behind) in
-    let head : p.rest ≡ decimal (length w) ++ 13 ∷ 10 ∷ (w ++ 13 ∷ 10 ∷ r) = size.text ∙ ap (λ x. x ++ 13 ∷ q.rest) (size.number_line ∙ ap decimal (sym n)) ∙ ap (λ x. decimal (length w) ++ 13 ∷ x) body in
-    let whole : bytes ≡ 36 ∷ (decimal (length w) ++ 13 ∷ 10 ∷ (w ++ 13 ∷ 10 ∷ r)) = byte_found 36 BadType bytes p.first p.rest p.is ∙ ap (λ x. 36 ∷ x) head in
-    (whole ∙ sym (bulk_text-append w r ∙ line-append 36 (decimal (length w)) (w ++ 13 ∷ 10 ∷ r)), omega (arith, n, limits.0), omega (arith, n, limits.1))
+    let behind : t.rest ≡ 13 ∷ 10 ∷ r = byte_found 13 BadEnd t.rest u.first u.rest u.is
+    ∙ ap (λ x. 13 ∷ x) (byte_found 10 BadEnd u.rest v.first v.rest v.is ∙ ap (λ x. 10 ∷ x) end) in
+    let body : q.rest ≡ 10 ∷ (w ++ 13 ∷ 10 ∷ r) = byte_found 10 BadEnd q.rest s.first s.rest s.is
+    ∙ ap (λ x. 10 ∷ x) (text.0 ∙ ap (λ x. x ++ t.rest) is ∙ ap (λ x. w ++ x) behind) in
+    let head : p.rest ≡ decimal (length w) ++ 13 ∷ 10 ∷ (w ++ 13 ∷ 10 ∷ r) = size.text
+    ∙ ap (λ x. x ++ 13 ∷ q.rest) (size.number_line ∙ ap decimal (sym n)) ∙ ap (λ x. decimal (length w) ++ 13 ∷ x) body in
+    let whole : bytes ≡ 36 ∷ (decimal (length w) ++ 13 ∷ 10 ∷ (w ++ 13 ∷ 10 ∷ r)) = byte_found 36 BadType bytes p.first p.rest p.is
+    ∙ ap (λ x. 36 ∷ x) head in (
+      whole ∙ sym (bulk_text-append w r
+          ∙ line-append 36 (decimal (length w)) (w ++ 13 ∷ 10 ∷ r)),
+      omega (arith, n, limits.0),
+      omega (arith, n, limits.1),
+    )
 
 record AreWords (n allowed : ℕ) (bytes : Bytes) (ws : List Bytes) (r : Bytes) : Type 0 where
   pub text : bytes ≡ flat_map bulk_text ws ++ r
@@ -174,7 +197,8 @@ words_found (suc n) allowed bytes ws r e =
     let w = word_found allowed bytes p.first p.rest p.is in
     let rest = words_found n (allowed - length p.first) p.rest q.first q.rest q.is in
     subst (λ x. AreWords (suc n) allowed bytes x r) is (record {
-      text = w.0 ∙ ap (λ x. bulk_text p.first ++ x) (rest.text ∙ ap (λ x. flat_map bulk_text q.first ++ x) end) ∙ sym (append_assoc (bulk_text p.first) (flat_map bulk_text q.first) r);
+      text = w.0 ∙ ap (λ x. bulk_text p.first ++ x) (rest.text ∙ ap (λ x. flat_map bulk_text q.first ++ x) end)
+          ∙ sym (append_assoc (bulk_text p.first) (flat_map bulk_text q.first) r);
       count = ap suc rest.count;
       short = (w.1, rest.short);
       small = omega (arith, w.2, rest.small);
@@ -201,11 +225,14 @@ request_found bytes ws r e =
     let limits = count_within q.first size.fine in
     let w = words_found q.first max_request s.rest ws r s.second in
     let body : q.rest ≡ 10 ∷ (flat_map bulk_text ws ++ r) = byte_found 10 BadEnd q.rest s.first s.rest s.is ∙ ap (λ x. 10 ∷ x) w.text in
-    let head : p.rest ≡ decimal (length ws) ++ 13 ∷ 10 ∷ (flat_map bulk_text ws ++ r) = size.text ∙ ap (λ x. x ++ 13 ∷ q.rest) (size.number_line ∙ ap decimal (sym w.count)) ∙ ap (λ x. decimal (length ws) ++ 13 ∷ x) body in
-    let whole : bytes ≡ 42 ∷ (decimal (length ws) ++ 13 ∷ 10 ∷ (flat_map bulk_text ws ++ r)) = byte_found 42 BadType bytes p.first p.rest p.is ∙ ap (λ x. 42 ∷ x) head in (
+    let head : p.rest ≡ decimal (length ws) ++ 13 ∷ 10 ∷ (flat_map bulk_text ws ++ r) = size.text
+    ∙ ap (λ x. x ++ 13 ∷ q.rest) (size.number_line ∙ ap decimal (sym w.count)) ∙ ap (λ x. decimal (length ws) ++ 13 ∷ x) body in
+    let whole : bytes ≡ 42 ∷ (decimal (length ws) ++ 13 ∷ 10 ∷ (flat_map bulk_text ws ++ r)) = byte_found 42 BadType bytes p.first p.rest p.is
+    ∙ ap (λ x. 42 ∷ x) head in (
       record {
         some = omega (arith, limits.0, w.count);
         fits = record { few = omega (arith, limits.1, w.count); short = w.short; small = w.small };
       },
-      whole ∙ sym (append_assoc (line 42 (decimal (length ws))) (flat_map bulk_text ws) r ∙ line-append 42 (decimal (length ws)) (flat_map bulk_text ws ++ r)),
+      whole ∙ sym (append_assoc (line 42 (decimal (length ws))) (flat_map bulk_text ws) r
+          ∙ line-append 42 (decimal (length ws)) (flat_map bulk_text ws ++ r)),
     )

@@ -1,10 +1,12 @@
 -- The laws of requests and streams.
-use Rattle.std.proofs.Common.{◌≡◌, ℕ, zero, suc, ◌<◌, ◌≤◌, List, [], ◌∷◌, ◌++◌, length, flat_map, decimal, refl, sym, ap, subst, ◌∙◌, append-nil, arith, length-append}
+use Rattle.std.proofs.Common.{◌≡◌, ℕ, zero, suc, ◌<◌, ◌≤◌, List, [], ◌∷◌, ◌++◌, length, flat_map, decimal, refl, sym, ap, subst, ◌∙◌, append-nil}
+use Rattle.std.proofs.Common.{arith, length-append}
 use Rattle.std.proofs.lemmas.List.{nil_from_length}
 use Rattle.byte_text.specs.Names.{Bytes}
 use Rattle.byte_text.specs.Lines.{line_end, bulk_text}
 use Rattle.byte_text.specs.Requests.{request_text, IsRequestText}
-use Rattle.byte_text.specs.Streams.{Front, found, begun, broken, request, holds, fails, StreamEnd, with_first, only_rest, only_fault, stream_behind, first_requests, stream_of, fed, fed_ending}
+use Rattle.byte_text.specs.Streams.{Front, found, begun, broken, request, holds, fails, StreamEnd, with_first, only_rest, only_fault, stream_behind}
+use Rattle.byte_text.specs.Streams.{first_requests, stream_of, fed, fed_ending}
 use Rattle.byte_text.specs.declared.faults.RespFault.{RespFault}
 use Rattle.byte_text.specs.StreamTexts.{request_read}
 use Rattle.byte_text.specs.StreamFound.{request_found}
@@ -27,7 +29,8 @@ no_rest : (r more : Bytes) (b : ℕ) → r ++ b ∷ more ≡ [] → ⊥
 no_rest [] more b e = cc e
 no_rest (c ∷ r) more b e = cc e
 
-beginning_by : (bytes more : Bytes) (b : ℕ) (ws : List Bytes) → request (bytes ++ b ∷ more) ≡ found ws [] → (x : Front (List Bytes)) → request bytes ≡ x → x ≡ begun
+beginning_by : (bytes more : Bytes) (b : ℕ) (ws : List Bytes) → request (bytes ++ b ∷ more) ≡ found ws [] → (x : Front (List Bytes))
+    → request bytes ≡ x → x ≡ begun
 beginning_by bytes more b ws e (found v r) is = absurd (no_rest r more b (cc (more_of bytes (b ∷ more) (found v r) is, e)))
 beginning_by bytes more b ws e begun is = refl
 beginning_by bytes more b ws e (broken fault) is = absurd (cc (more_of bytes (b ∷ more) (broken fault) is, e))
@@ -50,7 +53,8 @@ empty_begun : request [] ≡ begun
 unfolding request
 empty_begun = refl
 
-enough_by : (n m : ℕ) (bytes : Bytes) → ((r : Bytes) → length r < length bytes → first_requests n r ≡ first_requests m r) → (x : Front (List Bytes)) → request bytes ≡ x
+enough_by : (n m : ℕ) (bytes : Bytes) → ((r : Bytes) → length r < length bytes → first_requests n r ≡ first_requests m r) → (x : Front (List Bytes))
+    → request bytes ≡ x
     → stream_behind bytes x (first_requests n) ≡ stream_behind bytes x (first_requests m)
 enough_by n m bytes go (found first r) e = ap (with_first first) (go r (shorter bytes first r e))
 enough_by n m bytes go begun e = refl
@@ -73,18 +77,21 @@ unfolding stream_of
 opened bytes = enough (length bytes) (suc (length bytes)) bytes (omega arith) (omega arith)
 
 fed_behind : (first : List Bytes) (requests : List (List Bytes)) (ending : StreamEnd) (more : Bytes)
-    → (record { requests = first ∷ (fed_ending requests ending more).requests; ending = (fed_ending requests ending more).ending }) ≡ fed_ending (first ∷ requests) ending more
+    → (record { requests = first ∷ (fed_ending requests ending more).requests; ending = (fed_ending requests ending more).ending })
+    ≡ fed_ending (first ∷ requests) ending more
 fed_behind first requests (holds rest) more = refl
 fed_behind first requests (fails fault) more = refl
 
-fed_by : (n : ℕ) (bytes more : Bytes) → ((r : Bytes) → length r < length bytes → stream_of (r ++ more) ≡ fed (first_requests n r) more) → (x : Front (List Bytes)) → request bytes ≡ x
+fed_by : (n : ℕ) (bytes more : Bytes) → ((r : Bytes) → length r < length bytes → stream_of (r ++ more) ≡ fed (first_requests n r) more)
+    → (x : Front (List Bytes)) → request bytes ≡ x
     → stream_of (bytes ++ more) ≡ fed (stream_behind bytes x (first_requests n)) more
 unfolding stream_of
 fed_by n bytes more go (found first r) e =
     let size : length r < length bytes = shorter bytes first r e in
     let front : request (bytes ++ more) ≡ found first (r ++ more) = more_of bytes more (found first r) e in
     let rest : first_requests (length (bytes ++ more)) (r ++ more) ≡ stream_of (r ++ more) =
-    enough (length (bytes ++ more)) (length (r ++ more)) (r ++ more) (omega (arith, size, length-append bytes more, length-append r more)) (omega arith) in
+    enough (length (bytes ++ more)) (length (r ++ more)) (r
+    ++ more) (omega (arith, size, length-append bytes more, length-append r more)) (omega arith) in
     opened (bytes ++ more)
     ∙ ap (λ x. stream_behind (bytes ++ more) x (first_requests (length (bytes ++ more)))) front
     ∙ ap (with_first first) (rest ∙ go r size)
@@ -104,7 +111,8 @@ pub stream_fed : (bytes more : Bytes) → stream_of (bytes ++ more) ≡ fed (str
 unfolding stream_of
 stream_fed bytes more = fed_from (length bytes) bytes more (omega arith)
 
-pub stream_found : (bytes behind : Bytes) (words : List Bytes) → request bytes ≡ found words behind → stream_of bytes ≡ with_first words (stream_of behind)
+pub stream_found : (bytes behind : Bytes) (words : List Bytes) → request bytes ≡ found words behind
+    → stream_of bytes ≡ with_first words (stream_of behind)
 unfolding stream_of
 stream_found bytes behind words e =
     opened bytes

@@ -1,12 +1,14 @@
 -- A request's text is read as that request.
-use Rattle.std.proofs.Common.{◌≡◌, ℕ, zero, suc, ◌+◌, ◌-◌, ◌*◌, ◌/◌, ◌%◌, ◌<◌, ◌≤◌, ◌^◌, true, false, nat_le, ◌==◌, List, [], ◌∷◌, ◌++◌, length, flat_map, decimal, Option, Some, None, refl, ap, ◌∙◌, append_assoc, arith, ne_eqb, take_at, length-append}
+use Rattle.std.proofs.Common.{◌≡◌, ℕ, zero, suc, ◌+◌, ◌-◌, ◌*◌, ◌/◌, ◌%◌, ◌<◌, ◌≤◌, ◌^◌, true, false, nat_le, ◌==◌, List, [], ◌∷◌, ◌++◌, length}
+use Rattle.std.proofs.Common.{flat_map, decimal, Option, Some, None, refl, ap, ◌∙◌, append_assoc, arith, ne_eqb, take_at, length-append}
 use Rattle.std.proofs.lemmas.Bool.{le-leb}
 use Rattle.std.proofs.lemmas.List.{drop_at}
 use Rattle.std.proofs.lemmas.Fmt.{decimal_by_steps}
 use Rattle.byte_text.specs.Names.{Bytes}
 use Rattle.byte_text.specs.Lines.{line, bulk_text}
 use Rattle.byte_text.specs.Requests.{AreShort, request_text, IsRequest, max_word, max_words, max_request, total}
-use Rattle.byte_text.specs.Streams.{Grammar, ◌>>=◌, ◌>>◌, done, found, read_then, byte, bytes_of, with_digit, number_line, count_limit, word_limit, word, words, request}
+use Rattle.byte_text.specs.Streams.{Grammar, ◌>>=◌, ◌>>◌, done, found, read_then, byte, bytes_of, with_digit, number_line, count_limit, word_limit}
+use Rattle.byte_text.specs.Streams.{word, words, request}
 use Rattle.byte_text.specs.declared.faults.RespFault.{RespFault}
 use Rattle.byte_text.specs.declared.faults.RespFault.TheVariants.{BadEnd}
 use Rattle.byte_text.specs.LineLaws.{line-append, bulk_text-append}
@@ -44,7 +46,8 @@ digits_read limit = decimal_by_steps (IsRead limit)
     ∙ one_digit limit (Some (n / 10)) (n % 10) n x (omega arith) (with_digit_pos (n / 10) (n % 10) some ∙ ap Some is) lets.0)
 
 -- a number and its CR
-pub number_read : (limit : ℕ → Option RespFault) (n : ℕ) (x : Bytes) → n < 2 ^ 64 → Lets limit n → number_line limit None (decimal n ++ 13 ∷ x) ≡ found n x
+pub number_read : (limit : ℕ → Option RespFault) (n : ℕ) (x : Bytes) → n < 2 ^ 64 → Lets limit n
+    → number_line limit None (decimal n ++ 13 ∷ x) ≡ found n x
 number_read limit n x small lets = digits_read limit n small lets (13 ∷ x)
 
 pub bytes_read : (w x : Bytes) → bytes_of (length w) (w ++ x) ≡ found w x
@@ -76,8 +79,11 @@ behind_length n = do
 pub word_read : (allowed : ℕ) (w x : Bytes) → length w ≤ max_word → length w ≤ allowed → word allowed (bulk_text w ++ x) ≡ found w x
 word_read allowed w x p q =
     let n = length w in
-    let size : number_line (word_limit allowed) None (decimal n ++ 13 ∷ 10 ∷ (w ++ 13 ∷ 10 ∷ x)) ≡ found n (10 ∷ (w ++ 13 ∷ 10 ∷ x)) = number_read (word_limit allowed) n (10 ∷ (w ++ 13 ∷ 10 ∷ x)) (omega (arith, p)) (word_lets allowed n p q) in
-    let text : bulk_text w ++ x ≡ 36 ∷ (decimal n ++ 13 ∷ 10 ∷ (w ++ 13 ∷ 10 ∷ x)) = bulk_text-append w x ∙ line-append 36 (decimal n) (w ++ 13 ∷ 10 ∷ x) in
+    let size : number_line (word_limit allowed) None (decimal n
+    ++ 13 ∷ 10 ∷ (w ++ 13 ∷ 10 ∷ x)) ≡ found n (10 ∷ (w ++ 13 ∷ 10 ∷ x)) =
+    number_read (word_limit allowed) n (10 ∷ (w ++ 13 ∷ 10 ∷ x)) (omega (arith, p)) (word_lets allowed n p q) in
+    let text : bulk_text w ++ x ≡ 36 ∷ (decimal n ++ 13 ∷ 10 ∷ (w ++ 13 ∷ 10 ∷ x)) = bulk_text-append w x
+    ∙ line-append 36 (decimal n) (w ++ 13 ∷ 10 ∷ x) in
     ap (word allowed) text ∙ ap (read_then behind_length) size ∙ ap (read_then word_end) (bytes_read w (13 ∷ 10 ∷ x))
 
 -- the words behind a word
@@ -89,11 +95,14 @@ others n allowed text = do
 abbrev pub with_word : Bytes → List Bytes → Grammar (List Bytes)
 with_word text rest = done (text ∷ rest)
 
-pub words_read : (ws : List Bytes) (allowed : ℕ) (x : Bytes) → AreShort ws → total ws ≤ allowed → words (length ws) allowed (flat_map bulk_text ws ++ x) ≡ found ws x
+pub words_read : (ws : List Bytes) (allowed : ℕ) (x : Bytes) → AreShort ws → total ws ≤ allowed
+    → words (length ws) allowed (flat_map bulk_text ws ++ x) ≡ found ws x
 words_read [] allowed x s l = refl
 words_read (w ∷ ws) allowed x s l =
-    let text : bulk_text w ++ flat_map bulk_text ws ++ x ≡ bulk_text w ++ (flat_map bulk_text ws ++ x) = append_assoc (bulk_text w) (flat_map bulk_text ws) x in
-    ap (words (suc (length ws)) allowed) text ∙ ap (read_then (others (length ws) allowed)) (word_read allowed w (flat_map bulk_text ws ++ x) s.0 (omega (arith, l)))
+    let text : bulk_text w ++ flat_map bulk_text ws ++ x ≡ bulk_text w
+    ++ (flat_map bulk_text ws ++ x) = append_assoc (bulk_text w) (flat_map bulk_text ws) x in
+    ap (words (suc (length ws)) allowed) text
+    ∙ ap (read_then (others (length ws) allowed)) (word_read allowed w (flat_map bulk_text ws ++ x) s.0 (omega (arith, l)))
     ∙ ap (read_then (with_word w)) (words_read ws (allowed - length w) x s.1 (omega (arith, l)))
 
 count_lets : (n : ℕ) → 0 < n → n ≤ max_words → Lets count_limit n
@@ -120,6 +129,9 @@ unfolding request
 request_read ws x is =
     let n = length ws in
     let rest = flat_map bulk_text ws ++ x in
-    let count : number_line count_limit None (decimal n ++ 13 ∷ 10 ∷ rest) ≡ found n (10 ∷ rest) = number_read count_limit n (10 ∷ rest) (omega (arith, is.fits.few)) (count_lets n is.some is.fits.few) in
-    let text : request_text ws ++ x ≡ 42 ∷ (decimal n ++ 13 ∷ 10 ∷ rest) = append_assoc (line 42 (decimal n)) (flat_map bulk_text ws) x ∙ line-append 42 (decimal n) rest in
+    let count : number_line count_limit None (decimal n
+    ++ 13 ∷ 10 ∷ rest) ≡ found n (10 ∷ rest) =
+    number_read count_limit n (10 ∷ rest) (omega (arith, is.fits.few)) (count_lets n is.some is.fits.few) in
+    let text : request_text ws ++ x ≡ 42 ∷ (decimal n ++ 13 ∷ 10 ∷ rest) = append_assoc (line 42 (decimal n)) (flat_map bulk_text ws) x
+    ∙ line-append 42 (decimal n) rest in
     ap request text ∙ ap (read_then behind_count) count ∙ words_read ws max_request x is.fits.short is.fits.small

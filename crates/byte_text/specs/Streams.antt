@@ -1,5 +1,6 @@
 -- A stream of requests, read from its front, and the fault of one that goes on as no request.
-use Rattle.std.specs.Prelude.{ℕ, zero, suc, ◌+◌, ◌-◌, ◌*◌, ◌==◌, ◌&&◌, Bool, nat_le, List, [], ◌∷◌, ◌++◌, length, take, drop, Option, Some, None, if◌then◌else◌}
+use Rattle.std.specs.Prelude.{ℕ, zero, suc, ◌+◌, ◌-◌, ◌*◌, ◌==◌, ◌&&◌, Bool, nat_le, List, [], ◌∷◌, ◌++◌, length, take, drop, Option, Some, None}
+use Rattle.std.specs.Prelude.{if◌then◌else◌}
 use Rattle.byte_text.specs.Names.{Bytes}
 use Rattle.byte_text.specs.Requests.{max_words, max_word, max_request}
 use Rattle.byte_text.specs.declared.faults.RespFault.{RespFault}
@@ -73,7 +74,8 @@ number_end (Some n) bytes = found n bytes
 -- a canonical number behind the digits of `so_far`, and its CR
 abbrev pub number_line : (ℕ → Option RespFault) → Option ℕ → Grammar ℕ
 number_line limit so_far [] = begun
-number_line limit so_far (b ∷ bytes) = if b == 13 then number_end so_far bytes else one_more limit (with_byte so_far b) (λ n. number_line limit n bytes)
+number_line limit so_far (b ∷ bytes) = if b == 13 then number_end so_far bytes else
+    one_more limit (with_byte so_far b) (λ n. number_line limit n bytes)
 
 -- a request has a word
 abbrev pub count_limit : ℕ → Option RespFault
@@ -148,7 +150,11 @@ stream_of bytes = first_requests (length bytes) bytes
 
 -- the stream with more bytes behind it: its rest goes on, and nothing comes behind a fault
 abbrev pub fed_ending : List (List Bytes) → StreamEnd → Bytes → Stream
-fed_ending requests (holds rest) more = let others = stream_of (rest ++ more) in record { requests = requests ++ others.requests; ending = others.ending }
+fed_ending requests (holds rest) more = let others = stream_of (rest ++ more) in record {
+  requests = requests
+      ++ others.requests;
+  ending = others.ending;
+}
 fed_ending requests (fails fault) more = record { requests = requests; ending = fails fault }
 
 abbrev pub fed : Stream → Bytes → Stream

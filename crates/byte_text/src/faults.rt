@@ -5,7 +5,8 @@
 pub enum RespFault {
     /// A byte stands in the place of `*` or `$`.
     BadType,
-    /// A byte of a length is neither a digit that keeps it canonical nor, behind a digit, `\r`; or the number of words is 0.
+    /// A byte of a length is neither a digit that keeps it canonical nor, behind a digit, `\r`; or the number of words
+    /// is 0.
     BadLength,
     /// A byte stands in the place of `\n` behind a length, or of `\r` or `\n` behind a word.
     BadEnd,

@@ -1,9 +1,12 @@
 //! JSON strings (RFC 8259, section 7), written.
+//!
+//! `push_json` has no condition: bytes that are not UTF-8 are written as they are.
 
 ghost use Rattle.std.specs.Prelude.{◌≡◌, ◌<◌, ◌++◌, OnOk, OnErr, length, take, flat_map};
 ghost use Rattle.byte_text.specs.JsonText.{hex_digit, json_byte, quoted};
 
-use crate::texts::{NoMemory, Text};
+use crate::texts::Text;
+use memory::NoMemory;
 
 fn hex_digit(n: u8) -> u8
     requires { n < 16 }
@@ -48,8 +51,8 @@ fn push_quoted(into: &mut Text, bytes: &[u8]) -> Result<(), NoMemory>
     into.push(b"\"")
 }
 
-/// Appends the JSON string of a text (RFC 8259, section 7), which is UTF-8 where the bytes are. At want of memory the text is
-/// as before.
+/// Appends the JSON string of a text (RFC 8259, section 7), which is UTF-8 where the bytes are. At want of memory the
+/// text is as before.
 pub fn push_json(into: &mut Text, bytes: &[u8]) -> Result<(), NoMemory>
     ensures ok { OnOk result (into.new ≡ into.old ++ quoted bytes.now) }
     ensures err { OnErr result (into.new ≡ into.old) }

@@ -1,4 +1,6 @@
 //! Names: keys, ids and the like, in byte order.
+//!
+//! Of a word that is no name, emptiness is reported first, then its length, then that it is not UTF-8.
 
 ghost use Rattle.std.specs.Prelude.{◌≡◌, ◌<◌, ◌==◌, IfOk, true};
 ghost use Rattle.std.specs.Int.{w64, from_be_bytes};
@@ -12,7 +14,8 @@ ghost use Rattle.std.specs.Ordering.{nat_cmp, as_partial_cmp};
 ghost use Rattle.byte_text.specs.Names.{is_name, name_fault, IsNameOf};
 
 use crate::limits::MAX_NAME;
-use crate::texts::{NameFault, NoMemory, TextFault};
+use crate::texts::{NameFault, TextFault};
+use memory::NoMemory;
 use std::alloc::Global;
 use std::cmp::Ordering;
 use std::hash::{Hash, Hasher};
@@ -91,18 +94,16 @@ fn byte_order(a: &[u8], b: &[u8]) -> Ordering
 }
 
 impl Name {
-    /// The name of these bytes. Refused is Empty where there is none, else TooLong over 255 bytes, else NotUtf8 where they
-    /// are not UTF-8; Memory for want of memory.
+    /// The name of these bytes. Refused is Empty where there is none, else TooLong over 255 bytes, else NotUtf8 where
+    /// they are not UTF-8; Memory for want of memory.
     pub fn of(alloc: Global, bytes: &[u8]) -> Result<Name, NameFault>
         ensures { IsNameOf (name_fault bytes.now) bytes.now result }
     {
         if let Some(fault) = fault_of(bytes) {
             return Err(NameFault::Refused(fault));
         }
-        match bytes.to_vec(alloc) {
-            Ok(bytes) => Ok(Name { bytes }),
-            Err(_) => Err(NameFault::Memory),
-        }
+        let bytes = bytes.to_vec(alloc)?;
+        Ok(Name { bytes })
     }
 
     /// Its bytes, which are a name's.
@@ -117,10 +118,8 @@ impl Name {
     pub fn copy(&self, alloc: Global) -> Result<Name, NoMemory>
         ensures { IfOk result (λ n. n ≡ self.now) }
     {
-        match self.bytes.as_slice().to_vec(alloc) {
-            Ok(bytes) => Ok(Name { bytes }),
-            Err(_) => Err(NoMemory),
-        }
+        let bytes = self.bytes.as_slice().to_vec(alloc)?;
+        Ok(Name { bytes })
     }
 }
 

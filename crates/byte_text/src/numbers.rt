@@ -1,13 +1,17 @@
 //! Canonical numbers, written and read: a number has one text.
+//!
+//! Each number has one text: no leading zero, no `+`, no `-0`. So reading and writing are exact both ways.
 
-ghost use Rattle.std.specs.Prelude.{◌≡◌, ◌≢◌, ℕ, ℤ, pos, List, ◌++◌, ◌∷◌, [], ◌^◌, ◌<◌, ◌≤◌, decimal, OnOk, OnErr, IfOk, Ok, IfSome, IsSome, Some, negsuc, suc};
+ghost use Rattle.std.specs.Prelude.{◌≡◌, ◌≢◌, ℕ, ℤ, pos, List, ◌++◌, ◌∷◌, [], ◌^◌, ◌<◌, ◌≤◌, decimal, OnOk, OnErr};
+ghost use Rattle.std.specs.Prelude.{IfOk, Ok, IfSome, IsSome, Some, negsuc, suc};
 ghost use Rattle.std.specs.Fmt.{signed_decimal};
 ghost use Rattle.byte_text.specs.Numbers.{read_natural, read_whole};
 ghost use mir.Syntax.{w64};
 ghost use mir.Val.{SFits as FitsSigned};
 
-use crate::texts::{NoMemory, Text, TextFault};
+use crate::texts::{Text, TextFault};
 use itoa::{Buffer, Integer};
+use memory::NoMemory;
 
 /// Appends the text of a number. At want of memory the text is as before.
 pub(crate) fn push_number<I: Integer>(into: &mut Text, n: I) -> Result<(), NoMemory>
@@ -91,8 +95,8 @@ fn natural(bytes: &[u8]) -> Option<u64>
     }
 }
 
-/// The number of which the bytes are the canonical text: digits without a leading zero but `0` itself. Every other text is
-/// NotNumber.
+/// The number of which the bytes are the canonical text: digits without a leading zero but `0` itself. Every other text
+/// is NotNumber.
 pub fn read_u64(bytes: &[u8]) -> Result<u64, TextFault>
     ensures reads { result ≡ read_natural bytes.now }
     ensures text { IfOk result (λ n. bytes.now ≡ decimal n) }
@@ -157,8 +161,8 @@ fn whole(bytes: &[u8]) -> Option<i64>
     }
 }
 
-/// The number of which the bytes are the canonical text: digits without a leading zero but `0` itself, with a `-` before
-/// them where it is negative. Every other text is NotNumber.
+/// The number of which the bytes are the canonical text: digits without a leading zero but `0` itself, with a `-`
+/// before them where it is negative. Every other text is NotNumber.
 pub fn read_i64(bytes: &[u8]) -> Result<i64, TextFault>
     ensures reads { result ≡ read_whole bytes.now }
     ensures text { IfOk result (λ z. bytes.now ≡ signed_decimal z) }

@@ -1,6 +1,7 @@
 //! Replies (RESP2): pieces, whole replies, and the texts of their frames.
 
-ghost use Rattle.std.specs.Prelude.{◌≡◌, ℕ, List, ◌++◌, ◌∷◌, [], OnOk, OnErr, IfErr, length, take, slice_get, Some, ◌<◌, ◌+◌};
+ghost use Rattle.std.specs.Prelude.{◌≡◌, ℕ, List, ◌++◌, ◌∷◌, [], OnOk, OnErr, IfErr, length, take, slice_get, Some};
+ghost use Rattle.std.specs.Prelude.{◌<◌, ◌+◌};
 ghost use Rattle.std.specs.Fmt.{signed_decimal};
 ghost use Rattle.std.specs.List.{AllByRecursion};
 ghost use Rattle.byte_text.specs.Lines.{line};
@@ -10,7 +11,8 @@ ghost use Rattle.byte_text.specs.declared.replies.Piece.{Piece};
 
 use crate::numbers::push_i64;
 use crate::requests::{push_array_head, push_bulk};
-use crate::texts::{NoMemory, Text};
+use crate::texts::Text;
+use memory::NoMemory;
 use std::alloc::Global;
 use std::marker::Model;
 

@@ -1,18 +1,20 @@
 //! Requests (RESP2): words within limits, and their texts.
 
 ghost use Rattle.byte_text.specs.Names.{Bytes};
-ghost use Rattle.std.specs.Prelude.{◌≡◌, ℕ, List, ◌++◌, ◌∷◌, [], ◌<◌, ◌≤◌, ◌-◌, length, take, drop, slice_get, Some, OnOk, OnErr, IfOk, flat_map};
+ghost use Rattle.std.specs.Prelude.{◌≡◌, ℕ, List, ◌++◌, ◌∷◌, [], ◌<◌, ◌≤◌, ◌-◌, length, take, drop, slice_get, Some};
+ghost use Rattle.std.specs.Prelude.{OnOk, OnErr, IfOk, flat_map};
 ghost use Rattle.byte_text.specs.Lines.{line, bulk_text};
 ghost use Rattle.byte_text.specs.Requests.{FitsRequest, IsRequest, request_text, start_of};
 
 use crate::numbers::push_number;
-use crate::texts::{NoMemory, Text};
+use crate::texts::Text;
 use itoa::Integer;
+use memory::NoMemory;
 use std::alloc::Global;
 use std::marker::Model;
 
-/// A list of words, each a list of bytes: at most 4,096 words, each of at most 1,048,576 bytes, together of at most 2,097,152.
-/// The words lie in one buffer, one behind another.
+/// A list of words, each a list of bytes: at most 4,096 words, each of at most 1,048,576 bytes, together of at most
+/// 2,097,152. The words lie in one buffer, one behind another.
 #[derive(Drop)]
 pub struct Request {
     bytes: Vec<u8>,
@@ -28,7 +30,8 @@ impl Model for Request {
 
     ghost view = { λ r. cut 0 r.ends.items r.bytes.items };
 
-    ghost invariant = { λ r. FitsRequest (cut 0 r.ends.items r.bytes.items) × Ascend 0 r.ends.items (length r.bytes.items) };
+    ghost invariant = { λ r. FitsRequest (cut 0 r.ends.items r.bytes.items)
+        × Ascend 0 r.ends.items (length r.bytes.items) };
 }
 
 impl Request {
@@ -46,13 +49,9 @@ impl Request {
     pub fn with_room(alloc: Global, words: usize, bytes: usize) -> Result<Request, NoMemory>
         ensures { IfOk result (λ r. r ≡ []) }
     {
-        let Ok(bytes) = Vec::with_capacity(alloc, bytes) else {
-            return Err(NoMemory);
-        };
-        match Vec::with_capacity(alloc, words) {
-            Ok(ends) => Ok(Request { bytes, ends }),
-            Err(_) => Err(NoMemory),
-        }
+        let bytes = Vec::with_capacity(alloc, bytes)?;
+        let ends = Vec::with_capacity(alloc, words)?;
+        Ok(Request { bytes, ends })
     }
 
     /// Puts a word last. At want of memory the words are as before.
@@ -62,9 +61,7 @@ impl Request {
         ensures err { OnErr result (self.new ≡ self.old) }
     {
         let before = self.bytes.len();
-        if self.bytes.extend_from_slice(word).is_err() {
-            return Err(NoMemory);
-        }
+        self.bytes.extend_from_slice(word)?;
         match self.ends.push(self.bytes.len() as u32) {
             Ok(()) => Ok(()),
             Err(_) => {
@@ -130,8 +127,8 @@ fn push_bulk_parts(into: &mut Text, bytes: &[u8]) -> Result<(), NoMemory>
     into.push(b"\r\n")
 }
 
-/// Appends the head of an array of so many items, which follow it: the head of a request of so many words, or of a reply. At want of
-/// memory the text is as before.
+/// Appends the head of an array of so many items, which follow it: the head of a request of so many words, or of a
+/// reply. At want of memory the text is as before.
 pub fn push_array_head<I: Integer>(into: &mut Text, items: I) -> Result<(), NoMemory>
     ensures ok { OnOk result (into.new ≡ into.old ++ line 42 (I.text items)) }
     ensures err { OnErr result (into.new ≡ into.old) }
@@ -162,7 +159,8 @@ fn push_each_word(into: &mut Text, words: &Request) -> Result<(), NoMemory>
     Ok(())
 }
 
-/// Appends the words of a request, each as a bulk string, without the head of the request. At want of memory the text is as before.
+/// Appends the words of a request, each as a bulk string, without the head of the request. At want of memory the text
+/// is as before.
 pub fn push_words(into: &mut Text, words: &Request) -> Result<(), NoMemory>
     ensures ok { OnOk result (into.new ≡ into.old ++ flat_map bulk_text words.now) }
     ensures err { OnErr result (into.new ≡ into.old) }
@@ -194,7 +192,8 @@ pub fn push_request(into: &mut Text, request: &Request) -> Result<(), NoMemory>
     into.keep_if(pushed, before)
 }
 
-/// No request's text is a proper prefix of another's, whatever is behind them, and each is the text of one request alone.
+/// No request's text is a proper prefix of another's, whatever is behind them, and each is the text of one request
+/// alone.
 pub fn request_texts_differ()
     ensures { (a b : List Bytes) (x y : Bytes) → IsRequest a → IsRequest b
         → request_text a ++ x ≡ request_text b ++ y → (a ≡ b) × (x ≡ y) }

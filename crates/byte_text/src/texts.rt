@@ -2,12 +2,9 @@
 
 ghost use Rattle.std.specs.Prelude.{◌≡◌, ◌++◌, [], IfOk, OnOk, OnErr, length, take};
 
-use std::alloc::Global;
+use memory::NoMemory;
+use std::alloc::{AllocError, Global};
 use std::marker::Model;
-
-/// Want of memory.
-#[derive(Clone, Copy, Debug, PartialEq, Eq)]
-pub struct NoMemory;
 
 /// Why bytes are no name, or no canonical number.
 #[derive(Clone, Copy, Debug, PartialEq, Eq)]
@@ -27,8 +24,18 @@ pub enum TextFault {
 pub enum NameFault {
     /// The bytes are no name.
     Refused(TextFault),
-    /// Want of memory.
+    /// Memory was refused.
     Memory,
+}
+
+impl From<AllocError> for NameFault {
+    ghost use Rattle.byte_text.specs.declared.texts.NameFault.{NameFault};
+
+    ghost from_gives = { λ _ f. f ≡ NameFault.Memory };
+
+    fn from(_refused: AllocError) -> NameFault {
+        NameFault::Memory
+    }
 }
 
 /// A list of bytes.
@@ -61,20 +68,16 @@ impl Text {
     pub fn with_room(alloc: Global, room: usize) -> Result<Text, NoMemory>
         ensures { IfOk result (λ t. t ≡ []) }
     {
-        match Vec::with_capacity(alloc, room) {
-            Ok(bytes) => Ok(Text { alloc, bytes }),
-            Err(_) => Err(NoMemory),
-        }
+        let bytes = Vec::with_capacity(alloc, room)?;
+        Ok(Text { alloc, bytes })
     }
 
     /// The text of these bytes.
     pub fn of(alloc: Global, bytes: &[u8]) -> Result<Text, NoMemory>
         ensures { IfOk result (λ t. t ≡ bytes.now) }
     {
-        match bytes.to_vec(alloc) {
-            Ok(bytes) => Ok(Text { alloc, bytes }),
-            Err(_) => Err(NoMemory),
-        }
+        let bytes = bytes.to_vec(alloc)?;
+        Ok(Text { alloc, bytes })
     }
 
     /// Its bytes.
@@ -88,13 +91,7 @@ impl Text {
     pub fn copy(&self) -> Result<Text, NoMemory>
         ensures { IfOk result (λ t. t ≡ self.now) }
     {
-        match self.bytes.as_slice().to_vec(self.alloc) {
-            Ok(bytes) => Ok(Text {
-                alloc: self.alloc,
-                bytes,
-            }),
-            Err(_) => Err(NoMemory),
-        }
+        Text::of(self.alloc, self.bytes.as_slice())
     }
 
     /// Appends a piece. At want of memory the text is as before.
@@ -102,10 +99,8 @@ impl Text {
         ensures ok { OnOk result (self.new ≡ self.old ++ piece.now) }
         ensures err { OnErr result (self.new ≡ self.old) }
     {
-        match self.bytes.extend_from_slice(piece) {
-            Ok(()) => Ok(()),
-            Err(_) => Err(NoMemory),
-        }
+        self.bytes.extend_from_slice(piece)?;
+        Ok(())
     }
 
     /// The number of bytes.
@@ -122,8 +117,8 @@ impl Text {
         self.bytes.truncate(len);
     }
 
-    /// What was pushed stays if nothing failed, else the first `before` bytes alone: so a text to which several pieces were pushed has
-    /// all of them or none.
+    /// What was pushed stays if nothing failed, else the first `before` bytes alone: so a text to which several pieces
+    /// were pushed has all of them or none.
     pub fn keep_if(&mut self, pushed: Result<(), NoMemory>, before: usize) -> Result<(), NoMemory>
         ensures same { result ≡ pushed }
         ensures ok { OnOk pushed (self.new ≡ self.old) }

@@ -1,6 +1,7 @@
 //! Channels of a hub, by name.
 
-ghost use Rattle.std.specs.Prelude.{◌≡◌, ◌<◌, [], ◌∷◌, ◌++◌, filter, filter_map, length, slice_get, Some, OnOk, IsPermutation};
+ghost use Rattle.std.specs.Prelude.{◌≡◌, ◌<◌, [], ◌∷◌, ◌++◌, filter, filter_map, length, slice_get, Some, OnOk};
+ghost use Rattle.std.specs.Prelude.{IsPermutation};
 ghost use Rattle.std.specs.Cmp.Lexicographic.{slice_cmp};
 ghost use Rattle.std.specs.List.{cons_option};
 ghost use Rattle.std.specs.List.Sorted.{IsSortedByKey};
@@ -101,7 +102,8 @@ pub(crate) fn push_slots<'a>(
 
 // The channel, where it is on the key.
 fn of_key<'a>(channel: Option<&'a Channel>, key: &Name) -> Option<&'a Channel>
-    ensures { cons_option (option_copied result) [] ≡ filter (watches (Some key.now)) (cons_option (option_copied channel.entry) []) }
+    ensures { cons_option (option_copied result) []
+        ≡ filter (watches (Some key.now)) (cons_option (option_copied channel.entry) []) }
 {
     match channel {
         Some(channel) if is_same(&channel.fence.key, key) => Some(channel),
@@ -116,7 +118,8 @@ pub(crate) fn push_of_key<'a>(
     key: &Name,
     into: &mut Candidates<'a>,
 ) -> Result<(), NoMemory>
-    ensures { OnOk result (into.new ≡ into.old ++ filter (watches (Some key.now)) (channels_in (get slots.now) order.now)) }
+    ensures { OnOk result
+        (into.new ≡ into.old ++ filter (watches (Some key.now)) (channels_in (get slots.now) order.now)) }
 {
     for slot in order {
         into.push(of_key(slots.get(*slot), key))?;

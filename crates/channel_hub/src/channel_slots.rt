@@ -26,8 +26,12 @@ fn stands_before(slots: &Slab<Channel>, slot: usize, name: &Name) -> bool
 /// The place of the slot of the channel of this name, or, where there is none, the place where it would go.
 pub(crate) fn place_of(slots: &Slab<Channel>, order: &[usize], name: &Name) -> Result<usize, usize>
     requires { AreInOrder (get slots.now) order.now }
-    ensures held { IfOk result (λ at. IsHeld (λ c. before c.name name.now) (λ c. before name.now c.name) (channels_in (get slots.now) order.now) at) }
-    ensures free { IfErr result (λ at. IsFree (λ c. before c.name name.now) (λ c. before name.now c.name) (channels_in (get slots.now) order.now) at) }
+    ensures held { IfOk result
+        (λ at. IsHeld (λ c. before c.name name.now) (λ c. before name.now c.name)
+        (channels_in (get slots.now) order.now) at) }
+    ensures free { IfErr result
+        (λ at. IsFree (λ c. before c.name name.now) (λ c. before name.now c.name)
+        (channels_in (get slots.now) order.now) at) }
 {
     let at = order.partition_point(
         |slot: &usize| -> bool

@@ -1,9 +1,14 @@
 //! The hub: all channels by name, and their marks in the index.
+//!
+//! A channel stays in its slot, and the index gives out the slot, so that one that a write may concern is read without
+//! seeking its name. The hub's order is a list of slots; those that are named are few, and are put in order of their
+//! names. A channel is prepared before it is put, so that `put` takes no memory.
 
-ghost use Rattle.std.specs.Prelude.{◌≡◌, ◌<◌, [], true, not, length, filter, find, slice_get, Some, None, IfOk, IfNone, IfSome, OnOk, OnErr, flat_map, option_map};
+ghost use Rattle.std.specs.Prelude.{◌≡◌, ◌<◌, [], true, not, length, filter, find, slice_get, Some, None, IfOk, IfNone};
+ghost use Rattle.std.specs.Prelude.{IfSome, OnOk, OnErr, flat_map, option_map};
 ghost use Rattle.ordered_lists.specs.Lists.{put_in};
 ghost use Rattle.world_data.specs.Worlds.{are_channels, channel_before, is_named, object_at};
-ghost use Rattle.fence_model.specs.Messages.{loud_messages, watches};
+ghost use Rattle.fence_model.specs.Messages.{announced_messages, watches};
 ghost use Rattle.world_data.specs.declared.worlds.World.{World};
 ghost use Rattle.world_data.specs.declared.worlds.Change.TheVariants.{Put, Del};
 ghost use Rattle.fence_index.specs.Silence.{IfWhole};
@@ -23,8 +28,8 @@ use std::alloc::Global;
 use std::marker::Model;
 use world_data::{Channel, Object};
 
-/// The channels of a world, in byte order of their names, and an index of their fences. One more may be prepared, which is then put
-/// without taking memory.
+/// The channels of a world, in byte order of their names, and an index of their fences. One more may be prepared, which
+/// is then put without taking memory.
 #[derive(Drop)]
 pub struct Hub {
     // A channel stays in its slot until it is taken out. There is room for the channel that is prepared in the index.
@@ -44,7 +49,8 @@ impl Model for Hub {
 
     ghost view = { λ h. record { channels = channels_in (get h.slots) h.order.items; prepared = h.index.prepared } };
 
-    ghost invariant = { λ h. IsKept (get h.slots) h.order.items h.index (slab_len h.slots) h.slots.capacity (vec_len h.order) (vec_capacity h.order) };
+    ghost invariant = { λ h. IsKept (get h.slots) h.order.items h.index (slab_len h.slots) h.slots.capacity
+        (vec_len h.order) (vec_capacity h.order) };
 }
 
 impl Hub {
@@ -60,8 +66,8 @@ impl Hub {
         }
     }
 
-    /// Prepares a channel, in place of the one that was prepared before and not put: all memory that `put` needs is taken. For want of it
-    /// that one stays prepared. The channels stay.
+    /// Prepares a channel, in place of the one that was prepared before and not put: all memory that `put` needs is
+    /// taken. For want of it that one stays prepared. The channels stay.
     pub fn prepare(&mut self, alloc: Global, channel: &Channel) -> Result<(), NoMemory>
         ensures channels { self.new.channels ≡ self.old.channels }
         ensures ok { OnOk result (IsPrepared self.new channel.now) }
@@ -73,7 +79,8 @@ impl Hub {
         self.index.prepare(alloc, channel)
     }
 
-    /// Puts the channel that was prepared at its place, and gives out the one of its name that stood there. None is prepared then.
+    /// Puts the channel that was prepared at its place, and gives out the one of its name that stood there. None is
+    /// prepared then.
     pub fn put(&mut self, channel: Channel) -> Option<Channel>
         requires { IsPrepared self.old channel }
         ensures channels { self.new.channels ≡ put_in channel_before channel self.old.channels }
@@ -99,7 +106,8 @@ impl Hub {
         }
     }
 
-    /// Takes out the channel of this name, where there is one. The one that was prepared stays prepared. It takes no memory.
+    /// Takes out the channel of this name, where there is one. The one that was prepared stays prepared. It takes no
+    /// memory.
     pub fn take_out(&mut self, name: &Name) -> Option<Channel>
         ensures channels { self.new.channels ≡ filter (λ c. not (is_named name.now c)) self.old.channels }
         ensures taken { result ≡ find (is_named name.now) self.old.channels }
@@ -153,8 +161,9 @@ impl Hub {
         &self.slots[self.order[i]]
     }
 
-    /// The channels of the key which a change may concern that moves an object from one box, where it was there, to another, where it is
-    /// there after it. The steps do not fall, and rise by enough nodes to hold these channels, at most 16 each.
+    /// The channels of the key which a change may concern that moves an object from one box, where it was there, to
+    /// another, where it is there after it. The steps do not fall, and rise by enough nodes to hold these channels, at
+    /// most 16 each.
     pub fn candidates<L: Ledger>(
         &self,
         alloc: Global,
@@ -174,8 +183,9 @@ impl Hub {
         Ok(candidates)
     }
 
-    /// The channels that a put may concern of an object in the place of the old one, where there is one. Every other raises nothing: the
-    /// messages are those of these channels alone. The steps rise by enough nodes to hold these channels, at most 16 each.
+    /// The channels that a put may concern of an object in the place of the old one, where there is one. Every other
+    /// raises nothing: the messages are those of these channels alone. The steps rise by enough nodes to hold these
+    /// channels, at most 16 each.
     pub fn candidates_of_put<L: Ledger>(
         &self,
         alloc: Global,
@@ -183,16 +193,20 @@ impl Hub {
         new: &Object,
         steps: &mut Steps<L>,
     ) -> Result<Candidates<'_>, NoMemory>
-        ensures channels { IfOk result (λ cs. cs ≡ filter (put_may_concern (option_map (λ o. o.now) old.entry) new.now) self.now.channels) }
-        ensures messages { (w : World) → w.channels ≡ self.now.channels → object_at w new.now.key new.now.id ≡ option_map (λ o. o.now) old.entry
-            → loud_messages w (Put new.now)
-            ≡ flat_map (messages_on w (Put new.now)) (filter (put_may_concern (option_map (λ o. o.now) old.entry) new.now) w.channels) }
+        ensures channels { IfOk result
+            (λ cs. cs ≡ filter (put_may_concern (option_map (λ o. o.now) old.entry) new.now) self.now.channels) }
+        ensures messages { (w : World) → w.channels ≡ self.now.channels
+            → object_at w new.now.key new.now.id ≡ option_map (λ o. o.now) old.entry
+            → announced_messages w (Put new.now)
+            ≡ flat_map (messages_on w (Put new.now))
+            (filter (put_may_concern (option_map (λ o. o.now) old.entry) new.now) w.channels) }
         ensures read { IfOk result (λ cs. IsRead 0 (length cs) steps.old.count steps.new.count) }
         ensures counted { IsRead 0 0 steps.old.count steps.new.count }
     {
         // The law speaks of whole shapes and of the channels that are kept here.
         shape_is_whole(&new.shape);
         unconcerned_are_silent();
+        // Naming the slots shows the proof the hub's invariant.
         let _kept = &self.slots;
         self.candidates(
             alloc,
@@ -203,8 +217,8 @@ impl Hub {
         )
     }
 
-    /// The channels that a del of an object may concern. Every other raises nothing: the messages are those of these channels alone. The
-    /// steps rise by enough nodes to hold these channels, at most 16 each.
+    /// The channels that a del of an object may concern. Every other raises nothing: the messages are those of these
+    /// channels alone. The steps rise by enough nodes to hold these channels, at most 16 each.
     pub fn candidates_of_del<L: Ledger>(
         &self,
         alloc: Global,
@@ -212,13 +226,15 @@ impl Hub {
         steps: &mut Steps<L>,
     ) -> Result<Candidates<'_>, NoMemory>
         ensures channels { IfOk result (λ cs. cs ≡ filter (del_may_concern old.now) self.now.channels) }
-        ensures messages { (w : World) → w.channels ≡ self.now.channels → object_at w old.now.key old.now.id ≡ Some old.now
-            → loud_messages w (Del old.now.key old.now.id)
+        ensures messages { (w : World) → w.channels ≡ self.now.channels
+            → object_at w old.now.key old.now.id ≡ Some old.now
+            → announced_messages w (Del old.now.key old.now.id)
             ≡ flat_map (messages_on w (Del old.now.key old.now.id)) (filter (del_may_concern old.now) w.channels) }
         ensures read { IfOk result (λ cs. IsRead 0 (length cs) steps.old.count steps.new.count) }
         ensures counted { IsRead 0 0 steps.old.count steps.new.count }
     {
         unconcerned_are_silent();
+        // Naming the slots shows the proof the hub's invariant.
         let _kept = &self.slots;
         self.candidates(alloc, &old.key, whole_box(Some(old)), None, steps)
     }

@@ -6,6 +6,7 @@ use Rattle.world_model.specs.Grammar.{Form, Due, done, one_word, ◌>>=◌}
 use Rattle.world_model.specs.Commands.{reads, wrong_count, shown_of}
 use Rattle.world_model.specs.declared.commands.Command.{Command}
 use Rattle.world_model.specs.declared.commands.Command.TheVariants as command
+use Rattle.world_model.specs.declared.object_commands.ObjectCommand.TheVariants as of_object
 use Rattle.world_data.specs.declared.queries.Shown.{Shown}
 use Rattle.world_data.specs.declared.queries.Shown.TheVariants as shown
 use Rattle.world_model.specs.declared.faults.WordFault.TheVariants as fault
@@ -73,15 +74,15 @@ module _ (old mid p q : Place) (key id : Bytes) (b : Bool) (k : Parses key_and_i
   pub get_faults : (why : CommandFault) → ReadsShown p q None → IsEnd (λ w. fault.Invalid (shown_of w)) q (Err why) → Answers (all_words old) (Err why)
   get_faults why s e = subst (λ ws. Answers ws (Err why)) k.0.words (option_faults b (key, id) mid p q why t s e (k.1 get_options h))
 
-  pub get_objects : ReadsShown p q None → q.left ≡ [] → reads (all_words old) ≡ Ok (command.Get key id b shown.Objects)
-  get_objects s l = subst (λ ws. reads ws ≡ Ok (command.Get key id b shown.Objects)) k.0.words (objects_read b (key, id) mid p q t s l (k.1 get_options h))
+  pub get_objects : ReadsShown p q None → q.left ≡ [] → reads (all_words old) ≡ Ok (command.Object (of_object.Get key id b shown.Objects))
+  get_objects s l = subst (λ ws. reads ws ≡ Ok (command.Object (of_object.Get key id b shown.Objects))) k.0.words (objects_read b (key, id) mid p q t s l (k.1 get_options h))
 
   pub get_refused : (how : Shown) (why : CommandFault) → ReadsShown p q (Some how) → IsEnd (λ _. wrong_count (all_words q)) q (Err why) → Answers (all_words old) (Err why)
   get_refused how why s e =
       let at = shown_behind b (key, id) mid p q how t s (k.1 get_options h) in
-      subst (λ ws. Answers ws (Err why)) (at.1 ∙ k.0.words) (end_refused q (command.Get key id b how) why e at.0)
+      subst (λ ws. Answers ws (Err why)) (at.1 ∙ k.0.words) (end_refused q (command.Object (of_object.Get key id b how)) why e at.0)
 
-  pub get_read : (how : Shown) → ReadsShown p q (Some how) → q.left ≡ [] → reads (all_words old) ≡ Ok (command.Get key id b how)
+  pub get_read : (how : Shown) → ReadsShown p q (Some how) → q.left ≡ [] → reads (all_words old) ≡ Ok (command.Object (of_object.Get key id b how))
   get_read how s l =
       let at = shown_behind b (key, id) mid p q how t s (k.1 get_options h) in
-      subst (λ ws. reads ws ≡ Ok (command.Get key id b how)) (at.1 ∙ k.0.words) (finished q (command.Get key id b how) l at.0)
+      subst (λ ws. reads ws ≡ Ok (command.Object (of_object.Get key id b how))) (at.1 ∙ k.0.words) (finished q (command.Object (of_object.Get key id b how)) l at.0)

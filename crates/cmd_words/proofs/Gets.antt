@@ -10,6 +10,7 @@ use Rattle.world_model.specs.Grammar.{Form, a_word, Reading, spells, runs_out, d
 use Rattle.world_model.specs.Commands.{readings, reads, fault_at, shown_of, command_spelled}
 use Rattle.world_model.specs.declared.commands.Command.{Command}
 use Rattle.world_model.specs.declared.commands.Command.TheVariants as command
+use Rattle.world_model.specs.declared.object_commands.ObjectCommand.TheVariants as of_object
 use Rattle.world_data.specs.declared.queries.Shown.{Shown}
 use Rattle.world_data.specs.declared.queries.Shown.TheVariants as shown
 use Rattle.world_model.specs.declared.faults.WordFault.TheVariants as fault
@@ -53,19 +54,19 @@ stops p f c rs w rest e g x y l s h =
 -- GET
 
 abbrev pub whole : Bool → Bytes × Bytes → Command
-whole b k = command.Get k.0 k.1 b shown.Objects
+whole b k = command.Object (of_object.Get k.0 k.1 b shown.Objects)
 
-output_takes : (b : Bool) (k : Bytes × Bytes) (w : Bytes) (how : Shown) (more : List Bytes) → IsShown w how → live (get_output b k (w ∷ more)) ≡ live (done (command.Get k.0 k.1 b how) more)
-output_takes b k w shown.Objects more e = let l : str_to_ascii_lowercase w ≡ codes "object" = lower_word w (codes "OBJECT") e in rw l (refl {a = live (done (command.Get k.0 k.1 b shown.Objects) more)})
-output_takes b k w shown.Points more e = let l : str_to_ascii_lowercase w ≡ codes "point" = lower_word w (codes "POINT") e in rw l (refl {a = live (done (command.Get k.0 k.1 b shown.Points) more)})
-output_takes b k w shown.Bounds more e = let l : str_to_ascii_lowercase w ≡ codes "bounds" = lower_word w (codes "BOUNDS") e in rw l (refl {a = live (done (command.Get k.0 k.1 b shown.Bounds) more)})
+output_takes : (b : Bool) (k : Bytes × Bytes) (w : Bytes) (how : Shown) (more : List Bytes) → IsShown w how → live (get_output b k (w ∷ more)) ≡ live (done (command.Object (of_object.Get k.0 k.1 b how)) more)
+output_takes b k w shown.Objects more e = let l : str_to_ascii_lowercase w ≡ codes "object" = lower_word w (codes "OBJECT") e in rw l (refl {a = live (done (command.Object (of_object.Get k.0 k.1 b shown.Objects)) more)})
+output_takes b k w shown.Points more e = let l : str_to_ascii_lowercase w ≡ codes "point" = lower_word w (codes "POINT") e in rw l (refl {a = live (done (command.Object (of_object.Get k.0 k.1 b shown.Points)) more)})
+output_takes b k w shown.Bounds more e = let l : str_to_ascii_lowercase w ≡ codes "bounds" = lower_word w (codes "BOUNDS") e in rw l (refl {a = live (done (command.Object (of_object.Get k.0 k.1 b shown.Bounds)) more)})
 output_takes b k w shown.Ids more e = absurd e
 output_takes b k w shown.Count more e = absurd e
 
-options_takes : (k : Bytes × Bytes) (w : Bytes) (how : Shown) (more : List Bytes) → IsShown w how → live (get_options k (w ∷ more)) ≡ live (done (command.Get k.0 k.1 false how) more)
-options_takes k w shown.Objects more e = let l : str_to_ascii_lowercase w ≡ codes "object" = lower_word w (codes "OBJECT") e in rw l (refl {a = live (done (command.Get k.0 k.1 false shown.Objects) more)})
-options_takes k w shown.Points more e = let l : str_to_ascii_lowercase w ≡ codes "point" = lower_word w (codes "POINT") e in rw l (refl {a = live (done (command.Get k.0 k.1 false shown.Points) more)})
-options_takes k w shown.Bounds more e = let l : str_to_ascii_lowercase w ≡ codes "bounds" = lower_word w (codes "BOUNDS") e in rw l (refl {a = live (done (command.Get k.0 k.1 false shown.Bounds) more)})
+options_takes : (k : Bytes × Bytes) (w : Bytes) (how : Shown) (more : List Bytes) → IsShown w how → live (get_options k (w ∷ more)) ≡ live (done (command.Object (of_object.Get k.0 k.1 false how)) more)
+options_takes k w shown.Objects more e = let l : str_to_ascii_lowercase w ≡ codes "object" = lower_word w (codes "OBJECT") e in rw l (refl {a = live (done (command.Object (of_object.Get k.0 k.1 false shown.Objects)) more)})
+options_takes k w shown.Points more e = let l : str_to_ascii_lowercase w ≡ codes "point" = lower_word w (codes "POINT") e in rw l (refl {a = live (done (command.Object (of_object.Get k.0 k.1 false shown.Points)) more)})
+options_takes k w shown.Bounds more e = let l : str_to_ascii_lowercase w ≡ codes "bounds" = lower_word w (codes "BOUNDS") e in rw l (refl {a = live (done (command.Object (of_object.Get k.0 k.1 false shown.Bounds)) more)})
 options_takes k w shown.Ids more e = absurd e
 options_takes k w shown.Count more e = absurd e
 
@@ -82,11 +83,11 @@ options_stop k w e n = let x = n.0 in let y = n.1 in let z = n.2 in rw (e, x, y,
 pub fields_said : (k : Bytes × Bytes) (old new : Place) (w : Bytes) → is_word w (codes "WITHFIELDS") ≡ true → IsBehind w old new → Follows old (get_options k) → Follows new (get_output true k)
 fields_said k old new w e b h = step (get_options k) (get_output true k) old new w b (λ more. fields_taken k w more e) h
 
-pub output_said : (b : Bool) (k : Bytes × Bytes) (old new : Place) (w : Bytes) (how : Shown) → IsShown w how → IsBehind w old new → Follows old (get_output b k) → Follows new (done (command.Get k.0 k.1 b how))
-output_said b k old new w how e behind h = step (get_output b k) (done (command.Get k.0 k.1 b how)) old new w behind (λ more. output_takes b k w how more e) h
+pub output_said : (b : Bool) (k : Bytes × Bytes) (old new : Place) (w : Bytes) (how : Shown) → IsShown w how → IsBehind w old new → Follows old (get_output b k) → Follows new (done (command.Object (of_object.Get k.0 k.1 b how)))
+output_said b k old new w how e behind h = step (get_output b k) (done (command.Object (of_object.Get k.0 k.1 b how))) old new w behind (λ more. output_takes b k w how more e) h
 
-pub option_said : (k : Bytes × Bytes) (old new : Place) (w : Bytes) (how : Shown) → IsShown w how → IsBehind w old new → Follows old (get_options k) → Follows new (done (command.Get k.0 k.1 false how))
-option_said k old new w how e behind h = step (get_options k) (done (command.Get k.0 k.1 false how)) old new w behind (λ more. options_takes k w how more e) h
+pub option_said : (k : Bytes × Bytes) (old new : Place) (w : Bytes) (how : Shown) → IsShown w how → IsBehind w old new → Follows old (get_options k) → Follows new (done (command.Object (of_object.Get k.0 k.1 false how)))
+option_said k old new w how e behind h = step (get_options k) (done (command.Object (of_object.Get k.0 k.1 false how))) old new w behind (λ more. options_takes k w how more e) h
 
 pub output_ends : (b : Bool) (k : Bytes × Bytes) (p : Place) → p.left ≡ [] → Follows p (get_output b k) → reads (all_words p) ≡ Ok (whole b k)
 output_ends b k p l h = ends p (get_output b k) (whole b k) (runs_out a_word ∷ runs_out a_word ∷ runs_out a_word ∷ []) refl l h
@@ -110,7 +111,7 @@ pub moves_on : (old mid new : Place) → Moves old mid → Moves mid new → Mov
 moves_on old mid new a b = let n = a.fewer in let m = b.fewer in record { words = b.words ∙ a.words; fewer = omega (arith, n, m) }
 
 -- the words behind GET's key and id, from the word WITHFIELDS or its absence on
-shown_read : (b : Bool) (k : Bytes × Bytes) (p q r : Place) (how : Shown) → Took (codes "WITHFIELDS") p q b → ReadsShown q r (Some how) → Follows p (get_options k) → Follows r (done (command.Get k.0 k.1 b how))
+shown_read : (b : Bool) (k : Bytes × Bytes) (p q r : Place) (how : Shown) → Took (codes "WITHFIELDS") p q b → ReadsShown q r (Some how) → Follows p (get_options k) → Follows r (done (command.Object (of_object.Get k.0 k.1 b how)))
 shown_read true k p q r how t s h = output_said true k q r s.0 how s.1 s.2 (fields_said k p q t.0 t.1 t.2 h)
 shown_read false k p q r how t s h = option_said k p r s.0 how s.1 (subst (λ x. IsBehind s.0 x r) t.0 s.2) h
 
@@ -119,7 +120,7 @@ words_kept true p q t = moved t.0 p q t.2
 words_kept false p q t = ap all_words t.0
 
 pub shown_behind : (b : Bool) (k : Bytes × Bytes) (p q r : Place) (how : Shown) → Took (codes "WITHFIELDS") p q b → ReadsShown q r (Some how) → Follows p (get_options k)
-    → Follows r (done (command.Get k.0 k.1 b how)) × (all_words r ≡ all_words p)
+    → Follows r (done (command.Object (of_object.Get k.0 k.1 b how))) × (all_words r ≡ all_words p)
 shown_behind b k p q r how t s h = (shown_read b k p q r how t s h, moved s.0 q r s.2 ∙ words_kept b p q t)
 
 said_here : (b : Bool) (k : Bytes × Bytes) (p q : Place) → Took (codes "WITHFIELDS") p q b → q.left ≡ [] → Follows p (get_options k) → reads (all_words p) ≡ Ok (whole b k)

@@ -1,15 +1,19 @@
 -- What stands behind a command's name.
-use Rattle.std.proofs.Common.{◌≡◌, inl, inr, ◌<◌, true, false, refl, sym, ap, subst, ◌∙◌, List, [], ◌∷◌, ◌++◌, length, arith}
-use Rattle.std.specs.Prelude.{codes, Err}
+use Rattle.std.proofs.Common.{◌≡◌, inl, inr, ◌<◌, true, refl, sym, ap, subst, ◌∙◌, List, [], ◌∷◌, ◌++◌, length, arith}
+use Rattle.std.specs.Prelude.{false, map, codes, Err}
+use Rattle.std.specs.List.{AllByRecursion}
 use Rattle.std.specs.Str.{str_to_ascii_lowercase}
 use Rattle.std.proofs.lemmas.List.{append-nil}
 use Rattle.byte_text.specs.Names.{Bytes, is_word}
-use Rattle.world_model.specs.Grammar.{Form, done, live, ◌>>=◌, once_or_more}
-use Rattle.world_model.specs.Commands.{readings, reads, is_open, shown_of, wrong_count}
+use Rattle.world_model.specs.Grammar.{Form, done, live, one_of, ◌>>=◌, once_or_more}
+use Rattle.world_model.specs.Commands.{Row, form_of, command_rows, readings, reads, is_open, shown_of, wrong_count}
 use Rattle.world_model.specs.declared.faults.WordFault.TheVariants as fault
 use Rattle.cmd_words.proofs.Follows.{stopped, shut_by}
 use Rattle.world_model.specs.declared.commands.Command.{Command}
 use Rattle.world_model.specs.declared.commands.Command.TheVariants as command
+use Rattle.world_model.specs.declared.object_commands.ObjectCommand.TheVariants as of_object
+use Rattle.world_model.specs.declared.channel_commands.ChannelCommand.TheVariants as of_channel
+use Rattle.world_model.specs.declared.session_commands.SessionCommand.TheVariants as of_session
 use Rattle.cmd_words.specs.CommandNames.{IsNoName}
 use Rattle.cmd_words.specs.Progress.{Place, Follows, Answers, IsFault, a_name, key_and_id, get_options, name_of, glob_of, answered}
 use Rattle.cmd_words.specs.Sets.{behind_set, field_step, fields_first, fset_of}
@@ -38,77 +42,77 @@ get_goes : (called : Bytes) (more : List Bytes) → str_to_ascii_lowercase calle
 unfolding readings
 get_goes called more e = rw e (simp append-nil)
 
-del_goes : (called : Bytes) (more : List Bytes) → str_to_ascii_lowercase called ≡ codes "del" → readings (called ∷ more) ≡ live (key_and_id (λ k. done (command.Del k.0 k.1)) more)
+del_goes : (called : Bytes) (more : List Bytes) → str_to_ascii_lowercase called ≡ codes "del" → readings (called ∷ more) ≡ live (key_and_id (λ k. done (command.Object (of_object.Del k.0 k.1))) more)
 unfolding readings
 del_goes called more e = rw e (simp append-nil)
 
-drop_goes : (called : Bytes) (more : List Bytes) → str_to_ascii_lowercase called ≡ codes "drop" → readings (called ∷ more) ≡ live (a_name (λ key. done (command.Drop key)) more)
+drop_goes : (called : Bytes) (more : List Bytes) → str_to_ascii_lowercase called ≡ codes "drop" → readings (called ∷ more) ≡ live (a_name (λ key. done (command.Object (of_object.Drop key))) more)
 unfolding readings
 drop_goes called more e = rw e (simp append-nil)
 
-bounds_goes : (called : Bytes) (more : List Bytes) → str_to_ascii_lowercase called ≡ codes "bounds" → readings (called ∷ more) ≡ live (a_name (λ key. done (command.Bounds key)) more)
+bounds_goes : (called : Bytes) (more : List Bytes) → str_to_ascii_lowercase called ≡ codes "bounds" → readings (called ∷ more) ≡ live (a_name (λ key. done (command.Object (of_object.Bounds key))) more)
 unfolding readings
 bounds_goes called more e = rw e (simp append-nil)
 
-stats_goes : (called : Bytes) (more : List Bytes) → str_to_ascii_lowercase called ≡ codes "stats" → readings (called ∷ more) ≡ live (some_names name_of command.Stats more)
+stats_goes : (called : Bytes) (more : List Bytes) → str_to_ascii_lowercase called ≡ codes "stats" → readings (called ∷ more) ≡ live (some_names name_of (λ keys. command.Object (of_object.Stats keys)) more)
 unfolding readings
-stats_goes called more e = rw e (simp append-nil (first_name name_of command.Stats more))
+stats_goes called more e = rw e (simp append-nil (first_name name_of (λ keys. command.Object (of_object.Stats keys)) more))
 
-flush_goes : (called : Bytes) (more : List Bytes) → str_to_ascii_lowercase called ≡ codes "flushdb" → readings (called ∷ more) ≡ live (done command.Flush more)
+flush_goes : (called : Bytes) (more : List Bytes) → str_to_ascii_lowercase called ≡ codes "flushdb" → readings (called ∷ more) ≡ live (done (command.Object of_object.Flush) more)
 unfolding readings
 flush_goes called more e = rw e refl
 
-ping_goes : (called : Bytes) (more : List Bytes) → str_to_ascii_lowercase called ≡ codes "ping" → readings (called ∷ more) ≡ live (done command.Ping more)
+ping_goes : (called : Bytes) (more : List Bytes) → str_to_ascii_lowercase called ≡ codes "ping" → readings (called ∷ more) ≡ live (done (command.Session of_session.Ping) more)
 unfolding readings
 ping_goes called more e = rw e refl
 
-quit_goes : (called : Bytes) (more : List Bytes) → str_to_ascii_lowercase called ≡ codes "quit" → readings (called ∷ more) ≡ live (done command.Quit more)
+quit_goes : (called : Bytes) (more : List Bytes) → str_to_ascii_lowercase called ≡ codes "quit" → readings (called ∷ more) ≡ live (done (command.Session of_session.Quit) more)
 unfolding readings
 quit_goes called more e = rw e refl
 
 pub set_head : (called : Bytes) (p : Place) → p.read ≡ called ∷ [] → is_word called (codes "SET") ≡ true → Follows p (key_and_id behind_set)
 set_head called p r e = begins called p _ r (λ more. set_goes called more (lower_word called (codes "SET") e))
 
-fget_goes : (called : Bytes) (more : List Bytes) → str_to_ascii_lowercase called ≡ codes "fget" → readings (called ∷ more) ≡ live ((key_and_id (λ k. name >>= λ field. done (command.Fget k.0 k.1 field))) more)
+fget_goes : (called : Bytes) (more : List Bytes) → str_to_ascii_lowercase called ≡ codes "fget" → readings (called ∷ more) ≡ live ((key_and_id (λ k. name >>= λ field. done (command.Object (of_object.Fget k.0 k.1 field)))) more)
 unfolding readings
 fget_goes called more e = rw e (simp append-nil)
 
-pub fget_head : (called : Bytes) (p : Place) → p.read ≡ called ∷ [] → is_word called (codes "FGET") ≡ true → Follows p (key_and_id (λ k. name >>= λ field. done (command.Fget k.0 k.1 field)))
+pub fget_head : (called : Bytes) (p : Place) → p.read ≡ called ∷ [] → is_word called (codes "FGET") ≡ true → Follows p (key_and_id (λ k. name >>= λ field. done (command.Object (of_object.Fget k.0 k.1 field))))
 fget_head called p r e = begins called p _ r (λ more. fget_goes called more (lower_word called (codes "FGET") e))
 
-expire_goes : (called : Bytes) (more : List Bytes) → str_to_ascii_lowercase called ≡ codes "expire" → readings (called ∷ more) ≡ live ((key_and_id (λ k. seconds >>= λ s. done (command.Expire k.0 k.1 s))) more)
+expire_goes : (called : Bytes) (more : List Bytes) → str_to_ascii_lowercase called ≡ codes "expire" → readings (called ∷ more) ≡ live ((key_and_id (λ k. seconds >>= λ s. done (command.Object (of_object.Expire k.0 k.1 s)))) more)
 unfolding readings
 expire_goes called more e = rw e (simp append-nil)
 
-pub expire_head : (called : Bytes) (p : Place) → p.read ≡ called ∷ [] → is_word called (codes "EXPIRE") ≡ true → Follows p (key_and_id (λ k. seconds >>= λ s. done (command.Expire k.0 k.1 s)))
+pub expire_head : (called : Bytes) (p : Place) → p.read ≡ called ∷ [] → is_word called (codes "EXPIRE") ≡ true → Follows p (key_and_id (λ k. seconds >>= λ s. done (command.Object (of_object.Expire k.0 k.1 s))))
 expire_head called p r e = begins called p _ r (λ more. expire_goes called more (lower_word called (codes "EXPIRE") e))
 
-persist_goes : (called : Bytes) (more : List Bytes) → str_to_ascii_lowercase called ≡ codes "persist" → readings (called ∷ more) ≡ live ((key_and_id (λ k. done (command.Persist k.0 k.1))) more)
+persist_goes : (called : Bytes) (more : List Bytes) → str_to_ascii_lowercase called ≡ codes "persist" → readings (called ∷ more) ≡ live ((key_and_id (λ k. done (command.Object (of_object.Persist k.0 k.1)))) more)
 unfolding readings
 persist_goes called more e = rw e (simp append-nil)
 
-pub persist_head : (called : Bytes) (p : Place) → p.read ≡ called ∷ [] → is_word called (codes "PERSIST") ≡ true → Follows p (key_and_id (λ k. done (command.Persist k.0 k.1)))
+pub persist_head : (called : Bytes) (p : Place) → p.read ≡ called ∷ [] → is_word called (codes "PERSIST") ≡ true → Follows p (key_and_id (λ k. done (command.Object (of_object.Persist k.0 k.1))))
 persist_head called p r e = begins called p _ r (λ more. persist_goes called more (lower_word called (codes "PERSIST") e))
 
-ttl_goes : (called : Bytes) (more : List Bytes) → str_to_ascii_lowercase called ≡ codes "ttl" → readings (called ∷ more) ≡ live ((key_and_id (λ k. done (command.Ttl k.0 k.1))) more)
+ttl_goes : (called : Bytes) (more : List Bytes) → str_to_ascii_lowercase called ≡ codes "ttl" → readings (called ∷ more) ≡ live ((key_and_id (λ k. done (command.Object (of_object.Ttl k.0 k.1)))) more)
 unfolding readings
 ttl_goes called more e = rw e (simp append-nil)
 
-pub ttl_head : (called : Bytes) (p : Place) → p.read ≡ called ∷ [] → is_word called (codes "TTL") ≡ true → Follows p (key_and_id (λ k. done (command.Ttl k.0 k.1)))
+pub ttl_head : (called : Bytes) (p : Place) → p.read ≡ called ∷ [] → is_word called (codes "TTL") ≡ true → Follows p (key_and_id (λ k. done (command.Object (of_object.Ttl k.0 k.1))))
 ttl_head called p r e = begins called p _ r (λ more. ttl_goes called more (lower_word called (codes "TTL") e))
 
-pdel_goes : (called : Bytes) (more : List Bytes) → str_to_ascii_lowercase called ≡ codes "pdel" → readings (called ∷ more) ≡ live ((a_name (λ key. glob >>= λ pattern. done (command.Pdel key pattern))) more)
+pdel_goes : (called : Bytes) (more : List Bytes) → str_to_ascii_lowercase called ≡ codes "pdel" → readings (called ∷ more) ≡ live ((a_name (λ key. glob >>= λ pattern. done (command.Object (of_object.Pdel key pattern)))) more)
 unfolding readings
 pdel_goes called more e = rw e (simp append-nil)
 
-pub pdel_head : (called : Bytes) (p : Place) → p.read ≡ called ∷ [] → is_word called (codes "PDEL") ≡ true → Follows p (a_name (λ key. glob >>= λ pattern. done (command.Pdel key pattern)))
+pub pdel_head : (called : Bytes) (p : Place) → p.read ≡ called ∷ [] → is_word called (codes "PDEL") ≡ true → Follows p (a_name (λ key. glob >>= λ pattern. done (command.Object (of_object.Pdel key pattern))))
 pdel_head called p r e = begins called p _ r (λ more. pdel_goes called more (lower_word called (codes "PDEL") e))
 
-keys_goes : (called : Bytes) (more : List Bytes) → str_to_ascii_lowercase called ≡ codes "keys" → readings (called ∷ more) ≡ live ((glob >>= λ pattern. done (command.Keys pattern)) more)
+keys_goes : (called : Bytes) (more : List Bytes) → str_to_ascii_lowercase called ≡ codes "keys" → readings (called ∷ more) ≡ live ((glob >>= λ pattern. done (command.Object (of_object.Keys pattern))) more)
 unfolding readings
 keys_goes called more e = rw e (simp append-nil)
 
-pub keys_head : (called : Bytes) (p : Place) → p.read ≡ called ∷ [] → is_word called (codes "KEYS") ≡ true → Follows p (glob >>= λ pattern. done (command.Keys pattern))
+pub keys_head : (called : Bytes) (p : Place) → p.read ≡ called ∷ [] → is_word called (codes "KEYS") ≡ true → Follows p (glob >>= λ pattern. done (command.Object (of_object.Keys pattern)))
 keys_head called p r e = begins called p _ r (λ more. keys_goes called more (lower_word called (codes "KEYS") e))
 
 fset_goes : (called : Bytes) (more : List Bytes) → str_to_ascii_lowercase called ≡ codes "fset" → readings (called ∷ more) ≡ live (key_and_id (λ k. once_or_more field_step [] >>= λ given. done (fset_of k given)) more)
@@ -152,69 +156,69 @@ nearby_head called p r e = begins called p _ r (λ more. nearby_goes called more
 pub get_head : (called : Bytes) (p : Place) → p.read ≡ called ∷ [] → is_word called (codes "GET") ≡ true → Follows p (key_and_id get_options)
 get_head called p r e = begins called p _ r (λ more. get_goes called more (lower_word called (codes "GET") e))
 
-pub del_head : (called : Bytes) (p : Place) → p.read ≡ called ∷ [] → is_word called (codes "DEL") ≡ true → Follows p (key_and_id (λ k. done (command.Del k.0 k.1)))
+pub del_head : (called : Bytes) (p : Place) → p.read ≡ called ∷ [] → is_word called (codes "DEL") ≡ true → Follows p (key_and_id (λ k. done (command.Object (of_object.Del k.0 k.1))))
 del_head called p r e = begins called p _ r (λ more. del_goes called more (lower_word called (codes "DEL") e))
 
-pub drop_head : (called : Bytes) (p : Place) → p.read ≡ called ∷ [] → is_word called (codes "DROP") ≡ true → Follows p (a_name (λ key. done (command.Drop key)))
+pub drop_head : (called : Bytes) (p : Place) → p.read ≡ called ∷ [] → is_word called (codes "DROP") ≡ true → Follows p (a_name (λ key. done (command.Object (of_object.Drop key))))
 drop_head called p r e = begins called p _ r (λ more. drop_goes called more (lower_word called (codes "DROP") e))
 
-pub bounds_head : (called : Bytes) (p : Place) → p.read ≡ called ∷ [] → is_word called (codes "BOUNDS") ≡ true → Follows p (a_name (λ key. done (command.Bounds key)))
+pub bounds_head : (called : Bytes) (p : Place) → p.read ≡ called ∷ [] → is_word called (codes "BOUNDS") ≡ true → Follows p (a_name (λ key. done (command.Object (of_object.Bounds key))))
 bounds_head called p r e = begins called p _ r (λ more. bounds_goes called more (lower_word called (codes "BOUNDS") e))
 
-pub stats_head : (called : Bytes) (p : Place) → p.read ≡ called ∷ [] → is_word called (codes "STATS") ≡ true → Follows p (some_names name_of command.Stats)
+pub stats_head : (called : Bytes) (p : Place) → p.read ≡ called ∷ [] → is_word called (codes "STATS") ≡ true → Follows p (some_names name_of (λ keys. command.Object (of_object.Stats keys)))
 stats_head called p r e = begins called p _ r (λ more. stats_goes called more (lower_word called (codes "STATS") e))
 
-pub flush_head : (called : Bytes) (p : Place) → p.read ≡ called ∷ [] → is_word called (codes "FLUSHDB") ≡ true → Follows p (done command.Flush)
+pub flush_head : (called : Bytes) (p : Place) → p.read ≡ called ∷ [] → is_word called (codes "FLUSHDB") ≡ true → Follows p (done (command.Object of_object.Flush))
 flush_head called p r e = begins called p _ r (λ more. flush_goes called more (lower_word called (codes "FLUSHDB") e))
 
-pub ping_head : (called : Bytes) (p : Place) → p.read ≡ called ∷ [] → is_word called (codes "PING") ≡ true → Follows p (done command.Ping)
+pub ping_head : (called : Bytes) (p : Place) → p.read ≡ called ∷ [] → is_word called (codes "PING") ≡ true → Follows p (done (command.Session of_session.Ping))
 ping_head called p r e = begins called p _ r (λ more. ping_goes called more (lower_word called (codes "PING") e))
 
-pub quit_head : (called : Bytes) (p : Place) → p.read ≡ called ∷ [] → is_word called (codes "QUIT") ≡ true → Follows p (done command.Quit)
+pub quit_head : (called : Bytes) (p : Place) → p.read ≡ called ∷ [] → is_word called (codes "QUIT") ≡ true → Follows p (done (command.Session of_session.Quit))
 quit_head called p r e = begins called p _ r (λ more. quit_goes called more (lower_word called (codes "QUIT") e))
 
-shrink_goes : (called : Bytes) (more : List Bytes) → str_to_ascii_lowercase called ≡ codes "aofshrink" → readings (called ∷ more) ≡ live (done command.Shrink more)
+shrink_goes : (called : Bytes) (more : List Bytes) → str_to_ascii_lowercase called ≡ codes "aofshrink" → readings (called ∷ more) ≡ live (done (command.Object of_object.Shrink) more)
 unfolding readings
 shrink_goes called more e = rw e refl
 
-pub shrink_head : (called : Bytes) (p : Place) → p.read ≡ called ∷ [] → is_word called (codes "AOFSHRINK") ≡ true → Follows p (done command.Shrink)
+pub shrink_head : (called : Bytes) (p : Place) → p.read ≡ called ∷ [] → is_word called (codes "AOFSHRINK") ≡ true → Follows p (done (command.Object of_object.Shrink))
 shrink_head called p r e = begins called p _ r (λ more. shrink_goes called more (lower_word called (codes "AOFSHRINK") e))
 
 -- channels and subscriptions
 
-delchan_goes : (called : Bytes) (more : List Bytes) → str_to_ascii_lowercase called ≡ codes "delchan" → readings (called ∷ more) ≡ live (a_name (λ n. done (command.Delchan n)) more)
+delchan_goes : (called : Bytes) (more : List Bytes) → str_to_ascii_lowercase called ≡ codes "delchan" → readings (called ∷ more) ≡ live (a_name (λ n. done (command.Channel (of_channel.Delchan n))) more)
 unfolding readings
 delchan_goes called more e = rw e (simp append-nil)
 
-pub delchan_head : (called : Bytes) (p : Place) → p.read ≡ called ∷ [] → is_word called (codes "DELCHAN") ≡ true → Follows p (a_name (λ n. done (command.Delchan n)))
+pub delchan_head : (called : Bytes) (p : Place) → p.read ≡ called ∷ [] → is_word called (codes "DELCHAN") ≡ true → Follows p (a_name (λ n. done (command.Channel (of_channel.Delchan n))))
 delchan_head called p r e = begins called p _ r (λ more. delchan_goes called more (lower_word called (codes "DELCHAN") e))
 
-pdelchan_goes : (called : Bytes) (more : List Bytes) → str_to_ascii_lowercase called ≡ codes "pdelchan" → readings (called ∷ more) ≡ live ((glob >>= λ pattern. done (command.Pdelchan pattern)) more)
+pdelchan_goes : (called : Bytes) (more : List Bytes) → str_to_ascii_lowercase called ≡ codes "pdelchan" → readings (called ∷ more) ≡ live ((glob >>= λ pattern. done (command.Channel (of_channel.Pdelchan pattern))) more)
 unfolding readings
 pdelchan_goes called more e = rw e (simp append-nil)
 
-pub pdelchan_head : (called : Bytes) (p : Place) → p.read ≡ called ∷ [] → is_word called (codes "PDELCHAN") ≡ true → Follows p (glob >>= λ pattern. done (command.Pdelchan pattern))
+pub pdelchan_head : (called : Bytes) (p : Place) → p.read ≡ called ∷ [] → is_word called (codes "PDELCHAN") ≡ true → Follows p (glob >>= λ pattern. done (command.Channel (of_channel.Pdelchan pattern)))
 pdelchan_head called p r e = begins called p _ r (λ more. pdelchan_goes called more (lower_word called (codes "PDELCHAN") e))
 
-chans_goes : (called : Bytes) (more : List Bytes) → str_to_ascii_lowercase called ≡ codes "chans" → readings (called ∷ more) ≡ live ((glob >>= λ pattern. done (command.Chans pattern)) more)
+chans_goes : (called : Bytes) (more : List Bytes) → str_to_ascii_lowercase called ≡ codes "chans" → readings (called ∷ more) ≡ live ((glob >>= λ pattern. done (command.Channel (of_channel.Chans pattern))) more)
 unfolding readings
 chans_goes called more e = rw e (simp append-nil)
 
-pub chans_head : (called : Bytes) (p : Place) → p.read ≡ called ∷ [] → is_word called (codes "CHANS") ≡ true → Follows p (glob >>= λ pattern. done (command.Chans pattern))
+pub chans_head : (called : Bytes) (p : Place) → p.read ≡ called ∷ [] → is_word called (codes "CHANS") ≡ true → Follows p (glob >>= λ pattern. done (command.Channel (of_channel.Chans pattern)))
 chans_head called p r e = begins called p _ r (λ more. chans_goes called more (lower_word called (codes "CHANS") e))
 
-subscribe_goes : (called : Bytes) (more : List Bytes) → str_to_ascii_lowercase called ≡ codes "subscribe" → readings (called ∷ more) ≡ live (some_names name_of command.Subscribe more)
+subscribe_goes : (called : Bytes) (more : List Bytes) → str_to_ascii_lowercase called ≡ codes "subscribe" → readings (called ∷ more) ≡ live (some_names name_of (λ names. command.Session (of_session.Subscribe names)) more)
 unfolding readings
-subscribe_goes called more e = rw e (simp append-nil (first_name name_of command.Subscribe more))
+subscribe_goes called more e = rw e (simp append-nil (first_name name_of (λ names. command.Session (of_session.Subscribe names)) more))
 
-pub subscribe_head : (called : Bytes) (p : Place) → p.read ≡ called ∷ [] → is_word called (codes "SUBSCRIBE") ≡ true → Follows p (some_names name_of command.Subscribe)
+pub subscribe_head : (called : Bytes) (p : Place) → p.read ≡ called ∷ [] → is_word called (codes "SUBSCRIBE") ≡ true → Follows p (some_names name_of (λ names. command.Session (of_session.Subscribe names)))
 subscribe_head called p r e = begins called p _ r (λ more. subscribe_goes called more (lower_word called (codes "SUBSCRIBE") e))
 
-psubscribe_goes : (called : Bytes) (more : List Bytes) → str_to_ascii_lowercase called ≡ codes "psubscribe" → readings (called ∷ more) ≡ live (some_names glob_of command.Psubscribe more)
+psubscribe_goes : (called : Bytes) (more : List Bytes) → str_to_ascii_lowercase called ≡ codes "psubscribe" → readings (called ∷ more) ≡ live (some_names glob_of (λ patterns. command.Session (of_session.Psubscribe patterns)) more)
 unfolding readings
-psubscribe_goes called more e = rw e (simp append-nil (first_name glob_of command.Psubscribe more))
+psubscribe_goes called more e = rw e (simp append-nil (first_name glob_of (λ patterns. command.Session (of_session.Psubscribe patterns)) more))
 
-pub psubscribe_head : (called : Bytes) (p : Place) → p.read ≡ called ∷ [] → is_word called (codes "PSUBSCRIBE") ≡ true → Follows p (some_names glob_of command.Psubscribe)
+pub psubscribe_head : (called : Bytes) (p : Place) → p.read ≡ called ∷ [] → is_word called (codes "PSUBSCRIBE") ≡ true → Follows p (some_names glob_of (λ patterns. command.Session (of_session.Psubscribe patterns)))
 psubscribe_head called p r e = begins called p _ r (λ more. psubscribe_goes called more (lower_word called (codes "PSUBSCRIBE") e))
 
 setchan_goes : (called : Bytes) (more : List Bytes) → str_to_ascii_lowercase called ≡ codes "setchan" → readings (called ∷ more) ≡ live (channel_and_more more)
@@ -233,12 +237,16 @@ nothing_spelled : reads [] ≡ Err (wrong_count [])
 unfolding readings
 nothing_spelled = refl
 
-nothing_goes : (called : Bytes) → is_word called (codes "SET") ≡ false → is_word called (codes "GET") ≡ false → is_word called (codes "DEL") ≡ false → is_word called (codes "FSET") ≡ false → is_word called (codes "FGET") ≡ false → is_word called (codes "EXPIRE") ≡ false → is_word called (codes "PERSIST") ≡ false → is_word called (codes "TTL") ≡ false → is_word called (codes "PDEL") ≡ false → is_word called (codes "DROP") ≡ false → is_word called (codes "KEYS") ≡ false → is_word called (codes "BOUNDS") ≡ false → is_word called (codes "STATS") ≡ false → is_word called (codes "FLUSHDB") ≡ false → is_word called (codes "PING") ≡ false → is_word called (codes "QUIT") ≡ false → is_word called (codes "SCAN") ≡ false → is_word called (codes "WITHIN") ≡ false → is_word called (codes "INTERSECTS") ≡ false → is_word called (codes "NEARBY") ≡ false → is_word called (codes "AOFSHRINK") ≡ false → is_word called (codes "DELCHAN") ≡ false → is_word called (codes "PDELCHAN") ≡ false → is_word called (codes "CHANS") ≡ false → is_word called (codes "SUBSCRIBE") ≡ false → is_word called (codes "PSUBSCRIBE") ≡ false → is_word called (codes "SETCHAN") ≡ false → readings (called ∷ []) ≡ []
+no_row : (rows : List Row) (called : Bytes) (more : List Bytes) → AllByRecursion (λ r. is_word called r.called ≡ false) rows → one_of (map form_of rows) (called ∷ more) ≡ []
+no_row [] called more none = refl
+no_row (r ∷ rows) called more none = rw none.0 (no_row rows called more none.1)
+
+nothing_goes : (called : Bytes) → IsNoName called → readings (called ∷ []) ≡ []
 unfolding readings
-nothing_goes called w_set w_get w_del w_fset w_fget w_expire w_persist w_ttl w_pdel w_drop w_keys w_bounds w_stats w_flush w_ping w_quit w_scan w_within w_intersects w_nearby w_shrink w_delchan w_pdelchan w_chans w_subscribe w_psubscribe w_setchan = rw (w_set, w_get, w_del, w_fset, w_fget, w_expire, w_persist, w_ttl, w_pdel, w_drop, w_keys, w_bounds, w_stats, w_flush, w_ping, w_quit, w_scan, w_within, w_intersects, w_nearby, w_shrink, w_delchan, w_pdelchan, w_chans, w_subscribe, w_psubscribe, w_setchan) refl
+nothing_goes called none = ap live (no_row command_rows called [] none)
 
 unknown : (called : Bytes) (rest : List Bytes) → IsNoName called → reads (called ∷ rest) ≡ Err (fault.Unknown (shown_of called))
-unknown called rest n = stopped [] called rest nothing_starts (shut_by (called ∷ []) (nothing_goes called n.0 n.1.0 n.1.1.0 n.1.1.1.0 n.1.1.1.1.0 n.1.1.1.1.1.0 n.1.1.1.1.1.1.0 n.1.1.1.1.1.1.1.0 n.1.1.1.1.1.1.1.1.0 n.1.1.1.1.1.1.1.1.1.0 n.1.1.1.1.1.1.1.1.1.1.0 n.1.1.1.1.1.1.1.1.1.1.1.0 n.1.1.1.1.1.1.1.1.1.1.1.1.0 n.1.1.1.1.1.1.1.1.1.1.1.1.1.0 n.1.1.1.1.1.1.1.1.1.1.1.1.1.1.0 n.1.1.1.1.1.1.1.1.1.1.1.1.1.1.1.0 n.1.1.1.1.1.1.1.1.1.1.1.1.1.1.1.1.0 n.1.1.1.1.1.1.1.1.1.1.1.1.1.1.1.1.1.0 n.1.1.1.1.1.1.1.1.1.1.1.1.1.1.1.1.1.1.0 n.1.1.1.1.1.1.1.1.1.1.1.1.1.1.1.1.1.1.1.0 n.1.1.1.1.1.1.1.1.1.1.1.1.1.1.1.1.1.1.1.1.0 n.1.1.1.1.1.1.1.1.1.1.1.1.1.1.1.1.1.1.1.1.1.0 n.1.1.1.1.1.1.1.1.1.1.1.1.1.1.1.1.1.1.1.1.1.1.0 n.1.1.1.1.1.1.1.1.1.1.1.1.1.1.1.1.1.1.1.1.1.1.1.0 n.1.1.1.1.1.1.1.1.1.1.1.1.1.1.1.1.1.1.1.1.1.1.1.1.0 n.1.1.1.1.1.1.1.1.1.1.1.1.1.1.1.1.1.1.1.1.1.1.1.1.1.0 n.1.1.1.1.1.1.1.1.1.1.1.1.1.1.1.1.1.1.1.1.1.1.1.1.1.1.0))
+unknown called rest n = stopped [] called rest nothing_starts (shut_by (called ∷ []) (nothing_goes called n))
 
 pub not_known : (called : Bytes) (rest : List Bytes) (why : CommandFault) → IsNoName called → IsFault (fault.Unknown (shown_of called)) why → Answers (called ∷ rest) (Err why)
 not_known called rest why n (inl m) = inl m

@@ -12,8 +12,8 @@ use Rattle.world_model.specs.Grammar.{Form, a_word, Reading, runs_out, ◌>>=◌
 use Rattle.world_model.specs.Kinds.{name, integer, seconds, lat_lon, four, geojson}
 use Rattle.world_data.specs.Filters.{Field}
 use Rattle.world_model.specs.Commands.{SetOptions, set_option, field, place, readings, shown_of, fault_at, command_spelled, wrong_count}
-use Rattle.world_model.specs.declared.commands.Only.{Only}
-use Rattle.world_model.specs.declared.commands.Only.TheVariants.{Absent, Present}
+use Rattle.world_model.specs.declared.object_commands.Only.{Only}
+use Rattle.world_model.specs.declared.object_commands.Only.TheVariants.{Absent, Present}
 use Rattle.world_model.specs.declared.commands.Command.{Command}
 use Rattle.world_model.specs.declared.faults.WordFault.TheVariants as fault
 use Rattle.world_model.specs.FormLaws.{Takes, Fair, fair_done, fair_word, fair_bind, takes_word, takes_bind, each_append}

@@ -1,14 +1,18 @@
--- Commands that a word does not call.
-use Rattle.std.proofs.Common.{◌≡◌, ◌+◌, ◌<◌, ℕ, false, subst, sym, List, [], ◌∷◌, ◌++◌, length, take, get_or}
+-- Rows whose words do not call a command.
+use Rattle.std.proofs.Common.{◌≡◌, ◌+◌, ◌<◌, ℕ, zero, suc, false, subst, sym, List, [], ◌∷◌, ◌++◌, length, take, get_or, arith}
+use Rattle.std.specs.List.{AllByRecursion}
 use Rattle.std.proofs.lemmas.List.{take_more}
 use Rattle.byte_text.specs.Names.{Bytes, is_word}
-use Rattle.cmd_words.specs.CommandNames.{name_of, AreOthers}
-use Rattle.cmd_words.specs.declared.command_names.CommandName.{CommandName}
+use Rattle.ordered_lists.specs.Reading.{each-append}
+use Rattle.cmd_words.specs.CommandNames.{AreOthers, IsRow}
+use Rattle.cmd_words.specs.declared.command_names.Row.{Row}
 
-others_append : (called : Bytes) (xs : List CommandName) (x : CommandName) → AreOthers called xs → is_word called (name_of x) ≡ false → AreOthers called (xs ++ x ∷ [])
-others_append called [] x all e = (e, tt)
-others_append called (y ∷ xs) x all e = (all.0, others_append called xs x all.1 e)
+-- one more of some rows
+pub others_more : (called : Bytes) (xs : List Row) (i : ℕ) (d : Row) → i < length xs → is_word called (get_or xs i d).word.now ≡ false → AreOthers called (take i xs) → AreOthers called (take (i + 1) xs)
+others_more called xs i d lt e all = subst (AreOthers called) (sym (take_more xs i d lt)) (each-append (λ r. is_word called r.word.now ≡ false) (take i xs) (get_or xs i d ∷ []) all (e, tt))
 
--- one more of some commands
-pub others_more : (called : Bytes) (xs : List CommandName) (i : ℕ) (d : CommandName) → i < length xs → is_word called (name_of (get_or xs i d)) ≡ false → AreOthers called (take i xs) → AreOthers called (take (i + 1) xs)
-others_more called xs i d lt e all = subst (AreOthers called) (sym (take_more xs i d lt)) (others_append called (take i xs) (get_or xs i d) all e)
+-- a row of the table has the word of what it names
+pub row_at : (xs : List Row) (i : ℕ) (d : Row) → i < length xs → AllByRecursion IsRow xs → IsRow (get_or xs i d)
+row_at [] i d lt all = absurd (omega (arith, lt))
+row_at (x ∷ xs) zero d lt all = all.0
+row_at (x ∷ xs) (suc i) d lt all = row_at xs i d (omega (arith, lt)) all.1

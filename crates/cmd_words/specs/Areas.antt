@@ -9,8 +9,8 @@ use Rattle.geo_text.specs.Texts.{Shape}
 use Rattle.world_model.specs.Grammar.{Form, ◌>>=◌}
 use Rattle.world_model.specs.Kinds.{name, meters, lat_lon, four, geojson}
 use Rattle.world_model.specs.Commands.{AreaRead, given_area, area, nowhere}
-use Rattle.world_model.specs.declared.commands.AreaWords.{AreaWords}
-use Rattle.world_model.specs.declared.commands.AreaWords.TheVariants.{Given, Of}
+use Rattle.world_model.specs.declared.search_commands.AreaWords.{AreaWords}
+use Rattle.world_model.specs.declared.search_commands.AreaWords.TheVariants.{Given, Of}
 use Rattle.world_model.specs.declared.commands.Command.{Command}
 use Rattle.cmd_words.specs.Progress.{Place, Took, IsNot}
 use Rattle.cmd_words.specs.declared.areas.AreaWord.{AreaWord}

@@ -49,7 +49,8 @@ setchan_of name kind key o area = setting name (kind_name kind) key o (watch_of 
 
 -- what stands behind the key
 abbrev pub behind_key : Bytes → Kind → Bytes → Form Command
-behind_key name kind key = options_then (fence_table (is_near kind)) no_fence_options (λ o. fence_area kind o (λ area. done (setchan_of name kind key o area)))
+behind_key name kind key = options_then (fence_table (is_near kind)) no_fence_options
+    (λ o. fence_area kind o (λ area. done (setchan_of name kind key o area)))
 
 -- what stands behind the channel's name
 abbrev pub behind_setchan : Bytes → Form Command

@@ -10,7 +10,7 @@ use Rattle.world_data.specs.declared.channels.Watch.TheVariants as watch
 use Rattle.world_model.specs.Grammar.{Form, ◌>>=◌, ◌>>◌, done, one_of, where_, word}
 use Rattle.world_model.specs.Kinds.{name, glob, meters, lat_lon}
 use Rattle.world_model.specs.Commands.{FenceOptions}
-use Rattle.world_model.specs.declared.commands.AreaWords.{AreaWords}
+use Rattle.world_model.specs.declared.search_commands.AreaWords.{AreaWords}
 use Rattle.world_model.specs.declared.commands.Command.{Command}
 use Rattle.cmd_words.specs.Areas.{an_area}
 use Rattle.cmd_words.specs.declared.fence_areas.FenceArea.{FenceArea}
@@ -44,8 +44,8 @@ fence_area sense o next = where_ o.fence (watched sense o next)
 
 -- the watch of a channel, where its area is from, and the area's normal words
 abbrev pub watch_of : Kind → Bool → FenceArea → Watch
-watch_of sense nodwell (area.Given a) = watch.Spot sense a.area
-watch_of sense nodwell (area.Around p r) = watch.Spot kind.Near (Disc p r)
+watch_of sense nodwell (area.Given a) = watch.Zone sense a.area
+watch_of sense nodwell (area.Around p r) = watch.Zone kind.Near (Disc p r)
 watch_of sense nodwell (area.Beside key pattern r) = watch.Roam key pattern r nodwell
 
 abbrev pub from_of : FenceArea → Option AreaWords

@@ -8,13 +8,17 @@ use Rattle.world_data.specs.Filters.{are_fields}
 use Rattle.world_model.specs.Commands.{reads}
 use Rattle.world_data.specs.Sound.{is_sound_area, is_sound_query}
 use Rattle.world_model.specs.Sound.{is_sound_reach, is_sound_setting}
-use Rattle.world_model.specs.declared.commands.AreaWords.{AreaWords}
-use Rattle.world_model.specs.declared.commands.AreaWords.TheVariants.{Given, Of}
+use Rattle.world_model.specs.declared.search_commands.AreaWords.{AreaWords}
+use Rattle.world_model.specs.declared.search_commands.AreaWords.TheVariants.{Given, Of}
 use Rattle.world_model.specs.declared.commands.Command.{Command}
 use Rattle.world_model.specs.declared.commands.Command.TheVariants as command
+use Rattle.world_model.specs.declared.object_commands.ObjectCommand.TheVariants as of_object
+use Rattle.world_model.specs.declared.search_commands.SearchCommand.TheVariants as of_search
+use Rattle.world_model.specs.declared.channel_commands.ChannelCommand.TheVariants as of_channel
+use Rattle.world_model.specs.declared.session_commands.SessionCommand.TheVariants as of_session
 use Rattle.world_data.specs.declared.queries.Query.{Query}
 use Rattle.world_data.specs.declared.queries.Rule.{Rule}
-use Rattle.world_data.specs.declared.queries.Rule.TheVariants.{All, Down, Kept, Nearest}
+use Rattle.world_data.specs.declared.queries.Rule.TheVariants.{All, Descending, InArea, Nearest}
 use Rattle.world_data.specs.declared.queries.Shown.{Shown}
 use Rattle.world_data.specs.declared.queries.Shown.TheVariants as shown
 
@@ -33,8 +37,8 @@ IsPattern pattern = (is_name pattern ≡ true) × (is_well_formed pattern ≡ tr
 -- the objects of a key by id, up or down
 abbrev pub IsById : Rule → Type 0
 IsById All = Unit {0}
-IsById Down = Unit {0}
-IsById (Kept kind a) = ⊥
+IsById Descending = Unit {0}
+IsById (InArea kind a) = ⊥
 IsById Nearest = ⊥
 
 -- the query is sound, its objects are sought by id, and a pattern is a name
@@ -45,10 +49,10 @@ pub record IsScan (q : Query) : Type 0 where
 
 -- a search in an area: the query is sound, a pattern is a name, and the rule keeps the area that is given, or what holds the place of an object's
 abbrev pub IsKept : Rule → AreaWords → Type 0
-IsKept (Kept kind a) (Given b) = (b ≡ a) × (is_sound_area b ≡ true)
-IsKept (Kept kind a) (Of key id) = (is_name key ≡ true) × (is_name id ≡ true)
+IsKept (InArea kind a) (Given b) = (b ≡ a) × (is_sound_area b ≡ true)
+IsKept (InArea kind a) (Of key id) = (is_name key ≡ true) × (is_name id ≡ true)
 IsKept All from = ⊥
-IsKept Down from = ⊥
+IsKept Descending from = ⊥
 IsKept Nearest from = ⊥
 
 pub record IsSearch (q : Query) (from : AreaWords) : Type 0 where
@@ -66,32 +70,33 @@ pub record IsNearby (q : Query) (reach : Option ℕ) : Type 0 where
 -- the command is served: its keys, ids, field names and patterns are names, and so are the channels that it takes out or subscribes to;
 -- fields are in order and none is 0; a text has the shape; a channel that is put is sound
 abbrev pub IsServed : Command → Type 0
-IsServed (command.Set key id fields cleared seconds only text shape) = (is_name key ≡ true) × (is_name id ≡ true) × (are_fields fields ≡ true) × (shape_of text ≡ Ok shape)
-IsServed (command.Get key id with_fields how) = (is_name key ≡ true) × (is_name id ≡ true) × IsOfObject how
-IsServed (command.Del key id) = (is_name key ≡ true) × (is_name id ≡ true)
-IsServed (command.Pdel key pattern) = (is_name key ≡ true) × IsPattern pattern
-IsServed (command.Drop key) = is_name key ≡ true
-IsServed (command.Fset key id fields cleared) = (is_name key ≡ true) × (is_name id ≡ true) × (are_fields fields ≡ true)
-IsServed (command.Fget key id field) = (is_name key ≡ true) × (is_name id ≡ true) × (is_name field ≡ true)
-IsServed (command.Expire key id seconds) = (is_name key ≡ true) × (is_name id ≡ true)
-IsServed (command.Persist key id) = (is_name key ≡ true) × (is_name id ≡ true)
-IsServed (command.Ttl key id) = (is_name key ≡ true) × (is_name id ≡ true)
-IsServed (command.Keys pattern) = IsPattern pattern
-IsServed (command.Bounds key) = is_name key ≡ true
-IsServed (command.Stats keys) = (0 < length keys) × AllByRecursion (λ key. is_name key ≡ true) keys
-IsServed command.Flush = Unit {0}
-IsServed command.Shrink = Unit {0}
-IsServed command.Ping = Unit {0}
-IsServed command.Quit = Unit {0}
-IsServed (command.Scan key q) = (is_name key ≡ true) × IsScan q
-IsServed (command.Search key q from) = (is_name key ≡ true) × IsSearch q from
-IsServed (command.Nearby key q at reach) = (is_name key ≡ true) × IsNearby q reach
-IsServed (command.Setchan c from) = is_sound_setting c from ≡ true
-IsServed (command.Delchan name) = is_name name ≡ true
-IsServed (command.Pdelchan pattern) = IsPattern pattern
-IsServed (command.Chans pattern) = IsPattern pattern
-IsServed (command.Subscribe names) = (0 < length names) × AllByRecursion (λ name. is_name name ≡ true) names
-IsServed (command.Psubscribe patterns) = (0 < length patterns) × AllByRecursion IsPattern patterns
+IsServed (command.Object (of_object.Set key id fields cleared seconds only text shape)) =
+    (is_name key ≡ true) × (is_name id ≡ true) × (are_fields fields ≡ true) × (shape_of text ≡ Ok shape)
+IsServed (command.Object (of_object.Get key id with_fields how)) = (is_name key ≡ true) × (is_name id ≡ true) × IsOfObject how
+IsServed (command.Object (of_object.Del key id)) = (is_name key ≡ true) × (is_name id ≡ true)
+IsServed (command.Object (of_object.Pdel key pattern)) = (is_name key ≡ true) × IsPattern pattern
+IsServed (command.Object (of_object.Drop key)) = is_name key ≡ true
+IsServed (command.Object (of_object.Fset key id fields cleared)) = (is_name key ≡ true) × (is_name id ≡ true) × (are_fields fields ≡ true)
+IsServed (command.Object (of_object.Fget key id field)) = (is_name key ≡ true) × (is_name id ≡ true) × (is_name field ≡ true)
+IsServed (command.Object (of_object.Expire key id seconds)) = (is_name key ≡ true) × (is_name id ≡ true)
+IsServed (command.Object (of_object.Persist key id)) = (is_name key ≡ true) × (is_name id ≡ true)
+IsServed (command.Object (of_object.Ttl key id)) = (is_name key ≡ true) × (is_name id ≡ true)
+IsServed (command.Object (of_object.Keys pattern)) = IsPattern pattern
+IsServed (command.Object (of_object.Bounds key)) = is_name key ≡ true
+IsServed (command.Object (of_object.Stats keys)) = (0 < length keys) × AllByRecursion (λ key. is_name key ≡ true) keys
+IsServed (command.Object of_object.Flush) = Unit {0}
+IsServed (command.Object of_object.Shrink) = Unit {0}
+IsServed (command.Session of_session.Ping) = Unit {0}
+IsServed (command.Session of_session.Quit) = Unit {0}
+IsServed (command.Search (of_search.Scan key q)) = (is_name key ≡ true) × IsScan q
+IsServed (command.Search (of_search.Area key q from)) = (is_name key ≡ true) × IsSearch q from
+IsServed (command.Search (of_search.Nearby key q at reach)) = (is_name key ≡ true) × IsNearby q reach
+IsServed (command.Channel (of_channel.Setchan c from)) = is_sound_setting c from ≡ true
+IsServed (command.Channel (of_channel.Delchan name)) = is_name name ≡ true
+IsServed (command.Channel (of_channel.Pdelchan pattern)) = IsPattern pattern
+IsServed (command.Channel (of_channel.Chans pattern)) = IsPattern pattern
+IsServed (command.Session (of_session.Subscribe names)) = (0 < length names) × AllByRecursion (λ name. is_name name ≡ true) names
+IsServed (command.Session (of_session.Psubscribe patterns)) = (0 < length patterns) × AllByRecursion IsPattern patterns
 
 -- what words ask for is served
 abbrev pub CommandsAreServed : Type 0

@@ -15,7 +15,8 @@ listed text false name = text
 
 -- the lists of DETECT and COMMANDS
 abbrev pub detect_list : Wanted → Bytes
-detect_list w = listed (listed (listed (listed (listed [] w.inside (codes "inside")) w.outside (codes "outside")) w.enter (codes "enter")) w.exit (codes "exit")) w.cross (codes "cross")
+detect_list w = listed (listed (listed (listed (listed [] w.inside (codes "inside")) w.outside (codes "outside")) w.enter (codes "enter")) w.exit
+    (codes "exit")) w.cross (codes "cross")
 
 abbrev pub commands_list : Wanted → Bytes
 commands_list w = listed (listed (listed [] w.set (codes "set")) w.del (codes "del")) w.drop (codes "drop")

@@ -28,4 +28,5 @@ some_names reader make = one_word a_word reader >>= λ n. names_more reader make
 -- one name or more are all that is left, whatever they are for; or how all the words are refused; or memory ran out
 abbrev pub ReadsNames : (Bytes → Option Bytes) → Place → Result (List Bytes) CommandFault → Type 0
 ReadsNames reader old (Ok names) = (make : List Bytes → Command) → Follows old (some_names reader make) → reads (all_words old) ≡ Ok (make names)
-ReadsNames reader old (Err why) = (why ≡ Memory) ⊎ ((make : List Bytes → Command) → Follows old (some_names reader make) → answers (all_words old) ≡ Err why)
+ReadsNames reader old (Err why) = (why ≡ Memory)
+    ⊎ ((make : List Bytes → Command) → Follows old (some_names reader make) → answers (all_words old) ≡ Err why)

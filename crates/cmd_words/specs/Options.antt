@@ -7,7 +7,8 @@ use Rattle.cmd_words.specs.Progress.{Place, all_words, answers, Moves, Follows, 
 use Rattle.cmd_words.specs.declared.faults.CommandFault.{CommandFault}
 use Rattle.cmd_words.specs.declared.faults.CommandFault.TheVariants.{Memory}
 
--- the options of a command: one more behind those that were read, the word that each begins with, whether it may still come, and what is behind that word
+-- the options of a command: one more behind those that were read, the word that each begins with, whether it may still come, and what is behind that
+-- word
 pub record Options (S K : Type 0) : Type 0 where
   pub one : S → Form S
   pub name : K → Bytes
@@ -29,7 +30,8 @@ options_then t o next = repeated t.one o >>= next
 
 -- what follows the options begins with no word of an option
 abbrev pub IsNoOption : {S K : Type 0} → Options S K → (S → Form Command) → Type 0
-IsNoOption {S = S} {K = K} t next = (o : S) (kind : K) (w : Bytes) (more : List Bytes) → is_word w (t.name kind) ≡ true → live (next o (w ∷ more)) ≡ []
+IsNoOption {S = S} {K = K} t next = (o : S) (kind : K) (w : Bytes) (more : List Bytes) → is_word w (t.name kind) ≡ true
+    → live (next o (w ∷ more)) ≡ []
 
 -- the words behind are read from here on with these options in place of those
 pub record Goes {S K : Type 0} (t : Options S K) (o p : S) (old new : Place) : Type 0 where
@@ -38,7 +40,8 @@ pub record Goes {S K : Type 0} (t : Options S K) (o p : S) (old new : Place) : T
 
 -- how all the words are refused, whatever is to follow the options; or memory ran out
 abbrev pub Refuses : {S K : Type 0} → Options S K → S → Place → CommandFault → Type 0
-Refuses {S = S} t o old why = (why ≡ Memory) ⊎ ((next : S → Form Command) → IsNoOption t next → Follows old (options_then t o next) → answers (all_words old) ≡ Err why)
+Refuses {S = S} t o old why = (why ≡ Memory)
+    ⊎ ((next : S → Form Command) → IsNoOption t next → Follows old (options_then t o next) → answers (all_words old) ≡ Err why)
 
 -- all options were read
 abbrev pub ReadsOptions : {S K : Type 0} → Options S K → S → Place → Place → Result S CommandFault → Type 0

@@ -1,8 +1,10 @@
 -- How far the words of a request were read, and what may follow.
-use Rattle.std.specs.Prelude.{◌&&◌, ◌≡◌, ◌⊎◌, ◌<◌, ◌≤◌, Bool, true, false, List, [], ◌∷◌, ◌++◌, length, Option, Some, None, Result, Ok, Err, codes, ℕ, ℤ, take, drop, if◌then◌else◌}
+use Rattle.std.specs.Prelude.{◌&&◌, ◌≡◌, ◌⊎◌, ◌<◌, ◌≤◌, Bool, true, false, List, [], ◌∷◌, ◌++◌, length, Option, Some, None, Result, Ok, Err, codes, ℕ}
+use Rattle.std.specs.Prelude.{ℤ, take, drop, if◌then◌else◌}
 use Rattle.byte_text.specs.Names.{Bytes, is_word, is_name}
 use Rattle.byte_text.specs.Globs.{is_well_formed}
-use Rattle.world_model.specs.Grammar.{Form, Reading, spells, runs_out, Due, a_word, a_coordinate, a_geojson, ◌>>=◌, ◌>>◌, ◌or◌, done, maybe, word, live}
+use Rattle.world_model.specs.Grammar.{Form, Reading, spells, runs_out, Due, a_word, a_coordinate, a_geojson, ◌>>=◌, ◌>>◌, ◌or◌, done, maybe, word}
+use Rattle.world_model.specs.Grammar.{live}
 use Rattle.world_model.specs.FormLaws.{Each}
 use Rattle.planar_geom.specs.Points.{Bounds, bounds, pt}
 use Rattle.world_model.specs.Kinds.{name, when, coordinate, coordinate_from}
@@ -10,6 +12,7 @@ use Rattle.world_model.specs.Commands.{readings, reads, as_objects, shown_of, is
 use Rattle.geo_text.specs.Texts.{shape_of}
 use Rattle.world_model.specs.declared.commands.Command.{Command}
 use Rattle.world_model.specs.declared.commands.Command.TheVariants as command
+use Rattle.world_model.specs.declared.object_commands.ObjectCommand.TheVariants as of_object
 use Rattle.world_data.specs.declared.queries.Shown.{Shown}
 use Rattle.world_data.specs.declared.queries.Shown.TheVariants as shown
 use Rattle.world_model.specs.declared.faults.WordFault.{WordFault}
@@ -108,9 +111,11 @@ pub record IsSilent (other : Form Command) (left : List Bytes) : Type 0 where
 -- a form was read where it, or another that is silent, is due
 abbrev pub ReadsBeside : {A : Type 0} → Form A → Place → Place → Result A CommandFault → Type 0
 ReadsBeside {A = A} f old new (Ok a) =
-    Moves old new × ((next : A → Form Command) (other : Form Command) → IsSilent other old.left → Follows old ((f >>= next) or other) → Follows new (next a))
+    Moves old new × ((next : A → Form Command) (other : Form Command) → IsSilent other old.left → Follows old ((f >>= next) or other)
+    → Follows new (next a))
 ReadsBeside {A = A} f old new (Err why) =
-    (why ≡ Memory) ⊎ ((next : A → Form Command) (other : Form Command) → IsSilent other old.left → Follows old ((f >>= next) or other) → answers (all_words old) ≡ Err why)
+    (why ≡ Memory) ⊎ ((next : A → Form Command) (other : Form Command) → IsSilent other old.left → Follows old ((f >>= next) or other)
+    → answers (all_words old) ≡ Err why)
 
 -- the command that the words spell, or how they are refused; or memory ran out
 abbrev pub Answers : List Bytes → Result Command CommandFault → Type 0
@@ -157,7 +162,7 @@ IsText bytes (Err why) = why ≡ Memory
 
 -- what may stand behind GET's key and id, and behind WITHFIELDS or its absence
 abbrev pub get_output : Bool → Bytes × Bytes → Form Command
-get_output with_fields k = maybe shown.Objects as_objects >>= λ how. done (command.Get k.0 k.1 with_fields how)
+get_output with_fields k = maybe shown.Objects as_objects >>= λ how. done (command.Object (of_object.Get k.0 k.1 with_fields how))
 
 abbrev pub get_options : Bytes × Bytes → Form Command
 get_options k = maybe false (word (codes "WITHFIELDS") >> done true) >>= λ with_fields. get_output with_fields k

@@ -6,11 +6,12 @@ use Rattle.world_model.specs.Grammar.{Form, ◌>>=◌, ◌>>◌, ◌or◌, done,
 use Rattle.world_model.specs.Kinds.{meters, lat_lon, four}
 use Rattle.world_model.specs.Commands.{AreaRead, SearchOptions, no_search_options, output, query_of, reads}
 use Rattle.world_data.specs.declared.channels.Kind.{Kind}
-use Rattle.world_data.specs.declared.queries.Rule.TheVariants.{Kept, Nearest}
+use Rattle.world_data.specs.declared.queries.Rule.TheVariants.{InArea, Nearest}
 use Rattle.world_data.specs.declared.queries.Shown.{Shown}
 use Rattle.world_data.specs.declared.queries.Shown.TheVariants as shown
 use Rattle.world_model.specs.declared.commands.Command.{Command}
 use Rattle.world_model.specs.declared.commands.Command.TheVariants as command
+use Rattle.world_model.specs.declared.search_commands.SearchCommand.TheVariants as of_search
 use Rattle.cmd_words.specs.Progress.{Place, Follows, all_words, answers}
 use Rattle.cmd_words.specs.Options.{options_then}
 use Rattle.cmd_words.specs.SearchWords.{search_table}
@@ -28,7 +29,7 @@ box_or_area next = (four >>= λ b. next (shown.Objects, box_area b)) or an_area 
 
 -- the search of a key that the options, an output and an area ask for
 abbrev pub search_of : Kind → Bytes → SearchOptions → Shown × AreaRead → Command
-search_of kind key o x = command.Search key (query_of o x.0 (Kept kind x.1.area)) x.1.from
+search_of kind key o x = command.Search (of_search.Area key (query_of o x.0 (InArea kind x.1.area)) x.1.from)
 
 -- what stands behind the key of WITHIN or INTERSECTS
 abbrev pub search_area : Kind → Bytes → SearchOptions → Form Command
@@ -56,7 +57,7 @@ ReadsReach old (Err why) = (why ≡ Memory) ⊎ ((make : Option ℕ → Command)
 
 -- the NEARBY that a key, the options, an output, a point and meters ask for
 abbrev pub nearby_of : Bytes → SearchOptions → Shown × Point → Option ℕ → Command
-nearby_of key o x reach = command.Nearby key (query_of o x.0 Nearest) x.1 reach
+nearby_of key o x reach = command.Search (of_search.Nearby key (query_of o x.0 Nearest) x.1 reach)
 
 -- what stands behind NEARBY's key
 abbrev pub nearby_point : Bytes → SearchOptions → Form Command

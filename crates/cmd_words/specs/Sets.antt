@@ -1,5 +1,6 @@
 -- SET: its options and its place.
-use Rattle.std.specs.Prelude.{◌≡◌, ◌⊎◌, ◌<◌, length, ℤ, pos, neg_ℤ, ◌^◌, ◌-◌, Bool, true, false, List, [], ◌∷◌, ◌++◌, Option, Some, None, is_none, unwrap_or, if◌then◌else◌, Result, Ok, Err, codes}
+use Rattle.std.specs.Prelude.{◌≡◌, ◌⊎◌, ◌<◌, length, ℤ, pos, neg_ℤ, ◌^◌, ◌-◌, Bool, true, false, List, [], ◌∷◌, ◌++◌, Option, Some, None, is_none}
+use Rattle.std.specs.Prelude.{unwrap_or, if◌then◌else◌, Result, Ok, Err, codes}
 use Rattle.planar_geom.specs.Points.{same_int}
 use Rattle.byte_text.specs.Names.{Bytes}
 use Rattle.byte_text.specs.Numbers.{whole_within}
@@ -9,9 +10,10 @@ use Rattle.world_model.specs.Grammar.{Form, ◌>>=◌, done, repeated}
 use Rattle.world_model.specs.Kinds.{accepted}
 use Rattle.world_data.specs.Filters.{Field}
 use Rattle.world_model.specs.Commands.{SetOptions, set_option, field, place, nonzero_of, cleared_of, reads}
-use Rattle.world_model.specs.declared.commands.Only.TheVariants.{Any}
+use Rattle.world_model.specs.declared.object_commands.Only.TheVariants.{Any}
 use Rattle.world_model.specs.declared.commands.Command.{Command}
 use Rattle.world_model.specs.declared.commands.Command.TheVariants as command
+use Rattle.world_model.specs.declared.object_commands.ObjectCommand.TheVariants as of_object
 use Rattle.cmd_words.specs.Progress.{Place, all_words, answers, Moves, Follows, Took, TookDue, IsNot, IsNotDue}
 use Rattle.cmd_words.specs.declared.set_options.OptionWord.{OptionWord}
 use Rattle.cmd_words.specs.declared.set_options.OptionWord.TheVariants as option
@@ -44,7 +46,7 @@ options_and_place o next = repeated set_option o >>= λ all. place >>= next all
 
 -- the SET that a key and an id, the options and the place ask for
 abbrev pub set_of : Bytes × Bytes → SetOptions → Bytes × Shape → Command
-set_of k o at = command.Set k.0 k.1 (nonzero_of o.given) (cleared_of o.given) o.after_ex (unwrap_or o.only Any) at.0 at.1
+set_of k o at = command.Object (of_object.Set k.0 k.1 (nonzero_of o.given) (cleared_of o.given) o.after_ex (unwrap_or o.only Any) at.0 at.1)
 
 -- what stands behind SET's key and id
 abbrev pub behind_set : Bytes × Bytes → Form Command
@@ -80,7 +82,8 @@ pub record Goes (o p : SetOptions) (old new : Place) : Type 0 where
 
 -- how all the words are refused, whatever is to follow the place; or memory ran out
 abbrev pub Refuses : SetOptions → Place → CommandFault → Type 0
-Refuses o old why = (why ≡ Memory) ⊎ ((next : SetOptions → Bytes × Shape → Form Command) → Follows old (options_and_place o next) → answers (all_words old) ≡ Err why)
+Refuses o old why = (why ≡ Memory) ⊎ ((next : SetOptions → Bytes × Shape → Form Command) → Follows old (options_and_place o next)
+    → answers (all_words old) ≡ Err why)
 
 -- an option was read; or none was, and none is next
 abbrev pub ReadsOption : SetOptions → SetOptions → Place → Place → Result Bool CommandFault → Type 0
@@ -110,7 +113,8 @@ TakesPlace old new None = (new ≡ old) × LacksPlace old.left
 
 -- the place behind these options was read
 abbrev pub ReadsPlace : SetOptions → Place → Place → Result (Bytes × Shape) CommandFault → Type 0
-ReadsPlace o old new (Ok at) = Moves old new × ((next : SetOptions → Bytes × Shape → Form Command) → Follows old (options_and_place o next) → Follows new (next o at))
+ReadsPlace o old new (Ok at) = Moves old new
+    × ((next : SetOptions → Bytes × Shape → Form Command) → Follows old (options_and_place o next) → Follows new (next o at))
 ReadsPlace o old new (Err why) = Refuses o old why
 
 -- what marks a field of this value: 1 where it is 0, and else 0
@@ -134,4 +138,4 @@ ReadsFields old (Err why) = (why ≡ Memory) ⊎ ((make : List Field → Command
 
 -- the FSET of a key and an id, and these fields
 abbrev pub fset_of : Bytes × Bytes → List Field → Command
-fset_of k given = command.Fset k.0 k.1 (nonzero_of given) (cleared_of given)
+fset_of k given = command.Object (of_object.Fset k.0 k.1 (nonzero_of given) (cleared_of given))

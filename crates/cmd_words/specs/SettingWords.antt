@@ -1,6 +1,8 @@
 -- The normal words of a setting are short, and no more than the words that spell it.
-use Rattle.std.proofs.Common.{◌≡◌, ℕ, ℤ, pos, negsuc, ◌+◌, ◌-◌, ◌^◌, ◌≤◌, Bool, true, false, List, [], ◌∷◌, ◌++◌, length, map, refl, sym, ap, subst, arith, length-append}
-use Rattle.std.specs.Prelude.{Option, Some, None, IfSome, codes, decimal, filter, flat_map, nat_le, int_le, neg_ℤ, option_and_then, ◌&&◌, not, is_none, if◌then◌else◌, nat_lt}
+use Rattle.std.proofs.Common.{◌≡◌, ℕ, ℤ, pos, negsuc, ◌+◌, ◌-◌, ◌^◌, ◌≤◌, Bool, true, false, List, [], ◌∷◌, ◌++◌, length, map, refl, sym, ap, subst}
+use Rattle.std.proofs.Common.{arith, length-append}
+use Rattle.std.specs.Prelude.{Option, Some, None, IfSome, codes, decimal, filter, flat_map, nat_le, int_le, neg_ℤ, option_and_then, ◌&&◌, not}
+use Rattle.std.specs.Prelude.{is_none, if◌then◌else◌, nat_lt}
 use Rattle.std.specs.Fmt.{signed_decimal}
 use Rattle.std.specs.List.{AllByRecursion, list_all}
 use Rattle.std.proofs.lemmas.Bool.{leb-true}
@@ -20,7 +22,8 @@ use Rattle.world_model.specs.Kinds.{when, name, glob, integer, between, meters, 
 use Rattle.world_model.specs.Commands as table
 use Rattle.world_model.specs.SoundLaws.{when_is}
 use Rattle.cmd_words.specs.SmallWords.{IsSmall, AreSmall, small, small_name, small_decimal, small_signed, small_append}
-use Rattle.cmd_words.specs.Costs.{Costs, costs_done, costs_none, costs_or, costs_where, costs_word, costs_bind, costs_then, costs_repeated, AreSo, costs_times}
+use Rattle.cmd_words.specs.Costs.{Costs, costs_done, costs_none, costs_or, costs_where, costs_word, costs_bind, costs_then, costs_repeated, AreSo}
+use Rattle.cmd_words.specs.Costs.{costs_times}
 
 -- names, and numbers of eight bytes
 
@@ -34,7 +37,8 @@ chosen : {A : Type 0} (passes : A → Bool) (x z : A) (b : Bool) → passes x �
 chosen passes x z true test e = let same : x ≡ z = cc e in subst (λ v. passes v ≡ true) same test
 chosen passes x z false test e = absurd (cc e)
 
-passed : {A : Type 0} (passes : A → Bool) (z : A) (o : Option A) → option_and_then (λ x. if passes x then Some x else None) o ≡ Some z → passes z ≡ true
+passed : {A : Type 0} (passes : A → Bool) (z : A) (o : Option A) → option_and_then (λ x. if passes x then Some x else None) o ≡ Some z
+    → passes z ≡ true
 passed passes z None e = absurd (cc e)
 passed passes z (Some x) e = chosen passes x z (passes x) refl e
 
@@ -51,7 +55,8 @@ between_fits (negsuc m) high (negsuc n) fits most e =
     let small_m : m ≤ 9223372036854775807 = grind arith in
     record { sfits = omega (arith, l, small_m) }
 
-natural_small : (low high : ℕ) (w : Bytes) (n : ℕ) → nat_le high 18446744073709551615 ≡ true → natural_within low high w ≡ Some n → IsSmall (decimal n)
+natural_small : (low high : ℕ) (w : Bytes) (n : ℕ) → nat_le high 18446744073709551615 ≡ true → natural_within low high w ≡ Some n
+    → IsSmall (decimal n)
 natural_small low high w n most e =
     let within = passed (λ x. nat_le low x && nat_le x high) n (natural w) e in
     let l : n ≤ high = leb-true n high (both_of (nat_le low n) _ within).1 in
@@ -61,7 +66,8 @@ natural_small low high w n most e =
 pub costs_whole : (before : ℕ) (due : Due) (low : ℤ) (high : ℕ) → IsNumber low → nat_le high 9223372036854775807 ≡ true
     → Costs before (λ z. before + 1) IsNumber (one_word due (whole_within low (pos high)))
 costs_whole before due low high fits most =
-    costs_word before (λ z. before + 1) IsNumber due (whole_within low (pos high)) (λ w z short e. (omega arith, between_fits low high z fits (leb-true high 9223372036854775807 most) (whole_passes low (pos high) w z e)))
+    costs_word before (λ z. before + 1) IsNumber due (whole_within low (pos high))
+    (λ w z short e. (omega arith, between_fits low high z fits (leb-true high 9223372036854775807 most) (whole_passes low (pos high) w z e)))
 
 least_fits : IsNumber (neg_ℤ (pos (2 ^ 63)))
 least_fits = record { sfits = omega arith }
@@ -69,8 +75,10 @@ least_fits = record { sfits = omega arith }
 costs_integer : (before : ℕ) → Costs before (λ z. before + 1) IsNumber integer
 costs_integer before = costs_whole before a_word (neg_ℤ (pos (2 ^ 63))) (2 ^ 63 - 1) least_fits refl
 
-pub costs_between : (before low high : ℕ) → nat_le high 18446744073709551615 ≡ true → Costs before (λ n. before + 1) (λ n. IsSmall (decimal n)) (between low high)
-costs_between before low high most = costs_word before (λ n. before + 1) (λ n. IsSmall (decimal n)) a_word (natural_within low high) (λ w n short e. (omega arith, natural_small low high w n most e))
+pub costs_between : (before low high : ℕ) → nat_le high 18446744073709551615 ≡ true
+    → Costs before (λ n. before + 1) (λ n. IsSmall (decimal n)) (between low high)
+costs_between before low high most = costs_word before (λ n. before + 1) (λ n. IsSmall (decimal n)) a_word (natural_within low high)
+    (λ w n short e. (omega arith, natural_small low high w n most e))
 
 pub costs_meters : (before : ℕ) → Costs before (λ n. before + 1) (λ n. IsSmall (decimal n)) meters
 costs_meters before = costs_between before 0 max_meters refl
@@ -83,7 +91,8 @@ costs_name before = costs_word before (λ n. before + 1) IsName a_word (λ w. wh
 
 pub costs_glob : (before : ℕ) → Costs before (λ n. before + 1) IsSmall glob
 costs_glob before = costs_word before (λ n. before + 1) IsSmall a_word (λ w. when (is_name w && is_well_formed w) w) (λ w n short e.
-    let is = when_is (is_name w && is_well_formed w) w n e in (omega arith, subst IsSmall is.1 (small_name w (both_of (is_name w) (is_well_formed w) is.0).0)))
+    let is = when_is (is_name w && is_well_formed w) w n e in
+    (omega arith, subst IsSmall is.1 (small_name w (both_of (is_name w) (is_well_formed w) is.0).0)))
 
 -- tests
 
@@ -118,16 +127,27 @@ module _ (before : ℕ) where
   costs_range =
       costs_then before with_test IsSmallTest (codes "WHERE") _ (
       costs_bind (before + 1) (λ n. before + 1 + 1) IsName with_test IsSmallTest name _ (costs_name (before + 1)) (λ n named.
-      costs_bind (before + 1 + 1) (λ o. before + 1 + 1 + 1) (λ o. IfSome o IsNumber) with_test IsSmallTest bound _ (costs_bound (before + 1 + 1)) (λ low l.
-      costs_bind (before + 1 + 1 + 1) (λ o. before + 1 + 1 + 1 + 1) (λ o. IfSome o IsNumber) with_test IsSmallTest bound _ (costs_bound (before + 1 + 1 + 1)) (λ high h.
-      costs_done (before + 1 + 1 + 1 + 1) with_test IsSmallTest (Range n low high) (omega arith)
-      (small (codes "WHERE") refl, (small_name n named, (bound_small (codes "-inf") low (small (codes "-inf") refl) l, (bound_small (codes "+inf") high (small (codes "+inf") refl) h, tt))))))))
+      costs_bind (before + 1 + 1) (λ o. before + 1 + 1 + 1) (λ o. IfSome o IsNumber) with_test IsSmallTest bound _ (costs_bound (before + 1 + 1))
+      (λ low l.
+      costs_bind (before + 1 + 1 + 1) (λ o. before + 1 + 1 + 1 + 1) (λ o. IfSome o IsNumber) with_test IsSmallTest bound _
+      (costs_bound (before + 1 + 1 + 1)) (λ high h.
+      costs_done (before + 1 + 1 + 1 + 1) with_test IsSmallTest (Range n low high) (omega arith) (
+        small (codes "WHERE") refl,
+        (
+          small_name n named,
+          (
+            bound_small (codes "-inf") low (small (codes "-inf") refl) l,
+            (bound_small (codes "+inf") high (small (codes "+inf") refl) h, tt),
+          ),
+        ),
+      )))))
 
   costs_among : Costs before with_test IsSmallTest table.wherein_test
   costs_among =
       costs_then before with_test IsSmallTest (codes "WHEREIN") _ (
       costs_bind (before + 1) (λ n. before + 1 + 1) IsName with_test IsSmallTest name _ (costs_name (before + 1)) (λ n named.
-      costs_bind (before + 1 + 1) (λ k. before + 1 + 1 + 1) (λ k. IsSmall (decimal k)) with_test IsSmallTest (between 1 max_values) _ (costs_between (before + 1 + 1) 1 max_values refl) (λ count counted.
+      costs_bind (before + 1 + 1) (λ k. before + 1 + 1 + 1) (λ k. IsSmall (decimal k)) with_test IsSmallTest (between 1 max_values) _
+      (costs_between (before + 1 + 1) 1 max_values refl) (λ count counted.
       costs_bind (before + 1 + 1 + 1) (λ values. before + 1 + 1 + 1 + count) (AreSo IsNumber count) with_test IsSmallTest (times count integer) _
       (costs_times IsNumber integer costs_integer count (before + 1 + 1 + 1)) (λ values are.
       let many = length-map values signed_decimal in
@@ -169,11 +189,13 @@ small_if : (b : Bool) (called w : Bytes) → IsSmall called → IsSmall w → Ar
 small_if true called w s t = tt
 small_if false called w s t = (s, (t, tt))
 
-names_few : (called : Bytes) (names : List Bytes) (found : Option (List Bytes)) → list_all (table.wants None) names ≡ true → length (table.list_words called names found) ≤ listed found
+names_few : (called : Bytes) (names : List Bytes) (found : Option (List Bytes)) → list_all (table.wants None) names ≡ true
+    → length (table.list_words called names found) ≤ listed found
 names_few called names None all = rw all (omega arith)
 names_few called names (Some l) all = few_if (list_all (table.wants (Some l)) names) called (with_commas (filter (table.wants (Some l)) names))
 
-names_small : (called : Bytes) (names : List Bytes) (found : Option (List Bytes)) → IsSmall called → nat_le (joined names) 255 ≡ true → AreSmall (table.list_words called names found)
+names_small : (called : Bytes) (names : List Bytes) (found : Option (List Bytes)) → IsSmall called → nat_le (joined names) 255 ≡ true
+    → AreSmall (table.list_words called names found)
 names_small called names found s most =
     let w = with_commas (filter (table.wants found) names) in
     let a = commas_most (filter (table.wants found) names) in
@@ -188,13 +210,15 @@ flag true = 1
 flag false = 0
 
 abbrev pub options_count : table.FenceOptions → ℕ
-options_count o = length (table.glob_words o.glob) + length (flat_map table.test_words o.tests) + flag o.fence + flag o.nodwell + listed o.detect + listed o.commands
+options_count o = length (table.glob_words o.glob) + length
+    (flat_map table.test_words o.tests) + flag o.fence + flag o.nodwell + listed o.detect + listed o.commands
 
 pub record AreFine (o : table.FenceOptions) : Type 0 where
   pub glob : AreSmall (table.glob_words o.glob)
   pub tests : AllByRecursion IsSmallTest o.tests
 
-tests_count : (ts : List Test) (t : Test) → length (flat_map table.test_words (ts ++ t ∷ [])) ≡ length (flat_map table.test_words ts) + length (table.test_words t)
+tests_count : (ts : List Test) (t : Test) → length (flat_map table.test_words (ts ++ t ∷ []))
+    ≡ length (flat_map table.test_words ts) + length (table.test_words t)
 tests_count [] t = let n = length-append (table.test_words t) [] in omega (arith, n)
 tests_count (u ∷ ts) t =
     let ih = tests_count ts t in
@@ -220,37 +244,48 @@ module _ (k : ℕ) where
     costs_match : CostsOption (word (codes "MATCH") >> glob >>= λ pattern. done (record o { glob = Some pattern }))
     costs_match = costs_bind (with_options o) (λ p. with_options o + 1 + 1) IsSmall with_options AreFine (word (codes "MATCH") >> glob) _
         (costs_then (with_options o) (λ p. with_options o + 1 + 1) IsSmall (codes "MATCH") glob (costs_glob (with_options o + 1))) (λ p s.
-        costs_done (with_options o + 1 + 1) with_options AreFine (record o { glob = Some p }) (omega arith) (record { glob = (small (codes "MATCH") refl, (s, tt)); tests = fine.tests }))
+        costs_done (with_options o + 1 + 1) with_options AreFine (record o { glob = Some p }) (omega arith)
+        (record { glob = (small (codes "MATCH") refl, (s, tt)); tests = fine.tests }))
 
     costs_tests : CostsOption (table.test >>= λ t. done (record o { tests = o.tests ++ t ∷ [] }))
-    costs_tests = costs_bind (with_options o) (λ t. with_options o + length (table.test_words t)) IsSmallTest with_options AreFine table.test _ (costs_test (with_options o)) (λ t s.
+    costs_tests = costs_bind (with_options o) (λ t. with_options o + length (table.test_words t)) IsSmallTest with_options AreFine table.test _
+        (costs_test (with_options o)) (λ t s.
         let n = tests_count o.tests t in
-        costs_done (with_options o + length (table.test_words t)) with_options AreFine (record o { tests = o.tests ++ t ∷ [] }) (omega (arith, n)) (record { glob = fine.glob; tests = one_more o.tests t fine.tests s }))
+        costs_done (with_options o + length (table.test_words t)) with_options AreFine (record o { tests = o.tests ++ t ∷ [] }) (omega (arith, n))
+        (record { glob = fine.glob; tests = one_more o.tests t fine.tests s }))
 
     costs_fence : CostsOption (word (codes "FENCE") >> done (record o { fence = true }))
     costs_fence = costs_then (with_options o) with_options AreFine (codes "FENCE") _
-        (costs_done (with_options o + 1) with_options AreFine (record o { fence = true }) (omega arith) (record { glob = fine.glob; tests = fine.tests }))
+        (costs_done (with_options o + 1) with_options AreFine (record o { fence = true }) (omega arith)
+        (record { glob = fine.glob; tests = fine.tests }))
 
     costs_nodwell : CostsOption (word (codes "NODWELL") >> done (record o { nodwell = true }))
     costs_nodwell = costs_then (with_options o) with_options AreFine (codes "NODWELL") _
-        (costs_done (with_options o + 1) with_options AreFine (record o { nodwell = true }) (omega arith) (record { glob = fine.glob; tests = fine.tests }))
+        (costs_done (with_options o + 1) with_options AreFine (record o { nodwell = true }) (omega arith)
+        (record { glob = fine.glob; tests = fine.tests }))
 
-    costs_list : (called : Bytes) (names : List Bytes) → Costs (with_options o) (λ l. with_options o + 1 + 1) (λ l. Unit {0}) (word called >> list_of names)
+    costs_list : (called : Bytes) (names : List Bytes)
+        → Costs (with_options o) (λ l. with_options o + 1 + 1) (λ l. Unit {0}) (word called >> list_of names)
     costs_list called names = costs_then (with_options o) (λ l. with_options o + 1 + 1) (λ l. Unit {0}) called (list_of names)
         (costs_word (with_options o + 1) (λ l. with_options o + 1 + 1) (λ l. Unit {0}) a_word _ (λ w l short e. (omega arith, tt)))
 
     costs_detect : CostsOption (word (codes "DETECT") >> list_of table.detect_names >>= λ l. done (record o { detect = Some l }))
-    costs_detect = costs_bind (with_options o) (λ l. with_options o + 1 + 1) (λ l. Unit {0}) with_options AreFine (word (codes "DETECT") >> list_of table.detect_names) _
+    costs_detect = costs_bind (with_options o) (λ l. with_options o + 1 + 1) (λ l. Unit {0}) with_options AreFine
+        (word (codes "DETECT") >> list_of table.detect_names) _
         (costs_list (codes "DETECT") table.detect_names) (λ l u.
-        costs_done (with_options o + 1 + 1) with_options AreFine (record o { detect = Some l }) (omega arith) (record { glob = fine.glob; tests = fine.tests }))
+        costs_done (with_options o + 1 + 1) with_options AreFine (record o { detect = Some l }) (omega arith)
+        (record { glob = fine.glob; tests = fine.tests }))
 
     costs_commands : CostsOption (word (codes "COMMANDS") >> list_of table.command_names >>= λ l. done (record o { commands = Some l }))
-    costs_commands = costs_bind (with_options o) (λ l. with_options o + 1 + 1) (λ l. Unit {0}) with_options AreFine (word (codes "COMMANDS") >> list_of table.command_names) _
+    costs_commands = costs_bind (with_options o) (λ l. with_options o + 1 + 1) (λ l. Unit {0}) with_options AreFine
+        (word (codes "COMMANDS") >> list_of table.command_names) _
         (costs_list (codes "COMMANDS") table.command_names) (λ l u.
-        costs_done (with_options o + 1 + 1) with_options AreFine (record o { commands = Some l }) (omega arith) (record { glob = fine.glob; tests = fine.tests }))
+        costs_done (with_options o + 1 + 1) with_options AreFine (record o { commands = Some l }) (omega arith)
+        (record { glob = fine.glob; tests = fine.tests }))
 
     next : (f g : Form table.FenceOptions) (test : Bool) → CostsOption f → CostsOption g → CostsOption (where_ test f or g)
-    next f g test p q = costs_or (with_options o) with_options AreFine (where_ test f) g (costs_where (with_options o) with_options AreFine test f (λ is. p)) q
+    next f g test p q = costs_or (with_options o) with_options AreFine (where_ test f) g
+        (costs_where (with_options o) with_options AreFine test f (λ is. p)) q
 
     costs_option : CostsOption (table.fence_option near o)
     costs_option =
@@ -261,13 +296,16 @@ module _ (k : ℕ) where
         next _ _ (is_none o.commands) costs_commands (
         next _ _ (near && not o.nodwell && is_none o.detect) costs_nodwell (costs_none (with_options o) with_options AreFine))))))
 
-  pub costs_options : (near : Bool) → Costs (k + options_count table.no_fence_options) with_options AreFine (repeated (table.fence_option near) table.no_fence_options)
-  costs_options near = costs_repeated with_options AreFine (table.fence_option near) (costs_option near) table.no_fence_options (record { glob = tt; tests = tt })
+  pub costs_options : (near : Bool) → Costs (k + options_count table.no_fence_options) with_options AreFine
+      (repeated (table.fence_option near) table.no_fence_options)
+  costs_options near = costs_repeated with_options AreFine (table.fence_option near) (costs_option near) table.no_fence_options
+      (record { glob = tt; tests = tt })
 
 count_of : (g t n d c : List Bytes) → length (g ++ t ++ codes "FENCE" ∷ n ++ d ++ c) ≡ length g + length t + 1 + length n + length d + length c
 count_of g t n d c = grind (arith, length-append)
 
-small_of : (g t n d c : List Bytes) → AreSmall g → AreSmall t → AreSmall n → AreSmall d → AreSmall c → AreSmall (g ++ t ++ codes "FENCE" ∷ n ++ d ++ c)
+small_of : (g t n d c : List Bytes) → AreSmall g → AreSmall t → AreSmall n → AreSmall d → AreSmall c
+    → AreSmall (g ++ t ++ codes "FENCE" ∷ n ++ d ++ c)
 small_of g t n d c sg st sn sd sc =
     let front = small_append (g ++ t) (codes "FENCE" ∷ n) (small_append g t sg st) (small (codes "FENCE") refl, sn) in
     small_append (g ++ t ++ codes "FENCE" ∷ n ++ d) c (small_append (g ++ t ++ codes "FENCE" ∷ n) d front sd) sc

@@ -15,12 +15,10 @@ pub each_short : (words : List Bytes) → AllByRecursion (λ w. length w ≤ 255
 each_short [] s = tt
 each_short (w ∷ words) s = (omega (arith, s.0), each_short words s.1)
 
-one_more : (words : List Bytes) (w : Bytes) → AllByRecursion (λ v. length v ≤ 255) words → length w ≤ 255 → AllByRecursion (λ v. length v ≤ 255) (words ++ w ∷ [])
+one_more : (words : List Bytes) (w : Bytes) → AllByRecursion (λ v. length v ≤ 255) words → length w ≤ 255
+    → AllByRecursion (λ v. length v ≤ 255) (words ++ w ∷ [])
 one_more [] w s h = (h, tt)
 one_more (v ∷ words) w s h = (s.0, one_more words w s.1 h)
-
-pub still_short : (words : List Bytes) (w : Bytes) → AreShort words → length w ≤ 255 → AreShort (words ++ w ∷ [])
-still_short words w s h = record { short = one_more words w s.short h }
 
 pub short_fit : (words : List Bytes) (w : Bytes) → AreShort words → length words < 64 → length w ≤ 255 → FitsRequest (words ++ w ∷ [])
 short_fit words w s few h =

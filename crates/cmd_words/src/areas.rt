@@ -15,8 +15,8 @@ use std::alloc::Global;
 use std::marker::Model;
 use world_model::AreaWords;
 
-/// An area as words give it: the area, or what holds the place of an object's, where it is from, and its GeoJSON text where it is
-/// given by one.
+/// An area as words give it: the area, or what holds the place of an object's, where it is from, and its GeoJSON text
+/// where it is given by one.
 #[derive(Drop)]
 pub(crate) struct SoughtArea {
     area: Area,
@@ -78,8 +78,8 @@ pub(crate) fn read_area(reader: &mut Reader) -> Result<SoughtArea, CommandFault>
     }
 }
 
-/// Reads what stands behind the word of an area: `minlat minlon maxlat maxlon` behind BOUNDS, a GeoJSON text behind OBJECT,
-/// `lat lon meters` behind CIRCLE, `key id` behind GET.
+/// Reads what stands behind the word of an area: `minlat minlon maxlat maxlon` behind BOUNDS, a GeoJSON text behind
+/// OBJECT, `lat lon meters` behind CIRCLE, `key id` behind GET.
 pub(crate) fn read_behind(reader: &mut Reader, word: AreaWord) -> Result<SoughtArea, CommandFault>
     ensures { Parses (behind_area word) reader.old reader.new result }
 {

@@ -1,10 +1,12 @@
 //! The normal words of a channel.
 
-ghost use Rattle.std.specs.Prelude.{◌≡◌, ◌&&◌, true, ◌∷◌, [], ◌++◌, map, flat_map, decimal, if◌then◌else◌, codes, IfOk, OnOk};
+ghost use Rattle.std.specs.Prelude.{◌≡◌, ◌&&◌, true, ◌∷◌, [], ◌++◌, map, flat_map, decimal, if◌then◌else◌, codes, IfOk};
+ghost use Rattle.std.specs.Prelude.{OnOk};
 ghost use Rattle.std.specs.Fmt.{signed_decimal};
 ghost use Rattle.byte_text.specs.Requests.{FitsRequest};
 ghost use Rattle.planar_geom.specs.Points.{Point};
-ghost use Rattle.world_model.specs.Commands.{bound_word, test_words, glob_words, list_words, option_words, detect_names, command_names};
+ghost use Rattle.world_model.specs.Commands.{bound_word, test_words, glob_words, list_words, option_words};
+ghost use Rattle.world_model.specs.Commands.{detect_names, command_names};
 ghost use Rattle.cmd_words.specs.Areas.{text_words, given_words};
 ghost use Rattle.cmd_words.specs.Channels.{kind_name, channel_words};
 ghost use Rattle.cmd_words.specs.FenceAreas.{words_of};
@@ -96,7 +98,8 @@ impl Words {
     }
 }
 
-/// The normal words of a channel: its kind, its key, its options, and what it watches. They are put together with room for so many.
+/// The normal words of a channel: its kind, its key, its options, and what it watches. They are put together with room
+/// for so many.
 pub(crate) fn channel_words(
     alloc: Global,
     room: usize,

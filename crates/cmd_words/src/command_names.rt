@@ -1,125 +1,200 @@
-//! The table of the commands, by their names.
+//! The table of the commands: a row a command, of the word that calls it and what the word names.
 
 ghost use Rattle.std.specs.Prelude.{◌≡◌, true, IfSome, IfNone};
+ghost use Rattle.std.specs.List.{AllByRecursion};
 ghost use Rattle.byte_text.specs.Names.{is_word};
-ghost use Rattle.cmd_words.specs.CommandNames.{name_of, AreOthers, IsNoName};
+ghost use Rattle.cmd_words.specs.CommandNames.{word_of, IsRow, AreOthers, IsNoName};
 
 /// A command, as its name calls it.
 #[derive(Clone, Copy)]
 pub(crate) enum CommandName {
+    Object(ObjectName),
+    Search(SearchName),
+    Channel(ChannelName),
+    Session(SessionName),
+}
+
+/// The name of a command on objects.
+#[derive(Clone, Copy)]
+pub(crate) enum ObjectName {
     Set,
     Get,
     Del,
+    Pdel,
+    Drop,
     Fset,
     Fget,
     Expire,
     Persist,
     Ttl,
-    Pdel,
-    Drop,
     Keys,
     Bounds,
     Stats,
     Flush,
-    Ping,
-    Quit,
+    Shrink,
+}
+
+/// The name of a search.
+#[derive(Clone, Copy)]
+pub(crate) enum SearchName {
     Scan,
     Within,
     Intersects,
     Nearby,
-    Shrink,
+}
+
+/// The name of a command on channels.
+#[derive(Clone, Copy)]
+pub(crate) enum ChannelName {
+    Setchan,
     Delchan,
     Pdelchan,
     Chans,
+}
+
+/// The name of a command on the session itself.
+#[derive(Clone, Copy)]
+pub(crate) enum SessionName {
     Subscribe,
     Psubscribe,
-    Setchan,
+    Ping,
+    Quit,
 }
 
-// Those that are called most come first.
-const COMMANDS: [CommandName; 27] = [
-    CommandName::Set,
-    CommandName::Get,
-    CommandName::Del,
-    CommandName::Fset,
-    CommandName::Fget,
-    CommandName::Expire,
-    CommandName::Persist,
-    CommandName::Ttl,
-    CommandName::Pdel,
-    CommandName::Drop,
-    CommandName::Keys,
-    CommandName::Bounds,
-    CommandName::Stats,
-    CommandName::Flush,
-    CommandName::Ping,
-    CommandName::Quit,
-    CommandName::Scan,
-    CommandName::Within,
-    CommandName::Intersects,
-    CommandName::Nearby,
-    CommandName::Shrink,
-    CommandName::Delchan,
-    CommandName::Pdelchan,
-    CommandName::Chans,
-    CommandName::Subscribe,
-    CommandName::Psubscribe,
-    CommandName::Setchan,
+// A word, and what it names in any case of its ASCII letters.
+struct Row {
+    word: &'static [u8],
+    name: CommandName,
+}
+
+const COMMANDS: [Row; 27] = [
+    Row {
+        word: b"SET",
+        name: CommandName::Object(ObjectName::Set),
+    },
+    Row {
+        word: b"GET",
+        name: CommandName::Object(ObjectName::Get),
+    },
+    Row {
+        word: b"DEL",
+        name: CommandName::Object(ObjectName::Del),
+    },
+    Row {
+        word: b"PDEL",
+        name: CommandName::Object(ObjectName::Pdel),
+    },
+    Row {
+        word: b"DROP",
+        name: CommandName::Object(ObjectName::Drop),
+    },
+    Row {
+        word: b"FSET",
+        name: CommandName::Object(ObjectName::Fset),
+    },
+    Row {
+        word: b"FGET",
+        name: CommandName::Object(ObjectName::Fget),
+    },
+    Row {
+        word: b"EXPIRE",
+        name: CommandName::Object(ObjectName::Expire),
+    },
+    Row {
+        word: b"PERSIST",
+        name: CommandName::Object(ObjectName::Persist),
+    },
+    Row {
+        word: b"TTL",
+        name: CommandName::Object(ObjectName::Ttl),
+    },
+    Row {
+        word: b"KEYS",
+        name: CommandName::Object(ObjectName::Keys),
+    },
+    Row {
+        word: b"BOUNDS",
+        name: CommandName::Object(ObjectName::Bounds),
+    },
+    Row {
+        word: b"STATS",
+        name: CommandName::Object(ObjectName::Stats),
+    },
+    Row {
+        word: b"FLUSHDB",
+        name: CommandName::Object(ObjectName::Flush),
+    },
+    Row {
+        word: b"AOFSHRINK",
+        name: CommandName::Object(ObjectName::Shrink),
+    },
+    Row {
+        word: b"SCAN",
+        name: CommandName::Search(SearchName::Scan),
+    },
+    Row {
+        word: b"WITHIN",
+        name: CommandName::Search(SearchName::Within),
+    },
+    Row {
+        word: b"INTERSECTS",
+        name: CommandName::Search(SearchName::Intersects),
+    },
+    Row {
+        word: b"NEARBY",
+        name: CommandName::Search(SearchName::Nearby),
+    },
+    Row {
+        word: b"SETCHAN",
+        name: CommandName::Channel(ChannelName::Setchan),
+    },
+    Row {
+        word: b"DELCHAN",
+        name: CommandName::Channel(ChannelName::Delchan),
+    },
+    Row {
+        word: b"PDELCHAN",
+        name: CommandName::Channel(ChannelName::Pdelchan),
+    },
+    Row {
+        word: b"CHANS",
+        name: CommandName::Channel(ChannelName::Chans),
+    },
+    Row {
+        word: b"SUBSCRIBE",
+        name: CommandName::Session(SessionName::Subscribe),
+    },
+    Row {
+        word: b"PSUBSCRIBE",
+        name: CommandName::Session(SessionName::Psubscribe),
+    },
+    Row {
+        word: b"PING",
+        name: CommandName::Session(SessionName::Ping),
+    },
+    Row {
+        word: b"QUIT",
+        name: CommandName::Session(SessionName::Quit),
+    },
 ];
-
-impl CommandName {
-    /// The word that calls the command.
-    fn word(self) -> &'static [u8]
-        ensures { result.now ≡ name_of self }
-    {
-        match self {
-            CommandName::Set => b"SET",
-            CommandName::Get => b"GET",
-            CommandName::Del => b"DEL",
-            CommandName::Fset => b"FSET",
-            CommandName::Fget => b"FGET",
-            CommandName::Expire => b"EXPIRE",
-            CommandName::Persist => b"PERSIST",
-            CommandName::Ttl => b"TTL",
-            CommandName::Pdel => b"PDEL",
-            CommandName::Drop => b"DROP",
-            CommandName::Keys => b"KEYS",
-            CommandName::Bounds => b"BOUNDS",
-            CommandName::Stats => b"STATS",
-            CommandName::Flush => b"FLUSHDB",
-            CommandName::Ping => b"PING",
-            CommandName::Quit => b"QUIT",
-            CommandName::Scan => b"SCAN",
-            CommandName::Within => b"WITHIN",
-            CommandName::Intersects => b"INTERSECTS",
-            CommandName::Nearby => b"NEARBY",
-            CommandName::Shrink => b"AOFSHRINK",
-            CommandName::Delchan => b"DELCHAN",
-            CommandName::Pdelchan => b"PDELCHAN",
-            CommandName::Chans => b"CHANS",
-            CommandName::Subscribe => b"SUBSCRIBE",
-            CommandName::Psubscribe => b"PSUBSCRIBE",
-            CommandName::Setchan => b"SETCHAN",
-        }
-    }
-}
 
 /// The command that a word calls, in any case of its ASCII letters.
 pub(crate) fn command_named(called: &[u8]) -> Option<CommandName>
-    ensures some { IfSome result (λ command. is_word called.now (name_of command) ≡ true) }
+    ensures some { IfSome result (λ name. is_word called.now (word_of name) ≡ true) }
     ensures none { IfNone result (IsNoName called.now) }
 {
     named_among(called, &COMMANDS)
 }
 
-// The first of these commands that a word calls.
-fn named_among(called: &[u8], commands: &[CommandName]) -> Option<CommandName>
-    ensures some { IfSome result (λ command. is_word called.now (name_of command) ≡ true) }
-    ensures none { IfNone result (AreOthers called.now commands.now) }
+// What the first of these rows that a word calls names.
+fn named_among(called: &[u8], rows: &[Row]) -> Option<CommandName>
+    requires { AllByRecursion IsRow rows.now }
+    ensures some { IfSome result (λ name. is_word called.now (word_of name) ≡ true) }
+    ensures none { IfNone result (AreOthers called.now rows.now) }
 {
-    for command in commands {
-        if called.eq_ignore_ascii_case(command.word()) {
-            return Some(*command);
+    for row in rows {
+        if called.eq_ignore_ascii_case(row.word) {
+            return Some(row.name);
         }
     }
     None

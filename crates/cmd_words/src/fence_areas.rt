@@ -13,8 +13,8 @@ use planar_geom::{Area, Pt};
 use world_data::{Kind, Watch};
 use world_model::AreaWords;
 
-/// What is watched: an area, the points so many meters around one, or the objects of a key whose ids meet a pattern, within so many
-/// meters of each.
+/// What is watched: an area, the points so many meters around one, or the objects of a key whose ids meet a pattern,
+/// within so many meters of each.
 #[derive(Drop)]
 pub(crate) enum FenceArea {
     Given(SoughtArea),
@@ -30,10 +30,10 @@ impl FenceArea {
         match self {
             FenceArea::Given(sought) => {
                 let (area, from) = sought.parts();
-                (Watch::Spot(kind, area), Some(from))
+                (Watch::Zone(kind, area), Some(from))
             }
             FenceArea::Around(centre, radius) => {
-                (Watch::Spot(Kind::Near, Area::Disc(centre, radius)), None)
+                (Watch::Zone(Kind::Near, Area::Disc(centre, radius)), None)
             }
             FenceArea::Beside(key, pattern, meters) => {
                 (Watch::Roam(key, pattern, meters, nodwell), None)

@@ -28,8 +28,8 @@ pub(crate) enum FenceWord {
     NoDwell,
 }
 
-/// What the options said so far: the pattern of the ids, the tests on the fields, whether FENCE was read, the lists of DETECT and
-/// COMMANDS, and whether objects that were near before are left out.
+/// What the options said so far: the pattern of the ids, the tests on the fields, whether FENCE was read, the lists of
+/// DETECT and COMMANDS, and whether objects that were near before are left out.
 #[derive(Drop)]
 pub(crate) struct FenceOptions {
     pub(crate) glob: Option<Name>,
@@ -45,7 +45,14 @@ impl Model for FenceOptions {
 
     ghost Value = { Options };
 
-    ghost view = { λ o. record { glob = o.glob; tests = o.tests; fence = o.fence; detect = o.detect; commands = o.commands; nodwell = o.nodwell } };
+    ghost view = { λ o. record {
+      glob = o.glob;
+      tests = o.tests;
+      fence = o.fence;
+      detect = o.detect;
+      commands = o.commands;
+      nodwell = o.nodwell;
+    } };
 }
 
 impl FenceOptions {

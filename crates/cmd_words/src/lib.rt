@@ -3,6 +3,7 @@
 
 mod areas;
 mod channel_words;
+mod channels;
 mod command_names;
 mod commands;
 mod conditions;
@@ -15,12 +16,12 @@ mod listed_names;
 mod name_lists;
 mod object_places;
 mod objects;
-mod patterns;
 mod reader_values;
 mod request_reader;
 mod scans;
 mod search_options;
 mod searches;
+mod sessions;
 mod set_options;
 mod setchans;
 mod sets;

@@ -1,10 +1,9 @@
-//! STATS, SUBSCRIBE and PSUBSCRIBE: one name or more, to the end of the words.
+//! One name or more, to the end of the words.
 
 ghost use Rattle.std.specs.Prelude.{◌≡◌};
 ghost use Rattle.world_model.specs.Grammar.{a_word, one_word};
-ghost use Rattle.world_model.specs.declared.commands.Command.TheVariants as command;
-ghost use Rattle.cmd_words.specs.Progress.{all_words, Follows, Reads, Answers, IsOne, name_of, glob_of};
-ghost use Rattle.cmd_words.specs.NameLists.{kind_of, some_names, ReadsNames};
+ghost use Rattle.cmd_words.specs.Progress.{Reads, IsOne};
+ghost use Rattle.cmd_words.specs.NameLists.{kind_of, ReadsNames};
 
 use crate::faults::CommandFault;
 use crate::fields::push_name;
@@ -12,7 +11,7 @@ use crate::request_reader::Reader;
 use crate::word_kinds::{read_glob, read_name};
 use byte_text::Name;
 use std::alloc::Global;
-use world_model::{Command, NameList};
+use world_model::NameList;
 
 /// Which names may stand in a list: any, or those that are well formed as patterns.
 #[derive(Clone, Copy)]
@@ -43,8 +42,8 @@ impl NameKind {
     }
 }
 
-// Reads names of this kind to the end of the words, one or more.
-fn read_names(reader: &mut Reader, kind: NameKind) -> Result<NameList, CommandFault>
+/// Reads names of this kind to the end of the words, one or more.
+pub(crate) fn read_names(reader: &mut Reader, kind: NameKind) -> Result<NameList, CommandFault>
     ensures { ReadsNames (kind_of kind) reader.old result }
 {
     let mut names = NameList::new(reader.alloc());
@@ -55,28 +54,4 @@ fn read_names(reader: &mut Reader, kind: NameKind) -> Result<NameList, CommandFa
         push_name(&mut names, name)?;
     }
     Ok(names)
-}
-
-/// `key+`
-pub(crate) fn stats_command(reader: &mut Reader) -> Result<Command, CommandFault>
-    ensures { Follows reader.old (some_names name_of command.Stats) → Answers (all_words reader.old) result }
-{
-    let keys = read_names(reader, NameKind::Plain)?;
-    Ok(Command::Stats { keys })
-}
-
-/// `name+`
-pub(crate) fn subscribe_command(reader: &mut Reader) -> Result<Command, CommandFault>
-    ensures { Follows reader.old (some_names name_of command.Subscribe) → Answers (all_words reader.old) result }
-{
-    let names = read_names(reader, NameKind::Plain)?;
-    Ok(Command::Subscribe { names })
-}
-
-/// `pattern+`
-pub(crate) fn psubscribe_command(reader: &mut Reader) -> Result<Command, CommandFault>
-    ensures { Follows reader.old (some_names glob_of command.Psubscribe) → Answers (all_words reader.old) result }
-{
-    let globs = read_names(reader, NameKind::Pattern)?;
-    Ok(Command::Psubscribe { globs })
 }

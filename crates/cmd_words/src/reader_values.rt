@@ -104,8 +104,8 @@ impl<'a> Reader<'a> {
         Ok(point_at(lon, lat))
     }
 
-    /// Reads the least latitude and longitude of a box, and then the greatest. Another form may be due beside it that does not go on
-    /// with the next word.
+    /// Reads the least latitude and longitude of a box, and then the greatest. Another form may be due beside it that
+    /// does not go on with the next word.
     pub(crate) fn bounds(&mut self) -> Result<BBox, CommandFault>
         ensures reads { Reads kinds.four self.old self.new result }
         ensures beside { ReadsBeside kinds.four self.old self.new result }

@@ -4,7 +4,8 @@ ghost use Rattle.std.specs.Prelude.{◌≡◌, [], length, MatchOption};
 ghost use Rattle.byte_text.specs.Requests.{FitsRequest};
 ghost use Rattle.world_model.specs.Commands.{wrong_count as count_fault, shown_of};
 ghost use Rattle.world_model.specs.declared.faults.WordFault.TheVariants as fault;
-ghost use Rattle.cmd_words.specs.Progress.{start, all_words, IsBehind, IsFault, Parses, Took, TookDue, a_name, key_and_id, ReadsShown, IsEnd, IsRefusal};
+ghost use Rattle.cmd_words.specs.Progress.{start, all_words, IsBehind, IsFault, Parses, Took, TookDue, a_name};
+ghost use Rattle.cmd_words.specs.Progress.{key_and_id, ReadsShown, IsEnd, IsRefusal};
 ghost use Rattle.cmd_words.specs.SearchWords.{ReadsOutput};
 
 use crate::faults::{CommandFault, invalid, wrong_count};
@@ -60,7 +61,8 @@ impl<'a> Reader<'a> {
 
     /// The next word; none where the words have run out.
     pub(crate) fn next(&mut self) -> Option<&'a [u8]>
-        ensures { MatchOption result ((self.new ≡ self.old) × (self.old.left ≡ [])) (λ w. IsBehind w.now self.old self.new) }
+        ensures { MatchOption result ((self.new ≡ self.old) × (self.old.left ≡ []))
+            (λ w. IsBehind w.now self.old self.new) }
     {
         if self.read < self.words.words() {
             let word = self.words.word(self.read);

@@ -9,7 +9,7 @@ use crate::faults::CommandFault;
 use crate::request_reader::Reader;
 use crate::search_options::{SearchOptions, read_options};
 use byte_text::Name;
-use world_model::{Command, Rule, Shown};
+use world_model::{Command, Rule, SearchCommand, Shown};
 
 /// `key`, the options, and an output.
 pub(crate) fn scan_command(reader: &mut Reader) -> Result<Command, CommandFault>
@@ -30,10 +30,10 @@ fn scan_of(key: Name, options: SearchOptions, shown: Shown) -> Command
     ensures { result ≡ the_scan key options shown }
 {
     let rule = rule_of(options.down);
-    Command::Scan {
+    Command::Search(SearchCommand::Scan {
         key,
         query: options.query(rule, shown),
-    }
+    })
 }
 
 // By id upwards, unless DESC was read.
@@ -41,7 +41,7 @@ fn rule_of(down: Option<bool>) -> Rule
     ensures { result ≡ scan_rule down }
 {
     match down {
-        Some(true) => Rule::Down,
+        Some(true) => Rule::Descending,
         _ => Rule::All,
     }
 }

@@ -31,8 +31,8 @@ pub(crate) enum SearchWord {
     WhereIn,
 }
 
-/// What the options said so far: the pattern of the ids, the tests on the fields, where the page begins and how many items it has,
-/// whether the fields are left out, and whether the ids go down.
+/// What the options said so far: the pattern of the ids, the tests on the fields, where the page begins and how many
+/// items it has, whether the fields are left out, and whether the ids go down.
 #[derive(Drop)]
 pub(crate) struct SearchOptions {
     glob: Option<Name>,
@@ -48,7 +48,14 @@ impl Model for SearchOptions {
 
     ghost Value = { Options };
 
-    ghost view = { λ o. record { glob = o.glob; tests = o.tests; cursor = o.cursor; limit = o.limit; bare = o.bare; down = o.down } };
+    ghost view = { λ o. record {
+      glob = o.glob;
+      tests = o.tests;
+      cursor = o.cursor;
+      limit = o.limit;
+      bare = o.bare;
+      down = o.down;
+    } };
 }
 
 impl SearchOptions {

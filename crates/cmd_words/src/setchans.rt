@@ -3,7 +3,8 @@
 ghost use Rattle.std.specs.Prelude.{◌≡◌, IfOk, IfErr};
 ghost use Rattle.byte_text.specs.Requests.{FitsRequest};
 ghost use Rattle.cmd_words.specs.Progress.{all_words, Follows, Answers, Parses, a_name};
-ghost use Rattle.cmd_words.specs.Channels.{is_near as is_near_kind, a_kind, TakesKind, channel_words, setchan_of, behind_setchan};
+ghost use Rattle.cmd_words.specs.Channels.{is_near as is_near_kind, a_kind, TakesKind, channel_words, setchan_of};
+ghost use Rattle.cmd_words.specs.Channels.{behind_setchan};
 
 use crate::channel_words::channel_words;
 use crate::faults::CommandFault;
@@ -13,7 +14,7 @@ use crate::request_reader::Reader;
 use byte_text::{Name, NoMemory, Request};
 use std::alloc::Global;
 use world_data::{Channel, Fence, Kind};
-use world_model::Command;
+use world_model::{ChannelCommand, Command};
 
 /// `name`, the kind, `key`, the options, and what is watched.
 pub(crate) fn setchan_command(reader: &mut Reader) -> Result<Command, CommandFault>
@@ -84,8 +85,8 @@ fn setchan_of(
         wanted,
         watch,
     };
-    Command::Setchan {
+    Command::Channel(ChannelCommand::Setchan {
         channel: Channel { name, fence, words },
         area: from,
-    }
+    })
 }

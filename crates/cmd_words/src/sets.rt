@@ -12,7 +12,7 @@ use crate::set_options::{SetOptions, read_options};
 use byte_text::{Name, Text};
 use planar_geom::Shape;
 use std::alloc::Global;
-use world_model::{Command, Only};
+use world_model::{Command, ObjectCommand, Only};
 
 /// `key id`, the options, and a place.
 pub(crate) fn set_command(reader: &mut Reader) -> Result<Command, CommandFault>
@@ -43,7 +43,7 @@ fn put_command(
         only,
     } = options;
     let (fields, cleared) = fields_of(alloc, fields.as_slice())?;
-    Ok(Command::Set {
+    Ok(Command::Object(ObjectCommand::Set {
         key,
         id,
         fields,
@@ -52,5 +52,5 @@ fn put_command(
         only: only.unwrap_or(Only::Any),
         text,
         shape,
-    })
+    }))
 }

@@ -7,7 +7,8 @@ ghost use Rattle.world_data.specs.Limits.{max_coord, max_meters};
 ghost use Rattle.byte_text.specs.Numbers.{natural_within};
 ghost use Rattle.byte_text.specs.Streams.{is_digit as is_decimal_digit};
 ghost use Rattle.world_model.specs.Kinds.{is_endless as is_endless_bound, bound_of};
-ghost use Rattle.world_model.specs.Commands.{is_fraction as is_decimal_fraction, are_digits as are_decimal_digits, without_minus as without_sign};
+ghost use Rattle.world_model.specs.Commands.{is_fraction as is_decimal_fraction, are_digits as are_decimal_digits};
+ghost use Rattle.world_model.specs.Commands.{without_minus as without_sign};
 ghost use Rattle.cmd_words.specs.Progress.{IsOne, IsFault, due_fault, name_of, glob_of};
 ghost use Rattle.cmd_words.specs.Sets.{integer_of, coordinate_of, object_of};
 

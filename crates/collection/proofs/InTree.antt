@@ -6,7 +6,7 @@ use Rattle.std.proofs.lemmas.Bool.Decides.{nat_tests}
 use Rattle.std.proofs.lemmas.List.Elements.{All-nil, All-cons, All-head, All-tail}
 use Rattle.std.proofs.lemmas.List.Sums.{sum_by-cons, sum_by-insert, sum_by-remove}
 use Rattle.rtree.specs.Pairs.{Pair, pair}
-use Rattle.tree_pairs.specs.OnePair.{stands}
+use Rattle.rtree.specs.OnePair.{stands}
 use Rattle.world_data.specs.declared.objects.Object.{Object}
 use Rattle.collection.specs.Deadlines.{is_among}
 use Rattle.collection.specs.Boxed.{box_in, pair_at, AreBoxed, IsMore, IsMoved, IsWholeIn, AreInTree}

@@ -1,5 +1,6 @@
 -- Objects by deadline: which expires first, and the keys of those that have one.
-use Rattle.std.specs.Prelude.{ℕ, ◌≡◌, ◌<◌, Bool, true, false, not, ◌&&◌, ◌||◌, nat_eq, nat_lt, ◌==◌, List, length, take, slice_get, Option, Some, None, is_some, IfSome}
+use Rattle.std.specs.Prelude.{ℕ, ◌≡◌, ◌<◌, Bool, true, false, not, ◌&&◌, ◌||◌, nat_eq, nat_lt, ◌==◌, List, length, take, slice_get, Option, Some}
+use Rattle.std.specs.Prelude.{None, is_some, IfSome}
 use Rattle.std.specs.List.{list_all, list_any}
 use Rattle.byte_text.specs.Names.{before}
 use Rattle.ordered_lists.specs.Lists.{ascends}
@@ -34,7 +35,8 @@ FirstDue objects (Some at) = IsFirstDue objects at
 
 -- by deadline, then id
 abbrev pub expires_before : Object → Object → Bool
-expires_before o p = nat_lt (deadline_of o.deadline) (deadline_of p.deadline) || (nat_eq (deadline_of o.deadline) (deadline_of p.deadline) && before o.id p.id)
+expires_before o p = nat_lt (deadline_of o.deadline) (deadline_of p.deadline)
+    || (nat_eq (deadline_of o.deadline) (deadline_of p.deadline) && before o.id p.id)
 
 -- what a slot holds expires before what another holds; nothing stands behind all
 abbrev pub slot_before : Option Object → Option Object → Bool

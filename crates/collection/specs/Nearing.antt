@@ -40,10 +40,12 @@ IsNearing (Some d) old new places = IsNext d old new places
 
 -- the pairs are those of the keys whose objects were not given yet
 abbrev pub AreLeft : (ℕ → Option Object) → List ℕ → Point → Option ℕ → List Pair → Type 0
-AreLeft slots keys from given pairs = (weight : Pair → ℕ) → sum_by weight pairs ≡ sum_by (λ k. cond (is_farther given (box_dist2 from (box_in (slots k)))) (weight (pair_at slots k)) 0) keys
+AreLeft slots keys from given pairs = (weight : Pair → ℕ)
+    → sum_by weight pairs ≡ sum_by (λ k. cond (is_farther given (box_dist2 from (box_in (slots k)))) (weight (pair_at slots k)) 0) keys
 
 -- keys of objects by id, and what is left of the walk through their boxes, unless it was given up
-pub record IsNearingOf (slots : ℕ → Option Object) (keys : List ℕ) (from : Point) (given : Option ℕ) (given_up : Bool) (pairs : List Pair) : Type 0 where
+pub record IsNearingOf (slots : ℕ
+    → Option Object) (keys : List ℕ) (from : Point) (given : Option ℕ) (given_up : Bool) (pairs : List Pair) : Type 0 where
   pub slotted : AreSlotted slots keys
   pub by_id : are_by_id (objects_at slots keys) ≡ true
   pub left : given_up ≡ false → AreLeft slots keys from given pairs

@@ -1,5 +1,6 @@
 -- Objects in slots, in the order of a list of keys.
-use Rattle.std.specs.Prelude.{ℕ, ◌≡◌, ◌≤◌, ◌+◌, ◌-◌, min, Bool, ◌&&◌, not, true, false, nat_eq, List, [], ◌∷◌, length, is_some, Option, Some, None, filter_map}
+use Rattle.std.specs.Prelude.{ℕ, ◌≡◌, ◌≤◌, ◌+◌, ◌-◌, min, Bool, ◌&&◌, not, true, false, nat_eq, List, [], ◌∷◌, length, is_some, Option, Some, None}
+use Rattle.std.specs.Prelude.{filter_map}
 use Rattle.std.specs.List.{list_all, list_any}
 use Rattle.byte_text.specs.Names.{Bytes, before}
 use Rattle.world_data.specs.declared.objects.Object.{Object}

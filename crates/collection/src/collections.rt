@@ -1,6 +1,12 @@
 //! The objects of one key.
+//!
+//! Each object stays in its slot; the orders are lists of slot numbers, so a new or a removed object moves numbers of
+//! one run and no object. Both lists have room for all objects beforehand, the one by deadline too, so that an object
+//! may gain a deadline without memory. What the tree holds is told by sums over its pairs, which says the same as a
+//! permutation and changes by a number where a pair comes or goes.
 
-ghost use Rattle.std.specs.Prelude.{◌≡◌, ◌+◌, ◌<◌, ◌≤◌, ℕ, [], true, not, length, filter, find, is_some, if◌then◌else◌, slice_get, Some, None, All, IfNone, IfSome, IfOk, OnOk};
+ghost use Rattle.std.specs.Prelude.{◌≡◌, ◌+◌, ◌<◌, ◌≤◌, ℕ, [], true, not, length, filter, find, is_some, if◌then◌else◌};
+ghost use Rattle.std.specs.Prelude.{slice_get, Some, None, All, IfNone, IfSome, IfOk, OnOk};
 ghost use Rattle.std.specs.List.{remove};
 ghost use Rattle.ordered_lists.specs.Lists.{put_in};
 ghost use Rattle.world_data.specs.declared.objects.Object.{Object};
@@ -57,8 +63,9 @@ impl Collection {
         self.objects.prepare()
     }
 
-    /// Puts an object at its place, and gives out the one of its id that stood there. A new one takes one place of the room. The steps
-    /// rise by the nodes of the tree that are visited, at most a number of times the logarithm of the number of objects.
+    /// Puts an object at its place, and gives out the one of its id that stood there. A new one takes one place of the
+    /// room. The steps rise by the nodes of the tree that are visited, at most a number of times the logarithm of the
+    /// number of objects.
     pub fn put<L: Ledger>(&mut self, object: Object, steps: &mut Steps<L>) -> Option<Object>
         requires { has_room self.old object.id ≡ true }
         ensures objects { self.new.objects ≡ put_in id_before object self.old.objects }
@@ -75,7 +82,8 @@ impl Collection {
         }
     }
 
-    /// Takes out the object of this id, where there is one. Its place is room for another. The steps rise as with `put`.
+    /// Takes out the object of this id, where there is one. Its place is room for another. The steps rise as with
+    /// `put`.
     pub fn take_out<L: Ledger>(&mut self, id: &Name, steps: &mut Steps<L>) -> Option<Object>
         ensures objects { self.new.objects ≡ filter (λ o. not (has_id id.now o)) self.old.objects }
         ensures taken { result ≡ find (has_id id.now) self.old.objects }
@@ -88,7 +96,8 @@ impl Collection {
         }
     }
 
-    /// Takes out the object at this place, counted from 0 by ascending id. Its place is room for another. The steps rise as with `put`.
+    /// Takes out the object at this place, counted from 0 by ascending id. Its place is room for another. The steps
+    /// rise as with `put`.
     pub fn take_at<L: Ledger>(&mut self, i: usize, steps: &mut Steps<L>) -> Object
         requires { i < length self.old.objects }
         ensures objects { self.new.objects ≡ remove self.old.objects i }
@@ -133,8 +142,8 @@ impl Collection {
         self.objects.least_due()
     }
 
-    /// The first place of the least deadline, counted from 0 by ascending id; none where no object has a deadline. It is found in
-    /// steps in the logarithm of the number of objects.
+    /// The first place of the least deadline, counted from 0 by ascending id; none where no object has a deadline. It
+    /// is found in steps in the logarithm of the number of objects.
     pub fn first_due(&self) -> Option<usize>
         ensures { FirstDue self.now.objects result }
     {
@@ -147,8 +156,9 @@ impl Collection {
     {
         bounds::bounds_of(&self.objects)
     }
-    /// Lists the places of the objects whose box meets a box, counted from 0 by ascending id. The steps rise by the nodes of the
-    /// tree that are visited, one at least where there is an object. For want of memory the list may hold anything.
+    /// Lists the places of the objects whose box meets a box, counted from 0 by ascending id. The steps rise by the
+    /// nodes of the tree that are visited, one at least where there is an object. For want of memory the list may hold
+    /// anything.
     pub fn met<L: Ledger>(
         &self,
         alloc: Global,

@@ -1,6 +1,7 @@
 //! The keys of objects that have a deadline, in order of deadline and id.
 
-ghost use Rattle.std.specs.Prelude.{◌≡◌, ◌+◌, ◌≤◌, ◌&&◌, ◌||◌, ℕ, true, not, nat_eq, nat_lt, is_some, length, if◌then◌else◌};
+ghost use Rattle.std.specs.Prelude.{◌≡◌, ◌+◌, ◌≤◌, ◌&&◌, ◌||◌, ℕ, true, not, nat_eq, nat_lt, is_some, length};
+ghost use Rattle.std.specs.Prelude.{if◌then◌else◌};
 ghost use Rattle.byte_text.specs.Names.{before};
 ghost use Rattle.slab.specs.Slab.{get};
 ghost use Rattle.ordered_lists.specs.Lists.{ascends};
@@ -38,10 +39,12 @@ impl<'a> Before for ExpiresBefore<'a> {
 /// Puts a key among these where its object has a deadline, for which there is room then.
 pub(crate) fn put_due(dues: &mut RunList, slots: &Slab<Object>, key: usize)
     requires order { ascends (due_order (get slots.now)) dues.old.items ≡ true }
-    requires apart { (k : ℕ) → is_among k dues.old.items ≡ true → (due_order (get slots.now) k key || due_order (get slots.now) key k) ≡ true }
+    requires apart { (k : ℕ) → is_among k dues.old.items ≡ true
+        → (due_order (get slots.now) k key || due_order (get slots.now) key k) ≡ true }
     requires room { is_expiring (get slots.now key) ≡ true → 1 ≤ dues.old.spare }
     ensures order { ascends (due_order (get slots.now)) dues.new.items ≡ true }
-    ensures among { (k : ℕ) → is_among k dues.new.items ≡ (is_among k dues.old.items || (nat_eq k key && is_expiring (get slots.now key))) }
+    ensures among { (k : ℕ)
+        → is_among k dues.new.items ≡ (is_among k dues.old.items || (nat_eq k key && is_expiring (get slots.now key))) }
     ensures room { length dues.new.items + dues.new.spare ≡ length dues.old.items + dues.old.spare }
 {
     if has_due(slots, key) {
@@ -74,8 +77,8 @@ fn has_due(slots: &Slab<Object>, key: usize) -> bool
     }
 }
 
-// Whether an object expires before another, or at the same moment with an id that stands before the other's. No deadline counts
-// as the moment 0.
+// Whether an object expires before another, or at the same moment with an id that stands before the other's. No
+// deadline counts as the moment 0.
 fn expires_before(object: &Object, other: &Object) -> bool
     ensures { result ≡ expires_before object.now other.now }
 {

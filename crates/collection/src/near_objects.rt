@@ -36,9 +36,14 @@ impl<'a> Model for NearObjects<'a> {
 
     ghost Value = { Nearing };
 
-    ghost view = { λ w. record { objects = objects_at (get w.slots.now) w.keys.now.items; from = w.walk.from; given = w.given } };
+    ghost view = { λ w. record {
+      objects = objects_at (get w.slots.now) w.keys.now.items;
+      from = w.walk.from;
+      given = w.given;
+    } };
 
-    ghost invariant = { λ w. IsNearingOf (get w.slots.now) w.keys.now.items w.walk.from w.given w.walk.given_up w.walk.left };
+    ghost invariant = { λ w. IsNearingOf
+        (get w.slots.now) w.keys.now.items w.walk.from w.given w.walk.given_up w.walk.left };
 }
 
 impl<'a> NearObjects<'a> {
@@ -69,8 +74,9 @@ impl<'a> NearObjects<'a> {
         }
     }
 
-    /// Lists the places of all objects at the least squared distance not given yet, counted from 0 by ascending id, and answers
-    /// that distance; `None` exactly where all were given. For want of memory the list may hold anything, and the walk with it.
+    /// Lists the places of all objects at the least squared distance not given yet, counted from 0 by ascending id, and
+    /// answers that distance; `None` exactly where all were given. For want of memory the list may hold anything, and
+    /// the walk with it.
     pub fn next<L: Ledger>(
         &mut self,
         into: &mut Ids,

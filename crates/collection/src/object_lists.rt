@@ -1,6 +1,7 @@
 //! Objects in slots, in an order of their own: none moves when another is put in or taken out.
 
-ghost use Rattle.std.specs.Prelude.{◌≡◌, ◌<◌, ◌≤◌, ◌+◌, [], true, not, length, take, drop, slice_get, Some, None, All, OnOk, IfOk};
+ghost use Rattle.std.specs.Prelude.{◌≡◌, ◌<◌, ◌≤◌, ◌+◌, [], true, not, length, take, drop, slice_get, Some, None, All};
+ghost use Rattle.std.specs.Prelude.{OnOk, IfOk};
 ghost use Rattle.std.specs.List.{insert, remove, slice_set, list_all};
 ghost use Rattle.byte_text.specs.Names.{before};
 ghost use Rattle.collection.specs.Objects.{are_by_id, least_due};
@@ -23,7 +24,8 @@ use std::alloc::Global;
 use std::marker::Model;
 use world_data::Object;
 
-/// A list of objects, with room for more that was taken beforehand. An object stays in its slot, and the list is of keys.
+/// A list of objects, with room for more that was taken beforehand. An object stays in its slot, and the list is of
+/// keys.
 #[derive(Drop)]
 pub(crate) struct ObjectList {
     slots: Slab<Object>,
@@ -41,7 +43,10 @@ impl Model for ObjectList {
 
     ghost Value = { Held };
 
-    ghost view = { λ l. record { objects = objects_at (get l.slots) l.keys.items; spare = room_of (slab_len l.slots) l.slots.capacity l.keys l.dues l.boxes } };
+    ghost view = { λ l. record {
+      objects = objects_at (get l.slots) l.keys.items;
+      spare = room_of (slab_len l.slots) l.slots.capacity l.keys l.dues l.boxes;
+    } };
 
     ghost invariant = { λ l. AreKept (get l.slots) l.keys.items l.dues l.boxes };
 }

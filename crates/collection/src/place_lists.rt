@@ -15,7 +15,8 @@ use run_list::RunList;
 use slab::Slab;
 use world_data::Object;
 
-/// Lists the places of the objects of these numbers, which are the keys of all whose boxes pass a test, from the front to the back.
+/// Lists the places of the objects of these numbers, which are the keys of all whose boxes pass a test, from the front
+/// to the back.
 pub(crate) fn list_places(
     slots: &Slab<Object>,
     keys: &RunList,

@@ -1,18 +1,28 @@
 -- What is served is asked as it has to be.
 use Rattle.world_model.specs.declared.commands.Command.{Command}
-use Rattle.world_model.specs.declared.commands.Command.TheVariants as command
-use Rattle.cmd_words.specs.Laws.{IsPattern, IsServed}
+use Rattle.world_model.specs.declared.commands.Command.TheVariants as family
+use Rattle.world_model.specs.declared.object_commands.ObjectCommand.TheVariants as of_object
+use Rattle.world_model.specs.declared.search_commands.SearchCommand.TheVariants as of_search
+use Rattle.world_model.specs.declared.channel_commands.ChannelCommand.TheVariants as of_channel
+use Rattle.world_model.specs.declared.session_commands.SessionCommand.TheVariants as of_session
+use Rattle.cmd_words.specs.Laws.{IsOfObject, IsPattern, IsServed}
 use Rattle.cmd_words.specs.ReadLaws.{ok_spelled}
-use Rattle.std.proofs.Common.{◌≡◌, true, false, refl, List, [], ◌∷◌}
+use Rattle.std.proofs.Common.{◌≡◌, ◌≢◌, true, false, refl, arith, List, [], ◌∷◌}
 use Rattle.std.specs.Prelude.{Some, Ok}
 use Rattle.std.specs.List.{AllByRecursion}
 use Rattle.byte_text.specs.Names.{Bytes, is_name}
+use Rattle.byte_text.specs.Globs.{is_sound_glob}
+use Rattle.world_data.specs.Sound.{is_sound_query}
+use Rattle.world_data.specs.declared.queries.Query.{Query}
+use Rattle.world_data.specs.declared.queries.Shown.{Shown}
+use Rattle.world_data.specs.declared.queries.Shown.TheVariants as shown
 use Rattle.byte_text.specs.Requests.{FitsRequest}
 use Rattle.world_model.specs.Commands.{command_spelled, reads}
-use Rattle.deliveries.specs.Plans.{subs_of, subscribes}
-use Rattle.session_mail.specs.Sessions.{AreSoundSubs}
+use Rattle.delivery_model.specs.Plans.{subs_of}
+use Rattle.session_table.specs.Sessions.{AreSoundSubs}
+use Rattle.log_record.specs.Words.{SettingsAreNormal}
 use Rattle.command_plans.specs.Asking.{IsAsked}
-use Rattle.command_plans.specs.Beside.{is_of_channels, is_of_objects}
+use Rattle.command_plans.proofs.Settings.{recordable}
 
 named : (patterns : List Bytes) → AllByRecursion IsPattern patterns → AllByRecursion (λ w. is_name w ≡ true) patterns
 named [] all = tt
@@ -26,48 +36,37 @@ sound (p ∷ patterns) all = (all.0.1, sound patterns all.1)
 spelled_of : (words : List Bytes) (c : Command) → reads words ≡ Ok c → command_spelled words ≡ Some c
 spelled_of words c e = ok_spelled words (command_spelled words) c e
 
-pub served_asked : (words : List Bytes) → FitsRequest words → (c : Command) → reads words ≡ Ok c → IsServed c → IsAsked c
-served_asked words fits (command.Set key id given cleared after_ex only text shape) e s = s
-served_asked words fits (command.Get key id with_fields how) e s = s
-served_asked words fits (command.Del key id) e s = s
-served_asked words fits (command.Pdel key pattern) e s = s
-served_asked words fits (command.Drop key) e s = s
-served_asked words fits (command.Fset key id given cleared) e s = s
-served_asked words fits (command.Fget key id field) e s = s
-served_asked words fits (command.Expire key id seconds) e s = s
-served_asked words fits (command.Persist key id) e s = s
-served_asked words fits (command.Ttl key id) e s = s
-served_asked words fits (command.Keys pattern) e s = s
-served_asked words fits (command.Bounds key) e s = s
-served_asked words fits (command.Stats keys) e s = s
-served_asked words fits command.Flush e s = s
-served_asked words fits command.Shrink e s = s
-served_asked words fits command.Ping e s = s
-served_asked words fits command.Quit e s = s
-served_asked words fits (command.Scan key q) e s = s
-served_asked words fits (command.Search key q from) e s = s
-served_asked words fits (command.Nearby key q at reach) e s = s
-served_asked words fits (command.Setchan c from) e s = (s, record { words = words; fits = fits; spelled = spelled_of words (command.Setchan c from) e })
-served_asked words fits (command.Delchan name) e s = tt
-served_asked words fits (command.Pdelchan pattern) e s = s.1
-served_asked words fits (command.Chans pattern) e s = s.1
-served_asked words fits (command.Subscribe names) e s = s.1
-served_asked words fits (command.Psubscribe patterns) e s = (named patterns s.1, sound patterns s.1)
+-- an output of one object is no count
+no_count : (how : Shown) → IsOfObject how → how ≢ shown.Count
+no_count shown.Objects s = λ e. absurd (cc e)
+no_count shown.Points s = λ e. absurd (cc e)
+no_count shown.Bounds s = λ e. absurd (cc e)
+no_count shown.Ids s = absurd s
+no_count shown.Count s = absurd s
 
--- what is asked is of objects or of channels, or subscribes
+glob_sound : (q : Query) → is_sound_query q ≡ true → is_sound_glob q.glob ≡ true
+glob_sound q e = grind arith
 
-pub channels_only : (c : Command) → is_of_channels c ≡ true → subscribes c ≡ false
-channels_only (command.Setchan d from) e = refl
-channels_only (command.Delchan name) e = refl
-channels_only (command.Pdelchan pattern) e = refl
-channels_only (command.Chans pattern) e = refl
-channels_only c e = absurd (cc)
+pub served_asked : SettingsAreNormal → (words : List Bytes) → FitsRequest words → (c : Command) → reads words ≡ Ok c → IsServed c → IsAsked c
+served_asked normal words fits (family.Object (of_object.Set key id given cleared after_ex only text shape)) e s = s.3
+served_asked normal words fits (family.Object (of_object.Get key id with_fields how)) e s = no_count how s.2
+served_asked normal words fits (family.Object (of_object.Pdel key pattern)) e s = s.1.1
+served_asked normal words fits (family.Object (of_object.Keys pattern)) e s = s.1
+served_asked normal words fits (family.Object c) e s = tt
+served_asked normal words fits (family.Search (of_search.Scan key q)) e s = glob_sound q s.1.sound
+served_asked normal words fits (family.Search (of_search.Area key q from)) e s = glob_sound q s.1.sound
+served_asked normal words fits (family.Search (of_search.Nearby key q at reach)) e s = glob_sound q s.1.sound
+served_asked normal words fits (family.Channel (of_channel.Setchan c from)) e s =
+    (s, recordable normal words fits c from (spelled_of words (family.Channel (of_channel.Setchan c from)) e))
+served_asked normal words fits (family.Channel (of_channel.Delchan name)) e s = tt
+served_asked normal words fits (family.Channel (of_channel.Pdelchan pattern)) e s = s.1
+served_asked normal words fits (family.Channel (of_channel.Chans pattern)) e s = s.1
+served_asked normal words fits (family.Session (of_session.Subscribe names)) e s = s.1
+served_asked normal words fits (family.Session (of_session.Psubscribe patterns)) e s = (named patterns s.1, sound patterns s.1)
+served_asked normal words fits (family.Session of_session.Ping) e s = tt
+served_asked normal words fits (family.Session of_session.Quit) e s = tt
 
-pub rest_subscribes : (c : Command) → IsAsked c → is_of_objects c ≡ false → is_of_channels c ≡ false → subscribes c ≡ true
-rest_subscribes (command.Subscribe names) a e f = refl
-rest_subscribes (command.Psubscribe patterns) a e f = refl
-rest_subscribes (command.Setchan d from) a e f = absurd (cc)
-rest_subscribes (command.Delchan name) a e f = absurd (cc)
-rest_subscribes (command.Pdelchan pattern) a e f = absurd (cc)
-rest_subscribes (command.Chans pattern) a e f = absurd (cc)
-rest_subscribes c a e f = absurd (cc)
+-- a name has no pattern to be well formed
+pub names_sound : (words : List Bytes) → AreSoundSubs (subs_of false words)
+names_sound [] = tt
+names_sound (w ∷ words) = (refl, names_sound words)

@@ -12,11 +12,12 @@ use Rattle.world_model.specs.Effects.{watch_over}
 use Rattle.world_model.specs.Grammar.{Form, ◌>>◌, ◌or◌, where_, word, repeated}
 use Rattle.world_model.specs.Kinds.{name, glob, meters, lat_lon, four, geojson}
 use Rattle.world_model.specs.MadeForms.{Makes, makes_behind, makes_bind, makes_done, makes_none, makes_or, makes_then, makes_where}
-use Rattle.world_model.specs.TableParts.{SetsNone, setting_said}
-use Rattle.world_model.specs.declared.commands.AreaWords.{AreaWords}
-use Rattle.world_model.specs.declared.commands.AreaWords.TheVariants.{Given, Of}
+use Rattle.world_model.specs.TableParts.{SetsNone, setting_form, setting_said}
+use Rattle.world_model.specs.declared.search_commands.AreaWords.{AreaWords}
+use Rattle.world_model.specs.declared.search_commands.AreaWords.TheVariants.{Given, Of}
 use Rattle.world_model.specs.declared.commands.Command.{Command}
 use Rattle.world_model.specs.declared.commands.Command.TheVariants as command
+use Rattle.world_model.specs.declared.channel_commands.ChannelCommand.TheVariants as of_channel
 
 -- an area that is given is this one
 abbrev Gives : AreaWords → Area → Type 0
@@ -28,9 +29,9 @@ IsAsGiven a = Gives a.from a.area
 
 -- the area that is given changes nothing in the channel
 abbrev Stands : Command → Type 0
-Stands (command.Setchan c (Some (Given a))) = watch_over c.fence.watch a ≡ c.fence.watch
-Stands (command.Setchan c (Some (Of key id))) = Unit {0}
-Stands (command.Setchan c None) = Unit {0}
+Stands (command.Channel (of_channel.Setchan c (Some (Given a)))) = watch_over c.fence.watch a ≡ c.fence.watch
+Stands (command.Channel (of_channel.Setchan c (Some (Of key id)))) = Unit {0}
+Stands (command.Channel (of_channel.Setchan c None)) = Unit {0}
 Stands c = Unit {0}
 
 first : {A : Type 0} {P : A → Type 0} {f g : Form A} → Makes P f → Makes P g → Makes P (f or g)
@@ -43,14 +44,14 @@ makes_area =
     first (makes_behind IsAsGiven (word (codes "CIRCLE") >> lat_lon) _ (λ p. makes_behind IsAsGiven meters _ (λ r. makes_done IsAsGiven _ refl))) (
     first (makes_behind IsAsGiven (word (codes "GET") >> name) _ (λ key. makes_behind IsAsGiven name _ (λ id. makes_done IsAsGiven _ tt))) (makes_none IsAsGiven))))
 
-set_stands : (channel called key : Bytes) (kind : Kind) (o : table.FenceOptions) (a : Area) (words : List Bytes) (from : AreaWords) → Gives from a → Stands (table.setting channel called key o (watch.Spot kind a) words (Some from))
-set_stands channel called key kind o a words (Given b) is = subst (λ (d : Area). watch_over (watch.Spot kind b) b ≡ watch.Spot kind d) is refl
+set_stands : (channel called key : Bytes) (kind : Kind) (o : table.FenceOptions) (a : Area) (words : List Bytes) (from : AreaWords) → Gives from a → Stands (table.setting channel called key o (watch.Zone kind a) words (Some from))
+set_stands channel called key kind o a words (Given b) is = subst (λ (d : Area). watch_over (watch.Zone kind b) b ≡ watch.Zone kind d) is refl
 set_stands channel called key kind o a words (Of other id) is = tt
 
 makes_over : (called : Bytes) (kind : Kind) (channel : Bytes) → Makes Stands (table.setchan_area called kind channel)
 makes_over called kind channel = makes_then Stands (word called) _ (makes_behind Stands name _ (λ key. makes_behind Stands (repeated (table.fence_option false) table.no_fence_options) _ (λ o.
     makes_bind IsAsGiven Stands (where_ o.fence table.area) _ (makes_where IsAsGiven o.fence table.area makes_area) (λ a is.
-    makes_done Stands (table.setting channel called key o (watch.Spot kind a.area) a.words (Some a.from)) (set_stands channel called key kind o a.area a.words a.from is)))))
+    makes_done Stands (table.setting channel called key o (watch.Zone kind a.area) a.words (Some a.from)) (set_stands channel called key kind o a.area a.words a.from is)))))
 
 makes_around : (channel key : Bytes) (o : table.FenceOptions) → Makes Stands (table.near_area channel key o)
 makes_around channel key o =
@@ -61,14 +62,14 @@ makes_near : (channel : Bytes) → Makes Stands (table.setchan_near channel)
 makes_near channel = makes_then Stands (word (codes "NEARBY")) _ (makes_behind Stands name _ (λ key. makes_behind Stands (repeated (table.fence_option true) table.no_fence_options) _ (λ o.
     makes_where Stands o.fence _ (makes_around channel key o))))
 
-makes_setchan : Makes Stands table.setchan_command
+makes_setchan : Makes Stands setting_form
 makes_setchan = makes_then Stands (word (codes "SETCHAN")) _ (makes_behind Stands name _ (λ channel.
     first (makes_over (codes "WITHIN") Within channel) (first (makes_over (codes "INTERSECTS") Intersects channel) (first (makes_near channel) (makes_none Stands)))))
 
 -- another command is no setting
 others_stand : (c : Command) → SetsNone c → Stands c
-others_stand (command.Setchan c from) none = absurd none
+others_stand (command.Channel (of_channel.Setchan c from)) none = absurd none
 others_stand c none = tt
 
-pub area_stands : (words : List Bytes) (c : Channel) (a : Area) → table.command_spelled words ≡ Some (command.Setchan c (Some (Given a))) → watch_over c.fence.watch a ≡ c.fence.watch
-area_stands words c a e = setting_said Stands others_stand words (command.Setchan c (Some (Given a))) (makes_setchan.made words) e
+pub area_stands : (words : List Bytes) (c : Channel) (a : Area) → table.command_spelled words ≡ Some (command.Channel (of_channel.Setchan c (Some (Given a)))) → watch_over c.fence.watch a ≡ c.fence.watch
+area_stands words c a e = setting_said Stands others_stand words (command.Channel (of_channel.Setchan c (Some (Given a)))) (makes_setchan.made words) e

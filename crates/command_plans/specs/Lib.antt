@@ -1,13 +1,1 @@
-pub mod Moves
-pub mod Kept
-pub mod Plans
-pub mod Planned
-pub mod Sweeps
-pub mod Listings
-pub mod Beside
-pub mod Dropping
-pub mod Subscribing
 pub mod Asking
-pub mod Contexts
-pub mod Standing
-pub mod Weights

@@ -12,8 +12,8 @@ use Rattle.journal.specs.Openings.{AreWhole}
 use Rattle.log_record.specs.Recovery.{RecoversEither}
 use Rattle.log_record.specs.Folding.{folded}
 use Rattle.log_record.specs.Journals as log
-use Rattle.log_worlds.specs.Recorded.{record_fault, world_in}
-use Rattle.log_worlds.specs.BatchesHeld.{committed_world, committed_whole, either_recovers}
+use Rattle.world_recovery.specs.Recorded.{record_fault, world_in}
+use Rattle.world_recovery.specs.BatchesHeld.{committed_world, committed_whole, either_recovers}
 use Rattle.durable_core.specs.Kept.{IsKeptBy, LeadsTo}
 use Rattle.durable_core.specs.Rewriting.{IsCopyWhile}
 use Rattle.durable_core.specs.declared.rewritings.Rewriting.{Rewriting}

@@ -21,15 +21,15 @@ use Rattle.log_record.specs.Folding.{folded}
 use Rattle.log_record.specs.Batches.{records_text}
 use Rattle.log_record.specs.Words.{IsRecorded}
 use Rattle.log_sides.specs.Texts.{committed}
-use Rattle.log_worlds.specs.Recorded.{changes_in, world_in}
-use Rattle.log_worlds.specs.BatchesHeld.{committed_world, committed_whole}
+use Rattle.world_recovery.specs.Recorded.{changes_in, world_in}
+use Rattle.world_recovery.specs.BatchesHeld.{committed_world, committed_whole}
 use Rattle.durable_core.specs.declared.rewritings.Rewriting.{Rewriting}
 use Rattle.durable_core.specs.declared.rewritings.Rewriting.TheVariants as rewriting
 use Rattle.durable_core.specs.declared.rewritings.LastCopied.{LastCopied}
 use Rattle.durable_core.specs.declared.rewritings.LastCopied.TheVariants as last
 use Rattle.durable_core.specs.Rewriting.{Item, of_channel, of_object, change_of, changes_of, is_channel_left, is_object_left, items_left, last_of, last_behind, IsCopiedTo, IsCopyWhile, asked_for, rewriting_after}
-use Rattle.world_model.specs.declared.events.Called.{Called}
-use Rattle.world_model.specs.declared.events.Called.TheVariants as called
+use Rattle.world_model.specs.declared.events.CallOutcome.{CallOutcome}
+use Rattle.world_model.specs.declared.events.CallOutcome.TheVariants as called
 
 -- more is copied of a list than was said
 
@@ -295,7 +295,7 @@ asked_copies generation rewriting.Idle copied batches copies = by (nat_lt genera
 asked_copies generation rewriting.Asked copied batches copies = copies
 asked_copies generation (rewriting.Going last) copied batches copies = copies
 
-pub copies_asked : (answer : Called) (asks : Bool) (generation : ℕ) (r : Rewriting) (copied batches : List Bytes) → IsCopyWhile r copied batches
+pub copies_asked : (answer : CallOutcome) (asks : Bool) (generation : ℕ) (r : Rewriting) (copied batches : List Bytes) → IsCopyWhile r copied batches
     → IsCopyWhile (rewriting_after answer asks generation r) copied batches
 copies_asked called.Ok asks generation r copied batches copies = by asks
   where

@@ -5,14 +5,14 @@ use Rattle.std.specs.List.{AllByRecursion}
 use Rattle.std.proofs.lemmas.Grind.{flat_map-append}
 use Rattle.byte_text.specs.Names.{Bytes}
 use Rattle.ordered_lists.specs.Reading.{each-append}
-use Rattle.world_data.specs.Records.{record_text}
+use Rattle.world_data.specs.Records.{record_writer}
 use Rattle.world_data.specs.declared.worlds.Change.{Change}
 use Rattle.world_data.specs.declared.worlds.World.{World}
 use Rattle.fence_model.specs.Writes.{Write}
 use Rattle.world_model.specs.Halls.{Hall}
 use Rattle.world_model.specs.Histories.{Step, answer, when_stopped}
-use Rattle.world_model.specs.declared.events.Called.{Called}
-use Rattle.world_model.specs.declared.events.Called.TheVariants as called
+use Rattle.world_model.specs.declared.events.CallOutcome.{CallOutcome}
+use Rattle.world_model.specs.declared.events.CallOutcome.TheVariants as called
 use Rattle.world_model.specs.declared.events.Event.{Event}
 use Rattle.world_model.specs.declared.events.Event.TheVariants.{Take, Rewrite, Retire}
 use Rattle.world_model.specs.declared.events.Outcome.{Outcome}
@@ -33,9 +33,9 @@ use Rattle.log_record.specs.EventWriteLaws.{folded-append, steps_make_their_writ
 use Rattle.log_record.specs.Journals as log
 use Rattle.log_record.specs.AnswerLaws.{stopped_says}
 use Rattle.log_record.specs.TurnLaws.{turn_keeps_safe}
-use Rattle.log_worlds.specs.Recorded.{record_fault, world_in}
-use Rattle.log_worlds.specs.BatchesHeld.{held_recovers}
-use Rattle.tile_core.specs.Ledgers.{IsRecordedBy}
+use Rattle.world_recovery.specs.Recorded.{record_fault, world_in}
+use Rattle.world_recovery.specs.BatchesHeld.{held_recovers}
+use Rattle.tile_core.specs.RecordSinks.{IsRecordedBy}
 use Rattle.durable_core.specs.Kept.{IsKeptBy, HasPending, LeadsTo}
 use Rattle.durable_core.specs.Logged.{hall_of, disk_of, IsLogOf, KeepsLogOf, Owes, GoesOn}
 use Rattle.durable_core.specs.StepLaws.{does, lacks, same_hall, stops}
@@ -179,7 +179,7 @@ module _ {D : Type 0} (crashes : D → Bool) (seen : D → Option Sides) (images
     keeps = pends.kept kept.batches kept.copied kept.keeps;
     whole = kept.whole;
     committed = kept.committed;
-    pending_is = pends.pending_is ∙ ap (λ (l : Bytes). l ++ records_text changes) kept.pending_is ∙ sym (flat_map-append record_text k.pending changes);
+    pending_is = pends.pending_is ∙ ap (λ (l : Bytes). l ++ records_text changes) kept.pending_is ∙ sym (flat_map-append record_writer k.pending changes);
     recorded = each-append IsRecorded k.pending changes kept.recorded are;
     copies = subst (λ (r : Rewriting). IsCopyWhile r kept.copied kept.batches) (sym pends.rewriting) kept.copies;
   }
@@ -192,7 +192,7 @@ module _ {D : Type 0} (crashes : D → Bool) (seen : D → Option Sides) (images
   left mid new (inr pends) = record { pending_is = pends.pending_is ∙ sym (append-nil (pending mid.journal)); same = pends.same; rewriting = pends.rewriting; kept = pends.kept }
 
   -- what a ledger took of an event
-  pub led : (mid new : Tail D) (h : Hall) (event : Event) (answer : Called)
+  pub led : (mid new : Tail D) (h : Hall) (event : Event) (answer : CallOutcome)
       → (answer ≡ called.Ok → IsRecordedBy (λ old records next. HasPending crashes seen images old next (pending old.journal ++ records)) h event mid new)
       → (answer ≢ called.Ok → (new ≡ mid) ⊎ HasPending crashes seen images mid new (pending mid.journal))
       → let changes = changes_of (writes_by h event (Answered answer)) in
@@ -221,7 +221,7 @@ module _ {D : Type 0} (crashes : D → Bool) (seen : D → Option Sides) (images
   }
 
   -- a call whose records were pushed behind a commit
-  pub served : {E : Type 0} (old new : DurableCore D) (mid late : Tail D) (event : Event) (answer : Called) (before k : log.Journal) → (hall_of old).stopped ≡ false
+  pub served : {E : Type 0} (old new : DurableCore D) (mid late : Tail D) (event : Event) (answer : CallOutcome) (before k : log.Journal) → (hall_of old).stopped ≡ false
       → Step (hall_of old) event (Answered answer) (hall_of new) → KeepsLogOf crashes seen images old before → crashes mid.journal.disk ≡ crashes (disk_of old)
       → LeadsTo {E = E} crashes seen images moment left_since old.tail mid (Ok tt) before k
       → (let changes = changes_of (writes_by (hall_of old) event (Answered answer)) in
@@ -238,18 +238,18 @@ module _ {D : Type 0} (crashes : D → Bool) (seen : D → Option Sides) (images
       (λ shows. absurd (cc))
 
   -- a step of a rewriting
-  pub stepped : (old new : DurableCore D) (answer : Called) (before : log.Journal) → (hall_of old).stopped ≡ false → answer ≢ called.LogFault → IsEnded answer → hall_of new ≡ hall_of old
+  pub stepped : (old new : DurableCore D) (answer : CallOutcome) (before : log.Journal) → (hall_of old).stopped ≡ false → answer ≢ called.LogFault → IsEnded answer → hall_of new ≡ hall_of old
       → KeepsLogOf crashes seen images old before → crashes (disk_of new) ≡ crashes (disk_of old)
       → LeadsTo crashes seen images moment left_since old.tail new.tail (ended answer) before (log.settled before)
       → GoesOn crashes seen images moment left_since old new Rewrite (Answered answer) before
   stepped old new answer before going fine (inl is) same keeps told leads =
-      subst (λ (a : Called). GoesOn crashes seen images moment left_since old new Rewrite (Answered a) before) (sym is)
+      subst (λ (a : CallOutcome). GoesOn crashes seen images moment left_since old new Rewrite (Answered a) before) (sym is)
       (settles old new Rewrite (Answered called.Ok) before going (ap (λ (h : Hall). h.stopped) same ∙ going) (does (hall_of old) (hall_of new) Rewrite going refl same) keeps told
-      (subst (λ (a : Called). LeadsTo crashes seen images moment left_since old.tail new.tail (ended a) before (log.settled before)) is leads) refl)
+      (subst (λ (a : CallOutcome). LeadsTo crashes seen images moment left_since old.tail new.tail (ended a) before (log.settled before)) is leads) refl)
   stepped old new answer before going fine (inr (inl is)) same keeps told leads =
-      subst (λ (a : Called). GoesOn crashes seen images moment left_since old new Rewrite (Answered a) before) (sym is)
+      subst (λ (a : CallOutcome). GoesOn crashes seen images moment left_since old new Rewrite (Answered a) before) (sym is)
       (settles old new Rewrite (Answered called.Memory) before going (ap (λ (h : Hall). h.stopped) same ∙ going) (lacks (hall_of old) (hall_of new) Rewrite refl going refl same) keeps told
-      (subst (λ (a : Called). LeadsTo crashes seen images moment left_since old.tail new.tail (ended a) before (log.settled before)) is leads) refl)
+      (subst (λ (a : CallOutcome). LeadsTo crashes seen images moment left_since old.tail new.tail (ended a) before (log.settled before)) is leads) refl)
   stepped old new answer before going fine (inr (inr is)) same keeps told leads = absurd (fine is)
 
   -- the last call, which commits and stops the hall

@@ -5,7 +5,7 @@ use Rattle.std.proofs.lemmas.Bool.{and_from}
 use Rattle.byte_text.specs.Names.{Bytes, is_name}
 use Rattle.outside.specs.Sides.{Sides, IfTold}
 use Rattle.world_data.specs.Filters.{are_fields}
-use Rattle.world_data.specs.Records.{record_words, is_kept_deadline, is_kept_field}
+use Rattle.world_data.specs.Records.{record_reader, is_kept_deadline, is_kept_field}
 use Rattle.world_data.specs.Sound.{IsSoundObject, IsSoundWorld, is_sound_channel}
 use Rattle.world_data.specs.Worlds.{after, is_sorted_world}
 use Rattle.world_data.specs.declared.channels.Channel.{Channel}
@@ -24,8 +24,8 @@ use Rattle.log_record.specs.Recovery.{Recovers}
 use Rattle.log_record.specs.Laws.{Stood}
 use Rattle.log_record.specs.TurnLaws.{openings_stand}
 use Rattle.log_record.specs.Words.{IsRecorded}
-use Rattle.log_worlds.specs.Recorded.{world_in}
-use Rattle.world_opening.specs.Opened.{IsOpened, AreRecorded}
+use Rattle.world_recovery.specs.Recorded.{world_in}
+use Rattle.world_recovery.specs.Opened.{IsOpened, AreRecorded}
 use Rattle.durable_core.specs.Kept.{IsKeptBy, settled_log}
 use Rattle.durable_core.specs.Logged.{hall_of, disk_of}
 use Rattle.durable_core.specs.Opened.{IsOpening, ReadsAlike}
@@ -47,7 +47,7 @@ all_three false b c d e is = absurd (cc is)
 
 object_sound : (o : Object) → IsRecorded (Put o) → IsSoundObject o
 object_sound o is =
-    let read = record_read (record_words (Put o)) (Put o) is.read_back in
+    let read = record_read (record_reader (Put o)) (Put o) is.read_back in
     let are = all_three (is_name o.key) (is_name o.id) (are_fields o.fields) (list_all is_kept_field o.fields) (is_kept_deadline o.deadline) read.1 in
     record { key = are.0; id = are.1; accepted = read.2; fields = are.2 }
 
@@ -58,7 +58,7 @@ objects_sound (o ∷ objects) are = (object_sound o are.0, objects_sound objects
 channels_sound : (channels : List Channel) → AllByRecursion (λ c. IsRecorded (SetChan c)) channels → list_all is_sound_channel channels ≡ true
 channels_sound [] are = refl
 channels_sound (c ∷ channels) are =
-    and_from (is_sound_channel c) (list_all is_sound_channel channels) (record_read (record_words (SetChan c)) (SetChan c) are.0.read_back).2 (channels_sound channels are.1)
+    and_from (is_sound_channel c) (list_all is_sound_channel channels) (record_read (record_reader (SetChan c)) (SetChan c) are.0.read_back).2 (channels_sound channels are.1)
 
 pub world_sound : (batches : List Bytes) (w : World) → w ≡ world_in batches → AreRecorded w → IsSoundWorld w
 world_sound batches w is are = record {

@@ -13,8 +13,8 @@ use Rattle.journal.specs.Openings.{AreWhole}
 use Rattle.log_record.specs.Batches.{records_text}
 use Rattle.log_record.specs.Recovery.{Recovers, RecoversEither}
 use Rattle.log_record.specs.Journals as log
-use Rattle.log_worlds.specs.Recorded.{record_fault, world_in}
-use Rattle.log_worlds.specs.BatchesHeld.{committed_world, committed_whole, held_recovers}
+use Rattle.world_recovery.specs.Recorded.{record_fault, world_in}
+use Rattle.world_recovery.specs.BatchesHeld.{committed_world, committed_whole, held_recovers}
 use Rattle.durable_core.specs.Kept.{IsKeptBy, LeadsTo}
 use Rattle.durable_core.specs.Pieces.{IsNextPiece}
 use Rattle.durable_core.specs.Rewriting.{changes_of, items_left, last_behind, IsCopiedTo, IsCopy, IsCopyWhile}

@@ -7,7 +7,7 @@ use Rattle.std.proofs.lemmas.List.{map-append, take_all, drop_all}
 use Rattle.std.proofs.lemmas.Grind.{flat_map-append}
 use Rattle.byte_text.specs.Names.{Bytes}
 use Rattle.ordered_lists.specs.Reading.{each-append}
-use Rattle.world_data.specs.Records.{record_text}
+use Rattle.world_data.specs.Records.{record_writer}
 use Rattle.world_data.specs.Worlds.{is_sorted_world}
 use Rattle.world_data.specs.declared.channels.Channel.{Channel}
 use Rattle.world_data.specs.declared.objects.Object.{Object}
@@ -40,8 +40,8 @@ one_left {A} p (y ∷ ys) x is = by (p y) refl (one_left p ys x)
     by false e ih = let later = ih (rw e at is) in (later.0, rw e later.1)
 
 -- the record that was put
-pub put_record : (old new bytes entry from : Bytes) (change : Change) → new ≡ old ++ bytes → bytes ≡ entry → entry ≡ from ++ record_text change → from ≡ [] → new ≡ old ++ record_text change
-put_record old new bytes entry from change e f g none = e ∙ ap (λ (l : Bytes). old ++ l) (f ∙ g ∙ ap (λ (l : Bytes). l ++ record_text change) none)
+pub put_record : (old new bytes entry from : Bytes) (change : Change) → new ≡ old ++ bytes → bytes ≡ entry → entry ≡ from ++ record_writer change → from ≡ [] → new ≡ old ++ record_writer change
+put_record old new bytes entry from change e f g none = e ∙ ap (λ (l : Bytes). old ++ l) (f ∙ g ∙ ap (λ (l : Bytes). l ++ record_writer change) none)
 
 -- channels are items, and objects behind them are
 
@@ -101,9 +101,9 @@ taken_one from w n old new last next sorted some took =
       has = record {
         split = rw append_assoc (has.split ∙ ap (λ (l : List Item). some.taken ++ l) rest_is);
         items = took.items ∙ ap (λ (k : ℕ). k + 1) has.items ∙ sym (length-append some.taken (took.first ∷ []));
-        records = took.records ∙ ap (λ (l : Bytes). l ++ record_text (change_of took.first)) has.records
-            ∙ ap (λ (l : Bytes). records_text (changes_of some.taken) ++ l) (sym (append-nil (record_text (change_of took.first))))
-            ∙ sym (flat_map-append record_text (changes_of some.taken) (change_of took.first ∷ [])) ∙ ap records_text (sym more);
+        records = took.records ∙ ap (λ (l : Bytes). l ++ record_writer (change_of took.first)) has.records
+            ∙ ap (λ (l : Bytes). records_text (changes_of some.taken) ++ l) (sym (append-nil (record_writer (change_of took.first))))
+            ∙ sym (flat_map-append record_writer (changes_of some.taken) (change_of took.first ∷ [])) ∙ ap records_text (sym more);
         recorded = subst (AllByRecursion IsRecorded) (sym more) (each-append IsRecorded (changes_of some.taken) (change_of took.first ∷ []) has.recorded (took.recorded, tt));
         last_is = took.last_is ∙ sym (last_one from some.taken took.first);
         left = ap (λ (l : LastCopied). items_left l w) took.last_is ∙ next_left w sorted last took.first took.rest took.left_is;

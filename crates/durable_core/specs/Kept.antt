@@ -9,7 +9,7 @@ use Rattle.journal.specs.Openings.{AreWhole}
 use Rattle.log_record.specs.Words.{IsRecorded}
 use Rattle.log_record.specs.Batches.{records_text}
 use Rattle.log_record.specs.Journals as log
-use Rattle.log_worlds.specs.Recorded.{record_fault, world_in}
+use Rattle.world_recovery.specs.Recorded.{record_fault, world_in}
 use Rattle.durable_core.specs.Rewriting.{IsCopyWhile}
 use Rattle.durable_core.specs.declared.tails.Tail.{Tail}
 
@@ -19,7 +19,8 @@ settled_log w = record { committed = w; pending = [] }
 
 -- the batches make the committed world, and the records of the pending changes are pending, each of which is read back from its record;
 -- where the log is rewritten, the copied batches make a part of that world
-pub record IsKeptBy {D : Type 0} (crashes : D → Bool) (seen : D → Option Sides) (images : D → Sides → Type 0) (t : Tail D) (j : log.Journal) : Type 0 where
+pub record IsKeptBy {D : Type 0} (crashes : D → Bool) (seen : D → Option Sides) (images : D → Sides
+    → Type 0) (t : Tail D) (j : log.Journal) : Type 0 where
   pub batches : List Bytes
   pub copied : List Bytes
   pub keeps : Keeps crashes seen images t.journal batches copied
@@ -30,14 +31,17 @@ pub record IsKeptBy {D : Type 0} (crashes : D → Bool) (seen : D → Option Sid
   pub copies : IsCopyWhile t.rewriting copied batches
 
 -- these bytes are pending, and else the tail is as before
-pub record HasPending {D : Type 0} (crashes : D → Bool) (seen : D → Option Sides) (images : D → Sides → Type 0) (old new : Tail D) (bytes : Bytes) : Type 0 where
+pub record HasPending {D : Type 0} (crashes : D → Bool) (seen : D → Option Sides) (images : D → Sides
+    → Type 0) (old new : Tail D) (bytes : Bytes) : Type 0 where
   pub pending_is : pending new.journal ≡ bytes
   pub same : SameBut old.journal new.journal
   pub rewriting : new.rewriting ≡ old.rewriting
-  pub kept : (batches copied : List Bytes) → Keeps crashes seen images old.journal batches copied → Keeps crashes seen images new.journal batches copied
+  pub kept : (batches copied : List Bytes) → Keeps crashes seen images old.journal batches copied
+      → Keeps crashes seen images new.journal batches copied
 
 -- from a log another is come to of the same world; at each moment between a crash leaves the committed world, or the whole one
-pub record LeadsTo {D E : Type 0} (crashes : D → Bool) (seen : D → Option Sides) (images : D → Sides → Type 0) (moment : D → ℕ) (left_since : D → ℕ → Sides → Type 0) (old new : Tail D) (result : Result Unit E) (before after : log.Journal) : Type 0 where
+pub record LeadsTo {D E : Type 0} (crashes : D → Bool) (seen : D → Option Sides) (images : D → Sides → Type 0) (moment : D → ℕ) (left_since : D → ℕ
+    → Sides → Type 0) (old new : Tail D) (result : Result Unit E) (before after : log.Journal) : Type 0 where
   pub same : log.whole after ≡ log.whole before
   pub leaves : crashes old.journal.disk ≡ true → log.Leaves moment left_since old.journal.disk new.journal.disk before
   pub kept : OnOk result (IsKeptBy crashes seen images new after)

@@ -25,7 +25,8 @@ abbrev pub generation_of : {D : Type 0} → DurableCore D → ℕ
 generation_of c = c.tail.journal.log.generation
 
 -- the log is the one that the journal keeps, and all of it makes the hall's world
-pub record IsLogOf {D : Type 0} (crashes : D → Bool) (seen : D → Option Sides) (images : D → Sides → Type 0) (c : DurableCore D) (j : Journal) : Type 0 where
+pub record IsLogOf {D : Type 0} (crashes : D → Bool) (seen : D → Option Sides) (images : D → Sides
+    → Type 0) (c : DurableCore D) (j : Journal) : Type 0 where
   pub kept : IsKeptBy crashes seen images c.tail j
   pub world : (hall_of c).world ≡ whole j
 
@@ -34,12 +35,15 @@ abbrev pub KeepsLogOf : {D : Type 0} → (D → Bool) → (D → Option Sides) �
 KeepsLogOf crashes seen images c j = (hall_of c).stopped ≡ false → IsLogOf crashes seen images c j
 
 -- from one disk to another an event with its outcome did what it owes, and so keeps the disk safe
-pub record Owes {D : Type 0} (images : D → Sides → Type 0) (moment : D → ℕ) (left_since : D → ℕ → Sides → Type 0) (old new : D) (h : Hall) (event : Event) (outcome : Outcome) (next : Hall) (before after : Journal) : Type 0 where
+pub record Owes {D : Type 0} (images : D → Sides → Type 0) (moment : D → ℕ) (left_since : D → ℕ → Sides
+    → Type 0) (old new : D) (h : Hall) (event : Event) (outcome : Outcome) (next : Hall) (before after : Journal) : Type 0 where
   pub turn : Turn images moment left_since old new h before event outcome next after
   pub safe : KeepsSafe images moment left_since old new h before event outcome next after
 
 -- over a call of a core its log goes on from one to another, and where the disk tells crashes the call did to it what it owes
-pub record GoesOn {D : Type 0} (crashes : D → Bool) (seen : D → Option Sides) (images : D → Sides → Type 0) (moment : D → ℕ) (left_since : D → ℕ → Sides → Type 0) (old new : DurableCore D) (event : Event) (outcome : Outcome) (before : Journal) : Type 0 where
+pub record GoesOn {D : Type 0} (crashes : D → Bool) (seen : D → Option Sides) (images : D → Sides → Type 0) (moment : D → ℕ) (left_since : D → ℕ
+    → Sides → Type 0) (old new : DurableCore D) (event : Event) (outcome : Outcome) (before : Journal) : Type 0 where
   pub after : Journal
   pub log : KeepsLogOf crashes seen images new after
-  pub owes : crashes (disk_of old) ≡ true → Owes images moment left_since (disk_of old) (disk_of new) (hall_of old) event outcome (hall_of new) before after
+  pub owes : crashes (disk_of old) ≡ true
+      → Owes images moment left_since (disk_of old) (disk_of new) (hall_of old) event outcome (hall_of new) before after

@@ -32,7 +32,8 @@ abbrev pub IsHandedBack : Option Sides → Sides → OpenFault → Type 0
 IsHandedBack seen s why = IsUnopened seen s why ⊎ ReadsAlike seen s why
 
 -- all stands at an opening with the hall's world and length, whose moment is not before an earlier one and whose count of faults is this one
-pub record IsOpening {D : Type 0} (images : D → Sides → Type 0) (moment : D → ℕ) (left_since : D → ℕ → Sides → Type 0) (earlier count : ℕ) (c : DurableCore D) : Type 0 where
+pub record IsOpening {D : Type 0} (images : D → Sides → Type 0) (moment : D → ℕ) (left_since : D → ℕ → Sides
+    → Type 0) (earlier count : ℕ) (c : DurableCore D) : Type 0 where
   pub opening : Opening
   pub world : opening.world ≡ (hall_of c).world
   pub logged : opening.logged ≡ (hall_of c).logged

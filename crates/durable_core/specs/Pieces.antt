@@ -1,7 +1,7 @@
 -- The piece of a world's items that a step of a rewriting copies.
 use Rattle.std.specs.Prelude.{◌≡◌, ◌+◌, ℕ, List, [], ◌∷◌, ◌++◌, length, take, drop, Option, Some, None}
 use Rattle.std.specs.List.{AllByRecursion}
-use Rattle.world_data.specs.Records.{record_text}
+use Rattle.world_data.specs.Records.{record_writer}
 use Rattle.world_data.specs.declared.worlds.World.{World}
 use Rattle.journal.specs.declared.pieces.Piece.{Piece}
 use Rattle.log_record.specs.Batches.{records_text}
@@ -17,7 +17,7 @@ pub record TookFirst {A : Type 0} (item_of : A → Item) (left : List A) (old ne
   pub left_is : left ≡ first ∷ rest
   pub last_is : last ≡ last_of (item_of first)
   pub recorded : IsRecorded (change_of (item_of first))
-  pub records : new.records ≡ old.records ++ record_text (change_of (item_of first))
+  pub records : new.records ≡ old.records ++ record_writer (change_of (item_of first))
   pub items : new.items ≡ old.items + 1
 
 -- or none is left

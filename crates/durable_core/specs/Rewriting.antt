@@ -6,12 +6,12 @@ use Rattle.world_data.specs.declared.objects.Object.{Object}
 use Rattle.world_data.specs.declared.worlds.Change.{Change}
 use Rattle.world_data.specs.declared.worlds.Change.TheVariants.{Put, SetChan}
 use Rattle.world_data.specs.declared.worlds.World.{World}
-use Rattle.world_model.specs.declared.events.Called.{Called}
-use Rattle.world_model.specs.declared.events.Called.TheVariants as called
+use Rattle.world_model.specs.declared.events.CallOutcome.{CallOutcome}
+use Rattle.world_model.specs.declared.events.CallOutcome.TheVariants as called
 use Rattle.journal.specs.Openings.{AreWhole}
 use Rattle.log_record.specs.Copying.{IsPart}
-use Rattle.log_worlds.specs.Recorded.{record_fault, world_in}
-use Rattle.next_items.specs.Copies.{is_behind, is_behind_name}
+use Rattle.world_recovery.specs.Recorded.{record_fault, world_in}
+use Rattle.world_store.specs.Copies.{is_behind, is_behind_name}
 use Rattle.durable_core.specs.declared.rewritings.LastCopied.{LastCopied}
 use Rattle.durable_core.specs.declared.rewritings.LastCopied.TheVariants as last
 use Rattle.durable_core.specs.declared.rewritings.Rewriting.{Rewriting}
@@ -107,7 +107,7 @@ asked_for generation rewriting.Asked = rewriting.Asked
 asked_for generation (rewriting.Going last) = rewriting.Going last
 
 -- behind a call that asks for one, where it was done
-abbrev pub rewriting_after : Called → Bool → ℕ → Rewriting → Rewriting
+abbrev pub rewriting_after : CallOutcome → Bool → ℕ → Rewriting → Rewriting
 rewriting_after called.Ok asks generation r = if asks then asked_for generation r else r
 rewriting_after answer asks generation r = r
 

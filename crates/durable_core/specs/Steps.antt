@@ -1,8 +1,8 @@
 -- The next step of a rewriting.
 use Rattle.std.specs.Prelude.{◌≡◌, ◌≤◌, ◌+◌, ◌^◌, ℕ, List, [], ◌∷◌, length, Result, Ok, Err, ◌⊎◌, if◌then◌else◌}
 use Rattle.world_data.specs.declared.worlds.World.{World}
-use Rattle.world_model.specs.declared.events.Called.{Called}
-use Rattle.world_model.specs.declared.events.Called.TheVariants as called
+use Rattle.world_model.specs.declared.events.CallOutcome.{CallOutcome}
+use Rattle.world_model.specs.declared.events.CallOutcome.TheVariants as called
 use Rattle.durable_core.specs.Pieces.{IsNextPiece}
 use Rattle.durable_core.specs.Rewriting.{Item, items_left, is_ending, shown_by}
 use Rattle.durable_core.specs.declared.rewritings.LastCopied.{LastCopied}
@@ -40,9 +40,9 @@ abbrev pub next_generation : Rewriting → World → ℕ → ℕ
 next_generation r w generation = generation + (if is_ending (shown_by r w) then 1 else 0)
 
 -- a step ends with Ok, for want of memory, or where the disk failed, which alone is a failure of the log
-abbrev pub ended : Called → Result Unit Called
+abbrev pub ended : CallOutcome → Result Unit CallOutcome
 ended called.LogFault = Err called.LogFault
 ended answer = Ok tt
 
-abbrev pub IsEnded : Called → Type 0
+abbrev pub IsEnded : CallOutcome → Type 0
 IsEnded answer = (answer ≡ called.Ok) ⊎ ((answer ≡ called.Memory) ⊎ (answer ≡ called.LogFault))

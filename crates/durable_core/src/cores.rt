@@ -1,6 +1,7 @@
 //! The core over a disk and its calls.
 
-ghost use Rattle.std.specs.Prelude.{◌≡◌, ◌≢◌, ◌⊎◌, ◌≤◌, ◌<◌, ◌+◌, ◌*◌, true, false, [], if◌then◌else◌, length, Some, Decides};
+ghost use Rattle.std.specs.Prelude.{◌≡◌, ◌≢◌, ◌⊎◌, ◌≤◌, ◌<◌, ◌+◌, ◌*◌, true, false, [], if◌then◌else◌, length, Some};
+ghost use Rattle.std.specs.Prelude.{Decides};
 ghost use Rattle.outside.specs.Causes.{Rose};
 ghost use Rattle.outside.specs.Sides.{Sides};
 ghost use Rattle.world_data.specs.Limits.{max_moment, take_frames};
@@ -18,17 +19,17 @@ ghost use Rattle.durable_core.specs.Written.{IsMirrored, KeepsSided, Sided, much
 ghost use Rattle.durable_core.specs.Rewriting.{is_ending, next_shown, rewriting_after};
 ghost use Rattle.durable_core.specs.Words.{is_served_rewriting};
 ghost use Rattle.tile_core.specs.Answered.{MayCall, IsAnswered, AreSessions, StayNamed};
-ghost use Rattle.command_plans.specs.Kept.{most_kept};
+ghost use Rattle.object_plans.specs.Kept.{most_kept};
 
 use crate::rewritings::asks_rewriting;
 use crate::tails::Tail;
 use outside::{Disk, Failed};
 use std::alloc::Global;
 use tile_core::Core;
-use world_model::{Asked, Called, EnterFault, Frames, Taken, Touched};
+use world_model::{Asked, CallOutcome, ChangedSessions, EnterFault, Frames, Taken};
 
-/// A world and the sessions that are served, over a log on a disk. Where the disk fails, the hall stops: from then on each call says so
-/// and does nothing.
+/// A world and the sessions that are served, over a log on a disk. Where the disk fails, the hall stops: from then on
+/// each call says so and does nothing.
 #[derive(Drop)]
 pub struct DurableCore<D> {
     pub(crate) core: Core,
@@ -78,14 +79,15 @@ impl<D: Disk> DurableCore<D> {
         self.stopped
     }
 
-    /// Lets a session in and answers its number. It is refused where 512 sessions are present or 4,294,967,295 numbers were
-    /// drawn. For want of memory the core is as before.
+    /// Lets a session in and answers its number. It is refused where 512 sessions are present or 4,294,967,295 numbers
+    /// were drawn. For want of memory the core is as before.
     pub fn enter(&mut self) -> Result<u32, EnterFault>
         ensures step { Step (hall_of self.old) event.Enter (enter_outcome result) (hall_of self.new) }
         ensures logged { (hall_of self.new).logged ≡ (hall_of self.old).logged }
         ensures tail { self.new.tail ≡ self.old.tail }
         ensures log { (j : Log) → KeepsLogOf D.crashes D.seen D.images self.old j
-            → GoesOn D.crashes D.seen D.images D.moment D.left_since self.old self.new event.Enter (enter_outcome result) j }
+            → GoesOn D.crashes D.seen D.images D.moment D.left_since self.old self.new event.Enter
+            (enter_outcome result) j }
     {
         if self.is_stopped() {
             return Err(EnterFault::Stopped);
@@ -93,11 +95,13 @@ impl<D: Disk> DurableCore<D> {
         self.core.enter()
     }
 
-    /// Gives the first frames of a session, at most 64, into `into`; before it gives any, all that is pending is made to stand on the disk.
-    /// A session that is not served any more is removed by the first take that finds no frame. It takes no memory.
+    /// Gives the first frames of a session, at most 64, into `into`; before it gives any, all that is pending is made
+    /// to stand on the disk. A session that is not served any more is removed by the first take that finds no frame. It
+    /// takes no memory.
     pub fn take(&mut self, session: u32, into: &mut Frames) -> Taken
         requires { into.old ≡ record { list = []; places = take_frames } }
-        ensures step { Step (hall_of self.old) (event.Take session) (take_outcome result into.new.list) (hall_of self.new) }
+        ensures step { Step (hall_of self.old) (event.Take session) (take_outcome result into.new.list)
+            (hall_of self.new) }
         ensures count { given_count result ≡ length into.new.list }
         ensures places { into.new.places ≡ take_frames }
         ensures logged { (hall_of self.new).logged ≡ (hall_of self.old).logged }
@@ -106,9 +110,11 @@ impl<D: Disk> DurableCore<D> {
         ensures told { D.crashes (disk_of self.new) ≡ D.crashes (disk_of self.old) }
         ensures rewriting { self.new.tail.rewriting ≡ self.old.tail.rewriting }
         ensures generation { generation_of self.new ≡ generation_of self.old }
-        ensures written { (hall_of self.new).stopped ≡ false → IsMirrored D.crashes D.seen D.images self.old.tail.journal self.new.tail.journal }
+        ensures written { (hall_of self.new).stopped ≡ false
+            → IsMirrored D.crashes D.seen D.images self.old.tail.journal self.new.tail.journal }
         ensures log { (j : Log) → KeepsLogOf D.crashes D.seen D.images self.old j
-            → GoesOn D.crashes D.seen D.images D.moment D.left_since self.old self.new (event.Take session) (take_outcome result into.new.list) j }
+            → GoesOn D.crashes D.seen D.images D.moment D.left_since self.old self.new (event.Take session)
+            (take_outcome result into.new.list) j }
     {
         if self.is_stopped() {
             return Taken::Stopped;
@@ -133,43 +139,51 @@ impl<D: Disk> DurableCore<D> {
         asks_rewriting(asked) && !self.core.has_subscriptions(session)
     }
 
-    /// Makes a call of a session at a moment: the objects that are due then are deleted, what is asked is done, and its reply
-    /// is put last in the session's queue; each session that listens is told of what changed. A session whose queue has no room for what
-    /// comes for it is cut: it keeps the frames that it has, and is served no more. A broken protocol, as QUIT, lets the session end
-    /// behind the reply. The records of what changes are pending then; where much was pending before, that is made to stand first. For want
-    /// of memory the hall is as before. Each session that it changes is named in `touched`, beside those that are named there.
+    /// Makes a call of a session at a moment: the objects that are due then are deleted, what is asked is done, and its
+    /// reply is put last in the session's queue; each session that listens is told of what changed. A session whose
+    /// queue has no room for what comes for it is cut: it keeps the frames that it has, and is served no more. A broken
+    /// protocol, as QUIT, lets the session end behind the reply. The records of what changes are pending then; where
+    /// much was pending before, that is made to stand first. For want of memory the hall is as before. Each session
+    /// that it changes is named in `touched`, beside those that are named there.
     pub fn call(
         &mut self,
         session: u32,
         moment: u64,
         asked: &Asked,
-        touched: &mut Touched,
-    ) -> Called
+        touched: &mut ChangedSessions,
+    ) -> CallOutcome
         requires moment { moment ≤ max_moment }
         requires proper { is_proper asked.now ≡ true }
         requires room { AreSessions touched.old (hall_of self.old) }
-        ensures step { Step (hall_of self.old) (event.Call session moment asked.now) (outcome.Answered result) (hall_of self.new) }
+        ensures step { Step (hall_of self.old) (event.Call session moment asked.now) (outcome.Answered result)
+            (hall_of self.new) }
         ensures named { NamesChanged touched.new (hall_of self.old) (hall_of self.new) }
         ensures kept { StayNamed touched.old touched.new }
         ensures room { AreSessions touched.new (hall_of self.new) }
         ensures logged { (hall_of self.new).logged ≤ (hall_of self.old).logged + 2 * most_kept }
         ensures done { (hall_of self.old).stopped ≡ false → MayCall (hall_of self.old) session
-            → (result ≡ Called.Ok) ⊎ ((result ≡ Called.Memory) ⊎ (result ≡ Called.LogFault)) }
-        ensures answered { result ≡ Called.Ok → IsAnswered (hall_of self.old) (hall_of self.new) moment session asked.now }
-        ensures long { result ≡ Called.Ok → much ≤ length (pending self.old.tail.journal)
-            → pending self.new.tail.journal ≡ records_text (changes_of (writes_of (hall_of self.old) (event.Call session moment asked.now))) }
-        ensures cause { result ≡ Called.LogFault → Rose (D.faults (disk_of self.old)) (D.faults (disk_of self.new)) }
+            → (result ≡ CallOutcome.Ok) ⊎ ((result ≡ CallOutcome.Memory) ⊎ (result ≡ CallOutcome.LogFault)) }
+        ensures answered { result ≡ CallOutcome.Ok
+            → IsAnswered (hall_of self.old) (hall_of self.new) moment session asked.now }
+        ensures long { result ≡ CallOutcome.Ok → much ≤ length (pending self.old.tail.journal)
+            → pending self.new.tail.journal
+            ≡ records_text (changes_of (writes_of (hall_of self.old) (event.Call session moment asked.now))) }
+        ensures cause { result ≡ CallOutcome.LogFault
+            → Rose (D.faults (disk_of self.old)) (D.faults (disk_of self.new)) }
         ensures later { D.faults (disk_of self.old) ≤ D.faults (disk_of self.new) }
         ensures told { D.crashes (disk_of self.new) ≡ D.crashes (disk_of self.old) }
         ensures rewriting { self.new.tail.rewriting
-            ≡ rewriting_after result (is_served_rewriting (session_of (hall_of self.old) session) asked.now) (generation_of self.old) self.old.tail.rewriting }
+            ≡ rewriting_after result (is_served_rewriting (session_of (hall_of self.old) session) asked.now)
+            (generation_of self.old) self.old.tail.rewriting }
         ensures generation { generation_of self.new ≡ generation_of self.old }
-        ensures written { (hall_of self.new).stopped ≡ false → IsMirrored D.crashes D.seen D.images self.old.tail.journal self.new.tail.journal }
+        ensures written { (hall_of self.new).stopped ≡ false
+            → IsMirrored D.crashes D.seen D.images self.old.tail.journal self.new.tail.journal }
         ensures log { (j : Log) → KeepsLogOf D.crashes D.seen D.images self.old j
-            → GoesOn D.crashes D.seen D.images D.moment D.left_since self.old self.new (event.Call session moment asked.now) (outcome.Answered result) j }
+            → GoesOn D.crashes D.seen D.images D.moment D.left_since self.old self.new
+            (event.Call session moment asked.now) (outcome.Answered result) j }
     {
         if self.is_stopped() {
-            return Called::Stopped;
+            return CallOutcome::Stopped;
         }
         let rewrites = self.serves_rewriting(session, asked);
         match self.tail.commit_long(self.core.may_call(session)) {
@@ -182,15 +196,15 @@ impl<D: Disk> DurableCore<D> {
             }
             Err(Failed) => {
                 self.stopped = true;
-                Called::LogFault
+                CallOutcome::LogFault
             }
         }
     }
 
-    /// Lets the clock go on to a moment, and deletes the objects that are due then; each session that listens is told. The records of what
-    /// changes are pending then; where much was pending before, that is made to stand first. For want of memory the hall is as before. Each
-    /// session that it changes is named, beside those that are named there.
-    pub fn tick(&mut self, moment: u64, touched: &mut Touched) -> Called
+    /// Lets the clock go on to a moment, and deletes the objects that are due then; each session that listens is told.
+    /// The records of what changes are pending then; where much was pending before, that is made to stand first. For
+    /// want of memory the hall is as before. Each session that it changes is named, beside those that are named there.
+    pub fn tick(&mut self, moment: u64, touched: &mut ChangedSessions) -> CallOutcome
         requires moment { moment ≤ max_moment }
         requires room { AreSessions touched.old (hall_of self.old) }
         ensures step { Step (hall_of self.old) (event.Tick moment) (outcome.Answered result) (hall_of self.new) }
@@ -198,25 +212,29 @@ impl<D: Disk> DurableCore<D> {
         ensures kept { StayNamed touched.old touched.new }
         ensures room { AreSessions touched.new (hall_of self.new) }
         ensures logged { (hall_of self.new).logged ≤ (hall_of self.old).logged + most_kept }
-        ensures long { result ≡ Called.Ok → much ≤ length (pending self.old.tail.journal)
-            → pending self.new.tail.journal ≡ records_text (changes_of (writes_of (hall_of self.old) (event.Tick moment))) }
-        ensures cause { result ≡ Called.LogFault → Rose (D.faults (disk_of self.old)) (D.faults (disk_of self.new)) }
+        ensures long { result ≡ CallOutcome.Ok → much ≤ length (pending self.old.tail.journal)
+            → pending self.new.tail.journal
+            ≡ records_text (changes_of (writes_of (hall_of self.old) (event.Tick moment))) }
+        ensures cause { result ≡ CallOutcome.LogFault
+            → Rose (D.faults (disk_of self.old)) (D.faults (disk_of self.new)) }
         ensures later { D.faults (disk_of self.old) ≤ D.faults (disk_of self.new) }
         ensures told { D.crashes (disk_of self.new) ≡ D.crashes (disk_of self.old) }
         ensures rewriting { self.new.tail.rewriting ≡ self.old.tail.rewriting }
         ensures generation { generation_of self.new ≡ generation_of self.old }
-        ensures written { (hall_of self.new).stopped ≡ false → IsMirrored D.crashes D.seen D.images self.old.tail.journal self.new.tail.journal }
+        ensures written { (hall_of self.new).stopped ≡ false
+            → IsMirrored D.crashes D.seen D.images self.old.tail.journal self.new.tail.journal }
         ensures log { (j : Log) → KeepsLogOf D.crashes D.seen D.images self.old j
-            → GoesOn D.crashes D.seen D.images D.moment D.left_since self.old self.new (event.Tick moment) (outcome.Answered result) j }
+            → GoesOn D.crashes D.seen D.images D.moment D.left_since self.old self.new (event.Tick moment)
+            (outcome.Answered result) j }
     {
         if self.is_stopped() {
-            return Called::Stopped;
+            return CallOutcome::Stopped;
         }
         match self.tail.commit_long(!self.core.is_spent()) {
             Ok(()) => self.core.tick(moment, touched, &mut self.tail),
             Err(Failed) => {
                 self.stopped = true;
-                Called::LogFault
+                CallOutcome::LogFault
             }
         }
     }
@@ -227,7 +245,8 @@ impl<D: Disk> DurableCore<D> {
         ensures logged { (hall_of self.new).logged ≡ (hall_of self.old).logged }
         ensures tail { self.new.tail ≡ self.old.tail }
         ensures log { (j : Log) → KeepsLogOf D.crashes D.seen D.images self.old j
-            → GoesOn D.crashes D.seen D.images D.moment D.left_since self.old self.new (event.Close session) outcome.Done j }
+            → GoesOn D.crashes D.seen D.images D.moment D.left_since self.old self.new
+            (event.Close session) outcome.Done j }
     {
         if !self.is_stopped() {
             self.core.close_session(session);
@@ -240,71 +259,84 @@ impl<D: Disk> DurableCore<D> {
         ensures logged { (hall_of self.new).logged ≡ (hall_of self.old).logged }
         ensures tail { self.new.tail ≡ self.old.tail }
         ensures log { (j : Log) → KeepsLogOf D.crashes D.seen D.images self.old j
-            → GoesOn D.crashes D.seen D.images D.moment D.left_since self.old self.new (event.Remove session) outcome.Done j }
+            → GoesOn D.crashes D.seen D.images D.moment D.left_since self.old self.new
+            (event.Remove session) outcome.Done j }
     {
         if !self.is_stopped() {
             self.core.remove_session(session);
         }
     }
 
-    /// A step of rewriting: all that is pending is made to stand on the disk. Where a rewriting was asked for, a new side of the log is begun
-    /// then; where one goes on, the first items that are left are copied to it, at most 256, channels by name and then objects by key and id; and
-    /// where none is left, the new side takes the place of the other. For want of memory, or of room on the new side, the rewriting stays where
-    /// it is.
-    pub fn step_rewrite(&mut self) -> Called
+    /// A step of rewriting: all that is pending is made to stand on the disk. Where a rewriting was asked for, a new
+    /// side of the log is begun then; where one goes on, the first items that are left are copied to it, at most 256,
+    /// channels by name and then objects by key and id; and where none is left, the new side takes the place of the
+    /// other. For want of memory, or of room on the new side, the rewriting stays where it is.
+    pub fn step_rewrite(&mut self) -> CallOutcome
         ensures step { Step (hall_of self.old) event.Rewrite (outcome.Answered result) (hall_of self.new) }
         ensures logged { (hall_of self.new).logged ≡ (hall_of self.old).logged }
-        ensures shown { result ≡ Called.Ok → shown_of self.new ≡ next_shown (hall_of self.old).world (shown_of self.old) }
-        ensures generation { result ≡ Called.Ok → generation_of self.new ≡ generation_of self.old + (if is_ending (shown_of self.old) then 1 else 0) }
-        ensures written { (s : Sided) → KeepsSided D.crashes D.seen D.images self.old.tail.journal s → result ≡ Called.Ok
-            → KeepsSided D.crashes D.seen D.images self.new.tail.journal (sided_next self.old.tail.rewriting (hall_of self.old).world (sided_with (pending self.old.tail.journal) s)) }
-        ensures memory { result ≡ Called.Memory → (shown_of self.new ≡ shown_of self.old) × (generation_of self.new ≡ generation_of self.old) }
-        ensures cause { result ≡ Called.LogFault → Rose (D.faults (disk_of self.old)) (D.faults (disk_of self.new)) }
+        ensures shown { result ≡ CallOutcome.Ok
+            → shown_of self.new ≡ next_shown (hall_of self.old).world (shown_of self.old) }
+        ensures generation { result ≡ CallOutcome.Ok
+            → generation_of self.new ≡ generation_of self.old + (if is_ending (shown_of self.old) then 1 else 0) }
+        ensures written { (s : Sided) → KeepsSided D.crashes D.seen D.images self.old.tail.journal s
+            → result ≡ CallOutcome.Ok
+            → KeepsSided D.crashes D.seen D.images self.new.tail.journal
+            (sided_next self.old.tail.rewriting (hall_of self.old).world
+            (sided_with (pending self.old.tail.journal) s)) }
+        ensures memory { result ≡ CallOutcome.Memory
+            → (shown_of self.new ≡ shown_of self.old) × (generation_of self.new ≡ generation_of self.old) }
+        ensures cause { result ≡ CallOutcome.LogFault
+            → Rose (D.faults (disk_of self.old)) (D.faults (disk_of self.new)) }
         ensures later { D.faults (disk_of self.old) ≤ D.faults (disk_of self.new) }
         ensures told { D.crashes (disk_of self.new) ≡ D.crashes (disk_of self.old) }
         ensures log { (j : Log) → KeepsLogOf D.crashes D.seen D.images self.old j
-            → GoesOn D.crashes D.seen D.images D.moment D.left_since self.old self.new event.Rewrite (outcome.Answered result) j }
+            → GoesOn D.crashes D.seen D.images D.moment D.left_since self.old self.new event.Rewrite
+            (outcome.Answered result) j }
     {
         if self.is_stopped() {
-            return Called::Stopped;
+            return CallOutcome::Stopped;
         }
         match self.tail.step(self.alloc, &self.core) {
-            Called::LogFault => {
+            CallOutcome::LogFault => {
                 self.stopped = true;
-                Called::LogFault
+                CallOutcome::LogFault
             }
             called => called,
         }
     }
 
     /// Makes all that is pending stand on the disk, and stops the hall. It is Stopped where the hall had stopped.
-    pub fn retire(&mut self) -> Called
+    pub fn retire(&mut self) -> CallOutcome
         ensures step { Step (hall_of self.old) event.Retire (outcome.Answered result) (hall_of self.new) }
         ensures stopped { (hall_of self.new).stopped ≡ true }
         ensures world { (hall_of self.new).world ≡ (hall_of self.old).world }
-        ensures cause { result ≡ Called.LogFault → Rose (D.faults (disk_of self.old)) (D.faults (disk_of self.new)) }
+        ensures cause { result ≡ CallOutcome.LogFault
+            → Rose (D.faults (disk_of self.old)) (D.faults (disk_of self.new)) }
         ensures later { D.faults (disk_of self.old) ≤ D.faults (disk_of self.new) }
         ensures told { D.crashes (disk_of self.new) ≡ D.crashes (disk_of self.old) }
         ensures rewriting { self.new.tail.rewriting ≡ self.old.tail.rewriting }
         ensures generation { generation_of self.new ≡ generation_of self.old }
-        ensures written { result ≡ Called.Ok → IsMirrored D.crashes D.seen D.images self.old.tail.journal self.new.tail.journal }
+        ensures written { result ≡ CallOutcome.Ok
+            → IsMirrored D.crashes D.seen D.images self.old.tail.journal self.new.tail.journal }
         ensures log { (j : Log) → KeepsLogOf D.crashes D.seen D.images self.old j
-            → GoesOn D.crashes D.seen D.images D.moment D.left_since self.old self.new event.Retire (outcome.Answered result) j }
-        ensures left { (j : Log) → KeepsLogOf D.crashes D.seen D.images self.old j → result ≡ Called.Ok
+            → GoesOn D.crashes D.seen D.images D.moment D.left_since self.old self.new event.Retire
+            (outcome.Answered result) j }
+        ensures left { (j : Log) → KeepsLogOf D.crashes D.seen D.images self.old j → result ≡ CallOutcome.Ok
             → (s : Sides) × (D.seen (disk_of self.new) ≡ Some s) × Recovers s (hall_of self.new).world }
     {
         if self.is_stopped() {
-            return Called::Stopped;
+            return CallOutcome::Stopped;
         }
         // Whether the disk fails or not, no call is made behind this one.
         self.stopped = true;
         match self.tail.commit() {
-            Ok(()) => Called::Ok,
-            Err(Failed) => Called::LogFault,
+            Ok(()) => CallOutcome::Ok,
+            Err(Failed) => CallOutcome::LogFault,
         }
     }
 
-    /// Gives the disk back. What is pending is forgotten, of which there is nothing behind a retirement that was answered Ok.
+    /// Gives the disk back. What is pending is forgotten, of which there is nothing behind a retirement that was
+    /// answered Ok.
     pub fn into_disk(self) -> D
         ensures { result ≡ disk_of self }
     {

@@ -11,7 +11,7 @@ ghost use Rattle.journal.specs.Journals.{Keeps};
 ghost use Rattle.journal.specs.Openings.{IsLeftByOpening, opened_len};
 ghost use Rattle.journal.specs.declared.openings.OpenFault.TheVariants as fault_of;
 ghost use Rattle.log_record.specs.Readings.{Damaged};
-ghost use Rattle.world_opening.specs.Opened.{IsOpened};
+ghost use Rattle.world_recovery.specs.Opened.{IsOpened};
 ghost use Rattle.durable_core.specs.Kept.{settled_log};
 ghost use Rattle.durable_core.specs.Logged.{IsLogOf, disk_of, hall_of};
 ghost use Rattle.durable_core.specs.declared.rewritings.Rewriting.TheVariants as rewriting;
@@ -24,16 +24,18 @@ use journal::{OpenFault, Unopened};
 use outside::Disk;
 use std::alloc::Global;
 use tile_core::Core;
-use world_opening::{OpenedWorld, open_world};
+use world_recovery::{OpenedWorld, open_world};
 
 impl<D: Disk> DurableCore<D> {
-    /// A core over the world of a disk, without sessions, at moment 0: both sides of the disk are synced, and the records of the side in use
-    /// are folded. On a fresh disk a log is begun, and the world is empty. Damaged comes only where the sides are damaged, with their first
-    /// cause and its place. Else the disk is handed back for want of memory, or where it failed.
+    /// A core over the world of a disk, without sessions, at moment 0: both sides of the disk are synced, and the
+    /// records of the side in use are folded. On a fresh disk a log is begun, and the world is empty. Damaged comes
+    /// only where the sides are damaged, with their first cause and its place. Else the disk is handed back for want of
+    /// memory, or where it failed.
     pub fn open(alloc: Global, disk: D) -> Result<DurableCore<D>, Unopened<D>>
         ensures hall { IfOk result (λ c. hall_of c ≡ opening_hall (hall_of c).world (hall_of c).logged) }
         ensures sound { IfOk result (λ c. IsSoundWorld (hall_of c).world) }
-        ensures opened { IfOk result (λ c. IsOpened D.crashes D.seen D.moment D.left_since disk (disk_of c) (hall_of c).world
+        ensures opened { IfOk result
+            (λ c. IsOpened D.crashes D.seen D.moment D.left_since disk (disk_of c) (hall_of c).world
             (λ batches. Keeps D.crashes D.seen D.images c.tail.journal batches [])) }
         ensures log { (s : Sides) → D.seen disk ≡ Some s
             → IfOk result (λ c. IsLogOf D.crashes D.seen D.images c (settled_log (hall_of c).world)) }
@@ -43,8 +45,10 @@ impl<D: Disk> DurableCore<D> {
         ensures len { (s : Sides) → D.seen disk ≡ Some s → IfOk result (λ c. (hall_of c).logged ≡ opened_len s) }
         ensures short { IfOk result (λ c. (hall_of c).logged ≤ 2 ^ 62) }
         ensures damaged { (s : Sides) → D.seen disk ≡ Some s
-            → IfErr result (λ u. (side : Side) (place : ℕ) → u.why ≡ fault_of.Damaged side place → Damaged s side place) }
-        ensures whole { (s : Sides) → D.seen disk ≡ Some s → IfOk result (λ _. (side : Side) (place : ℕ) → Damaged s side place → ⊥) }
+            → IfErr result
+            (λ u. (side : Side) (place : ℕ) → u.why ≡ fault_of.Damaged side place → Damaged s side place) }
+        ensures whole { (s : Sides) → D.seen disk ≡ Some s
+            → IfOk result (λ _. (side : Side) (place : ℕ) → Damaged s side place → ⊥) }
         ensures leaves { (s : Sides) → D.seen disk ≡ Some s → D.crashes disk ≡ true
             → LeavesOnly D.moment D.left_since disk (left_disk result) (IsLeftByOpening (D.images disk) s) }
         ensures same { (s : Sides) → D.seen disk ≡ Some s → IfErr result (λ u. IsHandedBack (D.seen u.disk) s u.why) }

@@ -2,7 +2,7 @@
 
 ghost use Rattle.std.specs.Prelude.{◌≡◌, ◌<◌, ◌++◌, true, filter, map, IfOk};
 ghost use Rattle.world_data.specs.Worlds.{is_sorted_world};
-ghost use Rattle.next_items.specs.Copies.{is_next_channel, is_next_object, name_in, place_in};
+ghost use Rattle.world_store.specs.Copies.{is_next_channel, is_next_object, name_in, place_in};
 ghost use Rattle.durable_core.specs.Pieces.{IsNextPiece, Took};
 ghost use Rattle.durable_core.specs.Rewriting.{Item, items_left, last_of, of_channel, of_object};
 
@@ -38,7 +38,9 @@ fn copy_channel(
     piece: &mut Piece,
 ) -> Result<Option<LastCopied>, NoMemory>
     requires { piece.old.items < 256 }
-    ensures took { IfOk result (Took of_channel (filter (is_next_channel (name_in after.entry)) core.now.hall.world.channels) piece.old piece.new) }
+    ensures took { IfOk result
+        (Took of_channel
+        (filter (is_next_channel (name_in after.entry)) core.now.hall.world.channels) piece.old piece.new) }
     ensures sorted { is_sorted_world core.now.hall.world ≡ true }
 {
     let Some(channel) = core.next_channel(after) else {
@@ -51,7 +53,8 @@ fn copy_channel(
     Ok(Some(last))
 }
 
-// Puts the record of the first object behind a key and an id last into the piece; of the first of all where none are given.
+// Puts the record of the first object behind a key and an id last into the piece; of the first of all where none are
+// given.
 fn copy_object(
     alloc: Global,
     core: &Core,
@@ -59,7 +62,9 @@ fn copy_object(
     piece: &mut Piece,
 ) -> Result<Option<LastCopied>, NoMemory>
     requires { piece.old.items < 256 }
-    ensures took { IfOk result (Took of_object (filter (is_next_object (place_in after.entry)) core.now.hall.world.objects) piece.old piece.new) }
+    ensures took { IfOk result
+        (Took of_object
+        (filter (is_next_object (place_in after.entry)) core.now.hall.world.objects) piece.old piece.new) }
     ensures sorted { is_sorted_world core.now.hall.world ≡ true }
 {
     let Some(object) = core.next_object(after) else {
@@ -72,7 +77,8 @@ fn copy_object(
     Ok(Some(last))
 }
 
-// Puts the record of the first channel behind a name last into the piece, or, where there is none, that of the first object.
+// Puts the record of the first channel behind a name last into the piece, or, where there is none, that of the first
+// object.
 fn copy_behind(
     alloc: Global,
     core: &Core,
@@ -80,7 +86,9 @@ fn copy_behind(
     piece: &mut Piece,
 ) -> Result<Option<LastCopied>, NoMemory>
     requires { piece.old.items < 256 }
-    ensures took { IfOk result (Took (λ (item : Item). item) (map of_channel (filter (is_next_channel (name_in after.entry)) core.now.hall.world.channels)
+    ensures took { IfOk result
+        (Took (λ (item : Item). item)
+        (map of_channel (filter (is_next_channel (name_in after.entry)) core.now.hall.world.channels)
         ++ map of_object (filter (λ o. true) core.now.hall.world.objects)) piece.old piece.new) }
     ensures sorted { is_sorted_world core.now.hall.world ≡ true }
 {
@@ -98,7 +106,8 @@ fn copy_next(
     piece: &mut Piece,
 ) -> Result<Option<LastCopied>, NoMemory>
     requires { piece.old.items < 256 }
-    ensures took { IfOk result (Took (λ (item : Item). item) (items_left last.now core.now.hall.world) piece.old piece.new) }
+    ensures took { IfOk result
+        (Took (λ (item : Item). item) (items_left last.now core.now.hall.world) piece.old piece.new) }
     ensures sorted { is_sorted_world core.now.hall.world ≡ true }
 {
     match last {

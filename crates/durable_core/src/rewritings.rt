@@ -1,4 +1,7 @@
 //! How far a log is rewritten.
+//!
+//! How far a rewriting came is the item that was copied last, not a list of those left: what is put behind it is copied
+//! later, what is put in front of it is mirrored, and what is taken out is taken out on both sides.
 
 ghost use Rattle.std.specs.Prelude.{◌≡◌};
 ghost use Rattle.durable_core.specs.Words.{are_shrink, asks_rewriting};

@@ -23,7 +23,7 @@ use byte_text::NoMemory;
 use outside::{Disk, Failed};
 use std::alloc::Global;
 use tile_core::Core;
-use world_model::Called;
+use world_model::CallOutcome;
 
 /// What a rewriting does next.
 #[derive(Drop)]
@@ -52,7 +52,8 @@ impl<D: Disk> Tail<D> {
         ensures failed { OnErr result (self.new.journal.failed ≡ true) }
         ensures cause { HasCause (D.faults self.old.journal.disk) (D.faults self.new.journal.disk) result }
         ensures written { (s : Sided) → KeepsSided D.crashes D.seen D.images self.old.journal s
-            → OnOk result (KeepsSided D.crashes D.seen D.images self.new.journal (record { batches = s.batches; copied = [] })) }
+            → OnOk result
+            (KeepsSided D.crashes D.seen D.images self.new.journal (record { batches = s.batches; copied = [] })) }
         ensures told { D.crashes self.new.journal.disk ≡ D.crashes self.old.journal.disk }
     {
         match self.journal.begin() {
@@ -70,15 +71,19 @@ impl<D: Disk> Tail<D> {
         requires committed { pending self.old.journal ≡ [] }
         requires going { (from : LastCopied) × (self.old.rewriting ≡ rewriting.Going from) }
         requires room { new_gate self.old.journal.rewriter + length next.piece.records + 10 ≤ 2 ^ 62 }
-        ensures log { (from : LastCopied) (j : log.Journal) → self.old.rewriting ≡ rewriting.Going from → IsNextPiece from j.committed next
-            → IsKeptBy D.crashes D.seen D.images self.old j → LeadsTo D.crashes D.seen D.images D.moment D.left_since self.old self.new result j j }
+        ensures log { (from : LastCopied) (j : log.Journal) → self.old.rewriting ≡ rewriting.Going from
+            → IsNextPiece from j.committed next
+            → IsKeptBy D.crashes D.seen D.images self.old j
+            → LeadsTo D.crashes D.seen D.images D.moment D.left_since self.old self.new result j j }
         ensures rewriting { OnOk result (self.new.rewriting ≡ rewriting.Going next.last) }
         ensures generation { self.new.journal.log.generation ≡ self.old.journal.log.generation }
         ensures works { OnOk result (self.new.journal.failed ≡ false) }
         ensures failed { OnErr result (self.new.journal.failed ≡ true) }
         ensures cause { HasCause (D.faults self.old.journal.disk) (D.faults self.new.journal.disk) result }
         ensures written { (s : Sided) → KeepsSided D.crashes D.seen D.images self.old.journal s
-            → OnOk result (KeepsSided D.crashes D.seen D.images self.new.journal (record { batches = s.batches; copied = committed s.copied next.piece.records })) }
+            → OnOk result
+            (KeepsSided D.crashes D.seen D.images self.new.journal
+            (record { batches = s.batches; copied = committed s.copied next.piece.records })) }
         ensures told { D.crashes self.new.journal.disk ≡ D.crashes self.old.journal.disk }
     {
         match self.journal.copy(&next.piece) {
@@ -95,15 +100,18 @@ impl<D: Disk> Tail<D> {
         requires works { self.old.journal.failed ≡ false }
         requires committed { pending self.old.journal ≡ [] }
         requires going { (last : LastCopied) × (self.old.rewriting ≡ rewriting.Going last) }
-        ensures log { (last : LastCopied) (j : log.Journal) → self.old.rewriting ≡ rewriting.Going last → items_left last j.committed ≡ []
-            → IsKeptBy D.crashes D.seen D.images self.old j → LeadsTo D.crashes D.seen D.images D.moment D.left_since self.old self.new result j j }
+        ensures log { (last : LastCopied) (j : log.Journal) → self.old.rewriting ≡ rewriting.Going last
+            → items_left last j.committed ≡ []
+            → IsKeptBy D.crashes D.seen D.images self.old j
+            → LeadsTo D.crashes D.seen D.images D.moment D.left_since self.old self.new result j j }
         ensures rewriting { OnOk result (self.new.rewriting ≡ rewriting.Idle) }
         ensures generation { OnOk result (self.new.journal.log.generation ≡ self.old.journal.log.generation + 1) }
         ensures works { OnOk result (self.new.journal.failed ≡ false) }
         ensures failed { OnErr result (self.new.journal.failed ≡ true) }
         ensures cause { HasCause (D.faults self.old.journal.disk) (D.faults self.new.journal.disk) result }
         ensures written { (s : Sided) → KeepsSided D.crashes D.seen D.images self.old.journal s
-            → OnOk result (KeepsSided D.crashes D.seen D.images self.new.journal (record { batches = s.copied; copied = [] })) }
+            → OnOk result
+            (KeepsSided D.crashes D.seen D.images self.new.journal (record { batches = s.copied; copied = [] })) }
         ensures told { D.crashes self.new.journal.disk ≡ D.crashes self.old.journal.disk }
     {
         match self.journal.finish() {
@@ -115,7 +123,8 @@ impl<D: Disk> Tail<D> {
         }
     }
 
-    // What a rewriting does next over a world with nothing pending. Where the new side has no room for a piece, there is no memory for it.
+    // What a rewriting does next over a world with nothing pending. Where the new side has no room for a piece, there
+    // is no memory for it.
     fn next_step(&self, alloc: Global, core: &Core) -> Result<RewriteStep, NoMemory>
         ensures { IfOk result (IsNextStep self.now.rewriting (new_gate self.now.journal.rewriter) core.now.hall.world) }
     {
@@ -140,16 +149,20 @@ impl<D: Disk> Tail<D> {
         requires works { self.old.journal.failed ≡ false }
         requires committed { pending self.old.journal ≡ [] }
         requires next { (w : World) × IsNextStep self.old.rewriting (new_gate self.old.journal.rewriter) w step }
-        ensures log { (j : log.Journal) → IsKeptBy D.crashes D.seen D.images self.old j → IsNextStep self.old.rewriting (new_gate self.old.journal.rewriter) j.committed step
+        ensures log { (j : log.Journal) → IsKeptBy D.crashes D.seen D.images self.old j
+            → IsNextStep self.old.rewriting (new_gate self.old.journal.rewriter) j.committed step
             → LeadsTo D.crashes D.seen D.images D.moment D.left_since self.old self.new result j j }
         ensures shown { (w : World) → IsNextStep self.old.rewriting (new_gate self.old.journal.rewriter) w step
             → OnOk result (shown_by self.new.rewriting w ≡ next_shown w (shown_by self.old.rewriting w)) }
         ensures generation { (w : World) → IsNextStep self.old.rewriting (new_gate self.old.journal.rewriter) w step
-            → OnOk result (self.new.journal.log.generation ≡ next_generation self.old.rewriting w self.old.journal.log.generation) }
+            → OnOk result
+            (self.new.journal.log.generation ≡ next_generation self.old.rewriting w self.old.journal.log.generation) }
         ensures works { OnOk result (self.new.journal.failed ≡ false) }
         ensures failed { OnErr result (self.new.journal.failed ≡ true) }
         ensures cause { HasCause (D.faults self.old.journal.disk) (D.faults self.new.journal.disk) result }
-        ensures written { (w : World) (s : Sided) → IsNextStep self.old.rewriting (new_gate self.old.journal.rewriter) w step → KeepsSided D.crashes D.seen D.images self.old.journal s
+        ensures written { (w : World) (s : Sided)
+            → IsNextStep self.old.rewriting (new_gate self.old.journal.rewriter) w step
+            → KeepsSided D.crashes D.seen D.images self.old.journal s
             → OnOk result (KeepsSided D.crashes D.seen D.images self.new.journal (sided_next self.old.rewriting w s)) }
         ensures told { D.crashes self.new.journal.disk ≡ D.crashes self.old.journal.disk }
     {
@@ -161,34 +174,44 @@ impl<D: Disk> Tail<D> {
         }
     }
 
-    /// Makes all that is pending stand, and goes one step on with a rewriting of the core's world. For want of memory the rewriting is as
-    /// before.
-    pub(crate) fn step(&mut self, alloc: Global, core: &Core) -> Called
+    /// Makes all that is pending stand, and goes one step on with a rewriting of the core's world. For want of memory
+    /// the rewriting is as before.
+    pub(crate) fn step(&mut self, alloc: Global, core: &Core) -> CallOutcome
         requires { self.old.journal.failed ≡ false }
-        ensures log { (j : log.Journal) → IsKeptBy D.crashes D.seen D.images self.old j → core.now.hall.world ≡ log.whole j
-            → LeadsTo D.crashes D.seen D.images D.moment D.left_since self.old self.new (ended result) j (log.settled j) }
-        ensures shown { result ≡ Called.Ok → shown_by self.new.rewriting core.now.hall.world ≡ next_shown core.now.hall.world (shown_by self.old.rewriting core.now.hall.world) }
-        ensures generation { result ≡ Called.Ok
-            → self.new.journal.log.generation ≡ next_generation self.old.rewriting core.now.hall.world self.old.journal.log.generation }
-        ensures memory { result ≡ Called.Memory → (self.new.rewriting ≡ self.old.rewriting) × (self.new.journal.log.generation ≡ self.old.journal.log.generation) }
+        ensures log { (j : log.Journal) → IsKeptBy D.crashes D.seen D.images self.old j
+            → core.now.hall.world ≡ log.whole j
+            → LeadsTo D.crashes D.seen D.images D.moment D.left_since self.old self.new (ended result) j
+            (log.settled j) }
+        ensures shown { result ≡ CallOutcome.Ok
+            → shown_by self.new.rewriting core.now.hall.world
+            ≡ next_shown core.now.hall.world (shown_by self.old.rewriting core.now.hall.world) }
+        ensures generation { result ≡ CallOutcome.Ok
+            → self.new.journal.log.generation
+            ≡ next_generation self.old.rewriting core.now.hall.world self.old.journal.log.generation }
+        ensures memory { result ≡ CallOutcome.Memory
+            → (self.new.rewriting ≡ self.old.rewriting)
+            × (self.new.journal.log.generation ≡ self.old.journal.log.generation) }
         ensures ended { IsEnded result }
-        ensures works { result ≢ Called.LogFault → self.new.journal.failed ≡ false }
-        ensures cause { result ≡ Called.LogFault → Rose (D.faults self.old.journal.disk) (D.faults self.new.journal.disk) }
+        ensures works { result ≢ CallOutcome.LogFault → self.new.journal.failed ≡ false }
+        ensures cause { result ≡ CallOutcome.LogFault
+            → Rose (D.faults self.old.journal.disk) (D.faults self.new.journal.disk) }
         ensures later { D.faults self.old.journal.disk ≤ D.faults self.new.journal.disk }
-        ensures written { (s : Sided) → KeepsSided D.crashes D.seen D.images self.old.journal s → result ≡ Called.Ok
-            → KeepsSided D.crashes D.seen D.images self.new.journal (sided_next self.old.rewriting core.now.hall.world (sided_with (pending self.old.journal) s)) }
+        ensures written { (s : Sided) → KeepsSided D.crashes D.seen D.images self.old.journal s
+            → result ≡ CallOutcome.Ok
+            → KeepsSided D.crashes D.seen D.images self.new.journal
+            (sided_next self.old.rewriting core.now.hall.world (sided_with (pending self.old.journal) s)) }
         ensures told { D.crashes self.new.journal.disk ≡ D.crashes self.old.journal.disk }
     {
         match self.commit() {
             Ok(()) => {}
-            Err(Failed) => return Called::LogFault,
+            Err(Failed) => return CallOutcome::LogFault,
         }
         let Ok(step) = self.next_step(alloc, core) else {
-            return Called::Memory;
+            return CallOutcome::Memory;
         };
         match self.make(step) {
-            Ok(()) => Called::Ok,
-            Err(Failed) => Called::LogFault,
+            Ok(()) => CallOutcome::Ok,
+            Err(Failed) => CallOutcome::LogFault,
         }
     }
 }

@@ -1,4 +1,8 @@
 //! The journal as the ledger of a core: what the core writes is pending in it.
+//!
+//! A call or tick commits first where 4,194,304 bytes or more are pending, so that a batch is bounded by that and the
+//! records of one turn. Else nothing is committed before a take that gives frames, a step of rewriting, or the end: one
+//! commit serves all whose takes wait with it.
 
 ghost use Rattle.std.specs.Prelude.{◌≡◌, ◌≤◌, ◌<◌, ◌^◌, ◌++◌, ℕ, Bool, true, false, [], is_some, length, OnOk, OnErr};
 ghost use Rattle.byte_text.specs.Names.{Bytes};
@@ -12,8 +16,8 @@ use crate::rewritings::Rewriting;
 use byte_text::NoMemory;
 use journal::Journal;
 use outside::{Disk, Failed};
-use tile_core::Ledger;
-use world_model::Called;
+use tile_core::RecordSink;
+use world_model::CallOutcome;
 
 /// Where so many bytes are pending, the next call or tick commits them first.
 pub const PENDING: u64 = 4_194_304;
@@ -31,7 +35,7 @@ pub(crate) struct Tail<D> {
     ghost early: { is_asked rewriting ≡ true → journal.log.generation < 2 ^ 63 },
 }
 
-impl<D: Disk> Ledger for Tail<D> {
+impl<D: Disk> RecordSink for Tail<D> {
     ghost use Rattle.durable_core.specs.Kept.{HasPending};
 
     ghost takes = { λ old records new. HasPending D.crashes D.seen D.images old new (pending old.journal ++ records) };
@@ -56,7 +60,8 @@ impl<D: Disk> Tail<D> {
         ensures log { (j : log.Journal) → IsKeptBy D.crashes D.seen D.images self.old j
             → LeadsTo D.crashes D.seen D.images D.moment D.left_since self.old self.new result j (log.settled j) }
         ensures written { (s : Sided) → KeepsSided D.crashes D.seen D.images self.old.journal s
-            → OnOk result (KeepsSided D.crashes D.seen D.images self.new.journal (sided_with (pending self.old.journal) s)) }
+            → OnOk result
+            (KeepsSided D.crashes D.seen D.images self.new.journal (sided_with (pending self.old.journal) s)) }
         ensures pending { OnOk result (pending self.new.journal ≡ []) }
         ensures works { OnOk result (self.new.journal.failed ≡ false) }
         ensures failed { OnErr result (self.new.journal.failed ≡ true) }
@@ -77,7 +82,8 @@ impl<D: Disk> Tail<D> {
         ensures log { (j : log.Journal) → IsKeptBy D.crashes D.seen D.images self.old j
             → (k : log.Journal) × LeadsTo D.crashes D.seen D.images D.moment D.left_since self.old self.new result j k }
         ensures written { OnOk result (IsMirrored D.crashes D.seen D.images self.old.journal self.new.journal) }
-        ensures long { may ≡ true → much ≤ length (pending self.old.journal) → OnOk result (pending self.new.journal ≡ []) }
+        ensures long { may ≡ true → much ≤ length (pending self.old.journal)
+            → OnOk result (pending self.new.journal ≡ []) }
         ensures may { OnErr result (may ≡ true) }
         ensures works { OnOk result (self.new.journal.failed ≡ false) }
         ensures failed { OnErr result (self.new.journal.failed ≡ true) }
@@ -109,12 +115,13 @@ impl<D: Disk> Tail<D> {
     }
 
     /// Notes how a call ended: one that was done and asked for a rewriting begins it with the next step.
-    pub(crate) fn note(&mut self, called: Called, asks: bool)
+    pub(crate) fn note(&mut self, called: CallOutcome, asks: bool)
         ensures journal { self.new.journal ≡ self.old.journal }
-        ensures rewriting { self.new.rewriting ≡ rewriting_after called asks self.old.journal.log.generation self.old.rewriting }
+        ensures rewriting { self.new.rewriting
+            ≡ rewriting_after called asks self.old.journal.log.generation self.old.rewriting }
     {
         match called {
-            Called::Ok => {
+            CallOutcome::Ok => {
                 if asks {
                     self.ask();
                 }

@@ -4,7 +4,7 @@ use Rattle.std.specs.Prelude.{Option, Some, None}
 use Rattle.std.specs.List.{sum_by, Contains}
 use Rattle.planar_geom.specs.Points.{Bounds}
 use Rattle.rtree.specs.Pairs.{Pair, pair, IsWith, IsTaken}
-use Rattle.tree_pairs.specs.OnePair.{stands, more_taken}
+use Rattle.rtree.specs.OnePair.{stands, more_taken}
 use Rattle.fence_index.specs.Held.{weight_of}
 
 -- what the tree's calls say, as sums

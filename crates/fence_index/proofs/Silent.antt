@@ -17,7 +17,7 @@ use Rattle.world_data.specs.declared.channels.Kind.{Kind}
 use Rattle.world_data.specs.declared.channels.Kind.TheVariants.{Within, Intersects, Near}
 use Rattle.world_data.specs.declared.channels.Wanted.{Wanted}
 use Rattle.world_data.specs.declared.channels.Watch.{Watch}
-use Rattle.world_data.specs.declared.channels.Watch.TheVariants.{Spot, Roam}
+use Rattle.world_data.specs.declared.channels.Watch.TheVariants.{Zone, Roam}
 use Rattle.world_data.specs.declared.objects.Object.{Object}
 use Rattle.world_data.specs.declared.worlds.World.{World}
 use Rattle.world_data.specs.declared.worlds.Change.TheVariants.{Put, Del}
@@ -45,7 +45,7 @@ apart : (x y z : Bool) → ((true && (x || y)) || z) ≡ false → Apart x y z
 apart x y z e = record { still = grind arith; inward = grind arith; away = grind arith }
 
 stands_still : (watch : Watch) → is_none (watched_box watch) ≡ false → roams_over watch ≡ None
-stands_still (Spot kind a) e = refl
+stands_still (Zone kind a) e = refl
 stands_still (Roam key pattern meters nodwell) e = absurd (true≢false e)
 
 -- detections where the object was not in, is not in, and does not cross
@@ -73,7 +73,7 @@ module _ (near : MetIsNear) where
   watched_off : (watch : Watch) (o : Object) (b : Bounds) → IsWholeWatch watch → IsWholeShape o.shape → ((d : Bounds) → boxes_meet (box_of o.shape) d ≡ true → boxes_meet b d ≡ true)
       → both_meet (Some b) (watched_box watch) ≡ false → in_watch watch o ≡ false
   watched_off (Roam key pattern meters nodwell) o b w s wider off = refl
-  watched_off (Spot kind a) o b w s wider off = by_test (meets_area kind a o.shape) refl
+  watched_off (Zone kind a) o b w s wider off = by_test (meets_area kind a o.shape) refl
     where
       by_test : (t : Bool) → meets_area kind a o.shape ≡ t → meets_area kind a o.shape ≡ false
       by_test true e = absurd (true≢false (sym (wider (area_box a) (in_area kind a o.shape s w e)) ∙ off))
@@ -82,9 +82,9 @@ module _ (near : MetIsNear) where
   way_off : (watch : Watch) (old new : Object) → IsWholeWatch watch → IsWholeShape old.shape → IsWholeShape new.shape
       → both_meet (Some (box_round_both (box_of old.shape) (box_of new.shape))) (watched_box watch) ≡ false → crosses_watch watch old new ≡ false
   way_off (Roam key pattern meters nodwell) old new w s t off = refl
-  way_off (Spot kind a) old new w s t off = by_test (crosses_watch (Spot kind a) old new) refl
+  way_off (Zone kind a) old new w s t off = by_test (crosses_watch (Zone kind a) old new) refl
     where
-      by_test : (b : Bool) → crosses_watch (Spot kind a) old new ≡ b → crosses_watch (Spot kind a) old new ≡ false
+      by_test : (b : Bool) → crosses_watch (Zone kind a) old new ≡ b → crosses_watch (Zone kind a) old new ≡ false
       by_test true e = absurd (true≢false (sym (near.way (box_of old.shape) (box_of new.shape) a s.is_box t.is_box w e) ∙ off))
       by_test false e = e
 

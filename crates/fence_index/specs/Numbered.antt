@@ -21,7 +21,8 @@ weight_if r key w n (Some m) = weight_on r key w m n
 
 -- the boxes are those of the channels of these numbers, each under its number: whatever is summed over both is the same
 abbrev pub AreBoxed : (ℕ → Option Mark) → List ℕ → List KeyBoxes → Type 0
-AreBoxed marks numbers boxes = (r : Reason) (key : Bytes) (w : Pair → ℕ) → weight_in r key w boxes ≡ sum_by (λ n. weight_if r key w n (marks n)) numbers
+AreBoxed marks numbers boxes = (r : Reason) (key : Bytes) (w : Pair → ℕ)
+    → weight_in r key w boxes ≡ sum_by (λ n. weight_if r key w n (marks n)) numbers
 
 -- this channel can be put without taking memory, where there is room for so many keys more
 pub record IsReadyFor (boxes : List KeyBoxes) (spare : ℕ) (m : Mark) (fresh : KeyBoxes) : Type 0 where

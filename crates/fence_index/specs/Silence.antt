@@ -6,7 +6,7 @@ use Rattle.planar_geom.specs.Nearness.{IsWholeShape}
 use Rattle.world_data.specs.Worlds.{object_at}
 use Rattle.world_data.specs.declared.channels.Channel.{Channel}
 use Rattle.world_data.specs.declared.channels.Watch.{Watch}
-use Rattle.world_data.specs.declared.channels.Watch.TheVariants.{Spot, Roam}
+use Rattle.world_data.specs.declared.channels.Watch.TheVariants.{Zone, Roam}
 use Rattle.world_data.specs.declared.objects.Object.{Object}
 use Rattle.world_data.specs.declared.worlds.World.{World}
 use Rattle.world_data.specs.declared.worlds.Change.TheVariants.{Put, Del}
@@ -15,7 +15,7 @@ use Rattle.fence_index.specs.Marks.{mark_of}
 use Rattle.fence_index.specs.Candidates.{box_if, is_concerned}
 
 abbrev pub IsWholeWatch : Watch → Type 0
-IsWholeWatch (Spot kind a) = IsArea a
+IsWholeWatch (Zone kind a) = IsArea a
 IsWholeWatch (Roam key pattern meters nodwell) = Unit {0}
 
 -- where there is an object, its shape is whole

@@ -1,4 +1,9 @@
 //! The index: the boxes of channels by key, each under a number that leads to its channel.
+//!
+//! Boxes alone decide. A channel that roams or wants `outside` is named for every put of its key; a deletion names
+//! those whose area's box meets the object's box. What is not named raises nothing, which is a law of its own. One
+//! channel is prepared at a time, and a preparation that is not used gives way to the next, so a call that fails after
+//! it leaves nothing behind. To replace a channel the new one is prepared, the old one taken out, the new one put.
 
 ghost use Rattle.std.specs.Prelude.{◌≡◌, ℕ, [], List, Option, filter, is_some, length, Some, None, IfOk, OnOk, OnErr};
 ghost use Rattle.std.specs.List.{sum_by};
@@ -20,8 +25,8 @@ use std::alloc::Global;
 use std::marker::Model;
 use world_data::Channel;
 
-/// The boxes of channels, each under the number by which its owner knows it. One channel more may be prepared, which is then put without
-/// taking memory.
+/// The boxes of channels, each under the number by which its owner knows it. One channel more may be prepared, which is
+/// then put without taking memory.
 #[derive(Drop)]
 pub struct FenceIndex {
     // By key, in byte order.
@@ -53,8 +58,8 @@ impl FenceIndex {
         }
     }
 
-    /// Prepares a channel, in place of the one that was prepared before and not put. For want of memory that one stays prepared. The
-    /// channels of the index stay.
+    /// Prepares a channel, in place of the one that was prepared before and not put. For want of memory that one stays
+    /// prepared. The channels of the index stay.
     pub fn prepare(&mut self, alloc: Global, channel: &Channel) -> Result<(), NoMemory>
         ensures boxes { AreSame self.old.boxes self.new.boxes }
         ensures ok { OnOk result (self.new.prepared ≡ Some (mark_of channel.now)) }
@@ -78,7 +83,8 @@ impl FenceIndex {
         put_boxes(&mut self.boxes, ready.boxes, channel, number);
     }
 
-    /// Takes out a channel, which stands under this number. The one that was prepared stays prepared. It takes no memory.
+    /// Takes out a channel, which stands under this number. The one that was prepared stays prepared. It takes no
+    /// memory.
     pub fn take_out(&mut self, channel: &Channel, number: usize)
         requires { IsAmong (mark_of channel.now) number self.old.boxes }
         ensures boxes { IsOneMore (mark_of channel.now) number self.new.boxes self.old.boxes }
@@ -95,10 +101,10 @@ impl FenceIndex {
         self.boxes.clear();
     }
 
-    /// The numbers, in no order, of the channels of the key which a change may concern that moves an object from one box, where it was
-    /// there, to another, where it is there after it: where it is, those that roam and those that want `outside`; and those whose area
-    /// has a box that meets the least box round what is there of the two. The steps do not fall, and rise by enough nodes to hold these
-    /// numbers, at most 16 each.
+    /// The numbers, in no order, of the channels of the key which a change may concern that moves an object from one
+    /// box, where it was there, to another, where it is there after it: where it is, those that roam and those that
+    /// want `outside`; and those whose area has a box that meets the least box round what is there of the two. The
+    /// steps do not fall, and rise by enough nodes to hold these numbers, at most 16 each.
     pub fn candidates<L: Ledger>(
         &self,
         alloc: Global,
@@ -107,8 +113,11 @@ impl FenceIndex {
         new: Option<BBox>,
         steps: &mut Steps<L>,
     ) -> Result<Ids, NoMemory>
-        ensures numbers { IfOk result (λ found. (marks : ℕ → Option Mark) (numbers : List ℕ) → AreBoxed marks numbers self.now.boxes
-            → (v : ℕ → ℕ) → sum_by v found ≡ sum_by v (filter (λ n. is_named key.now (round_of old new) (is_some new) (marks n)) numbers)) }
+        ensures numbers { IfOk result
+            (λ found. (marks : ℕ → Option Mark) (numbers : List ℕ) → AreBoxed marks numbers self.now.boxes
+            → (v : ℕ → ℕ)
+            → sum_by v found
+            ≡ sum_by v (filter (λ n. is_named key.now (round_of old new) (is_some new) (marks n)) numbers)) }
         ensures read { IfOk result (λ found. IsRead 0 (length found) steps.old.count steps.new.count) }
         ensures counted { IsRead 0 0 steps.old.count steps.new.count }
     {

@@ -1,4 +1,8 @@
 //! The boxes of the channels of one key.
+//!
+//! The boxes of a key stand in three trees, one for each reason to be named: the area is near; it is near, and the
+//! channel wants `outside`; an object was put, wherever it is. A put asks the first and the third, a deletion the first
+//! two, so each channel is found once. Those of the third all have one box.
 
 ghost use Rattle.std.specs.Prelude.{◌≡◌, ◌+◌, ◌≤◌, ◌++◌, ℕ, [], true, length, IfOk, OnOk};
 ghost use Rattle.std.specs.List.{sum_by};
@@ -60,7 +64,9 @@ impl KeyBoxes {
     pub(crate) fn put(&mut self, channel: &Channel, number: usize)
         requires { HasRoom (mark_of channel.now) self.old }
         ensures key { self.new.key ≡ self.old.key }
-        ensures pairs { (r : Reason) (w : Pair → ℕ) → sum_by w (part r self.new).pairs ≡ sum_by w (part r self.old).pairs + weight_of w (box_for r (mark_of channel.now)) number }
+        ensures pairs { (r : Reason) (w : Pair → ℕ)
+            → sum_by w (part r self.new).pairs
+            ≡ sum_by w (part r self.old).pairs + weight_of w (box_for r (mark_of channel.now)) number }
     {
         self.near.put(near_box(channel), number);
         self.wide.put(wide_box(channel), number);
@@ -69,9 +75,12 @@ impl KeyBoxes {
 
     /// Takes out the boxes of a channel, which stand here beside its number.
     pub(crate) fn take(&mut self, channel: &Channel, number: usize)
-        requires { (r : Reason) (w : Pair → ℕ) → weight_of w (box_for r (mark_of channel.now)) number ≤ sum_by w (part r self.old).pairs }
+        requires { (r : Reason) (w : Pair → ℕ)
+            → weight_of w (box_for r (mark_of channel.now)) number ≤ sum_by w (part r self.old).pairs }
         ensures key { self.new.key ≡ self.old.key }
-        ensures pairs { (r : Reason) (w : Pair → ℕ) → sum_by w (part r self.new).pairs + weight_of w (box_for r (mark_of channel.now)) number ≡ sum_by w (part r self.old).pairs }
+        ensures pairs { (r : Reason) (w : Pair → ℕ)
+            → sum_by w (part r self.new).pairs + weight_of w (box_for r (mark_of channel.now)) number
+            ≡ sum_by w (part r self.old).pairs }
         ensures kept { (r : Reason) → (part r self.old).spare ≤ (part r self.new).spare }
     {
         self.near.take(near_box(channel), number);
@@ -87,8 +96,8 @@ impl KeyBoxes {
         self.near.is_empty() && self.wide.is_empty() && self.always.is_empty()
     }
 
-    /// Appends the numbers of the channels that a change names: `round` is the box round what it moves, and `put` says that an object
-    /// stands there after it. For want of memory some of them are appended.
+    /// Appends the numbers of the channels that a change names: `round` is the box round what it moves, and `put` says
+    /// that an object stands there after it. For want of memory some of them are appended.
     pub(crate) fn search<L: Ledger>(
         &self,
         round: &BBox,

@@ -38,8 +38,8 @@ pub(crate) fn place_of_key(list: &[KeyBoxes], key: &Name) -> Result<usize, usize
     }
 }
 
-/// The numbers of the channels of a key that a change names, in no order: `round` is the box round what it moves, and `put` says that an
-/// object stands there after it.
+/// The numbers of the channels of a key that a change names, in no order: `round` is the box round what it moves, and
+/// `put` says that an object stands there after it.
 pub(crate) fn numbers_near<L: Ledger>(
     alloc: Global,
     boxes: &[KeyBoxes],

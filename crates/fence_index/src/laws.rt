@@ -1,4 +1,7 @@
 //! Laws of the index: each is what a function that does nothing ensures.
+//!
+//! That what is not named raises nothing is a law of all whole channels and objects: one about a single channel would
+//! have to be called for each that is not named.
 
 ghost use Rattle.std.specs.Prelude.{◌≡◌, [], true, false, Some, None, List, option_map};
 ghost use Rattle.planar_geom.specs.Points.{box_round_both};
@@ -25,7 +28,8 @@ use world_data::{Channel, Object, Watch};
 
 // What meets an area, in any sense, has a box that meets the area's box.
 fn met_area_is_near(shape: &Shape, area: &Area)
-    ensures { (kind : Kind) → meets_area kind area.now shape.now ≡ true → boxes_meet (box_of_shape shape.now) (box_of_area area.now) ≡ true }
+    ensures { (kind : Kind) → meets_area kind area.now shape.now ≡ true
+        → boxes_meet (box_of_shape shape.now) (box_of_area area.now) ≡ true }
 {
     met_boxes_meet(shape, area);
     if let Area::Disc(centre, radius) = area {
@@ -35,20 +39,28 @@ fn met_area_is_near(shape: &Shape, area: &Area)
 
 // What is in the area that is watched has a box that meets the area's.
 fn watched_is_near(watch: &Watch, object: &Object)
-    ensures { in_watch watch.now object.now ≡ true → both_meet (Some (box_of_shape object.now.shape)) (watched_box watch.now) ≡ true }
+    ensures { in_watch watch.now object.now ≡ true
+        → both_meet (Some (box_of_shape object.now.shape)) (watched_box watch.now) ≡ true }
 {
-    if let Watch::Spot(_, area) = watch {
+    if let Watch::Zone(_, area) = watch {
         met_area_is_near(&object.shape, area);
     }
 }
 
-// An object that was in the area that is watched, is in it, or crosses it on its way: the box round both places meets the area's.
+// An object that was in the area that is watched, is in it, or crosses it on its way: the box round both places meets
+// the area's.
 fn moved_is_near(watch: &Watch, old: &Object, new: &Object)
-    ensures old { in_watch watch.now old.now ≡ true → both_meet (Some (box_round_both (box_of_shape old.now.shape) (box_of_shape new.now.shape))) (watched_box watch.now) ≡ true }
-    ensures new { in_watch watch.now new.now ≡ true → both_meet (Some (box_round_both (box_of_shape old.now.shape) (box_of_shape new.now.shape))) (watched_box watch.now) ≡ true }
-    ensures way { crosses_watch watch.now old.now new.now ≡ true → both_meet (Some (box_round_both (box_of_shape old.now.shape) (box_of_shape new.now.shape))) (watched_box watch.now) ≡ true }
+    ensures old { in_watch watch.now old.now ≡ true
+        → both_meet (Some (box_round_both (box_of_shape old.now.shape) (box_of_shape new.now.shape)))
+        (watched_box watch.now) ≡ true }
+    ensures new { in_watch watch.now new.now ≡ true
+        → both_meet (Some (box_round_both (box_of_shape old.now.shape) (box_of_shape new.now.shape)))
+        (watched_box watch.now) ≡ true }
+    ensures way { crosses_watch watch.now old.now new.now ≡ true
+        → both_meet (Some (box_round_both (box_of_shape old.now.shape) (box_of_shape new.now.shape)))
+        (watched_box watch.now) ≡ true }
 {
-    if let Watch::Spot(_, area) = watch {
+    if let Watch::Zone(_, area) = watch {
         let (from, to) = (box_of(&old.shape), box_of(&new.shape));
         met_area_is_near(&old.shape, area);
         met_area_is_near(&new.shape, area);
@@ -57,14 +69,20 @@ fn moved_is_near(watch: &Watch, old: &Object, new: &Object)
     }
 }
 
-/// A channel that a put does not concern raises nothing: neither what an area detects nor a roaming pair, and so no message.
+/// A channel that a put does not concern raises nothing: neither what an area detects nor a roaming pair, and so no
+/// message.
 pub fn unconcerned_by_put(channel: &Channel, old: Option<&Object>, new: &Object)
-    ensures raised { is_concerned (box_if (option_map (λ o. o.now) old.entry)) (box_if (Some new.now)) (mark_of channel.now) ≡ false
+    ensures raised { is_concerned (box_if (option_map (λ o. o.now) old.entry)) (box_if (Some new.now))
+        (mark_of channel.now) ≡ false
         → raised_of channel.now (option_map (λ o. o.now) old.entry) (Some new.now) ≡ [] }
-    ensures pairs { is_concerned (box_if (option_map (λ o. o.now) old.entry)) (box_if (Some new.now)) (mark_of channel.now) ≡ false
-        → (targets : List Object) → near_pairs channel.now.fence (option_map (λ o. o.now) old.entry) new.now targets ≡ [] }
-    ensures messages { is_concerned (box_if (option_map (λ o. o.now) old.entry)) (box_if (Some new.now)) (mark_of channel.now) ≡ false
-        → (w : World) → object_at w new.now.key new.now.id ≡ option_map (λ o. o.now) old.entry → payloads w (Put new.now) channel.now ≡ [] }
+    ensures pairs { is_concerned (box_if (option_map (λ o. o.now) old.entry)) (box_if (Some new.now))
+        (mark_of channel.now) ≡ false
+        → (targets : List Object)
+        → near_pairs channel.now.fence (option_map (λ o. o.now) old.entry) new.now targets ≡ [] }
+    ensures messages { is_concerned (box_if (option_map (λ o. o.now) old.entry)) (box_if (Some new.now))
+        (mark_of channel.now) ≡ false
+        → (w : World) → object_at w new.now.key new.now.id ≡ option_map (λ o. o.now) old.entry
+        → payloads w (Put new.now) channel.now ≡ [] }
 {
     let watch = &channel.fence.watch;
     match old {
@@ -75,9 +93,11 @@ pub fn unconcerned_by_put(channel: &Channel, old: Option<&Object>, new: &Object)
 
 /// A channel that a del does not concern raises nothing, and so no message.
 pub fn unconcerned_by_del(channel: &Channel, old: &Object)
-    ensures raised { is_concerned (box_if (Some old.now)) None (mark_of channel.now) ≡ false → raised_of channel.now (Some old.now) None ≡ [] }
+    ensures raised { is_concerned (box_if (Some old.now)) None (mark_of channel.now) ≡ false
+        → raised_of channel.now (Some old.now) None ≡ [] }
     ensures messages { is_concerned (box_if (Some old.now)) None (mark_of channel.now) ≡ false
-        → (w : World) → object_at w old.now.key old.now.id ≡ Some old.now → payloads w (Del old.now.key old.now.id) channel.now ≡ [] }
+        → (w : World) → object_at w old.now.key old.now.id ≡ Some old.now
+        → payloads w (Del old.now.key old.now.id) channel.now ≡ [] }
 {
     watched_is_near(&channel.fence.watch, old);
 }
@@ -86,7 +106,7 @@ pub fn unconcerned_by_del(channel: &Channel, old: &Object)
 pub fn watch_is_whole(watch: &Watch)
     ensures { IsWholeWatch watch.now }
 {
-    if let Watch::Spot(_, area) = watch {
+    if let Watch::Zone(_, area) = watch {
         area_is_whole(area);
     }
 }

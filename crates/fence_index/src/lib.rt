@@ -1,5 +1,6 @@
-//! Which channels of a key a change may concern: those that are named raise what there is to raise, and the others raise nothing.
-//! The boxes of the areas stand in trees, those of each key by themselves, so that a change visits few nodes where few channels are near.
+//! Which channels of a key a change may concern: those that are named raise what there is to raise, and the others
+//! raise nothing. The boxes of the areas stand in trees, those of each key by themselves, so that a change visits few
+//! nodes where few channels are near.
 #![tactic(auto)]
 
 mod box_sets;

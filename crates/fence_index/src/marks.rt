@@ -8,7 +8,8 @@ use planar_geom::{BBox, area_box};
 use std::alloc::Global;
 use world_data::{Channel, Watch};
 
-/// What the index asks of a channel: its key, the box of its area (none where it roams), and whether it wants `outside`.
+/// What the index asks of a channel: its key, the box of its area (none where it roams), and whether it wants
+/// `outside`.
 #[derive(Drop)]
 pub struct Mark {
     pub key: Name,
@@ -34,7 +35,7 @@ pub(crate) fn watched_box(watch: &Watch) -> Option<BBox>
     ensures { result ≡ watched_box watch.now }
 {
     match watch {
-        Watch::Spot(_, area) => Some(area_box(area)),
+        Watch::Zone(_, area) => Some(area_box(area)),
         Watch::Roam(_, _, _, _) => None,
     }
 }

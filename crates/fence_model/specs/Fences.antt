@@ -1,5 +1,6 @@
 -- Fences: which objects are in, and what a channel raises.
-use Rattle.std.specs.Prelude.{ℕ, ◌*◌, Bool, true, false, not, ◌&&◌, nat_le, List, [], ◌∷◌, filter, filter_map, map, Option, Some, None, if◌then◌else◌, option_map}
+use Rattle.std.specs.Prelude.{ℕ, ◌*◌, Bool, true, false, not, ◌&&◌, nat_le, List, [], ◌∷◌, filter, filter_map, map, Option, Some, None, if◌then◌else◌}
+use Rattle.std.specs.Prelude.{option_map}
 use Rattle.byte_text.specs.Names.{Bytes, same}
 use Rattle.byte_text.specs.Globs.{glob_meets}
 use Rattle.planar_geom.specs.Points.{Point, centre, dist2}
@@ -12,7 +13,7 @@ use Rattle.world_data.specs.declared.channels.Channel.{Channel}
 use Rattle.world_data.specs.declared.channels.Fence.{Fence}
 use Rattle.world_data.specs.declared.channels.Wanted.{Wanted}
 use Rattle.world_data.specs.declared.channels.Watch.{Watch}
-use Rattle.world_data.specs.declared.channels.Watch.TheVariants.{Spot, Roam}
+use Rattle.world_data.specs.declared.channels.Watch.TheVariants.{Zone, Roam}
 use Rattle.world_data.specs.declared.channels.Detect.{Detect}
 use Rattle.world_data.specs.declared.channels.Detect.TheVariants.{Inside, Outside, Enter, Exit, Cross, Near, Far}
 use Rattle.world_data.specs.declared.channels.Raised.{Raised}
@@ -23,7 +24,7 @@ abbrev pub meets_fence : Fence → Object → Bool
 meets_fence f o = meets_glob f.glob o.id && passes f.tests o.fields
 
 abbrev pub in_watch : Watch → Object → Bool
-in_watch (Spot kind a) o = meets_area kind a o.shape
+in_watch (Zone kind a) o = meets_area kind a o.shape
 in_watch (Roam key pattern meters nodwell) o = false
 
 -- the object is in the fence
@@ -35,7 +36,7 @@ place_of o = centre (box_of o.shape)
 
 -- the way between the centres of the two boxes meets the area
 abbrev pub crosses_watch : Watch → Object → Object → Bool
-crosses_watch (Spot kind a) old new = way_meets (place_of old) (place_of new) a
+crosses_watch (Zone kind a) old new = way_meets (place_of old) (place_of new) a
 crosses_watch (Roam key pattern meters nodwell) old new = false
 
 abbrev pub was_in : Fence → Option Object → Bool
@@ -111,9 +112,9 @@ near_pairs f old new objects = if meets_fence f new then roams f.watch else []
   where
     roams : Watch → List (Object × Detect)
     roams (Roam key pattern meters nodwell) = filter_map (pair_of meters nodwell old new) (targets pattern new objects)
-    roams (Spot kind a) = []
+    roams (Zone kind a) = []
 
 -- the key whose objects a roaming channel compares with
 abbrev pub roams_over : Watch → Option Bytes
 roams_over (Roam key pattern meters nodwell) = Some key
-roams_over (Spot kind a) = None
+roams_over (Zone kind a) = None

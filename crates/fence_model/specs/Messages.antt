@@ -1,5 +1,6 @@
 -- Messages: their payloads, what a change raises on all channels, and who is sent it.
-use Rattle.std.specs.Prelude.{Bool, false, ◌&&◌, List, [], ◌∷◌, ◌++◌, filter, flat_map, map, Option, Some, None, is_none, if◌then◌else◌, codes, decimal}
+use Rattle.std.specs.Prelude.{Bool, false, ◌&&◌, List, [], ◌∷◌, ◌++◌, filter, flat_map, map, Option, Some, None, is_none, if◌then◌else◌, codes}
+use Rattle.std.specs.Prelude.{decimal}
 use Rattle.std.specs.Fmt.{signed_decimal}
 use Rattle.byte_text.specs.Names.{Bytes, same}
 use Rattle.byte_text.specs.JsonText.{quoted}
@@ -52,7 +53,8 @@ abbrev pub set_payload : Bytes → Detect → Object → Bytes
 set_payload hook d o = braced (set_members hook d o)
 
 abbrev pub del_payload : Bytes → Bytes → Bytes → Bytes
-del_payload hook key id = braced (text_member (codes "command") (codes "del") ∷ text_member (codes "hook") hook ∷ text_member (codes "key") key ∷ text_member (codes "id") id ∷ [])
+del_payload hook key id = braced
+    (text_member (codes "command") (codes "del") ∷ text_member (codes "hook") hook ∷ text_member (codes "key") key ∷ text_member (codes "id") id ∷ [])
 
 abbrev pub drop_payload : Bytes → Bytes → Bytes
 drop_payload hook key = braced (text_member (codes "command") (codes "drop") ∷ text_member (codes "hook") hook ∷ text_member (codes "key") key ∷ [])
@@ -82,7 +84,7 @@ put_payloads w o c = let old = object_at w o.key o.id in by_watch old (roams_ove
     by_watch old None = map (λ d. set_payload c.name d o) (raised_by_put c.fence old o)
     by_watch old (Some key) = if c.fence.wanted.set then map (roam_payload c.name o) (near_pairs c.fence old o (objects_of w key)) else []
 
--- the payloads that a loud change of its key raises on a channel, in the world before it
+-- the payloads that a announced change of its key raises on a channel, in the world before it
 abbrev pub payloads : World → Change → Channel → List Bytes
 payloads w (Put o) c = put_payloads w o c
 payloads w (Del key id) c = payload_if (is_none (roams_over c.fence.watch) && raised_by_del c.fence (object_at w key id)) (del_payload c.name key id)
@@ -103,10 +105,10 @@ abbrev pub watches : Option Bytes → Channel → Bool
 watches None c = false
 watches (Some key) c = same c.fence.key key
 
--- the messages of a loud change: for every channel of its key by name, its payloads
-abbrev pub loud_messages : World → Change → List Message
-loud_messages w change = flat_map (λ c. map (λ p. (c.name, p)) (payloads w change c)) (filter (watches (key_of change)) w.channels)
+-- the messages of a announced change: for every channel of its key by name, its payloads
+abbrev pub announced_messages : World → Change → List Message
+announced_messages w change = flat_map (λ c. map (λ p. (c.name, p)) (payloads w change c)) (filter (watches (key_of change)) w.channels)
 
--- the messages of a write: none of a quiet one
+-- the messages of a write: none of a silent one
 unfoldable pub messages : World → Write → List Message
-messages w write = if write.loud then loud_messages w write.change else []
+messages w write = if write.announced then announced_messages w write.change else []

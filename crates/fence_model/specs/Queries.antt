@@ -1,5 +1,6 @@
 -- Queries over the objects of one key: those that match, in order, and the page of them.
-use Rattle.std.specs.Prelude.{◌≡◌, ℕ, ◌+◌, ◌*◌, Bool, true, false, ◌&&◌, ◌||◌, ◌==◌, nat_lt, nat_le, List, [], length, filter, take, drop, reverse, map, Option, Some, None, if◌then◌else◌}
+use Rattle.std.specs.Prelude.{◌≡◌, ℕ, ◌+◌, ◌*◌, Bool, true, false, ◌&&◌, ◌||◌, ◌==◌, nat_lt, nat_le, List, [], length, filter, take, drop, reverse}
+use Rattle.std.specs.Prelude.{map, Option, Some, None, if◌then◌else◌}
 use Rattle.byte_text.specs.Names.{Bytes, before}
 use Rattle.planar_geom.specs.Points.{Point, box_dist2}
 use Rattle.planar_geom.specs.Shapes.{box_of}
@@ -13,7 +14,7 @@ use Rattle.world_data.specs.declared.objects.Object.{Object}
 use Rattle.world_data.specs.declared.channels.Kind.{Kind}
 use Rattle.world_data.specs.declared.channels.Kind.TheVariants.{Within, Intersects, Near}
 use Rattle.world_data.specs.declared.queries.Rule.{Rule}
-use Rattle.world_data.specs.declared.queries.Rule.TheVariants.{All, Down, Kept, Nearest}
+use Rattle.world_data.specs.declared.queries.Rule.TheVariants.{All, Descending, InArea, Nearest}
 use Rattle.world_data.specs.declared.queries.Query.{Query}
 use Rattle.world_data.specs.declared.queries.Page.{Page}
 use Rattle.world_data.specs.declared.queries.Shown.{Shown}
@@ -37,9 +38,9 @@ meets_area Near a shape = near_disc shape a
 
 -- the object meets the area, where the rule has one
 abbrev pub meets_rule : Rule → Object → Bool
-meets_rule (Kept kind a) o = meets_area kind a o.shape
+meets_rule (InArea kind a) o = meets_area kind a o.shape
 meets_rule All o = true
-meets_rule Down o = true
+meets_rule Descending o = true
 meets_rule Nearest o = true
 
 -- the object meets MATCH, the tests and the area
@@ -48,9 +49,9 @@ meets_query q o = meets_glob q.glob o.id && passes q.tests o.fields && meets_rul
 
 -- objects that stand by id, in the order of the rule
 abbrev pub in_order : Rule → List Object → List Object
-in_order Down objects = reverse objects
+in_order Descending objects = reverse objects
 in_order All objects = objects
-in_order (Kept kind a) objects = objects
+in_order (InArea kind a) objects = objects
 in_order Nearest objects = objects
 
 -- of the objects of one key, by id, those that meet the query, ascending by id, or descending

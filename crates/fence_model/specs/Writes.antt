@@ -7,16 +7,16 @@ use Rattle.world_data.specs.declared.worlds.Change.TheVariants.{Del}
 -- a change, and whether it raises messages
 pub record Write : Type 0 where
   pub change : Change
-  pub loud : Bool
+  pub announced : Bool
 
 -- a change that raises messages: the put of SET, every del, every drop
-abbrev pub loud : Change → Write
-loud c = record { change = c; loud = true }
+abbrev pub announced : Change → Write
+announced c = record { change = c; announced = true }
 
 -- a change that raises none: the puts of FSET, EXPIRE and PERSIST, the flush, and changes of channels
-abbrev pub quiet : Change → Write
-quiet c = record { change = c; loud = false }
+abbrev pub silent : Change → Write
+silent c = record { change = c; announced = false }
 
 -- these objects deleted, one change each
 abbrev pub dels : List Object → List Write
-dels objects = map (λ o. loud (Del o.key o.id)) objects
+dels objects = map (λ o. announced (Del o.key o.id)) objects

@@ -59,7 +59,7 @@ fn crosses_watch(watch: &Watch, old: &Object, new: &Object) -> bool
     ensures { result ≡ crosses_watch watch.now old.now new.now }
 {
     match watch {
-        Watch::Spot(_, area) => way_meets(
+        Watch::Zone(_, area) => way_meets(
             centre(box_of(&old.shape)),
             centre(box_of(&new.shape)),
             area,
@@ -71,7 +71,8 @@ fn crosses_watch(watch: &Watch, old: &Object, new: &Object) -> bool
 // What is detected of an object that was not in the fence and is not. The way is asked for here alone.
 fn outside(fence: &Fence, old: Option<&Object>, new: &Object) -> Detected
     requires { is_sound_glob fence.now.glob ≡ true }
-    ensures { items result.first result.second ≡ detected false false (meets_fence fence.now new.now) (crossed fence.now (option_map (λ o. o.now) old.entry) new.now) }
+    ensures { items result.first result.second
+        ≡ detected false false (meets_fence fence.now new.now) (crossed fence.now (option_map (λ o. o.now) old.entry) new.now) }
 {
     if !meets_fence(fence, new) {
         return Detected {

@@ -1,4 +1,7 @@
 //! What a change of an object raises on a channel that watches an area.
+//!
+//! The table never raises more than two items, so the answer is a pair. The way between two places is looked at only
+//! where the object was not in the fence and is not.
 
 ghost use Rattle.std.specs.Prelude.{◌≡◌, [], true, filter, map, Option, None, option_map};
 ghost use Rattle.byte_text.specs.Globs.{is_sound_glob};
@@ -53,7 +56,8 @@ fn kept(wanted: Wanted, detect: Option<Detect>) -> Option<Raised>
 // What a put raises: what is detected and wanted, and nothing where COMMANDS does not have `set`.
 fn raised_by_put(fence: &Fence, old: Option<&Object>, new: &Object) -> Pair
     requires { is_sound_glob fence.now.glob ≡ true }
-    ensures { items result.first result.second ≡ map raised_item.Set (raised_by_put fence.now (option_map (λ o. o.now) old.entry) new.now) }
+    ensures { items result.first result.second
+        ≡ map raised_item.Set (raised_by_put fence.now (option_map (λ o. o.now) old.entry) new.now) }
 {
     if !fence.wanted.set {
         return Pair::nothing();
@@ -65,11 +69,13 @@ fn raised_by_put(fence: &Fence, old: Option<&Object>, new: &Object) -> Pair
     }
 }
 
-/// What a put or a del raises on a channel that watches an area, for the object of one key and id before it and after it: exactly
-/// the items of the table that DETECT and COMMANDS want, in order. A channel that roams raises nothing here.
+/// What a put or a del raises on a channel that watches an area, for the object of one key and id before it and after
+/// it: exactly the items of the table that DETECT and COMMANDS want, in order. A channel that roams raises nothing
+/// here.
 pub fn raised(channel: &Channel, old: Option<&Object>, new: Option<&Object>) -> Pair
     requires { is_sound_glob channel.now.fence.glob ≡ true }
-    ensures { items result.first result.second ≡ raised_of channel.now (option_map (λ o. o.now) old.entry) (option_map (λ o. o.now) new.entry) }
+    ensures { items result.first result.second
+        ≡ raised_of channel.now (option_map (λ o. o.now) old.entry) (option_map (λ o. o.now) new.entry) }
 {
     let fence = &channel.fence;
     match new {

@@ -11,7 +11,8 @@ use Rattle.geo_text.specs.declared.faults.GeoFault.TheVariants.{NotSpatial, BadT
 use Rattle.geo_text.specs.declared.types.Base.{Base}
 use Rattle.geo_text.specs.declared.types.Base.TheVariants.{Spot, Chain, Face}
 use Rattle.geo_text.specs.declared.types.GeoType.{GeoType}
-use Rattle.geo_text.specs.declared.types.GeoType.TheVariants.{Point, MultiPoint, LineString, MultiLineString, Polygon, MultiPolygon, GeometryCollection, Feature, FeatureCollection}
+use Rattle.geo_text.specs.declared.types.GeoType.TheVariants.{Point, MultiPoint, LineString, MultiLineString, Polygon, MultiPolygon}
+use Rattle.geo_text.specs.declared.types.GeoType.TheVariants.{GeometryCollection, Feature, FeatureCollection}
 use Rattle.geo_text.specs.Walks.{◌>>=◌, array_of, each, position, line, polygon}
 
 -- the parts of a shape, in the order of the walk

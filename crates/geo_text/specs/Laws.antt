@@ -16,7 +16,8 @@ BoundsAreStored = (b : Bounds) → IsBox b → shape_of (bounds_text b) ≡ Ok (
 
 -- every other text is read as JSON
 abbrev pub OthersAreWalked : Type 0
-OthersAreWalked = (text : Bytes) → ((p : Point) → InPlane p → text ≢ point_text p) → ((b : Bounds) → IsBox b → text ≢ bounds_text b) → shape_of text ≡ walked text
+OthersAreWalked = (text : Bytes) → ((p : Point) → InPlane p → text ≢ point_text p) → ((b : Bounds) → IsBox b → text ≢ bounds_text b)
+    → shape_of text ≡ walked text
 
 -- exactly one of a value and a fault, and only one of its kind
 pub record HasOneAnswer {A E : Type 0} (answer : Result A E) : Type 0 where
@@ -27,8 +28,20 @@ pub record HasOneAnswer {A E : Type 0} (answer : Result A E) : Type 0 where
 
 -- a result is one value or one fault
 pub one_answer : {A E : Type 0} (answer : Result A E) → HasOneAnswer answer
-one_answer (Ok a) = record { some = inl (a, refl); one_value = λ b c e f. grind arith; one_fault = λ g h e f. grind arith; not_both = λ b h e f. grind arith }
-one_answer (Err x) = record { some = inr (x, refl); one_value = λ b c e f. grind arith; one_fault = λ g h e f. grind arith; not_both = λ b h e f. grind arith }
+one_answer (Ok a) = record {
+  some = inl (a, refl);
+  one_value = λ b c e f. grind arith;
+  one_fault = λ g h e f. grind arith;
+  not_both =
+      λ b h e f. grind arith;
+}
+one_answer (Err x) = record {
+  some = inr (x, refl);
+  one_value = λ b c e f. grind arith;
+  one_fault = λ g h e f. grind arith;
+  not_both =
+      λ b h e f. grind arith;
+}
 
 -- a text is accepted with one shape, or refused with one fault
 abbrev pub TextsHaveOneAnswer : Type 0

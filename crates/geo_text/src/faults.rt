@@ -1,4 +1,7 @@
 //! What is wrong with a text that is no shape.
+//!
+//! Running out of memory is no fault of a text: a reader that may run out answers with a type of its own, in which the
+//! fault is one case.
 
 /// Why a text is no shape.
 #[derive(Clone, Copy, Debug, PartialEq, Eq)]

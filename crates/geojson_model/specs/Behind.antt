@@ -2,7 +2,8 @@
 use Rattle.std.specs.Prelude.{ℕ, Bool, true, false, List, ◌++◌, Result, Ok}
 use Rattle.geo_text.specs.declared.faults.GeoFault.{GeoFault}
 use Rattle.geo_text.specs.declared.types.GeoType.{GeoType}
-use Rattle.geo_text.specs.declared.types.GeoType.TheVariants.{Point, MultiPoint, LineString, MultiLineString, Polygon, MultiPolygon, GeometryCollection, Feature, FeatureCollection}
+use Rattle.geo_text.specs.declared.types.GeoType.TheVariants.{Point, MultiPoint, LineString, MultiLineString, Polygon, MultiPolygon}
+use Rattle.geo_text.specs.declared.types.GeoType.TheVariants.{GeometryCollection, Feature, FeatureCollection}
 use Rattle.geo_text.specs.Walks.{◌>>=◌}
 
 -- what was found before, and behind it what a walk finds

@@ -59,7 +59,8 @@ fn each_part(
     items: &[Value],
     count: u32,
 ) -> Result<u32, ShapeFault>
-    ensures { Gives (λ n. (parts.new, n)) result (behind parts.old (each (geo.part base) (items_view items.now) count)) }
+    ensures { Gives (λ n. (parts.new, n)) result
+        (behind parts.old (each (geo.part base) (items_view items.now) count)) }
 {
     let mut count = count;
     for item in items {

@@ -46,7 +46,8 @@ fn pair_before<'a>(
     y: &'a Value,
     altitude: &Value,
 ) -> Result<(&'a Number, &'a Number), ShapeFault>
-    ensures { Gives (λ p. (number_view p.0.now, number_view p.1.now)) result (walks.free_third (view altitude.now) (walks.pair (view x.now) (view y.now))) }
+    ensures { Gives (λ p. (number_view p.0.now, number_view p.1.now)) result
+        (walks.free_third (view altitude.now) (walks.pair (view x.now) (view y.now))) }
 {
     match altitude {
         Value::Number(_) => pair(x, y),

@@ -68,7 +68,8 @@ fn feature_items(
     items: &[Value],
     count: u32,
 ) -> Result<u32, ShapeFault>
-    ensures { Gives (λ n. (parts.new, n)) result (behind parts.old (geo.parts_of_each geo.feature_item (items_view items.now) count)) }
+    ensures { Gives (λ n. (parts.new, n)) result
+        (behind parts.old (geo.parts_of_each geo.feature_item (items_view items.now) count)) }
 {
     let mut count = count;
     for item in items {

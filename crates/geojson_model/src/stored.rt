@@ -1,6 +1,7 @@
 //! The texts that are stored for points and boxes, read back without JSON.
 
-ghost use Rattle.std.specs.Prelude.{◌≡◌, ℕ, ℤ, List, ◌++◌, ◌∷◌, [], ◌<◌, length, get_or, IfSome, IsSome, IsTrue, ◌↔◌, FitsSigned, Some, ◌⊎◌};
+ghost use Rattle.std.specs.Prelude.{◌≡◌, ℕ, ℤ, List, ◌++◌, ◌∷◌, [], ◌<◌, length, get_or, IfSome, IsSome, IsTrue, ◌↔◌};
+ghost use Rattle.std.specs.Prelude.{FitsSigned, Some, ◌⊎◌};
 ghost use Rattle.std.specs.Int.{w64};
 ghost use Rattle.planar_geom.specs.Points.{Point, Bounds, InPlane, IsBox, pt, same_point};
 ghost use Rattle.geo_text.specs.Texts as texts;
@@ -56,7 +57,8 @@ fn behind<'a>(text: &'a [u8], piece: &[u8]) -> Option<&'a [u8]>
 // The place of the first such byte.
 fn place_of(bytes: &[u8], end: u8) -> Option<usize>
     ensures found { IfSome result (λ at. (at < length bytes.now) × (get_or bytes.now at 0 ≡ end)) }
-    ensures first { (text rest : List ℕ) → Without end text → bytes.now ≡ text ++ end ∷ rest → result ≡ Some (length text) }
+    ensures first { (text rest : List ℕ) → Without end text → bytes.now ≡ text ++ end ∷ rest
+        → result ≡ Some (length text) }
 {
     for at in 0..bytes.len() {
         if bytes[at] == end {
@@ -70,7 +72,8 @@ fn place_of(bytes: &[u8], end: u8) -> Option<usize>
 fn number_until(bytes: &[u8], end: u8) -> Option<(i64, &[u8])>
     requires { (end ≡ 44) ⊎ (end ≡ 93) }
     ensures found { IfSome result (λ x. bytes.now ≡ ended x.0 end x.1.now) }
-    ensures only { (z : ℤ) (rest : List ℕ) → FitsSigned w64 z → bytes.now ≡ ended z end rest → IfSome result (λ x. (x.0 ≡ z) × (x.1.now ≡ rest)) × IsSome result }
+    ensures only { (z : ℤ) (rest : List ℕ) → FitsSigned w64 z → bytes.now ≡ ended z end rest
+        → IfSome result (λ x. (x.0 ≡ z) × (x.1.now ≡ rest)) × IsSome result }
 {
     let at = match place_of(bytes, end) {
         Some(at) => at,
@@ -86,7 +89,8 @@ fn number_until(bytes: &[u8], end: u8) -> Option<(i64, &[u8])>
 // The position in front, and what stands behind it.
 fn position(text: &[u8]) -> Option<(Pt, &[u8])>
     ensures found { IfSome result (λ r. InPlane r.0 × (text.now ≡ position_then r.0 r.1.now)) }
-    ensures only { (p : Point) (rest : List ℕ) → InPlane p → text.now ≡ position_then p rest → IsSome result × IfSome result (λ r. (r.0 ≡ p) × (r.1.now ≡ rest)) }
+    ensures only { (p : Point) (rest : List ℕ) → InPlane p → text.now ≡ position_then p rest
+        → IsSome result × IfSome result (λ r. (r.0 ≡ p) × (r.1.now ≡ rest)) }
 {
     let Some(rest) = behind(text, b"[") else {
         return None;
@@ -106,7 +110,8 @@ fn position(text: &[u8]) -> Option<(Pt, &[u8])>
 // A comma and the position behind it, and what stands behind that.
 fn next_position(text: &[u8]) -> Option<(Pt, &[u8])>
     ensures found { IfSome result (λ r. InPlane r.0 × (text.now ≡ 44 ∷ position_then r.0 r.1.now)) }
-    ensures only { (p : Point) (rest : List ℕ) → InPlane p → text.now ≡ 44 ∷ position_then p rest → IsSome result × IfSome result (λ r. (r.0 ≡ p) × (r.1.now ≡ rest)) }
+    ensures only { (p : Point) (rest : List ℕ) → InPlane p → text.now ≡ 44 ∷ position_then p rest
+        → IsSome result × IfSome result (λ r. (r.0 ≡ p) × (r.1.now ≡ rest)) }
 {
     match behind(text, b",") {
         Some(rest) => position(rest),

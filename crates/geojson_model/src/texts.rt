@@ -3,7 +3,8 @@
 ghost use Rattle.std.specs.Prelude.{◌≡◌, ◌++◌, ◌∷◌, [], map, OnOk, OnErr, Ok, length, take};
 ghost use Rattle.planar_geom.specs.Points.{InPlane, IsBox};
 ghost use Rattle.planar_geom.specs.declared.shapes.Part.TheVariants.{Spot, Face};
-ghost use Rattle.geo_text.specs.Texts.{position_text, point_text, bounds_text, with_commas, shape_of, corners as box_corners};
+ghost use Rattle.geo_text.specs.Texts.{position_text, point_text, bounds_text, with_commas, shape_of};
+ghost use Rattle.geo_text.specs.Texts.{corners as box_corners};
 
 use crate::stored::{BOUNDS_HEAD, BOUNDS_TAIL, POINT_HEAD, corners};
 use byte_text::{NoMemory, Text, push_i64};

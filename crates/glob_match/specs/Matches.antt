@@ -18,12 +18,14 @@ OnWent went.Meets ts name = tokens_meet ts name ≡ true
 OnWent went.Fails ts name = tokens_meet ts name ≡ false
 OnWent went.Short ts name = some_end (tokens_meet ts) name ≡ false
 OnWent (went.Star rest behind) ts name = (us : List Token) × (left rest.now outside ≡ Some us)
-    × (tokens_meet ts name ≡ some_end (tokens_meet us) (chars behind.now)) × (some_end (tokens_meet ts) name ≡ some_end (tokens_meet us) (chars behind.now))
+    × (tokens_meet ts name ≡ some_end (tokens_meet us) (chars behind.now))
+    × (some_end (tokens_meet ts) name ≡ some_end (tokens_meet us) (chars behind.now))
 
 abbrev pub OnFound : Found → List Token → List ℕ → Type 0
 OnFound found.Meets ts name = some_end (tokens_meet ts) name ≡ true
 OnFound found.Fails ts name = some_end (tokens_meet ts) name ≡ false
-OnFound (found.Star rest behind) ts name = (us : List Token) × (left rest.now outside ≡ Some us) × (some_end (tokens_meet ts) name ≡ some_end (tokens_meet us) (chars behind.now))
+OnFound (found.Star rest behind) ts name = (us : List Token) × (left rest.now outside ≡ Some us)
+    × (some_end (tokens_meet ts) name ≡ some_end (tokens_meet us) (chars behind.now))
 
 -- the pattern behind a `*` is shorter
 abbrev pub IsWent : Went → ℕ → Type 0

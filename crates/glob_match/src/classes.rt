@@ -1,6 +1,9 @@
 //! Classes of a pattern, gone over for one character.
+//!
+//! In a class `\c` may be either end of a range, `\-` is never its dash, and `^` negates in the first place alone.
 
-ghost use Rattle.std.specs.Prelude.{◌≡◌, Bool, List, ℕ, ◌<◌, ◌∷◌, [], MatchOption, IfSome, length, ◌||◌, ◌&&◌, nat_le, not, if◌then◌else◌};
+ghost use Rattle.std.specs.Prelude.{◌≡◌, Bool, List, ℕ, ◌<◌, ◌∷◌, [], MatchOption, IfSome, length, ◌||◌, ◌&&◌, nat_le};
+ghost use Rattle.std.specs.Prelude.{not, if◌then◌else◌};
 ghost use Rattle.byte_text.specs.Globs.{Item, outside, opened, behind_item, behind_char};
 ghost use Rattle.glob_match.specs.Tokens.{left, Begins};
 ghost use Rattle.glob_match.specs.Classes.{OnItem, IsShorter};
@@ -41,7 +44,8 @@ enum ItemAt<'a> {
 
 // The item that begins with a character.
 fn range_from(low: char, text: &str) -> ItemAt<'_>
-    ensures read { (others : Bool) (items : List Item) → OnItem result (left text.now (behind_char others items low)) others items }
+    ensures read { (others : Bool) (items : List Item)
+        → OnItem result (left text.now (behind_char others items low)) others items }
     ensures shorter { (len : ℕ) → length text.now < len → IsShorter result len }
 {
     match range_end(text) {
@@ -52,7 +56,8 @@ fn range_from(low: char, text: &str) -> ItemAt<'_>
 
 // The next item of a class, or its end.
 fn item_at(text: &str) -> ItemAt<'_>
-    ensures read { (others : Bool) (items : List Item) → OnItem result (left text.now (behind_item others items)) others items }
+    ensures read { (others : Bool) (items : List Item)
+        → OnItem result (left text.now (behind_item others items)) others items }
     ensures shorter { IsShorter result (length text.now) }
 {
     match sign_at(text) {

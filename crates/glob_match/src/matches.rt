@@ -106,7 +106,8 @@ fn seek<'a>(pattern: &'a str, name: &'a str) -> Found<'a>
 
 // Whether an end of the name meets a pattern.
 fn ends_meet(pattern: &str, name: &str) -> bool
-    ensures { (ts : List Token) → left pattern.now outside ≡ Some ts → result ≡ some_end (tokens_meet ts) (chars name.now) }
+    ensures { (ts : List Token) → left pattern.now outside ≡ Some ts
+        → result ≡ some_end (tokens_meet ts) (chars name.now) }
 {
     let mut pattern = pattern;
     let mut name = name;
@@ -133,8 +134,8 @@ fn text_meets(pattern: &str, name: &str) -> bool
     }
 }
 
-/// Whether a name meets a well-formed pattern. Each token between two `*` looks at each character of the name once at most,
-/// since the first place where the tokens up to the next `*` fit is as good as any later one; no memory is taken.
+/// Whether a name meets a well-formed pattern. Each token between two `*` looks at each character of the name once at
+/// most, since the first place where the tokens up to the next `*` fit is as good as any later one; no memory is taken.
 pub fn glob_meets(pattern: &[u8], name: &[u8]) -> bool
     requires pattern { globs.is_well_formed pattern.now ≡ true }
     requires pattern_text { is_utf8 pattern.now ≡ true }

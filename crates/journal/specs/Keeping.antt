@@ -19,7 +19,8 @@ next_generation None generation = generation + 1
 next_generation (Some r) generation = r.generation
 
 -- a new side is written beside the one in use, of the next generation; it holds these batches, and is not open whatever a crash leaves
-pub record IsCopied (crashes : Bool) (seen : Option Sides) (images : Sides → Type 0) (side : Side) (generation : ℕ) (r : Rewriter) (copied : List Bytes) : Type 0 where
+pub record IsCopied (crashes : Bool) (seen : Option Sides) (images : Sides
+    → Type 0) (side : Side) (generation : ℕ) (r : Rewriter) (copied : List Bytes) : Type 0 where
   pub beside : r.side ≡ other_side side
   pub next : r.generation ≡ generation + 1
   pub new : IsNewSide crashes seen images r.side r.generation r.gate copied
@@ -30,7 +31,8 @@ IsBeside crashes seen images side generation None copied = SideIsSafe crashes se
 IsBeside crashes seen images side generation (Some r) copied = IsCopied crashes seen images side generation r copied
 
 -- a side in use stands for these batches, safely; the new side, where one is written, holds the copied ones
-pub record IsKept (crashes : Bool) (seen : Option Sides) (images : Sides → Type 0) (side : Side) (generation gate : ℕ) (rewriter : Option Rewriter) (batches copied : List Bytes) : Type 0 where
+pub record IsKept (crashes : Bool) (seen : Option Sides) (images : Sides
+    → Type 0) (side : Side) (generation gate : ℕ) (rewriter : Option Rewriter) (batches copied : List Bytes) : Type 0 where
   pub log : IsLog crashes seen images side generation gate batches
   pub beside : IsBeside crashes seen images side generation rewriter copied
 

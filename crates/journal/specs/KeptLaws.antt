@@ -20,17 +20,24 @@ beside_holds crashes seen images side g None copied beside = safe_held crashes s
 beside_holds crashes seen images side g (Some r) copied beside =
     let held = subst (λ (s : Side). IsHeld crashes seen images s IsShut) beside.beside beside.new.shut in
     record {
-      now = record { contents = held.now.contents; told = held.now.told; has = shut_behind g (side_of held.now.contents (other_side side)) held.now.has };
+      now = record {
+        contents = held.now.contents;
+        told = held.now.told;
+        has =
+            shut_behind g (side_of held.now.contents (other_side side)) held.now.has;
+      };
       each = λ told c image. shut_behind g (side_of c (other_side side)) (held.each told c image);
     }
 
 -- the disk tells its contents
-pub kept_told : (crashes : Bool) (seen : Option Sides) (images : Sides → Type 0) (side : Side) (g gate : ℕ) (r : Option Rewriter) (batches copied : List Bytes)
+pub kept_told : (crashes : Bool) (seen : Option Sides) (images : Sides
+    → Type 0) (side : Side) (g gate : ℕ) (r : Option Rewriter) (batches copied : List Bytes)
     → IsKept crashes seen images side g gate r batches copied → (s : Sides) × (seen ≡ Some s)
 kept_told crashes seen images side g gate r batches copied kept = (kept.log.safe.contents, kept.log.safe.told)
 
 -- which hold the committed batches
-pub kept_now : (crashes : Bool) (seen : Option Sides) (images : Sides → Type 0) (side : Side) (g gate : ℕ) (r : Option Rewriter) (batches copied : List Bytes)
+pub kept_now : (crashes : Bool) (seen : Option Sides) (images : Sides
+    → Type 0) (side : Side) (g gate : ℕ) (r : Option Rewriter) (batches copied : List Bytes)
     → IsKept crashes seen images side g gate r batches copied → (s : Sides) → seen ≡ Some s → HoldsLog batches s
 kept_now crashes seen images side g gate r batches copied kept s told =
     let safe = kept.log.safe in
@@ -43,7 +50,8 @@ kept_now crashes seen images side g gate r batches copied kept s told =
     (subst (λ (x : Sides). IsBehind g (side_of x (other_side side))) beside held.now.has)
 
 -- and so does whatever a crash may leave
-pub kept_images : (crashes : Bool) (seen : Option Sides) (images : Sides → Type 0) (side : Side) (g gate : ℕ) (r : Option Rewriter) (batches copied : List Bytes)
+pub kept_images : (crashes : Bool) (seen : Option Sides) (images : Sides
+    → Type 0) (side : Side) (g gate : ℕ) (r : Option Rewriter) (batches copied : List Bytes)
     → IsKept crashes seen images side g gate r batches copied → crashes ≡ true → EachImage images (HoldsLog batches)
 kept_images crashes seen images side g gate r batches copied kept told c image =
     let safe = kept.log.safe in

@@ -8,7 +8,8 @@ use Rattle.journal.specs.Openings.{AreWhole, IsAllSafe, IsUsed, HoldsSince}
 
 -- From a disk to a new one: these batches were taken, and each has whole records alone. Where the disk tells its contents they hold
 -- these batches, and what is to be kept is; where it tells crashes, whatever one leaves holds them from some moment on.
-pub record IsReplayed {R D : Type 0} (took : R → List Bytes → Bytes → Type 0) (fault : Bytes → Option ℕ) (crashes : D → Bool) (seen : D → Option Sides) (moment : D → ℕ) (left_since : D → ℕ → Sides → Type 0) (old new : D) (replay : R) (kept : List Bytes → Type 0) : Type 0 where
+pub record IsReplayed {R D : Type 0} (took : R → List Bytes → Bytes → Type 0) (fault : Bytes → Option ℕ) (crashes : D → Bool) (seen : D
+    → Option Sides) (moment : D → ℕ) (left_since : D → ℕ → Sides → Type 0) (old new : D) (replay : R) (kept : List Bytes → Type 0) : Type 0 where
   pub batches : List Bytes
   pub taken : took replay batches []
   pub whole : AreWhole fault batches
@@ -17,7 +18,9 @@ pub record IsReplayed {R D : Type 0} (took : R → List Bytes → Bytes → Type
   pub since : (s : Sides) → seen old ≡ Some s → crashes old ≡ true → HoldsSince moment left_since old new batches
 
 -- the same of a side in use of a disk whose sides are safe
-pub record LogRead {R D : Type 0} (took : R → List Bytes → Bytes → Type 0) (fault : Bytes → Option ℕ) (crashes : D → Bool) (seen : D → Option Sides) (images : D → Sides → Type 0) (disk : D) (side : Side) (generation len : ℕ) (replay : R) (kept : List Bytes → Type 0) : Type 0 where
+pub record LogRead {R D : Type 0} (took : R → List Bytes → Bytes → Type 0) (fault : Bytes → Option ℕ) (crashes : D → Bool) (seen : D
+    → Option Sides) (images : D → Sides → Type 0) (disk : D) (side : Side) (generation len : ℕ) (replay : R) (kept : List Bytes
+    → Type 0) : Type 0 where
   pub batches : List Bytes
   pub taken : took replay batches []
   pub whole : AreWhole fault batches

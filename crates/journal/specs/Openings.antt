@@ -68,11 +68,14 @@ pub record IsUsed (s : Sides) (side : Side) (generation len : ℕ) : Type 0 wher
   pub headed : IsHeaded (side_of s side) generation len
 
 -- calls that only look at a side
-pub record Looked {D : Type 0} (crashes : D → Bool) (seen : D → Option Sides) (images : D → Sides → Type 0) (moment : D → ℕ) (left_since : D → ℕ → Sides → Type 0) (faults : D → ℕ) (side : Side) (old new : D) : Type 0 where
+pub record Looked {D : Type 0} (crashes : D → Bool) (seen : D → Option Sides) (images : D → Sides → Type 0) (moment : D → ℕ) (left_since : D → ℕ
+    → Sides → Type 0) (faults : D → ℕ) (side : Side) (old new : D) : Type 0 where
   pub told : crashes new ≡ crashes old
   pub later : faults old ≤ faults new
-  pub safe : (bytes : Bytes) → SideIsSafe (crashes old) (seen old) (images old) side (λ x. x ≡ bytes) → SideIsSafe (crashes new) (seen new) (images new) side (λ x. x ≡ bytes)
-  pub same : (bytes : Bytes) → SideIsSafe (crashes old) (seen old) (images old) side (λ x. x ≡ bytes) → SideLeads crashes seen images moment left_since side (λ x. x ≡ bytes) old new
+  pub safe : (bytes : Bytes) → SideIsSafe (crashes old) (seen old) (images old) side (λ x. x ≡ bytes)
+      → SideIsSafe (crashes new) (seen new) (images new) side (λ x. x ≡ bytes)
+  pub same : (bytes : Bytes) → SideIsSafe (crashes old) (seen old) (images old) side (λ x. x ≡ bytes)
+      → SideLeads crashes seen images moment left_since side (λ x. x ≡ bytes) old new
 
 -- from some moment of these calls on, whatever a crash might have left holds these batches
 pub record HoldsSince {D : Type 0} (moment : D → ℕ) (left_since : D → ℕ → Sides → Type 0) (old new : D) (batches : List Bytes) : Type 0 where

@@ -9,7 +9,8 @@ use Rattle.append_log.specs.Reading.{IsAtGate, IsInBatch, IsEnd}
 use Rattle.journal.specs.Openings.{AreWhole}
 
 -- A side of a disk, and who takes what is read of it. The places are those at which reading began and goes on.
-module _ {R D : Type 0} (took : R → List Bytes → Bytes → Type 0) (fault : Bytes → Option ℕ) (crashes : D → Bool) (seen : D → Option Sides) (images : D → Sides → Type 0) (disk : D) (side : Side) where
+module _ {R D : Type 0} (took : R → List Bytes → Bytes → Type 0) (fault : Bytes → Option ℕ) (crashes : D → Bool) (seen : D → Option Sides) (images : D
+    → Sides → Type 0) (disk : D) (side : Side) where
   -- one more piece of a batch was taken
   pub record TookPiece (batches : List Bytes) (part : Bytes) (len left at left' at' : ℕ) (replay : R) : Type 0 where
     pub more : Bytes

@@ -1,6 +1,7 @@
 -- Which side is in use, beside what stands on the other one.
 use Rattle.std.specs.Prelude.{nat_lt, if◌then◌else◌}
-use Rattle.std.proofs.Common.{◌≡◌, ◌⊎◌, ◌+◌, ◌≤◌, ◌<◌, ◌∙◌, ◌==◌, ◌||◌, ℕ, Bool, true, false, not, List, [], ◌∷◌, length, refl, sym, ap, subst, inl, inr, arith, eqb-true}
+use Rattle.std.proofs.Common.{◌≡◌, ◌⊎◌, ◌+◌, ◌≤◌, ◌<◌, ◌∙◌, ◌==◌, ◌||◌, ℕ, Bool, true, false, not, List, [], ◌∷◌, length, refl, sym, ap, subst, inl}
+use Rattle.std.proofs.Common.{inr, arith, eqb-true}
 use Rattle.std.proofs.lemmas.Bool.{le-ltb, ltb-false}
 use Rattle.std.proofs.lemmas.Bool.Decides.{nat_tests}
 use Rattle.byte_text.specs.Names.{Bytes}
@@ -45,13 +46,23 @@ second : (a : Head) (g n : ℕ) → leaves_in_use g a ≡ true → start_of a (O
 second TooLong g n e = absurd (let clash : false ≡ true = e in cc)
 second (Shut m) g n e = refl
 second (Wrong place) g n e = absurd (let clash : false ≡ true = e in cc)
-second (Open h m) g n e = if_false (h == g) (Damaged B 8) _ (not_equal_too g h e) ∙ if_false (nat_lt g h) (Standing A h m) (Standing B g n) (not_after g h e)
+second (Open h m) g n e = if_false (h == g) (Damaged B 8) _ (not_equal_too g h e)
+    ∙ if_false (nat_lt g h) (Standing A h m) (Standing B g n) (not_after g h e)
 
 -- a side that stands, beside one that leaves it in use
-pub stands_in : (c : Sides) (side : Side) (g : ℕ) (batches : List Bytes) → StandsFor g batches (side_of c side) → IsBehind g (side_of c (other_side side))
+pub stands_in : (c : Sides) (side : Side) (g : ℕ) (batches : List Bytes) → StandsFor g batches (side_of c side)
+    → IsBehind g (side_of c (other_side side))
     → StandsIn c side g batches
-stands_in c A g batches stands behind = record { used = ap (λ (h : Head). start_of h (head_of c.b)) (stands_head g batches c.a stands) ∙ first (head_of c.b) g (length c.a) behind; stands = stands }
-stands_in c B g batches stands behind = record { used = ap (λ (h : Head). start_of (head_of c.a) h) (stands_head g batches c.b stands) ∙ second (head_of c.a) g (length c.b) behind; stands = stands }
+stands_in c A g batches stands behind = record {
+  used = ap (λ (h : Head). start_of h (head_of c.b)) (stands_head g batches c.a stands)
+      ∙ first (head_of c.b) g (length c.a) behind;
+  stands = stands;
+}
+stands_in c B g batches stands behind = record {
+  used = ap (λ (h : Head). start_of (head_of c.a) h) (stands_head g batches c.b stands)
+      ∙ second (head_of c.a) g (length c.b) behind;
+  stands = stands;
+}
 
 closed_by : (t u : Bool) → (t ≡ false → u ≡ true → ⊥) → (t || not u) ≡ true
 closed_by true u f = refl
@@ -63,7 +74,9 @@ pub not_open_head : (side : Bytes) → IsNotOpen side → head_of side ≡ Shut 
 not_open_head [] closed = refl
 not_open_head (b ∷ bytes) closed =
     let len = length (b ∷ bytes) in
-    let shut : (nat_lt len 17 || not (b == open_gate)) ≡ true = closed_by (nat_lt len 17) (b == open_gate) (λ long opened. closed.shut (record { long = ltb-false len 17 long; gate = eqb-true b open_gate opened })) in
+    let shut : (nat_lt len 17 || not (b == open_gate)) ≡ true =
+    closed_by (nat_lt len 17) (b == open_gate)
+    (λ long opened. closed.shut (record { long = ltb-false len 17 long; gate = eqb-true b open_gate opened })) in
     if_false (nat_lt max_side len) TooLong _ (le-ltb max_side len closed.short) ∙ if_true (nat_lt len 17 || not (b == open_gate)) (Shut len) _ shut
 
 pub not_open_behind : (g : ℕ) (side : Bytes) → IsNotOpen side → IsBehind g side
@@ -89,7 +102,8 @@ pub holds : (c : Sides) (side : Side) (g : ℕ) (batches : List Bytes) → Stand
     → HoldsLog batches c
 holds c side g batches stands behind = inl (side, g, stands_in c side g batches stands behind)
 
-pub holds_round : (c : Sides) (side : Side) (g : ℕ) (batches others : List Bytes) → StandsFor g batches (side_of c side) ⊎ StandsFor g others (side_of c side)
+pub holds_round : (c : Sides) (side : Side) (g : ℕ) (batches others : List Bytes)
+    → StandsFor g batches (side_of c side) ⊎ StandsFor g others (side_of c side)
     → IsBehind g (side_of c (other_side side)) → HoldsEither batches others c
 holds_round c side g batches others (inl stands) behind = inl (holds c side g batches stands behind)
 holds_round c side g batches others (inr stands) behind = inr (holds c side g others stands behind)
@@ -100,4 +114,5 @@ pub holds_opened : (c : Sides) (side : Side) (g n : ℕ) (batches copied : List 
 holds_opened c side g n batches copied next stands (inl shut) = inl (holds c side g batches stands (shut_behind g (side_of c (other_side side)) shut))
 holds_opened c side g n batches copied next stands (inr opened) =
     inr (holds c (other_side side) n copied opened
-    (older_behind g n batches (side_of c (other_side (other_side side))) (omega (arith, next)) (subst (λ (s : Side). StandsFor g batches (side_of c s)) (sym (other_other side)) stands)))
+    (older_behind g n batches (side_of c (other_side (other_side side))) (omega (arith, next))
+    (subst (λ (s : Side). StandsFor g batches (side_of c s)) (sym (other_other side)) stands)))

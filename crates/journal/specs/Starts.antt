@@ -19,12 +19,14 @@ not_standing : (t : Bool) (side : Side) (g n : ℕ) → (if t then Fresh else Da
 not_standing true side g n e = absurd (cc e)
 not_standing false side g n e = absurd (cc e)
 
-both_open : (h k n m g j : ℕ) (t u : Bool) → (if t then Damaged B 8 else if u then Standing A h n else Standing B k m) ≡ Standing A g j → (u ≡ true) × (h ≡ g)
+both_open : (h k n m g j : ℕ) (t u : Bool) → (if t then Damaged B 8 else if u then Standing A h n else Standing B k m) ≡ Standing A g j → (u ≡ true)
+    × (h ≡ g)
 both_open h k n m g j true u e = absurd (cc e)
 both_open h k n m g j false true e = (refl, cc e)
 both_open h k n m g j false false e = absurd (cc e)
 
-both_open_b : (h k n m g j : ℕ) (t u : Bool) → (if t then Damaged B 8 else if u then Standing A h n else Standing B k m) ≡ Standing B g j → (t ≡ false) × (u ≡ false) × (k ≡ g)
+both_open_b : (h k n m g j : ℕ) (t u : Bool) → (if t then Damaged B 8 else if u then Standing A h n else Standing B k m) ≡ Standing B g j
+    → (t ≡ false) × (u ≡ false) × (k ≡ g)
 both_open_b h k n m g j true u e = absurd (cc e)
 both_open_b h k n m g j false true e = absurd (cc e)
 both_open_b h k n m g j false false e = (refl, refl, cc e)
@@ -56,10 +58,12 @@ beside_b (Wrong k) (Shut m) g n e = absurd (cc e)
 beside_b (Wrong k) (Wrong m) g n e = absurd (cc e)
 beside_b (Wrong k) (Open h m) g n e = absurd (cc e)
 beside_b (Open h k) (Wrong m) g n e = absurd (cc e)
-beside_b (Open h k) (Open i m) g n e = let both = both_open_b h i k m g n (h == i) (nat_lt i h) e in subst (λ (j : ℕ). nat_lt h j ≡ true) both.2 (less_than h i both.0 both.1)
+beside_b (Open h k) (Open i m) g n e = let both = both_open_b h i k m g n (h == i) (nat_lt i h) e
+    in subst (λ (j : ℕ). nat_lt h j ≡ true) both.2 (less_than h i both.0 both.1)
 beside_b (Open h k) (Shut m) g n e = absurd (cc e)
 
-pub beside_used : (s : Sides) (side : Side) (g n : ℕ) → start_of (head_of s.a) (head_of s.b) ≡ Standing side g n → IsBehind g (side_of s (other_side side))
+pub beside_used : (s : Sides) (side : Side) (g n : ℕ) → start_of (head_of s.a) (head_of s.b) ≡ Standing side g n
+    → IsBehind g (side_of s (other_side side))
 beside_used s A g n e = beside_a (head_of s.a) (head_of s.b) g n e
 beside_used s B g n e = beside_b (head_of s.a) (head_of s.b) g n e
 

@@ -1,6 +1,7 @@
 //! The steps of a journal on its disk: a commit, its mirror, and those of a rewriting.
 
-ghost use Rattle.std.specs.Prelude.{◌≡◌, ◌+◌, ◌≤◌, ◌<◌, ◌^◌, ℕ, List, [], Option, None, Some, true, is_some, length, OnOk, OnErr, IfOk};
+ghost use Rattle.std.specs.Prelude.{◌≡◌, ◌+◌, ◌≤◌, ◌<◌, ◌^◌, ℕ, List, [], Option, None, Some, true, is_some, length};
+ghost use Rattle.std.specs.Prelude.{OnOk, OnErr, IfOk};
 ghost use Rattle.byte_text.specs.Names.{Bytes};
 ghost use Rattle.outside.specs.Causes.{HasCause};
 ghost use Rattle.outside.specs.Crashes.{LeavesOnly};
@@ -20,9 +21,12 @@ use outside::{Disk, Failed, Side};
 pub(crate) fn commit_log<D: Disk>(disk: &mut D, log: &mut AppendLog) -> Result<(), Failed>
     ensures kept { (rewriter : Option Rewriter) (batches copied : List Bytes)
         → KeptOn D.crashes D.seen D.images disk.old log.old.side log.old.generation log.old.gate rewriter batches copied
-        → OnOk result (KeptOn D.crashes D.seen D.images disk.new log.old.side log.old.generation log.new.gate rewriter (committed batches log.old.pending) copied) }
+        → OnOk result
+        (KeptOn D.crashes D.seen D.images disk.new log.old.side log.old.generation log.new.gate rewriter
+        (committed batches log.old.pending) copied) }
     ensures leaves { (rewriter : Option Rewriter) (batches copied : List Bytes)
-        → KeptOn D.crashes D.seen D.images disk.old log.old.side log.old.generation log.old.gate rewriter batches copied → D.crashes disk.old ≡ true
+        → KeptOn D.crashes D.seen D.images disk.old log.old.side log.old.generation log.old.gate rewriter batches
+        copied → D.crashes disk.old ≡ true
         → LeavesOnly D.moment D.left_since disk.old disk.new (HoldsEither batches (committed batches log.old.pending)) }
     ensures told { D.crashes disk.new ≡ D.crashes disk.old }
     ensures cause { HasCause (D.faults disk.old) (D.faults disk.new) result }
@@ -43,11 +47,15 @@ pub(crate) fn mirror_batch<D: Disk>(
     batch: &[u8],
 ) -> Result<(), Failed>
     requires { new_gate rewriter.old + length batch.now ≤ 2 ^ 62 }
-    ensures kept { (side : Side) (generation gate : ℕ) (batches copied : List Bytes) (records : Bytes) → batch.now ≡ written records
+    ensures kept { (side : Side) (generation gate : ℕ) (batches copied : List Bytes) (records : Bytes)
+        → batch.now ≡ written records
         → KeptOn D.crashes D.seen D.images disk.old side generation gate rewriter.old batches copied
-        → OnOk result (KeptOn D.crashes D.seen D.images disk.new side generation gate rewriter.new batches (committed copied records)) }
+        → OnOk result
+        (KeptOn D.crashes D.seen D.images disk.new side generation gate rewriter.new batches
+        (committed copied records)) }
     ensures leaves { (side : Side) (generation gate : ℕ) (batches copied : List Bytes)
-        → KeptOn D.crashes D.seen D.images disk.old side generation gate rewriter.old batches copied → D.crashes disk.old ≡ true
+        → KeptOn D.crashes D.seen D.images disk.old side generation gate rewriter.old batches copied
+        → D.crashes disk.old ≡ true
         → LeavesOnly D.moment D.left_since disk.old disk.new (HoldsLog batches) }
     ensures told { D.crashes disk.new ≡ D.crashes disk.old }
     ensures cause { HasCause (D.faults disk.old) (D.faults disk.new) result }
@@ -66,9 +74,12 @@ pub(crate) fn begin_beside<D: Disk>(disk: &mut D, log: &AppendLog) -> Result<Rew
     requires { log.now.generation < 2 ^ 63 }
     ensures kept { (batches copied : List Bytes)
         → KeptOn D.crashes D.seen D.images disk.old log.now.side log.now.generation log.now.gate None batches copied
-        → IfOk result (λ r. KeptOn D.crashes D.seen D.images disk.new log.now.side log.now.generation log.now.gate (Some r) batches []) }
+        → IfOk result
+        (λ r. KeptOn D.crashes D.seen D.images disk.new log.now.side log.now.generation log.now.gate
+        (Some r) batches []) }
     ensures leaves { (batches copied : List Bytes)
-        → KeptOn D.crashes D.seen D.images disk.old log.now.side log.now.generation log.now.gate None batches copied → D.crashes disk.old ≡ true
+        → KeptOn D.crashes D.seen D.images disk.old log.now.side log.now.generation log.now.gate None batches copied
+        → D.crashes disk.old ≡ true
         → LeavesOnly D.moment D.left_since disk.old disk.new (HoldsLog batches) }
     ensures told { D.crashes disk.new ≡ D.crashes disk.old }
     ensures cause { HasCause (D.faults disk.old) (D.faults disk.new) result }
@@ -97,9 +108,12 @@ pub(crate) fn copy_records<D: Disk>(
     requires { new_gate rewriter.old + length records.now + 10 ≤ 2 ^ 62 }
     ensures kept { (side : Side) (generation gate : ℕ) (batches copied : List Bytes)
         → KeptOn D.crashes D.seen D.images disk.old side generation gate rewriter.old batches copied
-        → OnOk result (KeptOn D.crashes D.seen D.images disk.new side generation gate rewriter.new batches (committed copied records.now)) }
+        → OnOk result
+        (KeptOn D.crashes D.seen D.images disk.new side generation gate rewriter.new batches
+        (committed copied records.now)) }
     ensures leaves { (side : Side) (generation gate : ℕ) (batches copied : List Bytes)
-        → KeptOn D.crashes D.seen D.images disk.old side generation gate rewriter.old batches copied → D.crashes disk.old ≡ true
+        → KeptOn D.crashes D.seen D.images disk.old side generation gate rewriter.old batches copied
+        → D.crashes disk.old ≡ true
         → LeavesOnly D.moment D.left_since disk.old disk.new (HoldsLog batches) }
     ensures told { D.crashes disk.new ≡ D.crashes disk.old }
     ensures cause { HasCause (D.faults disk.old) (D.faults disk.new) result }
@@ -117,9 +131,11 @@ pub(crate) fn copy_records<D: Disk>(
 pub(crate) fn open_new<D: Disk>(disk: &mut D, rewriter: Rewriter) -> Result<NewSide, Failed>
     ensures kept { (side : Side) (generation gate : ℕ) (batches copied any : List Bytes)
         → KeptOn D.crashes D.seen D.images disk.old side generation gate (Some rewriter) batches copied
-        → IfOk result (λ made. KeptOn D.crashes D.seen D.images disk.new made.side made.generation made.gate None copied any) }
+        → IfOk result
+        (λ made. KeptOn D.crashes D.seen D.images disk.new made.side made.generation made.gate None copied any) }
     ensures leaves { (side : Side) (generation gate : ℕ) (batches copied : List Bytes)
-        → KeptOn D.crashes D.seen D.images disk.old side generation gate (Some rewriter) batches copied → D.crashes disk.old ≡ true
+        → KeptOn D.crashes D.seen D.images disk.old side generation gate (Some rewriter) batches copied
+        → D.crashes disk.old ≡ true
         → LeavesOnly D.moment D.left_since disk.old disk.new (HoldsEither batches copied) }
     ensures told { D.crashes disk.new ≡ D.crashes disk.old }
     ensures cause { HasCause (D.faults disk.old) (D.faults disk.new) result }

@@ -1,6 +1,12 @@
 //! A journal over a disk: changes are pushed, and a commit makes them stand, also while the log is rewritten.
+//!
+//! A commit during a rewriting makes five calls of the disk: four that make the batch stand on the side in use, and the
+//! mirror behind them, which is not synced: until the new side is opened the old one decides, and `finish` syncs first.
+//! A journal whose call failed keeps its disk and gives it back; it makes no further call, since nothing is known of
+//! what its last one did.
 
-ghost use Rattle.std.specs.Prelude.{◌≡◌, ◌+◌, ◌≤◌, ◌<◌, ◌^◌, ◌++◌, ◌⊎◌, ℕ, true, false, List, [], Some, None, is_some, take, length, Decides, OnOk, OnErr, IfOk, IfErr};
+ghost use Rattle.std.specs.Prelude.{◌≡◌, ◌+◌, ◌≤◌, ◌<◌, ◌^◌, ◌++◌, ◌⊎◌, ℕ, true, false, List, [], Some, None, is_some};
+ghost use Rattle.std.specs.Prelude.{take, length, Decides, OnOk, OnErr, IfOk, IfErr};
 ghost use Rattle.byte_text.specs.Names.{Bytes};
 ghost use Rattle.outside.specs.Causes.{HasCause, Rose};
 ghost use Rattle.outside.specs.declared.sides.Side.{Side};
@@ -53,16 +59,19 @@ impl<D: Disk> Journal<D> {
     ghost use Rattle.journal.specs.Openings.{IsDamaged, IsLeftByOpening, IsUnopened, opened_len};
     ghost use Rattle.journal.specs.Opened.{IsReplayed};
 
-    /// Opens the log on a disk: both sides are synced, and the batches of the side in use are replayed. On a fresh disk a log is begun.
+    /// Opens the log on a disk: both sides are synced, and the batches of the side in use are replayed. On a fresh disk
+    /// a log is begun.
     pub fn open<R: Replay>(alloc: Global, disk: D, replay: &mut R) -> Result<Opened<D>, Unopened<D>>
         requires { R.took replay.old [] [] }
-        ensures opened { IfOk result (λ o. IsReplayed R.took R.fault D.crashes D.seen D.moment D.left_since disk o.journal.disk replay.new
+        ensures opened { IfOk result
+            (λ o. IsReplayed R.took R.fault D.crashes D.seen D.moment D.left_since disk o.journal.disk replay.new
             (λ batches. Keeps D.crashes D.seen D.images o.journal batches [])) }
         ensures leaves { (s : Sides) → D.seen disk ≡ Some s → D.crashes disk ≡ true
             → LeavesOnly D.moment D.left_since disk (disk_of result) (IsLeftByOpening (D.images disk) s) }
         ensures same { (s : Sides) → D.seen disk ≡ Some s → IfErr result (λ u. IsUnopened (D.seen u.disk) s u.why) }
         ensures damaged { (s : Sides) → D.seen disk ≡ Some s
-            → IfErr result (λ u. (side : Side) (place : ℕ) → u.why ≡ OpenFault.Damaged side place → IsDamaged R.fault s side place) }
+            → IfErr result
+            (λ u. (side : Side) (place : ℕ) → u.why ≡ OpenFault.Damaged side place → IsDamaged R.fault s side place) }
         ensures told { D.crashes (disk_of result) ≡ D.crashes disk }
         ensures later { D.faults disk ≤ D.faults (disk_of result) }
         ensures cause { IfErr result (λ u. u.why ≡ OpenFault.Disk → Rose (D.faults disk) (D.faults u.disk)) }
@@ -163,14 +172,18 @@ impl<D: Disk> Journal<D> {
         self.log.cut_to(len);
     }
 
-    /// Makes the pending batch stand, with two syncs; where the log is rewritten it is written to the new side, too, which is not
-    /// synced. With nothing pending the disk is left alone. At each moment inside a crash leaves the committed batches, or those with
-    /// the pending one.
+    /// Makes the pending batch stand, with two syncs; where the log is rewritten it is written to the new side, too,
+    /// which is not synced. With nothing pending the disk is left alone. At each moment inside a crash leaves the
+    /// committed batches, or those with the pending one.
     pub fn commit(&mut self) -> Result<(), JournalFault>
         ensures kept { (batches copied : List Bytes) → Keeps D.crashes D.seen D.images self.old batches copied
-            → OnOk result (Keeps D.crashes D.seen D.images self.new (committed batches (pending self.old)) (committed copied (pending self.old))) }
-        ensures leaves { (batches copied : List Bytes) → Keeps D.crashes D.seen D.images self.old batches copied → D.crashes self.old.disk ≡ true
-            → LeavesOnly D.moment D.left_since self.old.disk self.new.disk (HoldsEither batches (committed batches (pending self.old))) }
+            → OnOk result
+            (Keeps D.crashes D.seen D.images self.new (committed batches (pending self.old))
+            (committed copied (pending self.old))) }
+        ensures leaves { (batches copied : List Bytes) → Keeps D.crashes D.seen D.images self.old batches copied
+            → D.crashes self.old.disk ≡ true
+            → LeavesOnly D.moment D.left_since self.old.disk self.new.disk
+            (HoldsEither batches (committed batches (pending self.old))) }
         ensures ends { Ends D.faults self.old self.new result }
         ensures told { D.crashes self.new.disk ≡ D.crashes self.old.disk }
         ensures pending { OnOk result (pending self.new ≡ []) }
@@ -178,7 +191,8 @@ impl<D: Disk> Journal<D> {
         ensures generation { self.new.log.generation ≡ self.old.log.generation }
         ensures rewriting { is_some self.new.rewriter ≡ is_some self.old.rewriter }
         ensures gate { OnOk result (self.new.log.gate ≤ self.old.log.gate + length (pending self.old) + 9) }
-        ensures new_gate { OnOk result (new_gate self.new.rewriter ≤ new_gate self.old.rewriter + length (pending self.old) + 10) }
+        ensures new_gate { OnOk result
+            (new_gate self.new.rewriter ≤ new_gate self.old.rewriter + length (pending self.old) + 10) }
     {
         if self.failed {
             return Err(JournalFault::Failed);
@@ -195,9 +209,13 @@ impl<D: Disk> Journal<D> {
     // The commit on the side in use, and then on the new one.
     fn commit_both(&mut self) -> Result<(), Failed>
         ensures kept { (batches copied : List Bytes) → Keeps D.crashes D.seen D.images self.old batches copied
-            → OnOk result (Keeps D.crashes D.seen D.images self.new (committed batches (pending self.old)) (committed copied (pending self.old))) }
-        ensures leaves { (batches copied : List Bytes) → Keeps D.crashes D.seen D.images self.old batches copied → D.crashes self.old.disk ≡ true
-            → LeavesOnly D.moment D.left_since self.old.disk self.new.disk (HoldsEither batches (committed batches (pending self.old))) }
+            → OnOk result
+            (Keeps D.crashes D.seen D.images self.new (committed batches (pending self.old))
+            (committed copied (pending self.old))) }
+        ensures leaves { (batches copied : List Bytes) → Keeps D.crashes D.seen D.images self.old batches copied
+            → D.crashes self.old.disk ≡ true
+            → LeavesOnly D.moment D.left_since self.old.disk self.new.disk
+            (HoldsEither batches (committed batches (pending self.old))) }
         ensures pending { OnOk result (pending self.new ≡ []) }
         ensures told { D.crashes self.new.disk ≡ D.crashes self.old.disk }
         ensures cause { HasCause (D.faults self.old.disk) (D.faults self.new.disk) result }
@@ -206,7 +224,8 @@ impl<D: Disk> Journal<D> {
         ensures generation { self.new.log.generation ≡ self.old.log.generation }
         ensures rewriting { is_some self.new.rewriter ≡ is_some self.old.rewriter }
         ensures gate { OnOk result (self.new.log.gate ≤ self.old.log.gate + length (pending self.old) + 9) }
-        ensures new_gate { OnOk result (new_gate self.new.rewriter ≤ new_gate self.old.rewriter + length (pending self.old) + 10) }
+        ensures new_gate { OnOk result
+            (new_gate self.new.rewriter ≤ new_gate self.old.rewriter + length (pending self.old) + 10) }
     {
         match commit_log(&mut self.disk, &mut self.log) {
             Ok(()) => mirror_batch(&mut self.disk, &mut self.rewriter, self.log.last_batch()),
@@ -214,14 +233,16 @@ impl<D: Disk> Journal<D> {
         }
     }
 
-    /// Begins to rewrite the log: a new side of the next generation, which holds nothing yet. It is not open, whatever a crash leaves.
+    /// Begins to rewrite the log: a new side of the next generation, which holds nothing yet. It is not open, whatever
+    /// a crash leaves.
     pub fn begin(&mut self) -> Result<(), JournalFault>
         requires idle { is_some self.old.rewriter ≡ false }
         requires committed { pending self.old ≡ [] }
         requires generation { self.old.log.generation < 2 ^ 63 }
         ensures kept { (batches copied : List Bytes) → Keeps D.crashes D.seen D.images self.old batches copied
             → OnOk result (Keeps D.crashes D.seen D.images self.new batches []) }
-        ensures leaves { (batches copied : List Bytes) → Keeps D.crashes D.seen D.images self.old batches copied → D.crashes self.old.disk ≡ true
+        ensures leaves { (batches copied : List Bytes) → Keeps D.crashes D.seen D.images self.old batches copied
+            → D.crashes self.old.disk ≡ true
             → LeavesOnly D.moment D.left_since self.old.disk self.new.disk (HoldsLog batches) }
         ensures ends { Ends D.faults self.old self.new result }
         ensures told { D.crashes self.new.disk ≡ D.crashes self.old.disk }
@@ -262,7 +283,8 @@ impl<D: Disk> Journal<D> {
         requires room { new_gate self.old.rewriter + length piece.now.records + 10 ≤ 2 ^ 62 }
         ensures kept { (batches copied : List Bytes) → Keeps D.crashes D.seen D.images self.old batches copied
             → OnOk result (Keeps D.crashes D.seen D.images self.new batches (committed copied piece.now.records)) }
-        ensures leaves { (batches copied : List Bytes) → Keeps D.crashes D.seen D.images self.old batches copied → D.crashes self.old.disk ≡ true
+        ensures leaves { (batches copied : List Bytes) → Keeps D.crashes D.seen D.images self.old batches copied
+            → D.crashes self.old.disk ≡ true
             → LeavesOnly D.moment D.left_since self.old.disk self.new.disk (HoldsLog batches) }
         ensures ends { Ends D.faults self.old self.new result }
         ensures told { D.crashes self.new.disk ≡ D.crashes self.old.disk }
@@ -270,7 +292,8 @@ impl<D: Disk> Journal<D> {
         ensures generation { self.new.log.generation ≡ self.old.log.generation }
         ensures rewriting { is_some self.new.rewriter ≡ is_some self.old.rewriter }
         ensures gate { self.new.log.gate ≡ self.old.log.gate }
-        ensures new_gate { OnOk result (new_gate self.new.rewriter ≤ new_gate self.old.rewriter + length piece.now.records + 10) }
+        ensures new_gate { OnOk result
+            (new_gate self.new.rewriter ≤ new_gate self.old.rewriter + length piece.now.records + 10) }
     {
         if self.failed {
             return Err(JournalFault::Failed);
@@ -284,14 +307,15 @@ impl<D: Disk> Journal<D> {
         }
     }
 
-    /// Ends a rewriting: the new side is made safe and then opened, and is the one in use from then on. At each moment inside a crash
-    /// leaves the committed batches, or those that were copied.
+    /// Ends a rewriting: the new side is made safe and then opened, and is the one in use from then on. At each moment
+    /// inside a crash leaves the committed batches, or those that were copied.
     pub fn finish(&mut self) -> Result<(), JournalFault>
         requires going { is_some self.old.rewriter ≡ true }
         requires committed { pending self.old ≡ [] }
         ensures kept { (batches copied any : List Bytes) → Keeps D.crashes D.seen D.images self.old batches copied
             → OnOk result (Keeps D.crashes D.seen D.images self.new copied any) }
-        ensures leaves { (batches copied : List Bytes) → Keeps D.crashes D.seen D.images self.old batches copied → D.crashes self.old.disk ≡ true
+        ensures leaves { (batches copied : List Bytes) → Keeps D.crashes D.seen D.images self.old batches copied
+            → D.crashes self.old.disk ≡ true
             → LeavesOnly D.moment D.left_since self.old.disk self.new.disk (HoldsEither batches copied) }
         ensures ends { Ends D.faults self.old self.new result }
         ensures told { D.crashes self.new.disk ≡ D.crashes self.old.disk }

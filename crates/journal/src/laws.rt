@@ -11,15 +11,18 @@ use crate::journals::Journal;
 use append_log::logs_read_once;
 use outside::Disk;
 
-/// What a journal keeps of its disk, an opening would find there: the disk tells its contents, which hold the committed batches, and so
-/// does whatever a crash may leave.
+/// What a journal keeps of its disk, an opening would find there: the disk tells its contents, which hold the committed
+/// batches, and so does whatever a crash may leave.
 pub fn kept_logs_hold<D: Disk>(journal: &Journal<D>)
-    ensures told { (batches copied : List Bytes) → Keeps D.crashes D.seen D.images journal.now batches copied → (s : Sides) × (D.seen journal.now.disk ≡ Some s) }
+    ensures told { (batches copied : List Bytes) → Keeps D.crashes D.seen D.images journal.now batches copied
+        → (s : Sides) × (D.seen journal.now.disk ≡ Some s) }
     ensures now { (batches copied : List Bytes) → Keeps D.crashes D.seen D.images journal.now batches copied
         → (s : Sides) → D.seen journal.now.disk ≡ Some s → HoldsLog batches s }
-    ensures images { (batches copied : List Bytes) → Keeps D.crashes D.seen D.images journal.now batches copied → D.crashes journal.now.disk ≡ true
+    ensures images { (batches copied : List Bytes) → Keeps D.crashes D.seen D.images journal.now batches copied
+        → D.crashes journal.now.disk ≡ true
         → EachImage (D.images journal.now.disk) (HoldsLog batches) }
 {
+    // Naming the journal shows the proof its invariant.
     let _kept = journal;
 }
 

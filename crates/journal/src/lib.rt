@@ -1,4 +1,5 @@
-//! A journal: the log and its rewriting behind one contract. It owns its disk, and shows what is committed and what is pending.
+//! A journal: the log and its rewriting behind one contract. It owns its disk, and shows what is committed and what is
+//! pending.
 #![tactic(auto)]
 
 mod disk_steps;

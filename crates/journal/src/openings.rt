@@ -1,4 +1,5 @@
-//! A journal is opened: the sides are made safe, the side in use is read and replayed, and where no log was begun one is.
+//! A journal is opened: the sides are made safe, the side in use is read and replayed, and where no log was begun one
+//! is.
 
 ghost use Rattle.std.specs.Prelude.{◌≡◌, ◌≤◌, ◌<◌, ◌^◌, ◌⊎◌, ℕ, [], Some, true, None, length, IfOk, IfErr};
 ghost use Rattle.outside.specs.Causes.{Rose};
@@ -8,7 +9,8 @@ ghost use Rattle.journal.specs.Logs.{HoldsLog};
 ghost use Rattle.journal.specs.Keeping.{KeptOn};
 ghost use Rattle.outside.specs.declared.sides.Side.{Side};
 ghost use Rattle.append_log.specs.Logs.{IsFresh};
-ghost use Rattle.journal.specs.Openings.{IsDamaged, IsBrokenIn, AllSafeOn, IsUsed, IsLeftByOpening, IsUnopened, opened_len, fault_in};
+ghost use Rattle.journal.specs.Openings.{IsDamaged, IsBrokenIn, AllSafeOn, IsUsed, IsLeftByOpening, IsUnopened};
+ghost use Rattle.journal.specs.Openings.{opened_len, fault_in};
 ghost use Rattle.journal.specs.Opened.{IsReplayed, LogRead};
 
 use crate::replays::Replay;
@@ -55,13 +57,15 @@ pub(crate) fn open_log<D: Disk, R: Replay>(
 ) -> Result<UsedLog, OpenFault>
     requires first { R.took replay.old [] [] }
     requires block { 0 < length block.old }
-    ensures opened { IfOk result (λ u. IsReplayed R.took R.fault D.crashes D.seen D.moment D.left_since disk.old disk.new replay.new
+    ensures opened { IfOk result
+        (λ u. IsReplayed R.took R.fault D.crashes D.seen D.moment D.left_since disk.old disk.new replay.new
         (λ batches. KeptOn D.crashes D.seen D.images disk.new u.log.side u.log.generation u.log.gate None batches [])) }
     ensures leaves { (s : Sides) → D.seen disk.old ≡ Some s → D.crashes disk.old ≡ true
         → LeavesOnly D.moment D.left_since disk.old disk.new (IsLeftByOpening (D.images disk.old) s) }
     ensures same { (s : Sides) → D.seen disk.old ≡ Some s → IfErr result (IsUnopened (D.seen disk.new) s) }
     ensures damaged { (s : Sides) → D.seen disk.old ≡ Some s
-        → IfErr result (λ fault. (side : Side) (place : ℕ) → fault ≡ OpenFault.Damaged side place → IsDamaged R.fault s side place) }
+        → IfErr result
+        (λ fault. (side : Side) (place : ℕ) → fault ≡ OpenFault.Damaged side place → IsDamaged R.fault s side place) }
     ensures told { D.crashes disk.new ≡ D.crashes disk.old }
     ensures later { D.faults disk.old ≤ D.faults disk.new }
     ensures cause { IfErr result (λ fault. fault ≡ OpenFault.Disk → Rose (D.faults disk.old) (D.faults disk.new)) }
@@ -87,10 +91,13 @@ pub(crate) fn open_log<D: Disk, R: Replay>(
 // Begins a log on a fresh disk.
 fn begin_log<D: Disk>(alloc: Global, disk: &mut D) -> Result<UsedLog, OpenFault>
     ensures kept { (s : Sides) → AllSafeOn D.crashes D.seen D.images disk.old s → IsFresh s
-        → IfOk result (λ u. KeptOn D.crashes D.seen D.images disk.new u.log.side u.log.generation u.log.gate None [] []) }
-    ensures leaves { (s : Sides) → AllSafeOn D.crashes D.seen D.images disk.old s → IsFresh s → D.crashes disk.old ≡ true
+        → IfOk result
+        (λ u. KeptOn D.crashes D.seen D.images disk.new u.log.side u.log.generation u.log.gate None [] []) }
+    ensures leaves { (s : Sides) → AllSafeOn D.crashes D.seen D.images disk.old s → IsFresh s
+        → D.crashes disk.old ≡ true
         → LeavesOnly D.moment D.left_since disk.old disk.new (HoldsLog []) }
-    ensures same { (s : Sides) → AllSafeOn D.crashes D.seen D.images disk.old s → IsFresh s → IfErr result (IsUnopened (D.seen disk.new) s) }
+    ensures same { (s : Sides) → AllSafeOn D.crashes D.seen D.images disk.old s → IsFresh s
+        → IfErr result (IsUnopened (D.seen disk.new) s) }
     ensures damaged { IfErr result (λ fault. (side : Side) (place : ℕ) → fault ≡ OpenFault.Damaged side place → ⊥) }
     ensures told { D.crashes disk.new ≡ D.crashes disk.old }
     ensures later { D.faults disk.old ≤ D.faults disk.new }
@@ -123,13 +130,16 @@ fn read_log<D: Disk, R: Replay>(
     requires headed { 17 ≤ len }
     requires first { R.took replay.old [] [] }
     requires block { 0 < length block.old }
-    ensures read { IfOk result (λ u. LogRead R.took R.fault D.crashes D.seen D.images disk.old side generation len replay.new
+    ensures read { IfOk result
+        (λ u. LogRead R.took R.fault D.crashes D.seen D.images disk.old side generation len replay.new
         (λ batches. KeptOn D.crashes D.seen D.images disk.new u.log.side u.log.generation u.log.gate None batches [])) }
     ensures leaves { (s : Sides) → AllSafeOn D.crashes D.seen D.images disk.old s → D.crashes disk.old ≡ true
         → LeavesOnly D.moment D.left_since disk.old disk.new (λ c. c ≡ s) }
     ensures same { (s : Sides) → AllSafeOn D.crashes D.seen D.images disk.old s → D.seen disk.new ≡ Some s }
     ensures damaged { (s : Sides) → AllSafeOn D.crashes D.seen D.images disk.old s → IsUsed s side generation len
-        → IfErr result (λ fault. (there : Side) (place : ℕ) → fault ≡ OpenFault.Damaged there place → IsBrokenIn R.fault s there place) }
+        → IfErr result
+        (λ fault. (there : Side) (place : ℕ) → fault ≡ OpenFault.Damaged there place
+        → IsBrokenIn R.fault s there place) }
     ensures told { D.crashes disk.new ≡ D.crashes disk.old }
     ensures later { D.faults disk.old ≤ D.faults disk.new }
     ensures cause { IfErr result (λ fault. fault ≡ OpenFault.Disk → Rose (D.faults disk.old) (D.faults disk.new)) }

@@ -1,4 +1,7 @@
 //! Who takes what an opening reads.
+//!
+//! A batch is handed over in pieces, and its end told apart. A `Replay` may refuse as soon as no bytes behind could
+//! mend what it has, so places of damage come in the order of reading.
 
 ghost use Rattle.std.specs.Prelude.{◌≡◌, ◌+◌, ◌≤◌, ◌++◌, ℕ, List, [], ◌∷◌, Option, None, Some, length, OnOk, IfErr};
 ghost use Rattle.byte_text.specs.Names.{Bytes};
@@ -21,15 +24,20 @@ pub trait Replay {
 
     /// Takes the next bytes of a batch. It may refuse a batch as soon as no bytes behind could mend it.
     fn take(&mut self, piece: &[u8]) -> Result<(), Refusal>
-        ensures took { (batches : List Bytes) (part : Bytes) → took self.old batches part → OnOk result (took self.new batches (part ++ piece.now)) }
+        ensures took { (batches : List Bytes) (part : Bytes) → took self.old batches part
+            → OnOk result (took self.new batches (part ++ piece.now)) }
         ensures refused { (batches : List Bytes) (part : Bytes) → took self.old batches part
             → IfErr result (λ refusal. (at : ℕ) → refusal ≡ Refusal.NoRecord at
-            → (at ≤ length part + length piece.now) × ((rest : Bytes) → fault ((part ++ piece.now) ++ rest) ≡ Some at)) };
+            → (at ≤ length part + length piece.now)
+            × ((rest : Bytes) → fault ((part ++ piece.now) ++ rest) ≡ Some at)) };
 
     /// Ends the batch.
     fn end(&mut self) -> Result<(), Refusal>
-        ensures took { (batches : List Bytes) (part : Bytes) → took self.old batches part → OnOk result (took self.new (batches ++ part ∷ []) []) }
-        ensures whole { (batches : List Bytes) (part : Bytes) → took self.old batches part → OnOk result (fault part ≡ None) }
+        ensures took { (batches : List Bytes) (part : Bytes) → took self.old batches part
+            → OnOk result (took self.new (batches ++ part ∷ []) []) }
+        ensures whole { (batches : List Bytes) (part : Bytes) → took self.old batches part
+            → OnOk result (fault part ≡ None) }
         ensures refused { (batches : List Bytes) (part : Bytes) → took self.old batches part
-            → IfErr result (λ refusal. (at : ℕ) → refusal ≡ Refusal.NoRecord at → (at ≤ length part) × (fault part ≡ Some at)) };
+            → IfErr result
+            (λ refusal. (at : ℕ) → refusal ≡ Refusal.NoRecord at → (at ≤ length part) × (fault part ≡ Some at)) };
 }

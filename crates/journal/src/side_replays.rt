@@ -32,7 +32,9 @@ pub(crate) fn replay_side<D: Disk, R: Replay>(
 ) -> Result<u64, Stop>
     requires block { 0 < length block.old }
     requires first { R.took replay.old [] [] }
-    ensures took { IfOk result (λ gate. TookAll R.took R.fault D.crashes D.seen D.images disk.old reader.side reader.len reader.at gate replay.new) }
+    ensures took { IfOk result
+        (λ gate. TookAll R.took R.fault D.crashes D.seen D.images disk.old reader.side reader.len reader.at gate
+        replay.new) }
     ensures placed { IfOk result (λ gate. gate ≤ reader.len) }
     ensures broken { (g : ℕ) (bytes : Bytes) → ReadsAs D.crashes D.seen D.images disk.old reader.side bytes
         → IsAtGate g [] reader.len reader.at bytes
@@ -62,7 +64,9 @@ fn replay_batch<D: Disk, R: Replay>(
 ) -> Result<(), Stop>
     requires block { 0 < length block.old }
     ensures took { (batches : List Bytes) → R.took replay.old batches []
-        → OnOk result (TookBatch R.took R.fault D.crashes D.seen D.images disk.old reader.old.side batches reader.old.len reader.old.left reader.old.at reader.new.at replay.new) }
+        → OnOk result
+        (TookBatch R.took R.fault D.crashes D.seen D.images disk.old reader.old.side batches reader.old.len
+        reader.old.left reader.old.at reader.new.at replay.new) }
     ensures broken { (batches : List Bytes) (g : ℕ) (bytes : Bytes) → R.took replay.old batches []
         → ReadsAs D.crashes D.seen D.images disk.old reader.old.side bytes
         → IsInBatch g batches [] reader.old.len reader.old.left reader.old.at bytes
@@ -96,7 +100,9 @@ fn take_piece<D: Disk, R: Replay>(
     requires some { 0 < reader.old.left }
     requires block { 0 < length block.old }
     ensures took { (batches : List Bytes) (part : Bytes) → R.took replay.old batches part
-        → OnOk result (TookPiece R.took R.fault D.crashes D.seen D.images disk.old reader.old.side batches part reader.old.len reader.old.left reader.old.at reader.new.left reader.new.at replay.new) }
+        → OnOk result
+        (TookPiece R.took R.fault D.crashes D.seen D.images disk.old reader.old.side batches part reader.old.len
+        reader.old.left reader.old.at reader.new.left reader.new.at replay.new) }
     ensures broken { (batches : List Bytes) (part : Bytes) (g : ℕ) (bytes : Bytes) → R.took replay.old batches part
         → ReadsAs D.crashes D.seen D.images disk.old reader.old.side bytes
         → IsInBatch g batches part reader.old.len reader.old.left reader.old.at bytes → start ≡ gate_place g batches + 9
@@ -123,8 +129,10 @@ fn take_piece<D: Disk, R: Replay>(
 
 // What was read of a batch.
 fn take_read<R: Replay>(replay: &mut R, piece: &[u8], start: u64) -> Result<(), Stop>
-    ensures took { (batches : List Bytes) (part : Bytes) → R.took replay.old batches part → OnOk result (R.took replay.new batches (part ++ piece.now)) }
-    ensures broken { (batches : List Bytes) (part : Bytes) → R.took replay.old batches part → start + length part + length piece.now ≤ 2 ^ 62
+    ensures took { (batches : List Bytes) (part : Bytes) → R.took replay.old batches part
+        → OnOk result (R.took replay.new batches (part ++ piece.now)) }
+    ensures broken { (batches : List Bytes) (part : Bytes) → R.took replay.old batches part
+        → start + length part + length piece.now ≤ 2 ^ 62
         → IfErr result (λ stop. (place : ℕ) → stop ≡ Stop.Broken place
         → (rest : Bytes) → IsRefused R.fault start place ((part ++ piece.now) ++ rest)) }
     ensures cause { IfErr result (λ stop. stop ≡ Stop.Disk → ⊥) }
@@ -138,9 +146,12 @@ fn take_read<R: Replay>(replay: &mut R, piece: &[u8], start: u64) -> Result<(), 
 
 // The end of a batch.
 fn end_batch<R: Replay>(replay: &mut R, start: u64) -> Result<(), Stop>
-    ensures took { (batches : List Bytes) (part : Bytes) → R.took replay.old batches part → OnOk result (R.took replay.new (with_batch batches part) []) }
-    ensures whole { (batches : List Bytes) (part : Bytes) → R.took replay.old batches part → OnOk result (R.fault part ≡ None) }
-    ensures broken { (batches : List Bytes) (part : Bytes) → R.took replay.old batches part → start + length part ≤ 2 ^ 62
+    ensures took { (batches : List Bytes) (part : Bytes) → R.took replay.old batches part
+        → OnOk result (R.took replay.new (with_batch batches part) []) }
+    ensures whole { (batches : List Bytes) (part : Bytes) → R.took replay.old batches part
+        → OnOk result (R.fault part ≡ None) }
+    ensures broken { (batches : List Bytes) (part : Bytes) → R.took replay.old batches part
+        → start + length part ≤ 2 ^ 62
         → IfErr result (λ stop. (place : ℕ) → stop ≡ Stop.Broken place → IsRefused R.fault start place part) }
     ensures cause { IfErr result (λ stop. stop ≡ Stop.Disk → ⊥) }
 {

@@ -1,4 +1,7 @@
 //! The key whose object expires first.
+//!
+//! What is due is found one object at a time: each key gives its first deadline, so it costs a look at each key, and
+//! steps in the logarithm and the root of its key's objects. A list of keys by their first deadline is not there yet.
 
 ghost use Rattle.std.specs.Prelude.{◌≡◌};
 ghost use Rattle.keyspace.specs.FirstDue.{Soonest, sooner};

@@ -1,6 +1,7 @@
 //! A key and its objects.
 
-ghost use Rattle.std.specs.Prelude.{◌≡◌, ◌+◌, ◌≤◌, [], true, not, filter, find, Some, is_some, if◌then◌else◌, IfOk, OnOk};
+ghost use Rattle.std.specs.Prelude.{◌≡◌, ◌+◌, ◌≤◌, [], true, not, filter, find, Some, is_some, if◌then◌else◌, IfOk};
+ghost use Rattle.std.specs.Prelude.{OnOk};
 ghost use Rattle.ordered_lists.specs.Lists.{put_in};
 ghost use Rattle.collection.specs.Objects.{id_before, has_id, has_room, least_due};
 ghost use Rattle.keyspace.specs.Entries.{Entry};
@@ -66,7 +67,8 @@ impl KeyedCollection {
         self.objects.prepare()
     }
 
-    /// Puts an object at its place, and gives out the one of its id that stood there. A new one takes one place of the room.
+    /// Puts an object at its place, and gives out the one of its id that stood there. A new one takes one place of the
+    /// room.
     pub(crate) fn put<L: Ledger>(&mut self, object: Object, steps: &mut Steps<L>) -> Option<Object>
         requires { has_room (held_of self.old) object.id ≡ true }
         ensures key { self.new.key ≡ self.old.key }

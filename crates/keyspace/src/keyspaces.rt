@@ -1,6 +1,13 @@
 //! All keys with their objects.
+//!
+//! Keys stand in a sorted vector, in which room can be taken beforehand; a tree map has none. A key without objects may
+//! stand while a call is made, as the place to which an object goes back; it is given up at the call's end, last of
+//! all, since it may be that of the object that is put. A call that runs out of memory may leave an empty key, until an
+//! object is put under it or the world is cleared. No answer shows it.
 
-ghost use Rattle.std.specs.Prelude.{◌≡◌, ◌+◌, ◌<◌, ◌≤◌, ◌^◌, ◌&&◌, ◌∷◌, [], true, not, length, filter, find, map, is_some, is_none, if◌then◌else◌, slice_get, Some, None, IfNone, IfSome, OnOk, OnErr};
+ghost use Rattle.std.specs.Prelude.{◌≡◌, ◌+◌, ◌<◌, ◌≤◌, ◌^◌, ◌&&◌, ◌∷◌, [], true, not, length, filter, find, map};
+ghost use Rattle.std.specs.Prelude.{is_some, is_none, if◌then◌else◌, slice_get, Some, None, IfNone, IfSome, OnOk};
+ghost use Rattle.std.specs.Prelude.{OnErr};
 ghost use Rattle.byte_text.specs.Names.{Bytes, before, same};
 ghost use Rattle.ordered_lists.specs.Lists.{put_in, sorted_by, distinct};
 ghost use Rattle.world_data.specs.Worlds.{object_before, are_objects, is_at, has_key};
@@ -8,7 +15,8 @@ ghost use Rattle.world_data.specs.Expiry.{is_due, due_before};
 ghost use Rattle.world_data.specs.declared.objects.Object.{Object};
 ghost use Rattle.collection.specs.Objects.{least_due};
 ghost use Rattle.keyspace.specs.KeyOrder.{IsAdded};
-ghost use Rattle.keyspace.specs.Entries.{objects_in, keys_of, is_held, are_held, room_for, has_room, has_objects, is_entry_of};
+ghost use Rattle.keyspace.specs.Entries.{objects_in, keys_of, is_held, are_held, room_for, has_room, has_objects};
+ghost use Rattle.keyspace.specs.Entries.{is_entry_of};
 
 use crate::deadlines::soonest;
 use crate::key_order::place_of;
@@ -38,7 +46,8 @@ impl Model for Keyspace {
 
     ghost view = { λ k. k.collections.items };
 
-    ghost invariant = { λ k. (are_entries k.collections.items ≡ true) × (k.count ≡ length (objects_in k.collections.items)) };
+    ghost invariant = { λ k. (are_entries k.collections.items ≡ true)
+        × (k.count ≡ length (objects_in k.collections.items)) };
 }
 
 impl Keyspace {
@@ -86,8 +95,10 @@ impl Keyspace {
     /// How many keys there are, those without an object too.
     pub fn keys(&self) -> usize
         ensures count { result ≡ length self.now }
-        ensures distinct { distinct (map (λ o. o.key) (objects_in self.now)) ≡ map (λ e. e.key) (filter has_objects self.now) }
-        ensures held { are_held (keys_of self.now) (objects_in self.now) ≡ true → keys_of self.now ≡ distinct (map (λ o. o.key) (objects_in self.now)) }
+        ensures distinct { distinct (map (λ o. o.key) (objects_in self.now))
+            ≡ map (λ e. e.key) (filter has_objects self.now) }
+        ensures held { are_held (keys_of self.now) (objects_in self.now) ≡ true
+            → keys_of self.now ≡ distinct (map (λ o. o.key) (objects_in self.now)) }
     {
         self.collections.len()
     }
@@ -118,8 +129,8 @@ impl Keyspace {
         }
     }
 
-    /// Takes room for one more object of this key, where there is none: then the key is there, maybe without an object. The
-    /// objects stay, and no room is lost. For want of memory the keys are as before.
+    /// Takes room for one more object of this key, where there is none: then the key is there, maybe without an object.
+    /// The objects stay, and no room is lost. For want of memory the keys are as before.
     pub fn prepare(&mut self, key: &Name) -> Result<(), NoMemory>
         ensures objects { objects_in self.new ≡ objects_in self.old }
         ensures keys { OnOk result (keys_of self.new ≡ put_in before key.now (keys_of self.old)) }
@@ -133,8 +144,8 @@ impl Keyspace {
         }
     }
 
-    /// Puts an object at its place, and gives out the one of its key and id that stood there. A new one takes one place of the
-    /// room of its key. The steps rise by the nodes of its key's tree that are visited.
+    /// Puts an object at its place, and gives out the one of its key and id that stood there. A new one takes one place
+    /// of the room of its key. The steps rise by the nodes of its key's tree that are visited.
     pub fn put<L: Ledger>(&mut self, object: Object, steps: &mut Steps<L>) -> Option<Object>
         requires room { has_room self.old object ≡ true }
         requires few { length (objects_in self.old) < 2 ^ 32 }
@@ -142,7 +153,8 @@ impl Keyspace {
         ensures keys { keys_of self.new ≡ keys_of self.old }
         ensures replaced { result ≡ find (is_at object.key object.id) (objects_in self.old) }
         ensures len { length (objects_in self.new) ≤ length (objects_in self.old) + 1 }
-        ensures kept { (k : Bytes) → room_for self.old k ≤ room_for self.new k + (if same object.key k && is_none result then 1 else 0) }
+        ensures kept { (k : Bytes)
+            → room_for self.old k ≤ room_for self.new k + (if same object.key k && is_none result then 1 else 0) }
     {
         match place_of(self.collections.as_slice(), &object.key) {
             Ok(at) => {
@@ -154,8 +166,8 @@ impl Keyspace {
         }
     }
 
-    /// Takes out the object of this key and this id, where there is one. Its place is room for another of its key, which stays
-    /// also without an object. The steps rise as with `put`.
+    /// Takes out the object of this key and this id, where there is one. Its place is room for another of its key,
+    /// which stays also without an object. The steps rise as with `put`.
     pub fn take_out<L: Ledger>(
         &mut self,
         key: &Name,
@@ -165,7 +177,8 @@ impl Keyspace {
         ensures objects { objects_in self.new ≡ filter (λ o. not (is_at key.now id.now o)) (objects_in self.old) }
         ensures keys { keys_of self.new ≡ keys_of self.old }
         ensures taken { result ≡ find (is_at key.now id.now) (objects_in self.old) }
-        ensures kept { (k : Bytes) → room_for self.old k + (if same key.now k && is_some result then 1 else 0) ≤ room_for self.new k }
+        ensures kept { (k : Bytes)
+            → room_for self.old k + (if same key.now k && is_some result then 1 else 0) ≤ room_for self.new k }
     {
         match place_of(self.collections.as_slice(), key) {
             Ok(at) => {
@@ -177,16 +190,20 @@ impl Keyspace {
         }
     }
 
-    /// Takes out the object that expires first, where one is due: the one of the least deadline, then key, then id. Its place is
-    /// room for another of its key, which stays also without an object. The steps rise as with `put`.
+    /// Takes out the object that expires first, where one is due: the one of the least deadline, then key, then id. Its
+    /// place is room for another of its key, which stays also without an object. The steps rise as with `put`.
     pub fn take_due<L: Ledger>(&mut self, now: u64, steps: &mut Steps<L>) -> Option<Object>
         ensures none { IfNone result (filter (is_due now) (objects_in self.old) ≡ []) }
         ensures stays { IfNone result (self.new ≡ self.old) }
-        ensures first { IfSome result (λ o. sorted_by due_before (filter (is_due now) (objects_in self.old)) ≡ o ∷ sorted_by due_before (filter (is_due now) (objects_in self.new))) }
+        ensures first { IfSome result
+            (λ o. sorted_by due_before (filter (is_due now) (objects_in self.old))
+            ≡ o ∷ sorted_by due_before (filter (is_due now) (objects_in self.new))) }
         ensures taken { IfSome result (λ o. find (is_at o.key o.id) (objects_in self.old) ≡ Some o) }
-        ensures objects { IfSome result (λ o. objects_in self.new ≡ filter (λ p. not (is_at o.key o.id p)) (objects_in self.old)) }
+        ensures objects { IfSome result
+            (λ o. objects_in self.new ≡ filter (λ p. not (is_at o.key o.id p)) (objects_in self.old)) }
         ensures keys { keys_of self.new ≡ keys_of self.old }
-        ensures kept { IfSome result (λ o. (k : Bytes) → room_for self.old k + (if same o.key k then 1 else 0) ≤ room_for self.new k) }
+        ensures kept { IfSome result
+            (λ o. (k : Bytes) → room_for self.old k + (if same o.key k then 1 else 0) ≤ room_for self.new k) }
     {
         match soonest(self.collections.as_slice()) {
             Some((at, due)) => {
@@ -229,7 +246,8 @@ impl Keyspace {
     pub fn give_up(&mut self, key: &Name)
         ensures objects { objects_in self.new ≡ objects_in self.old }
         ensures given_up { self.new ≡ filter (λ e. not (is_entry_of key.now e && not (has_objects e))) self.old }
-        ensures keys { keys_of self.new ≡ filter (λ k. not (same k key.now && not (is_held (objects_in self.old) key.now))) (keys_of self.old) }
+        ensures keys { keys_of self.new
+            ≡ filter (λ k. not (same k key.now && not (is_held (objects_in self.old) key.now))) (keys_of self.old) }
     {
         match place_of(self.collections.as_slice(), key) {
             Ok(at) => {

@@ -1,7 +1,7 @@
 -- What `load` writes.
 use Rattle.std.specs.Prelude.{ℕ, Option, ◌⊎◌}
 use Rattle.byte_text.specs.Names.{Bytes}
-use Rattle.serve_command.specs.Ends.{IsEnd, memory_line}
+use Rattle.serve_run.specs.Ends.{IsEnd, memory_line}
 use Rattle.work_gen.specs.Outs.{IsLoadOut}
 use Rattle.load_command.specs.declared.words.LoadWords.{LoadWords}
 

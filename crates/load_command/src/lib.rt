@@ -1,4 +1,5 @@
-//! The command `load` over any machine: its words, the workload that the machine is driven with, and the lines that are written.
+//! The command `load` over any machine: its words, the workload that the machine is driven with, and the lines that are
+//! written.
 #![tactic(auto)]
 
 mod loads;

@@ -1,4 +1,7 @@
 //! A machine is driven with the workload, and what that came to is written.
+//!
+//! The workload drives a core of its own and no shared hall: the contract of a shared hall lets entries of others come
+//! between a seat's own, which would leave the four lines open.
 
 ghost use Rattle.std.specs.Prelude.{◌≡◌, ◌≤◌, ◌⊎◌, IfOk};
 ghost use Rattle.outside.specs.Causes.{Rose};
@@ -10,7 +13,7 @@ ghost use Rattle.load_command.specs.Loads.{Loads};
 use crate::words::LoadWords;
 use byte_text::{NoMemory, Text};
 use outside::Sink;
-use serve_command::{OUT_OF_MEMORY, end};
+use serve_run::{OUT_OF_MEMORY, end};
 use std::alloc::Global;
 use work_gen::{Machine, drive, push_summary};
 
@@ -25,7 +28,8 @@ fn lines_of<M: Machine>(alloc: Global, machine: &mut M, asked: LoadWords) -> Res
     Ok(text)
 }
 
-/// Drives a machine of an empty world with the workload that the words ask for, writes the lines of its summary, and answers the status.
+/// Drives a machine of an empty world with the workload that the words ask for, writes the lines of its summary, and
+/// answers the status.
 pub fn load<M: Machine, K: Sink>(
     alloc: Global,
     machine: &mut M,

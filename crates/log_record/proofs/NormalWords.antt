@@ -6,7 +6,7 @@ use Rattle.std.specs.Fmt.{signed_decimal}
 use Rattle.byte_text.specs.Names.{Bytes, is_name}
 use Rattle.byte_text.specs.Globs.{is_well_formed}
 use Rattle.ordered_lists.specs.Reading.{each-append}
-use Rattle.world_data.specs.declared.queries.Rule.TheVariants.{Kept, Nearest}
+use Rattle.world_data.specs.declared.queries.Rule.TheVariants.{InArea, Nearest}
 use Rattle.world_data.specs.declared.queries.Shown.TheVariants as shown
 use Rattle.byte_text.specs.Numbers.{natural_within}
 use Rattle.planar_geom.specs.Points.{Point, Bounds}
@@ -14,7 +14,7 @@ use Rattle.planar_geom.specs.declared.shapes.Area.{Area}
 use Rattle.planar_geom.specs.declared.shapes.Area.TheVariants.{Rect, Disc, Figure}
 use Rattle.geo_text.specs.Texts.{Shape, shape_of, with_commas}
 use Rattle.world_data.specs.Limits.{max_tests, max_meters}
-use Rattle.world_data.specs.Records.{record_words}
+use Rattle.world_data.specs.Records.{record_reader}
 use Rattle.world_data.specs.declared.channels.Channel.{Channel}
 use Rattle.world_data.specs.declared.channels.Kind.{Kind}
 use Rattle.world_data.specs.declared.channels.Kind.TheVariants.{Within, Intersects, Near}
@@ -27,11 +27,13 @@ use Rattle.world_model.specs.Grammar.{a_word, a_geojson, Form, go_on, done, word
 use Rattle.world_model.specs.Kinds.{when, name, glob, lat_lon, four, meters, geojson, list_of, accepted}
 use Rattle.world_model.specs.Commands as table
 use Rattle.world_model.specs.Effects.{settled_channel}
+use Rattle.world_model.specs.TableParts.{SetsNone, setting_form, setting_said}
 use Rattle.world_model.specs.MadeForms.{Makes, makes_done, makes_none, makes_bind, makes_behind, makes_then, makes_repeated, spelled_said, makes_if, first}
-use Rattle.world_model.specs.declared.commands.AreaWords.{AreaWords}
-use Rattle.world_model.specs.declared.commands.AreaWords.TheVariants.{Given, Of}
+use Rattle.world_model.specs.declared.search_commands.AreaWords.{AreaWords}
+use Rattle.world_model.specs.declared.search_commands.AreaWords.TheVariants.{Given, Of}
 use Rattle.world_model.specs.declared.commands.Command.{Command}
 use Rattle.world_model.specs.declared.commands.Command.TheVariants as command
+use Rattle.world_model.specs.declared.channel_commands.ChannelCommand.TheVariants as of_channel
 use Rattle.log_record.specs.Words.{SettingsAreNormal}
 use Rattle.log_record.specs.RecordsRead.{second}
 use Rattle.log_record.proofs.ReadBack.{Reads, literal, reads_done, reads_word, reads_bind, reads_then, reads_here, reads_there, reads_where, none_where, skip, over, Goes, stays, goes_then, goes_all}
@@ -165,11 +167,11 @@ same_words : (o : table.FenceOptions) → table.option_words (last o) ≡ table.
 same_words o = ap (λ d. words_of o d (table.list_words (codes "COMMANDS") table.command_names (normal table.command_names o.commands))) (detect_words o.detect) ∙ ap (λ c. words_of o (table.list_words (codes "DETECT") table.detect_names o.detect) c) (command_words o.commands)
 
 abbrev setting_with : Bytes → Bytes → Bytes → table.FenceOptions → Wanted → List Bytes → Watch → List Bytes → Option AreaWords → Command
-setting_with channel kind_word key o wanted words w area_words from = command.Setchan (record {
+setting_with channel kind_word key o wanted words w area_words from = command.Channel (of_channel.Setchan (record {
   name = channel;
   fence = record { key = key; glob = o.glob; tests = o.tests; wanted = wanted; watch = w };
   words = kind_word ∷ key ∷ words ++ area_words;
-}) from
+}) from)
 
 same_setting : (channel kind_word key : Bytes) (o : table.FenceOptions) (w : Watch) (area_words : List Bytes) (from : Option AreaWords)
     → table.setting channel kind_word key (last o) w area_words from ≡ table.setting channel kind_word key o w area_words from
@@ -279,7 +281,7 @@ makes_area =
 -- settings
 
 abbrev Spells : Channel → Option AreaWords → Type 0
-Spells c from = Reads table.setchan_command (record_words (SetChan c)) (command.Setchan c from) []
+Spells c from = Reads setting_form (record_reader (SetChan c)) (command.Channel (of_channel.Setchan c from)) []
 
 -- the setting's normal words spell it, where its area stands in them; else they do once the area's text stands there
 abbrev Respells : Channel → Option AreaWords → Type 0
@@ -289,7 +291,7 @@ Respells c (Some (Of key id)) = (text : Bytes) (shape : Shape) → shape_of text
     → let d = settled_channel c (Figure shape) (codes "OBJECT" ∷ text ∷ []) in Spells d (Some (Given (Figure shape)))
 
 abbrev IsRespelled : Command → Type 0
-IsRespelled (command.Setchan c from) = Respells c from
+IsRespelled (command.Channel (of_channel.Setchan c from)) = Respells c from
 IsRespelled c = Unit {0}
 
 -- what goes on behind the options of an area
@@ -303,7 +305,7 @@ closed_behind test f g words e = ap (λ t. (where_ t f >>= g) words) e
 closed_where : {A : Type 0} (test : Bool) (f : Form A) (words : List Bytes) → test ≡ false → where_ test f words ≡ []
 closed_where test f words e = ap (λ t. where_ t f words) e
 
-area_waits : (called : Bytes) (kind : Kind) (channel key : Bytes) → Waits (λ o. where_ o.fence table.area >>= (λ a. done (table.setting channel called key o (watch.Spot kind a.area) a.words (Some a.from))))
+area_waits : (called : Bytes) (kind : Kind) (channel key : Bytes) → Waits (λ o. where_ o.fence table.area >>= (λ a. done (table.setting channel called key o (watch.Zone kind a.area) a.words (Some a.from))))
 area_waits called kind channel key = record {
   closed = λ s words e. closed_behind s.fence table.area _ words e;
   before_nodwell = λ s words. none_behind s.fence table.area _ (codes "NODWELL" ∷ words) refl;
@@ -313,7 +315,7 @@ area_waits called kind channel key = record {
 
 abbrev disc_near : Bytes → Bytes → table.FenceOptions → Form Command
 disc_near channel key o = word (codes "POINT") >> lat_lon >>= (λ p. meters >>= (λ r.
-    done (table.setting channel (codes "NEARBY") key o (watch.Spot Near (Disc p r)) (codes "POINT" ∷ signed_decimal p.y ∷ signed_decimal p.x ∷ decimal r ∷ []) None)))
+    done (table.setting channel (codes "NEARBY") key o (watch.Zone Near (Disc p r)) (codes "POINT" ∷ signed_decimal p.y ∷ signed_decimal p.x ∷ decimal r ∷ []) None)))
 
 abbrev roam_near : Bytes → Bytes → table.FenceOptions → Form Command
 roam_near channel key o = word (codes "ROAM") >> name >>= (λ other. glob >>= (λ pattern. meters >>= (λ r.
@@ -334,17 +336,17 @@ near_waits channel key = record {
 }
 
 abbrev behind_area : Bytes → Kind → Bytes → Bytes → table.FenceOptions → Form Command
-behind_area called kind channel key o = where_ o.fence table.area >>= (λ a. done (table.setting channel called key o (watch.Spot kind a.area) a.words (Some a.from)))
+behind_area called kind channel key o = where_ o.fence table.area >>= (λ a. done (table.setting channel called key o (watch.Zone kind a.area) a.words (Some a.from)))
 
 spells_area : (called : Bytes) (kind : Kind) (channel key : Bytes) (o : table.FenceOptions) (a : table.AreaRead)
     → ((rest : List Bytes) → Reads (word called) (called ∷ rest) called rest) → IsNamed key → AreNormal false o → Reads table.area a.words a [] → ((s : table.FenceOptions) → table.fence_option false s a.words ≡ [])
-    → Reads (table.setchan_area called kind channel) (called ∷ key ∷ table.option_words o ++ a.words) (table.setting channel called key o (watch.Spot kind a.area) a.words (Some a.from)) []
+    → Reads (table.setchan_area called kind channel) (called ∷ key ∷ table.option_words o ++ a.words) (table.setting channel called key o (watch.Zone kind a.area) a.words (Some a.from)) []
 spells_area called kind channel key o a called_is named h reads no_option =
-    subst (λ c. Reads (table.setchan_area called kind channel) (called ∷ key ∷ table.option_words o ++ a.words) c []) (same_setting channel called key o (watch.Spot kind a.area) a.words (Some a.from))
+    subst (λ c. Reads (table.setchan_area called kind channel) (called ∷ key ∷ table.option_words o ++ a.words) c []) (same_setting channel called key o (watch.Zone kind a.area) a.words (Some a.from))
     (reads_then (word called) (name >>= (λ k. repeated (table.fence_option false) table.no_fence_options >>= behind_area called kind channel k)) (called_is _)
     (reads_bind name (λ k. repeated (table.fence_option false) table.no_fence_options >>= behind_area called kind channel k) (reads_word a_word (λ w. when (is_name w) w) named)
     (goes_all (table.fence_option false) (behind_area called kind channel key) (all_options false (behind_area called kind channel key) (area_waits called kind channel key) o a.words h) (no_option (last o))
-    (reads_bind (where_ true table.area) (λ b. done (table.setting channel called key (last o) (watch.Spot kind b.area) b.words (Some b.from))) (reads_where true table.area refl reads) reads_done))))
+    (reads_bind (where_ true table.area) (λ b. done (table.setting channel called key (last o) (watch.Zone kind b.area) b.words (Some b.from))) (reads_where true table.area refl reads) reads_done))))
 
 none_detected : (d : Option (List Bytes)) → is_none d ≡ true → is_none (normal table.detect_names d) ≡ true
 none_detected None e = refl
@@ -352,18 +354,18 @@ none_detected (Some l) e = absurd (cc e)
 
 spells_disc : (channel key : Bytes) (o : table.FenceOptions) (p : Point) (r : ℕ) → IsNamed key → AreNormal true o → not o.nodwell ≡ true → IsPlace p → IsNatural 0 max_meters r
     → let a = codes "POINT" ∷ signed_decimal p.y ∷ signed_decimal p.x ∷ decimal r ∷ [] in
-    Reads (table.setchan_near channel) (codes "NEARBY" ∷ key ∷ table.option_words o ++ a) (table.setting channel (codes "NEARBY") key o (watch.Spot Near (Disc p r)) a None) []
+    Reads (table.setchan_near channel) (codes "NEARBY" ∷ key ∷ table.option_words o ++ a) (table.setting channel (codes "NEARBY") key o (watch.Zone Near (Disc p r)) a None) []
 spells_disc channel key o p r named h dwells place far =
     let a = codes "POINT" ∷ signed_decimal p.y ∷ signed_decimal p.x ∷ decimal r ∷ [] in
-    subst (λ c. Reads (table.setchan_near channel) (codes "NEARBY" ∷ key ∷ table.option_words o ++ a) c []) (same_setting channel (codes "NEARBY") key o (watch.Spot Near (Disc p r)) a None)
+    subst (λ c. Reads (table.setchan_near channel) (codes "NEARBY" ∷ key ∷ table.option_words o ++ a) c []) (same_setting channel (codes "NEARBY") key o (watch.Zone Near (Disc p r)) a None)
     (reads_then (word (codes "NEARBY")) (name >>= (λ k. repeated (table.fence_option true) table.no_fence_options >>= behind_near channel k)) (literal (codes "NEARBY") _ refl)
     (reads_bind name (λ k. repeated (table.fence_option true) table.no_fence_options >>= behind_near channel k) (reads_word a_word (λ w. when (is_name w) w) named)
     (goes_all (table.fence_option true) (behind_near channel key) (all_options true (behind_near channel key) (near_waits channel key) o a h) (no_option true (last o) a refl refl refl refl refl refl)
     (reads_where true (table.near_area channel key (last o)) refl (reads_here (where_ (not o.nodwell) (disc_near channel key (last o))) (where_ (is_none (last o).detect) (roam_near channel key (last o)) ∷ [])
     (reads_where (not o.nodwell) (disc_near channel key (last o)) dwells
-    (reads_bind (word (codes "POINT") >> lat_lon) (λ x. meters >>= (λ y. done (table.setting channel (codes "NEARBY") key (last o) (watch.Spot Near (Disc x y)) (codes "POINT" ∷ signed_decimal x.y ∷ signed_decimal x.x ∷ decimal y ∷ []) None)))
+    (reads_bind (word (codes "POINT") >> lat_lon) (λ x. meters >>= (λ y. done (table.setting channel (codes "NEARBY") key (last o) (watch.Zone Near (Disc x y)) (codes "POINT" ∷ signed_decimal x.y ∷ signed_decimal x.x ∷ decimal y ∷ []) None)))
     (reads_then (word (codes "POINT")) lat_lon (literal (codes "POINT") _ refl) (reads_lat_lon p _ place))
-    (reads_bind meters (λ y. done (table.setting channel (codes "NEARBY") key (last o) (watch.Spot Near (Disc p y)) (codes "POINT" ∷ signed_decimal p.y ∷ signed_decimal p.x ∷ decimal y ∷ []) None)) (reads_word a_word (natural_within 0 max_meters) far) reads_done)))
+    (reads_bind meters (λ y. done (table.setting channel (codes "NEARBY") key (last o) (watch.Zone Near (Disc p y)) (codes "POINT" ∷ signed_decimal p.y ∷ signed_decimal p.x ∷ decimal y ∷ []) None)) (reads_word a_word (natural_within 0 max_meters) far) reads_done)))
     (over (is_none (last o).detect) (roam_near channel key (last o)) [] a refl refl))))))
 
 spells_roam : (channel key : Bytes) (o : table.FenceOptions) (other pattern : Bytes) (r : ℕ) → IsNamed key → AreNormal true o → is_none o.detect ≡ true → IsNamed other → IsPattern pattern → IsNatural 0 max_meters r
@@ -390,12 +392,12 @@ kinds channel = one_of (table.setchan_area (codes "WITHIN") Within channel ∷ t
 abbrev SpellsKind : Bytes → List Bytes → Command → Type 0
 SpellsKind channel words c = Reads (one_of (table.setchan_area (codes "WITHIN") Within channel ∷ table.setchan_area (codes "INTERSECTS") Intersects channel ∷ table.setchan_near channel ∷ [])) words c []
 
-spells_setting : (channel : Bytes) (words : List Bytes) (c : Command) → IsNamed channel → SpellsKind channel words c → Reads table.setchan_command (codes "SETCHAN" ∷ channel ∷ words) c []
+spells_setting : (channel : Bytes) (words : List Bytes) (c : Command) → IsNamed channel → SpellsKind channel words c → Reads setting_form (codes "SETCHAN" ∷ channel ∷ words) c []
 spells_setting channel words c named kind = reads_then (word (codes "SETCHAN")) (name >>= kinds) (literal (codes "SETCHAN") _ refl) (reads_bind name kinds (reads_word a_word (λ w. when (is_name w) w) named) kind)
 
 abbrev SpellsSetting : Bytes → Kind → Type 0
 SpellsSetting called kind = (channel key : Bytes) (o : table.FenceOptions) (a : table.AreaRead) → IsNamed channel → IsNamed key → AreNormal false o → Reads table.area a.words a [] → ((s : table.FenceOptions) → table.fence_option false s a.words ≡ [])
-    → Reads table.setchan_command (codes "SETCHAN" ∷ channel ∷ called ∷ key ∷ table.option_words o ++ a.words) (table.setting channel called key o (watch.Spot kind a.area) a.words (Some a.from)) []
+    → Reads setting_form (codes "SETCHAN" ∷ channel ∷ called ∷ key ∷ table.option_words o ++ a.words) (table.setting channel called key o (watch.Zone kind a.area) a.words (Some a.from)) []
 
 within_spelled : SpellsSetting (codes "WITHIN") Within
 within_spelled channel key o a named key_named h reads no_option = spells_setting channel _ _ named (reads_here (table.setchan_area (codes "WITHIN") Within channel) (table.setchan_area (codes "INTERSECTS") Intersects channel ∷ table.setchan_near channel ∷ []) (spells_area (codes "WITHIN") Within channel key o a (λ rest. record { is = refl }) key_named h reads no_option) refl)
@@ -407,18 +409,18 @@ text_is : (text : Bytes) (shape : Shape) → shape_of text ≡ Ok shape → IsTe
 text_is text shape e = ap (accepted text) e
 
 by_from : (called : Bytes) (kind : Kind) → SpellsSetting called kind → (channel key : Bytes) (o : table.FenceOptions) → IsNamed channel → IsNamed key → AreNormal false o
-    → (from : AreaWords) (area : Area) (words : List Bytes) → IsNormalArea (record { from = from; area = area; words = words }) → IsRespelled (table.setting channel called key o (watch.Spot kind area) words (Some from))
+    → (from : AreaWords) (area : Area) (words : List Bytes) → IsNormalArea (record { from = from; area = area; words = words }) → IsRespelled (table.setting channel called key o (watch.Zone kind area) words (Some from))
 by_from called kind spelled_is channel key o named key_named h (Given x) area words is = spelled_is channel key o (record { from = Given x; area = area; words = words }) named key_named h is.0 is.1
 by_from called kind spelled_is channel key o named key_named h (Of k id) area words is = λ text shape accepted_is.
     let t = text_area (text, shape) (text_is text shape accepted_is) in
     let given = codes "OBJECT" ∷ text ∷ [] in
     let none : words ≡ [] = ap (λ (a : table.AreaRead). a.words) is in
     let joined_words : table.option_words o ++ given ≡ (table.option_words o ++ words) ++ given = ap (λ l. l ++ given) (sym (append-nil (table.option_words o)) ∙ ap (λ l. table.option_words o ++ l) (sym none)) in
-    subst (λ l. Reads table.setchan_command (codes "SETCHAN" ∷ channel ∷ called ∷ key ∷ l) (command.Setchan (record {
+    subst (λ l. Reads setting_form (codes "SETCHAN" ∷ channel ∷ called ∷ key ∷ l) (command.Channel (of_channel.Setchan (record {
       name = channel;
-      fence = record { key = key; glob = o.glob; tests = o.tests; wanted = table.wanted_of o; watch = watch.Spot kind (Figure shape) };
+      fence = record { key = key; glob = o.glob; tests = o.tests; wanted = table.wanted_of o; watch = watch.Zone kind (Figure shape) };
       words = called ∷ key ∷ l;
-    }) (Some (Given (Figure shape)))) []) joined_words (spelled_is channel key o (table.given_area (Figure shape) given) named key_named h t.0 t.1)
+    }) (Some (Given (Figure shape))))) []) joined_words (spelled_is channel key o (table.given_area (Figure shape) given) named key_named h t.0 t.1)
 
 makes_setchan_area : (called : Bytes) (kind : Kind) → SpellsSetting called kind → (channel : Bytes) → IsNamed channel → Makes IsRespelled (table.setchan_area called kind channel)
 makes_setchan_area called kind spelled_is channel named = makes_then IsRespelled (word called) _ (makes_bind IsNamed IsRespelled name _ makes_name (λ key key_named. makes_bind (AreNormal false) IsRespelled _ _ (makes_options false) (λ o h.
@@ -431,96 +433,28 @@ makes_near_area channel key o named key_named h =
     first (makes_if IsRespelled (is_none o.detect) _ (λ none. makes_bind IsNamed IsRespelled (word (codes "ROAM") >> name) _ (makes_then IsNamed (word (codes "ROAM")) name makes_name) (λ other named_other.
     makes_bind IsPattern IsRespelled glob _ makes_glob (λ pattern is. makes_bind (IsNatural 0 max_meters) IsRespelled meters _ makes_meters (λ r far. makes_done IsRespelled _ (spells_setting channel _ _ named (reads_there (table.setchan_area (codes "WITHIN") Within channel) (table.setchan_area (codes "INTERSECTS") Intersects channel ∷ table.setchan_near channel ∷ []) refl (reads_there (table.setchan_area (codes "INTERSECTS") Intersects channel) (table.setchan_near channel ∷ []) refl (reads_here (table.setchan_near channel) [] (spells_roam channel key o other pattern r key_named h none named_other is far) refl))))))))) (makes_none IsRespelled))
 
-makes_setchan : Makes IsRespelled table.setchan_command
+makes_setchan : Makes IsRespelled setting_form
 makes_setchan = makes_then IsRespelled (word (codes "SETCHAN")) _ (makes_bind IsNamed IsRespelled name _ makes_name (λ channel named.
     first (makes_setchan_area (codes "WITHIN") Within within_spelled channel named) (
     first (makes_setchan_area (codes "INTERSECTS") Intersects intersects_spelled channel named) (
     first (makes_then IsRespelled (word (codes "NEARBY")) _ (makes_bind IsNamed IsRespelled name _ makes_name (λ key key_named. makes_bind (AreNormal true) IsRespelled _ _ (makes_options true) (λ o h.
     makes_if IsRespelled o.fence _ (λ fence. makes_near_area channel key o named key_named h))))) (makes_none IsRespelled)))))
 
--- the other commands are no settings
-
-makes_pair : (called : Bytes) (make : Bytes → Bytes → Command) → ((key id : Bytes) → IsRespelled (make key id)) → Makes IsRespelled (table.of_key_and_id called make)
-makes_pair called make is = makes_then IsRespelled (word called) _ (makes_behind IsRespelled name _ (λ key. makes_behind IsRespelled name _ (λ id. makes_done IsRespelled _ (is key id))))
-
-makes_one : (called : Bytes) (kind : Form Bytes) (make : Bytes → Command) → ((w : Bytes) → IsRespelled (make w)) → Makes IsRespelled (table.of_one called kind make)
-makes_one called kind make is = makes_then IsRespelled (word called) _ (makes_behind IsRespelled kind _ (λ w. makes_done IsRespelled _ (is w)))
-
-makes_some : (called : Bytes) (kind : Form Bytes) (make : List Bytes → Command) → ((ws : List Bytes) → IsRespelled (make ws)) → Makes IsRespelled (table.of_some called kind make)
-makes_some called kind make is = makes_then IsRespelled (word called) _ (makes_behind IsRespelled _ _ (λ ws. makes_done IsRespelled _ (is ws)))
-
-makes_nothing : (called : Bytes) (c : Command) → IsRespelled c → Makes IsRespelled (table.of_none called c)
-makes_nothing called c is = makes_then IsRespelled _ _ (makes_done IsRespelled _ is)
-
-makes_search : (called : Bytes) (kind : Kind) → Makes IsRespelled (table.search_command called kind)
-makes_search called kind = makes_then IsRespelled (word called) _ (makes_behind IsRespelled name _ (λ key. makes_behind IsRespelled (repeated (table.search_option false) table.no_search_options) _ (λ o. makes_behind IsRespelled (maybe shown.Objects table.output) _ (λ how. makes_behind IsRespelled table.area _ (λ a. makes_done IsRespelled (command.Search key (table.query_of o how (Kept kind a.area)) a.from) tt)))))
-
-makes_set : Makes IsRespelled table.set_command
-makes_set = makes_then IsRespelled (word (codes "SET")) _ (makes_behind IsRespelled name _ (λ key. makes_behind IsRespelled name _ (λ id. makes_behind IsRespelled (repeated table.set_option _) _ (λ o. makes_behind IsRespelled table.place _ (λ at. makes_done IsRespelled _ tt)))))
-
-makes_get : Makes IsRespelled table.get_command
-makes_get = makes_then IsRespelled (word (codes "GET")) _ (makes_behind IsRespelled name _ (λ key. makes_behind IsRespelled name _ (λ id. makes_behind IsRespelled (maybe false (word (codes "WITHFIELDS") >> done true)) _ (λ with_fields. makes_behind IsRespelled (maybe shown.Objects table.as_objects) _ (λ how. makes_done IsRespelled (command.Get key id with_fields how) tt)))))
-
-makes_pdel : Makes IsRespelled table.pdel_command
-makes_pdel = makes_then IsRespelled (word (codes "PDEL")) _ (makes_behind IsRespelled name _ (λ key. makes_behind IsRespelled glob _ (λ p. makes_done IsRespelled (command.Pdel key p) tt)))
-
-makes_fset : Makes IsRespelled table.fset_command
-makes_fset = makes_then IsRespelled (word (codes "FSET")) _ (makes_behind IsRespelled name _ (λ key. makes_behind IsRespelled name _ (λ id. makes_behind IsRespelled _ _ (λ given. makes_done IsRespelled _ tt))))
-
-makes_fget : Makes IsRespelled table.fget_command
-makes_fget = makes_then IsRespelled (word (codes "FGET")) _ (makes_behind IsRespelled name _ (λ key. makes_behind IsRespelled name _ (λ id. makes_behind IsRespelled name _ (λ field. makes_done IsRespelled (command.Fget key id field) tt))))
-
-makes_expire : Makes IsRespelled table.expire_command
-makes_expire = makes_then IsRespelled (word (codes "EXPIRE")) _ (makes_behind IsRespelled name _ (λ key. makes_behind IsRespelled name _ (λ id. makes_behind IsRespelled _ _ (λ s. makes_done IsRespelled _ tt))))
-
-makes_scan : Makes IsRespelled table.scan_command
-makes_scan = makes_then IsRespelled (word (codes "SCAN")) _ (makes_behind IsRespelled name _ (λ key. makes_behind IsRespelled (repeated (table.search_option true) table.no_search_options) _ (λ o. makes_behind IsRespelled (maybe shown.Objects table.output) _ (λ how. makes_done IsRespelled (command.Scan key (table.query_of o how (table.scan_rule o.down))) tt))))
-
-makes_nearby : Makes IsRespelled table.nearby_command
-makes_nearby = makes_then IsRespelled (word (codes "NEARBY")) _ (makes_behind IsRespelled name _ (λ key. makes_behind IsRespelled (repeated (table.search_option false) table.no_search_options) _ (λ o. makes_behind IsRespelled (maybe shown.Objects table.output) _ (λ how. makes_then IsRespelled (word (codes "POINT")) _ (makes_behind IsRespelled lat_lon _ (λ at.
-    makes_behind IsRespelled (maybe None (meters >>= (λ r. done (Some r)))) _ (λ reach. makes_done IsRespelled (command.Nearby key (table.query_of o how Nearest) at reach) tt)))))))
-
-makes_table : Makes IsRespelled table.command_table
-makes_table =
-    first makes_set (
-    first makes_get (
-    first (makes_pair (codes "DEL") command.Del (λ key id. tt)) (
-    first makes_pdel (
-    first (makes_one (codes "DROP") name command.Drop (λ w. tt)) (
-    first makes_fset (
-    first makes_fget (
-    first makes_expire (
-    first (makes_pair (codes "PERSIST") command.Persist (λ key id. tt)) (
-    first (makes_pair (codes "TTL") command.Ttl (λ key id. tt)) (
-    first (makes_one (codes "KEYS") glob command.Keys (λ w. tt)) (
-    first (makes_one (codes "BOUNDS") name command.Bounds (λ w. tt)) (
-    first (makes_some (codes "STATS") name command.Stats (λ ws. tt)) (
-    first (makes_nothing (codes "FLUSHDB") command.Flush tt) (
-    first (makes_nothing (codes "AOFSHRINK") command.Shrink tt) (
-    first (makes_nothing (codes "PING") command.Ping tt) (
-    first (makes_nothing (codes "QUIT") command.Quit tt) (
-    first makes_scan (
-    first (makes_search (codes "WITHIN") Within) (
-    first (makes_search (codes "INTERSECTS") Intersects) (
-    first makes_nearby (
-    first makes_setchan (
-    first (makes_one (codes "DELCHAN") name command.Delchan (λ w. tt)) (
-    first (makes_one (codes "PDELCHAN") glob command.Pdelchan (λ w. tt)) (
-    first (makes_one (codes "CHANS") glob command.Chans (λ w. tt)) (
-    first (makes_some (codes "SUBSCRIBE") name command.Subscribe (λ ws. tt)) (
-    first (makes_some (codes "PSUBSCRIBE") glob command.Psubscribe (λ ws. tt)) (makes_none IsRespelled)))))))))))))))))))))))))))
+-- another command is no setting
+others_are : (c : Command) → SetsNone c → IsRespelled c
+others_are (command.Channel (of_channel.Setchan c from)) none = absurd none
+others_are c none = tt
 
 respelled : (words : List Bytes) (c : Command) → table.command_spelled words ≡ Some c → IsRespelled c
-unfolding table.readings
-respelled words c e = spelled_said IsRespelled (table.command_table words) c (makes_table.made words) e
+respelled words c e = setting_said IsRespelled others_are words c (makes_setchan.made words) e
 
-spelled_again : (c d : Channel) (from : Option AreaWords) → Spells d from → table.command_spelled (record_words (SetChan d)) ≡ Some (command.Setchan d from)
+spelled_again : (c d : Channel) (from : Option AreaWords) → Spells d from → table.command_spelled (record_reader (SetChan d)) ≡ Some (command.Channel (of_channel.Setchan d from))
 unfolding table.readings
 spelled_again c d from is = ap (λ l. spelled (live (l ++ []))) is.is
 
 pub settings_are_normal : SettingsAreNormal
 settings_are_normal = record {
-  given = λ words c a e. spelled_again c c (Some (Given a)) (respelled words (command.Setchan c (Some (Given a))) e);
-  near = λ words c e. spelled_again c c None (respelled words (command.Setchan c None) e);
-  stored = λ words c key id text shape e accepted_is. let d = settled_channel c (Figure shape) (codes "OBJECT" ∷ text ∷ []) in spelled_again c d (Some (Given (Figure shape))) (respelled words (command.Setchan c (Some (Of key id))) e text shape accepted_is);
+  given = λ words c a e. spelled_again c c (Some (Given a)) (respelled words (command.Channel (of_channel.Setchan c (Some (Given a)))) e);
+  near = λ words c e. spelled_again c c None (respelled words (command.Channel (of_channel.Setchan c None)) e);
+  stored = λ words c key id text shape e accepted_is. let d = settled_channel c (Figure shape) (codes "OBJECT" ∷ text ∷ []) in spelled_again c d (Some (Given (Figure shape))) (respelled words (command.Channel (of_channel.Setchan c (Some (Of key id)))) e text shape accepted_is);
 }

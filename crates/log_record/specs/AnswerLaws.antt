@@ -4,8 +4,8 @@ use Rattle.byte_text.specs.Names.{Bytes}
 use Rattle.world_model.specs.Halls.{Hall}
 use Rattle.world_model.specs.Histories.{answer, doing, when_stopped, is_log_fault}
 use Rattle.world_model.specs.Outcomes.{enter_outcome, take_outcome}
-use Rattle.world_model.specs.declared.events.Called.{Called}
-use Rattle.world_model.specs.declared.events.Called.TheVariants as called
+use Rattle.world_model.specs.declared.events.CallOutcome.{CallOutcome}
+use Rattle.world_model.specs.declared.events.CallOutcome.TheVariants as called
 use Rattle.world_model.specs.declared.events.EnterFault.{EnterFault}
 use Rattle.world_model.specs.declared.events.EnterFault.TheVariants as refused
 use Rattle.world_model.specs.declared.events.Event.{Event}
@@ -39,7 +39,7 @@ entering_says (Err refused.Stopped) = record { not_fine = refl; no_fault = refl;
 entering_says (Err refused.Memory) = record { not_fine = refl; no_fault = refl; not_shown = refl }
 
 -- a call says that the log failed where that is what it answers
-pub call_failed : (c : Called) → is_log_fault (answer c) ≡ true → c ≡ called.LogFault
+pub call_failed : (c : CallOutcome) → is_log_fault (answer c) ≡ true → c ≡ called.LogFault
 call_failed called.Ok is = absurd (cc)
 call_failed called.Full is = absurd (cc)
 call_failed called.Gone is = absurd (cc)

@@ -1,5 +1,6 @@
 -- Batches of records: their text, and how they are read.
-use Rattle.std.specs.Prelude.{ℕ, zero, suc, ◌+◌, ◌-◌, ◌^◌, ◌<◌, ◌==◌, nat_le, List, [], ◌∷◌, ◌++◌, length, take, drop, flat_map, Option, Some, None, option_map, if◌then◌else◌, Result, Ok, Err}
+use Rattle.std.specs.Prelude.{ℕ, zero, suc, ◌+◌, ◌-◌, ◌^◌, ◌<◌, ◌==◌, nat_le, List, [], ◌∷◌, ◌++◌, length, take, drop, flat_map, Option, Some, None}
+use Rattle.std.specs.Prelude.{option_map, if◌then◌else◌, Result, Ok, Err}
 use Rattle.std.specs.List.{AllByRecursion}
 use Rattle.std.specs.Int.{w64, from_be_bytes}
 use Rattle.byte_text.specs.Names.{Bytes}
@@ -7,7 +8,7 @@ use Rattle.byte_text.specs.Streams.{Front, found, begun, broken, request}
 pub use Rattle.outside.specs.Sides.{AreBytes}
 pub use Rattle.log_sides.specs.Texts.{open_gate}
 unfoldable pub use Rattle.log_sides.specs.Texts.{number_bytes}
-use Rattle.world_data.specs.Records.{record_text}
+use Rattle.world_data.specs.Records.{record_writer}
 use Rattle.world_data.specs.declared.worlds.Change.{Change}
 use Rattle.log_record.specs.Words.{change_of_words, IsRecorded}
 
@@ -17,7 +18,7 @@ number_of bytes = from_be_bytes w64 bytes
 
 -- the text of records, one behind another
 abbrev pub records_text : List Change → Bytes
-records_text changes = flat_map record_text changes
+records_text changes = flat_map record_writer changes
 
 -- a batch behind its gate: its length, and its records
 abbrev pub batch_text : List Change → Bytes
@@ -81,7 +82,8 @@ batch_behind at bytes next = let n = number_of (take 8 bytes) in
 abbrev pub first_batches : ℕ → ℕ → Bytes → Result Batches ℕ
 first_batches zero at bytes = Err at
 first_batches (suc n) at [] = Err at
-first_batches (suc n) at (gate ∷ bytes) = if gate == open_gate then batch_behind at bytes (first_batches n) else Ok (record { changes = []; gate = at })
+first_batches (suc n) at (gate ∷ bytes) = if gate == open_gate then batch_behind at bytes (first_batches n)
+    else Ok (record { changes = []; gate = at })
 
 -- the batches from the gate at a place on, or the place at which they break off
 unfoldable pub batches_in : ℕ → Bytes → Result Batches ℕ

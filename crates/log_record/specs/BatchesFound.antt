@@ -1,12 +1,15 @@
 -- What is read as batches is their text.
-use Rattle.std.proofs.Common.{arith, ◌≡◌, ◌≢◌, ℕ, zero, suc, ◌+◌, ◌^◌, ◌<◌, ◌≤◌, Bool, true, false, List, [], ◌∷◌, ◌++◌, length, take, drop, get_or, Result, Ok, Err, refl, sym, ap, subst, ◌∙◌, nat_le, if◌then◌else◌, ◌==◌, eqb-true, leb-true, append_assoc, length-append, length-take, length-drop, take-append-drop}
+use Rattle.std.proofs.Common.{arith, ◌≡◌, ◌≢◌, ℕ, zero, suc, ◌+◌, ◌^◌, ◌<◌, ◌≤◌, Bool, true, false, List, [], ◌∷◌, ◌++◌, length, take, drop, get_or}
+use Rattle.std.proofs.Common.{Result, Ok, Err, refl, sym, ap, subst, ◌∙◌, nat_le, if◌then◌else◌, ◌==◌, eqb-true, leb-true, append_assoc}
+use Rattle.std.proofs.Common.{length-append, length-take, length-drop, take-append-drop}
 use Rattle.std.specs.List.{AllByRecursion}
 use Rattle.std.proofs.lemmas.List.{drop-drop}
 use Rattle.std.proofs.lemmas.Nat.{be_bytes_8}
 use Rattle.byte_text.specs.Names.{Bytes}
 use Rattle.world_data.specs.declared.worlds.Change.{Change}
 use Rattle.log_record.specs.Words.{IsRecorded}
-use Rattle.log_record.specs.Batches.{AreBytes, number_bytes, number_of, records_text, batch_text, open_gate, records_in, Batches, with_changes, batch_behind, first_batches, batches_in, all_changes, AreRecorded}
+use Rattle.log_record.specs.Batches.{AreBytes, number_bytes, number_of, records_text, batch_text, open_gate, records_in, Batches, with_changes}
+use Rattle.log_record.specs.Batches.{batch_behind, first_batches, batches_in, all_changes, AreRecorded}
 use Rattle.log_record.specs.Readings.{open_batches}
 use Rattle.log_sides.specs.Torn.{length-number_bytes}
 use Rattle.log_record.specs.RecordsFound.{records_found}
@@ -66,17 +69,28 @@ with_commas at bytes changes b others are small within records rest is =
     let size : n ≡ length (records_text changes) = omega (arith, ap length records.1, length-take n (drop 8 bytes), length-drop 8 bytes, within) in
     let text : bytes ≡ batch_text changes ++ drop (8 + n) bytes =
     sym (take-append-drop 8 bytes) ∙ ap (λ (l : Bytes). l ++ drop 8 bytes) (sym number) ∙ ap (λ (k : ℕ). number_bytes k ++ drop 8 bytes) size
-    ∙ ap (λ (l : Bytes). number_bytes (length (records_text changes)) ++ l) (sym (take-append-drop n (drop 8 bytes)) ∙ ap (λ (l : Bytes). l ++ drop n (drop 8 bytes)) records.1 ∙ ap (λ (l : Bytes). records_text changes ++ l) (drop-drop n 8 bytes))
+    ∙ ap (λ (l : Bytes). number_bytes (length (records_text changes)) ++ l)
+    (sym (take-append-drop n (drop 8 bytes)) ∙ ap (λ (l : Bytes). l ++ drop n (drop 8 bytes)) records.1
+    ∙ ap (λ (l : Bytes). records_text changes ++ l) (drop-drop n 8 bytes))
     ∙ sym (append_assoc (number_bytes (length (records_text changes))) (records_text changes) (drop (8 + n) bytes)) in
     record {
       batches = changes ∷ rest.batches;
       gate = rest.gate;
       stale = rest.stale;
-      text = ap (λ (l : Bytes). open_gate ∷ l) (text ∙ ap (λ (l : Bytes). batch_text changes ++ l) rest.text) ∙ sym (append_assoc (open_gate ∷ batch_text changes) (open_batches rest.batches) (rest.gate ∷ rest.stale));
+      text = ap (λ (l : Bytes). open_gate ∷ l) (text ∙ ap (λ (l : Bytes). batch_text changes ++ l) rest.text)
+          ∙ sym (append_assoc (open_gate ∷ batch_text changes) (open_batches rest.batches) (rest.gate ∷ rest.stale));
       closed = rest.closed;
       recorded = ((records.0, omega (arith, size, small, within)), rest.recorded);
       changes = ap (λ (c : Batches). c.changes) (sym is) ∙ ap (λ (l : List Change). changes ++ l) rest.changes;
-      place = omega (arith, ap (λ (c : Batches). c.gate) is, rest.place, size, length-append (open_gate ∷ batch_text changes) (open_batches rest.batches), length-append (number_bytes (length (records_text changes))) (records_text changes), length-number_bytes (length (records_text changes)));
+      place = omega (
+        arith,
+        ap (λ (c : Batches). c.gate) is,
+        rest.place,
+        size,
+        length-append (open_gate ∷ batch_text changes) (open_batches rest.batches),
+        length-append (number_bytes (length (records_text changes))) (records_text changes),
+        length-number_bytes (length (records_text changes)),
+      );
     }
 
 -- the steps of reading
@@ -88,7 +102,8 @@ by_others : (at : ℕ) (bytes : Bytes) (changes : List Change) (b : Batches) (r 
     → AllByRecursion IsRecorded changes × (take (number_of (take 8 bytes)) (drop 8 bytes) ≡ records_text changes)
     → ((c : Batches) → r ≡ Ok c → Found (at + 9 + number_of (take 8 bytes)) (drop (8 + number_of (take 8 bytes)) bytes) c)
     → with_changes (Ok changes) r ≡ Ok b → Behind at bytes b
-by_others at bytes changes b (Ok c) are small within records ih e = with_commas at bytes changes b c are small within records (ih c refl) (ok_is (record { changes = changes ++ c.changes; gate = c.gate }) b e)
+by_others at bytes changes b (Ok c) are small within records ih e =
+    with_commas at bytes changes b c are small within records (ih c refl) (ok_is (record { changes = changes ++ c.changes; gate = c.gate }) b e)
 by_others at bytes changes b (Err k) are small within records ih e = absurd (err_not k b e)
 
 by_records : (at : ℕ) (bytes : Bytes) (b : Batches) (r : Result (List Change) ℕ) (others : Result Batches ℕ) → AreBytes bytes
@@ -102,11 +117,13 @@ by_records at bytes b (Ok changes) others are small within read ih e =
 
 by_length : (at : ℕ) (bytes : Bytes) (b : Batches) (next : ℕ → Bytes → Result Batches ℕ) (t : Bool) → AreBytes bytes → length bytes < 2 ^ 64
     → nat_le (8 + number_of (take 8 bytes)) (length bytes) ≡ t → Next next
-    → (if t then with_changes (records_in (at + 9) (take (number_of (take 8 bytes)) (drop 8 bytes))) (next (at + 9 + number_of (take 8 bytes)) (drop (8 + number_of (take 8 bytes)) bytes)) else Err (at + 1)) ≡ Ok b
+    → (if t then with_changes (records_in (at + 9) (take (number_of (take 8 bytes)) (drop 8 bytes)))
+    (next (at + 9 + number_of (take 8 bytes)) (drop (8 + number_of (take 8 bytes)) bytes)) else Err (at + 1)) ≡ Ok b
     → Behind at bytes b
 by_length at bytes b next true are small test ih e =
     let n = number_of (take 8 bytes) in
-    by_records at bytes b (records_in (at + 9) (take n (drop 8 bytes))) (next (at + 9 + n) (drop (8 + n) bytes)) are small (leb-true (8 + n) (length bytes) test) refl
+    by_records at bytes b (records_in (at + 9) (take n (drop 8 bytes))) (next (at + 9 + n) (drop (8 + n) bytes)) are small
+    (leb-true (8 + n) (length bytes) test) refl
     (λ c is. ih (at + 9 + n) (drop (8 + n) bytes) c (all_drop (8 + n) bytes are) (omega (arith, small, length-drop (8 + n) bytes)) is) e
 by_length at bytes b next false are small test ih e = absurd (err_not (at + 1) b e)
 
@@ -114,7 +131,8 @@ by_gate : (at gate : ℕ) (bytes : Bytes) (b : Batches) (next : ℕ → Bytes �
     → (gate == open_gate) ≡ t → Next next
     → (if t then batch_behind at bytes next else Ok (record { changes = []; gate = at })) ≡ Ok b → Found at (gate ∷ bytes) b
 by_gate at gate bytes b next true are small test ih e =
-    subst (λ (g : ℕ). Found at (g ∷ bytes) b) (sym (eqb-true gate open_gate test)) (by_length at bytes b next (nat_le (8 + number_of (take 8 bytes)) (length bytes)) are small refl ih e)
+    subst (λ (g : ℕ). Found at (g ∷ bytes) b) (sym (eqb-true gate open_gate test))
+    (by_length at bytes b next (nat_le (8 + number_of (take 8 bytes)) (length bytes)) are small refl ih e)
 by_gate at gate bytes b next false are small test ih e = let is = ok_is (record { changes = []; gate = at }) b e in record {
   batches = [];
   gate = gate;
@@ -129,7 +147,8 @@ by_gate at gate bytes b next false are small test ih e = let is = ok_is (record 
 first_found : (n : ℕ) → Next (first_batches n)
 first_found zero k rest c are small e = absurd (err_not k c e)
 first_found (suc n) k [] c are small e = absurd (err_not k c e)
-first_found (suc n) k (gate ∷ bytes) c are small e = by_gate k gate bytes c (first_batches n) (gate == open_gate) are.1 (omega (arith, small)) refl (first_found n) e
+first_found (suc n) k (gate ∷ bytes) c are small e =
+    by_gate k gate bytes c (first_batches n) (gate == open_gate) are.1 (omega (arith, small)) refl (first_found n) e
 
 pub batches_found : (at : ℕ) (bytes : Bytes) (b : Batches) → AreBytes bytes → length bytes < 2 ^ 64 → batches_in at bytes ≡ Ok b → Found at bytes b
 unfolding batches_in

@@ -1,5 +1,6 @@
 -- Batches of records are read back.
-use Rattle.std.proofs.Common.{arith, ◌≡◌, ℕ, zero, suc, ◌+◌, ◌-◌, ◌^◌, ◌<◌, ◌≤◌, true, false, List, [], ◌∷◌, ◌++◌, length, take, drop, Option, Some, Result, Ok, Err, option_map, refl, sym, ap, ◌∙◌, append_assoc, length-append, nat_le, if◌then◌else◌, ◌==◌, le-leb}
+use Rattle.std.proofs.Common.{arith, ◌≡◌, ℕ, zero, suc, ◌+◌, ◌-◌, ◌^◌, ◌<◌, ◌≤◌, true, false, List, [], ◌∷◌, ◌++◌, length, take, drop, Option, Some}
+use Rattle.std.proofs.Common.{Result, Ok, Err, option_map, refl, sym, ap, ◌∙◌, append_assoc, length-append, nat_le, if◌then◌else◌, ◌==◌, le-leb}
 use Rattle.std.specs.List.{AllByRecursion}
 use Rattle.std.proofs.lemmas.Nat.{from_be_bytes-to_be_bytes_8}
 use Rattle.std.proofs.lemmas.List.{drop-drop, take_at, drop_at}
@@ -7,26 +8,31 @@ use Rattle.byte_text.specs.Names.{Bytes}
 use Rattle.byte_text.specs.Streams.{request}
 use Rattle.byte_text.specs.StreamTexts.{request_read, text_long}
 use Rattle.log_sides.specs.Torn.{length-number_bytes}
-use Rattle.world_data.specs.Records.{record_words, record_text}
+use Rattle.world_data.specs.Records.{record_reader, record_writer}
 use Rattle.world_data.specs.declared.worlds.Change.{Change}
 use Rattle.log_record.specs.Words.{IsRecorded}
-use Rattle.log_record.specs.Batches.{number_bytes, number_of, records_text, batch_text, open_gate, record_front, with_record, records_behind, first_records, records_in, Batches, with_changes, batch_behind, first_batches, batches_in, all_changes, AreRecorded}
+use Rattle.log_record.specs.Batches.{number_bytes, number_of, records_text, batch_text, open_gate, record_front, with_record, records_behind}
+use Rattle.log_record.specs.Batches.{first_records, records_in, Batches, with_changes, batch_behind, first_batches, batches_in, all_changes}
+use Rattle.log_record.specs.Batches.{AreRecorded}
 use Rattle.log_record.specs.Readings.{open_batches}
 
 -- records
 
-pub front_read : (c : Change) (rest : Bytes) → IsRecorded c → record_front (request (record_text c ++ rest)) ≡ Some (c, rest)
-front_read c rest is = ap record_front (request_read (record_words c) rest is.fits) ∙ ap (option_map (λ (d : Change). (d, rest))) is.read_back
+pub front_read : (c : Change) (rest : Bytes) → IsRecorded c → record_front (request (record_writer c ++ rest)) ≡ Some (c, rest)
+front_read c rest is = ap record_front (request_read (record_reader c) rest is.fits) ∙ ap (option_map (λ (d : Change). (d, rest))) is.read_back
 
 first_read : (n at : ℕ) (changes : List Change) → AllByRecursion IsRecorded changes → length (records_text changes) ≤ n
     → first_records n at (records_text changes) ≡ Ok changes
 first_read zero at [] are few = refl
 first_read (suc n) at [] are few = refl
-first_read zero at (c ∷ changes) are few = absurd (omega (arith, few, text_long (record_words c), length-append (record_text c) (records_text changes)))
+first_read zero at (c ∷ changes) are few =
+    absurd (omega (arith, few, text_long (record_reader c), length-append (record_writer c) (records_text changes)))
 first_read (suc n) at (c ∷ changes) are few =
-    let bytes = record_text c ++ records_text changes in
-    let behind = first_read n (at + (length bytes - length (records_text changes))) changes are.1 (omega (arith, few, text_long (record_words c), length-append (record_text c) (records_text changes))) in
-    ap (λ (x : Option (Change × Bytes)). records_behind at bytes x (first_records n)) (front_read c (records_text changes) are.0) ∙ ap (with_record c) behind
+    let bytes = record_writer c ++ records_text changes in
+    let behind = first_read n (at + (length bytes - length (records_text changes))) changes are.1
+    (omega (arith, few, text_long (record_reader c), length-append (record_writer c) (records_text changes))) in
+    ap (λ (x : Option (Change × Bytes)). records_behind at bytes x (first_records n)) (front_read c (records_text changes) are.0)
+    ∙ ap (with_record c) behind
 
 pub records_read : (at : ℕ) (changes : List Change) → AllByRecursion IsRecorded changes → records_in at (records_text changes) ≡ Ok changes
 unfolding records_in
@@ -36,18 +42,21 @@ records_read at changes are = first_read (length (records_text changes)) at chan
 
 -- whatever a batch holds, so many bytes of it are read as records
 pub framed_read : (at : ℕ) (batch rest : Bytes) (next : ℕ → Bytes → Result Batches ℕ) → length batch < 2 ^ 64
-    → batch_behind at ((number_bytes (length batch) ++ batch) ++ rest) next ≡ with_changes (records_in (at + 9) batch) (next (at + 9 + length batch) rest)
+    → batch_behind at ((number_bytes (length batch) ++ batch) ++ rest) next
+    ≡ with_changes (records_in (at + 9) batch) (next (at + 9 + length batch) rest)
 unfolding number_bytes
 framed_read at batch rest next small =
     let n = length batch in
     let bytes = number_bytes n ++ (batch ++ rest) in
     let assoc : (number_bytes n ++ batch) ++ rest ≡ bytes = append_assoc (number_bytes n) batch rest in
     let number : number_of (take 8 bytes) ≡ n = from_be_bytes-to_be_bytes_8 n small in
-    let long : nat_le (8 + n) (length bytes) ≡ true = le-leb (8 + n) (length bytes) (omega (arith, length-append (number_bytes n) (batch ++ rest), length-append batch rest, length-number_bytes n)) in
+    let long : nat_le (8 + n) (length bytes) ≡ true = le-leb (8 + n) (length bytes)
+    (omega (arith, length-append (number_bytes n) (batch ++ rest), length-append batch rest, length-number_bytes n)) in
     let inside : take n (drop 8 bytes) ≡ batch = take_at batch rest n refl in
     let behind : drop (8 + n) bytes ≡ rest = sym (drop-drop n 8 bytes) ∙ drop_at batch rest n refl in
     ap (λ (l : Bytes). batch_behind at l next) assoc
-    ∙ ap (λ (m : ℕ). if nat_le (8 + m) (length bytes) then with_changes (records_in (at + 9) (take m (drop 8 bytes))) (next (at + 9 + m) (drop (8 + m) bytes)) else Err (at + 1)) number
+    ∙ ap (λ (m : ℕ). if nat_le (8 + m) (length bytes) then with_changes (records_in (at + 9) (take m (drop 8 bytes)))
+    (next (at + 9 + m) (drop (8 + m) bytes)) else Err (at + 1)) number
     ∙ rw long (ap (λ (l : Bytes). with_changes (records_in (at + 9) l) (next (at + 9 + n) (drop (8 + n) bytes))) inside
     ∙ ap (λ (l : Bytes). with_changes (records_in (at + 9) batch) (next (at + 9 + n) l)) behind)
 
@@ -56,22 +65,30 @@ batch_read : (at : ℕ) (changes : List Change) (rest : Bytes) (next : ℕ → B
     → batch_behind at (batch_text changes ++ rest) next ≡ with_changes (Ok changes) (next (at + 9 + length (records_text changes)) rest)
 batch_read at changes rest next are small =
     let records = records_text changes in
-    framed_read at records rest next small ∙ ap (λ (r : Result (List Change) ℕ). with_changes r (next (at + 9 + length records) rest)) (records_read (at + 9) changes are)
+    framed_read at records rest next small ∙ ap (λ (r : Result (List Change) ℕ). with_changes r (next (at + 9 + length records) rest))
+    (records_read (at + 9) changes are)
 
 -- batches and a gate that is not open
 
 pub first_batches_read : (n at gate : ℕ) (batches : List (List Change)) (stale : Bytes) → (gate == open_gate) ≡ false → AreRecorded batches
     → length batches < n
-    → first_batches n at (open_batches batches ++ gate ∷ stale) ≡ Ok (record { changes = all_changes batches; gate = at + length (open_batches batches) })
+    → first_batches n at (open_batches batches ++ gate ∷ stale)
+    ≡ Ok (record { changes = all_changes batches; gate = at + length (open_batches batches) })
 first_batches_read zero at gate batches stale closed are few = absurd (omega (arith, few))
 first_batches_read (suc n) at gate [] stale closed are few = rw closed (ap (λ (k : ℕ). Ok (record { changes = []; gate = k })) (omega arith))
 first_batches_read (suc n) at gate (changes ∷ batches) stale closed are few =
     let rest = open_batches batches ++ gate ∷ stale in
     let size = length (records_text changes) in
-    let assoc : open_batches (changes ∷ batches) ++ gate ∷ stale ≡ open_gate ∷ (batch_text changes ++ rest) = append_assoc (open_gate ∷ batch_text changes) (open_batches batches) (gate ∷ stale) in
+    let assoc : open_batches (changes ∷ batches) ++ gate ∷ stale ≡ open_gate ∷
+    (batch_text changes ++ rest) = append_assoc (open_gate ∷ batch_text changes) (open_batches batches) (gate ∷ stale) in
     let behind = first_batches_read n (at + 9 + size) gate batches stale closed are.1 (omega (arith, few)) in
     let long : at + 9 + size + length (open_batches batches) ≡ at + length (open_batches (changes ∷ batches)) =
-    omega (arith, length-append (open_gate ∷ batch_text changes) (open_batches batches), length-append (number_bytes size) (records_text changes), length-number_bytes size) in
+    omega (
+      arith,
+      length-append (open_gate ∷ batch_text changes) (open_batches batches),
+      length-append (number_bytes size) (records_text changes),
+      length-number_bytes size,
+    ) in
     ap (first_batches (suc n) at) assoc
     ∙ batch_read at changes rest (first_batches n) are.0.0 are.0.1
     ∙ ap (with_changes (Ok changes)) behind
@@ -84,5 +101,6 @@ batches_long (changes ∷ batches) = omega (arith, batches_long batches, length-
 pub batches_read : (at gate : ℕ) (batches : List (List Change)) (stale : Bytes) → (gate == open_gate) ≡ false → AreRecorded batches
     → batches_in at (open_batches batches ++ gate ∷ stale) ≡ Ok (record { changes = all_changes batches; gate = at + length (open_batches batches) })
 unfolding batches_in
-batches_read at gate batches stale closed are = first_batches_read (length (open_batches batches ++ gate ∷ stale) + 1) at gate batches stale closed are
+batches_read at gate batches stale closed are =
+    first_batches_read (length (open_batches batches ++ gate ∷ stale) + 1) at gate batches stale closed are
     (omega (arith, batches_long batches, length-append (open_batches batches) (gate ∷ stale)))

@@ -8,7 +8,7 @@ use Rattle.world_model.specs.Halls.{Hall, Session, is_live, session_of, due, eff
 use Rattle.world_data.specs.declared.worlds.Change.{Change}
 use Rattle.world_model.specs.declared.events.Asked.{Asked}
 use Rattle.world_model.specs.declared.events.Asked.TheVariants.{Words, Broken}
-use Rattle.world_model.specs.declared.events.Called.TheVariants as called
+use Rattle.world_model.specs.declared.events.CallOutcome.TheVariants as called
 use Rattle.world_model.specs.declared.events.Event.{Event}
 use Rattle.world_model.specs.declared.events.Event.TheVariants.{Call, Tick}
 use Rattle.world_model.specs.declared.events.Outcome.{Outcome}

@@ -79,7 +79,8 @@ shows event outcome = given outcome || (settles event && is_fine outcome)
 -- what a call of a core owes, from one disk, hall and journal to others: a stopped hall leaves its disk alone; else at each
 -- moment of the call a crash leaves the committed world, or the one with all that was pending; unless the hall stops, the
 -- writes of the call are pending or committed, and a crash leaves what is committed from then on
-pub record Turn {D : Type 0} (images : D → Sides → Type 0) (moment : D → ℕ) (left_since : D → ℕ → Sides → Type 0) (old new : D) (h : Hall) (before : Journal) (event : Event) (outcome : Outcome) (next : Hall) (after : Journal) : Type 0 where
+pub record Turn {D : Type 0} (images : D → Sides → Type 0) (moment : D → ℕ) (left_since : D → ℕ → Sides → Type 0) (old new : D) (h : Hall)
+    (before : Journal) (event : Event) (outcome : Outcome) (next : Hall) (after : Journal) : Type 0 where
   pub stopped : h.stopped ≡ true → new ≡ old
   pub leaves : h.stopped ≡ false → Leaves moment left_since old new before
   pub durable : next.stopped ≡ false → IsDurable (images new) after

@@ -23,7 +23,8 @@ use Rattle.log_record.specs.EventWrites.{Does, writes_by}
 use Rattle.log_record.specs.Journals.{Journal, KeepsLog, Turn, TellsNow}
 
 -- a history that led to a hall, over a disk that is safe for it and a journal that keeps the hall's log
-pub record Stood {D : Type 0} (images : D → Sides → Type 0) (moment : D → ℕ) (left_since : D → ℕ → Sides → Type 0) (disk : D) (o : Opening) (entries : List Entry) (h : Hall) (j : Journal) : Type 0 where
+pub record Stood {D : Type 0} (images : D → Sides → Type 0) (moment : D → ℕ) (left_since : D → ℕ → Sides → Type 0) (disk : D) (o : Opening)
+    (entries : List Entry) (h : Hall) (j : Journal) : Type 0 where
   pub reached : Reaches o entries h
   pub past : moment_after o.moment entries ≤ moment disk
   pub safe : Safe left_since disk o entries
@@ -70,7 +71,12 @@ abbrev pub SidesStand : Type 0
 SidesStand = (s : Sides) (side : Side) (generation gate : ℕ) (batches : List (List Change)) (stale : Bytes)
     → side_of s side ≡ side_over generation batches gate stale → gate ≢ open_gate → 0 < generation → generation < 2 ^ 64 → AreRecorded batches
     → length s.a ≤ max_side → length s.b ≤ max_side → IsOlder generation (side_of s (other_side side))
-    → reading s ≡ stands (record { side = side; generation = generation; gate = gate_place batches; world = folded empty_world (all_changes batches) })
+    → reading s ≡ stands (record {
+      side = side;
+      generation = generation;
+      gate = gate_place batches;
+      world = folded empty_world (all_changes batches);
+    })
 
 -- a log that is read as standing has such a text
 abbrev pub LogsAreFound : Type 0

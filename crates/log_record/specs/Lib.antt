@@ -19,13 +19,9 @@ pub mod SidesRead
 pub mod SidesFound
 pub mod RecoveryLaws
 pub mod StandingLaws
-pub mod CommitLaws
-pub mod MakingLaws
 pub mod StepCases
 pub mod AnswerLaws
 pub mod EventWriteLaws
-pub mod PendingLaws
-pub mod JournalLaws
 pub mod Acknowledged
 pub mod LeadingLaws
 pub mod SafetyLaws

@@ -21,7 +21,9 @@ filter_swap : {A : Type 0} (p q : A → Bool) (xs : List A) → filter p (filter
 filter_swap p q [] = refl
 filter_swap p q (x ∷ xs) = swap_by p q x xs (p x) (q x) refl refl (filter_swap p q xs)
 
-module _ {A : Type 0} (lt : A → A → Bool) (asym : (x y : A) → lt x y ≡ true → lt y x ≡ false) (trans : (x y z : A) → lt x y ≡ true → lt y z ≡ true → lt x z ≡ true) (tie : (x y z : A) → lt x y ≡ false → lt y x ≡ false → lt y z ≡ true → lt x z ≡ true) where
+module _ {A : Type 0} (lt : A → A → Bool) (asym : (x y : A) → lt x y ≡ true → lt y x ≡ false)
+    (trans : (x y z : A) → lt x y ≡ true → lt y z ≡ true → lt x z ≡ true)
+    (tie : (x y z : A) → lt x y ≡ false → lt y x ≡ false → lt y z ≡ true → lt x z ≡ true) where
   -- the same of parts
   pub some_put : (copied : A → Bool) (part all : List A) (x : A) → ascends lt all ≡ true → IsPicked copied part all
       → IsPicked copied (put_in lt x part) (put_in lt x all)
@@ -40,7 +42,10 @@ module _ {A : Type 0} (lt : A → A → Bool) (asym : (x y : A) → lt x y ≡ t
       → IsPicked (λ z. ties lt z x || copied z) (put_in lt x part) all
   some_more copied part all x asc stands is = record {
     picked = λ z. ties lt z x || is.picked z;
-    part_is = ap (put_in lt x) is.part_is ∙ put_in-picked lt asym trans tie is.picked x all asc ∙ ap (filter (λ z. ties lt z x || is.picked z)) (ap (put_in lt x) stands.list_is ∙ put_in-again lt asym x stands.earlier stands.later (subst (λ l. ascends lt l ≡ true) stands.list_is asc) ∙ sym stands.list_is);
+    part_is = ap (put_in lt x) is.part_is ∙ put_in-picked lt asym trans tie is.picked x all asc
+        ∙ ap (filter (λ z. ties lt z x || is.picked z))
+        (ap (put_in lt x) stands.list_is ∙ put_in-again lt asym x stands.earlier stands.later (subst (λ l. ascends lt l ≡ true) stands.list_is asc)
+        ∙ sym stands.list_is);
     enough = λ z e. enough_by x z copied is.picked (is.enough z) (ties lt z x) refl e;
   }
 

@@ -1,5 +1,6 @@
 -- The two sides of a log: the text of a side, and what is read of both.
-use Rattle.std.specs.Prelude.{◌≡◌, ℕ, ◌+◌, ◌<◌, ◌==◌, Bool, true, false, not, ◌&&◌, ◌||◌, nat_le, nat_lt, List, [], ◌∷◌, ◌++◌, length, take, drop, flat_map, Option, Some, None, option_map, if◌then◌else◌, Result, Ok, Err, codes}
+use Rattle.std.specs.Prelude.{◌≡◌, ℕ, ◌+◌, ◌<◌, ◌==◌, Bool, true, false, not, ◌&&◌, ◌||◌, nat_le, nat_lt, List, [], ◌∷◌, ◌++◌, length, take, drop}
+use Rattle.std.specs.Prelude.{flat_map, Option, Some, None, option_map, if◌then◌else◌, Result, Ok, Err, codes}
 use Rattle.byte_text.specs.Names.{Bytes, same}
 use Rattle.world_data.specs.Worlds.{empty_world}
 use Rattle.world_data.specs.declared.worlds.World.{World}
@@ -97,7 +98,8 @@ side_in_use s =
 
 -- what the batches of a side make of it
 abbrev pub reading_of : Side → ℕ → Result Batches ℕ → Reading
-reading_of side generation (Ok batches) = stands (record { side = side; generation = generation; gate = batches.gate; world = folded empty_world batches.changes })
+reading_of side generation (Ok batches) =
+    stands (record { side = side; generation = generation; gate = batches.gate; world = folded empty_world batches.changes })
 reading_of side generation (Err place) = damaged side place
 
 abbrev pub side_reading : Side → Bytes → Reading
@@ -117,10 +119,6 @@ reading s = unless_damaged (cause_of s) (reading_in_use s (side_in_use s))
 
 abbrev pub Fresh : Sides → Type 0
 Fresh s = reading s ≡ fresh
-
--- the sides stand for this world
-abbrev pub Stands : Sides → World → Type 0
-Stands s w = (standing : Standing) × (reading s ≡ stands standing) × (standing.world ≡ w)
 
 -- a side that is not in use beside one of this generation: it is not open, or its header is right and its generation smaller
 abbrev pub IsOlder : ℕ → Bytes → Type 0

@@ -1,11 +1,12 @@
 -- What is read as records is their text.
-use Rattle.std.proofs.Common.{◌≡◌, ℕ, zero, suc, ◌+◌, ◌-◌, List, [], ◌∷◌, ◌++◌, length, Option, Some, None, Result, Ok, Err, option_map, refl, sym, ap, subst, ◌∙◌}
+use Rattle.std.proofs.Common.{◌≡◌, ℕ, zero, suc, ◌+◌, ◌-◌, List, [], ◌∷◌, ◌++◌, length, Option, Some, None, Result, Ok, Err, option_map, refl, sym}
+use Rattle.std.proofs.Common.{ap, subst, ◌∙◌}
 use Rattle.std.specs.List.{AllByRecursion}
 use Rattle.byte_text.specs.Names.{Bytes}
 use Rattle.byte_text.specs.Requests.{IsRequest, request_text}
 use Rattle.byte_text.specs.Streams.{Front, found, begun, broken, request}
 use Rattle.byte_text.specs.StreamFound.{request_found}
-use Rattle.world_data.specs.Records.{record_text}
+use Rattle.world_data.specs.Records.{record_writer}
 use Rattle.world_data.specs.declared.worlds.Change.{Change}
 use Rattle.log_record.specs.Words.{change_of_words, IsRecorded}
 use Rattle.log_record.specs.Batches.{records_text, record_front, with_record, records_behind, first_records, records_in}
@@ -25,14 +26,16 @@ err_not at cs e = cc e
 
 -- what words are the record of has a record
 pub is_recorded : (words : List Bytes) (c : Change) → IsRequest words → change_of_words words ≡ Some c → IsRecorded c
-is_recorded words c fits e = let is = (record_read words c e).0 in record { read_back = ap change_of_words is ∙ e; fits = subst IsRequest (sym is) fits }
+is_recorded words c fits e = let is = (record_read words c e).0 in
+    record { read_back = ap change_of_words is ∙ e; fits = subst IsRequest (sym is) fits }
 
-text_is : (words : List Bytes) (c : Change) → change_of_words words ≡ Some c → request_text words ≡ record_text c
+text_is : (words : List Bytes) (c : Change) → change_of_words words ≡ Some c → request_text words ≡ record_writer c
 text_is words c e = ap request_text (sym (record_read words c e).0)
 
-by_rest : (bytes behind : Bytes) (c : Change) (cs : List Change) (r : Result (List Change) ℕ) → IsRecorded c → bytes ≡ record_text c ++ behind
+by_rest : (bytes behind : Bytes) (c : Change) (cs : List Change) (r : Result (List Change) ℕ) → IsRecorded c → bytes ≡ record_writer c ++ behind
     → ((ds : List Change) → r ≡ Ok ds → IsText behind ds) → with_record c r ≡ Ok cs → IsText bytes cs
-by_rest bytes behind c cs (Ok ds) is text ih e = let rest = ih ds refl in subst (IsText bytes) (ok_is (c ∷ ds) cs e) ((is, rest.0), text ∙ ap (λ (l : Bytes). record_text c ++ l) rest.1)
+by_rest bytes behind c cs (Ok ds) is text ih e = let rest = ih ds refl in
+    subst (IsText bytes) (ok_is (c ∷ ds) cs e) ((is, rest.0), text ∙ ap (λ (l : Bytes). record_writer c ++ l) rest.1)
 by_rest bytes behind c cs (Err at) is text ih e = absurd (err_not at cs e)
 
 by_change : (at : ℕ) (bytes behind : Bytes) (words : List Bytes) (cs : List Change) (next : ℕ → Bytes → Result (List Change) ℕ) (o : Option Change)

@@ -1,5 +1,6 @@
 -- Runs stay safe.
-use Rattle.std.proofs.Common.{◌≡◌, ◌≤◌, ◌-◌, ℕ, zero, suc, Bool, true, false, List, [], ◌∷◌, ◌++◌, length, take, refl, sym, ap, subst, ◌∙◌, arith, inl, inr, ⊎_elim, length-append, append-nil, append_assoc}
+use Rattle.std.proofs.Common.{◌≡◌, ◌≤◌, ◌-◌, ℕ, zero, suc, Bool, true, false, List, [], ◌∷◌, ◌++◌, length, take, refl, sym, ap, subst, ◌∙◌, arith}
+use Rattle.std.proofs.Common.{inl, inr, ⊎_elim, length-append, append-nil, append_assoc}
 use Rattle.std.proofs.lemmas.List.{take_all}
 use Rattle.outside.specs.Sides.{Sides}
 use Rattle.outside.specs.Crashes.{LeavesOnly}
@@ -26,9 +27,18 @@ module _ {D : Type 0} (images : D → Sides → Type 0) (moment : D → ℕ) (le
       → Worlds (length entries) h.world → IsLogged (images old) h j
       → (c : Sides) → RecoversEither j.committed (whole j) c → RecoversPassed Worlds (acked_count entries) (length entries) c
   either_passed old start entries Worlds h j tells past safe last log c either = ⊎_elim
-      (λ first. let found = committed_passed images moment left_since old start entries Worlds j.committed tells.counts_now safe (subst (λ (l : List Entry). moment_after start l ≤ moment old) (take_all (length entries) entries (omega arith)) (past (length entries))) log.durable in
+      (λ first. let found = committed_passed images moment left_since old start entries Worlds j.committed tells.counts_now safe
+      (subst (λ (l : List Entry). moment_after start l ≤ moment old) (take_all (length entries) entries (omega arith)) (past (length entries)))
+      log.durable in
       record { count = found.0; at_least = found.1; at_most = found.2; world = j.committed; passed = found.3; recovers = first })
-      (λ second. record { count = length entries; at_least = acked_within entries; at_most = omega arith; world = whole j; passed = subst (Worlds (length entries)) log.world last; recovers = second })
+      (λ second. record {
+        count = length entries;
+        at_least = acked_within entries;
+        at_most = omega arith;
+        world = whole j;
+        passed = subst (Worlds (length entries)) log.world last;
+        recovers = second;
+      })
       either
 
   leaves_passed : (old new : D) (start : ℕ) (entries : List Entry) (e : Entry) (Worlds : ℕ → World → Type 0) (h next : Hall) (before after : Journal)
@@ -38,7 +48,8 @@ module _ {D : Type 0} (images : D → Sides → Type 0) (moment : D → ℕ) (le
       → Turn images moment left_since old new h before e.event e.outcome next after → (b : Bool) → h.stopped ≡ b
       → LeavesOnly moment left_since old new (RecoversPassed Worlds (acked_count entries) (length entries))
   leaves_passed old new start entries e Worlds h next before after tells past safe last log turn true stops =
-      subst (λ (d : D). LeavesOnly moment left_since old d (RecoversPassed Worlds (acked_count entries) (length entries))) (sym (turn.stopped stops)) (begins moment left_since old (RecoversPassed Worlds (acked_count entries) (length entries)))
+      subst (λ (d : D). LeavesOnly moment left_since old d (RecoversPassed Worlds (acked_count entries) (length entries))) (sym (turn.stopped stops))
+      (begins moment left_since old (RecoversPassed Worlds (acked_count entries) (length entries)))
   leaves_passed old new start entries e Worlds h next before after tells past safe last log turn false goes =
       weaker moment left_since old new (RecoversEither before.committed (whole before)) (RecoversPassed Worlds (acked_count entries) (length entries))
       (either_passed old start entries Worlds h before tells past safe last (log goes)) (turn.leaves goes)
@@ -61,8 +72,10 @@ module _ {D : Type 0} (images : D → Sides → Type 0) (moment : D → ℕ) (le
       → LeavesOnly moment left_since old new (RecoversPassed Worlds (acked_count entries) (length entries))
       → ((m : ℕ) (w : World) → m ≤ length entries → Worlds m w → More m w) → IsSafe left_since new start entries More
   safe_stays old new start entries Worlds More past safe leaves more n few c left = ⊎_elim
-      (λ before. passed_still Worlds More (acked_count (take n entries)) (acked_count (take n entries)) (length entries) (length entries) c (omega arith) (omega arith) more (safe n few c before))
-      (λ inside. passed_still Worlds More (acked_count entries) (acked_count (take n entries)) (length entries) (length entries) c (acked_take n entries) (omega arith) more inside)
+      (λ before. passed_still Worlds More (acked_count (take n entries)) (acked_count (take n entries)) (length entries) (length entries) c
+      (omega arith) (omega arith) more (safe n few c before))
+      (λ inside. passed_still Worlds More (acked_count entries) (acked_count (take n entries)) (length entries) (length entries) c
+      (acked_take n entries) (omega arith) more inside)
       (leaves.either (moment_after start (take n entries)) c (past n) left)
 
   not_later : (old new : D) (h next : Hall) (before after : Journal) (e : Entry)
@@ -74,11 +87,13 @@ module _ {D : Type 0} (images : D → Sides → Type 0) (moment : D → ℕ) (le
 
 entries-last : (run : Run) (o : Opening) (entries : List Entry) → entries_of (and_then run o entries) ≡ entries_of run ++ entries
 entries-last [] o entries = append-nil entries
-entries-last ((q, es) ∷ run) o entries = ap (λ (l : List Entry). es ++ l) (entries-last run o entries) ∙ sym (append_assoc es (entries_of run) entries)
+entries-last ((q, es) ∷ run) o entries = ap (λ (l : List Entry). es ++ l) (entries-last run o entries)
+    ∙ sym (append_assoc es (entries_of run) entries)
 
 entries-more : (run : Run) (o : Opening) (entries : List Entry) (e : Entry)
     → entries_of (and_then run o (entries ++ e ∷ [])) ≡ entries_of (and_then run o entries) ++ e ∷ []
-entries-more run o entries e = entries-last run o (entries ++ e ∷ []) ∙ sym (append_assoc (entries_of run) entries (e ∷ [])) ∙ ap (λ (l : List Entry). l ++ e ∷ []) (sym (entries-last run o entries))
+entries-more run o entries e = entries-last run o (entries ++ e ∷ []) ∙ sym (append_assoc (entries_of run) entries (e ∷ []))
+    ∙ ap (λ (l : List Entry). l ++ e ∷ []) (sym (entries-last run o entries))
 
 start-more : (run : Run) (o : Opening) (entries more : List Entry) → start_of (and_then run o entries) ≡ start_of (and_then run o more)
 start-more [] o entries more = refl
@@ -93,7 +108,8 @@ start-then ((q, es) ∷ run) o p entries = refl
 
 more_passed : (run : Run) (o : Opening) (entries : List Entry) (e : Entry) (m : ℕ) (w : World) → RunPasses (and_then run o entries) m w
     → RunPasses (and_then run o (entries ++ e ∷ [])) m w
-more_passed [] o entries e m w (inl passes) = inl (omega (arith, passes.0, length-append entries (e ∷ [])), passes_still o entries e m w passes.0 passes.1)
+more_passed [] o entries e m w (inl passes) =
+    inl (omega (arith, passes.0, length-append entries (e ∷ [])), passes_still o entries e m w passes.0 passes.1)
 more_passed [] o entries e m w (inr none) = absurd none.1
 more_passed ((q, es) ∷ run) o entries e m w (inl passes) = inl passes
 more_passed ((q, es) ∷ run) o entries e m w (inr passes) = inr (passes.0, more_passed run o entries e (m - length es) w passes.1)
@@ -114,7 +130,8 @@ last_passed ((q, es) ∷ run) o entries h n is reached =
 past_more : (start old new : ℕ) (entries : List Entry) (e : Entry) → ((n : ℕ) → moment_after start (take n entries) ≤ old) → old ≤ new
     → e.moment ≡ new → (n : ℕ) → moment_after start (take n (entries ++ e ∷ [])) ≤ new
 past_more start old new [] e past later at_end zero = let first = past 0 in omega (arith, first, later)
-past_more start old new [] e past later at_end (suc n) = subst (λ (l : List Entry). moment_after e.moment l ≤ new) (sym (take_all n [] (omega arith))) (omega (arith, at_end))
+past_more start old new [] e past later at_end (suc n) =
+    subst (λ (l : List Entry). moment_after e.moment l ≤ new) (sym (take_all n [] (omega arith))) (omega (arith, at_end))
 past_more start old new (d ∷ entries) e past later at_end zero = let first = past 0 in omega (arith, first, later)
 past_more start old new (d ∷ entries) e past later at_end (suc n) = past_more d.moment old new entries e (λ m. past (suc m)) later at_end n
 
@@ -122,21 +139,33 @@ pub turns_keep_runs_safe : {D : Type 0} (images : D → Sides → Type 0) (momen
     → TurnsKeepRunsSafe images moment left_since
 unfolding SafeRun
 turns_keep_runs_safe {D} images moment left_since old new run o entries e h next before after tells_old tells_new stood step follows turn at_end =
-    let on : Reaches o (entries ++ e ∷ []) next = leads_on (opening_hall o.world o.logged) h next o.moment o.count false entries e stood.reached step follows in
+    let on : Reaches o (entries ++ e ∷ []) next = leads_on
+    (opening_hall o.world o.logged) h next o.moment o.count false entries e stood.reached step follows in
     let all = entries_of (and_then run o entries) in
     let start = start_of (and_then run o entries) in
     let More = RunPasses (and_then run o (entries ++ e ∷ [])) in
-    let last : RunPasses (and_then run o entries) (length all) h.world = last_passed run o entries h (length all) (ap length (entries-last run o entries)) stood.reached in
+    let last : RunPasses (and_then run o entries) (length all) h.world = last_passed run o entries h (length all)
+    (ap length (entries-last run o entries)) stood.reached in
     let further : More (suc (length all)) next.world = last_passed run o (entries ++ e ∷ []) next (suc (length all))
-    (omega (arith, ap length (entries-last run o entries), length-append (entries_of run) entries, length-append (entries_of run) (entries ++ e ∷ []), length-append entries (e ∷ []))) on in
-    let safe : IsSafe left_since new start (all ++ e ∷ []) More = turn_safe images moment left_since old new start all e (RunPasses (and_then run o entries)) More h next before after tells_old tells_new stood.past stood.safe last stood.log turn at_end
+    (omega (
+      arith,
+      ap length (entries-last run o entries),
+      length-append (entries_of run) entries,
+      length-append (entries_of run) (entries ++ e ∷ []),
+      length-append entries (e ∷ []),
+    )) on in
+    let safe : IsSafe left_since new start (all ++ e ∷ []) More = turn_safe images moment left_since old new start all e
+    (RunPasses (and_then run o entries)) More h next before after tells_old tells_new stood.past stood.safe last stood.log turn at_end
     (λ m w few passes. more_passed run o entries e m w passes) further in
     record {
       reached = on;
-      past = subst (λ (s : ℕ). (n : ℕ) → moment_after s (take n (entries_of (and_then run o (entries ++ e ∷ [])))) ≤ moment new) (start-more run o entries (entries ++ e ∷ []))
+      past = subst (λ (s : ℕ). (n : ℕ) → moment_after s (take n (entries_of (and_then run o (entries ++ e ∷ [])))) ≤ moment new)
+          (start-more run o entries (entries ++ e ∷ []))
           (subst (λ (l : List Entry). (n : ℕ) → moment_after start (take n l) ≤ moment new) (sym (entries-more run o entries e))
-          (past_more start (moment old) (moment new) all e stood.past (not_later images moment left_since old new h next before after e turn h.stopped refl) at_end));
-      safe = subst (λ (s : ℕ). IsSafe left_since new s (entries_of (and_then run o (entries ++ e ∷ []))) More) (start-more run o entries (entries ++ e ∷ []))
+          (past_more start (moment old) (moment new) all e stood.past
+          (not_later images moment left_since old new h next before after e turn h.stopped refl) at_end));
+      safe = subst (λ (s : ℕ). IsSafe left_since new s (entries_of (and_then run o (entries ++ e ∷ []))) More)
+          (start-more run o entries (entries ++ e ∷ []))
           (subst (λ (l : List Entry). IsSafe left_since new start l More) (sym (entries-more run o entries e)) safe);
       log = keeps_log_on images moment left_since old new e.event e.outcome h next before after stood.log step turn;
     }
@@ -151,16 +180,21 @@ openings_keep_runs_safe {D} images moment left_since old new run o p entries h j
     let one = and_then run o entries in
     let all = entries_of one in
     let start = start_of one in
-    let last : RunPasses one (length all) p.world = subst (RunPasses one (length all)) is (last_passed run o entries h (length all) (ap length (entries-last run o entries)) stood.reached) in
-    let safe : IsSafe left_since new start all (RunPasses (and_then one p [])) = safe_stays images moment left_since old new start all (RunPasses one) (RunPasses (and_then one p [])) stood.past stood.safe
+    let last : RunPasses one (length all) p.world = subst (RunPasses one (length all)) is
+    (last_passed run o entries h (length all) (ap length (entries-last run o entries)) stood.reached) in
+    let safe : IsSafe left_since new start all (RunPasses (and_then one p [])) = safe_stays images moment left_since old new start all (RunPasses one)
+    (RunPasses (and_then one p [])) stood.past stood.safe
     (weaker moment left_since old new (λ c. Recovers c p.world) (RecoversPassed (RunPasses one) (acked_count all) (length all))
-    (λ c back. record { count = length all; at_least = acked_within all; at_most = omega arith; world = p.world; passed = last; recovers = back }) leaves)
+    (λ c back. record { count = length all; at_least = acked_within all; at_most = omega arith; world = p.world; passed = last; recovers = back })
+    leaves)
     (λ m w few passes. then_passed one p m w passes) in
     record {
       reached = refl;
       past = subst (λ (s : ℕ). (n : ℕ) → moment_after s (take n (entries_of (and_then one p []))) ≤ moment new) (sym (start-then run o p entries))
-          (subst (λ (l : List Entry). (n : ℕ) → moment_after start (take n l) ≤ moment new) (sym (entries-then one p)) (λ n. let before = stood.past n in omega (arith, before, leaves.later)));
-      safe = subst (λ (s : ℕ). IsSafe left_since new s (entries_of (and_then one p [])) (RunPasses (and_then one p []))) (sym (start-then run o p entries))
+          (subst (λ (l : List Entry). (n : ℕ) → moment_after start (take n l) ≤ moment new) (sym (entries-then one p))
+          (λ n. let before = stood.past n in omega (arith, before, leaves.later)));
+      safe = subst (λ (s : ℕ). IsSafe left_since new s (entries_of (and_then one p [])) (RunPasses (and_then one p [])))
+          (sym (start-then run o p entries))
           (subst (λ (l : List Entry). IsSafe left_since new start l (RunPasses (and_then one p []))) (sym (entries-then one p)) safe);
       log = λ goes. record { world = refl; durable = holds };
     }

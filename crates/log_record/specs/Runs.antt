@@ -15,7 +15,8 @@ abbrev pub and_then : Run → Opening → List Entry → Run
 and_then run o entries = run ++ (o, entries) ∷ []
 
 -- behind a run, a history that led to a hall, over a disk that is safe for all of it and a journal that keeps the hall's log
-pub record RunStood {D : Type 0} (images : D → Sides → Type 0) (moment : D → ℕ) (left_since : D → ℕ → Sides → Type 0) (disk : D) (run : Run) (o : Opening) (entries : List Entry) (h : Hall) (j : Journal) : Type 0 where
+pub record RunStood {D : Type 0} (images : D → Sides → Type 0) (moment : D → ℕ) (left_since : D → ℕ → Sides → Type 0) (disk : D) (run : Run)
+    (o : Opening) (entries : List Entry) (h : Hall) (j : Journal) : Type 0 where
   pub reached : Reaches o entries h
   pub past : (n : ℕ) → moment_after (start_of (and_then run o entries)) (take n (entries_of (and_then run o entries))) ≤ moment disk
   pub safe : SafeRun left_since disk (and_then run o entries)
@@ -23,7 +24,8 @@ pub record RunStood {D : Type 0} (images : D → Sides → Type 0) (moment : D �
 
 -- one more entry
 abbrev pub TurnsKeepRunsSafe : {D : Type 0} → (D → Sides → Type 0) → (D → ℕ) → (D → ℕ → Sides → Type 0) → Type 0
-TurnsKeepRunsSafe {D} images moment left_since = (old new : D) (run : Run) (o : Opening) (entries : List Entry) (e : Entry) (h next : Hall) (before after : Journal)
+TurnsKeepRunsSafe {D} images moment left_since =
+    (old new : D) (run : Run) (o : Opening) (entries : List Entry) (e : Entry) (h next : Hall) (before after : Journal)
     → TellsNow images moment left_since old → TellsNow images moment left_since new
     → RunStood images moment left_since old run o entries h before
     → Step h e.event e.outcome next → ComesNext o entries e
@@ -35,4 +37,5 @@ abbrev pub OpeningsKeepRunsSafe : {D : Type 0} → (D → Sides → Type 0) → 
 OpeningsKeepRunsSafe {D} images moment left_since = (old new : D) (run : Run) (o p : Opening) (entries : List Entry) (h : Hall) (j : Journal)
     → RunStood images moment left_since old run o entries h j → h.world ≡ p.world
     → LeavesOnly moment left_since old new (λ image. Recovers image p.world) → Holds (images new) p.world
-    → RunStood images moment left_since new (and_then run o entries) p [] (opening_hall p.world p.logged) (record { committed = p.world; pending = [] })
+    → RunStood images moment left_since new (and_then run o entries) p [] (opening_hall p.world p.logged)
+    (record { committed = p.world; pending = [] })

@@ -1,5 +1,6 @@
 -- How a disk stays safe.
-use Rattle.std.proofs.Common.{◌≡◌, ◌≤◌, ◌<◌, ◌⊎◌, ℕ, suc, Bool, true, false, List, [], ◌∷◌, ◌++◌, length, take, refl, sym, ap, subst, ◌∙◌, arith, inl, inr, ⊎_elim, length-append}
+use Rattle.std.proofs.Common.{◌≡◌, ◌≤◌, ◌<◌, ◌⊎◌, ℕ, suc, Bool, true, false, List, [], ◌∷◌, ◌++◌, length, take, refl, sym, ap, subst, ◌∙◌, arith, inl}
+use Rattle.std.proofs.Common.{inr, ⊎_elim, length-append}
 use Rattle.std.proofs.lemmas.List.{take_all, take-append-le}
 use Rattle.std.proofs.Math.Nat.{eq-or-lt_of_le}
 use Rattle.outside.specs.Sides.{Sides}
@@ -25,18 +26,26 @@ passed_still Worlds More least less most mostly image lower higher more found = 
 }
 
 -- the world that an image of now is recovered as was passed, with all that is acknowledged
-pub committed_passed : {D : Type 0} (images : D → Sides → Type 0) (moment : D → ℕ) (left_since : D → ℕ → Sides → Type 0) (disk : D) (start : ℕ) (entries : List Entry) (Worlds : ℕ → World → Type 0) (w : World)
+pub committed_passed : {D : Type 0} (images : D → Sides → Type 0) (moment : D → ℕ) (left_since : D → ℕ → Sides → Type 0) (disk : D) (start : ℕ)
+    (entries : List Entry) (Worlds : ℕ → World → Type 0) (w : World)
     → ((t : ℕ) (c : Sides) → t ≤ moment disk → images disk c → left_since disk t c)
     → IsSafe left_since disk start entries Worlds → moment_after start entries ≤ moment disk → Holds (images disk) w
     → (m : ℕ) × (acked_count entries ≤ m) × (m ≤ length entries) × Worlds m w
 committed_passed images moment left_since disk start entries Worlds w counts_now safe past holds =
     let all = take_all (length entries) entries (omega arith) in
     let c = holds.some.0 in
-    let found = subst (λ (l : List Entry). (c : Sides) → left_since disk (moment_after start l) c → RecoversPassed Worlds (acked_count l) (length entries) c) all (safe (length entries) (omega arith)) c (counts_now (moment_after start entries) c past holds.some.1) in
-    (found.count, found.at_least, found.at_most, subst (λ (v : World). Worlds found.count v) (one_world c found.world w found.recovers (holds.each c holds.some.1)) found.passed)
+    let found = subst (λ (l : List Entry). (c : Sides) → left_since disk (moment_after start l) c
+    → RecoversPassed Worlds (acked_count l) (length entries) c) all (safe (length entries) (omega arith)) c
+    (counts_now (moment_after start entries) c past holds.some.1) in (
+      found.count,
+      found.at_least,
+      found.at_most,
+      subst (λ (v : World). Worlds found.count v) (one_world c found.world w found.recovers (holds.each c holds.some.1)) found.passed,
+    )
 
 -- one entry more
-pub safe_with_one_more : {D : Type 0} (images : D → Sides → Type 0) (moment : D → ℕ) (left_since : D → ℕ → Sides → Type 0) (old new : D) (start : ℕ) (entries : List Entry) (e : Entry) (Worlds More : ℕ → World → Type 0)
+pub safe_with_one_more : {D : Type 0} (images : D → Sides → Type 0) (moment : D → ℕ) (left_since : D → ℕ → Sides → Type 0) (old new : D) (start : ℕ)
+    (entries : List Entry) (e : Entry) (Worlds More : ℕ → World → Type 0)
     → ((t : ℕ) (c : Sides) → t ≤ moment new → images new c → left_since new t c)
     → ((c : Sides) → left_since new (moment new) c → images new c)
     → ((m : ℕ) (w : World) → m ≤ length entries → Worlds m w → More m w)
@@ -46,7 +55,8 @@ pub safe_with_one_more : {D : Type 0} (images : D → Sides → Type 0) (moment 
     → e.moment ≡ moment new
     → (gave e ≡ true → EachImage (images new) (λ c. (w : World) × More (suc (length entries)) w × Recovers c w))
     → IsSafe left_since new start (entries ++ e ∷ []) More
-safe_with_one_more {D} images moment left_since old new start entries e Worlds More counts_now only_now more past safe leaves at_end shown n within = by_place (eq-or-lt_of_le within)
+safe_with_one_more {D} images moment left_since old new start entries e Worlds More counts_now only_now more past safe leaves at_end shown n within =
+    by_place (eq-or-lt_of_le within)
   where
     long : length (entries ++ e ∷ []) ≡ suc (length entries)
     long = omega (arith, length-append entries (e ∷ []))
@@ -55,8 +65,10 @@ safe_with_one_more {D} images moment left_since old new start entries e Worlds M
     earlier : (m : ℕ) → m ≤ length entries → (c : Sides) → left_since new (moment_after start (take m entries)) c
         → RecoversPassed More (acked_count (take m entries)) (length (entries ++ e ∷ [])) c
     earlier m few c left = ⊎_elim
-        (λ before. passed_still Worlds More (acked_count (take m entries)) (acked_count (take m entries)) (length entries) (length (entries ++ e ∷ [])) c (omega arith) (omega (arith, long)) more (safe m few c before))
-        (λ inside. passed_still Worlds More (acked_count entries) (acked_count (take m entries)) (length entries) (length (entries ++ e ∷ [])) c (acked_take m entries) (omega (arith, long)) more inside)
+        (λ before. passed_still Worlds More (acked_count (take m entries)) (acked_count (take m entries)) (length entries)
+        (length (entries ++ e ∷ [])) c (omega arith) (omega (arith, long)) more (safe m few c before))
+        (λ inside. passed_still Worlds More (acked_count entries) (acked_count (take m entries)) (length entries) (length (entries ++ e ∷ [])) c
+        (acked_take m entries) (omega (arith, long)) more inside)
         (leaves.either (moment_after start (take m entries)) c (past m) left)
 
     all : take (length entries) entries ≡ entries
@@ -64,7 +76,8 @@ safe_with_one_more {D} images moment left_since old new start entries e Worlds M
 
     since_last : (c : Sides) → left_since new (moment_after start entries) c
         → RecoversPassed More (acked_count entries) (length (entries ++ e ∷ [])) c
-    since_last c left = subst (λ (l : List Entry). left_since new (moment_after start l) c → RecoversPassed More (acked_count l) (length (entries ++ e ∷ [])) c) all (earlier (length entries) (omega arith) c) left
+    since_last c left = subst (λ (l : List Entry). left_since new (moment_after start l) c
+        → RecoversPassed More (acked_count l) (length (entries ++ e ∷ [])) c) all (earlier (length entries) (omega arith) c) left
 
     -- at the end of the new entry
     now : (c : Sides) → images new c → (g : Bool) → gave e ≡ g → RecoversPassed More (acked_count (entries ++ e ∷ [])) (length (entries ++ e ∷ [])) c
@@ -77,15 +90,19 @@ safe_with_one_more {D} images moment left_since old new start entries e Worlds M
       recovers = found.2;
     }
     now c image false none = subst (λ (k : ℕ). RecoversPassed More k (length (entries ++ e ∷ [])) c) (sym (acked_more entries e none))
-        (since_last c (counts_now (moment_after start entries) c (omega (arith, leaves.later, subst (λ (l : List Entry). moment_after start l ≤ moment old) all (past (length entries)))) image))
+        (since_last c (counts_now (moment_after start entries) c
+        (omega (arith, leaves.later, subst (λ (l : List Entry). moment_after start l ≤ moment old) all (past (length entries)))) image))
 
     by_place : (n ≡ length (entries ++ e ∷ [])) ⊎ (n < length (entries ++ e ∷ [])) → (c : Sides)
         → left_since new (moment_after start (take n (entries ++ e ∷ []))) c
         → RecoversPassed More (acked_count (take n (entries ++ e ∷ []))) (length (entries ++ e ∷ [])) c
     by_place (inl last) c left =
         let whole : take n (entries ++ e ∷ []) ≡ entries ++ e ∷ [] = take_all n (entries ++ e ∷ []) (omega (arith, last)) in
-        let since : left_since new (moment new) c = subst (λ (t : ℕ). left_since new t c) (ap (moment_after start) whole ∙ moment_last start entries e ∙ at_end) left in
-        subst (λ (l : List Entry). RecoversPassed More (acked_count l) (length (entries ++ e ∷ [])) c) (sym whole) (now c (only_now c since) (gave e) refl)
+        let since : left_since new (moment new) c = subst (λ (t : ℕ). left_since new t c)
+        (ap (moment_after start) whole ∙ moment_last start entries e ∙ at_end) left in
+        subst (λ (l : List Entry). RecoversPassed More (acked_count l) (length (entries ++ e ∷ [])) c) (sym whole)
+        (now c (only_now c since) (gave e) refl)
     by_place (inr fewer) c left =
         let same : take n (entries ++ e ∷ []) ≡ take n entries = take-append-le n entries (e ∷ []) (omega (arith, fewer, long)) in
-        subst (λ (l : List Entry). left_since new (moment_after start l) c → RecoversPassed More (acked_count l) (length (entries ++ e ∷ [])) c) (sym same) (earlier n (omega (arith, fewer, long)) c) left
+        subst (λ (l : List Entry). left_since new (moment_after start l) c → RecoversPassed More (acked_count l) (length (entries ++ e ∷ [])) c)
+        (sym same) (earlier n (omega (arith, fewer, long)) c) left

@@ -1,5 +1,8 @@
 -- What is read as a log that stands has the text of one.
-use Rattle.std.proofs.Common.{arith, ◌≡◌, ◌⊎◌, inl, inr, ℕ, zero, suc, ◌+◌, ◌^◌, ◌<◌, ◌≤◌, Bool, true, false, not, ◌&&◌, ◌||◌, List, [], ◌∷◌, ◌++◌, length, take, drop, Option, Some, None, option_map, Result, Ok, Err, codes, refl, sym, ap, subst, ◌∙◌, nat_le, nat_lt, if◌then◌else◌, ◌==◌, eqb-true, leb-true, ltb-true, ltb-false, eq-eqb, ⊎_elim, length-take, length-drop, take-append-drop}
+use Rattle.std.proofs.Common.{arith, ◌≡◌, ◌⊎◌, inl, inr, ℕ, zero, suc, ◌+◌, ◌^◌, ◌<◌, ◌≤◌, Bool, true, false, not, ◌&&◌, ◌||◌, List, [], ◌∷◌, ◌++◌}
+use Rattle.std.proofs.Common.{length, take, drop, Option, Some, None, option_map, Result, Ok, Err, codes, refl, sym, ap, subst, ◌∙◌, nat_le, nat_lt}
+use Rattle.std.proofs.Common.{if◌then◌else◌, ◌==◌, eqb-true, leb-true, ltb-true, ltb-false, eq-eqb, ⊎_elim, length-take, length-drop}
+use Rattle.std.proofs.Common.{take-append-drop}
 use Rattle.std.proofs.lemmas.List.{drop-drop}
 use Rattle.std.proofs.Math.Nat.{eq-or-lt_of_le}
 use Rattle.byte_text.specs.Names.{Bytes, same}
@@ -10,7 +13,9 @@ use Rattle.outside.specs.declared.sides.Side.TheVariants.{A, B}
 use Rattle.outside.specs.Sides.{Sides, side_of, other_side}
 use Rattle.log_record.specs.Folding.{folded}
 use Rattle.log_record.specs.Batches.{AreBytes, number_bytes, number_of, open_gate, Batches, batches_in}
-use Rattle.log_record.specs.Readings.{header, header_len, side_over, max_side, has_open_gate, is_open, generation_of, header_fault, Standing, fresh, stands, damaged, too_long, wrong_header, equal_generations, first_cause, cause_of, side_in_use, reading_of, reading_in_use, unless_damaged, reading, IsOlder}
+use Rattle.log_record.specs.Readings.{header, header_len, side_over, max_side, has_open_gate, is_open, generation_of, header_fault, Standing, fresh}
+use Rattle.log_record.specs.Readings.{stands, damaged, too_long, wrong_header, equal_generations, first_cause, cause_of, side_in_use, reading_of}
+use Rattle.log_record.specs.Readings.{reading_in_use, unless_damaged, reading, IsOlder}
 use Rattle.log_record.specs.Standing.{IsFound}
 use Rattle.log_record.specs.RecordsRead.{first, second}
 use Rattle.log_record.specs.BatchesFound.{all_take, all_drop, all_get, number_found, batches_found}
@@ -66,7 +71,8 @@ used_by false false l side e = absurd (cc e)
 
 -- the header of an open side
 bit : (n : ℕ) (bytes : Bytes) (k : ℕ) (text : Bytes) → take n (drop k bytes) ≡ text → drop k bytes ≡ text ++ drop (k + n) bytes
-bit n bytes k text is = sym (take-append-drop n (drop k bytes)) ∙ ap (λ (l : Bytes). l ++ drop n (drop k bytes)) is ∙ ap (λ (l : Bytes). text ++ l) (drop-drop n k bytes)
+bit n bytes k text is = sym (take-append-drop n (drop k bytes)) ∙ ap (λ (l : Bytes). l ++ drop n (drop k bytes)) is
+    ∙ ap (λ (l : Bytes). text ++ l) (drop-drop n k bytes)
 
 record Header (bytes : Bytes) : Type 0 where
   text : drop 1 bytes ≡ header (generation_of bytes) ++ drop 16 bytes
@@ -94,7 +100,9 @@ header_of bytes none long are =
     let v = same (take 1 (drop 4 bytes)) (1 ∷ []) in
     let z = same (take 3 (drop 5 bytes)) (0 ∷ 0 ∷ 0 ∷ []) in
     let parts = header_parts bytes m v z (generation_of bytes == 0) refl refl refl refl none in
-    let number : number_bytes (generation_of bytes) ≡ take 8 (drop 8 bytes) = number_found (take 8 (drop 8 bytes)) (omega (arith, length-take 8 (drop 8 bytes), length-drop 8 bytes, long)) (all_take 8 (drop 8 bytes) (all_drop 8 bytes are)) in
+    let number : number_bytes (generation_of bytes)
+    ≡ take 8 (drop 8 bytes) = number_found (take 8 (drop 8 bytes)) (omega (arith, length-take 8 (drop 8 bytes), length-drop 8 bytes, long))
+    (all_take 8 (drop 8 bytes) (all_drop 8 bytes are)) in
     record {
       text = bit 3 bytes 1 (codes "TFL") (same_equal (take 3 (drop 1 bytes)) (codes "TFL") parts.0)
           ∙ ap (λ (l : Bytes). codes "TFL" ++ l) (bit 1 bytes 4 (1 ∷ []) (same_equal (take 1 (drop 4 bytes)) (1 ∷ []) parts.1)
@@ -109,7 +117,17 @@ first_gate [] e = absurd (cc e)
 first_gate (b ∷ bytes) e = ap (λ (k : ℕ). k ∷ bytes) (eqb-true b open_gate e)
 
 number_small : (bytes : Bytes) → AreBytes bytes → number_of bytes < 2 ^ 64
-number_small bytes are = omega (arith, all_get bytes are 0, all_get bytes are 1, all_get bytes are 2, all_get bytes are 3, all_get bytes are 4, all_get bytes are 5, all_get bytes are 6, all_get bytes are 7)
+number_small bytes are = omega (
+  arith,
+  all_get bytes are 0,
+  all_get bytes are 1,
+  all_get bytes are 2,
+  all_get bytes are 3,
+  all_get bytes are 4,
+  all_get bytes are 5,
+  all_get bytes are 6,
+  all_get bytes are 7,
+)
 
 -- what is told of the side in use
 record Told (s : Sides) (side : Side) (st : Standing) : Type 0 where
@@ -137,11 +155,24 @@ found_of s side st b told are read is =
     let head = header_of bytes told.fault long are in
     let found = batches_found header_len (drop 16 bytes) b (all_drop 16 bytes are) (omega (arith, length-drop 16 bytes, told.here)) read in
     let text : bytes ≡ side_over g found.batches found.gate found.stale =
-    first_gate bytes (second (nat_le 17 (length bytes)) (has_open_gate bytes) told.opened) ∙ ap (λ (l : Bytes). open_gate ∷ l) (head.text ∙ ap (λ (l : Bytes). header g ++ l) found.text) in
+    first_gate bytes (second (nat_le 17 (length bytes)) (has_open_gate bytes) told.opened)
+    ∙ ap (λ (l : Bytes). open_gate ∷ l) (head.text ∙ ap (λ (l : Bytes). header g ++ l) found.text) in
     record {
       log = record { side = side; generation = g; batches = found.batches };
-      is = record { some = head.some; fits = number_small (take 8 (drop 8 bytes)) (all_take 8 (drop 8 bytes) (all_drop 8 bytes are)); recorded = found.recorded };
-      by = record { gate = found.gate; stale = found.stale; text = text; closed = found.closed; older = told.older; here = told.here; there = told.there };
+      is = record {
+        some = head.some;
+        fits = number_small (take 8 (drop 8 bytes)) (all_take 8 (drop 8 bytes) (all_drop 8 bytes are));
+        recorded = found.recorded;
+      };
+      by = record {
+        gate = found.gate;
+        stale = found.stale;
+        text = text;
+        closed = found.closed;
+        older = told.older;
+        here = told.here;
+        there = told.there;
+      };
       side = ap (λ (x : Standing). x.side) same_standing;
       generation = ap (λ (x : Standing). x.generation) same_standing;
       gate = sym found.place ∙ ap (λ (x : Standing). x.gate) same_standing;
@@ -171,7 +202,8 @@ told_b s st fine opened newer = record {
   older = λ beside. (
     header_right s A fine.a_header beside,
     differ (is_open s.a) (is_open s.b) (generation_of s.a) (generation_of s.b) beside opened
-        (some_not_none (placed B 8) (is_open s.a && is_open s.b && generation_of s.a == generation_of s.b) fine.apart) (ltb-false (generation_of s.b) (generation_of s.a) (newer beside)),
+        (some_not_none (placed B 8) (is_open s.a && is_open s.b && generation_of s.a == generation_of s.b) fine.apart)
+        (ltb-false (generation_of s.b) (generation_of s.a) (newer beside)),
   );
   here = short s B fine.b;
   there = short s A fine.a;

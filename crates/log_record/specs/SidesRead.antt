@@ -1,5 +1,6 @@
 -- Sides are read back.
-use Rattle.std.proofs.Common.{arith, ◌≡◌, ◌≢◌, ℕ, ◌^◌, ◌<◌, ◌≤◌, Bool, true, false, List, [], ◌∷◌, ◌++◌, length, Option, Some, None, option_map, refl, ap, ◌∙◌, length-append, nat_le, nat_lt, if◌then◌else◌, ◌==◌, ne_eqb, le-leb}
+use Rattle.std.proofs.Common.{arith, ◌≡◌, ◌≢◌, ℕ, ◌^◌, ◌<◌, ◌≤◌, Bool, true, false, List, [], ◌∷◌, ◌++◌, length, Option, Some, None, option_map, refl}
+use Rattle.std.proofs.Common.{ap, ◌∙◌, length-append, nat_le, nat_lt, if◌then◌else◌, ◌==◌, ne_eqb, le-leb}
 use Rattle.std.proofs.lemmas.Nat.{from_be_bytes-to_be_bytes_8}
 use Rattle.std.proofs.lemmas.Bool.{le-ltb, lt-ltb}
 use Rattle.byte_text.specs.Names.{Bytes}
@@ -10,7 +11,9 @@ use Rattle.outside.specs.declared.sides.Side.TheVariants.{A, B}
 use Rattle.outside.specs.Sides.{Sides, side_of}
 use Rattle.log_record.specs.Folding.{folded}
 use Rattle.log_record.specs.Batches.{number_bytes, open_gate, batches_in, all_changes, AreRecorded}
-use Rattle.log_record.specs.Readings.{header, open_batches, side_over, gate_place, header_len, max_side, is_open, generation_of, header_fault, too_long, wrong_header, equal_generations, no_header, first_cause, cause_of, side_in_use, reading_of, side_reading, reading_in_use, unless_damaged, reading, Reading, stands, IsOlder}
+use Rattle.log_record.specs.Readings.{header, open_batches, side_over, gate_place, header_len, max_side, is_open, generation_of, header_fault}
+use Rattle.log_record.specs.Readings.{too_long, wrong_header, equal_generations, no_header, first_cause, cause_of, side_in_use, reading_of}
+use Rattle.log_record.specs.Readings.{side_reading, reading_in_use, unless_damaged, reading, Reading, stands, IsOlder}
 use Rattle.log_record.specs.Laws.{SidesStand, EmptyIsFresh}
 use Rattle.log_sides.specs.Torn.{length-number_bytes}
 use Rattle.log_record.specs.BatchesRead.{batches_read}
@@ -18,7 +21,13 @@ use Rattle.log_record.specs.BatchesRead.{batches_read}
 side_open : (generation gate : ℕ) (batches : List (List Change)) (stale : Bytes) → is_open (side_over generation batches gate stale) ≡ true
 side_open generation gate batches stale =
     let bytes = side_over generation batches gate stale in
-    let long : nat_le 17 (length bytes) ≡ true = le-leb 17 (length bytes) (omega (arith, length-append (header generation) (open_batches batches ++ gate ∷ stale), length-append (open_batches batches) (gate ∷ stale), length-number_bytes generation)) in
+    let long : nat_le 17 (length bytes) ≡ true = le-leb 17 (length bytes)
+    (omega (
+      arith,
+      length-append (header generation) (open_batches batches ++ gate ∷ stale),
+      length-append (open_batches batches) (gate ∷ stale),
+      length-number_bytes generation,
+    )) in
     rw long refl
 
 pub side_generation : (generation gate : ℕ) (batches : List (List Change)) (stale : Bytes) → generation < 2 ^ 64
@@ -29,14 +38,17 @@ side_generation generation gate batches stale fits = from_be_bytes-to_be_bytes_8
 pub side_right : (generation gate : ℕ) (batches : List (List Change)) (stale : Bytes) → 0 < generation → generation < 2 ^ 64
     → header_fault (side_over generation batches gate stale) ≡ None
 side_right generation gate batches stale some fits =
-    ap (λ (g : ℕ). if g == 0 then Some 8 else None) (side_generation generation gate batches stale fits) ∙ rw (ne_eqb generation 0 (λ e. omega (arith, e, some))) refl
+    ap (λ (g : ℕ). if g == 0 then Some 8 else None) (side_generation generation gate batches stale fits)
+    ∙ rw (ne_eqb generation 0 (λ e. omega (arith, e, some))) refl
 
 side_read : (side : Side) (generation gate : ℕ) (batches : List (List Change)) (stale : Bytes) → gate ≢ open_gate → generation < 2 ^ 64
     → AreRecorded batches
-    → side_reading side (side_over generation batches gate stale) ≡ stands (record { side = side; generation = generation; gate = gate_place batches; world = folded empty_world (all_changes batches) })
+    → side_reading side (side_over generation batches gate stale)
+    ≡ stands (record { side = side; generation = generation; gate = gate_place batches; world = folded empty_world (all_changes batches) })
 unfolding number_bytes
 side_read side generation gate batches stale closed fits are =
-    ap (λ (g : ℕ). reading_of side g (batches_in header_len (open_batches batches ++ gate ∷ stale))) (side_generation generation gate batches stale fits)
+    ap (λ (g : ℕ). reading_of side g (batches_in header_len (open_batches batches ++ gate ∷ stale)))
+    (side_generation generation gate batches stale fits)
     ∙ ap (reading_of side generation) (batches_read header_len gate batches stale (ne_eqb gate open_gate closed) are)
 
 -- the causes of damage, one by one
@@ -102,16 +114,20 @@ sides_stand s A generation gate batches stale is closed some fits are a_short b_
     let opened : is_open s.a ≡ true = ap is_open is ∙ side_open generation gate batches stale in
     let gen : generation_of s.a ≡ generation = ap generation_of is ∙ side_generation generation gate batches stale fits in
     let used = a_in_use s generation opened gen older (is_open s.b) refl in
-    read_in_use s A (stands (record { side = A; generation = generation; gate = gate_place batches; world = folded empty_world (all_changes batches) }))
-    (no_cause s (short s A a_short) (short s B b_short) (newer_right s A (ap header_fault is ∙ side_right generation gate batches stale some fits)) (older_right s generation B older) used.0 (a_has_header s opened))
+    read_in_use s A (stands
+    (record { side = A; generation = generation; gate = gate_place batches; world = folded empty_world (all_changes batches) }))
+    (no_cause s (short s A a_short) (short s B b_short) (newer_right s A (ap header_fault is ∙ side_right generation gate batches stale some fits))
+    (older_right s generation B older) used.0 (a_has_header s opened))
     used.1 (ap (side_reading A) is ∙ side_read A generation gate batches stale closed fits are)
 sides_stand s B generation gate batches stale is closed some fits are a_short b_short older =
     let text = side_over generation batches gate stale in
     let opened : is_open s.b ≡ true = ap is_open is ∙ side_open generation gate batches stale in
     let gen : generation_of s.b ≡ generation = ap generation_of is ∙ side_generation generation gate batches stale fits in
     let used = b_in_use s generation opened gen older (is_open s.a) refl in
-    read_in_use s B (stands (record { side = B; generation = generation; gate = gate_place batches; world = folded empty_world (all_changes batches) }))
-    (no_cause s (short s A a_short) (short s B b_short) (older_right s generation A older) (newer_right s B (ap header_fault is ∙ side_right generation gate batches stale some fits)) used.0 (b_has_header s (is_open s.a) refl opened))
+    read_in_use s B (stands
+    (record { side = B; generation = generation; gate = gate_place batches; world = folded empty_world (all_changes batches) }))
+    (no_cause s (short s A a_short) (short s B b_short) (older_right s generation A older)
+    (newer_right s B (ap header_fault is ∙ side_right generation gate batches stale some fits)) used.0 (b_has_header s (is_open s.a) refl opened))
     used.1 (ap (side_reading B) is ∙ side_read B generation gate batches stale closed fits are)
 
 -- a disk without a log
@@ -120,7 +136,8 @@ none_in_use : (s : Sides) → is_open s.a ≡ false → s.b ≡ [] → length s.
 none_in_use s closed empty within =
     let b_closed : is_open s.b ≡ false = ap is_open empty in
     let no_byte : nat_lt 0 (length s.b) ≡ false = ap (λ (l : Bytes). nat_lt 0 (length l)) empty in (
-      no_cause s (short s A within) (short s B (omega (arith, ap length empty))) (right s A false closed (λ e. absurd (cc e))) (right s B false b_closed (λ e. absurd (cc e))) (rw closed refl) (rw (closed, b_closed, no_byte) refl),
+      no_cause s (short s A within) (short s B (omega (arith, ap length empty))) (right s A false closed (λ e. absurd (cc e)))
+          (right s B false b_closed (λ e. absurd (cc e))) (rw closed refl) (rw (closed, b_closed, no_byte) refl),
       rw (closed, b_closed) refl,
     )
 

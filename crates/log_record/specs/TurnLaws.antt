@@ -1,5 +1,6 @@
 -- A call of a core keeps its disk safe.
-use Rattle.std.proofs.Common.{◌≡◌, ◌≤◌, ℕ, zero, suc, Bool, true, false, ◌&&◌, ◌||◌, List, [], ◌∷◌, ◌++◌, length, refl, sym, ap, subst, ◌∙◌, arith, ⊎_elim, length-append}
+use Rattle.std.proofs.Common.{◌≡◌, ◌≤◌, ℕ, zero, suc, Bool, true, false, ◌&&◌, ◌||◌, List, [], ◌∷◌, ◌++◌, length, refl, sym, ap, subst, ◌∙◌, arith}
+use Rattle.std.proofs.Common.{⊎_elim, length-append}
 use Rattle.outside.specs.Sides.{Sides}
 use Rattle.outside.specs.Crashes.{EachSince, LeavesOnly}
 use Rattle.outside.specs.CrashLaws.{weaker, begins}
@@ -30,40 +31,61 @@ gave_given e outcome = refl
 pub gave_shows : (e : Entry) → gave e ≡ true → shows e.event e.outcome ≡ true
 gave_shows e gives = ap (λ b. b || (settles e.event && is_fine e.outcome)) (sym (gave_given e e.outcome) ∙ gives)
 
-either_passed : {D : Type 0} (images : D → Sides → Type 0) (moment : D → ℕ) (left_since : D → ℕ → Sides → Type 0) (old : D) (o : Opening) (entries : List Entry) (h : Hall) (j : Journal)
+either_passed : {D : Type 0} (images : D → Sides → Type 0) (moment : D → ℕ) (left_since : D → ℕ → Sides → Type 0) (old : D) (o : Opening)
+    (entries : List Entry) (h : Hall) (j : Journal)
     → TellsNow images moment left_since old → Reaches o entries h → moment_after o.moment entries ≤ moment old
     → IsSafe left_since old o.moment entries (Passes o entries) → IsLogged (images old) h j
     → (c : Sides) → RecoversEither j.committed (whole j) c → RecoversPassed (Passes o entries) (acked_count entries) (length entries) c
 either_passed images moment left_since old o entries h j tells reached past safe log c either = ⊎_elim
-    (λ first. let found = committed_passed images moment left_since old o.moment entries (Passes o entries) j.committed tells.counts_now safe past log.durable in
+    (λ first. let found = committed_passed images moment left_since old o.moment entries
+    (Passes o entries) j.committed tells.counts_now safe past log.durable in
     record { count = found.0; at_least = found.1; at_most = found.2; world = j.committed; passed = found.3; recovers = first })
-    (λ second. record { count = length entries; at_least = acked_within entries; at_most = omega arith; world = whole j; passed = passes_all o entries h (length entries) (whole j) (omega arith) reached log.world; recovers = second })
+    (λ second. record {
+      count = length entries;
+      at_least = acked_within entries;
+      at_most = omega arith;
+      world = whole j;
+      passed = passes_all o entries h (length entries) (whole j) (omega arith) reached log.world;
+      recovers = second;
+    })
     either
 
 -- what a call leaves, whether the hall had stopped or not
-leaves_passed : {D : Type 0} (images : D → Sides → Type 0) (moment : D → ℕ) (left_since : D → ℕ → Sides → Type 0) (old new : D) (o : Opening) (entries : List Entry) (e : Entry) (h next : Hall) (before after : Journal)
+leaves_passed : {D : Type 0} (images : D → Sides → Type 0) (moment : D → ℕ) (left_since : D → ℕ → Sides → Type 0) (old new : D) (o : Opening)
+    (entries : List Entry) (e : Entry) (h next : Hall) (before after : Journal)
     → TellsNow images moment left_since old → Reaches o entries h → moment_after o.moment entries ≤ moment old
     → IsSafe left_since old o.moment entries (Passes o entries) → KeepsLog (images old) h before
     → Turn images moment left_since old new h before e.event e.outcome next after → (b : Bool) → h.stopped ≡ b
     → LeavesOnly moment left_since old new (RecoversPassed (Passes o entries) (acked_count entries) (length entries))
 leaves_passed {D} images moment left_since old new o entries e h next before after tells reached past safe log turn true stops =
-    subst (λ (d : D). LeavesOnly moment left_since old d (RecoversPassed (Passes o entries) (acked_count entries) (length entries))) (sym (turn.stopped stops)) (begins moment left_since old (RecoversPassed (Passes o entries) (acked_count entries) (length entries)))
+    subst (λ (d : D). LeavesOnly moment left_since old d (RecoversPassed (Passes o entries) (acked_count entries) (length entries)))
+    (sym (turn.stopped stops)) (begins moment left_since old (RecoversPassed (Passes o entries) (acked_count entries) (length entries)))
 leaves_passed images moment left_since old new o entries e h next before after tells reached past safe log turn false goes =
-    weaker moment left_since old new (RecoversEither before.committed (whole before)) (RecoversPassed (Passes o entries) (acked_count entries) (length entries))
+    weaker moment left_since old new (RecoversEither before.committed (whole before))
+    (RecoversPassed (Passes o entries) (acked_count entries) (length entries))
     (either_passed images moment left_since old o entries h before tells reached past safe (log goes)) (turn.leaves goes)
 
 -- a hall that goes on went on before
 went_on : (h next : Hall) (event : Event) (outcome : Outcome) → Step h event outcome next → next.stopped ≡ false → (b : Bool) → h.stopped ≡ b
     → h.stopped ≡ false
-went_on h next event outcome step goes true stops = absurd (cc (goes, stops, ap (λ (n : Hall). n.stopped) (subst (λ b. StepBy (if b then Some (when_stopped event, h) else refusal_going h event) h event outcome next) stops step).1))
+went_on h next event outcome step goes true stops =
+    absurd (cc (
+      goes,
+      stops,
+      ap (λ (n : Hall). n.stopped)
+          (subst (λ b. StepBy (if b then Some (when_stopped event, h) else refusal_going h event) h event outcome next) stops step).1,
+    ))
 went_on h next event outcome step goes false goes_on = goes_on
 
 -- a core keeps to its log
-pub keeps_log_on : {D : Type 0} (images : D → Sides → Type 0) (moment : D → ℕ) (left_since : D → ℕ → Sides → Type 0) (old new : D) (event : Event) (outcome : Outcome) (h next : Hall) (before after : Journal)
+pub keeps_log_on : {D : Type 0} (images : D → Sides → Type 0) (moment : D → ℕ) (left_since : D → ℕ → Sides → Type 0) (old new : D) (event : Event)
+    (outcome : Outcome) (h next : Hall) (before after : Journal)
     → KeepsLog (images old) h before → Step h event outcome next → Turn images moment left_since old new h before event outcome next after
     → KeepsLog (images new) next after
 keeps_log_on images moment left_since old new event outcome h next before after log step turn goes = record {
-  world = (steps_make_their_writes h next event outcome step).world ∙ ap (λ w. folded w (changes_of (writes_by h event outcome))) (log (went_on h next event outcome step goes h.stopped refl)).world ∙ sym (turn.logs goes);
+  world = (steps_make_their_writes h next event outcome step).world
+      ∙ ap (λ w. folded w (changes_of (writes_by h event outcome))) (log (went_on h next event outcome step goes h.stopped refl)).world
+      ∙ sym (turn.logs goes);
   durable = turn.durable goes;
 }
 
@@ -71,17 +93,25 @@ pub turns_keep_safe : {D : Type 0} (images : D → Sides → Type 0) (moment : D
     → TurnsKeepSafe images moment left_since
 unfolding Safe
 turns_keep_safe images moment left_since old new o entries e h next before after tells_old tells_new stood step follows turn at_end =
-    let on : Reaches o (entries ++ e ∷ []) next = leads_on (opening_hall o.world o.logged) h next o.moment o.count false entries e stood.reached step follows in
+    let on : Reaches o (entries ++ e ∷ []) next = leads_on
+    (opening_hall o.world o.logged) h next o.moment o.count false entries e stood.reached step follows in
     record {
       reached = on;
       past = omega (arith, moment_last o.moment entries e, at_end);
       safe = safe_with_one_more images moment left_since old new o.moment entries e (Passes o entries) (Passes o (entries ++ e ∷ []))
           tells_new.counts_now tells_new.only_now (passes_still o entries e)
-          (λ n. let ascends = moments_ascend (opening_hall o.world o.logged) h o.moment o.count false entries stood.reached n in omega (arith, ascends, stood.past))
+          (λ n. let ascends = moments_ascend (opening_hall o.world o.logged) h o.moment o.count false entries stood.reached n in
+          omega (arith, ascends, stood.past))
           stood.safe
-          (leaves_passed images moment left_since old new o entries e h next before after tells_old stood.reached stood.past stood.safe stood.log turn h.stopped refl)
+          (leaves_passed images moment left_since old new o entries e h next before after tells_old stood.reached stood.past stood.safe stood.log turn
+          h.stopped refl)
           at_end
-          (λ gives c image. (next.world, passes_all o (entries ++ e ∷ []) next (suc (length entries)) next.world (omega (arith, length-append entries (e ∷ []))) on refl, turn.shown (gave_shows e gives) c image));
+          (λ gives c image. (
+            next.world,
+            passes_all o (entries ++ e ∷ []) next (suc (length entries)) next.world
+                (omega (arith, length-append entries (e ∷ []))) on refl,
+            turn.shown (gave_shows e gives) c image,
+          ));
       log = keeps_log_on images moment left_since old new e.event e.outcome h next before after stood.log step turn;
     }
 
@@ -107,11 +137,14 @@ openings_stand images moment left_since disk o past each holds = record {
   log = λ goes. record { world = refl; durable = holds };
 }
 
-pub turn_keeps_safe : {D : Type 0} (images : D → Sides → Type 0) (moment : D → ℕ) (left_since : D → ℕ → Sides → Type 0) (old new : D) (h next : Hall) (before after : Journal) (event : Event) (outcome : Outcome)
+pub turn_keeps_safe : {D : Type 0} (images : D → Sides → Type 0) (moment : D → ℕ) (left_since : D → ℕ → Sides → Type 0) (old new : D) (h next : Hall)
+    (before after : Journal) (event : Event) (outcome : Outcome)
     → TellsNow images moment left_since old → TellsNow images moment left_since new → Step h event outcome next
     → Turn images moment left_since old new h before event outcome next after
     → KeepsSafe images moment left_since old new h before event outcome next after
-turn_keeps_safe images moment left_since old new h next before after event outcome tells_old tells_new step turn o entries e stood is_event is_outcome at_end follows =
+turn_keeps_safe images moment left_since old new h next before after event outcome tells_old tells_new step turn o entries e stood is_event is_outcome
+    at_end follows =
     turns_keep_safe images moment left_since old new o entries e h next before after tells_old tells_new stood
     (subst (λ (v : Event). Step h v e.outcome next) (sym is_event) (subst (λ (r : Outcome). Step h event r next) (sym is_outcome) step)) follows
-    (subst (λ (v : Event). Turn images moment left_since old new h before v e.outcome next after) (sym is_event) (subst (λ (r : Outcome). Turn images moment left_since old new h before event r next after) (sym is_outcome) turn)) at_end
+    (subst (λ (v : Event). Turn images moment left_since old new h before v e.outcome next after) (sym is_event)
+    (subst (λ (r : Outcome). Turn images moment left_since old new h before event r next after) (sym is_outcome) turn)) at_end

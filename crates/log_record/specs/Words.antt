@@ -1,5 +1,6 @@
 -- The record of a change read back: the change that some words are the record of.
-use Rattle.std.specs.Prelude.{◌≡◌, ℕ, pos, neg_ℤ, ◌-◌, ◌^◌, Bool, true, false, ◌&&◌, nat_le, int_le, List, [], ◌∷◌, Option, Some, None, if◌then◌else◌, codes, Result, Ok, Err}
+use Rattle.std.specs.Prelude.{◌≡◌, ℕ, pos, neg_ℤ, ◌-◌, ◌^◌, Bool, true, false, ◌&&◌, nat_le, int_le, List, [], ◌∷◌, Option, Some, None, if◌then◌else◌}
+use Rattle.std.specs.Prelude.{codes, Result, Ok, Err}
 use Rattle.std.specs.List.{list_all}
 use Rattle.byte_text.specs.Names.{Bytes, same, is_name}
 use Rattle.byte_text.specs.Numbers.{digits_value, signed_value}
@@ -13,19 +14,21 @@ use Rattle.world_data.specs.declared.channels.Channel.{Channel}
 use Rattle.world_data.specs.Filters.{Field, are_fields}
 use Rattle.world_model.specs.Commands.{command_spelled}
 use Rattle.world_data.specs.Sound.{is_sound_channel}
-use Rattle.world_data.specs.Records.{record_words, is_kept}
+use Rattle.world_data.specs.Records.{record_reader, is_kept}
 use Rattle.world_data.specs.declared.worlds.Change.{Change}
 use Rattle.world_data.specs.declared.worlds.Change.TheVariants.{Put, Del, Drop, Flush, SetChan, DelChan}
-use Rattle.world_model.specs.declared.commands.AreaWords.TheVariants.{Given, Of}
+use Rattle.world_model.specs.declared.search_commands.AreaWords.TheVariants.{Given, Of}
 use Rattle.world_model.specs.declared.commands.Command.{Command}
 use Rattle.world_model.specs.declared.commands.Command.TheVariants as command
+use Rattle.world_model.specs.declared.channel_commands.ChannelCommand.TheVariants as of_channel
 
 -- the words at their places say which change they could be the record of; its record is then compared with them
 
 -- the fields at the front of some words, and the words behind them
 abbrev pub fields_front : List Bytes → List Field × List Bytes
 fields_front (called ∷ name ∷ value ∷ words) =
-    if same called (codes "FIELD") then (let behind = fields_front words in ((name, signed_value value) ∷ behind.0, behind.1)) else ([], called ∷ name ∷ value ∷ words)
+    if same called (codes "FIELD") then (let behind = fields_front words in ((name, signed_value value) ∷ behind.0, behind.1))
+    else ([], called ∷ name ∷ value ∷ words)
 fields_front words = ([], words)
 
 -- the deadline at the front, if there is one, and the words behind it
@@ -34,7 +37,8 @@ deadline_front (called ∷ value ∷ words) = if same called (codes "AT") then (
 deadline_front words = (None, words)
 
 abbrev pub put_with : Bytes → Bytes → List Field → Option ℕ → Bytes → Result Shape GeoFault → Option Change
-put_with key id fields deadline text (Ok shape) = Some (Put (record { key = key; id = id; text = text; shape = shape; fields = fields; deadline = deadline }))
+put_with key id fields deadline text (Ok shape) =
+    Some (Put (record { key = key; id = id; text = text; shape = shape; fields = fields; deadline = deadline }))
 put_with key id fields deadline text (Err fault) = None
 
 -- the last two words: `OBJECT` and the text
@@ -43,7 +47,8 @@ put_text key id fields deadline (called ∷ text ∷ []) = put_with key id field
 put_text key id fields deadline words = None
 
 abbrev pub put_of : List Bytes → Option Change
-put_of (key ∷ id ∷ words) = let fields = fields_front words in let deadline = deadline_front fields.1 in put_text key id fields.0 deadline.0 deadline.1
+put_of (key ∷ id ∷ words) = let fields = fields_front words in let deadline = deadline_front fields.1 in
+    put_text key id fields.0 deadline.0 deadline.1
 put_of words = None
 
 abbrev pub del_of : List Bytes → Option Change
@@ -64,8 +69,8 @@ delchan_of words = None
 
 -- a setting whose area stands in its words
 abbrev pub settled : Option Command → Option Change
-settled (Some (command.Setchan c None)) = Some (SetChan c)
-settled (Some (command.Setchan c (Some (Given a)))) = Some (SetChan c)
+settled (Some (command.Channel (of_channel.Setchan c None))) = Some (SetChan c)
+settled (Some (command.Channel (of_channel.Setchan c (Some (Given a))))) = Some (SetChan c)
 settled o = None
 
 abbrev pub setchan_of : List Bytes → Option Change
@@ -100,7 +105,7 @@ same_words (v ∷ vs) (w ∷ ws) = same v w && same_words vs ws
 
 abbrev pub if_recorded : List Bytes → Option Change → Option Change
 if_recorded words None = None
-if_recorded words (Some c) = if same_words (record_words c) words && is_kept c then Some c else None
+if_recorded words (Some c) = if same_words (record_reader c) words && is_kept c then Some c else None
 
 -- the change that these words are the record of
 unfoldable pub change_of_words : List Bytes → Option Change
@@ -108,15 +113,16 @@ change_of_words words = if_recorded words (could_be words)
 
 -- the change has a record, which fits a request
 pub record IsRecorded (c : Change) : Type 0 where
-  pub read_back : change_of_words (record_words c) ≡ Some c
-  pub fits : IsRequest (record_words c)
+  pub read_back : change_of_words (record_reader c) ≡ Some c
+  pub fits : IsRequest (record_reader c)
 
 -- a setting's normal words spell the setting itself
 pub record SettingsAreNormal : Type 0 where
-  pub given : (words : List Bytes) (c : Channel) (a : Area) → command_spelled words ≡ Some (command.Setchan c (Some (Given a)))
-      → command_spelled (record_words (SetChan c)) ≡ Some (command.Setchan c (Some (Given a)))
-  pub near : (words : List Bytes) (c : Channel) → command_spelled words ≡ Some (command.Setchan c None)
-      → command_spelled (record_words (SetChan c)) ≡ Some (command.Setchan c None)
+  pub given : (words : List Bytes) (c : Channel) (a : Area) → command_spelled words ≡ Some (command.Channel (of_channel.Setchan c (Some (Given a))))
+      → command_spelled (record_reader (SetChan c)) ≡ Some (command.Channel (of_channel.Setchan c (Some (Given a))))
+  pub near : (words : List Bytes) (c : Channel) → command_spelled words ≡ Some (command.Channel (of_channel.Setchan c None))
+      → command_spelled (record_reader (SetChan c)) ≡ Some (command.Channel (of_channel.Setchan c None))
   pub stored : (words : List Bytes) (c : Channel) (key id text : Bytes) (shape : Shape)
-      → command_spelled words ≡ Some (command.Setchan c (Some (Of key id))) → shape_of text ≡ Ok shape
-      → let d = settled_channel c (Figure shape) (codes "OBJECT" ∷ text ∷ []) in command_spelled (record_words (SetChan d)) ≡ Some (command.Setchan d (Some (Given (Figure shape))))
+      → command_spelled words ≡ Some (command.Channel (of_channel.Setchan c (Some (Of key id)))) → shape_of text ≡ Ok shape
+      → let d = settled_channel c (Figure shape) (codes "OBJECT" ∷ text ∷ []) in
+      command_spelled (record_reader (SetChan d)) ≡ Some (command.Channel (of_channel.Setchan d (Some (Given (Figure shape)))))

@@ -5,7 +5,7 @@ ghost use Rattle.outside.specs.Sides.{Sides};
 ghost use Rattle.world_data.specs.declared.worlds.World.{World};
 ghost use Rattle.byte_text.specs.Names.{Bytes};
 ghost use Rattle.geo_text.specs.Texts.{shape_of};
-ghost use Rattle.world_data.specs.Records.{record_words, is_kept};
+ghost use Rattle.world_data.specs.Records.{record_reader, is_kept};
 ghost use Rattle.world_data.specs.declared.objects.Object.{Object};
 ghost use Rattle.world_data.specs.declared.worlds.Change.{Change};
 ghost use Rattle.world_data.specs.declared.worlds.Change.TheVariants.{Put, Del, Drop, Flush, DelChan};
@@ -13,7 +13,8 @@ ghost use Rattle.log_record.specs.Words.{HasShape, SettingsAreNormal, change_of_
 ghost use Rattle.log_record.specs.Recovery.{Recovers};
 ghost use Rattle.log_record.specs.Copying.{PartsGrow};
 ghost use Rattle.log_record.specs.Runs.{OpeningsKeepRunsSafe, TurnsKeepRunsSafe};
-ghost use Rattle.log_record.specs.Laws.{EmptyIsFresh, LogsAreFound, OpeningsStand, RecoveredIsWhole, SidesStand, StepsMakeTheirWrites, TurnsKeepSafe};
+ghost use Rattle.log_record.specs.Laws.{EmptyIsFresh, LogsAreFound, OpeningsStand, RecoveredIsWhole, SidesStand};
+ghost use Rattle.log_record.specs.Laws.{StepsMakeTheirWrites, TurnsKeepSafe};
 
 use outside::Disk;
 
@@ -39,8 +40,8 @@ pub fn turns_keep_safe<D: Disk>()
     ensures { TurnsKeepSafe D.images D.moment D.left_since }
 {}
 
-/// A side with batches of records stands for the fold of their changes, beside one that is not open or older. What stands
-/// behind its gate, and the gate where it is torn, changes nothing.
+/// A side with batches of records stands for the fold of their changes, beside one that is not open or older. What
+/// stands behind its gate, and the gate where it is torn, changes nothing.
 pub fn sides_stand()
     ensures stands { SidesStand }
     ensures found { LogsAreFound }
@@ -48,7 +49,8 @@ pub fn sides_stand()
 
 /// Words that are a record are the record of the one change that they are read as, which is kept and sound.
 pub fn records_are_sound()
-    ensures { (words : List Bytes) (c : Change) → change_of_words words ≡ Some c → (record_words c ≡ words) × (is_kept c ≡ true) × HasShape c }
+    ensures { (words : List Bytes) (c : Change) → change_of_words words ≡ Some c
+        → (record_reader c ≡ words) × (is_kept c ≡ true) × HasShape c }
 {}
 
 /// The same behind a run, and a run goes on with a history that opens with the world that the last one left behind.
@@ -57,19 +59,23 @@ pub fn runs_stay_safe<D: Disk>()
     ensures openings { OpeningsKeepRunsSafe D.images D.moment D.left_since }
 {}
 
-/// What is kept, and has its shape, is read back from its record. The normal words of a channel's setting spell it again, and where
-/// its area was an object's, they do with the object's text in its place.
+/// What is kept, and has its shape, is read back from its record. The normal words of a channel's setting spell it
+/// again, and where its area was an object's, they do with the object's text in its place.
 pub fn records_are_read_back()
-    ensures objects { (o : Object) → is_kept (Put o) ≡ true → shape_of o.text ≡ Ok o.shape → change_of_words (record_words (Put o)) ≡ Some (Put o) }
-    ensures dels { (key id : Bytes) → is_kept (Del key id) ≡ true → change_of_words (record_words (Del key id)) ≡ Some (Del key id) }
-    ensures drops { (key : Bytes) → is_kept (Drop key) ≡ true → change_of_words (record_words (Drop key)) ≡ Some (Drop key) }
-    ensures flush { change_of_words (record_words Flush) ≡ Some Flush }
+    ensures objects { (o : Object) → is_kept (Put o) ≡ true → shape_of o.text ≡ Ok o.shape
+        → change_of_words (record_reader (Put o)) ≡ Some (Put o) }
+    ensures dels { (key id : Bytes) → is_kept (Del key id) ≡ true
+        → change_of_words (record_reader (Del key id)) ≡ Some (Del key id) }
+    ensures drops { (key : Bytes) → is_kept (Drop key) ≡ true
+        → change_of_words (record_reader (Drop key)) ≡ Some (Drop key) }
+    ensures flush { change_of_words (record_reader Flush) ≡ Some Flush }
     ensures settings { SettingsAreNormal }
-    ensures channels { (name : Bytes) → is_kept (DelChan name) ≡ true → change_of_words (record_words (DelChan name)) ≡ Some (DelChan name) }
+    ensures channels { (name : Bytes) → is_kept (DelChan name) ≡ true
+        → change_of_words (record_reader (DelChan name)) ≡ Some (DelChan name) }
 {}
 
-/// The new side of a rewriting holds a part of the committed world, which each batch and each copy keeps, and which is all of it in
-/// the end.
+/// The new side of a rewriting holds a part of the committed world, which each batch and each copy keeps, and which is
+/// all of it in the end.
 pub fn parts_grow()
     ensures { PartsGrow }
 {}

@@ -18,7 +18,8 @@ pub record IsPart (generation : ℕ) (batches : List Bytes) (side : Bytes) : Typ
   pub is : side ≡ gate ∷ (rear_text generation batches ++ 0 ∷ [])
 
 -- the disk reads so, and whatever a crash leaves of the side has a closed gate; where the last gate of the side stands
-pub record IsNewSide (crashes : Bool) (seen : Option Sides) (images : Sides → Type 0) (side : Side) (generation gate : ℕ) (batches : List Bytes) : Type 0 where
+pub record IsNewSide (crashes : Bool) (seen : Option Sides) (images : Sides
+    → Type 0) (side : Side) (generation gate : ℕ) (batches : List Bytes) : Type 0 where
   pub numbered : IsGeneration generation
   pub place : gate ≡ gate_place generation batches
   pub now : HasNow seen side (IsPart generation batches)

@@ -31,13 +31,15 @@ pub struct Rewriter {
 }
 
 impl Rewriter {
-    /// Begins a side of this generation, which is not the one in use: it holds no batch yet. At each moment on the way the
-    /// side is as it was, or not open, and the other one stays.
+    /// Begins a side of this generation, which is not the one in use: it holds no batch yet. At each moment on the way
+    /// the side is as it was, or not open, and the other one stays.
     pub fn begin<D: Disk>(disk: &mut D, side: Side, generation: u64) -> Result<Rewriter, Failed>
         requires { IsGeneration generation }
-        ensures begun { (before : Bytes) → length before ≤ 2 ^ 62 → ReadsAs D.crashes D.seen D.images disk.old side before
+        ensures begun { (before : Bytes) → length before ≤ 2 ^ 62
+            → ReadsAs D.crashes D.seen D.images disk.old side before
             → IfOk result (λ r. NewSideOn D.crashes D.seen D.images disk.new side generation r.gate []) }
-        ensures either { (before : Bytes) → length before ≤ 2 ^ 62 → ReadsAs D.crashes D.seen D.images disk.old side before
+        ensures either { (before : Bytes) → length before ≤ 2 ^ 62
+            → ReadsAs D.crashes D.seen D.images disk.old side before
             → SideLeads D.crashes D.seen D.images D.moment D.left_since side (WhileShut before) disk.old disk.new }
         ensures told { D.crashes disk.new ≡ D.crashes disk.old }
         ensures cause { HasCause (D.faults disk.old) (D.faults disk.new) result }
@@ -80,12 +82,15 @@ impl Rewriter {
         self.mirror(disk, piece.written())
     }
 
-    /// Writes a batch as the log's last commit wrote it, gates and all, and nothing where that wrote none. It is not synced.
+    /// Writes a batch as the log's last commit wrote it, gates and all, and nothing where that wrote none. It is not
+    /// synced.
     pub fn mirror<D: Disk>(&mut self, disk: &mut D, batch: &[u8]) -> Result<(), Failed>
         requires { self.old.gate + length batch.now ≤ 2 ^ 62 }
         ensures grown { (batches : List Bytes) (records : Bytes) → batch.now ≡ written records
             → NewSideOn D.crashes D.seen D.images disk.old self.old.side self.old.generation self.old.gate batches
-            → OnOk result (NewSideOn D.crashes D.seen D.images disk.new self.old.side self.old.generation self.new.gate (committed batches records)) }
+            → OnOk result
+            (NewSideOn D.crashes D.seen D.images disk.new self.old.side self.old.generation self.new.gate
+            (committed batches records)) }
         ensures either { HeldOn D.crashes D.seen D.images disk.old self.old.side IsShut
             → SideLeads D.crashes D.seen D.images D.moment D.left_since self.old.side IsShut disk.old disk.new }
         ensures told { D.crashes disk.new ≡ D.crashes disk.old }
@@ -106,12 +111,17 @@ impl Rewriter {
         }
     }
 
-    /// Makes all that was written safe, and opens the side. Until its gate is open the side is shut, and the other one stays.
+    /// Makes all that was written safe, and opens the side. Until its gate is open the side is shut, and the other one
+    /// stays.
     pub fn finish<D: Disk>(self, disk: &mut D) -> Result<NewSide, Failed>
-        ensures stands { (batches : List Bytes) → NewSideOn D.crashes D.seen D.images disk.old self.side self.generation self.gate batches
-            → IfOk result (λ made. LogOn D.crashes D.seen D.images disk.new self.side self.generation made.gate batches) }
-        ensures either { (batches : List Bytes) → NewSideOn D.crashes D.seen D.images disk.old self.side self.generation self.gate batches
-            → SideLeads D.crashes D.seen D.images D.moment D.left_since self.side (ShutOrStands self.generation batches) disk.old disk.new }
+        ensures stands { (batches : List Bytes)
+            → NewSideOn D.crashes D.seen D.images disk.old self.side self.generation self.gate batches
+            → IfOk result
+            (λ made. LogOn D.crashes D.seen D.images disk.new self.side self.generation made.gate batches) }
+        ensures either { (batches : List Bytes)
+            → NewSideOn D.crashes D.seen D.images disk.old self.side self.generation self.gate batches
+            → SideLeads D.crashes D.seen D.images D.moment D.left_since self.side
+            (ShutOrStands self.generation batches) disk.old disk.new }
         ensures told { D.crashes disk.new ≡ D.crashes disk.old }
         ensures cause { HasCause (D.faults disk.old) (D.faults disk.new) result }
         ensures side { IfOk result (λ made. made.side ≡ self.side) }
@@ -152,7 +162,8 @@ fn open_side<D: Disk>(disk: &mut D, side: Side) -> Result<(), Failed>
         → OnOk result (LogOn D.crashes D.seen D.images disk.new side generation gate batches) }
     ensures either { (generation gate : ℕ) (batches : List Bytes) → gate + 1 ≤ 2 ^ 62
         → NewSideOn D.crashes D.seen D.images disk.old side generation gate batches
-        → SideLeads D.crashes D.seen D.images D.moment D.left_since side (ShutOrStands generation batches) disk.old disk.new }
+        → SideLeads D.crashes D.seen D.images D.moment D.left_since side
+        (ShutOrStands generation batches) disk.old disk.new }
     ensures told { D.crashes disk.new ≡ D.crashes disk.old }
     ensures cause { HasCause (D.faults disk.old) (D.faults disk.new) result }
 {

@@ -26,7 +26,8 @@ pub(crate) fn write_piece<D: Disk>(
     ensures torn { Told (D.seen disk.old) (D.seen disk.new) (On side (Torn at (length piece.now))) }
     ensures told { D.crashes disk.new ≡ D.crashes disk.old }
     ensures crash { Follows (On side (Torn at (length piece.now))) (D.images disk.old) (D.images disk.new) }
-    ensures moments { LeavesOnly D.moment D.left_since disk.old disk.new (After (On side (Torn at (length piece.now))) (D.images disk.old)) }
+    ensures moments { LeavesOnly D.moment D.left_since disk.old disk.new
+        (After (On side (Torn at (length piece.now))) (D.images disk.old)) }
     ensures cause { HasCause (D.faults disk.old) (D.faults disk.new) result }
 {
     disk.write_at(side, at, piece)
@@ -34,7 +35,8 @@ pub(crate) fn write_piece<D: Disk>(
 
 /// Makes safe what was written of the side.
 pub(crate) fn settle<D: Disk>(disk: &mut D, side: Side) -> Result<(), Failed>
-    ensures safe { (generation gate : ℕ) (batches : List Bytes) → NewSideOn D.crashes D.seen D.images disk.old side generation gate batches
+    ensures safe { (generation gate : ℕ) (batches : List Bytes)
+        → NewSideOn D.crashes D.seen D.images disk.old side generation gate batches
         → OnOk result (SafeOn D.crashes D.seen D.images disk.new side (IsPart generation batches)) }
     ensures same { HeldOn D.crashes D.seen D.images disk.old side IsShut
         → SideLeads D.crashes D.seen D.images D.moment D.left_since side IsShut disk.old disk.new }

@@ -4,10 +4,10 @@ use Rattle.std.proofs.Common.{◌≡◌, ◌∙◌, ℕ, refl, sym, ap, subst}
 use Rattle.outside.specs.declared.sides.Side.{Side}
 use Rattle.outside.specs.declared.sides.Side.TheVariants.{A, B}
 use Rattle.outside.specs.Sides.{Sides, side_of, with_side, On, other_side, Told, IfTold}
-use Rattle.outside.specs.Disks.{write_over, Follows, Elapses}
+use Rattle.outside.specs.Disks.{write_over, Follows}
 use Rattle.outside.specs.Crashes.{IsSettled, EachImage, LeavesOnly}
 use Rattle.outside.specs.SideLaws.{on_keeps}
-use Rattle.outside.specs.CrashLaws.{begins, then, weaker, told_next, if_told, call_carries}
+use Rattle.outside.specs.CrashLaws.{begins, then, weaker, told_next, if_told}
 use Rattle.byte_text.specs.Names.{Bytes}
 use Rattle.log_sides.specs.States.{HasNow, IsHeld, SideIsSafe, IsLeft, SideLeads}
 use Rattle.outside.specs.Crashes.{After}
@@ -50,10 +50,12 @@ safe_held crashes seen images side P safe = record {
 
 pub safe_weaker : (crashes : Bool) (seen : Option Sides) (images : Sides → Type 0) (side : Side) (P Q : Bytes → Type 0)
     → ((x : Bytes) → P x → Q x) → SideIsSafe crashes seen images side P → SideIsSafe crashes seen images side Q
-safe_weaker crashes seen images side P Q f safe = record { contents = safe.contents; told = safe.told; has = f (side_of safe.contents side) safe.has; settled = safe.settled }
+safe_weaker crashes seen images side P Q f safe =
+    record { contents = safe.contents; told = safe.told; has = f (side_of safe.contents side) safe.has; settled = safe.settled }
 
 -- what is held at the end of calls
-pub leads_held : {D : Type 0} (crashes : D → Bool) (seen : D → Option Sides) (images : D → Sides → Type 0) (moment : D → ℕ) (left_since : D → ℕ → Sides → Type 0) (side : Side) (P : Bytes → Type 0) (old new : D)
+pub leads_held : {D : Type 0} (crashes : D → Bool) (seen : D → Option Sides) (images : D → Sides → Type 0) (moment : D → ℕ) (left_since : D → ℕ
+    → Sides → Type 0) (side : Side) (P : Bytes → Type 0) (old new : D)
     → crashes new ≡ crashes old → SideLeads crashes seen images moment left_since side P old new → IsHeld (crashes new) (seen new) (images new) side P
 leads_held crashes seen images moment left_since side P old new same leads = record {
   now = record { contents = leads.contents.0; told = leads.contents.1; has = leads.contents.2.here };
@@ -61,17 +63,20 @@ leads_held crashes seen images moment left_since side P old new same leads = rec
 }
 
 -- the other side stays safe
-pub leads_other : {D : Type 0} (crashes : D → Bool) (seen : D → Option Sides) (images : D → Sides → Type 0) (moment : D → ℕ) (left_since : D → ℕ → Sides → Type 0) (side : Side) (P Q : Bytes → Type 0) (old new : D)
+pub leads_other : {D : Type 0} (crashes : D → Bool) (seen : D → Option Sides) (images : D → Sides → Type 0) (moment : D → ℕ) (left_since : D → ℕ
+    → Sides → Type 0) (side : Side) (P Q : Bytes → Type 0) (old new : D)
     → crashes new ≡ crashes old → SideLeads crashes seen images moment left_since side P old new
     → SideIsSafe (crashes old) (seen old) (images old) (other_side side) Q → SideIsSafe (crashes new) (seen new) (images new) (other_side side) Q
 leads_other crashes seen images moment left_since side P Q old new same leads safe =
     let left = leads.contents.2 in
-    let bytes : side_of leads.contents.0 (other_side side) ≡ side_of safe.contents (other_side side) = left.there ∙ told_settled (seen old) safe.contents (other_side side) safe.told left.earlier left.could in
+    let bytes : side_of leads.contents.0 (other_side side) ≡ side_of safe.contents (other_side side) = left.there
+    ∙ told_settled (seen old) safe.contents (other_side side) safe.told left.earlier left.could in
     record {
       contents = leads.contents.0;
       told = leads.contents.1;
       has = subst Q (sym bytes) safe.has;
-      settled = λ yes c image. let l = leads.images_now (sym same ∙ yes) c image in l.there ∙ safe.settled (sym same ∙ yes) l.earlier l.could ∙ sym bytes;
+      settled = λ yes c image. let l = leads.images_now (sym same ∙ yes) c image in l.there ∙ safe.settled (sym same ∙ yes) l.earlier l.could
+          ∙ sym bytes;
     }
 
 left_weaker : (before : Sides → Type 0) (side : Side) (P Q : Bytes → Type 0) → ((x : Bytes) → P x → Q x) → (c : Sides) → IsLeft before side P c
@@ -85,17 +90,20 @@ left_then before mid side P Q one c left =
     record { here = left.here; earlier = first.earlier; could = first.could; there = left.there ∙ first.there }
 
 -- a fact that follows
-pub leads_weaker : {D : Type 0} (crashes : D → Bool) (seen : D → Option Sides) (images : D → Sides → Type 0) (moment : D → ℕ) (left_since : D → ℕ → Sides → Type 0) (side : Side) (P Q : Bytes → Type 0) (old new : D)
+pub leads_weaker : {D : Type 0} (crashes : D → Bool) (seen : D → Option Sides) (images : D → Sides → Type 0) (moment : D → ℕ) (left_since : D → ℕ
+    → Sides → Type 0) (side : Side) (P Q : Bytes → Type 0) (old new : D)
     → ((x : Bytes) → P x → Q x) → SideLeads crashes seen images moment left_since side P old new
     → SideLeads crashes seen images moment left_since side Q old new
 leads_weaker crashes seen images moment left_since side P Q old new f leads = record {
   contents = (leads.contents.0, leads.contents.1, left_weaker (λ s. seen old ≡ Some s) side P Q f leads.contents.0 leads.contents.2);
   images_now = λ told c image. left_weaker (images old) side P Q f c (leads.images_now told c image);
-  moments = λ told. weaker moment left_since old new (IsLeft (images old) side P) (IsLeft (images old) side Q) (left_weaker (images old) side P Q f) (leads.moments told);
+  moments = λ told. weaker moment left_since old new (IsLeft (images old) side P) (IsLeft (images old) side Q) (left_weaker (images old) side P Q f)
+      (leads.moments told);
 }
 
 -- one run of calls and then another
-pub leads_then : {D : Type 0} (crashes : D → Bool) (seen : D → Option Sides) (images : D → Sides → Type 0) (moment : D → ℕ) (left_since : D → ℕ → Sides → Type 0) (side : Side) (P : Bytes → Type 0) (old mid new : D)
+pub leads_then : {D : Type 0} (crashes : D → Bool) (seen : D → Option Sides) (images : D → Sides → Type 0) (moment : D → ℕ) (left_since : D → ℕ
+    → Sides → Type 0) (side : Side) (P : Bytes → Type 0) (old mid new : D)
     → crashes mid ≡ crashes old → SideLeads crashes seen images moment left_since side P old mid
     → SideLeads crashes seen images moment left_since side P mid new → SideLeads crashes seen images moment left_since side P old new
 leads_then crashes seen images moment left_since side P old mid new same one two = record {
@@ -103,15 +111,18 @@ leads_then crashes seen images moment left_since side P old mid new same one two
     two.contents.0,
     two.contents.1,
     left_then (λ s. seen old ≡ Some s) (λ s. seen mid ≡ Some s) side P P
-        (λ d e. subst (λ (t : Sides). IsLeft (λ s. seen old ≡ Some s) side P t) (let told = one.contents.1 in let is : one.contents.0 ≡ d = cc in is) one.contents.2) two.contents.0 two.contents.2,
+        (λ d e. subst (λ (t : Sides). IsLeft (λ s. seen old ≡ Some s) side P t)
+        (let told = one.contents.1 in let is : one.contents.0 ≡ d = cc in is) one.contents.2) two.contents.0 two.contents.2,
   );
   images_now = λ told c image. left_then (images old) (images mid) side P P (one.images_now told) c (two.images_now (same ∙ told) c image);
   moments = λ told. then moment left_since old mid new (IsLeft (images old) side P) (one.moments told)
-      (weaker moment left_since mid new (IsLeft (images mid) side P) (IsLeft (images old) side P) (left_then (images old) (images mid) side P P (one.images_now told)) (two.moments (same ∙ told)));
+      (weaker moment left_since mid new (IsLeft (images mid) side P) (IsLeft (images old) side P)
+      (left_then (images old) (images mid) side P P (one.images_now told)) (two.moments (same ∙ told)));
 }
 
 -- a step on a side, of which each outcome has Q
-pub leads_step : {D : Type 0} (crashes : D → Bool) (seen : D → Option Sides) (images : D → Sides → Type 0) (moment : D → ℕ) (left_since : D → ℕ → Sides → Type 0) (side : Side) (P Q : Bytes → Type 0) (step : Bytes → Bytes → Type 0) (old new : D)
+pub leads_step : {D : Type 0} (crashes : D → Bool) (seen : D → Option Sides) (images : D → Sides → Type 0) (moment : D → ℕ) (left_since : D → ℕ
+    → Sides → Type 0) (side : Side) (P Q : Bytes → Type 0) (step : Bytes → Bytes → Type 0) (old new : D)
     → IsHeld (crashes old) (seen old) (images old) side P → ((x y : Bytes) → P x → step x y → Q y)
     → Told (seen old) (seen new) (On side step) → Follows (On side step) (images old) (images new)
     → LeavesOnly moment left_since old new (After (On side step) (images old))
@@ -120,13 +131,20 @@ leads_step crashes seen images moment left_since side P Q step old new held has 
     let s = held.now.contents in
     let after = told_next (seen old) (seen new) s (On side step) held.now.told told in
     record {
-      contents = (after.0, after.1, stepped side step (λ s. seen old ≡ Some s) P Q (λ t e. subst P (sym (told_settled (seen old) s side held.now.told t e)) held.now.has) has after.0 (s, held.now.told, after.2));
+      contents = (
+        after.0,
+        after.1,
+        stepped side step (λ s. seen old ≡ Some s) P Q
+            (λ t e. subst P (sym (told_settled (seen old) s side held.now.told t e)) held.now.has) has after.0 (s, held.now.told, after.2),
+      );
       images_now = λ yes c image. stepped side step (images old) P Q (held.each yes) has c (crash c image);
-      moments = λ yes. weaker moment left_since old new (After (On side step) (images old)) (IsLeft (images old) side Q) (stepped side step (images old) P Q (held.each yes) has) moments;
+      moments = λ yes. weaker moment left_since old new (After (On side step) (images old)) (IsLeft (images old) side Q)
+          (stepped side step (images old) P Q (held.each yes) has) moments;
     }
 
 -- a side that was written and synced
-pub safe_write : (crashes crashes' : Bool) (seen seen' : Option Sides) (images' : Sides → Type 0) (side : Side) (at : ℕ) (piece : Bytes) (P Q : Bytes → Type 0)
+pub safe_write : (crashes crashes' : Bool) (seen seen' : Option Sides) (images' : Sides → Type 0) (side : Side) (at : ℕ) (piece : Bytes) (P Q : Bytes
+    → Type 0)
     → HasNow seen side P → ((x : Bytes) → P x → Q (write_over at piece x)) → crashes' ≡ crashes
     → Told seen seen' (λ s t. t ≡ with_side s side (write_over at piece (side_of s side)))
     → (crashes ≡ true → IfTold seen (λ s. IsSettled images' side (write_over at piece (side_of s side))))
@@ -140,41 +158,30 @@ safe_write crashes crashes' seen seen' images' side at piece P Q safe has same w
       contents = after.0;
       told = after.1;
       has = subst Q (sym bytes) (has (side_of s side) safe.has);
-      settled = λ crash c image. if_told seen s (λ s. IsSettled images' side (write_over at piece (side_of s side))) safe.told (durable (sym same ∙ crash)) c image ∙ sym bytes;
+      settled = λ crash c image. if_told seen s (λ s. IsSettled images' side (write_over at piece (side_of s side))) safe.told
+          (durable (sym same ∙ crash)) c image ∙ sym bytes;
     }
 
 -- where the write was the last call
-pub safe_written : {T E : Type 0} (r : Result T E) (crashes crashes' : Bool) (seen seen' : Option Sides) (images' : Sides → Type 0) (side : Side) (at : ℕ) (piece : Bytes) (P Q : Bytes → Type 0)
+pub safe_written : {T E : Type 0} (r : Result T E) (crashes crashes' : Bool) (seen seen' : Option Sides) (images' : Sides
+    → Type 0) (side : Side) (at : ℕ) (piece : Bytes) (P Q : Bytes → Type 0)
     → HasNow seen side P → ((x : Bytes) → P x → Q (write_over at piece x)) → crashes' ≡ crashes
     → OnOk r (Told seen seen' (λ s t. t ≡ with_side s side (write_over at piece (side_of s side))))
     → (crashes ≡ true → OnOk r (IfTold seen (λ s. IsSettled images' side (write_over at piece (side_of s side)))))
     → OnOk r (SideIsSafe crashes' seen' images' side Q)
 safe_written (Err x) crashes crashes' seen seen' images' side at piece P Q safe has same written durable = tt
-safe_written (Ok x) crashes crashes' seen seen' images' side at piece P Q safe has same written durable = safe_write crashes crashes' seen seen' images' side at piece P Q safe has same written durable
+safe_written (Ok x) crashes crashes' seen seen' images' side at piece P Q safe has same written durable =
+    safe_write crashes crashes' seen seen' images' side at piece P Q safe has same written durable
 
 -- no call was made
-pub leads_self : {D : Type 0} (crashes : D → Bool) (seen : D → Option Sides) (images : D → Sides → Type 0) (moment : D → ℕ) (left_since : D → ℕ → Sides → Type 0) (side : Side) (P : Bytes → Type 0) (disk : D)
+pub leads_self : {D : Type 0} (crashes : D → Bool) (seen : D → Option Sides) (images : D → Sides → Type 0) (moment : D → ℕ) (left_since : D → ℕ
+    → Sides → Type 0) (side : Side) (P : Bytes → Type 0) (disk : D)
     → SideIsSafe (crashes disk) (seen disk) (images disk) side P → SideLeads crashes seen images moment left_since side P disk disk
 leads_self crashes seen images moment left_since side P disk safe = record {
   contents = (safe.contents, safe.told, record { here = safe.has; earlier = safe.contents; could = safe.told; there = refl });
   images_now = λ told c image. record { here = subst P (sym (safe.settled told c image)) safe.has; earlier = c; could = image; there = refl };
   moments = λ told. begins moment left_since disk (IsLeft (images disk) side P);
 }
-
--- a look at the disk
-pub leads_look : {D : Type 0} (crashes : D → Bool) (seen : D → Option Sides) (images : D → Sides → Type 0) (moment : D → ℕ) (left_since : D → ℕ → Sides → Type 0) (side : Side) (P : Bytes → Type 0) (old new : D)
-    → SideIsSafe (crashes old) (seen old) (images old) side P → Told (seen old) (seen new) (λ s t. t ≡ s)
-    → ((c : Sides) → images new c → images old c) → Elapses crashes images moment left_since old new
-    → SideLeads crashes seen images moment left_since side P old new
-leads_look crashes seen images moment left_since side P old new safe told crash time =
-    let s = safe.contents in
-    let after = told_next (seen old) (seen new) s (λ s t. t ≡ s) safe.told told in
-    let stays : crashes old ≡ true → EachImage (images new) (IsLeft (images old) side P) = λ yes c image. record { here = subst P (sym (safe.settled yes c (crash c image))) safe.has; earlier = c; could = crash c image; there = refl } in
-    record {
-      contents = (after.0, after.1, record { here = subst (λ (t : Sides). P (side_of t side)) (sym after.2) safe.has; earlier = s; could = safe.told; there = ap (λ (t : Sides). side_of t (other_side side)) after.2 });
-      images_now = stays;
-      moments = λ yes. call_carries crashes images moment left_since old old new (IsLeft (images old) side P) (begins moment left_since old (IsLeft (images old) side P)) time (stays yes);
-    }
 
 pub safe_look : (crashes crashes' : Bool) (seen seen' : Option Sides) (images images' : Sides → Type 0) (side : Side) (P : Bytes → Type 0)
     → SideIsSafe crashes seen images side P → crashes' ≡ crashes → Told seen seen' (λ s t. t ≡ s) → ((c : Sides) → images' c → images c)
@@ -188,16 +195,3 @@ safe_look crashes crashes' seen seen' images images' side P safe same told crash
       has = subst (λ (t : Sides). P (side_of t side)) (sym after.2) safe.has;
       settled = λ yes c image. safe.settled (sym same ∙ yes) c (crash c image) ∙ ap (λ (t : Sides). side_of t side) (sym after.2);
     }
-
--- the same disk under another name
-pub leads_from : {D : Type 0} (crashes : D → Bool) (seen : D → Option Sides) (images : D → Sides → Type 0) (moment : D → ℕ) (left_since : D → ℕ → Sides → Type 0) (side : Side) (P : Bytes → Type 0) (old other new : D)
-    → other ≡ old → SideLeads crashes seen images moment left_since side P other new → SideLeads crashes seen images moment left_since side P old new
-leads_from {D} crashes seen images moment left_since side P old other new same leads = subst (λ (d : D). SideLeads crashes seen images moment left_since side P d new) same leads
-
-pub leads_to : {D : Type 0} (crashes : D → Bool) (seen : D → Option Sides) (images : D → Sides → Type 0) (moment : D → ℕ) (left_since : D → ℕ → Sides → Type 0) (side : Side) (P : Bytes → Type 0) (old other new : D)
-    → other ≡ new → SideLeads crashes seen images moment left_since side P old other → SideLeads crashes seen images moment left_since side P old new
-leads_to {D} crashes seen images moment left_since side P old other new same leads = subst (λ (d : D). SideLeads crashes seen images moment left_since side P old d) same leads
-
-pub safe_under : {D : Type 0} (crashes : D → Bool) (seen : D → Option Sides) (images : D → Sides → Type 0) (side : Side) (P : Bytes → Type 0) (other disk : D)
-    → other ≡ disk → SideIsSafe (crashes other) (seen other) (images other) side P → SideIsSafe (crashes disk) (seen disk) (images disk) side P
-safe_under {D} crashes seen images side P other disk same safe = subst (λ (d : D). SideIsSafe (crashes d) (seen d) (images d) side P) same safe

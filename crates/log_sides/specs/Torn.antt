@@ -1,12 +1,14 @@
 -- What writes on a side of a log leave of the batches that it stands for.
-use Rattle.std.proofs.Common.{◌≡◌, ◌≢◌, ◌⊎◌, ◌+◌, ◌≤◌, ◌∙◌, ℕ, List, [], ◌∷◌, ◌++◌, length, take, drop, refl, sym, ap, subst, inl, inr, arith, length-append, append_assoc, append-nil, take-append-drop}
+use Rattle.std.proofs.Common.{◌≡◌, ◌≢◌, ◌⊎◌, ◌+◌, ◌≤◌, ◌∙◌, ℕ, List, [], ◌∷◌, ◌++◌, length, take, drop, refl, sym, ap, subst, inl, inr, arith}
+use Rattle.std.proofs.Common.{length-append, append_assoc, append-nil, take-append-drop}
 use Rattle.std.proofs.lemmas.List.{take_at, drop_at}
 use Rattle.std.proofs.lemmas.Bool.{cases_eq}
 use Rattle.outside.specs.WriteLaws.{length-write_over}
 use Rattle.outside.specs.Disks.{write_over, Torn}
 use Rattle.outside.specs.WriteLaws.{write_over-within, torn_within}
 use Rattle.byte_text.specs.Names.{Bytes}
-use Rattle.log_sides.specs.Texts.{StandsFor, IsGeneration, front_text, batches_text, framed, gate_place, header, open_gate, max_side, number_bytes, IsReady, with_batch, StandsWithin, committed}
+use Rattle.log_sides.specs.Texts.{StandsFor, IsGeneration, front_text, batches_text, framed, gate_place, header, open_gate, max_side, number_bytes}
+use Rattle.log_sides.specs.Texts.{IsReady, with_batch, StandsWithin, committed}
 
 -- a torn write behind the closed gate leaves the batches
 pub torn_behind : (generation : ℕ) (batches : List Bytes) (n : ℕ) (old new : Bytes) → StandsFor generation batches old
@@ -15,7 +17,9 @@ pub torn_behind : (generation : ℕ) (batches : List Bytes) (n : ℕ) (old new :
 torn_behind generation batches n old new stands room torn =
     let front = front_text generation batches in
     let at = length front + 1 in
-    let kept : take at old ≡ front ++ stands.gate ∷ [] = ap (λ (l : Bytes). take at l) (stands.text ∙ sym (append_assoc front (stands.gate ∷ []) stands.stale)) ∙ take_at (front ++ stands.gate ∷ []) stands.stale at (length-append front (stands.gate ∷ [])) in
+    let kept : take at old ≡ front ++ stands.gate ∷ [] = ap (λ (l : Bytes). take at l) (stands.text
+    ∙ sym (append_assoc front (stands.gate ∷ []) stands.stale))
+    ∙ take_at (front ++ stands.gate ∷ []) stands.stale at (length-append front (stands.gate ∷ [])) in
     let reach : length (take at old) ≡ at = ap length kept ∙ length-append front (stands.gate ∷ []) in
     let same : take at new ≡ front ++ stands.gate ∷ [] = sym (torn.before ∙ ap (λ (j : ℕ). take j new) reach) ∙ kept in
     record {
@@ -38,17 +42,20 @@ length-framed batch = length-append (number_bytes (length batch)) batch ∙ ap (
 pub batches_text-append : (batches : List Bytes) (batch : Bytes)
     → batches_text (with_batch batches batch) ≡ batches_text batches ++ open_gate ∷ framed batch
 batches_text-append [] batch = ap (λ (l : Bytes). open_gate ∷ l) (append-nil (framed batch))
-batches_text-append (first ∷ later) batch = ap (λ (l : Bytes). open_gate ∷ l) (ap (λ (l : Bytes). framed first ++ l) (batches_text-append later batch) ∙ sym (append_assoc (framed first) (batches_text later) (open_gate ∷ framed batch)))
+batches_text-append (first ∷ later) batch = ap (λ (l : Bytes). open_gate ∷ l) (ap (λ (l : Bytes). framed first ++ l) (batches_text-append later batch)
+    ∙ sym (append_assoc (framed first) (batches_text later) (open_gate ∷ framed batch)))
 
 pub front_text-append : (generation : ℕ) (batches : List Bytes) (batch : Bytes)
     → front_text generation (with_batch batches batch) ≡ front_text generation batches ++ open_gate ∷ framed batch
 front_text-append generation batches batch =
-    ap (λ (l : Bytes). open_gate ∷ (header generation ++ l)) (batches_text-append batches batch) ∙ ap (λ (l : Bytes). open_gate ∷ l) (sym (append_assoc (header generation) (batches_text batches) (open_gate ∷ framed batch)))
+    ap (λ (l : Bytes). open_gate ∷ (header generation ++ l)) (batches_text-append batches batch)
+    ∙ ap (λ (l : Bytes). open_gate ∷ l) (sym (append_assoc (header generation) (batches_text batches) (open_gate ∷ framed batch)))
 
 pub gate_place-append : (generation : ℕ) (batches : List Bytes) (batch : Bytes)
     → gate_place generation (with_batch batches batch) ≡ gate_place generation batches + 9 + length batch
 gate_place-append generation batches batch =
-    ap length (front_text-append generation batches batch) ∙ length-append (front_text generation batches) (open_gate ∷ framed batch) ∙ omega (arith, length-framed batch)
+    ap length (front_text-append generation batches batch) ∙ length-append (front_text generation batches) (open_gate ∷ framed batch)
+    ∙ omega (arith, length-framed batch)
 
 -- the batch and the next gate were written
 pub written_behind : (generation : ℕ) (batches : List Bytes) (batch old : Bytes) → StandsFor generation batches old
@@ -71,7 +78,8 @@ written_behind generation batches batch old stands room =
       gate = stands.gate;
       closed = stands.closed;
       stale = rest;
-      text = write_over-within at piece old inside ∙ ap (λ (l : Bytes). l ++ piece ++ rest) kept ∙ append_assoc head piece rest ∙ append_assoc front (stands.gate ∷ []) (piece ++ rest)
+      text = write_over-within at piece old inside ∙ ap (λ (l : Bytes). l ++ piece ++ rest) kept ∙ append_assoc head piece rest
+          ∙ append_assoc front (stands.gate ∷ []) (piece ++ rest)
           ∙ ap (λ (l : Bytes). front ++ stands.gate ∷ l) (append_assoc (framed batch) (0 ∷ []) rest);
     }
 
@@ -85,9 +93,12 @@ gate_chosen generation batches batch stale side gate numbered within text (inl o
   gate = 0;
   closed = omega arith;
   stale = stale;
-  text = text ∙ ap (λ (b : ℕ). front_text generation batches ++ b ∷ (framed batch ++ 0 ∷ stale)) opened ∙ sym (append_assoc (front_text generation batches) (open_gate ∷ framed batch) (0 ∷ stale)) ∙ ap (λ (l : Bytes). l ++ 0 ∷ stale) (sym (front_text-append generation batches batch));
+  text = text ∙ ap (λ (b : ℕ). front_text generation batches ++ b ∷ (framed batch ++ 0 ∷ stale)) opened
+      ∙ sym (append_assoc (front_text generation batches) (open_gate ∷ framed batch) (0 ∷ stale))
+      ∙ ap (λ (l : Bytes). l ++ 0 ∷ stale) (sym (front_text-append generation batches batch));
 })
-gate_chosen generation batches batch stale side gate numbered within text (inr closed) = inl (record { numbered = numbered; within = within; gate = gate; closed = closed; stale = framed batch ++ 0 ∷ stale; text = text })
+gate_chosen generation batches batch stale side gate numbered within text (inr closed) =
+    inl (record { numbered = numbered; within = within; gate = gate; closed = closed; stale = framed batch ++ 0 ∷ stale; text = text })
 
 pub one_byte : (bytes : Bytes) → length bytes ≡ 1 → (b : ℕ) × (bytes ≡ b ∷ [])
 one_byte [] long = absurd (omega (arith, long))
@@ -100,8 +111,10 @@ pub gate_written : (front behind old : Bytes) (gate b : ℕ) → old ≡ front +
 gate_written front behind old gate b text =
     let inside : length front ≤ length old = omega (arith, ap length text, length-append front (gate ∷ behind)) in
     let kept : take (length front) old ≡ front = ap (λ (l : Bytes). take (length front) l) text ∙ take_at front (gate ∷ behind) (length front) refl in
-    let rest : drop (length front + 1) old ≡ behind = ap (λ (l : Bytes). drop (length front + 1) l) (text ∙ sym (append_assoc front (gate ∷ []) behind)) ∙ drop_at (front ++ gate ∷ []) behind (length front + 1) (length-append front (gate ∷ [])) in
-    write_over-within (length front) (b ∷ []) old inside ∙ ap (λ (l : Bytes). l ++ b ∷ [] ++ drop (length front + 1) old) kept ∙ ap (λ (l : Bytes). front ++ b ∷ [] ++ l) rest ∙ append_assoc front (b ∷ []) behind
+    let rest : drop (length front + 1) old ≡ behind = ap (λ (l : Bytes). drop (length front + 1) l) (text
+    ∙ sym (append_assoc front (gate ∷ []) behind)) ∙ drop_at (front ++ gate ∷ []) behind (length front + 1) (length-append front (gate ∷ [])) in
+    write_over-within (length front) (b ∷ []) old inside ∙ ap (λ (l : Bytes). l ++ b ∷ [] ++ drop (length front + 1) old) kept
+    ∙ ap (λ (l : Bytes). front ++ b ∷ [] ++ l) rest ∙ append_assoc front (b ∷ []) behind
 
 -- a torn write of the gate leaves the batches without or with the one that is ready
 pub torn_gate : (generation : ℕ) (batches : List Bytes) (batch old new : Bytes) → IsReady generation batches batch old
@@ -112,8 +125,10 @@ torn_gate generation batches batch old new ready torn =
     let inside : length front + 1 ≤ length old = omega (arith, ap length ready.text, length-append front (ready.gate ∷ behind)) in
     let other = torn_within (length front) 1 old new inside torn in
     let byte = one_byte other.0 other.1 in
-    let text : new ≡ front ++ byte.0 ∷ behind = other.2 ∙ ap (λ (l : Bytes). write_over (length front) l old) byte.1 ∙ gate_written front behind old ready.gate byte.0 ready.text in
-    gate_chosen generation batches batch ready.stale new byte.0 ready.numbered (omega (arith, torn.no_longer, ready.within, inside)) text (cases_eq byte.0 open_gate)
+    let text : new ≡ front ++ byte.0 ∷ behind = other.2 ∙ ap (λ (l : Bytes). write_over (length front) l old) byte.1
+    ∙ gate_written front behind old ready.gate byte.0 ready.text in
+    gate_chosen generation batches batch ready.stale new byte.0 ready.numbered (omega (arith, torn.no_longer, ready.within, inside)) text
+    (cases_eq byte.0 open_gate)
 
 -- and one that was done leaves them with it
 pub gate_opened : (generation : ℕ) (batches : List Bytes) (batch old : Bytes) → IsReady generation batches batch old
@@ -128,7 +143,8 @@ gate_opened generation batches batch old ready =
       gate = 0;
       closed = omega arith;
       stale = ready.stale;
-      text = gate_written front behind old ready.gate open_gate ready.text ∙ sym (append_assoc front (open_gate ∷ framed batch) (0 ∷ ready.stale)) ∙ ap (λ (l : Bytes). l ++ 0 ∷ ready.stale) (sym (front_text-append generation batches batch));
+      text = gate_written front behind old ready.gate open_gate ready.text ∙ sym (append_assoc front (open_gate ∷ framed batch) (0 ∷ ready.stale))
+          ∙ ap (λ (l : Bytes). l ++ 0 ∷ ready.stale) (sym (front_text-append generation batches batch));
     }
 
 -- a batch that is not empty is written
@@ -142,8 +158,10 @@ pub is_ready : (generation : ℕ) (batches : List Bytes) (batch : Bytes) (at gat
     → gate + 10 + length batch ≤ max_side → IsReady generation batches batch (write_over at piece old)
 is_ready generation batches batch at gate piece old stands place behind is room =
     let here : at ≡ gate_place generation batches + 1 = omega (arith, place, behind) in
-    let same : write_over at piece old ≡ write_over (gate_place generation batches + 1) (framed batch ++ 0 ∷ []) old = ap (λ (j : ℕ). write_over j piece old) here ∙ ap (λ (l : Bytes). write_over (gate_place generation batches + 1) l old) is in
-    subst (λ (l : Bytes). IsReady generation batches batch l) (sym same) (written_behind generation batches batch old stands (omega (arith, place, room)))
+    let same : write_over at piece old ≡ write_over (gate_place generation batches + 1) (framed batch
+    ++ 0 ∷ []) old = ap (λ (j : ℕ). write_over j piece old) here ∙ ap (λ (l : Bytes). write_over (gate_place generation batches + 1) l old) is in
+    subst (λ (l : Bytes). IsReady generation batches batch l) (sym same)
+    (written_behind generation batches batch old stands (omega (arith, place, room)))
 
 -- the closed gate of a side without a batch
 pub first_place : (generation : ℕ) → 16 ≡ gate_place generation []

@@ -95,7 +95,8 @@ impl Batch {
 fn put(bytes: &mut Vec<u8>, at: usize, piece: &[u8])
     requires { at + length piece.now ≤ length bytes.old.items }
     ensures len { length bytes.new.items ≡ length bytes.old.items }
-    ensures items { bytes.new.items ≡ take at bytes.old.items ++ piece.now ++ drop (at + length piece.now) bytes.old.items }
+    ensures items { bytes.new.items
+        ≡ take at bytes.old.items ++ piece.now ++ drop (at + length piece.now) bytes.old.items }
 {
     put_in(bytes, at, piece);
 }

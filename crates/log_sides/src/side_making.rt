@@ -1,4 +1,7 @@
 //! A new side is made: its gate is closed until all behind it is safe.
+//!
+//! That a length goes past the end is said by the number, not by saying that no batch stands there: that would say the
+//! same only of sides whose bytes are bytes, which nothing else has to promise.
 
 ghost use Rattle.std.specs.Prelude.{◌≡◌, ◌≤◌, ◌^◌, [], ◌∷◌, length, IfOk, OnOk};
 ghost use Rattle.byte_text.specs.Names.{Bytes};
@@ -18,7 +21,8 @@ pub fn make_side<D: Disk>(disk: &mut D, side: Side, generation: u64) -> Result<(
     ensures stands { (before : Bytes) → length before ≤ 2 ^ 62 → ReadsAs D.crashes D.seen D.images disk.old side before
         → OnOk result (SafeOn D.crashes D.seen D.images disk.new side (StandsFor generation [])) }
     ensures either { (before : Bytes) → length before ≤ 2 ^ 62 → ReadsAs D.crashes D.seen D.images disk.old side before
-        → SideLeads D.crashes D.seen D.images D.moment D.left_since side (WhileMade generation before) disk.old disk.new }
+        → SideLeads D.crashes D.seen D.images D.moment D.left_since side
+        (WhileMade generation before) disk.old disk.new }
     ensures told { D.crashes disk.new ≡ D.crashes disk.old }
     ensures cause { HasCause (D.faults disk.old) (D.faults disk.new) result }
 {
@@ -54,7 +58,8 @@ pub fn head_of(generation: u64) -> [u8; 16]
 
 /// Leaves of a side a closed gate alone, which is not synced.
 pub fn shut_side<D: Disk>(disk: &mut D, side: Side) -> Result<(), Failed>
-    ensures bare { (before : Bytes) → length before ≤ 2 ^ 62 → ReadsAs D.crashes D.seen D.images disk.old side before → OnOk result (HasNow (D.seen disk.new) side IsBare) }
+    ensures bare { (before : Bytes) → length before ≤ 2 ^ 62 → ReadsAs D.crashes D.seen D.images disk.old side before
+        → OnOk result (HasNow (D.seen disk.new) side IsBare) }
     ensures shut { (before : Bytes) → length before ≤ 2 ^ 62 → ReadsAs D.crashes D.seen D.images disk.old side before
         → OnOk result (HeldOn D.crashes D.seen D.images disk.new side IsShut) }
     ensures either { (before : Bytes) → length before ≤ 2 ^ 62 → ReadsAs D.crashes D.seen D.images disk.old side before
@@ -70,7 +75,8 @@ pub fn shut_side<D: Disk>(disk: &mut D, side: Side) -> Result<(), Failed>
 
 // Cuts what stands behind a closed gate.
 fn cut_to_gate<D: Disk>(disk: &mut D, side: Side) -> Result<(), Failed>
-    ensures bare { HeldOn D.crashes D.seen D.images disk.old side IsShut → OnOk result (HasNow (D.seen disk.new) side IsBare) }
+    ensures bare { HeldOn D.crashes D.seen D.images disk.old side IsShut
+        → OnOk result (HasNow (D.seen disk.new) side IsBare) }
     ensures either { HeldOn D.crashes D.seen D.images disk.old side IsShut
         → SideLeads D.crashes D.seen D.images D.moment D.left_since side IsShut disk.old disk.new }
     ensures told { D.crashes disk.new ≡ D.crashes disk.old }
@@ -100,7 +106,8 @@ fn shut_gate<D: Disk>(disk: &mut D, side: Side) -> Result<(), Failed>
 
 // Whether the side has a gate, and it is closed.
 fn has_shut_gate<D: Disk>(disk: &mut D, side: Side) -> Result<bool, Failed>
-    ensures value { (before : Bytes) → ReadsAs D.crashes D.seen D.images disk.old side before → IfOk result (λ b. b ≡ is_shut before) }
+    ensures value { (before : Bytes) → ReadsAs D.crashes D.seen D.images disk.old side before
+        → IfOk result (λ b. b ≡ is_shut before) }
     ensures safe { (before : Bytes) → ReadsAs D.crashes D.seen D.images disk.old side before
         → ReadsAs D.crashes D.seen D.images disk.new side before }
     ensures same { (before : Bytes) → ReadsAs D.crashes D.seen D.images disk.old side before

@@ -1,8 +1,9 @@
 -- Every beginning of a command can be finished.
 use Rattle.std.proofs.Common.{◌≡◌, ◌⊎◌, inl, inr, ℕ, ℤ, pos, Bool, true, false, refl, sym, subst, List, [], ◌∷◌, ◌++◌, length, arith, suc, zero, ◌+◌}
-use Rattle.std.specs.Prelude.{Option, Some, None, codes, nat_lt, is_none, not, ◌&&◌, neg_ℤ, int_le, decimal, option_and_then, if◌then◌else◌}
+use Rattle.std.specs.Prelude.{map, Option, Some, None, codes, nat_lt, is_none, not, ◌&&◌, neg_ℤ, int_le, decimal, option_and_then, if◌then◌else◌}
 use Rattle.std.specs.Fmt.{signed_decimal, digits}
 use Rattle.std.specs.Str.{chars, is_utf8, str_to_ascii_lowercase}
+use Rattle.std.specs.List.{AllByRecursion}
 use Rattle.byte_text.specs.Names.{Bytes, is_word}
 use Rattle.byte_text.specs.Numbers.{whole, whole_within}
 use Rattle.byte_text.specs.Globs.{is_well_formed}
@@ -19,12 +20,15 @@ use Rattle.world_data.specs.declared.queries.Shown.TheVariants as shown
 use Rattle.world_data.specs.declared.channels.Watch.TheVariants as watch
 use Rattle.world_model.specs.declared.commands.Command.{Command}
 use Rattle.world_model.specs.declared.commands.Command.TheVariants as command
+use Rattle.world_model.specs.declared.object_commands.ObjectCommand.TheVariants as of_object
+use Rattle.world_model.specs.declared.search_commands.SearchCommand.TheVariants as of_search
 use Rattle.std.proofs.lemmas.Bool.Decides.{nat_tests}
 use Rattle.std.proofs.lemmas.List.{append-nil}
 use Rattle.byte_text.specs.ByteOrder.{same_refl}
 use Rattle.world_model.specs.FormLaws.{Out, Spells, Takes, Fair, fair_done, fair_bind, fair_word, fair_times, takes_word, takes_bind, takes_or, takes_where, spells_left, spells_right}
 use Rattle.world_model.specs.PrefixLaws.{Taking}
-use Rattle.world_data.specs.declared.queries.Rule.TheVariants.{Kept, Nearest}
+use Rattle.world_model.specs.RowLaws.{of_families}
+use Rattle.world_data.specs.declared.queries.Rule.TheVariants.{InArea, Nearest}
 use Rattle.world_model.specs.MadeForms.{Makes, makes_done, makes_none, makes_behind, makes_then, makes_any, makes_word, makes_if, first}
 use Rattle.machine_laws.proofs.Finishing.{Finished, Weak, Good, good_done, good_or, good_or_weak, weak_or, weak_none, weak_where, good_word, good_any, weak_any, good_bind, good_repeated, good_loop, through}
 
@@ -185,56 +189,53 @@ good_area =
 
 -- commands
 
-good_set : Good table.set_command
-good_set = said (codes "SET") _ (good_any name _ good_name (λ key. good_any name _ good_name (λ id. good_any (repeated table.set_option _) _
-    (good_repeated (λ o. Unit {0}) table.set_option (λ o r. weak_set_option o) (λ o r. makes_any (table.set_option o)) _ tt) (λ o. done_behind table.place _ good_place))))
+good_set : Good table.set_words
+good_set = good_any name _ good_name (λ key. good_any name _ good_name (λ id. good_any (repeated table.set_option _) _
+    (good_repeated (λ o. Unit {0}) table.set_option (λ o r. weak_set_option o) (λ o r. makes_any (table.set_option o)) _ tt) (λ o. done_behind table.place _ good_place)))
 
-good_get : Good table.get_command
-good_get = said (codes "GET") _ (good_any name _ good_name (λ key. good_any name _ good_name (λ id. good_any (maybe false (word (codes "WITHFIELDS") >> done true)) _ (good_maybe false _ (said (codes "WITHFIELDS") _ (good_done true)).weak) (λ fields.
-    done_behind (maybe shown.Objects table.as_objects) (λ how. command.Get key id fields how) (good_maybe shown.Objects table.as_objects weak_shown)))))
+good_get : Good table.get_words
+good_get = good_any name _ good_name (λ key. good_any name _ good_name (λ id. good_any (maybe false (word (codes "WITHFIELDS") >> done true)) _ (good_maybe false _ (said (codes "WITHFIELDS") _ (good_done true)).weak) (λ fields.
+    done_behind (maybe shown.Objects table.as_objects) (λ how. command.Object (of_object.Get key id fields how)) (good_maybe shown.Objects table.as_objects weak_shown))))
 
-good_pair : (called : Bytes) (make : Bytes → Bytes → Command) → Good (table.of_key_and_id called make)
-good_pair called make = said called _ (good_any name _ good_name (λ key. done_behind name _ good_name))
+good_pair : (make : Bytes → Bytes → Command) → Good (table.of_key_and_id make)
+good_pair make = good_any name _ good_name (λ key. done_behind name _ good_name)
 
-good_single : (called : Bytes) (kind : Form Bytes) (make : Bytes → Command) → Good kind → Good (table.of_one called kind make)
-good_single called kind make p = said called _ (done_behind kind make p)
+good_single : (kind : Form Bytes) (make : Bytes → Command) → Good kind → Good (table.of_one kind make)
+good_single kind make p = done_behind kind make p
 
 good_once : {S : Type 0} (step : S → Form S) → ((s : S) → Good (step s)) → (s : S) → Good (once_or_more step s)
 good_once step p s = good_any (step s) (repeated step) (p s) (λ t. good_repeated (λ o. Unit {0}) step (λ o r. (p o).weak) (λ o r. makes_any (step o)) t tt)
 
-good_some : (called : Bytes) (kind : Form Bytes) (make : List Bytes → Command) → Good kind → Good (table.of_some called kind make)
-good_some called kind make p = said called _ (done_behind (once_or_more (λ read. kind >>= λ w. done (read ++ w ∷ [])) []) make (good_once (λ read. kind >>= λ w. done (read ++ w ∷ [])) (λ read. done_behind kind (λ w. read ++ w ∷ []) p) []))
+good_some : (kind : Form Bytes) (make : List Bytes → Command) → Good kind → Good (table.of_some kind make)
+good_some kind make p = done_behind (once_or_more (λ read. kind >>= λ w. done (read ++ w ∷ [])) []) make (good_once (λ read. kind >>= λ w. done (read ++ w ∷ [])) (λ read. done_behind kind (λ w. read ++ w ∷ []) p) [])
 
-good_empty : (called : Bytes) (made : Command) → Good (table.of_none called made)
-good_empty called made = said called _ (good_done made)
+good_pdel : Good table.pdel_words
+good_pdel = good_any name _ good_name (λ key. done_behind glob _ good_glob)
 
-good_pdel : Good table.pdel_command
-good_pdel = said (codes "PDEL") _ (good_any name _ good_name (λ key. done_behind glob _ good_glob))
+good_fset : Good table.fset_words
+good_fset = good_any name _ good_name (λ key. good_any name _ good_name (λ id. done_behind (once_or_more (λ read. table.field >>= λ f. done (read ++ f ∷ [])) []) _
+    (good_once (λ read. table.field >>= λ f. done (read ++ f ∷ [])) (λ read. done_behind table.field (λ f. read ++ f ∷ []) good_field) [])))
 
-good_fset : Good table.fset_command
-good_fset = said (codes "FSET") _ (good_any name _ good_name (λ key. good_any name _ good_name (λ id. done_behind (once_or_more (λ read. table.field >>= λ f. done (read ++ f ∷ [])) []) _
-    (good_once (λ read. table.field >>= λ f. done (read ++ f ∷ [])) (λ read. done_behind table.field (λ f. read ++ f ∷ []) good_field) []))))
+good_fget : Good table.fget_words
+good_fget = good_any name _ good_name (λ key. good_any name _ good_name (λ id. done_behind name _ good_name))
 
-good_fget : Good table.fget_command
-good_fget = said (codes "FGET") _ (good_any name _ good_name (λ key. good_any name _ good_name (λ id. done_behind name _ good_name)))
-
-good_expire : Good table.expire_command
-good_expire = said (codes "EXPIRE") _ (good_any name _ good_name (λ key. good_any name _ good_name (λ id. done_behind seconds _ good_seconds)))
+good_expire : Good table.expire_words
+good_expire = good_any name _ good_name (λ key. good_any name _ good_name (λ id. done_behind seconds _ good_seconds))
 
 good_how : Good (maybe shown.Objects table.output)
 good_how = good_maybe shown.Objects table.output weak_output
 
-good_scan : Good table.scan_command
-good_scan = said (codes "SCAN") _ (good_any name _ good_name (λ key. good_any (repeated (table.search_option true) table.no_search_options) _ (good_search_options true) (λ o. done_behind (maybe shown.Objects table.output) (λ how. command.Scan key (table.query_of o how (table.scan_rule o.down))) good_how)))
+good_scan : Good table.scan_words
+good_scan = good_any name _ good_name (λ key. good_any (repeated (table.search_option true) table.no_search_options) _ (good_search_options true) (λ o. done_behind (maybe shown.Objects table.output) (λ how. command.Search (of_search.Scan key (table.query_of o how (table.scan_rule o.down)))) good_how))
 
-good_search : (called : Bytes) (kind : Kind) → Good (table.search_command called kind)
-good_search called kind = said called _ (good_any name _ good_name (λ key. good_any (repeated (table.search_option false) table.no_search_options) _ (good_search_options false) (λ o.
-    good_any (maybe shown.Objects table.output) _ good_how (λ how. done_behind table.area (λ a. command.Search key (table.query_of o how (Kept kind a.area)) a.from) good_area))))
+good_search : (kind : Kind) → Good (table.area_words kind)
+good_search kind = good_any name _ good_name (λ key. good_any (repeated (table.search_option false) table.no_search_options) _ (good_search_options false) (λ o.
+    good_any (maybe shown.Objects table.output) _ good_how (λ how. done_behind table.area (λ a. command.Search (of_search.Area key (table.query_of o how (InArea kind a.area)) a.from)) good_area)))
 
-good_nearby : Good table.nearby_command
-good_nearby = said (codes "NEARBY") _ (good_any name _ good_name (λ key. good_any (repeated (table.search_option false) table.no_search_options) _ (good_search_options false) (λ o.
+good_nearby : Good table.nearby_words
+good_nearby = good_any name _ good_name (λ key. good_any (repeated (table.search_option false) table.no_search_options) _ (good_search_options false) (λ o.
     good_any (maybe shown.Objects table.output) _ good_how (λ how. said (codes "POINT") _ (good_any lat_lon _ good_lat_lon (λ at.
-    done_behind (maybe None (meters >>= λ r. done (Some r))) (λ reach. command.Nearby key (table.query_of o how Nearest) at reach) (good_maybe None _ (done_behind meters (λ r. Some r) good_meters).weak)))))))
+    done_behind (maybe None (meters >>= λ r. done (Some r))) (λ reach. command.Search (of_search.Nearby key (table.query_of o how Nearest) at reach)) (good_maybe None _ (done_behind meters (λ r. Some r) good_meters).weak))))))
 
 -- channels
 
@@ -329,11 +330,11 @@ restarted near tail o false e has later = (
 -- an area behind FENCE
 
 abbrev area_tail : (called : Bytes) (kind : Kind) (channel key : Bytes) → Options → Form Command
-area_tail called kind channel key o = where_ o.fence table.area >>= λ a. done (table.setting channel called key o (watch.Spot kind a.area) a.words (Some a.from))
+area_tail called kind channel key o = where_ o.fence table.area >>= λ a. done (table.setting channel called key o (watch.Zone kind a.area) a.words (Some a.from))
 
 area_there : (called : Bytes) (kind : Kind) (channel key : Bytes) (o : Options) → o.fence ≡ true → Finished (area_tail called kind channel key o) []
-area_there called kind channel key o e = subst (λ b. Finished (where_ b table.area >>= λ a. done (table.setting channel called key o (watch.Spot kind a.area) a.words (Some a.from))) []) (sym e)
-    (done_behind table.area (λ a. table.setting channel called key o (watch.Spot kind a.area) a.words (Some a.from)) good_area).start
+area_there called kind channel key o e = subst (λ b. Finished (where_ b table.area >>= λ a. done (table.setting channel called key o (watch.Zone kind a.area) a.words (Some a.from))) []) (sym e)
+    (done_behind table.area (λ a. table.setting channel called key o (watch.Zone kind a.area) a.words (Some a.from)) good_area).start
 
 good_setchan_area : (called : Bytes) (kind : Kind) (channel : Bytes) → Good (table.setchan_area called kind channel)
 good_setchan_area called kind channel = said called _ (good_any name _ good_name (λ key.
@@ -371,7 +372,7 @@ abbrev near_tail : (channel key : Bytes) → Options → Form Command
 near_tail channel key o = where_ o.fence (table.near_area channel key o)
 
 abbrev point_form : (channel key : Bytes) → Options → Form Command
-point_form channel key o = word (codes "POINT") >> lat_lon >>= λ p. meters >>= λ r. done (table.setting channel (codes "NEARBY") key o (watch.Spot Near (Disc p r)) (codes "POINT" ∷ signed_decimal p.y ∷ signed_decimal p.x ∷ decimal r ∷ []) None)
+point_form channel key o = word (codes "POINT") >> lat_lon >>= λ p. meters >>= λ r. done (table.setting channel (codes "NEARBY") key o (watch.Zone Near (Disc p r)) (codes "POINT" ∷ signed_decimal p.y ∷ signed_decimal p.x ∷ decimal r ∷ []) None)
 
 abbrev roam_form : (channel key : Bytes) → Options → Form Command
 roam_form channel key o = word (codes "ROAM") >> name >>= λ other. glob >>= λ pattern. meters >>= λ r. done (table.setting channel (codes "NEARBY") key o (watch.Roam other pattern r o.nodwell) (codes "ROAM" ∷ other ∷ pattern ∷ decimal r ∷ []) None)
@@ -403,24 +404,66 @@ good_setchan_near channel = said (codes "NEARBY") _ (good_any name _ good_name (
     (near_tail channel key) (λ o r. weak_where o.fence _ (weak_near_area channel key o))
     (λ o r. restarted true (near_tail channel key) o o.fence refl (near_there channel key o r) (near_there channel key (with_fence o) r refl)) table.no_fence_options refl))
 
-good_setchan : Good table.setchan_command
-good_setchan = said (codes "SETCHAN") _ (good_any name _ good_name (λ channel.
-    first_good (good_setchan_area (codes "WITHIN") Within channel) (alternative (good_setchan_area (codes "INTERSECTS") Intersects channel).weak (alternative (good_setchan_near channel).weak weak_none))))
+good_setchan : Good table.setchan_words
+good_setchan = good_any name _ good_name (λ channel.
+    first_good (good_setchan_area (codes "WITHIN") Within channel) (alternative (good_setchan_area (codes "INTERSECTS") Intersects channel).weak (alternative (good_setchan_near channel).weak weak_none)))
 
 -- every command
 
-row : {f g : Form Command} → Good f → Weak g → Weak (f or g)
-row {f = f} {g = g} p q = weak_or f g p.weak q
+abbrev AreGood : List table.Row → Type 0
+AreGood rows = AllByRecursion (λ r. Good r.behind) rows
+
+good_objects : AreGood table.object_rows
+good_objects = (
+  good_set,
+  (
+    good_get,
+    (
+      good_pair _,
+      (
+        good_pdel,
+        (
+          good_single name _ good_name,
+          (
+            good_fset,
+            (
+              good_fget,
+              (
+                good_expire,
+                (
+                  good_pair _,
+                  (
+                    good_pair _,
+                    (
+                      good_single glob _ good_glob,
+                      (good_single name _ good_name, (good_some name _ good_name, (good_done _, (good_done _, tt)))),
+                    ),
+                  ),
+                ),
+              ),
+            ),
+          ),
+        ),
+      ),
+    ),
+  ),
+)
+
+good_searches : AreGood table.search_rows
+good_searches = (good_scan, (good_search Within, (good_search Intersects, (good_nearby, tt))))
+
+good_channels : AreGood table.channel_rows
+good_channels = (good_setchan, (good_single name _ good_name, (good_single glob _ good_glob, (good_single glob _ good_glob, tt))))
+
+good_sessions : AreGood table.session_rows
+good_sessions = (good_some name _ good_name, (good_some glob _ good_glob, (good_done _, (good_done _, tt))))
+
+weak_rows : (rows : List table.Row) → AreGood rows → Weak (one_of (map table.form_of rows))
+weak_rows [] all = weak_none
+weak_rows (r ∷ rows) all = weak_or (table.form_of r) (one_of (map table.form_of rows)) (said r.called r.behind all.0).weak (weak_rows rows all.1)
 
 weak_table : Weak table.command_table
-weak_table =
-    row good_set (row good_get (row (good_pair (codes "DEL") command.Del) (row good_pdel (row (good_single (codes "DROP") name command.Drop good_name) (
-    row good_fset (row good_fget (row good_expire (row (good_pair (codes "PERSIST") command.Persist) (row (good_pair (codes "TTL") command.Ttl) (
-    row (good_single (codes "KEYS") glob command.Keys good_glob) (row (good_single (codes "BOUNDS") name command.Bounds good_name) (row (good_some (codes "STATS") name command.Stats good_name) (
-    row (good_empty (codes "FLUSHDB") command.Flush) (row (good_empty (codes "AOFSHRINK") command.Shrink) (row (good_empty (codes "PING") command.Ping) (row (good_empty (codes "QUIT") command.Quit) (
-    row good_scan (row (good_search (codes "WITHIN") Within) (row (good_search (codes "INTERSECTS") Intersects) (row good_nearby (
-    row good_setchan (row (good_single (codes "DELCHAN") name command.Delchan good_name) (row (good_single (codes "PDELCHAN") glob command.Pdelchan good_glob) (row (good_single (codes "CHANS") glob command.Chans good_glob) (
-    row (good_some (codes "SUBSCRIBE") name command.Subscribe good_name) (row (good_some (codes "PSUBSCRIBE") glob command.Psubscribe good_glob) weak_none))))))))))))))))))))))))))
+weak_table = weak_rows table.command_rows (of_families (λ r. Good r.behind) good_objects good_searches good_channels good_sessions)
 
 -- an open list of words is the beginning of a spelling
 

@@ -16,8 +16,8 @@ pub fn opening_laws()
     ensures { OpenIsBegun }
 {}
 
-/// The outcomes of a history, and the hall that it reaches, follow from its opening and its events, where the log does not fail
-/// and no memory is wanted.
+/// The outcomes of a history, and the hall that it reaches, follow from its opening and its events, where the log does
+/// not fail and no memory is wanted.
 pub fn outcome_laws()
     ensures { EventsDetermineOutcomes }
 {

@@ -1,4 +1,6 @@
 //! The payload of a message.
+//!
+//! A payload is written straight into the text, and cut off again if memory runs out.
 
 ghost use Rattle.std.specs.Prelude.{◌≡◌, ◌++◌, true, OnOk, OnErr, length, take, option_map};
 ghost use Rattle.fence_model.specs.Messages.{set_payload, del_payload, drop_payload, roam_payload};
@@ -85,7 +87,8 @@ fn push_put(
     object: &Object,
     other: Option<&Object>,
 ) -> Result<(), NoMemory>
-    ensures ok { OnOk result (into.new ≡ into.old ++ set_of hook.now detect object.now (option_map (λ o. o.now) other.entry)) }
+    ensures ok { OnOk result
+        (into.new ≡ into.old ++ set_of hook.now detect object.now (option_map (λ o. o.now) other.entry)) }
     ensures kept { take (length into.old) into.new ≡ into.old }
 {
     match other {
@@ -102,7 +105,9 @@ fn push_payload(
     other: Option<&Object>,
 ) -> Result<(), NoMemory>
     requires { has_objects raised (option_map (λ o. o.now) object) (option_map (λ o. o.now) other) ≡ true }
-    ensures ok { OnOk result (into.new ≡ into.old ++ payload_of channel.now raised (option_map (λ o. o.now) object.entry) (option_map (λ o. o.now) other.entry)) }
+    ensures ok { OnOk result
+        (into.new ≡ into.old ++ payload_of channel.now raised (option_map (λ o. o.now) object.entry)
+        (option_map (λ o. o.now) other.entry)) }
     ensures kept { take (length into.old) into.new ≡ into.old }
 {
     let hook = &channel.name;
@@ -114,8 +119,8 @@ fn push_payload(
     }
 }
 
-/// Appends the payload of what a change raises on a channel: of `set` and `del` on `object`, of a pair of roaming objects on `object`
-/// and `other`, of `drop` on the channel's key. For want of memory the text is as before.
+/// Appends the payload of what a change raises on a channel: of `set` and `del` on `object`, of a pair of roaming
+/// objects on `object` and `other`, of `drop` on the channel's key. For want of memory the text is as before.
 pub fn push_message(
     into: &mut Text,
     channel: &Channel,
@@ -124,7 +129,9 @@ pub fn push_message(
     other: Option<&Object>,
 ) -> Result<(), NoMemory>
     requires { has_objects raised (option_map (λ o. o.now) object) (option_map (λ o. o.now) other) ≡ true }
-    ensures ok { OnOk result (into.new ≡ into.old ++ payload_of channel.now raised (option_map (λ o. o.now) object.entry) (option_map (λ o. o.now) other.entry)) }
+    ensures ok { OnOk result
+        (into.new ≡ into.old ++ payload_of channel.now raised (option_map (λ o. o.now) object.entry)
+        (option_map (λ o. o.now) other.entry)) }
     ensures err { OnErr result (into.new ≡ into.old) }
 {
     let before = into.len();

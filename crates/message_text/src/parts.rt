@@ -1,8 +1,10 @@
-//! The parts of a payload. What they leave behind for want of memory begins with the old text, and the caller cuts it off.
+//! The parts of a payload. What they leave behind for want of memory begins with the old text, and the caller cuts it
+//! off.
 
 ghost use Rattle.std.specs.Prelude.{◌≡◌, ◌<◌, ◌++◌, ◌∷◌, OnOk, length, take, flat_map, slice_get, IfSome, codes};
 ghost use Rattle.fence_model.specs.Messages.{detect_name};
-ghost use Rattle.message_text.specs.Parts.{names_part, object_part, detect_part, set_part, field_part, fields_part, meters_of, other_part};
+ghost use Rattle.message_text.specs.Parts.{names_part, object_part, detect_part, set_part, field_part, fields_part};
+ghost use Rattle.message_text.specs.Parts.{meters_of, other_part};
 
 use byte_text::{Name, NoMemory, Text, push_json, push_u64};
 use planar_geom::{box_of, centre, dist2, floor_root};

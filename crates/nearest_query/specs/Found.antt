@@ -37,7 +37,8 @@ found_behind q seen test objects = seen ++ filter (meets_query q) (filter test o
 -- where these are the places of what passes a test, and so many were found before, this is the number of all that is found then
 abbrev pub IsCountBehind : Query → List Object → List ℕ → ℕ → ℕ → Type 0
 IsCountBehind q objects places found n =
-    (test : Object → Bool) (seen : List Object) → places ≡ places_where test objects → found ≡ length seen → n ≡ length (found_behind q seen test objects)
+    (test : Object → Bool) (seen : List Object) → places ≡ places_where test objects → found ≡ length seen
+    → n ≡ length (found_behind q seen test objects)
 
 -- and these are the ids of a page of it, behind those that were listed before
 abbrev pub AreIdsBehind : Query → List Object → List ℕ → ℕ → List Bytes → List Bytes → Type 0

@@ -1,4 +1,7 @@
 //! Pages of what a query finds, the nearest first.
+//!
+//! A page is sorted by distance alone, by a sort that keeps what is equal: the objects come in order of id, so ties do
+//! too.
 
 ghost use Rattle.std.specs.Prelude.{◌≡◌, ◌<◌, ◌+◌, ◌^◌, List, [], true, not, length, IfOk, OnOk};
 ghost use Rattle.byte_text.specs.Globs.{is_sound_glob};
@@ -16,11 +19,11 @@ use search_query::{end_page, is_past, note};
 use std::alloc::Global;
 use world_data::{NameList, Page, Query};
 
-/// The page of what the query finds among the objects of a key no further from the point than the reach, where there is one: the
-/// nearest first, by the distance to their boxes, and of those that are as near the lesser id; their ids from place `cursor` on,
-/// at most `limit`, and where the next page begins; of a count the number of all that is found. The objects are walked by distance,
-/// until one is found behind the page, and the steps rise by the nodes of the tree that are visited. For want of memory the page may
-/// hold anything.
+/// The page of what the query finds among the objects of a key no further from the point than the reach, where there is
+/// one: the nearest first, by the distance to their boxes, and of those that are as near the lesser id; their ids from
+/// place `cursor` on, at most `limit`, and where the next page begins; of a count the number of all that is found. The
+/// objects are walked by distance, until one is found behind the page, and the steps rise by the nodes of the tree that
+/// are visited. For want of memory the page may hold anything.
 pub fn near_page<L: Ledger>(
     alloc: Global,
     collection: &Collection,
@@ -39,8 +42,8 @@ pub fn near_page<L: Ledger>(
     Ok(())
 }
 
-// Lists the ids of a page, the nearest first, none of a count, and gives the number of all that is found; once one is found behind
-// the page, or what is left is out of reach, the rest is not looked at.
+// Lists the ids of a page, the nearest first, none of a count, and gives the number of all that is found; once one is
+// found behind the page, or what is left is out of reach, the rest is not looked at.
 fn list_nearest<L: Ledger>(
     alloc: Global,
     collection: &Collection,

@@ -22,7 +22,7 @@ fn in_watch(watch: &Watch, object: &Object) -> bool
     ensures { result ≡ in_watch watch.now object.now }
 {
     match watch {
-        Watch::Spot(kind, area) => meets_area(*kind, area, &object.shape),
+        Watch::Zone(kind, area) => meets_area(*kind, area, &object.shape),
         Watch::Roam(_, _, _, _) => false,
     }
 }

@@ -1,4 +1,6 @@
 //! Whether an object meets a query or is in a fence: the pattern of ids, the tests of fields, and the area.
+//!
+//! Searches and fences share this crate, so that an object meets both by the same words.
 #![tactic(auto)]
 
 mod areas;

@@ -26,7 +26,7 @@ fn meets_rule(rule: &Rule, shape: &Shape) -> bool
     ensures { (o : Object) → o.shape ≡ shape.now → result ≡ meets_rule rule.now o }
 {
     match rule {
-        Rule::Kept(kind, area) => meets_area(*kind, area, shape),
-        Rule::All | Rule::Down | Rule::Nearest => true,
+        Rule::InArea(kind, area) => meets_area(*kind, area, shape),
+        Rule::All | Rule::Descending | Rule::Nearest => true,
     }
 }

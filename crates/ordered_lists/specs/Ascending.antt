@@ -44,7 +44,8 @@ module _ {A : Type 0} (lt : A → A → Bool) (asym : (x y : A) → lt x y ≡ t
       grind arith
 
   -- behind those that stand before it, and before the next one: it is put in between
-  pub put_in-insert : (x : A) (xs : List A) (p : ℕ) → list_all (λ y. lt y x) (take p xs) ≡ true → IfSome (slice_get xs p) (λ y. lt x y ≡ true) → put_in lt x xs ≡ insert xs p x
+  pub put_in-insert : (x : A) (xs : List A) (p : ℕ) → list_all (λ y. lt y x) (take p xs) ≡ true → IfSome (slice_get xs p) (λ y. lt x y ≡ true)
+      → put_in lt x xs ≡ insert xs p x
   put_in-insert x [] zero all next = refl
   put_in-insert x [] (suc p) all next = refl
   put_in-insert x (y ∷ ys) zero all next = rw next refl
@@ -54,7 +55,8 @@ module _ {A : Type 0} (lt : A → A → Bool) (asym : (x y : A) → lt x y ≡ t
       grind arith
 
   -- where the next one ties with it: it takes that one's place
-  pub put_in-set : (x : A) (xs : List A) (p : ℕ) → list_all (λ y. lt y x) (take p xs) ≡ true → p < length xs → IfSome (slice_get xs p) (λ y. (lt x y ≡ false) × (lt y x ≡ false)) → put_in lt x xs ≡ slice_set xs p x
+  pub put_in-set : (x : A) (xs : List A) (p : ℕ) → list_all (λ y. lt y x) (take p xs) ≡ true → p < length xs
+      → IfSome (slice_get xs p) (λ y. (lt x y ≡ false) × (lt y x ≡ false)) → put_in lt x xs ≡ slice_set xs p x
   put_in-set x [] p all within tie = absurd (omega arith)
   put_in-set x (y ∷ ys) zero all within tie = rw (tie.0, tie.1) refl
   put_in-set x (y ∷ ys) (suc p) all within tie =
@@ -84,7 +86,8 @@ module _ {A : Type 0} (lt : A → A → Bool) (asym : (x y : A) → lt x y ≡ t
   pub insert_free : (x : A) (xs : List A) (at : ℕ) → IsFree (λ y. lt y x) (lt x) xs at → insert xs at x ≡ put_in lt x xs
   insert_free x xs at f = sym (put_in-insert x xs at f.front f.behind)
 
-module _ {A : Type 0} (lt : A → A → Bool) (trans : (x y z : A) → lt x y ≡ true → lt y z ≡ true → lt x z ≡ true) (tie : (x y z : A) → lt x y ≡ false → lt y x ≡ false → lt y z ≡ true → lt x z ≡ true) where
+module _ {A : Type 0} (lt : A → A → Bool) (trans : (x y z : A) → lt x y ≡ true → lt y z ≡ true → lt x z ≡ true) (tie : (x y z : A) → lt x y ≡ false
+    → lt y x ≡ false → lt y z ≡ true → lt x z ≡ true) where
   -- what stands behind an item stands behind one before it, and behind one that ties with it
   pub behind_earlier : (x y : A) (zs : List A) → lt x y ≡ true → list_all (lt y) zs ≡ true → list_all (lt x) zs ≡ true
   behind_earlier x y zs p = all-weaker (lt y) (lt x) zs (λ z q. trans x y z p q)

@@ -4,7 +4,8 @@ use Rattle.std.specs.Prelude.{Some, None, ◌&&◌, ◌||◌, filter, find, not}
 use Rattle.std.specs.List.{slice_get, remove}
 use Rattle.std.specs.List.Sorted.{IsPartitionedBy, IsPartitionPoint}
 use Rattle.byte_text.specs.Names.{Bytes, before, same}
-use Rattle.byte_text.specs.ByteOrder.{before_trans, before_tie, before_asym, before_self, same_refl, same_equal, other_before, other_behind, behind_others}
+use Rattle.byte_text.specs.ByteOrder.{before_trans, before_tie, before_asym, before_self, same_refl, same_equal, other_before, other_behind}
+use Rattle.byte_text.specs.ByteOrder.{behind_others}
 use Rattle.ordered_lists.specs.Lists.{ascends, IsHeld, IsFree}
 use Rattle.ordered_lists.specs.Places.{IsSought, partitioned_by, held_there, free_there, found_held, found_free, left_held, left_free}
 
@@ -14,7 +15,8 @@ module _ {A : Type 0} (name : A → Bytes) where
   pub name_trans : (x y z : A) → before (name x) (name y) ≡ true → before (name y) (name z) ≡ true → before (name x) (name z) ≡ true
   name_trans x y z = before_trans (name x) (name y) (name z)
 
-  pub name_tie : (x y z : A) → before (name x) (name y) ≡ false → before (name y) (name x) ≡ false → before (name y) (name z) ≡ true → before (name x) (name z) ≡ true
+  pub name_tie : (x y z : A) → before (name x) (name y) ≡ false → before (name y) (name x) ≡ false → before (name y) (name z) ≡ true
+      → before (name x) (name z) ≡ true
   name_tie x y z p q r = subst (λ n. before n (name z) ≡ true) (sym (before_tie (name x) (name y) p q)) r
 
   pub name_asym : (x y : A) → before (name x) (name y) ≡ true → before (name y) (name x) ≡ false
@@ -55,7 +57,8 @@ module _ {A : Type 0} (first second : A → Bytes) where
 
 module _ {A : Type 0} (name : A → Bytes) (word : Bytes) where
   pub partitioned : (xs : List A) → ascends (λ a b. before (name a) (name b)) xs ≡ true → IsPartitionedBy (λ a. before (name a) word) xs
-  partitioned xs asc = partitioned_by (λ a b. before (name a) (name b)) (λ a. before (name a) word) (λ x y. before_trans (name x) (name y) word) xs asc
+  partitioned xs asc = partitioned_by (λ a b. before (name a) (name b)) (λ a. before (name a) word)
+      (λ x y. before_trans (name x) (name y) word) xs asc
 
   -- one of this name ties with it
   pub name_ties : (x : A) → same (name x) word ≡ true → (before word (name x) ≡ false) × (before (name x) word ≡ false)
@@ -79,22 +82,33 @@ module _ {A : Type 0} (name : A → Bytes) (word : Bytes) where
   }
 
   -- halving gave a place, and the name of the item there was read
-  module _ (xs : List A) (at : ℕ) (bound : at ≤ length xs) (parts : IsPartitionPoint (λ a. before (name a) word ≡ true) (λ a. before (name a) word ≡ false) xs at) (x : A) (within : at < length xs) (is : x ≡ get_or xs at x) where
+  module _ (xs : List A) (at : ℕ) (bound : at ≤ length xs)
+      (parts : IsPartitionPoint (λ a. before (name a) word ≡ true) (λ a. before (name a) word ≡ false) xs at) (x : A) (within : at < length xs)
+      (is : x ≡ get_or xs at x) where
     pub named_held : same (name x) word ≡ true → IsHeld (λ a. before (name a) word) (λ a. before word (name a)) xs at
     named_held e = held_there (λ a. before (name a) word) (λ a. before word (name a)) xs at bound parts x within is (name_ties x e).0
 
     pub named_free : same (name x) word ≡ false → IsFree (λ a. before (name a) word) (λ a. before word (name a)) xs at
-    named_free e = free_there (λ a. before (name a) word) (λ a. before word (name a)) xs at bound parts x within is (λ f. behind_others (name x) word f e)
+    named_free e = free_there (λ a. before (name a) word) (λ a. before word (name a)) xs at bound parts x within is
+        (λ f. behind_others (name x) word f e)
 
   -- the item of this name at the place that was found, and what is left without it
-  pub name_found : (xs : List A) (at : ℕ) (x : A) → IsHeld (λ a. before (name a) word) (λ a. before word (name a)) xs at → slice_get xs at ≡ Some x → find (λ a. same (name a) word) xs ≡ Some x
-  name_found = found_held (λ a b. before (name a) (name b)) (λ a. before (name a) word) (λ a. before word (name a)) (λ a. same (name a) word) name_sought
+  pub name_found : (xs : List A) (at : ℕ) (x : A) → IsHeld (λ a. before (name a) word) (λ a. before word (name a)) xs at → slice_get xs at ≡ Some x
+      → find (λ a. same (name a) word) xs ≡ Some x
+  name_found = found_held (λ a b. before (name a) (name b)) (λ a. before (name a) word) (λ a. before word (name a))
+      (λ a. same (name a) word) name_sought
 
-  pub name_missing : (xs : List A) (at : ℕ) → ascends (λ a b. before (name a) (name b)) xs ≡ true → IsFree (λ a. before (name a) word) (λ a. before word (name a)) xs at → find (λ a. same (name a) word) xs ≡ None
-  name_missing = found_free (λ a b. before (name a) (name b)) (λ a. before (name a) word) (λ a. before word (name a)) (λ a. same (name a) word) name_sought
+  pub name_missing : (xs : List A) (at : ℕ) → ascends (λ a b. before (name a) (name b)) xs ≡ true
+      → IsFree (λ a. before (name a) word) (λ a. before word (name a)) xs at → find (λ a. same (name a) word) xs ≡ None
+  name_missing = found_free (λ a b. before (name a) (name b)) (λ a. before (name a) word) (λ a. before word (name a))
+      (λ a. same (name a) word) name_sought
 
-  pub name_left : (xs : List A) (at : ℕ) → ascends (λ a b. before (name a) (name b)) xs ≡ true → IsHeld (λ a. before (name a) word) (λ a. before word (name a)) xs at → filter (λ a. not (same (name a) word)) xs ≡ remove xs at
-  name_left = left_held (λ a b. before (name a) (name b)) (λ a. before (name a) word) (λ a. before word (name a)) (λ a. same (name a) word) name_sought
+  pub name_left : (xs : List A) (at : ℕ) → ascends (λ a b. before (name a) (name b)) xs ≡ true
+      → IsHeld (λ a. before (name a) word) (λ a. before word (name a)) xs at → filter (λ a. not (same (name a) word)) xs ≡ remove xs at
+  name_left = left_held (λ a b. before (name a) (name b)) (λ a. before (name a) word) (λ a. before word (name a))
+      (λ a. same (name a) word) name_sought
 
-  pub all_names_left : (xs : List A) (at : ℕ) → ascends (λ a b. before (name a) (name b)) xs ≡ true → IsFree (λ a. before (name a) word) (λ a. before word (name a)) xs at → filter (λ a. not (same (name a) word)) xs ≡ xs
-  all_names_left = left_free (λ a b. before (name a) (name b)) (λ a. before (name a) word) (λ a. before word (name a)) (λ a. same (name a) word) name_sought
+  pub all_names_left : (xs : List A) (at : ℕ) → ascends (λ a b. before (name a) (name b)) xs ≡ true
+      → IsFree (λ a. before (name a) word) (λ a. before word (name a)) xs at → filter (λ a. not (same (name a) word)) xs ≡ xs
+  all_names_left = left_free (λ a b. before (name a) (name b)) (λ a. before (name a) word) (λ a. before word (name a))
+      (λ a. same (name a) word) name_sought

@@ -1,5 +1,6 @@
 -- The place of what is sought in an ascending list: found by halving, what stands there, and what is left without it.
-use Rattle.std.proofs.Common.{◌≡◌, ◌<◌, ◌≤◌, ℕ, zero, suc, Bool, true, false, not, refl, sym, ap, subst, List, [], ◌∷◌, length, take, drop, get_or, arith}
+use Rattle.std.proofs.Common.{◌≡◌, ◌<◌, ◌≤◌, ℕ, zero, suc, Bool, true, false, not, refl, sym, ap, subst, List, [], ◌∷◌, length, take, drop, get_or}
+use Rattle.std.proofs.Common.{arith}
 use Rattle.std.specs.Prelude.{Option, Some, None, filter, find, IfSome}
 use Rattle.std.specs.List.{list_all, slice_get, remove}
 use Rattle.std.specs.List.Sorted.{IsPartitionedBy, IsPartitionPoint}
@@ -7,18 +8,21 @@ use Rattle.ordered_lists.specs.Lists.{ascends, IsHeld, IsFree}
 use Rattle.ordered_lists.specs.Reading.{both_of, all_get, filter-all, filter-none, all-weaker, front_all, stands_at, past_end}
 
 -- a test that what stands before passes too splits an ascending list
-pub partitioned_by : {A : Type 0} (lt : A → A → Bool) (q : A → Bool) → ((x y : A) → lt x y ≡ true → q y ≡ true → q x ≡ true) → (xs : List A) → ascends lt xs ≡ true → IsPartitionedBy q xs
+pub partitioned_by : {A : Type 0} (lt : A → A → Bool) (q : A → Bool) → ((x y : A) → lt x y ≡ true → q y ≡ true → q x ≡ true) → (xs : List A)
+    → ascends lt xs ≡ true → IsPartitionedBy q xs
 partitioned_by lt q down [] asc i j d le within h = absurd (omega arith)
 partitioned_by lt q down (x ∷ xs) asc zero zero d le within h = h
 partitioned_by lt q down (x ∷ xs) asc zero (suc j) d le within h =
     let above = (both_of (list_all (lt x) xs) (ascends lt xs) asc).0 in
     down x (get_or xs j d) (all_get (lt x) xs j d (omega arith) above) h
 partitioned_by lt q down (x ∷ xs) asc (suc i) zero d le within h = absurd (omega arith)
-partitioned_by lt q down (x ∷ xs) asc (suc i) (suc j) d le within h = partitioned_by lt q down xs (both_of (list_all (lt x) xs) (ascends lt xs) asc).1 i j d (omega arith) (omega arith) h
+partitioned_by lt q down (x ∷ xs) asc (suc i) (suc j) d le within h =
+    partitioned_by lt q down xs (both_of (list_all (lt x) xs) (ascends lt xs) asc).1 i j d (omega arith) (omega arith) h
 
 -- a list that is split so: those that pass the test are in front of the place, and the others behind it
 
-back_all : {A : Type 0} (q : A → Bool) (xs : List A) (at : ℕ) → ((k : ℕ) (d : A) → at ≤ k → k < length xs → q (get_or xs k d) ≡ false) → list_all (λ x. not (q x)) (drop at xs) ≡ true
+back_all : {A : Type 0} (q : A → Bool) (xs : List A) (at : ℕ) → ((k : ℕ) (d : A) → at ≤ k → k < length xs → q (get_or xs k d) ≡ false)
+    → list_all (λ x. not (q x)) (drop at xs) ≡ true
 back_all q [] zero f = refl
 back_all q [] (suc at) f = refl
 back_all q (x ∷ xs) zero f =
@@ -27,7 +31,8 @@ back_all q (x ∷ xs) zero f =
     rw (here, rest) refl
 back_all q (x ∷ xs) (suc at) f = back_all q xs at (λ k d lo hi. f (suc k) d (omega arith) (omega arith))
 
-rest_is : {A : Type 0} (q : A → Bool) (xs : List A) (at : ℕ) → list_all q (take at xs) ≡ true → list_all (λ x. not (q x)) (drop at xs) ≡ true → drop at xs ≡ filter (λ x. not (q x)) xs
+rest_is : {A : Type 0} (q : A → Bool) (xs : List A) (at : ℕ) → list_all q (take at xs) ≡ true → list_all (λ x. not (q x)) (drop at xs) ≡ true
+    → drop at xs ≡ filter (λ x. not (q x)) xs
 rest_is q [] zero front back = refl
 rest_is q [] (suc at) front back = refl
 rest_is q (x ∷ xs) zero front back = sym (filter-all (λ y. not (q y)) (x ∷ xs) back)
@@ -35,7 +40,8 @@ rest_is q (x ∷ xs) (suc at) front back =
     let p = both_of (q x) (list_all q (take at xs)) front in
     rw p.0 (rest_is q xs at p.1 back)
 
-front_is : {A : Type 0} (q : A → Bool) (xs : List A) (at : ℕ) → list_all q (take at xs) ≡ true → list_all (λ x. not (q x)) (drop at xs) ≡ true → take at xs ≡ filter q xs
+front_is : {A : Type 0} (q : A → Bool) (xs : List A) (at : ℕ) → list_all q (take at xs) ≡ true → list_all (λ x. not (q x)) (drop at xs) ≡ true
+    → take at xs ≡ filter q xs
 front_is q [] zero front back = refl
 front_is q [] (suc at) front back = refl
 front_is q (x ∷ xs) zero front back = sym (filter-none q (x ∷ xs) back)
@@ -43,7 +49,8 @@ front_is q (x ∷ xs) (suc at) front back =
     let p = both_of (q x) (list_all q (take at xs)) front in
     rw p.0 (ap (λ l. x ∷ l) (front_is q xs at p.1 back))
 
-module _ {A : Type 0} (q : A → Bool) (xs : List A) (at : ℕ) (bound : at ≤ length xs) (parts : IsPartitionPoint (λ x. q x ≡ true) (λ x. q x ≡ false) xs at) where
+module _ {A : Type 0} (q : A → Bool) (xs : List A) (at : ℕ) (bound : at ≤ length xs)
+    (parts : IsPartitionPoint (λ x. q x ≡ true) (λ x. q x ≡ false) xs at) where
   pub split_front : take at xs ≡ filter q xs
   split_front = front_is q xs at (front_all q xs at bound parts.0) (back_all q xs at parts.1)
 
@@ -51,7 +58,8 @@ module _ {A : Type 0} (q : A → Bool) (xs : List A) (at : ℕ) (bound : at ≤ 
   split_back = rest_is q xs at (front_all q xs at bound parts.0) (back_all q xs at parts.1)
 
 -- the place of the one sought, where halving split the list by what stands before it
-module _ {A : Type 0} (in_front is_behind : A → Bool) (xs : List A) (at : ℕ) (bound : at ≤ length xs) (parts : IsPartitionPoint (λ x. in_front x ≡ true) (λ x. in_front x ≡ false) xs at) where
+module _ {A : Type 0} (in_front is_behind : A
+    → Bool) (xs : List A) (at : ℕ) (bound : at ≤ length xs) (parts : IsPartitionPoint (λ x. in_front x ≡ true) (λ x. in_front x ≡ false) xs at) where
   pub free_at_end : at ≡ length xs → IsFree in_front is_behind xs at
   free_at_end end = record {
     front = front_all in_front xs at bound parts.0;
@@ -108,7 +116,8 @@ module _ {A : Type 0} (lt : A → A → Bool) (in_front is_behind is_it : A → 
       let t = subst (λ (p : Option A). IfSome p (λ y. (is_behind y ≡ false) × (in_front y ≡ false))) is h.tie in
       o.tied x t.0 t.1
 
-  found_in : (xs : List A) (at : ℕ) (x : A) → slice_get xs at ≡ Some x → list_all in_front (take at xs) ≡ true → is_it x ≡ true → find is_it xs ≡ Some x
+  found_in : (xs : List A) (at : ℕ) (x : A) → slice_get xs at ≡ Some x → list_all in_front (take at xs) ≡ true → is_it x ≡ true
+      → find is_it xs ≡ Some x
   found_in [] at x is front e = absurd (cc)
   found_in (y ∷ xs) zero x is front e =
       let s : y ≡ x = cc in
@@ -121,7 +130,8 @@ module _ {A : Type 0} (lt : A → A → Bool) (in_front is_behind is_it : A → 
   pub found_held : (xs : List A) (at : ℕ) (x : A) → IsHeld in_front is_behind xs at → slice_get xs at ≡ Some x → find is_it xs ≡ Some x
   found_held xs at x h is = found_in xs at x is h.front (it_there xs at x h is)
 
-  none_in : (xs : List A) (at : ℕ) → ascends lt xs ≡ true → list_all in_front (take at xs) ≡ true → IfSome (slice_get xs at) (λ x. is_behind x ≡ true) → find is_it xs ≡ None
+  none_in : (xs : List A) (at : ℕ) → ascends lt xs ≡ true → list_all in_front (take at xs) ≡ true → IfSome (slice_get xs at) (λ x. is_behind x ≡ true)
+      → find is_it xs ≡ None
   none_in [] at asc front next = refl
   none_in (y ∷ xs) zero asc front next =
       let p = both_of (list_all (lt y) xs) (ascends lt xs) asc in
@@ -134,7 +144,8 @@ module _ {A : Type 0} (lt : A → A → Bool) (in_front is_behind is_it : A → 
   pub found_free : (xs : List A) (at : ℕ) → ascends lt xs ≡ true → IsFree in_front is_behind xs at → find is_it xs ≡ None
   found_free xs at asc f = none_in xs at asc f.front f.behind
 
-  left_in : (xs : List A) (at : ℕ) → ascends lt xs ≡ true → list_all in_front (take at xs) ≡ true → at < length xs → IfSome (slice_get xs at) (λ x. (is_behind x ≡ false) × (in_front x ≡ false))
+  left_in : (xs : List A) (at : ℕ) → ascends lt xs ≡ true → list_all in_front (take at xs) ≡ true → at < length xs
+      → IfSome (slice_get xs at) (λ x. (is_behind x ≡ false) × (in_front x ≡ false))
       → filter (λ x. not (is_it x)) xs ≡ remove xs at
   left_in [] at asc front within tie = absurd (omega arith)
   left_in (y ∷ xs) zero asc front within tie =
@@ -150,7 +161,8 @@ module _ {A : Type 0} (lt : A → A → Bool) (in_front is_behind is_it : A → 
   pub left_held : (xs : List A) (at : ℕ) → ascends lt xs ≡ true → IsHeld in_front is_behind xs at → filter (λ x. not (is_it x)) xs ≡ remove xs at
   left_held xs at asc h = left_in xs at asc h.front h.within h.tie
 
-  all_left : (xs : List A) (at : ℕ) → ascends lt xs ≡ true → list_all in_front (take at xs) ≡ true → IfSome (slice_get xs at) (λ x. is_behind x ≡ true) → filter (λ x. not (is_it x)) xs ≡ xs
+  all_left : (xs : List A) (at : ℕ) → ascends lt xs ≡ true → list_all in_front (take at xs) ≡ true
+      → IfSome (slice_get xs at) (λ x. is_behind x ≡ true) → filter (λ x. not (is_it x)) xs ≡ xs
   all_left [] at asc front next = refl
   all_left (y ∷ xs) zero asc front next =
       let p = both_of (list_all (lt y) xs) (ascends lt xs) asc in

@@ -1,5 +1,6 @@
 -- Reading lists at places, tests of all their items, and the items that pass one.
-use Rattle.std.proofs.Common.{◌≡◌, ◌<◌, ◌≤◌, ◌+◌, ℕ, zero, suc, Bool, true, false, not, refl, sym, ◌∙◌, ap, subst, List, [], ◌∷◌, ◌++◌, length, take, get_or, add-one, arith}
+use Rattle.std.proofs.Common.{◌≡◌, ◌<◌, ◌≤◌, ◌+◌, ℕ, zero, suc, Bool, true, false, not, refl, sym, ◌∙◌, ap, subst, List, [], ◌∷◌, ◌++◌, length, take}
+use Rattle.std.proofs.Common.{get_or, arith}
 use Rattle.std.specs.Prelude.{Some, Result, Ok, Err, filter, IfSome, OnOk, OnErr, ◌&&◌, if◌then◌else◌}
 use Rattle.std.specs.List.{list_all, AllByRecursion, slice_get, slice_set, insert, remove}
 
@@ -16,7 +17,8 @@ all_at q [] i x is all = absurd (cc)
 all_at q (y ∷ xs) zero x is all = let s : y ≡ x = cc in subst (λ z. q z ≡ true) s (both_of (q y) (list_all q xs) all).0
 all_at q (y ∷ xs) (suc i) x is all = all_at q xs i x is (both_of (q y) (list_all q xs) all).1
 
-pub front_all : {A : Type 0} (q : A → Bool) (xs : List A) (at : ℕ) → at ≤ length xs → ((k : ℕ) (d : A) → 0 ≤ k → k < at → q (get_or xs k d) ≡ true) → list_all q (take at xs) ≡ true
+pub front_all : {A : Type 0} (q : A → Bool) (xs : List A) (at : ℕ) → at ≤ length xs → ((k : ℕ) (d : A) → 0 ≤ k → k < at → q (get_or xs k d) ≡ true)
+    → list_all q (take at xs) ≡ true
 front_all q [] zero le f = refl
 front_all q [] (suc at) le f = refl
 front_all q (x ∷ xs) zero le f = refl
@@ -40,17 +42,12 @@ pub past_end : {A : Type 0} (xs : List A) (P : A → Type 0) → IfSome (slice_g
 past_end [] P = tt
 past_end (x ∷ xs) P = past_end xs P
 
-all_more : {A : Type 0} (p : A → Bool) (xs : List A) (i : ℕ) (x : A) → i < length xs → x ≡ get_or xs i x → list_all p (take i xs) ≡ true → p x ≡ true → list_all p (take (suc i) xs) ≡ true
+all_more : {A : Type 0} (p : A → Bool) (xs : List A) (i : ℕ) (x : A) → i < length xs → x ≡ get_or xs i x → list_all p (take i xs) ≡ true → p x ≡ true
+    → list_all p (take (suc i) xs) ≡ true
 all_more p [] i x within is all here = absurd (omega arith)
 all_more p (y ∷ xs) zero x within is all here = let e : p y ≡ true = subst (λ z. p z ≡ true) is here in grind arith
-all_more p (y ∷ xs) (suc i) x within is all here = let ih : list_all p (take i xs) ≡ true → list_all p (take (suc i) xs) ≡ true = λ more. all_more p xs i x (omega arith) is more here in grind arith
-
--- what is tested of each item so far, and of the next, is true of one more
-pub all_next : {A : Type 0} (p : A → Bool) (xs : List A) (i : ℕ) (x : A) → i < length xs → x ≡ get_or xs i x → list_all p (take i xs) ≡ true → p x ≡ true → list_all p (take (i + 1) xs) ≡ true
-all_next p xs i x within is all here = rw add-one (all_more p xs i x within is all here)
-
-pub if_stands : {A : Type 0} (xs : List A) (i : ℕ) (x : A) (P : A → Type 0) → i < length xs → x ≡ get_or xs i x → P x → IfSome (slice_get xs i) P
-if_stands xs i x P within is here = subst (λ o. IfSome o P) (sym (stands_at xs i x within is)) here
+all_more p (y ∷ xs) (suc i) x within is all here = let ih : list_all p (take i xs) ≡ true
+    → list_all p (take (suc i) xs) ≡ true = λ more. all_more p xs i x (omega arith) is more here in grind arith
 
 pub filter-all : {A : Type 0} (q : A → Bool) (xs : List A) → list_all q xs ≡ true → filter q xs ≡ xs
 filter-all q [] all = refl
@@ -126,27 +123,33 @@ pub filter-insert : {A : Type 0} (q : A → Bool) (xs : List A) (p : ℕ) (x : A
 filter-insert q [] zero x all fails = rw fails refl
 filter-insert q [] (suc p) x all fails = rw fails refl
 filter-insert q (y ∷ ys) zero x all fails = let e = filter-all q ys in grind arith
-filter-insert q (y ∷ ys) (suc p) x all fails = let ih : list_all q ys ≡ true → filter q (insert ys p x) ≡ ys = λ more. filter-insert q ys p x more fails in grind arith
+filter-insert q (y ∷ ys) (suc p) x all fails = let ih : list_all q ys ≡ true
+    → filter q (insert ys p x) ≡ ys = λ more. filter-insert q ys p x more fails in grind arith
 
 -- one that takes the place of another takes it away
-pub filter-set : {A : Type 0} (q : A → Bool) (xs : List A) (p : ℕ) (x : A) → list_all q xs ≡ true → q x ≡ false → p < length xs → filter q (slice_set xs p x) ≡ remove xs p
+pub filter-set : {A : Type 0} (q : A → Bool) (xs : List A) (p : ℕ) (x : A) → list_all q xs ≡ true → q x ≡ false → p < length xs
+    → filter q (slice_set xs p x) ≡ remove xs p
 filter-set q [] p x all fails within = absurd (omega arith)
 filter-set q (y ∷ ys) zero x all fails within = let e = filter-all q ys in grind arith
-filter-set q (y ∷ ys) (suc p) x all fails within = let ih : list_all q ys ≡ true → filter q (slice_set ys p x) ≡ remove ys p = λ more. filter-set q ys p x more fails (omega arith) in grind arith
+filter-set q (y ∷ ys) (suc p) x all fails within = let ih : list_all q ys ≡ true
+    → filter q (slice_set ys p x) ≡ remove ys p = λ more. filter-set q ys p x more fails (omega arith) in grind arith
 
 pub all-insert : {A : Type 0} (q : A → Bool) (xs : List A) (p : ℕ) (x : A) → list_all q xs ≡ true → q x ≡ true → list_all q (insert xs p x) ≡ true
 all-insert q [] zero x all holds = rw holds refl
 all-insert q [] (suc p) x all holds = rw holds refl
 all-insert q (y ∷ ys) zero x all holds = grind arith
-all-insert q (y ∷ ys) (suc p) x all holds = let ih : list_all q ys ≡ true → list_all q (insert ys p x) ≡ true = λ more. all-insert q ys p x more holds in grind arith
+all-insert q (y ∷ ys) (suc p) x all holds = let ih : list_all q ys ≡ true
+    → list_all q (insert ys p x) ≡ true = λ more. all-insert q ys p x more holds in grind arith
 
 pub all-set : {A : Type 0} (q : A → Bool) (xs : List A) (p : ℕ) (x : A) → list_all q xs ≡ true → q x ≡ true → list_all q (slice_set xs p x) ≡ true
 all-set q [] p x all holds = refl
 all-set q (y ∷ ys) zero x all holds = grind arith
-all-set q (y ∷ ys) (suc p) x all holds = let ih : list_all q ys ≡ true → list_all q (slice_set ys p x) ≡ true = λ more. all-set q ys p x more holds in grind arith
+all-set q (y ∷ ys) (suc p) x all holds = let ih : list_all q ys ≡ true
+    → list_all q (slice_set ys p x) ≡ true = λ more. all-set q ys p x more holds in grind arith
 
 -- what holds of the list with the change and of the list before it holds after a call that does one or the other
-pub either_way : {A T E : Type 0} (r : Result T E) (xs changed kept : List A) (Q : List A → Type 0) → OnOk r (xs ≡ changed) → OnErr r (xs ≡ kept) → Q changed → Q kept → Q xs
+pub either_way : {A T E : Type 0} (r : Result T E) (xs changed kept : List A) (Q : List A → Type 0) → OnOk r (xs ≡ changed) → OnErr r (xs ≡ kept)
+    → Q changed → Q kept → Q xs
 either_way (Ok v) xs changed kept Q ok err a b = subst Q (sym ok) a
 either_way (Err e) xs changed kept Q ok err a b = subst Q (sym err) b
 

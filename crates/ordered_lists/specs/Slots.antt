@@ -39,7 +39,8 @@ pub differs : (a b : ℕ) → are_other a b ≡ true → b ≢ a
 differs a b e = λ s. absurd (grind (arith, nat_tests))
 
 -- one that is none of them may go among them
-pub apart_insert : (slots : List ℕ) (at slot : ℕ) → ascends are_other slots ≡ true → list_all (are_other slot) slots ≡ true → ascends are_other (insert slots at slot) ≡ true
+pub apart_insert : (slots : List ℕ) (at slot : ℕ) → ascends are_other slots ≡ true → list_all (are_other slot) slots ≡ true
+    → ascends are_other (insert slots at slot) ≡ true
 apart_insert [] zero slot apart other = refl
 apart_insert [] (suc at) slot apart other = refl
 apart_insert (s ∷ slots) zero slot apart other = rw other apart
@@ -49,7 +50,8 @@ apart_insert (s ∷ slots) (suc at) slot apart other =
     rw (all-insert (are_other s) slots at slot p.0 (turned slot s q.0), apart_insert slots at slot p.1 q.1) refl
 
 -- the one at a place is none of the others
-pub others_apart : (slots : List ℕ) (at slot : ℕ) → slice_get slots at ≡ Some slot → ascends are_other slots ≡ true → list_all (are_other slot) (remove slots at) ≡ true
+pub others_apart : (slots : List ℕ) (at slot : ℕ) → slice_get slots at ≡ Some slot → ascends are_other slots ≡ true
+    → list_all (are_other slot) (remove slots at) ≡ true
 others_apart [] zero slot is apart = absurd (cc)
 others_apart [] (suc at) slot is apart = absurd (cc)
 others_apart (s ∷ slots) zero slot is apart =
@@ -78,14 +80,16 @@ module _ {A : Type 0} where
   as_many f slots xs e = sym (length-map slots f) ∙ ap length e ∙ length-map xs Some
 
   -- what the slot at a place has
-  pub stored_at : (f : ℕ → Option A) (slots : List ℕ) (xs : List A) (at slot : ℕ) → Stores f slots xs → slice_get slots at ≡ Some slot → f slot ≡ slice_get xs at
+  pub stored_at : (f : ℕ → Option A) (slots : List ℕ) (xs : List A) (at slot : ℕ) → Stores f slots xs → slice_get slots at ≡ Some slot
+      → f slot ≡ slice_get xs at
   stored_at f [] xs zero slot e is = absurd (cc)
   stored_at f [] xs (suc at) slot e is = absurd (cc)
   stored_at f (s ∷ slots) [] at slot e is = absurd (cc)
   stored_at f (s ∷ slots) (x ∷ xs) zero slot e is = let it : s ≡ slot = cc in let here : f s ≡ Some x = cc in ap f (sym it) ∙ here
   stored_at f (s ∷ slots) (x ∷ xs) (suc at) slot e is = let rest : Stores f slots xs = cc in stored_at f slots xs at slot rest is
 
-  pub stored_or : (f : ℕ → Option A) (slots : List ℕ) (xs : List A) (at d : ℕ) (x : A) → Stores f slots xs → at < length slots → f (get_or slots at d) ≡ Some (get_or xs at x)
+  pub stored_or : (f : ℕ → Option A) (slots : List ℕ) (xs : List A) (at d : ℕ) (x : A) → Stores f slots xs → at < length slots
+      → f (get_or slots at d) ≡ Some (get_or xs at x)
   stored_or f [] xs at d x e lt = absurd (omega arith)
   stored_or f (s ∷ slots) [] at d x e lt = absurd (cc)
   stored_or f (s ∷ slots) (y ∷ xs) zero d x e lt = let here : f s ≡ Some y = cc in here
@@ -102,7 +106,8 @@ module _ {A : Type 0} where
       subst (λ (n : ℕ). IsSome (f n)) (get_or_from_slice_get slots at slot 0 is) (has_one f slots xs at 0 e (slice_get_within slots at slot is))
 
   -- a slot without an item is none of these
-  pub free_slot : (f : ℕ → Option A) (slot : ℕ) (slots : List ℕ) (xs : List A) → f slot ≡ None → Stores f slots xs → list_all (are_other slot) slots ≡ true
+  pub free_slot : (f : ℕ → Option A) (slot : ℕ) (slots : List ℕ) (xs : List A) → f slot ≡ None → Stores f slots xs
+      → list_all (are_other slot) slots ≡ true
   free_slot f slot [] xs none e = refl
   free_slot f slot (s ∷ slots) [] none e = absurd (cc)
   free_slot f slot (s ∷ slots) (x ∷ xs) none e =
@@ -126,22 +131,27 @@ module _ {A : Type 0} (f g : ℕ → Option A) (slot : ℕ) (others : (other : �
       let p = both_of (are_other slot s) (list_all (are_other slot) slots) all in
       rw (others s (differs slot s p.0)) (ap (λ (l : List (Option A)). f s ∷ l) (same_stored slots p.1))
 
-  pub stored_insert : (slots : List ℕ) (xs : List A) (at : ℕ) (x : A) → Stores f slots xs → list_all (are_other slot) slots ≡ true → g slot ≡ Some x → Stores g (insert slots at slot) (insert xs at x)
+  pub stored_insert : (slots : List ℕ) (xs : List A) (at : ℕ) (x : A) → Stores f slots xs → list_all (are_other slot) slots ≡ true → g slot ≡ Some x
+      → Stores g (insert slots at slot) (insert xs at x)
   stored_insert slots xs at x e other new =
-      map_insert g slots at slot ∙ ap (λ (l : List (Option A)). insert l at (g slot)) (same_stored slots other ∙ e) ∙ ap (insert (map Some xs) at) new ∙ sym (map_insert Some xs at x)
+      map_insert g slots at slot ∙ ap (λ (l : List (Option A)). insert l at (g slot)) (same_stored slots other ∙ e) ∙ ap (insert (map Some xs) at) new
+      ∙ sym (map_insert Some xs at x)
 
-  pub stored_remove : (slots : List ℕ) (xs : List A) (at : ℕ) → Stores f slots xs → list_all (are_other slot) (remove slots at) ≡ true → Stores g (remove slots at) (remove xs at)
+  pub stored_remove : (slots : List ℕ) (xs : List A) (at : ℕ) → Stores f slots xs → list_all (are_other slot) (remove slots at) ≡ true
+      → Stores g (remove slots at) (remove xs at)
   stored_remove slots xs at e other =
       same_stored (remove slots at) other ∙ map_remove f slots at ∙ ap (λ (l : List (Option A)). remove l at) e ∙ sym (map_remove Some xs at)
 
-  pub stored_set : (slots : List ℕ) (xs : List A) (at : ℕ) (x : A) → Stores f slots xs → ascends are_other slots ≡ true → slice_get slots at ≡ Some slot → g slot ≡ Some x → Stores g slots (slice_set xs at x)
+  pub stored_set : (slots : List ℕ) (xs : List A) (at : ℕ) (x : A) → Stores f slots xs → ascends are_other slots ≡ true
+      → slice_get slots at ≡ Some slot → g slot ≡ Some x → Stores g slots (slice_set xs at x)
   stored_set [] xs zero x e apart is new = absurd (cc)
   stored_set [] xs (suc at) x e apart is new = absurd (cc)
   stored_set (s ∷ slots) [] at x e apart is new = absurd (cc)
   stored_set (s ∷ slots) (y ∷ xs) zero x e apart is new =
       let it : s ≡ slot = cc in
       let rest : Stores f slots xs = cc in
-      let other = subst (λ (n : ℕ). list_all (are_other n) slots ≡ true) it (both_of (list_all (are_other s) slots) (ascends are_other slots) apart).0 in
+      let other = subst (λ (n : ℕ). list_all (are_other n) slots ≡ true) it
+      (both_of (list_all (are_other s) slots) (ascends are_other slots) apart).0 in
       let here : g s ≡ Some x = ap g it ∙ new in
       rw here (ap (λ (l : List (Option A)). Some x ∷ l) (same_stored slots other ∙ rest))
   stored_set (s ∷ slots) (y ∷ xs) (suc at) x e apart is new =

@@ -11,8 +11,6 @@ pub fn insert_at<T: Drop>(list: &mut Vec<T>, at: usize, item: T) -> Result<(), N
     ensures ok { OnOk result (list.new.items ≡ insert list.old.items at item) }
     ensures err { OnErr result (list.new.items ≡ list.old.items) }
 {
-    match list.insert(at, item) {
-        Ok(()) => Ok(()),
-        Err(_) => Err(NoMemory),
-    }
+    list.insert(at, item)?;
+    Ok(())
 }

@@ -1,6 +1,6 @@
 -- How a count rises, and what a failure shows. A count stops at the greatest u64: there "rose" is read as "or
 -- stands there".
-use Rattle.std.specs.Prelude.{◌≡◌, ◌⊎◌, ℕ, ◌+◌, ◌-◌, ◌^◌, ◌≤◌, ◌<◌, min, OnErr, Result}
+use Rattle.std.specs.Prelude.{◌≡◌, ℕ, ◌+◌, ◌-◌, ◌^◌, ◌≤◌, ◌<◌, min, OnErr, Result}
 
 -- where a count stops
 abbrev pub most_count : ℕ
@@ -17,14 +17,6 @@ Rose before now = min (before + 1) most_count ≤ now
 -- the count did not rise, and does not stand at its end
 abbrev pub Stood : ℕ → ℕ → Type 0
 Stood before now = (now ≡ before) × (now < most_count)
-
--- the count rose by n, or came to its end on the way
-abbrev pub RoseBy : ℕ → ℕ → ℕ → Type 0
-RoseBy before n now = now ≡ min (before + n) most_count
-
--- the count rose by n or more, or stands at its end: n is at most what it rose by
-abbrev pub AtMostRose : ℕ → ℕ → ℕ → Type 0
-AtMostRose before n now = (before + n ≤ now) ⊎ (now ≡ most_count)
 
 -- the count has not fallen, and where the call failed it rose
 pub record HasCause {T E : Type 0} (before now : ℕ) (result : Result T E) : Type 0 where

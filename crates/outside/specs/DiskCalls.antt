@@ -1,6 +1,7 @@
 -- The calls that a disk in memory remembers: what it reads as after them, and what a crash may leave. A list of
 -- calls has the newest first where nothing else is said.
-use Rattle.std.specs.Prelude.{◌≡◌, ◌-◌, ◌/◌, ◌%◌, ◌≤◌, ℕ, Bool, true, false, not, List, [], ◌∷◌, length, take, drop, max, replicate, if◌then◌else◌, ◌==◌}
+use Rattle.std.specs.Prelude.{◌≡◌, ◌-◌, ◌/◌, ◌%◌, ◌≤◌, ℕ, Bool, true, false, not, List, [], ◌∷◌, length, take, drop, max, replicate, if◌then◌else◌}
+use Rattle.std.specs.Prelude.{◌==◌}
 use Rattle.std.specs.List.{list_any}
 use Rattle.outside.specs.declared.sides.Side.{Side}
 use Rattle.outside.specs.declared.sides.Side.TheVariants.{A, B}
@@ -98,4 +99,5 @@ done_by digit call s = if digit == 0 then s else if digit == 1 then done call s 
 -- open ones among them
 abbrev pub chosen : Sides → List Call → ℕ → Sides
 chosen s [] choice = s
-chosen s (call ∷ later) choice = if is_open call later then chosen (done_by (choice % 3) call s) later (choice / 3) else chosen (done call s) later choice
+chosen s (call ∷ later) choice = if is_open call later then chosen (done_by (choice % 3) call s) later (choice / 3) else
+    chosen (done call s) later choice

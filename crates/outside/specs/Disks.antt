@@ -25,7 +25,8 @@ Follows step old new = (c : Sides) → new c → (d : Sides) × old d × step d 
 
 -- Time goes on: what a crash since an earlier moment may have left by now, it might have left before, or it may
 -- leave it now; and what might have been left before is not forgotten. Whether crashes are told stays.
-pub record Elapses {D : Type 0} (crashes : D → Bool) (images : D → Sides → Type 0) (moment : D → ℕ) (left_since : D → ℕ → Sides → Type 0) (old new : D) : Type 0 where
+pub record Elapses {D : Type 0} (crashes : D → Bool) (images : D → Sides → Type 0) (moment : D → ℕ) (left_since : D → ℕ → Sides
+    → Type 0) (old new : D) : Type 0 where
   pub told : crashes new ≡ crashes old
   pub later : moment old ≤ moment new
   pub nothing_else : (t : ℕ) (c : Sides) → t ≤ moment old → left_since new t c → left_since old t c ⊎ images new c

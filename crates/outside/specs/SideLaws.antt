@@ -6,7 +6,8 @@ use Rattle.outside.specs.declared.sides.Side.TheVariants.{A, B}
 use Rattle.outside.specs.Sides.{Sides, side_of, with_side, other_side, On}
 
 -- a step on one side to bytes that it may lead to
-pub on_with : (side : Side) (P : List ℕ → List ℕ → Type 0) (s : Sides) (bytes : List ℕ) → P (side_of s side) bytes → On side P s (with_side s side bytes)
+pub on_with : (side : Side) (P : List ℕ → List ℕ → Type 0) (s : Sides) (bytes : List ℕ) → P (side_of s side) bytes
+    → On side P s (with_side s side bytes)
 on_with A P s bytes how = record { changed = refl; how = how }
 on_with B P s bytes how = record { changed = refl; how = how }
 
@@ -19,7 +20,8 @@ pub on_same : (side : Side) (P : List ℕ → List ℕ → Type 0) → ((xs : Li
 on_same side P same s t e = subst (λ (u : Sides). On side P s u) (sym e) (on_self side P same s)
 
 -- the other side stays
-pub on_keeps : (side : Side) (P : List ℕ → List ℕ → Type 0) (old new : Sides) → On side P old new → side_of new (other_side side) ≡ side_of old (other_side side)
+pub on_keeps : (side : Side) (P : List ℕ → List ℕ → Type 0) (old new : Sides) → On side P old new
+    → side_of new (other_side side) ≡ side_of old (other_side side)
 on_keeps A P old new step = ap (λ (s : Sides). s.b) step.changed
 on_keeps B P old new step = ap (λ (s : Sides). s.a) step.changed
 

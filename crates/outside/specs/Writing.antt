@@ -1,5 +1,6 @@
 -- Pieces that are written one behind another, where the contents are told.
-use Rattle.std.proofs.Common.{◌≡◌, ℕ, ◌-◌, List, [], ◌∷◌, ◌++◌, length, take, drop, Some, None, refl, sym, ap, ◌∙◌, subst, arith, length-drop, append_assoc, take-append-drop}
+use Rattle.std.proofs.Common.{◌≡◌, ℕ, ◌-◌, List, [], ◌++◌, length, take, drop, Some, None, sym, ap, ◌∙◌, arith, length-drop, append_assoc}
+use Rattle.std.proofs.Common.{take-append-drop}
 use Rattle.std.specs.Prelude.{Option}
 use Rattle.std.proofs.lemmas.List.{take_all, append-nil}
 use mathlib.Core.List.{IsPrefix}
@@ -31,22 +32,15 @@ pub record Written (held0 held : Option (List ℕ)) (piece rest : List ℕ) : Ty
   pub split : piece ≡ done ++ rest
   pub held_is : Appends held0 held done
 
-pub written_none : (held0 : Option (List ℕ)) (piece : List ℕ) → Written held0 held0 piece piece
-written_none held0 piece = record { done = []; split = refl; held_is = appends_nothing held0 }
-
-pub written_more : (held0 held held' : Option (List ℕ)) (piece rest : List ℕ) (n : ℕ) → Written held0 held piece rest → Appends held held' (take n rest) → Written held0 held' piece (take (length rest - n) (drop n rest))
+pub written_more : (held0 held held' : Option (List ℕ)) (piece rest : List ℕ) (n : ℕ) → Written held0 held piece rest
+    → Appends held held' (take n rest) → Written held0 held' piece (take (length rest - n) (drop n rest))
 written_more held0 held held' piece rest n w a = record {
   done = w.done ++ take n rest;
-  split = w.split ∙ ap (λ (l : List ℕ). w.done ++ l) (sym (take-append-drop n rest)) ∙ sym (append_assoc w.done (take n rest) (drop n rest)) ∙ ap (λ (l : List ℕ). (w.done ++ take n rest) ++ l) (sym (take_all (length rest - n) (drop n rest) (omega (arith, length-drop n rest))));
+  split = w.split ∙ ap (λ (l : List ℕ). w.done ++ l) (sym (take-append-drop n rest)) ∙ sym (append_assoc w.done (take n rest) (drop n rest))
+      ∙ ap (λ (l : List ℕ). (w.done ++ take n rest) ++ l) (sym (take_all (length rest - n) (drop n rest) (omega (arith, length-drop n rest))));
   held_is = appends_more held0 held held' w.done (take n rest) w.held_is a;
 }
 
-pub written_part : (held0 held held' : Option (List ℕ)) (piece rest : List ℕ) → Written held0 held piece rest → Keeps held held' → AppendsPart held0 held' piece
+pub written_part : (held0 held held' : Option (List ℕ)) (piece rest : List ℕ) → Written held0 held piece rest → Keeps held held'
+    → AppendsPart held0 held' piece
 written_part held0 held held' piece rest w k = (w.done, (rest, sym w.split), appends_kept held0 held held' w.done w.held_is k)
-
-nil_is : (line : List ℕ) → length line ≡ 0 → line ≡ []
-nil_is [] h = refl
-nil_is (x ∷ xs) h = absurd (omega (arith, h))
-
-pub written_all : (held0 held : Option (List ℕ)) (piece rest : List ℕ) → length rest ≡ 0 → Written held0 held piece rest → Appends held0 held piece
-written_all held0 held piece rest none w = subst (λ (l : List ℕ). Appends held0 held l) (sym (w.split ∙ ap (λ (l : List ℕ). w.done ++ l) (nil_is rest none) ∙ append-nil w.done)) w.held_is

@@ -1,4 +1,7 @@
 //! Bells: some ring and others wait for them.
+//!
+//! A bell promises nothing. That every session which a call changed is named, so that it can be rung for, is a clause
+//! of the core. No system call is made where nobody sleeps.
 
 use std::array;
 use std::sync::Wait;

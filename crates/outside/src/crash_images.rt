@@ -34,7 +34,8 @@ fn crash_by(
     later: &[Call],
     choice: u64,
 ) -> Result<u64, AllocError>
-    ensures { IfOk result (λ rest. chosen contents.new later.now rest ≡ chosen contents.old (call.now ∷ later.now) choice) }
+    ensures { IfOk result
+        (λ rest. chosen contents.new later.now rest ≡ chosen contents.old (call.now ∷ later.now) choice) }
 {
     if !call.is_open(later) {
         call.apply(contents)?;

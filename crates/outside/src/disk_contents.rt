@@ -1,6 +1,7 @@
 //! The bytes of a disk in memory.
 
-ghost use Rattle.std.specs.Prelude.{◌≡◌, ◌+◌, ◌-◌, ◌≤◌, ◌^◌, ◌++◌, length, take, drop, min, replicate, IfOk, OnOk, OnErr};
+ghost use Rattle.std.specs.Prelude.{◌≡◌, ◌+◌, ◌-◌, ◌≤◌, ◌^◌, ◌++◌, length, take, drop, min, replicate, IfOk, OnOk};
+ghost use Rattle.std.specs.Prelude.{OnErr};
 ghost use Rattle.outside.specs.Sides.{Sides, side_of, with_side, AreBytes};
 ghost use Rattle.outside.specs.Disks.{write_over};
 
@@ -63,7 +64,8 @@ impl Contents {
     }
 
     pub(crate) fn write_at(&mut self, side: Side, at: usize, piece: &[u8]) -> Result<(), AllocError>
-        ensures ok { OnOk result (self.new ≡ with_side self.old side (write_over at piece.now (side_of self.old side))) }
+        ensures ok { OnOk result
+            (self.new ≡ with_side self.old side (write_over at piece.now (side_of self.old side))) }
         ensures err { OnErr result (self.new ≡ self.old) }
     {
         match side {

@@ -49,7 +49,9 @@ pub trait Door {
 
     /// Looks for a caller.
     fn accept(&mut self) -> Result<Accepted<Self::In, Self::Out>, Failed>
-        ensures links { MatchResult result (λ a. links self.new ≡ links_after a (links self.old)) (λ _. links self.new ≡ links self.old) }
-        ensures ends { MatchResult result (λ a. ends self.new ≡ ends_after a (ends self.old)) (λ _. ends self.new ≡ ends self.old) }
+        ensures links { MatchResult result (λ a. links self.new ≡ links_after a (links self.old))
+            (λ _. links self.new ≡ links self.old) }
+        ensures ends { MatchResult result (λ a. ends self.new ≡ ends_after a (ends self.old))
+            (λ _. ends self.new ≡ ends self.old) }
         ensures cause { HasCause (faults self.old) (faults self.new) result };
 }

@@ -15,12 +15,18 @@ use crate::sides::Side;
 #[tactic(auto, using(crate::proofs::Durable::torn_written))]
 pub fn write_durably<D: Disk>(disk: &mut D, side: Side, at: u64, piece: &[u8]) -> Result<(), Failed>
     requires { at + length piece.now ≤ 2 ^ 63 }
-    ensures written { OnOk result (Told (D.seen disk.old) (D.seen disk.new) (λ s t. t ≡ with_side s side (write_over at piece.now (side_of s side)))) }
+    ensures written { OnOk result
+        (Told (D.seen disk.old) (D.seen disk.new)
+        (λ s t. t ≡ with_side s side (write_over at piece.now (side_of s side)))) }
     ensures torn { Told (D.seen disk.old) (D.seen disk.new) (On side (Torn at (length piece.now))) }
-    ensures durable { D.crashes disk.old ≡ true → OnOk result (IfTold (D.seen disk.old) (λ s. IsSettled (D.images disk.new) side (write_over at piece.now (side_of s side)))) }
+    ensures durable { D.crashes disk.old ≡ true
+        → OnOk result
+        (IfTold (D.seen disk.old)
+        (λ s. IsSettled (D.images disk.new) side (write_over at piece.now (side_of s side)))) }
     ensures told { D.crashes disk.new ≡ D.crashes disk.old }
     ensures crash { Follows (On side (Torn at (length piece.now))) (D.images disk.old) (D.images disk.new) }
-    ensures moments { LeavesOnly D.moment D.left_since disk.old disk.new (After (On side (Torn at (length piece.now))) (D.images disk.old)) }
+    ensures moments { LeavesOnly D.moment D.left_since disk.old disk.new
+        (After (On side (Torn at (length piece.now))) (D.images disk.old)) }
     ensures cause { HasCause (D.faults disk.old) (D.faults disk.new) result }
 {
     match disk.write_at(side, at, piece) {

@@ -3,7 +3,3 @@
 /// A call of something outside has failed. The object's count of faults tells of it.
 #[derive(Clone, Copy, Debug, PartialEq, Eq)]
 pub struct Failed;
-
-/// No memory is left.
-#[derive(Clone, Copy, Debug, PartialEq, Eq)]
-pub struct NoMemory;

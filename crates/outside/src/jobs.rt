@@ -1,4 +1,8 @@
 //! Jobs for threads of their own, and who starts them.
+//!
+//! `start` is final, over small calls that each spawner has, so the promise about a job is proved once. Counting stands
+//! in `Tally`, apart from the spawner: a job that could not be started is taken off the running count, or waiting for
+//! the end would never return.
 
 ghost use Rattle.std.specs.Prelude.{◌≡◌, ◌+◌, ◌≤◌, ◌↔◌, ℕ, IsErr, OnOk, MatchResult};
 ghost use Rattle.outside.specs.Causes.{HasCause, Rose, Stood, next_count};
@@ -82,7 +86,8 @@ pub trait Spawner<J: Job>: Tally + Sized {
         ensures stood { OnOk result (Stood (Self.faults self.old) (Self.faults self.new)) }
         ensures refused { Self.refuses self.old 0 → IsErr result }
         ensures next { (n : ℕ) → Self.refuses self.new n ↔ Self.refuses self.old (n + 1) }
-        ensures jobs { MatchResult result (λ _. Self.jobs self.new ≡ next_count (Self.jobs self.old)) (λ _. Self.jobs self.new ≡ Self.jobs self.old) }
+        ensures jobs { MatchResult result (λ _. Self.jobs self.new ≡ next_count (Self.jobs self.old))
+            (λ _. Self.jobs self.new ≡ Self.jobs self.old) }
     {
         let ender = match self.admit(rt) {
             Ok(ender) => ender,

@@ -1,14 +1,16 @@
 //! A door in memory, with a list of callers.
 
-ghost use Rattle.std.specs.Prelude.{◌≡◌, ◌<◌, ◌≤◌, ◌↔◌, None, length, map, reverse, ◌++◌, if◌then◌else◌, IsErr, IsSome, IsTrue, OnOk, OnErr, IfOk, MatchResult};
+ghost use Rattle.std.specs.Prelude.{◌≡◌, ◌<◌, ◌≤◌, ◌↔◌, None, length, map, reverse, ◌++◌, if◌then◌else◌, IsErr, IsSome};
+ghost use Rattle.std.specs.Prelude.{IsTrue, OnOk, OnErr, IfOk, MatchResult};
 ghost use Rattle.outside.specs.Causes.{HasCause, next_count};
 ghost use Rattle.outside.specs.Memory.{fails_at};
 ghost use Rattle.outside.specs.Listed.{Listed};
 
 use crate::doors::{Accepted, Door, Link};
-use crate::failures::{Failed, NoMemory};
+use crate::failures::Failed;
 use crate::memory_streams::BytesSource;
 use crate::streams::Sink;
+use memory::NoMemory;
 use std::alloc::{AllocError, Global};
 use std::marker::Model;
 use std::sync::{Arc, Mutex, Wait};
@@ -58,20 +60,33 @@ pub struct ListDoor {
 impl Model for ListDoor {
     ghost Value = { Listed };
 
-    ghost view = { λ d. record { waiting = map (λ link. link.incoming.left) (reverse d.waiting.items); all = length d.written.items; failing = d.failing.items; calls = d.calls; faults = d.faults; links = d.links; ends = d.ends } };
+    ghost view = { λ d. record {
+      waiting = map (λ link. link.incoming.left) (reverse d.waiting.items);
+      all = length d.written.items;
+      failing = d.failing.items;
+      calls = d.calls;
+      faults = d.faults;
+      links = d.links;
+      ends = d.ends;
+    } };
 }
 
 impl ListDoor {
     /// Each of `links` holds what a caller sends. The calls whose numbers are in `failing`, counted from 1, fail.
     pub fn new(alloc: Global, links: Vec<Vec<u8>>, failing: Vec<u64>) -> Result<ListDoor, NoMemory>
-        ensures { IfOk result (λ d. d ≡ record { waiting = map (λ bytes. bytes.items) links.items; all = length links.items; failing = failing.items; calls = 0; faults = 0; links = 0; ends = 0 }) }
+        ensures { IfOk result
+            (λ d. d ≡ record {
+              waiting = map (λ bytes. bytes.items) links.items;
+              all = length links.items;
+              failing = failing.items;
+              calls = 0;
+              faults = 0;
+              links = 0;
+              ends = 0;
+            }) }
     {
-        let Ok(written) = sheets(alloc, links.len()) else {
-            return Err(NoMemory);
-        };
-        let Ok(waiting) = links_over(alloc, links, &written) else {
-            return Err(NoMemory);
-        };
+        let written = sheets(alloc, links.len())?;
+        let waiting = links_over(alloc, links, &written)?;
         Ok(ListDoor {
             waiting,
             written,
@@ -95,16 +110,18 @@ impl ListDoor {
         let Some(written) = self.written.get(link) else {
             return Ok(None);
         };
-        match written.lock(rt).to_vec(alloc) {
-            Ok(written) => Ok(Some(written)),
-            Err(_) => Err(NoMemory),
-        }
+        let written = written.lock(rt).to_vec(alloc)?;
+        Ok(Some(written))
     }
 
     // The next call is one that is to fail.
     fn fails(&mut self) -> bool
         ensures fails { IsTrue result ↔ IsTrue (fails_at (next_count self.old.calls) self.old.failing) }
-        ensures faults { self.new ≡ record self.old { calls = next_count self.old.calls; faults = if result then next_count self.old.faults else self.old.faults } }
+        ensures faults { self.new
+            ≡ record self.old {
+              calls = next_count self.old.calls;
+              faults = if result then next_count self.old.faults else self.old.faults;
+            } }
         ensures later { self.old.faults ≤ self.new.faults }
     {
         self.calls = self.calls.saturating_add(1);
@@ -133,7 +150,8 @@ impl Door for ListDoor {
     fn listen(&mut self, _addr: &str) -> Result<(), Failed>
         ensures fails { IsErr result ↔ IsTrue (fails_at (next_count self.old.calls) self.old.failing) }
         ensures ok { OnOk result (self.new ≡ record self.old { calls = next_count self.old.calls }) }
-        ensures err { OnErr result (self.new ≡ record self.old { calls = next_count self.old.calls; faults = next_count self.old.faults }) }
+        ensures err { OnErr result
+            (self.new ≡ record self.old { calls = next_count self.old.calls; faults = next_count self.old.faults }) }
         ensures cause { HasCause self.old.faults self.new.faults result }
     {
         if self.fails() {
@@ -144,14 +162,18 @@ impl Door for ListDoor {
 
     /// It is never idle, takes no memory, and fails at the calls that are listed alone.
     fn accept(&mut self) -> Result<Accepted<BytesSource, ListSink>, Failed>
-        ensures links { MatchResult result (λ a. self.new.links ≡ links_after a self.old.links) (λ _. self.new.links ≡ self.old.links) }
-        ensures ends { MatchResult result (λ a. self.new.ends ≡ ends_after a self.old.ends) (λ _. self.new.ends ≡ self.old.ends) }
+        ensures links { MatchResult result (λ a. self.new.links ≡ links_after a self.old.links)
+            (λ _. self.new.links ≡ self.old.links) }
+        ensures ends { MatchResult result (λ a. self.new.ends ≡ ends_after a self.old.ends)
+            (λ _. self.new.ends ≡ self.old.ends) }
         ensures cause { HasCause self.old.faults self.new.faults result }
         ensures fails { IsErr result ↔ IsTrue (fails_at (next_count self.old.calls) self.old.failing) }
         ensures comes { IfOk result (λ a. Comes a self.old.waiting self.new.waiting) }
         ensures ok { OnOk result (self.new.faults ≡ self.old.faults) }
-        ensures err { OnErr result (self.new ≡ record self.old { calls = next_count self.old.calls; faults = next_count self.old.faults }) }
-        ensures same { (self.new.calls ≡ next_count self.old.calls) × (self.new.failing ≡ self.old.failing) × (self.new.all ≡ self.old.all) }
+        ensures err { OnErr result
+            (self.new ≡ record self.old { calls = next_count self.old.calls; faults = next_count self.old.faults }) }
+        ensures same { (self.new.calls ≡ next_count self.old.calls) × (self.new.failing ≡ self.old.failing)
+            × (self.new.all ≡ self.old.all) }
     {
         if self.fails() {
             return Err(Failed);
@@ -187,7 +209,8 @@ fn links_over(
     written: &[Written],
 ) -> Result<Vec<Link<BytesSource, ListSink>>, AllocError>
     requires { length texts.items ≤ length written.now }
-    ensures { IfOk result (λ links. map (λ link. link.incoming.left) (reverse links.items) ≡ map (λ bytes. bytes.items) texts.items) }
+    ensures { IfOk result
+        (λ links. map (λ link. link.incoming.left) (reverse links.items) ≡ map (λ bytes. bytes.items) texts.items) }
 {
     let mut texts = texts;
     let mut links = Vec::with_capacity(alloc, texts.len())?;

@@ -1,18 +1,21 @@
 //! A disk in memory that remembers its calls, and so tells what a crash may leave.
 
-ghost use Rattle.std.specs.Prelude.{◌≡◌, ◌+◌, ◌-◌, ◌≤◌, ◌^◌, ◌++◌, [], ◌∷◌, Some, true, length, take, drop, min, reverse, unwrap_or, IsErr, IsTrue, IfOk, OnOk, OnErr};
+ghost use Rattle.std.specs.Prelude.{◌≡◌, ◌+◌, ◌-◌, ◌≤◌, ◌^◌, ◌++◌, [], ◌∷◌, Some, true, length, take, drop, min};
+ghost use Rattle.std.specs.Prelude.{reverse, unwrap_or, IsErr, IsTrue, IfOk, OnOk, OnErr};
 ghost use Rattle.outside.specs.Causes.{HasCause, next_count};
 ghost use Rattle.outside.specs.Sides.{side_of, AreBytes};
 ghost use Rattle.outside.specs.Memory.{fails_at};
-ghost use Rattle.outside.specs.DiskCalls.{Remembered, done, read_after, reads_as, remembers, refuses, IsImage, LeftSince, calls_until, chosen};
+ghost use Rattle.outside.specs.DiskCalls.{Remembered, done, read_after, reads_as, remembers, refuses, IsImage};
+ghost use Rattle.outside.specs.DiskCalls.{LeftSince, calls_until, chosen};
 ghost use Rattle.outside.specs.declared.disk_calls.Call.TheVariants.{Look, Write, Cut, Sync};
 
 use crate::crash_images;
 use crate::disk_calls::{Call, Piece};
 use crate::disk_contents::Contents;
 use crate::disks::Disk;
-use crate::failures::{Failed, NoMemory};
+use crate::failures::Failed;
 use crate::sides::Side;
+use memory::NoMemory;
 use std::alloc::{AllocError, Global};
 use std::marker::Model;
 
@@ -32,7 +35,13 @@ pub struct MemoryDisk {
 impl Model for MemoryDisk {
     ghost Value = { Remembered };
 
-    ghost view = { λ d. record { start = d.first; calls = reverse d.calls.items; failing = d.failing.items; made = d.made; faults = d.faults } };
+    ghost view = { λ d. record {
+      start = d.first;
+      calls = reverse d.calls.items;
+      failing = d.failing.items;
+      made = d.made;
+      faults = d.faults;
+    } };
 
     ghost invariant = { λ d. unwrap_or d.changed d.first ≡ read_after d.first (reverse d.calls.items) };
 }
@@ -41,7 +50,14 @@ impl MemoryDisk {
     /// A disk with these bytes on its sides, all of them safe. The calls whose numbers are in `failing`, counted
     /// from 1, fail.
     pub fn new(alloc: Global, a: Vec<u8>, b: Vec<u8>, failing: Vec<u64>) -> MemoryDisk
-        ensures { result ≡ record { start = record { a = a.items; b = b.items }; calls = []; failing = failing.items; made = 0; faults = 0 } }
+        ensures { result
+            ≡ record {
+              start = record { a = a.items; b = b.items };
+              calls = [];
+              failing = failing.items;
+              made = 0;
+              faults = 0;
+            } }
     {
         MemoryDisk::over(alloc, Contents::of(a, b), failing)
     }
@@ -73,21 +89,26 @@ impl MemoryDisk {
     /// range.
     pub fn image(&self, moment: u64, choice: u64) -> Result<MemoryDisk, NoMemory>
         requires { moment ≤ length self.now.calls }
-        ensures chosen { IfOk result (λ d. d ≡ record { start = chosen self.now.start (reverse (calls_until moment self.now.calls)) choice; calls = []; failing = []; made = 0; faults = 0 }) }
+        ensures chosen { IfOk result
+            (λ d. d ≡ record {
+              start = chosen self.now.start (reverse (calls_until moment self.now.calls)) choice;
+              calls = [];
+              failing = [];
+              made = 0;
+              faults = 0;
+            }) }
 
         // It is one of the images that the disk tells.
         ensures image { IfOk result (λ d. IsImage self.now.start (calls_until moment self.now.calls) d.start) }
         ensures since { IfOk result (λ d. LeftSince self.now.start self.now.calls moment d.start) }
     {
-        match crash_images::crashed(
+        let contents = crash_images::crashed(
             self.alloc,
             &self.first,
             &self.calls[..moment as usize],
             choice,
-        ) {
-            Ok(contents) => Ok(MemoryDisk::over(self.alloc, contents, Vec::new(self.alloc))),
-            Err(_) => Err(NoMemory),
-        }
+        )?;
+        Ok(MemoryDisk::over(self.alloc, contents, Vec::new(self.alloc)))
     }
 
     // What it reads as.
@@ -138,7 +159,8 @@ impl MemoryDisk {
 
 impl Disk for MemoryDisk {
     ghost use Rattle.outside.specs.DiskCalls.{longest_after};
-    ghost use Rattle.outside.specs.DiskCallLaws.{read_is_image, image_within, left_now, only_left_now, left_from_earlier};
+    ghost use Rattle.outside.specs.DiskCallLaws.{read_is_image, image_within, left_now, only_left_now};
+    ghost use Rattle.outside.specs.DiskCallLaws.{left_from_earlier};
 
     ghost seen = { λ d. Some (reads_as d) };
 
@@ -170,7 +192,8 @@ impl Disk for MemoryDisk {
 
     fn read(&mut self, side: Side, at: u64, into: &mut [u8]) -> Result<usize, Failed>
         ensures count { IfOk result (λ n. n ≡ min (length into.old) (length (side_of (reads_as self.old) side) - at)) }
-        ensures bytes { IfOk result (λ n. into.new ≡ take n (drop at (side_of (reads_as self.old) side)) ++ drop n into.old) }
+        ensures bytes { IfOk result
+            (λ n. into.new ≡ take n (drop at (side_of (reads_as self.old) side)) ++ drop n into.old) }
         ensures sound { OnOk result (AreBytes (side_of (reads_as self.old) side)) }
         ensures into_err { OnErr result (into.new ≡ into.old) }
         ensures fails { IsTrue (fails_at (next_count self.old.made) self.old.failing) → IsErr result }

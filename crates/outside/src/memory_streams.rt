@@ -1,6 +1,7 @@
 //! A source and a sink in memory.
 
-ghost use Rattle.std.specs.Prelude.{◌≡◌, ◌<◌, ◌≤◌, ◌↔◌, ◌++◌, [], length, drop, take, min, Some, IsErr, IsTrue, OnErr, IfOk};
+ghost use Rattle.std.specs.Prelude.{◌≡◌, ◌<◌, ◌≤◌, ◌↔◌, ◌++◌, [], length, drop, take, min, Some, IsErr, IsTrue, OnErr};
+ghost use Rattle.std.specs.Prelude.{IfOk};
 ghost use Rattle.std.specs.Io.KnownBytes.{ReadConsumes};
 ghost use Rattle.outside.specs.Causes.{HasCause, next_count};
 ghost use Rattle.outside.specs.Memory.{Given, Taken, fails_at};
@@ -24,7 +25,13 @@ pub struct BytesSource {
 impl Model for BytesSource {
     ghost Value = { Given };
 
-    ghost view = { λ s. record { left = drop s.at s.bytes.items; piece = s.piece; failing = s.failing.items; calls = s.calls; faults = s.faults } };
+    ghost view = { λ s. record {
+      left = drop s.at s.bytes.items;
+      piece = s.piece;
+      failing = s.failing.items;
+      calls = s.calls;
+      faults = s.faults;
+    } };
 
     ghost invariant = { λ s. (s.at ≤ length s.bytes.items) × (0 < s.piece) };
 }
@@ -34,7 +41,8 @@ impl BytesSource {
     /// 1, fail.
     pub fn new(bytes: Vec<u8>, piece: usize, failing: Vec<u64>) -> BytesSource
         requires { 0 < piece }
-        ensures { result ≡ record { left = bytes.items; piece = piece; failing = failing.items; calls = 0; faults = 0 } }
+        ensures { result
+            ≡ record { left = bytes.items; piece = piece; failing = failing.items; calls = 0; faults = 0 } }
     {
         BytesSource {
             bytes,
@@ -59,8 +67,10 @@ impl Source for BytesSource {
         // Which calls fail, how many bytes another one gives, and what is left.
         ensures fails { IsErr result ↔ IsTrue (fails_at (next_count self.old.calls) self.old.failing) }
         ensures count { IfOk result (λ n. n ≡ min (min (length self.old.left) (length into.old)) self.old.piece) }
-        ensures ok { IfOk result (λ n. self.new ≡ record self.old { left = drop n self.old.left; calls = next_count self.old.calls }) }
-        ensures err { OnErr result (self.new ≡ record self.old { calls = next_count self.old.calls; faults = next_count self.old.faults }) }
+        ensures ok { IfOk result
+            (λ n. self.new ≡ record self.old { left = drop n self.old.left; calls = next_count self.old.calls }) }
+        ensures err { OnErr result
+            (self.new ≡ record self.old { calls = next_count self.old.calls; faults = next_count self.old.faults }) }
         ensures into { IfOk result (λ n. into.new ≡ take n self.old.left ++ drop n into.old) }
         ensures into_err { OnErr result (into.new ≡ into.old) }
     {
@@ -89,7 +99,13 @@ pub struct BytesSink {
 impl Model for BytesSink {
     ghost Value = { Taken };
 
-    ghost view = { λ s. record { held = s.bytes.items; piece = s.piece; failing = s.failing.items; calls = s.calls; faults = s.faults } };
+    ghost view = { λ s. record {
+      held = s.bytes.items;
+      piece = s.piece;
+      failing = s.failing.items;
+      calls = s.calls;
+      faults = s.faults;
+    } };
 
     ghost invariant = { λ s. 0 < s.piece };
 }
@@ -130,8 +146,11 @@ impl Sink for BytesSink {
         // Which calls fail, how many bytes another one takes, and what is held then.
         ensures fails { IsTrue (fails_at (next_count self.old.calls) self.old.failing) → IsErr result }
         ensures count { IfOk result (λ n. n ≡ min (length piece.now) self.old.piece) }
-        ensures ok { IfOk result (λ n. self.new ≡ record self.old { held = self.old.held ++ take n piece.now; calls = next_count self.old.calls }) }
-        ensures err { OnErr result (self.new ≡ record self.old { calls = next_count self.old.calls; faults = next_count self.old.faults }) }
+        ensures ok { IfOk result
+            (λ n. self.new
+            ≡ record self.old { held = self.old.held ++ take n piece.now; calls = next_count self.old.calls }) }
+        ensures err { OnErr result
+            (self.new ≡ record self.old { calls = next_count self.old.calls; faults = next_count self.old.faults }) }
     {
         self.calls = self.calls.saturating_add(1);
         let count = piece.len().min(self.piece);

@@ -1,6 +1,7 @@
 //! A disk in memory that never crashes.
 
-ghost use Rattle.std.specs.Prelude.{◌≡◌, ◌+◌, ◌-◌, ◌≤◌, ◌^◌, ◌++◌, Some, false, [], length, take, drop, min, Ok, IsOk, IfOk, OnOk, OnErr};
+ghost use Rattle.std.specs.Prelude.{◌≡◌, ◌+◌, ◌-◌, ◌≤◌, ◌^◌, ◌++◌, Some, false, [], length, take, drop, min, Ok, IsOk};
+ghost use Rattle.std.specs.Prelude.{IfOk, OnOk, OnErr};
 ghost use Rattle.outside.specs.Causes.{HasCause, next_count};
 ghost use Rattle.outside.specs.Sides.{side_of, with_side, AreBytes};
 ghost use Rattle.outside.specs.Disks.{write_over};
@@ -66,7 +67,8 @@ impl Disk for PlainDisk {
     fn read(&mut self, side: Side, at: u64, into: &mut [u8]) -> Result<usize, Failed>
         ensures ok { IsOk result }
         ensures count { IfOk result (λ n. n ≡ min (length into.old) (length (side_of self.old.sides side) - at)) }
-        ensures bytes { IfOk result (λ n. into.new ≡ take n (drop at (side_of self.old.sides side)) ++ drop n into.old) }
+        ensures bytes { IfOk result
+            (λ n. into.new ≡ take n (drop at (side_of self.old.sides side)) ++ drop n into.old) }
         ensures sound { AreBytes (side_of self.old.sides side) }
         ensures unchanged { self.new ≡ self.old }
     {
@@ -76,7 +78,11 @@ impl Disk for PlainDisk {
     /// It fails only where no memory is left, and changes nothing then.
     fn write_at(&mut self, side: Side, at: u64, piece: &[u8]) -> Result<(), Failed>
         requires { at + length piece.now ≤ 2 ^ 63 }
-        ensures ok { OnOk result (self.new ≡ record self.old { sides = with_side self.old.sides side (write_over at piece.now (side_of self.old.sides side)) }) }
+        ensures ok { OnOk result
+            (self.new ≡ record self.old {
+              sides = with_side self.old.sides side
+                  (write_over at piece.now (side_of self.old.sides side));
+            }) }
         ensures err { OnErr result (self.new ≡ record self.old { faults = next_count self.old.faults }) }
         ensures cause { HasCause self.old.faults self.new.faults result }
     {
@@ -91,7 +97,8 @@ impl Disk for PlainDisk {
 
     fn cut(&mut self, side: Side, len: u64) -> Result<(), Failed>
         ensures ok { IsOk result }
-        ensures cut { self.new ≡ record self.old { sides = with_side self.old.sides side (take len (side_of self.old.sides side)) } }
+        ensures cut { self.new
+            ≡ record self.old { sides = with_side self.old.sides side (take len (side_of self.old.sides side)) } }
     {
         self.contents.cut(side, len as usize);
         Ok(())

@@ -1,5 +1,6 @@
 -- Signs, segments, rings and polygons: the figures of the plane.
-use Rattle.std.specs.Prelude.{ℤ, pos, Bool, false, not, ◌&&◌, ◌||◌, ◌==◌, ◌%◌, ◌+ℤ◌, ◌-ℤ◌, ◌*ℤ◌, int_lt, int_le, nat_lt, if◌then◌else◌, List, [], ◌∷◌, length, flat_map, count_by, Result, Ok, Err}
+use Rattle.std.specs.Prelude.{ℤ, pos, Bool, false, not, ◌&&◌, ◌||◌, ◌==◌, ◌%◌, ◌+ℤ◌, ◌-ℤ◌, ◌*ℤ◌, int_lt, int_le, nat_lt, if◌then◌else◌, List, [], ◌∷◌}
+use Rattle.std.specs.Prelude.{length, flat_map, count_by, Result, Ok, Err}
 use Rattle.std.specs.List.{list_any, list_all}
 use Rattle.std.specs.Int.{int_signum}
 use Rattle.planar_geom.specs.Points.{Point, Bounds, pt, same_point, box_round, boxes_meet}

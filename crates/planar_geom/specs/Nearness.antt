@@ -12,11 +12,14 @@ pub record IsWholeShape (shape : List Part) : Type 0 where
   pub is_box : IsBox (box_of shape)
 
 pub record MetIsNear : Type 0 where
-  pub met : (shape : List Part) (area : Area) → IsWholeShape shape → IsArea area → intersects shape area ≡ true → boxes_meet (box_of shape) (area_box area) ≡ true
-  pub inside : (shape : List Part) (area : Area) → IsWholeShape shape → IsArea area → within shape area ≡ true → boxes_meet (box_of shape) (area_box area) ≡ true
+  pub met : (shape : List Part) (area : Area) → IsWholeShape shape → IsArea area → intersects shape area ≡ true
+      → boxes_meet (box_of shape) (area_box area) ≡ true
+  pub inside : (shape : List Part) (area : Area) → IsWholeShape shape → IsArea area → within shape area ≡ true
+      → boxes_meet (box_of shape) (area_box area) ≡ true
   pub box_near : (b : Bounds) (c : Point) (r : ℕ) → IsBox b → box_dist2 c b ≤ r * r → boxes_meet b (box_of_disc c r) ≡ true
   pub centre_near : (b : Bounds) (c : Point) (r : ℕ) → IsBox b → dist2 c (centre b) ≤ r * r → boxes_meet b (box_of_disc c r) ≡ true
-  pub way : (b c : Bounds) (area : Area) → IsBox b → IsBox c → IsArea area → way_meets (centre b) (centre c) area ≡ true → boxes_meet (box_round_both b c) (area_box area) ≡ true
+  pub way : (b c : Bounds) (area : Area) → IsBox b → IsBox c → IsArea area → way_meets (centre b) (centre c) area ≡ true
+      → boxes_meet (box_round_both b c) (area_box area) ≡ true
   pub meets_first : (b c d : Bounds) → boxes_meet b d ≡ true → boxes_meet (box_round_both b c) d ≡ true
   pub meets_second : (b c d : Bounds) → IsBox c → boxes_meet c d ≡ true → boxes_meet (box_round_both b c) d ≡ true
   pub either_order : (b c : Bounds) → boxes_meet b c ≡ boxes_meet c b

@@ -1,5 +1,6 @@
 -- Points and boxes as contracts see them, and squared distances.
-use Rattle.std.specs.Prelude.{ℕ, zero, suc, ◌^◌, nat_le, ℤ, pos, ◌+◌, ◌*◌, ◌<◌, ◌≤◌, ◌≡◌, ◌↔◌, neg_ℤ, Bool, ◌&&◌, ◌-ℤ◌, ◌+ℤ◌, ◌≤ℤ◌, int_le, int_lt, nat_abs, if◌then◌else◌, List, [], ◌∷◌, fold, Option, Some, None}
+use Rattle.std.specs.Prelude.{ℕ, zero, suc, ◌^◌, nat_le, ℤ, pos, ◌+◌, ◌*◌, ◌<◌, ◌≤◌, ◌≡◌, ◌↔◌, neg_ℤ, Bool, ◌&&◌, ◌-ℤ◌, ◌+ℤ◌, ◌≤ℤ◌, int_le, int_lt}
+use Rattle.std.specs.Prelude.{nat_abs, if◌then◌else◌, List, [], ◌∷◌, fold, Option, Some, None}
 use Rattle.std.specs.Int.{int_min, int_max, int_div_euclid}
 use Rattle.planar_geom.specs.declared.points.TheConstants.{MAX_COORD}
 

@@ -2,7 +2,8 @@
 use Rattle.std.specs.Prelude.{IsTrue, ℕ, pos, ◌*◌, Bool, true, false, not, ◌&&◌, ◌||◌, ◌-ℤ◌, ◌*ℤ◌, int_lt, int_le, nat_le, List, [], ◌∷◌, map}
 use Rattle.std.specs.List.{list_any, list_all}
 use Rattle.planar_geom.specs.Points.{Point, Bounds, corners_of, box_of_disc, InPlane, IsBox, same_point, dist2, in_box, boxes_meet, square}
-use Rattle.planar_geom.specs.Figures.{Segment, chain_segments, edges, ring_points, meets, crosses, on_segment, in_poly, strictly_in, doubled, doubled_middle, dot, minus}
+use Rattle.planar_geom.specs.Figures.{Segment, chain_segments, edges, ring_points, meets, crosses, on_segment, in_poly, strictly_in, doubled}
+use Rattle.planar_geom.specs.Figures.{doubled_middle, dot, minus}
 pub use Rattle.planar_geom.specs.Shapes.{vertices, segments, all_vertices, all_segments, positions, box_of_points, box_of, has_allowed_size, is_shape}
 use Rattle.planar_geom.specs.declared.shapes.Part.{Part}
 use Rattle.planar_geom.specs.declared.shapes.Part.TheVariants.{Spot, Chain, Face}
@@ -61,7 +62,8 @@ reaches_disc part c r = in_part part c || list_any (in_disc c r) (vertices part)
 unfoldable pub intersects : List Part → Area → Bool
 intersects shape (Rect b) = figures_touch shape (face_of b ∷ [])
 intersects shape (Figure other) = figures_touch shape other
-intersects shape (Disc c r) = list_any (λ p. in_part p c) shape || list_any (in_disc c r) (all_vertices shape) || list_any (segment_near c r) (all_segments shape)
+intersects shape (Disc c r) = list_any (λ p. in_part p c) shape || list_any (in_disc c r) (all_vertices shape)
+    || list_any (segment_near c r) (all_segments shape)
 
 -- where the part is a face, none of the rings' points is strictly inside it
 abbrev pub no_hole_inside : List (List Point) → Part → Bool

@@ -1,5 +1,6 @@
 -- Parts and shapes: their points, their segments and their boxes.
-use Rattle.std.specs.Prelude.{ℕ, Bool, true, ◌&&◌, nat_lt, nat_le, Option, Some, None, if◌then◌else◌, List, [], ◌∷◌, flat_map, length, Result, Ok, Err}
+use Rattle.std.specs.Prelude.{ℕ, Bool, true, ◌&&◌, nat_lt, nat_le, Option, Some, None, if◌then◌else◌, List, [], ◌∷◌, flat_map, length, Result, Ok}
+use Rattle.std.specs.Prelude.{Err}
 use Rattle.std.specs.List.{list_all}
 use Rattle.planar_geom.specs.Points.{Point, Bounds}
 pub use Rattle.planar_geom.specs.Points.{box_of_points}

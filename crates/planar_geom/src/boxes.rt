@@ -3,7 +3,8 @@
 ghost use Rattle.std.specs.Prelude.{◌≡◌, None, Some, fold, IsTrue};
 ghost use Rattle.planar_geom.specs.Points.{grown};
 ghost use Rattle.planar_geom.specs.Figures.{ring_points};
-ghost use Rattle.planar_geom.specs.Shapes.{vertices, all_vertices, is_part, box_of_points as box_round_points, box_of as box_of_shape};
+ghost use Rattle.planar_geom.specs.Shapes.{vertices, all_vertices, is_part, box_of_points as box_round_points};
+ghost use Rattle.planar_geom.specs.Shapes.{box_of as box_of_shape};
 ghost use Rattle.planar_geom.specs.Relations.{area_box as box_of_area};
 
 use crate::lists::Points;

@@ -54,7 +54,9 @@ pub(crate) fn comes_near(s: Seg, disc: &Disc) -> bool
 
 // Whether the foot of the way `e` is on the way `d`, which has a length.
 fn has_foot(e: WidePoint, d: WidePoint) -> bool
-    ensures { result ≡ (int_lt (pos 0) (scalar_product d d) && int_le (pos 0) (scalar_product e d) && int_le (scalar_product e d) (scalar_product d d)) }
+    ensures { result
+        ≡ (int_lt (pos 0) (scalar_product d d) && int_le (pos 0) (scalar_product e d)
+        && int_le (scalar_product e d) (scalar_product d d)) }
 {
     is_part_of_square(dot(e, d), dot(d, d))
 }
@@ -68,7 +70,8 @@ fn is_part_of_square(product: i64, length2: i64) -> bool
 
 // Whether the foot of the way `e` on the line along `d` is at most `radius` from its end.
 fn has_near_foot(e: WidePoint, d: WidePoint, radius: u32) -> bool
-    ensures { result ≡ int_le (pos (square_of (e.x *ℤ d.y -ℤ e.y *ℤ d.x))) (pos (radius * radius) *ℤ scalar_product d d) }
+    ensures { result
+        ≡ int_le (pos (square_of (e.x *ℤ d.y -ℤ e.y *ℤ d.x))) (pos (radius * radius) *ℤ scalar_product d d) }
 {
     is_low(turn(e, d), radius, dot(d, d))
 }

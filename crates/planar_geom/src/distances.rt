@@ -1,7 +1,8 @@
 //! Squared distances and their roots.
 
 ghost use Rattle.std.specs.Prelude.{◌≡◌, ◌*◌, ◌^◌, ◌≤◌, nat_abs};
-ghost use Rattle.planar_geom.specs.Points.{IsCoordinate, dist2 as squared_distance, box_dist2 as squared_box_distance, outside_by as distance_outside, floor_root as root_below, IsFloorRoot};
+ghost use Rattle.planar_geom.specs.Points.{IsCoordinate, dist2 as squared_distance, box_dist2 as squared_box_distance};
+ghost use Rattle.planar_geom.specs.Points.{outside_by as distance_outside, floor_root as root_below, IsFloorRoot};
 
 use crate::points::{BBox, Pt};
 

@@ -25,7 +25,8 @@ pub use laws::{
     one_floor_root, segments_meet_in_any_order, shape_is_whole, way_stays_in_both_boxes,
     way_stays_in_box, within_intersects,
 };
-pub use lists::{Line, NoMemory, Parts, Points, Poly, Rings};
+pub use lists::{Line, Parts, Points, Poly, Rings};
+pub use memory::NoMemory;
 pub use points::{BBox, MAX_COORD, Pt, Seg, centre};
 pub use polygons::in_poly;
 pub use relations::{intersects, way_meets, within};

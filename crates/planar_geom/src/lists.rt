@@ -3,24 +3,9 @@
 use crate::boxes::{box_of_points, box_of_rings, with_part};
 use crate::points::{BBox, Pt};
 use crate::shapes::Part;
+use memory::NoMemory;
 use std::alloc::Global;
 use std::marker::Model;
-
-/// No memory was left.
-#[derive(Clone, Copy, PartialEq, Eq, Debug, Drop)]
-pub struct NoMemory;
-
-ghost use Rattle.std.specs.Prelude.{[], IfOk};
-
-// An empty list with room for so many items.
-fn with_room<T: Drop>(alloc: Global, count: usize) -> Result<Vec<T>, NoMemory>
-    ensures { IfOk result (λ list. list.items ≡ []) }
-{
-    match Vec::with_capacity(alloc, count) {
-        Ok(list) => Ok(list),
-        Err(_) => Err(NoMemory),
-    }
-}
 
 /// A list of points.
 #[derive(Drop)]
@@ -56,10 +41,8 @@ impl Points {
         ensures ok { OnOk result (self.new ≡ self.old ++ p ∷ []) }
         ensures err { OnErr result (self.new ≡ self.old) }
     {
-        match self.list.push(p) {
-            Ok(()) => Ok(()),
-            Err(_) => Err(NoMemory),
-        }
+        self.list.push(p)?;
+        Ok(())
     }
 
     /// The points, in order.
@@ -80,20 +63,16 @@ impl Points {
     pub(crate) fn corners_of(alloc: Global, b: BBox) -> Result<Points, NoMemory>
         ensures { IfOk result (λ points. points ≡ corner_list b) }
     {
-        match Vec::from_slice(alloc, &b.corners()) {
-            Ok(list) => Ok(Points { list }),
-            Err(_) => Err(NoMemory),
-        }
+        let list = Vec::from_slice(alloc, &b.corners())?;
+        Ok(Points { list })
     }
 
     /// The same points in memory of their own.
     pub(crate) fn copy(&self, alloc: Global) -> Result<Points, NoMemory>
         ensures { IfOk result (λ points. points ≡ self.now) }
     {
-        match Vec::from_slice(alloc, self.list.as_slice()) {
-            Ok(list) => Ok(Points { list }),
-            Err(_) => Err(NoMemory),
-        }
+        let list = Vec::from_slice(alloc, self.list.as_slice())?;
+        Ok(Points { list })
     }
 }
 
@@ -140,11 +119,9 @@ impl Rings {
     pub(crate) fn copy(&self, alloc: Global) -> Result<Rings, NoMemory>
         ensures { IfOk result (λ rings. rings ≡ self.now) }
     {
-        let mut list = with_room(alloc, self.list.len())?;
+        let mut list = Vec::with_capacity(alloc, self.list.len())?;
         for ring in self.list.as_slice() {
-            if list.push(ring.copy(alloc)?).is_err() {
-                return Err(NoMemory);
-            }
+            list.push(ring.copy(alloc)?)?;
         }
         Ok(Rings { list })
     }
@@ -263,6 +240,7 @@ impl Poly {
     pub(crate) fn of_box(alloc: Global, b: BBox) -> Result<Poly, NoMemory>
         ensures { IfOk result (λ poly. poly ≡ corners_of b ∷ []) }
     {
+        // This call shows the proof that it is a box of the plane.
         let _low = b.min();
         let mut rings = Rings::new(alloc);
         if rings.push(Points::corners_of(alloc, b)?).is_err() {
@@ -338,7 +316,8 @@ impl Model for Parts {
 
     ghost view = { λ p. p.list.items };
 
-    ghost invariant = { λ p. IsTrue (list_all is_part p.list.items) × (p.bounds ≡ fold grown None (all_vertices p.list.items)) };
+    ghost invariant = { λ p. IsTrue (list_all is_part p.list.items)
+        × (p.bounds ≡ fold grown None (all_vertices p.list.items)) };
 }
 
 impl Parts {
@@ -362,7 +341,7 @@ impl Parts {
         ensures { IfOk result (λ parts. parts ≡ part ∷ []) }
     {
         let mut parts = Parts {
-            list: with_room(alloc, 1)?,
+            list: Vec::with_capacity(alloc, 1)?,
             bounds: None,
         };
         match parts.push(part) {
@@ -391,11 +370,9 @@ impl Parts {
     pub(crate) fn copy(&self, alloc: Global) -> Result<Parts, NoMemory>
         ensures { IfOk result (λ parts. parts ≡ self.now) }
     {
-        let mut list = with_room(alloc, self.list.len())?;
+        let mut list = Vec::with_capacity(alloc, self.list.len())?;
         for part in self.list.as_slice() {
-            if list.push(part.copy(alloc)?).is_err() {
-                return Err(NoMemory);
-            }
+            list.push(part.copy(alloc)?)?;
         }
         Ok(Parts {
             list,

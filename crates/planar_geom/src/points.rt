@@ -68,7 +68,8 @@ impl Pt {
 
 ghost use Rattle.std.specs.Prelude.{◌≡◌, ◌+ℤ◌, ◌-ℤ◌, ◌≤ℤ◌, ◌^◌, pos};
 ghost use Rattle.std.specs.Int.{int_div_euclid, int_min, int_max};
-ghost use Rattle.planar_geom.specs.Points.{IsCoordinate, least_coordinate, greatest_coordinate, in_range, ranges_meet, is_coordinate as is_plane_coordinate, centre as box_centre};
+ghost use Rattle.planar_geom.specs.Points.{IsCoordinate, least_coordinate, greatest_coordinate, in_range, ranges_meet};
+ghost use Rattle.planar_geom.specs.Points.{is_coordinate as is_plane_coordinate, centre as box_centre};
 
 fn is_coordinate(a: i64) -> bool
     ensures { result ≡ is_plane_coordinate a }
@@ -97,7 +98,8 @@ impl Model for BBox {
 
 impl BBox {
     ghost use Rattle.std.specs.Prelude.{◌≡◌, ◌&&◌, pos};
-    ghost use Rattle.planar_geom.specs.Points.{pt, bounds, bounds_of, box_of_disc, corners_of, boxes_meet, in_box, with_point, box_round_both, IsBox};
+    ghost use Rattle.planar_geom.specs.Points.{pt, bounds, bounds_of, box_of_disc, corners_of, boxes_meet, in_box};
+    ghost use Rattle.planar_geom.specs.Points.{with_point, box_round_both, IsBox};
 
     /// The box between two corners; `None` exactly where `min` exceeds `max` in x or in y.
     pub fn of(min: Pt, max: Pt) -> Option<BBox>
@@ -151,6 +153,7 @@ impl BBox {
     pub(crate) fn of_point(p: Pt) -> BBox
         ensures { result ≡ bounds p p }
     {
+        // Reading it shows the proof that it is a point of the plane.
         let _ = p.x;
         BBox { min: p, max: p }
     }

@@ -26,7 +26,9 @@ impl Grid {
 }
 
 ghost use Rattle.std.specs.Prelude.{◌≡◌, [], ◌∷◌, map, fold};
-ghost use Rattle.planar_geom.specs.Figures.{in_poly as is_in_poly, strictly_in as is_strictly_in, doubled, doubled_middle, edges, chain_segments, segments_from, segment, on_segment, passes_right as passes_right_of};
+ghost use Rattle.planar_geom.specs.Figures.{in_poly as is_in_poly, strictly_in as is_strictly_in, doubled};
+ghost use Rattle.planar_geom.specs.Figures.{doubled_middle, edges, chain_segments, segments_from, segment, on_segment};
+ghost use Rattle.planar_geom.specs.Figures.{passes_right as passes_right_of};
 ghost use Rattle.planar_geom.specs.Standings.{on_grid, parity as parity_of, with_edge};
 
 /// Whether a point is on an edge of a polygon, or inside it by parity: an odd number of edges passes its

@@ -80,6 +80,7 @@ impl Region for BBox {
     ghost part = { face_of };
 
     fn bounds(&self) -> BBox {
+        // This call shows the proof that it is a box of the plane.
         let _low = self.min();
         *self
     }

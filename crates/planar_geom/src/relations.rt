@@ -3,7 +3,9 @@
 ghost use Rattle.std.specs.Prelude.{◌≡◌, ◌∷◌, []};
 ghost use Rattle.std.specs.List.{list_any, list_all};
 ghost use Rattle.planar_geom.specs.Shapes.{all_vertices};
-ghost use Rattle.planar_geom.specs.Relations.{intersects as is_met, within as is_inside, way_meets as is_on_way, figures_touch, face_of, touch, reaches_disc, in_disc, lies_in as lies_in_face, lies_in_part, no_hole_inside};
+ghost use Rattle.planar_geom.specs.Relations.{intersects as is_met, within as is_inside, way_meets as is_on_way};
+ghost use Rattle.planar_geom.specs.Relations.{figures_touch, face_of, touch, reaches_disc, in_disc};
+ghost use Rattle.planar_geom.specs.Relations.{lies_in as lies_in_face, lies_in_part, no_hole_inside};
 
 use crate::boxes::{box_of, box_of_part};
 use crate::discs::Disc;
@@ -228,7 +230,8 @@ impl<'a> SegmentTest for LeavesFace<'a> {
     ghost use Rattle.std.specs.List.{list_any};
     ghost use Rattle.planar_geom.specs.Figures.{in_poly, edges, crosses, doubled, doubled_middle};
 
-    ghost passes = { λ t s. not (in_poly (map (map doubled) t.0.now) (doubled_middle s)) || list_any (crosses s) (edges t.0.now) };
+    ghost passes = { λ t s. not (in_poly (map (map doubled) t.0.now) (doubled_middle s))
+        || list_any (crosses s) (edges t.0.now) };
 
     fn test(&self, s: Seg) -> bool {
         !hold_middle(self.0, s) || any_in_rings(self.0, &Crosses(s))

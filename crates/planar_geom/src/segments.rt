@@ -1,7 +1,8 @@
 //! Segments: the side of a line on which a point stands, and where two segments meet.
 
 ghost use Rattle.std.specs.Prelude.{◌≡◌, pos, negsuc, ◌≤ℤ◌, int_le, int_lt};
-ghost use Rattle.planar_geom.specs.Figures.{orient as turn, meets as segments_meet, crosses as segments_cross, sides as sides_of};
+ghost use Rattle.planar_geom.specs.Figures.{orient as turn, meets as segments_meet, crosses as segments_cross};
+ghost use Rattle.planar_geom.specs.Figures.{sides as sides_of};
 
 use crate::points::{Pt, Seg};
 use crate::wide_points::{WidePoint, cross};

@@ -1,8 +1,9 @@
 //! Parts, shapes and areas.
 
 use crate::counts::positions_within;
-use crate::lists::{Line, NoMemory, Parts, Poly};
+use crate::lists::{Line, Parts, Poly};
 use crate::points::{BBox, Pt};
+use memory::NoMemory;
 use std::alloc::Global;
 use std::marker::Model;
 
@@ -91,6 +92,7 @@ impl Shape {
     pub fn rect(alloc: Global, b: BBox) -> Result<Shape, NoMemory>
         ensures { IfOk result (λ shape. shape ≡ face_of b ∷ []) }
     {
+        // This call shows the proof that it is a box of the plane.
         let _low = b.min();
         let face = Part::Face(Poly::of_box(alloc, b)?);
         Ok(Shape {

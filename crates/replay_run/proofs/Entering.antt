@@ -4,7 +4,7 @@ use Rattle.std.specs.Prelude.{Option, Some, is_some, Result, Ok, Err, IfOk, IfEr
 use Rattle.byte_text.specs.Names.{Bytes}
 use Rattle.outside.specs.Sides.{Sides}
 use Rattle.world_model.specs.Histories.{Step, answer, is_log_fault}
-use Rattle.world_model.specs.declared.events.Called.TheVariants as called
+use Rattle.world_model.specs.declared.events.CallOutcome.TheVariants as called
 use Rattle.world_model.specs.declared.events.Event.TheVariants as event
 use Rattle.world_model.specs.declared.events.Outcome.{Outcome}
 use Rattle.log_record.specs.Journals.{Journal, TellsNow}

@@ -11,7 +11,7 @@ use Rattle.world_data.specs.declared.worlds.World.{World}
 use Rattle.world_model.specs.Halls.{Hall}
 use Rattle.world_model.specs.Histories.{Step, answer}
 use Rattle.world_model.specs.Laws.{StepsAreDetermined}
-use Rattle.world_model.specs.declared.events.Called.TheVariants as called
+use Rattle.world_model.specs.declared.events.CallOutcome.TheVariants as called
 use Rattle.world_model.specs.declared.events.Event.{Event}
 use Rattle.world_model.specs.declared.events.Event.TheVariants as event
 use Rattle.world_model.specs.declared.events.Outcome.{Outcome}

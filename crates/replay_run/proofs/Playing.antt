@@ -9,8 +9,8 @@ use Rattle.script_text.specs.declared.lines.ScriptLine.{ScriptLine}
 use Rattle.script_text.specs.declared.lines.ScriptLine.TheVariants as says
 use Rattle.world_model.specs.Halls.{Hall}
 use Rattle.world_model.specs.Histories.{StepBy, Step, answer, refusal_going}
-use Rattle.world_model.specs.declared.events.Called.{Called}
-use Rattle.world_model.specs.declared.events.Called.TheVariants as called
+use Rattle.world_model.specs.declared.events.CallOutcome.{CallOutcome}
+use Rattle.world_model.specs.declared.events.CallOutcome.TheVariants as called
 use Rattle.world_model.specs.declared.events.Event.TheVariants as event
 use Rattle.replay_run.specs.Played.{Played}
 use Rattle.replay_run.specs.declared.ends.ReplayEnd.TheVariants as ended
@@ -156,7 +156,7 @@ going_next told first left0 left left' held0 held held' number used used' p p' d
     zero_plus n = omega arith
 
 -- a hall that goes on is retired, or the log fails
-pub retire_answers : (h end : Hall) (c : Called) → h.stopped ≡ false → Step h event.Retire (answer c) end → (c ≡ called.Ok) ⊎ (c ≡ called.LogFault)
+pub retire_answers : (h end : Hall) (c : CallOutcome) → h.stopped ≡ false → Step h event.Retire (answer c) end → (c ≡ called.Ok) ⊎ (c ≡ called.LogFault)
 retire_answers h end c goes s = by_step (while_going h.stopped h end event.Retire (answer c) goes s)
   where
     by_step : StepBy (refusal_going h event.Retire) h event.Retire (answer c) end → (c ≡ called.Ok) ⊎ (c ≡ called.LogFault)
@@ -164,7 +164,7 @@ retire_answers h end c goes s = by_step (while_going h.stopped h end event.Retir
     by_step (inr (inl m)) = let clash : false ≡ true = m.0 in absurd (cc)
     by_step (inr (inr d)) = let is : answer c ≡ answer called.Ok = d.0 in inl cc
 
-pub not_ok : (h end : Hall) (c : Called) → h.stopped ≡ false → Step h event.Retire (answer c) end → c ≢ called.Ok → c ≡ called.LogFault
+pub not_ok : (h end : Hall) (c : CallOutcome) → h.stopped ≡ false → Step h event.Retire (answer c) end → c ≢ called.Ok → c ≡ called.LogFault
 not_ok h end c goes s apart = by_answer (retire_answers h end c goes s)
   where
     by_answer : (c ≡ called.Ok) ⊎ (c ≡ called.LogFault) → c ≡ called.LogFault
@@ -172,7 +172,7 @@ not_ok h end c goes s apart = by_answer (retire_answers h end c goes s)
     by_answer (inr is) = is
 
 -- which turn a script ended with
-pub end_read : (turn : Turn) (number : ℕ) (c : Called) → end_of turn number c ≡ ended.ReadFault → turn ≡ ReadFault
+pub end_read : (turn : Turn) (number : ℕ) (c : CallOutcome) → end_of turn number c ≡ ended.ReadFault → turn ≡ ReadFault
 end_read ReadFault number c e = refl
 end_read End number called.Ok e = absurd (cc)
 end_read End number called.Full e = absurd (cc)
@@ -187,7 +187,7 @@ end_read (Halted halt) number c e = absurd (cc)
 end_read Next number c e = absurd (cc)
 end_read Again number c e = absurd (cc)
 
-pub end_write : (turn : Turn) (number : ℕ) (c : Called) → end_of turn number c ≡ ended.WriteFault → turn ≡ WriteFault
+pub end_write : (turn : Turn) (number : ℕ) (c : CallOutcome) → end_of turn number c ≡ ended.WriteFault → turn ≡ WriteFault
 end_write WriteFault number c e = refl
 end_write End number called.Ok e = absurd (cc)
 end_write End number called.Full e = absurd (cc)
@@ -203,7 +203,7 @@ end_write Next number c e = absurd (cc)
 end_write Again number c e = absurd (cc)
 
 -- the disk failed in the last turn, or at the retirement behind it
-pub end_disk : (turn : Turn) (number : ℕ) (c : Called) → end_of turn number c ≡ ended.Halted halted.DiskFault → (turn ≡ Halted halted.DiskFault) ⊎ ((turn ≡ End) × (c ≢ called.Ok))
+pub end_disk : (turn : Turn) (number : ℕ) (c : CallOutcome) → end_of turn number c ≡ ended.Halted halted.DiskFault → (turn ≡ Halted halted.DiskFault) ⊎ ((turn ≡ End) × (c ≢ called.Ok))
 end_disk (Halted halt) number c e = let is : halt ≡ halted.DiskFault = cc in inl (ap Halted is)
 end_disk End number called.Ok e = absurd (cc)
 end_disk End number called.Full e = inr (refl, λ is. cc)
@@ -234,10 +234,10 @@ module _ (told : Bool) (first : Played) (Ends : List Deed → Type 0) (left0 lef
   done_still : held' ≡ held → AreDone told first held0 held' g.front p deeds []
   done_still is = record { out = g.out; runs = g.runs; written = subst (λ (o : Bytes). Appends held0 held' o) (sym (append-nil g.out)) (kept_held held0 held held' g.out is g.written) }
 
-  none_more : (answered : Called) → more ≡ [] → Ends ((deeds ++ more) ++ retired answered) → Ends (deeds ++ retired answered)
+  none_more : (answered : CallOutcome) → more ≡ [] → Ends ((deeds ++ more) ++ retired answered) → Ends (deeds ++ retired answered)
   none_more answered is e = subst (λ (z : List Deed). Ends (z ++ retired answered)) (ap (λ (z : List Deed). deeds ++ z) is ∙ append-nil deeds) e
 
-  read_all : OnTurn told End left left' held held' p p' used used' more → (answered : Called) → Retires p'.hall answered → Ends ((deeds ++ more) ++ retired answered) → IsRead told first Ends left0 left' held0 held' answered []
+  read_all : OnTurn told End left left' held held' p p' used used' more → (answered : CallOutcome) → Retires p'.hall answered → Ends ((deeds ++ more) ++ retired answered) → IsRead told first Ends left0 left' held0 held' answered []
   read_all t answered r e = record {
     all = g.front;
     last = p;
@@ -252,14 +252,14 @@ module _ (told : Bool) (first : Played) (Ends : List Deed → Type 0) (left0 lef
   }
 
   -- a hall that went on was not retired, as the log failed
-  read_cut : OnTurn told End left left' held held' p p' used used' more → (answered : Called) → p.hall.stopped ≡ false → answered ≢ called.Ok → Retires p'.hall answered → Ends ((deeds ++ more) ++ retired answered)
+  read_cut : OnTurn told End left left' held held' p p' used used' more → (answered : CallOutcome) → p.hall.stopped ≡ false → answered ≢ called.Ok → Retires p'.hall answered → Ends ((deeds ++ more) ++ retired answered)
       → IsCut told first Ends left0 left' held0 held' halted.DiskFault []
   read_cut t answered goes apart r e =
       let here : Retires p.hall answered = subst (λ (z : Played). Retires z.hall answered) t.1 r in
       let failed : answered ≡ called.LogFault = not_ok p.hall here.end answered goes here.step apart in
-      inr (inr (refl, subst (λ (z : Called). IsRead told first Ends left0 left' held0 held' z []) failed (read_all t answered r e)))
+      inr (inr (refl, subst (λ (z : CallOutcome). IsRead told first Ends left0 left' held0 held' z []) failed (read_all t answered r e)))
 
-  pub ends_play : (turn : Turn) (answered : Called) → OnTurn told turn left left' held held' p p' used used' more → IsOneLine left left' → turn ≢ Next → turn ≢ Again → p.hall.stopped ≡ false
+  pub ends_play : (turn : Turn) (answered : CallOutcome) → OnTurn told turn left left' held held' p p' used used' more → IsOneLine left left' → turn ≢ Next → turn ≢ Again → p.hall.stopped ≡ false
       → Retires p'.hall answered → Ends ((deeds ++ more) ++ retired answered) → OnPlay told first Ends (end_of turn number answered) left0 left' held0 held'
   ends_play End called.Ok t piece last over goes r e = read_all t called.Ok r e
   ends_play End called.Full t piece last over goes r e = read_cut t called.Full goes (λ is. cc) r e
@@ -284,7 +284,7 @@ module _ (told : Bool) (first : Played) (Ends : List Deed → Type 0) (left0 lef
   }
   ends_play ReadFault answered t piece last over goes r e = before_all t.0 t.1 t.2 answered piece r e
     where
-      before_all : held' ≡ held → p' ≡ p → more ≡ [] → (answered : Called) → IsOneLine left left' → Retires p'.hall answered → Ends ((deeds ++ more) ++ retired answered) → IsBefore told first Ends left0 left' held0 held' []
+      before_all : held' ≡ held → p' ≡ p → more ≡ [] → (answered : CallOutcome) → IsOneLine left left' → Retires p'.hall answered → Ends ((deeds ++ more) ++ retired answered) → IsBefore told first Ends left0 left' held0 held' []
       before_all still same none answered piece r e = record {
         front = g.front;
         last = p;

@@ -11,8 +11,8 @@ use Rattle.world_data.specs.Sound.{IsSoundWorld}
 use Rattle.world_data.specs.declared.worlds.World.{World}
 use Rattle.world_model.specs.Halls.{Hall}
 use Rattle.world_model.specs.Histories.{opening_hall, Step, answer, is_log_fault, acked_count, EndsWith}
-use Rattle.world_model.specs.declared.events.Called.{Called}
-use Rattle.world_model.specs.declared.events.Called.TheVariants as called
+use Rattle.world_model.specs.declared.events.CallOutcome.{CallOutcome}
+use Rattle.world_model.specs.declared.events.CallOutcome.TheVariants as called
 use Rattle.world_model.specs.declared.events.Event.TheVariants as event
 use Rattle.world_model.specs.declared.events.Entry.{Entry}
 use Rattle.world_model.specs.declared.events.Opening.{Opening}
@@ -30,7 +30,7 @@ use Rattle.log_record.specs.Safety.{Run, moment_after, RecoversPassed, IsSafe, P
 use Rattle.log_record.specs.SafetyLaws.{passed_still, committed_passed}
 use Rattle.log_record.specs.Runs.{and_then, RunStood}
 use Rattle.log_record.specs.RunLaws.{openings_keep_runs_safe}
-use Rattle.log_worlds.specs.Recorded.{world_in}
+use Rattle.world_recovery.specs.Recorded.{world_in}
 use Rattle.durable_core.specs.Kept.{settled_log}
 use Rattle.durable_core.specs.Logged.{hall_of, disk_of, generation_of, IsLogOf, KeepsLogOf, GoesOn}
 use Rattle.durable_core.specs.Opened.{IsOpening}
@@ -183,7 +183,7 @@ module _ {D : Type 0} (crashes : D → Bool) (seen : D → Option Sides) (images
 
 module _ {D : Type 0} (crashes : D → Bool) (seen : D → Option Sides) (images : D → Sides → Type 0) (moment : D → ℕ) (left_since : D → ℕ → Sides → Type 0) (faults : D → ℕ) (tells : (d : D) → TellsNow images moment left_since d) where
   -- a core is retired
-  unfoldable pub retires_behind : (old mid : DurableCore D) (c : Called) (before : List Deed) → StandsBehind crashes seen images moment left_since faults old before → Step (hall_of old) event.Retire (answer c) (hall_of mid)
+  unfoldable pub retires_behind : (old mid : DurableCore D) (c : CallOutcome) (before : List Deed) → StandsBehind crashes seen images moment left_since faults old before → Step (hall_of old) event.Retire (answer c) (hall_of mid)
       → faults (disk_of old) ≤ faults (disk_of mid) → (is_log_fault (answer c) ≡ true → Rose (faults (disk_of old)) (faults (disk_of mid)))
       → ((j : Journal) → KeepsLogOf crashes seen images old j → GoesOn crashes seen images moment left_since old mid event.Retire (answer c) j)
       → IsBehind images moment left_since faults (disk_of mid) (hall_of mid) (before ++ does event.Retire (answer c) ∷ [])
@@ -191,7 +191,7 @@ module _ {D : Type 0} (crashes : D → Bool) (seen : D → Option Sides) (images
       let went = log s.behind.log s.kept in
       one_more crashes seen images moment left_since faults tells (disk_of old) (disk_of mid) (hall_of old) (hall_of mid) went.after event.Retire (answer c) before s.behind s.within step later cause (went.owes s.told).turn
 
-  retires_entries : (old mid : DurableCore D) (c : Called) (before : List Deed) (s : StandsBehind crashes seen images moment left_since faults old before) (step : Step (hall_of old) event.Retire (answer c) (hall_of mid))
+  retires_entries : (old mid : DurableCore D) (c : CallOutcome) (before : List Deed) (s : StandsBehind crashes seen images moment left_since faults old before) (step : Step (hall_of old) event.Retire (answer c) (hall_of mid))
       → (later : faults (disk_of old) ≤ faults (disk_of mid)) → (cause : is_log_fault (answer c) ≡ true → Rose (faults (disk_of old)) (faults (disk_of mid)))
       → (log : (j : Journal) → KeepsLogOf crashes seen images old j → GoesOn crashes seen images moment left_since old mid event.Retire (answer c) j)
       → (retires_behind old mid c before s step later cause log).entries ≡ s.behind.entries ++ record { event = event.Retire; outcome = answer c; note = []; moment = moment (disk_of mid); count = min (faults (disk_of mid)) most_count } ∷ []
@@ -204,17 +204,17 @@ module _ {D : Type 0} (crashes : D → Bool) (seen : D → Option Sides) (images
       → (c : Sides) → images (disk_of mid) c → Recovers c (hall_of mid).world
   shown_world old mid before s log = ((log s.behind.log s.kept).owes s.told).turn.shown refl
 
-  answered_ok : (c : Called) → does event.Retire (answer c) ≡ does event.Retire (answer called.Ok) → c ≡ called.Ok
+  answered_ok : (c : CallOutcome) → does event.Retire (answer c) ≡ does event.Retire (answer called.Ok) → c ≡ called.Ok
   answered_ok c same = cc
 
   -- and so is its disk safe
-  pub retires_safe : (old mid : DurableCore D) (c : Called) (before : List Deed) → StandsBehind crashes seen images moment left_since faults old before → Step (hall_of old) event.Retire (answer c) (hall_of mid)
+  pub retires_safe : (old mid : DurableCore D) (c : CallOutcome) (before : List Deed) → StandsBehind crashes seen images moment left_since faults old before → Step (hall_of old) event.Retire (answer c) (hall_of mid)
       → faults (disk_of old) ≤ faults (disk_of mid) → (is_log_fault (answer c) ≡ true → Rose (faults (disk_of old)) (faults (disk_of mid)))
       → ((j : Journal) → KeepsLogOf crashes seen images old j → GoesOn crashes seen images moment left_since old mid event.Retire (answer c) j)
       → IsSafeFor images left_since (disk_of mid) (before ++ does event.Retire (answer c) ∷ [])
   retires_safe old mid c before s step later cause log = safe_for crashes seen images moment left_since faults (disk_of mid) (hall_of mid) (before ++ does event.Retire (answer c) ∷ []) (retires_behind old mid c before s step later cause log)
       (λ others same. shown_world old mid before s
-      (subst (λ (z : Called). (j : Journal) → KeepsLogOf crashes seen images old j → GoesOn crashes seen images moment left_since old mid event.Retire (answer z) j)
+      (subst (λ (z : CallOutcome). (j : Journal) → KeepsLogOf crashes seen images old j → GoesOn crashes seen images moment left_since old mid event.Retire (answer z) j)
       (answered_ok c (one_last before others (does event.Retire (answer c)) (does event.Retire (answer called.Ok)) same)) log))
 
   -- it is opened again
@@ -264,7 +264,7 @@ module _ {D : Type 0} (crashes : D → Bool) (seen : D → Option Sides) (images
       }
 
   -- a retirement at which the log failed
-  pub unretired : (old mid : DurableCore D) (disk : D) (readers : List Reader) (c : Called) → disk ≡ disk_of mid → c ≢ called.Ok → (hall_of old).stopped ≡ false → Step (hall_of old) event.Retire (answer c) (hall_of mid) → (hall_of mid).stopped ≡ true
+  pub unretired : (old mid : DurableCore D) (disk : D) (readers : List Reader) (c : CallOutcome) → disk ≡ disk_of mid → c ≢ called.Ok → (hall_of old).stopped ≡ false → Step (hall_of old) event.Retire (answer c) (hall_of mid) → (hall_of mid).stopped ≡ true
       → faults (disk_of old) ≤ faults (disk_of mid) → (c ≡ called.LogFault → Rose (faults (disk_of old)) (faults (disk_of mid)))
       → ((j : Journal) → KeepsLogOf crashes seen images old j → GoesOn crashes seen images moment left_since old mid event.Retire (answer c) j)
       → (deeds : List Deed) × (last : Hall) × ((told : Bool) → (told ≡ true → Logs crashes seen images old) → ReopenFails told halted.DiskFault (record { hall = hall_of old; readers = readers }) deeds last) × (last.stopped ≡ true)
@@ -273,7 +273,7 @@ module _ {D : Type 0} (crashes : D → Bool) (seen : D → Option Sides) (images
       let failed : c ≡ called.LogFault = not_ok (hall_of old) (hall_of mid) c goes step apart in (
         does event.Retire (answer c) ∷ [],
         hall_of mid,
-        λ told logs. inl (subst (λ (z : Called). Step (hall_of old) event.Retire (answer z) (hall_of mid)) failed step, ap (λ (z : Called). does event.Retire (answer z) ∷ []) failed),
+        λ told logs. inl (subst (λ (z : CallOutcome). Step (hall_of old) event.Retire (answer z) (hall_of mid)) failed step, ap (λ (z : CallOutcome). does event.Retire (answer z) ∷ []) failed),
         stops,
         λ before s. subst (λ (d : D). IsSafeFor images left_since d (before ++ does event.Retire (answer c) ∷ [])) (sym is) (retires_safe old mid c before s step later (λ f. cause (call_failed c f)) log),
       )

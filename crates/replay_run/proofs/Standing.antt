@@ -9,7 +9,7 @@ use Rattle.outside.specs.Crashes.{EachImage}
 use Rattle.outside.specs.Sides.{Sides}
 use Rattle.world_model.specs.Halls.{Hall}
 use Rattle.world_model.specs.Histories.{opening_hall, Step, Reaches, gives_disk, is_log_fault, answer, IsLegal, EndsWith, IsRun}
-use Rattle.world_model.specs.declared.events.Called.TheVariants as called
+use Rattle.world_model.specs.declared.events.CallOutcome.TheVariants as called
 use Rattle.world_model.specs.declared.events.Event.{Event}
 use Rattle.world_model.specs.declared.events.Event.TheVariants.{Enter, Call, Take, Tick, Close, Remove, Rewrite, Retire}
 use Rattle.world_model.specs.declared.events.Outcome.{Outcome}

@@ -2,13 +2,13 @@
 use Rattle.std.specs.Prelude.{◌++◌, Option, Some, None, flat_map, codes, decimal}
 use Rattle.byte_text.specs.Names.{Bytes}
 use Rattle.script_text.specs.Escaped.{frame_line}
-use Rattle.world_model.specs.declared.events.Called.{Called}
-use Rattle.world_model.specs.declared.events.Called.TheVariants as called
+use Rattle.world_model.specs.declared.events.CallOutcome.{CallOutcome}
+use Rattle.world_model.specs.declared.events.CallOutcome.TheVariants as called
 use Rattle.world_model.specs.declared.events.Outcome.{Outcome}
 use Rattle.world_model.specs.declared.events.Outcome.TheVariants.{Done, Entered, TooMany, Answered, Given, Empty, Ended}
 
 -- what is printed of the answer to a call; nothing of those that end a script
-abbrev pub called_line : Called → Option Bytes
+abbrev pub called_line : CallOutcome → Option Bytes
 called_line called.Ok = Some (codes "ok\n")
 called_line called.Full = Some (codes "full\n")
 called_line called.Gone = Some (codes "gone\n")

@@ -12,8 +12,8 @@ use Rattle.outside.specs.declared.sides.Side.{Side}
 use Rattle.world_data.specs.declared.worlds.World.{World}
 use Rattle.world_model.specs.Halls.{Hall}
 use Rattle.world_model.specs.Histories.{Step, answer}
-use Rattle.world_model.specs.declared.events.Called.{Called}
-use Rattle.world_model.specs.declared.events.Called.TheVariants as called
+use Rattle.world_model.specs.declared.events.CallOutcome.{CallOutcome}
+use Rattle.world_model.specs.declared.events.CallOutcome.TheVariants as called
 use Rattle.world_model.specs.declared.events.Event.TheVariants as event
 use Rattle.replay_run.specs.TextLines.{TextLine, lines, size, size_of_all, IsShort}
 use Rattle.replay_run.specs.Reads.{IsFirstLine, HasNoLine}
@@ -32,22 +32,23 @@ use Rattle.replay_run.specs.declared.turns.Turn.{Turn}
 use Rattle.replay_run.specs.declared.turns.Turn.TheVariants.{Next, End, Script, Again, ReadFault, WriteFault, Halted}
 
 -- lines at the front of a script were done, which made these deeds; their output was written, and then this
-pub record AreDone (told : Bool) (first : Played) (held0 held : Option Bytes) (front : List TextLine) (last : Played) (deeds : List Deed) (tail : Bytes) : Type 0 where
+pub record AreDone (told : Bool) (first : Played) (held0 held : Option Bytes) (front : List TextLine) (last : Played) (deeds : List Deed)
+    (tail : Bytes) : Type 0 where
   pub out : Bytes
   pub runs : Runs told 0 first front (record { deeds = deeds; out = out }) last
   pub written : Appends held0 held (out ++ tail)
 
 -- the hall is retired, and answers so
-pub record Retires (h : Hall) (answered : Called) : Type 0 where
+pub record Retires (h : Hall) (answered : CallOutcome) : Type 0 where
   pub end : Hall
   pub step : Step h event.Retire (answer answered) end
 
-abbrev pub retired : Called → List Deed
+abbrev pub retired : CallOutcome → List Deed
 retired answered = does event.Retire (answer answered) ∷ []
 
 -- the hall is retired at last, unless it was before
 abbrev pub Closes : Hall → List Deed → Type 0
-Closes h closing = ((answered : Called) × Retires h answered × (closing ≡ retired answered)) ⊎ ((h.stopped ≡ true) × (closing ≡ []))
+Closes h closing = ((answered : CallOutcome) × Retires h answered × (closing ≡ retired answered)) ⊎ ((h.stopped ≡ true) × (closing ≡ []))
 
 -- of these bytes at most one line was read, and the others are left
 abbrev pub IsReadOf : Bytes → Option Bytes → Type 0
@@ -74,7 +75,8 @@ abbrev pub IsReadWith : Bytes → List TextLine → TextLine → Option Bytes �
 IsReadWith text front l left = (rest : Bytes) × (lines text ≡ front ++ l ∷ lines rest) × (left ≡ Some rest)
 
 -- the script was read to its end, each of its lines was done, and their output was written; the hall was retired, with this answer
-pub record IsRead (told : Bool) (first : Played) (Ends : List Deed → Type 0) (left0 left held0 held : Option Bytes) (answered : Called) (tail : Bytes) : Type 0 where
+pub record IsRead (told : Bool) (first : Played) (Ends : List Deed
+    → Type 0) (left0 left held0 held : Option Bytes) (answered : CallOutcome) (tail : Bytes) : Type 0 where
   pub all : List TextLine
   pub last : Played
   pub deeds : List Deed
@@ -89,7 +91,8 @@ IsDone told first Ends left0 left held0 held = IsRead told first Ends left0 left
 
 -- the line of this number, counted from 1, is the first that is none of a script; the lines before it were done and their output
 -- written, and then this
-pub record IsFaulty (told : Bool) (first : Played) (Ends : List Deed → Type 0) (left0 left held0 held : Option Bytes) (number : ℕ) (tail : Bytes) : Type 0 where
+pub record IsFaulty (told : Bool) (first : Played) (Ends : List Deed
+    → Type 0) (left0 left held0 held : Option Bytes) (number : ℕ) (tail : Bytes) : Type 0 where
   pub front : List TextLine
   pub last : Played
   pub deeds : List Deed
@@ -129,7 +132,8 @@ pub record IsWithinLine (told : Bool) (first : Played) (Ends : List Deed → Typ
   pub told_is : (text : Bytes) → left0 ≡ Some text → IsReadWith text front l left
 
 -- the lines before the last one that was read were done and their output written, and then this; that one was not done
-pub record IsHalted (told : Bool) (first : Played) (Ends : List Deed → Type 0) (left0 left held0 held : Option Bytes) (halt : Halt) (tail : Bytes) : Type 0 where
+pub record IsHalted (told : Bool) (first : Played) (Ends : List Deed
+    → Type 0) (left0 left held0 held : Option Bytes) (halt : Halt) (tail : Bytes) : Type 0 where
   pub front : List TextLine
   pub before : Played
   pub deeds : List Deed
@@ -155,14 +159,16 @@ IsCut told first Ends left0 left held0 held halt tail = IsHalted told first Ends
 -- were read before it and are read now
 abbrev pub OnTurn : Bool → Turn → Option Bytes → Option Bytes → Option Bytes → Option Bytes → Played → Played → ℕ → ℕ → List Deed → Type 0
 OnTurn told Next left left' held held' p p' used used' deeds =
-    (l : TextLine) × (out : Bytes) × IsFirstLine left left' l × Does told used p l (record { deeds = deeds; out = out }) p' × (used' ≡ used + size l) × Appends held held' out
+    (l : TextLine) × (out : Bytes) × IsFirstLine left left' l × Does told used p l (record { deeds = deeds; out = out }) p' × (used' ≡ used + size l)
+    × Appends held held' out
 OnTurn told End left left' held held' p p' used used' deeds = (held' ≡ held) × (p' ≡ p) × (deeds ≡ []) × HasNoLine left left'
 OnTurn told Script left left' held held' p p' used used' deeds = (held' ≡ held) × (p' ≡ p) × (deeds ≡ []) × ((text : Bytes) → left ≡ Some text →
     (l : TextLine) × (behind : List TextLine) × (lines text ≡ l ∷ behind) × (IsLine used l → ⊥))
 OnTurn told Again left left' held held' p p' used used' deeds = (held' ≡ held) × (p' ≡ p) × (deeds ≡ []) × ((l : TextLine)
     × IsFirstLine left left' l × IsShort used l × (line l.bytes ≡ Some says.Reopen) × (used' ≡ used + size l))
 OnTurn told WriteFault left left' held held' p p' used used' deeds =
-    (l : TextLine) × (out : Bytes) × (part : Bytes) × IsFirstLine left left' l × Does told used p l (record { deeds = deeds; out = out }) p' × IsPrefix part out × Appends held held' part
+    (l : TextLine) × (out : Bytes) × (part : Bytes) × IsFirstLine left left' l × Does told used p l (record { deeds = deeds; out = out }) p'
+    × IsPrefix part out × Appends held held' part
 OnTurn told ReadFault left left' held held' p p' used used' deeds = (held' ≡ held) × (p' ≡ p) × (deeds ≡ [])
 OnTurn told (Halted halt) left left' held held' p p' used used' deeds = (held' ≡ held)
     × (((l : TextLine) × IsFirstLine left left' l × IsUndone told halt used p l deeds p'.hall) ⊎ ((halt ≡ halted.Memory) × (p' ≡ p) × (deeds ≡ [])))
@@ -179,14 +185,16 @@ OnPlay told first Ends (ended.Unopened halt) left0 left held0 held = ⊥
 -- what was done of the line of these bytes: all, with its output, or it opens all again, and nothing is done so far, or it is none of a
 -- script
 abbrev pub ActsOn : Bool → Played → Played → Bytes → List Deed → Acted → Type 0
-ActsOn told p next bytes deeds (Printed out) = (said : ScriptLine) × (line bytes ≡ Some said) × Acts told p said (record { deeds = deeds; out = out }) next
+ActsOn told p next bytes deeds (Printed out) = (said : ScriptLine) × (line bytes ≡ Some said)
+    × Acts told p said (record { deeds = deeds; out = out }) next
 ActsOn told p next bytes deeds Reopen = (line bytes ≡ Some says.Reopen) × (next ≡ p) × (deeds ≡ [])
 ActsOn told p next bytes deeds Outside = (line bytes ≡ None) × (next ≡ p) × (deeds ≡ [])
 
 -- a line that was read, and done
 abbrev pub OnLineDone : Bool → Turn → Option Bytes → Option Bytes → Played → Played → Bytes → List Deed → Type 0
 OnLineDone told Next held held' p p' bytes deeds = (out : Bytes) × ActsOn told p p' bytes deeds (Printed out) × Appends held held' out
-OnLineDone told WriteFault held held' p p' bytes deeds = (out : Bytes) × (part : Bytes) × ActsOn told p p' bytes deeds (Printed out) × IsPrefix part out × Appends held held' part
+OnLineDone told WriteFault held held' p p' bytes deeds = (out : Bytes) × (part : Bytes) × ActsOn told p p' bytes deeds (Printed out)
+    × IsPrefix part out × Appends held held' part
 OnLineDone told Script held held' p p' bytes deeds = (held' ≡ held) × ActsOn told p p' bytes deeds Outside
 OnLineDone told Again held held' p p' bytes deeds = (held' ≡ held) × ActsOn told p p' bytes deeds Reopen
 OnLineDone told (Halted halt) held held' p p' bytes deeds = (held' ≡ held) × FailsOn told halt p bytes deeds p'.hall
@@ -204,7 +212,7 @@ IsTold Again held held' w = ⊥
 IsTold ReadFault held held' w = ⊥
 
 -- how a script ends with its last turn, at the line of this number, where its hall was retired with this answer
-abbrev pub end_of : Turn → ℕ → Called → ReplayEnd
+abbrev pub end_of : Turn → ℕ → CallOutcome → ReplayEnd
 end_of End number called.Ok = ended.Done
 end_of End number answered = ended.Halted halted.DiskFault
 end_of Script number answered = ended.Script number

@@ -9,7 +9,7 @@ use Rattle.world_model.specs.Halls.{Hall}
 use Rattle.world_model.specs.Histories.{Step, opening_hall, answer}
 use Rattle.world_data.specs.Sound.{IsSoundWorld}
 use Rattle.world_data.specs.declared.worlds.World.{World}
-use Rattle.world_model.specs.declared.events.Called.TheVariants as called
+use Rattle.world_model.specs.declared.events.CallOutcome.TheVariants as called
 use Rattle.world_model.specs.declared.events.Event.{Event}
 use Rattle.world_model.specs.declared.events.Event.TheVariants as event
 use Rattle.world_model.specs.declared.events.Outcome.{Outcome}
@@ -34,7 +34,8 @@ pub record Makes (h : Hall) (e : Event) (t : Trace) (next : Hall) : Type 0 where
 -- events one behind another, and what is printed of their endings
 abbrev pub MakesEach : Hall → List Event → Trace → Hall → Type 0
 MakesEach h [] t last = (t ≡ no_trace) × (last ≡ h)
-MakesEach h (e ∷ events) t last = (next : Hall) × (now : Trace) × (behind : Trace) × Makes h e now next × MakesEach next events behind last × (t ≡ joined now behind)
+MakesEach h (e ∷ events) t last = (next : Hall) × (now : Trace) × (behind : Trace) × Makes h e now next × MakesEach next events behind last
+    × (t ≡ joined now behind)
 
 -- an event that leaves the readers as they are
 abbrev pub MakesOne : Played → Event → Trace → Played → Type 0
@@ -60,7 +61,8 @@ FedTo h n m (Some rest) bytes t next unread = Calls h n m (stream_of (rest ++ by
 -- bytes are fed to the session's reader, where it has one
 abbrev pub Feeds : Played → ℕ → ℕ → Bytes → Option Reader → Trace → Played → Type 0
 Feeds p n m bytes None t next = (t ≡ printing (codes "gone\n")) × (next ≡ p)
-Feeds p n m bytes (Some r) t next = (unread : Unread) × FedTo p.hall n m r.unread bytes t next.hall unread × (next.readers ≡ with_unread n unread p.readers)
+Feeds p n m bytes (Some r) t next = (unread : Unread) × FedTo p.hall n m r.unread bytes t next.hall unread
+    × (next.readers ≡ with_unread n unread p.readers)
 
 -- the line of a world that was opened again
 abbrev pub reopened_line : World → Bytes
@@ -105,4 +107,5 @@ pub record Does (told : Bool) (before : ℕ) (p : Played) (l : TextLine) (t : Tr
 -- what lines do one behind another, with their output
 abbrev pub Runs : Bool → ℕ → Played → List TextLine → Trace → Played → Type 0
 Runs told before p [] t last = (t ≡ no_trace) × (last ≡ p)
-Runs told before p (l ∷ ls) t last = (next : Played) × (now : Trace) × (behind : Trace) × Does told before p l now next × Runs told (before + size l) next ls behind last × (t ≡ joined now behind)
+Runs told before p (l ∷ ls) t last = (next : Played) × (now : Trace) × (behind : Trace) × Does told before p l now next
+    × Runs told (before + size l) next ls behind last × (t ≡ joined now behind)

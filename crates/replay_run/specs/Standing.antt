@@ -5,7 +5,7 @@ use Rattle.outside.specs.Crashes.{EachImage}
 use Rattle.outside.specs.Sides.{Sides}
 use Rattle.world_model.specs.Halls.{Hall}
 use Rattle.world_model.specs.Histories.{IsRun, answer}
-use Rattle.world_model.specs.declared.events.Called.TheVariants as called
+use Rattle.world_model.specs.declared.events.CallOutcome.TheVariants as called
 use Rattle.world_model.specs.declared.events.Event.TheVariants as event
 use Rattle.world_model.specs.declared.events.Entry.{Entry}
 use Rattle.world_model.specs.declared.events.Opening.{Opening}
@@ -29,7 +29,8 @@ pub record IsSafeFor {D : Type 0} (images : D → Sides → Type 0) (left_since 
       → EachImage (images disk) (RecoversPassed (RunPasses run) (length (entries_of run)) (length (entries_of run)))
 
 -- these deeds are those of a run, whose last history leads to a hall; a disk is safe for the run
-pub record IsBehind {D : Type 0} (images : D → Sides → Type 0) (moment : D → ℕ) (left_since : D → ℕ → Sides → Type 0) (faults : D → ℕ) (disk : D) (h : Hall) (deeds : List Deed) : Type 0 where
+pub record IsBehind {D : Type 0} (images : D → Sides → Type 0) (moment : D → ℕ) (left_since : D → ℕ → Sides → Type 0) (faults : D
+    → ℕ) (disk : D) (h : Hall) (deeds : List Deed) : Type 0 where
   pub run : Run
   pub opening : Opening
   pub entries : List Entry
@@ -41,7 +42,8 @@ pub record IsBehind {D : Type 0} (images : D → Sides → Type 0) (moment : D �
   pub counted : count_after opening.count entries ≤ min (faults disk) most_count
 
 -- so does a core's hall, which goes on; and its log is kept
-pub record StandsBehind {D : Type 0} (crashes : D → Bool) (seen : D → Option Sides) (images : D → Sides → Type 0) (moment : D → ℕ) (left_since : D → ℕ → Sides → Type 0) (faults : D → ℕ) (core : DurableCore D) (deeds : List Deed) : Type 0 where
+pub record StandsBehind {D : Type 0} (crashes : D → Bool) (seen : D → Option Sides) (images : D → Sides → Type 0) (moment : D → ℕ) (left_since : D → ℕ
+    → Sides → Type 0) (faults : D → ℕ) (core : DurableCore D) (deeds : List Deed) : Type 0 where
   pub behind : IsBehind images moment left_since faults (disk_of core) (hall_of core) deeds
   pub kept : KeepsLogOf crashes seen images core behind.log
   pub within : out_after false behind.entries ≡ false
@@ -52,9 +54,11 @@ abbrev pub Logs : {D : Type 0} → (D → Bool) → (D → Option Sides) → (D 
 Logs crashes seen images core = (j : Journal) × KeepsLogOf crashes seen images core j
 
 -- from one core to another these deeds were made: a log is kept still, and the disk stays safe for all
-pub record StaysSafe {D : Type 0} (crashes : D → Bool) (seen : D → Option Sides) (images : D → Sides → Type 0) (moment : D → ℕ) (left_since : D → ℕ → Sides → Type 0) (faults : D → ℕ) (old new : DurableCore D) (deeds : List Deed) : Type 0 where
+pub record StaysSafe {D : Type 0} (crashes : D → Bool) (seen : D → Option Sides) (images : D → Sides → Type 0) (moment : D → ℕ) (left_since : D → ℕ
+    → Sides → Type 0) (faults : D → ℕ) (old new : DurableCore D) (deeds : List Deed) : Type 0 where
   pub logs : Logs crashes seen images old → Logs crashes seen images new
-  pub stands : (before : List Deed) → StandsBehind crashes seen images moment left_since faults old before → StandsBehind crashes seen images moment left_since faults new (before ++ deeds)
+  pub stands : (before : List Deed) → StandsBehind crashes seen images moment left_since faults old before
+      → StandsBehind crashes seen images moment left_since faults new (before ++ deeds)
 
 -- some deeds were made, of which P and `Keeps` hold
 abbrev pub Left : (List Deed → Type 0) → (List Deed → Type 0) → Type 0
@@ -63,7 +67,9 @@ Left Keeps P = (deeds : List Deed) × P deeds × Keeps deeds
 -- What comes of the calls of a line, from one core to another. Where they were done, P holds of the answer and of the deeds that were
 -- made, and the hall goes on; where not, Q holds of the cause and of what was made. Over both the disk stays safe, and it is the cause
 -- only where its count rose.
-pub record Comes {D T : Type 0} (crashes : D → Bool) (seen : D → Option Sides) (images : D → Sides → Type 0) (moment : D → ℕ) (left_since : D → ℕ → Sides → Type 0) (faults : D → ℕ) (old new : DurableCore D) (P : T → List Deed → Type 0) (Q : Halt → List Deed → Type 0) (result : Result T Halt) : Type 0 where
+pub record Comes {D T : Type 0} (crashes : D → Bool) (seen : D → Option Sides) (images : D → Sides → Type 0) (moment : D → ℕ) (left_since : D → ℕ
+    → Sides → Type 0) (faults : D → ℕ) (old new : DurableCore D) (P : T → List Deed → Type 0) (Q : Halt → List Deed
+    → Type 0) (result : Result T Halt) : Type 0 where
   pub done : IfOk result (λ x. Left (StaysSafe crashes seen images moment left_since faults old new) (P x))
   pub failed : IfErr result (λ halt. Left (StaysSafe crashes seen images moment left_since faults old new) (Q halt))
   pub goes : OnOk result ((hall_of new).stopped ≡ false)

@@ -9,7 +9,7 @@ use Rattle.outside.specs.declared.sides.Side.{Side}
 use Rattle.world_data.specs.Limits.{most_logged}
 use Rattle.world_model.specs.Halls.{Hall}
 use Rattle.world_model.specs.Histories.{Step, answer}
-use Rattle.world_model.specs.declared.events.Called.TheVariants as called
+use Rattle.world_model.specs.declared.events.CallOutcome.TheVariants as called
 use Rattle.world_model.specs.declared.events.Event.{Event}
 use Rattle.world_model.specs.declared.events.Event.TheVariants as event
 use Rattle.world_model.specs.declared.events.Outcome.{Outcome}
@@ -64,7 +64,8 @@ WantsMemory halt h deeds last = (halt ≡ halted.Memory) × (deeds ≡ []) × (l
 abbrev pub FailsEach : Halt → Hall → List Event → List Deed → Hall → Type 0
 FailsEach halt h [] deeds last = WantsMemory halt h deeds last
 FailsEach halt h (e ∷ events) deeds last = Fails halt h e deeds last
-    ⊎ ((next : Hall) × (now : Trace) × (behind : List Deed) × Makes h e now next × FailsEach halt next events behind last × (deeds ≡ now.deeds ++ behind))
+    ⊎ ((next : Hall) × (now : Trace) × (behind : List Deed) × Makes h e now next × FailsEach halt next events behind last
+    × (deeds ≡ now.deeds ++ behind))
 
 -- so does a call that more bytes of a stream bring
 abbrev pub FedFails : Halt → Hall → ℕ → ℕ → Unread → Bytes → List Deed → Hall → Type 0
@@ -95,7 +96,8 @@ ActsFail told halt p says.Reopen deeds last = ReopenFails told halt p deeds last
 
 -- the line of these bytes is not done; where memory wants it may not have been read
 abbrev pub FailsOn : Bool → Halt → Played → Bytes → List Deed → Hall → Type 0
-FailsOn told halt p bytes deeds last = WantsMemory halt p.hall deeds last ⊎ ((said : ScriptLine) × (line bytes ≡ Some said) × ActsFail told halt p said deeds last)
+FailsOn told halt p bytes deeds last = WantsMemory halt p.hall deeds last ⊎ ((said : ScriptLine) × (line bytes ≡ Some said)
+    × ActsFail told halt p said deeds last)
 
 -- a line that stands behind this many bytes is not done
 pub record IsUndone (told : Bool) (halt : Halt) (before : ℕ) (p : Played) (l : TextLine) (deeds : List Deed) (last : Hall) : Type 0 where

@@ -22,9 +22,10 @@ use durable_core::DurableCore;
 use outside::Disk;
 use script_text::{LineFault, ScriptLine, line_of};
 use std::alloc::Global;
-use world_model::{EnterFault, Frames, Touched};
+use world_model::{ChangedSessions, EnterFault, Frames};
 
-/// What the lines of a script that were played have made: a core over a disk, and the readers of the sessions that were entered.
+/// What the lines of a script that were played have made: a core over a disk, and the readers of the sessions that were
+/// entered.
 #[derive(Drop)]
 pub(crate) struct Player<D> {
     pub(crate) alloc: Global,
@@ -33,7 +34,7 @@ pub(crate) struct Player<D> {
     // The places that a take gives its frames into; empty between two lines.
     pub(crate) frames: Frames,
     // Who was changed by the last call; nobody in a script waits to be told.
-    pub(crate) touched: Touched,
+    pub(crate) touched: ChangedSessions,
     ghost empty: { frames ≡ record { list = []; places = take_frames } },
 }
 
@@ -70,8 +71,10 @@ impl<D: Disk> Player<D> {
         requires moment { moment ≤ max_moment }
         requires goes { (hall_of self.old.core).stopped ≡ false }
         ensures made { Comes D.crashes D.seen D.images D.moment D.left_since D.faults self.old.core self.new.core
-            (λ out deeds. Feeds (played self.old) session moment bytes.now (reader_of session self.old.readers.items) (trace deeds out) (played self.new))
-            (λ halt deeds. FeedsFails halt (hall_of self.old.core) session moment bytes.now (reader_of session self.old.readers.items) deeds (hall_of self.new.core)) result }
+            (λ out deeds. Feeds (played self.old) session moment bytes.now (reader_of session self.old.readers.items)
+            (trace deeds out) (played self.new))
+            (λ halt deeds. FeedsFails halt (hall_of self.old.core) session moment bytes.now
+            (reader_of session self.old.readers.items) deeds (hall_of self.new.core)) result }
     {
         feed(
             self.alloc,
@@ -89,7 +92,8 @@ impl<D: Disk> Player<D> {
         requires goes { (hall_of self.old.core).stopped ≡ false }
         ensures made { Comes D.crashes D.seen D.images D.moment D.left_since D.faults self.old.core self.new.core
             (λ out deeds. Closes (played self.old) session (trace deeds out) (played self.new))
-            (λ halt deeds. Fails halt (hall_of self.old.core) (event.Close session) deeds (hall_of self.new.core)) result }
+            (λ halt deeds. Fails halt (hall_of self.old.core) (event.Close session) deeds
+            (hall_of self.new.core)) result }
     {
         drop_reader(&mut self.readers, session);
         close(self.alloc, &mut self.core, session)
@@ -102,7 +106,8 @@ impl<D: Disk> Player<D> {
         requires goes { (hall_of self.old.core).stopped ≡ false }
         ensures made { Comes D.crashes D.seen D.images D.moment D.left_since D.faults self.old.core self.new.core
             (λ out deeds. (told : Bool) → Acts told (played self.old) said (trace deeds out) (played self.new))
-            (λ halt deeds. (told : Bool) → ActsFail told halt (played self.old) said deeds (hall_of self.new.core)) result }
+            (λ halt deeds. (told : Bool)
+            → ActsFail told halt (played self.old) said deeds (hall_of self.new.core)) result }
     {
         match said {
             ScriptLine::Nothing => Ok(Text::new(self.alloc)),
@@ -120,12 +125,14 @@ impl<D: Disk> Player<D> {
         }
     }
 
-    /// Does what a line says, but for opening all again, and answers its output; where the line is none of a script nothing is done.
+    /// Does what a line says, but for opening all again, and answers its output; where the line is none of a script
+    /// nothing is done.
     pub(crate) fn act(&mut self, line: &[u8]) -> Result<Acted, Halt>
         requires goes { (hall_of self.old.core).stopped ≡ false }
         ensures made { Comes D.crashes D.seen D.images D.moment D.left_since D.faults self.old.core self.new.core
             (λ acted deeds. (told : Bool) → ActsOn told (played self.old) (played self.new) line.now deeds acted)
-            (λ halt deeds. (told : Bool) → FailsOn told halt (played self.old) line.now deeds (hall_of self.new.core)) result }
+            (λ halt deeds. (told : Bool)
+            → FailsOn told halt (played self.old) line.now deeds (hall_of self.new.core)) result }
     {
         match line_of(self.alloc, line) {
             Ok(ScriptLine::Reopen) => Ok(Acted::Reopen),

@@ -18,23 +18,23 @@ use byte_text::Text;
 use durable_core::DurableCore;
 use outside::Disk;
 use std::alloc::Global;
-use world_model::{Asked, Called, Frames, Taken, Touched};
+use world_model::{Asked, CallOutcome, ChangedSessions, Frames, Taken};
 
 // What is printed of the answer to a call; a script ends at the others.
-fn called_text(alloc: Global, called: Called) -> Result<Text, Halt>
-    requires { called ≢ Called.Stopped }
+fn called_text(alloc: Global, called: CallOutcome) -> Result<Text, Halt>
+    requires { called ≢ CallOutcome.Stopped }
     ensures done { IfOk result (λ out. printed (outcome.Answered called) ≡ Some out) }
     ensures failed { IfErr result (λ halt. IsUnprinted halt (outcome.Answered called)) }
 {
     match called {
-        Called::Ok => text_of(alloc, b"ok\n"),
-        Called::Full => text_of(alloc, b"full\n"),
-        Called::Gone => text_of(alloc, b"gone\n"),
-        Called::LogFault => Err(Halt::DiskFault),
-        Called::Spent => Err(Halt::Spent),
-        Called::Memory => Err(Halt::Memory),
+        CallOutcome::Ok => text_of(alloc, b"ok\n"),
+        CallOutcome::Full => text_of(alloc, b"full\n"),
+        CallOutcome::Gone => text_of(alloc, b"gone\n"),
+        CallOutcome::LogFault => Err(Halt::DiskFault),
+        CallOutcome::Spent => Err(Halt::Spent),
+        CallOutcome::Memory => Err(Halt::Memory),
         // A script ends where its hall stops.
-        Called::Stopped => unreachable!(),
+        CallOutcome::Stopped => unreachable!(),
     }
 }
 
@@ -45,13 +45,16 @@ pub(crate) fn call<D: Disk>(
     session: u32,
     moment: u64,
     asked: &Asked,
-    touched: &mut Touched,
+    touched: &mut ChangedSessions,
 ) -> Result<Text, Halt>
     requires moment { moment ≤ max_moment }
     requires proper { is_proper asked.now ≡ true }
     requires goes { (hall_of core.old).stopped ≡ false }
     ensures made { Comes D.crashes D.seen D.images D.moment D.left_since D.faults core.old core.new
-        (λ out deeds. Makes (hall_of core.old) (event.Call session moment asked.now) (trace deeds out) (hall_of core.new)) (λ halt deeds. Fails halt (hall_of core.old) (event.Call session moment asked.now) deeds (hall_of core.new)) result }
+        (λ out deeds. Makes (hall_of core.old) (event.Call session moment asked.now) (trace deeds out)
+        (hall_of core.new))
+        (λ halt deeds. Fails halt (hall_of core.old) (event.Call session moment asked.now) deeds
+        (hall_of core.new)) result }
 {
     // Nobody waits for frames in a script, so nobody is woken.
     touched.clear();
@@ -64,12 +67,13 @@ pub(crate) fn tick<D: Disk>(
     alloc: Global,
     core: &mut DurableCore<D>,
     moment: u64,
-    touched: &mut Touched,
+    touched: &mut ChangedSessions,
 ) -> Result<Text, Halt>
     requires moment { moment ≤ max_moment }
     requires goes { (hall_of core.old).stopped ≡ false }
     ensures made { Comes D.crashes D.seen D.images D.moment D.left_since D.faults core.old core.new
-        (λ out deeds. Makes (hall_of core.old) (event.Tick moment) (trace deeds out) (hall_of core.new)) (λ halt deeds. Fails halt (hall_of core.old) (event.Tick moment) deeds (hall_of core.new)) result }
+        (λ out deeds. Makes (hall_of core.old) (event.Tick moment) (trace deeds out) (hall_of core.new))
+        (λ halt deeds. Fails halt (hall_of core.old) (event.Tick moment) deeds (hall_of core.new)) result }
 {
     touched.clear();
     let called = core.tick(moment, touched);
@@ -80,7 +84,8 @@ pub(crate) fn tick<D: Disk>(
 pub(crate) fn step<D: Disk>(alloc: Global, core: &mut DurableCore<D>) -> Result<Text, Halt>
     requires goes { (hall_of core.old).stopped ≡ false }
     ensures made { Comes D.crashes D.seen D.images D.moment D.left_since D.faults core.old core.new
-        (λ out deeds. Makes (hall_of core.old) event.Rewrite (trace deeds out) (hall_of core.new)) (λ halt deeds. Fails halt (hall_of core.old) event.Rewrite deeds (hall_of core.new)) result }
+        (λ out deeds. Makes (hall_of core.old) event.Rewrite (trace deeds out) (hall_of core.new))
+        (λ halt deeds. Fails halt (hall_of core.old) event.Rewrite deeds (hall_of core.new)) result }
 {
     let called = core.step_rewrite();
     called_text(alloc, called)
@@ -111,7 +116,8 @@ pub(crate) fn take<D: Disk>(
     requires empty { frames.old ≡ record { list = []; places = take_frames } }
     requires goes { (hall_of core.old).stopped ≡ false }
     ensures made { Comes D.crashes D.seen D.images D.moment D.left_since D.faults core.old core.new
-        (λ out deeds. Makes (hall_of core.old) (event.Take session) (trace deeds out) (hall_of core.new)) (λ halt deeds. Fails halt (hall_of core.old) (event.Take session) deeds (hall_of core.new)) result }
+        (λ out deeds. Makes (hall_of core.old) (event.Take session) (trace deeds out) (hall_of core.new))
+        (λ halt deeds. Fails halt (hall_of core.old) (event.Take session) deeds (hall_of core.new)) result }
     ensures cleared { frames.new ≡ record { list = []; places = take_frames } }
 {
     let taken = core.take(session, frames);
@@ -128,7 +134,8 @@ pub(crate) fn close<D: Disk>(
 ) -> Result<Text, Halt>
     requires goes { (hall_of core.old).stopped ≡ false }
     ensures made { Comes D.crashes D.seen D.images D.moment D.left_since D.faults core.old core.new
-        (λ out deeds. Makes (hall_of core.old) (event.Close session) (trace deeds out) (hall_of core.new)) (λ halt deeds. Fails halt (hall_of core.old) (event.Close session) deeds (hall_of core.new)) result }
+        (λ out deeds. Makes (hall_of core.old) (event.Close session) (trace deeds out) (hall_of core.new))
+        (λ halt deeds. Fails halt (hall_of core.old) (event.Close session) deeds (hall_of core.new)) result }
 {
     core.close_session(session);
     text_of(alloc, b"ok\n")

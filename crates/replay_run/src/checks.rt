@@ -16,7 +16,7 @@ use durable_core::DurableCore;
 use journal::Unopened;
 use outside::Disk;
 use std::alloc::Global;
-use world_model::Called;
+use world_model::CallOutcome;
 
 /// What was found on a disk that was opened and retired, how that was answered, and the disk.
 #[derive(Drop)]
@@ -25,22 +25,26 @@ pub struct Checked<D> {
     pub channels: u64,
     /// The generation of its log.
     pub generation: u64,
-    pub answer: Called,
+    pub answer: CallOutcome,
     pub disk: D,
 }
 
 /// Opens the world on a disk, counts what it has, and retires it.
 ///
-/// Where the disk tells what it holds and what a crash may leave, the disk that comes back is safe for that: whatever a crash might have
-/// left since the opening is recovered as the world that was found.
+/// Where the disk tells what it holds and what a crash may leave, the disk that comes back is safe for that: whatever a
+/// crash might have left since the opening is recovered as the world that was found.
 pub fn check<D: Disk>(alloc: Global, disk: D) -> Result<Checked<D>, Unopened<D>>
-    ensures found { IfOk result (λ c. (w : World) × (logged : ℕ) × IsFound (D.seen disk) w logged c.objects c.channels c.answer
-        × ((s : Sides) → D.seen disk ≡ Some s → D.crashes disk ≡ true → IsSafeFor D.images D.left_since c.disk (opens w logged ∷ retired c.answer))) }
-    ensures generation { (s : Sides) → D.seen disk ≡ Some s → IfOk result (λ c. c.answer ≡ Called.Ok → HasGeneration D.crashes D.seen D.images c.disk c.generation) }
-    ensures damaged { (s : Sides) → D.seen disk ≡ Some s → IfErr result (λ u. (side : Side) (place : ℕ) → u.why ≡ fault_of.Damaged side place → Damaged s side place) }
+    ensures found { IfOk result
+        (λ c. (w : World) × (logged : ℕ) × IsFound (D.seen disk) w logged c.objects c.channels c.answer
+        × ((s : Sides) → D.seen disk ≡ Some s → D.crashes disk ≡ true
+        → IsSafeFor D.images D.left_since c.disk (opens w logged ∷ retired c.answer))) }
+    ensures generation { (s : Sides) → D.seen disk ≡ Some s
+        → IfOk result (λ c. c.answer ≡ CallOutcome.Ok → HasGeneration D.crashes D.seen D.images c.disk c.generation) }
+    ensures damaged { (s : Sides) → D.seen disk ≡ Some s
+        → IfErr result (λ u. (side : Side) (place : ℕ) → u.why ≡ fault_of.Damaged side place → Damaged s side place) }
     ensures later { IfOk result (λ c. D.faults disk ≤ D.faults c.disk) }
     ensures left { IfErr result (λ u. D.faults disk ≤ D.faults u.disk) }
-    ensures retire_cause { IfOk result (λ c. c.answer ≡ Called.LogFault → Rose (D.faults disk) (D.faults c.disk)) }
+    ensures retire_cause { IfOk result (λ c. c.answer ≡ CallOutcome.LogFault → Rose (D.faults disk) (D.faults c.disk)) }
     ensures cause { IfErr result (λ u. u.why ≡ fault_of.Disk → Rose (D.faults disk) (D.faults u.disk)) }
 {
     match DurableCore::open(alloc, disk) {

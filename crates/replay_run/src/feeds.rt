@@ -19,7 +19,7 @@ use durable_core::DurableCore;
 use outside::Disk;
 use resp_frames::{Fed, FeedFault};
 use std::alloc::Global;
-use world_model::{Asked, Touched};
+use world_model::{Asked, ChangedSessions};
 
 // What comes of the first request, or fault, of some bytes.
 #[derive(Drop)]
@@ -37,7 +37,7 @@ fn break_off<D: Disk>(
     session: u32,
     moment: u64,
     fault: FeedFault,
-    touched: &mut Touched,
+    touched: &mut ChangedSessions,
 ) -> Result<Text, Halt>
     requires moment { moment ≤ max_moment }
     requires goes { (hall_of core.old).stopped ≡ false }
@@ -61,13 +61,15 @@ fn feed_next<D: Disk>(
     reader: &mut Reader,
     moment: u64,
     bytes: &[u8],
-    touched: &mut Touched,
+    touched: &mut ChangedSessions,
 ) -> Result<Step, Halt>
     requires moment { moment ≤ max_moment }
     requires goes { (hall_of core.old).stopped ≡ false }
     ensures made { Comes D.crashes D.seen D.images D.moment D.left_since D.faults core.old core.new
-        (λ s deeds. IsStep (hall_of core.old) reader.old.session moment reader.old.unread bytes.now (trace deeds s.out) (hall_of core.new) reader.new.unread s.taken)
-        (λ halt deeds. FedFails halt (hall_of core.old) reader.old.session moment reader.old.unread bytes.now deeds (hall_of core.new)) result }
+        (λ s deeds. IsStep (hall_of core.old) reader.old.session moment reader.old.unread bytes.now (trace deeds s.out)
+        (hall_of core.new) reader.new.unread s.taken)
+        (λ halt deeds. FedFails halt (hall_of core.old) reader.old.session moment reader.old.unread bytes.now deeds
+        (hall_of core.new)) result }
     ensures session { reader.new.session ≡ reader.old.session }
 {
     // What was read first is the stream's first request, and leaves less than there was.
@@ -103,13 +105,15 @@ fn feed_reader<D: Disk>(
     reader: &mut Reader,
     moment: u64,
     bytes: &[u8],
-    touched: &mut Touched,
+    touched: &mut ChangedSessions,
 ) -> Result<Text, Halt>
     requires moment { moment ≤ max_moment }
     requires goes { (hall_of core.old).stopped ≡ false }
     ensures made { Comes D.crashes D.seen D.images D.moment D.left_since D.faults core.old core.new
-        (λ out deeds. FedTo (hall_of core.old) reader.old.session moment reader.old.unread bytes.now (trace deeds out) (hall_of core.new) reader.new.unread)
-        (λ halt deeds. FedFails halt (hall_of core.old) reader.old.session moment reader.old.unread bytes.now deeds (hall_of core.new)) result }
+        (λ out deeds. FedTo (hall_of core.old) reader.old.session moment reader.old.unread bytes.now (trace deeds out)
+        (hall_of core.new) reader.new.unread)
+        (λ halt deeds. FedFails halt (hall_of core.old) reader.old.session moment reader.old.unread bytes.now deeds
+        (hall_of core.new)) result }
     ensures session { reader.new.session ≡ reader.old.session }
 {
     let mut out = Text::new(alloc);
@@ -124,8 +128,8 @@ fn feed_reader<D: Disk>(
     }
 }
 
-/// Feeds bytes to a session's reader at a moment: makes a call for each whole request that ends in them, and for the fault that
-/// they make, and answers what is printed of the calls.
+/// Feeds bytes to a session's reader at a moment: makes a call for each whole request that ends in them, and for the
+/// fault that they make, and answers what is printed of the calls.
 pub(crate) fn feed<D: Disk>(
     alloc: Global,
     core: &mut DurableCore<D>,
@@ -133,13 +137,16 @@ pub(crate) fn feed<D: Disk>(
     session: u32,
     moment: u64,
     bytes: &[u8],
-    touched: &mut Touched,
+    touched: &mut ChangedSessions,
 ) -> Result<Text, Halt>
     requires moment { moment ≤ max_moment }
     requires goes { (hall_of core.old).stopped ≡ false }
     ensures made { Comes D.crashes D.seen D.images D.moment D.left_since D.faults core.old core.new
-        (λ out deeds. Feeds (record { hall = hall_of core.old; readers = readers.old.items }) session moment bytes.now (reader_of session readers.old.items) (trace deeds out) (record { hall = hall_of core.new; readers = readers.new.items }))
-        (λ halt deeds. FeedsFails halt (hall_of core.old) session moment bytes.now (reader_of session readers.old.items) deeds (hall_of core.new)) result }
+        (λ out deeds. Feeds (record { hall = hall_of core.old; readers = readers.old.items }) session moment bytes.now
+        (reader_of session readers.old.items) (trace deeds out)
+        (record { hall = hall_of core.new; readers = readers.new.items }))
+        (λ halt deeds. FeedsFails halt (hall_of core.old) session moment bytes.now
+        (reader_of session readers.old.items) deeds (hall_of core.new)) result }
 {
     match position_of(readers.as_slice(), session) {
         Some(at) => feed_reader(alloc, core, &mut readers[at], moment, bytes, touched),

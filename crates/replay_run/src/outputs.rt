@@ -45,7 +45,8 @@ pub(crate) fn frame_lines(alloc: Global, frames: &Frames) -> Result<Text, Halt>
 
 /// The line of a world that was opened again, of so many objects and channels.
 pub(crate) fn reopened_text(alloc: Global, objects: u64, channels: u64) -> Result<Text, Halt>
-    ensures text { IfOk result (λ t. t ≡ codes "reopened " ++ decimal objects ++ codes " " ++ decimal channels ++ codes "\n") }
+    ensures text { IfOk result
+        (λ t. t ≡ codes "reopened " ++ decimal objects ++ codes " " ++ decimal channels ++ codes "\n") }
     ensures memory { IfErr result (λ halt. halt ≡ Halt.Memory) }
 {
     let mut text = Text::new(alloc);

@@ -1,6 +1,7 @@
 //! The play of a script, line by line: the output of a line is written before the next one is read.
 
-ghost use Rattle.std.specs.Prelude.{◌≡◌, ◌≤◌, ◌<◌, ◌+◌, ◌++◌, ◌⊎◌, ◌≢◌, ◌∷◌, ℕ, Bool, List, [], true, false, Option, Some, IfOk, IfErr};
+ghost use Rattle.std.specs.Prelude.{◌≡◌, ◌≤◌, ◌<◌, ◌+◌, ◌++◌, ◌⊎◌, ◌≢◌, ◌∷◌, ℕ, Bool, List, [], true, false, Option};
+ghost use Rattle.std.specs.Prelude.{Some, IfOk, IfErr};
 ghost use Rattle.outside.specs.Causes.{Rose};
 ghost use Rattle.outside.specs.Sides.{Sides};
 ghost use Rattle.world_model.specs.Halls.{Hall};
@@ -26,18 +27,22 @@ use crate::turns::{Acted, Turn};
 use journal::Unopened;
 use outside::{Disk, Failed, Sink, Source, write_all};
 use std::alloc::Global;
-use world_model::Called;
+use world_model::CallOutcome;
 
 // Does a line that was read, and writes its output.
 fn do_line<K: Sink, D: Disk>(sink: &mut K, player: &mut Player<D>, line: &[u8]) -> Turn
     requires goes { (hall_of player.old.core).stopped ≡ false }
-    ensures told { (deeds : List Deed) × ((told : Bool) → OnLineDone told result (K.held sink.old) (K.held sink.new) (played player.old) (played player.new) line.now deeds)
+    ensures told { (deeds : List Deed)
+        × ((told : Bool)
+        → OnLineDone told result (K.held sink.old) (K.held sink.new) (played player.old)
+        (played player.new) line.now deeds)
         × StaysSafe D.crashes D.seen D.images D.moment D.left_since D.faults player.old.core player.new.core deeds }
     ensures goes { (result ≡ Turn.Next) ⊎ (result ≡ Turn.Again) → (hall_of player.new.core).stopped ≡ false }
     ensures sink { K.faults sink.old ≤ K.faults sink.new }
     ensures write_cause { result ≡ Turn.WriteFault → Rose (K.faults sink.old) (K.faults sink.new) }
     ensures disk { D.faults (disk_of player.old.core) ≤ D.faults (disk_of player.new.core) }
-    ensures disk_cause { result ≡ Turn.Halted Halt.DiskFault → Rose (D.faults (disk_of player.old.core)) (D.faults (disk_of player.new.core)) }
+    ensures disk_cause { result ≡ Turn.Halted Halt.DiskFault
+        → Rose (D.faults (disk_of player.old.core)) (D.faults (disk_of player.new.core)) }
 {
     match player.act(line) {
         Ok(Acted::Printed(out)) => match write_all(sink, out.bytes()) {
@@ -60,7 +65,10 @@ fn next_line<S: Source, K: Sink, D: Disk>(
 ) -> Turn
     requires most { used.old ≤ max_script }
     requires goes { (hall_of player.old.core).stopped ≡ false }
-    ensures told { (deeds : List Deed) × ((told : Bool) → OnTurn told result (S.left source.old) (S.left source.new) (K.held sink.old) (K.held sink.new) (played player.old) (played player.new) used.old used.new deeds)
+    ensures told { (deeds : List Deed)
+        × ((told : Bool)
+        → OnTurn told result (S.left source.old) (S.left source.new) (K.held sink.old) (K.held sink.new)
+        (played player.old) (played player.new) used.old used.new deeds)
         × StaysSafe D.crashes D.seen D.images D.moment D.left_since D.faults player.old.core player.new.core deeds }
     ensures goes { (result ≡ Turn.Next) ⊎ (result ≡ Turn.Again) → (hall_of player.new.core).stopped ≡ false }
     ensures piece { IsOneLine (S.left source.old) (S.left source.new) }
@@ -71,7 +79,8 @@ fn next_line<S: Source, K: Sink, D: Disk>(
     ensures disk { D.faults (disk_of player.old.core) ≤ D.faults (disk_of player.new.core) }
     ensures read_cause { result ≡ Turn.ReadFault → Rose (S.faults source.old) (S.faults source.new) }
     ensures write_cause { result ≡ Turn.WriteFault → Rose (K.faults sink.old) (K.faults sink.new) }
-    ensures disk_cause { result ≡ Turn.Halted Halt.DiskFault → Rose (D.faults (disk_of player.old.core)) (D.faults (disk_of player.new.core)) }
+    ensures disk_cause { result ≡ Turn.Halted Halt.DiskFault
+        → Rose (D.faults (disk_of player.old.core)) (D.faults (disk_of player.new.core)) }
 {
     match read_line(source, line, used) {
         LineEnd::Line => do_line(sink, player, line.as_slice()),
@@ -104,7 +113,8 @@ pub(crate) struct Turned<D> {
     player: Player<D>,
 }
 
-// Reads the next line, does it, and writes its output, also where it opens all again. Where the disk is not opened again, it is left.
+// Reads the next line, does it, and writes its output, also where it opens all again. Where the disk is not opened
+// again, it is left.
 fn one_turn<S: Source, K: Sink, D: Disk>(
     source: &mut S,
     sink: &mut K,
@@ -114,8 +124,10 @@ fn one_turn<S: Source, K: Sink, D: Disk>(
 ) -> Result<Turned<D>, Unopened<D>>
     requires most { used.old ≤ max_script }
     requires goes { (hall_of player.core).stopped ≡ false }
-    ensures told { IfOk result (λ r. (deeds : List Deed) × ((told : Bool) → (told ≡ true → Logs D.crashes D.seen D.images player.core)
-        → OnTurn told r.turn (S.left source.old) (S.left source.new) (K.held sink.old) (K.held sink.new) (played player) (played r.player) used.old used.new deeds)
+    ensures told { IfOk result
+        (λ r. (deeds : List Deed) × ((told : Bool) → (told ≡ true → Logs D.crashes D.seen D.images player.core)
+        → OnTurn told r.turn (S.left source.old) (S.left source.new) (K.held sink.old) (K.held sink.new) (played player)
+        (played r.player) used.old used.new deeds)
         × StaysSafe D.crashes D.seen D.images D.moment D.left_since D.faults player.core r.player.core deeds) }
     ensures done { IfOk result (λ r. r.turn ≢ Turn.Again) }
     ensures goes { IfOk result (λ r. r.turn ≡ Turn.Next → (hall_of r.player.core).stopped ≡ false) }
@@ -124,7 +136,9 @@ fn one_turn<S: Source, K: Sink, D: Disk>(
         → (l : TextLine) × IsFirstLine (S.left source.old) (S.left source.new) l
         × IsUndone told (halt_at u.why) used.old (played player) l deeds last)
         × (last.stopped ≡ true) × (K.held sink.new ≡ K.held sink.old)
-        × ((before : List Deed) → StandsBehind D.crashes D.seen D.images D.moment D.left_since D.faults player.core before → IsSafeFor D.images D.left_since u.disk (before ++ deeds))) }
+        × ((before : List Deed)
+        → StandsBehind D.crashes D.seen D.images D.moment D.left_since D.faults player.core before
+        → IsSafeFor D.images D.left_since u.disk (before ++ deeds))) }
     ensures piece { IsOneLine (S.left source.old) (S.left source.new) }
     ensures most { used.new ≤ max_script }
     ensures some { IfOk result (λ r. r.turn ≡ Turn.Next → used.old + 1 ≤ used.new) }
@@ -133,9 +147,12 @@ fn one_turn<S: Source, K: Sink, D: Disk>(
     ensures disk { IfOk result (λ r. D.faults (disk_of player.core) ≤ D.faults (disk_of r.player.core)) }
     ensures read_cause { IfOk result (λ r. r.turn ≡ Turn.ReadFault → Rose (S.faults source.old) (S.faults source.new)) }
     ensures write_cause { IfOk result (λ r. r.turn ≡ Turn.WriteFault → Rose (K.faults sink.old) (K.faults sink.new)) }
-    ensures disk_cause { IfOk result (λ r. r.turn ≡ Turn.Halted Halt.DiskFault → Rose (D.faults (disk_of player.core)) (D.faults (disk_of r.player.core))) }
+    ensures disk_cause { IfOk result
+        (λ r. r.turn ≡ Turn.Halted Halt.DiskFault
+        → Rose (D.faults (disk_of player.core)) (D.faults (disk_of r.player.core))) }
     ensures left { IfErr result (λ u. D.faults (disk_of player.core) ≤ D.faults u.disk) }
-    ensures opening_cause { IfErr result (λ u. u.why ≡ fault_of.Disk → Rose (D.faults (disk_of player.core)) (D.faults u.disk)) }
+    ensures opening_cause { IfErr result
+        (λ u. u.why ≡ fault_of.Disk → Rose (D.faults (disk_of player.core)) (D.faults u.disk)) }
 {
     let mut player = player;
     match next_line(source, sink, &mut player, line, used) {
@@ -151,11 +168,11 @@ fn one_turn<S: Source, K: Sink, D: Disk>(
 }
 
 // How a script ends with its last turn, at the line of this number, where its hall was retired with this answer.
-fn end_of(turn: Turn, number: u64, answer: Called) -> ReplayEnd
+fn end_of(turn: Turn, number: u64, answer: CallOutcome) -> ReplayEnd
     ensures { result ≡ end_of turn number answer }
 {
     match turn {
-        Turn::End if answer == Called::Ok => ReplayEnd::Done,
+        Turn::End if answer == CallOutcome::Ok => ReplayEnd::Done,
         Turn::End => ReplayEnd::Halted(Halt::DiskFault),
         Turn::Script => ReplayEnd::Script(number),
         Turn::ReadFault => ReplayEnd::ReadFault,
@@ -170,15 +187,21 @@ fn end_of(turn: Turn, number: u64, answer: Called) -> ReplayEnd
 // Plays a script to its end or to the first line that can't be done, and retires the hall.
 fn play<S: Source, K: Sink, D: Disk>(source: &mut S, sink: &mut K, first: Player<D>) -> Replayed<D>
     requires goes { (hall_of first.core).stopped ≡ false }
-    ensures told { (told crashes : Bool) (seen : Option Sides) (past : List Deed) → (told ≡ true → Logs D.crashes D.seen D.images first.core)
-        → ((s : Sides) → seen ≡ Some s → crashes ≡ true → StandsBehind D.crashes D.seen D.images D.moment D.left_since D.faults first.core past)
-        → OnPlay told (played first) (λ deeds. (s : Sides) → seen ≡ Some s → crashes ≡ true → IsSafeFor D.images D.left_since result.disk (past ++ deeds)) result.end (S.left source.old) (S.left source.new) (K.held sink.old) (K.held sink.new) }
+    ensures told { (told crashes : Bool) (seen : Option Sides) (past : List Deed)
+        → (told ≡ true → Logs D.crashes D.seen D.images first.core)
+        → ((s : Sides) → seen ≡ Some s → crashes ≡ true
+        → StandsBehind D.crashes D.seen D.images D.moment D.left_since D.faults first.core past)
+        → OnPlay told (played first)
+        (λ deeds. (s : Sides) → seen ≡ Some s → crashes ≡ true
+        → IsSafeFor D.images D.left_since result.disk (past ++ deeds)) result.end (S.left source.old)
+        (S.left source.new) (K.held sink.old) (K.held sink.new) }
     ensures source { S.faults source.old ≤ S.faults source.new }
     ensures sink { K.faults sink.old ≤ K.faults sink.new }
     ensures disk { D.faults (disk_of first.core) ≤ D.faults result.disk }
     ensures read_cause { result.end ≡ ReplayEnd.ReadFault → Rose (S.faults source.old) (S.faults source.new) }
     ensures write_cause { result.end ≡ ReplayEnd.WriteFault → Rose (K.faults sink.old) (K.faults sink.new) }
-    ensures disk_cause { result.end ≡ ReplayEnd.Halted Halt.DiskFault → Rose (D.faults (disk_of first.core)) (D.faults result.disk) }
+    ensures disk_cause { result.end ≡ ReplayEnd.Halted Halt.DiskFault
+        → Rose (D.faults (disk_of first.core)) (D.faults result.disk) }
 {
     let mut line = Vec::new(first.alloc);
     let mut player = first;
@@ -208,27 +231,31 @@ fn play<S: Source, K: Sink, D: Disk>(source: &mut S, sink: &mut K, first: Player
     }
 }
 
-/// Plays the script that the source gives on the world of a disk, and writes its output to the sink: the output of a line before the next
-/// one is read. At the end the hall is retired, and the disk is handed back.
+/// Plays the script that the source gives on the world of a disk, and writes its output to the sink: the output of a
+/// line before the next one is read. At the end the hall is retired, and the disk is handed back.
 ///
-/// Where the disk tells what it holds, the script begins with the world that this is recovered as, and a disk that is opened again has the
-/// world that was left. Where it tells crashes, too, the disk that is handed back is safe for all that was made: whatever a crash might
-/// have left since the opening is recovered as the world after a beginning of it, which holds all that was acknowledged by then. Where the
-/// hall was retired well, as it was where the script is done, whatever a crash leaves is the world after all of it.
+/// Where the disk tells what it holds, the script begins with the world that this is recovered as, and a disk that is
+/// opened again has the world that was left. Where it tells crashes, too, the disk that is handed back is safe for all
+/// that was made: whatever a crash might have left since the opening is recovered as the world after a beginning of it,
+/// which holds all that was acknowledged by then. Where the hall was retired well, as it was where the script is done,
+/// whatever a crash leaves is the world after all of it.
 pub fn replay<S: Source, K: Sink, D: Disk>(
     alloc: Global,
     source: &mut S,
     sink: &mut K,
     disk: D,
 ) -> Replayed<D>
-    ensures told { OnReplay (D.seen disk) (λ w logged deeds. (s : Sides) → D.seen disk ≡ Some s → D.crashes disk ≡ true → IsSafeFor D.images D.left_since result.disk (opens w logged ∷ deeds))
+    ensures told { OnReplay (D.seen disk)
+        (λ w logged deeds. (s : Sides) → D.seen disk ≡ Some s → D.crashes disk ≡ true
+        → IsSafeFor D.images D.left_since result.disk (opens w logged ∷ deeds))
         result.end (S.left source.old) (S.left source.new) (K.held sink.old) (K.held sink.new) }
     ensures source { S.faults source.old ≤ S.faults source.new }
     ensures sink { K.faults sink.old ≤ K.faults sink.new }
     ensures disk { D.faults disk ≤ D.faults result.disk }
     ensures read_cause { result.end ≡ ReplayEnd.ReadFault → Rose (S.faults source.old) (S.faults source.new) }
     ensures write_cause { result.end ≡ ReplayEnd.WriteFault → Rose (K.faults sink.old) (K.faults sink.new) }
-    ensures disk_cause { (result.end ≡ ReplayEnd.Halted Halt.DiskFault) ⊎ (result.end ≡ ReplayEnd.Unopened Halt.DiskFault) → Rose (D.faults disk) (D.faults result.disk) }
+    ensures disk_cause { (result.end ≡ ReplayEnd.Halted Halt.DiskFault) ⊎
+        (result.end ≡ ReplayEnd.Unopened Halt.DiskFault) → Rose (D.faults disk) (D.faults result.disk) }
 {
     match Player::open(alloc, disk) {
         Ok(player) => play(source, sink, player),

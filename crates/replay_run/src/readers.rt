@@ -1,4 +1,9 @@
 //! The sessions that a script has entered, each with the reader of its requests.
+//!
+//! A feed holds any bytes: they go on with what the session's reader has unread, and what comes of them is said of the
+//! whole stream. A reader stays until its session is closed, also behind `ended`; `gone` for a whole line comes only
+//! where no reader has the number. A broken protocol makes one call like a request, also where it is answered `full` or
+//! `gone`; the reader is dead all the same.
 
 ghost use Rattle.std.specs.Prelude.{◌≡◌, ◌++◌, ◌∷◌, [], Some, OnOk, position};
 ghost use Rattle.replay_run.specs.Readers.{is_of, without_reader};
@@ -27,7 +32,8 @@ pub(crate) fn add_reader(
     readers: &mut Vec<Reader>,
     session: u32,
 ) -> Result<(), NoMemory>
-    ensures { OnOk result (readers.new.items ≡ readers.old.items ++ record { session = session; unread = Some [] } ∷ []) }
+    ensures { OnOk result
+        (readers.new.items ≡ readers.old.items ++ record { session = session; unread = Some [] } ∷ []) }
 {
     let reader = Reader {
         session,

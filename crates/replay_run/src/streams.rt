@@ -1,4 +1,8 @@
 //! Reading lines from a source.
+//!
+//! Lines are read byte by byte from a reader that reads ahead (`main` puts a `BufReader` under them): of what stands
+//! behind the lines carried out at most one line was read. A line that passes a limit is a fault of that line. A last
+//! line without a line feed is carried out; after a read fault a line that was not read whole is not.
 
 ghost use Rattle.std.specs.Prelude.{◌≡◌, ◌+◌, ◌≤◌, ◌<◌, ℕ, List, [], ◌∷◌, length, Some, None, MatchResult, MatchOption};
 ghost use Rattle.std.specs.Io.KnownBytes.{Consumes, Keeps, IsAtEnd};
@@ -28,7 +32,8 @@ pub(crate) enum LineEnd {
 // The next byte; none where the source is at its end.
 fn read_byte<S: Source>(source: &mut S) -> Result<Option<u8>, Failed>
     ensures byte { MatchResult result
-        (λ o. MatchOption o (IsAtEnd (S.left source.new) × Keeps (S.left source.old) (S.left source.new)) (λ b. Consumes (S.left source.old) (S.left source.new) (b ∷ [])))
+        (λ o. MatchOption o (IsAtEnd (S.left source.new) × Keeps (S.left source.old) (S.left source.new))
+        (λ b. Consumes (S.left source.old) (S.left source.new) (b ∷ [])))
         (λ _. Keeps (S.left source.old) (S.left source.new)) }
     ensures cause { HasCause (S.faults source.old) (S.faults source.new) result }
 {
@@ -40,7 +45,8 @@ fn read_byte<S: Source>(source: &mut S) -> Result<Option<u8>, Failed>
     }
 }
 
-/// Reads the next line of a script, without its line feed, into `line`. `used` counts the bytes of the script that were read.
+/// Reads the next line of a script, without its line feed, into `line`. `used` counts the bytes of the script that were
+/// read.
 pub(crate) fn read_line<S: Source>(source: &mut S, line: &mut Vec<u8>, used: &mut u64) -> LineEnd
     requires { used.old ≤ max_script }
     ensures told { OnLine result (S.left source.old) (S.left source.new) used.old used.new line.new.items }

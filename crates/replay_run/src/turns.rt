@@ -1,4 +1,7 @@
 //! What comes of a line of a script.
+//!
+//! Of the last line a part may be written where the write failed in it, and nothing where reading failed or memory ran
+//! out.
 
 use crate::halts::Halt;
 use byte_text::Text;

@@ -35,15 +35,16 @@ fn push_words(draft: &mut Draft, words: &Request) -> Result<(), NoMemory>
     Ok(())
 }
 
-/// The confirmation of a subscription to a name or to a pattern: `subscribe` or `psubscribe`, the word, and how many names and
-/// patterns the session then holds. A count beyond the integers of RESP2 has room in no memory.
+/// The confirmation of a subscription to a name or to a pattern: `subscribe` or `psubscribe`, the word, and how many
+/// names and patterns the session then holds. A count beyond the integers of RESP2 has room in no memory.
 pub fn confirmation_reply(
     alloc: Global,
     pattern: bool,
     word: &Name,
     count: u64,
 ) -> Result<Reply, NoMemory>
-    ensures value { IfOk result (λ reply. reply ≡ confirmation (called_of pattern) (record { pattern = pattern; word = word.now }, count)) }
+    ensures value { IfOk result
+        (λ reply. reply ≡ confirmation (called_of pattern) (record { pattern = pattern; word = word.now }, count)) }
     ensures frame { IfOk result IsFrame }
 {
     let mut draft = Draft::new(alloc);

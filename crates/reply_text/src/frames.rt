@@ -27,8 +27,8 @@ impl From<NoMemory> for ReplyFault {
     }
 }
 
-/// Appends the frame of a whole reply (RESP2). TooLong where the frame alone has more than [`MAX_REPLY`] bytes. The text is as before
-/// then, and for want of memory.
+/// Appends the frame of a whole reply (RESP2). TooLong where the frame alone has more than [`MAX_REPLY`] bytes. The
+/// text is as before then, and for want of memory.
 pub fn push_reply(into: &mut Text, reply: &Reply) -> Result<(), ReplyFault>
     requires { IsFrame reply.now }
     ensures ok { OnOk result (into.new ≡ into.old ++ frame_text reply.now) }

@@ -1,6 +1,10 @@
 //! Items that become one array, each as the text of its frame from the first on.
+//!
+//! The replies of SCAN and KEYS are built as text, item by item, and no further than a reply may be long; the answer is
+//! then `ERR reply too long`, as of the whole.
 
-ghost use Rattle.std.specs.Prelude.{◌≡◌, ◌≢◌, ◌<◌, ◌≤◌, ◌+◌, ◌++◌, ◌∷◌, [], List, length, flat_map, IfOk, IfErr, OnOk, OnErr};
+ghost use Rattle.std.specs.Prelude.{◌≡◌, ◌≢◌, ◌<◌, ◌≤◌, ◌+◌, ◌++◌, ◌∷◌, [], List, length, flat_map, IfOk, IfErr, OnOk};
+ghost use Rattle.std.specs.Prelude.{OnErr};
 ghost use Rattle.byte_text.specs.Replies.{array, bulk, number, frame_text, piece_text, IsFrame};
 ghost use Rattle.byte_text.specs.declared.replies.Piece.{Piece};
 ghost use Rattle.byte_text.specs.declared.replies.Piece.TheVariants as piece;
@@ -17,8 +21,8 @@ use std::marker::Model;
 use world_data::{Channel, MAX_REPLY};
 use world_model::{Object, Query, Shown};
 
-/// The frames of items, one behind another, while the array of them is made. As texts they take no more memory than the reply, and
-/// an item that the limit of a reply leaves no room for is refused at once.
+/// The frames of items, one behind another, while the array of them is made. As texts they take no more memory than the
+/// reply, and an item that the limit of a reply leaves no room for is refused at once.
 #[derive(Drop)]
 pub struct ItemFrames {
     alloc: Global,
@@ -51,8 +55,8 @@ impl ItemFrames {
         }
     }
 
-    /// Puts an object last, as an item of a search. TooLong where the items alone are longer than a reply may be. The items are as
-    /// before then, and for want of memory.
+    /// Puts an object last, as an item of a search. TooLong where the items alone are longer than a reply may be. The
+    /// items are as before then, and for want of memory.
     pub fn push_object(&mut self, query: &Query, object: &Object) -> Result<(), ReplyFault>
         requires shown { query.now.shown ≢ Shown.Count }
         ensures ok { OnOk result (self.new ≡ record {
@@ -68,20 +72,22 @@ impl ItemFrames {
         self.push(&item)
     }
 
-    /// Puts a name last, as a bulk string. TooLong where the items alone are longer than a reply may be. The items are as before
-    /// then, and for want of memory.
+    /// Puts a name last, as a bulk string. TooLong where the items alone are longer than a reply may be. The items are
+    /// as before then, and for want of memory.
     pub fn push_name(&mut self, name: &Name) -> Result<(), ReplyFault>
-        ensures ok { OnOk result (self.new ≡ record { text = self.old.text ++ frame_text (bulk name.now); count = self.old.count + 1 }) }
+        ensures ok { OnOk result
+            (self.new ≡ record { text = self.old.text ++ frame_text (bulk name.now); count = self.old.count + 1 }) }
         ensures short { OnOk result (length self.new.text ≤ max_reply) }
-        ensures too_long { IfErr result (λ f. f ≡ ReplyFault.TooLong → max_reply < length (self.old.text ++ frame_text (bulk name.now))) }
+        ensures too_long { IfErr result
+            (λ f. f ≡ ReplyFault.TooLong → max_reply < length (self.old.text ++ frame_text (bulk name.now))) }
         ensures err { OnErr result (self.new ≡ self.old) }
     {
         let item = name_reply(self.alloc, name)?;
         self.push(&item)
     }
 
-    /// Puts a channel last: its name, its key and its normal words. TooLong where the items alone are longer than a reply may be. The
-    /// items are as before then, and for want of memory.
+    /// Puts a channel last: its name, its key and its normal words. TooLong where the items alone are longer than a
+    /// reply may be. The items are as before then, and for want of memory.
     pub fn push_channel(&mut self, channel: &Channel) -> Result<(), ReplyFault>
         ensures ok { OnOk result (self.new ≡ record {
           text = self.old.text ++ frame_text (channel_reply channel.now);
@@ -99,9 +105,11 @@ impl ItemFrames {
     // Puts an item last.
     fn push(&mut self, item: &Reply) -> Result<(), ReplyFault>
         requires { IsFrame item.now }
-        ensures ok { OnOk result (self.new ≡ record { text = self.old.text ++ frame_text item.now; count = self.old.count + 1 }) }
+        ensures ok { OnOk result
+            (self.new ≡ record { text = self.old.text ++ frame_text item.now; count = self.old.count + 1 }) }
         ensures short { OnOk result (length self.new.text ≤ max_reply) }
-        ensures too_long { IfErr result (λ f. f ≡ ReplyFault.TooLong → max_reply < length (self.old.text ++ frame_text item.now)) }
+        ensures too_long { IfErr result
+            (λ f. f ≡ ReplyFault.TooLong → max_reply < length (self.old.text ++ frame_text item.now)) }
         ensures err { OnErr result (self.new ≡ self.old) }
     {
         push_within(&mut self.text, item)?;
@@ -111,21 +119,24 @@ impl ItemFrames {
 
     /// The frame of the array of the items (RESP2). TooLong where it has more than [`MAX_REPLY`] bytes.
     pub fn array(self, alloc: Global) -> Result<Text, ReplyFault>
-        ensures ok { IfOk result (λ frame. (items : List (List Piece)) → self.text ≡ frame_text (flat_map (λ r. r) items)
+        ensures ok { IfOk result
+            (λ frame. (items : List (List Piece)) → self.text ≡ frame_text (flat_map (λ r. r) items)
             → self.count ≡ length items → frame ≡ frame_text (array items)) }
         ensures short { IfOk result (λ frame. length frame ≤ max_reply) }
         ensures too_long { IfErr result (λ f. f ≡ ReplyFault.TooLong → (items : List (List Piece))
-            → self.text ≡ frame_text (flat_map (λ r. r) items) → self.count ≡ length items → max_reply < length (frame_text (array items))) }
+            → self.text ≡ frame_text (flat_map (λ r. r) items) → self.count ≡ length items
+            → max_reply < length (frame_text (array items))) }
     {
         let mut head = Text::new(alloc);
         push_head(&mut head, self.count)?;
         joined(head, &self.text)
     }
 
-    /// The frame of a page (RESP2): an array of where the next page begins, and of the array of the items. TooLong where it has
-    /// more than [`MAX_REPLY`] bytes.
+    /// The frame of a page (RESP2): an array of where the next page begins, and of the array of the items. TooLong
+    /// where it has more than [`MAX_REPLY`] bytes.
     pub fn page(self, alloc: Global, cursor: u64) -> Result<Text, ReplyFault>
-        ensures ok { IfOk result (λ frame. (items : List (List Piece)) → self.text ≡ frame_text (flat_map (λ r. r) items)
+        ensures ok { IfOk result
+            (λ frame. (items : List (List Piece)) → self.text ≡ frame_text (flat_map (λ r. r) items)
             → self.count ≡ length items → frame ≡ frame_text (array (number cursor ∷ array items ∷ []))) }
         ensures short { IfOk result (λ frame. length frame ≤ max_reply) }
         ensures too_long { IfErr result (λ f. f ≡ ReplyFault.TooLong → (items : List (List Piece))
@@ -147,7 +158,8 @@ fn push_within(into: &mut Text, item: &Reply) -> Result<(), ReplyFault>
     ensures ok { OnOk result (into.new ≡ into.old ++ frame_text item.now) }
     ensures longer { OnOk result (length into.old < length into.new) }
     ensures short { OnOk result (length into.new ≤ max_reply) }
-    ensures too_long { IfErr result (λ f. f ≡ ReplyFault.TooLong → max_reply < length (into.old ++ frame_text item.now)) }
+    ensures too_long { IfErr result
+        (λ f. f ≡ ReplyFault.TooLong → max_reply < length (into.old ++ frame_text item.now)) }
     ensures err { OnErr result (into.new ≡ into.old) }
 {
     let before = into.len();

@@ -4,7 +4,8 @@ ghost use Rattle.std.specs.Prelude.{◌≡◌, ◌≢◌, ◌++◌, ◌∷◌, [
 ghost use Rattle.byte_text.specs.Replies.{bulk, frame_text, IsFrame};
 ghost use Rattle.byte_text.specs.declared.replies.Piece.TheVariants as piece;
 ghost use Rattle.planar_geom.specs.Shapes.{positions};
-ghost use Rattle.world_model.specs.Replies.{no_list, bounds_reply as bounds_pieces, fields_reply, is_ids, item_reply as item_pieces, object_reply as object_pieces, stats_of_key};
+ghost use Rattle.world_model.specs.Replies.{no_list, bounds_reply as bounds_pieces, fields_reply, is_ids};
+ghost use Rattle.world_model.specs.Replies.{item_reply as item_pieces, object_reply as object_pieces, stats_of_key};
 ghost use Rattle.world_data.specs.declared.objects.Object.{Object};
 ghost use Rattle.reply_text.specs.Gets.{get_pieces};
 
@@ -46,8 +47,8 @@ fn push_fields(draft: &mut Draft, fields: &Fields) -> Result<(), NoMemory>
     Ok(())
 }
 
-// An object as it is shown: its text, the centre of its box as latitude and longitude, its bounds, or its id. A count shows
-// nothing of it.
+// An object as it is shown: its text, the centre of its box as latitude and longitude, its bounds, or its id. A count
+// shows nothing of it.
 fn object_reply(alloc: Global, object: &Object, shown: Shown) -> Result<Reply, NoMemory>
     ensures value { IfOk result (λ reply. reply ≡ object_pieces shown object.now) }
     ensures frame { shown ≢ Shown.Count → IfOk result IsFrame }
@@ -57,7 +58,8 @@ fn object_reply(alloc: Global, object: &Object, shown: Shown) -> Result<Reply, N
     Ok(draft.finish())
 }
 
-/// The frame of the answer to GET for an object that is there: the object as it is shown, or an array of that and its fields.
+/// The frame of the answer to GET for an object that is there: the object as it is shown, or an array of that and its
+/// fields.
 pub fn get_frame(
     alloc: Global,
     object: &Object,
@@ -99,8 +101,8 @@ fn get_reply(
     Ok(draft.finish())
 }
 
-/// An object as an item of a search: its id alone, or its id, what is shown of it, and its fields where there are some and they are
-/// wanted.
+/// An object as an item of a search: its id alone, or its id, what is shown of it, and its fields where there are some
+/// and they are wanted.
 pub(crate) fn item_reply(alloc: Global, query: &Query, object: &Object) -> Result<Reply, NoMemory>
     requires { query.now.shown ≢ Shown.Count }
     ensures value { IfOk result (λ reply. reply ≡ item_pieces query.now object.now) }
@@ -126,9 +128,11 @@ fn push_item(draft: &mut Draft, query: &Query, object: &Object) -> Result<(), No
     push_fields(draft, &object.fields)
 }
 
-// Puts the head of an array of so many parts last, and its first two parts: the id of an object, and what is shown of it.
+// Puts the head of an array of so many parts last, and its first two parts: the id of an object, and what is shown of
+// it.
 fn push_shown(draft: &mut Draft, parts: u32, object: &Object, shown: Shown) -> Result<(), NoMemory>
-    ensures { OnOk result (draft.new ≡ draft.old ++ piece.List parts ∷ (bulk object.now.id ++ object_pieces shown object.now)) }
+    ensures { OnOk result
+        (draft.new ≡ draft.old ++ piece.List parts ∷ (bulk object.now.id ++ object_pieces shown object.now)) }
 {
     draft.head(parts)?;
     draft.bulk(object.id.bytes())?;
@@ -165,8 +169,8 @@ pub fn bounds_reply(alloc: Global, bounds: Option<BBox>) -> Result<Reply, NoMemo
     Ok(draft.finish())
 }
 
-/// How many objects a key has, and how many positions these have; the null array where it has no object. Counts beyond the
-/// integers of RESP2 have room in no memory.
+/// How many objects a key has, and how many positions these have; the null array where it has no object. Counts beyond
+/// the integers of RESP2 have room in no memory.
 pub fn stats_reply(alloc: Global, objects: u64, points: u64) -> Result<Reply, NoMemory>
     ensures value { (list : List Object) → objects ≡ length list → points ≡ sum_by (λ o. positions o.shape) list
         → IfOk result (λ reply. reply ≡ stats_of_key list) }

@@ -4,7 +4,8 @@ ghost use Rattle.std.specs.Prelude.{◌≡◌, ◌++◌, ◌∷◌, [], codes, I
 ghost use Rattle.byte_text.specs.Lines.{IsOneLine};
 ghost use Rattle.byte_text.specs.Replies.{IsFrame};
 ghost use Rattle.world_model.specs.Replies.{error};
-ghost use Rattle.world_model.specs.Refusals.{shown_byte, in_quotes, fault_reply as fault_pieces, broken_reply as broken_pieces, refusal_reply as refusal_pieces};
+ghost use Rattle.world_model.specs.Refusals.{shown_byte, in_quotes, fault_reply as fault_pieces};
+ghost use Rattle.world_model.specs.Refusals.{broken_reply as broken_pieces, refusal_reply as refusal_pieces};
 
 use crate::drafts::Draft;
 use byte_text::{NoMemory, Piece, Reply, RespFault, Text};

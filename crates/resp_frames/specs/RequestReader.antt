@@ -16,7 +16,8 @@ Held = Option Bytes
 -- a piece goes on with the bytes held: it ends a request, and the reader holds nothing more; or they begin one all the same
 abbrev pub IsTaken : Bytes → Held → Bytes → ℕ → Option (List Bytes) → Type 0
 IsTaken held new piece taken None = (request (held ++ piece) ≡ begun) × (taken ≡ length piece) × (new ≡ Some (held ++ piece))
-IsTaken held new piece taken (Some words) = (request (held ++ piece) ≡ found words (drop taken piece)) × (taken ≤ length piece) × (new ≡ Some []) × IsRequest words
+IsTaken held new piece taken (Some words) = (request (held ++ piece) ≡ found words (drop taken piece)) × (taken ≤ length piece) × (new ≡ Some [])
+    × IsRequest words
 
 -- what was fed: never by a reader that has met a fault
 abbrev pub IsFed : Held → Held → Bytes → ℕ → Option (List Bytes) → Type 0
@@ -56,4 +57,5 @@ abbrev pub TextsAreRead : Type 0
 TextsAreRead = (words : List Bytes) (behind : Bytes) → IsRequest words → request (request_text words ++ behind) ≡ found words behind
 
 abbrev pub ReadTexts : Type 0
-ReadTexts = (bytes behind : Bytes) (words : List Bytes) → request bytes ≡ found words behind → IsRequest words × (bytes ≡ request_text words ++ behind)
+ReadTexts = (bytes behind : Bytes) (words : List Bytes) → request bytes ≡ found words behind → IsRequest words
+    × (bytes ≡ request_text words ++ behind)

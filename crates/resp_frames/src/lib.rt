@@ -1,5 +1,5 @@
-//! The requests of a stream of bytes (RESP2), read from pieces in any cutting. Requests, replies and their writers stand in
-//! `byte_text`, and are handed on here.
+//! The requests of a stream of bytes (RESP2), read from pieces in any cutting. Requests, replies and their writers
+//! stand in `byte_text`, and are handed on here.
 #![tactic(auto)]
 
 mod faults;

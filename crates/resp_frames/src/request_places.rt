@@ -1,6 +1,6 @@
 //! Where the next byte of a request stands, and what each byte there makes of it.
 
-ghost use Rattle.std.specs.Prelude.{◌≡◌, ◌≤◌, ◌<◌, IfSome};
+ghost use Rattle.std.specs.Prelude.{◌≡◌, ◌≤◌, ◌<◌, ◌==◌, if◌then◌else◌, IfSome};
 ghost use Rattle.byte_text.specs.Requests.{max_word};
 ghost use Rattle.byte_text.specs.Streams.{with_byte};
 ghost use Rattle.resp_frames.specs.PlaceSteps as steps;
@@ -148,45 +148,38 @@ fn word_end(ahead: Ahead, len: u32) -> Next
     }
 }
 
+// Goes on where the byte is the only one that may stand there.
+fn only(byte: u8, wanted: u8, fault: RespFault, behind: Place) -> Next
+    ensures { result ≡ (if byte == wanted then Next.Goes behind else Next.Fails fault) }
+{
+    if byte == wanted {
+        Next::Goes(behind)
+    } else {
+        Next::Fails(fault)
+    }
+}
+
 // What comes of a byte at a place.
 pub(crate) fn step(place: Place, byte: u8) -> Next
     requires { steps.HasNumbers place }
     ensures { result ≡ steps.step place byte }
 {
     match place {
-        Place::Star => {
-            if byte == b'*' {
-                Next::Goes(Place::Count(None))
-            } else {
-                Next::Fails(RespFault::BadType)
-            }
-        }
+        Place::Star => only(byte, b'*', RespFault::BadType, Place::Count(None)),
         Place::Count(digits) => count_step(digits, byte),
-        Place::CountEnd(n) => {
-            if byte == b'\n' {
-                Next::Goes(Place::Dollar(Ahead {
-                    words: n,
-                    bytes: MAX_REQUEST as u32,
-                }))
-            } else {
-                Next::Fails(RespFault::BadEnd)
-            }
+        Place::CountEnd(words) => {
+            let bytes = MAX_REQUEST as u32;
+            let ahead = Ahead { words, bytes };
+            only(byte, b'\n', RespFault::BadEnd, Place::Dollar(ahead))
         }
-        Place::Dollar(ahead) => {
-            if byte == b'$' {
-                Next::Goes(Place::Length(ahead, None))
-            } else {
-                Next::Fails(RespFault::BadType)
-            }
-        }
+        Place::Dollar(ahead) => only(byte, b'$', RespFault::BadType, Place::Length(ahead, None)),
         Place::Length(ahead, digits) => length_step(ahead, digits, byte),
-        Place::LengthEnd(ahead, n) => {
-            if byte == b'\n' {
-                Next::Goes(Place::Word(ahead, n, n))
-            } else {
-                Next::Fails(RespFault::BadEnd)
-            }
-        }
+        Place::LengthEnd(ahead, n) => only(
+            byte,
+            b'\n',
+            RespFault::BadEnd,
+            Place::Word(ahead, n, n),
+        ),
         Place::Word(ahead, len, left) => word_step(ahead, len, left, byte),
         Place::WordEnd(ahead, len) => {
             if byte == b'\n' {

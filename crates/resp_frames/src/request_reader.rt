@@ -1,4 +1,6 @@
 //! A reader of the requests of a stream, fed with pieces.
+//!
+//! `Requests` keeps nothing of a piece for which memory ran out: the piece can be fed again.
 
 ghost use Rattle.std.specs.Prelude.{◌≡◌, ◌++◌, [], IfOk, IfErr, OnOk, OnErr, Some};
 ghost use Rattle.byte_text.specs.Requests.{IsRequest, IsRequestText, request_text};
@@ -22,8 +24,8 @@ pub struct Fed {
     pub request: Option<Request>,
 }
 
-/// Reads the requests of a stream from pieces in any cutting. It keeps the bytes since the last request, which begin one; a
-/// fault leaves it dead for good.
+/// Reads the requests of a stream from pieces in any cutting. It keeps the bytes since the last request, which begin
+/// one; a fault leaves it dead for good.
 #[derive(Drop)]
 pub struct Requests {
     alloc: Global,
@@ -54,9 +56,9 @@ impl Requests {
         }
     }
 
-    /// Takes bytes up to the end of the first request, or the whole piece where none ends in it. Broken comes at the first
-    /// byte with which the bytes since the last request begin none, BadLength before TooMany and TooLong; every later call
-    /// is then answered Dead. At Memory no byte was taken.
+    /// Takes bytes up to the end of the first request, or the whole piece where none ends in it. Broken comes at the
+    /// first byte with which the bytes since the last request begin none, BadLength before TooMany and TooLong; every
+    /// later call is then answered Dead. At Memory no byte was taken.
     pub fn feed(&mut self, piece: &[u8]) -> Result<Fed, FeedFault>
         ensures fed { IfOk result (λ f. IsFed self.old self.new piece.now f.taken f.request) }
         ensures fault { IfErr result (λ f. IsNotFed self.old self.new piece.now f) }
@@ -139,9 +141,7 @@ fn finish(alloc: Global, held: &mut Vec<u8>, end: &[u8]) -> Result<Request, NoMe
     if before == 0 {
         return words_of(alloc, end);
     }
-    if held.extend_from_slice(end).is_err() {
-        return Err(NoMemory);
-    }
+    held.extend_from_slice(end)?;
     match words_of(alloc, held.as_slice()) {
         Ok(request) => {
             clear(alloc, held);

@@ -10,7 +10,8 @@ use std::alloc::Global;
 
 // The place of the first CR.
 fn return_at(bytes: &[u8]) -> usize
-    ensures found { (text rest : List ℕ) → AllByRecursion (λ b. b ≢ 13) text → bytes.now ≡ text ++ 13 ∷ rest → result ≡ length text }
+    ensures found { (text rest : List ℕ) → AllByRecursion (λ b. b ≢ 13) text → bytes.now ≡ text ++ 13 ∷ rest
+        → result ≡ length text }
     ensures within { result ≤ length bytes.now }
 {
     let mut at = 0;

@@ -1,4 +1,10 @@
-//! Requests of few and short words that stand whole at the front of a piece, as nearly all do: their bytes are gone over once.
+//! Requests of few and short words that stand whole at the front of a piece, as nearly all do: their bytes are gone
+//! over once.
+//!
+//! Where a reader holds no beginning of a request, and one of less than 100 words of less than 100 bytes each stands
+//! whole at the front of the piece, its words are taken as they are found. Of all others the end is looked for first,
+//! and then the words are read, since a fault is that of the stream's first wrong byte wherever the pieces were cut.
+//! Such requests are few.
 
 ghost use Rattle.std.specs.Prelude.{◌≡◌, ◌<◌, ◌≤◌, ◌+◌, ◌++◌, ◌∷◌, length, take, decimal, flat_map, IfOk, IfSome};
 ghost use Rattle.byte_text.specs.Lines.{line, bulk_text};
@@ -135,13 +141,14 @@ fn short_words(
     Ok(Some((request, bytes.len() - rest.len())))
 }
 
-/// The request at the front and how many bytes it takes, where one of less than 100 words, each of less than 100 bytes, stands there
-/// whole. Of all other bytes nothing is said.
+/// The request at the front and how many bytes it takes, where one of less than 100 words, each of less than 100 bytes,
+/// stands there whole. Of all other bytes nothing is said.
 pub(crate) fn short_request(
     alloc: Global,
     bytes: &[u8],
 ) -> Result<Option<(Request, usize)>, NoMemory>
-    ensures { IfOk result (λ r. IfSome r (λ f. IsRequest f.0 × (f.1 ≤ length bytes.now) × (take f.1 bytes.now ≡ request_text f.0))) }
+    ensures { IfOk result
+        (λ r. IfSome r (λ f. IsRequest f.0 × (f.1 ≤ length bytes.now) × (take f.1 bytes.now ≡ request_text f.0))) }
 {
     let Some((count, behind)) = short_line(bytes, b'*') else {
         return Ok(None);

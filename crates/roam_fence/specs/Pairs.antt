@@ -28,7 +28,8 @@ is_target pattern o t = glob_meets pattern t.id && not (same t.key o.key && same
 
 -- whether the object is near now, where it is told of
 abbrev pub told : Bytes → ℕ → Bool → Option Object → Object → Object → Option Bool
-told pattern meters nodwell old new t = if is_target pattern new t then option_map is_near_now (roamed nodwell (was_near meters old t) (is_near meters new t)) else None
+told pattern meters nodwell old new t = if is_target pattern new t then
+    option_map is_near_now (roamed nodwell (was_near meters old t) (is_near meters new t)) else None
 
 abbrev pub noted : Object → Option Bool → List (Bytes × Bool)
 noted t None = []

@@ -1,4 +1,5 @@
-//! What a channel that roams raises: the objects to which one that was put came near, and those from which it went away.
+//! What a channel that roams raises: the objects to which one that was put came near, and those from which it went
+//! away.
 #![tactic(auto)]
 
 mod lists;

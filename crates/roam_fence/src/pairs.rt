@@ -1,4 +1,8 @@
 //! The pairs that a put raises on a channel that roams.
+//!
+//! One box is searched, round the reach of the object's old place and of its new one: what stands in both is found
+//! once, in order of ids. After a long jump it looks at what stands between them. COMMANDS is not asked here; who calls
+//! this has asked.
 
 ghost use Rattle.std.specs.Prelude.{◌≡◌, ◌++◌, Bool, true, filter, option_map, OnOk};
 ghost use Rattle.planar_geom.specs.Points.{IsBox, box_of_disc};
@@ -21,7 +25,8 @@ use rtree::{Ids, Ledger, Steps};
 use std::alloc::Global;
 use world_data::{Fence, Object, Watch};
 
-// Which objects a channel compares with, how near two are held to be, and whether those that were near before are left out.
+// Which objects a channel compares with, how near two are held to be, and whether those that were near before are left
+// out.
 #[derive(Clone, Copy)]
 struct Reach<'a> {
     pattern: &'a Name,
@@ -61,7 +66,8 @@ fn roamed(nodwell: bool, before: bool, now: bool) -> Option<bool>
     }
 }
 
-// Whether an object is one of those that the channel compares with: its id meets the pattern, and it is not the object itself.
+// Whether an object is one of those that the channel compares with: its id meets the pattern, and it is not the object
+// itself.
 fn is_target(pattern: &Name, new: &Object, target: &Object) -> bool
     requires { is_well_formed pattern.now ≡ true }
     ensures { result ≡ is_target pattern.now new.now target.now }
@@ -73,7 +79,9 @@ fn is_target(pattern: &Name, new: &Object, target: &Object) -> bool
 // What is told of one object of the key.
 fn told(reach: Reach<'_>, old: Option<&Object>, new: &Object, target: &Object) -> Option<bool>
     requires { is_well_formed reach.pattern.now ≡ true }
-    ensures { result ≡ told reach.entry.pattern.now reach.entry.meters reach.entry.nodwell (option_map (λ o. o.now) old.entry) new.now target.now }
+    ensures { result
+        ≡ told reach.entry.pattern.now reach.entry.meters reach.entry.nodwell
+        (option_map (λ o. o.now) old.entry) new.now target.now }
 {
     if !is_target(reach.pattern, new, target) {
         return None;
@@ -137,7 +145,8 @@ fn push_listed(
     requires pattern { is_well_formed reach.pattern.now ≡ true }
     requires places { ArePlaces places.now targets.now.objects }
     ensures { OnOk result ((test : Object → Bool) → places.now ≡ places_where test targets.now.objects
-        → into.new ≡ into.old ++ told_of_all reach.entry.pattern.now reach.entry.meters reach.entry.nodwell (option_map (λ o. o.now) old.entry) new.now (filter test targets.now.objects)) }
+        → into.new ≡ into.old ++ told_of_all reach.entry.pattern.now reach.entry.meters reach.entry.nodwell
+        (option_map (λ o. o.now) old.entry) new.now (filter test targets.now.objects)) }
 {
     for i in 0..places.len() {
         let target = targets.listed(places, i);
@@ -157,7 +166,9 @@ fn push_pairs<L: Ledger>(
     steps: &mut Steps<L>,
 ) -> Result<(), NoMemory>
     requires { is_well_formed reach.pattern.now ≡ true }
-    ensures pairs { OnOk result (into.new ≡ into.old ++ told_of_all reach.entry.pattern.now reach.entry.meters reach.entry.nodwell (option_map (λ o. o.now) old.entry) new.now targets.now.objects) }
+    ensures pairs { OnOk result
+        (into.new ≡ into.old ++ told_of_all reach.entry.pattern.now reach.entry.meters reach.entry.nodwell
+        (option_map (λ o. o.now) old.entry) new.now targets.now.objects) }
     ensures visits { IsVisited targets.now.objects steps.old.count steps.new.count }
 {
     let round = round_reach(reach.meters, old, new);
@@ -166,11 +177,12 @@ fn push_pairs<L: Ledger>(
     push_listed(alloc, reach, targets, &places, old, new, into)
 }
 
-/// Appends the pairs that a put of an object raises on a channel that roams: of the objects of the channel's second key (`targets`), by
-/// ascending id, those whose id meets the pattern and that are near now (with NODWELL: and were not near before), and those that were
-/// near before and are not. Without an old object nothing was near. Where the object does not meet the channel's MATCH and tests, or the
-/// channel does not roam, there is none. After want of memory the list holds its old items and some of these. Targets are looked at whose
-/// box meets the box round what is near the object, or was, and the steps rise by the nodes of the tree that are visited.
+/// Appends the pairs that a put of an object raises on a channel that roams: of the objects of the channel's second key
+/// (`targets`), by ascending id, those whose id meets the pattern and that are near now (with NODWELL: and were not
+/// near before), and those that were near before and are not. Without an old object nothing was near. Where the object
+/// does not meet the channel's MATCH and tests, or the channel does not roam, there is none. After want of memory the
+/// list holds its old items and some of these. Targets are looked at whose box meets the box round what is near the
+/// object, or was, and the steps rise by the nodes of the tree that are visited.
 pub fn near_pairs<L: Ledger>(
     alloc: Global,
     fence: &Fence,
@@ -182,7 +194,8 @@ pub fn near_pairs<L: Ledger>(
 ) -> Result<(), NoMemory>
     requires glob { is_sound_glob fence.now.glob ≡ true }
     requires pattern { is_sound_watch fence.now.watch ≡ true }
-    ensures { OnOk result (into.new ≡ into.old ++ shown_pairs fence.now (option_map (λ o. o.now) old.entry) new.now targets.now.objects) }
+    ensures { OnOk result
+        (into.new ≡ into.old ++ shown_pairs fence.now (option_map (λ o. o.now) old.entry) new.now targets.now.objects) }
 {
     let Watch::Roam(_, pattern, meters, nodwell) = &fence.watch else {
         return Ok(());

@@ -8,7 +8,8 @@ unfoldable pub turned : ℕ → ℕ → ℕ → Turned
 turned half x y =
     if nat_lt x half
     then (if nat_lt y half then record { quarter = 0; x = y; y = x } else record { quarter = 1; x = x; y = y - half })
-    else (if nat_lt y half then record { quarter = 3; x = half - 1 - y; y = half - 1 - (x - half) } else record { quarter = 2; x = x - half; y = y - half })
+    else (if nat_lt y half then record { quarter = 3; x = half - 1 - y; y = half - 1 - (x - half) } else
+    record { quarter = 2; x = x - half; y = y - half })
 
 -- the place of (x, y) on a Hilbert curve through a square of side 2 ^ levels: that in its quarter, behind the quarters before
 unfoldable pub curve_place : ℕ → ℕ → ℕ → ℕ

@@ -10,7 +10,8 @@ use Rattle.rtree.specs.Pairs.{Pair}
 use Rattle.rtree.specs.Subtrees.{Subtree, height_of}
 use Rattle.rtree.specs.Slots.{IsSlot}
 
-slot_falls : (first : Pair) (b : Bounds) (below : Option Subtree) (height : ℕ) → height_of below + 1 ≡ height → deep-Slot (record { first = first; bounds = b; below = below }) ≤ height
+slot_falls : (first : Pair) (b : Bounds) (below : Option Subtree) (height : ℕ) → height_of below + 1 ≡ height
+    → deep-Slot (record { first = first; bounds = b; below = below }) ≤ height
 slot_falls first b None height h = omega arith
 slot_falls first b (Some n) height h = omega arith
 

@@ -14,6 +14,7 @@ told_more (Some n) = Some (one_more n)
 abbrev pub Tells : Option ℕ → ℕ → Type 0
 Tells told count = unwrap_or told count ≡ count
 
--- a list that grew from one length to another was read from nodes visited between these counts, each of at most 16 items, where the count did not stand still
+-- a list that grew from one length to another was read from nodes visited between these counts, each of at most 16 items, where the count did not
+-- stand still
 abbrev pub IsRead : ℕ → ℕ → ℕ → ℕ → Type 0
 IsRead short long before after = after < 2 ^ 64 - 1 → long + 16 * before ≤ 16 * after + short

@@ -70,7 +70,8 @@ abbrev pub IsUndue : Option ℕ → List Waiting → List Waiting → Type 0
 IsUndue None old new = (old ≡ []) × (new ≡ old)
 IsUndue (Some d) old new = All (λ v. d < v.distance) old × (new ≡ old)
 
--- of the old pairs some were given, all of them d away, and the new ones are left, none of them nearer; the numbers of those given were put behind the ones before
+-- of the old pairs some were given, all of them d away, and the new ones are left, none of them nearer; the numbers of those given were put behind
+-- the ones before
 pub record IsGiving (d : ℕ) (from : Point) (old new : List Pair) (before after : List ℕ) : Type 0 where
   pub given : List Pair
   pub whole : IsPermutation old (given ++ new)

@@ -11,6 +11,7 @@ pub(crate) fn put<T: Drop>(list: &mut Vec<T>, at: usize, item: T)
     ensures len { vec_len list.new ≡ vec_len list.old + 1 }
     ensures capacity { vec_capacity list.old ≤ vec_capacity list.new }
 {
+    // There is room, so nothing is refused.
     let _ = list.insert(at, item);
 }
 
@@ -39,9 +40,12 @@ pub(crate) fn even<T: Drop>(low: &mut Vec<T>, high: &mut Vec<T>, least: usize)
     requires low_some { 1 ≤ vec_len low.old }
     requires high_some { 1 ≤ vec_len high.old }
     ensures items { low.new.items ++ high.new.items ≡ low.old.items ++ high.old.items }
-    ensures low_thin { vec_len low.old < least → (vec_len low.new ≡ vec_len low.old + 1) × (vec_len high.new + 1 ≡ vec_len high.old) }
-    ensures high_thin { least ≤ vec_len low.old → vec_len high.old < least → (vec_len low.new + 1 ≡ vec_len low.old) × (vec_len high.new ≡ vec_len high.old + 1) }
-    ensures no_thin { least ≤ vec_len low.old → least ≤ vec_len high.old → (vec_len low.new ≡ vec_len low.old) × (vec_len high.new ≡ vec_len high.old) }
+    ensures low_thin { vec_len low.old < least
+        → (vec_len low.new ≡ vec_len low.old + 1) × (vec_len high.new + 1 ≡ vec_len high.old) }
+    ensures high_thin { least ≤ vec_len low.old → vec_len high.old < least
+        → (vec_len low.new + 1 ≡ vec_len low.old) × (vec_len high.new ≡ vec_len high.old + 1) }
+    ensures no_thin { least ≤ vec_len low.old → least ≤ vec_len high.old
+        → (vec_len low.new ≡ vec_len low.old) × (vec_len high.new ≡ vec_len high.old) }
     ensures low_room { vec_capacity low.old ≤ vec_capacity low.new }
     ensures high_room { vec_capacity high.old ≤ vec_capacity high.new }
 {
@@ -62,5 +66,6 @@ pub(crate) fn move_all<T>(from: &mut Vec<T>, to: &mut Vec<T>)
     ensures capacity { vec_capacity to.old ≤ vec_capacity to.new }
     ensures from_capacity { vec_capacity from.new ≡ vec_capacity from.old }
 {
+    // There is room, so nothing is refused.
     let _ = to.append(from);
 }

@@ -5,7 +5,8 @@ ghost use Rattle.std.specs.BinaryHeap.{heap_items, IsHeap};
 ghost use Rattle.std.specs.List.Sorted.{IsPermutation};
 ghost use Rattle.rtree.specs.Subtrees.{nodes_of};
 ghost use Rattle.rtree.specs.Slots.{slot_entries, IsSlot};
-ghost use Rattle.rtree.specs.Near.{nearest_first, met_pairs, met_nodes, pairs_of, nodes_in, IsNear, IsQueue, IsTop, IsUndue, IsAnswer, IsCutOff};
+ghost use Rattle.rtree.specs.Near.{nearest_first, met_pairs, met_nodes, pairs_of, nodes_in, IsNear, IsQueue, IsTop};
+ghost use Rattle.rtree.specs.Near.{IsUndue, IsAnswer, IsCutOff};
 
 use crate::ids::Ids;
 use crate::nodes::{Node, Slot};
@@ -96,7 +97,9 @@ fn give<'a, L: Ledger>(
 ) -> Result<Option<u64>, NoMemory>
     requires queue { IsQueue from (heap_items waiting.old) }
     ensures queue { OnOk result (IsQueue from (heap_items waiting.new)) }
-    ensures ok { IfOk result (λ d. IsAnswer d from (pairs_of (heap_items waiting.old)) (pairs_of (heap_items waiting.new)) into.old into.new) }
+    ensures ok { IfOk result
+        (λ d. IsAnswer d from (pairs_of (heap_items waiting.old))
+        (pairs_of (heap_items waiting.new)) into.old into.new) }
     ensures err { OnErr result (IsCutOff from (pairs_of (heap_items waiting.old)) into.old into.new) }
 {
     let mut found = None;
@@ -118,7 +121,8 @@ fn give<'a, L: Ledger>(
 // Takes the nearest out, where it is no farther than what was found.
 fn take_due<'a>(waiting: &mut BinaryHeap<Waiting<'a>>, found: Option<u64>) -> Option<Waiting<'a>>
     requires heap { IsHeap nearest_first (heap_items waiting.old) }
-    ensures { MatchOption result (IsUndue found (heap_items waiting.old) (heap_items waiting.new)) (λ w. IsTop found w (heap_items waiting.old) (heap_items waiting.new)) }
+    ensures { MatchOption result (IsUndue found (heap_items waiting.old) (heap_items waiting.new))
+        (λ w. IsTop found w (heap_items waiting.old) (heap_items waiting.new)) }
 {
     if let Some(distance) = found {
         let nearest = waiting.peek()?;
@@ -133,8 +137,10 @@ fn take_due<'a>(waiting: &mut BinaryHeap<Waiting<'a>>, found: Option<u64>) -> Op
 fn open<'a>(node: &'a Node, from: Pt, waiting: &mut BinaryHeap<Waiting<'a>>) -> Result<(), NoMemory>
     requires queue { IsQueue from (heap_items waiting.old) }
     ensures queue { OnOk result (IsQueue from (heap_items waiting.new)) }
-    ensures pairs { OnOk result (IsPermutation (node.now.entries ++ pairs_of (heap_items waiting.old)) (pairs_of (heap_items waiting.new))) }
-    ensures nodes { OnOk result (nodes_in (heap_items waiting.new) + 1 ≡ nodes_in (heap_items waiting.old) + node.now.nodes) }
+    ensures pairs { OnOk result
+        (IsPermutation (node.now.entries ++ pairs_of (heap_items waiting.old)) (pairs_of (heap_items waiting.new))) }
+    ensures nodes { OnOk result
+        (nodes_in (heap_items waiting.new) + 1 ≡ nodes_in (heap_items waiting.old) + node.now.nodes) }
 {
     for slot in node.slots() {
         if waiting.push(met(slot, from)).is_err() {

@@ -1,7 +1,14 @@
 //! Nodes: each holds its slots in order, at least eight unless it is the root, at most sixteen, and all
 //! leaves stand at one depth.
+//!
+//! Nodes own the nodes below them. Nodes in a slab, named by numbers, would do the same, but every proof would first
+//! have to say that no two subtrees share a node. A node but for the root is half full at least: 8 to 16 slots. One
+//! that has lost a slot too many takes its neighbour's nearest, or is joined with it where one node holds both, so no
+//! list ever holds more than 17.
 
-ghost use Rattle.std.specs.Prelude.{◌≡◌, ℕ, ◌≢◌, ◌≤◌, ◌<◌, ◌+◌, ◌-◌, ◌⊎◌, ◌*◌, ◌^◌, ◌++◌, [], ◌∷◌, Some, None, true, false, min, take, drop, length, All, IfSome, MatchOption, OnOk, OnErr, vec_capacity, vec_len};
+ghost use Rattle.std.specs.Prelude.{◌≡◌, ℕ, ◌≢◌, ◌≤◌, ◌<◌, ◌+◌, ◌-◌, ◌⊎◌, ◌*◌, ◌^◌, ◌++◌, [], ◌∷◌, Some, None, true};
+ghost use Rattle.std.specs.Prelude.{false, min, take, drop, length, All, IfSome, MatchOption, OnOk, OnErr};
+ghost use Rattle.std.specs.Prelude.{vec_capacity, vec_len};
 ghost use Rattle.planar_geom.specs.Points.{IsBox};
 ghost use Rattle.rtree.specs.Pairs.{IsInside, IsOrdered, IsWith, IsPut, IsPart, ids_meeting};
 ghost use Rattle.rtree.specs.Ledgers.{IsRead};
@@ -225,7 +232,8 @@ impl Node {
         ensures height { self.new.height ≡ self.old.height }
         ensures width { 8 ≤ self.new.width }
         ensures entries { self.new.entries ++ entries_of result ≡ self.old.entries ++ other.entries }
-        ensures lists { pool.new.spare + (self.new.nodes + nodes_of result) ≡ pool.old.spare + (self.old.nodes + other.nodes) }
+        ensures lists { pool.new.spare + (self.new.nodes + nodes_of result)
+            ≡ pool.old.spare + (self.old.nodes + other.nodes) }
         ensures room { pool.new.room ≡ pool.old.room }
     {
         if self.slots.len() + other.slots.len() <= MOST {
@@ -452,7 +460,8 @@ fn merged<L: Ledger>(
     requires room { pool.old.spare < pool.old.room }
     ensures slots { (height : ℕ) → IsThinPair height low high → All (IsSlot height) (slots_of result.0 result.1) }
     ensures entries { all_entries (slots_of result.0 result.1) ≡ all_entries (low ∷ high ∷ []) }
-    ensures lists { pool.new.spare + all_nodes (slots_of result.0 result.1) ≡ pool.old.spare + all_nodes (low ∷ high ∷ []) }
+    ensures lists { pool.new.spare + all_nodes (slots_of result.0 result.1)
+        ≡ pool.old.spare + all_nodes (low ∷ high ∷ []) }
     ensures room { pool.new.room ≡ pool.old.room }
     ensures cost { steps.new.count ≤ steps.old.count + 3 }
 {

@@ -1,4 +1,8 @@
 //! Empty nodes that wait for use, so that an insertion takes no memory.
+//!
+//! Lists wait here until an insertion needs one, so that it takes no memory. Room is counted by the bound on nodes
+//! (seven times the nodes are at most the pairs and six): each list is room for seven pairs, and none waits for the
+//! depth of the tree.
 
 ghost use Rattle.std.specs.Prelude.{◌≡◌, ◌≤◌, ◌<◌, ◌+◌, [], IsOk, OnOk, OnErr, vec_capacity};
 
@@ -71,10 +75,8 @@ impl Pool {
         ensures room { OnOk result (self.new.spare + extra ≤ self.new.room) }
         ensures kept { self.old.room ≤ self.new.room }
     {
-        match self.lists.reserve(extra) {
-            Ok(()) => Ok(()),
-            Err(_) => Err(NoMemory),
-        }
+        self.lists.reserve(extra)?;
+        Ok(())
     }
 
     /// Makes one more list.
@@ -84,12 +86,8 @@ impl Pool {
         ensures err { OnErr result (self.new ≡ self.old) }
         ensures room { self.new.room ≡ self.old.room }
     {
-        match Vec::with_capacity(self.alloc, ROOM) {
-            Ok(list) => {
-                self.lists.push_reserved(list);
-                Ok(())
-            }
-            Err(_) => Err(NoMemory),
-        }
+        let list = Vec::with_capacity(self.alloc, ROOM)?;
+        self.lists.push_reserved(list);
+        Ok(())
     }
 }

@@ -1,4 +1,9 @@
 //! The count of nodes that are visited, and what keeps it at run time.
+//!
+//! A step is a visit of a node. Each function that visits one ticks at its head: the node itself, the neighbour at a
+//! join, a summary after a change, a node that a walk opens. Helpers that go on with the same node do not tick again. A
+//! ledger of visits is told of each visit and of nothing else, and a count goes on from what its ledger was told
+//! before, for which the ledger is asked once.
 
 ghost use Rattle.std.specs.Prelude.{◌≡◌, ◌+◌, ◌-◌, ◌^◌, min, unwrap_or, Some, None};
 ghost use Rattle.rtree.specs.Ledgers.{Tells};

@@ -1,6 +1,13 @@
 //! A tree of boxes: a balanced tree in one order, with the least box of each subtree on the way up.
+//!
+//! Pairs stand in one total order: by the place of a box's centre on a Hilbert curve, then by the box, then by the
+//! number. So each pair has one place, removing finds it on one path, and the bound on visited nodes follows from the
+//! depth. Nothing that is proved depends on the curve: it keeps the boxes of neighbours small. Pairs at one distance
+//! come in no particular order, all in one answer. A pair's number is of the machine's size: beside the place on the
+//! curve, which fills 8 bytes, it takes no more memory than 32 bits would.
 
-ghost use Rattle.std.specs.Prelude.{◌≡◌, ◌≤◌, ◌<◌, ◌+◌, ◌-◌, ◌*◌, ◌^◌, ◌++◌, ◌⊎◌, min, [], true, false, length, OnOk, OnErr, IfSome, MatchOption, None, Some, if◌then◌else◌};
+ghost use Rattle.std.specs.Prelude.{◌≡◌, ◌≤◌, ◌<◌, ◌+◌, ◌-◌, ◌*◌, ◌^◌, ◌++◌, ◌⊎◌, min, [], true, false, length, OnOk};
+ghost use Rattle.std.specs.Prelude.{OnErr, IfSome, MatchOption, None, Some, if◌then◌else◌};
 ghost use Rattle.rtree.specs.Pairs.{pair, IsWith, IsTaken, IsPart, ids_meeting};
 ghost use Rattle.rtree.specs.Ledgers.{IsRead};
 ghost use Rattle.rtree.specs.Subtrees.{entries_of, nodes_of, IsRoot};

@@ -1,5 +1,6 @@
 -- A list of numbers, held as runs.
-use Rattle.std.specs.Prelude.{ℕ, ◌≡◌, ◌<◌, ◌≤◌, ◌+◌, ◌-◌, ◌*◌, min, Bool, not, true, if◌then◌else◌, List, [], ◌∷◌, ◌++◌, length, take, All, slice_index_or, Option, Some, None}
+use Rattle.std.specs.Prelude.{ℕ, ◌≡◌, ◌<◌, ◌≤◌, ◌+◌, ◌-◌, ◌*◌, min, Bool, not, true, if◌then◌else◌, List, [], ◌∷◌, ◌++◌, length, take, All}
+use Rattle.std.specs.Prelude.{slice_index_or, Option, Some, None}
 use Rattle.std.specs.List.{list_all}
 
 -- the numbers of a list, and how many more there is room for

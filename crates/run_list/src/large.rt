@@ -1,6 +1,7 @@
 //! A list of many numbers.
 
-ghost use Rattle.std.specs.Prelude.{◌≡◌, ◌<◌, ◌≤◌, ◌+◌, ◌-◌, ◌++◌, [], length, take, drop, slice_index, OnOk, OnErr, IfOk};
+ghost use Rattle.std.specs.Prelude.{◌≡◌, ◌<◌, ◌≤◌, ◌+◌, ◌-◌, ◌++◌, [], length, take, drop, slice_index, OnOk, OnErr};
+ghost use Rattle.std.specs.Prelude.{IfOk};
 ghost use Rattle.std.specs.List.{insert, remove};
 
 use crate::runs::{MOST, Run};
@@ -31,9 +32,13 @@ impl Model for LargeList {
 
     ghost Value = { Sequence };
 
-    ghost view = { λ l. record { items = flat l.runs.items; spare = room_of (vec_len l.runs + vec_len l.spares) l.len } };
+    ghost view = { λ l. record {
+      items = flat l.runs.items;
+      spare = room_of (vec_len l.runs + vec_len l.spares) l.len;
+    } };
 
-    ghost invariant = { λ l. IsList l.runs.items l.spares.items l.ends.items l.len (vec_capacity l.runs) (vec_capacity l.spares) (vec_capacity l.ends) };
+    ghost invariant = { λ l. IsList l.runs.items l.spares.items l.ends.items l.len (vec_capacity l.runs)
+        (vec_capacity l.spares) (vec_capacity l.ends) };
 }
 
 impl LargeList {
@@ -89,8 +94,8 @@ impl LargeList {
         self.len
     }
 
-    /// Takes room for so many numbers more, and for a run in store. The numbers stay, and no room is lost. NoMemory also
-    /// where there would be room for more than 4,294,966,272 numbers.
+    /// Takes room for so many numbers more, and for a run in store. The numbers stay, and no room is lost. NoMemory
+    /// also where there would be room for more than 4,294,966,272 numbers.
     pub(crate) fn reserve(&mut self, extra: usize) -> Result<(), NoMemory>
         ensures items { self.new.items ≡ self.old.items }
         ensures room { OnOk result (extra ≤ self.new.spare) }
@@ -146,8 +151,8 @@ impl LargeList {
         &run.numbers()[spot.at..]
     }
 
-    /// Puts a number at a place, for which there is room. It takes no memory. Without a run in store it may take steps in
-    /// the number of all, where the run is full.
+    /// Puts a number at a place, for which there is room. It takes no memory. Without a run in store it may take steps
+    /// in the number of all, where the run is full.
     pub(crate) fn insert(&mut self, i: usize, number: usize)
         requires within { i ≤ length self.old.items }
         requires room { 1 ≤ self.old.spare }
@@ -192,8 +197,8 @@ impl LargeList {
         take_out(&mut self.runs, &mut self.spares, &mut self.ends, spot)
     }
 
-    /// Takes out all numbers from a place up to another, which is room for as many. Where that is many, whole runs are taken
-    /// out.
+    /// Takes out all numbers from a place up to another, which is room for as many. Where that is many, whole runs are
+    /// taken out.
     pub(crate) fn remove_between(&mut self, from: usize, to: usize)
         requires order { from ≤ to }
         requires within { to ≤ length self.old.items }
@@ -206,8 +211,8 @@ impl LargeList {
         }
     }
 
-    // Takes out the number at a place, or all of its run, where that begins there and is not longer than `most`. Tells how
-    // many numbers that were.
+    // Takes out the number at a place, or all of its run, where that begins there and is not longer than `most`. Tells
+    // how many numbers that were.
     fn remove_some(&mut self, i: usize, most: usize) -> usize
         requires some { 0 < most }
         requires within { i + most ≤ length self.old.items }

@@ -1,6 +1,7 @@
 //! A list of numbers.
 
-ghost use Rattle.std.specs.Prelude.{◌≡◌, ◌<◌, ◌≤◌, ◌+◌, ◌-◌, ◌++◌, [], true, not, length, take, drop, filter, slice_index, OnOk};
+ghost use Rattle.std.specs.Prelude.{◌≡◌, ◌<◌, ◌≤◌, ◌+◌, ◌-◌, ◌++◌, [], true, not, length, take, drop, filter};
+ghost use Rattle.std.specs.Prelude.{slice_index, OnOk};
 ghost use Rattle.std.specs.List.{insert, remove, list_all};
 ghost use Rattle.run_list.specs.Runs.{is_cut};
 
@@ -67,10 +68,8 @@ impl RunList {
             return many.reserve(extra);
         }
         if extra <= MOST - self.few.len() {
-            return match self.few.reserve(extra) {
-                Ok(()) => Ok(()),
-                Err(_) => Err(NoMemory),
-            };
+            self.few.reserve(extra)?;
+            return Ok(());
         }
         self.many = Some(LargeList::of(self.alloc, self.few.as_slice(), extra)?);
         self.few = Vec::new(self.alloc);
@@ -144,8 +143,8 @@ impl RunList {
         self.few.remove(i)
     }
 
-    /// Takes out all numbers from a place up to another, which is room for as many. Where that is many, whole runs are taken
-    /// out.
+    /// Takes out all numbers from a place up to another, which is room for as many. Where that is many, whole runs are
+    /// taken out.
     pub fn remove_between(&mut self, from: usize, to: usize)
         requires order { from ≤ to }
         requires within { to ≤ length self.old.items }

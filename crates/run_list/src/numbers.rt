@@ -6,8 +6,8 @@ ghost use Rattle.std.specs.Iterator.{YieldsFirst, item_count};
 use crate::lists::RunList;
 use std::marker::Model;
 
-/// The numbers of a list from a place on, seen as the list of those that are left. Each is a look, but for the first of a run,
-/// which is found by halving.
+/// The numbers of a list from a place on, seen as the list of those that are left. Each is a look, but for the first of
+/// a run, which is found by halving.
 #[derive(Drop)]
 pub struct Numbers<'a> {
     list: &'a RunList,

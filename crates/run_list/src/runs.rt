@@ -1,6 +1,7 @@
 //! One run of a list: a few numbers side by side.
 
-ghost use Rattle.std.specs.Prelude.{◌≡◌, ◌<◌, ◌≤◌, ◌+◌, ◌++◌, [], length, take, drop, filter, slice_index, vec_len, vec_capacity, IfOk};
+ghost use Rattle.std.specs.Prelude.{◌≡◌, ◌<◌, ◌≤◌, ◌+◌, ◌++◌, [], length, take, drop, filter, slice_index, vec_len};
+ghost use Rattle.std.specs.Prelude.{vec_capacity, IfOk};
 ghost use Rattle.std.specs.List.{insert, remove};
 
 use crate::searches::Before;
@@ -35,10 +36,8 @@ impl Run {
     pub(crate) fn with_room(alloc: Global) -> Result<Run, NoMemory>
         ensures { IfOk result (λ r. r ≡ []) }
     {
-        match Vec::with_capacity(alloc, MOST) {
-            Ok(numbers) => Ok(Run { numbers }),
-            Err(_) => Err(NoMemory),
-        }
+        let numbers = Vec::with_capacity(alloc, MOST)?;
+        Ok(Run { numbers })
     }
 
     /// How many numbers there are.
@@ -139,8 +138,8 @@ impl Run {
         cut_out(&mut other.numbers, 0, moved);
     }
 
-    /// Puts a number at a place of a full run, whose upper half goes to an empty one. A number that goes behind all goes there
-    /// alone, so that runs are full where numbers come in order.
+    /// Puts a number at a place of a full run, whose upper half goes to an empty one. A number that goes behind all
+    /// goes there alone, so that runs are full where numbers come in order.
     pub(crate) fn insert_halving(&mut self, i: usize, number: usize, upper: &mut Run)
         requires within { i ≤ length self.old }
         requires full { length self.old ≡ 1024 }

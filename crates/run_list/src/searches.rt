@@ -1,6 +1,7 @@
 //! Places by a test.
 
-ghost use Rattle.std.specs.Prelude.{◌≡◌, ◌<◌, ◌≤◌, ◌-◌, ℕ, Bool, [], true, false, not, length, take, drop, slice_index, slice_index_or};
+ghost use Rattle.std.specs.Prelude.{◌≡◌, ◌<◌, ◌≤◌, ◌-◌, ℕ, Bool, [], true, false, not, length, take, drop, slice_index};
+ghost use Rattle.std.specs.Prelude.{slice_index_or};
 ghost use Rattle.std.specs.List.{list_all};
 ghost use Rattle.run_list.specs.Runs.{is_cut, AreFilled};
 
@@ -41,7 +42,8 @@ fn runs_before<B: Before>(runs: &[Run], test: &B) -> usize
     requires { AreFilled runs.now }
     ensures within { result ≤ length runs.now }
     ensures front { 0 < result → B.before test.now (slice_index (slice_index_or runs.now (result - 1) []) 0) ≡ true }
-    ensures behind { result < length runs.now → B.before test.now (slice_index (slice_index_or runs.now result []) 0) ≡ false }
+    ensures behind { result < length runs.now
+        → B.before test.now (slice_index (slice_index_or runs.now result []) 0) ≡ false }
 {
     let mut low = 0;
     let mut high = runs.len();

@@ -1,6 +1,7 @@
 //! Runs in store: more of them, and packing for one.
 
-ghost use Rattle.std.specs.Prelude.{◌≡◌, ◌<◌, ◌≤◌, ◌+◌, ◌*◌, true, false, length, slice_index_or, [], vec_len, vec_capacity, OnOk, OnErr};
+ghost use Rattle.std.specs.Prelude.{◌≡◌, ◌<◌, ◌≤◌, ◌+◌, ◌*◌, true, false, length, slice_index_or, [], vec_len};
+ghost use Rattle.std.specs.Prelude.{vec_capacity, OnOk, OnErr};
 ghost use Rattle.run_list.specs.Runs.{flat, start, AreEnds, AreFilled, AreEmpty};
 
 use crate::ends::recount;
@@ -29,19 +30,10 @@ pub(crate) fn add_run(
     ensures kept_places { vec_capacity runs.old ≤ vec_capacity runs.new }
     ensures kept_stores { vec_capacity spares.old ≤ vec_capacity spares.new }
 {
-    match runs.reserve(spares.len() + 1) {
-        Ok(()) => {}
-        Err(_) => return Err(NoMemory),
-    }
-    match spares.reserve(runs.len() + 1) {
-        Ok(()) => {}
-        Err(_) => return Err(NoMemory),
-    }
+    runs.reserve(spares.len() + 1)?;
+    spares.reserve(runs.len() + 1)?;
     // There is an end for each run in use, so that this is room for more than one of each in store.
-    match ends.reserve(runs.len() + spares.len() + 1) {
-        Ok(()) => {}
-        Err(_) => return Err(NoMemory),
-    }
+    ends.reserve(runs.len() + spares.len() + 1)?;
     spares.push_reserved(Run::with_room(alloc)?);
     Ok(())
 }
@@ -97,7 +89,8 @@ fn pack(runs: &mut Vec<Run>, spares: &mut Vec<Run>)
     }
 }
 
-// Moves numbers of the next run to this one: whether this one is full then. The next one goes to the store where it is empty.
+// Moves numbers of the next run to this one: whether this one is full then. The next one goes to the store where it is
+// empty.
 fn top_up(runs: &mut Vec<Run>, spares: &mut Vec<Run>, k: usize) -> bool
     requires within { k + 1 < vec_len runs.old }
     requires filled { AreFilled runs.old.items }

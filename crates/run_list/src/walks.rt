@@ -1,6 +1,7 @@
 //! Places in a list of runs.
 
-ghost use Rattle.std.specs.Prelude.{◌≡◌, ◌<◌, ◌≤◌, ◌+◌, ◌-◌, ◌++◌, [], length, take, drop, slice_index, slice_index_or, vec_len, vec_capacity};
+ghost use Rattle.std.specs.Prelude.{◌≡◌, ◌<◌, ◌≤◌, ◌+◌, ◌-◌, ◌++◌, [], length, take, drop, slice_index, slice_index_or};
+ghost use Rattle.std.specs.Prelude.{vec_len, vec_capacity};
 ghost use Rattle.std.specs.List.{insert, remove};
 ghost use Rattle.run_list.specs.Runs.{flat, start, AreEnds, AreFilled, AreEmpty, IsAt, IsGap};
 
@@ -54,7 +55,8 @@ pub(crate) fn put_in(runs: &mut Vec<Run>, ends: &mut Vec<usize>, spot: Spot, num
     requires filled { AreFilled runs.old.items }
     requires ends { AreEnds runs.old.items ends.old.items }
     requires fits { length (flat runs.old.items) < 4294967295 }
-    ensures numbers { flat runs.new.items ≡ insert (flat runs.old.items) (start runs.old.items spot.run + spot.at) number }
+    ensures numbers { flat runs.new.items
+        ≡ insert (flat runs.old.items) (start runs.old.items spot.run + spot.at) number }
     ensures filled { AreFilled runs.new.items }
     ensures ends { AreEnds runs.new.items ends.new.items }
     ensures len { vec_len runs.new ≡ vec_len runs.old }
@@ -83,7 +85,8 @@ pub(crate) fn put(
     requires ends { AreEnds runs.old.items ends.old.items }
     requires fits { length (flat runs.old.items) < 4294967295 }
     requires marks { vec_len runs.old < vec_capacity ends.old }
-    ensures numbers { flat runs.new.items ≡ insert (flat runs.old.items) (start runs.old.items spot.run + spot.at) number }
+    ensures numbers { flat runs.new.items
+        ≡ insert (flat runs.old.items) (start runs.old.items spot.run + spot.at) number }
     ensures filled { AreFilled runs.new.items }
     ensures empty { AreEmpty spares.new.items }
     ensures ends { AreEnds runs.new.items ends.new.items }
@@ -149,7 +152,9 @@ pub(crate) fn take_run(runs: &mut Vec<Run>, spares: &mut Vec<Run>, ends: &mut Ve
     requires fits { length (flat runs.old.items) ≤ 4294967295 }
     requires marks { vec_len runs.old ≤ vec_capacity ends.old }
     requires store { vec_len runs.old + vec_len spares.old ≤ vec_capacity spares.old }
-    ensures numbers { flat runs.new.items ≡ take (start runs.old.items k) (flat runs.old.items) ++ drop (start runs.old.items k + length (slice_index_or runs.old.items k [])) (flat runs.old.items) }
+    ensures numbers { flat runs.new.items
+        ≡ take (start runs.old.items k) (flat runs.old.items) ++ drop
+        (start runs.old.items k + length (slice_index_or runs.old.items k [])) (flat runs.old.items) }
     ensures filled { AreFilled runs.new.items }
     ensures empty { AreEmpty spares.new.items }
     ensures ends { AreEnds runs.new.items ends.new.items }

@@ -1,5 +1,6 @@
 -- What a line of a script says. A line is read without its line feed.
-use Rattle.std.specs.Prelude.{◌≡◌, ◌≤◌, ℕ, ◌==◌, ◌&&◌, Bool, true, not, nat_lt, List, [], ◌∷◌, length, Option, Some, None, if◌then◌else◌, option_map, option_and_then, codes, Result, Ok, Err}
+use Rattle.std.specs.Prelude.{◌≡◌, ◌≤◌, ℕ, ◌==◌, ◌&&◌, Bool, true, not, nat_lt, List, [], ◌∷◌, length, Option, Some, None, if◌then◌else◌, option_map}
+use Rattle.std.specs.Prelude.{option_and_then, codes, Result, Ok, Err}
 use Rattle.std.specs.List.{list_all}
 use Rattle.std.specs.Char.{is_ascii_graphic}
 use Rattle.percent_encoding.specs.Percent.{percent_decode}
@@ -55,7 +56,8 @@ numbered_line name number =
 -- `feed N M BYTES`
 abbrev pub feed_line : Bytes → Bytes → Bytes → Bytes → Option ScriptLine
 feed_line name number at bytes =
-    if same name (codes "feed") then option_and_then (λ n. option_and_then (λ m. option_map (λ text. Feed n m text) (piece bytes)) (moment at)) (session number) else
+    if same name (codes "feed") then
+    option_and_then (λ n. option_and_then (λ m. option_map (λ text. Feed n m text) (piece bytes)) (moment at)) (session number) else
     None
 
 abbrev pub line_of_words : List Bytes → Option ScriptLine

@@ -57,9 +57,9 @@ fn push_line(into: &mut Text, frame: &[u8]) -> Result<(), NoMemory>
     into.push(b"\n")
 }
 
-/// Appends the line of a frame that was taken: `frame `, its bytes with every byte outside 0x21 to 0x7E, and `%`, as `%` and
-/// two upper-case hexadecimal digits, and a line feed. What is decoded from the escaped bytes is the frame. At want of
-/// memory the text is as before.
+/// Appends the line of a frame that was taken: `frame `, its bytes with every byte outside 0x21 to 0x7E, and `%`, as
+/// `%` and two upper-case hexadecimal digits, and a line feed. What is decoded from the escaped bytes is the frame. At
+/// want of memory the text is as before.
 pub fn push_frame_line(into: &mut Text, frame: &[u8]) -> Result<(), NoMemory>
     ensures ok { OnOk result (into.new ≡ into.old ++ frame_line frame.now) }
     ensures err { OnErr result (into.new ≡ into.old) }

@@ -1,4 +1,7 @@
 //! The lines of a script, read.
+//!
+//! A `%` in BYTES that is not followed by two hexadecimal digits stands for itself, as the percent decoding of the kit
+//! has it.
 
 ghost use Rattle.std.specs.Prelude.{◌≡◌, IfOk};
 ghost use Rattle.std.specs.List.{list_all};
@@ -49,6 +52,17 @@ pub enum LineFault {
     Memory,
 }
 
+impl From<NoMemory> for LineFault {
+    ghost use Rattle.std.specs.Prelude.{◌≡◌};
+    ghost use Rattle.script_text.specs.declared.lines.LineFault.{LineFault};
+
+    ghost from_gives = { λ _ f. f ≡ LineFault.Memory };
+
+    fn from(_refused: NoMemory) -> LineFault {
+        LineFault::Memory
+    }
+}
+
 // The number of a session.
 fn session(word: &[u8]) -> Option<u32>
     ensures { result ≡ says.session word.now }
@@ -92,9 +106,7 @@ fn decoded(alloc: Global, bytes: &[u8]) -> Result<Text, NoMemory>
     ensures { IfOk result (λ t. t ≡ decode bytes.now) }
 {
     let mut plain = Vec::new(alloc);
-    if percent_decode(bytes).append_to(&mut plain).is_err() {
-        return Err(NoMemory);
-    }
+    percent_decode(bytes).append_to(&mut plain)?;
     let mut text = Text::new(alloc);
     text.push(plain.as_slice())?;
     Ok(text)
@@ -141,10 +153,10 @@ fn feed_line(
         return Err(LineFault::Outside);
     }
     match (session(number), moment(at)) {
-        (Some(session), Some(moment)) => match decoded(alloc, bytes) {
-            Ok(text) => Ok(ScriptLine::Feed(session, moment, text)),
-            Err(NoMemory) => Err(LineFault::Memory),
-        },
+        (Some(session), Some(moment)) => {
+            let text = decoded(alloc, bytes)?;
+            Ok(ScriptLine::Feed(session, moment, text))
+        }
         _ => Err(LineFault::Outside),
     }
 }
@@ -190,10 +202,10 @@ fn is_silent(bytes: &[u8]) -> bool
     }
 }
 
-/// What a line says, its bytes without the line feed: empty or beginning with `#`, or the words `open`, `feed N M BYTES`,
-/// `take N`, `tick M`, `close N`, `step` or `reopen`, one space between two. N is a canonical number of 32 bits, M one up to
-/// 9,007,199,254,740,991, BYTES are one or more bytes from 0x21 to 0x7E. Everything else, and a line of more than 1,048,576
-/// bytes, is Outside. No moment is later than that last one.
+/// What a line says, its bytes without the line feed: empty or beginning with `#`, or the words `open`, `feed N M
+/// BYTES`, `take N`, `tick M`, `close N`, `step` or `reopen`, one space between two. N is a canonical number of 32
+/// bits, M one up to 9,007,199,254,740,991, BYTES are one or more bytes from 0x21 to 0x7E. Everything else, and a line
+/// of more than 1,048,576 bytes, is Outside. No moment is later than that last one.
 pub fn line_of(alloc: Global, bytes: &[u8]) -> Result<ScriptLine, LineFault>
     ensures answer { IsAnswer (says.line bytes.now) result }
     ensures moment { IfOk result KeepsMoment }

@@ -17,7 +17,7 @@ use Rattle.world_data.specs.declared.channels.Kind.TheVariants.{Within, Intersec
 use Rattle.world_data.specs.declared.objects.Object.{Object}
 use Rattle.world_data.specs.declared.queries.Query.{Query}
 use Rattle.world_data.specs.declared.queries.Rule.{Rule}
-use Rattle.world_data.specs.declared.queries.Rule.TheVariants.{Kept}
+use Rattle.world_data.specs.declared.queries.Rule.TheVariants.{InArea}
 use Rattle.fence_model.specs.Queries.{in_order, matches, meets_area, meets_query, meets_rule}
 use Rattle.collection.specs.Places.{meets_box}
 
@@ -32,7 +32,7 @@ in_area near Near (Disc c r) shape s w e = near.box_near (box_of shape) c r s.is
 in_area near Near (Rect b) shape s w e = absurd (true≢false (sym e))
 in_area near Near (Figure f) shape s w e = absurd (true≢false (sym e))
 
-module _ (near : MetIsNear) (q : Query) (kind : Kind) (a : Area) (w : IsArea a) (rule : q.rule ≡ Kept kind a) where
+module _ (near : MetIsNear) (q : Query) (kind : Kind) (a : Area) (w : IsArea a) (rule : q.rule ≡ InArea kind a) where
   met : (o : Object) → IsWholeShape o.shape → meets_query q o ≡ true → meets_box (area_box a) o ≡ true
   met o s e =
       let b = both_of (meets_glob q.glob o.id && passes q.tests o.fields) (meets_rule q.rule o) e in

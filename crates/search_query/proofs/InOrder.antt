@@ -8,7 +8,7 @@ use Rattle.byte_text.specs.ListLaws.{take_next}
 use Rattle.fence_model.specs.Queries.{in_order}
 use Rattle.world_data.specs.declared.objects.Object.{Object}
 use Rattle.world_data.specs.declared.queries.Rule.{Rule}
-use Rattle.world_data.specs.declared.queries.Rule.TheVariants.{All, Down, Kept, Nearest}
+use Rattle.world_data.specs.declared.queries.Rule.TheVariants.{All, Descending, InArea, Nearest}
 use Rattle.search_query.specs.Directions.{is_down}
 
 -- the items that pass are the same, whichever way the list is read
@@ -18,20 +18,20 @@ filter_reverse p (x ∷ xs) = let ih = filter_reverse p xs in grind (arith, comm
 
 pub filter_in_order : (p : Object → Bool) (rule : Rule) (objects : List Object) → filter p (in_order rule objects) ≡ in_order rule (filter p objects)
 filter_in_order p All objects = refl
-filter_in_order p Down objects = filter_reverse p objects
-filter_in_order p (Kept kind a) objects = refl
+filter_in_order p Descending objects = filter_reverse p objects
+filter_in_order p (InArea kind a) objects = refl
 filter_in_order p Nearest objects = refl
 
 pub by_direction : (rule : Rule) (objects : List Object) → (if is_down rule then reverse objects else objects) ≡ in_order rule objects
 by_direction All objects = refl
-by_direction Down objects = refl
-by_direction (Kept kind a) objects = refl
+by_direction Descending objects = refl
+by_direction (InArea kind a) objects = refl
 by_direction Nearest objects = refl
 
 length_in_order : (rule : Rule) (objects : List Object) → length (in_order rule objects) ≡ length objects
 length_in_order All objects = refl
-length_in_order Down objects = length-reverse objects
-length_in_order (Kept kind a) objects = refl
+length_in_order Descending objects = length-reverse objects
+length_in_order (InArea kind a) objects = refl
 length_in_order Nearest objects = refl
 
 -- one more item is read

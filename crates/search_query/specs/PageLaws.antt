@@ -1,5 +1,6 @@
 -- A page, told from the first objects that match.
-use Rattle.std.proofs.Common.{◌≡◌, ◌+◌, ◌-◌, min, ◌<◌, ◌≤◌, ℕ, Bool, true, false, not, sym, ap, ◌∙◌, List, [], ◌++◌, length, map, take, drop, arith, length-append}
+use Rattle.std.proofs.Common.{◌≡◌, ◌+◌, ◌-◌, min, ◌<◌, ◌≤◌, ℕ, Bool, true, false, not, sym, ap, ◌∙◌, List, [], ◌++◌, length, map, take, drop, arith}
+use Rattle.std.proofs.Common.{length-append}
 use Rattle.std.specs.Prelude.{filter, nat_lt, if◌then◌else◌}
 use Rattle.std.proofs.lemmas.Bool.Decides.{nat_tests}
 use Rattle.std.proofs.lemmas.List.{length-drop, length-take, take-append-drop, take-append-le, drop-append-le}
@@ -41,8 +42,10 @@ enough_first q all seen rest n are is past = record {
     not_both b p q = absurd (cc)
 
 -- of objects that were read in turn those that meet the query, and of the rest
-pub read_first : (q : Query) (all read : List Object) (i : ℕ) → filter (meets_query q) read ≡ all → all ≡ filter (meets_query q) (take i read) ++ filter (meets_query q) (drop i read)
-read_first q all read i are = sym are ∙ ap (filter (meets_query q)) (sym (take-append-drop i read)) ∙ filter-append (meets_query q) (take i read) (drop i read)
+pub read_first : (q : Query) (all read : List Object) (i : ℕ) → filter (meets_query q) read ≡ all → all ≡ filter (meets_query q) (take i read)
+    ++ filter (meets_query q) (drop i read)
+read_first q all read i are = sym are ∙ ap (filter (meets_query q)) (sym (take-append-drop i read))
+    ∙ filter-append (meets_query q) (take i read) (drop i read)
 
 pub count_all : (q : Query) (all : List Object) (n : ℕ) → n ≡ length all → IsEnough q all n
 count_all q all n is = record {
@@ -51,10 +54,12 @@ count_all q all n is = record {
 }
 
 -- where the next page begins, told from its cursor and limit
-pub next_page : (q : Query) (all : List Object) (found : ℕ) → IsEnough q all found → is_count q.shown ≡ false → (if nat_lt (q.cursor + q.limit) found then q.cursor + q.limit else 0) ≡ page_cursor q all
+pub next_page : (q : Query) (all : List Object) (found : ℕ) → IsEnough q all found → is_count q.shown ≡ false
+    → (if nat_lt (q.cursor + q.limit) found then q.cursor + q.limit else 0) ≡ page_cursor q all
 next_page q all found enough paged =
     let exact : nat_lt (q.cursor + q.limit) found ≡ false → found ≡ length all = λ behind. enough.exact (rw paged behind) in
-    next q.cursor q.limit found (length all) (length (page_items q all)) enough.within exact (length-take q.limit (drop q.cursor all) ∙ ap (min q.limit) (length-drop q.cursor all))
+    next q.cursor q.limit found (length all) (length (page_items q all)) enough.within exact (length-take q.limit (drop q.cursor all)
+    ∙ ap (min q.limit) (length-drop q.cursor all))
   where
     next : (cursor limit found all items : ℕ) → found ≤ all → (nat_lt (cursor + limit) found ≡ false → found ≡ all) → items ≡ min limit (all - cursor)
         → (if nat_lt (cursor + limit) found then cursor + limit else 0) ≡ (if nat_lt (cursor + items) all then cursor + items else 0)

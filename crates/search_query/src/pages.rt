@@ -1,11 +1,13 @@
 //! Pages of what a query finds.
 
-ghost use Rattle.std.specs.Prelude.{◌≡◌, ◌<◌, ◌≤◌, ◌+◌, ◌^◌, ◌++◌, ◌∷◌, [], List, ◌&&◌, true, false, not, if◌then◌else◌, length, filter, reverse, slice_get, Some, nat_lt, nat_le, IfOk, OnOk};
+ghost use Rattle.std.specs.Prelude.{◌≡◌, ◌<◌, ◌≤◌, ◌+◌, ◌^◌, ◌++◌, ◌∷◌, [], List, ◌&&◌, true, false, not};
+ghost use Rattle.std.specs.Prelude.{if◌then◌else◌, length, filter, reverse, slice_get, Some, nat_lt, nat_le, IfOk};
+ghost use Rattle.std.specs.Prelude.{OnOk};
 ghost use Rattle.fence_model.specs.Queries.{IsPageOf, matches, meets_query, page_ids, is_count};
 ghost use Rattle.world_data.specs.declared.objects.Object.{Object};
 ghost use Rattle.byte_text.specs.Globs.{is_sound_glob};
 ghost use Rattle.world_data.specs.declared.channels.Kind.{Kind};
-ghost use Rattle.world_data.specs.declared.queries.Rule.TheVariants.{Kept};
+ghost use Rattle.world_data.specs.declared.queries.Rule.TheVariants.{InArea};
 ghost use Rattle.collection.specs.Places.{IsVisited};
 ghost use Rattle.search_query.specs.Directions.{is_down, has_area};
 ghost use Rattle.search_query.specs.Pages.{is_past, IsEnough};
@@ -18,10 +20,10 @@ use rtree::{Ids, Ledger, Steps};
 use std::alloc::Global;
 use world_data::{NameList, Object, Page, Query, Rule, Shown};
 
-/// The page of what the query finds among the objects of a key: their ids from place `cursor` on, at most `limit`, and where the
-/// next page begins; of a count the number of all that is found. Where the query has an area only objects are looked at whose box
-/// meets the area's box, and the steps rise by the nodes of the tree that are visited, one at least where there is an object; where
-/// it has none no node is visited. For want of memory the page may hold anything.
+/// The page of what the query finds among the objects of a key: their ids from place `cursor` on, at most `limit`, and
+/// where the next page begins; of a count the number of all that is found. Where the query has an area only objects are
+/// looked at whose box meets the area's box, and the steps rise by the nodes of the tree that are visited, one at least
+/// where there is an object; where it has none no node is visited. For want of memory the page may hold anything.
 pub fn page<L: Ledger>(
     alloc: Global,
     collection: &Collection,
@@ -36,8 +38,8 @@ pub fn page<L: Ledger>(
 {
     into.ids.clear();
     let found = match &query.rule {
-        Rule::Kept(_, area) => list_met(alloc, collection, area, query, &mut into.ids, steps)?,
-        Rule::All | Rule::Down | Rule::Nearest => {
+        Rule::InArea(_, area) => list_met(alloc, collection, area, query, &mut into.ids, steps)?,
+        Rule::All | Rule::Descending | Rule::Nearest => {
             list_ids(alloc, collection, query, &mut into.ids)?
         }
     };
@@ -47,7 +49,8 @@ pub fn page<L: Ledger>(
 
 /// Notes behind the ids of a page where the next one begins, and of a count how many were found.
 pub fn end_page(query: &Query, found: u64, page: &mut Page)
-    ensures { (all : List Object) → page.old.ids ≡ page_ids query.now all → IsEnough query.now all found → IsPageOf query.now all page.new }
+    ensures { (all : List Object) → page.old.ids ≡ page_ids query.now all → IsEnough query.now all found
+        → IsPageOf query.now all page.new }
 {
     if is_count(query.shown) {
         page.count = found;
@@ -59,8 +62,8 @@ pub fn end_page(query: &Query, found: u64, page: &mut Page)
     page.cursor = if next < found { next } else { 0 };
 }
 
-// Lists the ids of a page, none of a count, and gives the number of all that is found; once one is found behind the page, the
-// rest is not looked at.
+// Lists the ids of a page, none of a count, and gives the number of all that is found; once one is found behind the
+// page, the rest is not looked at.
 fn list_ids(
     alloc: Global,
     collection: &Collection,
@@ -94,7 +97,7 @@ fn list_met<L: Ledger>(
 ) -> Result<u64, NoMemory>
     requires pattern { is_sound_glob query.now.glob ≡ true }
     requires empty { ids.old ≡ [] }
-    requires area { (kind : Kind) × (query.now.rule ≡ Kept kind area.now) }
+    requires area { (kind : Kind) × (query.now.rule ≡ InArea kind area.now) }
     ensures count { IfOk result (λ n. IsEnough query.now (matches query.now collection.now.objects) n) }
     ensures ids { OnOk result (ids.new ≡ page_ids query.now (matches query.now collection.now.objects)) }
     ensures visits { IsVisited collection.now.objects steps.old.count steps.new.count }
@@ -136,11 +139,11 @@ fn in_turn(collection: &Collection, i: usize, down: bool) -> &Object
 fn is_down(rule: &Rule) -> bool
     ensures { result ≡ is_down rule.now }
 {
-    matches!(rule, Rule::Down)
+    matches!(rule, Rule::Descending)
 }
 
-/// Notes the next object behind those that were found: where it meets the query it is found too, and its id is listed where it is
-/// on the page. Gives the number of all that is found.
+/// Notes the next object behind those that were found: where it meets the query it is found too, and its id is listed
+/// where it is on the page. Gives the number of all that is found.
 pub fn note(
     alloc: Global,
     query: &Query,
@@ -150,8 +153,10 @@ pub fn note(
 ) -> Result<u64, NoMemory>
     requires pattern { is_sound_glob query.now.glob ≡ true }
     requires room { found + 1 < 2 ^ 64 }
-    ensures count { (seen : List Object) → found ≡ length seen → IfOk result (λ n. n ≡ length (seen ++ filter (meets_query query.now) (object.now ∷ []))) }
-    ensures ids { (seen : List Object) → found ≡ length seen → ids.old ≡ page_ids query.now seen → OnOk result (ids.new ≡ page_ids query.now (seen ++ filter (meets_query query.now) (object.now ∷ []))) }
+    ensures count { (seen : List Object) → found ≡ length seen
+        → IfOk result (λ n. n ≡ length (seen ++ filter (meets_query query.now) (object.now ∷ []))) }
+    ensures ids { (seen : List Object) → found ≡ length seen → ids.old ≡ page_ids query.now seen
+        → OnOk result (ids.new ≡ page_ids query.now (seen ++ filter (meets_query query.now) (object.now ∷ []))) }
 {
     if !meets_query(query, object) {
         return Ok(found);
@@ -164,7 +169,9 @@ pub fn note(
 
 // Whether what is found at this place is on the page.
 fn is_on_page(query: &Query, place: u64) -> bool
-    ensures { result ≡ (not (is_count query.now.shown) && nat_le query.now.cursor place && nat_lt place (query.now.cursor + query.now.limit)) }
+    ensures { result
+        ≡ (not (is_count query.now.shown) && nat_le query.now.cursor place
+        && nat_lt place (query.now.cursor + query.now.limit)) }
 {
     let first = u64::from(query.cursor);
     !is_count(query.shown) && first <= place && place < first + u64::from(query.limit)

@@ -1,3 +1,4 @@
 mod Tending
 mod Starting
 mod Rounding
+mod Serving

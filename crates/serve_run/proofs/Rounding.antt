@@ -4,8 +4,8 @@ use Rattle.std.specs.Prelude.{Option, Some, None, min}
 use Rattle.std.proofs.lemmas.List.{append-nil}
 use Rattle.std.proofs.lemmas.Grind.{flat_map-append}
 use Rattle.outside.specs.Causes.{Rose, most_count, next_count}
-use Rattle.world_model.specs.declared.events.Called.{Called}
-use Rattle.world_model.specs.declared.events.Called.TheVariants as called
+use Rattle.world_model.specs.declared.events.CallOutcome.{CallOutcome}
+use Rattle.world_model.specs.declared.events.CallOutcome.TheVariants as called
 use Rattle.world_model.specs.declared.events.Event.TheVariants as event
 use Rattle.world_model.specs.Seats.{Knows, Act}
 use Rattle.outside.specs.CauseLaws.{rose_later}
@@ -143,11 +143,11 @@ rounds_more told old mid new last lost r t =
       later = omega (arith, before, now);
     }
 
-no_done : (c : Called) → serve_end c ≡ Some end.Done → ⊥
+no_done : (c : CallOutcome) → serve_end c ≡ Some end.Done → ⊥
 no_done called.Ok e = absurd (cc)
 no_done c e = absurd (cc)
 
-no_door : (c : Called) → serve_end c ≡ Some end.DoorFault → ⊥
+no_door : (c : CallOutcome) → serve_end c ≡ Some end.DoorFault → ⊥
 no_door called.Ok e = absurd (cc)
 no_door c e = absurd (cc)
 
@@ -161,7 +161,7 @@ ends_last end.Memory told limit last old new i = inl i
 no_entry : (a : Act) (more : List Act) → [] ≡ a ∷ more → ⊥
 no_entry a more e = absurd (cc)
 
-not_none : (m : ℕ) (c : Called) → ([] ≡ tick_act m c ∷ []) ⊎ ((n : ℕ) × (n < rewrite_steps) × ([] ≡ tick_act m called.Ok ∷ rewrites n ++ rewrite_act c ∷ [])) → ⊥
+not_none : (m : ℕ) (c : CallOutcome) → ([] ≡ tick_act m c ∷ []) ⊎ ((n : ℕ) × (n < rewrite_steps) × ([] ≡ tick_act m called.Ok ∷ rewrites n ++ rewrite_act c ∷ [])) → ⊥
 not_none m c (inl x) = no_entry (tick_act m c) [] x
 not_none m c (inr x) = no_entry (tick_act m called.Ok) (rewrites x.0 ++ rewrite_act c ∷ []) x.2
 

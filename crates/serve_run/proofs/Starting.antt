@@ -6,7 +6,7 @@ use Rattle.world_model.specs.Seats.{Knows, Adds}
 use Rattle.world_model.specs.Outcomes.{enter_outcome}
 use Rattle.world_model.specs.declared.events.EnterFault.{EnterFault}
 use Rattle.world_model.specs.declared.events.EnterFault.TheVariants as refused
-use Rattle.world_model.specs.declared.events.Called.TheVariants as called
+use Rattle.world_model.specs.declared.events.CallOutcome.TheVariants as called
 use Rattle.world_model.specs.declared.events.Event.TheVariants as event
 use Rattle.world_model.specs.declared.events.Outcome.TheVariants as outcome
 use Rattle.outside.specs.CauseLaws.{rose_later}

@@ -1,8 +1,8 @@
 -- What the loop of a server does for one accept.
 use Rattle.std.specs.Prelude.{◌≡◌, ◌⊎◌, ◌≤◌, ◌<◌, ℕ, ◌+◌, Bool, true, false, List, [], ◌∷◌, ◌++◌, replicate, min, Option, Some, None, MatchOption}
 use Rattle.outside.specs.Causes.{next_count, most_count}
-use Rattle.world_model.specs.declared.events.Called.{Called}
-use Rattle.world_model.specs.declared.events.Called.TheVariants as called
+use Rattle.world_model.specs.declared.events.CallOutcome.{CallOutcome}
+use Rattle.world_model.specs.declared.events.CallOutcome.TheVariants as called
 use Rattle.world_model.specs.declared.events.Event.TheVariants as event
 use Rattle.world_model.specs.declared.events.Outcome.{Outcome}
 use Rattle.world_model.specs.declared.events.Outcome.TheVariants as outcome
@@ -63,7 +63,7 @@ pub record Joins (old new : Knows) (jobs jobs' faults faults' : ℕ) (fate : Fat
   pub refused : min (faults + refusals fate) most_count ≤ faults'
 
 -- the end that the answer to a Tick or Rewrite brings
-abbrev pub serve_end : Called → Option ServeEnd
+abbrev pub serve_end : CallOutcome → Option ServeEnd
 serve_end called.Ok = None
 serve_end called.LogFault = Some end.Stopped
 serve_end called.Stopped = Some end.Stopped
@@ -72,10 +72,10 @@ serve_end called.Full = Some end.Memory
 serve_end called.Gone = Some end.Memory
 serve_end called.Memory = Some end.Memory
 
-abbrev pub tick_act : ℕ → Called → Act
+abbrev pub tick_act : ℕ → CallOutcome → Act
 tick_act m c = (event.Tick m, outcome.Answered c)
 
-abbrev pub rewrite_act : Called → Act
+abbrev pub rewrite_act : CallOutcome → Act
 rewrite_act c = (event.Rewrite, outcome.Answered c)
 
 -- the steps of rewriting behind each Tick, a constant of the code
@@ -92,7 +92,8 @@ IsTold told m = MatchOption told (Unit {0}) (λ x. m ≡ x)
 -- the Rewrites behind a Tick: all of them, each answered Ok; or those up to the first that was answered otherwise, which brings the end
 abbrev pub Rewritten : Knows → Knows → Option ServeEnd → Type 0
 Rewritten old new None = Gains old new (rewrites rewrite_steps)
-Rewritten old new (Some e) = (n : ℕ) × (c : Called) × (n < rewrite_steps) × (serve_end c ≡ Some e) × Gains old new (rewrites n ++ rewrite_act c ∷ [])
+Rewritten old new (Some e) = (n : ℕ) × (c : CallOutcome) × (n < rewrite_steps) × (serve_end c ≡ Some e)
+    × Gains old new (rewrites n ++ rewrite_act c ∷ [])
 
 -- a Tick and the Rewrites behind it, each answered Ok
 abbrev pub tend_acts : ℕ → List Act
@@ -107,7 +108,7 @@ pub record TendsOn (told : Option ℕ) (old new : Knows) : Type 0 where
 -- the entries of a group that ends with the answer that brings the end: that of the Tick, or of one of the Rewrites, where the Tick and
 -- the Rewrites before it were answered Ok
 abbrev pub IsLast : Option ℕ → ServeEnd → List Act → Type 0
-IsLast told e last = (m : ℕ) × (c : Called) × IsTold told m × (serve_end c ≡ Some e)
+IsLast told e last = (m : ℕ) × (c : CallOutcome) × IsTold told m × (serve_end c ≡ Some e)
     × ((last ≡ tick_act m c ∷ []) ⊎ ((n : ℕ) × (n < rewrite_steps) × (last ≡ tick_act m called.Ok ∷ rewrites n ++ rewrite_act c ∷ [])))
 
 pub record TendsLast (told : Option ℕ) (old new : Knows) (end : ServeEnd) : Type 0 where

@@ -7,12 +7,11 @@ ghost use Rattle.serve_run.specs.Rounds.{RoundTurn, ServesLinks, state_of, fate_
 use crate::shared::Shared;
 use crate::starts::{Fate, Jobs, join_link};
 use crate::tends::{ServeEnd, tend};
-use hall_turns::HallServe;
 use outside::{Accepted, Bell, Clock, Door, Failed, Gate, Spawner};
 use std::alloc::Global;
 use std::sync::Wait;
 use std::thread::Threads;
-use world_model::{HallApi, HallSplit, Touched};
+use world_model::{ChangedSessions, HallApi, HallServe, HallSplit};
 
 /// What the loop of a server did.
 #[derive(Clone, Copy, Debug, PartialEq, Eq)]
@@ -60,10 +59,10 @@ fn round<
     door: &mut L,
     clock: &C,
     spawner: &mut P,
-    touched: Touched,
+    touched: ChangedSessions,
     counts: &mut Counts,
     limit: u32,
-) -> (Option<ServeEnd>, Touched)
+) -> (Option<ServeEnd>, ChangedSessions)
 where
     H::Seat: Send + Drop + 'static,
     L::In: Send + Drop + 'static,
@@ -146,7 +145,7 @@ where
     if counts.joined == limit {
         return ServeEnd::Done;
     }
-    let Ok(mut touched) = Touched::new(alloc) else {
+    let Ok(mut touched) = ChangedSessions::new(alloc) else {
         return ServeEnd::Memory;
     };
     for _ in rt.forever() {

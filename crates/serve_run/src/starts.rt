@@ -1,17 +1,18 @@
 //! The two jobs of a link.
+//!
+//! A second refused start removes the session: nobody would take from one that is only closed.
 
 ghost use Rattle.std.specs.Prelude.{◌≡◌, ℕ};
 ghost use Rattle.std.specs.Arc.{arc_value};
 ghost use Rattle.serve_run.specs.Links.{Starts, Joins};
 
 use crate::shared::{Parts, Shared};
-use hall_turns::HallServe;
 use outside::{Bell, Clock, Door, Failed, Gate, Link, Sink, Source, Spawner};
 use session_run::{InJob, OutJob, Outlet, SessionJob};
 use std::alloc::Global;
 use std::sync::Wait;
 use std::thread::Threads;
-use world_model::{HallApi, HallSplit};
+use world_model::{HallApi, HallServe, HallSplit};
 
 /// The jobs of a server.
 pub type Jobs<H, L, C, B, G> = SessionJob<H, <L as Door>::In, <L as Door>::Out, C, B, G>;

@@ -1,4 +1,8 @@
 //! The Tick and the Rewrites behind each accept.
+//!
+//! Sixteen steps of rewriting stand behind each tick: the door answers about ten times a second where nobody comes, and
+//! a step copies at most 256 items. Each step is a turn of its own, so a write waits for one step and not for all. A
+//! step that is not answered Ok ends the loop.
 
 ghost use Rattle.std.specs.Prelude.{◌≡◌, ℕ};
 ghost use Rattle.std.specs.Arc.{arc_value};
@@ -8,11 +12,11 @@ use crate::shared::Shared;
 use outside::{Bell, Clock};
 use session_run::ring_touched;
 use std::sync::Wait;
-use world_model::{Called, HallApi, Touched};
+use world_model::{CallOutcome, ChangedSessions, HallApi};
 
-// The steps of rewriting behind each Tick. The door is asked for a caller about ten times a second, and a step copies at most 256 items:
-// one step each time would take minutes over a large world. Each step is a turn of its own, so the turns of the sessions come between
-// them. Where no rewriting is under way a step only commits what is pending.
+// The steps of rewriting behind each Tick. The door is asked for a caller about ten times a second, and a step copies
+// at most 256 items: one step each time would take minutes over a large world. Each step is a turn of its own, so the
+// turns of the sessions come between them. Where no rewriting is under way a step only commits what is pending.
 const REWRITE_STEPS: u32 = 16;
 
 /// How the loop of a server ended.
@@ -31,14 +35,14 @@ pub enum ServeEnd {
 }
 
 // The end that the answer to a Tick or Rewrite brings.
-fn serve_end(answer: Called) -> Option<ServeEnd>
+fn serve_end(answer: CallOutcome) -> Option<ServeEnd>
     ensures { result ≡ serve_end answer }
 {
     match answer {
-        Called::Ok => None,
-        Called::LogFault | Called::Stopped => Some(ServeEnd::Stopped),
-        Called::Spent => Some(ServeEnd::Spent),
-        Called::Full | Called::Gone | Called::Memory => Some(ServeEnd::Memory),
+        CallOutcome::Ok => None,
+        CallOutcome::LogFault | CallOutcome::Stopped => Some(ServeEnd::Stopped),
+        CallOutcome::Spent => Some(ServeEnd::Spent),
+        CallOutcome::Full | CallOutcome::Gone | CallOutcome::Memory => Some(ServeEnd::Memory),
     }
 }
 
@@ -63,8 +67,8 @@ pub(crate) fn tend<H: HallApi + Drop, C: Clock, B: Bell + Drop, G: Drop, R: Wait
     shared: &Shared<H, B, G>,
     seat: &mut H::Seat,
     clock: &C,
-    touched: Touched,
-) -> (Option<ServeEnd>, Touched)
+    touched: ChangedSessions,
+) -> (Option<ServeEnd>, ChangedSessions)
     requires { H.is_of (arc_value shared.now.hall) seat.old }
     ensures seat { H.is_of (arc_value shared.now.hall) seat.new }
     ensures tends { Tends (C.told clock.now) (H.knows seat.old) (H.knows seat.new) result.0 }

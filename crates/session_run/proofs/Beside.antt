@@ -4,8 +4,8 @@ use Rattle.std.specs.Prelude.{Option, Some, None}
 use Rattle.byte_text.specs.Names.{Bytes}
 use Rattle.resp_frames.specs.RequestReader.{Held}
 use Rattle.world_model.specs.declared.events.Asked.{Asked}
-use Rattle.world_model.specs.declared.events.Called.{Called}
-use Rattle.world_model.specs.declared.events.Called.TheVariants as called
+use Rattle.world_model.specs.declared.events.CallOutcome.{CallOutcome}
+use Rattle.world_model.specs.declared.events.CallOutcome.TheVariants as called
 use Rattle.world_model.specs.Outcomes.{call_acts, IsCount}
 use Rattle.world_model.specs.Seats.{Knows, Act, AddsCalls}
 use Rattle.session_run.specs.declared.batches.Fill.{Fill}
@@ -28,7 +28,7 @@ use Rattle.session_run.proofs.Mixing.{both_behind}
 use Rattle.session_run.proofs.Serving.{Reading, reading_on, reading_over, reading_last, rest_from, part_next, part_dry, part_end, list_on, list_broken, list_memory, ended_ok}
 
 -- the calls of a turn and the take behind them, and what was written behind that
-pub turn_behind : (n m : ℕ) (old mid new : Knows) (asks : List Asked) (served : ℕ) (end : Called) (takes : List Act) (writes : List Act → Type 0)
+pub turn_behind : (n m : ℕ) (old mid new : Knows) (asks : List Asked) (served : ℕ) (end : CallOutcome) (takes : List Act) (writes : List Act → Type 0)
     → 0 < length asks → IsCount served end (length asks) → AddsCalls (call_acts n m asks served end ++ takes) old mid → WithTakes (Gains mid new) (λ rest. writes (takes ++ rest))
     → WithTakes (GainsBoth old new (call_acts n m asks served end)) writes
 turn_behind n m old mid new asks served end takes writes some count adds w =
@@ -47,7 +47,7 @@ part_of fill.Broken = part.End Broken
 part_of fill.Memory = part.End Memory
 
 -- the requests that were collected were all called
-module _ (n : ℕ) (told : Option ℕ) (old new : Knows) (held held' back : Held) (same : back ≡ held') (bytes : Bytes) (asks left : List Asked) (answer : Called) (none : end_of answer ≡ None)
+module _ (n : ℕ) (told : Option ℕ) (old new : Knows) (held held' back : Held) (same : back ≡ held') (bytes : Bytes) (asks left : List Asked) (answer : CallOutcome) (none : end_of answer ≡ None)
     (writes : List Act → Type 0) (s : WithTakes (ServesList n told old new asks left answer) writes) where
   ok : ServesList n told old new asks left called.Ok s.0
   ok = ended_ok n told old new asks left answer s.0 none s.1

@@ -6,8 +6,8 @@ use Rattle.std.proofs.lemmas.Option.{same_Some}
 use Rattle.ordered_lists.specs.Reading.{both_of}
 use Rattle.world_model.specs.Outcomes.{is_proper}
 use Rattle.world_model.specs.declared.events.Asked.{Asked}
-use Rattle.world_model.specs.declared.events.Called.{Called}
-use Rattle.world_model.specs.declared.events.Called.TheVariants as called
+use Rattle.world_model.specs.declared.events.CallOutcome.{CallOutcome}
+use Rattle.world_model.specs.declared.events.CallOutcome.TheVariants as called
 use Rattle.world_model.specs.Seats.{Knows, Act, AddsCalls}
 use Rattle.session_run.specs.Gains.{Gains, GainsBoth, gains_calls}
 use Rattle.world_model.specs.Outcomes.{call_act, last_call, call_acts, IsCount}
@@ -25,7 +25,7 @@ serves_more told (c ∷ a) b asks mid left s t = (s.0, s.1, s.2, serves_more tol
 next_more : (c : Call) (asks more : List Asked) → IsNext c asks → IsNext c (asks ++ more)
 next_more c asks more i = (i.0 ++ more, ap (λ (l : List Asked). l ++ more) i.1)
 
-behind_more : (answer : Called) (a : Asked) (asks more : List Asked) → behind answer ((a ∷ asks) ++ more) ≡ behind answer (a ∷ asks) ++ more
+behind_more : (answer : CallOutcome) (a : Asked) (asks more : List Asked) → behind answer ((a ∷ asks) ++ more) ≡ behind answer (a ∷ asks) ++ more
 behind_more called.Ok a asks more = refl
 behind_more answer a asks more = refl
 
@@ -42,7 +42,7 @@ serves_before told (c ∷ calls) asks left more s = (
   subst (λ (l : List Asked). Serves told calls l (left ++ more)) (sym (behind_next c asks more s.1)) (serves_before told calls (behind c.answer asks) left more s.3),
 )
 
-pub stop_before : (told : Option ℕ) (answer : Called) (stop : List Call) (left more : List Asked) → IsStop told answer stop left → IsStop told answer stop (left ++ more)
+pub stop_before : (told : Option ℕ) (answer : CallOutcome) (stop : List Call) (left more : List Asked) → IsStop told answer stop left → IsStop told answer stop (left ++ more)
 stop_before told answer stop left more s = (s.0, s.1, s.2, s.3, next_more s.0 left more s.4)
 
 -- the calls of one turn
@@ -73,18 +73,18 @@ proper_drop asks zero h = h
 proper_drop [] (suc n) h = h
 proper_drop (a ∷ asks) (suc n) h = proper_drop asks n (both_of (is_proper a) (list_all is_proper asks) h).1
 
-pub some_acts : (n m : ℕ) (asks : List Asked) (served : ℕ) (end : Called) → 0 < length asks → IsCount served end (length asks) → 0 < length (call_acts n m asks served end)
+pub some_acts : (n m : ℕ) (asks : List Asked) (served : ℕ) (end : CallOutcome) → 0 < length asks → IsCount served end (length asks) → 0 < length (call_acts n m asks served end)
 some_acts n m [] served end some count = absurd (omega (arith, some))
 some_acts n m (a ∷ asks) zero called.Ok some count = absurd (omega (arith, count))
 some_acts n m (a ∷ asks) zero end some count = omega arith
 some_acts n m (a ∷ asks) (suc served) end some count = omega arith
 
-pub served_within : (end : Called) (served most : ℕ) → IsCount served end most → served ≤ most
+pub served_within : (end : CallOutcome) (served most : ℕ) → IsCount served end most → served ≤ most
 served_within called.Ok served most count = omega (arith, count)
 served_within end served most count = omega (arith, count)
 
 -- what the calls of a turn and a take behind them added
-pub turn_gains : (n m : ℕ) (old new : Knows) (asks : List Asked) (served : ℕ) (end : Called) (takes : List Act) → 0 < length asks → IsCount served end (length asks) → AddsCalls (call_acts n m asks served end ++ takes) old new
+pub turn_gains : (n m : ℕ) (old new : Knows) (asks : List Asked) (served : ℕ) (end : CallOutcome) (takes : List Act) → 0 < length asks → IsCount served end (length asks) → AddsCalls (call_acts n m asks served end ++ takes) old new
     → Gains old new (call_acts n m asks served end ++ takes)
 turn_gains n m old new asks served end takes some count adds =
     let calls = call_acts n m asks served end in
@@ -109,7 +109,7 @@ module _ (n m : ℕ) (told : Option ℕ) (old new : Knows) (took : List Act) (as
       }
 
   -- the calls with one more, that is answered otherwise
-  with_last : (end : Called) (a : Asked) (more : List Asked) → drop served asks ≡ a ∷ more → last_call n m end (a ∷ more) ≡ call_act n m end a ∷ [] → GainsBoth old new (call_acts n m asks served end) took
+  with_last : (end : CallOutcome) (a : Asked) (more : List Asked) → drop served asks ≡ a ∷ more → last_call n m end (a ∷ more) ≡ call_act n m end a ∷ [] → GainsBoth old new (call_acts n m asks served end) took
       → GainsBoth old new (map (call_of n) (map (ok_call m) (take served asks) ++ record { moment = m; asked = a; answer = end } ∷ [])) took
   with_last end a more is one g =
       let oks = map (ok_call m) (take served asks) in
@@ -134,7 +134,7 @@ module _ (n m : ℕ) (told : Option ℕ) (old new : Knows) (took : List Act) (as
         proper = proper_drop asks served;
       }
 
-  turn_stop : (end : Called) → ((a : Asked) (more : List Asked) → last_call n m end (a ∷ more) ≡ call_act n m end a ∷ []) → served < length asks
+  turn_stop : (end : CallOutcome) → ((a : Asked) (more : List Asked) → last_call n m end (a ∷ more) ≡ call_act n m end a ∷ []) → served < length asks
       → ((stop : List Call) → IsStop told end stop (drop served asks) → StopsAt told end stop (drop served asks))
       → IsCount served end (length asks) → GainsBoth old new (call_acts n m asks served end) took → ServesList n told old new asks (drop served asks) end took
   turn_stop end one few stops count g =
@@ -149,7 +149,7 @@ module _ (n m : ℕ) (told : Option ℕ) (old new : Knows) (took : List Act) (as
         stops = stops (c ∷ []) (c, refl, refl, time c refl, (left.1, left.2));
       }
 
-  pub turn_ends : (end : Called) → (end ≡ called.Full → ⊥) → IsCount served end (length asks) → GainsBoth old new (call_acts n m asks served end) took → ServesList n told old new asks (drop served asks) end took
+  pub turn_ends : (end : CallOutcome) → (end ≡ called.Full → ⊥) → IsCount served end (length asks) → GainsBoth old new (call_acts n m asks served end) took → ServesList n told old new asks (drop served asks) end took
   turn_ends called.Ok ne count g = turn_ok count g
   turn_ends called.Full ne count g = absurd (ne refl)
   turn_ends called.Gone ne count g = turn_stop called.Gone (λ a more. refl) count (λ stop s. s) count g
@@ -194,7 +194,7 @@ serving_on n told old mid new asks left left' a b s t = record {
   serves = serves_more told s.calls t.calls asks left left' s.serves t.serves;
 }
 
-pub serving_last : (n : ℕ) (told : Option ℕ) (old mid new : Knows) (asks left left' : List Asked) (answer : Called) (a b : List Act) → Serving n told old mid asks left a → ServesList n told mid new left left' answer b → ServesList n told old new asks left' answer (a ++ b)
+pub serving_last : (n : ℕ) (told : Option ℕ) (old mid new : Knows) (asks left left' : List Asked) (answer : CallOutcome) (a b : List Act) → Serving n told old mid asks left a → ServesList n told mid new left left' answer b → ServesList n told old new asks left' answer (a ++ b)
 serving_last n told old mid new asks left left' answer a b s t = record {
   calls = s.calls ++ t.calls;
   stop = t.stop;

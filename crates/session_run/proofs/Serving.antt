@@ -9,8 +9,8 @@ use Rattle.byte_text.specs.Streams.{stream_of}
 use Rattle.resp_frames.specs.RequestReader.{Held}
 use Rattle.world_model.specs.declared.events.Asked.{Asked}
 use Rattle.world_model.specs.declared.events.Asked.TheVariants as asked
-use Rattle.world_model.specs.declared.events.Called.{Called}
-use Rattle.world_model.specs.declared.events.Called.TheVariants as called
+use Rattle.world_model.specs.declared.events.CallOutcome.{CallOutcome}
+use Rattle.world_model.specs.declared.events.CallOutcome.TheVariants as called
 use Rattle.world_model.specs.declared.events.Event.TheVariants as event
 use Rattle.world_model.specs.declared.events.Outcome.TheVariants as outcome
 use Rattle.world_model.specs.Seats.{Knows, Act, Adds}
@@ -114,7 +114,7 @@ module _ (n : ℕ) (told : Option ℕ) where
         own = refl;
       }
 
-  list_stop : (old new : Knows) (held held' : Held) (bytes rest : Bytes) (asks left : List Asked) (answer : Called) (end : InEnd) (took : List Act) → Feeds held bytes held' rest asks
+  list_stop : (old new : Knows) (held held' : Held) (bytes rest : Bytes) (asks left : List Asked) (answer : CallOutcome) (end : InEnd) (took : List Act) → Feeds held bytes held' rest asks
       → ((stop : List Call) (total : List Asked) (l : List Asked) → IsStop told answer stop l → EndsAt told end stop total l) → is_of_calls end ≡ true
       → (s : ServesList n told old new asks left answer took) → IsStop told answer s.stop left → PartLast n told old new held bytes end took
   list_stop old new held held' bytes rest asks left answer end took f why own s stop =
@@ -130,7 +130,7 @@ module _ (n : ℕ) (told : Option ℕ) where
         own = own;
       }
 
-  pub list_ends : (old new : Knows) (held held' : Held) (bytes rest : Bytes) (asks left : List Asked) (answer : Called) (end : InEnd) (took : List Act) → end_of answer ≡ Some end → Feeds held bytes held' rest asks
+  pub list_ends : (old new : Knows) (held held' : Held) (bytes rest : Bytes) (asks left : List Asked) (answer : CallOutcome) (end : InEnd) (took : List Act) → end_of answer ≡ Some end → Feeds held bytes held' rest asks
       → ServesList n told old new asks left answer took → PartLast n told old new held bytes end took
   list_ends old new held held' bytes rest asks left called.Ok end took is f s = absurd (cc)
   list_ends old new held held' bytes rest asks left called.Full end took is f s = absurd (cc)
@@ -365,7 +365,7 @@ reads_closed n told old mid shut new left left' faults faults' end close legal a
     }
 
 -- an answer that brings no end is Ok
-pub ended_ok : (n : ℕ) (told : Option ℕ) (old new : Knows) (asks left : List Asked) (answer : Called) (took : List Act) → end_of answer ≡ None → ServesList n told old new asks left answer took → ServesList n told old new asks left called.Ok took
+pub ended_ok : (n : ℕ) (told : Option ℕ) (old new : Knows) (asks left : List Asked) (answer : CallOutcome) (took : List Act) → end_of answer ≡ None → ServesList n told old new asks left answer took → ServesList n told old new asks left called.Ok took
 ended_ok n told old new asks left called.Ok took none s = s
 ended_ok n told old new asks left called.Full took none s = absurd s.stops
 ended_ok n told old new asks left called.Gone took none s = absurd (cc)

@@ -6,8 +6,8 @@ use Rattle.byte_text.specs.Names.{Bytes}
 use Rattle.byte_text.specs.Streams.{stream_of}
 use Rattle.resp_frames.specs.RequestReader.{Held}
 use Rattle.world_model.specs.declared.events.Asked.{Asked}
-use Rattle.world_model.specs.declared.events.Called.{Called}
-use Rattle.world_model.specs.declared.events.Called.TheVariants as called
+use Rattle.world_model.specs.declared.events.CallOutcome.{CallOutcome}
+use Rattle.world_model.specs.declared.events.CallOutcome.TheVariants as called
 use Rattle.world_model.specs.declared.events.Event.TheVariants as event
 use Rattle.world_model.specs.declared.events.Outcome.TheVariants as outcome
 use Rattle.world_model.specs.Seats.{Knows, Act}
@@ -20,7 +20,7 @@ use Rattle.session_run.specs.declared.blocks.Part.{Part}
 use Rattle.session_run.specs.declared.blocks.Part.TheVariants as part
 
 -- the end that a call's answer brings
-abbrev pub end_of : Called → Option InEnd
+abbrev pub end_of : CallOutcome → Option InEnd
 end_of called.Ok = None
 end_of called.Full = None
 end_of called.Gone = Some ClosedByHall
@@ -44,7 +44,8 @@ EndsAt told Memory stop asks left = (stop ≡ []) ⊎ IsStop told called.Memory 
 
 -- a session's requests were read and served: the seat's new entries are calls of this session and then its close, and beside them these
 -- takes. The calls are those of what the bytes read ask for, in order, each again while it is answered Full, up to the end
-pub record ReadsSession (n : ℕ) (told : Option ℕ) (old new : Knows) (left left' : Option Bytes) (faults faults' : ℕ) (end : InEnd) (took : List Act) : Type 0 where
+pub record ReadsSession (n : ℕ) (told : Option ℕ) (old new : Knows) (left left' : Option Bytes) (faults faults' : ℕ) (end : InEnd)
+    (took : List Act) : Type 0 where
   pub read : Bytes
   pub consumed : Consumes left left' read
   pub calls : List Call
@@ -59,7 +60,8 @@ pub record ReadsSession (n : ℕ) (told : Option ℕ) (old new : Knows) (left le
   pub legal : SeesLegal new
 
 -- the same, before the close
-pub record ReadsOn (n : ℕ) (told : Option ℕ) (old new : Knows) (left left' : Option Bytes) (faults faults' : ℕ) (end : InEnd) (took : List Act) : Type 0 where
+pub record ReadsOn (n : ℕ) (told : Option ℕ) (old new : Knows) (left left' : Option Bytes) (faults faults' : ℕ) (end : InEnd)
+    (took : List Act) : Type 0 where
   pub read : Bytes
   pub consumed : Consumes left left' read
   pub calls : List Call
@@ -73,7 +75,8 @@ pub record ReadsOn (n : ℕ) (told : Option ℕ) (old new : Knows) (left left' :
   pub later : faults ≤ faults'
 
 -- what some bytes ask for first was served, and the reader goes on with the rest
-pub record PartOn (n : ℕ) (told : Option ℕ) (old new : Knows) (held : Held) (bytes : Bytes) (held' : Held) (rest : Bytes) (took : List Act) : Type 0 where
+pub record PartOn (n : ℕ) (told : Option ℕ) (old new : Knows) (held : Held) (bytes : Bytes) (held' : Held) (rest : Bytes)
+    (took : List Act) : Type 0 where
   pub asks : List Asked
   pub calls : List Call
   pub gains : GainsBoth old new (map (call_of n) calls) took
@@ -98,7 +101,8 @@ pub record PartLast (n : ℕ) (told : Option ℕ) (old new : Knows) (held : Held
   pub own : is_of_calls end ≡ true
 
 abbrev pub ServesPart : ℕ → Option ℕ → Knows → Knows → Held → Bytes → Held → Part → List Act → Type 0
-ServesPart n told old new held bytes held' (part.More taken) took = (taken ≤ length bytes) × PartOn n told old new held bytes held' (drop taken bytes) took
+ServesPart n told old new held bytes held' (part.More taken) took = (taken ≤ length bytes)
+    × PartOn n told old new held bytes held' (drop taken bytes) took
 ServesPart n told old new held bytes held' part.Dry took = PartOn n told old new held bytes held' [] took × (asked_behind held' [] ≡ [])
 ServesPart n told old new held bytes held' (part.End end) took = PartLast n told old new held bytes end took
 
@@ -107,14 +111,16 @@ ServesBlock n told old new held bytes held' None took = PartOn n told old new he
 ServesBlock n told old new held bytes held' (Some end) took = PartLast n told old new held bytes end took
 
 -- a block was read and served
-pub record BlockOn (n : ℕ) (told : Option ℕ) (old new : Knows) (left left' : Option Bytes) (faults faults' : ℕ) (held held' : Held) (took : List Act) : Type 0 where
+pub record BlockOn (n : ℕ) (told : Option ℕ) (old new : Knows) (left left' : Option Bytes) (faults faults' : ℕ) (held held' : Held)
+    (took : List Act) : Type 0 where
   pub block : Bytes
   pub consumed : Consumes left left' block
   pub served : PartOn n told old new held block held' [] took
   pub dry : asked_behind held' [] ≡ []
   pub later : faults ≤ faults'
 
-pub record BlockLast (n : ℕ) (told : Option ℕ) (old new : Knows) (left left' : Option Bytes) (faults faults' : ℕ) (held : Held) (end : InEnd) (took : List Act) : Type 0 where
+pub record BlockLast (n : ℕ) (told : Option ℕ) (old new : Knows) (left left' : Option Bytes) (faults faults' : ℕ) (held : Held) (end : InEnd)
+    (took : List Act) : Type 0 where
   pub block : Bytes
   pub consumed : Consumes left left' block
   pub calls : List Call

@@ -40,7 +40,8 @@ gains_last old mid new a x g m = gains_more old mid new a (x ∷ []) g (gains_on
 -- two lists of acts as one, each in its order
 abbrev pub Mixes : List Act → List Act → List Act → Type 0
 Mixes [] calls takes = (calls ≡ []) × (takes ≡ [])
-Mixes (a ∷ acts) calls takes = ((more : List Act) × (calls ≡ a ∷ more) × Mixes acts more takes) ⊎ ((more : List Act) × (takes ≡ a ∷ more) × Mixes acts calls more)
+Mixes (a ∷ acts) calls takes = ((more : List Act) × (calls ≡ a ∷ more) × Mixes acts more takes) ⊎ ((more : List Act) × (takes ≡ a ∷ more)
+    × Mixes acts calls more)
 
 -- the seat made the entries of calls and those of takes, each in their order, and no other
 pub record GainsBoth (old new : Knows) (calls takes : List Act) : Type 0 where
@@ -63,7 +64,8 @@ one_place : (seen : List Entry) (e : Entry) → length (seen ++ e ∷ []) ≡ le
 one_place seen e = length-append seen (e ∷ [])
 
 -- entries at the end of what is seen, with none between
-neighbours : (old new : Knows) (entries : List Entry) → new.seen ≡ old.seen ++ entries → new.mine ≡ old.mine ++ places_from (length old.seen) (length entries)
+neighbours : (old new : Knows) (entries : List Entry) → new.seen ≡ old.seen ++ entries → new.mine ≡ old.mine
+    ++ places_from (length old.seen) (length entries)
     → new.opening ≡ old.opening → new.first ≡ old.first → Gains old new (map act_of entries)
 neighbours old new [] seen mine opening first = same_knows new old opening (seen ∙ append-nil old.seen) (mine ∙ append-nil old.mine) first
 neighbours old new (e ∷ entries) seen mine opening first =
@@ -89,7 +91,8 @@ neighbours old new (e ∷ entries) seen mine opening first =
 pub gains_calls : (acts : List Act) (old new : Knows) → 0 < length acts → AddsCalls acts old new → Gains old new acts
 gains_calls acts old new some a = subst (λ (l : List Act). Gains old new l) a.are (by a.entries a.seen a.mine a.are)
   where
-    by : (entries : List Entry) → new.seen ≡ (old.seen ++ a.between) ++ entries → new.mine ≡ old.mine ++ places_from (length (old.seen ++ a.between)) (length entries)
+    by : (entries : List Entry) → new.seen ≡ (old.seen ++ a.between) ++ entries → new.mine ≡ old.mine
+        ++ places_from (length (old.seen ++ a.between)) (length entries)
         → map act_of entries ≡ acts → Gains old new (map act_of entries)
     by [] seen mine are = absurd (omega (arith, some, ap (λ (l : List Act). length l) are))
     by (e ∷ entries) seen mine are =
@@ -122,7 +125,8 @@ made event outcome old new a = by a.entries a.seen a.mine a.are
     none [] e = refl
     none (x ∷ entries) e = absurd (cc)
 
-    by : (entries : List Entry) → new.seen ≡ (old.seen ++ a.between) ++ entries → new.mine ≡ old.mine ++ places_from (length (old.seen ++ a.between)) (length entries)
+    by : (entries : List Entry) → new.seen ≡ (old.seen ++ a.between) ++ entries → new.mine ≡ old.mine
+        ++ places_from (length (old.seen ++ a.between)) (length entries)
         → map act_of entries ≡ act ∷ [] → Makes act old new
     by [] seen mine are = absurd (cc)
     by (e ∷ entries) seen mine are =

@@ -22,7 +22,8 @@ IsReady is_of (job.Writes j) = is_of (arc_value j.hall) j.seat × (j.frames.list
 
 -- a job that reads leaves what reading a session may leave, with the frames that it wrote itself; one that writes what writing may, from
 -- the sink on that it was given, or nothing where it was given none
-abbrev pub Gives : {H S K C B G T : Type 0} → (T → Knows) → (C → Option ℕ) → (S → Option Bytes) → (S → ℕ) → (K → Option Bytes) → (K → ℕ) → SessionJob H S K C B G T → SessionDone H S K T → Type 0
+abbrev pub Gives : {H S K C B G T : Type 0} → (T → Knows) → (C → Option ℕ) → (S → Option Bytes) → (S → ℕ) → (K → Option Bytes) → (K → ℕ)
+    → SessionJob H S K C B G T → SessionDone H S K T → Type 0
 Gives knows told left read held write (job.Reads j) (done.Read seat source end writing) =
     WithTakes (ReadsSession j.session (told j.clock) (knows j.seat) (knows seat) (left j.source) (left source) (read j.source) (read source) end)
     (Writes held write j.session j.outlet writing)

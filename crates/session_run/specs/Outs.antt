@@ -5,7 +5,7 @@ use Rattle.std.specs.Io.KnownBytes.{Appends}
 use Rattle.outside.specs.Causes.{Rose}
 use Rattle.outside.specs.Writing.{AppendsPart}
 use Rattle.byte_text.specs.Names.{Bytes}
-use Rattle.world_model.specs.declared.events.Called.TheVariants as called
+use Rattle.world_model.specs.declared.events.CallOutcome.TheVariants as called
 use Rattle.world_model.specs.declared.events.Event.TheVariants as event
 use Rattle.world_model.specs.declared.events.Outcome.{Outcome}
 use Rattle.world_model.specs.declared.events.Outcome.TheVariants as outcome
@@ -146,7 +146,8 @@ WritesSome n held held' faults faults' None took = WritesOn n held held' faults 
 WritesSome n held held' faults faults' (Some end) took = WritesLast n held held' faults faults' end took
 
 -- what was taken before was written, and what waited behind it was taken and written
-pub record WritesBehind (n : ℕ) (before : List Act) (old new : Knows) (held held' : Option Bytes) (faults faults' : ℕ) (end : Option OutEnd) : Type 0 where
+pub record WritesBehind (n : ℕ) (before : List Act) (old new : Knows) (held held' : Option Bytes) (faults faults' : ℕ)
+    (end : Option OutEnd) : Type 0 where
   pub rest : List Act
   pub gains : Gains old new rest
   pub writes : WritesSome n held held' faults faults' end (before ++ rest)

@@ -94,35 +94,3 @@ pub(crate) fn collect(reader: &mut Requests, piece: &[u8], asked: &mut AskedList
     }
     Fill::Full(taken)
 }
-
-#[cfg(test)]
-mod tests {
-    use super::*;
-    use std::alloc::Global;
-    use std::test::Fail;
-
-    // How far the requests of some bytes are collected at once, and how many they are.
-    fn collected(alloc: Global, bytes: &[u8]) -> (Fill, usize) {
-        let mut asked = AskedList::new(alloc);
-        let fill = collect(&mut Requests::new(alloc), bytes, &mut asked);
-        (fill, asked.len())
-    }
-
-    #[test]
-    fn requests_are_collected_up_to_what_one_turn_carries(rt: HostRuntime) -> Result<(), Fail> {
-        let alloc = rt.alloc();
-        for (bytes, fill, count) in [
-            (b"".as_slice(), Fill::Dry, 0),
-            (b"*1\r\n$4\r\nPING\r\n*1\r\n$4\r\nPI", Fill::Dry, 1),
-            (b"*1\r\n$4\r\nPING\r\n!", Fill::Broken, 2),
-        ] {
-            assert_eq!(rt; collected(alloc, bytes), (fill, count));
-        }
-        let mut many = Vec::new(alloc);
-        for _ in 0..70 {
-            many.extend_from_slice(b"*1\r\n$1\r\nA\r\n")?;
-        }
-        assert_eq!(rt; collected(alloc, &many), (Fill::Full(64 * 11), 64));
-        Ok(())
-    }
-}

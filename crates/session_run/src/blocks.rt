@@ -9,9 +9,9 @@ ghost use Rattle.session_run.specs.Writings.{IsFit, Goes};
 use crate::batches::{Fill, collect};
 use crate::calls::{Hand, serve_list};
 use crate::ends::{InEnd, end_of};
-use hall_turns::HallServe;
 use outside::{Bell, Clock, Failed, Gate, Sink, Source};
 use std::sync::Wait;
+use world_model::HallServe;
 
 // How the first requests of some bytes were served.
 #[derive(Clone, Copy, Debug, PartialEq, Eq)]
@@ -41,7 +41,8 @@ fn serve_part<H: HallServe, K: Sink, C: Clock, B: Bell, G: Gate, R: Wait>(
     ensures seat { H.HallApi.is_of hall.now seat.new }
     ensures fit { IsFit result.1.writing }
     ensures part { WithTakes
-        (ServesPart session (C.told clock.now) (H.HallApi.knows seat.old) (H.HallApi.knows seat.new) hand.reader piece.now result.1.reader result.0)
+        (ServesPart session (C.told clock.now) (H.HallApi.knows seat.old)
+        (H.HallApi.knows seat.new) hand.reader piece.now result.1.reader result.0)
         (Goes K.held K.faults session hand.writing result.1.writing) }
 {
     let mut hand = hand;
@@ -76,7 +77,8 @@ fn serve_block<H: HallServe, K: Sink, C: Clock, B: Bell, G: Gate, R: Wait>(
     ensures seat { H.HallApi.is_of hall.now seat.new }
     ensures fit { IsFit result.1.writing }
     ensures block { WithTakes
-        (ServesBlock session (C.told clock.now) (H.HallApi.knows seat.old) (H.HallApi.knows seat.new) hand.reader piece.now result.1.reader result.0)
+        (ServesBlock session (C.told clock.now) (H.HallApi.knows seat.old)
+        (H.HallApi.knows seat.new) hand.reader piece.now result.1.reader result.0)
         (Goes K.held K.faults session hand.writing result.1.writing) }
 {
     let mut hand = hand;

@@ -10,11 +10,10 @@ ghost use Rattle.session_run.specs.Writings.{IsFit, Goes};
 use crate::names::any_named;
 use crate::turns::turn_once;
 use crate::writings::Writing;
-use hall_turns::HallServe;
 use outside::{Bell, Clock, Gate, Sink};
 use resp_frames::Requests;
 use std::sync::Wait;
-use world_model::{AskedList, Called, Touched};
+use world_model::{AskedList, CallOutcome, ChangedSessions, HallServe};
 
 /// What a session has in hand.
 #[derive(Drop)]
@@ -24,7 +23,7 @@ pub(crate) struct Hand<K> {
     /// The requests that wait for their calls.
     pub(crate) asked: AskedList,
     /// The sessions that the last calls changed.
-    pub(crate) touched: Touched,
+    pub(crate) touched: ChangedSessions,
     /// How often it has passed the gate.
     pub(crate) passes: u64,
     /// Whether it has asked to subscribe.
@@ -34,7 +33,7 @@ pub(crate) struct Hand<K> {
 }
 
 /// Rings for each session that is named.
-pub fn ring_touched<B: Bell>(bell: &B, touched: &Touched) {
+pub fn ring_touched<B: Bell>(bell: &B, touched: &ChangedSessions) {
     for i in 0..touched.len() {
         bell.ring(touched.at(i));
     }
@@ -51,7 +50,7 @@ fn call_turn<H: HallServe, K: Sink, C: Clock, B: Bell, G: Gate, R: Wait>(
     room: &B,
     gate: &G,
     hand: Hand<K>,
-) -> (Option<Called>, Hand<K>)
+) -> (Option<CallOutcome>, Hand<K>)
     requires seat { H.HallApi.is_of hall.now seat.old }
     requires some { 0 < length hand.asked }
     requires few { length hand.asked ≤ 64 }
@@ -61,7 +60,8 @@ fn call_turn<H: HallServe, K: Sink, C: Clock, B: Bell, G: Gate, R: Wait>(
     ensures reader { result.1.reader ≡ hand.reader }
     ensures fit { IsFit result.1.writing }
     ensures turn { WithTakes
-        (CallsTurn session (C.told clock.now) (H.HallApi.knows seat.old) (H.HallApi.knows seat.new) hand.asked result.1.asked result.0)
+        (CallsTurn session (C.told clock.now) (H.HallApi.knows seat.old)
+        (H.HallApi.knows seat.new) hand.asked result.1.asked result.0)
         (Goes K.held K.faults session hand.writing result.1.writing) }
 {
     let Hand {
@@ -92,7 +92,7 @@ fn call_turn<H: HallServe, K: Sink, C: Clock, B: Bell, G: Gate, R: Wait>(
         writing,
     };
     match answers.end {
-        Called::Full => {
+        CallOutcome::Full => {
             if handed {
                 room.wait(rt, session, mark);
             }
@@ -102,8 +102,8 @@ fn call_turn<H: HallServe, K: Sink, C: Clock, B: Bell, G: Gate, R: Wait>(
     }
 }
 
-/// Makes the calls of the requests that wait, in order, and again those that are answered Full, up to the first that is answered
-/// neither so nor Ok. That answer, or Ok.
+/// Makes the calls of the requests that wait, in order, and again those that are answered Full, up to the first that is
+/// answered neither so nor Ok. That answer, or Ok.
 pub(crate) fn serve_list<H: HallServe, K: Sink, C: Clock, B: Bell, G: Gate, R: Wait>(
     rt: &R,
     hall: &H,
@@ -114,7 +114,7 @@ pub(crate) fn serve_list<H: HallServe, K: Sink, C: Clock, B: Bell, G: Gate, R: W
     room: &B,
     gate: &G,
     hand: Hand<K>,
-) -> (Called, Hand<K>)
+) -> (CallOutcome, Hand<K>)
     requires seat { H.HallApi.is_of hall.now seat.old }
     requires few { length hand.asked ≤ 64 }
     requires proper { list_all is_proper hand.asked ≡ true }
@@ -123,12 +123,13 @@ pub(crate) fn serve_list<H: HallServe, K: Sink, C: Clock, B: Bell, G: Gate, R: W
     ensures reader { result.1.reader ≡ hand.reader }
     ensures fit { IsFit result.1.writing }
     ensures serves { WithTakes
-        (ServesList session (C.told clock.now) (H.HallApi.knows seat.old) (H.HallApi.knows seat.new) hand.asked result.1.asked result.0)
+        (ServesList session (C.told clock.now) (H.HallApi.knows seat.old)
+        (H.HallApi.knows seat.new) hand.asked result.1.asked result.0)
         (Goes K.held K.faults session hand.writing result.1.writing) }
 {
     let mut hand = hand;
     if hand.asked.len() == 0 {
-        return (Called::Ok, hand);
+        return (CallOutcome::Ok, hand);
     }
     for _ in rt.forever() {
         let (end, back) = call_turn(rt, hall, seat, session, clock, bell, room, gate, hand);

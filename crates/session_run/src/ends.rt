@@ -3,7 +3,7 @@
 ghost use Rattle.std.specs.Prelude.{◌≡◌};
 ghost use Rattle.session_run.specs.Ends.{end_of};
 
-use world_model::Called;
+use world_model::CallOutcome;
 
 /// How the serving of a session's requests ended.
 #[derive(Clone, Copy, Debug, PartialEq, Eq)]
@@ -29,15 +29,15 @@ pub enum InEnd {
 }
 
 /// The end that a call's answer brings.
-pub(crate) fn end_of(answer: Called) -> Option<InEnd>
+pub(crate) fn end_of(answer: CallOutcome) -> Option<InEnd>
     ensures { result ≡ end_of answer }
 {
     match answer {
-        Called::Ok | Called::Full => None,
-        Called::Gone => Some(InEnd::ClosedByHall),
-        Called::LogFault => Some(InEnd::LogFault),
-        Called::Stopped => Some(InEnd::Stopped),
-        Called::Spent => Some(InEnd::Spent),
-        Called::Memory => Some(InEnd::Memory),
+        CallOutcome::Ok | CallOutcome::Full => None,
+        CallOutcome::Gone => Some(InEnd::ClosedByHall),
+        CallOutcome::LogFault => Some(InEnd::LogFault),
+        CallOutcome::Stopped => Some(InEnd::Stopped),
+        CallOutcome::Spent => Some(InEnd::Spent),
+        CallOutcome::Memory => Some(InEnd::Memory),
     }
 }

@@ -1,4 +1,8 @@
 //! The requests of a session, from a source to the hall.
+//!
+//! The writer's thread waits for the sink from the start: a reader that starts it would have to prove that a job may go
+//! to another thread within such a job. A session whose frames are over is read no more. What a session did is one
+//! record, which the call and the job that makes it both cite.
 
 ghost use Rattle.std.specs.Prelude.{◌≡◌, ◌<◌, [], ℕ, length, Some, true};
 ghost use Rattle.session_run.specs.Gains.{WithTakes};
@@ -11,12 +15,11 @@ use crate::blocks::read_block;
 use crate::calls::Hand;
 use crate::ends::InEnd;
 use crate::writings::{Outlet, Writing, hand_over, write_last};
-use hall_turns::HallServe;
 use outside::{Bell, Clock, Gate, Sink, Source};
 use resp_frames::Requests;
 use std::alloc::Global;
 use std::sync::Wait;
-use world_model::{AskedList, Touched};
+use world_model::{AskedList, ChangedSessions, HallServe};
 
 /// The bytes of one read.
 const BLOCK: usize = 65_536;
@@ -60,7 +63,7 @@ fn read_all<H: HallServe, S: Source, K: Sink + Drop, C: Clock, B: Bell, G: Gate,
         (S.left source.old) (S.left source.new) (S.faults source.old) (S.faults source.new) result.0)
         (Goes K.held K.faults session writing result.1) }
 {
-    let Ok(touched) = Touched::new(alloc) else {
+    let Ok(touched) = ChangedSessions::new(alloc) else {
         return (InEnd::Memory, writing);
     };
     let Ok(mut bytes) = vec![in alloc; 0u8; BLOCK] else {
@@ -91,9 +94,10 @@ fn read_all<H: HallServe, S: Source, K: Sink + Drop, C: Clock, B: Bell, G: Gate,
     unreachable!()
 }
 
-/// Reads a session's requests and makes their calls in order, up to an end, and closes the session. In each turn of calls it takes the
-/// frames too and writes them, until the session has asked to subscribe: then the sink goes over to the session's writer. `bell` is
-/// rung for each session on whose queue frames were placed, and at the close; `room` rings where the writer took frames of the session.
+/// Reads a session's requests and makes their calls in order, up to an end, and closes the session. In each turn of
+/// calls it takes the frames too and writes them, until the session has asked to subscribe: then the sink goes over to
+/// the session's writer. `bell` is rung for each session on whose queue frames were placed, and at the close; `room`
+/// rings where the writer took frames of the session.
 pub fn session_in<H: HallServe, S: Source, K: Sink + Drop, C: Clock, B: Bell, G: Gate, R: Wait>(
     rt: &R,
     alloc: Global,

@@ -5,11 +5,10 @@ use crate::ins::session_in;
 use crate::outs::{OutEnd, session_out};
 use crate::writings::{Outlet, Writing};
 use crossbeam_channel::Receiver;
-use hall_turns::HallServe;
 use outside::{Bell, Clock, Gate, Job, Sink, Source};
 use std::alloc::Global;
 use std::sync::{Arc, Wait};
-use world_model::{Frames, HallApi};
+use world_model::{Frames, HallApi, HallServe};
 
 /// The requests of a session are to be read and served, and its frames written up to its first subscription.
 #[derive(Drop)]

@@ -1,4 +1,8 @@
 //! The frames of a session, from the hall to a sink.
+//!
+//! A subscriber's writer waits after a take that gave no frame, on the mark from before it. To wait after fewer than 64
+//! frames would save a turn, but a session that another's call has cut behind them is not rung for again. It rings for
+//! room before it writes. Frames of one take go out in one piece where they are at most 16,384 bytes.
 
 ghost use Rattle.std.specs.Prelude.{◌≡◌, ◌≤◌, [], ℕ};
 ghost use Rattle.world_data.specs.Limits.{take_frames};
@@ -47,7 +51,8 @@ pub(crate) fn took_end(took: Took) -> Option<OutEnd>
     }
 }
 
-/// Writes what a take gave. `room` is rung where frames were taken, before they are written. At a write fault the session is removed.
+/// Writes what a take gave. `room` is rung where frames were taken, before they are written. At a write fault the
+/// session is removed.
 pub(crate) fn write_taken<H: HallApi, K: Sink, B: Bell, R: Wait>(
     rt: &R,
     hall: &H,
@@ -103,8 +108,8 @@ pub(crate) fn write_taken<H: HallApi, K: Sink, B: Bell, R: Wait>(
     }
 }
 
-/// Takes once and writes what was given. `room` is rung where frames were taken, before they are written. At a write fault the session
-/// is removed.
+/// Takes once and writes what was given. `room` is rung where frames were taken, before they are written. At a write
+/// fault the session is removed.
 pub(crate) fn take_turn<H: HallApi, K: Sink, B: Bell, R: Wait>(
     rt: &R,
     hall: &H,
@@ -129,8 +134,8 @@ pub(crate) fn take_turn<H: HallApi, K: Sink, B: Bell, R: Wait>(
     write_taken(rt, hall, seat, session, sink, room, frames, text, taken)
 }
 
-/// Takes a session's frames and writes them, until the session has ended. `bell` rings where frames were placed, `room` is rung
-/// where frames were taken. At WriteFault the session is removed.
+/// Takes a session's frames and writes them, until the session has ended. `bell` rings where frames were placed, `room`
+/// is rung where frames were taken. At WriteFault the session is removed.
 pub fn session_out<H: HallApi, K: Sink, B: Bell, R: Wait>(
     rt: &R,
     hall: &H,
@@ -158,8 +163,8 @@ pub fn session_out<H: HallApi, K: Sink, B: Bell, R: Wait>(
         if let Some(end) = took_end(took) {
             return end;
         }
-        // Where frames were given it is taken from again before the writer waits: another's call may have cut the session behind them,
-        // and nobody rings for that any more.
+        // Where frames were given it is taken from again before the writer waits: another's call may have cut the
+        // session behind them, and nobody rings for that any more.
         if let Took::Dry = took {
             bell.wait(rt, session, mark);
         }

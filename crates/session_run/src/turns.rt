@@ -3,7 +3,7 @@
 ghost use Rattle.std.specs.Prelude.{◌≡◌, ◌≤◌, ◌<◌, ℕ, ◌++◌, length, true};
 ghost use Rattle.std.specs.List.{list_all};
 ghost use Rattle.world_data.specs.Limits.{max_moment, take_frames};
-ghost use Rattle.hall_turns.specs.Turns.{take_acts, taken_count};
+ghost use Rattle.world_model.specs.Turns.{take_acts, taken_count};
 ghost use Rattle.world_model.specs.Outcomes.{is_proper, call_acts, IsCount};
 ghost use Rattle.session_run.specs.Gains.{Gains, GainsBoth, WithTakes};
 ghost use Rattle.session_run.specs.Writings.{IsFit, Goes};
@@ -11,10 +11,9 @@ ghost use Rattle.session_run.specs.declared.writings.Writing.TheVariants as writ
 
 use crate::calls::ring_touched;
 use crate::writings::{Outlet, Writing, write_behind};
-use hall_turns::HallServe;
 use outside::{Bell, Sink};
 use std::sync::Wait;
-use world_model::{Answers, AskedList, HallApi, Taken, Touched};
+use world_model::{Answers, AskedList, ChangedSessions, HallApi, HallServe, Taken};
 
 // Writes what the take of a turn gave and what waits behind it.
 fn write_alone<H: HallApi, K: Sink, B: Bell, R: Wait>(
@@ -34,7 +33,8 @@ fn write_alone<H: HallApi, K: Sink, B: Bell, R: Wait>(
     ensures fit { IsFit result }
     ensures writes { WithTakes
         (Gains (H.knows seat.old) (H.knows seat.new))
-        (λ rest. Goes K.held K.faults session (writing.Alone outlet) result (take_acts session taken outlet.frames.list ++ rest)) }
+        (λ rest. Goes K.held K.faults session (writing.Alone outlet) result
+        (take_acts session taken outlet.frames.list ++ rest)) }
 {
     let Outlet {
         mut sink,
@@ -66,8 +66,8 @@ fn write_alone<H: HallApi, K: Sink, B: Bell, R: Wait>(
     }
 }
 
-/// Makes calls in one turn, and rings for each session that they changed. Where the reader writes, it takes in the same turn and writes
-/// what waits: all up to the session's end where `ends`, and else until a take gave few frames.
+/// Makes calls in one turn, and rings for each session that they changed. Where the reader writes, it takes in the same
+/// turn and writes what waits: all up to the session's end where `ends`, and else until a take gave few frames.
 pub(crate) fn turn_once<H: HallServe, K: Sink, B: Bell, R: Wait>(
     rt: &R,
     hall: &H,
@@ -75,12 +75,12 @@ pub(crate) fn turn_once<H: HallServe, K: Sink, B: Bell, R: Wait>(
     session: u32,
     moment: u64,
     asked: AskedList,
-    touched: Touched,
+    touched: ChangedSessions,
     bell: &B,
     room: &B,
     writing: Writing<K>,
     ends: bool,
-) -> (Answers, AskedList, Touched, Writing<K>)
+) -> (Answers, AskedList, ChangedSessions, Writing<K>)
     requires seat { H.HallApi.is_of hall.now seat.old }
     requires moment { moment ≤ max_moment }
     requires some { 0 < length asked }
@@ -92,7 +92,8 @@ pub(crate) fn turn_once<H: HallServe, K: Sink, B: Bell, R: Wait>(
     ensures back { result.1 ≡ asked }
     ensures fit { IsFit result.3 }
     ensures turn { WithTakes
-        (GainsBoth (H.HallApi.knows seat.old) (H.HallApi.knows seat.new) (call_acts session moment asked result.0.served result.0.end))
+        (GainsBoth (H.HallApi.knows seat.old) (H.HallApi.knows seat.new)
+        (call_acts session moment asked result.0.served result.0.end))
         (Goes K.held K.faults session writing result.3) }
 {
     match writing {

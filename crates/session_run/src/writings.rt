@@ -1,8 +1,12 @@
 //! Who takes a session's frames and writes them: the one who reads its requests, up to the first subscription.
+//!
+//! Behind the block of bytes that brought a SUBSCRIBE or PSUBSCRIBE the sink goes to the session's writer, before the
+//! reader reads again: whatever others place then is the writer's, and as the sink is one value that one of them owns,
+//! frames keep their order. A refused SUBSCRIBE hands over too, which does no harm.
 
 ghost use Rattle.std.specs.Prelude.{◌≡◌, ◌≤◌, ℕ, [], ◌∷◌, true, length};
 ghost use Rattle.world_data.specs.Limits.{take_frames};
-ghost use Rattle.hall_turns.specs.Turns.{take_acts, taken_count};
+ghost use Rattle.world_model.specs.Turns.{take_acts, taken_count};
 ghost use Rattle.session_run.specs.Gains.{Gains, SeesLegal, WithTakes};
 ghost use Rattle.session_run.specs.Outs.{TakesSome, WritesBehind};
 ghost use Rattle.session_run.specs.Writings.{IsFit, Goes, Leaves, is_over};
@@ -100,8 +104,8 @@ fn is_last(took: Took, all: bool) -> bool {
     }
 }
 
-/// Writes what a take gave that was made behind calls, and takes and writes what waits behind it: all up to the session's end where `all`,
-/// and else until a take gave few frames. Where there was no take, it takes first.
+/// Writes what a take gave that was made behind calls, and takes and writes what waits behind it: all up to the
+/// session's end where `all`, and else until a take gave few frames. Where there was no take, it takes first.
 pub(crate) fn write_behind<H: HallApi, K: Sink, B: Bell, R: Wait>(
     rt: &R,
     hall: &H,
@@ -182,7 +186,8 @@ pub(crate) fn write_last<H: HallApi, K: Sink, B: Bell, R: Wait>(
     requires seat { H.is_of hall.now seat.old }
     requires fit { IsFit writing }
     ensures seat { H.is_of hall.now seat.new }
-    ensures goes { WithTakes (Gains (H.knows seat.old) (H.knows seat.new)) (Goes K.held K.faults session writing result) }
+    ensures goes { WithTakes (Gains (H.knows seat.old) (H.knows seat.new))
+        (Goes K.held K.faults session writing result) }
     ensures legal { SeesLegal (H.knows seat.old) → SeesLegal (H.knows seat.new) }
     ensures left { Leaves result }
 {

@@ -12,11 +12,11 @@ use Rattle.world_model.specs.Laws.{StepsLeadToOne}
 use Rattle.world_model.specs.Outcomes.{call_act, call_acts, last_call}
 use Rattle.world_model.specs.Seats.{Act, act_of, places_from, Knows, AddsCalls, AddsNamed, NamesChangedBy}
 use Rattle.world_model.specs.declared.events.Asked.{Asked}
-use Rattle.world_model.specs.declared.events.Called.{Called}
-use Rattle.world_model.specs.declared.events.Called.TheVariants as called
+use Rattle.world_model.specs.declared.events.CallOutcome.{CallOutcome}
+use Rattle.world_model.specs.declared.events.CallOutcome.TheVariants as called
 use Rattle.world_model.specs.declared.events.Entry.{Entry}
 use Rattle.world_model.specs.declared.events.Opening.{Opening}
-use Rattle.hall_turns.specs.Turns.{AddsServed}
+use Rattle.world_model.specs.Turns.{AddsServed}
 use Rattle.log_record.specs.Journals.{is_retire}
 use Rattle.shared_hall.specs.Cores.{hall_in, tells, StandsIn}
 use Rattle.shared_hall.specs.Times.{Time, entries_at, is_retirement}
@@ -131,7 +131,7 @@ none_behind : (xs ys : List Act) → NoRetire xs → NoRetire ys → NoRetire (x
 none_behind [] ys p q = q
 none_behind (x ∷ xs) ys p q = (p.0, none_behind xs ys p.1 q)
 
-last_goes_on : (n m : ℕ) (end : Called) (xs : List Asked) → NoRetire (last_call n m end xs)
+last_goes_on : (n m : ℕ) (end : CallOutcome) (xs : List Asked) → NoRetire (last_call n m end xs)
 last_goes_on n m end [] = tt
 last_goes_on n m called.Ok (x ∷ xs) = tt
 last_goes_on n m called.Full (x ∷ xs) = (refl, tt)
@@ -141,7 +141,7 @@ last_goes_on n m called.Stopped (x ∷ xs) = (refl, tt)
 last_goes_on n m called.Spent (x ∷ xs) = (refl, tt)
 last_goes_on n m called.Memory (x ∷ xs) = (refl, tt)
 
-pub calls_go_on : (n m : ℕ) (xs : List Asked) (served : ℕ) (end : Called) → NoRetire (call_acts n m xs served end)
+pub calls_go_on : (n m : ℕ) (xs : List Asked) (served : ℕ) (end : CallOutcome) → NoRetire (call_acts n m xs served end)
 calls_go_on n m xs served end = none_behind (map (call_act n m called.Ok) (take served xs)) (last_call n m end (drop served xs)) (all (take served xs)) (last_goes_on n m end (drop served xs))
   where
     all : (ys : List Asked) → NoRetire (map (call_act n m called.Ok) ys)

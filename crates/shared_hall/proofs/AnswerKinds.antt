@@ -9,13 +9,13 @@ use Rattle.world_model.specs.Outcomes.{enter_outcome, take_outcome, given_count,
 use Rattle.world_model.specs.Seats.{Knows, AddsCalls, AddsNamed}
 use Rattle.world_model.specs.declared.events.Answers.{Answers}
 use Rattle.world_model.specs.declared.events.Asked.{Asked}
-use Rattle.world_model.specs.declared.events.Called.{Called}
+use Rattle.world_model.specs.declared.events.CallOutcome.{CallOutcome}
 use Rattle.world_model.specs.declared.events.EnterFault.{EnterFault}
 use Rattle.world_model.specs.declared.events.Taken.{Taken}
 use Rattle.world_model.specs.declared.events.Event.TheVariants as event
 use Rattle.world_model.specs.declared.events.Outcome.TheVariants as outcome
 use Rattle.shared_hall.specs.declared.works.Asking.{Asking}
-use Rattle.hall_turns.specs.Turns.{AddsServed, take_acts, taken_count}
+use Rattle.world_model.specs.Turns.{AddsServed, take_acts, taken_count}
 use Rattle.shared_hall.specs.declared.works.Serving.{Serving}
 use Rattle.shared_hall.specs.declared.works.Taking.{Taking}
 use Rattle.shared_hall.specs.declared.works.Ticking.{Ticking}
@@ -77,7 +77,7 @@ module _ {D : Type 0} (crashes : D → Bool) (seen : D → Option Sides) (images
   is_served w old new (answer.Retired given) g = absurd g
   is_served w old new answer.Done g = absurd g
 
-  is_ticked : (w : Ticking) (old new : Place D) (out : HallAnswer D) → GivesIn (work.Tick w) old out new → (c : Called) × (touched : List ℕ) × (out ≡ answer.Ticked c touched)
+  is_ticked : (w : Ticking) (old new : Place D) (out : HallAnswer D) → GivesIn (work.Tick w) old out new → (c : CallOutcome) × (touched : List ℕ) × (out ≡ answer.Ticked c touched)
   is_ticked w old new (answer.Entered r) g = absurd g
   is_ticked w old new (answer.Called a asked touched) g = absurd g
   is_ticked w old new (answer.Taken t into) g = absurd g
@@ -107,7 +107,7 @@ module _ {D : Type 0} (crashes : D → Bool) (seen : D → Option Sides) (images
   is_removed n old new (answer.Retired given) g = absurd g
   is_removed n old new answer.Done g = refl
 
-  is_rewrote : (old new : Place D) (out : HallAnswer D) → GivesIn work.StepRewrite old out new → (c : Called) × (out ≡ answer.Rewrote c)
+  is_rewrote : (old new : Place D) (out : HallAnswer D) → GivesIn work.StepRewrite old out new → (c : CallOutcome) × (out ≡ answer.Rewrote c)
   is_rewrote old new (answer.Entered r) g = absurd g
   is_rewrote old new (answer.Called a asked touched) g = absurd g
   is_rewrote old new (answer.Taken t into) g = absurd g
@@ -117,7 +117,7 @@ module _ {D : Type 0} (crashes : D → Bool) (seen : D → Option Sides) (images
   is_rewrote old new (answer.Retired given) g = absurd g
   is_rewrote old new answer.Done g = absurd g
 
-  is_retired : (old new : Place D) (out : HallAnswer D) → GivesIn work.Retire old out new → (given : Option (D × Called)) × (out ≡ answer.Retired given)
+  is_retired : (old new : Place D) (out : HallAnswer D) → GivesIn work.Retire old out new → (given : Option (D × CallOutcome)) × (out ≡ answer.Retired given)
   is_retired old new (answer.Entered r) g = absurd g
   is_retired old new (answer.Called a asked touched) g = absurd g
   is_retired old new (answer.Taken t into) g = absurd g
@@ -166,7 +166,7 @@ module _ {D : Type 0} (crashes : D → Bool) (seen : D → Option Sides) (images
       let takes = take_acts w.asking.session t into.list in
       adds_served crashes seen images moment left_since faults handed (work.Serve w) out old new calls takes touched (ap (λ (z : HallAnswer D). acts (work.Serve w) z) is) d (served_gives w out old new a asked touched t into is d).2
 
-  pub ticked : (w : Ticking) (out : HallAnswer D) (old new : Knows) (a : Called) (touched : List ℕ) → out ≡ answer.Ticked a touched → Done (work.Tick w) out old new → AddsNamed ((event.Tick w.moment, outcome.Answered a) ∷ []) touched old new
+  pub ticked : (w : Ticking) (out : HallAnswer D) (old new : Knows) (a : CallOutcome) (touched : List ℕ) → out ≡ answer.Ticked a touched → Done (work.Tick w) out old new → AddsNamed ((event.Tick w.moment, outcome.Answered a) ∷ []) touched old new
   ticked w out old new a touched is d =
       adds_named crashes seen images moment left_since faults handed (work.Tick w) out old new ((event.Tick w.moment, outcome.Answered a) ∷ []) touched (ap (λ (z : HallAnswer D). acts (work.Tick w) z) is) d (subst (λ (z : HallAnswer D). GivesIn (work.Tick w) d.before z d.after) is d.gives)
 
@@ -176,7 +176,7 @@ module _ {D : Type 0} (crashes : D → Bool) (seen : D → Option Sides) (images
   pub removed : (n : ℕ) (out : HallAnswer D) (old new : Knows) → Done (work.Remove n) out old new → AddsCalls ((event.Remove n, outcome.Done) ∷ []) old new
   removed n out old new d = adds_acts crashes seen images moment left_since faults handed (work.Remove n) out old new ((event.Remove n, outcome.Done) ∷ []) (ap (λ (z : HallAnswer D). acts (work.Remove n) z) (is_removed n d.before d.after out d.gives)) d
 
-  pub rewrote : (out : HallAnswer D) (old new : Knows) (a : Called) → out ≡ answer.Rewrote a → Done work.StepRewrite out old new → AddsCalls ((event.Rewrite, outcome.Answered a) ∷ []) old new
+  pub rewrote : (out : HallAnswer D) (old new : Knows) (a : CallOutcome) → out ≡ answer.Rewrote a → Done work.StepRewrite out old new → AddsCalls ((event.Rewrite, outcome.Answered a) ∷ []) old new
   rewrote out old new a is d = adds_acts crashes seen images moment left_since faults handed work.StepRewrite out old new ((event.Rewrite, outcome.Answered a) ∷ []) (ap (λ (z : HallAnswer D). acts work.StepRewrite z) is) d
 
   -- of a work that was done, the answer's own kind
@@ -193,10 +193,10 @@ module _ {D : Type 0} (crashes : D → Bool) (seen : D → Option Sides) (images
   pub served_out : (w : Serving) (out : HallAnswer D) (old new : Knows) → Done (work.Serve w) out old new → (a : Answers) × (asked : List Asked) × (touched : List ℕ) × (t : Option Taken) × (into : FrameList) × (out ≡ answer.Served a asked touched t into)
   served_out w out old new d = is_served w d.before d.after out d.gives
 
-  pub ticked_out : (w : Ticking) (out : HallAnswer D) (old new : Knows) → Done (work.Tick w) out old new → (c : Called) × (touched : List ℕ) × (out ≡ answer.Ticked c touched)
+  pub ticked_out : (w : Ticking) (out : HallAnswer D) (old new : Knows) → Done (work.Tick w) out old new → (c : CallOutcome) × (touched : List ℕ) × (out ≡ answer.Ticked c touched)
   ticked_out w out old new d = is_ticked w d.before d.after out d.gives
 
-  pub rewrote_out : (out : HallAnswer D) (old new : Knows) → Done work.StepRewrite out old new → (c : Called) × (out ≡ answer.Rewrote c)
+  pub rewrote_out : (out : HallAnswer D) (old new : Knows) → Done work.StepRewrite out old new → (c : CallOutcome) × (out ≡ answer.Rewrote c)
   rewrote_out out old new d = is_rewrote d.before d.after out d.gives
 
   -- none of its acts is a retirement
@@ -218,5 +218,5 @@ module _ {D : Type 0} (crashes : D → Bool) (seen : D → Option Sides) (images
   goes_on work.StepRewrite old new out g stays = let k = is_rewrote old new out g in subst (λ (z : HallAnswer D). NoRetire (acts work.StepRewrite z)) (sym k.1) (refl, tt)
   goes_on work.Retire old new out g stays = absurd (true≢false stays)
 
-  pub retired_out : (out : HallAnswer D) (old new : Knows) → Done work.Retire out old new → (given : Option (D × Called)) × (out ≡ answer.Retired given)
+  pub retired_out : (out : HallAnswer D) (old new : Knows) → Done work.Retire out old new → (given : Option (D × CallOutcome)) × (out ≡ answer.Retired given)
   retired_out out old new d = is_retired d.before d.after out d.gives

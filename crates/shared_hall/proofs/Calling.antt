@@ -8,8 +8,8 @@ use Rattle.world_model.specs.Halls.{Hall, session_of, NamesChanged}
 use Rattle.world_model.specs.Seats.{Act}
 use Rattle.world_model.specs.Outcomes.{is_proper, call_act, last_call, call_acts, IsCount}
 use Rattle.world_model.specs.declared.events.Asked.{Asked}
-use Rattle.world_model.specs.declared.events.Called.{Called}
-use Rattle.world_model.specs.declared.events.Called.TheVariants as called
+use Rattle.world_model.specs.declared.events.CallOutcome.{CallOutcome}
+use Rattle.world_model.specs.declared.events.CallOutcome.TheVariants as called
 use Rattle.tile_core.specs.Answered.{StayNamed, is_named}
 
 next_of : (f : Asked → Act) (xs : List Asked) (i : ℕ) (x : Asked) → slice_get xs i ≡ Some x → map f (take i xs) ++ f x ∷ [] ≡ map f (take (suc i) xs)
@@ -24,7 +24,7 @@ next_call f xs i x at = let one : suc i ≡ i + 1 = omega arith in next_of f xs 
 pub is_proper_at : (xs : List Asked) (i : ℕ) (x : Asked) → list_all is_proper xs ≡ true → slice_get xs i ≡ Some x → is_proper x ≡ true
 is_proper_at xs i x all at = all_at is_proper xs i x at all
 
-last_one : (n m : ℕ) (end : Called) (x : Asked) (xs : List Asked) → end ≢ called.Ok → last_call n m end (x ∷ xs) ≡ call_act n m end x ∷ []
+last_one : (n m : ℕ) (end : CallOutcome) (x : Asked) (xs : List Asked) → end ≢ called.Ok → last_call n m end (x ∷ xs) ≡ call_act n m end x ∷ []
 last_one n m called.Ok x xs not_ok = absurd (not_ok refl)
 last_one n m called.Full x xs not_ok = refl
 last_one n m called.Gone x xs not_ok = refl
@@ -33,13 +33,13 @@ last_one n m called.Stopped x xs not_ok = refl
 last_one n m called.Spent x xs not_ok = refl
 last_one n m called.Memory x xs not_ok = refl
 
-last_at : (n m : ℕ) (end : Called) (xs : List Asked) (i : ℕ) (x : Asked) → end ≢ called.Ok → slice_get xs i ≡ Some x → last_call n m end (drop i xs) ≡ call_act n m end x ∷ []
+last_at : (n m : ℕ) (end : CallOutcome) (xs : List Asked) (i : ℕ) (x : Asked) → end ≢ called.Ok → slice_get xs i ≡ Some x → last_call n m end (drop i xs) ≡ call_act n m end x ∷ []
 last_at n m end [] i x not_ok at = absurd (cc)
 last_at n m end (y ∷ xs) zero x not_ok at = let is : y ≡ x = cc in last_one n m end y xs not_ok ∙ ap (λ (z : Asked). call_act n m end z ∷ []) is
 last_at n m end (y ∷ xs) (suc i) x not_ok at = last_at n m end xs i x not_ok at
 
 -- the calls up to the first that was not answered Ok
-pub acts_to : (n m : ℕ) (end : Called) (xs : List Asked) (i : ℕ) (x : Asked) → end ≢ called.Ok → slice_get xs i ≡ Some x → map (call_act n m called.Ok) (take i xs) ++ call_act n m end x ∷ [] ≡ call_acts n m xs i end
+pub acts_to : (n m : ℕ) (end : CallOutcome) (xs : List Asked) (i : ℕ) (x : Asked) → end ≢ called.Ok → slice_get xs i ≡ Some x → map (call_act n m called.Ok) (take i xs) ++ call_act n m end x ∷ [] ≡ call_acts n m xs i end
 acts_to n m end xs i x not_ok at = ap (λ (l : List Act). map (call_act n m called.Ok) (take i xs) ++ l) (sym (last_at n m end xs i x not_ok at))
 
 none_last : (n m : ℕ) (xs : List Asked) → last_call n m called.Ok xs ≡ []
@@ -50,7 +50,7 @@ none_last n m (x ∷ xs) = refl
 pub acts_all : (n m : ℕ) (xs : List Asked) (i : ℕ) → map (call_act n m called.Ok) (take i xs) ≡ call_acts n m xs i called.Ok
 acts_all n m xs i = sym (ap (λ (l : List Act). map (call_act n m called.Ok) (take i xs) ++ l) (none_last n m (drop i xs)) ∙ append-nil (map (call_act n m called.Ok) (take i xs)))
 
-pub stops_at : (end : Called) (i n : ℕ) → end ≢ called.Ok → i < n → IsCount i end n
+pub stops_at : (end : CallOutcome) (i n : ℕ) → end ≢ called.Ok → i < n → IsCount i end n
 stops_at called.Ok i n not_ok lt = absurd (not_ok refl)
 stops_at called.Full i n not_ok lt = lt
 stops_at called.Gone i n not_ok lt = lt

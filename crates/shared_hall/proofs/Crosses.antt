@@ -12,13 +12,13 @@ use Rattle.world_model.proofs.events.EnterFault.TheSendSync as fault
 use Rattle.world_model.specs.contracts.events.EnterFault as fault_row
 use Rattle.world_model.proofs.events.Taken.TheSendSync as taken
 use Rattle.world_model.specs.contracts.events.Taken as taken_row
-use Rattle.world_model.proofs.touched.Touched.TheSendSync as touched
+use Rattle.world_model.proofs.touched.ChangedSessions.TheSendSync as touched
 use denote.Struct.Tuple.{Tuple, tuple_field, tuple_type}
 use Rattle.std.proofs.Common.{List, [], ◌∷◌}
 use Rattle.std.proofs.option.Option.TheSendSync as option_sends
 use Rattle.std.specs.contracts.option.Option as option
-use Rattle.world_model.proofs.events.Called.TheSendSync as called
-use Rattle.world_model.specs.contracts.events.Called as called_row
+use Rattle.world_model.proofs.events.CallOutcome.TheSendSync as called
+use Rattle.world_model.specs.contracts.events.CallOutcome as called_row
 use Rattle.std.proofs.Crossing.{crosses}
 use Rattle.rtree.proofs.Crosses.{tree_send}
 use Rattle.collection.specs.contracts.collections.Collection as collection
@@ -26,7 +26,7 @@ use Rattle.keyspace.specs.contracts.keyspaces.Keyspace as keyspace
 use Rattle.world_data.proofs.channels.Channel.TheSendSync as channel
 use Rattle.fence_index.specs.contracts.indexes.FenceIndex as index
 use Rattle.channel_hub.specs.contracts.hubs.Hub as hub
-use Rattle.session_mail.proofs.sessions.Session.TheSendSync as session
+use Rattle.session_table.proofs.sessions.Session.TheSendSync as session
 use Rattle.tile_core.specs.contracts.cores.Core as core
 use Rattle.durable_core.specs.contracts.cores.DurableCore as durable
 use Rattle.durable_core.proofs.tails.Tail.TheSendSync as tail

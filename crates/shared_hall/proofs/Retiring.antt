@@ -8,8 +8,8 @@ use Rattle.outside.specs.Sides.{Sides}
 use Rattle.world_model.specs.Halls.{Hall}
 use Rattle.world_model.specs.Histories.{Reaches}
 use Rattle.world_model.specs.Seats.{Knows, AddsCalls}
-use Rattle.world_model.specs.declared.events.Called.{Called}
-use Rattle.world_model.specs.declared.events.Called.TheVariants as called
+use Rattle.world_model.specs.declared.events.CallOutcome.{CallOutcome}
+use Rattle.world_model.specs.declared.events.CallOutcome.TheVariants as called
 use Rattle.world_model.specs.declared.events.Event.TheVariants as event
 use Rattle.log_record.specs.Recovery.{Recovers}
 use Rattle.log_record.specs.Safety.{Safe, count_after}
@@ -23,7 +23,7 @@ use Rattle.shared_hall.specs.declared.works.HallWork.TheVariants as work
 use Rattle.shared_hall.proofs.Adding.{adds_acts}
 
 module _ {D : Type 0} (crashes : D → Bool) (seen : D → Option Sides) (images : D → Sides → Type 0) (moment : D → ℕ) (left_since : D → ℕ → Sides → Type 0) (faults : D → ℕ) (handed : D)
-    (out : HallAnswer D) (old new : Knows) (given : Option (D × Called)) (is : out ≡ answer.Retired given) (d : IsDone crashes seen images moment left_since faults handed work.Retire out old new) where
+    (out : HallAnswer D) (old new : Knows) (given : Option (D × CallOutcome)) (is : out ≡ answer.Retired given) (d : IsDone crashes seen images moment left_since faults handed work.Retire out old new) where
   pub retired : AddsCalls ((event.Retire, retire_outcome given) ∷ []) old new
   retired = adds_acts crashes seen images moment left_since faults handed work.Retire out old new ((event.Retire, retire_outcome given) ∷ []) (ap (λ (z : HallAnswer D). acts work.Retire z) is) d
 
@@ -33,28 +33,28 @@ module _ {D : Type 0} (crashes : D → Bool) (seen : D → Option Sides) (images
   pub given_once : old.first ≡ true → is_some given ≡ not (list_any is_retirement old.seen)
   given_once first = by given gives ∙ sym (ap not (d.once first))
     where
-      by : (given : Option (D × Called)) → GivesOut crashes seen images moment left_since faults d.before given d.after → is_some given ≡ not (has_left d.before)
+      by : (given : Option (D × CallOutcome)) → GivesOut crashes seen images moment left_since faults d.before given d.after → is_some given ≡ not (has_left d.before)
       by None g = sym (ap not g)
       by (Some p) g = sym (ap not g.0)
 
   pub given_counted : IfSome given (λ p. count_after new.opening.count new.seen ≡ min (faults p.0) most_count)
   given_counted = by given gives
     where
-      by : (given : Option (D × Called)) → GivesOut crashes seen images moment left_since faults d.before given d.after → IfSome given (λ p. count_after new.opening.count new.seen ≡ min (faults p.0) most_count)
+      by : (given : Option (D × CallOutcome)) → GivesOut crashes seen images moment left_since faults d.before given d.after → IfSome given (λ p. count_after new.opening.count new.seen ≡ min (faults p.0) most_count)
       by None g = tt
       by (Some p) g = (d.stands.still g.1).1 ∙ ap (λ (x : D). min (faults x) most_count) g.2
 
   pub given_safe : tells crashes seen handed ≡ true → IfSome given (λ p. Safe left_since p.0 new.opening new.seen)
   given_safe told = by given gives
     where
-      by : (given : Option (D × Called)) → GivesOut crashes seen images moment left_since faults d.before given d.after → IfSome given (λ p. Safe left_since p.0 new.opening new.seen)
+      by : (given : Option (D × CallOutcome)) → GivesOut crashes seen images moment left_since faults d.before given d.after → IfSome given (λ p. Safe left_since p.0 new.opening new.seen)
       by None g = tt
       by (Some p) g = subst (λ (x : D). Safe left_since x new.opening new.seen) g.2 (d.stands.kept told).1.2.safe
 
   pub given_stands : tells crashes seen handed ≡ true → IfSome given (λ p. p.1 ≡ called.Ok → (h : Hall) → Reaches new.opening new.seen h → EachImage (images p.0) (λ image. Recovers image h.world))
   given_stands told = by given gives
     where
-      by : (given : Option (D × Called)) → GivesOut crashes seen images moment left_since faults d.before given d.after
+      by : (given : Option (D × CallOutcome)) → GivesOut crashes seen images moment left_since faults d.before given d.after
           → IfSome given (λ p. p.1 ≡ called.Ok → (h : Hall) → Reaches new.opening new.seen h → EachImage (images p.0) (λ image. Recovers image h.world))
       by None g = tt
       by (Some p) g = λ ok h reached image at.

@@ -43,7 +43,8 @@ abbrev pub tells : {D : Type 0} → (D → Bool) → (D → Option Sides) → D 
 tells crashes seen disk = crashes disk && is_some (seen disk)
 
 -- The members of the disks of which is spoken
-module _ {D : Type 0} (crashes : D → Bool) (seen : D → Option Sides) (images : D → Sides → Type 0) (moment : D → ℕ) (left_since : D → ℕ → Sides → Type 0) (faults : D → ℕ) where
+module _ {D : Type 0} (crashes : D → Bool) (seen : D → Option Sides) (images : D → Sides → Type 0) (moment : D → ℕ) (left_since : D → ℕ → Sides
+    → Type 0) (faults : D → ℕ) where
   -- one act of a core
   abbrev pub Acts : Place D → Place D → Act → Type 0
   Acts = IsAct hall_in disk_in has_left (KeepsIn crashes seen images) crashes images moment left_since faults
@@ -64,7 +65,13 @@ module _ {D : Type 0} (crashes : D → Bool) (seen : D → Option Sides) (images
   time_with handed disk = time_of moment faults (tells crashes seen handed) disk
 
   abbrev pub opening_with : D → Hall → D → Opening
-  opening_with handed h disk = record { world = h.world; logged = h.logged; moment = (time_with handed disk).moment; count = (time_with handed disk).count }
+  opening_with handed h disk = record {
+    world = h.world;
+    logged = h.logged;
+    moment = (time_with handed disk).moment;
+    count =
+        (time_with handed disk).count;
+  }
 
   -- how the history of a value begins that has none yet
   abbrev pub begun : HallCore D → Begun D

@@ -16,7 +16,8 @@ contents None is = absurd (true≢false (sym is))
 contents (Some s) is = (s, refl)
 
 -- a core that was opened over a disk
-pub is_opened_on : {D : Type 0} (crashes : D → Bool) (seen : D → Option Sides) (images : D → Sides → Type 0) (moment : D → ℕ) (left_since : D → ℕ → Sides → Type 0) (faults : D → ℕ) (c : DurableCore D) (handed : D)
+pub is_opened_on : {D : Type 0} (crashes : D → Bool) (seen : D → Option Sides) (images : D → Sides → Type 0) (moment : D → ℕ) (left_since : D → ℕ
+    → Sides → Type 0) (faults : D → ℕ) (c : DurableCore D) (handed : D)
     → hall_of c ≡ opening_hall (hall_of c).world (hall_of c).logged → IsSoundWorld (hall_of c).world → crashes (disk_of c) ≡ crashes handed
     → ((s : Sides) → seen handed ≡ Some s → IsLogOf crashes seen images c (settled_log (hall_of c).world))
     → ((s : Sides) → seen handed ≡ Some s → crashes handed ≡ true → IsOpening images moment left_since (moment handed) (faults (disk_of c)) c)

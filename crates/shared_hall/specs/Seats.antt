@@ -48,7 +48,8 @@ knows_of s = shown (known_of s)
 abbrev pub handed_of : {D : Type 0} → SharedHall D → D
 handed_of hall = hall.lock.table.shared.key.value.handed.value
 
-module _ {D : Type 0} (crashes : D → Bool) (seen : D → Option Sides) (images : D → Sides → Type 0) (moment : D → ℕ) (left_since : D → ℕ → Sides → Type 0) (faults : D → ℕ) where
+module _ {D : Type 0} (crashes : D → Bool) (seen : D → Option Sides) (images : D → Sides → Type 0) (moment : D → ℕ) (left_since : D → ℕ → Sides
+    → Type 0) (faults : D → ℕ) where
   -- the seat is one of this hall; what it has seen is a legal history, and its own entries stand there in order
   pub record IsOf (hall : SharedHall D) (s : LockSeat D) : Type 0 where
     pub seat : IsSeatOf (begun crashes seen images moment left_since faults) hall.lock s
@@ -57,7 +58,13 @@ module _ {D : Type 0} (crashes : D → Bool) (seen : D → Option Sides) (images
 
   -- the first seat of a hall round a core that has no history yet
   abbrev pub first_knows : DurableCore D → D → Knows
-  first_knows c handed = record { opening = opening_with crashes seen images moment left_since faults handed (hall_of c) (disk_of c); seen = []; mine = []; first = true }
+  first_knows c handed = record {
+    opening = opening_with crashes seen images moment left_since faults handed (hall_of c) (disk_of c);
+    seen =
+        [];
+    mine = [];
+    first = true;
+  }
 
   -- A turn did a work once, between two states of the core: its acts are entries of the seat's own, and who names the sessions that differ
   -- names all that the entries changed; so too of the first acts alone. The core stands for all that is seen before and behind it. The
@@ -67,8 +74,10 @@ module _ {D : Type 0} (crashes : D → Bool) (seen : D → Option Sides) (images
     pub after : Place D
     pub gives : Gives crashes seen images moment left_since faults w before out after
     pub adds : AddsCalls (acts w out) old new
-    pub names : (named : List ℕ) → NamesChanged named (hall_in before) (hall_in after) → NamesChangedBy new.opening (old.seen ++ adds.between) adds.entries named
-    pub front : (calls rest : List Act) → acts w out ≡ calls ++ rest → (mid : Hall) → StepsBy calls (hall_in before) mid → (named : List ℕ) → NamesChanged named (hall_in before) mid
+    pub names : (named : List ℕ) → NamesChanged named (hall_in before) (hall_in after)
+        → NamesChangedBy new.opening (old.seen ++ adds.between) adds.entries named
+    pub front : (calls rest : List Act) → acts w out ≡ calls ++ rest → (mid : Hall) → StepsBy calls (hall_in before) mid → (named : List ℕ)
+        → NamesChanged named (hall_in before) mid
         → NamesChangedBy new.opening (old.seen ++ adds.between) (take (length calls) adds.entries) named
     pub stood : StandsIn crashes seen images moment left_since faults (tells crashes seen handed) before new.opening (old.seen ++ adds.between)
     pub stands : StandsIn crashes seen images moment left_since faults (tells crashes seen handed) after new.opening new.seen

@@ -54,5 +54,6 @@ module _ {S D : Type 0} (hall : S → Hall) (disk : S → D) (is_out : S → Boo
     pub past : moment_after o.moment log ≤ (time_of moment faults told (disk s)).moment
     pub counted : count_after o.count log ≤ (time_of moment faults told (disk s)).count
     pub out : is_out s ≡ list_any is_retirement log
-    pub still : is_out s ≡ true → (moment_after o.moment log ≡ (time_of moment faults told (disk s)).moment) × (count_after o.count log ≡ (time_of moment faults told (disk s)).count)
+    pub still : is_out s ≡ true → (moment_after o.moment log ≡ (time_of moment faults told (disk s)).moment)
+        × (count_after o.count log ≡ (time_of moment faults told (disk s)).count)
     pub kept : told ≡ true → (crashes (disk s) ≡ true) × ((j : Journal) × is_log s j × Stood images moment left_since (disk s) o log (hall s) j)

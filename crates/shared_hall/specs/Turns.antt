@@ -7,13 +7,13 @@ use Rattle.world_model.specs.Halls.{Hall, NamesChanged}
 use Rattle.world_model.specs.Histories.{Step}
 use Rattle.world_model.specs.Outcomes.{enter_outcome, take_outcome, given_count, call_acts, IsCount}
 use Rattle.world_model.specs.Seats.{Act}
-use Rattle.world_model.specs.declared.events.Called.{Called}
-use Rattle.world_model.specs.declared.events.Called.TheVariants as called
+use Rattle.world_model.specs.declared.events.CallOutcome.{CallOutcome}
+use Rattle.world_model.specs.declared.events.CallOutcome.TheVariants as called
 use Rattle.world_model.specs.declared.events.Event.TheVariants as event
 use Rattle.world_model.specs.declared.events.Outcome.{Outcome}
 use Rattle.world_model.specs.declared.events.Outcome.TheVariants as outcome
 use Rattle.world_model.specs.declared.events.Entry.{Entry}
-use Rattle.hall_turns.specs.Turns.{take_acts, taken_count}
+use Rattle.world_model.specs.Turns.{take_acts, taken_count}
 use Rattle.log_record.specs.Journals.{Journal}
 use Rattle.log_record.specs.Recovery.{Recovers}
 use Rattle.shared_hall.specs.Cores.{hall_in, disk_in, has_left, KeepsIn, time_with}
@@ -26,7 +26,7 @@ use Rattle.shared_hall.specs.declared.works.HallAnswer.{HallAnswer}
 use Rattle.shared_hall.specs.declared.works.HallAnswer.TheVariants as answer
 
 -- how a retirement ended: Stopped where the disk was given out before
-abbrev pub retire_outcome : {D : Type 0} → Option (D × Called) → Outcome
+abbrev pub retire_outcome : {D : Type 0} → Option (D × CallOutcome) → Outcome
 retire_outcome None = outcome.Answered called.Stopped
 retire_outcome (Some given) = outcome.Answered given.1
 
@@ -35,7 +35,8 @@ abbrev pub acts : {D : Type 0} → HallWork → HallAnswer D → List Act
 acts work.Enter (answer.Entered r) = (event.Enter, enter_outcome r) ∷ []
 acts (work.Call w) (answer.Called a asked touched) = call_acts w.session w.moment w.asked a.served a.end
 acts (work.Take w) (answer.Taken t into) = (event.Take w.session, take_outcome t into.list) ∷ []
-acts (work.Serve w) (answer.Served a asked touched t into) = call_acts w.asking.session w.asking.moment w.asking.asked a.served a.end ++ take_acts w.asking.session t into.list
+acts (work.Serve w) (answer.Served a asked touched t into) = call_acts w.asking.session w.asking.moment w.asking.asked a.served a.end
+    ++ take_acts w.asking.session t into.list
 acts (work.Tick w) (answer.Ticked c touched) = (event.Tick w.moment, outcome.Answered c) ∷ []
 acts (work.Close n) answer.Done = (event.Close n, outcome.Done) ∷ []
 acts (work.Remove n) answer.Done = (event.Remove n, outcome.Done) ∷ []
@@ -59,7 +60,8 @@ pub record CallsNamed (calls : List Act) (named : List ℕ) (old : Hall) : Type 
   pub steps : StepsBy calls old mid
   pub names : NamesChanged named old mid
 
-module _ {D : Type 0} (crashes : D → Bool) (seen : D → Option Sides) (images : D → Sides → Type 0) (moment : D → ℕ) (left_since : D → ℕ → Sides → Type 0) (faults : D → ℕ) where
+module _ {D : Type 0} (crashes : D → Bool) (seen : D → Option Sides) (images : D → Sides → Type 0) (moment : D → ℕ) (left_since : D → ℕ → Sides
+    → Type 0) (faults : D → ℕ) where
   -- the entries of a work, by the value afterwards
   abbrev pub entries_of : HallWork → HallAnswer D → HallCore D → List Entry
   entries_of w out h = entries_at
@@ -67,7 +69,7 @@ module _ {D : Type 0} (crashes : D → Bool) (seen : D → Option Sides) (images
       (time_with crashes seen images moment left_since faults h.handed.value (disk_in h.place)) (acts w out)
 
   -- the disk is given out once; where all was committed before, whatever a crash may leave of it is the hall's world
-  abbrev pub GivesOut : Place D → Option (D × Called) → Place D → Type 0
+  abbrev pub GivesOut : Place D → Option (D × CallOutcome) → Place D → Type 0
   GivesOut old None new = has_left old ≡ true
   GivesOut old (Some given) new =
       (has_left old ≡ false)
@@ -79,7 +81,8 @@ module _ {D : Type 0} (crashes : D → Bool) (seen : D → Option Sides) (images
   -- each work has an answer of its own kind, with what the work had brought
   abbrev pub Gives : HallWork → Place D → HallAnswer D → Place D → Type 0
   Gives work.Enter old (answer.Entered r) new = Unit {0}
-  Gives (work.Call w) old (answer.Called a asked touched) new = (asked ≡ w.asked) × IsCount a.served a.end (length w.asked) × NamesChanged touched (hall_in old) (hall_in new)
+  Gives (work.Call w) old (answer.Called a asked touched) new = (asked ≡ w.asked) × IsCount a.served a.end (length w.asked)
+      × NamesChanged touched (hall_in old) (hall_in new)
   Gives (work.Take w) old (answer.Taken t into) new = (length into.list ≡ given_count t) × (into.places ≡ take_frames)
   Gives (work.Serve w) old (answer.Served a asked touched t into) new =
       (asked ≡ w.asking.asked)

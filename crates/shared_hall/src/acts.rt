@@ -1,4 +1,5 @@
-//! What is done with the core, one act at a time. A core whose disk was given out answers Stopped, as one that has stopped does.
+//! What is done with the core, one act at a time. A core whose disk was given out answers Stopped, as one that has
+//! stopped does.
 
 ghost use Rattle.std.specs.Prelude.{◌≡◌, ◌≤◌, [], true, false, length};
 ghost use Rattle.world_data.specs.Limits.{max_moment, take_frames};
@@ -14,7 +15,7 @@ use crate::places::{HallCore, Place};
 use outside::Disk;
 use std::mem;
 use std::snapshot::Snapshot;
-use world_model::{Asked, Called, EnterFault, Frames, Taken, Touched};
+use world_model::{Asked, CallOutcome, ChangedSessions, EnterFault, Frames, Taken};
 
 impl<D: Disk + Drop> HallCore<D> {
     // Notes where the core is before its next act.
@@ -37,7 +38,8 @@ impl<D: Disk + Drop> HallCore<D> {
     }
 
     pub(crate) fn enter(&mut self) -> Result<u32, EnterFault>
-        ensures act { Acts D.crashes D.seen D.images D.moment D.left_since D.faults self.old.place self.new.place (event.Enter, enter_outcome result) }
+        ensures act { Acts D.crashes D.seen D.images D.moment D.left_since D.faults self.old.place self.new.place
+            (event.Enter, enter_outcome result) }
         ensures before { self.new.before.value ≡ self.old.place }
         ensures handed { self.new.handed ≡ self.old.handed }
     {
@@ -53,12 +55,13 @@ impl<D: Disk + Drop> HallCore<D> {
         session: u32,
         moment: u64,
         asked: &Asked,
-        touched: &mut Touched,
-    ) -> Called
+        touched: &mut ChangedSessions,
+    ) -> CallOutcome
         requires moment { moment ≤ max_moment }
         requires proper { is_proper asked.now ≡ true }
         requires room { AreSessions touched.old (hall_in self.old.place) }
-        ensures act { Acts D.crashes D.seen D.images D.moment D.left_since D.faults self.old.place self.new.place (event.Call session moment asked.now, outcome.Answered result) }
+        ensures act { Acts D.crashes D.seen D.images D.moment D.left_since D.faults self.old.place self.new.place
+            (event.Call session moment asked.now, outcome.Answered result) }
         ensures before { self.new.before.value ≡ self.old.place }
         ensures handed { self.new.handed ≡ self.old.handed }
         ensures named { NamesChanged touched.new (hall_in self.old.place) (hall_in self.new.place) }
@@ -68,13 +71,14 @@ impl<D: Disk + Drop> HallCore<D> {
         self.begin();
         match &mut self.place {
             Place::Inside(core) => core.call(session, moment, asked, touched),
-            Place::Out(_) => Called::Stopped,
+            Place::Out(_) => CallOutcome::Stopped,
         }
     }
 
     pub(crate) fn take(&mut self, session: u32, into: &mut Frames) -> Taken
         requires { into.old ≡ record { list = []; places = take_frames } }
-        ensures act { Acts D.crashes D.seen D.images D.moment D.left_since D.faults self.old.place self.new.place (event.Take session, take_outcome result into.new.list) }
+        ensures act { Acts D.crashes D.seen D.images D.moment D.left_since D.faults self.old.place self.new.place
+            (event.Take session, take_outcome result into.new.list) }
         ensures before { self.new.before.value ≡ self.old.place }
         ensures handed { self.new.handed ≡ self.old.handed }
         ensures count { given_count result ≡ length into.new.list }
@@ -87,10 +91,11 @@ impl<D: Disk + Drop> HallCore<D> {
         }
     }
 
-    pub(crate) fn tick(&mut self, moment: u64, touched: &mut Touched) -> Called
+    pub(crate) fn tick(&mut self, moment: u64, touched: &mut ChangedSessions) -> CallOutcome
         requires moment { moment ≤ max_moment }
         requires room { AreSessions touched.old (hall_in self.old.place) }
-        ensures act { Acts D.crashes D.seen D.images D.moment D.left_since D.faults self.old.place self.new.place (event.Tick moment, outcome.Answered result) }
+        ensures act { Acts D.crashes D.seen D.images D.moment D.left_since D.faults self.old.place self.new.place
+            (event.Tick moment, outcome.Answered result) }
         ensures before { self.new.before.value ≡ self.old.place }
         ensures handed { self.new.handed ≡ self.old.handed }
         ensures named { NamesChanged touched.new (hall_in self.old.place) (hall_in self.new.place) }
@@ -98,12 +103,13 @@ impl<D: Disk + Drop> HallCore<D> {
         self.begin();
         match &mut self.place {
             Place::Inside(core) => core.tick(moment, touched),
-            Place::Out(_) => Called::Stopped,
+            Place::Out(_) => CallOutcome::Stopped,
         }
     }
 
     pub(crate) fn close(&mut self, session: u32)
-        ensures act { Acts D.crashes D.seen D.images D.moment D.left_since D.faults self.old.place self.new.place (event.Close session, outcome.Done) }
+        ensures act { Acts D.crashes D.seen D.images D.moment D.left_since D.faults self.old.place self.new.place
+            (event.Close session, outcome.Done) }
         ensures before { self.new.before.value ≡ self.old.place }
         ensures handed { self.new.handed ≡ self.old.handed }
     {
@@ -115,7 +121,8 @@ impl<D: Disk + Drop> HallCore<D> {
     }
 
     pub(crate) fn remove(&mut self, session: u32)
-        ensures act { Acts D.crashes D.seen D.images D.moment D.left_since D.faults self.old.place self.new.place (event.Remove session, outcome.Done) }
+        ensures act { Acts D.crashes D.seen D.images D.moment D.left_since D.faults self.old.place self.new.place
+            (event.Remove session, outcome.Done) }
         ensures before { self.new.before.value ≡ self.old.place }
         ensures handed { self.new.handed ≡ self.old.handed }
     {
@@ -126,24 +133,27 @@ impl<D: Disk + Drop> HallCore<D> {
         }
     }
 
-    pub(crate) fn step_rewrite(&mut self) -> Called
-        ensures act { Acts D.crashes D.seen D.images D.moment D.left_since D.faults self.old.place self.new.place (event.Rewrite, outcome.Answered result) }
+    pub(crate) fn step_rewrite(&mut self) -> CallOutcome
+        ensures act { Acts D.crashes D.seen D.images D.moment D.left_since D.faults self.old.place self.new.place
+            (event.Rewrite, outcome.Answered result) }
         ensures before { self.new.before.value ≡ self.old.place }
         ensures handed { self.new.handed ≡ self.old.handed }
     {
         self.begin();
         match &mut self.place {
             Place::Inside(core) => core.step_rewrite(),
-            Place::Out(_) => Called::Stopped,
+            Place::Out(_) => CallOutcome::Stopped,
         }
     }
 
     /// The core's last act. The disk comes out, with how that ended; there is none where it came out before.
-    pub(crate) fn retire(&mut self) -> Option<(D, Called)>
-        ensures act { Acts D.crashes D.seen D.images D.moment D.left_since D.faults self.old.place self.new.place (event.Retire, retire_outcome result) }
+    pub(crate) fn retire(&mut self) -> Option<(D, CallOutcome)>
+        ensures act { Acts D.crashes D.seen D.images D.moment D.left_since D.faults self.old.place self.new.place
+            (event.Retire, retire_outcome result) }
         ensures before { self.new.before.value ≡ self.old.place }
         ensures handed { self.new.handed ≡ self.old.handed }
-        ensures gives { GivesOut D.crashes D.seen D.images D.moment D.left_since D.faults self.old.place result self.new.place }
+        ensures gives { GivesOut D.crashes D.seen D.images D.moment D.left_since D.faults self.old.place result
+            self.new.place }
     {
         self.begin();
         let (called, left) = match &mut self.place {

@@ -13,7 +13,7 @@ use crate::places::HallCore;
 use crate::works::{Asking, HallAnswer, HallWork, Serving, Taking, Ticking};
 use outside::Disk;
 use turn_lock::Work;
-use world_model::{Answers, AskedList, Called, Touched};
+use world_model::{Answers, AskedList, CallOutcome, ChangedSessions};
 
 impl<D: Disk + Drop> Work<HallCore<D>> for HallWork {
     type Out = HallAnswer<D>;
@@ -22,7 +22,8 @@ impl<D: Disk + Drop> Work<HallCore<D>> for HallWork {
 
     ghost entries = { λ asked out h. entries_of D.crashes D.seen D.images D.moment D.left_since D.faults asked out h };
 
-    ghost gives = { λ asked before out after. Gives D.crashes D.seen D.images D.moment D.left_since D.faults asked before.place out after.place };
+    ghost gives = { λ asked before out after. Gives D.crashes D.seen D.images D.moment D.left_since D.faults asked
+        before.place out after.place };
 
     // What commits is done behind what waits with it: one commit serves the changes of all.
     fn is_late(&self) -> bool {
@@ -40,8 +41,10 @@ impl<D: Disk + Drop> Work<HallCore<D>> for HallWork {
 // Does what is asked, and answers it.
 fn answer<D: Disk + Drop>(core: &mut HallCore<D>, asked: HallWork) -> HallAnswer<D>
     ensures handed { core.new.handed ≡ core.old.handed }
-    ensures gives { Gives D.crashes D.seen D.images D.moment D.left_since D.faults asked core.old.place result core.new.place }
-    ensures turn { TurnsBy D.crashes D.seen D.images D.moment D.left_since D.faults (acts asked result) (disk_in core.new.before.value) core.old.place core.new.place }
+    ensures gives { Gives D.crashes D.seen D.images D.moment D.left_since D.faults asked core.old.place result
+        core.new.place }
+    ensures turn { TurnsBy D.crashes D.seen D.images D.moment D.left_since D.faults (acts asked result)
+        (disk_in core.new.before.value) core.old.place core.new.place }
 {
     match asked {
         HallWork::Enter => HallAnswer::Entered(core.enter()),
@@ -64,8 +67,10 @@ fn answer<D: Disk + Drop>(core: &mut HallCore<D>, asked: HallWork) -> HallAnswer
 
 fn answer_call<D: Disk + Drop>(core: &mut HallCore<D>, asking: Asking) -> HallAnswer<D>
     ensures handed { core.new.handed ≡ core.old.handed }
-    ensures gives { Gives D.crashes D.seen D.images D.moment D.left_since D.faults (work.Call asking) core.old.place result core.new.place }
-    ensures turn { TurnsBy D.crashes D.seen D.images D.moment D.left_since D.faults (acts (work.Call asking) result) (disk_in core.new.before.value) core.old.place core.new.place }
+    ensures gives { Gives D.crashes D.seen D.images D.moment D.left_since D.faults
+        (work.Call asking) core.old.place result core.new.place }
+    ensures turn { TurnsBy D.crashes D.seen D.images D.moment D.left_since D.faults (acts (work.Call asking) result)
+        (disk_in core.new.before.value) core.old.place core.new.place }
 {
     let Asking {
         session,
@@ -80,20 +85,24 @@ fn answer_call<D: Disk + Drop>(core: &mut HallCore<D>, asking: Asking) -> HallAn
 
 fn answer_take<D: Disk + Drop>(core: &mut HallCore<D>, taking: Taking) -> HallAnswer<D>
     ensures handed { core.new.handed ≡ core.old.handed }
-    ensures gives { Gives D.crashes D.seen D.images D.moment D.left_since D.faults (work.Take taking) core.old.place result core.new.place }
-    ensures turn { TurnsBy D.crashes D.seen D.images D.moment D.left_since D.faults (acts (work.Take taking) result) (disk_in core.new.before.value) core.old.place core.new.place }
+    ensures gives { Gives D.crashes D.seen D.images D.moment D.left_since D.faults
+        (work.Take taking) core.old.place result core.new.place }
+    ensures turn { TurnsBy D.crashes D.seen D.images D.moment D.left_since D.faults (acts (work.Take taking) result)
+        (disk_in core.new.before.value) core.old.place core.new.place }
 {
     let Taking { session, mut into } = taking;
     let taken = core.take(session, &mut into);
     HallAnswer::Taken(taken, into)
 }
 
-// Makes the calls, and the take behind them where nothing waits for a commit. Else a take of its own makes the commit, which then serves
-// the changes of others, too.
+// Makes the calls, and the take behind them where nothing waits for a commit. Else a take of its own makes the commit,
+// which then serves the changes of others, too.
 fn answer_serve<D: Disk + Drop>(core: &mut HallCore<D>, serving: Serving) -> HallAnswer<D>
     ensures handed { core.new.handed ≡ core.old.handed }
-    ensures gives { Gives D.crashes D.seen D.images D.moment D.left_since D.faults (work.Serve serving) core.old.place result core.new.place }
-    ensures turn { TurnsBy D.crashes D.seen D.images D.moment D.left_since D.faults (acts (work.Serve serving) result) (disk_in core.new.before.value) core.old.place core.new.place }
+    ensures gives { Gives D.crashes D.seen D.images D.moment D.left_since D.faults
+        (work.Serve serving) core.old.place result core.new.place }
+    ensures turn { TurnsBy D.crashes D.seen D.images D.moment D.left_since D.faults (acts (work.Serve serving) result)
+        (disk_in core.new.before.value) core.old.place core.new.place }
 {
     let Serving {
         asking,
@@ -117,8 +126,10 @@ fn answer_serve<D: Disk + Drop>(core: &mut HallCore<D>, serving: Serving) -> Hal
 
 fn answer_tick<D: Disk + Drop>(core: &mut HallCore<D>, ticking: Ticking) -> HallAnswer<D>
     ensures handed { core.new.handed ≡ core.old.handed }
-    ensures gives { Gives D.crashes D.seen D.images D.moment D.left_since D.faults (work.Tick ticking) core.old.place result core.new.place }
-    ensures turn { TurnsBy D.crashes D.seen D.images D.moment D.left_since D.faults (acts (work.Tick ticking) result) (disk_in core.new.before.value) core.old.place core.new.place }
+    ensures gives { Gives D.crashes D.seen D.images D.moment D.left_since D.faults
+        (work.Tick ticking) core.old.place result core.new.place }
+    ensures turn { TurnsBy D.crashes D.seen D.images D.moment D.left_since D.faults (acts (work.Tick ticking) result)
+        (disk_in core.new.before.value) core.old.place core.new.place }
 {
     let Ticking {
         moment,
@@ -135,25 +146,29 @@ fn call_each<D: Disk + Drop>(
     session: u32,
     moment: u64,
     asked: &AskedList,
-    touched: &mut Touched,
+    touched: &mut ChangedSessions,
 ) -> Answers
     requires early { moment ≤ max_moment }
     requires proper { list_all is_proper asked.now ≡ true }
     requires none { touched.old ≡ [] }
     ensures count { IsCount result.served result.end (length asked.now) }
     ensures handed { core.new.handed ≡ core.old.handed }
-    ensures turn { TurnsBy D.crashes D.seen D.images D.moment D.left_since D.faults (call_acts session moment asked.now result.served result.end) (disk_in core.new.before.value) core.old.place core.new.place }
-    ensures front { (hall_in core.new.place).stopped ≡ false → ActsInFront D.crashes D.seen D.images D.moment D.left_since D.faults (call_acts session moment asked.now result.served result.end) core.old.place core.new.place }
+    ensures turn { TurnsBy D.crashes D.seen D.images D.moment D.left_since D.faults
+        (call_acts session moment asked.now result.served result.end)
+        (disk_in core.new.before.value) core.old.place core.new.place }
+    ensures front { (hall_in core.new.place).stopped ≡ false
+        → ActsInFront D.crashes D.seen D.images D.moment D.left_since D.faults
+        (call_acts session moment asked.now result.served result.end) core.old.place core.new.place }
     ensures named { NamesChanged touched.new (hall_in core.old.place) (hall_in core.new.place) }
 {
     for i in 0..asked.len() {
         match core.call(session, moment, asked.at(i), touched) {
-            Called::Ok => {}
+            CallOutcome::Ok => {}
             end => return Answers { served: i, end },
         }
     }
     Answers {
         served: asked.len(),
-        end: Called::Ok,
+        end: CallOutcome::Ok,
     }
 }

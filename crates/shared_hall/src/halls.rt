@@ -1,4 +1,8 @@
 //! The hall that many threads share, and its calls.
+//!
+//! A hall retires by its first seat alone, as the one entry that is kept for it. A take in the turn of its calls is
+//! made only where they left nothing pending: a reader that wrote takes in a turn of its own, which is late and shares
+//! its commit.
 
 ghost use Rattle.std.specs.Prelude.{◌≡◌, ◌≤◌, ◌⊎◌, ◌^◌, ◌-◌, true, false, is_some, not, min, IfOk, IfErr, IfSome};
 ghost use Rattle.std.specs.List.{list_any};
@@ -18,14 +22,14 @@ ghost use Rattle.shared_hall.specs.Turns.{retire_outcome, retires};
 use crate::places::{HallCore, Place};
 use crate::works::{Asking, HallAnswer, HallWork, Serving, Taking, Ticking};
 use durable_core::DurableCore;
-use hall_turns::HallServe;
 use outside::Disk;
 use std::alloc::Global;
 use std::snapshot::Snapshot;
 use std::sync::Wait;
 use turn_lock::{Seat, TurnLock};
 use world_model::{
-    Answers, AskedList, Called, EnterFault, Frames, HallApi, HallSplit, Taken, Touched, step_laws,
+    Answers, AskedList, CallOutcome, ChangedSessions, EnterFault, Frames, HallApi, HallServe,
+    HallSplit, Taken, step_laws,
 };
 
 /// What a caller has seen of the hall's history.
@@ -38,9 +42,10 @@ pub struct SharedHall<D: Disk + Drop> {
 }
 
 impl<D: Disk + Drop> SharedHall<D> {
-    /// A hall round a core that was opened over a disk and has not been used, and its first seat, which has seen nothing. The history opens
-    /// with the core as it is now. `handed` is the disk as it was before it was opened: where it told its contents and what a crash may
-    /// leave, the disk is safe for the hall's history from then on. The core comes back for want of memory alone.
+    /// A hall round a core that was opened over a disk and has not been used, and its first seat, which has seen
+    /// nothing. The history opens with the core as it is now. `handed` is the disk as it was before it was opened:
+    /// where it told its contents and what a crash may leave, the disk is safe for the hall's history from then on. The
+    /// core comes back for want of memory alone.
     pub fn new(
         alloc: Global,
         core: DurableCore<D>,
@@ -48,7 +53,9 @@ impl<D: Disk + Drop> SharedHall<D> {
     ) -> Result<(SharedHall<D>, HallSeat<D>), DurableCore<D>>
         requires { IsOpenedOn D.crashes D.seen D.images D.moment D.left_since D.faults core handed.value }
         ensures seat { IfOk result (λ r. IsOf D.crashes D.seen D.images D.moment D.left_since D.faults r.0 r.1) }
-        ensures knows { IfOk result (λ r. knows_of r.1 ≡ first_knows D.crashes D.seen D.images D.moment D.left_since D.faults core handed.value) }
+        ensures knows { IfOk result
+            (λ r. knows_of r.1
+            ≡ first_knows D.crashes D.seen D.images D.moment D.left_since D.faults core handed.value) }
         ensures handed { IfOk result (λ r. handed_of r.0 ≡ handed.value) }
         ensures back { IfErr result (λ c. c ≡ core) }
     {
@@ -80,27 +87,33 @@ impl<D: Disk + Drop> SharedHall<D> {
         requires seat { IsOf D.crashes D.seen D.images D.moment D.left_since D.faults self.now seat.old }
         requires may { (knows_of seat.old).first ≡ false → retires work ≡ false }
         ensures seat { IsOf D.crashes D.seen D.images D.moment D.left_since D.faults self.now seat.new }
-        ensures done { IsDone D.crashes D.seen D.images D.moment D.left_since D.faults (handed_of self.now) work result (knows_of seat.old) (knows_of seat.new) }
+        ensures done { IsDone D.crashes D.seen D.images D.moment D.left_since D.faults (handed_of self.now) work result
+            (knows_of seat.old) (knows_of seat.new) }
     {
         // An entry leads to one hall, so that the history alone tells who was changed.
         step_laws();
         self.lock.turn(rt, seat, work)
     }
 
-    /// Makes all that is pending stand, and gives the disk out; from then on each call is answered Stopped. None where it was given out
-    /// before. Where the disk told its contents and what a crash may leave, it is safe for all that the seat has seen then; and where all
-    /// was made to stand, whatever a crash may leave is the world of that history.
-    pub fn retire<R: Wait>(&self, rt: &R, seat: &mut HallSeat<D>) -> Option<(D, Called)>
+    /// Makes all that is pending stand, and gives the disk out; from then on each call is answered Stopped. None where
+    /// it was given out before. Where the disk told its contents and what a crash may leave, it is safe for all that
+    /// the seat has seen then; and where all was made to stand, whatever a crash may leave is the world of that
+    /// history.
+    pub fn retire<R: Wait>(&self, rt: &R, seat: &mut HallSeat<D>) -> Option<(D, CallOutcome)>
         requires seat { IsOf D.crashes D.seen D.images D.moment D.left_since D.faults self.now seat.old }
         requires first { (knows_of seat.old).first ≡ true }
         ensures seat { IsOf D.crashes D.seen D.images D.moment D.left_since D.faults self.now seat.new }
         ensures entry { Adds event.Retire (retire_outcome result) (knows_of seat.old) (knows_of seat.new) }
         ensures once { is_some result ≡ not (list_any is_retirement (knows_of seat.old).seen) }
-        ensures counted { IfSome result (λ given. count_after (knows_of seat.new).opening.count (knows_of seat.new).seen ≡ min (D.faults given.0) most_count) }
+        ensures counted { IfSome result
+            (λ given. count_after (knows_of seat.new).opening.count (knows_of seat.new).seen
+            ≡ min (D.faults given.0) most_count) }
         ensures safe { tells D.crashes D.seen (handed_of self.now) ≡ true
             → IfSome result (λ given. Safe D.left_since given.0 (knows_of seat.new).opening (knows_of seat.new).seen) }
         ensures stands { tells D.crashes D.seen (handed_of self.now) ≡ true
-            → IfSome result (λ given. given.1 ≡ Called.Ok → (h : Hall) → Reaches (knows_of seat.new).opening (knows_of seat.new).seen h
+            → IfSome result
+            (λ given. given.1 ≡ CallOutcome.Ok → (h : Hall)
+            → Reaches (knows_of seat.new).opening (knows_of seat.new).seen h
             → EachImage (D.images given.0) (λ image. Recovers image h.world)) }
     {
         match self.turn(rt, seat, HallWork::Retire) {
@@ -133,8 +146,8 @@ impl<D: Disk + Drop> HallApi for SharedHall<D> {
         session: u32,
         moment: u64,
         asked: AskedList,
-        touched: Touched,
-    ) -> (Answers, AskedList, Touched) {
+        touched: ChangedSessions,
+    ) -> (Answers, AskedList, ChangedSessions) {
         let asking = Asking {
             session,
             moment,
@@ -172,8 +185,8 @@ impl<D: Disk + Drop> HallApi for SharedHall<D> {
         rt: &R,
         seat: &mut HallSeat<D>,
         moment: u64,
-        touched: Touched,
-    ) -> (Called, Touched) {
+        touched: ChangedSessions,
+    ) -> (CallOutcome, ChangedSessions) {
         match self.turn(rt, seat, HallWork::Tick(Ticking { moment, touched })) {
             HallAnswer::Ticked(called, touched) => (called, touched),
             _ => unreachable!(),
@@ -188,7 +201,7 @@ impl<D: Disk + Drop> HallApi for SharedHall<D> {
         self.turn(rt, seat, HallWork::Remove(session));
     }
 
-    fn step_rewrite<R: Wait>(&self, rt: &R, seat: &mut HallSeat<D>) -> Called {
+    fn step_rewrite<R: Wait>(&self, rt: &R, seat: &mut HallSeat<D>) -> CallOutcome {
         match self.turn(rt, seat, HallWork::StepRewrite) {
             HallAnswer::Rewrote(called) => called,
             _ => unreachable!(),
@@ -204,9 +217,9 @@ impl<D: Disk + Drop> HallServe for SharedHall<D> {
         session: u32,
         moment: u64,
         asked: AskedList,
-        touched: Touched,
+        touched: ChangedSessions,
         into: &mut Frames,
-    ) -> (Answers, AskedList, Touched, Option<Taken>) {
+    ) -> (Answers, AskedList, ChangedSessions, Option<Taken>) {
         let asking = Asking {
             session,
             moment,

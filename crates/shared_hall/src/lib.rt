@@ -1,5 +1,5 @@
-//! A hall that many threads share: one core over a disk under the turn lock. Each call is one turn and makes the entries of that turn
-//! in the hall's one history.
+//! A hall that many threads share: one core over a disk under the turn lock. Each call is one turn and makes the
+//! entries of that turn in the hall's one history.
 #![tactic(auto)]
 
 mod acts;

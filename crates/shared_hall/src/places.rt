@@ -1,4 +1,7 @@
 //! The core that takes turns, while its disk is in and behind that.
+//!
+//! What stays in the lock when the disk was given out remembers it for contracts alone, so that later entries keep its
+//! moment.
 
 use durable_core::DurableCore;
 use std::snapshot::Snapshot;

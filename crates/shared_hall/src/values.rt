@@ -1,4 +1,7 @@
 //! The core as the value of a lock: the histories that it stands for.
+//!
+//! All entries of a turn have the moment and the count of faults that the disk has at its end. What is acknowledged is
+//! given out behind the turn, so a later moment says no less.
 
 use crate::places::{Begun, HallCore};
 use crate::works::HallWork;

@@ -5,7 +5,7 @@ ghost use Rattle.std.specs.List.{list_all};
 ghost use Rattle.world_data.specs.Limits.{max_moment, take_frames};
 ghost use Rattle.world_model.specs.Outcomes.{is_proper};
 
-use world_model::{Answers, AskedList, Called, EnterFault, Frames, Taken, Touched};
+use world_model::{Answers, AskedList, CallOutcome, ChangedSessions, EnterFault, Frames, Taken};
 
 /// What a session asks for at a moment, and where the sessions are named that it changes.
 #[derive(Drop)]
@@ -13,7 +13,7 @@ pub struct Asking {
     pub session: u32,
     pub moment: u64,
     pub asked: AskedList,
-    pub touched: Touched,
+    pub touched: ChangedSessions,
     ghost early: { moment ≤ max_moment },
     ghost proper: { list_all is_proper asked ≡ true },
 }
@@ -38,7 +38,7 @@ pub struct Serving {
 #[derive(Drop)]
 pub struct Ticking {
     pub moment: u64,
-    pub touched: Touched,
+    pub touched: ChangedSessions,
     ghost early: { moment ≤ max_moment },
 }
 
@@ -60,13 +60,13 @@ pub enum HallWork {
 #[derive(Drop)]
 pub enum HallAnswer<D> {
     Entered(Result<u32, EnterFault>),
-    Called(Answers, AskedList, Touched),
+    Called(Answers, AskedList, ChangedSessions),
     Taken(Taken, Frames),
     /// There is no take where it is better made in a turn of its own.
-    Served(Answers, AskedList, Touched, Option<Taken>, Frames),
-    Ticked(Called, Touched),
-    Rewrote(Called),
+    Served(Answers, AskedList, ChangedSessions, Option<Taken>, Frames),
+    Ticked(CallOutcome, ChangedSessions),
+    Rewrote(CallOutcome),
     /// The disk, where it was in, and how the retirement ended.
-    Retired(Option<(D, Called)>),
+    Retired(Option<(D, CallOutcome)>),
     Done,
 }

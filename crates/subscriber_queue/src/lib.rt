@@ -1,5 +1,5 @@
-//! The frames that wait for a session: a queue whose room is taken beforehand, so that placing and taking a frame need no
-//! memory. It holds no more than a fixed number of frames and of bytes.
+//! The frames that wait for a session: a queue whose room is taken beforehand, so that placing and taking a frame need
+//! no memory. It holds no more than a fixed number of frames and of bytes.
 #![tactic(auto)]
 
 ghost use Rattle.std.specs.Prelude.{◌≡◌, ◌≤◌, ◌<◌, ◌+◌, ◌↔◌, ◌++◌, [], ◌∷◌, length, take, drop, min, IfErr, IsOk, OnOk};
@@ -30,7 +30,8 @@ impl Model for Outbox {
 
     ghost view = { λ b. record { frames = b.ring.items; spare = deque_capacity b.ring - deque_len b.ring } };
 
-    ghost invariant = { λ b. (length b.ring.items ≤ cap_frames) × (b.bytes ≡ frame_bytes b.ring.items) × (b.bytes ≤ cap_bytes) };
+    ghost invariant = { λ b. (length b.ring.items ≤ cap_frames) × (b.bytes ≡ frame_bytes b.ring.items)
+        × (b.bytes ≤ cap_bytes) };
 }
 
 impl Outbox {
@@ -45,8 +46,8 @@ impl Outbox {
         }
     }
 
-    /// Takes room for `count` more frames, as far as there is none. The frames stay, and no room is lost, also for want of
-    /// memory.
+    /// Takes room for `count` more frames, as far as there is none. The frames stay, and no room is lost, also for want
+    /// of memory.
     pub fn reserve(&mut self, count: usize) -> Result<(), NoMemory>
         ensures frames { self.new.frames ≡ self.old.frames }
         ensures room { OnOk result (count ≤ self.new.spare) }
@@ -58,13 +59,14 @@ impl Outbox {
         }
     }
 
-    /// Puts a frame last, in one place of the room. It comes back exactly where 16,384 frames stand there, or the bytes would
-    /// pass 6,291,456; the queue is then as before.
+    /// Puts a frame last, in one place of the room. It comes back exactly where 16,384 frames stand there, or the bytes
+    /// would pass 6,291,456; the queue is then as before.
     pub fn place(&mut self, frame: Text) -> Result<(), Text>
         requires { 1 ≤ self.old.spare }
         ensures ok { OnOk result (self.new.frames ≡ self.old.frames ++ frame ∷ []) }
         ensures spare { OnOk result (self.new.spare + 1 ≡ self.old.spare) }
-        ensures fits { IsOk result ↔ ((length self.old.frames < cap_frames) × (frame_bytes self.old.frames + length frame ≤ cap_bytes)) }
+        ensures fits { IsOk result
+            ↔ ((length self.old.frames < cap_frames) × (frame_bytes self.old.frames + length frame ≤ cap_bytes)) }
         ensures err { IfErr result (λ f. (f ≡ frame) × (self.new ≡ self.old)) }
     {
         let length = frame.bytes().len() as u64;
@@ -89,7 +91,8 @@ impl Outbox {
         }
     }
 
-    /// Moves the first frames, as many as one take gives, into `into`, and answers their number. Their places are room again.
+    /// Moves the first frames, as many as one take gives, into `into`, and answers their number. Their places are room
+    /// again.
     pub fn take(&mut self, into: &mut Frames) -> usize
         requires { into.old ≡ record { list = []; places = take_frames } }
         ensures given { into.new ≡ record { list = take take_frames self.old.frames; places = take_frames } }

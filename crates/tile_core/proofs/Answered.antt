@@ -4,9 +4,9 @@ use Rattle.std.specs.Prelude.{Decides, Option, Some, Result, Ok, Err, is_ok, fin
 use Rattle.std.proofs.lemmas.Bool.Decides.{nat_tests}
 use Rattle.world_model.specs.Halls as halls
 use Rattle.world_model.specs.Histories.{gone, full, ended, idle}
-use Rattle.world_model.specs.declared.events.Called.{Called}
-use Rattle.world_model.specs.declared.events.Called.TheVariants as called
-use Rattle.session_mail.specs.Sessions.{State, session_of}
+use Rattle.world_model.specs.declared.events.CallOutcome.{CallOutcome}
+use Rattle.world_model.specs.declared.events.CallOutcome.TheVariants as called
+use Rattle.session_table.specs.Sessions.{State, session_of}
 use Rattle.tile_core.specs.Sessions.{AreOthers, IsServed, Rises}
 use Rattle.tile_core.proofs.Present.{found, none_found}
 
@@ -15,7 +15,7 @@ abbrev pub seen : List State → ℕ → Option halls.Session
 seen sessions n = find (halls.is_session n) (map session_of sessions)
 
 -- a call of a session that may make it is not refused
-pub may_not : (drawn : ℕ) (sessions : List State) (n : ℕ) → Rises 0 drawn sessions → (answer : Called) → IsServed sessions n (Err answer) → gone (seen sessions n) ≡ false → full (seen sessions n) ≡ false → ⊥
+pub may_not : (drawn : ℕ) (sessions : List State) (n : ℕ) → Rises 0 drawn sessions → (answer : CallOutcome) → IsServed sessions n (Err answer) → gone (seen sessions n) ≡ false → full (seen sessions n) ≡ false → ⊥
 may_not drawn sessions n r called.Gone e here room = elim e [
   | inl o ↦ true≢false (sym (ap gone (none_found sessions n o)) ∙ here)
   | inr p ↦ true≢false (sym (gone_is p.1.session p.2) ∙ sym (ap gone (found 0 drawn sessions p.0 n p.1.session r p.1.here p.1.numbered)) ∙ here)
@@ -38,7 +38,7 @@ may drawn sessions n i r sv =
     (ap gone is ∙ ap not sv.1, ap full is ∙ sv.2)
 
 -- so it is served exactly where it may
-pub serves : (drawn : ℕ) (sessions : List State) (n : ℕ) → Rises 0 drawn sessions → (answer : Result ℕ Called) → IsServed sessions n answer → Decides (is_ok answer) ((gone (seen sessions n) ≡ false) × (full (seen sessions n) ≡ false))
+pub serves : (drawn : ℕ) (sessions : List State) (n : ℕ) → Rises 0 drawn sessions → (answer : Result ℕ CallOutcome) → IsServed sessions n answer → Decides (is_ok answer) ((gone (seen sessions n) ≡ false) × (full (seen sessions n) ≡ false))
 serves drawn sessions n r (Ok i) sv = (λ e. may drawn sessions n i r sv, λ m. refl)
 serves drawn sessions n r (Err answer) sv = (λ e. absurd (cc e), λ m. absurd (may_not drawn sessions n r answer sv m.0 m.1))
 

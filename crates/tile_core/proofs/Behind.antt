@@ -7,25 +7,25 @@ use Rattle.byte_text.specs.ListLaws.{take_next}
 use Rattle.byte_text.specs.Names.{Bytes, same}
 use Rattle.byte_text.specs.ByteOrder.{same_equal}
 use Rattle.ordered_lists.specs.Reading.{both_of}
-use Rattle.fence_model.specs.Writes.{Write, loud, quiet, dels}
+use Rattle.fence_model.specs.Writes.{Write, announced, silent, dels}
 use Rattle.world_data.specs.Worlds.{after, has_key, is_at, object_at}
 use Rattle.world_data.specs.declared.channels.Channel.{Channel}
 use Rattle.world_data.specs.declared.objects.Object.{Object}
 use Rattle.world_data.specs.declared.worlds.World.{World}
 use Rattle.world_data.specs.declared.worlds.Change.TheVariants as change
-use Rattle.deliveries.specs.Staging.{after_all}
-use Rattle.deliveries.specs.Quiet.{after_append}
-use Rattle.session_mail.specs.Sessions.{State}
-use Rattle.session_mail.specs.Fans.{HaveStaged}
-use Rattle.message_fan.specs.Laws.{QuietBringsNothing}
-use Rattle.message_fan.specs.Stagings.{IsStagedIn, IsBeforeDel}
-use Rattle.command_plans.specs.declared.planned.ChannelMove.{ChannelMove}
-use Rattle.command_plans.specs.declared.planned.ChannelMove.TheVariants.{Set, Drop}
-use Rattle.command_plans.specs.Planned.{channel_writes}
+use Rattle.delivery_model.specs.Staging.{after_all}
+use Rattle.delivery_model.specs.Silent.{after_append}
+use Rattle.session_table.specs.Sessions.{State}
+use Rattle.session_table.specs.Fans.{HaveStaged}
+use Rattle.message_fanout.specs.Laws.{QuietBringsNothing}
+use Rattle.message_fanout.specs.Stagings.{IsStagedIn, IsBeforeDel}
+use Rattle.channel_plans.specs.declared.planned.ChannelChange.{ChannelChange}
+use Rattle.channel_plans.specs.declared.planned.ChannelChange.TheVariants.{Set, Drop}
+use Rattle.channel_plans.specs.Planned.{channel_writes}
 use Rattle.tile_core.specs.Dues.{AllStand}
-use Rattle.command_plans.specs.Moves.{AllThere, world_with}
+use Rattle.object_plans.specs.Moves.{AllThere, world_with}
 use Rattle.tile_core.specs.Staged.{StagesBehind, dels_of}
-use Rattle.command_plans.specs.Weights.{found_at}
+use Rattle.object_plans.specs.Weights.{found_at}
 
 -- nothing is staged behind
 pub behind_none : (w : World) (ss : List State) → StagesBehind w [] ss ss
@@ -48,9 +48,9 @@ take_none (x ∷ xs) = refl
 
 -- the dels of objects that stand
 
-dels_more : (xs : List Object) (o : Object) → dels (xs ++ o ∷ []) ≡ dels xs ++ loud (change.Del o.key o.id) ∷ []
+dels_more : (xs : List Object) (o : Object) → dels (xs ++ o ∷ []) ≡ dels xs ++ announced (change.Del o.key o.id) ∷ []
 dels_more [] o = refl
-dels_more (x ∷ xs) o = ap (λ (ws : List Write). loud (change.Del x.key x.id) ∷ ws) (dels_more xs o)
+dels_more (x ∷ xs) o = ap (λ (ws : List Write). announced (change.Del x.key x.id) ∷ ws) (dels_more xs o)
 
 channels_stay : (w : World) (xs : List Object) → (after_all w (dels xs)).channels ≡ w.channels
 channels_stay w [] = refl
@@ -62,17 +62,17 @@ stands w (x ∷ xs) zero o all at = let is : x ≡ o = cc in subst (λ (p : Obje
 stands w (x ∷ xs) (suc i) o all at = stands (after w (change.Del x.key x.id)) xs i o all.1 at
 
 pub dels_next : (w : World) (xs : List Object) (i : ℕ) (o : Object) (cs : List Channel) (old mid new : List State) → AllStand w xs → w.channels ≡ cs → slice_get xs i ≡ Some o → StagesBehind w (dels (take i xs)) old mid
-    → IsStagedIn (IsBeforeDel cs o) (loud (change.Del o.key o.id)) mid new → StagesBehind w (dels (take (i + 1) xs)) old new
+    → IsStagedIn (IsBeforeDel cs o) (announced (change.Del o.key o.id)) mid new → StagesBehind w (dels (take (i + 1) xs)) old new
 dels_next w xs i o cs old mid new all is at behind staged =
     subst (λ (ws : List Write). StagesBehind w ws old new) (sym (dels_more (take i xs) o) ∙ ap dels (sym (take_next xs i o at)))
-    (behind_more w (dels (take i xs)) (loud (change.Del o.key o.id)) (IsBeforeDel cs o) old mid new behind
+    (behind_more w (dels (take i xs)) (announced (change.Del o.key o.id)) (IsBeforeDel cs o) old mid new behind
     (record { channels_are = channels_stay w (take i xs) ∙ is; stands = stands w xs i o all at }) staged)
 
 -- the dels of the objects of a key that have these ids
 
-each_more : (key : Bytes) (ids : List Bytes) (id : Bytes) → dels_of key (ids ++ id ∷ []) ≡ dels_of key ids ++ loud (change.Del key id) ∷ []
+each_more : (key : Bytes) (ids : List Bytes) (id : Bytes) → dels_of key (ids ++ id ∷ []) ≡ dels_of key ids ++ announced (change.Del key id) ∷ []
 each_more key [] id = refl
-each_more key (x ∷ ids) id = ap (λ (ws : List Write). loud (change.Del key x) ∷ ws) (each_more key ids id)
+each_more key (x ∷ ids) id = ap (λ (ws : List Write). announced (change.Del key x) ∷ ws) (each_more key ids id)
 
 -- of the world these are done to
 each_stay : (w : World) (key : Bytes) (ids : List Bytes) → (after_all w (dels_of key ids)).channels ≡ w.channels
@@ -130,7 +130,7 @@ module _ (cs : List Channel) (xs : List Object) (key : Bytes) (ids : List Bytes)
       cc
 
   pub each_next : (o : Object) (old mid new : List State) → find (is_at key id) xs ≡ Some o → StagesBehind (world_with cs xs) (dels_of key (take i ids)) old mid
-      → IsStagedIn (IsBeforeDel cs o) (loud (change.Del o.key o.id)) mid new → StagesBehind (world_with cs xs) (dels_of key (take (i + 1) ids)) old new
+      → IsStagedIn (IsBeforeDel cs o) (announced (change.Del o.key o.id)) mid new → StagesBehind (world_with cs xs) (dels_of key (take (i + 1) ids)) old new
   each_next o old mid new found behind staged =
       let w = world_with cs xs in
       let e = each_there w key ids i id there at in
@@ -139,21 +139,21 @@ module _ (cs : List Channel) (xs : List Object) (key : Bytes) (ids : List Bytes)
       let own = found_at key id xs o found in
       let stands : object_at here o.key o.id ≡ Some o =
       ap (λ (k : Bytes). object_at here k o.id) own.0 ∙ ap (λ (k : Bytes). object_at here key k) own.1 ∙ e.1 ∙ ap (λ (p : Object). Some p) is in
-      let named : loud (change.Del o.key o.id) ≡ loud (change.Del key id) = ap (λ (k : Bytes). loud (change.Del k o.id)) own.0 ∙ ap (λ (k : Bytes). loud (change.Del key k)) own.1 in
+      let named : announced (change.Del o.key o.id) ≡ announced (change.Del key id) = ap (λ (k : Bytes). announced (change.Del k o.id)) own.0 ∙ ap (λ (k : Bytes). announced (change.Del key k)) own.1 in
       let such : IsBeforeDel cs o here = record { channels_are = each_stay w key (take i ids); stands = stands } in
-      let one = behind_more w (dels_of key (take i ids)) (loud (change.Del o.key o.id)) (IsBeforeDel cs o) old mid new behind such staged in
+      let one = behind_more w (dels_of key (take i ids)) (announced (change.Del o.key o.id)) (IsBeforeDel cs o) old mid new behind such staged in
       subst (λ (ws : List Write). StagesBehind w ws old new)
       (ap (λ (d : Write). dels_of key (take i ids) ++ d ∷ []) named ∙ sym (each_more key (take i ids) id) ∙ ap (dels_of key) (sym (take_next ids i id at))) one
 
--- quiet writes stage nothing
+-- silent writes stage nothing
 
-quiet_names : QuietBringsNothing → (names : List Bytes) (first : World) (writes : List Write) (ss : List State) → HaveStaged first writes ss → HaveStaged first (writes ++ map (λ n. quiet (change.DelChan n)) names) ss
+quiet_names : QuietBringsNothing → (names : List Bytes) (first : World) (writes : List Write) (ss : List State) → HaveStaged first writes ss → HaveStaged first (writes ++ map (λ n. silent (change.DelChan n)) names) ss
 quiet_names law [] first writes ss staged = subst (λ (ws : List Write). HaveStaged first ws ss) (sym (append-nil writes)) staged
 quiet_names law (name ∷ names) first writes ss staged =
-    subst (λ (ws : List Write). HaveStaged first ws ss) (append_assoc writes (quiet (change.DelChan name) ∷ []) (map (λ n. quiet (change.DelChan n)) names))
-    (quiet_names law names first (writes ++ quiet (change.DelChan name) ∷ []) ss (law first writes (change.DelChan name) ss staged))
+    subst (λ (ws : List Write). HaveStaged first ws ss) (append_assoc writes (silent (change.DelChan name) ∷ []) (map (λ n. silent (change.DelChan n)) names))
+    (quiet_names law names first (writes ++ silent (change.DelChan name) ∷ []) ss (law first writes (change.DelChan name) ss staged))
 
-pub behind_channels : QuietBringsNothing → (w : World) (action : ChannelMove) (ss : List State) → StagesBehind w (channel_writes action) ss ss
+pub behind_channels : QuietBringsNothing → (w : World) (action : ChannelChange) (ss : List State) → StagesBehind w (channel_writes action) ss ss
 behind_channels law w (Set c) ss first writes is staged = law first writes (change.SetChan c) ss staged
 behind_channels law w (Drop names) ss first writes is staged = quiet_names law names first writes ss staged
 

@@ -16,29 +16,29 @@ use Rattle.world_model.specs.Halls.{Hall, NamesChanged, due, do_call}
 use Rattle.world_model.specs.Histories.{Step}
 use Rattle.world_model.specs.Histories as histories
 use Rattle.world_model.specs.declared.events.Asked.{Asked}
-use Rattle.world_model.specs.declared.events.Called.TheVariants as called
+use Rattle.world_model.specs.declared.events.CallOutcome.TheVariants as called
 use Rattle.world_model.specs.declared.events.Event.TheVariants.{Call}
 use Rattle.world_model.specs.declared.events.Outcome.TheVariants.{Answered}
 use Rattle.log_record.specs.EventWrites.{call_writes, writes_of}
-use Rattle.deliveries.specs.Calls.{due_staged}
-use Rattle.deliveries.specs.Callers.{answer_fits, own_call}
-use Rattle.deliveries.specs.Plans.{FitBehind, IsReplied, effect_of_asked}
-use Rattle.deliveries.specs.Placing.{each_number}
-use Rattle.deliveries.specs.Touched.{ending_number}
-use Rattle.deliveries.specs.Quiet.{heard_none}
-use Rattle.deliveries.specs.Staging.{Suffice, after_all, have_room, heard, listens}
-use Rattle.session_mail.specs.Sessions.{State, session_of}
-use Rattle.session_mail.specs.Fans.{AreBare, ArePlaced, IsPlaced}
-use Rattle.session_mail.specs.FanLaws.{bare_all}
-use Rattle.command_plans.specs.Kept.{most_kept}
+use Rattle.delivery_model.specs.Calls.{due_staged}
+use Rattle.delivery_model.specs.Callers.{answer_fits, own_call}
+use Rattle.delivery_model.specs.Plans.{FitBehind, IsReplied, effect_of_asked}
+use Rattle.delivery_model.specs.Placing.{each_number}
+use Rattle.delivery_model.specs.ChangedSessions.{ending_number}
+use Rattle.delivery_model.specs.Silent.{heard_none}
+use Rattle.delivery_model.specs.Staging.{Suffice, after_all, have_room, heard, listens}
+use Rattle.session_table.specs.Sessions.{State, session_of}
+use Rattle.session_table.specs.Fans.{AreBare, ArePlaced, IsPlaced}
+use Rattle.session_table.specs.FanLaws.{bare_all}
+use Rattle.object_plans.specs.Kept.{most_kept}
 use Rattle.tile_core.specs.declared.dues.Expired.{Expired}
-use Rattle.command_plans.specs.declared.planned.Planned.{Planned}
-use Rattle.command_plans.specs.declared.planned.Planned.TheVariants.{Objects, Channels, Subscribed}
+use Rattle.channel_plans.specs.declared.planned.Planned.{Planned}
+use Rattle.channel_plans.specs.declared.planned.Planned.TheVariants.{Objects, Channels, Subscribed}
 use Rattle.tile_core.specs.declared.ready.Ready.{Ready}
 use Rattle.tile_core.specs.declared.stores.Store.{Store}
 use Rattle.tile_core.specs.Answered.{AreNamed, AreRoomy, AreSessions, IsAnswered, is_named}
-use Rattle.tile_core.specs.Ledgers.{ready_writes, writes_if}
-use Rattle.command_plans.specs.Planned.{IsPlanned}
+use Rattle.tile_core.specs.RecordSinks.{ready_writes, writes_if}
+use Rattle.channel_plans.specs.Planned.{IsPlanned}
 use Rattle.tile_core.specs.Ready.{IsCompleted, IsDone, IsDoneIf, IsReady, IsRestReady, IsSoundAnswer, CanComplete, ending_if, length_if, planned_length, replied, reply_count}
 use Rattle.tile_core.specs.Sessions.{IsServed}
 use Rattle.tile_core.specs.Stores.{ArePresent, IsSound, IsStore, hall_of, world_at}

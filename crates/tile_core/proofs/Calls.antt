@@ -24,31 +24,31 @@ use Rattle.world_model.specs.declared.commands.Command.{Command}
 use Rattle.world_model.specs.declared.faults.WordFault.{WordFault}
 use Rattle.world_model.specs.declared.events.Asked.{Asked}
 use Rattle.world_model.specs.declared.events.Asked.TheVariants.{Words, Broken}
-use Rattle.world_model.specs.declared.events.Called.{Called}
-use Rattle.world_model.specs.declared.events.Called.TheVariants as called
+use Rattle.world_model.specs.declared.events.CallOutcome.{CallOutcome}
+use Rattle.world_model.specs.declared.events.CallOutcome.TheVariants as called
 use Rattle.world_model.specs.declared.events.Event.TheVariants.{Call, Tick}
 use Rattle.world_model.specs.declared.events.Outcome.TheVariants.{Answered}
 use Rattle.keyspace.specs.Entries.{objects_in}
 use Rattle.log_record.specs.EventWrites.{asked_writes, call_writes, live_writes}
-use Rattle.deliveries.specs.Addressing.{addressed}
-use Rattle.deliveries.specs.Calls.{due_staged}
-use Rattle.deliveries.specs.Staging.{HaveOwnNumbers, Rise, after_all, all_to, changed_at, frames_to, has_room_for, heard, listens, placed_all, records_len, staged}
-use Rattle.deliveries.specs.Plans.{answered, brought, effect_of_asked, effect_of_read, ended_if, ending, subscribing}
-use Rattle.deliveries.specs.BySession.{by_sessions}
-use Rattle.deliveries.specs.Placing.{each_number, map_none, map_twice, placed_number}
-use Rattle.deliveries.specs.Rising.{rising}
-use Rattle.deliveries.specs.Serving.{found_holds, found_placed, lives_on, takes_all}
-use Rattle.session_mail.specs.Mail.{has_room_left}
-use Rattle.session_mail.specs.Sessions.{State, session_of}
-use Rattle.session_mail.specs.Fans.{ArePlaced, HaveStaged, IsPlaced}
-use Rattle.session_mail.specs.FanLaws.{hall_placed, placed_are}
+use Rattle.delivery_model.specs.Addressing.{addressed}
+use Rattle.delivery_model.specs.Calls.{due_staged}
+use Rattle.delivery_model.specs.Staging.{HaveOwnNumbers, Rise, after_all, all_to, changed_at, frames_to, has_room_for, heard, listens, placed_all, records_len, staged}
+use Rattle.delivery_model.specs.Plans.{answered, brought, effect_of_asked, effect_of_read, ended_if, ending, subscribing}
+use Rattle.delivery_model.specs.BySession.{by_sessions}
+use Rattle.delivery_model.specs.Placing.{each_number, map_none, map_twice, placed_number}
+use Rattle.delivery_model.specs.Rising.{rising}
+use Rattle.delivery_model.specs.Serving.{found_holds, found_placed, lives_on, takes_all}
+use Rattle.session_table.specs.Mail.{has_room_left}
+use Rattle.session_table.specs.Sessions.{State, session_of}
+use Rattle.session_table.specs.Fans.{ArePlaced, HaveStaged, IsPlaced}
+use Rattle.session_table.specs.FanLaws.{hall_placed, placed_are}
 use Rattle.tile_core.specs.declared.dues.Expired.{Expired}
-use Rattle.command_plans.specs.declared.planned.Planned.{Planned}
-use Rattle.command_plans.specs.declared.planned.Planned.TheVariants.{Objects, Channels, Subscribed}
+use Rattle.channel_plans.specs.declared.planned.Planned.{Planned}
+use Rattle.channel_plans.specs.declared.planned.Planned.TheVariants.{Objects, Channels, Subscribed}
 use Rattle.tile_core.specs.declared.stores.Store.{Store}
-use Rattle.command_plans.specs.Moves.{world_of, world_with}
+use Rattle.object_plans.specs.Moves.{world_of, world_with}
 use Rattle.tile_core.specs.Dues.{IsExpired}
-use Rattle.command_plans.specs.Planned.{IsPlanned}
+use Rattle.channel_plans.specs.Planned.{IsPlanned}
 use Rattle.tile_core.specs.Ready.{IsRequestReady, ending_if, planned_length, planned_writes, replied}
 use Rattle.tile_core.specs.Sessions.{is_open, is_full, Rises, AreOthers, IsServed}
 use Rattle.tile_core.specs.Stores.{hall_of, world_at}
@@ -417,7 +417,7 @@ module _ (store : Store) (now logged drawn : ℕ) (sessions : List State) (n mom
         lacks open_ = call_lacks this_hall n moment asked refl unspent (session_of s) (found 0 drawn sessions i n s rises at numbered) lives open_
 
 -- a call that is not served
-pub refused : (store : Store) (now logged drawn : ℕ) (sessions : List State) (n moment : ℕ) (asked : Asked) → logged < most_logged → Rises 0 drawn sessions → (answer : Called) → IsServed sessions n (Err answer)
+pub refused : (store : Store) (now logged drawn : ℕ) (sessions : List State) (n moment : ℕ) (asked : Asked) → logged < most_logged → Rises 0 drawn sessions → (answer : CallOutcome) → IsServed sessions n (Err answer)
     → Step (hall_of store now logged drawn sessions) (Call n moment asked) (Answered answer) (hall_of store now logged drawn sessions)
 refused store now logged drawn sessions n moment asked u r called.Gone e =
     elim e [ inl o ↦ gone store now logged drawn sessions n moment asked u o | inr p ↦ not_served store now logged drawn sessions n moment asked u p.0 p.1.session r p.1.here p.1.numbered p.2 ]

@@ -2,9 +2,9 @@
 use Rattle.std.proofs.Common.{◌≡◌, ℕ, ◌<◌, ◌≤◌, sym, ap, ◌∙◌, List, length, arith}
 use Rattle.std.specs.Prelude.{Some, None, Option, slice_get}
 use Rattle.std.proofs.lemmas.Option.{same_Some}
-use Rattle.session_mail.specs.Sessions.{State}
-use Rattle.session_mail.specs.Fans.{ArePlaced}
-use Rattle.command_plans.specs.declared.planned.Planned.{Planned}
+use Rattle.session_table.specs.Sessions.{State}
+use Rattle.session_table.specs.Fans.{ArePlaced}
+use Rattle.channel_plans.specs.declared.planned.Planned.{Planned}
 use Rattle.tile_core.specs.declared.stores.Store.{Store}
 use Rattle.tile_core.specs.Ready.{CanComplete, IsDoneIf, reply_count}
 use Rattle.tile_core.specs.Stores.{IsStore, world_at}

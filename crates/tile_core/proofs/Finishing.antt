@@ -8,29 +8,30 @@ use Rattle.ordered_lists.specs.Lists.{put_in}
 use Rattle.ordered_lists.specs.Reading.{both_of, got_at, each-filter}
 use Rattle.world_data.specs.Sound.{is_sound_channel}
 use Rattle.world_data.specs.Worlds.{is_sorted_world, are_objects, are_channels, after, channel_before, is_at, is_named}
-use Rattle.fence_model.specs.Writes.{Write, quiet}
+use Rattle.fence_model.specs.Writes.{Write, silent}
 use Rattle.world_model.specs.Effects.{Effect}
 use Rattle.world_data.specs.WorldLaws.{keeps_order}
 use Rattle.world_data.specs.declared.objects.Object.{Object}
 use Rattle.world_data.specs.declared.channels.Channel.{Channel}
 use Rattle.world_data.specs.declared.worlds.World.{World}
 use Rattle.world_data.specs.declared.worlds.Change.TheVariants as change
-use Rattle.session_mail.specs.Sessions.{State}
-use Rattle.session_mail.specs.Fans.{AreBare}
-use Rattle.deliveries.specs.Staging.{after_all}
-use Rattle.command_plans.specs.declared.moves.Move.{Move}
-use Rattle.command_plans.specs.declared.moves.Move.TheVariants.{Stay, Put, Delete, DeleteEach, Leave, Clear}
-use Rattle.command_plans.specs.declared.planned.ChannelMove.{ChannelMove}
-use Rattle.command_plans.specs.declared.planned.ChannelMove.TheVariants.{Set, Drop}
-use Rattle.command_plans.specs.declared.plans.Plan.{Plan}
-use Rattle.record_lengths.specs.Lengths.{HasFewFields}
-use Rattle.command_plans.specs.Moves.{IsAccepted, world_of, world_with, moved, without_each}
+use Rattle.session_table.specs.Sessions.{State}
+use Rattle.session_table.specs.Fans.{AreBare}
+use Rattle.delivery_model.specs.Staging.{after_all}
+use Rattle.object_plans.specs.declared.moves.ObjectChange.{ObjectChange}
+use Rattle.object_plans.specs.declared.moves.ObjectChange.TheVariants.{Stay, Put, Delete, DeleteEach, DropKey, Clear}
+use Rattle.channel_plans.specs.declared.planned.ChannelChange.{ChannelChange}
+use Rattle.channel_plans.specs.declared.planned.ChannelChange.TheVariants.{Set, Drop}
+use Rattle.object_plans.specs.declared.plans.Plan.{Plan}
+use Rattle.record_writer.specs.Lengths.{HasFewFields}
+use Rattle.object_plans.specs.Moves.{IsAccepted, world_of, world_with, moved, without_each}
 use Rattle.tile_core.specs.Sessions.{IsServed}
-use Rattle.command_plans.specs.Plans.{IsPlan, writes_of}
+use Rattle.object_plans.specs.Plans.{IsPlan, writes_of}
 use Rattle.ordered_lists.specs.Ascending.{each-put_in}
-use Rattle.command_plans.specs.Planned.{IsRecordedChannel, IsRecordedMove, IsSoundMove, channel_writes, channels_left, channels_moved, channels_weight, weight_left, without_names}
+use Rattle.channel_plans.specs.Planned.{IsRecordedChannel, IsRecordedMove, IsSoundMove, channel_writes, channels_moved, without_names}
+use Rattle.object_plans.specs.Beside.{channels_left, channels_weight, weight_left}
 use Rattle.tile_core.specs.Staged.{dels_of}
-use Rattle.command_plans.specs.Kept.{AreKept, most_kept}
+use Rattle.object_plans.specs.Kept.{AreKept, most_kept}
 use Rattle.tile_core.specs.Stores.{ArePresent}
 use Rattle.tile_core.specs.Dues.{IsTaken}
 use Rattle.tile_core.proofs.Moving.{all_moved}
@@ -57,19 +58,19 @@ each_done : (cs : List Channel) (key : Bytes) (ids : List Bytes) (xs : List Obje
 each_done cs key [] xs = refl
 each_done cs key (id ∷ ids) xs = each_done cs key ids (filter (λ o. not (is_at key id o)) xs)
 
-pub move_done : (cs : List Channel) (xs : List Object) (action : Move) (is_loud : Bool) → after_all (world_with cs xs) (writes_of action is_loud) ≡ world_with (channels_left action cs) (moved xs action)
+pub move_done : (cs : List Channel) (xs : List Object) (action : ObjectChange) (is_loud : Bool) → after_all (world_with cs xs) (writes_of action is_loud) ≡ world_with (channels_left action cs) (moved xs action)
 move_done cs xs Stay is_loud = refl
 move_done cs xs (Put o) is_loud = refl
 move_done cs xs (Delete key id) is_loud = refl
 move_done cs xs (DeleteEach key ids) is_loud = each_done cs key ids xs
-move_done cs xs (Leave key) is_loud = refl
+move_done cs xs (DropKey key) is_loud = refl
 move_done cs xs Clear is_loud = refl
 
-names_done : (xs : List Object) (names : List Bytes) (cs : List Channel) → after_all (world_with cs xs) (map (λ n. quiet (change.DelChan n)) names) ≡ world_with (without_names names cs) xs
+names_done : (xs : List Object) (names : List Bytes) (cs : List Channel) → after_all (world_with cs xs) (map (λ n. silent (change.DelChan n)) names) ≡ world_with (without_names names cs) xs
 names_done xs [] cs = refl
 names_done xs (name ∷ names) cs = names_done xs names (filter (λ c. not (is_named name c)) cs)
 
-pub channels_done : (cs : List Channel) (xs : List Object) (action : ChannelMove) → after_all (world_with cs xs) (channel_writes action) ≡ world_with (channels_moved action cs) xs
+pub channels_done : (cs : List Channel) (xs : List Object) (action : ChannelChange) → after_all (world_with cs xs) (channel_writes action) ≡ world_with (channels_moved action cs) xs
 channels_done cs xs (Set c) = refl
 channels_done cs xs (Drop names) = names_done xs names cs
 
@@ -88,8 +89,8 @@ name_out names i name cs ds at is =
 pub kept_after : (objects : List Object) (total : ℕ) → AreKept objects total → (e : Effect) (p : Plan) → IsPlan objects e p → AreKept (moved objects p.action) p.weight
 kept_after objects total kept e p is = record {
   sorted =
-      let all = sorted_all (world_of objects) (writes_of p.action p.loud) (both (are_objects objects) kept.sorted) in
-      let left = subst (λ (w : World). is_sorted_world w ≡ true) (move_done [] objects p.action p.loud) all in
+      let all = sorted_all (world_of objects) (writes_of p.action p.announced) (both (are_objects objects) kept.sorted) in
+      let left = subst (λ (w : World). is_sorted_world w ≡ true) (move_done [] objects p.action p.announced) all in
       (both_of (are_objects (moved objects p.action)) (are_channels (channels_left p.action [])) left).0;
   accepted = all_moved IsAccepted objects p.action is.accepted kept.accepted;
   few = all_moved HasFewFields objects p.action is.few kept.few;
@@ -127,16 +128,16 @@ sound_without : (names : List Bytes) (cs : List Channel) → list_all is_sound_c
 sound_without [] cs all = all
 sound_without (name ∷ names) cs all = sound_without names (filter (λ c. not (is_named name c)) cs) (sound_filter (λ c. not (is_named name c)) cs all)
 
-pub sound_moved : (action : ChannelMove) (cs : List Channel) → IsSoundMove action → list_all is_sound_channel cs ≡ true → list_all is_sound_channel (channels_moved action cs) ≡ true
+pub sound_moved : (action : ChannelChange) (cs : List Channel) → IsSoundMove action → list_all is_sound_channel cs ≡ true → list_all is_sound_channel (channels_moved action cs) ≡ true
 sound_moved (Set c) cs s all = sound_put c cs s all
 sound_moved (Drop names) cs s all = sound_without names cs all
 
-pub sound_left : (action : Move) (cs : List Channel) → list_all is_sound_channel cs ≡ true → list_all is_sound_channel (channels_left action cs) ≡ true
+pub sound_left : (action : ObjectChange) (cs : List Channel) → list_all is_sound_channel cs ≡ true → list_all is_sound_channel (channels_left action cs) ≡ true
 sound_left Stay cs all = all
 sound_left (Put o) cs all = all
 sound_left (Delete key id) cs all = all
 sound_left (DeleteEach key ids) cs all = all
-sound_left (Leave key) cs all = all
+sound_left (DropKey key) cs all = all
 sound_left Clear cs all = refl
 
 -- and recorded ones recorded
@@ -146,24 +147,24 @@ recorded_without [] cs all = all
 recorded_without (name ∷ names) cs all =
     recorded_without names (filter (λ c. not (is_named name c)) cs) (each-filter IsRecordedChannel (λ c. not (is_named name c)) cs all)
 
-pub recorded_moved : (action : ChannelMove) (cs : List Channel) → IsRecordedMove action → AllByRecursion IsRecordedChannel cs → AllByRecursion IsRecordedChannel (channels_moved action cs)
+pub recorded_moved : (action : ChannelChange) (cs : List Channel) → IsRecordedMove action → AllByRecursion IsRecordedChannel cs → AllByRecursion IsRecordedChannel (channels_moved action cs)
 recorded_moved (Set c) cs r all = each-put_in IsRecordedChannel channel_before c cs r all
 recorded_moved (Drop names) cs r all = recorded_without names cs all
 
-pub recorded_left : (action : Move) (cs : List Channel) → AllByRecursion IsRecordedChannel cs → AllByRecursion IsRecordedChannel (channels_left action cs)
+pub recorded_left : (action : ObjectChange) (cs : List Channel) → AllByRecursion IsRecordedChannel cs → AllByRecursion IsRecordedChannel (channels_left action cs)
 recorded_left Stay cs all = all
 recorded_left (Put o) cs all = all
 recorded_left (Delete key id) cs all = all
 recorded_left (DeleteEach key ids) cs all = all
-recorded_left (Leave key) cs all = all
+recorded_left (DropKey key) cs all = all
 recorded_left Clear cs all = tt
 
-pub weighed_left : (action : Move) (n : ℕ) (cs : List Channel) → n ≡ channels_weight cs → weight_left action n ≡ channels_weight (channels_left action cs)
+pub weighed_left : (action : ObjectChange) (n : ℕ) (cs : List Channel) → n ≡ channels_weight cs → weight_left action n ≡ channels_weight (channels_left action cs)
 weighed_left Stay n cs e = e
 weighed_left (Put o) n cs e = e
 weighed_left (Delete key id) n cs e = e
 weighed_left (DeleteEach key ids) n cs e = e
-weighed_left (Leave key) n cs e = e
+weighed_left (DropKey key) n cs e = e
 weighed_left Clear n cs e = refl
 
 -- nothing is staged after one session is changed, or taken out

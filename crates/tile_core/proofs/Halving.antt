@@ -6,7 +6,7 @@ use Rattle.std.proofs.lemmas.Bool.Decides.{nat_tests}
 use Rattle.std.proofs.lemmas.Option.{slice_get_within}
 use Rattle.std.specs.List.Sorted.{IsPartitionedBy}
 use Rattle.ordered_lists.specs.Reading.{all_at, all_get, got_at}
-use Rattle.session_mail.specs.Sessions.{State}
+use Rattle.session_table.specs.Sessions.{State}
 use Rattle.tile_core.specs.Sessions.{Rises, number_before, are_rising}
 
 first_of : (x : State) (xs : List State) → are_rising (x ∷ xs) ≡ true → list_all (number_before x) xs ≡ true

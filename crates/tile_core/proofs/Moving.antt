@@ -5,9 +5,9 @@ use Rattle.std.specs.List.{AllByRecursion}
 use Rattle.byte_text.specs.Names.{Bytes}
 use Rattle.world_data.specs.Worlds.{object_before, has_key, is_at}
 use Rattle.world_data.specs.declared.objects.Object.{Object}
-use Rattle.command_plans.specs.declared.moves.Move.{Move}
-use Rattle.command_plans.specs.declared.moves.Move.TheVariants.{Stay, Put, Delete, DeleteEach, Leave, Clear}
-use Rattle.command_plans.specs.Moves.{moved, without_each, HoldsOfPut}
+use Rattle.object_plans.specs.declared.moves.ObjectChange.{ObjectChange}
+use Rattle.object_plans.specs.declared.moves.ObjectChange.TheVariants.{Stay, Put, Delete, DeleteEach, DropKey, Clear}
+use Rattle.object_plans.specs.Moves.{moved, without_each, HoldsOfPut}
 use Rattle.tile_core.specs.Dues.{IsDueFrom, AreDueFrom}
 use Rattle.ordered_lists.specs.Reading.{each-filter}
 use Rattle.ordered_lists.specs.Ascending.{each-put_in}
@@ -28,12 +28,12 @@ module _ (P : Object → Type 0) where
   all_without key [] xs ps = ps
   all_without key (id ∷ ids) xs ps = all_without key ids (filter (λ o. not (is_at key id o)) xs) (each-filter P (λ o. not (is_at key id o)) xs ps)
 
-  pub all_moved : (xs : List Object) (action : Move) → HoldsOfPut P action → AllByRecursion P xs → AllByRecursion P (moved xs action)
+  pub all_moved : (xs : List Object) (action : ObjectChange) → HoldsOfPut P action → AllByRecursion P xs → AllByRecursion P (moved xs action)
   all_moved xs Stay h ps = ps
   all_moved xs (Put o) h ps = each-put_in P object_before o xs h ps
   all_moved xs (Delete key id) h ps = each-filter P (λ o. not (is_at key id o)) xs ps
   all_moved xs (DeleteEach key ids) h ps = all_without key ids xs ps
-  all_moved xs (Leave key) h ps = each-filter P (λ o. not (has_key key o)) xs ps
+  all_moved xs (DropKey key) h ps = each-filter P (λ o. not (has_key key o)) xs ps
   all_moved xs Clear h ps = tt
 
 -- what is due from a moment on is not due before an earlier one
@@ -41,5 +41,5 @@ due_earlier : (due_from less : ℕ) → less ≤ due_from → (xs : List Object)
 due_earlier due_from less le [] ps = tt
 due_earlier due_from less le (x ∷ xs) ps = (λ d e. let far = ps.0 d e in omega (arith, le, far), due_earlier due_from less le xs ps.1)
 
-pub due_from_moved : (due_from less : ℕ) (xs : List Object) (action : Move) → less ≤ due_from → HoldsOfPut (IsDueFrom less) action → AreDueFrom due_from xs → AreDueFrom less (moved xs action)
+pub due_from_moved : (due_from less : ℕ) (xs : List Object) (action : ObjectChange) → less ≤ due_from → HoldsOfPut (IsDueFrom less) action → AreDueFrom due_from xs → AreDueFrom less (moved xs action)
 due_from_moved due_from less xs action le h ps = all_moved (IsDueFrom less) xs action h (due_earlier due_from less le xs ps)

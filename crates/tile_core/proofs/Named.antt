@@ -3,7 +3,7 @@ use Rattle.std.proofs.Common.{◌≡◌, ℕ, List, map, sym, ap, ◌∙◌, sub
 use Rattle.world_data.specs.declared.worlds.World.{World}
 use Rattle.world_model.specs.Halls as halls
 use Rattle.world_model.specs.Halls.{Hall, NamesChanged}
-use Rattle.session_mail.specs.Sessions.{State, session_of}
+use Rattle.session_table.specs.Sessions.{State, session_of}
 use Rattle.tile_core.specs.declared.stores.Store.{Store}
 use Rattle.tile_core.specs.Stores.{hall_of, world_at}
 use Rattle.tile_core.specs.Answered.{AreSessions}

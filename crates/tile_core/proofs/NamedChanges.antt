@@ -5,9 +5,9 @@ use Rattle.std.proofs.lemmas.Bool.Decides.{nat_tests}
 use Rattle.std.proofs.lemmas.Option.{same_Some}
 use Rattle.world_model.specs.Halls as halls
 use Rattle.world_model.specs.Halls.{placed_each}
-use Rattle.deliveries.specs.Placing.{each_number}
-use Rattle.session_mail.specs.Fans.{ArePlaced}
-use Rattle.session_mail.specs.Sessions.{State, session_of}
+use Rattle.delivery_model.specs.Placing.{each_number}
+use Rattle.session_table.specs.Fans.{ArePlaced}
+use Rattle.session_table.specs.Sessions.{State, session_of}
 use Rattle.tile_core.specs.Answered.{is_named, AreNamed, AreRoomy, StayNamed}
 
 -- one more is named
@@ -143,11 +143,11 @@ unnamed_same named (s ∷ old) (t ∷ new) k p all e = by (s.number == k) refl (
     by true q ih =
         let there : (t.number == k) ≡ true = ap (λ (n : ℕ). n == k) number ∙ q in
         let is : s.number ≡ k = grind (arith, nat_tests) in
-        rw (q, there) (ap (λ (h : halls.Session). Some h) (p.0.same ∙ ap (placed_each (session_of s)) (quiet is all.0)))
+        rw (q, there) (ap (λ (h : halls.Session). Some h) (p.0.same ∙ ap (placed_each (session_of s)) (silent is all.0)))
       where
-        quiet : s.number ≡ k → (s.mail.staged ≡ []) ⊎ (is_named named s.number ≡ true) → s.mail.staged ≡ []
-        quiet is (inl none) = none
-        quiet is (inr told) = absurd (true≢false (sym told ∙ ap (is_named named) is ∙ e))
+        silent : s.number ≡ k → (s.mail.staged ≡ []) ⊎ (is_named named s.number ≡ true) → s.mail.staged ≡ []
+        silent is (inl none) = none
+        silent is (inr told) = absurd (true≢false (sym told ∙ ap (is_named named) is ∙ e))
     by false q ih =
         let there : (t.number == k) ≡ false = ap (λ (n : ℕ). n == k) number ∙ q in
         rw (q, there) ih

@@ -3,7 +3,7 @@ use Rattle.std.proofs.Common.{◌≡◌, Bool, sym, List}
 use Rattle.std.specs.Prelude.{IfSome, Option, Some, None, find, option_map}
 use Rattle.std.specs.Borrow.{Bor}
 use Rattle.std.specs.List.{AllByRecursion}
-use Rattle.stored_world.specs.ListLaws.{found_holds}
+use Rattle.world_store.specs.ListLaws.{found_holds}
 
 pub found_if : {A : Type 0} (P : A → Type 0) (test : A → Bool) (xs : List A) (r : Option (Bor A)) → option_map (λ (b : Bor A). b.now) r ≡ find test xs → AllByRecursion P xs → IfSome r (λ b. P b.now)
 found_if P test xs None e ps = tt

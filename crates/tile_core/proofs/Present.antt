@@ -3,7 +3,7 @@ use Rattle.std.proofs.Common.{◌≡◌, ◌≢◌, ℕ, zero, suc, ◌+◌, ◌
 use Rattle.std.specs.Prelude.{Some, None, map, find, filter, not, slice_get, slice_set, remove, if◌then◌else◌}
 use Rattle.std.proofs.lemmas.Bool.Decides.{nat_tests}
 use Rattle.world_model.specs.Halls as halls
-use Rattle.session_mail.specs.Sessions.{State, session_of}
+use Rattle.session_table.specs.Sessions.{State, session_of}
 use Rattle.tile_core.specs.Sessions.{Rises, AreOthers}
 
 is_it : (n : ℕ) (s : State) → s.number ≡ n → halls.is_session n (session_of s) ≡ true

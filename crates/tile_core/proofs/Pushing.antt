@@ -3,15 +3,15 @@ use Rattle.std.proofs.Common.{◌≡◌, ℕ, ◌+◌, refl, sym, ap, ◌∙◌,
 use Rattle.std.specs.Prelude.{Some, slice_get}
 use Rattle.std.specs.List.{AllByRecursion}
 use Rattle.byte_text.specs.Names.{Bytes}
-use Rattle.world_data.specs.Records.{record_text}
+use Rattle.world_data.specs.Records.{record_writer}
 use Rattle.fence_model.specs.Writes.{Write}
 use Rattle.world_model.specs.Halls.{Hall}
 use Rattle.world_model.specs.declared.events.Event.{Event}
 use Rattle.log_record.specs.Batches.{records_text}
 use Rattle.log_record.specs.EventWrites.{changes_of, writes_of}
 use Rattle.log_record.specs.Words.{IsRecorded}
-use Rattle.record_lengths.specs.ObjectSums.{take_more}
-use Rattle.tile_core.specs.Ledgers.{ArePushed, AreTaken, IsRecordedBy}
+use Rattle.record_writer.specs.ObjectSums.{take_more}
+use Rattle.tile_core.specs.RecordSinks.{ArePushed, AreTaken, IsRecordedBy}
 
 all_behind : (one other : List Write) → AllByRecursion IsRecorded (changes_of one) → AllByRecursion IsRecorded (changes_of other) → AllByRecursion IsRecorded (changes_of (one ++ other))
 all_behind [] other a b = b
@@ -19,13 +19,13 @@ all_behind (d ∷ one) other a b = (a.0, all_behind one other a.1 b)
 
 text_behind : (one other : List Write) → records_text (changes_of (one ++ other)) ≡ records_text (changes_of one) ++ records_text (changes_of other)
 text_behind [] other = refl
-text_behind (d ∷ one) other = ap (λ (rest : Bytes). record_text d.change ++ rest) (text_behind one other) ∙ sym (append_assoc (record_text d.change) (records_text (changes_of one)) (records_text (changes_of other)))
+text_behind (d ∷ one) other = ap (λ (rest : Bytes). record_writer d.change ++ rest) (text_behind one other) ∙ sym (append_assoc (record_writer d.change) (records_text (changes_of one)) (records_text (changes_of other)))
 
 pub pushed_none : (text : Bytes) → ArePushed [] text text
 pushed_none text = record { text = sym (append-nil text); recorded = tt }
 
-pub pushed_one : (d : Write) (old new : Bytes) → new ≡ old ++ record_text d.change → IsRecorded d.change → ArePushed (d ∷ []) old new
-pushed_one d old new is recorded = record { text = is ∙ ap (λ (rest : Bytes). old ++ rest) (sym (append-nil (record_text d.change))); recorded = (recorded, tt) }
+pub pushed_one : (d : Write) (old new : Bytes) → new ≡ old ++ record_writer d.change → IsRecorded d.change → ArePushed (d ∷ []) old new
+pushed_one d old new is recorded = record { text = is ∙ ap (λ (rest : Bytes). old ++ rest) (sym (append-nil (record_writer d.change))); recorded = (recorded, tt) }
 
 pub pushed_then : (one other : List Write) (old mid new : Bytes) → ArePushed one old mid → ArePushed other mid new → ArePushed (one ++ other) old new
 pushed_then one other old mid new first second = record {

@@ -18,22 +18,23 @@ use Rattle.world_model.specs.declared.events.Asked.{Asked}
 use Rattle.world_model.specs.Subscriptions.{Sub}
 use Rattle.keyspace.specs.Entries.{Entry, objects_in, room_for}
 use Rattle.channel_hub.specs.Hubs.{Held}
-use Rattle.deliveries.specs.Staging.{Suffice, after_all, has_room_for, have_room, heard, listens}
-use Rattle.deliveries.specs.Plans.{effect_of_asked}
-use Rattle.session_mail.specs.Mail.{has_room_left}
-use Rattle.session_mail.specs.Sessions.{State, session_of}
-use Rattle.session_mail.specs.Fans.{AreBare, HaveStaged}
-use Rattle.session_mail.specs.FanLaws.{bare_staged}
+use Rattle.delivery_model.specs.Staging.{Suffice, after_all, has_room_for, have_room, heard, listens}
+use Rattle.delivery_model.specs.Plans.{effect_of_asked}
+use Rattle.session_table.specs.Mail.{has_room_left}
+use Rattle.session_table.specs.Sessions.{State, session_of}
+use Rattle.session_table.specs.Fans.{AreBare, HaveStaged}
+use Rattle.session_table.specs.FanLaws.{bare_staged}
 use Rattle.tile_core.specs.declared.dues.Expired.{Expired}
-use Rattle.command_plans.specs.declared.planned.Planned.{Planned}
-use Rattle.command_plans.specs.declared.planned.Planned.TheVariants.{Objects, Channels, Subscribed}
+use Rattle.channel_plans.specs.declared.planned.Planned.{Planned}
+use Rattle.channel_plans.specs.declared.planned.Planned.TheVariants.{Objects, Channels, Subscribed}
 use Rattle.tile_core.specs.declared.stores.Store.{Store}
-use Rattle.command_plans.specs.Kept.{AreKept}
+use Rattle.object_plans.specs.Kept.{AreKept}
 use Rattle.tile_core.specs.Dues.{AllStand, AreDueFrom, IsExpired, with_back}
-use Rattle.tile_core.specs.Ledgers.{CanRecord, CanRecordIf}
-use Rattle.command_plans.specs.Moves.{world_of, world_with}
+use Rattle.tile_core.specs.RecordSinks.{CanRecord, CanRecordIf}
+use Rattle.object_plans.specs.Moves.{world_of, world_with}
 use Rattle.world_data.specs.Sound.{is_sound_channel}
-use Rattle.command_plans.specs.Planned.{IsPlanned, IsRecordedChannel, channels_weight}
+use Rattle.channel_plans.specs.Planned.{IsPlanned, IsRecordedChannel}
+use Rattle.object_plans.specs.Beside.{channels_weight}
 use Rattle.tile_core.specs.Ready.{IsAsBefore, IsRoomier, IsDueTaken, IsReady, IsRestBehind, IsRestReady, IsUndone}
 use Rattle.tile_core.specs.Staged.{StagesBehind}
 use Rattle.tile_core.specs.Stores.{IsStore, world_at}

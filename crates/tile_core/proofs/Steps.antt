@@ -8,7 +8,7 @@ use Rattle.world_model.specs.Halls.{Hall, Session, live, is_live, session_of, ch
 use Rattle.world_data.specs.Frames.{frame_bytes}
 use Rattle.world_model.specs.Histories.{Step}
 use Rattle.world_model.specs.declared.events.Asked.{Asked}
-use Rattle.world_model.specs.declared.events.Called.TheVariants as called
+use Rattle.world_model.specs.declared.events.CallOutcome.TheVariants as called
 use Rattle.world_model.specs.declared.events.Event.TheVariants.{Enter, Call, Take, Tick, Close, Remove}
 use Rattle.world_model.specs.declared.events.Outcome.TheVariants.{Done, TooMany, Entered, Answered, Given, Empty, Ended}
 

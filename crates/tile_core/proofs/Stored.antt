@@ -10,17 +10,17 @@ use Rattle.world_data.specs.declared.objects.Object.{Object}
 use Rattle.world_data.specs.declared.worlds.World.{World}
 use Rattle.collection.specs.Objects.{least_due}
 use Rattle.keyspace.specs.Entries.{objects_in}
-use Rattle.record_lengths.specs.Lengths.{HaveFewFields, len_of, len_of_channel}
-use Rattle.stored_world.specs.Stored.{world_of}
-use Rattle.stored_world.specs.declared.stored_worlds.StoreParts.{StoreParts}
-use Rattle.command_plans.specs.Kept.{most_kept}
+use Rattle.record_writer.specs.Lengths.{HaveFewFields, len_of, len_of_channel}
+use Rattle.world_store.specs.Stored.{world_of}
+use Rattle.world_store.specs.declared.stored_worlds.StoreParts.{StoreParts}
+use Rattle.object_plans.specs.Kept.{most_kept}
 use Rattle.tile_core.specs.Dues.{AreDueFrom}
-use Rattle.command_plans.specs.Moves.{IsAccepted}
-use Rattle.command_plans.specs.Planned.{IsRecordedChannel}
+use Rattle.object_plans.specs.Moves.{IsAccepted}
+use Rattle.channel_plans.specs.Planned.{IsRecordedChannel}
 use Rattle.tile_core.specs.Stores.{IsStore}
 use Rattle.tile_core.specs.declared.stores.Store.{Store}
 use Rattle.tile_core.proofs.Soonest.{are_due_from}
-use Rattle.command_plans.specs.Weights.{weight_sum}
+use Rattle.object_plans.specs.Weights.{weight_sum}
 
 are_accepted : (xs : List Object) → AllByRecursion IsSoundObject xs → AllByRecursion IsAccepted xs
 are_accepted [] all = tt

@@ -16,16 +16,16 @@ use Rattle.world_data.specs.declared.objects.Object.{Object}
 use Rattle.world_data.specs.declared.worlds.World.{World}
 use Rattle.world_data.specs.declared.worlds.Change.TheVariants as change
 use Rattle.keyspace.specs.Entries.{Entry, objects_in, room_for, has_room}
-use Rattle.command_plans.specs.Kept.{AreKept}
-use Rattle.command_plans.specs.Moves.{IsAccepted, world_of}
-use Rattle.record_lengths.specs.Lengths.{len_of, HasFewFields}
-use Rattle.deliveries.specs.Staging.{after_all, records_len}
+use Rattle.object_plans.specs.Kept.{AreKept}
+use Rattle.object_plans.specs.Moves.{IsAccepted, world_of}
+use Rattle.record_writer.specs.Lengths.{len_of, HasFewFields}
+use Rattle.delivery_model.specs.Staging.{after_all, records_len}
 use Rattle.tile_core.specs.Dues.{AllStand, AreDueFrom, IsTaken, IsTakenOut, HaveRoom, with_back}
 use Rattle.ordered_lists.specs.Reading.{each-filter}
-use Rattle.record_lengths.specs.LengthLaws.{del_short, put_sum}
-use Rattle.command_plans.specs.Standing.{back_there, found_holds, found_sum, shorter}
-use Rattle.command_plans.specs.Weights.{weight_sum}
-use Rattle.record_lengths.specs.ObjectSums.{taken_sum}
+use Rattle.record_writer.specs.LengthLaws.{del_short, put_sum}
+use Rattle.object_plans.specs.Standing.{back_there, found_holds, found_sum, shorter}
+use Rattle.object_plans.specs.Weights.{weight_sum}
+use Rattle.record_writer.specs.ObjectSums.{taken_sum}
 
 -- each record has 17 bytes at least, since it has five words
 pub as_heavy : (xs : List Object) → 17 * length xs ≤ weight (world_of xs)

@@ -7,8 +7,8 @@ use Rattle.world_model.specs.Halls as halls
 use Rattle.world_model.specs.Histories.{Step}
 use Rattle.world_model.specs.declared.events.Event.TheVariants.{Take, Close, Remove}
 use Rattle.world_model.specs.declared.events.Outcome.TheVariants.{Done, Given, Empty, Ended}
-use Rattle.deliveries.specs.Plans.{ending}
-use Rattle.session_mail.specs.Sessions.{State, session_of}
+use Rattle.delivery_model.specs.Plans.{ending}
+use Rattle.session_table.specs.Sessions.{State, session_of}
 use Rattle.tile_core.specs.declared.stores.Store.{Store}
 use Rattle.tile_core.specs.Sessions.{is_open, Rises, AreOthers}
 use Rattle.tile_core.specs.Stores.{hall_of, world_at}

@@ -6,18 +6,18 @@ use Rattle.world_data.specs.declared.worlds.World.{World}
 use Rattle.fence_model.specs.Writes.{dels}
 use Rattle.world_model.specs.Halls.{Hall, NamesChanged}
 use Rattle.world_model.specs.Histories.{Step}
-use Rattle.world_model.specs.declared.events.Called.TheVariants as called
+use Rattle.world_model.specs.declared.events.CallOutcome.TheVariants as called
 use Rattle.world_model.specs.declared.events.Event.TheVariants.{Tick}
 use Rattle.world_model.specs.declared.events.Outcome.TheVariants.{Answered}
 use Rattle.log_record.specs.EventWrites.{writes_of}
 use Rattle.keyspace.specs.Entries.{objects_in}
-use Rattle.session_mail.specs.Sessions.{State, session_of}
-use Rattle.session_mail.specs.Fans.{ArePlaced}
-use Rattle.command_plans.specs.Kept.{most_kept}
+use Rattle.session_table.specs.Sessions.{State, session_of}
+use Rattle.session_table.specs.Fans.{ArePlaced}
+use Rattle.object_plans.specs.Kept.{most_kept}
 use Rattle.tile_core.specs.declared.dues.Expired.{Expired}
 use Rattle.tile_core.specs.declared.stores.Store.{Store}
 use Rattle.tile_core.specs.Answered.{AreNamed, AreRoomy, AreSessions, is_named}
-use Rattle.command_plans.specs.Moves.{world_with}
+use Rattle.object_plans.specs.Moves.{world_with}
 use Rattle.tile_core.specs.Ready.{IsDueTaken}
 use Rattle.tile_core.specs.Stores.{ArePresent, IsSound, IsStore, hall_of, world_at}
 use Rattle.tile_core.proofs.Called.{all_bare, numbers_placed}

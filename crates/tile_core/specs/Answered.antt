@@ -5,8 +5,8 @@ use Rattle.byte_text.specs.Replies.{frame_text}
 use Rattle.world_model.specs.Halls.{Hall, Session, due, session_of}
 use Rattle.world_model.specs.Histories.{is_spent, gone, full, ended, idle}
 use Rattle.world_model.specs.declared.events.Asked.{Asked}
-use Rattle.deliveries.specs.Plans.{IsReplied, effect_of_asked}
-use Rattle.session_mail.specs.Sessions as mail
+use Rattle.delivery_model.specs.Plans.{IsReplied, effect_of_asked}
+use Rattle.session_table.specs.Sessions as mail
 
 -- the session is served and not full, and the log is not at its greatest length
 abbrev pub MayCall : Hall → ℕ → Type 0
@@ -19,7 +19,8 @@ MayTake h n = (ended (session_of h n) ≡ false) × (idle (session_of h n) ≡ f
 -- a session without subscriptions is not cut by its own call, and has the frames of the reply last in its queue
 abbrev pub IsAnswered : Hall → Hall → ℕ → ℕ → Asked → Type 0
 IsAnswered old new moment n asked = (s : Session) → session_of old n ≡ Some s → s.subs ≡ []
-    → IsReplied (session_of old n) (session_of new n) (map frame_text (effect_of_asked (due old moment).world (max old.now moment) s.subs asked).replies)
+    → IsReplied (session_of old n) (session_of new n)
+    (map frame_text (effect_of_asked (due old moment).world (max old.now moment) s.subs asked).replies)
 
 abbrev pub is_named : List ℕ → ℕ → Bool
 is_named named n = list_any (λ m. m == n) named

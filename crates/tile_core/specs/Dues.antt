@@ -12,9 +12,9 @@ use Rattle.world_data.specs.declared.worlds.Change.TheVariants as change
 use Rattle.world_data.specs.declared.worlds.World.{World}
 use Rattle.keyspace.specs.Entries.{Entry, room_for}
 use Rattle.tile_core.specs.declared.dues.Expired.{Expired}
-use Rattle.command_plans.specs.Moves.{IsAccepted, world_of}
-use Rattle.record_lengths.specs.Lengths.{HaveFewFields}
-use Rattle.deliveries.specs.Staging.{after_all, records_len}
+use Rattle.object_plans.specs.Moves.{IsAccepted, world_of}
+use Rattle.record_writer.specs.Lengths.{HaveFewFields}
+use Rattle.delivery_model.specs.Staging.{after_all, records_len}
 
 -- no deadline comes before this moment
 abbrev pub IsDueFrom : ℕ → Object → Type 0
@@ -37,7 +37,8 @@ abbrev pub AllStand : World → List Object → Type 0
 AllStand w [] = Unit {0}
 AllStand w (o ∷ held) = (object_at w o.key o.id ≡ Some o) × AllStand (after w (change.Del o.key o.id)) held
 
--- these were taken out of objects of this weight in the order in which they expire, with dels whose records have this length, and this is left of them
+-- these were taken out of objects of this weight in the order in which they expire, with dels whose records have this length, and this is left of
+-- them
 pub record IsTaken (old : List Object) (now total : ℕ) (objects held : List Object) (len rest : ℕ) : Type 0 where
   pub back : with_back objects held ≡ old
   pub order : held ++ sorted_by due_before (filter (is_due now) objects) ≡ sorted_by due_before (filter (is_due now) old)

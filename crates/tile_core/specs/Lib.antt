@@ -4,6 +4,6 @@ pub mod CoreStates
 pub mod Stores
 pub mod Staged
 pub mod Ready
-pub mod Ledgers
+pub mod RecordSinks
 pub mod Answered
 pub mod Subscribers

@@ -10,34 +10,34 @@ use Rattle.keyspace.specs.Entries.{objects_in, room_for}
 use Rattle.channel_hub.specs.Hubs.{Held, IsPrepared}
 use Rattle.world_model.specs.Effects.{Effect}
 use Rattle.world_model.specs.Subscriptions.{Sub}
-use Rattle.deliveries.specs.Staging.{after_all, has_room_for, heard, listens}
-use Rattle.deliveries.specs.Plans.{effect_of_asked, ending}
-use Rattle.session_mail.specs.Mail.{has_room_left}
-use Rattle.session_mail.specs.Sessions.{AreSoundSubs, State, session_of}
-use Rattle.session_mail.specs.Fans.{ArePlaced, HaveStaged}
+use Rattle.delivery_model.specs.Staging.{after_all, has_room_for, heard, listens}
+use Rattle.delivery_model.specs.Plans.{effect_of_asked, ending}
+use Rattle.session_table.specs.Mail.{has_room_left}
+use Rattle.session_table.specs.Sessions.{AreSoundSubs, State, session_of}
+use Rattle.session_table.specs.Fans.{ArePlaced, HaveStaged}
 use Rattle.tile_core.specs.declared.dues.Expired.{Expired}
-use Rattle.command_plans.specs.declared.moves.Move.{Move}
-use Rattle.command_plans.specs.declared.planned.ChannelMove.{ChannelMove}
-use Rattle.command_plans.specs.declared.planned.ChannelMove.TheVariants.{Set, Drop}
-use Rattle.command_plans.specs.declared.planned.Planned.{Planned}
-use Rattle.command_plans.specs.declared.planned.Planned.TheVariants.{Objects, Channels, Subscribed}
+use Rattle.object_plans.specs.declared.moves.ObjectChange.{ObjectChange}
+use Rattle.channel_plans.specs.declared.planned.ChannelChange.{ChannelChange}
+use Rattle.channel_plans.specs.declared.planned.ChannelChange.TheVariants.{Set, Drop}
+use Rattle.channel_plans.specs.declared.planned.Planned.{Planned}
+use Rattle.channel_plans.specs.declared.planned.Planned.TheVariants.{Objects, Channels, Subscribed}
 use Rattle.tile_core.specs.declared.ready.Ready.{Ready}
 use Rattle.tile_core.specs.declared.stores.Store.{Store}
 use Rattle.tile_core.specs.Dues.{IsExpired, with_back}
-use Rattle.command_plans.specs.Moves.{HasRoom}
-use Rattle.command_plans.specs.Planned.{IsPlanned, channel_writes}
-use Rattle.command_plans.specs.Plans.{writes_of}
+use Rattle.object_plans.specs.Moves.{HasRoom}
+use Rattle.channel_plans.specs.Planned.{IsPlanned, channel_writes}
+use Rattle.object_plans.specs.Plans.{writes_of}
 use Rattle.tile_core.specs.Staged.{StagesBehind}
 use Rattle.tile_core.specs.Stores.{IsStore, world_at}
 
 -- the writes that a request will do
 abbrev pub planned_writes : Planned → List Write
-planned_writes (Objects p) = writes_of p.action p.loud
+planned_writes (Objects p) = writes_of p.action p.announced
 planned_writes (Channels p) = channel_writes p.action
 planned_writes (Subscribed p) = []
 
 -- it holds of what is done to the objects
-abbrev pub HoldsOfObjects : (Move → Type 0) → Planned → Type 0
+abbrev pub HoldsOfObjects : (ObjectChange → Type 0) → Planned → Type 0
 HoldsOfObjects P (Objects p) = P p.action
 HoldsOfObjects P (Channels p) = Unit {0}
 HoldsOfObjects P (Subscribed p) = Unit {0}
@@ -55,7 +55,7 @@ reply_count (Channels p) = 1
 reply_count (Subscribed p) = length p.frames.items
 
 -- what is put among the channels is prepared there
-abbrev pub IsPreparedFor : Held → ChannelMove → Type 0
+abbrev pub IsPreparedFor : Held → ChannelChange → Type 0
 IsPreparedFor hub (Set c) = IsPrepared hub c
 IsPreparedFor hub (Drop names) = Unit {0}
 
@@ -94,7 +94,8 @@ pub record IsDueTaken (old : Store) (now : ℕ) (store : Store) (gone : Expired)
 
 -- what a request will do is planned for the session at a place, what it brings is staged, and there is room for all of it
 pub record IsPlannedBehind (before : Store) (now : ℕ) (asked : Asked) (at : ℕ) (store : Store) (old new : List State) (p : Planned) : Type 0 where
-  pub plan : (s : State) → slice_get old at ≡ Some s → IsPlanned (world_at before) before.weight s.subs (effect_of_asked (world_at before) now s.subs asked) p
+  pub plan : (s : State) → slice_get old at ≡ Some s
+      → IsPlanned (world_at before) before.weight s.subs (effect_of_asked (world_at before) now s.subs asked) p
   pub staged : StagesBehind (world_at before) (planned_writes p) old new
   pub room : HasRoomFor store p
   pub spare : (s : State) → slice_get new at ≡ Some s → reply_count p ≤ s.mail.spare
@@ -102,10 +103,12 @@ pub record IsPlannedBehind (before : Store) (now : ℕ) (asked : Asked) (at : �
 -- a session without room for what is staged has no request done
 abbrev pub IsRestBehind : Store → ℕ → Asked → ℕ → Store → List State → List State → Option Planned → Type 0
 IsRestBehind before now asked at store old new None = (new ≡ old) × ((s : State) → slice_get old at ≡ Some s → has_room_left s.mail ≡ false)
-IsRestBehind before now asked at store old new (Some p) = IsPlannedBehind before now asked at store old new p × ((s : State) → slice_get old at ≡ Some s → has_room_left s.mail ≡ true)
+IsRestBehind before now asked at store old new (Some p) = IsPlannedBehind before now asked at store old new p
+    × ((s : State) → slice_get old at ≡ Some s → has_room_left s.mail ≡ true)
 
 -- behind what is due, what a request will do is planned for its session, and what it brings is staged, with room for all that it needs
-pub record IsRequestReady (before store : Store) (gone : Expired) (now : ℕ) (asked : Asked) (caller : State) (sessions : List State) (p : Planned) : Type 0 where
+pub record IsRequestReady (before store : Store) (gone : Expired) (now : ℕ) (asked : Asked) (caller : State) (sessions : List State)
+    (p : Planned) : Type 0 where
   pub roomy : has_room_for (session_of caller) (heard (world_at before) (dels gone.held.items) (listens (session_of caller))) ≡ true
   pub plan : IsPlanned (world_at store) store.weight caller.subs (effect_of_asked (world_at store) now caller.subs asked) p
   pub staged : HaveStaged (world_at before) (dels gone.held.items ++ planned_writes p) sessions
@@ -114,7 +117,8 @@ pub record IsRequestReady (before store : Store) (gone : Expired) (now : ℕ) (a
 
 -- the request of a session that what is due will cut is not done
 abbrev pub IsRestReady : Store → Store → Expired → ℕ → Asked → State → List State → Option Planned → Type 0
-IsRestReady before store gone now asked caller sessions None = HaveStaged (world_at before) (dels gone.held.items) sessions × (has_room_left caller.mail ≡ false)
+IsRestReady before store gone now asked caller sessions None = HaveStaged (world_at before) (dels gone.held.items) sessions
+    × (has_room_left caller.mail ≡ false)
 IsRestReady before store gone now asked caller sessions (Some p) = IsRequestReady before store gone now asked caller sessions p
 
 -- a call of the session at a place is ready
@@ -144,7 +148,8 @@ length_if (Some p) = planned_length p
 -- what is planned for the session at a place can be done without memory
 abbrev pub CanComplete : Store → List State → ℕ → Option Planned → Type 0
 CanComplete store sessions at None = Unit {0}
-CanComplete store sessions at (Some p) = IsSoundAnswer p × HasRoomFor store p × ((s : State) → slice_get sessions at ≡ Some s → reply_count p ≤ s.mail.spare)
+CanComplete store sessions at (Some p) = IsSoundAnswer p × HasRoomFor store p
+    × ((s : State) → slice_get sessions at ≡ Some s → reply_count p ≤ s.mail.spare)
 
 -- the plan is done behind what is placed, and the session at the place is answered
 pub record IsDone (before : Store) (placed_ : List State) (at : ℕ) (p : Planned) (store : Store) (new : List State) : Type 0 where

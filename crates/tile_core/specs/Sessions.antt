@@ -3,9 +3,9 @@ use Rattle.std.specs.Prelude.{◌≡◌, ◌≢◌, ◌⊎◌, ℕ, Bool, nat_lt
 use Rattle.ordered_lists.specs.Lists.{ascends}
 use Rattle.world_model.specs.Halls as halls
 use Rattle.world_model.specs.Histories as histories
-use Rattle.world_model.specs.declared.events.Called.{Called}
-use Rattle.world_model.specs.declared.events.Called.TheVariants as called
-use Rattle.session_mail.specs.Sessions.{State, session_of}
+use Rattle.world_model.specs.declared.events.CallOutcome.{CallOutcome}
+use Rattle.world_model.specs.declared.events.CallOutcome.TheVariants as called
+use Rattle.session_table.specs.Sessions.{State, session_of}
 
 -- it is served
 abbrev pub is_open : State → Bool
@@ -38,7 +38,7 @@ abbrev pub AreOthers : ℕ → List State → Type 0
 AreOthers number sessions = (k : ℕ) (s : State) → slice_get sessions k ≡ Some s → s.number ≢ number
 
 -- the session of the number may make a call, or is absent or not served any more, or is full
-abbrev pub IsServed : List State → ℕ → Result ℕ Called → Type 0
+abbrev pub IsServed : List State → ℕ → Result ℕ CallOutcome → Type 0
 IsServed sessions number (Ok i) = (at : IsAt sessions number i) × (is_open at.session ≡ true) × (is_full at.session ≡ false) × (i < length sessions)
 IsServed sessions number (Err called.Gone) = AreOthers number sessions ⊎ ((i : ℕ) × (at : IsAt sessions number i) × (is_open at.session ≡ false))
 IsServed sessions number (Err called.Full) = (i : ℕ) × (at : IsAt sessions number i) × (is_open at.session ≡ true) × (is_full at.session ≡ true)

@@ -6,19 +6,21 @@ use Rattle.world_data.specs.Sound.{is_sound_channel}
 use Rattle.world_data.specs.declared.worlds.World.{World}
 use Rattle.world_model.specs.Halls.{Hall}
 use Rattle.keyspace.specs.Entries.{objects_in}
-use Rattle.session_mail.specs.Sessions.{State, session_of}
-use Rattle.session_mail.specs.Fans.{AreBare}
+use Rattle.session_table.specs.Sessions.{State, session_of}
+use Rattle.session_table.specs.Fans.{AreBare}
 use Rattle.tile_core.specs.declared.stores.Store.{Store}
-use Rattle.command_plans.specs.Moves.{world_with}
-use Rattle.command_plans.specs.Planned.{IsRecordedChannel, channels_weight}
-use Rattle.command_plans.specs.Kept.{AreKept, most_kept}
+use Rattle.object_plans.specs.Moves.{world_with}
+use Rattle.channel_plans.specs.Planned.{IsRecordedChannel}
+use Rattle.object_plans.specs.Beside.{channels_weight}
+use Rattle.object_plans.specs.Kept.{AreKept, most_kept}
 use Rattle.tile_core.specs.Dues.{AreDueFrom}
 use Rattle.tile_core.specs.Sessions.{Rises}
 
 abbrev pub world_at : Store → World
 world_at s = world_with s.hub.channels (objects_in s.objects)
 
--- objects in order whose texts have their shapes, sound channels that are read back from their records, their weights at hand and not too much together, and no deadline before the moment from which one may be due
+-- objects in order whose texts have their shapes, sound channels that are read back from their records, their weights at hand and not too much
+-- together, and no deadline before the moment from which one may be due
 pub record IsStore (s : Store) : Type 0 where
   pub kept : AreKept (objects_in s.objects) s.weight
   pub sound : list_all is_sound_channel s.hub.channels ≡ true

@@ -1,6 +1,7 @@
 //! The core and its calls.
 
-ghost use Rattle.std.specs.Prelude.{◌≡◌, ◌≢◌, true, ◌⊎◌, ◌≤◌, ◌+◌, ◌*◌, [], find, length, option_map, Decides, IfOk, IfSome};
+ghost use Rattle.std.specs.Prelude.{◌≡◌, ◌≢◌, true, ◌⊎◌, ◌≤◌, ◌+◌, ◌*◌, [], find, length, option_map, Decides, IfOk};
+ghost use Rattle.std.specs.Prelude.{IfSome};
 ghost use Rattle.std.specs.List.{AllByRecursion};
 ghost use Rattle.world_data.specs.Limits.{max_moment, take_frames};
 ghost use Rattle.world_data.specs.Sound.{IsSoundWorld};
@@ -12,29 +13,28 @@ ghost use Rattle.world_model.specs.Halls.{NamesChanged, session_of};
 ghost use Rattle.world_model.specs.declared.events.Event.TheVariants as event;
 ghost use Rattle.world_model.specs.declared.events.Outcome.TheVariants as outcome;
 ghost use Rattle.log_record.specs.Words.{IsRecorded};
-ghost use Rattle.next_items.specs.Copies.{is_next_channel, is_next_object, name_in, place_in};
+ghost use Rattle.world_store.specs.Copies.{is_next_channel, is_next_object, name_in, place_in};
 ghost use Rattle.tile_core.specs.Subscribers.{has_subscriptions};
 ghost use Rattle.tile_core.specs.CoreStates.{CoreState};
-ghost use Rattle.command_plans.specs.Kept.{most_kept};
-ghost use Rattle.command_plans.specs.Moves.{IsAccepted};
-ghost use Rattle.tile_core.specs.Ledgers.{IsRecordedBy};
+ghost use Rattle.object_plans.specs.Kept.{most_kept};
+ghost use Rattle.object_plans.specs.Moves.{IsAccepted};
+ghost use Rattle.tile_core.specs.RecordSinks.{IsRecordedBy};
 ghost use Rattle.tile_core.specs.Answered.{MayCall, MayTake, IsAnswered, AreSessions, StayNamed};
 
 use crate::dues::release;
 use crate::finish::complete;
-use crate::ledgers::Ledger;
 use crate::ready::{make_ready, make_tick_ready};
+use crate::record_sinks::RecordSink;
 use crate::sessions::{position_of, served};
 use crate::stores::Store;
 use crate::touching::{name_session, name_told};
 use byte_text::{Name, NoMemory, Text};
-use next_items::{next_channel, next_object};
-use session_mail::{Session, place_staged, unstage};
+use session_table::{Session, place_staged, unstage};
 use std::alloc::Global;
 use std::marker::Model;
-use stored_world::StoredWorld;
 use world_data::{Channel, MAX_SESSIONS, MOST_DRAWN, MOST_LOGGED, Object};
-use world_model::{Asked, Called, EnterFault, Frames, Taken, Touched};
+use world_model::{Asked, CallOutcome, ChangedSessions, EnterFault, Frames, Taken};
+use world_store::{StoredWorld, next_channel, next_object};
 
 /// A world and the sessions that are served.
 #[derive(Drop)]
@@ -55,7 +55,10 @@ impl Model for Core {
 
     ghost Value = { CoreState };
 
-    ghost view = { λ c. record { hall = hall_of c.store c.clock c.logged c.drawn c.sessions.items; visited = c.store.steps.count } };
+    ghost view = { λ c. record {
+      hall = hall_of c.store c.clock c.logged c.drawn c.sessions.items;
+      visited = c.store.steps.count;
+    } };
 
     ghost invariant = { λ c. IsSound c.store c.clock c.drawn c.sessions.items };
 }
@@ -90,16 +93,16 @@ impl Core {
         self.store.hub.len() as u64
     }
 
-    /// How many nodes of trees were visited since the start, to find objects and channels, to put them and to take them out; it stops at the
-    /// greatest u64.
+    /// How many nodes of trees were visited since the start, to find objects and channels, to put them and to take them
+    /// out; it stops at the greatest u64.
     pub fn visited(&self) -> u64
         ensures { result ≡ self.now.visited }
     {
         self.store.steps.ledger().count()
     }
 
-    /// Lets a session in and answers its number. It is refused where 512 sessions are present or 4,294,967,295 numbers were
-    /// drawn. For want of memory the core is as before.
+    /// Lets a session in and answers its number. It is refused where 512 sessions are present or 4,294,967,295 numbers
+    /// were drawn. For want of memory the core is as before.
     pub fn enter(&mut self) -> Result<u32, EnterFault>
         ensures step { Step self.old.hall event.Enter (enter_outcome result) self.new.hall }
         ensures stopped { self.new.hall.stopped ≡ self.old.hall.stopped }
@@ -117,8 +120,8 @@ impl Core {
         Ok(number)
     }
 
-    /// Gives the first frames of a session, at most 64, into `into`. A session that is not served any more is removed by the
-    /// first take that finds no frame. It takes no memory.
+    /// Gives the first frames of a session, at most 64, into `into`. A session that is not served any more is removed
+    /// by the first take that finds no frame. It takes no memory.
     pub fn take(&mut self, session: u32, into: &mut Frames) -> Taken
         requires { into.old ≡ record { list = []; places = take_frames } }
         ensures step { Step self.old.hall (event.Take session) (take_outcome result into.new.list) self.new.hall }
@@ -140,35 +143,38 @@ impl Core {
         Taken::Ended
     }
 
-    /// Makes a call of a session at a moment: the objects that are due then are deleted, what is asked is done, and its reply
-    /// is put last in the session's queue; each session that listens is told of what changed. A session whose queue has no room for what
-    /// comes for it is cut: it keeps the frames that it has, and is served no more. A broken protocol, as QUIT, lets the session end
-    /// behind the reply. The records of all that it changes go to the ledger before anything is changed. For want of memory the core is
-    /// as before. Each session that it changes is named in `touched`, beside those that are named there.
-    pub fn call<L: Ledger>(
+    /// Makes a call of a session at a moment: the objects that are due then are deleted, what is asked is done, and its
+    /// reply is put last in the session's queue; each session that listens is told of what changed. A session whose
+    /// queue has no room for what comes for it is cut: it keeps the frames that it has, and is served no more. A broken
+    /// protocol, as QUIT, lets the session end behind the reply. The records of all that it changes go to the ledger
+    /// before anything is changed. For want of memory the core is as before. Each session that it changes is named in
+    /// `touched`, beside those that are named there.
+    pub fn call<L: RecordSink>(
         &mut self,
         session: u32,
         moment: u64,
         asked: &Asked,
-        touched: &mut Touched,
+        touched: &mut ChangedSessions,
         ledger: &mut L,
-    ) -> Called
+    ) -> CallOutcome
         requires moment { moment ≤ max_moment }
         requires proper { is_proper asked.now ≡ true }
         requires room { AreSessions touched.old self.old.hall }
-        ensures step { Step self.old.hall (event.Call session moment asked.now) (outcome.Answered result) self.new.hall }
+        ensures step { Step self.old.hall (event.Call session moment asked.now)
+            (outcome.Answered result) self.new.hall }
         ensures stopped { self.new.hall.stopped ≡ self.old.hall.stopped }
         ensures named { NamesChanged touched.new self.old.hall self.new.hall }
         ensures kept { StayNamed touched.old touched.new }
         ensures room { AreSessions touched.new self.new.hall }
         ensures logged { self.new.hall.logged ≤ self.old.hall.logged + 2 * most_kept }
-        ensures done { MayCall self.old.hall session → (result ≡ Called.Ok) ⊎ (result ≡ Called.Memory) }
-        ensures answered { result ≡ Called.Ok → IsAnswered self.old.hall self.new.hall moment session asked.now }
-        ensures recorded { result ≡ Called.Ok → IsRecordedBy L.takes self.old.hall (event.Call session moment asked.now) ledger.old ledger.new }
-        ensures unrecorded { result ≢ Called.Ok → (ledger.new ≡ ledger.old) ⊎ L.stays ledger.old ledger.new }
+        ensures done { MayCall self.old.hall session → (result ≡ CallOutcome.Ok) ⊎ (result ≡ CallOutcome.Memory) }
+        ensures answered { result ≡ CallOutcome.Ok → IsAnswered self.old.hall self.new.hall moment session asked.now }
+        ensures recorded { result ≡ CallOutcome.Ok
+            → IsRecordedBy L.takes self.old.hall (event.Call session moment asked.now) ledger.old ledger.new }
+        ensures unrecorded { result ≢ CallOutcome.Ok → (ledger.new ≡ ledger.old) ⊎ L.stays ledger.old ledger.new }
     {
         if self.logged >= MOST_LOGGED {
-            return Called::Spent;
+            return CallOutcome::Spent;
         }
         let at = match served(self.sessions.as_slice(), session) {
             Ok(at) => at,
@@ -186,19 +192,24 @@ impl Core {
             ledger,
         );
         let Ok(ready) = ready else {
-            return Called::Memory;
+            return CallOutcome::Memory;
         };
         name_told(touched, self.sessions.as_slice());
         name_session(touched, session);
         self.clock = now;
         self.logged += complete(&mut self.store, &mut self.sessions, at, ready);
-        Called::Ok
+        CallOutcome::Ok
     }
 
-    /// Lets the clock go on to a moment, and deletes the objects that are due then; each session that listens is told. The records of
-    /// their dels go to the ledger before. For want of memory the core is as before. Each session that it changes is named, beside those
-    /// that are named there.
-    pub fn tick<L: Ledger>(&mut self, moment: u64, touched: &mut Touched, ledger: &mut L) -> Called
+    /// Lets the clock go on to a moment, and deletes the objects that are due then; each session that listens is told.
+    /// The records of their dels go to the ledger before. For want of memory the core is as before. Each session that
+    /// it changes is named, beside those that are named there.
+    pub fn tick<L: RecordSink>(
+        &mut self,
+        moment: u64,
+        touched: &mut ChangedSessions,
+        ledger: &mut L,
+    ) -> CallOutcome
         requires moment { moment ≤ max_moment }
         requires room { AreSessions touched.old self.old.hall }
         ensures step { Step self.old.hall (event.Tick moment) (outcome.Answered result) self.new.hall }
@@ -207,11 +218,12 @@ impl Core {
         ensures kept { StayNamed touched.old touched.new }
         ensures room { AreSessions touched.new self.new.hall }
         ensures logged { self.new.hall.logged ≤ self.old.hall.logged + most_kept }
-        ensures recorded { result ≡ Called.Ok → IsRecordedBy L.takes self.old.hall (event.Tick moment) ledger.old ledger.new }
-        ensures unrecorded { result ≢ Called.Ok → (ledger.new ≡ ledger.old) ⊎ L.stays ledger.old ledger.new }
+        ensures recorded { result ≡ CallOutcome.Ok
+            → IsRecordedBy L.takes self.old.hall (event.Tick moment) ledger.old ledger.new }
+        ensures unrecorded { result ≢ CallOutcome.Ok → (ledger.new ≡ ledger.old) ⊎ L.stays ledger.old ledger.new }
     {
         if self.logged >= MOST_LOGGED {
-            return Called::Spent;
+            return CallOutcome::Spent;
         }
         let now = self.clock.max(moment);
         let ready = make_tick_ready(
@@ -224,14 +236,14 @@ impl Core {
         );
         let Ok(ready) = ready else {
             unstage(&mut self.sessions);
-            return Called::Memory;
+            return CallOutcome::Memory;
         };
         name_told(touched, self.sessions.as_slice());
         place_staged(&mut self.sessions);
         self.clock = now;
         self.logged += ready.gone.length;
         release(&mut self.store.objects, ready.gone.held);
-        Called::Ok
+        CallOutcome::Ok
     }
 
     /// Lets a session end behind the frames that it has.
@@ -256,8 +268,8 @@ impl Core {
         }
     }
 
-    /// A core over a stored world, without sessions, at moment 0; its log has so many bytes. The world may be heavier than commands may
-    /// make it; there is no memory for one of more than 2^36 bytes of records.
+    /// A core over a stored world, without sessions, at moment 0; its log has so many bytes. The world may be heavier
+    /// than commands may make it; there is no memory for one of more than 2^36 bytes of records.
     pub fn over(alloc: Global, world: StoredWorld, logged: u64) -> Result<Core, NoMemory>
         requires sound { IsSoundWorld world }
         requires recorded { AllByRecursion (λ c. IsRecorded (change.SetChan c)) world.channels }
@@ -308,9 +320,11 @@ impl Core {
         }
     }
 
-    /// The first channel by name behind this one; the first of all where no name is given. It is read back from its record.
+    /// The first channel by name behind this one; the first of all where no name is given. It is read back from its
+    /// record.
     pub fn next_channel(&self, after: Option<&Name>) -> Option<&Channel>
-        ensures next { option_map (λ c. c.now) result ≡ find (is_next_channel (name_in after.entry)) self.now.hall.world.channels }
+        ensures next { option_map (λ c. c.now) result
+            ≡ find (is_next_channel (name_in after.entry)) self.now.hall.world.channels }
         ensures recorded { IfSome result (λ c. IsRecorded (change.SetChan c.now)) }
         ensures sorted { is_sorted_world self.now.hall.world ≡ true }
     {
@@ -321,7 +335,8 @@ impl Core {
 
     /// The first object behind this key and this id; the first of all where none are given. Its text has its shape.
     pub fn next_object(&self, after: Option<(&Name, &Name)>) -> Option<&Object>
-        ensures next { option_map (λ o. o.now) result ≡ find (is_next_object (place_in after.entry)) self.now.hall.world.objects }
+        ensures next { option_map (λ o. o.now) result
+            ≡ find (is_next_object (place_in after.entry)) self.now.hall.world.objects }
         ensures accepted { IfSome result (λ o. IsAccepted o.now) }
         ensures sorted { is_sorted_world self.now.hall.world ≡ true }
     {

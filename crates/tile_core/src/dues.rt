@@ -1,17 +1,22 @@
-//! Expiry: the objects whose deadline has come are taken out before anything else is done, and put back where that cannot be.
+//! Expiry: the objects whose deadline has come are taken out before anything else is done, and put back where that
+//! cannot be.
+//!
+//! Expired objects are deleted, not hidden: each by a change of its own, with its record, in order of deadline, key and
+//! id, before the command is looked at. No deadline is looked for where none can have come: the core keeps a moment
+//! until which nothing is due.
 
 ghost use Rattle.std.specs.Prelude.{◌≡◌, ◌≢◌, ◌≤◌, ◌<◌, ◌+◌, ◌^◌, [], true, false, filter, length, IfOk, Ok, OnErr};
 ghost use Rattle.world_data.specs.Expiry.{is_due};
 ghost use Rattle.world_data.specs.Records.{weight};
 ghost use Rattle.keyspace.specs.Entries.{objects_in};
-ghost use Rattle.command_plans.specs.Kept.{AreKept, most_kept};
-ghost use Rattle.command_plans.specs.Moves.{world_of};
-ghost use Rattle.record_lengths.specs.Lengths.{HaveFewFields};
+ghost use Rattle.object_plans.specs.Kept.{AreKept, most_kept};
+ghost use Rattle.object_plans.specs.Moves.{world_of};
+ghost use Rattle.record_writer.specs.Lengths.{HaveFewFields};
 ghost use Rattle.tile_core.specs.Dues.{IsDueFrom, AreDueFrom, HaveRoom, IsTaken, IsTakenOut, IsExpired, with_back};
 
 use byte_text::NoMemory;
 use keyspace::Keyspace;
-use record_lengths::{del_len, put_len};
+use record_writer::{del_len, put_len};
 use rtree::{Steps, Visits};
 use std::alloc::Global;
 use world_model::Object;
@@ -39,7 +44,9 @@ fn take_next(
     requires rest { gone.old.weight ≡ weight (world_of (objects_in objects.old)) }
     requires short { gone.old.length ≤ most_kept }
     requires room { HaveRoom objects.old gone.old.held.items }
-    ensures taken { result ≡ Ok true → IsTakenOut (objects_in objects.old) now (objects_in objects.new) gone.old.held.items gone.new.held.items gone.old.length gone.new.length gone.old.weight gone.new.weight }
+    ensures taken { result ≡ Ok true → IsTakenOut (objects_in objects.old) now
+        (objects_in objects.new)
+        gone.old.held.items gone.new.held.items gone.old.length gone.new.length gone.old.weight gone.new.weight }
     ensures none { result ≡ Ok false → filter (is_due now) (objects_in objects.new) ≡ [] }
     ensures room { HaveRoom objects.new gone.new.held.items }
     ensures stays { result ≢ Ok true → objects_in objects.new ≡ objects_in objects.old }
@@ -88,7 +95,8 @@ fn take_due(
     steps: &mut Steps<Visits>,
 ) -> Result<Expired, NoMemory>
     requires { AreKept (objects_in objects.old) total }
-    ensures taken { IfOk result (λ g. IsTaken (objects_in objects.old) now total (objects_in objects.new) g.held.items g.length g.weight) }
+    ensures taken { IfOk result (λ g. IsTaken (objects_in objects.old) now total
+        (objects_in objects.new) g.held.items g.length g.weight) }
     ensures none { IfOk result (λ g. filter (is_due now) (objects_in objects.new) ≡ []) }
     ensures room { IfOk result (λ g. HaveRoom objects.new g.held.items) }
     ensures err { OnErr result (objects_in objects.new ≡ objects_in objects.old) }
@@ -129,8 +137,8 @@ fn least_deadline(objects: &Keyspace) -> u64
     objects.least_due().unwrap_or(u64::MAX)
 }
 
-/// Takes the objects out that are due now, where no deadline comes before `due_from`. For want of memory the objects are as
-/// before.
+/// Takes the objects out that are due now, where no deadline comes before `due_from`. For want of memory the objects
+/// are as before.
 pub(crate) fn expire(
     alloc: Global,
     objects: &mut Keyspace,

@@ -5,12 +5,14 @@ ghost use Rattle.world_model.specs.Halls.{placed, placed_each};
 ghost use Rattle.world_model.specs.Subscriptions.{Sub};
 ghost use Rattle.world_model.specs.Effects.{Effect};
 ghost use Rattle.keyspace.specs.Entries.{objects_in};
-ghost use Rattle.deliveries.specs.Staging.{after_all};
-ghost use Rattle.session_mail.specs.Sessions.{AreSoundSubs, session_of};
+ghost use Rattle.delivery_model.specs.Staging.{after_all};
+ghost use Rattle.session_table.specs.Sessions.{AreSoundSubs, session_of};
 ghost use Rattle.tile_core.specs.Dues.{IsDueFrom};
-ghost use Rattle.command_plans.specs.Moves.{HasRoom, HoldsOfPut, moved};
-ghost use Rattle.command_plans.specs.Planned.{IsPlanned, channels_left, channels_moved, weight_left, without_names};
-ghost use Rattle.tile_core.specs.Ready.{CanComplete, HasRoomFor, IsCompleted, IsDoneIf, IsPreparedFor, IsSoundAnswer, ending_if, length_if, planned_length, planned_writes, replied, reply_count};
+ghost use Rattle.object_plans.specs.Moves.{HasRoom, HoldsOfPut, moved};
+ghost use Rattle.channel_plans.specs.Planned.{IsPlanned, channels_moved, without_names};
+ghost use Rattle.object_plans.specs.Beside.{channels_left, weight_left};
+ghost use Rattle.tile_core.specs.Ready.{CanComplete, HasRoomFor, IsCompleted, IsDoneIf, IsPreparedFor, IsSoundAnswer};
+ghost use Rattle.tile_core.specs.Ready.{ending_if, length_if, planned_length, planned_writes, replied, reply_count};
 ghost use Rattle.tile_core.specs.Stores.{IsStore, world_at};
 
 use crate::dues::release;
@@ -19,8 +21,8 @@ use crate::ready::Ready;
 use crate::stores::Store;
 use byte_text::Text;
 use channel_hub::Hub;
-use command_plans::{ChannelMove, ChannelPlan, Confirmed, Move, Plan, Planned};
-use session_mail::{Session, place_staged};
+use command_plans::{ChannelChange, ChannelPlan, Confirmed, ObjectChange, Plan, Planned};
+use session_table::{Session, place_staged};
 use world_model::NameList;
 
 // Takes out the channels of these names.
@@ -33,15 +35,15 @@ fn drop_channels(hub: &mut Hub, names: &NameList)
 }
 
 // Does this to the channels.
-fn move_channels(hub: &mut Hub, action: ChannelMove)
+fn move_channels(hub: &mut Hub, action: ChannelChange)
     requires { IsPreparedFor hub.old action }
     ensures { hub.new.channels ≡ channels_moved action hub.old.channels }
 {
     match action {
-        ChannelMove::Set(channel) => {
+        ChannelChange::Set(channel) => {
             hub.put(channel);
         }
-        ChannelMove::Drop(names) => drop_channels(hub, &names),
+        ChannelChange::Drop(names) => drop_channels(hub, &names),
     }
 }
 
@@ -72,7 +74,7 @@ fn finish_objects(store: &mut Store, caller: &mut Session, plan: Plan)
 {
     store.due_from = due_from_after(store.due_from, &plan.action);
     store.weight = plan.weight;
-    if let Move::Clear = plan.action {
+    if let ObjectChange::Clear = plan.action {
         store.hub.clear();
         store.channel_weight = 0;
     }
@@ -101,7 +103,8 @@ fn finish_channels(store: &mut Store, caller: &mut Session, plan: ChannelPlan)
 fn finish_subscribing(caller: &mut Session, confirmed: Confirmed)
     requires sound { AreSoundSubs confirmed.subs }
     requires spare { length confirmed.frames.items ≤ caller.old.mail.spare }
-    ensures caller { session_of caller.new ≡ placed_each (record (session_of caller.old) { subs = confirmed.subs }) confirmed.frames.items }
+    ensures caller { session_of caller.new
+        ≡ placed_each (record (session_of caller.old) { subs = confirmed.subs }) confirmed.frames.items }
     ensures staged { caller.new.mail.staged ≡ caller.old.mail.staged }
 {
     caller.set_subscriptions(confirmed.subs);
@@ -116,7 +119,8 @@ fn finish(store: &mut Store, caller: &mut Session, planned: Planned) -> u64
     requires spare { reply_count planned ≤ caller.old.mail.spare }
     ensures length { result ≡ planned_length planned }
     ensures world { world_at store.new ≡ after_all (world_at store.old) (planned_writes planned) }
-    ensures kept { (held : List Sub) (e : Effect) → IsPlanned (world_at store.old) store.old.weight held e planned → IsStore store.old → IsStore store.new }
+    ensures kept { (held : List Sub) (e : Effect) → IsPlanned (world_at store.old) store.old.weight held e planned
+        → IsStore store.old → IsStore store.new }
     ensures caller { session_of caller.new ≡ replied planned (session_of caller.old) }
     ensures staged { caller.new.mail.staged ≡ caller.old.mail.staged }
 {
@@ -157,8 +161,8 @@ fn finish_planned(
     }
 }
 
-/// Places all that is staged, does what was made ready, and answers the session at the place. It takes no memory. The bytes of the
-/// records of all changes are answered.
+/// Places all that is staged, does what was made ready, and answers the session at the place. It takes no memory. The
+/// bytes of the records of all changes are answered.
 pub(crate) fn complete(
     store: &mut Store,
     sessions: &mut Vec<Session>,

@@ -1,12 +1,13 @@
-//! The core: a world of objects and the sessions that are served, each of whose calls is one step of the defined machine.
+//! The core: a world of objects and the sessions that are served, each of whose calls is one step of the defined
+//! machine.
 #![tactic(auto)]
 
 mod cores;
 mod dues;
 mod finish;
-mod ledgers;
 mod moves;
 mod ready;
+mod record_sinks;
 mod records;
 mod sessions;
 mod staging;
@@ -14,5 +15,5 @@ mod stores;
 mod touching;
 
 pub use cores::Core;
-pub use ledgers::{Ledger, NoLedger};
+pub use record_sinks::{NoRecords, RecordSink};
 pub use records::{push_channel, push_object};

@@ -4,23 +4,23 @@ ghost use Rattle.std.specs.Prelude.{◌≡◌, ◌<◌, ◌≤◌, ◌^◌, leng
 ghost use Rattle.byte_text.specs.Names.{Bytes};
 ghost use Rattle.keyspace.specs.Entries.{objects_in, room_for};
 ghost use Rattle.tile_core.specs.Dues.{IsDueFrom};
-ghost use Rattle.command_plans.specs.Moves.{HasRoom, HoldsOfPut, moved, without_each};
+ghost use Rattle.object_plans.specs.Moves.{HasRoom, HoldsOfPut, moved, without_each};
 
 use crate::dues::earlier;
 use byte_text::{Name, NoMemory};
-use command_plans::Move;
+use command_plans::ObjectChange;
 use keyspace::Keyspace;
 use rtree::{Steps, Visits};
 use world_model::NameList;
 
 /// Takes room for what is put. For want of memory the objects are as before.
-pub(crate) fn make_room(objects: &mut Keyspace, action: &Move) -> Result<(), NoMemory>
+pub(crate) fn make_room(objects: &mut Keyspace, action: &ObjectChange) -> Result<(), NoMemory>
     ensures objects { objects_in objects.new ≡ objects_in objects.old }
     ensures kept { (key : Bytes) → room_for objects.old key ≤ room_for objects.new key }
     ensures room { OnOk result (HasRoom objects.new action.now) }
 {
     match action {
-        Move::Put(object) => objects.prepare(&object.key),
+        ObjectChange::Put(object) => objects.prepare(&object.key),
         _ => Ok(()),
     }
 }
@@ -34,37 +34,38 @@ fn delete_each(objects: &mut Keyspace, key: &Name, ids: &NameList, steps: &mut S
     }
 }
 
-/// Does this to the objects, and gives up a key that has none left. It takes no memory. The steps count the nodes that it visits.
-pub(crate) fn make_move(objects: &mut Keyspace, action: Move, steps: &mut Steps<Visits>)
+/// Does this to the objects, and gives up a key that has none left. It takes no memory. The steps count the nodes that
+/// it visits.
+pub(crate) fn make_move(objects: &mut Keyspace, action: ObjectChange, steps: &mut Steps<Visits>)
     requires room { HasRoom objects.old action }
     requires few { length (objects_in objects.old) < 2 ^ 32 }
     ensures { objects_in objects.new ≡ moved (objects_in objects.old) action }
 {
     match action {
-        Move::Stay => {}
-        Move::Put(object) => {
+        ObjectChange::Stay => {}
+        ObjectChange::Put(object) => {
             objects.put(object, steps);
         }
-        Move::Delete(key, id) => {
+        ObjectChange::Delete(key, id) => {
             objects.take_out(&key, &id, steps);
             objects.give_up(&key);
         }
-        Move::DeleteEach(key, ids) => {
+        ObjectChange::DeleteEach(key, ids) => {
             delete_each(objects, &key, &ids, steps);
             objects.give_up(&key);
         }
-        Move::Leave(key) => objects.drop_key(&key),
-        Move::Clear => objects.clear(),
+        ObjectChange::DropKey(key) => objects.drop_key(&key),
+        ObjectChange::Clear => objects.clear(),
     }
 }
 
 /// No deadline comes before this moment after what is done to objects of which none came before `due_from`.
-pub(crate) fn due_from_after(due_from: u64, action: &Move) -> u64
+pub(crate) fn due_from_after(due_from: u64, action: &ObjectChange) -> u64
     ensures least { result ≤ due_from }
     ensures put { HoldsOfPut (IsDueFrom result) action.now }
 {
     match action {
-        Move::Put(object) => earlier(due_from, object),
+        ObjectChange::Put(object) => earlier(due_from, object),
         _ => due_from,
     }
 }

@@ -1,26 +1,28 @@
-//! A call is made ready: what is due is taken out, and what is asked is planned in the world after that, each with the messages that it
-//! brings staged; then the records of all of it go to a ledger. Where that cannot be, all is as before.
+//! A call is made ready: what is due is taken out, and what is asked is planned in the world after that, each with the
+//! messages that it brings staged; then the records of all of it go to a ledger. Where that cannot be, all is as
+//! before.
 
 ghost use Rattle.std.specs.Prelude.{◌≡◌, ◌⊎◌, ◌≤◌, ◌<◌, ◌+◌, ◌^◌, map, length, IfOk, OnErr, OnOk};
 ghost use Rattle.world_data.specs.Limits.{max_moment};
 ghost use Rattle.fence_model.specs.Writes.{dels};
 ghost use Rattle.keyspace.specs.Entries.{objects_in};
-ghost use Rattle.session_mail.specs.Sessions.{session_of};
-ghost use Rattle.session_mail.specs.Fans.{AreBare};
+ghost use Rattle.session_table.specs.Sessions.{session_of};
+ghost use Rattle.session_table.specs.Fans.{AreBare};
 ghost use Rattle.tile_core.specs.Dues.{HaveRoom};
-ghost use Rattle.tile_core.specs.Ledgers.{AreTaken, CanRecordIf, ready_writes};
-ghost use Rattle.tile_core.specs.Ready.{HasRoomFor, IsAsBefore, IsDueTaken, IsPlannedBehind, IsReady, IsRestBehind, IsRoomier, IsUndone, reply_count};
+ghost use Rattle.tile_core.specs.RecordSinks.{AreTaken, CanRecordIf, ready_writes};
+ghost use Rattle.tile_core.specs.Ready.{HasRoomFor, IsAsBefore, IsDueTaken, IsPlannedBehind, IsReady, IsRestBehind};
+ghost use Rattle.tile_core.specs.Ready.{IsRoomier, IsUndone, reply_count};
 ghost use Rattle.tile_core.specs.Stores.{IsStore};
 
 use crate::dues::{Expired, expire, put_back};
-use crate::ledgers::Ledger;
 use crate::moves::make_room;
+use crate::record_sinks::RecordSink;
 use crate::records::record_ready;
 use crate::staging::{stage_dels, stage_planned};
 use crate::stores::Store;
 use byte_text::{NoMemory, Text};
-use command_plans::{ChannelMove, Context, Planned, plan_asked};
-use session_mail::{Session, unstage};
+use command_plans::{ChannelChange, Context, Planned, plan_asked};
+use session_table::{Session, unstage};
 use std::alloc::Global;
 use world_model::Asked;
 
@@ -31,7 +33,8 @@ pub(crate) struct Ready {
     pub(crate) planned: Option<Planned>,
 }
 
-// Takes out what is due, and stages what its dels bring. For want of memory the world is as before, and a part may be staged.
+// Takes out what is due, and stages what its dels bring. For want of memory the world is as before, and a part may be
+// staged.
 fn take_out_due(
     alloc: Global,
     store: &mut Store,
@@ -42,7 +45,13 @@ fn take_out_due(
     requires bare { AreBare sessions.old.items }
     ensures taken { IfOk result (λ g. IsDueTaken store.old now store.new g sessions.new.items) }
     ensures room { IfOk result (λ g. HaveRoom store.new.objects g.held.items) }
-    ensures rest { IfOk result (λ g. store.new ≡ record store.old { objects = store.new.objects; weight = g.weight; due_from = g.due_from; steps = store.new.steps }) }
+    ensures rest { IfOk result (λ g. store.new
+        ≡ record store.old {
+          objects = store.new.objects;
+          weight = g.weight;
+          due_from = g.due_from;
+          steps = store.new.steps;
+        }) }
     ensures same { map session_of sessions.new.items ≡ map session_of sessions.old.items }
     ensures err { OnErr result (IsAsBefore store.old store.new) }
 {
@@ -81,8 +90,8 @@ fn make_room_for(alloc: Global, store: &mut Store, planned: &Planned) -> Result<
     match planned {
         Planned::Objects(plan) => make_room(&mut store.objects, &plan.action),
         Planned::Channels(plan) => match &plan.action {
-            ChannelMove::Set(channel) => store.hub.prepare(alloc, channel),
-            ChannelMove::Drop(_) => Ok(()),
+            ChannelChange::Set(channel) => store.hub.prepare(alloc, channel),
+            ChannelChange::Drop(_) => Ok(()),
         },
         Planned::Subscribed(_) => Ok(()),
     }
@@ -112,7 +121,8 @@ fn plan_request(
     requires moment { now ≤ max_moment }
     ensures room { IsRoomier store.old store.new }
     ensures same { map session_of sessions.new.items ≡ map session_of sessions.old.items }
-    ensures planned { IfOk result (λ p. IsPlannedBehind store.old now asked.now at store.new sessions.old.items sessions.new.items p) }
+    ensures planned { IfOk result (λ p.
+        IsPlannedBehind store.old now asked.now at store.new sessions.old.items sessions.new.items p) }
 {
     let context = Context {
         objects: &store.objects,
@@ -150,7 +160,8 @@ fn plan_rest(
     requires moment { now ≤ max_moment }
     ensures room { IsRoomier store.old store.new }
     ensures same { map session_of sessions.new.items ≡ map session_of sessions.old.items }
-    ensures planned { IfOk result (λ p. IsRestBehind store.old now asked.now at store.new sessions.old.items sessions.new.items p) }
+    ensures planned { IfOk result (λ p.
+        IsRestBehind store.old now asked.now at store.new sessions.old.items sessions.new.items p) }
 {
     if !sessions[at].has_room_left() {
         return Ok(None);
@@ -173,7 +184,7 @@ fn undo(store: &mut Store, gone: Expired, weight: u64, due_from: u64)
 }
 
 // Hands the records of what was made ready to the ledger. For want of memory what is due is put back.
-fn record_or_undo<L: Ledger>(
+fn record_or_undo<L: RecordSink>(
     alloc: Global,
     store: &mut Store,
     weight: u64,
@@ -200,9 +211,9 @@ fn record_or_undo<L: Ledger>(
     }
 }
 
-/// Makes a tick ready: takes out what is due, stages what its dels bring, and hands their records to the ledger. For want of memory the
-/// world is as before, and a part may be staged.
-pub(crate) fn make_tick_ready<L: Ledger>(
+/// Makes a tick ready: takes out what is due, stages what its dels bring, and hands their records to the ledger. For
+/// want of memory the world is as before, and a part may be staged.
+pub(crate) fn make_tick_ready<L: RecordSink>(
     alloc: Global,
     store: &mut Store,
     sessions: &mut Vec<Session>,
@@ -213,7 +224,13 @@ pub(crate) fn make_tick_ready<L: Ledger>(
     requires kept { IsStore store.old }
     requires bare { AreBare sessions.old.items }
     ensures taken { IfOk result (λ r. IsDueTaken store.old now store.new r.gone sessions.new.items) }
-    ensures rest { IfOk result (λ r. store.new ≡ record store.old { objects = store.new.objects; weight = r.gone.weight; due_from = r.gone.due_from; steps = store.new.steps }) }
+    ensures rest { IfOk result (λ r. store.new
+        ≡ record store.old {
+          objects = store.new.objects;
+          weight = r.gone.weight;
+          due_from = r.gone.due_from;
+          steps = store.new.steps;
+        }) }
     ensures recorded { IfOk result (λ r. AreTaken L.takes (dels r.gone.held.items) ledger.old ledger.new) }
     ensures same { map session_of sessions.new.items ≡ map session_of sessions.old.items }
     ensures err { OnErr result (IsAsBefore store.old store.new) }
@@ -227,9 +244,9 @@ pub(crate) fn make_tick_ready<L: Ledger>(
     record_or_undo(alloc, store, weight, due_from, ready, records, ledger)
 }
 
-// Makes a call of the session at a place ready, and hands its records to the ledger. For want of memory the world is as before, and a
-// part may be staged.
-fn make_ready_in_part<L: Ledger>(
+// Makes a call of the session at a place ready, and hands its records to the ledger. For want of memory the world is as
+// before, and a part may be staged.
+fn make_ready_in_part<L: RecordSink>(
     alloc: Global,
     store: &mut Store,
     sessions: &mut Vec<Session>,
@@ -263,9 +280,9 @@ fn make_ready_in_part<L: Ledger>(
     }
 }
 
-/// Makes a call of the session at a place ready, and hands its records to the ledger. For want of memory the world is as before, and
-/// nothing is staged.
-pub(crate) fn make_ready<L: Ledger>(
+/// Makes a call of the session at a place ready, and hands its records to the ledger. For want of memory the world is
+/// as before, and nothing is staged.
+pub(crate) fn make_ready<L: RecordSink>(
     alloc: Global,
     store: &mut Store,
     sessions: &mut Vec<Session>,

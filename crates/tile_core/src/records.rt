@@ -1,30 +1,30 @@
 //! The records of what was made ready, handed to a ledger before anything is changed.
 
 ghost use Rattle.std.specs.Prelude.{◌≡◌, ◌⊎◌, ◌∷◌, [], Bool, OnErr, OnOk};
-ghost use Rattle.fence_model.specs.Writes.{dels, loud};
+ghost use Rattle.fence_model.specs.Writes.{dels, announced};
 ghost use Rattle.world_data.specs.declared.worlds.Change.TheVariants as change;
 ghost use Rattle.log_record.specs.Words.{IsRecorded};
-ghost use Rattle.tile_core.specs.Ledgers.{ArePushed, AreTaken, CanRecord, CanRecordIf, IsPushed, ready_writes};
-ghost use Rattle.command_plans.specs.Moves.{HoldsOfPut, IsAccepted};
-ghost use Rattle.command_plans.specs.Planned.{IsRecordedMove, channel_writes, dropped_of};
-ghost use Rattle.command_plans.specs.Plans.{writes_of};
+ghost use Rattle.tile_core.specs.RecordSinks.{ArePushed, AreTaken, CanRecord, CanRecordIf, IsPushed, ready_writes};
+ghost use Rattle.object_plans.specs.Moves.{HoldsOfPut, IsAccepted};
+ghost use Rattle.channel_plans.specs.Planned.{IsRecordedMove, channel_writes, dropped_of};
+ghost use Rattle.object_plans.specs.Plans.{writes_of};
 ghost use Rattle.tile_core.specs.Ready.{planned_writes};
 ghost use Rattle.tile_core.specs.Staged.{dels_of};
 
-use crate::ledgers::Ledger;
 use crate::ready::Ready;
+use crate::record_sinks::RecordSink;
 use byte_text::{MAX_WORD, Name, NoMemory, Text};
-use command_plans::{ChannelMove, Move, Planned};
-use record_text::{push_del, push_delchan, push_drop, push_flush, push_put, push_setchan};
-use record_words::{MOST_FIELDS, changes_are_recorded};
+use command_plans::{ChannelChange, ObjectChange, Planned};
+use record_reader::{MOST_FIELDS, changes_are_recorded};
+use record_writer::{push_del, push_delchan, push_drop, push_flush, push_put, push_setchan};
 use std::alloc::Global;
 use world_model::{Channel, NameList, Object};
 
 /// The text of the records keeps its memory for the next call, where it has no more bytes than this.
 const KEPT_ROOM: usize = 65_536;
 
-/// Appends the record of the put of an object, which is read back from it. One that no request puts, as its record would be too long for
-/// one, is want of memory.
+/// Appends the record of the put of an object, which is read back from it. One that no request puts, as its record
+/// would be too long for one, is want of memory.
 pub fn push_object(into: &mut Text, object: &Object) -> Result<(), NoMemory>
     requires { IsAccepted object.now }
     ensures { OnOk result (IsPushed (change.Put object.now) into.old into.new) }
@@ -48,7 +48,8 @@ pub fn push_channel(into: &mut Text, channel: &Channel) -> Result<(), NoMemory>
 // Appends the record of the put of an object, whether it is told or not.
 fn push_written(into: &mut Text, object: &Object) -> Result<(), NoMemory>
     requires { IsAccepted object.now }
-    ensures { OnOk result ((is_loud : Bool) → ArePushed (record { change = change.Put object.now; loud = is_loud } ∷ []) into.old into.new) }
+    ensures { OnOk result ((is_loud : Bool)
+        → ArePushed (record { change = change.Put object.now; announced = is_loud } ∷ []) into.old into.new) }
 {
     match push_object(into, object) {
         Ok(()) => Ok(()),
@@ -58,7 +59,7 @@ fn push_written(into: &mut Text, object: &Object) -> Result<(), NoMemory>
 
 // Appends the record of the del of a key and an id.
 fn push_one(into: &mut Text, key: &Name, id: &Name) -> Result<(), NoMemory>
-    ensures { OnOk result (ArePushed (loud (change.Del key.now id.now) ∷ []) into.old into.new) }
+    ensures { OnOk result (ArePushed (announced (change.Del key.now id.now) ∷ []) into.old into.new) }
 {
     // A law, of which nothing is left at run time.
     changes_are_recorded();
@@ -87,19 +88,19 @@ fn push_dels(into: &mut Text, held: &[Object]) -> Result<(), NoMemory>
 }
 
 // Appends the records of a move of the objects, whether a put is told or not.
-fn push_move(into: &mut Text, action: &Move) -> Result<(), NoMemory>
+fn push_move(into: &mut Text, action: &ObjectChange) -> Result<(), NoMemory>
     requires { HoldsOfPut IsAccepted action.now }
     ensures { OnOk result ((is_loud : Bool) → ArePushed (writes_of action.now is_loud) into.old into.new) }
 {
     // A law, of which nothing is left at run time.
     changes_are_recorded();
     match action {
-        Move::Stay => Ok(()),
-        Move::Put(object) => push_written(into, object),
-        Move::Delete(key, id) => push_one(into, key, id),
-        Move::DeleteEach(key, ids) => push_each(into, key, ids),
-        Move::Leave(key) => push_drop(into, key),
-        Move::Clear => push_flush(into),
+        ObjectChange::Stay => Ok(()),
+        ObjectChange::Put(object) => push_written(into, object),
+        ObjectChange::Delete(key, id) => push_one(into, key, id),
+        ObjectChange::DeleteEach(key, ids) => push_each(into, key, ids),
+        ObjectChange::DropKey(key) => push_drop(into, key),
+        ObjectChange::Clear => push_flush(into),
     }
 }
 
@@ -116,13 +117,13 @@ fn push_dropped(into: &mut Text, names: &NameList) -> Result<(), NoMemory>
 }
 
 // Appends the records of a move of the channels.
-fn push_channel_move(into: &mut Text, action: &ChannelMove) -> Result<(), NoMemory>
+fn push_channel_move(into: &mut Text, action: &ChannelChange) -> Result<(), NoMemory>
     requires { IsRecordedMove action.now }
     ensures { OnOk result (ArePushed (channel_writes action.now) into.old into.new) }
 {
     match action {
-        ChannelMove::Set(channel) => push_setchan(into, channel),
-        ChannelMove::Drop(names) => push_dropped(into, names),
+        ChannelChange::Set(channel) => push_setchan(into, channel),
+        ChannelChange::Drop(names) => push_dropped(into, names),
     }
 }
 
@@ -151,7 +152,11 @@ fn push_ready(into: &mut Text, ready: &Ready) -> Result<(), NoMemory>
 }
 
 // Writes the records into a text in place of what it had, and hands them to the ledger.
-fn hand_over<L: Ledger>(records: &mut Text, ready: &Ready, ledger: &mut L) -> Result<(), NoMemory>
+fn hand_over<L: RecordSink>(
+    records: &mut Text,
+    ready: &Ready,
+    ledger: &mut L,
+) -> Result<(), NoMemory>
     requires { CanRecordIf ready.now.planned }
     ensures ok { OnOk result (AreTaken L.takes (ready_writes ready.now) ledger.old ledger.new) }
     ensures err { OnErr result ((ledger.new ≡ ledger.old) ⊎ L.stays ledger.old ledger.new) }
@@ -161,9 +166,9 @@ fn hand_over<L: Ledger>(records: &mut Text, ready: &Ready, ledger: &mut L) -> Re
     ledger.take(records.bytes())
 }
 
-/// Hands the records of what was made ready to a ledger. They are written into a text that is kept for the next call, but where they
-/// were long.
-pub(crate) fn record_ready<L: Ledger>(
+/// Hands the records of what was made ready to a ledger. They are written into a text that is kept for the next call,
+/// but where they were long.
+pub(crate) fn record_ready<L: RecordSink>(
     alloc: Global,
     records: &mut Text,
     ready: &Ready,

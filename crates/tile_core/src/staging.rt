@@ -1,27 +1,31 @@
-//! What writes bring to the sessions that listen, staged before anything is placed. The steps count the nodes of trees that are visited to
-//! find out.
+//! What writes bring to the sessions that listen, staged before anything is placed. The steps count the nodes of trees
+//! that are visited to find out.
+//!
+//! What a call brings is staged in the order of its writes, the deletions of what is due first, and placed before the
+//! caller's reply. No request both subscribes and changes something, so the order of a caller's own messages and
+//! replies is never asked.
 
 ghost use Rattle.std.specs.Prelude.{◌≡◌, ◌∷◌, [], true, map, OnOk};
 ghost use Rattle.std.specs.List.{list_all};
 ghost use Rattle.world_data.specs.Sound.{is_sound_channel};
 ghost use Rattle.world_data.specs.declared.worlds.Change.TheVariants as change;
 ghost use Rattle.world_data.specs.declared.worlds.World.{World};
-ghost use Rattle.fence_model.specs.Writes.{loud, dels};
+ghost use Rattle.fence_model.specs.Writes.{announced, dels};
 ghost use Rattle.keyspace.specs.Entries.{objects_in};
-ghost use Rattle.session_mail.specs.Sessions.{session_of};
+ghost use Rattle.session_table.specs.Sessions.{session_of};
 ghost use Rattle.tile_core.specs.Dues.{AllStand};
-ghost use Rattle.command_plans.specs.Moves.{AllThere, HaveAllThere, world_with};
-ghost use Rattle.command_plans.specs.Plans.{writes_of};
+ghost use Rattle.object_plans.specs.Moves.{AllThere, HaveAllThere, world_with};
+ghost use Rattle.object_plans.specs.Plans.{writes_of};
 ghost use Rattle.tile_core.specs.Ready.{HoldsOfObjects, planned_writes};
 ghost use Rattle.tile_core.specs.Staged.{StagesBehind, dels_of};
 
 use byte_text::{Name, NoMemory};
 use channel_hub::Hub;
-use command_plans::{Move, Planned};
+use command_plans::{ObjectChange, Planned};
 use keyspace::Keyspace;
-use message_fan::{stage_del, stage_drop, stage_put, turn_laws};
+use message_fanout::{stage_del, stage_drop, stage_put, turn_laws};
 use rtree::{Steps, Visits};
-use session_mail::Session;
+use session_table::Session;
 use std::alloc::Global;
 use world_model::{NameList, Object};
 
@@ -35,7 +39,8 @@ pub(crate) fn stage_dels(
 ) -> Result<(), NoMemory>
     requires { list_all is_sound_channel hub.now.channels ≡ true }
     ensures same { map session_of sessions.new.items ≡ map session_of sessions.old.items }
-    ensures staged { OnOk result ((w : World) → w.channels ≡ hub.now.channels → AllStand w held.now → StagesBehind w (dels held.now) sessions.old.items sessions.new.items) }
+    ensures staged { OnOk result ((w : World) → w.channels ≡ hub.now.channels → AllStand w held.now
+        → StagesBehind w (dels held.now) sessions.old.items sessions.new.items) }
 {
     for i in 0..held.len() {
         stage_del(alloc, hub, sessions, &held[i], steps)?;
@@ -56,7 +61,8 @@ fn stage_each(
     requires sound { list_all is_sound_channel hub.now.channels ≡ true }
     requires there { AllThere key.now ids.now (objects_in objects.now) }
     ensures same { map session_of sessions.new.items ≡ map session_of sessions.old.items }
-    ensures staged { OnOk result (StagesBehind (world_with hub.now.channels (objects_in objects.now)) (dels_of key.now ids.now) sessions.old.items sessions.new.items) }
+    ensures staged { OnOk result (StagesBehind (world_with hub.now.channels (objects_in objects.now))
+        (dels_of key.now ids.now) sessions.old.items sessions.new.items) }
 {
     for i in 0..ids.len() {
         if let Some(object) = objects.get(key, ids.at(i)) {
@@ -79,7 +85,8 @@ fn stage_one(
     requires sound { list_all is_sound_channel hub.now.channels ≡ true }
     requires there { AllThere key.now (id.now ∷ []) (objects_in objects.now) }
     ensures same { map session_of sessions.new.items ≡ map session_of sessions.old.items }
-    ensures staged { OnOk result (StagesBehind (world_with hub.now.channels (objects_in objects.now)) (loud (change.Del key.now id.now) ∷ []) sessions.old.items sessions.new.items) }
+    ensures staged { OnOk result (StagesBehind (world_with hub.now.channels (objects_in objects.now)) (announced
+        (change.Del key.now id.now) ∷ []) sessions.old.items sessions.new.items) }
 {
     // A law, of which nothing is left at run time.
     turn_laws();
@@ -92,23 +99,24 @@ fn stage_one(
     }
 }
 
-// Stages what the put of an object brings, told to those who watch where it is loud.
+// Stages what the put of an object brings, told to those who watch where it is announced.
 fn stage_object(
     alloc: Global,
     hub: &Hub,
     objects: &Keyspace,
     object: &Object,
-    loud: bool,
+    announced: bool,
     sessions: &mut Vec<Session>,
     steps: &mut Steps<Visits>,
 ) -> Result<(), NoMemory>
     requires { list_all is_sound_channel hub.now.channels ≡ true }
     ensures same { map session_of sessions.new.items ≡ map session_of sessions.old.items }
-    ensures staged { OnOk result (StagesBehind (world_with hub.now.channels (objects_in objects.now)) (record { change = change.Put object.now; loud = loud } ∷ []) sessions.old.items sessions.new.items) }
+    ensures staged { OnOk result (StagesBehind (world_with hub.now.channels (objects_in objects.now))
+        (record { change = change.Put object.now; announced = announced } ∷ []) sessions.old.items sessions.new.items) }
 {
     // A law, of which nothing is left at run time.
     turn_laws();
-    if !loud {
+    if !announced {
         return Ok(());
     }
     // Where no channel stands nobody is told, and the object's place need not be sought again.
@@ -124,28 +132,34 @@ fn stage_move(
     alloc: Global,
     hub: &Hub,
     objects: &Keyspace,
-    action: &Move,
-    loud: bool,
+    action: &ObjectChange,
+    announced: bool,
     sessions: &mut Vec<Session>,
     steps: &mut Steps<Visits>,
 ) -> Result<(), NoMemory>
     requires sound { list_all is_sound_channel hub.now.channels ≡ true }
     requires there { HaveAllThere (objects_in objects.now) action.now }
     ensures same { map session_of sessions.new.items ≡ map session_of sessions.old.items }
-    ensures staged { OnOk result (StagesBehind (world_with hub.now.channels (objects_in objects.now)) (writes_of action.now loud) sessions.old.items sessions.new.items) }
+    ensures staged { OnOk result (StagesBehind (world_with hub.now.channels (objects_in objects.now))
+        (writes_of action.now announced) sessions.old.items sessions.new.items) }
 {
     // A law, of which nothing is left at run time.
     turn_laws();
     match action {
-        Move::Stay | Move::Clear => Ok(()),
-        Move::Put(object) => stage_object(alloc, hub, objects, object, loud, sessions, steps),
-        Move::Delete(key, id) => stage_one(alloc, hub, objects, key, id, sessions, steps),
-        Move::DeleteEach(key, ids) => stage_each(alloc, hub, objects, key, ids, sessions, steps),
-        Move::Leave(key) => stage_drop(alloc, hub, sessions, key),
+        ObjectChange::Stay | ObjectChange::Clear => Ok(()),
+        ObjectChange::Put(object) => stage_object(
+            alloc, hub, objects, object, announced, sessions, steps,
+        ),
+        ObjectChange::Delete(key, id) => stage_one(alloc, hub, objects, key, id, sessions, steps),
+        ObjectChange::DeleteEach(key, ids) => stage_each(
+            alloc, hub, objects, key, ids, sessions, steps,
+        ),
+        ObjectChange::DropKey(key) => stage_drop(alloc, hub, sessions, key),
     }
 }
 
-/// Stages what a request brings, behind what is due. Changes of channels bring nothing. For want of memory a part may be staged.
+/// Stages what a request brings, behind what is due. Changes of channels bring nothing. For want of memory a part may
+/// be staged.
 pub(crate) fn stage_planned(
     alloc: Global,
     hub: &Hub,
@@ -157,7 +171,8 @@ pub(crate) fn stage_planned(
     requires sound { list_all is_sound_channel hub.now.channels ≡ true }
     requires there { HoldsOfObjects (HaveAllThere (objects_in objects.now)) planned.now }
     ensures same { map session_of sessions.new.items ≡ map session_of sessions.old.items }
-    ensures staged { OnOk result (StagesBehind (world_with hub.now.channels (objects_in objects.now)) (planned_writes planned.now) sessions.old.items sessions.new.items) }
+    ensures staged { OnOk result (StagesBehind (world_with hub.now.channels (objects_in objects.now))
+        (planned_writes planned.now) sessions.old.items sessions.new.items) }
 {
     // A law, of which nothing is left at run time.
     turn_laws();
@@ -168,7 +183,7 @@ pub(crate) fn stage_planned(
                 hub,
                 objects,
                 &plan.action,
-                plan.loud,
+                plan.announced,
                 sessions,
                 steps,
             )

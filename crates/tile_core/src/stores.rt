@@ -6,7 +6,7 @@ use command_plans::MOST_KEPT;
 use keyspace::Keyspace;
 use rtree::{Steps, Visits};
 use std::alloc::Global;
-use stored_world::{StoreParts, StoredWorld};
+use world_store::{StoreParts, StoredWorld};
 
 /// A world as it is kept.
 #[derive(Drop)]
@@ -28,7 +28,7 @@ impl Store {
     ghost use Rattle.std.specs.List.{AllByRecursion};
     ghost use Rattle.world_data.specs.Sound.{IsSoundWorld};
     ghost use Rattle.world_data.specs.Worlds.{empty_world};
-    ghost use Rattle.command_plans.specs.Planned.{IsRecordedChannel};
+    ghost use Rattle.channel_plans.specs.Planned.{IsRecordedChannel};
     ghost use Rattle.tile_core.specs.Stores.{IsStore, world_at};
 
     /// The empty world.
@@ -46,7 +46,8 @@ impl Store {
         }
     }
 
-    /// A world that was stored, also one that is heavier than commands may make it. There is no memory for one of more than 2^36 bytes.
+    /// A world that was stored, also one that is heavier than commands may make it. There is no memory for one of more
+    /// than 2^36 bytes.
     pub(crate) fn over(world: StoredWorld) -> Result<Store, NoMemory>
         requires sound { IsSoundWorld world }
         requires recorded { AllByRecursion IsRecordedChannel world.channels }

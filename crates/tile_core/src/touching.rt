@@ -4,12 +4,12 @@ ghost use Rattle.std.specs.Prelude.{◌≡◌, ◌≤◌, ◌<◌, ◌++◌, ◌
 ghost use Rattle.world_data.specs.Limits.{max_sessions};
 ghost use Rattle.tile_core.specs.Answered.{AreNamed, AreRoomy, StayNamed, is_named};
 
-use session_mail::Session;
+use session_table::Session;
 use world_data::MAX_SESSIONS;
-use world_model::Touched;
+use world_model::ChangedSessions;
 
 /// Names a session, where it is not named yet and there is room.
-pub(crate) fn name_session(touched: &mut Touched, session: u32)
+pub(crate) fn name_session(touched: &mut ChangedSessions, session: u32)
     requires { is_named touched.old session ≡ false → length touched.old < max_sessions }
     ensures { touched.new ≡ (if is_named touched.old session then touched.old else touched.old ++ session ∷ []) }
 {
@@ -20,7 +20,7 @@ pub(crate) fn name_session(touched: &mut Touched, session: u32)
 }
 
 /// Names the sessions for which something is staged, beside those that are named.
-pub(crate) fn name_told(touched: &mut Touched, sessions: &[Session])
+pub(crate) fn name_told(touched: &mut ChangedSessions, sessions: &[Session])
     requires few { length sessions.now ≤ max_sessions }
     requires room { AreRoomy touched.old sessions.now }
     ensures named { AreNamed touched.new sessions.now }

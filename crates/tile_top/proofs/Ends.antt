@@ -8,7 +8,7 @@ use Rattle.byte_text.specs.Names.{Bytes}
 use Rattle.outside.specs.Sides.{Sides}
 use Rattle.outside.specs.Writing.{appends_more}
 use Rattle.world_data.specs.declared.worlds.World.{World}
-use Rattle.serve_command.specs.Ends.{IsEnd, memory_line}
+use Rattle.serve_run.specs.Ends.{IsEnd, memory_line}
 use Rattle.replay_run.specs.TextLines.{TextLine}
 use Rattle.replay_run.specs.Traces.{Deed}
 use Rattle.replay_run.specs.Played.{Played}
@@ -18,8 +18,8 @@ use Rattle.replay_run.specs.declared.ends.ReplayEnd.{ReplayEnd}
 use Rattle.replay_run.specs.declared.ends.ReplayEnd.TheVariants as ended
 use Rattle.replay_run.specs.declared.halts.Halt.{Halt}
 use Rattle.replay_run.specs.declared.halts.Halt.TheVariants as halted
-use Rattle.world_model.specs.declared.events.Called.{Called}
-use Rattle.world_model.specs.declared.events.Called.TheVariants as called
+use Rattle.world_model.specs.declared.events.CallOutcome.{CallOutcome}
+use Rattle.world_model.specs.declared.events.CallOutcome.TheVariants as called
 use Rattle.outside.specs.declared.sides.Side.{Side}
 use Rattle.tile_top.specs.Tops.{IsDamage, IsHaltEnd, IsReplayEnd, IsStopped, Plays, Replays, status_of, line_of, damaged_line, script_line, read_line}
 
@@ -58,7 +58,7 @@ module _ (told : Bool) (first : Played) (Ends : List Deed → Type 0) (left0 lef
   faulty_more : (number : ℕ) (tail : Bytes) → IsFaulty told first Ends left0 left held0 mid number [] → Appends mid held tail → IsFaulty told first Ends left0 left held0 held number tail
   faulty_more number tail f a = record { front = f.front; last = f.last; deeds = f.deeds; done = done_more f.front f.last f.deeds tail f.done a; numbered = f.numbered; closing = f.closing; closed = f.closed; ends = f.ends; told_is = f.told_is }
 
-  read_more : (answered : Called) (tail : Bytes) → IsRead told first Ends left0 left held0 mid answered [] → Appends mid held tail → IsRead told first Ends left0 left held0 held answered tail
+  read_more : (answered : CallOutcome) (tail : Bytes) → IsRead told first Ends left0 left held0 mid answered [] → Appends mid held tail → IsRead told first Ends left0 left held0 held answered tail
   read_more answered tail r a = record { all = r.all; last = r.last; deeds = r.deeds; done = done_more r.all r.last r.deeds tail r.done a; closed = r.closed; ends = r.ends; told_is = r.told_is }
 
   halted_more : (halt : Halt) (tail : Bytes) → IsHalted told first Ends left0 left held0 mid halt [] → Appends mid held tail → IsHalted told first Ends left0 left held0 held halt tail

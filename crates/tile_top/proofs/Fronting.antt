@@ -9,8 +9,8 @@ use Rattle.world_data.specs.declared.worlds.World.{World}
 use Rattle.world_model.specs.Halls.{Hall}
 use Rattle.world_model.specs.Histories.{answer, gives_disk, Reaches}
 use Rattle.world_model.specs.Seats.{Act, Adds, Knows, act_of}
-use Rattle.world_model.specs.declared.events.Called.{Called}
-use Rattle.world_model.specs.declared.events.Called.TheVariants as called
+use Rattle.world_model.specs.declared.events.CallOutcome.{CallOutcome}
+use Rattle.world_model.specs.declared.events.CallOutcome.TheVariants as called
 use Rattle.world_model.specs.declared.events.Entry.{Entry}
 use Rattle.world_model.specs.declared.events.Event.TheVariants as event
 use Rattle.world_model.specs.declared.events.Outcome.{Outcome}
@@ -19,9 +19,9 @@ use Rattle.journal.specs.declared.openings.OpenFault.TheVariants as fault_of
 use Rattle.log_record.specs.Readings.{Damaged}
 use Rattle.log_record.specs.Recovery.{Recovers}
 use Rattle.log_record.specs.Safety.{Safe}
-use Rattle.serve_command.specs.Ends.{IsEnd, memory_line}
-use Rattle.serve_command.specs.Words.{Serve}
-use Rattle.serve_command.specs.Serves.{Serves, Counted}
+use Rattle.serve_run.specs.Ends.{IsEnd, memory_line}
+use Rattle.serve_run.specs.Words.{Serve}
+use Rattle.serve_run.specs.Serves.{Serves, Counted}
 use Rattle.shared_hall.specs.Turns.{retire_outcome}
 use Rattle.replay_run.specs.Openings.{IsDamagedAt}
 use Rattle.replay_run.specs.Undone.{halt_at}
@@ -53,16 +53,16 @@ checked_line {E} w objects channels generation r text is said o c =
     told ∙ ap (λ (n : ℕ). codes "objects " ++ decimal n ++ codes " channels " ++ decimal channels ++ codes " generation " ++ decimal generation ++ codes "\n") o
     ∙ ap (λ (n : ℕ). codes "objects " ++ decimal (length w.objects) ++ codes " channels " ++ decimal n ++ codes " generation " ++ decimal generation ++ codes "\n") c
 
-pub not_done : (a : Called) → (a ≡ called.Ok) ⊎ (a ≡ called.LogFault) → (a ≡ called.Ok → ⊥) → a ≡ called.LogFault
+pub not_done : (a : CallOutcome) → (a ≡ called.Ok) ⊎ (a ≡ called.LogFault) → (a ≡ called.Ok → ⊥) → a ≡ called.LogFault
 not_done a (inl e) n = absurd (n e)
 not_done a (inr e) n = e
 
 -- an answer, by the outcome that it is
-answered : (a b : Called) → answer a ≡ answer b → a ≡ b
+answered : (a b : CallOutcome) → answer a ≡ answer b → a ≡ b
 answered a b e = cc
 
 -- a retirement that was not done
-pub not_fine : (a : Called) → (a ≡ called.Ok → ⊥) → answer a ≢ answer called.Ok
+pub not_fine : (a : CallOutcome) → (a ≡ called.Ok → ⊥) → answer a ≢ answer called.Ok
 not_fine a not e = not (answered a called.Ok e)
 
 -- a status behind a retirement, told of how that ended
@@ -85,10 +85,10 @@ one_entry (e ∷ []) a is = (e, refl, cc)
 one_entry (e ∷ d ∷ entries) a is = absurd (cc)
 
 -- an entry that gave the disk out was answered Ok
-gave_out : (e : Entry) (a : Called) → act_of e ≡ (event.Retire, answer a) → gives_disk e ≡ true → a ≡ called.Ok
+gave_out : (e : Entry) (a : CallOutcome) → act_of e ≡ (event.Retire, answer a) → gives_disk e ≡ true → a ≡ called.Ok
 gave_out e a is out = fine a (sym (ap (λ (x : Act). gives_disk (record e { event = x.0; outcome = x.1 })) is) ∙ out)
   where
-    fine : (a : Called) → gives_disk (record e { event = event.Retire; outcome = answer a }) ≡ true → a ≡ called.Ok
+    fine : (a : CallOutcome) → gives_disk (record e { event = event.Retire; outcome = answer a }) ≡ true → a ≡ called.Ok
     fine called.Ok out = refl
     fine called.Full out = absurd (cc)
     fine called.Gone out = absurd (cc)
@@ -98,7 +98,7 @@ gave_out e a is out = fine a (sym (ap (λ (x : Act). gives_disk (record e { even
     fine called.Memory out = absurd (cc)
 
 -- where the last entry of all is a retirement that was answered Ok, this one was
-retired_ok : (old new : Knows) (a : Called) → Adds event.Retire (answer a) old new → IsSettled new.seen → a ≡ called.Ok
+retired_ok : (old new : Knows) (a : CallOutcome) → Adds event.Retire (answer a) old new → IsSettled new.seen → a ≡ called.Ok
 retired_ok old new a adds s =
     let last = s.1 in
     let one = one_entry adds.entries (event.Retire, answer a) adds.are in
@@ -107,18 +107,18 @@ retired_ok old new a adds s =
     gave_out one.0 a one.2 (ap gives_disk same ∙ s.3)
 
 -- a disk that was not given out was not retired well
-pub given_well : {D : Type 0} (old new : Knows) (r : Option (D × Called)) → r ≡ None → Adds event.Retire (retire_outcome r) old new → IsSettled new.seen → ⊥
+pub given_well : {D : Type 0} (old new : Knows) (r : Option (D × CallOutcome)) → r ≡ None → Adds event.Retire (retire_outcome r) old new → IsSettled new.seen → ⊥
 given_well old new None none adds s = let ok = retired_ok old new called.Stopped adds s in cc
 given_well old new (Some p) none adds s = cc
 
 -- the disk that a retirement gave
-pub given_left : {D : Type 0} (images : D → Sides → Type 0) (left_since : D → ℕ → Sides → Type 0) (old new : Knows) (r : Option (D × Called)) (given : D × Called) → r ≡ Some given → Adds event.Retire (retire_outcome r) old new
+pub given_left : {D : Type 0} (images : D → Sides → Type 0) (left_since : D → ℕ → Sides → Type 0) (old new : Knows) (r : Option (D × CallOutcome)) (given : D × CallOutcome) → r ≡ Some given → Adds event.Retire (retire_outcome r) old new
     → IfSome r (λ p. Safe left_since p.0 new.opening new.seen)
     → IfSome r (λ p. p.1 ≡ called.Ok → (h : Hall) → Reaches new.opening new.seen h → EachImage (images p.0) (λ image. Recovers image h.world)) → IsLeft images left_since given.0 new
 given_left images left_since old new None given is adds safe stands = absurd (cc)
 given_left {D} images left_since old new (Some p) given is adds safe stands =
     let same : p ≡ given = cc in
-    subst (λ (x : D × Called). IsLeft images left_since x.0 new) same (record {
+    subst (λ (x : D × CallOutcome). IsLeft images left_since x.0 new) same (record {
       safe = safe;
       settled = λ s. stands (retired_ok old new p.1 adds s);
     })

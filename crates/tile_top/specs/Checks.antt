@@ -4,9 +4,9 @@ use Rattle.byte_text.specs.Names.{Bytes}
 use Rattle.outside.specs.Sides.{Sides}
 use Rattle.outside.specs.declared.sides.Side.{Side}
 use Rattle.world_data.specs.declared.worlds.World.{World}
-use Rattle.world_model.specs.declared.events.Called.{Called}
-use Rattle.world_model.specs.declared.events.Called.TheVariants as called
-use Rattle.serve_command.specs.Ends.{IsEnd, disk_line, memory_line}
+use Rattle.world_model.specs.declared.events.CallOutcome.{CallOutcome}
+use Rattle.world_model.specs.declared.events.CallOutcome.TheVariants as called
+use Rattle.serve_run.specs.Ends.{IsEnd, disk_line, memory_line}
 use Rattle.replay_run.specs.Openings.{Opens, IsDamagedAt}
 use Rattle.replay_run.specs.declared.halts.Halt.{Halt}
 use Rattle.replay_run.specs.declared.halts.Halt.TheVariants as halted
@@ -20,15 +20,18 @@ pub record IsUnfound (seen : Option Sides) (held0 held : Option Bytes) (status :
   pub ended : IsHaltEnd why held0 held status
 
 -- a disk was opened with a world, and the line of that was written; but the disk failed when it was retired, or memory wanted
-pub record IsFound (seen : Option Sides) (HasGeneration : ℕ → Type 0) (Ends : World → ℕ → Called → Type 0) (held0 held : Option Bytes) (status : ℕ) : Type 0 where
+pub record IsFound (seen : Option Sides) (HasGeneration : ℕ → Type 0) (Ends : World → ℕ → CallOutcome
+    → Type 0) (held0 held : Option Bytes) (status : ℕ) : Type 0 where
   pub world : World
   pub logged : ℕ
   pub opens : Opens seen world logged
   pub generation : ℕ
-  pub answered : Called
+  pub answered : CallOutcome
   pub counted : (s : Sides) → seen ≡ Some s → answered ≡ called.Ok → HasGeneration generation
   pub ends : Ends world logged answered
-  pub ended : ((answered ≡ called.Ok) × (IsEnd held0 held 0 (check_line world generation) status ⊎ IsEnd held0 held 7 memory_line status)) ⊎ ((answered ≡ called.LogFault) × IsEnd held0 held 5 disk_line status)
+  pub ended : ((answered ≡ called.Ok)
+      × (IsEnd held0 held 0 (check_line world generation) status ⊎ IsEnd held0 held 7 memory_line status)) ⊎ ((answered ≡ called.LogFault)
+      × IsEnd held0 held 5 disk_line status)
 
-abbrev pub Checks : Option Sides → (ℕ → Type 0) → (World → ℕ → Called → Type 0) → Option Bytes → Option Bytes → ℕ → Type 0
+abbrev pub Checks : Option Sides → (ℕ → Type 0) → (World → ℕ → CallOutcome → Type 0) → Option Bytes → Option Bytes → ℕ → Type 0
 Checks seen HasGeneration Ends held0 held status = IsUnfound seen held0 held status ⊎ IsFound seen HasGeneration Ends held0 held status

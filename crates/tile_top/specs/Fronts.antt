@@ -7,15 +7,15 @@ use Rattle.outside.specs.declared.sides.Side.{Side}
 use Rattle.world_model.specs.Halls.{Hall}
 use Rattle.world_model.specs.Histories.{answer, gives_disk, Reaches}
 use Rattle.world_model.specs.Seats.{Knows, Adds}
-use Rattle.world_model.specs.declared.events.Called.TheVariants as called
+use Rattle.world_model.specs.declared.events.CallOutcome.TheVariants as called
 use Rattle.world_model.specs.declared.events.Entry.{Entry}
 use Rattle.world_model.specs.declared.events.Event.TheVariants as event
 use Rattle.world_model.specs.declared.events.Outcome.{Outcome}
 use Rattle.log_record.specs.Recovery.{Recovers}
 use Rattle.log_record.specs.Safety.{Safe}
-use Rattle.serve_command.specs.Ends.{IsEnd, disk_line}
-use Rattle.serve_command.specs.Words.{Serve}
-use Rattle.serve_command.specs.Serves.{Serves, Counted}
+use Rattle.serve_run.specs.Ends.{IsEnd, disk_line}
+use Rattle.serve_run.specs.Words.{Serve}
+use Rattle.serve_run.specs.Serves.{Serves, Counted}
 use Rattle.replay_run.specs.Openings.{Opens, IsDamagedAt}
 use Rattle.replay_run.specs.declared.halts.Halt.{Halt}
 use Rattle.replay_run.specs.declared.halts.Halt.TheVariants as halted
@@ -61,7 +61,8 @@ pub record IsLeft {D : Type 0} (images : D → Sides → Type 0) (left_since : D
 
 -- A shared hall of the disk's world was made, and callers were served up to an end; then it was retired. The server's seat has seen a
 -- legal history, and its own entries are those of the serving, and the retirement.
-pub record ServesFront (seen : Option Sides) (told : Option ℕ) (s : Serve) (c c' : Counted) (held held' : Option Bytes) (status : ℕ) (k : Knows) : Type 0 where
+pub record ServesFront (seen : Option Sides) (told : Option ℕ) (s : Serve) (c c' : Counted) (held held' : Option Bytes) (status : ℕ)
+    (k : Knows) : Type 0 where
   pub first : Knows
   pub is_first : IsFirst seen first
   pub served : Knows

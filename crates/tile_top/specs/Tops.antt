@@ -6,9 +6,9 @@ use Rattle.outside.specs.Sides.{Sides}
 use Rattle.outside.specs.declared.sides.Side.{Side}
 use Rattle.outside.specs.declared.sides.Side.TheVariants.{A, B}
 use Rattle.world_data.specs.declared.worlds.World.{World}
-use Rattle.world_model.specs.declared.events.Called.TheVariants as called
+use Rattle.world_model.specs.declared.events.CallOutcome.TheVariants as called
 use Rattle.world_model.specs.declared.events.Event.TheVariants as event
-use Rattle.serve_command.specs.Ends.{IsEnd, disk_line, memory_line, spent_line}
+use Rattle.serve_run.specs.Ends.{IsEnd, disk_line, memory_line, spent_line}
 use Rattle.replay_run.specs.Traces.{Deed}
 use Rattle.replay_run.specs.Played.{Played}
 use Rattle.replay_run.specs.Scripts.{opening}
@@ -84,13 +84,15 @@ IsCheck words = words ≡ codes "check" ∷ []
 -- What a script's play did and its status says: done, or a line that is none of a script, or a read or a write that failed, or one that
 -- was not done. At each status the lines before the last one that was read were done, and their whole output was written before it was
 -- read. At 7 memory wanted, also for the line of a damage or of a line that is none of a script. `ReadFailed` is what holds where a read failed.
-pub record Plays (told : Bool) (first : Played) (Ends : List Deed → Type 0) (ReadFailed : Type 0) (left0 left held0 held : Option Bytes) (status : ℕ) : Type 0 where
+pub record Plays (told : Bool) (first : Played) (Ends : List Deed
+    → Type 0) (ReadFailed : Type 0) (left0 left held0 held : Option Bytes) (status : ℕ) : Type 0 where
   pub done : status ≡ 0 → IsDone told first Ends left0 left held0 held
   pub script : status ≡ 2 → (number : ℕ) × IsFaulty told first Ends left0 left held0 held number (script_line number)
   pub read : status ≡ 3 → IsBefore told first Ends left0 left held0 held read_line
   pub write : status ≡ 4 → IsStopped told first Ends ReadFailed left0 left held0 held
   pub disk : status ≡ 5 → IsCut told first Ends left0 left held0 held halted.DiskFault disk_line
-  pub damaged : status ≡ 6 → (side : Side) × (place : ℕ) × IsCut told first Ends left0 left held0 held (halted.Damaged side place) (damaged_line side place)
+  pub damaged : status ≡ 6 → (side : Side) × (place : ℕ)
+      × IsCut told first Ends left0 left held0 held (halted.Damaged side place) (damaged_line side place)
   pub memory : status ≡ 7 → IsBefore told first Ends left0 left held0 held memory_line
       ⊎ ((halt : Halt) × ((halt ≡ halted.Memory) ⊎ IsDamage halt) × IsCut told first Ends left0 left held0 held halt memory_line)
   pub spent : status ≡ 9 → IsCut told first Ends left0 left held0 held halted.Spent spent_line
@@ -111,4 +113,5 @@ Replays seen Ends ReadFailed left0 left held0 held status = IsUnopened seen left
 
 -- the line of a world and the generation of its log
 abbrev pub check_line : World → ℕ → Bytes
-check_line w generation = codes "objects " ++ decimal (length w.objects) ++ codes " channels " ++ decimal (length w.channels) ++ codes " generation " ++ decimal generation ++ codes "\n"
+check_line w generation = codes "objects " ++ decimal (length w.objects) ++ codes " channels " ++ decimal (length w.channels) ++ codes " generation "
+    ++ decimal generation ++ codes "\n"

@@ -14,13 +14,15 @@ use crate::replays::Scripted;
 use byte_text::{NoMemory, Text, push_u64};
 use outside::{Disk, Sink};
 use replay_run::{check, halt_of};
-use serve_command::{DISK_FAULT, OUT_OF_MEMORY, end};
+use serve_run::{DISK_FAULT, OUT_OF_MEMORY, end};
 use std::alloc::Global;
-use world_model::Called;
+use world_model::CallOutcome;
 
 // The line of a world, and of the generation of its log.
 fn check_text(alloc: Global, objects: u64, channels: u64, generation: u64) -> Result<Text, NoMemory>
-    ensures { IfOk result (λ t. t ≡ codes "objects " ++ decimal objects ++ codes " channels " ++ decimal channels ++ codes " generation " ++ decimal generation ++ codes "\n") }
+    ensures { IfOk result
+        (λ t. t ≡ codes "objects " ++ decimal objects ++ codes " channels " ++ decimal channels ++ codes " generation "
+        ++ decimal generation ++ codes "\n") }
 {
     let mut text = Text::new(alloc);
     text.push(b"objects ")?;
@@ -35,7 +37,9 @@ fn check_text(alloc: Global, objects: u64, channels: u64, generation: u64) -> Re
 
 /// Opens the world on a disk and retires it, and writes what it has.
 pub(crate) fn check_disk<K: Sink, D: Disk>(alloc: Global, sink: &mut K, disk: D) -> Scripted<D>
-    ensures told { Checks (D.seen disk) (HasGeneration D.crashes D.seen D.images result.disk) (λ w logged answered. (s : Sides) → D.seen disk ≡ Some s → D.crashes disk ≡ true → IsSafeFor D.images D.left_since result.disk (opens w logged ∷ retired answered))
+    ensures told { Checks (D.seen disk) (HasGeneration D.crashes D.seen D.images result.disk)
+        (λ w logged answered. (s : Sides) → D.seen disk ≡ Some s → D.crashes disk ≡ true
+        → IsSafeFor D.images D.left_since result.disk (opens w logged ∷ retired answered))
         (K.held sink.old) (K.held sink.new) result.status }
     ensures sink { K.faults sink.old ≤ K.faults sink.new }
     ensures later { D.faults disk ≤ D.faults result.disk }
@@ -46,8 +50,8 @@ pub(crate) fn check_disk<K: Sink, D: Disk>(alloc: Global, sink: &mut K, disk: D)
         Ok(found) => {
             let text = check_text(alloc, found.objects, found.channels, found.generation);
             let status = match (found.answer, text) {
-                (Called::Ok, Ok(text)) => end(sink, 0, text.bytes()),
-                (Called::Ok, Err(NoMemory)) => end(sink, 7, OUT_OF_MEMORY),
+                (CallOutcome::Ok, Ok(text)) => end(sink, 0, text.bytes()),
+                (CallOutcome::Ok, Err(NoMemory)) => end(sink, 7, OUT_OF_MEMORY),
                 _ => end(sink, 5, DISK_FAULT),
             };
             Scripted {

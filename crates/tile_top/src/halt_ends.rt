@@ -7,7 +7,7 @@ ghost use Rattle.tile_top.specs.Tops.{IsHaltEnd, IsReplayEnd, damaged_line, scri
 use byte_text::{NoMemory, Text, push_u64};
 use outside::{Side, Sink};
 use replay_run::{Halt, ReplayEnd};
-use serve_command::{DISK_FAULT, OUT_OF_MEMORY, SPENT, end};
+use serve_run::{DISK_FAULT, OUT_OF_MEMORY, SPENT, end};
 use std::alloc::Global;
 
 const READ_FAULT: &[u8] = b"read fault\n";
@@ -61,7 +61,8 @@ pub(crate) fn end_replay<K: Sink>(alloc: Global, sink: &mut K, ended: ReplayEnd)
     ensures later { K.faults sink.old ≤ K.faults sink.new }
     ensures read { result ≡ 3 → ended ≡ ReplayEnd.ReadFault }
     ensures write { result ≡ 4 → (ended ≡ ReplayEnd.WriteFault) ⊎ Rose (K.faults sink.old) (K.faults sink.new) }
-    ensures disk { result ≡ 5 → (ended ≡ ReplayEnd.Halted Halt.DiskFault) ⊎ (ended ≡ ReplayEnd.Unopened Halt.DiskFault) }
+    ensures disk { result ≡ 5
+        → (ended ≡ ReplayEnd.Halted Halt.DiskFault) ⊎ (ended ≡ ReplayEnd.Unopened Halt.DiskFault) }
 {
     match ended {
         ReplayEnd::Done => 0,

@@ -4,8 +4,10 @@
 mod checks;
 mod halt_ends;
 mod loads;
+mod machines;
 mod replays;
 mod serves;
 mod tops;
 
+pub use machines::CoreMachine;
 pub use tops::{Ended, out_of_memory, top};

@@ -4,10 +4,10 @@ ghost use Rattle.std.specs.Prelude.{◌≡◌, ◌≤◌, ◌⊎◌};
 ghost use Rattle.outside.specs.Causes.{Rose};
 ghost use Rattle.load_command.specs.Loads.{Loads};
 
-use core_machine::CoreMachine;
+use crate::CoreMachine;
 use load_command::{LoadWords, load};
 use outside::Sink;
-use serve_command::{OUT_OF_MEMORY, end};
+use serve_run::{OUT_OF_MEMORY, end};
 use std::alloc::Global;
 
 /// Makes a core and drives it with the workload that the words ask for. The status.

@@ -26,8 +26,11 @@ pub(crate) fn replay_script<S: Source, K: Sink, D: Disk>(
     sink: &mut K,
     disk: D,
 ) -> Scripted<D>
-    ensures told { Replays (D.seen disk) (λ w logged deeds. (s : Sides) → D.seen disk ≡ Some s → D.crashes disk ≡ true → IsSafeFor D.images D.left_since result.disk (opens w logged ∷ deeds))
-        (Rose (S.faults source.old) (S.faults source.new)) (S.left source.old) (S.left source.new) (K.held sink.old) (K.held sink.new) result.status }
+    ensures told { Replays (D.seen disk)
+        (λ w logged deeds. (s : Sides) → D.seen disk ≡ Some s → D.crashes disk ≡ true
+        → IsSafeFor D.images D.left_since result.disk (opens w logged ∷ deeds))
+        (Rose (S.faults source.old) (S.faults source.new)) (S.left source.old) (S.left source.new) (K.held sink.old)
+        (K.held sink.new) result.status }
     ensures source { S.faults source.old ≤ S.faults source.new }
     ensures sink { K.faults sink.old ≤ K.faults sink.new }
     ensures later { D.faults disk ≤ D.faults result.disk }

@@ -7,7 +7,7 @@ ghost use Rattle.outside.specs.declared.sides.Side.{Side};
 ghost use Rattle.world_model.specs.declared.events.Outcome.TheVariants as outcome;
 ghost use Rattle.journal.specs.declared.openings.OpenFault.TheVariants as fault_of;
 ghost use Rattle.log_record.specs.Readings.{Damaged};
-ghost use Rattle.serve_command.specs.Serves.{counted};
+ghost use Rattle.serve_run.specs.Serves.{counted};
 ghost use Rattle.shared_hall.specs.Cores.{tells};
 ghost use Rattle.shared_hall.specs.Seats.{IsOf, handed_of, knows_of};
 ghost use Rattle.tile_top.specs.Fronts.{EndsBehind, Fronts, IsFirst, IsLeft, IsRetired, IsSettled};
@@ -18,14 +18,13 @@ use durable_core::DurableCore;
 use journal::{OpenFault, Unopened};
 use outside::{Clock, Disk, Door, NoGate, PlainBell, Sink, Spawner};
 use replay_run::halt_of;
-use serve_command::{DISK_FAULT, OUT_OF_MEMORY, ServeWords, end, serve_links};
-use serve_run::Jobs;
+use serve_run::{DISK_FAULT, Jobs, OUT_OF_MEMORY, ServeWords, end, serve_links};
 use shared_hall::{HallSeat, SharedHall};
 use std::alloc::Global;
 use std::snapshot::Snapshot;
 use std::sync::{Arc, Wait};
 use std::thread::Threads;
-use world_model::Called;
+use world_model::CallOutcome;
 
 // A shared hall of a disk's world, and its first seat; or why there is none, and the disk.
 fn open_hall<D: Disk + Drop>(
@@ -35,7 +34,8 @@ fn open_hall<D: Disk + Drop>(
     ensures seat { IfOk result (λ r. IsOf D.crashes D.seen D.images D.moment D.left_since D.faults r.0 r.1) }
     ensures first { IfOk result (λ r. IsFirst (D.seen disk) (knows_of r.1)) }
     ensures handed { IfOk result (λ r. handed_of r.0 ≡ disk) }
-    ensures damaged { (s : Sides) → D.seen disk ≡ Some s → IfErr result (λ u. (side : Side) (place : ℕ) → u.why ≡ fault_of.Damaged side place → Damaged s side place) }
+    ensures damaged { (s : Sides) → D.seen disk ≡ Some s
+        → IfErr result (λ u. (side : Side) (place : ℕ) → u.why ≡ fault_of.Damaged side place → Damaged s side place) }
     ensures left { IfErr result (λ u. D.faults disk ≤ D.faults u.disk) }
     ensures cause { IfErr result (λ u. u.why ≡ fault_of.Disk → Rose (D.faults disk) (D.faults u.disk)) }
 {
@@ -53,7 +53,7 @@ fn open_hall<D: Disk + Drop>(
 }
 
 // The status behind a retirement that was answered so: what was served well is not done where the log failed then.
-fn end_behind<K: Sink>(sink: &mut K, before: u8, answer: Called) -> u8
+fn end_behind<K: Sink>(sink: &mut K, before: u8, answer: CallOutcome) -> u8
     requires unread { before ≡ 3 → ⊥ }
     ensures ended { EndsBehind (outcome.Answered answer) before result (K.held sink.old) (K.held sink.new) }
     ensures sink { K.faults sink.old ≤ K.faults sink.new }
@@ -62,7 +62,7 @@ fn end_behind<K: Sink>(sink: &mut K, before: u8, answer: Called) -> u8
     ensures unread { result ≡ 3 → ⊥ }
 {
     match answer {
-        Called::Ok => before,
+        CallOutcome::Ok => before,
         _ if before == 0 => end(sink, 5, DISK_FAULT),
         _ => before,
     }
@@ -79,7 +79,8 @@ fn retire_hall<K: Sink, D: Disk + Drop, R: Wait>(
     requires seat { IsOf D.crashes D.seen D.images D.moment D.left_since D.faults hall.now seat }
     requires first { (knows_of seat).first ≡ true }
     requires unread { before ≡ 3 → ⊥ }
-    ensures front { IfSome (option_map knows_of result.front) (λ k. IsRetired (knows_of seat) k (K.held sink.old) (K.held sink.new) before result.status) }
+    ensures front { IfSome (option_map knows_of result.front)
+        (λ k. IsRetired (knows_of seat) k (K.held sink.old) (K.held sink.new) before result.status) }
     ensures some { is_some result.front ≡ true }
     ensures safe { tells D.crashes D.seen (handed_of hall.now) ≡ true
         → IfSome result.front (λ last. IfSome result.disk (λ d. IsLeft D.images D.left_since d (knows_of last))) }
@@ -99,7 +100,7 @@ fn retire_hall<K: Sink, D: Disk + Drop, R: Wait>(
         },
         // No other seat gives the disk out.
         None => Ended {
-            status: end_behind(sink, before, Called::Stopped),
+            status: end_behind(sink, before, CallOutcome::Stopped),
             disk: None,
             front: Some(seat),
         },
@@ -130,7 +131,8 @@ where
     L::Out: Send + Drop + 'static,
     requires seat { IsOf D.crashes D.seen D.images D.moment D.left_since D.faults hall seat }
     requires first { (knows_of seat).first ≡ true }
-    ensures serves { (seen : Option Sides) → IsFirst seen (knows_of seat) → Fronts seen (C.told clock.now) (record { addr = asked.entry.addr.now; limit = asked.entry.limit })
+    ensures serves { (seen : Option Sides) → IsFirst seen (knows_of seat)
+        → Fronts seen (C.told clock.now) (record { addr = asked.entry.addr.now; limit = asked.entry.limit })
         (counted (P.jobs spawner.old) (P.faults spawner.old) (L.links door.old) (L.ends door.old) (L.faults door.old))
         (counted (P.jobs spawner.new) (P.faults spawner.new) (L.links door.new) (L.ends door.new) (L.faults door.new))
         (K.held sink.old) (K.held sink.new) result.status (option_map knows_of result.front) }
@@ -183,7 +185,8 @@ pub(crate) fn serve_hall<
 where
     L::In: Send + Drop + 'static,
     L::Out: Send + Drop + 'static,
-    ensures serves { Fronts (D.seen disk) (C.told clock.now) (record { addr = asked.entry.addr.now; limit = asked.entry.limit })
+    ensures serves { Fronts (D.seen disk) (C.told clock.now)
+        (record { addr = asked.entry.addr.now; limit = asked.entry.limit })
         (counted (P.jobs spawner.old) (P.faults spawner.old) (L.links door.old) (L.ends door.old) (L.faults door.old))
         (counted (P.jobs spawner.new) (P.faults spawner.new) (L.links door.new) (L.ends door.new) (L.faults door.new))
         (K.held sink.old) (K.held sink.new) result.status (option_map knows_of result.front) }
@@ -191,7 +194,8 @@ where
         → IfSome result.front (λ last. IfSome result.disk (λ d. IsLeft D.images D.left_since d (knows_of last))) }
     ensures handed { result.front ≡ None → is_some result.disk ≡ true }
     ensures later { result.front ≡ None → IfSome result.disk (λ d. D.faults disk ≤ D.faults d) }
-    ensures disk { result.front ≡ None → result.status ≡ 5 → IfSome result.disk (λ d. Rose (D.faults disk) (D.faults d)) }
+    ensures disk { result.front ≡ None → result.status ≡ 5
+        → IfSome result.disk (λ d. Rose (D.faults disk) (D.faults d)) }
     ensures given { IfSome result.front (λ last. IsSettled (knows_of last).seen → is_some result.disk ≡ true) }
     ensures sink { K.faults sink.old ≤ K.faults sink.new }
     ensures door { L.faults door.old ≤ L.faults door.new }

@@ -1,11 +1,12 @@
 //! The top call.
 
-ghost use Rattle.std.specs.Prelude.{◌≡◌, ◌⊎◌, ◌↔◌, ◌≤◌, ◌∷◌, [], None, Some, true, is_some, IfSome, IsTrue, map, option_map, string_bytes};
+ghost use Rattle.std.specs.Prelude.{◌≡◌, ◌⊎◌, ◌↔◌, ◌≤◌, ◌∷◌, [], None, Some, true, is_some, IfSome, IsTrue, map};
+ghost use Rattle.std.specs.Prelude.{option_map, string_bytes};
 ghost use Rattle.outside.specs.Causes.{Rose};
 ghost use Rattle.outside.specs.Sides.{Sides};
-ghost use Rattle.serve_command.specs.Ends.{IsEnd, memory_line};
-ghost use Rattle.serve_command.specs.Words.{serve_of};
-ghost use Rattle.serve_command.specs.Serves.{counted};
+ghost use Rattle.serve_run.specs.Ends.{IsEnd, memory_line};
+ghost use Rattle.serve_run.specs.Words.{serve_of};
+ghost use Rattle.serve_run.specs.Serves.{counted};
 ghost use Rattle.load_command.specs.Loads.{Loads};
 ghost use Rattle.load_command.specs.Words.{load_of};
 ghost use Rattle.replay_run.specs.Traces.{opens};
@@ -24,8 +25,7 @@ use crate::replays::{Scripted, replay_script};
 use crate::serves::serve_hall;
 use load_command::load_words;
 use outside::{Clock, Disk, Door, NoGate, PlainBell, Sink, Source, Spawner};
-use serve_command::{OUT_OF_MEMORY, end, serve_words};
-use serve_run::Jobs;
+use serve_run::{Jobs, OUT_OF_MEMORY, end, serve_words};
 use shared_hall::{HallSeat, SharedHall};
 use std::alloc::Global;
 use std::sync::Wait;
@@ -37,8 +37,8 @@ const USAGE: &[u8] =
 /// How the program ended.
 #[derive(Drop)]
 pub struct Ended<D: Disk + Drop> {
-    /// 0 done, 1 usage, 2 script fault, 3 read fault, 4 write fault, 5 disk fault, 6 damaged, 7 out of memory, 8 door fault, 9 log at
-    /// its greatest length.
+    /// 0 done, 1 usage, 2 script fault, 3 read fault, 4 write fault, 5 disk fault, 6 damaged, 7 out of memory, 8 door
+    /// fault, 9 log at its greatest length.
     pub status: u8,
     /// The disk; none where a shared hall does not give it out.
     pub disk: Option<D>,
@@ -69,8 +69,8 @@ fn without_hall<D: Disk + Drop>(status: u8, disk: D) -> Ended<D>
     }
 }
 
-/// The end of a program that wants memory before it can call [`top`]: the last line of status 7 is written, or a beginning of it at
-/// status 4.
+/// The end of a program that wants memory before it can call [`top`]: the last line of status 7 is written, or a
+/// beginning of it at status 4.
 pub fn out_of_memory<K: Sink, D: Disk + Drop>(sink: &mut K) -> Ended<D>
     ensures told { IsEnd (K.held sink.old) (K.held sink.new) 7 memory_line result.status }
     ensures later { K.faults sink.old ≤ K.faults sink.new }
@@ -83,53 +83,58 @@ pub fn out_of_memory<K: Sink, D: Disk + Drop>(sink: &mut K) -> Ended<D>
     }
 }
 
-/// Does what the words ask for, the words after the program's name: `replay` plays the script that the source gives on the world of the
-/// disk, and writes its output to the sink. `check` opens the disk, and writes what it has. `serve ADDR`, which `--sessions N` may
-/// follow, opens the door at the address and serves callers on one shared hall of the disk's world, up to N of them, from 1 to
-/// 1,000,000,000, or up to an end. `load N SEED` drives a core of its own with the generated workload of N commands, from 1 to 1,000,000,
-/// and writes its summary. Every other list of words is answered by a line on the usage and status 1. Nothing is read but with `replay`,
-/// and the disk is left alone but with the first three.
+/// Does what the words ask for, the words after the program's name: `replay` plays the script that the source gives on
+/// the world of the disk, and writes its output to the sink. `check` opens the disk, and writes what it has. `serve
+/// ADDR`, which `--sessions N` may follow, opens the door at the address and serves callers on one shared hall of the
+/// disk's world, up to N of them, from 1 to 1,000,000,000, or up to an end. `load N SEED` drives a core of its own with
+/// the generated workload of N commands, from 1 to 1,000,000, and writes its summary. Every other list of words is
+/// answered by a line on the usage and status 1. Nothing is read but with `replay`, and the disk is left alone but with
+/// the first three.
 ///
-/// Where a disk is opened. It begins with the world that the disk is recovered as, where it tells what it holds; else with some sound
-/// world. Status 6 comes exactly where its sides are damaged, and its line says where; 5 comes only where a call of the disk failed; 7
-/// stands for want of memory alone. The disk is handed back.
+/// Where a disk is opened. It begins with the world that the disk is recovered as, where it tells what it holds; else
+/// with some sound world. Status 6 comes exactly where its sides are damaged, and its line says where; 5 comes only
+/// where a call of the disk failed; 7 stands for want of memory alone. The disk is handed back.
 ///
-/// With `replay`. Status 0: the source was read to its end, and the bytes written are the script's output. Status 2: this line is the
-/// first that is none of a script, and the bytes written are the whole output of the lines before it and then the status's line. At
-/// status 3 (reading failed), 5 (the disk failed), 6 (it was opened again, and is damaged), 7 (want of memory) and 9 they are the whole
-/// output of the lines before the last one that was read, and then the status's line. At 4 (writing failed) they are that output and a part
-/// of the last line's, or a beginning of the line of the status that was due. At each status the hall is retired at last. Status 5 comes,
-/// too, where the log failed at that retirement behind all lines.
+/// With `replay`. Status 0: the source was read to its end, and the bytes written are the script's output. Status 2:
+/// this line is the first that is none of a script, and the bytes written are the whole output of the lines before it
+/// and then the status's line. At status 3 (reading failed), 5 (the disk failed), 6 (it was opened again, and is
+/// damaged), 7 (want of memory) and 9 they are the whole output of the lines before the last one that was read, and
+/// then the status's line. At 4 (writing failed) they are that output and a part of the last line's, or a beginning of
+/// the line of the status that was due. At each status the hall is retired at last. Status 5 comes, too, where the log
+/// failed at that retirement behind all lines.
 ///
-/// Status 9 comes where a call or tick of the last line found the machine's log at its greatest length, 2^60 bytes, and nowhere else;
-/// no line is done there.
+/// Status 9 comes where a call or tick of the last line found the machine's log at its greatest length, 2^60 bytes, and
+/// nowhere else; no line is done there.
 ///
-/// Where the source does not tell its text, these clauses hold of some list of lines in place of the text's: what was written is the
-/// output of a script all the same, and then the status's line.
+/// Where the source does not tell its text, these clauses hold of some list of lines in place of the text's: what was
+/// written is the output of a script all the same, and then the status's line.
 ///
-/// Where the disk tells what it holds and what a crash may leave, all events that the script made are a run of legal histories, one for
-/// each opening, with their outcomes, and the disk that is handed back is safe for it: whatever a crash might have left since the first
-/// opening, at each moment of it, is recovered as the world after a beginning of the run, which holds all that was acknowledged by then,
-/// that is all before the last frame that was given. Where the hall's retirement was answered Ok, as at status 0, whatever a crash leaves of
-/// the disk is the world after the whole run.
+/// Where the disk tells what it holds and what a crash may leave, all events that the script made are a run of legal
+/// histories, one for each opening, with their outcomes, and the disk that is handed back is safe for it: whatever a
+/// crash might have left since the first opening, at each moment of it, is recovered as the world after a beginning of
+/// the run, which holds all that was acknowledged by then, that is all before the last frame that was given. Where the
+/// hall's retirement was answered Ok, as at status 0, whatever a crash leaves of the disk is the world after the whole
+/// run.
 ///
-/// With `check`. Status 0: the line of the disk's world was written, with the generation of the log that stands on the disk handed back,
-/// and that disk is safe for that world.
+/// With `check`. Status 0: the line of the disk's world was written, with the generation of the log that stands on the
+/// disk handed back, and that disk is safe for that world.
 ///
-/// With `serve`. All entries that the server's seat has seen are a legal history that opens with the disk's world, and its own are those
-/// of whole groups, one for each look for a caller: a tick, as many steps of rewriting as the loop makes behind each, and for a caller who
-/// came the entering of a session, and its closing or removal where it was not served; then, where a tick or a step brought the end, a
-/// group up to that one; and then the retirement. Each caller who came is counted, and was served, or dropped for a reason that is named.
-/// Status 0: the door told its end, or N callers came; the bytes written are the lines `listening ADDR`, `served N`, and `starved M` where
-/// sessions were removed for want of memory. Status 8 comes only where the door has failed, 5 where a tick or a step of rewriting found
-/// the hall stopped, or the log failed at the retirement, 9 where one found the machine's log at its greatest length, 7 where memory
-/// wanted, 4 where the sink failed. Where the disk tells what it holds and what a crash may leave, the disk that is handed back is safe
-/// for all that the seat has seen. Where the retirement was answered Ok, as at status 0, it is handed back, and whatever a crash leaves of
-/// it is the world of all of that.
+/// With `serve`. All entries that the server's seat has seen are a legal history that opens with the disk's world, and
+/// its own are those of whole groups, one for each look for a caller: a tick, as many steps of rewriting as the loop
+/// makes behind each, and for a caller who came the entering of a session, and its closing or removal where it was not
+/// served; then, where a tick or a step brought the end, a group up to that one; and then the retirement. Each caller
+/// who came is counted, and was served, or dropped for a reason that is named. Status 0: the door told its end, or N
+/// callers came; the bytes written are the lines `listening ADDR`, `served N`, and `starved M` where sessions were
+/// removed for want of memory. Status 8 comes only where the door has failed, 5 where a tick or a step of rewriting
+/// found the hall stopped, or the log failed at the retirement, 9 where one found the machine's log at its greatest
+/// length, 7 where memory wanted, 4 where the sink failed. Where the disk tells what it holds and what a crash may
+/// leave, the disk that is handed back is safe for all that the seat has seen. Where the retirement was answered Ok, as
+/// at status 0, it is handed back, and whatever a crash leaves of it is the world of all of that.
 ///
-/// With `load`. Status 0: the bytes written are the four lines that N and SEED determine: what the sessions of the workload are given
-/// by the steps of a machine that begins with the empty world, and the number of objects in the end. At 7, which stands for want of
-/// memory alone, they are the status's line. 4 comes only where the sink failed, and there is no other status.
+/// With `load`. Status 0: the bytes written are the four lines that N and SEED determine: what the sessions of the
+/// workload are given by the steps of a machine that begins with the empty world, and the number of objects in the end.
+/// At 7, which stands for want of memory alone, they are the status's line. 4 comes only where the sink failed, and
+/// there is no other status.
 pub fn top<
     S: Source,
     K: Sink,
@@ -152,9 +157,16 @@ pub fn top<
 where
     L::In: Send + Drop + 'static,
     L::Out: Send + Drop + 'static,
-    ensures replay { IsReplay (map string_bytes words.now) → Replays (D.seen disk) (λ w logged deeds. (s : Sides) → D.seen disk ≡ Some s → D.crashes disk ≡ true → IfSome result.disk (λ d. IsSafeFor D.images D.left_since d (opens w logged ∷ deeds)))
-        (Rose (S.faults source.old) (S.faults source.new)) (S.left source.old) (S.left source.new) (K.held sink.old) (K.held sink.new) result.status }
-    ensures check { IsCheck (map string_bytes words.now) → Checks (D.seen disk) (λ n. IfSome result.disk (λ d. HasGeneration D.crashes D.seen D.images d n)) (λ w logged answered. (s : Sides) → D.seen disk ≡ Some s → D.crashes disk ≡ true → IfSome result.disk (λ d. IsSafeFor D.images D.left_since d (opens w logged ∷ retired answered)))
+    ensures replay { IsReplay (map string_bytes words.now)
+        → Replays (D.seen disk)
+        (λ w logged deeds. (s : Sides) → D.seen disk ≡ Some s → D.crashes disk ≡ true
+        → IfSome result.disk (λ d. IsSafeFor D.images D.left_since d (opens w logged ∷ deeds)))
+        (Rose (S.faults source.old) (S.faults source.new)) (S.left source.old) (S.left source.new) (K.held sink.old)
+        (K.held sink.new) result.status }
+    ensures check { IsCheck (map string_bytes words.now)
+        → Checks (D.seen disk) (λ n. IfSome result.disk (λ d. HasGeneration D.crashes D.seen D.images d n))
+        (λ w logged answered. (s : Sides) → D.seen disk ≡ Some s → D.crashes disk ≡ true
+        → IfSome result.disk (λ d. IsSafeFor D.images D.left_since d (opens w logged ∷ retired answered)))
         (K.held sink.old) (K.held sink.new) result.status }
     ensures serve { IfSome (serve_of (map string_bytes words.now)) (λ s. Fronts (D.seen disk) (C.told clock.now) s
         (counted (P.jobs spawner.old) (P.faults spawner.old) (L.links door.old) (L.ends door.old) (L.faults door.old))
@@ -163,11 +175,14 @@ where
     ensures safe { tells D.crashes D.seen disk ≡ true
         → IfSome result.front (λ last. IfSome result.disk (λ d. IsLeft D.images D.left_since d (knows_of last))) }
     ensures given { IfSome result.front (λ last. IsSettled (knows_of last).seen → is_some result.disk ≡ true) }
-    ensures load { IfSome (load_of (map string_bytes words.now)) (λ w. Loads w (K.held sink.old) (K.held sink.new) result.status) }
-    ensures usage { (IsReplay (map string_bytes words.now) → ⊥) → (IsCheck (map string_bytes words.now) → ⊥) → serve_of (map string_bytes words.now) ≡ None → load_of (map string_bytes words.now) ≡ None
+    ensures load { IfSome (load_of (map string_bytes words.now))
+        (λ w. Loads w (K.held sink.old) (K.held sink.new) result.status) }
+    ensures usage { (IsReplay (map string_bytes words.now) → ⊥) → (IsCheck (map string_bytes words.now) → ⊥)
+        → serve_of (map string_bytes words.now) ≡ None → load_of (map string_bytes words.now) ≡ None
         → IsEnd (K.held sink.old) (K.held sink.new) 1 usage_line result.status }
     ensures unread { (IsReplay (map string_bytes words.now) → ⊥) → source.new ≡ source.old }
-    ensures untouched { (IsReplay (map string_bytes words.now) → ⊥) → (IsCheck (map string_bytes words.now) → ⊥) → serve_of (map string_bytes words.now) ≡ None → result.disk ≡ Some disk }
+    ensures untouched { (IsReplay (map string_bytes words.now) → ⊥) → (IsCheck (map string_bytes words.now) → ⊥)
+        → serve_of (map string_bytes words.now) ≡ None → result.disk ≡ Some disk }
     ensures handed { result.front ≡ None → is_some result.disk ≡ true }
     ensures apart { serve_of (map string_bytes words.now) ≡ None → (door.new ≡ door.old) × (spawner.new ≡ spawner.old) }
     ensures alone { serve_of (map string_bytes words.now) ≡ None → result.front ≡ None }
@@ -177,7 +192,8 @@ where
     ensures later { result.front ≡ None → IfSome result.disk (λ d. D.faults disk ≤ D.faults d) }
     ensures read { result.status ≡ 3 → Rose (S.faults source.old) (S.faults source.new) }
     ensures write { result.status ≡ 4 → Rose (K.faults sink.old) (K.faults sink.new) }
-    ensures disk { result.front ≡ None → result.status ≡ 5 → IfSome result.disk (λ d. Rose (D.faults disk) (D.faults d)) }
+    ensures disk { result.front ≡ None → result.status ≡ 5
+        → IfSome result.disk (λ d. Rose (D.faults disk) (D.faults d)) }
     ensures accept { result.status ≡ 8 → Rose (L.faults door.old) (L.faults door.new) }
 {
     match serve_words(words) {

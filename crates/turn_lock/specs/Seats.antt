@@ -91,7 +91,14 @@ module _ {O E W : Type 0} where
 
   -- what the shorter beginning was is kept until the two are compared
   abbrev pub joined_view : View O E W → View O E W → View O E W
-  joined_view v w = record { known = joined_known v.known w.known; merged = shorter v.known.seen w.known.seen; stage = v.stage; hand = v.hand; post = v.post }
+  joined_view v w = record {
+    known = joined_known v.known w.known;
+    merged = shorter v.known.seen w.known.seen;
+    stage = v.stage;
+    hand = v.hand;
+    post =
+        v.post;
+  }
 
   -- what a join leaves of the other seat
   abbrev pub spent_view : View O E W

@@ -21,7 +21,8 @@ module _ {T O E W A : Type 0} where
       → Me (Option (Held T W A)) (View O E W) → Type 0
   locked stands st m n m' =
       (n ≢ 1 → m' ≡ m)
-      × (n ≡ 1 → (x : T) × (log : List E) × (m' ≡ (at_stage m.0 (Works log), (0, Some (Value x)) ∷ m.1)) × IfSome m.0.known.opening (λ o. stands x o log))
+      × (n ≡ 1 → (x : T) × (log : List E) × (m' ≡ (at_stage m.0 (Works log), (0, Some (Value x)) ∷ m.1))
+      × IfSome m.0.known.opening (λ o. stands x o log))
 
   -- the history has more entries, which are the seat's own
   abbrev pub added : (E → Bool) → List E → Step (Option (Held T W A)) → Me (Option (Held T W A)) (View O E W) → ℕ

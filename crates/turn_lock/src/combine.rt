@@ -1,6 +1,7 @@
 //! What a seat does while it has the lock: its own work, and what others have posted.
 
-ghost use Rattle.std.specs.Prelude.{◌≡◌, ◌⊎◌, ◌++◌, ◌∷◌, ◌<◌, ◌≤◌, [], List, true, false, length, IfSome, IfNone, Some, None};
+ghost use Rattle.std.specs.Prelude.{◌≡◌, ◌⊎◌, ◌++◌, ◌∷◌, ◌<◌, ◌≤◌, [], List, true, false, length, IfSome, IfNone, Some};
+ghost use Rattle.std.specs.Prelude.{None};
 ghost use mathlib.Core.List.{IsPrefix};
 ghost use Rattle.turn_lock.specs.declared.seat.Stage.TheVariants.{Works};
 ghost use Rattle.turn_lock.specs.declared.seat.Hand.TheVariants.{Empty, Holds};
@@ -64,7 +65,8 @@ impl<T: Turned> TurnLock<T> {
         requires may { (known_of seat.old).first ≡ false → NeverKept T.kept T.Work.entries T.Work.gives work }
         ensures work { IsAtWork T.opening T.stands self.now seat.new value.new }
         ensures view { (seat.new.me.0.post ≡ seat.old.me.0.post) × (seat.new.me.0.merged ≡ seat.old.me.0.merged) }
-        ensures turn { (old : T) × (log : List T.Entry) × T.stands old (opening_of T.opening self.now) log × T.Work.gives work old result value.new
+        ensures turn { (old : T) × (log : List T.Entry) × T.stands old (opening_of T.opening self.now) log
+            × T.Work.gives work old result value.new
             × T.stands value.new (opening_of T.opening self.now) (log ++ T.Work.entries work result value.new)
             × Turn (known_of seat.old) (known_of seat.new) log (T.Work.entries work result value.new) }
         ensures kept { OwnsKept T.kept (known_of seat.new) }
@@ -94,7 +96,8 @@ impl<T: Turned> TurnLock<T> {
 
     // Puts an answer into the slot that is out with the seat.
     fn put_answer(&self, seat: &mut Seat<T>, place: usize, out: Out<T>)
-        requires { (seat.old.table_id ≡ self.now.table.shared.table_id) × (seat.old.me.1 ≡ (place, None) ∷ (0, None) ∷ []) }
+        requires { (seat.old.table_id ≡ self.now.table.shared.table_id)
+            × (seat.old.me.1 ≡ (place, None) ∷ (0, None) ∷ []) }
         ensures table { seat.new.table_id ≡ seat.old.table_id }
         ensures slot { seat.new.me ≡ (seat.old.me.0, (place, Some (Answered out)) ∷ (0, None) ∷ []) }
     {
@@ -120,7 +123,8 @@ impl<T: Turned> TurnLock<T> {
 
     // Takes the answer out of the slot that is out with the seat.
     pub(crate) fn take_answer(&self, seat: &mut Seat<T>, place: usize) -> Out<T>
-        requires { (seat.old.table_id ≡ self.now.table.shared.table_id) × ((a : T.Work.Out) × (seat.old.me.1 ≡ (place, Some (Answered a)) ∷ [])) }
+        requires { (seat.old.table_id ≡ self.now.table.shared.table_id)
+            × ((a : T.Work.Out) × (seat.old.me.1 ≡ (place, Some (Answered a)) ∷ [])) }
         ensures table { seat.new.table_id ≡ seat.old.table_id }
         ensures answer { seat.old.me.1 ≡ (place, Some (Answered result)) ∷ [] }
         ensures slot { seat.new.me ≡ (seat.old.me.0, (place, None) ∷ []) }
@@ -293,7 +297,8 @@ impl<T: Turned> TurnLock<T> {
     pub(crate) fn claim_any(&self, seat: &mut Seat<T>) -> Option<usize>
         requires { IsSeatOf T.opening self.now seat.old }
         ensures table { seat.new.table_id ≡ seat.old.table_id }
-        ensures claimed { IfSome result (λ p. (0 < p) × (p < 256) × (seat.new.me ≡ (at_post seat.old.me.0 (Claims p), (p, None) ∷ []))) }
+        ensures claimed { IfSome result (λ p. (0 < p) × (p < 256)
+            × (seat.new.me ≡ (at_post seat.old.me.0 (Claims p), (p, None) ∷ []))) }
         ensures full { IfNone result (seat.new.me ≡ seat.old.me) }
     {
         for place in 1..SIZE {

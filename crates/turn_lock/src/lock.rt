@@ -1,9 +1,11 @@
 //! The lock, and what its callers do with it.
 
-ghost use Rattle.std.specs.Prelude.{◌≡◌, ◌++◌, ◌∷◌, ◌<◌, ◌^◌, [], List, true, false, length, IfOk, IfErr, IfSome, IfNone, Some, None};
+ghost use Rattle.std.specs.Prelude.{◌≡◌, ◌++◌, ◌∷◌, ◌<◌, ◌^◌, [], List, true, false, length, IfOk, IfErr, IfSome};
+ghost use Rattle.std.specs.Prelude.{IfNone, Some, None};
 ghost use mathlib.Core.List.{IsPrefix};
 ghost use Rattle.turn_lock.specs.Turned.{NeverKept};
-ghost use Rattle.turn_lock.specs.Seats.{OwnsKept, OwnPlaces, AreApart, Turn, Keeps, known_of, first_known, split_known, joined_known, at_post};
+ghost use Rattle.turn_lock.specs.Seats.{OwnsKept, OwnPlaces, AreApart, Turn, Keeps, known_of, first_known, split_known};
+ghost use Rattle.turn_lock.specs.Seats.{joined_known, at_post};
 ghost use Rattle.turn_lock.specs.declared.seat.Post.TheVariants.{Posts};
 
 use crate::seat::{Held, Seat, View};
@@ -99,8 +101,10 @@ impl<T: Turned> TurnLock<T> {
     pub fn join(&self, seat: &mut Seat<T>, other: Seat<T>)
         requires seat { IsSeatOf T.opening self.now seat.old }
         requires other { IsSeatOf T.opening self.now other }
-        ensures seat { IsSeatOf T.opening self.now seat.new × (known_of seat.new ≡ joined_known (known_of seat.old) (known_of other)) }
-        ensures seen { IsPrefix (known_of seat.old).seen (known_of seat.new).seen × IsPrefix (known_of other).seen (known_of seat.new).seen }
+        ensures seat { IsSeatOf T.opening self.now seat.new
+            × (known_of seat.new ≡ joined_known (known_of seat.old) (known_of other)) }
+        ensures seen { IsPrefix (known_of seat.old).seen (known_of seat.new).seen
+            × IsPrefix (known_of other).seen (known_of seat.new).seen }
         ensures kept { OwnsKept T.kept (known_of seat.new) }
         ensures own { OwnPlaces (known_of seat.new) }
         ensures apart { AreApart (known_of seat.old) (known_of other) }
@@ -153,7 +157,8 @@ impl<T: Turned> TurnLock<T> {
         self.post(seat, place, &about, word);
     }
 
-    // Waits until the work at the place is done, and has the answer. Where the lock is free it does what was posted itself.
+    // Waits until the work at the place is done, and has the answer. Where the lock is free it does what was posted
+    // itself.
     pub(crate) fn wait<R: Wait>(
         &self,
         rt: &R,

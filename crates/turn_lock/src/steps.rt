@@ -1,12 +1,14 @@
 //! The atomic steps of a turn, each on one word of the table or on the slot that is out with the seat.
 
-ghost use Rattle.std.specs.Prelude.{◌≡◌, ◌≢◌, ◌++◌, ◌∷◌, ◌+◌, ◌<◌, ◌≤◌, ◌^◌, [], List, Bool, true, false, length, IsTrue, Some, None};
+ghost use Rattle.std.specs.Prelude.{◌≡◌, ◌≢◌, ◌++◌, ◌∷◌, ◌+◌, ◌<◌, ◌≤◌, ◌^◌, [], List, Bool, true, false, length};
+ghost use Rattle.std.specs.Prelude.{IsTrue, Some, None};
 ghost use mathlib.Core.List.{IsPrefix};
 ghost use Rattle.turn_lock.specs.declared.seat.Stage.TheVariants.{Opens, Idle, Works};
 ghost use Rattle.turn_lock.specs.declared.seat.Hand.TheVariants.{Empty, Holds};
 ghost use Rattle.turn_lock.specs.declared.seat.Post.TheVariants.{Nowhere, Claims, Posts};
 ghost use Rattle.turn_lock.specs.declared.seat.Held.TheVariants.{Value, Asked, Answered};
-ghost use Rattle.turn_lock.specs.Seats.{OwnsKept, OwnPlaces, Turn, Keeps, known_of, at_stage, at_post, with_hand, served, worked, answered};
+ghost use Rattle.turn_lock.specs.Seats.{OwnsKept, OwnPlaces, Turn, Keeps, known_of, at_stage, at_post, with_hand};
+ghost use Rattle.turn_lock.specs.Seats.{served, worked, answered};
 ghost use Rattle.turn_lock.specs.Rule.{IsPosted};
 ghost use Rattle.turn_lock.specs.Turned.{NoneKept, NeverKept};
 ghost use Rattle.turn_lock.specs.Lock.{opening_of};
@@ -40,7 +42,8 @@ pub(crate) const DONE: u64 = 6;
 impl<T: Turned> TurnLock<T> {
     // The slot of the value goes out to the first seat, when the lock is made.
     pub(crate) fn open(&self, seat: &mut Seat<T>)
-        requires { (seat.old.table_id ≡ self.now.table.shared.table_id) × (seat.old.me.0.stage ≡ Opens) × (seat.old.me.0.hand ≡ Empty)
+        requires { (seat.old.table_id ≡ self.now.table.shared.table_id) × (seat.old.me.0.stage ≡ Opens)
+            × (seat.old.me.0.hand ≡ Empty)
             × (seat.old.me.0.post ≡ Nowhere) }
         ensures table { seat.new.table_id ≡ seat.old.table_id }
         ensures me { seat.new.me ≡ (at_stage seat.old.me.0 (Works []), (0, None) ∷ seat.old.me.1) }
@@ -77,10 +80,15 @@ impl<T: Turned> TurnLock<T> {
         requires table { seat.old.table_id ≡ self.now.table.shared.table_id }
         requires works { (log : List T.Entry) × (seat.old.me.0.stage ≡ Works log) }
         requires aside { (seat.old.me.0.hand ≡ Empty) × (seat.old.me.0.post ≡ Nowhere) }
-        requires may { (known_of seat.old).first ≡ false → NoneKept T.kept (T.Work.entries work.now.value out.now after.now.value) }
+        requires may { (known_of seat.old).first ≡ false
+            → NoneKept T.kept (T.Work.entries work.now.value out.now after.now.value) }
         ensures table { seat.new.table_id ≡ seat.old.table_id }
         ensures turn { (log : List T.Entry) → seat.old.me.0.stage ≡ Works log
-            → (seat.new.me ≡ (worked seat.old.me.0 log (T.Work.entries work.now.value out.now after.now.value), seat.old.me.1))
+            → (seat.new.me ≡ (
+              worked seat.old.me.0 log
+                  (T.Work.entries work.now.value out.now after.now.value),
+              seat.old.me.1,
+            ))
             × IsPrefix (known_of seat.old).seen log }
         ensures kept { OwnsKept T.kept (known_of seat.new) }
         ensures own { OwnPlaces (known_of seat.new) }
@@ -91,7 +99,8 @@ impl<T: Turned> TurnLock<T> {
     // Gives the slot of the value back and frees the lock.
     pub(crate) fn free(&self, seat: &mut Seat<T>)
         requires table { seat.old.table_id ≡ self.now.table.shared.table_id }
-        requires works { (value : T) × (log : List T.Entry) × (seat.old.me.0.stage ≡ Works log) × (seat.old.me.1 ≡ (0, Some (Value value)) ∷ [])
+        requires works { (value : T) × (log : List T.Entry) × (seat.old.me.0.stage ≡ Works log)
+            × (seat.old.me.1 ≡ (0, Some (Value value)) ∷ [])
             × T.stands value (opening_of T.opening self.now) log }
         requires hand { seat.old.me.0.hand ≡ Empty }
         ensures table { seat.new.table_id ≡ seat.old.table_id }
@@ -107,7 +116,8 @@ impl<T: Turned> TurnLock<T> {
         requires aside { (seat.old.me.0.stage ≡ Idle) × (seat.old.me.0.hand ≡ Empty) × (seat.old.me.0.post ≡ Nowhere) }
         ensures table { seat.new.table_id ≡ seat.old.table_id }
         ensures missed { result ≡ false → seat.new.me ≡ seat.old.me }
-        ensures claimed { IsTrue result → seat.new.me ≡ (at_post seat.old.me.0 (Claims place), (place, None) ∷ seat.old.me.1) }
+        ensures claimed { IsTrue result
+            → seat.new.me ≡ (at_post seat.old.me.0 (Claims place), (place, None) ∷ seat.old.me.1) }
     {
         self.table
             .shared
@@ -120,7 +130,8 @@ impl<T: Turned> TurnLock<T> {
         requires place { (0 < place) × (place < 256) }
         requires word { IsPosted word }
         requires table { seat.old.table_id ≡ self.now.table.shared.table_id }
-        requires claims { (seat.old.me.0.stage ≡ Idle) × (seat.old.me.0.hand ≡ Empty) × (seat.old.me.0.post ≡ Claims place)
+        requires claims { (seat.old.me.0.stage ≡ Idle) × (seat.old.me.0.hand ≡ Empty)
+            × (seat.old.me.0.post ≡ Claims place)
             × (seat.old.me.1 ≡ (place, Some (Asked work.now.value)) ∷ []) }
         requires may { (known_of seat.old).first ≡ false → NeverKept T.kept T.Work.entries T.Work.gives work.now.value }
         ensures table { seat.new.table_id ≡ seat.old.table_id }
@@ -173,11 +184,16 @@ impl<T: Turned> TurnLock<T> {
         requires slots { seat.old.me.1 ≡ (place, Some (Answered out.now.value)) ∷ (0, None) ∷ [] }
         requires hand { seat.old.me.0.hand ≡ Holds place work.now.value }
         requires ran { (old : T) × (log : List T.Entry) × (seat.old.me.0.stage ≡ Works log)
-            × T.stands old (opening_of T.opening self.now) log × T.Work.gives work.now.value old out.now.value after.now.value
-            × T.stands after.now.value (opening_of T.opening self.now) (log ++ T.Work.entries work.now.value out.now.value after.now.value) }
+            × T.stands old (opening_of T.opening self.now) log
+            × T.Work.gives work.now.value old out.now.value after.now.value
+            × T.stands after.now.value (opening_of T.opening self.now)
+            (log ++ T.Work.entries work.now.value out.now.value after.now.value) }
         ensures table { seat.new.table_id ≡ seat.old.table_id }
         ensures me { (log : List T.Entry) → seat.old.me.0.stage ≡ Works log
-            → seat.new.me ≡ (served seat.old.me.0 log (T.Work.entries work.now.value out.now.value after.now.value), (0, None) ∷ []) }
+            → seat.new.me ≡ (
+              served seat.old.me.0 log (T.Work.entries work.now.value out.now.value after.now.value),
+              (0, None) ∷ [],
+            ) }
     {
         self.table.shared.swap::<Finish<J>>(seat, place, DONE)
     }
@@ -185,13 +201,19 @@ impl<T: Turned> TurnLock<T> {
     // Takes the answer, if the work is done. The slot of the place then goes out to the seat.
     pub(crate) fn collect(&self, seat: &mut Seat<T>, place: usize, work: &Snapshot<T::Work>) -> bool
         requires place { (0 < place) × (place < 256) }
-        requires table { (seat.old.table_id ≡ self.now.table.shared.table_id) × ((known_of seat.old).opening ≡ Some (opening_of T.opening self.now)) }
-        requires posts { (seat.old.me.0.stage ≡ Idle) × (seat.old.me.0.hand ≡ Empty) × (seat.old.me.0.post ≡ Posts place work.now.value) }
+        requires table { (seat.old.table_id ≡ self.now.table.shared.table_id)
+            × ((known_of seat.old).opening ≡ Some (opening_of T.opening self.now)) }
+        requires posts { (seat.old.me.0.stage ≡ Idle) × (seat.old.me.0.hand ≡ Empty)
+            × (seat.old.me.0.post ≡ Posts place work.now.value) }
         ensures table { seat.new.table_id ≡ seat.old.table_id }
         ensures early { result ≡ false → seat.new.me ≡ seat.old.me }
         ensures turn { IsTrue result → (out : T.Work.Out) × (old : T) × (new : T) × (log : List T.Entry)
-            × (seat.new.me ≡ (answered seat.old.me.0 place log (T.Work.entries work.now.value out new), (place, Some (Answered out)) ∷ seat.old.me.1))
-            × IsPrefix (known_of seat.old).seen log × T.stands old (opening_of T.opening self.now) log × T.Work.gives work.now.value old out new
+            × (seat.new.me ≡ (
+              answered seat.old.me.0 place log (T.Work.entries work.now.value out new),
+              (place, Some (Answered out)) ∷ seat.old.me.1,
+            ))
+            × IsPrefix (known_of seat.old).seen log × T.stands old (opening_of T.opening self.now) log
+            × T.Work.gives work.now.value old out new
             × T.stands new (opening_of T.opening self.now) (log ++ T.Work.entries work.now.value out new)
             × OwnsKept T.kept (known_of seat.new) × OwnPlaces (known_of seat.new) }
     {
@@ -205,7 +227,8 @@ impl<T: Turned> TurnLock<T> {
     pub(crate) fn leave(&self, seat: &mut Seat<T>, place: usize)
         requires place { (0 < place) × (place < 256) }
         requires table { seat.old.table_id ≡ self.now.table.shared.table_id }
-        requires claims { (seat.old.me.0.stage ≡ Idle) × (seat.old.me.0.hand ≡ Empty) × (seat.old.me.0.post ≡ Claims place)
+        requires claims { (seat.old.me.0.stage ≡ Idle) × (seat.old.me.0.hand ≡ Empty)
+            × (seat.old.me.0.post ≡ Claims place)
             × (seat.old.me.1 ≡ (place, None) ∷ []) }
         ensures table { seat.new.table_id ≡ seat.old.table_id }
         ensures me { seat.new.me ≡ (at_post seat.old.me.0 Nowhere, []) }

@@ -1,6 +1,7 @@
 //! What each atomic step tells the seat that makes it. These types are for the proofs alone.
 
-ghost use Rattle.turn_lock.specs.Tells.{opened, locked, added, freed, claimed, put, same, fetched, done, collected, left, compared};
+ghost use Rattle.turn_lock.specs.Tells.{opened, locked, added, freed, claimed, put, same, fetched, done, collected};
+ghost use Rattle.turn_lock.specs.Tells.{left, compared};
 ghost use Rattle.turn_lock.specs.Seats.{split_view, joined_view, spent_view};
 
 use crate::seat::{Held, View};

@@ -1,4 +1,7 @@
 //! What a lock holds, and what is done with it in a turn.
+//!
+//! No history is kept in a value: a relation says which histories a value may stand for. The work is an associated type
+//! of what is locked, since another thread may run it. (docs/LOCK.md, "Choices")
 
 ghost use Rattle.std.specs.Prelude.{List, Bool};
 ghost use Rattle.turn_lock.specs.Turned.{IsReached, Adds};
@@ -39,7 +42,8 @@ pub trait Work<T: Turned> {
     /// Whether the work is better done after those that are not late, as one that makes their changes last.
     fn is_late(&self) -> bool;
 
-    /// Does the work on a value that stands for some history. The value then stands for the work's entries behind it, too.
+    /// Does the work on a value that stands for some history. The value then stands for the work's entries behind it,
+    /// too.
     fn run(self, value: &mut T) -> Self::Out
         requires { IsReached T.stands value.old }
         ensures gives { gives self value.old result value.new }

@@ -7,7 +7,7 @@ use Rattle.byte_text.specs.Names.{Bytes}
 use Rattle.world_data.specs.Limits.{take_frames}
 use Rattle.world_model.specs.Halls.{Hall, Session, is_live, is_session, session_of, without_session}
 use Rattle.world_model.specs.Histories.{Step, StepBy, answer, first_of, frames_of, no_frames, taken, ended, idle, refusal_going, when_stopped}
-use Rattle.world_model.specs.declared.events.Called.TheVariants as called
+use Rattle.world_model.specs.declared.events.CallOutcome.TheVariants as called
 use Rattle.world_model.specs.declared.events.Event.{Event}
 use Rattle.world_model.specs.declared.events.Event.TheVariants.{Take}
 use Rattle.world_model.specs.declared.events.Outcome.{Outcome}

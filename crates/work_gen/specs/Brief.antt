@@ -15,7 +15,8 @@ each_short : (words : List Bytes) → AllByRecursion (λ w. length w ≤ 32) wor
 each_short [] s = tt
 each_short (w ∷ words) s = (omega (arith, s.0), each_short words s.1)
 
-one_more : (words : List Bytes) (w : Bytes) → AllByRecursion (λ v. length v ≤ 32) words → length w ≤ 32 → AllByRecursion (λ v. length v ≤ 32) (words ++ w ∷ [])
+one_more : (words : List Bytes) (w : Bytes) → AllByRecursion (λ v. length v ≤ 32) words → length w ≤ 32
+    → AllByRecursion (λ v. length v ≤ 32) (words ++ w ∷ [])
 one_more [] w s h = (h, tt)
 one_more (v ∷ words) w s h = (s.0, one_more words w s.1 h)
 

@@ -5,7 +5,7 @@ use Rattle.byte_text.specs.Names.{Bytes}
 use Rattle.world_data.specs.Frames.{frame_bytes}
 use Rattle.world_model.specs.Halls.{Hall}
 use Rattle.world_model.specs.declared.events.Asked.TheVariants.{Words}
-use Rattle.world_model.specs.declared.events.Called.{Called}
+use Rattle.world_model.specs.declared.events.CallOutcome.{CallOutcome}
 use Rattle.world_model.specs.declared.events.Event.TheVariants.{Call, Take}
 use Rattle.world_model.specs.declared.events.Outcome.{Outcome}
 use Rattle.world_model.specs.declared.events.Outcome.TheVariants.{Answered, Given, Empty, Ended}
@@ -30,7 +30,7 @@ asker p Sender = p.sender
 
 -- a call at moment 0, however it is answered
 abbrev pub CallsBy : ℕ → List Bytes → Hall → Hall → Type 0
-CallsBy n words old new = (answer : Called) × Makes (Call n 0 (Words words)) (Answered answer) old new
+CallsBy n words old new = (answer : CallOutcome) × Makes (Call n 0 (Words words)) (Answered answer) old new
 
 -- a take found no frame: there is none now, or no such session any more
 abbrev pub is_last : Outcome → Bool

@@ -7,7 +7,8 @@ use Rattle.work_gen.specs.Words.{texts}
 use Rattle.work_gen.specs.declared.lines.Line.{Line}
 use Rattle.work_gen.specs.declared.lines.Role.TheVariants.{Listener, Sender}
 use Rattle.work_gen.specs.declared.words.Word.{Word}
-use Rattle.work_gen.specs.declared.words.Word.TheVariants.{Psubscribe, Setchan, Set, Del, Intersects, Nearby, Within, Fence, Detect, Point, Bounds, Count, Limit, Ids, All, Fleet, EnterExit, Vehicle, Zone, Number}
+use Rattle.work_gen.specs.declared.words.Word.TheVariants.{Psubscribe, Setchan, Set, Del, Intersects, Nearby, Within, Fence, Detect, Point, Bounds}
+use Rattle.work_gen.specs.declared.words.Word.TheVariants.{Count, Limit, Ids, All, Fleet, EnterExit, Vehicle, Zone, Number}
 
 abbrev pub heard : List Word → Line
 heard words = record { role = Listener; words = texts words }

@@ -12,7 +12,7 @@ use crate::machines::Machine;
 use crate::pairs::{Pair, asker};
 use crate::tallies::Tally;
 use byte_text::{NoMemory, Request};
-use world_model::{Asked, Called, Frames, Taken};
+use world_model::{Asked, CallOutcome, Frames, Taken};
 
 // Makes the call of a request, whatever its answer.
 fn call_one<M: Machine>(machine: &mut M, session: u32, words: Request) -> Result<(), NoMemory>
@@ -23,14 +23,14 @@ fn call_one<M: Machine>(machine: &mut M, session: u32, words: Request) -> Result
 {
     let asked = Asked::Words(words);
     match machine.call(session, &asked) {
-        Called::Memory => Err(NoMemory),
+        CallOutcome::Memory => Err(NoMemory),
         // Only a log that fails stops the machine.
-        Called::LogFault => unreachable!(),
-        Called::Stopped => unreachable!(),
-        Called::Ok => Ok(()),
-        Called::Full => Ok(()),
-        Called::Gone => Ok(()),
-        Called::Spent => Ok(()),
+        CallOutcome::LogFault => unreachable!(),
+        CallOutcome::Stopped => unreachable!(),
+        CallOutcome::Ok => Ok(()),
+        CallOutcome::Full => Ok(()),
+        CallOutcome::Gone => Ok(()),
+        CallOutcome::Spent => Ok(()),
     }
 }
 
@@ -41,7 +41,8 @@ fn take_turn<M: Machine>(machine: &mut M, session: u32, frames: &mut Frames) -> 
     ensures empty { frames.new ≡ record { list = []; places = take_frames } }
     ensures goes { (M.hall machine.new).stopped ≡ false }
     ensures takes { TakesOn result session (M.hall machine.old) (M.hall machine.new) }
-    ensures fewer { IfSome result (λ _. length (waiting session (M.hall machine.new)) < length (waiting session (M.hall machine.old))) }
+    ensures fewer { IfSome result
+        (λ _. length (waiting session (M.hall machine.new)) < length (waiting session (M.hall machine.old))) }
 {
     match machine.take(session, frames) {
         Taken::Some(_) => {
@@ -79,8 +80,8 @@ fn drain<M: Machine>(machine: &mut M, session: u32, frames: &mut Frames) -> Tall
     }
 }
 
-/// Makes the call of a request, takes the frames of both sessions, and counts them: the messages of the listener's, and the bytes of
-/// all.
+/// Makes the call of a request, takes the frames of both sessions, and counts them: the messages of the listener's, and
+/// the bytes of all.
 pub(crate) fn ask<M: Machine>(
     machine: &mut M,
     pair: &Pair,

@@ -1,4 +1,7 @@
 //! The caller that drives a machine with the workload.
+//!
+//! The workload goes on however a call is answered, and takes until a take finds no frame. So the machine's steps
+//! decide the whole summary, and no answer but want of memory breaks it off.
 
 ghost use Rattle.std.specs.Prelude.{◌≡◌, [], false, IfOk};
 ghost use Rattle.world_data.specs.Limits.{take_frames};
@@ -50,7 +53,9 @@ fn send_all<M: Machine>(
 ) -> Result<Tally, NoMemory>
     requires empty { frames.old ≡ record { list = []; places = take_frames } }
     requires goes { (M.hall machine.old).stopped ≡ false }
-    ensures ok { IfOk result (λ t. Goes pair.now (lines n seed) (M.hall machine.old) (M.hall machine.new) (record { messages = 0; bytes = 0 }) t) }
+    ensures ok { IfOk result
+        (λ t. Goes pair.now (lines n seed) (M.hall machine.old) (M.hall machine.new)
+        (record { messages = 0; bytes = 0 }) t) }
 {
     let mut tally = Tally::new();
     let mut left = Workload::new(n, seed);
@@ -62,9 +67,9 @@ fn send_all<M: Machine>(
     }
 }
 
-/// Drives a machine of an empty world with the workload of so many commands from a seed: two sessions are entered, the first
-/// subscribes to all channels, the second sets them and sends the commands, all at moment 0, and after each request both take their
-/// frames until there is none. The sessions stay.
+/// Drives a machine of an empty world with the workload of so many commands from a seed: two sessions are entered, the
+/// first subscribes to all channels, the second sets them and sends the commands, all at moment 0, and after each
+/// request both take their frames until there is none. The sessions stay.
 pub fn drive<M: Machine>(
     alloc: Global,
     machine: &mut M,

@@ -1,4 +1,5 @@
-//! The generated workload of the server: commands that a number and a seed determine, and a caller that drives a machine with them.
+//! The generated workload of the server: commands that a number and a seed determine, and a caller that drives a
+//! machine with them.
 #![tactic(auto)]
 
 mod asking;

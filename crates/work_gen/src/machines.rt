@@ -1,7 +1,7 @@
 //! What the workload asks of a machine.
 
 use world_data::Frames;
-use world_model::{Asked, Called, EnterFault, Taken};
+use world_model::{Asked, CallOutcome, EnterFault, Taken};
 
 /// A machine that nobody else asks: each call is one step of its hall, and nothing comes between two of them.
 pub trait Machine {
@@ -22,7 +22,7 @@ pub trait Machine {
         ensures stopped { (hall self.new).stopped ≡ (hall self.old).stopped };
 
     /// Makes a call of a session at moment 0.
-    fn call(&mut self, session: u32, asked: &Asked) -> Called
+    fn call(&mut self, session: u32, asked: &Asked) -> CallOutcome
         requires proper { is_proper asked.now ≡ true }
         ensures step { Step (hall self.old) (event.Call session 0 asked.now) (outcome.Answered result) (hall self.new) }
         ensures stopped { (hall self.new).stopped ≡ (hall self.old).stopped };

@@ -21,12 +21,15 @@ field_asym = name_asym (λ (f : Field). f.0)
 
 pub last_values-ascends : (found given : List Field) → ascends field_before found ≡ true → ascends field_before (last_values found given) ≡ true
 last_values-ascends found [] asc = asc
-last_values-ascends found (f ∷ fs) asc = last_values-ascends (put_in field_before f found) fs (ascends-put_in field_before field_trans field_tie f found asc)
+last_values-ascends found (f ∷ fs) asc =
+    last_values-ascends (put_in field_before f found) fs (ascends-put_in field_before field_trans field_tie f found asc)
 
 -- giving values leaves fields
 pub with_values-are_fields : (fields given : List Field) → are_fields fields ≡ true → are_fields (with_values fields given) ≡ true
 with_values-are_fields fields given are =
-    let asc : ascends field_before fields ≡ true → ascends field_before (with_values fields given) ≡ true = λ a. ascends-filter field_before (λ f. not (is_zero f)) (last_values fields given) (last_values-ascends fields given a) in
+    let asc : ascends field_before fields ≡ true
+    → ascends field_before (with_values fields given) ≡ true =
+    λ a. ascends-filter field_before (λ f. not (is_zero f)) (last_values fields given) (last_values-ascends fields given a) in
     let all = filter-passes (λ f. not (is_zero f)) (last_values fields given) in
     grind arith
 
@@ -53,17 +56,20 @@ module _ (fields : List Field) (n : Bytes) (v : ℤ) (at : ℕ) (are : are_field
   put_free : IsFree (λ f. before f.0 n) (λ f. before n f.0) fields at → put_in field_before (n, v) fields ≡ insert fields at (n, v)
   put_free h = put_in-insert field_before field_asym (n, v) fields at h.front h.behind
 
-  pub set_writes : IsHeld (λ f. before f.0 n) (λ f. before n f.0) fields at → is_zero (n, v) ≡ false → slice_set fields at (n, v) ≡ with_values fields ((n, v) ∷ [])
+  pub set_writes : IsHeld (λ f. before f.0 n) (λ f. before n f.0) fields at → is_zero (n, v) ≡ false
+      → slice_set fields at (n, v) ≡ with_values fields ((n, v) ∷ [])
   set_writes h fails =
       let all = all-set (λ (f : Field). not (is_zero f)) fields at (n, v) nonzero (ap not fails) in
       rw (put_held h) (sym (filter-all (λ (f : Field). not (is_zero f)) (slice_set fields at (n, v)) all))
 
-  pub set_inserts : IsFree (λ f. before f.0 n) (λ f. before n f.0) fields at → is_zero (n, v) ≡ false → insert fields at (n, v) ≡ with_values fields ((n, v) ∷ [])
+  pub set_inserts : IsFree (λ f. before f.0 n) (λ f. before n f.0) fields at → is_zero (n, v) ≡ false
+      → insert fields at (n, v) ≡ with_values fields ((n, v) ∷ [])
   set_inserts h fails =
       let all = all-insert (λ (f : Field). not (is_zero f)) fields at (n, v) nonzero (ap not fails) in
       rw (put_free h) (sym (filter-all (λ (f : Field). not (is_zero f)) (insert fields at (n, v)) all))
 
-  pub set_removes : IsHeld (λ f. before f.0 n) (λ f. before n f.0) fields at → is_zero (n, v) ≡ true → remove fields at ≡ with_values fields ((n, v) ∷ [])
+  pub set_removes : IsHeld (λ f. before f.0 n) (λ f. before n f.0) fields at → is_zero (n, v) ≡ true
+      → remove fields at ≡ with_values fields ((n, v) ∷ [])
   set_removes h holds = rw (put_held h) (sym (filter-set (λ (f : Field). not (is_zero f)) fields at (n, v) nonzero (ap not holds) h.within))
 
   pub set_keeps : IsFree (λ f. before f.0 n) (λ f. before n f.0) fields at → is_zero (n, v) ≡ true → fields ≡ with_values fields ((n, v) ∷ [])

@@ -1,7 +1,9 @@
 -- The limits of this profile, as the definitions name them: each is a constant of the code.
 use Rattle.std.specs.Prelude.{ℕ, suc, ℤ, pos, negsuc}
 use Rattle.planar_geom.specs.declared.points.TheConstants.{MAX_COORD}
-use Rattle.world_data.specs.declared.limits.TheConstants.{MAX_METERS, MAX_SECONDS, MAX_FIELDS, MAX_TESTS, MAX_VALUES, MAX_LIMIT, MAX_OBJECTS, MAX_CHANNELS, MAX_WEIGHT, MAX_SESSIONS, MOST_DRAWN, MAX_SUBS, MAX_REPLY, FULL_FRAMES, FULL_BYTES, CAP_FRAMES, CAP_BYTES, TAKE, MOST_LOGGED, MAX_MOMENT}
+use Rattle.world_data.specs.declared.limits.TheConstants.{MAX_METERS, MAX_SECONDS, MAX_FIELDS, MAX_TESTS, MAX_VALUES, MAX_LIMIT, MAX_OBJECTS}
+use Rattle.world_data.specs.declared.limits.TheConstants.{MAX_CHANNELS, MAX_WEIGHT, MAX_SESSIONS, MOST_DRAWN, MAX_SUBS, MAX_REPLY, FULL_FRAMES}
+use Rattle.world_data.specs.declared.limits.TheConstants.{FULL_BYTES, CAP_FRAMES, CAP_BYTES, TAKE, MOST_LOGGED, MAX_MOMENT}
 
 -- the greatest coordinate, either way from 0
 abbrev pub max_coord : ℕ

@@ -1,5 +1,6 @@
 -- The record of a change: the words that the log keeps of it, their length, and which changes are kept.
-use Rattle.std.specs.Prelude.{ℕ, ℤ, pos, neg_ℤ, ◌+◌, ◌-◌, ◌^◌, Bool, true, ◌&&◌, nat_le, int_le, List, [], ◌∷◌, ◌++◌, length, Option, Some, None, codes, decimal, flat_map, sum_by}
+use Rattle.std.specs.Prelude.{ℕ, ℤ, pos, neg_ℤ, ◌+◌, ◌-◌, ◌^◌, Bool, true, ◌&&◌, nat_le, int_le, List, [], ◌∷◌, ◌++◌, length, Option, Some, None}
+use Rattle.std.specs.Prelude.{codes, decimal, flat_map, sum_by}
 use Rattle.std.specs.List.{list_all}
 use Rattle.std.specs.Fmt.{signed_decimal}
 use Rattle.byte_text.specs.Names.{Bytes, is_name}
@@ -16,20 +17,20 @@ deadline_words (Some d) = codes "AT" ∷ decimal d ∷ []
 abbrev pub field_words : Bytes × ℤ → List Bytes
 field_words f = codes "FIELD" ∷ f.0 ∷ signed_decimal f.1 ∷ []
 
-abbrev pub record_words : Change → List Bytes
-record_words (Put o) = codes "SET" ∷ o.key ∷ o.id ∷ flat_map field_words o.fields ++ deadline_words o.deadline ++ codes "OBJECT" ∷ o.text ∷ []
-record_words (Del key id) = codes "DEL" ∷ key ∷ id ∷ []
-record_words (Drop key) = codes "DROP" ∷ key ∷ []
-record_words Flush = codes "FLUSHDB" ∷ []
-record_words (SetChan c) = codes "SETCHAN" ∷ c.name ∷ c.words
-record_words (DelChan name) = codes "DELCHAN" ∷ name ∷ []
+abbrev pub record_reader : Change → List Bytes
+record_reader (Put o) = codes "SET" ∷ o.key ∷ o.id ∷ flat_map field_words o.fields ++ deadline_words o.deadline ++ codes "OBJECT" ∷ o.text ∷ []
+record_reader (Del key id) = codes "DEL" ∷ key ∷ id ∷ []
+record_reader (Drop key) = codes "DROP" ∷ key ∷ []
+record_reader Flush = codes "FLUSHDB" ∷ []
+record_reader (SetChan c) = codes "SETCHAN" ∷ c.name ∷ c.words
+record_reader (DelChan name) = codes "DELCHAN" ∷ name ∷ []
 
 -- the text of a change in the log, and its length
-abbrev pub record_text : Change → Bytes
-record_text change = request_text (record_words change)
+abbrev pub record_writer : Change → Bytes
+record_writer change = request_text (record_reader change)
 
 abbrev pub record_len : Change → ℕ
-record_len change = length (record_text change)
+record_len change = length (record_writer change)
 
 -- the bytes of the records of all that a world holds
 abbrev pub weight : World → ℕ

@@ -34,4 +34,5 @@ shorter (w ∷ words) (suc k) all = (all.0, shorter words k all.1)
 
 -- the first words of a request are one
 pub fits_take : (words : List Bytes) (k : ℕ) → FitsRequest words → FitsRequest (take k words)
-fits_take words k fits = let few = fewer words k in let small = smaller words k in record { few = omega arith; short = shorter words k fits.short; small = omega arith }
+fits_take words k fits = let few = fewer words k in let small = smaller words k
+    in record { few = omega arith; short = shorter words k fits.short; small = omega arith }

@@ -15,10 +15,10 @@ use Rattle.world_data.specs.declared.worlds.Change.{Change}
 use Rattle.world_data.specs.declared.worlds.Change.TheVariants.{Put, Del, Drop, Flush, SetChan, DelChan}
 use Rattle.world_data.specs.declared.channels.Kind.TheVariants.{Within, Intersects, Near}
 use Rattle.world_data.specs.declared.channels.Watch.{Watch}
-use Rattle.world_data.specs.declared.channels.Watch.TheVariants.{Spot, Roam}
+use Rattle.world_data.specs.declared.channels.Watch.TheVariants.{Zone, Roam}
 use Rattle.world_data.specs.declared.channels.Channel.{Channel}
 use Rattle.world_data.specs.declared.queries.Rule.{Rule}
-use Rattle.world_data.specs.declared.queries.Rule.TheVariants.{All, Down, Kept, Nearest}
+use Rattle.world_data.specs.declared.queries.Rule.TheVariants.{All, Descending, InArea, Nearest}
 use Rattle.world_data.specs.declared.queries.Query.{Query}
 
 -- a radius is within its limit
@@ -34,9 +34,9 @@ is_disc (Figure f) = false
 
 -- near is a disc alone
 abbrev pub is_sound_watch : Watch → Bool
-is_sound_watch (Spot Near a) = is_sound_area a && is_disc a
-is_sound_watch (Spot Within a) = is_sound_area a
-is_sound_watch (Spot Intersects a) = is_sound_area a
+is_sound_watch (Zone Near a) = is_sound_area a && is_disc a
+is_sound_watch (Zone Within a) = is_sound_area a
+is_sound_watch (Zone Intersects a) = is_sound_area a
 is_sound_watch (Roam key pattern meters nodwell) = is_well_formed pattern
 
 abbrev pub is_sound_channel : Channel → Bool
@@ -44,11 +44,11 @@ is_sound_channel c = is_sound_glob c.fence.glob && is_sound_watch c.fence.watch
 
 -- a search is never for what is near
 abbrev pub is_sound_rule : Rule → Bool
-is_sound_rule (Kept Near a) = false
-is_sound_rule (Kept Within a) = is_sound_area a
-is_sound_rule (Kept Intersects a) = is_sound_area a
+is_sound_rule (InArea Near a) = false
+is_sound_rule (InArea Within a) = is_sound_area a
+is_sound_rule (InArea Intersects a) = is_sound_area a
 is_sound_rule All = true
-is_sound_rule Down = true
+is_sound_rule Descending = true
 is_sound_rule Nearest = true
 
 abbrev pub is_sound_query : Query → Bool

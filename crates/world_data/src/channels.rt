@@ -1,6 +1,7 @@
 //! Channels: what they watch, what they want to hear of it, and the list of them that a world holds.
 
-ghost use Rattle.std.specs.Prelude.{◌≡◌, ◌∷◌, ◌++◌, [], true, not, length, filter, IfOk, IfErr, IfSome, IfNone, OnOk, OnErr};
+ghost use Rattle.std.specs.Prelude.{◌≡◌, ◌∷◌, ◌++◌, [], true, not, length, filter, IfOk, IfErr, IfSome, IfNone, OnOk};
+ghost use Rattle.std.specs.Prelude.{OnErr};
 ghost use Rattle.ordered_lists.specs.Lists.{IsHeld, IsFree, put_in};
 ghost use Rattle.world_data.specs.Worlds.{are_channels, channel_before, is_named};
 
@@ -20,11 +21,11 @@ pub enum Kind {
     Near,
 }
 
-/// What a channel watches: an area, or objects near others (their key, the pattern of their ids, meters, and whether those that
-/// were near before are left out).
+/// What a channel watches: an area, or objects near others (their key, the pattern of their ids, meters, and whether
+/// those that were near before are left out).
 #[derive(Drop)]
 pub enum Watch {
-    Spot(Kind, Area),
+    Zone(Kind, Area),
     Roam(Name, Name, u32, bool),
 }
 
@@ -36,7 +37,7 @@ impl Watch {
         ensures { IfOk result (λ watch. watch ≡ self.now) }
     {
         match self {
-            Watch::Spot(kind, area) => Ok(Watch::Spot(*kind, copy_area(alloc, area)?)),
+            Watch::Zone(kind, area) => Ok(Watch::Zone(*kind, copy_area(alloc, area)?)),
             Watch::Roam(key, pattern, meters, nodwell) => Ok(Watch::Roam(
                 key.copy(alloc)?,
                 pattern.copy(alloc)?,
@@ -190,8 +191,10 @@ impl Channels {
 
 // The place of the channel of this name, or, where there is none, the place where it would go.
 fn place_of(list: &[Channel], channel: &Channel) -> Result<usize, usize>
-    ensures held { IfOk result (λ at. IsHeld (λ c. channel_before c channel.now) (channel_before channel.now) list.now at) }
-    ensures free { IfErr result (λ at. IsFree (λ c. channel_before c channel.now) (channel_before channel.now) list.now at) }
+    ensures held { IfOk result
+        (λ at. IsHeld (λ c. channel_before c channel.now) (channel_before channel.now) list.now at) }
+    ensures free { IfErr result
+        (λ at. IsFree (λ c. channel_before c channel.now) (channel_before channel.now) list.now at) }
 {
     for (at, other) in list.iter().enumerate() {
         if is_before(&channel.name, &other.name) {

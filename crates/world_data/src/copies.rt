@@ -3,18 +3,8 @@
 ghost use Rattle.std.specs.Prelude.{◌≡◌, IfOk};
 
 use byte_text::{Name, NoMemory, Request};
-use planar_geom::{Area, Shape};
+use planar_geom::Area;
 use std::alloc::Global;
-
-// The same shape.
-pub(crate) fn copy_shape(alloc: Global, shape: &Shape) -> Result<Shape, NoMemory>
-    ensures { IfOk result (λ copy. copy ≡ shape.now) }
-{
-    match shape.copy(alloc) {
-        Ok(copy) => Ok(copy),
-        Err(_) => Err(NoMemory),
-    }
-}
 
 // The same area.
 pub(crate) fn copy_area(alloc: Global, area: &Area) -> Result<Area, NoMemory>
@@ -23,7 +13,7 @@ pub(crate) fn copy_area(alloc: Global, area: &Area) -> Result<Area, NoMemory>
     match area {
         Area::Rect(rect) => Ok(Area::Rect(*rect)),
         Area::Disc(centre, radius) => Ok(Area::Disc(*centre, *radius)),
-        Area::Figure(shape) => Ok(Area::Figure(copy_shape(alloc, shape)?)),
+        Area::Figure(shape) => Ok(Area::Figure(shape.copy(alloc)?)),
     }
 }
 

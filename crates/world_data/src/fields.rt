@@ -45,9 +45,7 @@ impl Fields {
         let mut list = Vec::new(alloc);
         for field in self.list.as_slice() {
             let name = field.0.copy(alloc)?;
-            if list.push((name, field.1)).is_err() {
-                return Err(NoMemory);
-            }
+            list.push((name, field.1))?;
         }
         Ok(Fields { list })
     }
@@ -76,8 +74,8 @@ impl Fields {
         self.list[i].1
     }
 
-    /// Appends the value of the field at a place, counted from 0, as a reply shows it: its canonical decimal. For want of memory
-    /// the text is as before.
+    /// Appends the value of the field at a place, counted from 0, as a reply shows it: its canonical decimal. For want
+    /// of memory the text is as before.
     pub fn show(&self, i: usize, into: &mut Text) -> Result<(), NoMemory>
         requires { i < length self.now }
         ensures ok { OnOk result (IfSome (slice_get self.now i) (λ f. into.new ≡ into.old ++ signed_decimal f.1)) }
@@ -86,8 +84,8 @@ impl Fields {
         push_i64(into, self.value(i))
     }
 
-    /// Appends the value of the field at a place, counted from 0, as a message shows it: its canonical decimal, which is a JSON
-    /// number. For want of memory the text is as before.
+    /// Appends the value of the field at a place, counted from 0, as a message shows it: its canonical decimal, which
+    /// is a JSON number. For want of memory the text is as before.
     pub fn show_json(&self, i: usize, into: &mut Text) -> Result<(), NoMemory>
         requires { i < length self.now }
         ensures ok { OnOk result (IfSome (slice_get self.now i) (λ f. into.new ≡ into.old ++ signed_decimal f.1)) }
@@ -96,7 +94,8 @@ impl Fields {
         push_i64(into, self.value(i))
     }
 
-    /// Gives the field of this name the value, and removes it where the value is 0. For want of memory the fields are as before.
+    /// Gives the field of this name the value, and removes it where the value is 0. For want of memory the fields are
+    /// as before.
     pub fn set(&mut self, name: Name, value: i64) -> Result<(), NoMemory>
         ensures ok { OnOk result (self.new ≡ with_values self.old ((name, value) ∷ [])) }
         ensures err { OnErr result (self.new ≡ self.old) }

@@ -59,9 +59,7 @@ impl Tests {
     {
         let mut list = Vec::new(alloc);
         for test in self.list.as_slice() {
-            if list.push(test.copy(alloc)?).is_err() {
-                return Err(NoMemory);
-            }
+            list.push(test.copy(alloc)?)?;
         }
         Ok(Tests { list })
     }

@@ -32,14 +32,12 @@ impl Frames {
     pub fn new(alloc: Global) -> Result<Frames, NoMemory>
         ensures { IfOk result (λ f. (f.list ≡ []) × (f.places ≡ 64)) }
     {
-        match Vec::with_capacity(alloc, TAKE) {
-            Ok(list) => Ok(Frames {
-                alloc,
-                list,
-                places: TAKE,
-            }),
-            Err(_) => Err(NoMemory),
-        }
+        let list = Vec::with_capacity(alloc, TAKE)?;
+        Ok(Frames {
+            alloc,
+            list,
+            places: TAKE,
+        })
     }
 
     /// No frame and no place. It takes no memory.

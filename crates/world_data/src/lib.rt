@@ -1,4 +1,5 @@
-//! The data of the machine: objects, fields, channels, queries, worlds and their changes, with the limits that they keep to.
+//! The data of the machine: objects, fields, channels, queries, worlds and their changes, with the limits that they
+//! keep to.
 #![tactic(auto)]
 
 mod channels;

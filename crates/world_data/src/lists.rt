@@ -36,9 +36,7 @@ impl NameList {
     {
         let mut list = Vec::new(alloc);
         for name in self.list.as_slice() {
-            if list.push(name.copy(alloc)?).is_err() {
-                return Err(NoMemory);
-            }
+            list.push(name.copy(alloc)?)?;
         }
         Ok(NameList { list })
     }
@@ -106,10 +104,8 @@ impl Numbers {
     pub fn copy(&self, alloc: Global) -> Result<Numbers, NoMemory>
         ensures { IfOk result (λ numbers. numbers ≡ self.now) }
     {
-        match Vec::from_slice(alloc, self.list.as_slice()) {
-            Ok(list) => Ok(Numbers { list }),
-            Err(_) => Err(NoMemory),
-        }
+        let list = Vec::from_slice(alloc, self.list.as_slice())?;
+        Ok(Numbers { list })
     }
 
     /// How many numbers there are.

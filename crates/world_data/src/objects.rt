@@ -1,10 +1,10 @@
 //! Objects, and the list of them that a world holds.
 
-ghost use Rattle.std.specs.Prelude.{◌≡◌, ◌∷◌, ◌++◌, [], true, not, length, filter, IfOk, IfErr, IfSome, IfNone, OnOk, OnErr};
+ghost use Rattle.std.specs.Prelude.{◌≡◌, ◌∷◌, ◌++◌, [], true, not, length, filter, IfOk, IfErr, IfSome, IfNone, OnOk};
+ghost use Rattle.std.specs.Prelude.{OnErr};
 ghost use Rattle.ordered_lists.specs.Lists.{IsHeld, IsFree, put_in};
 ghost use Rattle.world_data.specs.Worlds.{are_objects, object_before, is_at, has_key};
 
-use crate::copies::copy_shape;
 use crate::fields::Fields;
 use byte_text::{Name, NoMemory, Text};
 use ordered_lists::{insert_at, is_before, is_same};
@@ -34,7 +34,7 @@ impl Object {
             key: self.key.copy(alloc)?,
             id: self.id.copy(alloc)?,
             text: self.text.copy()?,
-            shape: copy_shape(alloc, &self.shape)?,
+            shape: self.shape.copy(alloc)?,
             fields: self.fields.copy(alloc)?,
             deadline: self.deadline,
         })
@@ -141,7 +141,8 @@ fn stands_before(first: &Object, second: &Object) -> bool
 // The place of the object of this key and id, or, where there is none, the place where it would go.
 fn place_of(list: &[Object], object: &Object) -> Result<usize, usize>
     ensures held { IfOk result (λ at. IsHeld (λ o. object_before o object.now) (object_before object.now) list.now at) }
-    ensures free { IfErr result (λ at. IsFree (λ o. object_before o object.now) (object_before object.now) list.now at) }
+    ensures free { IfErr result
+        (λ at. IsFree (λ o. object_before o object.now) (object_before object.now) list.now at) }
 {
     for (at, other) in list.iter().enumerate() {
         if stands_before(object, other) {

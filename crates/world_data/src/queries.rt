@@ -23,8 +23,8 @@ pub enum Shown {
 #[derive(Drop)]
 pub enum Rule {
     All,
-    Down,
-    Kept(Kind, Area),
+    Descending,
+    InArea(Kind, Area),
     Nearest,
 }
 

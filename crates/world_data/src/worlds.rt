@@ -1,4 +1,8 @@
 //! Worlds, and the changes of them.
+//!
+//! What makes and changes a `World`, its `Objects` and its `Channels`, and `show_json` of fields, is called by tests
+//! alone: these are the types that the definitions speak of, for which the server keeps slots and trees. `World::fold`
+//! is the definition of a change as a plain program.
 
 ghost use Rattle.std.specs.Prelude.{◌≡◌, OnOk, OnErr};
 ghost use Rattle.world_data.specs.Worlds.{empty_world, after};
@@ -40,7 +44,8 @@ impl World {
         }
     }
 
-    /// Makes the world the one after the change. For want of memory, which comes at a put or a setting alone, it is as before.
+    /// Makes the world the one after the change. For want of memory, which comes at a put or a setting alone, it is as
+    /// before.
     pub fn fold(&mut self, change: Change) -> Result<(), NoMemory>
         ensures ok { OnOk result (self.new ≡ after self.old change) }
         ensures err { OnErr result (self.new ≡ self.old) }

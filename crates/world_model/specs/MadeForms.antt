@@ -2,7 +2,8 @@
 use Rattle.std.proofs.Common.{◌≡◌, ℕ, zero, suc, Bool, true, false, refl, subst, List, [], ◌∷◌, length, ◌+◌}
 use Rattle.std.specs.Prelude.{flat_map, Option, Some, None}
 use Rattle.byte_text.specs.Names.{Bytes}
-use Rattle.world_model.specs.Grammar.{Due, Reading, spells, runs_out, Form, go_on, ◌>>=◌, ◌>>◌, done, ◌or◌, one_of, where_, read_as, one_word, maybe, at_most_times, repeated, once_or_more, live, spelled}
+use Rattle.world_model.specs.Grammar.{Due, Reading, spells, runs_out, Form, go_on, ◌>>=◌, ◌>>◌, done, ◌or◌, one_of, where_, read_as, one_word, maybe}
+use Rattle.world_model.specs.Grammar.{at_most_times, repeated, once_or_more, live, spelled}
 use Rattle.world_model.specs.FormLaws.{Each, each_append}
 
 -- a reading that spells a value spells one with the property
@@ -26,9 +27,6 @@ first {P = P} {f = f} {g = g} p q = makes_or P f g p q
 pub makes_none : {A : Type 0} (P : A → Type 0) → Makes P (one_of [])
 makes_none P = record { made = λ words. tt }
 
-pub makes_first : {A : Type 0} (P : A → Type 0) (f : Form A) (fs : List (Form A)) → Makes P f → Makes P (one_of fs) → Makes P (one_of (f ∷ fs))
-makes_first P f fs p q = record { made = λ words. each_append (Said P) (f words) (one_of fs words) (p.made words) (q.made words) }
-
 pub makes_where : {A : Type 0} (P : A → Type 0) (test : Bool) (f : Form A) → Makes P f → Makes P (where_ test f)
 makes_where P true f p = p
 makes_where P false f p = record { made = λ words. tt }
@@ -42,7 +40,8 @@ read_made : {A : Type 0} (P : A → Type 0) (o : Option A) (words : List Bytes) 
 read_made P None words h = tt
 read_made P (Some a) words h = (h a refl, tt)
 
-pub makes_word : {A : Type 0} (P : A → Type 0) (due : Due) (reader : Bytes → Option A) → ((w : Bytes) (a : A) → reader w ≡ Some a → P a) → Makes P (one_word due reader)
+pub makes_word : {A : Type 0} (P : A → Type 0) (due : Due) (reader : Bytes → Option A) → ((w : Bytes) (a : A) → reader w ≡ Some a → P a)
+    → Makes P (one_word due reader)
 makes_word P due reader h = record { made = made }
   where
     made : (words : List Bytes) → Each (Said P) (one_word due reader words)
@@ -55,7 +54,8 @@ module _ {A B : Type 0} (P : A → Type 0) (Q : B → Type 0) (g : A → Form B)
   bound (spells a rest ∷ rs) all = each_append (Said Q) (g a rest) (flat_map (go_on g) rs) ((goes a all.0).made rest) (bound rs all.1)
   bound (runs_out due ∷ rs) all = (tt, bound rs all.1)
 
-pub makes_bind : {A B : Type 0} (P : A → Type 0) (Q : B → Type 0) (f : Form A) (g : A → Form B) → Makes P f → ((a : A) → P a → Makes Q (g a)) → Makes Q (f >>= g)
+pub makes_bind : {A B : Type 0} (P : A → Type 0) (Q : B → Type 0) (f : Form A) (g : A → Form B) → Makes P f → ((a : A) → P a → Makes Q (g a))
+    → Makes Q (f >>= g)
 makes_bind P Q f g p goes = record { made = λ words. bound P Q g goes (f words) (p.made words) }
 
 any_each : {A : Type 0} (rs : List (Reading A)) → Each (Said (λ (a : A). Unit {0})) rs
@@ -79,7 +79,8 @@ makes_maybe P absent f here p = makes_or P (done absent) f (makes_done P absent 
 module _ {S : Type 0} (P : S → Type 0) (step : S → Form S) (keeps : (s : S) → P s → Makes P (step s)) where
   makes_many : (n : ℕ) (s : S) → P s → Makes P (at_most_times n step s)
   makes_many zero s p = makes_done P s p
-  makes_many (suc n) s p = makes_or P (done s) (step s >>= at_most_times n step) (makes_done P s p) (makes_bind P P (step s) (at_most_times n step) (keeps s p) (makes_many n))
+  makes_many (suc n) s p = makes_or P (done s) (step s >>= at_most_times n step) (makes_done P s p)
+      (makes_bind P P (step s) (at_most_times n step) (keeps s p) (makes_many n))
 
   pub makes_repeated : (s : S) → P s → Makes P (repeated step s)
   makes_repeated s p = record { made = λ words. (makes_many (length words + 1) s p).made words }

@@ -4,8 +4,8 @@ use Rattle.byte_text.specs.Names.{Bytes}
 use Rattle.world_model.specs.Seats.{Act}
 use Rattle.world_model.specs.declared.events.Asked.{Asked}
 use Rattle.world_model.specs.declared.events.Asked.TheVariants.{Words, Broken}
-use Rattle.world_model.specs.declared.events.Called.{Called}
-use Rattle.world_model.specs.declared.events.Called.TheVariants as called
+use Rattle.world_model.specs.declared.events.CallOutcome.{CallOutcome}
+use Rattle.world_model.specs.declared.events.CallOutcome.TheVariants as called
 use Rattle.world_model.specs.declared.events.Taken.{Taken}
 use Rattle.world_model.specs.declared.events.Taken.TheVariants as taken
 use Rattle.world_model.specs.declared.events.EnterFault.{EnterFault}
@@ -42,20 +42,20 @@ is_proper (Words []) = false
 is_proper (Words (w ∷ words)) = true
 is_proper (Broken f) = true
 
-abbrev pub call_act : ℕ → ℕ → Called → Asked → Act
+abbrev pub call_act : ℕ → ℕ → CallOutcome → Asked → Act
 call_act n m answer asked = (Call n m asked, Answered answer)
 
 -- the call behind those that were answered Ok, where there is one
-abbrev pub last_call : ℕ → ℕ → Called → List Asked → List Act
+abbrev pub last_call : ℕ → ℕ → CallOutcome → List Asked → List Act
 last_call n m answer [] = []
 last_call n m called.Ok (a ∷ asked) = []
 last_call n m answer (a ∷ asked) = call_act n m answer a ∷ []
 
 -- calls in order, each answered Ok but perhaps the last
-abbrev pub call_acts : ℕ → ℕ → List Asked → ℕ → Called → List Act
+abbrev pub call_acts : ℕ → ℕ → List Asked → ℕ → CallOutcome → List Act
 call_acts n m asked served end = map (call_act n m called.Ok) (take served asked) ++ last_call n m end (drop served asked)
 
 -- all were answered Ok, or the next one otherwise
-abbrev pub IsCount : ℕ → Called → ℕ → Type 0
+abbrev pub IsCount : ℕ → CallOutcome → ℕ → Type 0
 IsCount served called.Ok most = served ≡ most
 IsCount served end most = served < most

@@ -1,5 +1,6 @@
 -- The shapes of replies, as pieces of RESP2.
-use Rattle.std.specs.Prelude.{ℕ, ℤ, pos, neg_ℤ, ◌+◌, ◌-◌, ◌/◌, ◌%◌, Bool, true, false, ◌==◌, List, [], ◌∷◌, ◌++◌, length, map, flat_map, sum_by, zip, Option, Some, None, if◌then◌else◌, codes}
+use Rattle.std.specs.Prelude.{ℕ, ℤ, pos, neg_ℤ, ◌+◌, ◌-◌, ◌/◌, ◌%◌, Bool, true, false, ◌==◌, List, [], ◌∷◌, ◌++◌, length, map, flat_map, sum_by, zip}
+use Rattle.std.specs.Prelude.{Option, Some, None, if◌then◌else◌, codes}
 use Rattle.std.specs.Fmt.{signed_decimal}
 use Rattle.byte_text.specs.Names.{Bytes}
 use Rattle.byte_text.specs.Replies.{array, bulk, number}
@@ -83,7 +84,8 @@ bounds_of_key (o ∷ objects) = bounds_reply (box_of_points (flat_map (λ p. all
 -- how many objects a key has, and how many positions these have
 abbrev pub stats_of_key : List Object → List Piece
 stats_of_key [] = no_list
-stats_of_key (o ∷ objects) = array (bulk (codes "num_objects") ∷ number (length (o ∷ objects)) ∷ bulk (codes "num_points") ∷ number (sum_by (λ p. positions p.shape) (o ∷ objects)) ∷ [])
+stats_of_key (o ∷ objects) = array (bulk (codes "num_objects") ∷ number (length (o ∷ objects)) ∷ bulk (codes "num_points") ∷
+    number (sum_by (λ p. positions p.shape) (o ∷ objects)) ∷ [])
 
 -- seconds until a deadline, rounded up; -1 without one, and -2 without an object
 abbrev pub seconds_left : ℕ → Option ℕ → ℤ

@@ -1,6 +1,7 @@
 //! The requests that one turn carries.
 
-ghost use Rattle.std.specs.Prelude.{◌≡◌, ◌<◌, ◌≤◌, ◌↔◌, [], ◌∷◌, ◌++◌, length, drop, slice_get, Some, IfErr, OnOk, OnErr, IsTrue};
+ghost use Rattle.std.specs.Prelude.{◌≡◌, ◌<◌, ◌≤◌, ◌↔◌, [], ◌∷◌, ◌++◌, length, drop, slice_get, Some, IfErr, OnOk};
+ghost use Rattle.std.specs.Prelude.{OnErr, IsTrue};
 
 use crate::events::Asked;
 use std::alloc::Global;

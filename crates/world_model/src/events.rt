@@ -1,4 +1,7 @@
 //! What may happen to a hall, and how each call answers.
+//!
+//! A call takes what was read, not bytes: a request, or the fault that ended the reading. Reading bytes is the work of
+//! `resp_frames`.
 
 use byte_text::{Request, RespFault, Text};
 use std::collections::LinkedList;
@@ -13,7 +16,7 @@ pub enum Asked {
 
 /// How a call, a tick or a step of rewriting ended.
 #[derive(Clone, Copy, Debug, PartialEq, Eq)]
-pub enum Called {
+pub enum CallOutcome {
     Ok,
     /// The session has too many frames, or bytes of frames, that it has not taken.
     Full,
@@ -61,7 +64,7 @@ pub struct Answers {
     /// How many of them were answered Ok, from the first on.
     pub served: usize,
     /// Ok where that is all of them, else the answer to the next one, behind which none was made.
-    pub end: Called,
+    pub end: CallOutcome,
 }
 
 /// What may happen to a hall. No value of it is ever made.
@@ -84,14 +87,15 @@ pub enum Outcome {
     Done,
     Entered(u32),
     TooMany,
-    Answered(Called),
+    Answered(CallOutcome),
     /// The frames of a take.
     Given(LinkedList<Text>),
     Empty,
     Ended,
 }
 
-/// An event with its outcome, a note, and the disk's moment and count of faults at its end. No value of it is ever made.
+/// An event with its outcome, a note, and the disk's moment and count of faults at its end. No value of it is ever
+/// made.
 #[derive(Drop)]
 pub struct Entry {
     pub event: Event,
@@ -101,7 +105,8 @@ pub struct Entry {
     pub count: u64,
 }
 
-/// The world, the log's length, and the disk's moment and count of faults with which a history opens. No value of it is ever made.
+/// The world, the log's length, and the disk's moment and count of faults with which a history opens. No value of it is
+/// ever made.
 #[derive(Drop)]
 pub struct Opening {
     pub world: World,

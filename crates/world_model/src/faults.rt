@@ -3,7 +3,8 @@
 use byte_text::Text;
 use geo_text::GeoFault;
 
-/// How a list of words is refused. The texts are the first 64 bytes of the word at fault; of `WrongCount` the command's name in lower case.
+/// How a list of words is refused. The texts are the first 64 bytes of the word at fault; of `WrongCount` the command's
+/// name in lower case.
 #[derive(Drop)]
 pub enum WordFault {
     /// The first word is no command name.

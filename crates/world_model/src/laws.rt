@@ -1,9 +1,11 @@
 //! Laws of the definitions. Each is the contract of a function that does nothing.
 
-ghost use Rattle.world_model.specs.Laws.{BeginningsAreOpen, SpellingsAreOpen, SpellingsAreSound, StopsThere, WordsHaveOneAnswer, StoppedStays, StepsLeadToOne, StepsAreDetermined, OthersArePlacedOn};
+ghost use Rattle.world_model.specs.Laws.{BeginningsAreOpen, SpellingsAreOpen, SpellingsAreSound, StopsThere};
+ghost use Rattle.world_model.specs.Laws.{WordsHaveOneAnswer, StoppedStays, StepsLeadToOne, StepsAreDetermined};
+ghost use Rattle.world_model.specs.Laws.{OthersArePlacedOn};
 
-/// A stopped hall changes in nothing; an event and its outcome leave at most one hall behind; outcomes that are not free are
-/// determined; and no event changes a session that it is not about but by placing frames on it.
+/// A stopped hall changes in nothing; an event and its outcome leave at most one hall behind; outcomes that are not
+/// free are determined; and no event changes a session that it is not about but by placing frames on it.
 pub fn step_laws()
     ensures stays { StoppedStays }
     ensures one { StepsLeadToOne }

@@ -1,6 +1,7 @@
 //! The sessions that a call changed, so that their writers can be woken.
 
-ghost use Rattle.std.specs.Prelude.{◌≡◌, ◌<◌, ◌≤◌, ◌==◌, ◌++◌, ◌∷◌, [], true, length, slice_get, Some, IfOk, if◌then◌else◌};
+ghost use Rattle.std.specs.Prelude.{◌≡◌, ◌<◌, ◌≤◌, ◌==◌, ◌++◌, ◌∷◌, [], true, length, slice_get, Some, IfOk};
+ghost use Rattle.std.specs.Prelude.{if◌then◌else◌};
 ghost use Rattle.std.specs.List.{list_any};
 ghost use Rattle.world_data.specs.Limits.{max_sessions};
 
@@ -11,11 +12,11 @@ use world_data::MAX_SESSIONS;
 
 /// Numbers of sessions, with room for as many as may be present at once.
 #[derive(Drop)]
-pub struct Touched {
+pub struct ChangedSessions {
     list: Vec<u32>,
 }
 
-impl Model for Touched {
+impl Model for ChangedSessions {
     ghost use Rattle.std.specs.Prelude.{List, ℕ, length, ◌≤◌, vec_capacity};
     ghost use Rattle.world_data.specs.Limits.{max_sessions};
 
@@ -26,13 +27,13 @@ impl Model for Touched {
     ghost invariant = { λ t. (length t.list.items ≤ max_sessions) × (max_sessions ≤ vec_capacity t.list) };
 }
 
-impl Touched {
+impl ChangedSessions {
     /// None yet, and room for all that may be present.
-    pub fn new(alloc: Global) -> Result<Touched, NoMemory>
+    pub fn new(alloc: Global) -> Result<ChangedSessions, NoMemory>
         ensures { IfOk result (λ t. t ≡ []) }
     {
         match Vec::with_capacity(alloc, MAX_SESSIONS) {
-            Ok(list) => Ok(Touched { list }),
+            Ok(list) => Ok(ChangedSessions { list }),
             Err(_) => Err(NoMemory),
         }
     }

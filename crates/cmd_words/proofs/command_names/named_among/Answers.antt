@@ -1,11 +1,13 @@
-use Rattle.std.proofs.Common.{rules, ◌≡◌, false, subst}
-use Rattle.byte_text.specs.Names.{Bytes, is_word}
+use Rattle.std.proofs.Common.{rules, ◌≡◌, false, List, [], get_or}
+use Rattle.byte_text.specs.Names.{is_word}
+use Rattle.cmd_words.specs.declared.command_names.Row.{Row}
 use Rattle.cmd_words.specs.declared.command_names.CommandName.TheVariants as command
+use Rattle.cmd_words.specs.declared.command_names.ObjectName.TheVariants as object
 use Rattle.cmd_words.proofs.Others.{others_more}
 use Rattle.cmd_words.proofs.command_names.named_among.Goals as goal
 
-pub loop-command-preserved : goal.loop-command-preserved
-loop-command-preserved c =
-    let other : is_word c.args.called.now c.word.result.now ≡ false = search rules in
-    others_more c.args.called.now c.args.commands.now c.loop-command.command-index command.Set c.loop-command-test.true
-    (subst (λ (n : Bytes). is_word c.args.called.now n ≡ false) c.word.ensures other) c.loop-command.invariant
+pub loop-row-preserved : goal.loop-row-preserved
+loop-row-preserved c =
+    let absent : Row = record { word = record { ref_ptr = (0, 0); now = [] }; name = command.Object object.Set } in
+    let other : is_word c.args.called.now (get_or c.args.rows.now c.loop-row.row-index absent).word.now ≡ false = search rules in
+    others_more c.args.called.now c.args.rows.now c.loop-row.row-index absent c.loop-row-test.true other c.loop-row.invariant

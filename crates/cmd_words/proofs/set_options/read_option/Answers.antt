@@ -2,7 +2,7 @@ use Rattle.std.proofs.Common.{ap, sym, subst, ◌<◌, length}
 use Rattle.std.specs.Prelude.{Some}
 use Rattle.std.proofs.lemmas.Result.{err_from_is_err_and}
 use Rattle.world_model.specs.Commands.{SetOptions}
-use Rattle.world_model.specs.declared.commands.Only.TheVariants.{Absent, Present}
+use Rattle.world_model.specs.declared.object_commands.Only.TheVariants.{Absent, Present}
 use Rattle.cmd_words.specs.Sets.{Goes}
 use Rattle.cmd_words.proofs.OptionWords.{field_read, field_refused, seconds_read, seconds_refused, absent_read, present_read}
 use Rattle.cmd_words.proofs.set_options.read_option.Goals as goal

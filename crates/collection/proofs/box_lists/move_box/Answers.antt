@@ -1,6 +1,6 @@
 use Rattle.std.proofs.Common.{ap, arith}
 use Rattle.rtree.specs.Pairs.{pair}
-use Rattle.tree_pairs.specs.OnePair.{more_with, more_taken}
+use Rattle.rtree.specs.OnePair.{more_with, more_taken}
 use Rattle.collection.proofs.Cheap.{no_more, twice}
 use Rattle.collection.proofs.box_lists.move_box.Goals as goal
 

@@ -1,48 +1,92 @@
-use Rattle.std.proofs.Common.{◌+◌, ◌≤◌, sym, ◌∙◌, subst, arith}
+use Rattle.std.proofs.Common.{◌≡◌, Bool, false, not, sym, subst}
+use Rattle.std.specs.Prelude.{◌&&◌}
 use Rattle.std.proofs.lemmas.Result.{IfOk-weaker}
-use Rattle.world_model.specs.Effects.{Effect}
+use Rattle.world_model.specs.Effects.{Effect, effect, is_served_subscribed}
+use Rattle.world_model.specs.Subscriptions.{has_subs}
+use Rattle.world_model.specs.declared.commands.Command.{Command}
+use Rattle.world_model.specs.declared.commands.Command.TheVariants as family
 use Rattle.keyspace.specs.Entries.{objects_in}
-use Rattle.command_plans.specs.Kept.{most_kept}
-use Rattle.command_plans.specs.Moves.{world_with}
-use Rattle.command_plans.specs.Planned.{channels_weight, IsPlanned}
-use Rattle.command_plans.proofs.Asked.{channels_only, rest_subscribes}
-use Rattle.command_plans.proofs.BesideLaws.{none_subscribes, served_alike}
+use Rattle.object_plans.specs.Beside.{IsPlanBeside}
+use Rattle.object_plans.specs.Moves.{world_with}
+use Rattle.channel_plans.specs.Planned.{IsPlanned}
+use Rattle.channel_plans.specs.declared.planned.Planned.TheVariants.{Objects}
+use Rattle.command_plans.specs.Asking.{IsAsked}
+use Rattle.command_plans.proofs.SessionEffects.{channel_alike, object_alike, search_alike}
 use Rattle.command_plans.proofs.requests.plan_open.Goals as goal
 
-pub returns-then-is_of_objects : goal.returns-then-is_of_objects
-returns-then-is_of_objects c =
+pub returns-in_ok-plan_object-in-Object : goal.returns-in_ok-plan_object-in-Object
+returns-in_ok-plan_object-in-Object c =
+    let os = objects_in c.args.context.objects.now in
     let cs = c.args.context.hub.now.channels in
-    let w = world_with cs (objects_in c.args.context.objects.now) in
+    let w = world_with cs os in
     let held = c.args.context.subs.now in
-    let is = served_alike w c.args.context.now held c.args.command (none_subscribes c.args.command (sym c.is_of_objects.ensures ∙ c.if-is_of_objects.true)) c.requires.may_ask in
-    IfOk-weaker c.plan_beside.result _ _ (λ p s. subst (λ (e : Effect). IsPlanned w c.args.context.total held e p) (sym is) (s cs held c.requires.context.channels)) c.plan_beside.ensures
+    let p = c.in_ok-plan_object-in-Object.field-0 in
+    let may = subst (λ (k : Command). (has_subs held && not (is_served_subscribed k)) ≡ false) c.in-Object.is c.requires.may_ask in
+    subst (λ (k : Command). IsPlanned w c.args.context.total held (effect w c.args.context.now held k) (Objects p)) (sym c.in-Object.is)
+    (subst (λ (e : Effect). IsPlanBeside cs os e p) (sym (object_alike w c.args.context.now held c.in-Object.command may))
+    (c.in_ok-plan_object-in-Object.ensures cs c.requires.context.channels))
 
-pub returns-then-is_of_channels : goal.returns-then-is_of_channels
-returns-then-is_of_channels c =
+pub returns-in_ok-plan_search-in-Search : goal.returns-in_ok-plan_search-in-Search
+returns-in_ok-plan_search-in-Search c =
+    let os = objects_in c.args.context.objects.now in
+    let cs = c.args.context.hub.now.channels in
+    let w = world_with cs os in
+    let held = c.args.context.subs.now in
+    let p = c.in_ok-plan_search-in-Search.field-0 in
+    let may = subst (λ (k : Command). (has_subs held && not (is_served_subscribed k)) ≡ false) c.in-Search.is c.requires.may_ask in
+    subst (λ (k : Command). IsPlanned w c.args.context.total held (effect w c.args.context.now held k) (Objects p)) (sym c.in-Search.is)
+    (subst (λ (e : Effect). IsPlanBeside cs os e p) (sym (search_alike w c.args.context.now held c.in-Search.command may))
+    (c.in_ok-plan_search-in-Search.ensures cs c.args.context.now c.requires.context.channels))
+
+pub returns-in-Channel : goal.returns-in-Channel
+returns-in-Channel c =
     let w = world_with c.args.context.hub.now.channels (objects_in c.args.context.objects.now) in
     let held = c.args.context.subs.now in
-    let is = served_alike w c.args.context.now held c.args.command (channels_only c.args.command (sym c.is_of_channels.ensures ∙ c.if-is_of_channels.true)) c.requires.may_ask in
-    IfOk-weaker c.plan_of_channels.result _ _ (λ p s. subst (λ (e : Effect). IsPlanned w c.args.context.total held e p) (sym is) (s c.args.context.now held)) c.plan_of_channels.ensures
+    let may = subst (λ (k : Command). (has_subs held && not (is_served_subscribed k)) ≡ false) c.in-Channel.is c.requires.may_ask in
+    IfOk-weaker c.plan_channel.result _ _ (λ p s.
+    subst (λ (k : Command). IsPlanned w c.args.context.total held (effect w c.args.context.now held k) p) (sym c.in-Channel.is)
+    (subst (λ (e : Effect). IsPlanned w c.args.context.total held e p) (sym (channel_alike w c.args.context.now held c.in-Channel.command may))
+    (s c.args.context.now held))) c.plan_channel.ensures
 
-pub plan_of_subs-requires-clause-subscribes : goal.plan_of_subs-requires-clause-subscribes
-plan_of_subs-requires-clause-subscribes c = rest_subscribes c.args.command c.requires.asked (sym c.is_of_objects.ensures ∙ c.if-is_of_objects.false) (sym c.is_of_channels.ensures ∙ c.if-is_of_channels.false)
+pub plan_object-requires-clause-kept : goal.plan_object-requires-clause-kept
+plan_object-requires-clause-kept c = c.requires.context.kept
 
-pub returns : goal.returns
-returns c =
-    let light : c.args.context.total + channels_weight c.args.context.hub.now.channels ≤ most_kept = omega (arith, c.requires.context.light, c.requires.context.channels) in
-    IfOk-weaker c.plan_of_subs.result _ _ (λ p s. s c.args.context.hub.now.channels c.args.context.now light) c.plan_of_subs.ensures
+pub plan_object-requires-clause-light : goal.plan_object-requires-clause-light
+plan_object-requires-clause-light c = c.requires.context.light
 
-pub plan_of_channels-requires-clause-kept : goal.plan_of_channels-requires-clause-kept
-plan_of_channels-requires-clause-kept c = c.requires.context.kept
+pub plan_object-requires-clause-moment : goal.plan_object-requires-clause-moment
+plan_object-requires-clause-moment c = c.requires.context.moment
 
-pub plan_of_channels-requires-clause-channels : goal.plan_of_channels-requires-clause-channels
-plan_of_channels-requires-clause-channels c = c.requires.context.channels
+pub plan_object-requires-clause-asked : goal.plan_object-requires-clause-asked
+plan_object-requires-clause-asked c = subst IsAsked c.in-Object.is c.requires.asked
 
-pub plan_of_channels-requires-clause-light : goal.plan_of_channels-requires-clause-light
-plan_of_channels-requires-clause-light c = c.requires.context.light
+pub plan_search-requires-clause-kept : goal.plan_search-requires-clause-kept
+plan_search-requires-clause-kept c = c.requires.context.kept
 
-pub plan_of_subs-requires-clause-kept : goal.plan_of_subs-requires-clause-kept
-plan_of_subs-requires-clause-kept c = c.requires.context.kept
+pub plan_search-requires-clause-light : goal.plan_search-requires-clause-light
+plan_search-requires-clause-light c = c.requires.context.light
 
-pub plan_of_subs-requires-clause-sound : goal.plan_of_subs-requires-clause-sound
-plan_of_subs-requires-clause-sound c = c.requires.context.sound
+pub plan_search-requires-clause-asked : goal.plan_search-requires-clause-asked
+plan_search-requires-clause-asked c = subst IsAsked c.in-Search.is c.requires.asked
+
+pub plan_channel-requires-clause-kept : goal.plan_channel-requires-clause-kept
+plan_channel-requires-clause-kept c = c.requires.context.kept
+
+pub plan_channel-requires-clause-channels : goal.plan_channel-requires-clause-channels
+plan_channel-requires-clause-channels c = c.requires.context.channels
+
+pub plan_channel-requires-clause-light : goal.plan_channel-requires-clause-light
+plan_channel-requires-clause-light c = c.requires.context.light
+
+pub plan_channel-requires-clause-asked : goal.plan_channel-requires-clause-asked
+plan_channel-requires-clause-asked c = subst IsAsked c.in-Channel.is c.requires.asked
+
+pub plan_session-requires-clause-asked : goal.plan_session-requires-clause-asked
+plan_session-requires-clause-asked c = subst IsAsked c.in-Session.is c.requires.asked
+
+pub returns-in-Session : goal.returns-in-Session
+returns-in-Session c =
+    let w = world_with c.args.context.hub.now.channels (objects_in c.args.context.objects.now) in
+    let held = c.args.context.subs.now in
+    IfOk-weaker c.plan_session.result _ _ (λ p s.
+    subst (λ (k : Command). IsPlanned w c.args.context.total held (effect w c.args.context.now held k) p) (sym c.in-Session.is) s) c.plan_session.ensures

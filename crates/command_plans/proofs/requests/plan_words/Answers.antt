@@ -7,19 +7,20 @@ use Rattle.world_model.specs.declared.commands.Command.{Command}
 use Rattle.world_model.specs.declared.faults.WordFault.{WordFault}
 use Rattle.cmd_words.specs.Progress.{IfRefused}
 use Rattle.cmd_words.specs.declared.faults.CommandFault.{CommandFault}
-use Rattle.deliveries.specs.Plans.{effect_of_read}
+use Rattle.delivery_model.specs.Plans.{effect_of_read}
 use Rattle.keyspace.specs.Entries.{objects_in}
-use Rattle.command_plans.specs.Kept.{most_kept}
-use Rattle.command_plans.specs.declared.planned.Planned.TheVariants.{Objects}
-use Rattle.command_plans.specs.Moves.{world_with}
-use Rattle.command_plans.specs.Planned.{channels_weight, IsPlanned}
+use Rattle.object_plans.specs.Kept.{most_kept}
+use Rattle.channel_plans.specs.declared.planned.Planned.TheVariants.{Objects}
+use Rattle.object_plans.specs.Moves.{world_with}
+use Rattle.object_plans.specs.Beside.{channels_weight}
+use Rattle.channel_plans.specs.Planned.{IsPlanned}
 use Rattle.command_plans.proofs.Asked.{served_asked}
 use Rattle.command_plans.proofs.Faults.{answer_fits}
-use Rattle.command_plans.proofs.Planning.{still_planned}
+use Rattle.object_plans.specs.ChannelWeights.{still_beside}
 use Rattle.command_plans.proofs.requests.plan_words.Goals as goal
 
 pub plan_served-requires-clause-asked : goal.plan_served-requires-clause-asked
-plan_served-requires-clause-asked c = served_asked c.args.words.now c.words-count.ensures.fits c.in-Ok.command c.in-Ok.ensures.ok (c.served_commands.ensures c.args.words.now c.in-Ok.command c.in-Ok.ensures.ok)
+plan_served-requires-clause-asked c = served_asked c.settings_are_normal.ensures c.args.words.now c.words-count.ensures.fits c.in-Ok.command c.in-Ok.ensures.ok (c.served_commands.ensures c.args.words.now c.in-Ok.command c.in-Ok.ensures.ok)
 
 pub plan_fault-requires-clause-short : goal.plan_fault-requires-clause-short
 plan_fault-requires-clause-short c =
@@ -36,4 +37,4 @@ returns-in_ok-plan_fault-in-Err-Refused c =
     let refused : reads c.args.words.now ≡ Err fault = subst (λ (why : CommandFault). IfRefused why (λ fault. reads c.args.words.now ≡ Err fault)) c.in-Err-Refused.field-0-is c.in-Err-Refused.ensures.err in
     let light : c.args.context.total + channels_weight cs ≤ most_kept = omega (arith, c.requires.context.light, c.requires.context.channels) in
     subst (λ (r : Result Command WordFault). IsPlanned w c.args.context.total c.args.context.subs.now (effect_of_read w c.args.context.now c.args.context.subs.now r) (Objects p)) (sym refused)
-    (still_planned cs os c.args.context.total c.requires.context.kept light c.args.context.subs.now (says (fault_reply fault)) p refl c.in_ok-plan_fault-in-Err-Refused.ensures)
+    (still_beside cs os c.args.context.total c.requires.context.kept light (says (fault_reply fault)) p refl c.in_ok-plan_fault-in-Err-Refused.ensures)

@@ -1,7 +1,7 @@
 use Rattle.std.proofs.Common.{true, subst}
 use Rattle.std.specs.Prelude.{filter, map}
 use Rattle.std.proofs.lemmas.Result.{IfOk-weaker}
-use Rattle.next_items.specs.Copies.{is_next_channel, name_in}
+use Rattle.world_store.specs.Copies.{is_next_channel, name_in}
 use Rattle.durable_core.specs.Pieces.{Took}
 use Rattle.durable_core.specs.Rewriting.{Item, of_channel, of_object}
 use Rattle.durable_core.proofs.Taking.{channel_taken, objects_behind}

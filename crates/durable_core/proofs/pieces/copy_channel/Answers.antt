@@ -1,6 +1,6 @@
 use Rattle.std.proofs.Common.{ap, refl, sym}
 use Rattle.world_data.specs.declared.worlds.Change.TheVariants.{SetChan}
-use Rattle.next_items.specs.Copies.{is_next_channel, name_in}
+use Rattle.world_store.specs.Copies.{is_next_channel, name_in}
 use Rattle.durable_core.specs.declared.rewritings.LastCopied.TheVariants as last
 use Rattle.durable_core.proofs.Taking.{none_left, one_left, put_record}
 use Rattle.durable_core.proofs.pieces.copy_channel.Goals as goal

@@ -2,7 +2,7 @@ use Rattle.std.proofs.Common.{false, refl, subst, sym}
 use Rattle.std.specs.Prelude.{IfOk, filter}
 use Rattle.std.proofs.lemmas.Result.{IfOk-weaker}
 use Rattle.world_data.specs.declared.channels.Channel.{Channel}
-use Rattle.next_items.specs.Copies.{is_behind}
+use Rattle.world_store.specs.Copies.{is_behind}
 use Rattle.durable_core.specs.declared.rewritings.LastCopied.{LastCopied}
 use Rattle.durable_core.specs.Pieces.{Took}
 use Rattle.durable_core.specs.Rewriting.{Item, items_left, of_object}

@@ -1,7 +1,7 @@
 use Rattle.std.proofs.Common.{◌∙◌, ap, refl, sym}
 use Rattle.byte_text.specs.Names.{Bytes}
 use Rattle.world_data.specs.declared.worlds.Change.TheVariants.{Put}
-use Rattle.next_items.specs.Copies.{is_next_object, place_in}
+use Rattle.world_store.specs.Copies.{is_next_object, place_in}
 use Rattle.durable_core.specs.declared.rewritings.LastCopied.TheVariants as last
 use Rattle.durable_core.proofs.Taking.{none_left, one_left, put_record}
 use Rattle.durable_core.proofs.pieces.copy_object.Goals as goal

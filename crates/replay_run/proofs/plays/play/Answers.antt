@@ -2,7 +2,7 @@ use Rattle.std.proofs.Common.{◌≡◌, ◌≢◌, ◌≤◌, ◌+◌, ◌⊎�
 use Rattle.std.specs.Prelude.{Some}
 use Rattle.outside.specs.Causes.{Rose}
 use Rattle.outside.specs.Sides.{Sides}
-use Rattle.world_model.specs.declared.events.Called.TheVariants as called
+use Rattle.world_model.specs.declared.events.CallOutcome.TheVariants as called
 use Rattle.durable_core.specs.Logged.{hall_of, disk_of}
 use Rattle.replay_run.specs.declared.ends.ReplayEnd.{ReplayEnd}
 use Rattle.replay_run.specs.declared.halts.Halt.TheVariants as halted

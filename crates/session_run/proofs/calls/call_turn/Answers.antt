@@ -1,7 +1,7 @@
 use Rattle.std.proofs.Common.{◌≡◌, ◌∙◌, List, length, drop, refl, sym, ap, subst}
 use Rattle.world_model.specs.declared.events.Asked.{Asked}
-use Rattle.world_model.specs.declared.events.Called.{Called}
-use Rattle.world_model.specs.declared.events.Called.TheVariants as called
+use Rattle.world_model.specs.declared.events.CallOutcome.{CallOutcome}
+use Rattle.world_model.specs.declared.events.CallOutcome.TheVariants as called
 use Rattle.world_model.specs.Outcomes.{call_acts, IsCount}
 use Rattle.session_run.specs.Calls.{ServesList, ServesOn}
 use Rattle.session_run.specs.Gains.{GainsBoth}
@@ -19,8 +19,8 @@ returns-after-handed-clause-turn g c =
     let served = c.turn_once-asked.result.0.served in
     let t = c.turn_once-asked.ensures.turn in
     let is : c.turn_once-asked.result.0.end ≡ called.Full = c.in-Full.is in
-    let count = subst (λ (e : Called). IsCount served e (length asks)) is c.turn_once-asked.ensures.count in
-    let gains = subst (λ (e : Called). GainsBoth old new (call_acts n m asks served e) t.0) is t.1 in (
+    let count = subst (λ (e : CallOutcome). IsCount served e (length asks)) is c.turn_once-asked.ensures.count in
+    let gains = subst (λ (e : CallOutcome). GainsBoth old new (call_acts n m asks served e) t.0) is t.1 in (
       t.0,
       subst (λ (l : List Asked). ServesOn n told old new asks l t.0) (sym (c.pass-2.ensures ∙ ap (λ (l : List Asked). drop served l) c.turn_once-asked.ensures.back))
           (turn_waits n m told old new t.0 asks served (timely told m c.now-moment.ensures.told) count gains),

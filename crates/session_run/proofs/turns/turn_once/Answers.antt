@@ -1,5 +1,5 @@
 use Rattle.std.proofs.Common.{[], ◌++◌, refl, sym, subst}
-use Rattle.hall_turns.specs.Turns.{take_acts}
+use Rattle.world_model.specs.Turns.{take_acts}
 use Rattle.world_model.specs.Outcomes.{call_acts}
 use Rattle.session_run.specs.Gains.{GainsBoth, WithTakes, gains_calls}
 use Rattle.session_run.specs.Writings.{Goes}

@@ -1,5 +1,5 @@
 use Rattle.std.specs.Prelude.{Some, None}
-use Rattle.hall_turns.specs.Turns.{take_acts}
+use Rattle.world_model.specs.Turns.{take_acts}
 use Rattle.session_run.proofs.Beside.{behind_told}
 use Rattle.session_run.proofs.turns.write_alone.Goals as goal
 

@@ -2,7 +2,7 @@ use Rattle.std.proofs.Common.{sym, ◌∙◌, subst}
 use Rattle.std.specs.Prelude.{Option, Some, None}
 use Rattle.world_model.specs.Outcomes.{take_outcome}
 use Rattle.world_model.specs.declared.events.Taken.{Taken}
-use Rattle.hall_turns.specs.Turns.{take_acts}
+use Rattle.world_model.specs.Turns.{take_acts}
 use Rattle.session_run.specs.Outs.{WritesTaken, WritesBehind}
 use Rattle.session_run.specs.declared.outs.OutEnd.{OutEnd}
 use Rattle.session_run.proofs.Outing.{behind_one, behind_last, behind_more}

@@ -1,7 +1,7 @@
 use Rattle.std.proofs.Common.{List, map, take, ℕ, refl, ◌∙◌, subst, arith, ◌≡◌}
 use Rattle.world_model.specs.Seats.{Act}
 use Rattle.world_model.specs.Outcomes.{call_act, call_acts}
-use Rattle.world_model.specs.declared.events.Called.TheVariants as called
+use Rattle.world_model.specs.declared.events.CallOutcome.TheVariants as called
 use Rattle.shared_hall.specs.Cores.{hall_in, disk_in, ActsInFront, TurnsBy}
 use Rattle.shared_hall.proofs.Calling.{next_call, is_proper_at, acts_to, acts_all, names_more}
 use Rattle.shared_hall.proofs.Turning.{acts_behind, acts_go_on, acts_fine}

@@ -1,7 +1,7 @@
 use Rattle.std.proofs.Common.{◌≡◌, map, take}
 use Rattle.world_model.specs.Halls.{NamesChanged}
 use Rattle.world_model.specs.Outcomes.{call_act}
-use Rattle.world_model.specs.declared.events.Called.TheVariants as called
+use Rattle.world_model.specs.declared.events.CallOutcome.TheVariants as called
 use Rattle.tile_core.specs.Answered.{AreSessions}
 use Rattle.shared_hall.specs.Cores.{hall_in, disk_in, ActsInFront, TurnsBy}
 use Rattle.shared_hall.proofs.answers.call_each.Given as goal

@@ -3,8 +3,8 @@ use Rattle.world_data.specs.Worlds.{is_at}
 use Rattle.world_data.specs.declared.objects.Object.{Object}
 use Rattle.keyspace.specs.Entries.{objects_in}
 use Rattle.tile_core.specs.Dues.{HaveRoom}
-use Rattle.record_lengths.specs.Lengths.{HasFewFields}
-use Rattle.command_plans.specs.Standing.{found_holds}
+use Rattle.record_writer.specs.Lengths.{HasFewFields}
+use Rattle.object_plans.specs.Standing.{found_holds}
 use Rattle.tile_core.proofs.Taken.{room_more, weighs}
 use Rattle.tile_core.proofs.dues.take_next.Goals as goal
 

@@ -1,5 +1,5 @@
 use Rattle.std.specs.Prelude.{◌≡◌, drop}
-use Rattle.command_plans.specs.Planned.{without_names}
+use Rattle.channel_plans.specs.Planned.{without_names}
 use Rattle.tile_core.proofs.finish.drop_channels.Given as goal
 
 -- what is left to take out makes the whole

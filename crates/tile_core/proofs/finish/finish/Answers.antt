@@ -4,14 +4,15 @@ use Rattle.world_data.specs.Sound.{is_sound_channel}
 use Rattle.world_data.specs.declared.channels.Channel.{Channel}
 use Rattle.world_data.specs.declared.objects.Object.{Object}
 use Rattle.keyspace.specs.Entries.{objects_in}
-use Rattle.deliveries.specs.Staging.{after_all}
-use Rattle.command_plans.specs.declared.planned.Planned.{Planned}
-use Rattle.command_plans.specs.declared.planned.Planned.TheVariants.{Objects, Channels}
+use Rattle.delivery_model.specs.Staging.{after_all}
+use Rattle.channel_plans.specs.declared.planned.Planned.{Planned}
+use Rattle.channel_plans.specs.declared.planned.Planned.TheVariants.{Objects, Channels}
 use Rattle.tile_core.specs.declared.stores.Store.{Store}
-use Rattle.command_plans.specs.Kept.{AreKept}
+use Rattle.object_plans.specs.Kept.{AreKept}
 use Rattle.tile_core.specs.Dues.{AreDueFrom}
-use Rattle.command_plans.specs.Moves.{world_with, moved}
-use Rattle.command_plans.specs.Planned.{IsPlanned, IsRecordedChannel, channels_left, channels_moved, channels_weight}
+use Rattle.object_plans.specs.Moves.{world_with, moved}
+use Rattle.channel_plans.specs.Planned.{IsPlanned, IsRecordedChannel, channels_moved}
+use Rattle.object_plans.specs.Beside.{channels_left, channels_weight}
 use Rattle.tile_core.specs.Ready.{planned_writes}
 use Rattle.tile_core.specs.Stores.{IsStore, world_at}
 use Rattle.tile_core.proofs.Finishing.{channels_done, kept_after, move_done, recorded_left, recorded_moved, sound_left, sound_moved, weighed_left}
@@ -25,7 +26,7 @@ returns-in-Objects-clause-world c =
     let p = c.in-Objects.plan in
     ap (λ (cs : List Channel). world_with cs (objects_in new.objects)) c.finish_objects.ensures.channels
     ∙ ap (world_with (channels_left p.action old.hub.channels)) c.finish_objects.ensures.objects
-    ∙ sym (move_done old.hub.channels (objects_in old.objects) p.action p.loud)
+    ∙ sym (move_done old.hub.channels (objects_in old.objects) p.action p.announced)
     ∙ ap (λ (q : Planned). after_all (world_at old) (planned_writes q)) (sym c.in-Objects.is)
 
 pub returns-in-Objects-clause-kept : goal.returns-in-Objects-clause-kept

@@ -1,7 +1,7 @@
 use Rattle.std.proofs.Common.{Bool, sym, ap, ◌∙◌}
 use Rattle.world_model.specs.Halls.{placed}
-use Rattle.deliveries.specs.Plans.{ending}
-use Rattle.session_mail.specs.Sessions.{session_of}
+use Rattle.delivery_model.specs.Plans.{ending}
+use Rattle.session_table.specs.Sessions.{session_of}
 use Rattle.tile_core.specs.Ready.{ending_if}
 use Rattle.tile_core.proofs.finish.finish_objects.Goals as goal
 

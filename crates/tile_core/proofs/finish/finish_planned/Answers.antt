@@ -1,7 +1,7 @@
 use Rattle.std.proofs.Common.{◌≡◌, length, refl, sym, subst, arith}
 use Rattle.std.specs.Prelude.{Some, Option, slice_get, slice_set}
 use Rattle.std.proofs.lemmas.Option.{slice_get_read}
-use Rattle.command_plans.specs.declared.planned.Planned.{Planned}
+use Rattle.channel_plans.specs.declared.planned.Planned.{Planned}
 use Rattle.tile_core.specs.Ready.{CanComplete, IsDone, IsDoneIf}
 use Rattle.tile_core.proofs.finish.finish_planned.Goals as goal
 

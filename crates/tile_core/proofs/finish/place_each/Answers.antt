@@ -2,8 +2,8 @@ use Rattle.std.proofs.Common.{◌≡◌, ◌∷◌, [], List, length, refl, sym,
 use Rattle.std.specs.Vec.Iter.{into_iter_items}
 use Rattle.byte_text.specs.Names.{Bytes}
 use Rattle.world_model.specs.Halls.{placed, placed_each}
-use Rattle.deliveries.specs.Placing.{each_append}
-use Rattle.session_mail.specs.Sessions.{session_of}
+use Rattle.delivery_model.specs.Placing.{each_append}
+use Rattle.session_table.specs.Sessions.{session_of}
 use Rattle.tile_core.proofs.finish.place_each.Goals as goal
 
 nothing_left : (l : List Bytes) → length l ≡ 0 → l ≡ []

@@ -1,7 +1,7 @@
 use Rattle.std.proofs.Common.{◌≡◌, ◌≤◌, ◌++◌, length}
 use Rattle.std.specs.Vec.Iter.{into_iter_items, into_iter_len}
 use Rattle.world_model.specs.Halls.{placed_each}
-use Rattle.session_mail.specs.Sessions.{session_of}
+use Rattle.session_table.specs.Sessions.{session_of}
 use Rattle.tile_core.proofs.finish.place_each.Given as goal
 
 -- the first frames are placed, and there is room for the others

@@ -1,6 +1,6 @@
 use Rattle.std.proofs.Common.{◌≡◌, drop}
 use Rattle.keyspace.specs.Entries.{objects_in}
-use Rattle.command_plans.specs.Moves.{without_each}
+use Rattle.object_plans.specs.Moves.{without_each}
 use Rattle.tile_core.proofs.moves.delete_each.Given as goal
 
 -- what is left to take out makes the whole

@@ -5,11 +5,11 @@ use Rattle.ordered_lists.specs.Reading.{got_at}
 use Rattle.world_data.specs.declared.worlds.World.{World}
 use Rattle.world_model.specs.Subscriptions.{Sub}
 use Rattle.keyspace.specs.Entries.{objects_in}
-use Rattle.deliveries.specs.Plans.{effect_of_asked}
-use Rattle.session_mail.specs.Sessions.{State, session_of}
-use Rattle.session_mail.specs.FanLaws.{same_set}
-use Rattle.command_plans.specs.Moves.{world_with}
-use Rattle.command_plans.specs.Planned.{IsPlanned}
+use Rattle.delivery_model.specs.Plans.{effect_of_asked}
+use Rattle.session_table.specs.Sessions.{State, session_of}
+use Rattle.session_table.specs.FanLaws.{same_set}
+use Rattle.object_plans.specs.Moves.{world_with}
+use Rattle.channel_plans.specs.Planned.{IsPlanned}
 use Rattle.tile_core.specs.Ready.{planned_writes, reply_count}
 use Rattle.tile_core.specs.Staged.{StagesBehind}
 use Rattle.tile_core.specs.Stores.{world_at}

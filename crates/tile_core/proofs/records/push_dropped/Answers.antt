@@ -1,10 +1,10 @@
 use Rattle.std.proofs.Common.{◌≡◌, take, subst, List, arith}
 use Rattle.std.proofs.lemmas.List.{take_all}
 use Rattle.byte_text.specs.Names.{Bytes}
-use Rattle.fence_model.specs.Writes.{quiet}
+use Rattle.fence_model.specs.Writes.{silent}
 use Rattle.world_data.specs.declared.worlds.Change.TheVariants as change
-use Rattle.tile_core.specs.Ledgers.{ArePushed}
-use Rattle.command_plans.specs.Planned.{dropped_of}
+use Rattle.tile_core.specs.RecordSinks.{ArePushed}
+use Rattle.channel_plans.specs.Planned.{dropped_of}
 use Rattle.tile_core.proofs.Pushing.{pushed_more, pushed_none, pushed_one}
 use Rattle.tile_core.proofs.records.push_dropped.Goals as goal
 
@@ -14,8 +14,8 @@ loop-i-init c = pushed_none c.args.into.now
 pub loop-i-preserved : goal.loop-i-preserved
 loop-i-preserved c =
     let name = c.at.result.now in
-    pushed_more (λ n. quiet (change.DelChan n)) c.args.names.now c.loop-i.i name c.args.into.now c.loop-i.into c.push_delchan.new.into c.at.ensures c.loop-i.invariant
-    (pushed_one (quiet (change.DelChan name)) c.loop-i.into c.push_delchan.new.into c.in_ok-push_delchan.ensures.ok (c.changes_are_recorded.ensures.objects.channel_ends name c.in_ok-push_delchan.ensures.is_kept))
+    pushed_more (λ n. silent (change.DelChan n)) c.args.names.now c.loop-i.i name c.args.into.now c.loop-i.into c.push_delchan.new.into c.at.ensures c.loop-i.invariant
+    (pushed_one (silent (change.DelChan name)) c.loop-i.into c.push_delchan.new.into c.in_ok-push_delchan.ensures.ok (c.changes_are_recorded.ensures.channel_ends name c.in_ok-push_delchan.ensures.is_kept))
 
 pub returns : goal.returns
 returns c =

@@ -1,6 +1,6 @@
 use Rattle.std.proofs.Common.{take}
-use Rattle.tile_core.specs.Ledgers.{ArePushed}
-use Rattle.command_plans.specs.Planned.{dropped_of}
+use Rattle.tile_core.specs.RecordSinks.{ArePushed}
+use Rattle.channel_plans.specs.Planned.{dropped_of}
 use Rattle.tile_core.proofs.records.push_dropped.Given as goal
 
 abbrev pub invariant-loop-i : goal.invariant-loop-i

@@ -1,9 +1,9 @@
 use Rattle.std.proofs.Common.{◌≡◌, take, subst, List, arith}
 use Rattle.std.proofs.lemmas.List.{take_all}
 use Rattle.byte_text.specs.Names.{Bytes}
-use Rattle.fence_model.specs.Writes.{loud}
+use Rattle.fence_model.specs.Writes.{announced}
 use Rattle.world_data.specs.declared.worlds.Change.TheVariants as change
-use Rattle.tile_core.specs.Ledgers.{ArePushed}
+use Rattle.tile_core.specs.RecordSinks.{ArePushed}
 use Rattle.tile_core.specs.Staged.{dels_of}
 use Rattle.tile_core.proofs.Pushing.{pushed_more, pushed_none}
 use Rattle.tile_core.proofs.records.push_each.Goals as goal
@@ -13,7 +13,7 @@ loop-i-init c = pushed_none c.args.into.now
 
 pub loop-i-preserved : goal.loop-i-preserved
 loop-i-preserved c =
-    pushed_more (λ id. loud (change.Del c.args.key.now id)) c.args.ids.now c.loop-i.i c.at.result.now c.args.into.now c.loop-i.into c.push_one.new.into c.at.ensures c.loop-i.invariant c.in_ok-push_one.ensures
+    pushed_more (λ id. announced (change.Del c.args.key.now id)) c.args.ids.now c.loop-i.i c.at.result.now c.args.into.now c.loop-i.into c.push_one.new.into c.at.ensures c.loop-i.invariant c.in_ok-push_one.ensures
 
 pub returns : goal.returns
 returns c =

@@ -1,5 +1,5 @@
 use Rattle.std.proofs.Common.{take}
-use Rattle.tile_core.specs.Ledgers.{ArePushed}
+use Rattle.tile_core.specs.RecordSinks.{ArePushed}
 use Rattle.tile_core.specs.Staged.{dels_of}
 use Rattle.tile_core.proofs.records.push_each.Given as goal
 

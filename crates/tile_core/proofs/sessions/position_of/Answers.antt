@@ -2,7 +2,7 @@ use Rattle.std.proofs.Common.{◌≡◌, ◌<◌, false, rules, length, subst, s
 use Rattle.std.proofs.lemmas.List.Sorted.{IsPartitionPoint-from_clause}
 use Rattle.std.specs.Prelude.{nat_lt}
 use Rattle.ordered_lists.specs.Reading.{stands_at}
-use Rattle.session_mail.specs.Sessions.{State}
+use Rattle.session_table.specs.Sessions.{State}
 use Rattle.tile_core.proofs.Halving.{parted, all_lesser, other}
 use Rattle.tile_core.proofs.sessions.position_of.Goals as goal
 

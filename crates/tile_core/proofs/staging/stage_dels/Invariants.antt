@@ -1,7 +1,7 @@
 use Rattle.std.specs.Prelude.{◌≡◌, map, take}
 use Rattle.fence_model.specs.Writes.{dels}
 use Rattle.world_data.specs.declared.worlds.World.{World}
-use Rattle.session_mail.specs.Sessions.{session_of}
+use Rattle.session_table.specs.Sessions.{session_of}
 use Rattle.tile_core.specs.Dues.{AllStand}
 use Rattle.tile_core.specs.Staged.{StagesBehind}
 use Rattle.tile_core.proofs.staging.stage_dels.Given as goal

@@ -1,8 +1,8 @@
 use Rattle.std.proofs.Common.{◌≡◌, ◌+◌, ◌∙◌, sym, ap, subst, List, take}
 use Rattle.std.specs.Prelude.{map}
 use Rattle.keyspace.specs.Entries.{objects_in}
-use Rattle.session_mail.specs.Sessions.{State, session_of}
-use Rattle.command_plans.specs.Moves.{world_with}
+use Rattle.session_table.specs.Sessions.{State, session_of}
+use Rattle.object_plans.specs.Moves.{world_with}
 use Rattle.tile_core.specs.Staged.{StagesBehind, dels_of}
 use Rattle.tile_core.proofs.Behind.{each_next, each_some}
 use Rattle.tile_core.proofs.staging.stage_each.Goals as goal

@@ -1,7 +1,7 @@
 use Rattle.std.specs.Prelude.{◌≡◌, map, take}
 use Rattle.keyspace.specs.Entries.{objects_in}
-use Rattle.session_mail.specs.Sessions.{session_of}
-use Rattle.command_plans.specs.Moves.{world_with}
+use Rattle.session_table.specs.Sessions.{session_of}
+use Rattle.object_plans.specs.Moves.{world_with}
 use Rattle.tile_core.specs.Staged.{StagesBehind, dels_of}
 use Rattle.tile_core.proofs.staging.stage_each.Given as goal
 

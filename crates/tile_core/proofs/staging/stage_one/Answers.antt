@@ -2,13 +2,13 @@ use Rattle.std.proofs.Common.{◌≡◌, ◌∷◌, [], refl, ap, ◌∙◌, sub
 use Rattle.byte_text.specs.Names.{Bytes}
 use Rattle.world_data.specs.Worlds.{object_at}
 use Rattle.world_data.specs.declared.worlds.Change.TheVariants as change
-use Rattle.fence_model.specs.Writes.{Write, loud}
+use Rattle.fence_model.specs.Writes.{Write, announced}
 use Rattle.keyspace.specs.Entries.{objects_in}
-use Rattle.message_fan.specs.Stagings.{IsBeforeDel, IsStagedIn}
-use Rattle.command_plans.specs.Moves.{world_with}
+use Rattle.message_fanout.specs.Stagings.{IsBeforeDel, IsStagedIn}
+use Rattle.object_plans.specs.Moves.{world_with}
 use Rattle.tile_core.specs.Staged.{StagesBehind}
 use Rattle.tile_core.proofs.Behind.{behind_one, on_ok}
-use Rattle.command_plans.specs.Weights.{found_at}
+use Rattle.object_plans.specs.Weights.{found_at}
 use Rattle.tile_core.proofs.staging.stage_one.Goals as goal
 
 pub returns-in-Some-clause-staged : goal.returns-in-Some-clause-staged
@@ -27,7 +27,7 @@ returns-in-Some-clause-staged c =
       channels_are = refl;
       stands = ap (λ (k : Bytes). object_at w k o.id) own.0 ∙ ap (λ (k : Bytes). object_at w key k) own.1 ∙ found;
     } in
-    let named : loud (change.Del o.key o.id) ≡ loud (change.Del key id) = ap (λ (k : Bytes). loud (change.Del k o.id)) own.0 ∙ ap (λ (k : Bytes). loud (change.Del key k)) own.1 in
+    let named : announced (change.Del o.key o.id) ≡ announced (change.Del key id) = ap (λ (k : Bytes). announced (change.Del k o.id)) own.0 ∙ ap (λ (k : Bytes). announced (change.Del key k)) own.1 in
     on_ok c.stage_del.result _ _
-    (λ (s : IsStagedIn (IsBeforeDel cs o) (loud (change.Del o.key o.id)) old new). subst (λ (d : Write). StagesBehind w (d ∷ []) old new) named (behind_one w (loud (change.Del o.key o.id)) (IsBeforeDel cs o) old new such s))
+    (λ (s : IsStagedIn (IsBeforeDel cs o) (announced (change.Del o.key o.id)) old new). subst (λ (d : Write). StagesBehind w (d ∷ []) old new) named (behind_one w (announced (change.Del o.key o.id)) (IsBeforeDel cs o) old new such s))
     c.stage_del.ensures.staged

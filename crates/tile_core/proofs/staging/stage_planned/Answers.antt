@@ -1,7 +1,7 @@
 use Rattle.keyspace.specs.Entries.{objects_in}
 use Rattle.std.proofs.Common.{sym, subst}
-use Rattle.command_plans.specs.declared.planned.Planned.{Planned}
-use Rattle.command_plans.specs.Moves.{world_with}
+use Rattle.channel_plans.specs.declared.planned.Planned.{Planned}
+use Rattle.object_plans.specs.Moves.{world_with}
 use Rattle.tile_core.specs.Ready.{planned_writes}
 use Rattle.tile_core.specs.Staged.{StagesBehind}
 use Rattle.tile_core.proofs.Behind.{behind_channels}
@@ -11,4 +11,4 @@ pub returns-in-Channels-clause-staged : goal.returns-in-Channels-clause-staged
 returns-in-Channels-clause-staged c =
     let w = world_with c.args.hub.now.channels (objects_in c.args.objects.now) in
     let ss = c.args.sessions.now.items in
-    subst (λ (p : Planned). StagesBehind w (planned_writes p) ss ss) (sym c.in-Channels.is) (behind_channels c.turn_laws.ensures.quiet w c.in-Channels._plan.action ss)
+    subst (λ (p : Planned). StagesBehind w (planned_writes p) ss ss) (sym c.in-Channels.is) (behind_channels c.turn_laws.ensures.silent w c.in-Channels._plan.action ss)

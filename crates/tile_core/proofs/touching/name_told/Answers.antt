@@ -2,7 +2,7 @@ use Rattle.std.proofs.Common.{◌≡◌, ◌<◌, ◌+◌, ℕ, true, false, sym
 use Rattle.std.specs.Prelude.{Some, slice_get, ◌⊎◌, []}
 use Rattle.std.proofs.lemmas.Option.{slice_get_within}
 use Rattle.ordered_lists.specs.Reading.{stands_at}
-use Rattle.session_mail.specs.Sessions.{State}
+use Rattle.session_table.specs.Sessions.{State}
 use Rattle.tile_core.specs.Answered.{AreRoomy, StayNamed, is_named}
 use Rattle.tile_core.proofs.NamedChanges.{is_it, named_all, named_next, room_for_one, stay, still_roomy, with_name}
 use Rattle.tile_core.proofs.touching.name_told.Goals as goal

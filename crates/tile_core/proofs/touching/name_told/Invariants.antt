@@ -1,5 +1,5 @@
 use Rattle.std.specs.Prelude.{◌≡◌, ◌<◌, ◌⊎◌, ℕ, Some, slice_get, true, []}
-use Rattle.session_mail.specs.Sessions.{State}
+use Rattle.session_table.specs.Sessions.{State}
 use Rattle.tile_core.specs.Answered.{AreRoomy, StayNamed, is_named}
 use Rattle.tile_core.proofs.touching.name_told.Given as goal
 

@@ -3,9 +3,9 @@ use Rattle.std.specs.Prelude.{◌++◌}
 use Rattle.world_model.specs.Halls.{Hall}
 use Rattle.world_model.specs.declared.events.Event.TheVariants as event
 use Rattle.world_model.specs.declared.events.Outcome.TheVariants as outcome
-use Rattle.world_model.specs.declared.events.Called.TheVariants as called
+use Rattle.world_model.specs.declared.events.CallOutcome.TheVariants as called
 use Rattle.journal.specs.Journals.{pending}
-use Rattle.tile_core.specs.Ledgers.{IsRecordedBy}
+use Rattle.tile_core.specs.RecordSinks.{IsRecordedBy}
 use Rattle.durable_core.specs.Kept.{HasPending}
 use Rattle.durable_core.specs.Logged.{hall_of}
 use Rattle.durable_core.specs.StepLaws.{call_goes, fails, same_hall}

@@ -4,7 +4,7 @@ use Rattle.world_data.specs.Sound.{IsSoundWorld}
 use Rattle.world_data.specs.declared.worlds.World.{World}
 use Rattle.world_model.specs.Halls.{Hall}
 use Rattle.journal.specs.Journals.{Keeps}
-use Rattle.world_opening.specs.Opened.{IsOpened}
+use Rattle.world_recovery.specs.Opened.{IsOpened}
 use Rattle.durable_core.proofs.Opening.{is_opening, opened_hall, reads_alike, world_sound}
 use Rattle.durable_core.proofs.cores.DurableCore.open.Goals as goal
 

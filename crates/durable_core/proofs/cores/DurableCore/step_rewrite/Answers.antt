@@ -1,8 +1,8 @@
 use Rattle.std.proofs.Common.{◌∙◌, sym, refl, subst}
 use Rattle.world_model.specs.declared.events.Event.TheVariants as event
 use Rattle.world_model.specs.declared.events.Outcome.TheVariants as outcome
-use Rattle.world_model.specs.declared.events.Called.{Called}
-use Rattle.world_model.specs.declared.events.Called.TheVariants as called
+use Rattle.world_model.specs.declared.events.CallOutcome.{CallOutcome}
+use Rattle.world_model.specs.declared.events.CallOutcome.TheVariants as called
 use Rattle.log_record.specs.Journals as log
 use Rattle.durable_core.specs.Logged.{hall_of}
 use Rattle.durable_core.specs.Kept.{LeadsTo}
@@ -29,5 +29,5 @@ returns-in-LogFault-clause-log g c j keeps =
     let old = c.args.self.now in
     let going = sym c.is_stopped.ensures ∙ c.if-is_stopped.false in
     let step = fails (hall_of old) _ event.Rewrite refl going refl refl in
-    let leads = subst (λ (a : Called). LeadsTo D.crashes D.seen D.images D.moment D.left_since old.tail c.step.new.self (ended a) j (log.settled j)) c.in-LogFault.is (c.step.ensures.log j (keeps going).kept (keeps going).world) in
+    let leads = subst (λ (a : CallOutcome). LeadsTo D.crashes D.seen D.images D.moment D.left_since old.tail c.step.new.self (ended a) j (log.settled j)) c.in-LogFault.is (c.step.ensures.log j (keeps going).kept (keeps going).world) in
     faulted D.crashes D.seen D.images D.moment D.left_since g.met.D.Disk.as_read g.met.D.Disk.counts_now g.met.D.Disk.only_now called.LogFault old _ event.Rewrite (outcome.Answered called.LogFault) j (log.settled j) going refl step keeps c.step.ensures.told leads refl

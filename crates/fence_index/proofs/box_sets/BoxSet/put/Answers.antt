@@ -1,6 +1,6 @@
 use Rattle.std.proofs.Common.{arith}
 use Rattle.rtree.specs.Pairs.{pair}
-use Rattle.tree_pairs.specs.OnePair.{more_with}
+use Rattle.rtree.specs.OnePair.{more_with}
 use Rattle.fence_index.proofs.OnePair.{length_with, none_weighs, some_weighs}
 use Rattle.fence_index.proofs.box_sets.BoxSet.put.Goals as goal
 

@@ -5,13 +5,13 @@ use Rattle.world_model.specs.Halls as halls
 use Rattle.world_model.specs.Histories.{Step}
 use Rattle.world_model.specs.declared.events.Event.TheVariants as event
 use Rattle.world_model.specs.declared.events.Outcome.TheVariants as outcome
-use Rattle.world_model.specs.declared.events.Called.{Called}
-use Rattle.world_model.specs.declared.events.Called.TheVariants as called
+use Rattle.world_model.specs.declared.events.CallOutcome.{CallOutcome}
+use Rattle.world_model.specs.declared.events.CallOutcome.TheVariants as called
 use Rattle.keyspace.specs.Entries.{objects_in}
-use Rattle.session_mail.specs.Sessions.{State}
+use Rattle.session_table.specs.Sessions.{State}
 use Rattle.tile_core.specs.CoreStates.{CoreState}
 use Rattle.tile_core.specs.Answered.{AreNamed, AreRoomy, AreSessions, IsAnswered, MayCall, is_named}
-use Rattle.tile_core.specs.Ledgers.{IsRecordedBy, ready_writes}
+use Rattle.tile_core.specs.RecordSinks.{IsRecordedBy, ready_writes}
 use Rattle.tile_core.specs.Sessions.{IsServed, are_rising}
 use Rattle.tile_core.specs.Stores.{hall_of}
 use Rattle.tile_core.proofs.Answered.{may_not}
@@ -33,28 +33,28 @@ served-requires g c =
 pub returns-in-Err-clause-step : goal.returns-in-Err-clause-step
 returns-in-Err-clause-step g c =
     let k = c.self.inside in
-    let e : IsServed k.sessions.items c.args.session (Err c.in-Err.answer) = subst (λ (r : Result ℕ Called). IsServed k.sessions.items c.args.session r) c.in-Err.is (subst (λ (ss : List State). IsServed ss c.args.session c.served.result) c.as_slice.ensures.value c.served.ensures) in
+    let e : IsServed k.sessions.items c.args.session (Err c.in-Err.answer) = subst (λ (r : Result ℕ CallOutcome). IsServed k.sessions.items c.args.session r) c.in-Err.is (subst (λ (ss : List State). IsServed ss c.args.session c.served.result) c.as_slice.ensures.value c.served.ensures) in
     subst (λ (n : CoreState). Step n.hall (event.Call c.args.session c.args.moment c.args.asked.now) (outcome.Answered c.in-Err.answer) n.hall) c.self.view_is
     (refused k.store k.clock k.logged k.drawn k.sessions.items c.args.session c.args.moment c.args.asked.now c.if-self-ge-MOST_LOGGED.false c.self.invariant.present.rises c.in-Err.answer e)
 
 pub returns-in-Err-clause-done : goal.returns-in-Err-clause-done
 returns-in-Err-clause-done g c = λ may.
     let k = c.self.inside in
-    let e : IsServed k.sessions.items c.args.session (Err c.in-Err.answer) = subst (λ (r : Result ℕ Called). IsServed k.sessions.items c.args.session r) c.in-Err.is (subst (λ (ss : List State). IsServed ss c.args.session c.served.result) c.as_slice.ensures.value c.served.ensures) in
+    let e : IsServed k.sessions.items c.args.session (Err c.in-Err.answer) = subst (λ (r : Result ℕ CallOutcome). IsServed k.sessions.items c.args.session r) c.in-Err.is (subst (λ (ss : List State). IsServed ss c.args.session c.served.result) c.as_slice.ensures.value c.served.ensures) in
     let here = subst (λ (n : CoreState). MayCall n.hall c.args.session) (sym c.self.view_is) may in
     absurd (may_not k.drawn k.sessions.items c.args.session c.self.invariant.present.rises c.in-Err.answer e here.1 here.2)
 
 pub returns-in-Err-clause-answered : goal.returns-in-Err-clause-answered
 returns-in-Err-clause-answered g c = λ fine.
     let k = c.self.inside in
-    let e : IsServed k.sessions.items c.args.session (Err c.in-Err.answer) = subst (λ (r : Result ℕ Called). IsServed k.sessions.items c.args.session r) c.in-Err.is (subst (λ (ss : List State). IsServed ss c.args.session c.served.result) c.as_slice.ensures.value c.served.ensures) in
-    absurd (subst (λ (a : Called). IsServed k.sessions.items c.args.session (Err a)) fine e)
+    let e : IsServed k.sessions.items c.args.session (Err c.in-Err.answer) = subst (λ (r : Result ℕ CallOutcome). IsServed k.sessions.items c.args.session r) c.in-Err.is (subst (λ (ss : List State). IsServed ss c.args.session c.served.result) c.as_slice.ensures.value c.served.ensures) in
+    absurd (subst (λ (a : CallOutcome). IsServed k.sessions.items c.args.session (Err a)) fine e)
 
 pub returns-in-Err-clause-recorded : goal.returns-in-Err-clause-recorded
 returns-in-Err-clause-recorded g c = λ fine.
     let k = c.self.inside in
-    let e : IsServed k.sessions.items c.args.session (Err c.in-Err.answer) = subst (λ (r : Result ℕ Called). IsServed k.sessions.items c.args.session r) c.in-Err.is (subst (λ (ss : List State). IsServed ss c.args.session c.served.result) c.as_slice.ensures.value c.served.ensures) in
-    absurd (subst (λ (a : Called). IsServed k.sessions.items c.args.session (Err a)) fine e)
+    let e : IsServed k.sessions.items c.args.session (Err c.in-Err.answer) = subst (λ (r : Result ℕ CallOutcome). IsServed k.sessions.items c.args.session r) c.in-Err.is (subst (λ (ss : List State). IsServed ss c.args.session c.served.result) c.as_slice.ensures.value c.served.ensures) in
+    absurd (subst (λ (a : CallOutcome). IsServed k.sessions.items c.args.session (Err a)) fine e)
 
 pub make_ready-ready-requires-clause-at : goal.make_ready-ready-requires-clause-at
 make_ready-ready-requires-clause-at g c =
@@ -238,8 +238,8 @@ returns-clause-recorded g c = λ fine.
     let k = c.self.inside in
     let sv = subst (λ (ss : List State). IsServed ss c.args.session (Ok c.in-Ok.at)) c.as_slice.ensures.value c.in-Ok.ensures in
     let call = event.Call c.args.session c.args.moment c.args.asked.now in
-    subst (λ (n : CoreState). IsRecordedBy g.L.Ledger.takes n.hall call c.args.ledger.now c.make_ready-ready.new.ledger) c.self.view_is
-    (recorded_by g.L.Ledger.takes (hall_of k.store k.clock k.logged k.drawn k.sessions.items) call (ready_writes c.in-Ok-ready.ready) c.args.ledger.now c.make_ready-ready.new.ledger
+    subst (λ (n : CoreState). IsRecordedBy g.L.RecordSink.takes n.hall call c.args.ledger.now c.make_ready-ready.new.ledger) c.self.view_is
+    (recorded_by g.L.RecordSink.takes (hall_of k.store k.clock k.logged k.drawn k.sessions.items) call (ready_writes c.in-Ok-ready.ready) c.args.ledger.now c.make_ready-ready.new.ledger
     (writes k.store k.clock k.logged k.drawn k.sessions.items c.make_ready-ready.new.sessions.items c.args.session c.in-Ok.at c.args.moment c.max-now.result c.args.asked.now c.make_ready-ready.new.store c.in-Ok-ready.ready
     c.self.invariant.kept c.self.invariant.present sv c.max-now.ensures c.make_ready-ready.ensures.same c.in-Ok-ready.ensures.ready
     c.if-self-ge-MOST_LOGGED.false c.complete.new.store c.complete.new.sessions.items c.complete.result c.complete.ensures)

@@ -5,10 +5,10 @@ use Rattle.world_model.specs.Histories.{Step}
 use Rattle.world_model.specs.declared.events.Event.TheVariants as event
 use Rattle.world_model.specs.declared.events.Outcome.TheVariants as outcome
 use Rattle.world_model.specs.Halls.{Session}
-use Rattle.deliveries.specs.Plans.{ending}
-use Rattle.deliveries.specs.Touched.{ending_number}
-use Rattle.session_mail.specs.Mail.{Mail}
-use Rattle.session_mail.specs.Sessions.{State, session_of}
+use Rattle.delivery_model.specs.Plans.{ending}
+use Rattle.delivery_model.specs.ChangedSessions.{ending_number}
+use Rattle.session_table.specs.Mail.{Mail}
+use Rattle.session_table.specs.Sessions.{State, session_of}
 use Rattle.tile_core.specs.CoreStates.{CoreState}
 use Rattle.tile_core.specs.Stores.{hall_of}
 use Rattle.tile_core.specs.Sessions.{IsAt, AreOthers, are_rising}

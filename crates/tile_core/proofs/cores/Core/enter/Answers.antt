@@ -1,6 +1,6 @@
 use Rattle.std.proofs.Common.{◌≡◌, ◌+◌, ◌++◌, ◌∷◌, [], List, length, length-append, sym, ap, ◌∙◌, subst, arith, rules}
-use Rattle.session_mail.specs.Sessions.{State}
-use Rattle.session_mail.specs.Fans.{AreBare}
+use Rattle.session_table.specs.Sessions.{State}
+use Rattle.session_table.specs.Fans.{AreBare}
 use Rattle.tile_core.specs.Sessions.{Rises}
 use Rattle.tile_core.proofs.Finishing.{bare_more}
 use Rattle.tile_core.proofs.Present.{rises_more}

@@ -4,7 +4,7 @@ use Rattle.std.proofs.lemmas.Bool.Decides.{nat_tests}
 use Rattle.ordered_lists.specs.Reading.{got_at}
 use Rattle.world_model.specs.Halls.{session_of}
 use Rattle.world_model.specs.Subscriptions.{Sub, has_subs}
-use Rattle.session_mail.specs.Sessions.{State}
+use Rattle.session_table.specs.Sessions.{State}
 use Rattle.tile_core.specs.Subscribers.{has_subscriptions}
 use Rattle.tile_core.specs.CoreStates.{CoreState}
 use Rattle.tile_core.specs.Sessions.{AreOthers, IsAt, are_rising}

@@ -2,7 +2,7 @@ use Rattle.std.proofs.Common.{◌≡◌, ℕ, ◌<◌, Bool, true, false, refl, 
 use Rattle.std.specs.Prelude.{Decides, nat_lt}
 use Rattle.std.proofs.lemmas.Bool.Decides.{nat_tests}
 use Rattle.ordered_lists.specs.Reading.{got_at}
-use Rattle.session_mail.specs.Sessions.{State}
+use Rattle.session_table.specs.Sessions.{State}
 use Rattle.tile_core.specs.Answered.{MayTake}
 use Rattle.tile_core.specs.CoreStates.{CoreState}
 use Rattle.tile_core.specs.Sessions.{AreOthers, IsAt, are_rising}

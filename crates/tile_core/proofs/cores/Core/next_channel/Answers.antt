@@ -1,4 +1,4 @@
-use Rattle.command_plans.specs.Planned.{IsRecordedChannel}
+use Rattle.channel_plans.specs.Planned.{IsRecordedChannel}
 use Rattle.tile_core.proofs.Nexts.{found_if}
 use Rattle.tile_core.proofs.cores.Core.next_channel.Goals as goal
 

@@ -1,5 +1,5 @@
 use Rattle.keyspace.specs.Entries.{objects_in}
-use Rattle.command_plans.specs.Moves.{IsAccepted}
+use Rattle.object_plans.specs.Moves.{IsAccepted}
 use Rattle.tile_core.proofs.Nexts.{found_if}
 use Rattle.tile_core.proofs.cores.Core.next_object.Goals as goal
 

@@ -4,8 +4,8 @@ use Rattle.std.proofs.lemmas.Option.{slice_get_within}
 use Rattle.world_model.specs.Histories.{Step}
 use Rattle.world_model.specs.declared.events.Event.TheVariants as event
 use Rattle.world_model.specs.declared.events.Outcome.TheVariants as outcome
-use Rattle.session_mail.specs.Sessions.{State}
-use Rattle.session_mail.specs.Fans.{AreBare}
+use Rattle.session_table.specs.Sessions.{State}
+use Rattle.session_table.specs.Fans.{AreBare}
 use Rattle.tile_core.specs.CoreStates.{CoreState}
 use Rattle.tile_core.specs.Stores.{hall_of, ArePresent}
 use Rattle.tile_core.specs.Sessions.{IsAt, AreOthers, are_rising}

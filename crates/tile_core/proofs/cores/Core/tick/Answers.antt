@@ -6,11 +6,11 @@ use Rattle.world_model.specs.Halls as halls
 use Rattle.world_model.specs.Histories.{Step}
 use Rattle.world_model.specs.declared.events.Event.TheVariants as event
 use Rattle.world_model.specs.declared.events.Outcome.TheVariants as outcome
-use Rattle.world_model.specs.declared.events.Called.TheVariants as called
-use Rattle.session_mail.specs.Sessions.{State, session_of}
+use Rattle.world_model.specs.declared.events.CallOutcome.TheVariants as called
+use Rattle.session_table.specs.Sessions.{State, session_of}
 use Rattle.tile_core.specs.CoreStates.{CoreState}
 use Rattle.tile_core.specs.Answered.{AreNamed, AreRoomy, AreSessions, is_named}
-use Rattle.tile_core.specs.Ledgers.{IsRecordedBy}
+use Rattle.tile_core.specs.RecordSinks.{IsRecordedBy}
 use Rattle.tile_core.specs.Stores.{hall_of}
 use Rattle.tile_core.proofs.Calls.{rises_as, tick_refused}
 use Rattle.tile_core.proofs.Named.{none_named, same_hall, same_room}
@@ -112,8 +112,8 @@ returns-clause-recorded g c = λ fine.
     let k = c.self.inside in
     let gone = c.in-Ok.ready.gone in
     let tick = event.Tick c.args.moment in
-    subst (λ (n : CoreState). IsRecordedBy g.L.Ledger.takes n.hall tick c.args.ledger.now c.make_tick_ready-ready.new.ledger) c.self.view_is
-    (recorded_by g.L.Ledger.takes (hall_of k.store k.clock k.logged k.drawn k.sessions.items) tick (dels gone.held.items) c.args.ledger.now c.make_tick_ready-ready.new.ledger
+    subst (λ (n : CoreState). IsRecordedBy g.L.RecordSink.takes n.hall tick c.args.ledger.now c.make_tick_ready-ready.new.ledger) c.self.view_is
+    (recorded_by g.L.RecordSink.takes (hall_of k.store k.clock k.logged k.drawn k.sessions.items) tick (dels gone.held.items) c.args.ledger.now c.make_tick_ready-ready.new.ledger
     (tick_writes k.store k.clock k.logged k.drawn k.sessions.items c.make_tick_ready-ready.new.sessions.items c.place_staged.new.sessions.items c.args.moment c.max-now.result c.make_tick_ready-ready.new.store (record c.make_tick_ready-ready.new.store { objects = c.release.new.objects }) gone
     c.self.invariant.kept c.self.invariant.present c.max-now.ensures c.make_tick_ready-ready.ensures.same c.in-Ok.ensures.taken c.in-Ok.ensures.rest c.place_staged.ensures.placed c.release.ensures refl)
     c.in-Ok.ensures.recorded)

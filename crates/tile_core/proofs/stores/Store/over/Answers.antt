@@ -1,5 +1,5 @@
 use Rattle.std.proofs.Common.{◌+◌, ◌≤◌, arith}
-use Rattle.command_plans.specs.Kept.{most_kept}
+use Rattle.object_plans.specs.Kept.{most_kept}
 use Rattle.tile_core.specs.declared.stores.Store.{Store}
 use Rattle.tile_core.proofs.Stored.{stored}
 use Rattle.tile_core.proofs.stores.Store.over.Goals as goal

@@ -1,0 +1,44 @@
+//! Tests of the crates below the core that no request tells of: texts, the plane, values of a world and its plain program, the store, records,
+//! replies that are too long, the queues and subscriptions of sessions, streams, disks and doors in memory, the log, and the lock.
+#![tactic(auto)]
+
+#[cfg(test)]
+mod appends;
+#[cfg(test)]
+mod disks;
+#[cfg(test)]
+mod doors;
+#[cfg(test)]
+mod globs;
+#[cfg(test)]
+mod journals;
+#[cfg(test)]
+mod keyspaces;
+#[cfg(test)]
+mod records;
+#[cfg(test)]
+mod replies;
+#[cfg(test)]
+mod rewritings;
+#[cfg(test)]
+mod runs;
+#[cfg(test)]
+mod samples;
+#[cfg(test)]
+mod script_lines;
+#[cfg(test)]
+mod sessions;
+#[cfg(test)]
+mod shapes;
+#[cfg(test)]
+mod tables;
+#[cfg(test)]
+mod texts;
+#[cfg(test)]
+mod threads;
+#[cfg(test)]
+mod trees;
+#[cfg(test)]
+mod values;
+#[cfg(test)]
+mod worlds;

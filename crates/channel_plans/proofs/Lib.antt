@@ -1,0 +1,3 @@
+mod ChannelSums
+mod ChannelEffects
+mod Confirming

@@ -1,5 +1,0 @@
-use Rattle.command_plans.proofs.BesideLaws.{any_held}
-use Rattle.command_plans.proofs.requests.has_any.Goals as goal
-
-pub returns : goal.returns
-returns c = any_held c.len.result c.args.subs.now c.len.ensures.count

@@ -1,6 +1,0 @@
-use Rattle.deliveries.specs.Callers.{one_reply, own_call, answer_fits}
-use Rattle.deliveries.specs.Confirming.{subscribing_fits}
-use Rattle.deliveries.proofs.laws.own_laws.Goals as goal
-
-pub returns : goal.returns
-returns c = record { own = own_call; one = one_reply; answers = answer_fits; confirmations = subscribing_fits }

@@ -1,0 +1,15 @@
+pub mod Staging
+pub mod Plans
+pub mod Laws
+pub mod Placing
+pub mod Addressing
+pub mod Serving
+pub mod Applying
+pub mod Effects
+pub mod Calls
+pub mod ChangedSessions
+pub mod Silent
+pub mod Callers
+pub mod Rising
+pub mod Confirming
+pub mod BySession

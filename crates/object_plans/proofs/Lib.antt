@@ -1,0 +1,10 @@
+mod FieldOrder
+mod Timing
+mod KeysMet
+mod Setting
+mod Changing
+mod Removing
+mod Sweeping
+mod Reading
+mod There
+mod BesideLaws

@@ -1,0 +1,12 @@
+pub mod Moves
+pub mod Kept
+pub mod Plans
+pub mod Sweeps
+pub mod Listings
+pub mod Beside
+pub mod Asking
+pub mod Standing
+pub mod Weights
+pub mod Answering
+pub mod ListingLaws
+pub mod ChannelWeights

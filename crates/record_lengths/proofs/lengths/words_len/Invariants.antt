@@ -1,9 +1,0 @@
-use Rattle.std.proofs.Common.{◌≡◌, ◌≤◌, ◌*◌, take}
-use Rattle.record_lengths.specs.Lengths.{words_len}
-use Rattle.record_lengths.proofs.lengths.words_len.Given as goal
-
-abbrev pub invariant-loop-at : goal.invariant-loop-at
-invariant-loop-at l = record {
-  counted : l.sum ≡ words_len (take l.at l.words);
-  short : l.sum ≤ 1048601 * l.at;
-}

@@ -1,4 +1,0 @@
-pub mod Lengths
-pub mod LengthLaws
-pub mod ObjectSums
-pub mod ChannelSums

@@ -1,0 +1,115 @@
+-- How the words of a record are read, from left to right: what each function of the reader answers.
+use Rattle.std.specs.Prelude.{◌≡◌, ◌^◌, ◌<◌, ℕ, ℤ, Bool, true, false, List, [], ◌∷◌, ◌++◌, flat_map, decimal, codes, Option, Some, None, IfNone}
+use Rattle.std.specs.Prelude.{Result, Ok, Err}
+use Rattle.std.specs.Fmt.{signed_decimal}
+use Rattle.std.specs.List.{list_all}
+use Rattle.byte_text.specs.Names.{Bytes, is_name}
+use mir.Syntax.{w64}
+use mir.Val.{SFits as FitsSigned}
+use Rattle.geo_text.specs.Texts.{Shape, shape_of}
+use Rattle.world_data.specs.Filters.{Field, are_fields}
+use Rattle.world_data.specs.Records.{field_words, deadline_words, is_kept_field, is_kept_deadline}
+use Rattle.world_data.specs.declared.worlds.Change.{Change}
+use Rattle.world_model.specs.declared.search_commands.AreaWords.{AreaWords}
+use Rattle.world_model.specs.declared.search_commands.AreaWords.TheVariants.{Given, Of}
+use Rattle.world_model.specs.declared.commands.Command.{Command}
+use Rattle.log_record.specs.Words.{change_of_words, if_recorded, settled}
+use Rattle.record_reader.specs.declared.faults.RecordFault.{RecordFault}
+use Rattle.record_reader.specs.declared.faults.RecordFault.TheVariants.{NotRecord, Memory}
+
+-- the words do not begin with this one
+pub record BeginsNot (called : Bytes) (words : List Bytes) : Type 0 where
+  pub other : (behind : List Bytes) → words ≡ called ∷ behind → ⊥
+
+-- what holds of an answer: of what was read, of the words where they are refused, and nothing where memory ran out
+abbrev pub Answers : {A : Type 0} → (A → Type 0) → Type 0 → Result A RecordFault → Type 0
+Answers good bad (Ok a) = good a
+Answers good bad (Err NotRecord) = bad
+Answers good bad (Err Memory) = Unit {0}
+
+-- the change whose record the words are, or that they are the record of none
+abbrev pub IsChangeOf : List Bytes → Result Change RecordFault → Type 0
+IsChangeOf words = Answers (λ c. change_of_words words ≡ Some c) (change_of_words words ≡ None)
+
+-- the words begin with those of a value that is fit, or with those of none that is
+abbrev pub Reads : {A : Type 0} → (A → List Bytes) → (A → Type 0) → List Bytes → List Bytes → Result A RecordFault → Type 0
+Reads {A = A} words_of IsFit old new = Answers (λ a. (old ≡ words_of a ++ new) × IsFit a)
+    ((a : A) (behind : List Bytes) → IsFit a → old ≡ words_of a ++ behind → ⊥)
+
+-- no word is left, or some is
+abbrev pub IsEnd : List Bytes → Result (Unit {0}) RecordFault → Type 0
+IsEnd left (Ok u) = left ≡ []
+IsEnd left (Err NotRecord) = left ≡ [] → ⊥
+IsEnd left (Err Memory) = ⊥
+
+abbrev pub one_word : Bytes → List Bytes
+one_word w = w ∷ []
+
+abbrev pub name_words : Bytes → List Bytes
+name_words n = one_word n
+
+abbrev pub IsName : Bytes → Type 0
+IsName w = is_name w ≡ true
+
+abbrev pub moment_words : ℕ → List Bytes
+moment_words n = one_word (decimal n)
+
+abbrev pub IsMoment : ℕ → Type 0
+IsMoment n = n < 2 ^ 64
+
+abbrev pub number_words : ℤ → List Bytes
+number_words z = one_word (signed_decimal z)
+
+abbrev pub IsNumber : ℤ → Type 0
+IsNumber z = FitsSigned w64 z
+
+-- a field behind its first word
+abbrev pub value_words : Field → List Bytes
+value_words f = f.0 ∷ signed_decimal f.1 ∷ []
+
+abbrev pub IsValue : Field → Type 0
+IsValue f = is_kept_field f ≡ true
+
+-- the fields of an object that has a record
+pub record AreKept (fields : List Field) : Type 0 where
+  pub ordered : are_fields fields ≡ true
+  pub kept : list_all is_kept_field fields ≡ true
+
+-- all fields at the front
+abbrev pub ReadsFields : List Bytes → List Bytes → Result (List Field) RecordFault → Type 0
+ReadsFields old new = Answers
+    (λ fields. (old ≡ flat_map field_words fields ++ new) × AreKept fields × BeginsNot (codes "FIELD") new)
+    ((fields : List Field) (behind : List Bytes) → AreKept fields → BeginsNot (codes "FIELD") behind → old ≡ flat_map field_words fields ++ behind
+    → ⊥)
+
+-- the deadline at the front, if there is one
+abbrev pub ReadsDeadline : List Bytes → List Bytes → Result (Option ℕ) RecordFault → Type 0
+ReadsDeadline old new = Answers
+    (λ deadline. (old ≡ deadline_words deadline ++ new) × (is_kept_deadline deadline ≡ true) × IfNone deadline (BeginsNot (codes "AT") new))
+    ((deadline : Option ℕ) (behind : List Bytes) → is_kept_deadline deadline ≡ true → BeginsNot (codes "AT") behind
+    → old ≡ deadline_words deadline ++ behind → ⊥)
+
+-- no word, or more than one
+abbrev pub IsNotOne : List Bytes → Type 0
+IsNotOne words = (w : Bytes) → words ≡ one_word w → ⊥
+
+-- a text with its shape, which is its last word
+abbrev pub text_words : Bytes → List Bytes
+text_words text = codes "OBJECT" ∷ text ∷ []
+
+abbrev pub ReadsText : List Bytes → Result (Bytes × Shape) RecordFault → Type 0
+ReadsText old = Answers (λ t. (old ≡ text_words t.0) × (shape_of t.0 ≡ Ok t.1))
+    ((t : Bytes × Shape) → shape_of t.0 ≡ Ok t.1 → old ≡ text_words t.0 → ⊥)
+
+abbrev pub IsPlaceOf : Bytes → Result (Bytes × Shape) RecordFault → Type 0
+IsPlaceOf text = Answers (λ t. (t.0 ≡ text) × (shape_of text ≡ Ok t.1)) ((shape : Shape) → shape_of text ≡ Ok shape → ⊥)
+
+-- where an area is from: the command's words, or an object
+abbrev pub stands_in_words : Option AreaWords → Bool
+stands_in_words None = true
+stands_in_words (Some (Given a)) = true
+stands_in_words (Some (Of key id)) = false
+
+-- the setting of a channel that a command gives, where the words are its record
+abbrev pub IsSettingIn : List Bytes → Command → Result Change RecordFault → Type 0
+IsSettingIn words command = Answers (λ c. if_recorded words (settled (Some command)) ≡ Some c) (if_recorded words (settled (Some command)) ≡ None)

@@ -1,8 +1,0 @@
-pub mod LeftWords
-pub mod Parts
-pub mod FieldLists
-pub mod PutParts
-pub mod OtherRecords
-pub mod Settings
-pub mod Sizes
-pub mod SettingSizes

@@ -1,0 +1,5 @@
+pub mod Texts
+pub mod Lengths
+pub mod LengthLaws
+pub mod ObjectSums
+pub mod ChannelSums

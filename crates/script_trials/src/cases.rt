@@ -1,0 +1,142 @@
+//! A case: what is asked for, over what, and what has to come of it.
+
+use crate::builders::Builder;
+use crate::faults::Fault;
+use crate::looks::Look;
+use byte_text::Text;
+use outside::Side;
+use std::alloc::Global;
+
+/// How a case is played.
+#[derive(Clone, Copy, PartialEq, Eq)]
+pub(crate) enum Play {
+    /// The program's one call is asked for what the words say.
+    Top,
+    /// The disk is opened, and its world is counted.
+    Opening,
+    /// A core over the disk plays the script, and a crash ends it at each moment.
+    Crashes,
+    /// A core over the disk plays the script, and the disk fails at each call in turn.
+    DiskFaults,
+    /// The program's one call plays the script, and the disk fails at each call in turn.
+    ReplayFaults,
+    /// A core of an empty world plays the script, and the nodes that it visits are counted.
+    Visits,
+    /// A core of an empty world is driven with the workload, and the nodes that it visits are counted.
+    Drive,
+}
+
+/// Over which disk a case is played.
+#[derive(Clone, Copy, PartialEq, Eq)]
+pub(crate) enum Over {
+    /// One of the sides that the case tells.
+    Fresh,
+    /// The one that the case before left.
+    Again,
+    /// What a crash at this moment may leave of that, by this choice.
+    Crash(u64, u64),
+}
+
+/// Which calls fail.
+#[derive(Drop)]
+pub(crate) struct Fails {
+    pub(crate) disk: Vec<u64>,
+    pub(crate) source: Vec<u64>,
+    pub(crate) sink: Vec<u64>,
+    pub(crate) door: Vec<u64>,
+    pub(crate) spawner: Vec<u64>,
+}
+
+/// A case.
+#[derive(Drop)]
+pub(crate) struct Case {
+    pub(crate) alloc: Global,
+    pub(crate) name: Text,
+    pub(crate) play: Play,
+    /// What is asked for, where that is said.
+    pub(crate) words: Option<Text>,
+    pub(crate) script: Text,
+    /// What is printed.
+    pub(crate) output: Text,
+    pub(crate) status: Text,
+    /// At what moment sessions ask.
+    pub(crate) moment: Text,
+    pub(crate) over: Over,
+    pub(crate) fails: Fails,
+    pub(crate) builder: Builder,
+    /// What stands on the sides at first.
+    pub(crate) a: Text,
+    pub(crate) b: Text,
+    /// What each caller sends.
+    pub(crate) callers: Vec<Text>,
+    /// What each caller is written.
+    pub(crate) told: Vec<Text>,
+    /// What is looked at behind all, and what has to be seen.
+    pub(crate) looks: Vec<(Look, Text)>,
+    /// Whether a line of the case was none.
+    pub(crate) is_faulty: bool,
+}
+
+fn no_fails(alloc: Global) -> Fails {
+    Fails {
+        disk: Vec::new(alloc),
+        source: Vec::new(alloc),
+        sink: Vec::new(alloc),
+        door: Vec::new(alloc),
+        spawner: Vec::new(alloc),
+    }
+}
+
+// The text, where it is one of characters.
+fn line_of(text: &Text) -> Result<&str, Fault> {
+    match str::from_utf8(text.bytes()) {
+        Ok(line) => Ok(line),
+        Err(_) => Err(Fault::Line),
+    }
+}
+
+impl Case {
+    /// A case that has this name, and of which nothing else is said so far.
+    pub(crate) fn new(alloc: Global, name: Text) -> Case {
+        Case {
+            alloc,
+            name,
+            play: Play::Top,
+            words: None,
+            script: Text::new(alloc),
+            output: Text::new(alloc),
+            status: Text::new(alloc),
+            moment: Text::new(alloc),
+            over: Over::Fresh,
+            fails: no_fails(alloc),
+            builder: Builder::new(alloc),
+            a: Text::new(alloc),
+            b: Text::new(alloc),
+            callers: Vec::new(alloc),
+            told: Vec::new(alloc),
+            looks: Vec::new(alloc),
+            is_faulty: false,
+        }
+    }
+
+    /// The lines of the script.
+    pub(crate) fn lines(&self) -> Result<&str, Fault> {
+        line_of(&self.script)
+    }
+
+    /// The line of what is asked for, which has to be said.
+    pub(crate) fn asked(&self) -> Result<&str, Fault> {
+        match &self.words {
+            Some(words) => line_of(words),
+            None => Err(Fault::Line),
+        }
+    }
+
+    /// What stands on a side at first.
+    pub(crate) fn side(&self, side: Side) -> &[u8] {
+        match side {
+            Side::A => self.a.bytes(),
+            Side::B => self.b.bytes(),
+        }
+    }
+}

@@ -1,0 +1,203 @@
+//! Cases are played, and what comes of them is written down.
+
+use crate::cases::{Case, Over, Play};
+use crate::cores::{play_drive, play_visits};
+use crate::crashes::{play_crashes, play_disk_faults};
+use crate::disks::{crashed, fresh_disk};
+use crate::faults::Fault;
+use crate::looks::push_seen;
+use crate::openings::play_opening;
+use crate::replay_faults::play_replay_faults;
+use crate::texts::{push_escaped, push_line};
+use byte_text::{Text, push_u64};
+use outside::{BytesSink, BytesSource, HandClock, ListDoor, ListedSpawner, MemoryDisk};
+use std::alloc::Global;
+use std::sync::Wait;
+use std::thread::Threads;
+use tile_top::{Ended, top};
+
+/// What came of a case, and the disk that it left.
+#[derive(Drop)]
+pub(crate) struct Came {
+    pub(crate) text: Text,
+    pub(crate) disk: Option<MemoryDisk>,
+}
+
+// A copy of some texts, as bytes.
+fn copied(alloc: Global, texts: &[Text]) -> Result<Vec<Vec<u8>>, Fault> {
+    let mut all = Vec::new(alloc);
+    for text in texts.iter() {
+        all.push(text.bytes().to_vec(alloc)?)?;
+    }
+    Ok(all)
+}
+
+// The disk over which a case is played.
+fn disk_of(alloc: Global, case: &Case, left: Option<MemoryDisk>) -> Result<MemoryDisk, Fault> {
+    match (case.over, left) {
+        (Over::Fresh, _) => fresh_disk(alloc, case),
+        (Over::Again, Some(disk)) => Ok(disk),
+        (Over::Crash(moment, choice), Some(disk)) => crashed(&disk, moment, choice),
+        (_, None) => Err(Fault::Line),
+    }
+}
+
+/// The words of a line, as words of the program.
+pub(crate) fn words_of(alloc: Global, line: &str) -> Result<Vec<String>, Fault> {
+    let mut all = Vec::new(alloc);
+    if line.is_empty() {
+        return Ok(all);
+    }
+    for word in line.split(' ') {
+        all.push(word.to_string(alloc)?)?;
+    }
+    Ok(all)
+}
+
+// Appends what each caller was written.
+fn push_told<R: Wait>(
+    rt: &R,
+    alloc: Global,
+    out: &mut Text,
+    door: &ListDoor,
+    links: usize,
+) -> Result<(), Fault> {
+    for link in 0..links {
+        let Some(written) = door.written(rt, alloc, link)? else {
+            return Err(Fault::Step);
+        };
+        out.push(b"told ")?;
+        push_escaped(alloc, out, &written)?;
+        out.push(b"\n")?;
+    }
+    Ok(())
+}
+
+/// Asks for what the words say: the script is read in pieces of 7 bytes, and its output is written in pieces of 5. How
+/// it ended, what was written, and what each caller was.
+pub(crate) fn asked<R: Wait + Threads + Copy + Send + Sync + 'static>(
+    rt: &R,
+    alloc: Global,
+    words: &[String],
+    case: &Case,
+    disk: MemoryDisk,
+) -> Result<(Ended<MemoryDisk>, Text), Fault> {
+    let fails = &case.fails;
+    let script = case.script.bytes().to_vec(alloc)?;
+    let mut source = BytesSource::new(script, 7, fails.source.as_slice().to_vec(alloc)?);
+    let mut sink = BytesSink::new(alloc, 5, fails.sink.as_slice().to_vec(alloc)?);
+    let links = copied(alloc, case.callers.as_slice())?;
+    let failing = fails.door.as_slice().to_vec(alloc)?;
+    let mut door = ListDoor::new(alloc, links, failing)?;
+    let mut spawner = ListedSpawner::new(alloc, fails.spawner.as_slice().to_vec(alloc)?);
+    let clock = HandClock::at(7);
+    let ended = top(
+        rt,
+        alloc,
+        words,
+        &mut source,
+        &mut sink,
+        disk,
+        &mut door,
+        &clock,
+        &mut spawner,
+    );
+    let came = written(rt, alloc, &sink, &door, ended.status, case.callers.len())?;
+    Ok((ended, came))
+}
+
+// What was written, the status, and what each caller was written.
+fn written<R: Wait>(
+    rt: &R,
+    alloc: Global,
+    sink: &BytesSink,
+    door: &ListDoor,
+    status: u8,
+    links: usize,
+) -> Result<Text, Fault> {
+    let mut text = Text::of(alloc, sink.written())?;
+    text.push(b"status ")?;
+    push_u64(&mut text, u64::from(status))?;
+    text.push(b"\n")?;
+    push_told(rt, alloc, &mut text, door, links)?;
+    Ok(text)
+}
+
+// Appends what is seen on the disk at the end.
+fn push_looks(
+    alloc: Global,
+    out: &mut Text,
+    case: &Case,
+    disk: &mut MemoryDisk,
+) -> Result<(), Fault> {
+    for (look, _) in case.looks.iter() {
+        let mut seen = Text::new(alloc);
+        push_seen(alloc, &mut seen, disk, *look)?;
+        out.push(b"seen ")?;
+        push_line(out, seen.bytes())?;
+    }
+    Ok(())
+}
+
+// The program's one call is asked for what the words say, and what is left is looked at.
+fn play_top<R: Wait + Threads + Copy + Send + Sync + 'static>(
+    rt: &R,
+    alloc: Global,
+    case: &Case,
+    disk: MemoryDisk,
+) -> Result<Came, Fault> {
+    let words = match &case.words {
+        Some(_) => words_of(alloc, case.asked()?)?,
+        None => words_of(alloc, "replay")?,
+    };
+    let (ended, text) = asked(rt, alloc, words.as_slice(), case, disk)?;
+    seen_behind(alloc, case, ended, text)
+}
+
+fn seen_behind(
+    alloc: Global,
+    case: &Case,
+    ended: Ended<MemoryDisk>,
+    text: Text,
+) -> Result<Came, Fault> {
+    let mut text = text;
+    let Ended {
+        status: _status,
+        disk,
+        front: _front,
+    } = ended;
+    let Some(mut disk) = disk else {
+        push_line(&mut text, b"no disk")?;
+        return Ok(Came { text, disk: None });
+    };
+    push_looks(alloc, &mut text, case, &mut disk)?;
+    Ok(Came {
+        text,
+        disk: Some(disk),
+    })
+}
+
+// What came of a case that leaves no disk: the lines, and status 0.
+fn without_disk(lines: Text) -> Result<Came, Fault> {
+    let mut text = lines;
+    push_line(&mut text, b"status 0")?;
+    Ok(Came { text, disk: None })
+}
+
+/// Plays a case over the disk that it asks for, where the case before left this one.
+pub(crate) fn play<R: Wait + Threads + Copy + Send + Sync + 'static>(
+    rt: &R,
+    alloc: Global,
+    case: &Case,
+    left: Option<MemoryDisk>,
+) -> Result<Came, Fault> {
+    match case.play {
+        Play::Top => play_top(rt, alloc, case, disk_of(alloc, case, left)?),
+        Play::Opening => without_disk(play_opening(alloc, disk_of(alloc, case, left)?)?),
+        Play::Crashes => without_disk(play_crashes(alloc, case)?),
+        Play::DiskFaults => without_disk(play_disk_faults(alloc, case)?),
+        Play::ReplayFaults => without_disk(play_replay_faults(rt, alloc, case)?),
+        Play::Visits => without_disk(play_visits(alloc, case)?),
+        Play::Drive => without_disk(play_drive(alloc, case)?),
+    }
+}

@@ -1,4 +1,0 @@
-pub mod Words
-pub mod Ends
-pub mod Serves
-pub mod Openings

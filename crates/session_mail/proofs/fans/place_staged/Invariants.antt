@@ -1,6 +1,0 @@
-use Rattle.session_mail.specs.Fans.{DoneTo, IsPlaced}
-use Rattle.session_mail.proofs.fans.place_staged.Given as goal
-
--- all was placed of the first sessions
-abbrev pub invariant-loop-i : goal.invariant-loop-i
-invariant-loop-i l = DoneTo IsPlaced l.i l.initial.sessions.items l.sessions.items

@@ -1,7 +1,0 @@
-use Rattle.std.proofs.Common.{[], ◌∷◌}
-use Rattle.session_mail.specs.Fans.{DoneTo, IsBrought}
-use Rattle.session_mail.proofs.fans.stage_message.Given as goal
-
--- it was staged for the first sessions
-abbrev pub invariant-loop-i : goal.invariant-loop-i
-invariant-loop-i l = DoneTo (IsBrought ((l.name, l.payload) ∷ [])) l.i l.initial.sessions.items l.sessions.items

@@ -1,6 +1,0 @@
-use Rattle.session_mail.specs.Fans.{DoneTo, IsUnstaged}
-use Rattle.session_mail.proofs.fans.unstage.Given as goal
-
--- nothing is staged for the first sessions
-abbrev pub invariant-loop-i : goal.invariant-loop-i
-invariant-loop-i l = DoneTo IsUnstaged l.i l.initial.sessions.items l.sessions.items

@@ -1,4 +1,0 @@
-pub mod Mail
-pub mod Sessions
-pub mod Fans
-pub mod FanLaws

@@ -1,0 +1,6 @@
+pub mod Mail
+pub mod Sessions
+pub mod Fans
+pub mod FanLaws
+pub mod Subscribed
+pub mod SubscribeLaws

@@ -1,6 +1,0 @@
-use Rattle.std.proofs.Common.{◌≡◌, take}
-use Rattle.subscriptions.proofs.held.Subscriptions.copy.Given as goal
-
--- those so far are copied
-abbrev pub invariant-loop-subscription : goal.invariant-loop-subscription
-invariant-loop-subscription l = l.held.items ≡ take l.subscription-index l.subscription-items

@@ -1,2 +1,0 @@
-pub mod Subscribed
-pub mod SubscribeLaws

@@ -1,5 +1,0 @@
-//! Turns of one thread and of several.
-
-mod counters;
-mod crossing;
-mod journals;
