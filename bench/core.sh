@@ -5,12 +5,12 @@
 set -eu
 cd "$(dirname "$0")/.."
 count=${1:-1000000}
-program=crates/core_bench/out/core_bench
+program=crates/benchmarks/out/benchmarks
 
-[ -x "$program" ] || (cd crates/core_bench && rt run >/dev/null)
+[ -x "$program" ] || (cd crates/benchmarks && rt run >/dev/null)
 
 allocations() {
-    valgrind "$program" "$1" "$2" "$3" 2>&1 | awk '/total heap usage/ { gsub(",", "", $5); print $5 }'
+    valgrind "$program" core "$1" "$2" "$3" 2>&1 | awk '/total heap usage/ { gsub(",", "", $5); print $5 }'
 }
 
 printf '%-6s %8s %10s %12s %12s\n' kind ids answered nanoseconds allocations
@@ -20,7 +20,7 @@ for ids in 1000 100000; do
         if command -v valgrind >/dev/null && [ "$ids" -le 1000 ]; then
             each=$((($(allocations "$kind" "$ids" 2000) - $(allocations "$kind" "$ids" 1000)) / 1000))
         fi
-        read -r name many answered took <<<"$("$program" "$kind" "$ids" "$count")"
+        read -r name many answered took <<<"$("$program" core "$kind" "$ids" "$count")"
         printf '%-6s %8s %10s %12s %12s\n' "$name" "$many" "$answered" "$took" "$each"
     done
 done

@@ -7,13 +7,13 @@
 set -eu
 cd "$(dirname "$0")/.."
 records=${1:-1000000}
-program=crates/journal_bench/out/journal_bench
+program=crates/benchmarks/out/benchmarks
 
-[ -x "$program" ] || (cd crates/journal_bench && rt run >/dev/null)
+[ -x "$program" ] || (cd crates/benchmarks && rt run >/dev/null)
 
 printf '%-8s %10s %12s %8s %8s %8s\n' batch batches bytes write open seconds
 for batch in 1 50 10000; do
-    read -r opened batches bytes wrote read <<<"$("$program" "$records" "$batch")"
+    read -r opened batches bytes wrote read <<<"$("$program" journal "$records" "$batch")"
     [ "$opened" = true ] || { echo "journal: not opened" >&2; exit 1; }
     seconds=$(awk -v n="$records" -v t="$read" 'BEGIN { printf "%.2f", n * t / 1e9 }')
     printf '%-8s %10s %12s %8s %8s %8s\n' "$batch" "$batches" "$bytes" "$wrote" "$read" "$seconds"
