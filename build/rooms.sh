@@ -3,8 +3,8 @@
 # While rt works on a crate it keeps the folders of that crate and of all that it stands on to itself, so within one copy of the repository no
 # two crates are proved side by side. Here each is proved in a room of its own, a folder with links to its files and to the libraries below it,
 # and what was made there moves to its place. Up to four are proved side by side; of those that are ready the ones with the longest way to the
-# program go first. In four jobs a crate is proved in half to two thirds of the time, but costs up to three times as much processor time as in one,
-# since each job reads what is below. So a crate has one job, unless processors are idle.
+# program go first. In four jobs a crate costs up to three times as much processor time as in one, since each job reads what is below. So a crate
+# has one job, unless processors are idle.
 
 # The seconds of processor time that each crate costs from nothing; of one that is not there so many.
 costs=build/costs

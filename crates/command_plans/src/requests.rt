@@ -107,7 +107,7 @@ fn plan_served(
     plan_open(alloc, context, command, steps)
 }
 
-// The one law of records that a request needs; with all of them its proof takes minutes.
+// Of the laws of records the one that a request needs.
 fn settings_are_normal()
     ensures { SettingsAreNormal }
 {
