@@ -228,7 +228,7 @@ for it in threads:
     it.join()
 assert not fails, fails[0]
 
-# What waits for a link that subscribed is 6 MiB in 16384 frames at most, for another 2 MiB; and a MiB a link is more than its threads, its
+# What waits for a link that subscribed is 6 MiB in 32768 frames at most, for another 2 MiB; and a MiB a link is more than its threads, its
 # records and a piece of a stream take.
 if server:
     bound = LINKS // 4 * 6 + LINKS * 3 // 4 * 2 + LINKS

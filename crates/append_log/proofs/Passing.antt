@@ -1,12 +1,12 @@
 -- How a side is passed over.
 use Rattle.std.specs.Prelude.{Bool, Option}
-use Rattle.std.proofs.Common.{◌≡◌, ◌≤◌, ℕ, List, [], refl, subst, arith}
+use Rattle.std.proofs.Common.{◌≡◌, ◌≤◌, ℕ, List, [], subst}
 use Rattle.outside.specs.declared.sides.Side.{Side}
 use Rattle.outside.specs.Sides.{Sides}
 use Rattle.byte_text.specs.Names.{Bytes}
 use Rattle.log_sides.specs.States.{SideIsSafe, SideLeads}
 use Rattle.append_log.specs.Reading.{IsAtGate}
-use Rattle.log_sides.specs.Crashing.{leads_self, leads_then}
+use Rattle.log_sides.specs.Crashing.{leads_then}
 
 -- from an old disk, and a place, to what is read now
 pub record Passes {D : Type 0} (crashes : D → Bool) (seen : D → Option Sides) (images : D → Sides → Type 0) (moment : D → ℕ) (left_since : D → ℕ → Sides → Type 0) (faults : D → ℕ) (side : Side) (len from : ℕ) (old now : D) (at : ℕ) : Type 0 where
@@ -15,17 +15,6 @@ pub record Passes {D : Type 0} (crashes : D → Bool) (seen : D → Option Sides
   pub safe : (bytes : Bytes) → SideIsSafe (crashes old) (seen old) (images old) side (λ x. x ≡ bytes) → SideIsSafe (crashes now) (seen now) (images now) side (λ x. x ≡ bytes)
   pub same : (bytes : Bytes) → SideIsSafe (crashes old) (seen old) (images old) side (λ x. x ≡ bytes) → SideLeads crashes seen images moment left_since side (λ x. x ≡ bytes) old now
   pub gate : (g : ℕ) (bytes : Bytes) → SideIsSafe (crashes old) (seen old) (images old) side (λ x. x ≡ bytes) → IsAtGate g [] len from bytes → (bs : List Bytes) × IsAtGate g bs len at bytes
-
--- no call was made
-pub passes_none : {D : Type 0} (crashes : D → Bool) (seen : D → Option Sides) (images : D → Sides → Type 0) (moment : D → ℕ) (left_since : D → ℕ → Sides → Type 0) (faults : D → ℕ) (side : Side) (len from : ℕ) (disk : D)
-    → Passes crashes seen images moment left_since faults side len from disk disk from
-passes_none crashes seen images moment left_since faults side len from disk = record {
-  told = refl;
-  later = omega arith;
-  safe = λ bytes safe. safe;
-  same = λ bytes safe. leads_self crashes seen images moment left_since side (λ x. x ≡ bytes) disk safe;
-  gate = λ g bytes safe gate. ([], gate);
-}
 
 -- one more call, on the side of a reader that is this one
 pub safe_next : {D : Type 0} (crashes : D → Bool) (seen : D → Option Sides) (images : D → Sides → Type 0) (side other : Side) (now new : D) → other ≡ side

@@ -1,7 +1,7 @@
 //! The log on a side of a disk: records are pushed, and a commit makes them stand.
 
 ghost use Rattle.std.specs.Prelude.{Decides, ◌≡◌, ◌+◌, ◌≤◌, ◌<◌, ◌^◌, ◌++◌, ℕ, List, [], take, length, OnOk, OnErr};
-ghost use Rattle.std.specs.Prelude.{IfOk, IfErr, MatchResult};
+ghost use Rattle.std.specs.Prelude.{Ok, IfOk, IfErr, MatchResult};
 ghost use Rattle.byte_text.specs.Names.{Bytes};
 ghost use Rattle.outside.specs.Causes.{HasCause, Rose};
 ghost use Rattle.log_sides.specs.Texts.{StandsRound, IsGeneration, committed, written};
@@ -16,7 +16,6 @@ use std::alloc::Global;
 use std::mem;
 
 /// The log on a side of a disk, and the records that wait for the next commit.
-#[derive(Drop)]
 pub struct AppendLog {
     side: Side,
     generation: u64,
@@ -25,6 +24,18 @@ pub struct AppendLog {
     last: Batch,
     ghost placed: { gate ≤ 2 ^ 62 },
     ghost fits: { 0 < length pending → gate + length pending + 10 ≤ 2 ^ 62 },
+}
+
+impl Drop for AppendLog {
+    fn drop(self) {
+        let AppendLog {
+            side: _,
+            generation: _,
+            gate: _,
+            pending: _,
+            last: _,
+        } = self;
+    }
 }
 
 /// Why there is no log.
@@ -177,8 +188,12 @@ impl AppendLog {
     }
 
     /// Makes the pending batch stand, by a write of it behind the closed gate and then one of the gate, each of which
-    /// is synced. After `Failed` the log stands for the batches without or with it, and is not to be used again.
+    /// is synced. With nothing pending no call of the disk is made. After `Failed` the log stands for the batches
+    /// without or with the pending one, and is not to be used again.
     pub fn commit<D: Disk>(&mut self, disk: &mut D) -> Result<(), Failed>
+        ensures idle { self.old.pending ≡ [] → disk.new ≡ disk.old }
+        ensures idle_ok { self.old.pending ≡ [] → result ≡ Ok tt }
+        ensures idle_gate { self.old.pending ≡ [] → self.new.gate ≡ self.old.gate }
         ensures stands { (batches : List Bytes)
             → LogOn D.crashes D.seen D.images disk.old self.old.side self.old.generation self.old.gate batches
             → OnOk result (LogOn D.crashes D.seen D.images disk.new self.old.side self.old.generation self.new.gate

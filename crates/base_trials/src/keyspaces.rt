@@ -35,10 +35,9 @@ fn object_of(alloc: Global, letter: u8) -> Result<Object, Fail> {
         b'B' => (b"fleet", b"b", Some(9)),
         _ => (b"depot", b"c", Some(9)),
     };
-    Ok(Object {
-        deadline,
-        ..object(alloc, key, id, 1, 2)?
-    })
+    let mut object = object(alloc, key, id, 1, 2)?;
+    object.deadline = deadline;
+    Ok(object)
 }
 
 // Puts an object, and says whether one stood there.

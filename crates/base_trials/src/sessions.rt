@@ -58,11 +58,11 @@ fn there_are_no_more_than_the_most(rt: HostRuntime) -> Result<(), Fail> {
     Ok(())
 }
 
-// Places the frames of one letter each, from `a` on.
-fn place_letters(alloc: Global, outbox: &mut Outbox, count: u8) -> Result<(), Fail> {
+// Stages the frames of one letter each, from `a` on, and places them.
+fn place_letters(outbox: &mut Outbox, count: usize) -> Result<(), Fail> {
     for i in 0..count {
-        outbox.reserve(1)?;
-        if outbox.place(Text::of(alloc, &[b'a' + i % 26])?).is_err() {
+        outbox.stage(&[b'a' + (i % 26) as u8])?;
+        if !outbox.place_first() {
             return Err(Fail::from("a frame that has no place"));
         }
     }
@@ -71,22 +71,32 @@ fn place_letters(alloc: Global, outbox: &mut Outbox, count: u8) -> Result<(), Fa
 
 // Whether a frame of so many bytes is placed.
 fn has_place(alloc: Global, outbox: &mut Outbox, size: usize) -> Result<bool, Fail> {
-    let frame = Text::of(alloc, vec![in alloc; 0u8; size]?.as_slice())?;
-    outbox.reserve(1)?;
-    Ok(outbox.place(frame).is_ok())
+    outbox.stage(vec![in alloc; 0u8; size]?.as_slice())?;
+    let is_placed = outbox.place_first();
+    outbox.keep_staged(0);
+    Ok(is_placed)
 }
 
-// Takes once: how many frames come, whether `a` is the first of them, and how many frames and bytes are left.
-fn taken(alloc: Global, outbox: &mut Outbox) -> Result<(usize, bool, usize, u64), Fail> {
+// Takes once: how many frames come, the first of them, and how many frames and bytes are left.
+fn taken(alloc: Global, outbox: &mut Outbox) -> Result<(usize, u8, usize, u64), Fail> {
     let mut frames = Frames::new(alloc)?;
     let count = outbox.take(&mut frames);
-    let is_first = !frames.is_empty() && frames.at(0) == b"a".as_slice();
-    Ok((count, is_first, outbox.frames(), outbox.bytes()))
+    let first = if frames.is_empty() {
+        None
+    } else {
+        frames.at(0).first()
+    };
+    Ok((
+        count,
+        first.copied().unwrap_or(0),
+        outbox.frames(),
+        outbox.bytes(),
+    ))
 }
 
 // With 70 frames of a byte each, one of 6,291,387 bytes would be one byte too many: whether it is placed, and what is taken then.
-fn limited(alloc: Global, outbox: &mut Outbox) -> Result<(bool, (usize, bool, usize, u64)), Fail> {
-    place_letters(alloc, outbox, 70)?;
+fn limited(alloc: Global, outbox: &mut Outbox) -> Result<(bool, (usize, u8, usize, u64)), Fail> {
+    place_letters(outbox, 70)?;
     let is_placed = has_place(alloc, outbox, 6_291_387)?;
     Ok((is_placed, taken(alloc, outbox)?))
 }
@@ -95,7 +105,57 @@ fn limited(alloc: Global, outbox: &mut Outbox) -> Result<(bool, (usize, bool, us
 fn frames_come_in_order_and_the_bytes_are_limited(rt: HostRuntime) -> Result<(), Fail> {
     let alloc = rt.alloc();
     let found = limited(alloc, &mut Outbox::new(alloc))?;
-    assert_eq!(rt; found, (false, (64, true, 6, 6)));
+    assert_eq!(rt; found, (false, (64, b'a', 6, 6)));
+    Ok(())
+}
+
+// How many takes give 64 frames each, of which the first is the letter that is next.
+fn full_takes(alloc: Global, outbox: &mut Outbox) -> Result<usize, Fail> {
+    for i in 0..1000usize {
+        let (count, first, _, _) = taken(alloc, outbox)?;
+        if count != 64 || first != b'a' + (i * 64 % 26) as u8 {
+            return Ok(i);
+        }
+    }
+    Ok(1000)
+}
+
+#[test]
+fn as_many_frames_wait_as_512_takes_give(rt: HostRuntime) -> Result<(), Fail> {
+    let alloc = rt.alloc();
+    let mut outbox = Outbox::new(alloc);
+    place_letters(&mut outbox, 32_768)?;
+    let is_placed = has_place(alloc, &mut outbox, 1)?;
+    assert_eq!(rt;
+        (is_placed, outbox.frames(), outbox.staged(), outbox.bytes()),
+        (false, 32_768, 0, 32_768)
+    );
+    assert_eq!(rt; full_takes(alloc, &mut outbox)?, 512);
+    Ok(())
+}
+
+// Stages 200 frames behind 100 that wait, keeps 50, and places one of them: how many are staged, and what two takes give.
+fn staged_in_part(
+    alloc: Global,
+    outbox: &mut Outbox,
+) -> Result<(usize, [(usize, u8, usize, u64); 2]), Fail> {
+    place_letters(outbox, 100)?;
+    for _ in 0..200 {
+        outbox.stage(b"z")?;
+    }
+    outbox.keep_staged(50);
+    outbox.place_first();
+    let staged = outbox.staged();
+    let first = taken(alloc, outbox)?;
+    Ok((staged, [first, taken(alloc, outbox)?]))
+}
+
+#[test]
+fn what_is_staged_waits_behind_a_mark(rt: HostRuntime) -> Result<(), Fail> {
+    let alloc = rt.alloc();
+    let (staged, takes) = staged_in_part(alloc, &mut Outbox::new(alloc))?;
+    assert_eq!(rt; staged, 49);
+    assert_eq!(rt; takes, [(64, b'a', 37, 37), (37, b'm', 0, 0)]);
     Ok(())
 }
 
@@ -208,6 +268,26 @@ fn served(sessions: &mut Vec<Session>) -> (bool, usize) {
     }
 }
 
+// What a session is told to which a message, and behind it two replies are placed; a third was let go.
+fn replied(alloc: Global) -> Result<Text, Fail> {
+    let mut session = hearing(alloc, 1, b"gate", false)?;
+    session.stage_message(alloc, &name(alloc, b"gate")?, &Text::of(alloc, b"{}")?)?;
+    session.add_reply(b"-ERR\r\n")?;
+    session.clear_replies();
+    session.add_reply(b"+OK\r\n")?;
+    session.add_reply(b":1\r\n")?;
+    session.place_staged();
+    session.place_replies();
+    frames_of(alloc, session)
+}
+
+#[test]
+fn replies_come_behind_messages(rt: HostRuntime) -> Result<(), Fail> {
+    let wanted: &[u8] = b"*3\r\n$7\r\nmessage\r\n$4\r\ngate\r\n$2\r\n{}\r\n+OK\r\n:1\r\n";
+    assert_eq!(rt; replied(rt.alloc())?.bytes(), wanted);
+    Ok(())
+}
+
 // Stages so many messages for a session and places them; whether it is served then, and how many subscriptions it has.
 fn flooded(alloc: Global, count: u32) -> Result<(bool, usize), Fail> {
     let mut sessions = hearers(alloc, &[(1, b"gate", false)])?;
@@ -219,7 +299,7 @@ fn flooded(alloc: Global, count: u32) -> Result<(bool, usize), Fail> {
 #[test]
 fn the_cut(rt: HostRuntime) -> Result<(), Fail> {
     let alloc = rt.alloc();
-    assert_eq!(rt; flooded(alloc, 16_384)?, (true, 1));
-    assert_eq!(rt; flooded(alloc, 16_385)?, (false, 0));
+    assert_eq!(rt; flooded(alloc, 32_768)?, (true, 1));
+    assert_eq!(rt; flooded(alloc, 32_769)?, (false, 0));
     Ok(())
 }

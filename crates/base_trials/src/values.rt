@@ -78,10 +78,8 @@ fn of_tests(alloc: Global) -> Result<Text, Fail> {
 
 // A copy of the object of the key `k` and this id, which expires at 7.
 fn mortal(alloc: Global, id: &[u8]) -> Result<Object, Fail> {
-    let mortal = Object {
-        deadline: Some(7),
-        ..object(alloc, b"k", id, 1, 2)?
-    };
+    let mut mortal = object(alloc, b"k", id, 1, 2)?;
+    mortal.deadline = Some(7);
     Ok(mortal.copy(alloc)?)
 }
 
@@ -126,15 +124,26 @@ fn of_world(alloc: Global, letters: &str) -> Result<Text, Fail> {
     Ok(text)
 }
 
-// The frames of a take, moved out.
+// The bytes of two frames, moved out, of which the second and then the first are let go.
 fn of_frames(alloc: Global) -> Result<Text, Fail> {
     let mut frames = Frames::new(alloc)?;
-    frames.put(Text::of(alloc, b"+OK\r\n")?);
-    let moved = frames.move_out();
-    if frames.is_empty() && moved.len() == 1 {
-        Ok(Text::of(alloc, moved.at(0))?)
+    frames.put(b"+OK\r\n")?;
+    frames.put(b":1\r\n")?;
+    let mut moved = frames.move_out();
+    let all = Text::of(alloc, moved.bytes())?;
+    moved.keep(1);
+    if frames.has_place()
+        || !frames.is_empty()
+        || moved.len() != 1
+        || moved.at(0) != b"+OK\r\n".as_slice()
+    {
+        return Ok(Text::of(alloc, b"another number")?);
+    }
+    moved.clear();
+    if moved.has_place() && moved.is_empty() {
+        Ok(all)
     } else {
-        Ok(Text::of(alloc, b"another number")?)
+        Ok(Text::of(alloc, b"frames that stay")?)
     }
 }
 
@@ -142,7 +151,7 @@ const VALUES: &str = "
     fields => age55-755
     names => a
     tests => one
-    frames => +OK<>
+    frames => +OK<>:1<>
     world ba => ba
     world z => z
     ";

@@ -33,11 +33,10 @@ const WORLDS: &str = "
 fn told(object: Object, text: Text, deadline: Option<u64>) -> Object
     ensures { result.fields ≡ object.fields }
 {
-    Object {
-        text,
-        deadline,
-        ..object
-    }
+    let mut told = object;
+    told.text = text;
+    told.deadline = deadline;
+    told
 }
 
 // The put of an object of a key and an id, with a text and a deadline.

@@ -13,7 +13,6 @@ use world_model::{Asked, CallOutcome, ChangedSessions, Frames, Taken};
 const PIECE: usize = 16384;
 
 /// A core with one session, and what its calls and takes need.
-#[derive(Drop)]
 pub(crate) struct Driver {
     core: Core,
     session: u32,
@@ -21,6 +20,18 @@ pub(crate) struct Driver {
     // Empty between two requests.
     frames: Frames,
     touched: ChangedSessions,
+}
+
+impl Drop for Driver {
+    fn drop(self) {
+        let Driver {
+            core: _,
+            session: _,
+            reader: _,
+            frames: _,
+            touched: _,
+        } = self;
+    }
 }
 
 impl Model for Driver {

@@ -30,7 +30,6 @@ use world_data::{Channel, Object};
 
 /// The channels of a world, in byte order of their names, and an index of their fences. One more may be prepared, which
 /// is then put without taking memory.
-#[derive(Drop)]
 pub struct Hub {
     // A channel stays in its slot until it is taken out. There is room for the channel that is prepared in the index.
     slots: Slab<Channel>,
@@ -38,6 +37,16 @@ pub struct Hub {
     order: Vec<usize>,
     // Each channel under its slot.
     index: FenceIndex,
+}
+
+impl Drop for Hub {
+    fn drop(self) {
+        let Hub {
+            slots: _,
+            order: _,
+            index: _,
+        } = self;
+    }
 }
 
 impl Model for Hub {

@@ -37,23 +37,12 @@ use std::alloc::Global;
 use world_data::{MAX_CHANNELS, MAX_WEIGHT};
 use world_model::{AreaWords, Channel, Fence, Object, Refusal, Watch};
 
-// The watch with the area in its place.
-fn watch_over(watch: Watch, area: Area) -> Watch
-    ensures { result ≡ watch_over watch area }
+// Puts the area into what is watched, where that is an area.
+fn put_area(watch: &mut Watch, area: Area)
+    ensures { watch.new ≡ watch_over watch.old area }
 {
-    match watch {
-        Watch::Zone(kind, _) => Watch::Zone(kind, area),
-        other => other,
-    }
-}
-
-// The fence with the area in its place.
-fn fence_over(fence: Fence, area: Area) -> Fence
-    ensures { result ≡ record fence { watch = watch_over fence.watch area } }
-{
-    Fence {
-        watch: watch_over(fence.watch, area),
-        ..fence
+    if let Watch::Zone(_, zone) = watch {
+        *zone = area;
     }
 }
 
@@ -61,10 +50,9 @@ fn fence_over(fence: Fence, area: Area) -> Fence
 fn channel_over(channel: Channel, area: Area) -> Channel
     ensures { result ≡ record channel { fence = record channel.fence { watch = watch_over channel.fence.watch area } } }
 {
-    Channel {
-        fence: fence_over(channel.fence, area),
-        ..channel
-    }
+    let mut channel = channel;
+    put_area(&mut channel.fence.watch, area);
+    channel
 }
 
 // The bytes of all words.

@@ -17,11 +17,20 @@ use world_model::AreaWords;
 
 /// An area as words give it: the area, or what holds the place of an object's, where it is from, and its GeoJSON text
 /// where it is given by one.
-#[derive(Drop)]
 pub(crate) struct SoughtArea {
     area: Area,
     pub(crate) from: AreaWords,
     pub(crate) text: Option<Text>,
+}
+
+impl Drop for SoughtArea {
+    fn drop(self) {
+        let SoughtArea {
+            area: _,
+            from: _,
+            text: _,
+        } = self;
+    }
 }
 
 impl Model for SoughtArea {
@@ -38,7 +47,12 @@ impl SoughtArea {
     pub(crate) fn parts(self) -> (Area, AreaWords)
         ensures { result ≡ (self.area, self.from) }
     {
-        (self.area, self.from)
+        let SoughtArea {
+            area,
+            from,
+            text: _,
+        } = self;
+        (area, from)
     }
 }
 

@@ -30,7 +30,6 @@ pub(crate) enum FenceWord {
 
 /// What the options said so far: the pattern of the ids, the tests on the fields, whether FENCE was read, the lists of
 /// DETECT and COMMANDS, and whether objects that were near before are left out.
-#[derive(Drop)]
 pub(crate) struct FenceOptions {
     pub(crate) glob: Option<Name>,
     pub(crate) tests: Tests,
@@ -38,6 +37,19 @@ pub(crate) struct FenceOptions {
     pub(crate) detect: Option<ListedNames>,
     pub(crate) commands: Option<ListedNames>,
     pub(crate) nodwell: bool,
+}
+
+impl Drop for FenceOptions {
+    fn drop(self) {
+        let FenceOptions {
+            glob: _,
+            tests: _,
+            fence: _,
+            detect: _,
+            commands: _,
+            nodwell: _,
+        } = self;
+    }
 }
 
 impl Model for FenceOptions {
@@ -84,6 +96,21 @@ impl FenceOptions {
             del: wants(&self.commands, b"del"),
             drop: wants(&self.commands, b"drop"),
         }
+    }
+
+    /// The pattern of the ids, and the tests on the fields.
+    pub(crate) fn filters(self) -> (Option<Name>, Tests)
+        ensures { result ≡ (self.glob, self.tests) }
+    {
+        let FenceOptions {
+            glob,
+            tests,
+            fence: _,
+            detect: _,
+            commands: _,
+            nodwell: _,
+        } = self;
+        (glob, tests)
     }
 }
 

@@ -33,7 +33,6 @@ pub(crate) enum SearchWord {
 
 /// What the options said so far: the pattern of the ids, the tests on the fields, where the page begins and how many
 /// items it has, whether the fields are left out, and whether the ids go down.
-#[derive(Drop)]
 pub(crate) struct SearchOptions {
     glob: Option<Name>,
     tests: Tests,
@@ -41,6 +40,19 @@ pub(crate) struct SearchOptions {
     limit: Option<u32>,
     bare: bool,
     pub(crate) down: Option<bool>,
+}
+
+impl Drop for SearchOptions {
+    fn drop(self) {
+        let SearchOptions {
+            glob: _,
+            tests: _,
+            cursor: _,
+            limit: _,
+            bare: _,
+            down: _,
+        } = self;
+    }
 }
 
 impl Model for SearchOptions {
@@ -83,7 +95,7 @@ impl SearchOptions {
             cursor,
             limit,
             bare,
-            ..
+            down: _,
         } = self;
         Query {
             rule,

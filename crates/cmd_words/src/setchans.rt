@@ -77,7 +77,7 @@ fn setchan_of(
 {
     let wanted = options.wanted();
     let (watch, from) = area.watch(kind, options.nodwell);
-    let FenceOptions { glob, tests, .. } = options;
+    let (glob, tests) = options.filters();
     let fence = Fence {
         key,
         glob,

@@ -18,7 +18,6 @@ use std::marker::Model;
 use world_data::Object;
 
 /// A walk through objects by rising distance of their boxes from a point.
-#[derive(Drop)]
 pub struct NearObjects<'a> {
     slots: &'a Slab<Object>,
     keys: &'a RunList,
@@ -27,6 +26,18 @@ pub struct NearObjects<'a> {
     numbers: Ids,
     // How far away they are, squared.
     given: Option<u64>,
+}
+
+impl<'a> Drop for NearObjects<'a> {
+    fn drop(self) {
+        let NearObjects {
+            slots: _,
+            keys: _,
+            walk: _,
+            numbers: _,
+            given: _,
+        } = self;
+    }
 }
 
 impl<'a> Model for NearObjects<'a> {

@@ -26,7 +26,6 @@ use world_data::Object;
 
 /// A list of objects, with room for more that was taken beforehand. An object stays in its slot, and the list is of
 /// keys.
-#[derive(Drop)]
 pub(crate) struct ObjectList {
     slots: Slab<Object>,
     keys: RunList,
@@ -34,6 +33,17 @@ pub(crate) struct ObjectList {
     dues: RunList,
     // Each key beside the box of its object.
     boxes: Tree,
+}
+
+impl Drop for ObjectList {
+    fn drop(self) {
+        let ObjectList {
+            slots: _,
+            keys: _,
+            dues: _,
+            boxes: _,
+        } = self;
+    }
 }
 
 impl Model for ObjectList {

@@ -30,7 +30,6 @@ use world_model::{Asked, CallOutcome, ChangedSessions, EnterFault, Frames, Taken
 
 /// A world and the sessions that are served, over a log on a disk. Where the disk fails, the hall stops: from then on
 /// each call says so and does nothing.
-#[derive(Drop)]
 pub struct DurableCore<D> {
     pub(crate) core: Core,
     pub(crate) tail: Tail<D>,
@@ -39,6 +38,17 @@ pub struct DurableCore<D> {
     pub(crate) stopped: bool,
     ghost goes_on: { core.hall.stopped ≡ false },
     ghost works: { stopped ≡ false → tail.journal.failed ≡ false },
+}
+
+impl<D: Drop> Drop for DurableCore<D> {
+    fn drop(self) {
+        let DurableCore {
+            core: _,
+            tail: _,
+            alloc: _,
+            stopped: _,
+        } = self;
+    }
 }
 
 impl<D: Disk> DurableCore<D> {

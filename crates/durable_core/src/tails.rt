@@ -7,7 +7,7 @@
 ghost use Rattle.std.specs.Prelude.{◌≡◌, ◌≤◌, ◌<◌, ◌^◌, ◌++◌, ℕ, Bool, true, false, [], is_some, length, OnOk, OnErr};
 ghost use Rattle.byte_text.specs.Names.{Bytes};
 ghost use Rattle.outside.specs.Causes.{HasCause};
-ghost use Rattle.journal.specs.Journals.{pending};
+ghost use Rattle.journal.specs.Journals.{SameBut, pending};
 ghost use Rattle.log_record.specs.Journals as log;
 ghost use Rattle.durable_core.specs.Written.{IsMirrored, KeepsSided, Sided, much, sided_with};
 ghost use Rattle.durable_core.specs.Rewriting.{asked_for, is_asked, is_going, rewriting_after};
@@ -54,9 +54,10 @@ impl<D: Disk> RecordSink for Tail<D> {
 impl<D: Disk> Tail<D> {
     ghost use Rattle.durable_core.specs.Kept.{IsKeptBy, LeadsTo};
 
-    /// Makes all that is pending stand. With nothing pending the disk is left alone.
+    /// Makes all that is pending stand. With nothing pending nothing is done.
     pub(crate) fn commit(&mut self) -> Result<(), Failed>
         requires { self.old.journal.failed ≡ false }
+        ensures idle { pending self.old.journal ≡ [] → SameBut self.old.journal self.new.journal }
         ensures log { (j : log.Journal) → IsKeptBy D.crashes D.seen D.images self.old j
             → LeadsTo D.crashes D.seen D.images D.moment D.left_since self.old self.new result j (log.settled j) }
         ensures written { (s : Sided) → KeepsSided D.crashes D.seen D.images self.old.journal s
@@ -76,14 +77,20 @@ impl<D: Disk> Tail<D> {
         }
     }
 
-    /// Where this may be done, makes what is pending stand if it is long.
+    /// Where this may be done, makes what is pending stand if it is long. Else nothing is done.
     pub(crate) fn commit_long(&mut self, may: bool) -> Result<(), Failed>
         requires { self.old.journal.failed ≡ false }
+        ensures short { length (pending self.old.journal) < much → self.new ≡ self.old }
+        ensures barred { may ≡ false → self.new ≡ self.old }
         ensures log { (j : log.Journal) → IsKeptBy D.crashes D.seen D.images self.old j
             → (k : log.Journal) × LeadsTo D.crashes D.seen D.images D.moment D.left_since self.old self.new result j k }
         ensures written { OnOk result (IsMirrored D.crashes D.seen D.images self.old.journal self.new.journal) }
         ensures long { may ≡ true → much ≤ length (pending self.old.journal)
             → OnOk result (pending self.new.journal ≡ []) }
+        ensures committed { may ≡ true → much ≤ length (pending self.old.journal)
+            → (s : Sided) → KeepsSided D.crashes D.seen D.images self.old.journal s
+            → OnOk result
+            (KeepsSided D.crashes D.seen D.images self.new.journal (sided_with (pending self.old.journal) s)) }
         ensures may { OnErr result (may ≡ true) }
         ensures works { OnOk result (self.new.journal.failed ≡ false) }
         ensures failed { OnErr result (self.new.journal.failed ≡ true) }

@@ -27,12 +27,20 @@ use world_data::Channel;
 
 /// The boxes of channels, each under the number by which its owner knows it. One channel more may be prepared, which is
 /// then put without taking memory.
-#[derive(Drop)]
 pub struct FenceIndex {
     // By key, in byte order.
     boxes: Vec<KeyBoxes>,
     // A channel that is still to be put. There is room for it.
     prepared: Option<Ready>,
+}
+
+impl Drop for FenceIndex {
+    fn drop(self) {
+        let FenceIndex {
+            boxes: _,
+            prepared: _,
+        } = self;
+    }
 }
 
 impl Model for FenceIndex {

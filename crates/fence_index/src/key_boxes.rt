@@ -22,7 +22,6 @@ use std::alloc::Global;
 use world_data::Channel;
 
 /// The boxes of the channels of a key, by the reason for which a channel is named.
-#[derive(Drop)]
 pub(crate) struct KeyBoxes {
     pub(crate) key: Name,
     // Of areas of channels that are named where they are near.
@@ -31,6 +30,17 @@ pub(crate) struct KeyBoxes {
     wide: BoxSet,
     // Of channels that each put names, all the same.
     always: BoxSet,
+}
+
+impl Drop for KeyBoxes {
+    fn drop(self) {
+        let KeyBoxes {
+            key: _,
+            near: _,
+            wide: _,
+            always: _,
+        } = self;
+    }
 }
 
 impl KeyBoxes {

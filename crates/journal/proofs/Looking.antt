@@ -1,5 +1,4 @@
 -- How a side is read on, and what of it is no record.
-use Rattle.std.specs.Prelude.{Result, Ok, Err, OnOk}
 use Rattle.std.proofs.Common.{◌≡◌, ◌∙◌, ◌+◌, ℕ, Bool, List, [], ◌∷◌, ◌++◌, length, take, drop, Option, None, refl, sym, ap, subst, arith, length-append, length-take, length-drop, append_assoc, append-nil, take-append-drop}
 use Rattle.byte_text.specs.Names.{Bytes}
 use Rattle.outside.specs.declared.sides.Side.{Side}
@@ -60,11 +59,6 @@ no_record fault g batches part len left at start place bytes reading begun refus
     }
 
 -- the last bytes of a batch were read
-pub gate_behind : (g : ℕ) (batches : List Bytes) (part : Bytes) (len left at next : ℕ) (bytes : Bytes) → left ≡ 0
-    → IsAtGate g (with_batch batches (part ++ take left (drop at bytes))) len next bytes → IsAtGate g (with_batch batches part) len next bytes
-gate_behind g batches part len left at next bytes none gate =
-    subst (λ (l : Bytes). IsAtGate g (with_batch batches l) len next bytes) (ap (λ (n : ℕ). part ++ take n (drop at bytes)) none ∙ append-nil part) gate
-
 pub refused_end : (fault : Bytes → Option ℕ) (start place left at : ℕ) (part bytes : Bytes) → left ≡ 0 → IsRefused fault start place part
     → IsRefused fault start place (part ++ take left (drop at bytes))
 refused_end fault start place left at part bytes none refused =
@@ -74,19 +68,6 @@ refused_end fault start place left at part bytes none refused =
 pub whole_more : (fault : Bytes → Option ℕ) (batches : List Bytes) (batch : Bytes) → AreWhole fault batches → fault batch ≡ None → AreWhole fault (with_batch batches batch)
 whole_more fault [] batch whole one = (one, tt)
 whole_more fault (b ∷ batches) batch whole one = (whole.0, whole_more fault batches batch whole.1 one)
-
--- a piece, of which a batch had been read before
-pub piece_taken : {R D T E : Type 0} (r : Result T E) (took : R → List Bytes → Bytes → Type 0) (fault : Bytes → Option ℕ) (crashes : D → Bool) (seen : D → Option Sides) (images : D → Sides → Type 0) (disk : D) (side : Side)
-    (batches : List Bytes) (part piece : Bytes) (len left at len' left' at' : ℕ) (replay : R) → len' ≡ len
-    → ((g : ℕ) (bytes : Bytes) → SideIsSafe (crashes disk) (seen disk) (images disk) side (λ x. x ≡ bytes) → IsInBatch g batches part len left at bytes
-    → IsInBatch g batches (part ++ piece) len' left' at' bytes)
-    → OnOk r (took replay batches (part ++ piece)) → OnOk r (TookPiece took fault crashes seen images disk side batches part len left at left' at' replay)
-piece_taken (Err e) took fault crashes seen images disk side batches part piece len left at len' left' at' replay same read taken = tt
-piece_taken (Ok x) took fault crashes seen images disk side batches part piece len left at len' left' at' replay same read taken = record {
-  more = piece;
-  taken = taken;
-  read = λ g bytes safe inside. subst (λ (n : ℕ). IsInBatch g batches (part ++ piece) n left' at' bytes) same (read g bytes safe inside);
-}
 
 -- some batches of a side were taken
 pub record TookSome {R D : Type 0} (took : R → List Bytes → Bytes → Type 0) (fault : Bytes → Option ℕ) (crashes : D → Bool) (seen : D → Option Sides) (images : D → Sides → Type 0) (side : Side) (len at at' : ℕ) (disk : D) (replay : R) : Type 0 where
@@ -114,22 +95,6 @@ module _ {R D : Type 0} (took : R → List Bytes → Bytes → Type 0) (fault : 
         subst (λ (n : ℕ). IsInBatch g batches (one.more ++ two.more) n left'' at'' bytes) same
         (two.read g bytes (subst (λ (s : Side). SideIsSafe (crashes now) (seen now) (images now) s (λ x. x ≡ bytes)) (sym is) (looked.safe bytes safe))
         (subst (λ (n : ℕ). IsInBatch g batches one.more n left' at' bytes) (sym same) (one.read g bytes safe inside)));
-  }
-
-  -- the batch ended
-  pub batch_taken : {T E : Type 0} (r : Result T E) (side : Side) (batches : List Bytes) (len left at len' left' at' next : ℕ) (disk : D) (replay replay' : R) → left' ≡ 0 → len' ≡ len
-      → (one : TookPiece took fault crashes seen images disk side batches [] len left at left' at' replay)
-      → ((g : ℕ) (part bytes : Bytes) → IsInBatch g batches part len' left' at' bytes → IsAtGate g (with_batch batches (part ++ take left' (drop at' bytes))) len' next bytes)
-      → OnOk r (took replay' (with_batch batches one.more) []) → OnOk r (fault one.more ≡ None)
-      → OnOk r (TookBatch took fault crashes seen images disk side batches len left at next replay')
-  batch_taken (Err e) side batches len left at len' left' at' next disk replay replay' none same one skip taken whole = tt
-  batch_taken (Ok x) side batches len left at len' left' at' next disk replay replay' none same one skip taken whole = record {
-    batch = one.more;
-    taken = taken;
-    whole = whole;
-    read = λ g bytes safe inside.
-        subst (λ (n : ℕ). IsAtGate g (with_batch batches one.more) n next bytes) same
-        (gate_behind g batches one.more len' left' at' next bytes none (skip g one.more bytes (subst (λ (n : ℕ). IsInBatch g batches one.more n left' at' bytes) (sym same) (one.read g bytes safe inside))));
   }
 
   pub some_none : (side : Side) (len at : ℕ) (disk : D) (replay : R) → took replay [] [] → TookSome took fault crashes seen images side len at at disk replay

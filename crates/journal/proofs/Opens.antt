@@ -79,6 +79,18 @@ module _ {D : Type 0} (crashes : D → Bool) (seen : D → Option Sides) (images
       let same : left.earlier ≡ s = cc in
       after.1 ∙ ap (λ (t : Sides). Some t) (same_by_side side after.0 s left.here (left.there ∙ ap (λ (t : Sides). side_of t (other_side side)) same))
 
+  -- and a crash leaves what it reads as
+  pub read_safe : (old new : D) (side : Side) (s : Sides) → IsAllSafe (crashes old) (seen old) (images old) s
+      → Looked crashes seen images moment left_since faults side old new → IsAllSafe (crashes new) (seen new) (images new) s
+  read_safe old new side s safe looked = record {
+    told = read_same old new side s safe looked;
+    settled = λ told c image.
+        let bytes = side_of s side in
+        let yes = sym looked.told ∙ told in
+        let left = (looked.same bytes (side_safe (crashes old) (seen old) (images old) s side (λ x. x ≡ bytes) safe refl)).images_now yes c image in
+        same_by_side side c s left.here (left.there ∙ ap (λ (t : Sides). side_of t (other_side side)) (safe.settled yes left.earlier left.could));
+  }
+
   -- a side that is read from behind its header
   pub took_from : {R : Type 0} (took : R → List Bytes → Bytes → Type 0) (fault : Bytes → Option ℕ) (disk : D) (side there : Side) (len long at gate : ℕ) (replay : R)
       → there ≡ side → long ≡ len → at ≡ 16 → TookAll took fault crashes seen images disk there long at gate replay → TookAll took fault crashes seen images disk side len 16 gate replay

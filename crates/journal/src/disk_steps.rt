@@ -1,7 +1,7 @@
 //! The steps of a journal on its disk: a commit, its mirror, and those of a rewriting.
 
 ghost use Rattle.std.specs.Prelude.{◌≡◌, ◌+◌, ◌≤◌, ◌<◌, ◌^◌, ℕ, List, [], Option, None, Some, true, is_some, length};
-ghost use Rattle.std.specs.Prelude.{OnOk, OnErr, IfOk};
+ghost use Rattle.std.specs.Prelude.{Ok, OnOk, OnErr, IfOk};
 ghost use Rattle.byte_text.specs.Names.{Bytes};
 ghost use Rattle.outside.specs.Causes.{HasCause};
 ghost use Rattle.outside.specs.Crashes.{LeavesOnly};
@@ -19,6 +19,9 @@ use outside::{Disk, Failed, Side};
 
 /// Makes the pending batch stand on the side in use.
 pub(crate) fn commit_log<D: Disk>(disk: &mut D, log: &mut AppendLog) -> Result<(), Failed>
+    ensures idle { log.old.pending ≡ [] → disk.new ≡ disk.old }
+    ensures idle_ok { log.old.pending ≡ [] → result ≡ Ok tt }
+    ensures idle_gate { log.old.pending ≡ [] → log.new.gate ≡ log.old.gate }
     ensures kept { (rewriter : Option Rewriter) (batches copied : List Bytes)
         → KeptOn D.crashes D.seen D.images disk.old log.old.side log.old.generation log.old.gate rewriter batches copied
         → OnOk result
@@ -47,6 +50,10 @@ pub(crate) fn mirror_batch<D: Disk>(
     batch: &[u8],
 ) -> Result<(), Failed>
     requires { new_gate rewriter.old + length batch.now ≤ 2 ^ 62 }
+    ensures idle { batch.now ≡ [] → disk.new ≡ disk.old }
+    ensures idle_ok { batch.now ≡ [] → result ≡ Ok tt }
+    ensures idle_side { batch.now ≡ [] → rewriter.new ≡ rewriter.old }
+    ensures alone { rewriter.old ≡ None → disk.new ≡ disk.old }
     ensures kept { (side : Side) (generation gate : ℕ) (batches copied : List Bytes) (records : Bytes)
         → batch.now ≡ written records
         → KeptOn D.crashes D.seen D.images disk.old side generation gate rewriter.old batches copied
@@ -106,6 +113,12 @@ pub(crate) fn copy_records<D: Disk>(
     records: &Batch,
 ) -> Result<(), Failed>
     requires { new_gate rewriter.old + length records.now + 10 ≤ 2 ^ 62 }
+    ensures idle { records.now ≡ [] → disk.new ≡ disk.old }
+    ensures idle_ok { records.now ≡ [] → result ≡ Ok tt }
+    ensures idle_side { records.now ≡ [] → rewriter.new ≡ rewriter.old }
+    ensures alone { rewriter.old ≡ None → disk.new ≡ disk.old }
+    ensures alone_ok { rewriter.old ≡ None → result ≡ Ok tt }
+    ensures alone_side { rewriter.old ≡ None → rewriter.new ≡ None }
     ensures kept { (side : Side) (generation gate : ℕ) (batches copied : List Bytes)
         → KeptOn D.crashes D.seen D.images disk.old side generation gate rewriter.old batches copied
         → OnOk result

@@ -6,7 +6,7 @@
 //! what its last one did.
 
 ghost use Rattle.std.specs.Prelude.{◌≡◌, ◌+◌, ◌≤◌, ◌<◌, ◌^◌, ◌++◌, ◌⊎◌, ℕ, true, false, List, [], Some, None, is_some};
-ghost use Rattle.std.specs.Prelude.{take, length, Decides, OnOk, OnErr, IfOk, IfErr};
+ghost use Rattle.std.specs.Prelude.{take, length, Decides, Ok, OnOk, OnErr, IfOk, IfErr};
 ghost use Rattle.byte_text.specs.Names.{Bytes};
 ghost use Rattle.outside.specs.Causes.{HasCause, Rose};
 ghost use Rattle.outside.specs.declared.sides.Side.{Side};
@@ -27,7 +27,6 @@ use outside::{Disk, Failed};
 use std::alloc::Global;
 
 /// A log on a disk, the records that wait for the next commit, and the new side where the log is rewritten.
-#[derive(Drop)]
 pub struct Journal<D> {
     disk: D,
     log: AppendLog,
@@ -35,6 +34,17 @@ pub struct Journal<D> {
     failed: bool,
     ghost fits: { 0 < length log.pending → new_gate rewriter + length log.pending + 10 ≤ 2 ^ 62 },
     ghost next: { next_generation rewriter log.generation ≡ log.generation + 1 },
+}
+
+impl<D: Drop> Drop for Journal<D> {
+    fn drop(self) {
+        let Journal {
+            disk: _,
+            log: _,
+            rewriter: _,
+            failed: _,
+        } = self;
+    }
 }
 
 /// A journal that was opened.
@@ -56,11 +66,11 @@ pub enum JournalFault {
 
 impl<D: Disk> Journal<D> {
     ghost use Rattle.journal.specs.Journals.{Keeps, HasRoom, SameBut, Ends, pending, disk_of};
-    ghost use Rattle.journal.specs.Openings.{IsDamaged, IsLeftByOpening, IsUnopened, opened_len};
+    ghost use Rattle.journal.specs.Openings.{AllSafeOn, IsDamaged, IsLeftByOpening, IsUnopened, opened_len};
     ghost use Rattle.journal.specs.Opened.{IsReplayed};
 
     /// Opens the log on a disk: both sides are synced, and the batches of the side in use are replayed. On a fresh disk
-    /// a log is begun.
+    /// a log is begun. A disk that is answered as damaged is so behind a crash, too.
     pub fn open<R: Replay>(alloc: Global, disk: D, replay: &mut R) -> Result<Opened<D>, Unopened<D>>
         requires { R.took replay.old [] [] }
         ensures opened { IfOk result
@@ -72,6 +82,10 @@ impl<D: Disk> Journal<D> {
         ensures damaged { (s : Sides) → D.seen disk ≡ Some s
             → IfErr result
             (λ u. (side : Side) (place : ℕ) → u.why ≡ OpenFault.Damaged side place → IsDamaged R.fault s side place) }
+        ensures settled { (s : Sides) → D.seen disk ≡ Some s
+            → IfErr result
+            (λ u. (side : Side) (place : ℕ) → u.why ≡ OpenFault.Damaged side place
+            → AllSafeOn D.crashes D.seen D.images u.disk s) }
         ensures told { D.crashes (disk_of result) ≡ D.crashes disk }
         ensures later { D.faults disk ≤ D.faults (disk_of result) }
         ensures cause { IfErr result (λ u. u.why ≡ OpenFault.Disk → Rose (D.faults disk) (D.faults u.disk)) }
@@ -173,9 +187,10 @@ impl<D: Disk> Journal<D> {
     }
 
     /// Makes the pending batch stand, with two syncs; where the log is rewritten it is written to the new side, too,
-    /// which is not synced. With nothing pending the disk is left alone. At each moment inside a crash leaves the
-    /// committed batches, or those with the pending one.
+    /// which is not synced. With nothing pending nothing is done. At each moment inside a crash leaves the committed
+    /// batches, or those with the pending one.
     pub fn commit(&mut self) -> Result<(), JournalFault>
+        ensures idle { pending self.old ≡ [] → SameBut self.old self.new }
         ensures kept { (batches copied : List Bytes) → Keeps D.crashes D.seen D.images self.old batches copied
             → OnOk result
             (Keeps D.crashes D.seen D.images self.new (committed batches (pending self.old))
@@ -208,6 +223,8 @@ impl<D: Disk> Journal<D> {
 
     // The commit on the side in use, and then on the new one.
     fn commit_both(&mut self) -> Result<(), Failed>
+        ensures idle { pending self.old ≡ [] → SameBut self.old self.new }
+        ensures idle_ok { pending self.old ≡ [] → result ≡ Ok tt }
         ensures kept { (batches copied : List Bytes) → Keeps D.crashes D.seen D.images self.old batches copied
             → OnOk result
             (Keeps D.crashes D.seen D.images self.new (committed batches (pending self.old))
@@ -277,10 +294,13 @@ impl<D: Disk> Journal<D> {
         }
     }
 
-    /// Copies a piece to the new side, which is not synced. Where the log is not rewritten nothing is done.
+    /// Copies a piece to the new side, which is not synced. Where the piece has no record, or the log is not rewritten,
+    /// nothing is done.
     pub fn copy(&mut self, piece: &Piece) -> Result<(), JournalFault>
         requires committed { pending self.old ≡ [] }
         requires room { new_gate self.old.rewriter + length piece.now.records + 10 ≤ 2 ^ 62 }
+        ensures idle { piece.now.records ≡ [] → SameBut self.old self.new }
+        ensures alone { self.old.rewriter ≡ None → SameBut self.old self.new }
         ensures kept { (batches copied : List Bytes) → Keeps D.crashes D.seen D.images self.old batches copied
             → OnOk result (Keeps D.crashes D.seen D.images self.new batches (committed copied piece.now.records)) }
         ensures leaves { (batches copied : List Bytes) → Keeps D.crashes D.seen D.images self.old batches copied

@@ -66,6 +66,10 @@ pub(crate) fn open_log<D: Disk, R: Replay>(
     ensures damaged { (s : Sides) → D.seen disk.old ≡ Some s
         → IfErr result
         (λ fault. (side : Side) (place : ℕ) → fault ≡ OpenFault.Damaged side place → IsDamaged R.fault s side place) }
+    ensures settled { (s : Sides) → D.seen disk.old ≡ Some s
+        → IfErr result
+        (λ fault. (side : Side) (place : ℕ) → fault ≡ OpenFault.Damaged side place
+        → AllSafeOn D.crashes D.seen D.images disk.new s) }
     ensures told { D.crashes disk.new ≡ D.crashes disk.old }
     ensures later { D.faults disk.old ≤ D.faults disk.new }
     ensures cause { IfErr result (λ fault. fault ≡ OpenFault.Disk → Rose (D.faults disk.old) (D.faults disk.new)) }
@@ -135,7 +139,8 @@ fn read_log<D: Disk, R: Replay>(
         (λ batches. KeptOn D.crashes D.seen D.images disk.new u.log.side u.log.generation u.log.gate None batches [])) }
     ensures leaves { (s : Sides) → AllSafeOn D.crashes D.seen D.images disk.old s → D.crashes disk.old ≡ true
         → LeavesOnly D.moment D.left_since disk.old disk.new (λ c. c ≡ s) }
-    ensures same { (s : Sides) → AllSafeOn D.crashes D.seen D.images disk.old s → D.seen disk.new ≡ Some s }
+    ensures settled { (s : Sides) → AllSafeOn D.crashes D.seen D.images disk.old s
+        → AllSafeOn D.crashes D.seen D.images disk.new s }
     ensures damaged { (s : Sides) → AllSafeOn D.crashes D.seen D.images disk.old s → IsUsed s side generation len
         → IfErr result
         (λ fault. (there : Side) (place : ℕ) → fault ≡ OpenFault.Damaged there place

@@ -50,10 +50,6 @@ pub written_some : (records : Bytes) → (length (written records) ≡ 0 → ⊥
 written_some [] some = absurd (some refl)
 written_some (byte ∷ bytes) some = (refl, λ batches. refl)
 
-pub written_none : (records : Bytes) (batches : List Bytes) → written records ≡ [] → committed batches records ≡ batches
-written_none [] batches none = refl
-written_none (byte ∷ bytes) batches none = absurd (let long = ap length none in omega (arith, long))
-
 opened : (generation : ℕ) (batches : List Bytes) (side : Bytes) (b : ℕ) → IsGeneration generation → gate_place generation batches + 1 ≤ max_side → b ≡ open_gate → side ≡ b ∷ (rear_text generation batches ++ 0 ∷ []) → StandsFor generation batches side
 opened generation batches side b numbered room is text = record {
   numbered = numbered;

@@ -1,6 +1,6 @@
 //! A new side is begun, gets batches, and is opened.
 
-ghost use Rattle.std.specs.Prelude.{◌≡◌, ◌+◌, ◌-◌, ◌≤◌, ◌^◌, ℕ, List, [], length, Decides, IfOk, OnOk};
+ghost use Rattle.std.specs.Prelude.{◌≡◌, ◌+◌, ◌-◌, ◌≤◌, ◌^◌, ℕ, List, [], length, Decides, IfOk, Ok, OnOk};
 ghost use Rattle.byte_text.specs.Names.{Bytes};
 ghost use Rattle.outside.specs.Causes.{HasCause};
 ghost use Rattle.log_sides.specs.Texts.{IsGeneration, committed, written};
@@ -67,6 +67,9 @@ impl Rewriter {
     /// Writes the records of some items as one batch, and nothing where there are none. It is not synced.
     pub fn copy_piece<D: Disk>(&mut self, disk: &mut D, piece: &Batch) -> Result<(), Failed>
         requires { self.old.gate + length piece.now + 10 ≤ 2 ^ 62 }
+        ensures idle { piece.now ≡ [] → disk.new ≡ disk.old }
+        ensures idle_ok { piece.now ≡ [] → result ≡ Ok tt }
+        ensures idle_side { piece.now ≡ [] → self.new ≡ self.old }
         ensures grown { (batches : List Bytes)
             → NewSideOn D.crashes D.seen D.images disk.old self.old.side self.old.generation self.old.gate batches
             → OnOk result (NewSideOn D.crashes D.seen D.images disk.new self.old.side self.old.generation self.new.gate
@@ -86,6 +89,9 @@ impl Rewriter {
     /// synced.
     pub fn mirror<D: Disk>(&mut self, disk: &mut D, batch: &[u8]) -> Result<(), Failed>
         requires { self.old.gate + length batch.now ≤ 2 ^ 62 }
+        ensures idle { batch.now ≡ [] → disk.new ≡ disk.old }
+        ensures idle_ok { batch.now ≡ [] → result ≡ Ok tt }
+        ensures idle_side { batch.now ≡ [] → self.new ≡ self.old }
         ensures grown { (batches : List Bytes) (records : Bytes) → batch.now ≡ written records
             → NewSideOn D.crashes D.seen D.images disk.old self.old.side self.old.generation self.old.gate batches
             → OnOk result

@@ -154,11 +154,20 @@ fn fields_of(alloc: Global, old: Option<&Object>) -> Result<Fields, NoMemory>
 
 /// How a SET puts its object: the names of fields that are written 0, after how many seconds the object expires, and
 /// whether it is done for an object that is there, or for one that is not.
-#[derive(Drop)]
 pub(crate) struct Terms {
     pub cleared: NameList,
     pub seconds: Option<u32>,
     pub only: Only,
+}
+
+impl Drop for Terms {
+    fn drop(self) {
+        let Terms {
+            cleared: _,
+            seconds: _,
+            only: _,
+        } = self;
+    }
 }
 
 /// What a SET of this object will do, whose fields are those that are given, and whose text has its shape.
@@ -179,29 +188,17 @@ pub(crate) fn plan_set(
 {
     let old = objects.get(&object.key, &object.id);
     let is_new = old.is_none();
-    // What is not used is dropped by a call, so that its parts are not proved to be dropped here.
     if keeps_back(terms.only, !is_new) {
-        drop(terms);
-        drop(object);
         return say_frame(alloc, total, null_frame(alloc)?);
     }
     let fields = fields_of(alloc, old)?;
-    let whole = Object {
-        fields: with_values(alloc, fields, &object.fields, &terms.cleared)?,
-        deadline: deadline_after(now, terms.seconds),
-        key: object.key,
-        id: object.id,
-        text: object.text,
-        shape: object.shape,
-    };
-    drop(object.fields);
-    drop(terms);
+    let mut whole = object;
+    whole.fields = with_values(alloc, fields, &whole.fields, &terms.cleared)?;
+    whole.deadline = deadline_after(now, terms.seconds);
     if whole.fields.len() > MAX_FIELDS {
-        drop(whole);
         return say_refusal(alloc, total, Refusal::TooManyFields);
     }
     if is_new && objects.len() >= MAX_OBJECTS {
-        drop(whole);
         return say_refusal(alloc, total, Refusal::TooManyObjects);
     }
     plan_put(alloc, objects, total, old, whole, true, fine_frame(alloc)?)

@@ -44,7 +44,6 @@ impl Sink for ListSink {
 }
 
 /// A door in memory, with a list of callers.
-#[derive(Drop)]
 pub struct ListDoor {
     // The links to come, the last one first. They are made beforehand, so that no caller is lost for want of memory.
     waiting: Vec<Link<BytesSource, ListSink>>,
@@ -55,6 +54,20 @@ pub struct ListDoor {
     faults: u64,
     links: u64,
     ends: u64,
+}
+
+impl Drop for ListDoor {
+    fn drop(self) {
+        let ListDoor {
+            waiting: _,
+            written: _,
+            failing: _,
+            calls: _,
+            faults: _,
+            links: _,
+            ends: _,
+        } = self;
+    }
 }
 
 impl Model for ListDoor {

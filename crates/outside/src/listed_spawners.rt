@@ -42,7 +42,6 @@ fn put_on<R: Wait>(rt: &R, running: &Running) {
 }
 
 /// It starts threads, and refuses the starts that are listed.
-#[derive(Drop)]
 pub struct ListedSpawner {
     alloc: Global,
     refused: Vec<u64>,
@@ -50,6 +49,19 @@ pub struct ListedSpawner {
     starts: u64,
     jobs: u64,
     faults: u64,
+}
+
+impl Drop for ListedSpawner {
+    fn drop(self) {
+        let ListedSpawner {
+            alloc: _,
+            refused: _,
+            running: _,
+            starts: _,
+            jobs: _,
+            faults: _,
+        } = self;
+    }
 }
 
 impl Model for ListedSpawner {

@@ -20,7 +20,6 @@ use std::alloc::{AllocError, Global};
 use std::marker::Model;
 
 /// Two sides of bytes in memory, and every call that was made: it tells what a crash may leave at each moment.
-#[derive(Drop)]
 pub struct MemoryDisk {
     alloc: Global,
     first: Contents,
@@ -30,6 +29,20 @@ pub struct MemoryDisk {
     failing: Vec<u64>,
     made: u64,
     faults: u64,
+}
+
+impl Drop for MemoryDisk {
+    fn drop(self) {
+        let MemoryDisk {
+            alloc: _,
+            first: _,
+            changed: _,
+            calls: _,
+            failing: _,
+            made: _,
+            faults: _,
+        } = self;
+    }
 }
 
 impl Model for MemoryDisk {

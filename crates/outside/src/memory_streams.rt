@@ -12,7 +12,6 @@ use std::alloc::Global;
 use std::marker::Model;
 
 /// Bytes in memory, given out in pieces.
-#[derive(Drop)]
 pub struct BytesSource {
     bytes: Vec<u8>,
     at: usize,
@@ -20,6 +19,19 @@ pub struct BytesSource {
     failing: Vec<u64>,
     calls: u64,
     faults: u64,
+}
+
+impl Drop for BytesSource {
+    fn drop(self) {
+        let BytesSource {
+            bytes: _,
+            at: _,
+            piece: _,
+            failing: _,
+            calls: _,
+            faults: _,
+        } = self;
+    }
 }
 
 impl Model for BytesSource {
@@ -87,13 +99,24 @@ impl Source for BytesSource {
 }
 
 /// Keeps in memory what is written to it.
-#[derive(Drop)]
 pub struct BytesSink {
     bytes: Vec<u8>,
     piece: usize,
     failing: Vec<u64>,
     calls: u64,
     faults: u64,
+}
+
+impl Drop for BytesSink {
+    fn drop(self) {
+        let BytesSink {
+            bytes: _,
+            piece: _,
+            failing: _,
+            calls: _,
+            faults: _,
+        } = self;
+    }
 }
 
 impl Model for BytesSink {

@@ -15,10 +15,18 @@ use std::alloc::Global;
 use std::marker::Model;
 
 /// Two sides of bytes in memory, and no more: what a crash may leave it does not tell.
-#[derive(Drop)]
 pub struct PlainDisk {
     contents: Contents,
     faults: u64,
+}
+
+impl Drop for PlainDisk {
+    fn drop(self) {
+        let PlainDisk {
+            contents: _,
+            faults: _,
+        } = self;
+    }
 }
 
 impl Model for PlainDisk {

@@ -11,11 +11,20 @@ use std::marker::Model;
 pub const MAX_POSITIONS: u32 = 10_000;
 
 /// A part of a shape: a point, a chain of segments or a polygon.
-#[derive(Drop)]
 pub enum Part {
     Spot(Pt),
     Chain(Line),
     Face(Poly),
+}
+
+impl Drop for Part {
+    fn drop(self) {
+        match self {
+            Part::Spot(_) => {}
+            Part::Chain(_) => {}
+            Part::Face(_) => {}
+        }
+    }
 }
 
 impl Part {
@@ -35,11 +44,20 @@ impl Part {
 
 /// At least one part, and at most [`MAX_POSITIONS`] positions. It keeps how many these are, and the least
 /// box round them.
-#[derive(Drop)]
 pub struct Shape {
     parts: Parts,
     bounds: BBox,
     count: u32,
+}
+
+impl Drop for Shape {
+    fn drop(self) {
+        let Shape {
+            parts: _,
+            bounds: _,
+            count: _,
+        } = self;
+    }
 }
 
 impl Model for Shape {
@@ -141,9 +159,18 @@ impl Shape {
 }
 
 /// What a shape is compared with: a box, a disc of a centre and a radius, or another shape.
-#[derive(Drop)]
 pub enum Area {
     Rect(BBox),
     Disc(Pt, u32),
     Figure(Shape),
+}
+
+impl Drop for Area {
+    fn drop(self) {
+        match self {
+            Area::Rect(_) => {}
+            Area::Disc(_, _) => {}
+            Area::Figure(_) => {}
+        }
+    }
 }

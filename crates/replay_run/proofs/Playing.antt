@@ -7,6 +7,7 @@ use Rattle.byte_text.specs.Names.{Bytes}
 use Rattle.script_text.specs.Lines.{line}
 use Rattle.script_text.specs.declared.lines.ScriptLine.{ScriptLine}
 use Rattle.script_text.specs.declared.lines.ScriptLine.TheVariants as says
+use Rattle.world_data.specs.declared.worlds.World.{World}
 use Rattle.world_model.specs.Halls.{Hall}
 use Rattle.world_model.specs.Histories.{StepBy, Step, answer, refusal_going}
 use Rattle.world_model.specs.declared.events.CallOutcome.{CallOutcome}
@@ -226,7 +227,7 @@ piece_of None left' behind e o = absurd cc
 piece_of (Some xs) None behind e o = absurd o
 piece_of (Some xs) (Some ys) behind e o = let is : xs ≡ behind = cc in (o.0, ys, sym is ∙ o.1, refl, o.2)
 
-module _ (told : Bool) (first : Played) (Ends : List Deed → Type 0) (left0 left left' held0 held held' : Option Bytes) (number used used' : ℕ) (p p' : Played) (deeds more : List Deed) (g : Going told first left0 left held0 held number used p deeds) where
+module _ (told : Bool) (first : Played) (Holds : World → Type 0) (Ends : List Deed → Type 0) (left0 left left' held0 held held' : Option Bytes) (number used used' : ℕ) (p p' : Played) (deeds more : List Deed) (g : Going told first left0 left held0 held number used p deeds) where
   -- the lines before, with this behind their output
   done_with : (tail : Bytes) → Appends held held' tail → AreDone told first held0 held' g.front p deeds tail
   done_with tail w = record { out = g.out; runs = g.runs; written = appends_more held0 held held' g.out tail g.written w }
@@ -260,15 +261,16 @@ module _ (told : Bool) (first : Played) (Ends : List Deed → Type 0) (left0 lef
       inr (inr (refl, subst (λ (z : CallOutcome). IsRead told first Ends left0 left' held0 held' z []) failed (read_all t answered r e)))
 
   pub ends_play : (turn : Turn) (answered : CallOutcome) → OnTurn told turn left left' held held' p p' used used' more → IsOneLine left left' → turn ≢ Next → turn ≢ Again → p.hall.stopped ≡ false
-      → Retires p'.hall answered → Ends ((deeds ++ more) ++ retired answered) → OnPlay told first Ends (end_of turn number answered) left0 left' held0 held'
-  ends_play End called.Ok t piece last over goes r e = read_all t called.Ok r e
-  ends_play End called.Full t piece last over goes r e = read_cut t called.Full goes (λ is. cc) r e
-  ends_play End called.Gone t piece last over goes r e = read_cut t called.Gone goes (λ is. cc) r e
-  ends_play End called.LogFault t piece last over goes r e = read_cut t called.LogFault goes (λ is. cc) r e
-  ends_play End called.Stopped t piece last over goes r e = read_cut t called.Stopped goes (λ is. cc) r e
-  ends_play End called.Spent t piece last over goes r e = read_cut t called.Spent goes (λ is. cc) r e
-  ends_play End called.Memory t piece last over goes r e = read_cut t called.Memory goes (λ is. cc) r e
-  ends_play Script answered t piece last over goes r e = record {
+      → Retires p'.hall answered → (answered ≡ called.Ok → Holds p'.hall.world) → Ends ((deeds ++ more) ++ retired answered) → OnPlay told first Holds Ends (end_of turn number answered) left0 left' held0 held'
+  unfolding read_all
+  ends_play End called.Ok t piece last over goes r w e = record { read = read_all t called.Ok r e; holds = subst (λ (z : Played). Holds z.hall.world) t.1 (w refl) }
+  ends_play End called.Full t piece last over goes r w e = read_cut t called.Full goes (λ is. cc) r e
+  ends_play End called.Gone t piece last over goes r w e = read_cut t called.Gone goes (λ is. cc) r e
+  ends_play End called.LogFault t piece last over goes r w e = read_cut t called.LogFault goes (λ is. cc) r e
+  ends_play End called.Stopped t piece last over goes r w e = read_cut t called.Stopped goes (λ is. cc) r e
+  ends_play End called.Spent t piece last over goes r w e = read_cut t called.Spent goes (λ is. cc) r e
+  ends_play End called.Memory t piece last over goes r w e = read_cut t called.Memory goes (λ is. cc) r e
+  ends_play Script answered t piece last over goes r w e = record {
     front = g.front;
     last = p;
     deeds = deeds;
@@ -282,7 +284,7 @@ module _ (told : Bool) (first : Played) (Ends : List Deed → Type 0) (left0 lef
         let n = t.3 q.0 q.1 in
         record { behind = q.0; is = q.2; read = piece_of left left' q.0 q.1 piece; l = n.0; others = n.1; next = n.2; none = subst (λ (k : ℕ). IsLine k n.0 → ⊥) g.used_is n.3 };
   }
-  ends_play ReadFault answered t piece last over goes r e = before_all t.0 t.1 t.2 answered piece r e
+  ends_play ReadFault answered t piece last over goes r w e = before_all t.0 t.1 t.2 answered piece r e
     where
       before_all : held' ≡ held → p' ≡ p → more ≡ [] → (answered : CallOutcome) → IsOneLine left left' → Retires p'.hall answered → Ends ((deeds ++ more) ++ retired answered) → IsBefore told first Ends left0 left' held0 held' []
       before_all still same none answered piece r e = record {
@@ -295,7 +297,7 @@ module _ (told : Bool) (first : Played) (Ends : List Deed → Type 0) (left0 lef
         ends = none_more answered none e;
         told_is = λ xs is. let q = g.text xs is in record { behind = q.0; is = q.2; read = piece_of left left' q.0 q.1 piece };
       }
-  ends_play WriteFault answered t piece last over goes r e = record {
+  ends_play WriteFault answered t piece last over goes r w e = record {
     front = g.front;
     before = p;
     deeds = deeds;
@@ -314,7 +316,7 @@ module _ (told : Bool) (first : Played) (Ends : List Deed → Type 0) (left0 lef
         let f = first_line_of left left' t.0 q.0 t.3 q.1 in
         (f.0, q.2 ∙ ap (λ (ls : List TextLine). g.front ++ ls) f.1, f.2);
   }
-  ends_play (Halted halt) answered t piece last over goes r e = by_cause t.1
+  ends_play (Halted halt) answered t piece last over goes r w e = by_cause t.1
     where
       by_cause : ((l : TextLine) × IsFirstLine left left' l × IsUndone told halt used p l more p'.hall) ⊎ ((halt ≡ halted.Memory) × (p' ≡ p) × (more ≡ [])) → IsCut told first Ends left0 left' held0 held' halt []
       by_cause (inl u) = inl (record {
@@ -347,8 +349,8 @@ module _ (told : Bool) (first : Played) (Ends : List Deed → Type 0) (left0 lef
           told_is = λ xs is. let q = g.text xs is in record { behind = q.0; is = q.2; read = piece_of left left' q.0 q.1 piece };
         },
       ))
-  ends_play Next answered t piece last over goes r e = absurd (last refl)
-  ends_play Again answered t piece last over goes r e = absurd (over refl)
+  ends_play Next answered t piece last over goes r w e = absurd (last refl)
+  ends_play Again answered t piece last over goes r w e = absurd (over refl)
 
   -- all was not opened again
   pub ends_unopened : (halt : Halt) (last : Hall) → held' ≡ held → (l : TextLine) × IsFirstLine left left' l × IsUndone told halt used p l more last → last.stopped ≡ true → Ends (deeds ++ more) → IsCut told first Ends left0 left' held0 held' halt []

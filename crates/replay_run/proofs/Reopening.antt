@@ -1,12 +1,13 @@
 -- A disk is opened, retired, and opened again, and stays safe for all that was made.
 use Rattle.std.proofs.Common.{◌≡◌, ◌≢◌, ◌≤◌, ◌⊎◌, ℕ, zero, suc, Bool, true, false, List, [], ◌∷◌, ◌++◌, length, take, refl, sym, ap, subst, ◌∙◌, arith, inl, inr, append_assoc}
-use Rattle.std.specs.Prelude.{Option, Some, min}
+use Rattle.std.specs.Prelude.{Option, None, Some, is_some, min}
 use Rattle.std.proofs.lemmas.List.{take_all}
 use Rattle.outside.specs.Causes.{most_count, Rose}
-use Rattle.outside.specs.Sides.{Sides, IfTold}
+use Rattle.byte_text.specs.Names.{Bytes}
+use Rattle.outside.specs.Sides.{Sides, IfTold, side_of, other_side}
 use Rattle.outside.specs.declared.sides.Side.{Side}
 use Rattle.outside.specs.Crashes.{LeavesOnly}
-use Rattle.outside.specs.CrashLaws.{weaker}
+use Rattle.outside.specs.CrashLaws.{then, weaker}
 use Rattle.world_data.specs.Sound.{IsSoundWorld}
 use Rattle.world_data.specs.declared.worlds.World.{World}
 use Rattle.world_model.specs.Halls.{Hall}
@@ -17,19 +18,24 @@ use Rattle.world_model.specs.declared.events.Event.TheVariants as event
 use Rattle.world_model.specs.declared.events.Entry.{Entry}
 use Rattle.world_model.specs.declared.events.Opening.{Opening}
 use Rattle.journal.specs.Journals.{pending}
-use Rattle.journal.specs.Logs.{HoldsLog}
+use Rattle.journal.specs.Keeping.{IsKept}
+use Rattle.journal.specs.KeptLaws.{beside_holds}
+use Rattle.journal.specs.Logs.{HoldsLog, IsBehind as LeavesInUse}
 use Rattle.journal.specs.Openings.{IsLeftByOpening}
-use Rattle.log_sides.specs.States.{IsLog}
+use Rattle.journal.specs.Standing.{stands_in}
+use Rattle.log_rewrite.specs.declared.rewriters.Rewriter.{Rewriter}
+use Rattle.log_sides.specs.Texts.{StandsFor}
 use Rattle.log_record.specs.AnswerLaws.{call_failed}
 use Rattle.log_record.specs.Acknowledged.{acked_take}
 use Rattle.log_record.specs.Journals.{Journal, TellsNow}
 use Rattle.log_record.specs.Readings.{Damaged}
-use Rattle.log_record.specs.Recovery.{Recovers, Holds}
+use Rattle.log_record.specs.Recovery.{Recovers, RecoversEither, Holds}
 use Rattle.log_record.specs.RecoveryLaws.{one_world, recovered_is_whole}
 use Rattle.log_record.specs.Safety.{Run, moment_after, RecoversPassed, IsSafe, Passes, entries_of, start_of, RunPasses, Safe, SafeRun}
 use Rattle.log_record.specs.SafetyLaws.{passed_still, committed_passed}
 use Rattle.log_record.specs.Runs.{and_then, RunStood}
 use Rattle.log_record.specs.RunLaws.{openings_keep_runs_safe}
+use Rattle.world_recovery.specs.BatchesHeld.{held_recovers}
 use Rattle.world_recovery.specs.Recorded.{world_in}
 use Rattle.durable_core.specs.Kept.{settled_log}
 use Rattle.durable_core.specs.Logged.{hall_of, disk_of, generation_of, IsLogOf, KeepsLogOf, GoesOn}
@@ -40,7 +46,8 @@ use Rattle.journal.specs.declared.openings.OpenFault.{OpenFault}
 use Rattle.journal.specs.declared.openings.OpenFault.TheVariants as fault_of
 use Rattle.replay_run.specs.declared.halts.Halt.TheVariants as halted
 use Rattle.replay_run.specs.declared.readers.Reader.{Reader}
-use Rattle.replay_run.specs.Checks.{HasGeneration}
+use Rattle.replay_run.specs.Checks.{HasGeneration, IsLookedAt}
+use Rattle.replay_run.specs.HandedBack.{HoldsWorld}
 use Rattle.replay_run.specs.Scripts.{Reopens}
 use Rattle.replay_run.specs.Undone.{halt_at, ReopenFails}
 use Rattle.replay_run.specs.HaltLaws.{unspent_at, damaged_at}
@@ -53,22 +60,42 @@ none_taken : (n : ℕ) (start : ℕ) → moment_after start (take n []) ≡ star
 none_taken zero start = refl
 none_taken (suc n) start = refl
 
--- behind a retirement a side of the disk stands, as a log of the generation that it had
+-- what a disk tells
+pub some_of : (o : Option Sides) → is_some o ≡ true → (s : Sides) × (o ≡ Some s)
+some_of None e = absurd (cc)
+some_of (Some s) e = (s, refl)
+
+-- a disk that holds a world, told of what is the same
+pub held_as : {D : Type 0} (seen : D → Option Sides) (disk left : D) (v w : World) → disk ≡ left → v ≡ w → HoldsWorld (seen disk) v → HoldsWorld (seen left) w
+held_as {D} seen disk left v w same is holds = subst (λ (z : World). HoldsWorld (seen left) z) is (subst (λ (d : D). HoldsWorld (seen d) v) same holds)
+
+-- the side in use of what a journal keeps has the journal's generation
+kept_generation : (crashes : Bool) (seen : Option Sides) (images : Sides → Type 0) (side : Side) (g gate : ℕ) (r : Option Rewriter) (batches copied : List Bytes) → IsKept crashes seen images side g gate r batches copied → HasGeneration crashes seen images g
+kept_generation crashes seen images side g gate r batches copied kept =
+    let safe = kept.log.safe in
+    let held = beside_holds crashes seen images side g r copied kept.beside in
+    let here = safe.told in
+    let there = held.now.told in
+    let beside : held.now.contents ≡ safe.contents = cc in
+    record {
+      sides = safe.contents;
+      told = safe.told;
+      now = (side, batches, stands_in safe.contents side g batches safe.has (subst (λ (x : Sides). LeavesInUse g (side_of x (other_side side))) beside held.now.has));
+      each = λ told c image. (side, batches, stands_in c side g batches (subst (StandsFor g batches) (sym (safe.settled told c image)) safe.has) (held.each told c image));
+    }
+
+-- so has it behind a retirement
 pub generation_left : {D : Type 0} (crashes : D → Bool) (seen : D → Option Sides) (images : D → Sides → Type 0) (old mid : DurableCore D) (disk : D) (generation : ℕ) (s : Sided) → KeepsSided crashes seen images old.tail.journal s
-    → IsMirrored crashes seen images old.tail.journal mid.tail.journal → generation ≡ generation_of old → generation_of mid ≡ generation_of old → disk ≡ disk_of mid → HasGeneration crashes seen images disk generation
-generation_left {D} crashes seen images old mid disk generation s kept written counted same is = subst (λ (d : D). HasGeneration crashes seen images d generation) (sym is) (by_sides (written s kept))
+    → IsMirrored crashes seen images old.tail.journal mid.tail.journal → generation ≡ generation_of old → generation_of mid ≡ generation_of old → disk ≡ disk_of mid → HasGeneration (crashes disk) (seen disk) (images disk) generation
+generation_left {D} crashes seen images old mid disk generation s kept written counted same is = subst (λ (d : D). HasGeneration (crashes d) (seen d) (images d) generation) (sym is) (by_sides (written s kept))
   where
-    stands : (t : Sided) → KeepsSided crashes seen images mid.tail.journal t → HasGeneration crashes seen images (disk_of mid) generation
+    stands : (t : Sided) → KeepsSided crashes seen images mid.tail.journal t → HasGeneration (crashes (disk_of mid)) (seen (disk_of mid)) (images (disk_of mid)) generation
     stands t k =
         let j = mid.tail.journal in
-        record {
-          side = j.log.side;
-          gate = j.log.gate;
-          batches = t.batches;
-          log = subst (λ (n : ℕ). IsLog (crashes j.disk) (seen j.disk) (images j.disk) j.log.side n j.log.gate t.batches) (same ∙ sym counted) k.log;
-        }
+        subst (λ (n : ℕ). HasGeneration (crashes j.disk) (seen j.disk) (images j.disk) n) (same ∙ sym counted)
+        (kept_generation (crashes j.disk) (seen j.disk) (images j.disk) j.log.side j.log.generation j.log.gate j.rewriter t.batches t.copied k)
 
-    by_sides : KeepsSided crashes seen images mid.tail.journal s ⊎ KeepsSided crashes seen images mid.tail.journal (sided_with (pending old.tail.journal) s) → HasGeneration crashes seen images (disk_of mid) generation
+    by_sides : KeepsSided crashes seen images mid.tail.journal s ⊎ KeepsSided crashes seen images mid.tail.journal (sided_with (pending old.tail.journal) s) → HasGeneration (crashes (disk_of mid)) (seen (disk_of mid)) (images (disk_of mid)) generation
     by_sides (inl k) = stands s k
     by_sides (inr k) = stands (sided_with (pending old.tail.journal) s) k
 
@@ -139,6 +166,23 @@ module _ {D : Type 0} (crashes : D → Bool) (seen : D → Option Sides) (images
       by_left c (inr fresh) =
           let empty : w ≡ world_in [] = one_world s w (world_in []) (each s now) (held s (inr (fresh.0, refl))) in
           subst (λ (v : World). Recovers c v) (sym empty) (held c fresh.1)
+
+  -- over an opening and a retirement without pending changes, a crash leaves what it might have left before, or a log of the world
+  pub look_leaves : (old mid new : D) (s : Sides) (w : World) → Recovers s w → LeavesOnly moment left_since old mid (IsLeftByOpening (images old) s) → LeavesOnly moment left_since mid new (RecoversEither w w)
+      → LeavesOnly moment left_since old new (λ c. images old c ⊎ Recovers c w)
+  look_leaves old mid new s w before opened retired = then moment left_since old mid new (λ c. images old c ⊎ Recovers c w)
+      (weaker moment left_since old mid (IsLeftByOpening (images old) s) (λ c. images old c ⊎ Recovers c w) by_opening opened)
+      (weaker moment left_since mid new (RecoversEither w w) (λ c. images old c ⊎ Recovers c w) by_retirement retired)
+    where
+      by_opening : (c : Sides) → IsLeftByOpening (images old) s c → images old c ⊎ Recovers c w
+      by_opening c (inl image) = inl image
+      by_opening c (inr fresh) =
+          let empty : w ≡ world_in [] = one_world s w (world_in []) before (held_recovers [] s tt (inr (fresh.0, refl))) in
+          inr (subst (λ (v : World). Recovers c v) (sym empty) (held_recovers [] c tt fresh.1))
+
+      by_retirement : (c : Sides) → RecoversEither w w c → images old c ⊎ Recovers c w
+      by_retirement c (inl now) = inr now
+      by_retirement c (inr now) = inr now
 
   -- time goes on without an entry, and leaves the world of now
   safe_still : (old new : D) (start : ℕ) (entries : List Entry) (Worlds : ℕ → World → Type 0) (w : World) → ((t : ℕ) (c : Sides) → t ≤ moment old → images old c → left_since old t c)

@@ -6,6 +6,8 @@ pub mod Played
 pub mod Readers
 pub mod Scripts
 pub mod Undone
+pub mod HandedBack
+pub mod BackLaws
 pub mod HaltLaws
 pub mod Steps
 pub mod Cuts

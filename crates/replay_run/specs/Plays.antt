@@ -1,5 +1,6 @@
 -- What a whole script does. Where a source tells its text the script is that text, and else it is some list of lines; where a sink tells
--- what it holds, this is what was written. At the end the hall is retired, and `Ends` is what then holds of the disk, by all that was made.
+-- what it holds, this is what was written. At the end the hall is retired, and `Ends` is what then holds of the disk, by all that was made;
+-- where all was done, `Holds` is that it holds the world that was left. `Back` is what is left of a disk that was not opened, by the halt.
 use Rattle.std.specs.Prelude.{◌≡◌, ◌≢◌, ◌⊎◌, ◌≤◌, is_some, ℕ, ◌+◌, Bool, true, List, [], ◌∷◌, ◌++◌, length, Option, None, Some}
 use Rattle.std.specs.Io.KnownBytes.{Appends}
 use mathlib.Core.List.{IsPrefix}
@@ -85,9 +86,11 @@ pub record IsRead (told : Bool) (first : Played) (Ends : List Deed
   pub ends : Ends (deeds ++ retired answered)
   pub told_is : (text : Bytes) → left0 ≡ Some text → (lines text ≡ all) × (left ≡ Some [])
 
--- and all was done
-abbrev pub IsDone : Bool → Played → (List Deed → Type 0) → Option Bytes → Option Bytes → Option Bytes → Option Bytes → Type 0
-IsDone told first Ends left0 left held0 held = IsRead told first Ends left0 left held0 held called.Ok []
+-- and all was done; the disk holds the world that was left
+pub record IsDone (told : Bool) (first : Played) (Holds : World → Type 0) (Ends : List Deed
+    → Type 0) (left0 left held0 held : Option Bytes) : Type 0 where
+  pub read : IsRead told first Ends left0 left held0 held called.Ok []
+  pub holds : Holds read.last.hall.world
 
 -- the line of this number, counted from 1, is the first that is none of a script; the lines before it were done and their output
 -- written, and then this
@@ -174,13 +177,14 @@ OnTurn told (Halted halt) left left' held held' p p' used used' deeds = (held' �
     × (((l : TextLine) × IsFirstLine left left' l × IsUndone told halt used p l deeds p'.hall) ⊎ ((halt ≡ halted.Memory) × (p' ≡ p) × (deeds ≡ [])))
 
 -- how the play of a script ended; the disk was opened
-abbrev pub OnPlay : Bool → Played → (List Deed → Type 0) → ReplayEnd → Option Bytes → Option Bytes → Option Bytes → Option Bytes → Type 0
-OnPlay told first Ends ended.Done left0 left held0 held = IsDone told first Ends left0 left held0 held
-OnPlay told first Ends (ended.Script number) left0 left held0 held = IsFaulty told first Ends left0 left held0 held number []
-OnPlay told first Ends ended.ReadFault left0 left held0 held = IsBefore told first Ends left0 left held0 held []
-OnPlay told first Ends ended.WriteFault left0 left held0 held = IsWithinLine told first Ends left0 left held0 held
-OnPlay told first Ends (ended.Halted halt) left0 left held0 held = IsCut told first Ends left0 left held0 held halt []
-OnPlay told first Ends (ended.Unopened halt) left0 left held0 held = ⊥
+abbrev pub OnPlay : Bool → Played → (World → Type 0) → (List Deed
+    → Type 0) → ReplayEnd → Option Bytes → Option Bytes → Option Bytes → Option Bytes → Type 0
+OnPlay told first Holds Ends ended.Done left0 left held0 held = IsDone told first Holds Ends left0 left held0 held
+OnPlay told first Holds Ends (ended.Script number) left0 left held0 held = IsFaulty told first Ends left0 left held0 held number []
+OnPlay told first Holds Ends ended.ReadFault left0 left held0 held = IsBefore told first Ends left0 left held0 held []
+OnPlay told first Holds Ends ended.WriteFault left0 left held0 held = IsWithinLine told first Ends left0 left held0 held
+OnPlay told first Holds Ends (ended.Halted halt) left0 left held0 held = IsCut told first Ends left0 left held0 held halt []
+OnPlay told first Holds Ends (ended.Unopened halt) left0 left held0 held = ⊥
 
 -- what was done of the line of these bytes: all, with its output, or it opens all again, and nothing is done so far, or it is none of a
 -- script
@@ -222,14 +226,19 @@ end_of (Halted halt) number answered = ended.Halted halt
 end_of Next number answered = ended.Halted halted.Memory
 end_of Again number answered = ended.Halted halted.Memory
 
--- a disk was not opened: memory wanted, or it failed, or it is damaged where it says so; no line was read, and nothing written
-pub record IsShut (seen : Option Sides) (left0 left held0 held : Option Bytes) (halt : Halt) : Type 0 where
+-- a disk was not opened: memory wanted, or it failed, or it is damaged where it says so; no line was read, and nothing written; and what
+-- is left of the disk
+pub record IsShut (seen : Option Sides) (Back : Halt → Type 0) (left0 left held0 held : Option Bytes) (halt : Halt) : Type 0 where
   pub unspent : halt ≢ halted.Spent
+  pub back : Back halt
   pub damaged : (side : Side) (place : ℕ) → halt ≡ halted.Damaged side place → IsDamagedAt seen side place
   pub unread : left ≡ left0
   pub unwritten : held ≡ held0
 
 -- a disk was not opened, or with some world and length of its log, and then the script was played
-abbrev pub OnReplay : Option Sides → (World → ℕ → List Deed → Type 0) → ReplayEnd → Option Bytes → Option Bytes → Option Bytes → Option Bytes → Type 0
-OnReplay seen Ends end left0 left held0 held = ((halt : Halt) × (end ≡ ended.Unopened halt) × IsShut seen left0 left held0 held halt)
-    ⊎ ((w : World) × (logged : ℕ) × Opens seen w logged × OnPlay (is_some seen) (opening w logged) (Ends w logged) end left0 left held0 held)
+abbrev pub OnReplay : Option Sides → (Halt → Type 0) → (World → Type 0) → (World → ℕ → List Deed
+    → Type 0) → ReplayEnd → Option Bytes → Option Bytes → Option Bytes → Option Bytes → Type 0
+OnReplay seen Back Holds Ends end left0 left held0 held = ((halt : Halt) × (end ≡ ended.Unopened halt)
+    × IsShut seen Back left0 left held0 held halt)
+    ⊎ ((w : World) × (logged : ℕ) × Opens seen w logged
+    × OnPlay (is_some seen) (opening w logged) Holds (Ends w logged) end left0 left held0 held)

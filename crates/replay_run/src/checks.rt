@@ -1,16 +1,14 @@
 //! A look at the world of a disk.
 
-ghost use Rattle.std.specs.Prelude.{◌≡◌, ◌≤◌, ◌∷◌, ℕ, true, Some, IfOk, IfErr};
+ghost use Rattle.std.specs.Prelude.{◌≡◌, ◌≤◌, ℕ, Some, IfOk, IfErr};
 ghost use Rattle.outside.specs.Causes.{Rose};
 ghost use Rattle.outside.specs.Sides.{Sides};
 ghost use Rattle.outside.specs.declared.sides.Side.{Side};
 ghost use Rattle.world_data.specs.declared.worlds.World.{World};
 ghost use Rattle.journal.specs.declared.openings.OpenFault.TheVariants as fault_of;
 ghost use Rattle.log_record.specs.Readings.{Damaged};
-ghost use Rattle.replay_run.specs.Traces.{opens};
-ghost use Rattle.replay_run.specs.Standing.{IsSafeFor};
-ghost use Rattle.replay_run.specs.Plays.{retired};
-ghost use Rattle.replay_run.specs.Checks.{IsFound, HasGeneration};
+ghost use Rattle.replay_run.specs.HandedBack.{IsBackUnopened};
+ghost use Rattle.replay_run.specs.Checks.{IsFound, IsLookedAt};
 
 use durable_core::DurableCore;
 use journal::Unopened;
@@ -31,15 +29,16 @@ pub struct Checked<D> {
 
 /// Opens the world on a disk, counts what it has, and retires it.
 ///
-/// Where the disk tells what it holds and what a crash may leave, the disk that comes back is safe for that: whatever a
-/// crash might have left since the opening is recovered as the world that was found.
+/// Where the disk tells what it holds, the disk that comes back holds a log of the world that was found, and its side
+/// in use has the generation that is told. Where it tells crashes, too, it is safe for that: whatever a crash might
+/// have left since the opening is recovered as that world, and at no moment might one have left anything but what it
+/// might have left before, or a log of that world. A disk that is not opened comes back as the opening leaves it.
 pub fn check<D: Disk>(alloc: Global, disk: D) -> Result<Checked<D>, Unopened<D>>
     ensures found { IfOk result
         (λ c. (w : World) × (logged : ℕ) × IsFound (D.seen disk) w logged c.objects c.channels c.answer
-        × ((s : Sides) → D.seen disk ≡ Some s → D.crashes disk ≡ true
-        → IsSafeFor D.images D.left_since c.disk (opens w logged ∷ retired c.answer))) }
-    ensures generation { (s : Sides) → D.seen disk ≡ Some s
-        → IfOk result (λ c. c.answer ≡ CallOutcome.Ok → HasGeneration D.crashes D.seen D.images c.disk c.generation) }
+        × IsLookedAt D.crashes D.seen D.images D.moment D.left_since disk c.disk w logged c.generation c.answer) }
+    ensures back { IfErr result
+        (λ u. IsBackUnopened D.crashes D.seen D.images D.moment D.left_since disk u.disk u.why) }
     ensures damaged { (s : Sides) → D.seen disk ≡ Some s
         → IfErr result (λ u. (side : Side) (place : ℕ) → u.why ≡ fault_of.Damaged side place → Damaged s side place) }
     ensures later { IfOk result (λ c. D.faults disk ≤ D.faults c.disk) }

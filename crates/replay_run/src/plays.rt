@@ -1,7 +1,7 @@
 //! The play of a script, line by line: the output of a line is written before the next one is read.
 
 ghost use Rattle.std.specs.Prelude.{◌≡◌, ◌≤◌, ◌<◌, ◌+◌, ◌++◌, ◌⊎◌, ◌≢◌, ◌∷◌, ℕ, Bool, List, [], true, false, Option};
-ghost use Rattle.std.specs.Prelude.{Some, IfOk, IfErr};
+ghost use Rattle.std.specs.Prelude.{Some, IfOk, IfErr, is_some};
 ghost use Rattle.outside.specs.Causes.{Rose};
 ghost use Rattle.outside.specs.Sides.{Sides};
 ghost use Rattle.world_model.specs.Halls.{Hall};
@@ -14,6 +14,7 @@ ghost use Rattle.replay_run.specs.TextLines.{TextLine};
 ghost use Rattle.replay_run.specs.Traces.{Deed, opens};
 ghost use Rattle.replay_run.specs.Scripts.{opening};
 ghost use Rattle.replay_run.specs.Undone.{halt_at, IsUndone};
+ghost use Rattle.replay_run.specs.HandedBack.{HoldsWorld, IsBackAt};
 ghost use Rattle.replay_run.specs.Standing.{IsSafeFor, StandsBehind, StaysSafe, Logs};
 ghost use Rattle.replay_run.specs.Players.{played};
 ghost use Rattle.replay_run.specs.Plays.{OnTurn, OnPlay, OnLineDone, OnReplay, IsTold, end_of};
@@ -191,7 +192,7 @@ fn play<S: Source, K: Sink, D: Disk>(source: &mut S, sink: &mut K, first: Player
         → (told ≡ true → Logs D.crashes D.seen D.images first.core)
         → ((s : Sides) → seen ≡ Some s → crashes ≡ true
         → StandsBehind D.crashes D.seen D.images D.moment D.left_since D.faults first.core past)
-        → OnPlay told (played first)
+        → OnPlay told (played first) (λ w. told ≡ true → HoldsWorld (D.seen result.disk) w)
         (λ deeds. (s : Sides) → seen ≡ Some s → crashes ≡ true
         → IsSafeFor D.images D.left_since result.disk (past ++ deeds)) result.end (S.left source.old)
         (S.left source.new) (K.held sink.old) (K.held sink.new) }
@@ -238,7 +239,12 @@ fn play<S: Source, K: Sink, D: Disk>(source: &mut S, sink: &mut K, first: Player
 /// opened again has the world that was left. Where it tells crashes, too, the disk that is handed back is safe for all
 /// that was made: whatever a crash might have left since the opening is recovered as the world after a beginning of it,
 /// which holds all that was acknowledged by then. Where the hall was retired well, as it was where the script is done,
-/// whatever a crash leaves is the world after all of it.
+/// whatever a crash leaves is the world after all of it. Where the script is done, the disk holds the world that was
+/// left.
+///
+/// A disk that is not opened is handed back as the opening leaves it: it reads as before, or as a log of the same world
+/// where memory wanted behind the reading, unless it failed while its first side was made. No crash leaves then what it
+/// might not have left before, but for a log without a batch where none had been begun.
 pub fn replay<S: Source, K: Sink, D: Disk>(
     alloc: Global,
     source: &mut S,
@@ -246,6 +252,8 @@ pub fn replay<S: Source, K: Sink, D: Disk>(
     disk: D,
 ) -> Replayed<D>
     ensures told { OnReplay (D.seen disk)
+        (IsBackAt D.crashes D.seen D.images D.moment D.left_since disk result.disk)
+        (λ w. is_some (D.seen disk) ≡ true → HoldsWorld (D.seen result.disk) w)
         (λ w logged deeds. (s : Sides) → D.seen disk ≡ Some s → D.crashes disk ≡ true
         → IsSafeFor D.images D.left_since result.disk (opens w logged ∷ deeds))
         result.end (S.left source.old) (S.left source.new) (K.held sink.old) (K.held sink.new) }

@@ -12,6 +12,7 @@ ghost use Rattle.replay_run.specs.Traces.{Deed, opens};
 ghost use Rattle.replay_run.specs.Scripts.{opening, Reopens};
 ghost use Rattle.replay_run.specs.Undone.{halt_at, ReopenFails};
 ghost use Rattle.replay_run.specs.Openings.{Opens};
+ghost use Rattle.replay_run.specs.HandedBack.{HoldsWorld, IsBackUnopened};
 ghost use Rattle.replay_run.specs.Standing.{IsSafeFor, StandsBehind, StaysSafe, Logs};
 ghost use Rattle.replay_run.specs.Plays.{Retires, retired};
 ghost use Rattle.replay_run.specs.Players.{played};
@@ -37,6 +38,8 @@ impl<D: Disk> Player<D> {
         ensures damaged { (s : Sides) → D.seen disk ≡ Some s
             → IfErr result
             (λ u. (side : Side) (place : ℕ) → u.why ≡ fault_of.Damaged side place → Damaged s side place) }
+        ensures back { IfErr result
+            (λ u. IsBackUnopened D.crashes D.seen D.images D.moment D.left_since disk u.disk u.why) }
         ensures later { IfOk result (λ p. D.faults disk ≤ D.faults (disk_of p.core)) }
         ensures left { IfErr result (λ u. D.faults disk ≤ D.faults u.disk) }
         ensures cause { IfErr result (λ u. u.why ≡ fault_of.Disk → Rose (D.faults disk) (D.faults u.disk)) }
@@ -117,6 +120,8 @@ impl<D: Disk> Player<D> {
         ensures safe { (before : List Deed)
             → StandsBehind D.crashes D.seen D.images D.moment D.left_since D.faults self.core before
             → IsSafeFor D.images D.left_since result.1 (before ++ retired result.0) }
+        ensures holds { Logs D.crashes D.seen D.images self.core → result.0 ≡ CallOutcome.Ok
+            → HoldsWorld (D.seen result.1) (hall_of self.core).world }
         ensures later { D.faults (disk_of self.core) ≤ D.faults result.1 }
         ensures cause { result.0 ≡ CallOutcome.LogFault → Rose (D.faults (disk_of self.core)) (D.faults result.1) }
     {

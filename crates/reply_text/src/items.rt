@@ -23,11 +23,20 @@ use world_model::{Object, Query, Shown};
 
 /// The frames of items, one behind another, while the array of them is made. As texts they take no more memory than the
 /// reply, and an item that the limit of a reply leaves no room for is refused at once.
-#[derive(Drop)]
 pub struct ItemFrames {
     alloc: Global,
     text: Text,
     count: u32,
+}
+
+impl Drop for ItemFrames {
+    fn drop(self) {
+        let ItemFrames {
+            alloc: _,
+            text: _,
+            count: _,
+        } = self;
+    }
 }
 
 impl Model for ItemFrames {

@@ -26,11 +26,20 @@ pub struct Fed {
 
 /// Reads the requests of a stream from pieces in any cutting. It keeps the bytes since the last request, which begin
 /// one; a fault leaves it dead for good.
-#[derive(Drop)]
 pub struct Requests {
     alloc: Global,
     held: Vec<u8>,
     place: Option<Place>,
+}
+
+impl Drop for Requests {
+    fn drop(self) {
+        let Requests {
+            alloc: _,
+            held: _,
+            place: _,
+        } = self;
+    }
 }
 
 impl Model for Requests {

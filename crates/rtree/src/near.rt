@@ -18,11 +18,20 @@ use std::collections::BinaryHeap;
 use std::marker::Model;
 
 /// A walk through the pairs of a tree by rising distance of their boxes from a point.
-#[derive(Drop)]
 pub struct NearWalk<'a> {
     waiting: BinaryHeap<Waiting<'a>>,
     from: Pt,
     given_up: bool,
+}
+
+impl<'a> Drop for NearWalk<'a> {
+    fn drop(self) {
+        let NearWalk {
+            waiting: _,
+            from: _,
+            given_up: _,
+        } = self;
+    }
 }
 
 impl<'a> Model for NearWalk<'a> {

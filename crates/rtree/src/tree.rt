@@ -22,7 +22,6 @@ use std::alloc::Global;
 use std::marker::Model;
 
 /// Pairs of a box and a number, each as often as it was added.
-#[derive(Drop)]
 pub struct Tree {
     root: Option<Node>,
     pool: Pool,
@@ -30,6 +29,17 @@ pub struct Tree {
     len: usize,
     // How many lists there are, in the pool and in nodes.
     lists: usize,
+}
+
+impl Drop for Tree {
+    fn drop(self) {
+        let Tree {
+            root: _,
+            pool: _,
+            len: _,
+            lists: _,
+        } = self;
+    }
 }
 
 /// For how many pairs each list is counted on: a node other than the root holds one more at least, and the

@@ -15,7 +15,6 @@ use std::marker::Model;
 const MOST_RUNS: usize = 4_194_304;
 
 /// A list of many numbers, with room for more that was taken beforehand.
-#[derive(Drop)]
 pub(crate) struct LargeList {
     alloc: Global,
     pub(crate) runs: Vec<Run>,
@@ -24,6 +23,18 @@ pub(crate) struct LargeList {
     // How many numbers stand before the end of each run.
     pub(crate) ends: Vec<usize>,
     pub(crate) len: usize,
+}
+
+impl Drop for LargeList {
+    fn drop(self) {
+        let LargeList {
+            alloc: _,
+            runs: _,
+            spares: _,
+            ends: _,
+            len: _,
+        } = self;
+    }
 }
 
 impl Model for LargeList {

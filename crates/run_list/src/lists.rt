@@ -13,12 +13,21 @@ use std::alloc::Global;
 use std::marker::Model;
 
 /// A list of numbers, with room for more that was taken beforehand. A few numbers stand side by side, and many in runs.
-#[derive(Drop)]
 pub struct RunList {
     alloc: Global,
     // A few numbers, while there were never many.
     few: Vec<usize>,
     many: Option<LargeList>,
+}
+
+impl Drop for RunList {
+    fn drop(self) {
+        let RunList {
+            alloc: _,
+            few: _,
+            many: _,
+        } = self;
+    }
 }
 
 impl Model for RunList {

@@ -6,7 +6,6 @@ use byte_text::{Text, push_array_head};
 use std::alloc::Global;
 
 /// A side that is built: what stands so far, the batch behind it that has not ended, and the record behind that.
-#[derive(Drop)]
 pub(crate) struct Builder {
     alloc: Global,
     side: Text,
@@ -14,6 +13,19 @@ pub(crate) struct Builder {
     is_in_batch: bool,
     record: Text,
     words: usize,
+}
+
+impl Drop for Builder {
+    fn drop(self) {
+        let Builder {
+            alloc: _,
+            side: _,
+            batch: _,
+            is_in_batch: _,
+            record: _,
+            words: _,
+        } = self;
+    }
 }
 
 impl Builder {

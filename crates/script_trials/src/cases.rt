@@ -38,7 +38,6 @@ pub(crate) enum Over {
 }
 
 /// Which calls fail.
-#[derive(Drop)]
 pub(crate) struct Fails {
     pub(crate) disk: Vec<u64>,
     pub(crate) source: Vec<u64>,
@@ -47,8 +46,19 @@ pub(crate) struct Fails {
     pub(crate) spawner: Vec<u64>,
 }
 
+impl Drop for Fails {
+    fn drop(self) {
+        let Fails {
+            disk: _,
+            source: _,
+            sink: _,
+            door: _,
+            spawner: _,
+        } = self;
+    }
+}
+
 /// A case.
-#[derive(Drop)]
 pub(crate) struct Case {
     pub(crate) alloc: Global,
     pub(crate) name: Text,
@@ -75,6 +85,30 @@ pub(crate) struct Case {
     pub(crate) looks: Vec<(Look, Text)>,
     /// Whether a line of the case was none.
     pub(crate) is_faulty: bool,
+}
+
+impl Drop for Case {
+    fn drop(self) {
+        let Case {
+            alloc: _,
+            name: _,
+            play: _,
+            words: _,
+            script: _,
+            output: _,
+            status: _,
+            moment: _,
+            over: _,
+            fails: _,
+            builder: _,
+            a: _,
+            b: _,
+            callers: _,
+            told: _,
+            looks: _,
+            is_faulty: _,
+        } = self;
+    }
 }
 
 fn no_fails(alloc: Global) -> Fails {

@@ -13,7 +13,6 @@ use std::thread::Threads;
 
 /// The group and the case that are heard now, how many cases of the group were as they should be, and the disk that the
 /// last one left.
-#[derive(Drop)]
 pub(crate) struct Player {
     alloc: Global,
     group: Text,
@@ -21,6 +20,19 @@ pub(crate) struct Player {
     case: Option<Case>,
     left: Option<MemoryDisk>,
     report: Text,
+}
+
+impl Drop for Player {
+    fn drop(self) {
+        let Player {
+            alloc: _,
+            group: _,
+            good: _,
+            case: _,
+            left: _,
+            report: _,
+        } = self;
+    }
 }
 
 // Appends a line of a report: a word and what is as bytes.

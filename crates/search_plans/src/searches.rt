@@ -23,13 +23,12 @@ use rtree::{Steps, Visits};
 use std::alloc::Global;
 use world_model::{AreaWords, Query, Rule};
 
-// The rule with the area in its place.
-fn rule_over(rule: Rule, area: Area) -> Rule
-    ensures { result ≡ rule_over rule area }
+// Puts the area into the rule, where that is of an area.
+fn put_area(rule: &mut Rule, area: Area)
+    ensures { rule.new ≡ rule_over rule.old area }
 {
-    match rule {
-        Rule::InArea(kind, _) => Rule::InArea(kind, area),
-        other => other,
+    if let Rule::InArea(_, sought) = rule {
+        *sought = area;
     }
 }
 
@@ -37,10 +36,9 @@ fn rule_over(rule: Rule, area: Area) -> Rule
 fn query_over(query: Query, area: Area) -> Query
     ensures { result ≡ record query { rule = rule_over query.rule area } }
 {
-    Query {
-        rule: rule_over(query.rule, area),
-        ..query
-    }
+    let mut query = query;
+    put_area(&mut query.rule, area);
+    query
 }
 
 // What a search over an area will answer.

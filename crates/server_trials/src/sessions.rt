@@ -254,7 +254,7 @@ fn told_anew<R: Wait>(rt: &R, alloc: Global, text: &Text) -> Result<(OutEnd, Vec
     told(rt, alloc, &shared, &mut seat, text)
 }
 
-// A queue has room for 16384 frames, of which the first tells of the subscription.
+// A queue has room for 32768 frames, of which the first tells of the subscription.
 #[test]
 fn a_session_that_overflows_is_written_what_it_has(rt: HostRuntime) -> Result<(), Fail> {
     let alloc = rt.alloc();
@@ -262,13 +262,13 @@ fn a_session_that_overflows_is_written_what_it_has(rt: HostRuntime) -> Result<()
     push_line(&mut set, SET)?;
     let mut text = Text::new(alloc);
     push_line(&mut text, SETCHAN)?;
-    push_times(&mut text, set.bytes(), 16_400)?;
+    push_times(&mut text, set.bytes(), 32_800)?;
     let (end, written) = told_anew(&rt, alloc, &text)?;
     assert_eq!(rt; end, OutEnd::Ended);
     let mut message = Text::new(alloc);
     push_line(&mut message, MESSAGE)?;
     let mut all = Text::of(alloc, SUBSCRIBED)?;
-    push_times(&mut all, message.bytes(), 16_383)?;
+    push_times(&mut all, message.bytes(), 32_767)?;
     assert!(rt; written.as_slice() == all.bytes());
     Ok(())
 }

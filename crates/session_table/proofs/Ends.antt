@@ -1,8 +1,10 @@
 -- Sessions that are served, that end, and on which a frame is placed.
-use Rattle.std.proofs.Common.{◌≡◌, Bool, true, false, not, sym, ◌∙◌, ap, subst, [], ◌∷◌, ◌++◌}
+use Rattle.std.proofs.Common.{◌≡◌, Bool, true, false, sym, ap, subst, List, [], ◌∷◌, ◌++◌, take, append-nil}
 use Rattle.std.specs.Prelude.{if◌then◌else◌}
 use Rattle.byte_text.specs.Names.{Bytes}
-use Rattle.world_model.specs.Halls.{Session, cut, closing, is_live, has_room, placed, frames_for}
+use Rattle.world_model.specs.Halls.{Session, cut, closing, is_live, placed_each, frames_for}
+use Rattle.delivery_model.specs.Placing.{takes_it, is_cut}
+use Rattle.subscriber_queue.specs.Waiting.{takes_first}
 use Rattle.fence_model.specs.Messages.{Message}
 use Rattle.delivery_model.specs.Staging.{listens}
 use Rattle.session_table.specs.Mail.{Stages}
@@ -20,17 +22,17 @@ ends_live t e = sym (ap (λ (b : Bool). if b then record t { stage = closing; su
 pub ends_not : (t : Session) → is_live t ≡ false → t ≡ ending t
 ends_not t e = sym (ap (λ (b : Bool). if b then record t { stage = closing; subs = [] } else t) e)
 
-abbrev whether : Session → Bytes → Bool → Bool → Session
-whether t f live room = if not live then t else if room then record t { frames = t.frames ++ f ∷ [] } else record t { stage = cut; subs = [] }
+-- the first of some frames is placed, where there is one
 
-pub placed_not : (t : Session) (f : Bytes) → is_live t ≡ false → t ≡ placed f t
-placed_not t f e = sym (ap (λ (b : Bool). whether t f b (has_room t f)) e)
+pub first_placed : (t : Session) (fs : List Bytes) → is_live t ≡ true → takes_first t.frames fs ≡ true
+    → record t { frames = t.frames ++ take 1 fs } ≡ placed_each t (take 1 fs)
+first_placed t [] e r = ap (λ (gs : List Bytes). record t { frames = gs }) (append-nil t.frames)
+first_placed t (f ∷ fs) e r = sym (takes_it t f e r)
 
-pub placed_last : (t : Session) (f : Bytes) → is_live t ≡ true → has_room t f ≡ true → record t { frames = t.frames ++ f ∷ [] } ≡ placed f t
-placed_last t f e r = sym (ap (λ (b : Bool). whether t f b (has_room t f)) e ∙ ap (whether t f true) r)
-
-pub placed_cut : (t : Session) (f : Bytes) → is_live t ≡ true → has_room t f ≡ false → record t { stage = cut; subs = [] } ≡ placed f t
-placed_cut t f e r = sym (ap (λ (b : Bool). whether t f b (has_room t f)) e ∙ ap (whether t f true) r)
+pub first_cut : (t : Session) (fs : List Bytes) → is_live t ≡ true → takes_first t.frames fs ≡ false
+    → record t { stage = cut; subs = [] } ≡ placed_each t (take 1 fs)
+first_cut t [] e r = absurd (cc)
+first_cut t (f ∷ fs) e r = sym (is_cut t f e r)
 
 -- one that is not served hears nothing
 pub none_heard : (m : Message) (s : State) → is_live (session_of s) ≡ false → Stages (frames_for m (listens (session_of s))) s.mail s.mail

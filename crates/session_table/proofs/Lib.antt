@@ -1,2 +1,4 @@
 mod Ends
 mod Heard
+mod Mails
+mod Placings

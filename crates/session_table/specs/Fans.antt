@@ -1,9 +1,9 @@
 -- Sessions before and after something that was done to each of them.
-use Rattle.std.specs.Prelude.{◌≡◌, ◌≤◌, ℕ, zero, suc, List, [], ◌∷◌}
+use Rattle.std.specs.Prelude.{◌≡◌, ℕ, zero, suc, true, List, [], ◌∷◌}
 use Rattle.std.specs.List.{AllByRecursion}
 use Rattle.fence_model.specs.Messages.{Message}
 use Rattle.fence_model.specs.Writes.{Write}
-use Rattle.world_model.specs.Halls.{placed_each}
+use Rattle.world_model.specs.Halls.{is_live, placed_each}
 use Rattle.delivery_model.specs.Staging.{listens, frames_each, heard}
 use Rattle.world_data.specs.declared.worlds.World.{World}
 use Rattle.session_table.specs.Mail.{IsStaged, Stages}
@@ -36,7 +36,7 @@ AreBrought ms old new = Done (IsBrought ms) old new
 pub record IsPlaced (s t : State) : Type 0 where
   pub same : session_of t ≡ placed_each (session_of s) s.mail.staged
   pub bare : t.mail.staged ≡ []
-  pub spare : s.mail.spare ≤ t.mail.spare
+  pub replies : is_live (session_of t) ≡ true → t.mail.replies ≡ s.mail.replies
 
 abbrev pub ArePlaced : List State → List State → Type 0
 ArePlaced old new = Done IsPlaced old new

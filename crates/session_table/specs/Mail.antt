@@ -1,23 +1,17 @@
 -- What a contract sees of a session's mailbox.
-use Rattle.std.specs.Prelude.{ℕ, ◌+◌, Bool, ◌&&◌, nat_lt, nat_le, List, ◌++◌, length}
+use Rattle.std.specs.Prelude.{Bool, List, ◌++◌}
 use Rattle.byte_text.specs.Names.{Bytes}
-use Rattle.world_data.specs.Frames.{frame_bytes}
-use Rattle.world_data.specs.Limits.{cap_frames, cap_bytes}
 use Rattle.delivery_model.specs.Staging.{have_room, Suffice}
 
--- the frames that wait, the next one first, those that are staged behind them, and how many more can be placed without memory
+-- the frames that wait, the next one first, those that are staged behind them, and the replies behind these
 pub record Mail : Type 0 where
   pub frames : List Bytes
   pub staged : List Bytes
-  pub spare : ℕ
+  pub replies : List Bytes
 
 -- there is room for all that is staged
 abbrev pub has_room_left : Mail → Bool
 has_room_left m = have_room m.frames m.staged
-
--- a queue with these frames takes one more
-abbrev pub takes : List Bytes → Bytes → Bool
-takes frames frame = nat_lt (length frames) cap_frames && nat_le (frame_bytes frames + length frame) cap_bytes
 
 -- what is staged does for all of these frames: it is all of them, or more of them than there is room for
 abbrev pub IsStaged : Mail → List Bytes → Type 0

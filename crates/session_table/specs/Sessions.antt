@@ -4,6 +4,8 @@ use Rattle.std.specs.List.{AllByRecursion}
 use Rattle.byte_text.specs.Globs.{is_well_formed}
 use Rattle.world_model.specs.Subscriptions.{Sub}
 use Rattle.world_model.specs.Halls as halls
+use Rattle.world_model.specs.Halls.{is_live}
+use Rattle.byte_text.specs.Names.{Bytes}
 use Rattle.session_table.specs.declared.sessions.Stage.{Stage}
 use Rattle.session_table.specs.declared.sessions.Stage.TheVariants.{Live, Cut, Closing}
 use Rattle.session_table.specs.Mail.{Mail}
@@ -29,3 +31,7 @@ is_sound_sub s = if s.pattern then is_well_formed s.word else true
 
 abbrev pub AreSoundSubs : List Sub → Type 0
 AreSoundSubs subs = AllByRecursion (λ s. is_sound_sub s ≡ true) subs
+
+-- where it is served, these are the replies to its request
+abbrev pub AreReplies : List Bytes → State → Type 0
+AreReplies replies s = is_live (session_of s) ≡ true → s.mail.replies ≡ replies

@@ -2,7 +2,7 @@
 //!
 //! Messages are staged before any is placed, with the subscriptions that the sessions have at the start of the call.
 //! That is the same as placing them write by write, since frames that are placed change what a session hears only by
-//! cutting it. Staged frames stand in the mailbox of their session with their room taken, so placing them takes no
+//! cutting it. Staged frames stand in the queue of their session already, behind a mark, so placing them takes no
 //! memory, and what is staged for a session stops where its queue would be too full. A message is encoded for each
 //! session that hears it: its frame costs an eighth of the time (measured with 511 who hear one SET), and a shared text
 //! would save a part of that.

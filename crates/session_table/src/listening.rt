@@ -45,7 +45,8 @@ fn stage_name(
     if !has_name(subs, name) {
         return Ok(());
     }
-    mail.stage(message_frame(alloc, name, payload)?)
+    let frame = message_frame(alloc, name, payload)?;
+    mail.stage(frame.bytes())
 }
 
 // Stages a message where its channel's name meets a pattern.
@@ -66,7 +67,8 @@ fn stage_pattern(
     if !pattern_meets(sub, name) {
         return Ok(());
     }
-    mail.stage(pattern_frame(alloc, sub.word(), name, payload)?)
+    let frame = pattern_frame(alloc, sub.word(), name, payload)?;
+    mail.stage(frame.bytes())
 }
 
 // Stages a message for each pattern that its channel's name meets, in the order of subscribing. For want of memory a

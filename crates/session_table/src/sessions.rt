@@ -1,12 +1,13 @@
 //! Sessions: their mailboxes and subscriptions, and whether they are served.
 
-ghost use Rattle.std.specs.Prelude.{◌≡◌, ◌≢◌, ◌≤◌, ◌+◌, [], true, false, length, take, drop, min, OnOk};
+ghost use Rattle.std.specs.Prelude.{◌≡◌, ◌≢◌, ◌-◌, List, [], ◌∷◌, ◌++◌, true, false, length, take, drop, min, OnOk, OnErr};
+ghost use Rattle.byte_text.specs.Names.{Bytes};
 ghost use Rattle.world_data.specs.Limits.{take_frames};
-ghost use Rattle.world_model.specs.Halls.{live, is_live, placed, placed_each, frames_for};
+ghost use Rattle.world_model.specs.Halls.{live, is_live, placed_each, frames_for};
 ghost use Rattle.world_model.specs.Histories.{is_full};
 ghost use Rattle.delivery_model.specs.Staging.{listens};
 ghost use Rattle.delivery_model.specs.Plans.{ending};
-ghost use Rattle.session_table.specs.Sessions.{AreSoundSubs, session_of, stage_of};
+ghost use Rattle.session_table.specs.Sessions.{AreReplies, AreSoundSubs, session_of, stage_of};
 ghost use Rattle.session_table.specs.Mail.{Stages, has_room_left};
 
 use crate::Subscriptions;
@@ -26,12 +27,22 @@ pub enum Stage {
 }
 
 /// A session: its number, its mailbox, and its subscriptions, whose patterns are well formed.
-#[derive(Drop)]
 pub struct Session {
     number: u32,
     mail: Mailbox,
     subs: Subscriptions,
     stage: Stage,
+}
+
+impl Drop for Session {
+    fn drop(self) {
+        let Session {
+            number: _,
+            mail: _,
+            subs: _,
+            stage: _,
+        } = self;
+    }
 }
 
 impl Model for Session {
@@ -50,7 +61,7 @@ impl Session {
         ensures { result
             ≡ record {
               number = number;
-              mail = record { frames = []; staged = []; spare = 0 };
+              mail = record { frames = []; staged = []; replies = [] };
               subs = [];
               stage = live;
             } }
@@ -125,14 +136,22 @@ impl Session {
         self.mail.has_room_left()
     }
 
-    /// Takes room for `count` more frames behind all that is staged. Else all stays, also for want of memory.
-    pub fn reserve(&mut self, count: usize) -> Result<(), NoMemory>
+    /// Puts a reply behind the others, where nothing more is staged before it is placed. Else all stays, also for want of
+    /// memory.
+    pub fn add_reply(&mut self, frame: &[u8]) -> Result<(), NoMemory>
         ensures same { session_of self.new ≡ session_of self.old }
         ensures staged { self.new.mail.staged ≡ self.old.mail.staged }
-        ensures room { OnOk result (count ≤ self.new.mail.spare) }
-        ensures kept { self.old.mail.spare ≤ self.new.mail.spare }
+        ensures ok { OnOk result (self.new.mail.replies ≡ self.old.mail.replies ++ frame.now ∷ []) }
+        ensures err { OnErr result (self.new ≡ self.old) }
     {
-        self.mail.reserve(count)
+        self.mail.add_reply(frame)
+    }
+
+    /// Lets the replies go.
+    pub fn clear_replies(&mut self)
+        ensures { self.new ≡ record self.old { mail = record self.old.mail { replies = [] } } }
+    {
+        self.mail.clear_replies();
     }
 
     // Comes to a stage in which it has no subscriptions.
@@ -143,45 +162,63 @@ impl Session {
         self.subs.clear();
     }
 
-    /// Puts a frame last in its queue, where it is served. Where the queue is full the session is cut instead: it keeps
-    /// the frames that it has, and loses its subscriptions. It takes no memory.
-    pub fn place(&mut self, frame: Text)
-        requires { 1 ≤ self.old.mail.spare }
-        ensures same { session_of self.new ≡ placed frame (session_of self.old) }
-        ensures staged { self.new.mail.staged ≡ self.old.mail.staged }
-        ensures spare { self.old.mail.spare ≤ self.new.mail.spare + 1 }
+    // Places the first frame that is staged for it, or the first reply, where it is served. Where the queue has no room
+    // for it the session is cut instead: it keeps the frames that it has, and loses its subscriptions.
+    fn place_first(&mut self)
+        ensures same { session_of self.new
+            ≡ placed_each (session_of self.old) (take 1 (self.old.mail.staged ++ self.old.mail.replies)) }
+        ensures staged { is_live (session_of self.new) ≡ true
+            → self.new.mail.staged ≡ drop 1 self.old.mail.staged }
+        ensures replies { is_live (session_of self.new) ≡ true
+            → self.new.mail.replies ≡ drop (1 - length self.old.mail.staged) self.old.mail.replies }
     {
         if !self.is_live() {
             return;
         }
-        if !self.mail.place(frame) {
+        if !self.mail.place_first() {
             self.end(Stage::Cut);
         }
     }
 
-    // Places the first frame that is staged for it.
-    fn place_first(&mut self)
-        ensures same { session_of self.new ≡ placed_each (session_of self.old) (take 1 self.old.mail.staged) }
-        ensures staged { self.new.mail.staged ≡ drop 1 self.old.mail.staged }
-        ensures spare { self.old.mail.spare ≤ self.new.mail.spare }
+    // Lets all go that is staged for a session that is not served, and its replies.
+    fn unstage_dead(&mut self)
+        ensures same { session_of self.new ≡ session_of self.old }
+        ensures live { is_live (session_of self.old) ≡ true → self.new ≡ self.old }
+        ensures dead { is_live (session_of self.old) ≡ false
+            → (self.new.mail.staged ≡ []) × (self.new.mail.replies ≡ []) }
     {
-        if let Some(frame) = self.mail.take_staged() {
-            self.place(frame);
+        if !self.is_live() {
+            self.mail.unstage();
         }
     }
 
-    /// Places all that is staged for it, in order. It takes no memory, and leaves the room for more.
+    /// Places all that is staged for it, in order. Where the queue has no room for a frame the session is cut: it keeps
+    /// the frames that it has, loses its subscriptions, and gets no replies. It takes no memory.
     pub fn place_staged(&mut self)
         ensures same { session_of self.new ≡ placed_each (session_of self.old) self.old.mail.staged }
         ensures staged { self.new.mail.staged ≡ [] }
-        ensures spare { self.old.mail.spare ≤ self.new.mail.spare }
+        ensures replies { is_live (session_of self.new) ≡ true → self.new.mail.replies ≡ self.old.mail.replies }
     {
         for _ in 0..self.mail.staged() {
             self.place_first();
         }
+        self.unstage_dead();
     }
 
-    /// Lets all go that is staged for it.
+    /// Places its replies, in order, where all that was staged is placed; else as `place_staged` does.
+    pub fn place_replies(&mut self)
+        requires { self.old.mail.staged ≡ [] }
+        ensures same { (replies : List Bytes) → AreReplies replies self.old
+            → session_of self.new ≡ placed_each (session_of self.old) replies }
+        ensures staged { self.new.mail.staged ≡ [] }
+    {
+        for _ in 0..self.mail.replies() {
+            self.place_first();
+        }
+        self.unstage_dead();
+    }
+
+    /// Lets all go that is staged for it, and its replies.
     pub fn unstage(&mut self)
         ensures same { session_of self.new ≡ session_of self.old }
         ensures staged { self.new.mail.staged ≡ [] }
@@ -199,14 +236,13 @@ impl Session {
         }
     }
 
-    /// Moves the first frames of its queue into `into`, and answers their number.
+    /// Hands out the first frames of its queue in place of `into`, and answers their number. What is staged is let go.
     pub fn take_frames(&mut self, into: &mut Frames) -> usize
         requires { into.old ≡ record { list = []; places = take_frames } }
         ensures given { into.new ≡ record { list = take take_frames self.old.mail.frames; places = take_frames } }
         ensures left { session_of self.new
             ≡ record (session_of self.old) { frames = drop take_frames self.old.mail.frames } }
-        ensures staged { self.new.mail.staged ≡ self.old.mail.staged }
-        ensures spare { self.new.mail.spare ≡ self.old.mail.spare + result }
+        ensures staged { self.new.mail.staged ≡ [] }
         ensures count { result ≡ min take_frames (length self.old.mail.frames) }
     {
         self.mail.take(into)

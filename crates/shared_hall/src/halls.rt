@@ -36,9 +36,14 @@ use world_model::{
 pub type HallSeat<D> = Seat<HallCore<D>>;
 
 /// A hall that many threads share.
-#[derive(Drop)]
 pub struct SharedHall<D: Disk + Drop> {
     pub(crate) lock: TurnLock<HallCore<D>>,
+}
+
+impl<D: Disk + Drop> Drop for SharedHall<D> {
+    fn drop(self) {
+        let SharedHall { lock: _ } = self;
+    }
 }
 
 impl<D: Disk + Drop> SharedHall<D> {

@@ -39,7 +39,7 @@ use Rattle.tile_core.specs.declared.stores.Store.{Store}
 use Rattle.tile_core.specs.Answered.{AreNamed, AreRoomy, AreSessions, IsAnswered, is_named}
 use Rattle.tile_core.specs.RecordSinks.{ready_writes, writes_if}
 use Rattle.channel_plans.specs.Planned.{IsPlanned}
-use Rattle.tile_core.specs.Ready.{IsCompleted, IsDone, IsDoneIf, IsReady, IsRestReady, IsSoundAnswer, CanComplete, ending_if, length_if, planned_length, replied, reply_count}
+use Rattle.tile_core.specs.Ready.{IsCompleted, IsDone, IsDoneIf, IsReady, IsRestReady, IsSoundAnswer, CanComplete, ending_if, length_if, planned_length, replied, reply_frames}
 use Rattle.tile_core.specs.Sessions.{IsServed}
 use Rattle.tile_core.specs.Stores.{ArePresent, IsSound, IsStore, hall_of, world_at}
 use Rattle.tile_core.proofs.Calls.{as_many, cut_done, cut_writes, done, done_writes, due_are, later_world, made, own_numbers, placed_at, rises_as, rises_placed}
@@ -121,7 +121,7 @@ module _ (before : Store) (now logged drawn : ℕ) (ss mid : List State) (n i mo
       by (Some p) q = (
         sound_answer (world_at store) store.weight ready.caller.subs (effect_of_asked (world_at store) moment_now ready.caller.subs asked) p q.plan,
         q.room,
-        λ t at. subst (λ (u : State). reply_count p ≤ u.mail.spare) (same_Some ready.caller t (sym ready.here ∙ at)) q.spare,
+        λ t at. λ live. subst (λ (u : State). u.mail.replies ≡ reply_frames p) (same_Some ready.caller t (sym ready.here ∙ at)) q.replies,
       )
 
   pub short : g.length + length_if r.planned ≤ 2 * most_kept

@@ -226,5 +226,5 @@ module _ (before mid store : Store) (now : ℕ) (asked : Asked) (at : ℕ) (g : 
                 (subst (λ (held : List Sub). IsPlanned (world_at mid) mid.weight held (effect_of_asked (world_at mid) now held asked) q) (sym subs) (planned.plan first.0 first.1)));
             staged = planned.staged (world_at before) (dels g.held.items) mid_world taken.staged;
             room = planned.room;
-            spare = planned.spare second.0 second.1;
+            replies = planned.replies second.0 second.1;
           }

@@ -1,5 +1,5 @@
 -- A call made ready, and what its finish does.
-use Rattle.std.specs.Prelude.{◌≡◌, ℕ, Bool, ◌≤◌, true, false, List, [], ◌++◌, ◌+◌, length, slice_get, slice_set, Option, Some, None, if◌then◌else◌}
+use Rattle.std.specs.Prelude.{◌≡◌, ℕ, Bool, ◌≤◌, true, false, List, [], ◌∷◌, ◌++◌, ◌+◌, slice_get, slice_set, Option, Some, None, if◌then◌else◌}
 use Rattle.byte_text.specs.Names.{Bytes}
 use Rattle.fence_model.specs.Writes.{Write, dels}
 use Rattle.world_data.specs.declared.objects.Object.{Object}
@@ -13,7 +13,7 @@ use Rattle.world_model.specs.Subscriptions.{Sub}
 use Rattle.delivery_model.specs.Staging.{after_all, has_room_for, heard, listens}
 use Rattle.delivery_model.specs.Plans.{effect_of_asked, ending}
 use Rattle.session_table.specs.Mail.{has_room_left}
-use Rattle.session_table.specs.Sessions.{AreSoundSubs, State, session_of}
+use Rattle.session_table.specs.Sessions.{AreReplies, AreSoundSubs, State, session_of}
 use Rattle.session_table.specs.Fans.{ArePlaced, HaveStaged}
 use Rattle.tile_core.specs.declared.dues.Expired.{Expired}
 use Rattle.object_plans.specs.declared.moves.ObjectChange.{ObjectChange}
@@ -48,11 +48,11 @@ planned_length (Objects p) = p.length
 planned_length (Channels p) = p.length
 planned_length (Subscribed p) = 0
 
--- how many frames its reply has
-abbrev pub reply_count : Planned → ℕ
-reply_count (Objects p) = 1
-reply_count (Channels p) = 1
-reply_count (Subscribed p) = length p.frames.items
+-- the frames of its reply
+abbrev pub reply_frames : Planned → List Bytes
+reply_frames (Objects p) = p.frame ∷ []
+reply_frames (Channels p) = p.frame ∷ []
+reply_frames (Subscribed p) = p.frames.items
 
 -- what is put among the channels is prepared there
 abbrev pub IsPreparedFor : Held → ChannelChange → Type 0
@@ -92,13 +92,13 @@ pub record IsDueTaken (old : Store) (now : ℕ) (store : Store) (gone : Expired)
   pub expired : IsExpired (objects_in old.objects) now old.weight (objects_in store.objects) gone
   pub staged : HaveStaged (world_at old) (dels gone.held.items) sessions
 
--- what a request will do is planned for the session at a place, what it brings is staged, and there is room for all of it
+-- what a request will do is planned for the session at a place, what it brings is staged, with the reply behind, and there is room for all of it
 pub record IsPlannedBehind (before : Store) (now : ℕ) (asked : Asked) (at : ℕ) (store : Store) (old new : List State) (p : Planned) : Type 0 where
   pub plan : (s : State) → slice_get old at ≡ Some s
       → IsPlanned (world_at before) before.weight s.subs (effect_of_asked (world_at before) now s.subs asked) p
   pub staged : StagesBehind (world_at before) (planned_writes p) old new
   pub room : HasRoomFor store p
-  pub spare : (s : State) → slice_get new at ≡ Some s → reply_count p ≤ s.mail.spare
+  pub replies : (s : State) → slice_get new at ≡ Some s → s.mail.replies ≡ reply_frames p
 
 -- a session without room for what is staged has no request done
 abbrev pub IsRestBehind : Store → ℕ → Asked → ℕ → Store → List State → List State → Option Planned → Type 0
@@ -113,7 +113,7 @@ pub record IsRequestReady (before store : Store) (gone : Expired) (now : ℕ) (a
   pub plan : IsPlanned (world_at store) store.weight caller.subs (effect_of_asked (world_at store) now caller.subs asked) p
   pub staged : HaveStaged (world_at before) (dels gone.held.items ++ planned_writes p) sessions
   pub room : HasRoomFor store p
-  pub spare : reply_count p ≤ caller.mail.spare
+  pub replies : caller.mail.replies ≡ reply_frames p
 
 -- the request of a session that what is due will cut is not done
 abbrev pub IsRestReady : Store → Store → Expired → ℕ → Asked → State → List State → Option Planned → Type 0
@@ -149,7 +149,7 @@ length_if (Some p) = planned_length p
 abbrev pub CanComplete : Store → List State → ℕ → Option Planned → Type 0
 CanComplete store sessions at None = Unit {0}
 CanComplete store sessions at (Some p) = IsSoundAnswer p × HasRoomFor store p
-    × ((s : State) → slice_get sessions at ≡ Some s → reply_count p ≤ s.mail.spare)
+    × ((s : State) → slice_get sessions at ≡ Some s → AreReplies (reply_frames p) s)
 
 -- the plan is done behind what is placed, and the session at the place is answered
 pub record IsDone (before : Store) (placed_ : List State) (at : ℕ) (p : Planned) (store : Store) (new : List State) : Type 0 where

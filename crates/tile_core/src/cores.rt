@@ -37,7 +37,6 @@ use world_model::{Asked, CallOutcome, ChangedSessions, EnterFault, Frames, Taken
 use world_store::{StoredWorld, next_channel, next_object};
 
 /// A world and the sessions that are served.
-#[derive(Drop)]
 pub struct Core {
     alloc: Global,
     store: Store,
@@ -47,6 +46,20 @@ pub struct Core {
     sessions: Vec<Session>,
     /// The records of the last call, whose memory serves the next one.
     records: Text,
+}
+
+impl Drop for Core {
+    fn drop(self) {
+        let Core {
+            alloc: _,
+            store: _,
+            clock: _,
+            logged: _,
+            drawn: _,
+            sessions: _,
+            records: _,
+        } = self;
+    }
 }
 
 impl Model for Core {

@@ -1,25 +1,25 @@
 //! The finish of a call that was made ready. It takes no memory.
 
-ghost use Rattle.std.specs.Prelude.{◌≡◌, ◌≤◌, ◌<◌, ◌+◌, ◌^◌, List, length};
+ghost use Rattle.std.specs.Prelude.{◌≡◌, ◌≤◌, ◌<◌, ◌+◌, ◌^◌, List, [], ◌∷◌, length};
 ghost use Rattle.world_model.specs.Halls.{placed, placed_each};
 ghost use Rattle.world_model.specs.Subscriptions.{Sub};
 ghost use Rattle.world_model.specs.Effects.{Effect};
 ghost use Rattle.keyspace.specs.Entries.{objects_in};
 ghost use Rattle.delivery_model.specs.Staging.{after_all};
-ghost use Rattle.session_table.specs.Sessions.{AreSoundSubs, session_of};
+ghost use Rattle.session_table.specs.Sessions.{AreReplies, AreSoundSubs, session_of};
+ghost use Rattle.session_table.specs.Fans.{AreBare};
 ghost use Rattle.tile_core.specs.Dues.{IsDueFrom};
 ghost use Rattle.object_plans.specs.Moves.{HasRoom, HoldsOfPut, moved};
 ghost use Rattle.channel_plans.specs.Planned.{IsPlanned, channels_moved, without_names};
 ghost use Rattle.object_plans.specs.Beside.{channels_left, weight_left};
 ghost use Rattle.tile_core.specs.Ready.{CanComplete, HasRoomFor, IsCompleted, IsDoneIf, IsPreparedFor, IsSoundAnswer};
-ghost use Rattle.tile_core.specs.Ready.{ending_if, length_if, planned_length, planned_writes, replied, reply_count};
+ghost use Rattle.tile_core.specs.Ready.{ending_if, length_if, planned_length, planned_writes, replied, reply_frames};
 ghost use Rattle.tile_core.specs.Stores.{IsStore, world_at};
 
 use crate::dues::release;
 use crate::moves::{due_from_after, make_move};
 use crate::ready::Ready;
 use crate::stores::Store;
-use byte_text::Text;
 use channel_hub::Hub;
 use command_plans::{ChannelChange, ChannelPlan, Confirmed, ObjectChange, Plan, Planned};
 use session_table::{Session, place_staged};
@@ -47,22 +47,12 @@ fn move_channels(hub: &mut Hub, action: ChannelChange)
     }
 }
 
-// Places the frames of a reply.
-fn place_each(caller: &mut Session, frames: Vec<Text>)
-    requires { length frames.items ≤ caller.old.mail.spare }
-    ensures same { session_of caller.new ≡ placed_each (session_of caller.old) frames.items }
-    ensures staged { caller.new.mail.staged ≡ caller.old.mail.staged }
-{
-    for frame in frames {
-        caller.place(frame);
-    }
-}
-
 // Does what a plan of objects says, and answers its session.
 fn finish_objects(store: &mut Store, caller: &mut Session, plan: Plan)
     requires room { HasRoom store.old.objects plan.action }
     requires few { length (objects_in store.old.objects) < 2 ^ 32 }
-    requires spare { 1 ≤ caller.old.mail.spare }
+    requires replies { AreReplies (plan.frame ∷ []) caller.old }
+    requires bare { caller.old.mail.staged ≡ [] }
     ensures objects { objects_in store.new.objects ≡ moved (objects_in store.old.objects) plan.action }
     ensures channels { store.new.hub.channels ≡ channels_left plan.action store.old.hub.channels }
     ensures weight { store.new.weight ≡ plan.weight }
@@ -79,7 +69,7 @@ fn finish_objects(store: &mut Store, caller: &mut Session, plan: Plan)
         store.channel_weight = 0;
     }
     make_move(&mut store.objects, plan.action, &mut store.steps);
-    caller.place(plan.frame);
+    caller.place_replies();
     if plan.closes {
         caller.close();
     }
@@ -88,7 +78,8 @@ fn finish_objects(store: &mut Store, caller: &mut Session, plan: Plan)
 // Does what a plan of channels says, and answers its session.
 fn finish_channels(store: &mut Store, caller: &mut Session, plan: ChannelPlan)
     requires room { IsPreparedFor store.old.hub plan.action }
-    requires spare { 1 ≤ caller.old.mail.spare }
+    requires replies { AreReplies (plan.frame ∷ []) caller.old }
+    requires bare { caller.old.mail.staged ≡ [] }
     ensures rest { store.new ≡ record store.old { hub = store.new.hub; channel_weight = plan.weight } }
     ensures channels { store.new.hub.channels ≡ channels_moved plan.action store.old.hub.channels }
     ensures caller { session_of caller.new ≡ placed plan.frame (session_of caller.old) }
@@ -96,19 +87,20 @@ fn finish_channels(store: &mut Store, caller: &mut Session, plan: ChannelPlan)
 {
     store.channel_weight = plan.weight;
     move_channels(&mut store.hub, plan.action);
-    caller.place(plan.frame);
+    caller.place_replies();
 }
 
 // Gives a session its new subscriptions, and confirms them.
 fn finish_subscribing(caller: &mut Session, confirmed: Confirmed)
     requires sound { AreSoundSubs confirmed.subs }
-    requires spare { length confirmed.frames.items ≤ caller.old.mail.spare }
+    requires replies { AreReplies confirmed.frames.items caller.old }
+    requires bare { caller.old.mail.staged ≡ [] }
     ensures caller { session_of caller.new
         ≡ placed_each (record (session_of caller.old) { subs = confirmed.subs }) confirmed.frames.items }
     ensures staged { caller.new.mail.staged ≡ caller.old.mail.staged }
 {
     caller.set_subscriptions(confirmed.subs);
-    place_each(caller, confirmed.frames);
+    caller.place_replies();
 }
 
 // Does what was planned for a session, and answers it. The bytes of the records are answered.
@@ -116,7 +108,8 @@ fn finish(store: &mut Store, caller: &mut Session, planned: Planned) -> u64
     requires plan { IsSoundAnswer planned }
     requires room { HasRoomFor store.old planned }
     requires few { length (objects_in store.old.objects) < 2 ^ 32 }
-    requires spare { reply_count planned ≤ caller.old.mail.spare }
+    requires replies { AreReplies (reply_frames planned) caller.old }
+    requires bare { caller.old.mail.staged ≡ [] }
     ensures length { result ≡ planned_length planned }
     ensures world { world_at store.new ≡ after_all (world_at store.old) (planned_writes planned) }
     ensures kept { (held : List Sub) (e : Effect) → IsPlanned (world_at store.old) store.old.weight held e planned
@@ -152,6 +145,7 @@ fn finish_planned(
     requires few { length (objects_in store.old.objects) < 2 ^ 32 }
     requires at { at < length sessions.old.items }
     requires can { CanComplete store.old sessions.old.items at planned }
+    requires bare { AreBare sessions.old.items }
     ensures done { IsDoneIf store.old sessions.old.items at planned store.new sessions.new.items }
     ensures length { result ≡ length_if planned }
 {

@@ -2,7 +2,7 @@
 //! messages that it brings staged; then the records of all of it go to a ledger. Where that cannot be, all is as
 //! before.
 
-ghost use Rattle.std.specs.Prelude.{◌≡◌, ◌⊎◌, ◌≤◌, ◌<◌, ◌+◌, ◌^◌, map, length, IfOk, OnErr, OnOk};
+ghost use Rattle.std.specs.Prelude.{◌≡◌, ◌⊎◌, ◌≤◌, ◌<◌, ◌+◌, ◌++◌, ◌^◌, map, length, IfOk, OnErr, OnOk};
 ghost use Rattle.world_data.specs.Limits.{max_moment};
 ghost use Rattle.fence_model.specs.Writes.{dels};
 ghost use Rattle.keyspace.specs.Entries.{objects_in};
@@ -11,7 +11,7 @@ ghost use Rattle.session_table.specs.Fans.{AreBare};
 ghost use Rattle.tile_core.specs.Dues.{HaveRoom};
 ghost use Rattle.tile_core.specs.RecordSinks.{AreTaken, CanRecordIf, ready_writes};
 ghost use Rattle.tile_core.specs.Ready.{HasRoomFor, IsAsBefore, IsDueTaken, IsPlannedBehind, IsReady, IsRestBehind};
-ghost use Rattle.tile_core.specs.Ready.{IsRoomier, IsUndone, reply_count};
+ghost use Rattle.tile_core.specs.Ready.{IsRoomier, IsUndone, reply_frames};
 ghost use Rattle.tile_core.specs.Stores.{IsStore};
 
 use crate::dues::{Expired, expire, put_back};
@@ -97,17 +97,34 @@ fn make_room_for(alloc: Global, store: &mut Store, planned: &Planned) -> Result<
     }
 }
 
-// How many frames the reply has.
-fn reply_count(planned: &Planned) -> usize
-    ensures { result ≡ reply_count planned.now }
+// Puts replies behind those of a session.
+fn add_replies(caller: &mut Session, frames: &[Text]) -> Result<(), NoMemory>
+    ensures same { session_of caller.new ≡ session_of caller.old }
+    ensures staged { caller.new.mail.staged ≡ caller.old.mail.staged }
+    ensures replies { OnOk result (caller.new.mail.replies ≡ caller.old.mail.replies ++ frames.now) }
 {
+    for frame in frames {
+        caller.add_reply(frame.bytes())?;
+    }
+    Ok(())
+}
+
+// Puts the frames of the reply behind what is staged for its session.
+fn hold_reply(caller: &mut Session, planned: &Planned) -> Result<(), NoMemory>
+    ensures same { session_of caller.new ≡ session_of caller.old }
+    ensures staged { caller.new.mail.staged ≡ caller.old.mail.staged }
+    ensures replies { OnOk result (caller.new.mail.replies ≡ reply_frames planned.now) }
+{
+    caller.clear_replies();
     match planned {
-        Planned::Objects(_) | Planned::Channels(_) => 1,
-        Planned::Subscribed(confirmed) => confirmed.frames.len(),
+        Planned::Objects(plan) => caller.add_reply(plan.frame.bytes()),
+        Planned::Channels(plan) => caller.add_reply(plan.frame.bytes()),
+        Planned::Subscribed(confirmed) => add_replies(caller, confirmed.frames.as_slice()),
     }
 }
 
-// What is asked is planned for the session at a place, with the messages that it brings and with room for all of it.
+// What is asked is planned for the session at a place, with the messages that it brings, its reply, and room for the
+// rest.
 fn plan_request(
     alloc: Global,
     store: &mut Store,
@@ -142,7 +159,7 @@ fn plan_request(
         sessions,
         &mut store.steps,
     )?;
-    sessions[at].reserve(reply_count(&planned))?;
+    hold_reply(&mut sessions[at], &planned)?;
     Ok(planned)
 }
 

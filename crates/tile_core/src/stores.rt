@@ -9,7 +9,6 @@ use std::alloc::Global;
 use world_store::{StoreParts, StoredWorld};
 
 /// A world as it is kept.
-#[derive(Drop)]
 pub(crate) struct Store {
     pub(crate) objects: Keyspace,
     /// The bytes of the records of all objects.
@@ -21,6 +20,19 @@ pub(crate) struct Store {
     pub(crate) channel_weight: u64,
     /// Counts the nodes of trees that are visited.
     pub(crate) steps: Steps<Visits>,
+}
+
+impl Drop for Store {
+    fn drop(self) {
+        let Store {
+            objects: _,
+            weight: _,
+            due_from: _,
+            hub: _,
+            channel_weight: _,
+            steps: _,
+        } = self;
+    }
 }
 
 impl Store {

@@ -13,13 +13,12 @@ use Rattle.replay_run.specs.TextLines.{TextLine}
 use Rattle.replay_run.specs.Traces.{Deed}
 use Rattle.replay_run.specs.Played.{Played}
 use Rattle.replay_run.specs.Scripts.{opening}
-use Rattle.replay_run.specs.Plays.{AreDone, IsRead, IsFaulty, IsBefore, IsHalted, IsWithinLine, IsCut, OnPlay, OnReplay}
+use Rattle.replay_run.specs.Plays.{AreDone, IsDone, IsRead, IsFaulty, IsBefore, IsHalted, IsWithinLine, IsCut, OnPlay, OnReplay}
 use Rattle.replay_run.specs.declared.ends.ReplayEnd.{ReplayEnd}
 use Rattle.replay_run.specs.declared.ends.ReplayEnd.TheVariants as ended
 use Rattle.replay_run.specs.declared.halts.Halt.{Halt}
 use Rattle.replay_run.specs.declared.halts.Halt.TheVariants as halted
 use Rattle.world_model.specs.declared.events.CallOutcome.{CallOutcome}
-use Rattle.world_model.specs.declared.events.CallOutcome.TheVariants as called
 use Rattle.outside.specs.declared.sides.Side.{Side}
 use Rattle.tile_top.specs.Tops.{IsDamage, IsHaltEnd, IsReplayEnd, IsStopped, Plays, Replays, status_of, line_of, damaged_line, script_line, read_line}
 
@@ -95,55 +94,55 @@ module _ (told : Bool) (first : Played) (Ends : List Deed → Type 0) (left0 lef
     told_is = λ text is. let b = f.told_is text is in record { behind = b.behind; is = b.is; read = b.read };
   }
 
-module _ (told : Bool) (first : Played) (Ends : List Deed → Type 0) (ReadFailed : Type 0) (left0 left held0 held : Option Bytes) (status : ℕ) where
-  plays_done : status ≡ 0 → IsRead told first Ends left0 left held0 held called.Ok [] → Plays told first Ends ReadFailed left0 left held0 held status
+module _ (told : Bool) (first : Played) (Holds : World → Type 0) (Ends : List Deed → Type 0) (ReadFailed : Type 0) (left0 left held0 held : Option Bytes) (status : ℕ) where
+  plays_done : status ≡ 0 → IsDone told first Holds Ends left0 left held0 held → Plays told first Holds Ends ReadFailed left0 left held0 held status
   plays_done is d = record { done = λ _. d; script = λ e. absurd (omega (arith, e, is)); read = λ e. absurd (omega (arith, e, is)); write = λ e. absurd (omega (arith, e, is)); disk = λ e. absurd (omega (arith, e, is)); damaged = λ e. absurd (omega (arith, e, is)); memory = λ e. absurd (omega (arith, e, is)); spent = λ e. absurd (omega (arith, e, is)); few = inl is }
 
-  plays_stopped : status ≡ 4 → IsStopped told first Ends ReadFailed left0 left held0 held → Plays told first Ends ReadFailed left0 left held0 held status
+  plays_stopped : status ≡ 4 → IsStopped told first Ends ReadFailed left0 left held0 held → Plays told first Holds Ends ReadFailed left0 left held0 held status
   plays_stopped is s = record { done = λ e. absurd (omega (arith, e, is)); script = λ e. absurd (omega (arith, e, is)); read = λ e. absurd (omega (arith, e, is)); write = λ _. s; disk = λ e. absurd (omega (arith, e, is)); damaged = λ e. absurd (omega (arith, e, is)); memory = λ e. absurd (omega (arith, e, is)); spent = λ e. absurd (omega (arith, e, is)); few = inr (inr (inr (inl is))) }
 
-  plays_script : (number : ℕ) → status ≡ 2 → IsFaulty told first Ends left0 left held0 held number (script_line number) → Plays told first Ends ReadFailed left0 left held0 held status
+  plays_script : (number : ℕ) → status ≡ 2 → IsFaulty told first Ends left0 left held0 held number (script_line number) → Plays told first Holds Ends ReadFailed left0 left held0 held status
   plays_script number is f = record { done = λ e. absurd (omega (arith, e, is)); script = λ _. (number, f); read = λ e. absurd (omega (arith, e, is)); write = λ e. absurd (omega (arith, e, is)); disk = λ e. absurd (omega (arith, e, is)); damaged = λ e. absurd (omega (arith, e, is)); memory = λ e. absurd (omega (arith, e, is)); spent = λ e. absurd (omega (arith, e, is)); few = inr (inl is) }
 
-  plays_read : status ≡ 3 → IsBefore told first Ends left0 left held0 held read_line → Plays told first Ends ReadFailed left0 left held0 held status
+  plays_read : status ≡ 3 → IsBefore told first Ends left0 left held0 held read_line → Plays told first Holds Ends ReadFailed left0 left held0 held status
   plays_read is b = record { done = λ e. absurd (omega (arith, e, is)); script = λ e. absurd (omega (arith, e, is)); read = λ _. b; write = λ e. absurd (omega (arith, e, is)); disk = λ e. absurd (omega (arith, e, is)); damaged = λ e. absurd (omega (arith, e, is)); memory = λ e. absurd (omega (arith, e, is)); spent = λ e. absurd (omega (arith, e, is)); few = inr (inr (inl is)) }
 
-  plays_memory : status ≡ 7 → IsBefore told first Ends left0 left held0 held memory_line ⊎ ((halt : Halt) × ((halt ≡ halted.Memory) ⊎ IsDamage halt) × IsCut told first Ends left0 left held0 held halt memory_line) → Plays told first Ends ReadFailed left0 left held0 held status
+  plays_memory : status ≡ 7 → IsBefore told first Ends left0 left held0 held memory_line ⊎ ((halt : Halt) × ((halt ≡ halted.Memory) ⊎ IsDamage halt) × IsCut told first Ends left0 left held0 held halt memory_line) → Plays told first Holds Ends ReadFailed left0 left held0 held status
   plays_memory is m = record { done = λ e. absurd (omega (arith, e, is)); script = λ e. absurd (omega (arith, e, is)); read = λ e. absurd (omega (arith, e, is)); write = λ e. absurd (omega (arith, e, is)); disk = λ e. absurd (omega (arith, e, is)); damaged = λ e. absurd (omega (arith, e, is)); memory = λ _. m; spent = λ e. absurd (omega (arith, e, is)); few = inr (inr (inr (inr (inr (inr (inl is)))))) }
 
-  plays_halt : (halt : Halt) → status ≡ status_of halt → IsCut told first Ends left0 left held0 held halt (line_of halt) → Plays told first Ends ReadFailed left0 left held0 held status
+  plays_halt : (halt : Halt) → status ≡ status_of halt → IsCut told first Ends left0 left held0 held halt (line_of halt) → Plays told first Holds Ends ReadFailed left0 left held0 held status
   plays_halt halted.Spent is c = record { done = λ e. absurd (omega (arith, e, is)); script = λ e. absurd (omega (arith, e, is)); read = λ e. absurd (omega (arith, e, is)); write = λ e. absurd (omega (arith, e, is)); disk = λ e. absurd (omega (arith, e, is)); damaged = λ e. absurd (omega (arith, e, is)); memory = λ e. absurd (omega (arith, e, is)); spent = λ _. c; few = inr (inr (inr (inr (inr (inr (inr is)))))) }
   plays_halt halted.DiskFault is c = record { done = λ e. absurd (omega (arith, e, is)); script = λ e. absurd (omega (arith, e, is)); read = λ e. absurd (omega (arith, e, is)); write = λ e. absurd (omega (arith, e, is)); disk = λ _. c; damaged = λ e. absurd (omega (arith, e, is)); memory = λ e. absurd (omega (arith, e, is)); spent = λ e. absurd (omega (arith, e, is)); few = inr (inr (inr (inr (inl is)))) }
   plays_halt (halted.Damaged side place) is c = record { done = λ e. absurd (omega (arith, e, is)); script = λ e. absurd (omega (arith, e, is)); read = λ e. absurd (omega (arith, e, is)); write = λ e. absurd (omega (arith, e, is)); disk = λ e. absurd (omega (arith, e, is)); damaged = λ _. (side, place, c); memory = λ e. absurd (omega (arith, e, is)); spent = λ e. absurd (omega (arith, e, is)); few = inr (inr (inr (inr (inr (inl is))))) }
   plays_halt halted.Memory is c = plays_memory is (inr (halted.Memory, inl refl, c))
 
-module _ (told : Bool) (first : Played) (Ends : List Deed → Type 0) (ReadFailed : Type 0) (left0 left held0 mid held : Option Bytes) (status : ℕ) where
+module _ (told : Bool) (first : Played) (Holds : World → Type 0) (Ends : List Deed → Type 0) (ReadFailed : Type 0) (left0 left held0 mid held : Option Bytes) (status : ℕ) where
   -- the last line was written, or in part
-  ends_memory : IsBefore told first Ends left0 left held0 mid [] → IsEnd mid held 7 memory_line status → Plays told first Ends ReadFailed left0 left held0 held status
-  ends_memory b (inl w) = plays_memory told first Ends ReadFailed left0 left held0 held status w.0 (inl (before_more told first Ends left0 left held0 mid held memory_line b w.1))
-  ends_memory b (inr w) = plays_stopped told first Ends ReadFailed left0 left held0 held status w.0 (inr (inr (inl (w.1.0, inr w.1.1, before_more told first Ends left0 left held0 mid held w.1.0 b w.1.2))))
+  ends_memory : IsBefore told first Ends left0 left held0 mid [] → IsEnd mid held 7 memory_line status → Plays told first Holds Ends ReadFailed left0 left held0 held status
+  ends_memory b (inl w) = plays_memory told first Holds Ends ReadFailed left0 left held0 held status w.0 (inl (before_more told first Ends left0 left held0 mid held memory_line b w.1))
+  ends_memory b (inr w) = plays_stopped told first Holds Ends ReadFailed left0 left held0 held status w.0 (inr (inr (inl (w.1.0, inr w.1.1, before_more told first Ends left0 left held0 mid held w.1.0 b w.1.2))))
 
-  ends_halt : (halt : Halt) → IsCut told first Ends left0 left held0 mid halt [] → IsHaltEnd halt mid held status → Plays told first Ends ReadFailed left0 left held0 held status
-  ends_halt halt c (inl (inl w)) = plays_halt told first Ends ReadFailed left0 left held0 held status halt w.0 (cut_more told first Ends left0 left held0 mid held halt (line_of halt) c w.1)
-  ends_halt halt c (inl (inr w)) = plays_stopped told first Ends ReadFailed left0 left held0 held status w.0 (inr (inr (inr (halt, w.1.0, inl w.1.1, cut_more told first Ends left0 left held0 mid held halt w.1.0 c w.1.2))))
-  ends_halt halt c (inr (d, inl w)) = plays_memory told first Ends ReadFailed left0 left held0 held status w.0 (inr (halt, inr d, cut_more told first Ends left0 left held0 mid held halt memory_line c w.1))
-  ends_halt halt c (inr (d, inr w)) = plays_stopped told first Ends ReadFailed left0 left held0 held status w.0 (inr (inr (inr (halt, w.1.0, inr (d, w.1.1), cut_more told first Ends left0 left held0 mid held halt w.1.0 c w.1.2))))
+  ends_halt : (halt : Halt) → IsCut told first Ends left0 left held0 mid halt [] → IsHaltEnd halt mid held status → Plays told first Holds Ends ReadFailed left0 left held0 held status
+  ends_halt halt c (inl (inl w)) = plays_halt told first Holds Ends ReadFailed left0 left held0 held status halt w.0 (cut_more told first Ends left0 left held0 mid held halt (line_of halt) c w.1)
+  ends_halt halt c (inl (inr w)) = plays_stopped told first Holds Ends ReadFailed left0 left held0 held status w.0 (inr (inr (inr (halt, w.1.0, inl w.1.1, cut_more told first Ends left0 left held0 mid held halt w.1.0 c w.1.2))))
+  ends_halt halt c (inr (d, inl w)) = plays_memory told first Holds Ends ReadFailed left0 left held0 held status w.0 (inr (halt, inr d, cut_more told first Ends left0 left held0 mid held halt memory_line c w.1))
+  ends_halt halt c (inr (d, inr w)) = plays_stopped told first Holds Ends ReadFailed left0 left held0 held status w.0 (inr (inr (inr (halt, w.1.0, inr (d, w.1.1), cut_more told first Ends left0 left held0 mid held halt w.1.0 c w.1.2))))
 
-  ends_play : (end : ReplayEnd) → (end ≡ ended.ReadFault → ReadFailed) → OnPlay told first Ends end left0 left held0 mid → IsReplayEnd end mid held status → Plays told first Ends ReadFailed left0 left held0 held status
-  ends_play ended.Done failed p e = plays_done told first Ends ReadFailed left0 left held0 held status e.0 (subst (λ (z : Option Bytes). IsRead told first Ends left0 left held0 z called.Ok []) (sym e.1) p)
-  ends_play (ended.Script number) failed p (inl (inl w)) = plays_script told first Ends ReadFailed left0 left held0 held status number w.0 (faulty_more told first Ends left0 left held0 mid held number (script_line number) p w.1)
-  ends_play (ended.Script number) failed p (inl (inr w)) = plays_stopped told first Ends ReadFailed left0 left held0 held status w.0 (inr (inl (number, w.1.0, w.1.1, faulty_more told first Ends left0 left held0 mid held number w.1.0 p w.1.2)))
+  ends_play : (end : ReplayEnd) → (end ≡ ended.ReadFault → ReadFailed) → OnPlay told first Holds Ends end left0 left held0 mid → IsReplayEnd end mid held status → Plays told first Holds Ends ReadFailed left0 left held0 held status
+  ends_play ended.Done failed p e = plays_done told first Holds Ends ReadFailed left0 left held0 held status e.0 (subst (λ (z : Option Bytes). IsDone told first Holds Ends left0 left held0 z) (sym e.1) p)
+  ends_play (ended.Script number) failed p (inl (inl w)) = plays_script told first Holds Ends ReadFailed left0 left held0 held status number w.0 (faulty_more told first Ends left0 left held0 mid held number (script_line number) p w.1)
+  ends_play (ended.Script number) failed p (inl (inr w)) = plays_stopped told first Holds Ends ReadFailed left0 left held0 held status w.0 (inr (inl (number, w.1.0, w.1.1, faulty_more told first Ends left0 left held0 mid held number w.1.0 p w.1.2)))
   ends_play (ended.Script number) failed p (inr w) = ends_memory (faulty_before told first Ends left0 left held0 mid held number p) w
-  ends_play ended.ReadFault failed p (inl w) = plays_read told first Ends ReadFailed left0 left held0 held status w.0 (before_more told first Ends left0 left held0 mid held read_line p w.1)
-  ends_play ended.ReadFault failed p (inr w) = plays_stopped told first Ends ReadFailed left0 left held0 held status w.0 (inr (inr (inl (w.1.0, inl (failed refl, w.1.1), before_more told first Ends left0 left held0 mid held w.1.0 p w.1.2))))
-  ends_play ended.WriteFault failed p e = plays_stopped told first Ends ReadFailed left0 left held0 held status e.0 (inl (subst (λ (z : Option Bytes). IsWithinLine told first Ends left0 left held0 z) (sym e.1) p))
+  ends_play ended.ReadFault failed p (inl w) = plays_read told first Holds Ends ReadFailed left0 left held0 held status w.0 (before_more told first Ends left0 left held0 mid held read_line p w.1)
+  ends_play ended.ReadFault failed p (inr w) = plays_stopped told first Holds Ends ReadFailed left0 left held0 held status w.0 (inr (inr (inl (w.1.0, inl (failed refl, w.1.1), before_more told first Ends left0 left held0 mid held w.1.0 p w.1.2))))
+  ends_play ended.WriteFault failed p e = plays_stopped told first Holds Ends ReadFailed left0 left held0 held status e.0 (inl (subst (λ (z : Option Bytes). IsWithinLine told first Ends left0 left held0 z) (sym e.1) p))
   ends_play (ended.Halted halt) failed p e = ends_halt halt p e
   ends_play (ended.Unopened halt) failed p e = absurd p
 
 -- the end of a script
-pub ends_replay : (seen : Option Sides) (Ends : World → ℕ → List Deed → Type 0) (ReadFailed : Type 0) (left0 left held0 mid held : Option Bytes) (end : ReplayEnd) (status : ℕ) → (end ≡ ended.ReadFault → ReadFailed) → OnReplay seen Ends end left0 left held0 mid → IsReplayEnd end mid held status → Replays seen Ends ReadFailed left0 left held0 held status
-ends_replay seen Ends ReadFailed left0 left held0 mid held end status failed (inl s) e = inl (record { why = s.0; between = mid; shut = s.2; ended = subst (λ (z : ReplayEnd). IsReplayEnd z mid held status) s.1 e })
-ends_replay seen Ends ReadFailed left0 left held0 mid held end status failed (inr p) e = inr (p.0, p.1, p.2, ends_play (is_some seen) (opening p.0 p.1) (Ends p.0 p.1) ReadFailed left0 left held0 mid held status end failed p.3 e)
+pub ends_replay : (seen : Option Sides) (Back : Halt → Type 0) (Holds : World → Type 0) (Ends : World → ℕ → List Deed → Type 0) (ReadFailed : Type 0) (left0 left held0 mid held : Option Bytes) (end : ReplayEnd) (status : ℕ) → (end ≡ ended.ReadFault → ReadFailed) → OnReplay seen Back Holds Ends end left0 left held0 mid → IsReplayEnd end mid held status → Replays seen Back Holds Ends ReadFailed left0 left held0 held status
+ends_replay seen Back Holds Ends ReadFailed left0 left held0 mid held end status failed (inl s) e = inl (record { why = s.0; between = mid; shut = s.2; ended = subst (λ (z : ReplayEnd). IsReplayEnd z mid held status) s.1 e })
+ends_replay seen Back Holds Ends ReadFailed left0 left held0 mid held end status failed (inr p) e = inr (p.0, p.1, p.2, ends_play (is_some seen) (opening p.0 p.1) Holds (Ends p.0 p.1) ReadFailed left0 left held0 mid held status end failed p.3 e)
 
 -- a list of one item
 pub single : {A : Type 0} (f : A → Bytes) (xs : List A) (w : A) → 1 ≤ length xs → length xs < 2 → w ≡ get_or xs 0 w → f w ∷ [] ≡ map f xs

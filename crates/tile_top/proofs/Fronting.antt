@@ -1,7 +1,10 @@
 -- What becomes of a look at a disk and of serving on its world.
-use Rattle.std.proofs.Common.{◌≡◌, ◌≢◌, ◌⊎◌, ℕ, true, refl, sym, ap, ◌∙◌, subst, List, [], ◌∷◌, ◌++◌, length, inl, inr}
-use Rattle.std.specs.Prelude.{Option, None, Some, is_some, option_map, IfSome, Result, Ok, IfOk, codes, decimal, map}
+use Rattle.std.proofs.Common.{◌≡◌, ◌≢◌, ◌⊎◌, ◌≤◌, ◌||◌, ℕ, Bool, true, false, not, refl, sym, ap, ◌∙◌, subst, List, [], ◌∷◌, ◌++◌, length, arith, inl, inr}
+use Rattle.std.specs.List.{list_any}
+use Rattle.std.proofs.Math.Nat.{min-le_left, min-le_right, le-min}
+use Rattle.std.specs.Prelude.{min, Option, None, Some, is_some, option_map, IfSome, Result, Ok, IfOk, codes, decimal, map}
 use Rattle.byte_text.specs.Names.{Bytes}
+use Rattle.outside.specs.Causes.{most_count}
 use Rattle.outside.specs.Crashes.{EachImage}
 use Rattle.outside.specs.Sides.{Sides}
 use Rattle.outside.specs.declared.sides.Side.{Side}
@@ -18,10 +21,12 @@ use Rattle.journal.specs.declared.openings.OpenFault.{OpenFault}
 use Rattle.journal.specs.declared.openings.OpenFault.TheVariants as fault_of
 use Rattle.log_record.specs.Readings.{Damaged}
 use Rattle.log_record.specs.Recovery.{Recovers}
-use Rattle.log_record.specs.Safety.{Safe}
+use Rattle.log_record.specs.Safety.{Safe, count_after}
 use Rattle.serve_run.specs.Ends.{IsEnd, memory_line}
 use Rattle.serve_run.specs.Words.{Serve}
 use Rattle.serve_run.specs.Serves.{Serves, Counted}
+use Rattle.world_model.specs.declared.events.Opening.{Opening}
+use Rattle.shared_hall.specs.Times.{is_retirement}
 use Rattle.shared_hall.specs.Turns.{retire_outcome}
 use Rattle.replay_run.specs.Openings.{IsDamagedAt}
 use Rattle.replay_run.specs.Undone.{halt_at}
@@ -29,7 +34,7 @@ use Rattle.replay_run.specs.HaltLaws.{unspent_at, damaged_at}
 use Rattle.replay_run.specs.declared.halts.Halt.{Halt}
 use Rattle.replay_run.specs.declared.halts.Halt.TheVariants as halted
 use Rattle.tile_top.specs.Tops.{check_line}
-use Rattle.tile_top.specs.Fronts.{EndsBehind, Fronts, IsFirst, IsLeft, IsRetired, IsSettled}
+use Rattle.tile_top.specs.Fronts.{EndsBehind, Fronts, IsCounted, IsDue, IsFirst, IsLeft, IsRetired, IsSettled, ServesFront}
 
 -- what is told of an opening that failed
 pub unspent_as : (why : OpenFault) (h : Halt) → h ≡ halt_at why → h ≢ halted.Spent
@@ -78,6 +83,27 @@ last_entry_is : (e last : Entry) (entries : List Entry) → last_entry e (entrie
 last_entry_is e last [] = refl
 last_entry_is e last (d ∷ entries) = last_entry_is d last entries
 
+-- and those before it
+abbrev front_entries : List Entry → List Entry
+front_entries [] = []
+front_entries (e ∷ []) = []
+front_entries (e ∷ d ∷ entries) = e ∷ front_entries (d ∷ entries)
+
+front_is : (last : Entry) (entries : List Entry) → front_entries (entries ++ last ∷ []) ≡ entries
+front_is last [] = refl
+front_is last (e ∷ []) = refl
+front_is last (e ∷ d ∷ entries) = ap (λ (es : List Entry). e ∷ es) (front_is last (d ∷ entries))
+
+-- what is not in more is not in less, behind the same first
+less_behind : (first more less : Bool) → (more ≡ false → less ≡ false) → (first || more) ≡ false → (first || less) ≡ false
+less_behind true more less goes none = none
+less_behind false more less goes none = goes none
+
+none_in_front : (entries more : List Entry) → list_any is_retirement (entries ++ more) ≡ false → list_any is_retirement entries ≡ false
+none_in_front [] more none = refl
+none_in_front (e ∷ entries) more none =
+    less_behind (is_retirement e) (list_any is_retirement (entries ++ more)) (list_any is_retirement entries) (none_in_front entries more) none
+
 -- an entry of this act alone
 one_entry : (entries : List Entry) (a : Act) → map act_of entries ≡ a ∷ [] → (e : Entry) × (entries ≡ e ∷ []) × (act_of e ≡ a)
 one_entry [] a is = absurd (cc)
@@ -106,10 +132,47 @@ retired_ok old new a adds s =
     let same : one.0 ≡ last = sym (last_entry_is last one.0 (old.seen ++ adds.between)) ∙ ap (last_entry last) (sym seen ∙ s.2) ∙ last_entry_is last last s.0 in
     gave_out one.0 a one.2 (ap gives_disk same ∙ s.3)
 
--- a disk that was not given out was not retired well
-pub given_well : {D : Type 0} (old new : Knows) (r : Option (D × CallOutcome)) → r ≡ None → Adds event.Retire (retire_outcome r) old new → IsSettled new.seen → ⊥
-given_well old new None none adds s = let ok = retired_ok old new called.Stopped adds s in cc
-given_well old new (Some p) none adds s = cc
+-- a disk that is not given out was given out before, which the seat has seen, and the retirement is answered Stopped
+pub given_well : {D : Type 0} (old new : Knows) (r : Option (D × CallOutcome)) → r ≡ None → is_some r ≡ not (list_any is_retirement old.seen) → Adds event.Retire (retire_outcome r) old new → IsDue new.seen → ⊥
+given_well old new (Some p) none once adds due = cc
+given_well old new None none once adds due = by_due due.3
+  where
+    one : (e : Entry) × (adds.entries ≡ e ∷ []) × (act_of e ≡ (event.Retire, answer called.Stopped))
+    one = one_entry adds.entries (event.Retire, answer called.Stopped) adds.are
+
+    seen : new.seen ≡ (old.seen ++ adds.between) ++ one.0 ∷ []
+    seen = adds.seen ∙ ap (λ (es : List Entry). (old.seen ++ adds.between) ++ es) one.1
+
+    last : one.0 ≡ due.1
+    last = sym (last_entry_is due.1 one.0 (old.seen ++ adds.between)) ∙ ap (last_entry due.1) (sym seen ∙ due.2) ∙ last_entry_is due.1 due.1 due.0
+
+    before : old.seen ++ adds.between ≡ due.0
+    before = sym (front_is one.0 (old.seen ++ adds.between)) ∙ ap front_entries (sym seen ∙ due.2) ∙ front_is due.1 due.0
+
+    by_due : (due.1.outcome ≢ answer called.Stopped) ⊎ (list_any is_retirement due.0 ≡ false) → ⊥
+    by_due (inl apart) = apart (ap (λ (e : Entry). e.outcome) (sym last) ∙ ap (λ (a : Act). a.1) one.2)
+    by_due (inr none_before) =
+        let seen_none = none_in_front old.seen adds.between (ap (list_any is_retirement) before ∙ none_before) in
+        let clash : false ≡ true = once ∙ ap not seen_none in
+        cc
+
+-- a count of faults that has not fallen, as far as it is counted
+pub count_later : (a b : ℕ) → a ≤ b → min a most_count ≤ min b most_count
+count_later a b le = let left = min-le_left a most_count in le-min (omega (arith, left, le)) (min-le_right a most_count)
+
+pub begun_still : (handed : ℕ) (old new : Opening) → new ≡ old → min handed most_count ≤ old.count → min handed most_count ≤ new.count
+begun_still handed old new same begun = subst (λ (o : Opening). min handed most_count ≤ o.count) (sym same) begun
+
+-- the count that a retirement gave
+pub counts_as : {D : Type 0} (faults : D → ℕ) (handed : ℕ) (old new : Knows) (r : Option (D × CallOutcome)) (given : D × CallOutcome) → r ≡ Some given → new.opening ≡ old.opening → min handed most_count ≤ old.opening.count
+    → IfSome r (λ p. count_after new.opening.count new.seen ≡ min (faults p.0) most_count) → IsCounted handed (faults given.0) new
+counts_as faults handed old new None given is same begun counted = absurd (cc)
+counts_as {D} faults handed old new (Some p) given is same begun counted =
+    let this : p ≡ given = cc in
+    record {
+      begun = begun_still handed old.opening new.opening same begun;
+      last = subst (λ (x : D × CallOutcome). count_after new.opening.count new.seen ≡ min (faults x.0) most_count) this counted;
+    }
 
 -- the disk that a retirement gave
 pub given_left : {D : Type 0} (images : D → Sides → Type 0) (left_since : D → ℕ → Sides → Type 0) (old new : Knows) (r : Option (D × CallOutcome)) (given : D × CallOutcome) → r ≡ Some given → Adds event.Retire (retire_outcome r) old new
@@ -139,8 +202,17 @@ unbegun told s k c held held' status e = inl (record { unseen = refl; same = ref
 
 -- a hall was retired behind its serving
 pub fronts_behind : {F : Type 0} (shows : F → Knows) (seen : Option Sides) (told : Option ℕ) (s : Serve) (first served : Knows) (c c' : Counted) (held between held' : Option Bytes) (before status : ℕ) (front : Option F)
-    → is_some front ≡ true → IsFirst seen first → Serves told s first served c c' held between before
-    → IfSome (option_map shows front) (λ k. IsRetired served k between held' before status) → Fronts seen told s c c' held held' status (option_map shows front)
-fronts_behind shows seen told s first served c c' held between held' before status None some f v r = absurd (cc)
-fronts_behind shows seen told s first served c c' held between held' before status (Some x) some f v r =
+    → IsFirst seen first → Serves told s first served c c' held between before
+    → IfSome (option_map shows front) (λ k. IsRetired served k between held' before status) → IfSome (option_map shows front) (ServesFront seen told s c c' held held' status)
+fronts_behind shows seen told s first served c c' held between held' before status None f v r = tt
+fronts_behind shows seen told s first served c c' held between held' before status (Some x) f v r =
     record { first = first; is_first = f; served = served; between = between; before = before; serves = v; retired = r }
+
+pub mapped_some : {F : Type 0} (shows : F → Knows) (front : Option F) → is_some front ≡ true → is_some (option_map shows front) ≡ true
+mapped_some shows None some = absurd (cc)
+mapped_some shows (Some x) some = refl
+
+pub fronts_of : (seen : Option Sides) (Back : Halt → Type 0) (told : Option ℕ) (s : Serve) (c c' : Counted) (held held' : Option Bytes) (status : ℕ) (front : Option Knows) → is_some front ≡ true
+    → IfSome front (ServesFront seen told s c c' held held' status) → Fronts seen Back told s c c' held held' status front
+fronts_of seen Back told s c c' held held' status None some v = absurd (cc)
+fronts_of seen Back told s c c' held held' status (Some k) some v = v

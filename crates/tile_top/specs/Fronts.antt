@@ -1,6 +1,8 @@
 -- What `serve` promises of the server's seat, the disk and the status.
-use Rattle.std.specs.Prelude.{◌≡◌, ◌≢◌, ◌⊎◌, ℕ, true, List, [], ◌∷◌, ◌++◌, Option, None, Some}
+use Rattle.std.specs.Prelude.{◌≡◌, ◌≢◌, ◌⊎◌, ◌≤◌, ℕ, min, true, false, List, [], ◌∷◌, ◌++◌, Option, None, Some}
+use Rattle.std.specs.List.{list_any}
 use Rattle.byte_text.specs.Names.{Bytes}
+use Rattle.outside.specs.Causes.{most_count}
 use Rattle.outside.specs.Crashes.{EachImage}
 use Rattle.outside.specs.Sides.{Sides}
 use Rattle.outside.specs.declared.sides.Side.{Side}
@@ -12,21 +14,23 @@ use Rattle.world_model.specs.declared.events.Entry.{Entry}
 use Rattle.world_model.specs.declared.events.Event.TheVariants as event
 use Rattle.world_model.specs.declared.events.Outcome.{Outcome}
 use Rattle.log_record.specs.Recovery.{Recovers}
-use Rattle.log_record.specs.Safety.{Safe}
+use Rattle.log_record.specs.Safety.{Safe, count_after}
 use Rattle.serve_run.specs.Ends.{IsEnd, disk_line}
 use Rattle.serve_run.specs.Words.{Serve}
 use Rattle.serve_run.specs.Serves.{Serves, Counted}
+use Rattle.shared_hall.specs.Times.{is_retirement}
 use Rattle.replay_run.specs.Openings.{Opens, IsDamagedAt}
 use Rattle.replay_run.specs.declared.halts.Halt.{Halt}
 use Rattle.replay_run.specs.declared.halts.Halt.TheVariants as halted
 use Rattle.tile_top.specs.Tops.{IsHaltEnd}
 
--- no shared hall was made: the disk was not opened, or memory wanted; nothing was counted
-pub record IsUnmade (seen : Option Sides) (c c' : Counted) (held held' : Option Bytes) (status : ℕ) : Type 0 where
+-- no shared hall was made: the disk was not opened, or memory wanted; nothing was counted; `Back` is what is left of the disk, by the halt
+pub record IsUnmade (seen : Option Sides) (Back : Halt → Type 0) (c c' : Counted) (held held' : Option Bytes) (status : ℕ) : Type 0 where
   pub same : c' ≡ c
   pub why : Halt
   pub unspent : why ≢ halted.Spent
   pub damaged : (side : Side) (place : ℕ) → why ≡ halted.Damaged side place → IsDamagedAt seen side place
+  pub back : Back why
   pub ended : IsHaltEnd why held held' status
 
 -- a seat that has seen nothing so far, of a history that opens with a disk's world
@@ -49,9 +53,20 @@ pub record IsRetired (served k : Knows) (between held : Option Bytes) (before st
   pub retires : Adds event.Retire retired served k
   pub ended : EndsBehind retired before status between held
 
+-- A disk is due behind these entries: the last one is a retirement that was not answered Stopped, or there was none before it.
+abbrev pub IsDue : List Entry → Type 0
+IsDue entries = (before : List Entry) × (last : Entry) × (entries ≡ before ++ last ∷ [])
+    × ((last.outcome ≢ answer called.Stopped) ⊎ (list_any is_retirement before ≡ false))
+
 -- the last of these entries is a retirement that was answered Ok
 abbrev pub IsSettled : List Entry → Type 0
 IsSettled entries = (before : List Entry) × (last : Entry) × (entries ≡ before ++ last ∷ []) × (gives_disk last ≡ true)
+
+-- A count of faults is the one that a seat has seen last, which legal histories let rise where the log fails; and it has not fallen since the
+-- disk was handed in.
+pub record IsCounted (handed given : ℕ) (k : Knows) : Type 0 where
+  pub begun : min handed most_count ≤ k.opening.count
+  pub last : count_after k.opening.count k.seen ≡ min given most_count
 
 -- A disk that was given out is safe for all that a seat has seen. Where the last of that is a retirement that was answered Ok, whatever a
 -- crash leaves is the world of all of it.
@@ -72,6 +87,6 @@ pub record ServesFront (seen : Option Sides) (told : Option ℕ) (s : Serve) (c 
   pub retired : IsRetired served k between held' before status
 
 -- by what the server's seat has seen, where a hall was made
-abbrev pub Fronts : Option Sides → Option ℕ → Serve → Counted → Counted → Option Bytes → Option Bytes → ℕ → Option Knows → Type 0
-Fronts seen told s c c' held held' status None = IsUnmade seen c c' held held' status
-Fronts seen told s c c' held held' status (Some k) = ServesFront seen told s c c' held held' status k
+abbrev pub Fronts : Option Sides → (Halt → Type 0) → Option ℕ → Serve → Counted → Counted → Option Bytes → Option Bytes → ℕ → Option Knows → Type 0
+Fronts seen Back told s c c' held held' status None = IsUnmade seen Back c c' held held' status
+Fronts seen Back told s c c' held held' status (Some k) = ServesFront seen told s c c' held held' status k

@@ -83,10 +83,11 @@ IsCheck words = words ≡ codes "check" ∷ []
 
 -- What a script's play did and its status says: done, or a line that is none of a script, or a read or a write that failed, or one that
 -- was not done. At each status the lines before the last one that was read were done, and their whole output was written before it was
--- read. At 7 memory wanted, also for the line of a damage or of a line that is none of a script. `ReadFailed` is what holds where a read failed.
-pub record Plays (told : Bool) (first : Played) (Ends : List Deed
+-- read. At 7 memory wanted, also for the line of a damage or of a line that is none of a script. `ReadFailed` is what holds where a read failed,
+-- `Holds` that the disk holds a world.
+pub record Plays (told : Bool) (first : Played) (Holds : World → Type 0) (Ends : List Deed
     → Type 0) (ReadFailed : Type 0) (left0 left held0 held : Option Bytes) (status : ℕ) : Type 0 where
-  pub done : status ≡ 0 → IsDone told first Ends left0 left held0 held
+  pub done : status ≡ 0 → IsDone told first Holds Ends left0 left held0 held
   pub script : status ≡ 2 → (number : ℕ) × IsFaulty told first Ends left0 left held0 held number (script_line number)
   pub read : status ≡ 3 → IsBefore told first Ends left0 left held0 held read_line
   pub write : status ≡ 4 → IsStopped told first Ends ReadFailed left0 left held0 held
@@ -98,18 +99,20 @@ pub record Plays (told : Bool) (first : Played) (Ends : List Deed
   pub spent : status ≡ 9 → IsCut told first Ends left0 left held0 held halted.Spent spent_line
   pub few : (status ≡ 0) ⊎ ((status ≡ 2) ⊎ ((status ≡ 3) ⊎ ((status ≡ 4) ⊎ ((status ≡ 5) ⊎ ((status ≡ 6) ⊎ ((status ≡ 7) ⊎ (status ≡ 9)))))))
 
--- A disk was not opened, and the status says why: a side of it is damaged, or a call of it failed, or memory wanted. Nothing was read.
-pub record IsUnopened (seen : Option Sides) (left0 left held0 held : Option Bytes) (status : ℕ) : Type 0 where
+-- A disk was not opened, and the status says why: a side of it is damaged, or a call of it failed, or memory wanted. Nothing was read. `Back`
+-- is what is left of the disk, by the halt.
+pub record IsUnopened (seen : Option Sides) (Back : Halt → Type 0) (left0 left held0 held : Option Bytes) (status : ℕ) : Type 0 where
   pub why : Halt
   pub between : Option Bytes
-  pub shut : IsShut seen left0 left held0 between why
+  pub shut : IsShut seen Back left0 left held0 between why
   pub ended : IsHaltEnd why between held status
 
 -- the disk was not opened, or with some world and length of its log, and then the script was played
-abbrev pub Replays : Option Sides → (World → ℕ → List Deed → Type 0) → Type 0 → Option Bytes → Option Bytes → Option Bytes → Option Bytes → ℕ → Type 0
-Replays seen Ends ReadFailed left0 left held0 held status = IsUnopened seen left0 left held0 held status
+abbrev pub Replays : Option Sides → (Halt → Type 0) → (World → Type 0) → (World → ℕ → List Deed
+    → Type 0) → Type 0 → Option Bytes → Option Bytes → Option Bytes → Option Bytes → ℕ → Type 0
+Replays seen Back Holds Ends ReadFailed left0 left held0 held status = IsUnopened seen Back left0 left held0 held status
     ⊎ ((w : World) × (logged : ℕ) × Opens seen w logged
-    × Plays (is_some seen) (opening w logged) (Ends w logged) ReadFailed left0 left held0 held status)
+    × Plays (is_some seen) (opening w logged) Holds (Ends w logged) ReadFailed left0 left held0 held status)
 
 -- the line of a world and the generation of its log
 abbrev pub check_line : World → ℕ → Bytes

@@ -1,12 +1,9 @@
 //! A look at the world of a disk, and its status.
 
-ghost use Rattle.std.specs.Prelude.{◌≡◌, ◌≤◌, ◌++◌, ◌∷◌, Some, true, codes, decimal, IfOk};
+ghost use Rattle.std.specs.Prelude.{◌≡◌, ◌≤◌, ◌++◌, codes, decimal, IfOk};
 ghost use Rattle.outside.specs.Causes.{Rose};
-ghost use Rattle.outside.specs.Sides.{Sides};
-ghost use Rattle.replay_run.specs.Traces.{opens};
-ghost use Rattle.replay_run.specs.Standing.{IsSafeFor};
-ghost use Rattle.replay_run.specs.Plays.{retired};
-ghost use Rattle.replay_run.specs.Checks.{HasGeneration};
+ghost use Rattle.replay_run.specs.HandedBack.{IsBackAt};
+ghost use Rattle.replay_run.specs.Checks.{IsLookedAt};
 ghost use Rattle.tile_top.specs.Checks.{Checks};
 
 use crate::halt_ends::end_halt;
@@ -37,9 +34,8 @@ fn check_text(alloc: Global, objects: u64, channels: u64, generation: u64) -> Re
 
 /// Opens the world on a disk and retires it, and writes what it has.
 pub(crate) fn check_disk<K: Sink, D: Disk>(alloc: Global, sink: &mut K, disk: D) -> Scripted<D>
-    ensures told { Checks (D.seen disk) (HasGeneration D.crashes D.seen D.images result.disk)
-        (λ w logged answered. (s : Sides) → D.seen disk ≡ Some s → D.crashes disk ≡ true
-        → IsSafeFor D.images D.left_since result.disk (opens w logged ∷ retired answered))
+    ensures told { Checks (D.seen disk) (IsBackAt D.crashes D.seen D.images D.moment D.left_since disk result.disk)
+        (IsLookedAt D.crashes D.seen D.images D.moment D.left_since disk result.disk)
         (K.held sink.old) (K.held sink.new) result.status }
     ensures sink { K.faults sink.old ≤ K.faults sink.new }
     ensures later { D.faults disk ≤ D.faults result.disk }

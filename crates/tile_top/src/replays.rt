@@ -1,8 +1,9 @@
 //! A script on the world of a disk, and its status.
 
-ghost use Rattle.std.specs.Prelude.{◌≡◌, ◌≤◌, ◌∷◌, Some, true};
+ghost use Rattle.std.specs.Prelude.{◌≡◌, ◌≤◌, ◌∷◌, Some, true, is_some};
 ghost use Rattle.outside.specs.Causes.{Rose};
 ghost use Rattle.outside.specs.Sides.{Sides};
+ghost use Rattle.replay_run.specs.HandedBack.{HoldsWorld, IsBackAt};
 ghost use Rattle.replay_run.specs.Traces.{opens};
 ghost use Rattle.replay_run.specs.Standing.{IsSafeFor};
 ghost use Rattle.tile_top.specs.Tops.{Replays};
@@ -26,7 +27,8 @@ pub(crate) fn replay_script<S: Source, K: Sink, D: Disk>(
     sink: &mut K,
     disk: D,
 ) -> Scripted<D>
-    ensures told { Replays (D.seen disk)
+    ensures told { Replays (D.seen disk) (IsBackAt D.crashes D.seen D.images D.moment D.left_since disk result.disk)
+        (λ w. is_some (D.seen disk) ≡ true → HoldsWorld (D.seen result.disk) w)
         (λ w logged deeds. (s : Sides) → D.seen disk ≡ Some s → D.crashes disk ≡ true
         → IsSafeFor D.images D.left_since result.disk (opens w logged ∷ deeds))
         (Rose (S.faults source.old) (S.faults source.new)) (S.left source.old) (S.left source.new) (K.held sink.old)

@@ -1,16 +1,18 @@
 //! Serving on a shared hall of a disk's world.
 
-ghost use Rattle.std.specs.Prelude.{◌≡◌, ◌≤◌, ◌⊎◌, ℕ, true, Option, Some, is_some, option_map, IfOk, IfErr, IfSome};
-ghost use Rattle.outside.specs.Causes.{Rose};
+ghost use Rattle.std.specs.Prelude.{◌≡◌, ◌≤◌, ◌⊎◌, ℕ, true, min, Option, Some, is_some, option_map};
+ghost use Rattle.std.specs.Prelude.{IfOk, IfErr, IfSome};
+ghost use Rattle.outside.specs.Causes.{Rose, most_count};
 ghost use Rattle.outside.specs.Sides.{Sides};
 ghost use Rattle.outside.specs.declared.sides.Side.{Side};
 ghost use Rattle.world_model.specs.declared.events.Outcome.TheVariants as outcome;
 ghost use Rattle.journal.specs.declared.openings.OpenFault.TheVariants as fault_of;
 ghost use Rattle.log_record.specs.Readings.{Damaged};
+ghost use Rattle.replay_run.specs.HandedBack.{IsBackAt, IsBackUnopened};
 ghost use Rattle.serve_run.specs.Serves.{counted};
 ghost use Rattle.shared_hall.specs.Cores.{tells};
 ghost use Rattle.shared_hall.specs.Seats.{IsOf, handed_of, knows_of};
-ghost use Rattle.tile_top.specs.Fronts.{EndsBehind, Fronts, IsFirst, IsLeft, IsRetired, IsSettled};
+ghost use Rattle.tile_top.specs.Fronts.{EndsBehind, Fronts, IsCounted, IsDue, IsFirst, IsLeft, IsRetired, ServesFront};
 
 use crate::halt_ends::end_halt;
 use crate::tops::Ended;
@@ -36,6 +38,9 @@ fn open_hall<D: Disk + Drop>(
     ensures handed { IfOk result (λ r. handed_of r.0 ≡ disk) }
     ensures damaged { (s : Sides) → D.seen disk ≡ Some s
         → IfErr result (λ u. (side : Side) (place : ℕ) → u.why ≡ fault_of.Damaged side place → Damaged s side place) }
+    ensures back { IfErr result
+        (λ u. IsBackUnopened D.crashes D.seen D.images D.moment D.left_since disk u.disk u.why) }
+    ensures begun { IfOk result (λ r. min (D.faults disk) most_count ≤ (knows_of r.1).opening.count) }
     ensures left { IfErr result (λ u. D.faults disk ≤ D.faults u.disk) }
     ensures cause { IfErr result (λ u. u.why ≡ fault_of.Disk → Rose (D.faults disk) (D.faults u.disk)) }
 {
@@ -84,7 +89,9 @@ fn retire_hall<K: Sink, D: Disk + Drop, R: Wait>(
     ensures some { is_some result.front ≡ true }
     ensures safe { tells D.crashes D.seen (handed_of hall.now) ≡ true
         → IfSome result.front (λ last. IfSome result.disk (λ d. IsLeft D.images D.left_since d (knows_of last))) }
-    ensures given { IfSome result.front (λ last. IsSettled (knows_of last).seen → is_some result.disk ≡ true) }
+    ensures given { IfSome result.front (λ last. IsDue (knows_of last).seen → is_some result.disk ≡ true) }
+    ensures counted { (handed : ℕ) → min handed most_count ≤ (knows_of seat).opening.count
+        → IfSome result.front (λ last. IfSome result.disk (λ d. IsCounted handed (D.faults d) (knows_of last))) }
     ensures sink { K.faults sink.old ≤ K.faults sink.new }
     ensures write { result.status ≡ 4 → (before ≡ 4) ⊎ Rose (K.faults sink.old) (K.faults sink.new) }
     ensures accept { result.status ≡ 8 → before ≡ 8 }
@@ -132,14 +139,17 @@ where
     requires seat { IsOf D.crashes D.seen D.images D.moment D.left_since D.faults hall seat }
     requires first { (knows_of seat).first ≡ true }
     ensures serves { (seen : Option Sides) → IsFirst seen (knows_of seat)
-        → Fronts seen (C.told clock.now) (record { addr = asked.entry.addr.now; limit = asked.entry.limit })
+        → IfSome (option_map knows_of result.front) (ServesFront seen (C.told clock.now)
+        (record { addr = asked.entry.addr.now; limit = asked.entry.limit })
         (counted (P.jobs spawner.old) (P.faults spawner.old) (L.links door.old) (L.ends door.old) (L.faults door.old))
         (counted (P.jobs spawner.new) (P.faults spawner.new) (L.links door.new) (L.ends door.new) (L.faults door.new))
-        (K.held sink.old) (K.held sink.new) result.status (option_map knows_of result.front) }
+        (K.held sink.old) (K.held sink.new) result.status) }
     ensures safe { tells D.crashes D.seen (handed_of hall) ≡ true
         → IfSome result.front (λ last. IfSome result.disk (λ d. IsLeft D.images D.left_since d (knows_of last))) }
     ensures some { is_some result.front ≡ true }
-    ensures given { IfSome result.front (λ last. IsSettled (knows_of last).seen → is_some result.disk ≡ true) }
+    ensures given { IfSome result.front (λ last. IsDue (knows_of last).seen → is_some result.disk ≡ true) }
+    ensures counted { (handed : ℕ) → min handed most_count ≤ (knows_of seat).opening.count
+        → IfSome result.front (λ last. IfSome result.disk (λ d. IsCounted handed (D.faults d) (knows_of last))) }
     ensures sink { K.faults sink.old ≤ K.faults sink.new }
     ensures door { L.faults door.old ≤ L.faults door.new }
     ensures write { result.status ≡ 4 → Rose (K.faults sink.old) (K.faults sink.new) }
@@ -185,7 +195,9 @@ pub(crate) fn serve_hall<
 where
     L::In: Send + Drop + 'static,
     L::Out: Send + Drop + 'static,
-    ensures serves { Fronts (D.seen disk) (C.told clock.now)
+    ensures serves { Fronts (D.seen disk)
+        (λ halt. IfSome result.disk (λ d. IsBackAt D.crashes D.seen D.images D.moment D.left_since disk d halt))
+        (C.told clock.now)
         (record { addr = asked.entry.addr.now; limit = asked.entry.limit })
         (counted (P.jobs spawner.old) (P.faults spawner.old) (L.links door.old) (L.ends door.old) (L.faults door.old))
         (counted (P.jobs spawner.new) (P.faults spawner.new) (L.links door.new) (L.ends door.new) (L.faults door.new))
@@ -196,7 +208,9 @@ where
     ensures later { result.front ≡ None → IfSome result.disk (λ d. D.faults disk ≤ D.faults d) }
     ensures disk { result.front ≡ None → result.status ≡ 5
         → IfSome result.disk (λ d. Rose (D.faults disk) (D.faults d)) }
-    ensures given { IfSome result.front (λ last. IsSettled (knows_of last).seen → is_some result.disk ≡ true) }
+    ensures given { IfSome result.front (λ last. IsDue (knows_of last).seen → is_some result.disk ≡ true) }
+    ensures counted { IfSome result.front
+        (λ last. IfSome result.disk (λ d. IsCounted (D.faults disk) (D.faults d) (knows_of last))) }
     ensures sink { K.faults sink.old ≤ K.faults sink.new }
     ensures door { L.faults door.old ≤ L.faults door.new }
     ensures write { result.status ≡ 4 → Rose (K.faults sink.old) (K.faults sink.new) }

@@ -11,13 +11,13 @@ ghost use Rattle.load_command.specs.Loads.{Loads};
 ghost use Rattle.load_command.specs.Words.{load_of};
 ghost use Rattle.replay_run.specs.Traces.{opens};
 ghost use Rattle.replay_run.specs.Standing.{IsSafeFor};
-ghost use Rattle.replay_run.specs.Plays.{retired};
-ghost use Rattle.replay_run.specs.Checks.{HasGeneration};
+ghost use Rattle.replay_run.specs.HandedBack.{HoldsWorld, IsBackAt};
+ghost use Rattle.replay_run.specs.Checks.{IsLookedAt};
 ghost use Rattle.shared_hall.specs.Cores.{tells};
 ghost use Rattle.shared_hall.specs.Seats.{knows_of};
 ghost use Rattle.tile_top.specs.Tops.{IsReplay, IsCheck, Replays, usage_line};
 ghost use Rattle.tile_top.specs.Checks.{Checks};
-ghost use Rattle.tile_top.specs.Fronts.{Fronts, IsLeft, IsSettled};
+ghost use Rattle.tile_top.specs.Fronts.{Fronts, IsCounted, IsDue, IsLeft};
 
 use crate::checks::check_disk;
 use crate::loads::load_core;
@@ -93,7 +93,11 @@ pub fn out_of_memory<K: Sink, D: Disk + Drop>(sink: &mut K) -> Ended<D>
 ///
 /// Where a disk is opened. It begins with the world that the disk is recovered as, where it tells what it holds; else
 /// with some sound world. Status 6 comes exactly where its sides are damaged, and its line says where; 5 comes only
-/// where a call of the disk failed; 7 stands for want of memory alone. The disk is handed back.
+/// where a call of the disk failed; 7 stands for want of memory alone. The disk is handed back. Where it was not
+/// opened, it is as the opening leaves it: where it tells what it holds, it reads as before, or as a log of the same
+/// world where memory wanted behind the reading, unless it failed while its first side was made; where it tells
+/// crashes, no crash leaves then what it might not have left before, but for a log without a batch where none had been
+/// begun.
 ///
 /// With `replay`. Status 0: the source was read to its end, and the bytes written are the script's output. Status 2:
 /// this line is the first that is none of a script, and the bytes written are the whole output of the lines before it
@@ -114,10 +118,11 @@ pub fn out_of_memory<K: Sink, D: Disk + Drop>(sink: &mut K) -> Ended<D>
 /// crash might have left since the first opening, at each moment of it, is recovered as the world after a beginning of
 /// the run, which holds all that was acknowledged by then, that is all before the last frame that was given. Where the
 /// hall's retirement was answered Ok, as at status 0, whatever a crash leaves of the disk is the world after the whole
-/// run.
+/// run. Where the disk tells no crashes, it holds at status 0 the world that the script left.
 ///
-/// With `check`. Status 0: the line of the disk's world was written, with the generation of the log that stands on the
-/// disk handed back, and that disk is safe for that world.
+/// With `check`. Status 0: the line of the disk's world was written, with the generation of the side in use of the disk
+/// handed back, which holds that world; and that disk is safe for that world. At each status at which it was opened, at
+/// no moment might a crash have left anything but what it might have left before, or a log of that world.
 ///
 /// With `serve`. All entries that the server's seat has seen are a legal history that opens with the disk's world, and
 /// its own are those of whole groups, one for each look for a caller: a tick, as many steps of rewriting as the loop
@@ -128,8 +133,10 @@ pub fn out_of_memory<K: Sink, D: Disk + Drop>(sink: &mut K) -> Ended<D>
 /// removed for want of memory. Status 8 comes only where the door has failed, 5 where a tick or a step of rewriting
 /// found the hall stopped, or the log failed at the retirement, 9 where one found the machine's log at its greatest
 /// length, 7 where memory wanted, 4 where the sink failed. Where the disk tells what it holds and what a crash may
-/// leave, the disk that is handed back is safe for all that the seat has seen. Where the retirement was answered Ok, as
-/// at status 0, it is handed back, and whatever a crash leaves of it is the world of all of that.
+/// leave, the disk that is handed back is safe for all that the seat has seen. Where the retirement was not answered
+/// Stopped, as at status 0, or is the only one that the seat has seen, the disk is handed back, and its count of
+/// faults is the one that the history ends with; where it was answered Ok, whatever a crash leaves of it is the world
+/// of all of that.
 ///
 /// With `load`. Status 0: the bytes written are the four lines that N and SEED determine: what the sessions of the
 /// workload are given by the steps of a machine that begins with the empty world, and the number of objects in the end.
@@ -159,22 +166,29 @@ where
     L::Out: Send + Drop + 'static,
     ensures replay { IsReplay (map string_bytes words.now)
         → Replays (D.seen disk)
+        (λ halt. IfSome result.disk (λ d. IsBackAt D.crashes D.seen D.images D.moment D.left_since disk d halt))
+        (λ w. is_some (D.seen disk) ≡ true → IfSome result.disk (λ d. HoldsWorld (D.seen d) w))
         (λ w logged deeds. (s : Sides) → D.seen disk ≡ Some s → D.crashes disk ≡ true
         → IfSome result.disk (λ d. IsSafeFor D.images D.left_since d (opens w logged ∷ deeds)))
         (Rose (S.faults source.old) (S.faults source.new)) (S.left source.old) (S.left source.new) (K.held sink.old)
         (K.held sink.new) result.status }
     ensures check { IsCheck (map string_bytes words.now)
-        → Checks (D.seen disk) (λ n. IfSome result.disk (λ d. HasGeneration D.crashes D.seen D.images d n))
-        (λ w logged answered. (s : Sides) → D.seen disk ≡ Some s → D.crashes disk ≡ true
-        → IfSome result.disk (λ d. IsSafeFor D.images D.left_since d (opens w logged ∷ retired answered)))
+        → Checks (D.seen disk)
+        (λ halt. IfSome result.disk (λ d. IsBackAt D.crashes D.seen D.images D.moment D.left_since disk d halt))
+        (λ w logged generation answered. IfSome result.disk
+        (λ d. IsLookedAt D.crashes D.seen D.images D.moment D.left_since disk d w logged generation answered))
         (K.held sink.old) (K.held sink.new) result.status }
-    ensures serve { IfSome (serve_of (map string_bytes words.now)) (λ s. Fronts (D.seen disk) (C.told clock.now) s
+    ensures serve { IfSome (serve_of (map string_bytes words.now)) (λ s. Fronts (D.seen disk)
+        (λ halt. IfSome result.disk (λ d. IsBackAt D.crashes D.seen D.images D.moment D.left_since disk d halt))
+        (C.told clock.now) s
         (counted (P.jobs spawner.old) (P.faults spawner.old) (L.links door.old) (L.ends door.old) (L.faults door.old))
         (counted (P.jobs spawner.new) (P.faults spawner.new) (L.links door.new) (L.ends door.new) (L.faults door.new))
         (K.held sink.old) (K.held sink.new) result.status (option_map knows_of result.front)) }
     ensures safe { tells D.crashes D.seen disk ≡ true
         → IfSome result.front (λ last. IfSome result.disk (λ d. IsLeft D.images D.left_since d (knows_of last))) }
-    ensures given { IfSome result.front (λ last. IsSettled (knows_of last).seen → is_some result.disk ≡ true) }
+    ensures given { IfSome result.front (λ last. IsDue (knows_of last).seen → is_some result.disk ≡ true) }
+    ensures counted { IfSome result.front
+        (λ last. IfSome result.disk (λ d. IsCounted (D.faults disk) (D.faults d) (knows_of last))) }
     ensures load { IfSome (load_of (map string_bytes words.now))
         (λ w. Loads w (K.held sink.old) (K.held sink.new) result.status) }
     ensures usage { (IsReplay (map string_bytes words.now) → ⊥) → (IsCheck (map string_bytes words.now) → ⊥)

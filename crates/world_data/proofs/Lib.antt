@@ -1,1 +1,2 @@
 pub mod Soundness
+mod FrameEnds

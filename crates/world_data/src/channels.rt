@@ -23,10 +23,18 @@ pub enum Kind {
 
 /// What a channel watches: an area, or objects near others (their key, the pattern of their ids, meters, and whether
 /// those that were near before are left out).
-#[derive(Drop)]
 pub enum Watch {
     Zone(Kind, Area),
     Roam(Name, Name, u32, bool),
+}
+
+impl Drop for Watch {
+    fn drop(self) {
+        match self {
+            Watch::Zone(_, _) => {}
+            Watch::Roam(_, _, _, _) => {}
+        }
+    }
 }
 
 impl Watch {
@@ -62,13 +70,24 @@ pub struct Wanted {
 }
 
 /// A fence: the key, pattern and tests of the objects that it is for, what is wanted, and what is watched.
-#[derive(Drop)]
 pub struct Fence {
     pub key: Name,
     pub glob: Option<Name>,
     pub tests: Tests,
     pub wanted: Wanted,
     pub watch: Watch,
+}
+
+impl Drop for Fence {
+    fn drop(self) {
+        let Fence {
+            key: _,
+            glob: _,
+            tests: _,
+            wanted: _,
+            watch: _,
+        } = self;
+    }
 }
 
 impl Fence {
@@ -89,11 +108,20 @@ impl Fence {
 }
 
 /// A channel: its name, its fence, and the words that set it, in their normal form.
-#[derive(Drop)]
 pub struct Channel {
     pub name: Name,
     pub fence: Fence,
     pub words: Request,
+}
+
+impl Drop for Channel {
+    fn drop(self) {
+        let Channel {
+            name: _,
+            fence: _,
+            words: _,
+        } = self;
+    }
 }
 
 impl Channel {

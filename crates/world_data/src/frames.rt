@@ -1,6 +1,8 @@
 //! The frames of a take.
 
-ghost use Rattle.std.specs.Prelude.{◌≡◌, ◌<◌, [], ◌∷◌, ◌++◌, length, slice_get, Some, IfOk, IsTrue, ◌↔◌};
+ghost use Rattle.std.specs.Prelude.{◌≡◌, ◌<◌, ◌≤◌, [], ◌∷◌, ◌++◌, length, take, slice_get, Some, IfOk, OnOk, OnErr};
+ghost use Rattle.std.specs.Prelude.{IsTrue, ◌↔◌, nat_lt, suc};
+ghost use Rattle.world_data.specs.Frames.{frame_bytes, text_of};
 
 use crate::limits::TAKE;
 use byte_text::{NoMemory, Text};
@@ -8,23 +10,29 @@ use std::alloc::Global;
 use std::marker::Model;
 use std::mem;
 
-/// The frames that a take gives: a list, and the places that it has, 64 or none.
+// A text of more bytes than this is let go when the frames are, and its memory is not kept for others.
+const MOST_KEPT: usize = 16_384;
+
+/// The frames that a take gives: a block of one text and the ends of the frames in it, and the places that it has, 64
+/// or none.
 #[derive(Drop)]
 pub struct Frames {
     alloc: Global,
-    list: Vec<Text>,
+    text: Text,
+    ends: Vec<usize>,
     places: usize,
 }
 
 impl Model for Frames {
     ghost use Rattle.std.specs.Prelude.{◌≤◌, length, vec_capacity};
-    ghost use Rattle.world_data.specs.Frames.{FrameList};
+    ghost use Rattle.world_data.specs.Frames.{AreEnds, FrameList, frames_between};
 
     ghost Value = { FrameList };
 
-    ghost view = { λ f. record { list = f.list.items; places = f.places } };
+    ghost view = { λ f. record { list = frames_between 0 f.ends.items f.text; places = f.places } };
 
-    ghost invariant = { λ f. (length f.list.items ≤ f.places) × (f.places ≤ vec_capacity f.list) };
+    ghost invariant = { λ f. AreEnds f.ends.items f.text × (length f.ends.items ≤ f.places)
+        × (f.places ≤ vec_capacity f.ends) };
 }
 
 impl Frames {
@@ -32,10 +40,11 @@ impl Frames {
     pub fn new(alloc: Global) -> Result<Frames, NoMemory>
         ensures { IfOk result (λ f. (f.list ≡ []) × (f.places ≡ 64)) }
     {
-        let list = Vec::with_capacity(alloc, TAKE)?;
+        let ends = Vec::with_capacity(alloc, TAKE)?;
         Ok(Frames {
             alloc,
-            list,
+            text: Text::new(alloc),
+            ends,
             places: TAKE,
         })
     }
@@ -47,7 +56,8 @@ impl Frames {
     {
         Frames {
             alloc,
-            list: Vec::new(alloc),
+            text: Text::new(alloc),
+            ends: Vec::new(alloc),
             places: 0,
         }
     }
@@ -66,14 +76,47 @@ impl Frames {
     pub fn len(&self) -> usize
         ensures { result ≡ length self.now.list }
     {
-        self.list.len()
+        self.ends.len()
     }
 
     /// Whether there is no frame.
     pub fn is_empty(&self) -> bool
         ensures { IsTrue result ↔ (self.now.list ≡ []) }
     {
-        self.list.is_empty()
+        self.len() == 0
+    }
+
+    /// Whether there is a place for one frame more.
+    pub fn has_place(&self) -> bool
+        ensures { result ≡ nat_lt (length self.now.list) self.now.places }
+    {
+        self.len() < self.places
+    }
+
+    // Where the frame at a place ends in the text.
+    fn end(&self, i: usize) -> usize
+        requires { i < length self.now.list }
+        ensures is { result ≡ length (text_of (take (suc i) self.now.list)) }
+        ensures within { result ≤ length (text_of self.now.list) }
+    {
+        self.ends[i]
+    }
+
+    // Where the frame at a place begins in the text, or where the last one ends.
+    fn start(&self, i: usize) -> usize
+        requires { i ≤ length self.now.list }
+        ensures is { result ≡ length (text_of (take i self.now.list)) }
+        ensures before { result ≤ length (text_of (take (suc i) self.now.list)) }
+    {
+        if i == 0 { 0 } else { self.end(i - 1) }
+    }
+
+    /// The bytes of all frames, one behind another.
+    pub fn bytes(&self) -> &[u8]
+        ensures all { result.now ≡ text_of self.now.list }
+        ensures size { length result.now ≡ frame_bytes self.now.list }
+    {
+        self.text.bytes()
     }
 
     /// The bytes of a frame, counted from 0.
@@ -81,7 +124,9 @@ impl Frames {
         requires { i < length self.now.list }
         ensures { slice_get self.now.list i ≡ Some result.now }
     {
-        self.list[i].bytes()
+        let (start, end) = (self.start(i), self.end(i));
+        let bytes = self.bytes();
+        &bytes[start..end]
     }
 
     /// Lets all frames go. The places stay.
@@ -89,15 +134,35 @@ impl Frames {
         ensures list { self.new.list ≡ [] }
         ensures places { self.new.places ≡ self.old.places }
     {
-        self.list.clear();
+        self.ends.clear();
+        if self.text.len() > MOST_KEPT {
+            self.text = Text::new(self.alloc);
+        } else {
+            self.text.truncate(0);
+        }
     }
 
-    /// Puts a frame last, where there is a place. It takes no memory.
-    pub fn put(&mut self, frame: Text)
-        requires { length self.old.list < self.old.places }
-        ensures list { self.new.list ≡ self.old.list ++ frame ∷ [] }
+    /// Keeps the first `count` frames, and all where there are no more. The places stay. It takes no memory.
+    pub fn keep(&mut self, count: usize)
+        ensures list { self.new.list ≡ take count self.old.list }
         ensures places { self.new.places ≡ self.old.places }
     {
-        self.list.push_reserved(frame);
+        if count < self.len() {
+            let end = self.start(count);
+            self.text.truncate(end);
+            self.ends.truncate(count);
+        }
+    }
+
+    /// Puts a frame last, where there is a place. For want of memory all is as before.
+    pub fn put(&mut self, frame: &[u8]) -> Result<(), NoMemory>
+        requires { length self.old.list < self.old.places }
+        ensures ok { OnOk result (self.new.list ≡ self.old.list ++ frame.now ∷ []) }
+        ensures places { self.new.places ≡ self.old.places }
+        ensures err { OnErr result (self.new ≡ self.old) }
+    {
+        self.text.push(frame)?;
+        self.ends.push_reserved(self.text.len());
+        Ok(())
     }
 }

@@ -46,7 +46,7 @@ pub const FULL_FRAMES: usize = 1024;
 pub const FULL_BYTES: u64 = 2_097_152;
 
 /// The most frames of a session's queue.
-pub const CAP_FRAMES: usize = 16_384;
+pub const CAP_FRAMES: usize = 32_768;
 
 /// The most bytes of the frames of a session's queue.
 pub const CAP_BYTES: u64 = 6_291_456;

@@ -13,7 +13,6 @@ use std::alloc::Global;
 use std::marker::Model;
 
 /// An object: its text with the shape that it has, its fields, and the moment at which it expires, if any.
-#[derive(Drop)]
 pub struct Object {
     pub key: Name,
     pub id: Name,
@@ -21,6 +20,19 @@ pub struct Object {
     pub shape: Shape,
     pub fields: Fields,
     pub deadline: Option<u64>,
+}
+
+impl Drop for Object {
+    fn drop(self) {
+        let Object {
+            key: _,
+            id: _,
+            text: _,
+            shape: _,
+            fields: _,
+            deadline: _,
+        } = self;
+    }
 }
 
 impl Object {

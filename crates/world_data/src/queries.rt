@@ -20,7 +20,6 @@ pub enum Shown {
 }
 
 /// Which objects are sought: all by id, all by id downwards, those that meet an area, or the nearest first.
-#[derive(Drop)]
 pub enum Rule {
     All,
     Descending,
@@ -28,8 +27,18 @@ pub enum Rule {
     Nearest,
 }
 
+impl Drop for Rule {
+    fn drop(self) {
+        match self {
+            Rule::All => {}
+            Rule::Descending => {}
+            Rule::InArea(_, _) => {}
+            Rule::Nearest => {}
+        }
+    }
+}
+
 /// A query. `bare` leaves the fields out; a page begins at the place `cursor` and has at most `limit` items.
-#[derive(Drop)]
 pub struct Query {
     pub rule: Rule,
     pub glob: Option<Name>,
@@ -38,6 +47,20 @@ pub struct Query {
     pub limit: u32,
     pub bare: bool,
     pub shown: Shown,
+}
+
+impl Drop for Query {
+    fn drop(self) {
+        let Query {
+            rule: _,
+            glob: _,
+            tests: _,
+            cursor: _,
+            limit: _,
+            bare: _,
+            shown: _,
+        } = self;
+    }
 }
 
 /// A page of a query: the ids of its items and where the next page begins, or the number of all matches alone.

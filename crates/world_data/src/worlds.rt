@@ -13,10 +13,18 @@ use byte_text::{Name, NoMemory};
 use std::alloc::Global;
 
 /// What the server holds: objects and channels, each in their order.
-#[derive(Drop)]
 pub struct World {
     pub objects: Objects,
     pub channels: Channels,
+}
+
+impl Drop for World {
+    fn drop(self) {
+        let World {
+            objects: _,
+            channels: _,
+        } = self;
+    }
 }
 
 /// A change of a world.

@@ -22,10 +22,6 @@ broken_off : (n at : ℕ) (b : ℕ) (tail : Bytes) → record_front (request (b 
 broken_off zero at b tail none = refl
 broken_off (suc n) at b tail none = ap (λ (x : Option (Change × Bytes)). records_behind at (b ∷ tail) x (first_records n)) none
 
-record_behind : (n at b k : ℕ) (bytes rest : Bytes) (c : Change) → record_front (request (b ∷ bytes)) ≡ Some (c, rest)
-    → first_records n (at + (length (b ∷ bytes) - length rest)) rest ≡ Err k → first_records (suc n) at (b ∷ bytes) ≡ Err k
-record_behind n at b k bytes rest c front behind = ap (λ (x : Option (Change × Bytes)). records_behind at (b ∷ bytes) x (first_records n)) front ∙ ap (with_record c) behind
-
 first_broken : (n at b : ℕ) (changes : List Change) (tail : Bytes) → AllByRecursion IsRecorded changes → record_front (request (b ∷ tail)) ≡ None
     → length (records_text changes) ≤ n → first_records n at (records_text changes ++ b ∷ tail) ≡ Err (at + length (records_text changes))
 first_broken n at b [] tail are none few = broken_off n at b tail none ∙ ap (λ (k : ℕ). Err k) (let e : at ≡ at + 0 = omega arith in e)

@@ -6,7 +6,7 @@ ghost use Rattle.outside.specs.Crashes.{LeavesOnly};
 ghost use Rattle.outside.specs.Sides.{Sides};
 ghost use Rattle.outside.specs.declared.sides.Side.{Side};
 ghost use Rattle.journal.specs.Journals.{Keeps, pending};
-ghost use Rattle.journal.specs.Openings.{IsLeftByOpening, IsUnopened, opened_len};
+ghost use Rattle.journal.specs.Openings.{AllSafeOn, IsLeftByOpening, IsUnopened, opened_len};
 ghost use Rattle.journal.specs.declared.openings.OpenFault.TheVariants as fault_of;
 ghost use Rattle.log_record.specs.Readings.{Damaged};
 ghost use Rattle.world_recovery.specs.Opened.{IsOpened, AreRecorded, disk_of};
@@ -30,12 +30,16 @@ pub struct OpenedWorld<D> {
 
 /// Opens the world on a disk: both sides are synced, and the records of the side in use are folded. On a fresh disk a
 /// log is begun, and the world is empty. Damaged comes only where the sides are damaged, with their first cause and its
-/// place; want of memory says nothing of them.
+/// place, and so after a crash, too; want of memory says nothing of them.
 pub fn open_world<D: Disk>(alloc: Global, disk: D) -> Result<OpenedWorld<D>, Unopened<D>>
     ensures opened { IfOk result (λ o. IsOpened D.crashes D.seen D.moment D.left_since disk o.journal.disk o.world
         (λ batches. Keeps D.crashes D.seen D.images o.journal batches [])) }
     ensures damaged { (s : Sides) → D.seen disk ≡ Some s
         → IfErr result (λ u. (side : Side) (place : ℕ) → u.why ≡ fault_of.Damaged side place → Damaged s side place) }
+    ensures settled { (s : Sides) → D.seen disk ≡ Some s
+        → IfErr result
+        (λ u. (side : Side) (place : ℕ) → u.why ≡ fault_of.Damaged side place
+        → AllSafeOn D.crashes D.seen D.images u.disk s) }
     ensures whole { (s : Sides) → D.seen disk ≡ Some s
         → IfOk result (λ _. (side : Side) (place : ℕ) → Damaged s side place → ⊥) }
     ensures leaves { (s : Sides) → D.seen disk ≡ Some s → D.crashes disk ≡ true

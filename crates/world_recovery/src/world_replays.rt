@@ -20,7 +20,6 @@ use world_store::StoredWorld;
 
 /// The world of the batches that were taken so far, and what was taken of the next one. The beginning of a record waits
 /// for the bytes that end it.
-#[derive(Drop)]
 pub struct WorldReplay {
     alloc: Global,
     records: Requests,
@@ -29,6 +28,18 @@ pub struct WorldReplay {
     taken: u64,
     // The place in it behind the last whole record.
     place: u64,
+}
+
+impl Drop for WorldReplay {
+    fn drop(self) {
+        let WorldReplay {
+            alloc: _,
+            records: _,
+            world: _,
+            taken: _,
+            place: _,
+        } = self;
+    }
 }
 
 impl Model for WorldReplay {

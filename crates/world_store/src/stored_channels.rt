@@ -14,11 +14,20 @@ use std::marker::Model;
 use world_data::Channel;
 
 /// Channels in order of their names, and the bytes of their records.
-#[derive(Drop)]
 pub(crate) struct StoredChannels {
     alloc: Global,
     hub: Hub,
     weight: u64,
+}
+
+impl Drop for StoredChannels {
+    fn drop(self) {
+        let StoredChannels {
+            alloc: _,
+            hub: _,
+            weight: _,
+        } = self;
+    }
 }
 
 impl Model for StoredChannels {

@@ -19,11 +19,20 @@ use world_data::Object;
 const MOST: usize = (1 << 32) - 1;
 
 /// Objects in order of key and id, and the bytes of their records.
-#[derive(Drop)]
 pub(crate) struct StoredObjects {
     objects: Keyspace,
     weight: u64,
     steps: Steps<Visits>,
+}
+
+impl Drop for StoredObjects {
+    fn drop(self) {
+        let StoredObjects {
+            objects: _,
+            weight: _,
+            steps: _,
+        } = self;
+    }
 }
 
 impl Model for StoredObjects {

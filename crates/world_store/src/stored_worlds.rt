@@ -17,10 +17,18 @@ use world_data::Change;
 
 /// A world as it is kept. A change of one object or channel takes time that grows as the logarithm of their number, and
 /// its root.
-#[derive(Drop)]
 pub struct StoredWorld {
     objects: StoredObjects,
     channels: StoredChannels,
+}
+
+impl Drop for StoredWorld {
+    fn drop(self) {
+        let StoredWorld {
+            objects: _,
+            channels: _,
+        } = self;
+    }
 }
 
 impl Model for StoredWorld {

@@ -89,7 +89,27 @@ returns-in-Ok-Standing-clause-same g c s told =
     let mid = c.start_log.new.disk in
     let arm = c.in-Ok-Standing in
     let safe = start_safe D.crashes D.seen D.images D.moment D.left_since D.faults old mid s told c.start_log.ensures.same (arm.ensures.a s told) (arm.ensures.b s told) in
-    if_err_each c.read_log.result _ (λ fault. inl (c.read_log.ensures.same s safe))
+    if_err_each c.read_log.result _ (λ fault. inl (c.read_log.ensures.settled s safe).told)
+
+pub returns-in-Ok-Standing-clause-settled : goal.returns-in-Ok-Standing-clause-settled
+returns-in-Ok-Standing-clause-settled g c s told =
+    let D = g.D.Disk in
+    let old = c.args.disk.now in
+    let mid = c.start_log.new.disk in
+    let arm = c.in-Ok-Standing in
+    let safe = start_safe D.crashes D.seen D.images D.moment D.left_since D.faults old mid s told c.start_log.ensures.same (arm.ensures.a s told) (arm.ensures.b s told) in
+    if_err_each c.read_log.result _ (λ fault side place is. c.read_log.ensures.settled s safe)
+
+pub returns-in-Ok-Fresh-clause-settled : goal.returns-in-Ok-Fresh-clause-settled
+returns-in-Ok-Fresh-clause-settled g c s told = IfErr-weaker c.begin_log.result _ _ (λ fault none side place is. absurd (none side place is)) c.begin_log.ensures.damaged
+
+pub returns-in-Ok-Damaged-clause-settled : goal.returns-in-Ok-Damaged-clause-settled
+returns-in-Ok-Damaged-clause-settled g c s told side place is =
+    let D = g.D.Disk in
+    let old = c.args.disk.now in
+    let mid = c.start_log.new.disk in
+    let arm = c.in-Ok-Damaged in
+    start_safe D.crashes D.seen D.images D.moment D.left_since D.faults old mid s told c.start_log.ensures.same (arm.ensures.a s told) (arm.ensures.b s told)
 
 pub returns-in-Ok-Fresh-clause-same : goal.returns-in-Ok-Fresh-clause-same
 returns-in-Ok-Fresh-clause-same g c s told =

@@ -6,7 +6,7 @@ use Rattle.log_sides.specs.States.{SideIsSafe}
 use Rattle.append_log.specs.Reading.{IsAtGate}
 use Rattle.journal.proofs.Found.{side_safe}
 use Rattle.journal.proofs.Steps.{if_ok_three}
-use Rattle.journal.proofs.Opens.{log_read, read_leaves, read_same, took_from, looked_from, broken_at, broken_in}
+use Rattle.journal.proofs.Opens.{log_read, read_leaves, read_safe, took_from, looked_from, broken_at, broken_in}
 use Rattle.journal.proofs.openings.read_log.Goals as goal
 
 pub returns-in-Ok-clause-read : goal.returns-in-Ok-clause-read
@@ -34,15 +34,15 @@ returns-in-Err-clause-leaves g c s safe told =
     let D = g.D.Disk in
     read_leaves D.crashes D.seen D.images D.moment D.left_since D.faults c.args.disk.now c.replay_side.new.disk c.new.result.side s safe c.replay_side.ensures.looked told
 
-pub returns-in-Ok-clause-same : goal.returns-in-Ok-clause-same
-returns-in-Ok-clause-same g c s safe =
+pub returns-in-Ok-clause-settled : goal.returns-in-Ok-clause-settled
+returns-in-Ok-clause-settled g c s safe =
     let D = g.D.Disk in
-    read_same D.crashes D.seen D.images D.moment D.left_since D.faults c.args.disk.now c.replay_side.new.disk c.new.result.side s safe c.replay_side.ensures.looked
+    read_safe D.crashes D.seen D.images D.moment D.left_since D.faults c.args.disk.now c.replay_side.new.disk c.new.result.side s safe c.replay_side.ensures.looked
 
-pub returns-in-Err-clause-same : goal.returns-in-Err-clause-same
-returns-in-Err-clause-same g c s safe =
+pub returns-in-Err-clause-settled : goal.returns-in-Err-clause-settled
+returns-in-Err-clause-settled g c s safe =
     let D = g.D.Disk in
-    read_same D.crashes D.seen D.images D.moment D.left_since D.faults c.args.disk.now c.replay_side.new.disk c.new.result.side s safe c.replay_side.ensures.looked
+    read_safe D.crashes D.seen D.images D.moment D.left_since D.faults c.args.disk.now c.replay_side.new.disk c.new.result.side s safe c.replay_side.ensures.looked
 
 pub returns-in-Ok-clause-damaged : goal.returns-in-Ok-clause-damaged
 returns-in-Ok-clause-damaged g c s safe used =

@@ -32,10 +32,10 @@ returns-then-len-gt-MAX_FIELDS c =
     let o = c.args.object in
     let r = c.get-old.result in
     let free : is_kept_back c.args.terms.only (option_map (λ (o : Bor Object). o.now) r) ≡ false = sym (c.keeps_back.ensures _ (sym c.is_none-is_new.ensures ∙ is_there r)) ∙ c.if-keeps_back.false in
-    let fields = c.in_ok-with_values.ensures ∙ ap (λ (fs : List Field). with_values fs (given_and_cleared o.fields c.args.terms.cleared)) c.in_ok-fields.ensures in
-    let more : max_fields < length c.in_ok-with_values.field-0 = omega (arith, c.if-len-gt-MAX_FIELDS.true, c.len.ensures.count) in
+    let fields = c.in_ok-whole.ensures ∙ ap (λ (fs : List Field). with_values fs (given_and_cleared o.fields c.args.terms.cleared)) c.in_ok-fields.ensures in
+    let more : max_fields < length c.in_ok-whole.field-0 = omega (arith, c.if-len-gt-MAX_FIELDS.true, c.len.ensures.count) in
     answers xs c.args.total c.requires.kept _ (refusal_reply refusal.TooManyFields) _ refl c.say_refusal.ensures _
-    (many xs o o.fields c.args.terms.cleared c.args.terms.seconds c.args.terms.only c.args.now r c.get-old.ensures.none c.get-old.ensures.some free c.in_ok-with_values.field-0 c.deadline_after.result fields c.deadline_after.ensures more)
+    (many xs o o.fields c.args.terms.cleared c.args.terms.seconds c.args.terms.only c.args.now r c.get-old.ensures.none c.get-old.ensures.some free c.in_ok-whole.field-0 c.deadline_after-whole.result fields c.deadline_after-whole.ensures more)
 
 pub returns-then-len-ge-MAX_OBJECTS : goal.returns-then-len-ge-MAX_OBJECTS
 returns-then-len-ge-MAX_OBJECTS c =
@@ -43,12 +43,12 @@ returns-then-len-ge-MAX_OBJECTS c =
     let o = c.args.object in
     let r = c.get-old.result in
     let free : is_kept_back c.args.terms.only (option_map (λ (o : Bor Object). o.now) r) ≡ false = sym (c.keeps_back.ensures _ (sym c.is_none-is_new.ensures ∙ is_there r)) ∙ c.if-keeps_back.false in
-    let fields = c.in_ok-with_values.ensures ∙ ap (λ (fs : List Field). with_values fs (given_and_cleared o.fields c.args.terms.cleared)) c.in_ok-fields.ensures in
-    let less : length c.in_ok-with_values.field-0 ≤ max_fields = omega (arith, c.if-len-gt-MAX_FIELDS.false, c.len.ensures.count) in
+    let fields = c.in_ok-whole.ensures ∙ ap (λ (fs : List Field). with_values fs (given_and_cleared o.fields c.args.terms.cleared)) c.in_ok-fields.ensures in
+    let less : length c.in_ok-whole.field-0 ≤ max_fields = omega (arith, c.if-len-gt-MAX_FIELDS.false, c.len.ensures.count) in
     let new : is_none r ≡ true = new_is r _ c.is_none-is_new.ensures ∙ c.if-is_new.true in
     let le : max_objects ≤ length xs = omega (arith, c.if-len-ge-MAX_OBJECTS.true, c.len-then-is_new.ensures.count) in
     answers xs c.args.total c.requires.kept _ (refusal_reply refusal.TooManyObjects) _ refl c.say_refusal-then-len-ge-MAX_OBJECTS.ensures _
-    (full xs o o.fields c.args.terms.cleared c.args.terms.seconds c.args.terms.only c.args.now r c.get-old.ensures.none c.get-old.ensures.some free c.in_ok-with_values.field-0 c.deadline_after.result fields c.deadline_after.ensures less new le)
+    (full xs o o.fields c.args.terms.cleared c.args.terms.seconds c.args.terms.only c.args.now r c.get-old.ensures.none c.get-old.ensures.some free c.in_ok-whole.field-0 c.deadline_after-whole.result fields c.deadline_after-whole.ensures less new le)
 
 pub plan_put-requires-clause-short : goal.plan_put-requires-clause-short
 plan_put-requires-clause-short c = subst (λ (f : Bytes). length f ≤ max_reply) (sym c.in_ok-fine_frame.ensures) (lit≤ tt)
@@ -59,16 +59,16 @@ returns c =
     let w = world_in c.args.objects.now in
     let o = c.args.object in
     let r = c.get-old.result in
-    let fs = c.in_ok-with_values.field-0 in
-    let d = c.deadline_after.result in
+    let fs = c.in_ok-whole.field-0 in
+    let d = c.deadline_after-whole.result in
     let free : is_kept_back c.args.terms.only (option_map (λ (o : Bor Object). o.now) r) ≡ false = sym (c.keeps_back.ensures _ (sym c.is_none-is_new.ensures ∙ is_there r)) ∙ c.if-keeps_back.false in
-    let fields = c.in_ok-with_values.ensures ∙ ap (λ (fs : List Field). with_values fs (given_and_cleared o.fields c.args.terms.cleared)) c.in_ok-fields.ensures in
+    let fields = c.in_ok-whole.ensures ∙ ap (λ (fs : List Field). with_values fs (given_and_cleared o.fields c.args.terms.cleared)) c.in_ok-fields.ensures in
     let less : length fs ≤ max_fields = omega (arith, c.if-len-gt-MAX_FIELDS.false, c.len.ensures.count) in
     let whole : Object = record { key = o.key; id = o.id; text = o.text; shape = o.shape; fields = fs; deadline = d } in
     let put : setting xs o o.fields c.args.terms.cleared c.args.terms.seconds c.args.terms.only c.args.now r c.get-old.ensures.none c.get-old.ensures.some ≡ put_or_full w whole fine true = elim c.else-is_new.branch [
       | else-is_new-via-then-is_new+else-len-ge-MAX_OBJECTS b ↦
-          put_more xs o o.fields c.args.terms.cleared c.args.terms.seconds c.args.terms.only c.args.now r c.get-old.ensures.none c.get-old.ensures.some free fs d fields c.deadline_after.ensures less (omega (arith, b.if-len-ge-MAX_OBJECTS.false, b.len-then-is_new.ensures.count))
+          put_more xs o o.fields c.args.terms.cleared c.args.terms.seconds c.args.terms.only c.args.now r c.get-old.ensures.none c.get-old.ensures.some free fs d fields c.deadline_after-whole.ensures less (omega (arith, b.if-len-ge-MAX_OBJECTS.false, b.len-then-is_new.ensures.count))
       | else-is_new-via-else-is_new b ↦
-          put_over xs o o.fields c.args.terms.cleared c.args.terms.seconds c.args.terms.only c.args.now r c.get-old.ensures.none c.get-old.ensures.some free fs d fields c.deadline_after.ensures less (new_is r _ c.is_none-is_new.ensures ∙ b.if-is_new.false)
+          put_over xs o o.fields c.args.terms.cleared c.args.terms.seconds c.args.terms.only c.args.now r c.get-old.ensures.none c.get-old.ensures.some free fs d fields c.deadline_after-whole.ensures less (new_is r _ c.is_none-is_new.ensures ∙ b.if-is_new.false)
     ] in
     IfOk-weaker c.plan_put.result _ _ (λ p s. subst (λ (e : Effect). IsPlan xs e p) (sym put) s) (c.plan_put.ensures fine c.in_ok-fine_frame.ensures)

@@ -2,12 +2,14 @@ use Rattle.std.proofs.Common.{◌≡◌, ◌≢◌, ◌≤◌, ◌+◌, ◌⊎�
 use Rattle.std.specs.Prelude.{Some}
 use Rattle.outside.specs.Causes.{Rose}
 use Rattle.outside.specs.Sides.{Sides}
+use Rattle.world_data.specs.declared.worlds.World.{World}
 use Rattle.world_model.specs.declared.events.CallOutcome.TheVariants as called
 use Rattle.durable_core.specs.Logged.{hall_of, disk_of}
 use Rattle.replay_run.specs.declared.ends.ReplayEnd.{ReplayEnd}
 use Rattle.replay_run.specs.declared.halts.Halt.TheVariants as halted
 use Rattle.replay_run.specs.declared.turns.Turn.{Turn}
 use Rattle.replay_run.specs.declared.turns.Turn.TheVariants.{End, Halted}
+use Rattle.replay_run.specs.HandedBack.{HoldsWorld}
 use Rattle.replay_run.specs.Traces.{Deed}
 use Rattle.replay_run.specs.Undone.{halt_at}
 use Rattle.replay_run.specs.Standing.{IsSafeFor}
@@ -81,10 +83,10 @@ returns-in_default g c =
           let ends : (s : Sides) → seen ≡ Some s → crashes ≡ true → IsSafeFor g.D.Disk.images g.D.Disk.left_since disk (past ++ ((i.going.0 ++ t.0) ++ retired answered)) = λ s is crash.
           let all = (stays_more g.D.Disk.crashes g.D.Disk.seen g.D.Disk.images g.D.Disk.moment g.D.Disk.left_since g.D.Disk.faults c.args.first.core c.loop-turned.player.core c.in-Ok.turned.player.core i.going.0 t.0 i.going.2 t.2).stands past (stands s is crash) in
           subst (λ (z : List Deed). IsSafeFor g.D.Disk.images g.D.Disk.left_since disk z) (append_assoc past (i.going.0 ++ t.0) (retired answered)) (c.retire-answer.ensures.safe (past ++ (i.going.0 ++ t.0)) all) in
-          let plays = ends_play told (played c.args.first) (λ deeds. (s : Sides) → seen ≡ Some s → crashes ≡ true → IsSafeFor g.D.Disk.images g.D.Disk.left_since disk (past ++ deeds))
+          let plays = ends_play told (played c.args.first) (λ (w : World). told ≡ true → HoldsWorld (g.D.Disk.seen disk) w) (λ deeds. (s : Sides) → seen ≡ Some s → crashes ≡ true → IsSafeFor g.D.Disk.images g.D.Disk.left_since disk (past ++ deeds))
           (g.S.Source.left c.args.source.now) (g.S.Source.left c.loop-turned.source) (g.S.Source.left c.one_turn.new.source) (g.K.Sink.held c.args.sink.now) (g.K.Sink.held c.loop-turned.sink) (g.K.Sink.held c.one_turn.new.sink)
-          c.loop-turned.number c.loop-turned.used c.one_turn.new.used (played c.loop-turned.player) (played c.in-Ok.turned.player) i.going.0 t.0 (i.going.1 told logs) turn answered (t.1 told (λ is. i.going.2.logs (logs is))) e.piece c.in_default.not-Next e.done i.goes c.retire-answer.ensures.retired ends in
-          subst (λ (z : ReplayEnd). OnPlay told (played c.args.first) (λ deeds. (s : Sides) → seen ≡ Some s → crashes ≡ true → IsSafeFor g.D.Disk.images g.D.Disk.left_since disk (past ++ deeds)) z (g.S.Source.left c.args.source.now) (g.S.Source.left c.one_turn.new.source) (g.K.Sink.held c.args.sink.now) (g.K.Sink.held c.one_turn.new.sink)) (sym c.end_of-end.ensures) plays;
+          c.loop-turned.number c.loop-turned.used c.one_turn.new.used (played c.loop-turned.player) (played c.in-Ok.turned.player) i.going.0 t.0 (i.going.1 told logs) turn answered (t.1 told (λ is. i.going.2.logs (logs is))) e.piece c.in_default.not-Next e.done i.goes c.retire-answer.ensures.retired (λ ok is. c.retire-answer.ensures.holds (t.2.logs (i.going.2.logs (logs is))) ok) ends in
+          subst (λ (z : ReplayEnd). OnPlay told (played c.args.first) (λ (w : World). told ≡ true → HoldsWorld (g.D.Disk.seen disk) w) (λ deeds. (s : Sides) → seen ≡ Some s → crashes ≡ true → IsSafeFor g.D.Disk.images g.D.Disk.left_since disk (past ++ deeds)) z (g.S.Source.left c.args.source.now) (g.S.Source.left c.one_turn.new.source) (g.K.Sink.held c.args.sink.now) (g.K.Sink.held c.one_turn.new.sink)) (sym c.end_of-end.ensures) plays;
       source = omega (arith, source_before, source_now);
       sink = omega (arith, sink_before, sink_now);
       disk = omega (arith, disk_before, disk_now, disk_last);
@@ -112,7 +114,7 @@ returns-in-Err-clause-told g c told crashes seen past logs stands =
     let disk = c.in-Err.unopened.disk in
     let ends : (s : Sides) → seen ≡ Some s → crashes ≡ true → IsSafeFor g.D.Disk.images g.D.Disk.left_since disk (past ++ (i.going.0 ++ f.0)) = λ s is crash.
     subst (λ (z : List Deed). IsSafeFor g.D.Disk.images g.D.Disk.left_since disk z) (append_assoc past i.going.0 f.0) (f.5 (past ++ i.going.0) (i.going.2.stands past (stands s is crash))) in
-    let cut = ends_unopened told (played c.args.first) (λ deeds. (s : Sides) → seen ≡ Some s → crashes ≡ true → IsSafeFor g.D.Disk.images g.D.Disk.left_since disk (past ++ deeds))
+    let cut = ends_unopened told (played c.args.first) (λ (w : World). told ≡ true → HoldsWorld (g.D.Disk.seen disk) w) (λ deeds. (s : Sides) → seen ≡ Some s → crashes ≡ true → IsSafeFor g.D.Disk.images g.D.Disk.left_since disk (past ++ deeds))
     (g.S.Source.left c.args.source.now) (g.S.Source.left c.loop-turned.source) (g.S.Source.left c.one_turn.new.source) (g.K.Sink.held c.args.sink.now) (g.K.Sink.held c.loop-turned.sink) (g.K.Sink.held c.one_turn.new.sink)
     c.loop-turned.number c.loop-turned.used c.one_turn.new.used (played c.loop-turned.player) (played c.loop-turned.player) i.going.0 f.0 (i.going.1 told logs) (halt_at c.in-Err.unopened.why) f.1 f.4 (f.2 told (λ is. i.going.2.logs (logs is))) f.3 ends in
     subst (λ z. IsCut told (played c.args.first) (λ deeds. (s : Sides) → seen ≡ Some s → crashes ≡ true → IsSafeFor g.D.Disk.images g.D.Disk.left_since disk (past ++ deeds)) (g.S.Source.left c.args.source.now) (g.S.Source.left c.one_turn.new.source) (g.K.Sink.held c.args.sink.now) (g.K.Sink.held c.one_turn.new.sink) z []) (sym c.halt_of.ensures) cut

@@ -15,7 +15,7 @@ loop-i-preserved c =
     let was : vec_len c.args.sessions.now ≡ length c.args.sessions.now.items = search rules in
     let long = done_length IsPlaced l.i c.args.sessions.now.items l.sessions.items l.invariant in
     let at : slice_get l.sessions.items l.i ≡ Some s = slice_get_read l.sessions.items (length l.sessions.items) l.i s refl (omega (arith, c.loop-i-test.true, c.len-i-end.ensures, was, long)) c.index_mut.ensures.value in
-    done_next IsPlaced l.i c.args.sessions.now.items l.sessions.items s c.place_staged.new.self l.invariant at (record { same = c.place_staged.ensures.same; bare = c.place_staged.ensures.staged; spare = c.place_staged.ensures.spare })
+    done_next IsPlaced l.i c.args.sessions.now.items l.sessions.items s c.place_staged.new.self l.invariant at (record { same = c.place_staged.ensures.same; bare = c.place_staged.ensures.staged; replies = c.place_staged.ensures.replies })
 
 pub returns-clause-placed : goal.returns-clause-placed
 returns-clause-placed c =

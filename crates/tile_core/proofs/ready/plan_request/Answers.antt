@@ -10,7 +10,7 @@ use Rattle.session_table.specs.Sessions.{State, session_of}
 use Rattle.session_table.specs.FanLaws.{same_set}
 use Rattle.object_plans.specs.Moves.{world_with}
 use Rattle.channel_plans.specs.Planned.{IsPlanned}
-use Rattle.tile_core.specs.Ready.{planned_writes, reply_count}
+use Rattle.tile_core.specs.Ready.{planned_writes}
 use Rattle.tile_core.specs.Staged.{StagesBehind}
 use Rattle.tile_core.specs.Stores.{world_at}
 use Rattle.tile_core.proofs.Present.{get_set}
@@ -24,13 +24,13 @@ same_is a b e = cc
 read_there : (old new : List State) (i : ℕ) (s : State) → map session_of new ≡ map session_of old → i < length old → (i < length new → slice_get new i ≡ Some s) → slice_get new i ≡ Some s
 read_there old new i s same lt f = let long = as_long new old same in f (omega (arith, long, lt))
 
-pub returns-in_err-reserve-clause-same : goal.returns-in_err-reserve-clause-same
-returns-in_err-reserve-clause-same c =
+pub returns-in_err-hold_reply-clause-same : goal.returns-in_err-hold_reply-clause-same
+returns-in_err-hold_reply-clause-same c =
     let old = c.args.sessions.now.items in
     let mid = c.stage_planned.new.sessions.items in
     let s = c.index_mut.result.now in
     let at = read_there old mid c.args.at s c.stage_planned.ensures.same c.requires.at (λ lt. slice_get_read mid (length mid) c.args.at s refl lt c.index_mut.ensures.value) in
-    same_set mid c.args.at s c.reserve.new.self at c.reserve.ensures.same ∙ c.stage_planned.ensures.same
+    same_set mid c.args.at s c.hold_reply.new.caller at c.hold_reply.ensures.same ∙ c.stage_planned.ensures.same
 
 pub returns-clause-same : goal.returns-clause-same
 returns-clause-same c =
@@ -38,7 +38,7 @@ returns-clause-same c =
     let mid = c.stage_planned.new.sessions.items in
     let s = c.index_mut.result.now in
     let at = read_there old mid c.args.at s c.stage_planned.ensures.same c.requires.at (λ lt. slice_get_read mid (length mid) c.args.at s refl lt c.index_mut.ensures.value) in
-    same_set mid c.args.at s c.reserve.new.self at c.reserve.ensures.same ∙ c.stage_planned.ensures.same
+    same_set mid c.args.at s c.hold_reply.new.caller at c.hold_reply.ensures.same ∙ c.stage_planned.ensures.same
 
 pub returns-clause-planned : goal.returns-clause-planned
 returns-clause-planned c =
@@ -46,7 +46,7 @@ returns-clause-planned c =
     let old = c.args.sessions.now.items in
     let mid = c.stage_planned.new.sessions.items in
     let s = c.index_mut.result.now in
-    let v = c.reserve.new.self in
+    let v = c.hold_reply.new.caller in
     let p = c.in_ok-planned.planned in
     let at = read_there old mid c.args.at s c.stage_planned.ensures.same c.requires.at (λ lt. slice_get_read mid (length mid) c.args.at s refl lt c.index_mut.ensures.value) in
     let world : world_with c.make_room_for.new.store.hub.channels (objects_in c.make_room_for.new.store.objects) ≡ world_at store = same_world (record store { steps = c.plan_asked.new.steps }) c.make_room_for.new.store c.make_room_for.ensures.kept.before in
@@ -55,11 +55,11 @@ returns-clause-planned c =
       plan = λ t here.
           let subs : c.subscriptions.result.now ≡ t.subs = c.subscriptions.ensures.same ∙ ap (λ (x : State). x.subs) (c.index.ensures ∙ got_at old c.args.at t c.index.result.now here) in
           subst (λ (held : List Sub). IsPlanned (world_at store) store.weight held (effect_of_asked (world_at store) c.args.now held c.args.asked.now) p) subs c.in_ok-planned.ensures;
-      staged = λ first writes is staged. staged_set first _ mid c.args.at s v at c.reserve.ensures.same c.reserve.ensures.staged (behind first writes is staged);
+      staged = λ first writes is staged. staged_set first _ mid c.args.at s v at c.hold_reply.ensures.same c.hold_reply.ensures.staged (behind first writes is staged);
       room = c.in_ok-make_room_for.ensures.room;
-      spare = λ t here.
+      replies = λ t here.
           let is : v ≡ t = same_is v t (sym (get_set mid c.args.at s v at) ∙ here) in
-          subst (λ (x : State). reply_count p ≤ x.mail.spare) is (subst (λ (n : ℕ). n ≤ v.mail.spare) c.reply_count.ensures c.in_ok-reserve.ensures.room);
+          ap (λ (x : State). x.mail.replies) (sym is) ∙ c.in_ok-hold_reply.ensures.replies;
     }
 
 pub returns-clause-room : goal.returns-clause-room
@@ -68,8 +68,8 @@ returns-clause-room c =
     let room = c.make_room_for.new.store in
     roomier store (record store { steps = c.plan_asked.new.steps }) room (record room { steps = c.stage_planned.new.steps }) refl c.make_room_for.ensures.kept refl
 
-pub returns-in_err-reserve-clause-room : goal.returns-in_err-reserve-clause-room
-returns-in_err-reserve-clause-room c =
+pub returns-in_err-hold_reply-clause-room : goal.returns-in_err-hold_reply-clause-room
+returns-in_err-hold_reply-clause-room c =
     let store = c.args.store.now in
     let room = c.make_room_for.new.store in
     roomier store (record store { steps = c.plan_asked.new.steps }) room (record room { steps = c.stage_planned.new.steps }) refl c.make_room_for.ensures.kept refl

@@ -11,9 +11,8 @@ returns-after-found-clause-told g c =
       logged = f.1;
       opens = f.2.opens;
       generation = c.in-Ok.found.generation;
-      counted = c.in-Ok.ensures.generation;
       answered = c.in-Ok.found.answer;
-      ends = f.3;
+      left = f.3;
       ended = elim c.match-found.branch [
         | in-Ok-Ok w ↦ inl (
           w.in-Ok-Ok.is-0,
@@ -32,5 +31,6 @@ returns-in-Err-clause-told g c = inl (record {
   why = c.halt_of.result;
   unspent = unspent_as c.in-Err.unopened.why c.halt_of.result c.halt_of.ensures;
   damaged = damaged_as _ c.in-Err.unopened.why c.halt_of.result c.halt_of.ensures c.in-Err.ensures.damaged;
+  back = (c.in-Err.unopened.why, c.halt_of.ensures, c.in-Err.ensures.back);
   ended = c.end_halt-status.ensures.told;
 })

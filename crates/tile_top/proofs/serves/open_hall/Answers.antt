@@ -1,7 +1,13 @@
-use Rattle.std.proofs.Common.{refl, sym, subst}
+use Rattle.std.proofs.Common.{◌≤◌, ◌∙◌, refl, sym, ap, subst}
+use Rattle.std.specs.Prelude.{min}
+use Rattle.outside.specs.Causes.{most_count}
+use Rattle.world_model.specs.Seats.{Knows}
+use Rattle.durable_core.specs.Logged.{disk_of}
+use Rattle.replay_run.specs.BackLaws.{given_up}
 use Rattle.shared_hall.specs.Cores.{IsOpenedOn}
 use Rattle.shared_hall.specs.OpeningLaws.{is_opened_on}
 use Rattle.tile_top.specs.Fronts.{IsFirst}
+use Rattle.tile_top.proofs.Fronting.{count_later}
 use Rattle.tile_top.proofs.serves.open_hall.Goals as goal
 
 pub new-requires : goal.new-requires
@@ -18,3 +24,15 @@ returns-in-Ok-new-clause-first g c =
       unmade = refl;
       front = refl;
     })
+
+pub returns-in-Ok-new-clause-begun : goal.returns-in-Ok-new-clause-begun
+returns-in-Ok-new-clause-begun g c = subst (λ (k : Knows). min (g.D.Disk.faults c.args.disk) most_count ≤ k.opening.count) (sym c.in-Ok-new.ensures.knows)
+    (count_later (g.D.Disk.faults c.args.disk) _ c.in-Ok.ensures.later)
+
+pub returns-in-Err-new-clause-back : goal.returns-in-Err-new-clause-back
+returns-in-Err-new-clause-back g c =
+    let e = c.in-Ok.ensures in
+    given_up g.D.Disk.crashes g.D.Disk.seen g.D.Disk.images g.D.Disk.moment g.D.Disk.left_since c.args.disk _ c.in-Ok.core _ (c.into_disk.ensures ∙ ap disk_of c.in-Err-new.ensures.back) refl e.log e.opened.recovers e.leaves
+
+pub returns-in-Err-clause-back : goal.returns-in-Err-clause-back
+returns-in-Err-clause-back g c = record { reads = c.in-Err.ensures.same; leaves = c.in-Err.ensures.leaves }

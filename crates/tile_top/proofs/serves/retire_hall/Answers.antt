@@ -1,7 +1,7 @@
 use Rattle.std.proofs.Common.{ap}
 use Rattle.shared_hall.specs.Turns.{retire_outcome}
 use Rattle.shared_hall.specs.Seats.{knows_of}
-use Rattle.tile_top.proofs.Fronting.{behind_as, given_left, given_well}
+use Rattle.tile_top.proofs.Fronting.{behind_as, counts_as, given_left, given_well}
 use Rattle.tile_top.proofs.serves.retire_hall.Goals as goal
 
 pub returns-in-Some-clause-front : goal.returns-in-Some-clause-front
@@ -24,4 +24,11 @@ returns-in-None-clause-front g c = record {
 }
 
 pub returns-in-None-clause-given : goal.returns-in-None-clause-given
-returns-in-None-clause-given g c settled = absurd (given_well (knows_of c.args.seat) (knows_of c.retire-given.new.seat) c.retire-given.result c.in-None.is c.retire-given.ensures.entry settled)
+returns-in-None-clause-given g c due =
+    let r = c.retire-given.ensures in
+    absurd (given_well (knows_of c.args.seat) (knows_of c.retire-given.new.seat) c.retire-given.result c.in-None.is r.once r.entry due)
+
+pub returns-in-Some-clause-counted : goal.returns-in-Some-clause-counted
+returns-in-Some-clause-counted g c handed begun =
+    let r = c.retire-given.ensures in
+    counts_as g.D.Disk.faults handed (knows_of c.args.seat) (knows_of c.retire-given.new.seat) c.retire-given.result (c.in-Some.disk, c.in-Some.answer) c.in-Some.is r.entry.opening begun r.counted

@@ -6,7 +6,7 @@ use Rattle.atomic_table.proofs.shared.Seat.TheSendSync as seat
 use Rattle.turn_lock.proofs.seat.Held.TheSendSync as held
 use Rattle.shared_hall.proofs.Crosses.{answer_send, hall_core_send, shared_hall_send, shared_hall_sync, work_send}
 use Rattle.shared_hall.specs.Seats.{IsOf, knows_of}
-use Rattle.tile_top.proofs.Fronting.{fronts_behind, serves_as, told_of, unbegun}
+use Rattle.tile_top.proofs.Fronting.{begun_still, fronts_behind, serves_as, told_of, unbegun}
 use Rattle.tile_top.proofs.serves.serve_on.Goals as goal
 use Rattle.tile_top.proofs.serves.serve_on.Goals.{in-Ok-try_clone, in-Err-try_clone}
 
@@ -29,9 +29,17 @@ retire_hall-requires-clause-seat g c = elim c.match-try_clone.branch [
 ]
 
 pub returns-after-try_clone-clause-serves : goal.returns-after-try_clone-clause-serves
-returns-after-try_clone-clause-serves g c seen first = fronts_behind knows_of _ _ _ _ (knows_of c.match-try_clone.seat) _ _ _ (g.K.Sink.held c.match-try_clone.sink) _ c.match-try_clone.status _ c.retire_hall.result.front c.retire_hall.ensures.some first
+returns-after-try_clone-clause-serves g c seen first = fronts_behind knows_of _ _ _ _ (knows_of c.match-try_clone.seat) _ _ _ (g.K.Sink.held c.match-try_clone.sink) _ c.match-try_clone.status _ c.retire_hall.result.front first
     (elim c.match-try_clone.branch [
       | in-Ok-try_clone w ↦ serves_as _ _ _ _ _ _ _ _ _ _ _ _ _ (ap knows_of (sym w.seat-is)) (cc) (ap g.K.Sink.held (sym w.sink-is)) (sym w.status-is) w.serve_links-status.ensures.serves
       | in-Err-try_clone w ↦ serves_as _ _ _ _ _ _ _ _ _ _ _ _ _ (ap knows_of (sym w.seat-is)) (cc) (ap g.K.Sink.held (sym w.sink-is)) (sym w.status-is) (unbegun _ _ _ _ _ _ _ w.end-status.ensures.told)
     ])
     c.retire_hall.ensures.front
+
+pub returns-after-try_clone-clause-counted : goal.returns-after-try_clone-clause-counted
+returns-after-try_clone-clause-counted g c handed begun = c.retire_hall.ensures.counted handed (begun_still handed (knows_of c.args.seat).opening (knows_of c.match-try_clone.seat).opening
+    (elim c.match-try_clone.branch [
+      | in-Ok-try_clone w ↦ ap (λ s. (knows_of s).opening) w.seat-is ∙ w.serve_links-status.ensures.opening
+      | in-Err-try_clone w ↦ ap (λ s. (knows_of s).opening) w.seat-is
+    ])
+    begun)

@@ -16,7 +16,7 @@ use Rattle.tile_core.specs.Stores.{hall_of, ArePresent}
 use Rattle.tile_core.specs.Sessions.{IsAt, AreOthers, is_open, are_rising}
 use Rattle.tile_core.proofs.Halving.{rising}
 use Rattle.tile_core.proofs.Takes.{absent, empty, ended, given}
-use Rattle.tile_core.proofs.Finishing.{bare_at, bare_remove, bare_set, present_set, present_remove}
+use Rattle.tile_core.proofs.Finishing.{bare_remove, bare_set, present_set, present_remove}
 use Rattle.tile_core.proofs.cores.Core.take.Goals as goal
 
 some_of : (a b : ℕ) → a ≡ b → 0 < a → 0 < b
@@ -43,7 +43,7 @@ invariant_of-self c =
     let at = subst (λ (ss : List State). IsAt ss c.args.session c.in-Some.at) c.as_slice.ensures.value c.in-Some.ensures.found in
     let is : c.index_mut.result.now ≡ at.session = c.index_mut.ensures.value ∙ got_at k.sessions.items c.in-Some.at at.session c.index_mut.result.now at.here in
     let same : c.take_frames.new.self.number ≡ at.session.number = ap (λ (h : Session). h.number) c.take_frames.ensures.left ∙ ap (λ (s : State). s.number) is in
-    let staged : c.take_frames.new.self.mail.staged ≡ [] = c.take_frames.ensures.staged ∙ ap (λ (s : State). s.mail.staged) is ∙ bare_at k.sessions.items c.in-Some.at at.session c.self.invariant.bare at.here in
+    let staged : c.take_frames.new.self.mail.staged ≡ [] = c.take_frames.ensures.staged in
     record { kept = c.self.invariant.kept; early = c.self.invariant.early; present = present_set k.drawn k.sessions.items c.in-Some.at at.session c.take_frames.new.self c.self.invariant.present at.here same; bare = bare_set k.sessions.items c.in-Some.at c.take_frames.new.self c.self.invariant.bare staged }
 
 pub returns-then-frames-gt0-clause-step : goal.returns-then-frames-gt0-clause-step
