@@ -14,7 +14,7 @@ pub record Passes {D : Type 0} (crashes : D → Bool) (seen : D → Option Sides
   pub later : faults old ≤ faults now
   pub safe : (bytes : Bytes) → SideIsSafe (crashes old) (seen old) (images old) side (λ x. x ≡ bytes) → SideIsSafe (crashes now) (seen now) (images now) side (λ x. x ≡ bytes)
   pub same : (bytes : Bytes) → SideIsSafe (crashes old) (seen old) (images old) side (λ x. x ≡ bytes) → SideLeads crashes seen images moment left_since side (λ x. x ≡ bytes) old now
-  pub gate : (g : ℕ) (bytes : Bytes) → SideIsSafe (crashes old) (seen old) (images old) side (λ x. x ≡ bytes) → IsAtGate g [] len from bytes → (bs : List Bytes) × IsAtGate g bs len at bytes
+  pub gate : (v g : ℕ) (bytes : Bytes) → SideIsSafe (crashes old) (seen old) (images old) side (λ x. x ≡ bytes) → IsAtGate v g [] len from bytes → (bs : List Bytes) × IsAtGate v g bs len at bytes
 
 -- one more call, on the side of a reader that is this one
 pub safe_next : {D : Type 0} (crashes : D → Bool) (seen : D → Option Sides) (images : D → Sides → Type 0) (side other : Side) (now new : D) → other ≡ side

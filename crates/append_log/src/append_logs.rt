@@ -4,13 +4,13 @@ ghost use Rattle.std.specs.Prelude.{Decides, ◌≡◌, ◌+◌, ◌≤◌, ◌<
 ghost use Rattle.std.specs.Prelude.{Ok, IfOk, IfErr, MatchResult};
 ghost use Rattle.byte_text.specs.Names.{Bytes};
 ghost use Rattle.outside.specs.Causes.{HasCause, Rose};
-ghost use Rattle.log_sides.specs.Texts.{StandsRound, IsGeneration, committed, written};
+ghost use Rattle.log_sides.specs.Texts.{StandsRound, IsHeading, newest, committed, written};
 ghost use Rattle.log_sides.specs.Making.{WhileMade};
 ghost use Rattle.log_sides.specs.States.{ReadsAs, SideLeads, LogOn};
 
 use crate::commits::append_batch;
 use byte_text::NoMemory;
-use log_sides::{Batch, FIRST_GATE, make_side};
+use log_sides::{Batch, FIRST_GATE, NEWEST, make_side};
 use outside::{Disk, Failed, Side};
 use std::alloc::Global;
 use std::mem;
@@ -18,10 +18,12 @@ use std::mem;
 /// The log on a side of a disk, and the records that wait for the next commit.
 pub struct AppendLog {
     side: Side,
+    version: u8,
     generation: u64,
     gate: u64,
     pending: Batch,
     last: Batch,
+    ghost headed: { IsHeading version generation },
     ghost placed: { gate ≤ 2 ^ 62 },
     ghost fits: { 0 < length pending → gate + length pending + 10 ≤ 2 ^ 62 },
 }
@@ -30,6 +32,7 @@ impl Drop for AppendLog {
     fn drop(self) {
         let AppendLog {
             side: _,
+            version: _,
             generation: _,
             gate: _,
             pending: _,
@@ -47,15 +50,18 @@ pub enum LogFault {
 }
 
 impl AppendLog {
-    /// The log of a side of this generation whose closed gate stands at this place. Nothing is pending.
+    /// The log of a side of this version and generation whose closed gate stands at this place. Nothing is pending.
     pub fn over(
         alloc: Global,
         side: Side,
+        version: u8,
         generation: u64,
         gate: u64,
     ) -> Result<AppendLog, NoMemory>
-        requires { gate ≤ 2 ^ 62 }
+        requires headed { IsHeading version generation }
+        requires gate { gate ≤ 2 ^ 62 }
         ensures side { IfOk result (λ log. log.side ≡ side) }
+        ensures version { IfOk result (λ log. log.version ≡ version) }
         ensures generation { IfOk result (λ log. log.generation ≡ generation) }
         ensures gate { IfOk result (λ log. log.gate ≡ gate) }
         ensures pending { IfOk result (λ log. log.pending ≡ []) }
@@ -64,6 +70,7 @@ impl AppendLog {
         match (Batch::new(alloc), Batch::new(alloc)) {
             (Ok(pending), Ok(last)) => Ok(AppendLog {
                 side,
+                version,
                 generation,
                 gate,
                 pending,
@@ -73,17 +80,18 @@ impl AppendLog {
         }
     }
 
-    /// Makes a side of this generation, and the log over it. Without memory for that the disk is left alone.
+    /// Makes a side of this generation and the newest version, and the log over it. Without memory for that the disk is
+    /// left alone.
     pub fn make<D: Disk>(
         alloc: Global,
         disk: &mut D,
         side: Side,
         generation: u64,
     ) -> Result<AppendLog, LogFault>
-        requires { IsGeneration generation }
+        requires { IsHeading newest generation }
         ensures stands { (before : Bytes) → length before ≤ 2 ^ 62
             → ReadsAs D.crashes D.seen D.images disk.old side before
-            → IfOk result (λ log. LogOn D.crashes D.seen D.images disk.new side generation log.gate []) }
+            → IfOk result (λ log. LogOn D.crashes D.seen D.images disk.new side newest generation log.gate []) }
         ensures either { (before : Bytes) → length before ≤ 2 ^ 62
             → ReadsAs D.crashes D.seen D.images disk.old side before
             → MatchResult result
@@ -97,12 +105,13 @@ impl AppendLog {
         ensures later { D.faults disk.old ≤ D.faults disk.new }
         ensures cause { IfErr result (λ fault. fault ≡ LogFault.Disk → Rose (D.faults disk.old) (D.faults disk.new)) }
         ensures side { IfOk result (λ log. log.side ≡ side) }
+        ensures version { IfOk result (λ log. log.version ≡ newest) }
         ensures generation { IfOk result (λ log. log.generation ≡ generation) }
         ensures gate { IfOk result (λ log. log.gate ≡ 16) }
         ensures pending { IfOk result (λ log. log.pending ≡ []) }
         ensures last { IfOk result (λ log. log.last ≡ []) }
     {
-        match AppendLog::over(alloc, side, generation, FIRST_GATE) {
+        match AppendLog::over(alloc, side, NEWEST, generation, FIRST_GATE) {
             Ok(log) => match make_side(disk, side, generation) {
                 Ok(()) => Ok(log),
                 Err(Failed) => Err(LogFault::Disk),
@@ -119,12 +128,14 @@ impl AppendLog {
         self.gate.saturating_add(batch as u64) <= 1 << 62
     }
 
-    /// Puts a record into the pending batch. At want of memory the batch is as before.
+    /// Puts a record of the newest version into the pending batch. At want of memory the batch is as before.
     pub fn push(&mut self, entry: &[u8]) -> Result<(), NoMemory>
-        requires { self.old.gate + length self.old.pending + length entry.now + 10 ≤ 2 ^ 62 }
+        requires newest { self.old.version ≡ newest }
+        requires room { self.old.gate + length self.old.pending + length entry.now + 10 ≤ 2 ^ 62 }
         ensures ok { OnOk result (self.new.pending ≡ self.old.pending ++ entry.now) }
         ensures err { OnErr result (self.new.pending ≡ self.old.pending) }
         ensures side { self.new.side ≡ self.old.side }
+        ensures version { self.new.version ≡ self.old.version }
         ensures generation { self.new.generation ≡ self.old.generation }
         ensures gate { self.new.gate ≡ self.old.gate }
         ensures last { self.new.last ≡ self.old.last }
@@ -137,6 +148,7 @@ impl AppendLog {
         requires { len ≤ length self.old.pending }
         ensures pending { self.new.pending ≡ take len self.old.pending }
         ensures side { self.new.side ≡ self.old.side }
+        ensures version { self.new.version ≡ self.old.version }
         ensures generation { self.new.generation ≡ self.old.generation }
         ensures gate { self.new.gate ≡ self.old.gate }
         ensures last { self.new.last ≡ self.old.last }
@@ -149,6 +161,13 @@ impl AppendLog {
         ensures { result ≡ length self.now.pending }
     {
         self.pending.len() as u64
+    }
+
+    /// The version of the side in use.
+    pub fn version(&self) -> u8
+        ensures { result ≡ self.now.version }
+    {
+        self.version
     }
 
     /// The generation of the side in use.
@@ -172,17 +191,21 @@ impl AppendLog {
         self.last.written()
     }
 
-    /// Makes another side the one in use, whose closed gate stands at this place. Nothing is pending.
+    /// Makes another side of the newest version the one in use, whose closed gate stands at this place. Nothing is
+    /// pending.
     pub fn turn_to(&mut self, side: Side, generation: u64, gate: u64)
+        requires headed { IsHeading newest generation }
         requires pending { self.old.pending ≡ [] }
         requires gate { gate ≤ 2 ^ 62 }
         ensures side { self.new.side ≡ side }
+        ensures version { self.new.version ≡ newest }
         ensures generation { self.new.generation ≡ generation }
         ensures gate { self.new.gate ≡ gate }
         ensures pending { self.new.pending ≡ [] }
         ensures last { self.new.last ≡ self.old.last }
     {
         self.side = side;
+        self.version = NEWEST;
         self.generation = generation;
         self.gate = gate;
     }
@@ -195,16 +218,20 @@ impl AppendLog {
         ensures idle_ok { self.old.pending ≡ [] → result ≡ Ok tt }
         ensures idle_gate { self.old.pending ≡ [] → self.new.gate ≡ self.old.gate }
         ensures stands { (batches : List Bytes)
-            → LogOn D.crashes D.seen D.images disk.old self.old.side self.old.generation self.old.gate batches
-            → OnOk result (LogOn D.crashes D.seen D.images disk.new self.old.side self.old.generation self.new.gate
+            → LogOn D.crashes D.seen D.images disk.old self.old.side self.old.version self.old.generation self.old.gate
+            batches
+            → OnOk result
+            (LogOn D.crashes D.seen D.images disk.new self.old.side self.old.version self.old.generation self.new.gate
             (committed batches self.old.pending)) }
         ensures either { (batches : List Bytes)
-            → LogOn D.crashes D.seen D.images disk.old self.old.side self.old.generation self.old.gate batches
+            → LogOn D.crashes D.seen D.images disk.old self.old.side self.old.version self.old.generation self.old.gate
+            batches
             → SideLeads D.crashes D.seen D.images D.moment D.left_since self.old.side
-            (StandsRound self.old.generation batches self.old.pending) disk.old disk.new }
+            (StandsRound self.old.version self.old.generation batches self.old.pending) disk.old disk.new }
         ensures told { D.crashes disk.new ≡ D.crashes disk.old }
         ensures cause { HasCause (D.faults disk.old) (D.faults disk.new) result }
         ensures side { self.new.side ≡ self.old.side }
+        ensures version { self.new.version ≡ self.old.version }
         ensures generation { self.new.generation ≡ self.old.generation }
         ensures gate { OnOk result (self.new.gate ≤ self.old.gate + length self.old.pending + 9) }
         ensures pending { OnOk result (self.new.pending ≡ []) }

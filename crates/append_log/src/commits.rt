@@ -21,12 +21,12 @@ pub(crate) fn append_batch<D: Disk>(
 ) -> Result<(), Failed>
     requires room { gate + length batch.now ≤ 2 ^ 62 }
     requires sealed { 10 ≤ length batch.now }
-    ensures stands { (g : ℕ) (bs : List Bytes) (b : Bytes) → batch.now ≡ sealed b
-        → LogOn D.crashes D.seen D.images disk.old side g gate bs
-        → OnOk result (SafeOn D.crashes D.seen D.images disk.new side (StandsFor g (with_batch bs b))) }
-    ensures either { (g : ℕ) (bs : List Bytes) (b : Bytes) → batch.now ≡ sealed b
-        → LogOn D.crashes D.seen D.images disk.old side g gate bs
-        → SideLeads D.crashes D.seen D.images D.moment D.left_since side (StandsWithin g bs b) disk.old disk.new }
+    ensures stands { (v g : ℕ) (bs : List Bytes) (b : Bytes) → batch.now ≡ sealed b
+        → LogOn D.crashes D.seen D.images disk.old side v g gate bs
+        → OnOk result (SafeOn D.crashes D.seen D.images disk.new side (StandsFor v g (with_batch bs b))) }
+    ensures either { (v g : ℕ) (bs : List Bytes) (b : Bytes) → batch.now ≡ sealed b
+        → LogOn D.crashes D.seen D.images disk.old side v g gate bs
+        → SideLeads D.crashes D.seen D.images D.moment D.left_since side (StandsWithin v g bs b) disk.old disk.new }
     ensures told { D.crashes disk.new ≡ D.crashes disk.old }
     ensures cause { HasCause (D.faults disk.old) (D.faults disk.new) result }
 {

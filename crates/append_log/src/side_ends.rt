@@ -22,9 +22,9 @@ impl End {
 
     /// Passes over the batches of a side, whose gates and lengths alone are read.
     pub fn find<D: Disk>(disk: &mut D, mut reader: Reader) -> Result<End, Failed>
-        ensures end { (g : ℕ) (bytes : Bytes) → ReadsAs D.crashes D.seen D.images disk.old reader.side bytes
-            → IsAtGate g [] reader.len reader.at bytes
-            → IfOk result (IsEndOf g bytes reader.len) }
+        ensures end { (v g : ℕ) (bytes : Bytes) → ReadsAs D.crashes D.seen D.images disk.old reader.side bytes
+            → IsAtGate v g [] reader.len reader.at bytes
+            → IfOk result (IsEndOf v g bytes reader.len) }
         ensures safe { (bytes : Bytes) → ReadsAs D.crashes D.seen D.images disk.old reader.side bytes
             → ReadsAs D.crashes D.seen D.images disk.new reader.side bytes }
         ensures same { (bytes : Bytes) → ReadsAs D.crashes D.seen D.images disk.old reader.side bytes

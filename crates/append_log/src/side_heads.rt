@@ -9,6 +9,7 @@ ghost use Rattle.outside.specs.Crashes.{LeavesOnly};
 ghost use Rattle.log_sides.specs.States.{SafeOn};
 ghost use Rattle.append_log.specs.Heads.{head_of, start_of, IsHeadedIn, IsOpenHead, IsSizedHead, IsSizedStart};
 
+use log_sides::NEWEST;
 use outside::{Disk, Failed, Side};
 
 // The most bytes of a side.
@@ -22,6 +23,7 @@ pub enum Start {
     /// A side of so many bytes is in use, if its batches are whole.
     Standing {
         side: Side,
+        version: u8,
         generation: u64,
         len: u64,
     },
@@ -40,7 +42,11 @@ pub enum Head {
     Shut(u64),
     /// A byte of its header is wrong: where.
     Wrong(u64),
-    Open { generation: u64, len: u64 },
+    Open {
+        version: u8,
+        generation: u64,
+        len: u64,
+    },
 }
 
 impl Head {
@@ -57,8 +63,7 @@ impl Head {
     }
 
     fn said(len: u64, first: &[u8; 16]) -> Head
-        ensures head { result ≡ head_in len first.now }
-        ensures sized { IsSizedHead result }
+        ensures { result ≡ head_in len first.now }
     {
         if len > MAX_SIDE {
             return Head::TooLong;
@@ -69,7 +74,8 @@ impl Head {
         if !(first[1] == b'T' && first[2] == b'F' && first[3] == b'L') {
             return Head::Wrong(1);
         }
-        if first[4] != 1 {
+        let version = first[4];
+        if version == 0 || version > NEWEST {
             return Head::Wrong(4);
         }
         if !(first[5] == 0 && first[6] == 0 && first[7] == 0) {
@@ -78,10 +84,14 @@ impl Head {
         let generation = u64::from_be_bytes([
             first[8], first[9], first[10], first[11], first[12], first[13], first[14], first[15],
         ]);
-        if generation == 0 {
+        if generation == 0 || (version < NEWEST && generation == u64::MAX) {
             return Head::Wrong(8);
         }
-        Head::Open { generation, len }
+        Head::Open {
+            version,
+            generation,
+            len,
+        }
     }
 
     fn start(a: Head, b: Head) -> Start
@@ -94,8 +104,13 @@ impl Head {
             (Head::Wrong(place), _) => damaged(Side::A, place),
             (_, Head::Wrong(place)) => damaged(Side::B, place),
             (
-                Head::Open { generation, len },
                 Head::Open {
+                    version,
+                    generation,
+                    len,
+                },
+                Head::Open {
+                    version: other_version,
                     generation: other,
                     len: other_len,
                 },
@@ -103,13 +118,27 @@ impl Head {
                 if generation == other {
                     damaged(Side::B, 8)
                 } else if generation > other {
-                    standing(Side::A, generation, len)
+                    standing(Side::A, version, generation, len)
                 } else {
-                    standing(Side::B, other, other_len)
+                    standing(Side::B, other_version, other, other_len)
                 }
             }
-            (Head::Open { generation, len }, Head::Shut(_)) => standing(Side::A, generation, len),
-            (Head::Shut(_), Head::Open { generation, len }) => standing(Side::B, generation, len),
+            (
+                Head::Open {
+                    version,
+                    generation,
+                    len,
+                },
+                Head::Shut(_),
+            ) => standing(Side::A, version, generation, len),
+            (
+                Head::Shut(_),
+                Head::Open {
+                    version,
+                    generation,
+                    len,
+                },
+            ) => standing(Side::B, version, generation, len),
             (Head::Shut(_), Head::Shut(0)) => Start::Fresh,
             (Head::Shut(_), Head::Shut(_)) => damaged(Side::A, 0),
         }
@@ -201,11 +230,12 @@ fn damaged(side: Side, place: u64) -> Start
     Start::Damaged { side, place }
 }
 
-fn standing(side: Side, generation: u64, len: u64) -> Start
-    ensures { result ≡ Start.Standing side generation len }
+fn standing(side: Side, version: u8, generation: u64, len: u64) -> Start
+    ensures { result ≡ Start.Standing side version generation len }
 {
     Start::Standing {
         side,
+        version,
         generation,
         len,
     }

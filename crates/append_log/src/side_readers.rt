@@ -67,10 +67,10 @@ impl Reader {
 
     /// Reads the next gate, and the length of the batch behind it where it is open.
     pub fn next_batch<D: Disk>(&mut self, disk: &mut D) -> Result<Gate, Failed>
-        ensures gate { (g : ℕ) (bs : List Bytes) (bytes : Bytes)
+        ensures gate { (v g : ℕ) (bs : List Bytes) (bytes : Bytes)
             → ReadsAs D.crashes D.seen D.images disk.old self.old.side bytes
-            → IsAtGate g bs self.old.len self.old.at bytes
-            → IfOk result (IsGateOf g bs bytes self.new.len self.new.left self.new.at) }
+            → IsAtGate v g bs self.old.len self.old.at bytes
+            → IfOk result (IsGateOf v g bs bytes self.new.len self.new.left self.new.at) }
         ensures on { (n : ℕ) → result ≡ Ok (Gate.Open n) → self.old.at < self.new.at }
         ensures safe { (bytes : Bytes) → ReadsAs D.crashes D.seen D.images disk.old self.old.side bytes
             → ReadsAs D.crashes D.seen D.images disk.new self.old.side bytes }
@@ -92,9 +92,9 @@ impl Reader {
     // What the first bytes from the gate on say, of which so many are there.
     fn pass(&mut self, head: &[u8; 9], count: usize) -> Gate
         requires { count ≤ 9 }
-        ensures gate { (g : ℕ) (bs : List Bytes) (bytes : Bytes) → IsAtGate g bs self.old.len self.old.at bytes
+        ensures gate { (v g : ℕ) (bs : List Bytes) (bytes : Bytes) → IsAtGate v g bs self.old.len self.old.at bytes
             → count ≡ min 9 (length bytes - self.old.at) → take count head.now ≡ take count (drop self.old.at bytes)
-            → IsGateOf g bs bytes self.new.len self.new.left self.new.at result }
+            → IsGateOf v g bs bytes self.new.len self.new.left self.new.at result }
         ensures on { (n : ℕ) → result ≡ Gate.Open n → self.old.at < self.new.at }
         ensures side { self.new.side ≡ self.old.side }
         ensures len { self.new.len ≡ self.old.len }
@@ -126,9 +126,9 @@ impl Reader {
 
     /// Passes over what is left of the batch that is read, without a look at it.
     pub fn skip(&mut self)
-        ensures at { (g : ℕ) (bs : List Bytes) (part bytes : Bytes)
-            → IsInBatch g bs part self.old.len self.old.left self.old.at bytes
-            → IsAtGate g
+        ensures at { (v g : ℕ) (bs : List Bytes) (part bytes : Bytes)
+            → IsInBatch v g bs part self.old.len self.old.left self.old.at bytes
+            → IsAtGate v g
             (with_batch bs (part ++ take self.old.left (drop self.old.at bytes))) self.new.len self.new.at bytes }
         ensures place { self.new.at ≡ self.old.at + self.old.left }
         ensures left { self.new.left ≡ 0 }
@@ -141,11 +141,11 @@ impl Reader {
 
     /// Reads on in a batch, as far as there is room, and answers how many bytes.
     pub fn next_piece<D: Disk>(&mut self, disk: &mut D, into: &mut [u8]) -> Result<usize, Failed>
-        ensures piece { (g : ℕ) (bs : List Bytes) (part bytes : Bytes)
+        ensures piece { (v g : ℕ) (bs : List Bytes) (part bytes : Bytes)
             → ReadsAs D.crashes D.seen D.images disk.old self.old.side bytes
-            → IsInBatch g bs part self.old.len self.old.left self.old.at bytes
+            → IsInBatch v g bs part self.old.len self.old.left self.old.at bytes
             → IfOk result (λ n. (n ≡ min (length into.old) self.old.left)
-            × IsInBatch g bs (part ++ take n into.new) self.new.len self.new.left self.new.at bytes) }
+            × IsInBatch v g bs (part ++ take n into.new) self.new.len self.new.left self.new.at bytes) }
         ensures safe { (bytes : Bytes) → ReadsAs D.crashes D.seen D.images disk.old self.old.side bytes
             → ReadsAs D.crashes D.seen D.images disk.new self.old.side bytes }
         ensures same { (bytes : Bytes) → ReadsAs D.crashes D.seen D.images disk.old self.old.side bytes

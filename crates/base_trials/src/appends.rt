@@ -1,6 +1,7 @@
 //! Tests of a log over a disk in memory: each call fails once, each crash is opened.
 
 use append_log::{AppendLog, Gate, LogFault, Reader, Start, start_log};
+use log_sides::NEWEST;
 use outside::{Disk, MemoryDisk, PlainDisk, Side};
 use std::alloc::Global;
 use std::process::Abort;
@@ -82,7 +83,7 @@ fn a_fresh_side_and_two_batches(rt: HostRuntime) -> Result<(), Fail> {
     assert_eq!(rt; disk.read(Side::A, 0, &mut bytes), Ok(39));
     assert_eq!(rt;
         bytes.as_slice(),
-        b"\x01TFL\x01\0\0\0\0\0\0\0\0\0\0\x01\x01\0\0\0\0\0\0\0\x03xyz\x01\0\0\0\0\0\0\0\x01a\0..".as_slice()
+        b"\x01TFL\x03\0\0\0\0\0\0\0\0\0\0\x01\x01\0\0\0\0\0\0\0\x03xyz\x01\0\0\0\0\0\0\0\x01a\0..".as_slice()
     );
     assert_eq!(rt; held(&mut disk), 2461);
     Ok(())
@@ -90,7 +91,10 @@ fn a_fresh_side_and_two_batches(rt: HostRuntime) -> Result<(), Fail> {
 
 // Commits a batch.
 fn put(log: &mut AppendLog, disk: &mut MemoryDisk, batch: &[u8]) -> bool {
-    log.has_room(batch.len()) && log.push(batch).is_ok() && log.commit(disk).is_ok()
+    log.version() == NEWEST
+        && log.has_room(batch.len())
+        && log.push(batch).is_ok()
+        && log.commit(disk).is_ok()
 }
 
 // Makes a side and commits a batch and then another: whether the second commit did.
@@ -178,11 +182,12 @@ fn a_log_over_a_plain_disk(rt: HostRuntime) -> Result<(), Fail> {
     assert!(rt; log.has_room(1));
     assert_eq!(rt; log.push(b"a"), Ok(()));
     assert_eq!(rt; log.commit(&mut disk), Ok(()));
-    assert_eq!(rt; log.generation(), 7);
+    assert_eq!(rt; (log.version(), log.generation()), (NEWEST, 7));
     assert_eq!(rt;
         start_log(&mut disk),
         Ok(Start::Standing {
             side: Side::B,
+            version: NEWEST,
             generation: 7,
             len: 27
         })
@@ -190,5 +195,109 @@ fn a_log_over_a_plain_disk(rt: HostRuntime) -> Result<(), Fail> {
     assert_eq!(rt; held(&mut disk), 1098);
     assert_eq!(rt; disk.cut(Side::B, 26), Ok(()));
     assert_eq!(rt; held(&mut disk), -5);
+    Ok(())
+}
+
+// A side of this version and generation, without a batch.
+fn side_of(version: u8, generation: u64) -> [u8; 17] {
+    let mut side = *b"\x01TFL\0\0\0\0\0\0\0\0\0\0\0\0\0";
+    side[4] = version;
+    side[8..16].copy_from_slice(&generation.to_be_bytes());
+    side
+}
+
+// What stands on a disk with these sides.
+fn start_of(alloc: Global, a: &[u8], b: &[u8]) -> Result<Start, Fail> {
+    let mut disk = MemoryDisk::new(alloc, a.to_vec(alloc)?, b.to_vec(alloc)?, Vec::new(alloc));
+    match start_log(&mut disk) {
+        Ok(start) => Ok(start),
+        Err(_) => Err(Fail::from("no start")),
+    }
+}
+
+fn standing(side: Side, version: u8, generation: u64) -> Start {
+    Start::Standing {
+        side,
+        version,
+        generation,
+        len: 17,
+    }
+}
+
+fn damaged(side: Side, place: u64) -> Start {
+    Start::Damaged { side, place }
+}
+
+#[test]
+fn a_header_has_a_version_and_a_generation_of_it(rt: HostRuntime) -> Result<(), Fail> {
+    let alloc = rt.alloc();
+    let last = u64::MAX;
+    let rows: [(u8, u64, Start); 18] = [
+        (1, 1, standing(Side::A, 1, 1)),
+        (2, 1, standing(Side::A, 2, 1)),
+        (3, 1, standing(Side::A, 3, 1)),
+        (0, 1, damaged(Side::A, 4)),
+        (4, 1, damaged(Side::A, 4)),
+        (255, 1, damaged(Side::A, 4)),
+        (0, 0, damaged(Side::A, 4)),
+        (4, last, damaged(Side::A, 4)),
+        (1, 0, damaged(Side::A, 8)),
+        (2, 0, damaged(Side::A, 8)),
+        (3, 0, damaged(Side::A, 8)),
+        (1, last, damaged(Side::A, 8)),
+        (2, last, damaged(Side::A, 8)),
+        (3, last, standing(Side::A, 3, last)),
+        (1, last - 1, standing(Side::A, 1, last - 1)),
+        (2, last - 1, standing(Side::A, 2, last - 1)),
+        (1, 1 << 63, standing(Side::A, 1, 1 << 63)),
+        (3, 1 << 63, standing(Side::A, 3, 1 << 63)),
+    ];
+    for (version, generation, start) in rows {
+        let found = start_of(alloc, &side_of(version, generation), b"")?;
+        assert_eq!(rt; found, start, "{version} {generation}");
+    }
+    Ok(())
+}
+
+#[test]
+fn sides_of_two_versions_stand_beside_each_other(rt: HostRuntime) -> Result<(), Fail> {
+    let alloc = rt.alloc();
+    let rows: [((u8, u64), (u8, u64), Start); 9] = [
+        ((1, 5), (1, 4), standing(Side::A, 1, 5)),
+        ((1, 5), (2, 4), standing(Side::A, 1, 5)),
+        ((1, 5), (3, 6), standing(Side::B, 3, 6)),
+        ((3, 5), (1, 6), standing(Side::B, 1, 6)),
+        ((2, 5), (3, 4), standing(Side::A, 2, 5)),
+        ((1, 5), (3, 5), damaged(Side::B, 8)),
+        ((1, 5), (4, 4), damaged(Side::B, 4)),
+        ((4, 5), (3, 6), damaged(Side::A, 4)),
+        ((0, 5), (4, 6), damaged(Side::A, 4)),
+    ];
+    for ((version, generation), (other, later), start) in rows {
+        let found = start_of(alloc, &side_of(version, generation), &side_of(other, later))?;
+        assert_eq!(rt; found, start, "{version} {generation} {other} {later}");
+    }
+    Ok(())
+}
+
+#[test]
+fn the_first_wrong_byte_of_a_header_is_told(rt: HostRuntime) -> Result<(), Fail> {
+    let alloc = rt.alloc();
+    // Each place, and what it tells, with all behind it wrong, too.
+    for (at, place) in [(3, 1), (4, 4), (7, 5), (15, 8)] {
+        let mut side = side_of(1, 1);
+        side[at] = 0;
+        for byte in side[at..15].iter_mut() {
+            *byte = 9;
+        }
+        if at == 15 {
+            side[15] = 0;
+        }
+        assert_eq!(rt;
+            start_of(alloc, &side, b"")?,
+            damaged(Side::A, place),
+            "{at}"
+        );
+    }
     Ok(())
 }

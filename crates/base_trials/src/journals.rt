@@ -7,17 +7,22 @@ use outside::{Disk, MemoryDisk, Side};
 use std::alloc::Global;
 use std::test::Fail;
 
-// How many batches were taken, and the sum of their bytes.
+// The version that was told, how many batches were taken, and the sum of their bytes.
 #[derive(Drop)]
 struct Counts {
+    version: u8,
     batches: i64,
     sum: i64,
 }
 
 impl Replay for Counts {
-    ghost took = { λ _ _ _. true ≡ true };
+    ghost took = { λ _ _ _ _. true ≡ true };
 
-    ghost fault = { λ _. None };
+    ghost fault = { λ _ _. None };
+
+    fn begin(&mut self, version: u8) {
+        self.version = version;
+    }
 
     fn take(&mut self, piece: &[u8]) -> Result<(), Refusal> {
         for byte in piece {
@@ -32,12 +37,20 @@ impl Replay for Counts {
     }
 }
 
+fn no_counts() -> Counts {
+    Counts {
+        version: 0,
+        batches: 0,
+        sum: 0,
+    }
+}
+
 // Opens a disk: a journal, and a number for what it holds.
 fn open(
     alloc: Global,
     disk: MemoryDisk,
 ) -> (Result<Journal<MemoryDisk>, (MemoryDisk, OpenFault)>, i64) {
-    let mut counts = Counts { batches: 0, sum: 0 };
+    let mut counts = no_counts();
     match Journal::open(alloc, disk, &mut counts) {
         Ok(opened) => (
             Ok(opened.journal),
@@ -67,7 +80,7 @@ fn write(journal: &mut Journal<MemoryDisk>, entry: &[u8]) -> bool {
 }
 
 fn begins(journal: &mut Journal<MemoryDisk>) -> bool {
-    if journal.is_rewriting() || journal.pending() > 0 || journal.generation() >= 1 << 63 {
+    if journal.is_rewriting() || journal.pending() > 0 || journal.generation() == u64::MAX {
         return false;
     }
     journal.begin().is_ok()
@@ -167,7 +180,7 @@ fn a_log_is_rewritten(rt: HostRuntime) -> Result<(), Fail> {
     assert_eq!(rt; disk.read(Side::B, 0, &mut bytes), Ok(57));
     assert_eq!(rt;
         bytes.as_slice(),
-        b"\x01TFL\x01\0\0\0\0\0\0\0\0\0\0\x02\x01\0\0\0\0\0\0\0\x01a\x01\0\0\0\0\0\0\0\x01b\x01\0\0\0\0\0\0\0\x01c\x01\0\0\0\0\0\0\0\x01d\0...".as_slice()
+        b"\x01TFL\x03\0\0\0\0\0\0\0\0\0\0\x02\x01\0\0\0\0\0\0\0\x01a\x01\0\0\0\0\0\0\0\x01b\x01\0\0\0\0\0\0\0\x01c\x01\0\0\0\0\0\0\0\x01d\0...".as_slice()
     );
     assert_eq!(rt; open(alloc, disk).1, 4394);
     Ok(())
@@ -202,7 +215,7 @@ fn damage_is_found_where_it_stands(rt: HostRuntime) -> Result<(), Fail> {
             Side::A,
             17,
         ),
-        (b"\x01TFL\x02\0\0\0\0\0\0\0\0\0\0\x01\0", b"", Side::A, 4),
+        (b"\x01TFL\x04\0\0\0\0\0\0\0\0\0\0\x01\0", b"", Side::A, 4),
         (b"", b"x", Side::A, 0),
     ];
     for (a, b, side, place) in cases {
@@ -221,7 +234,7 @@ fn the_length_of_the_side_in_use_is_told(rt: HostRuntime) -> Result<(), Fail> {
     let text: &[u8] = b"\x01TFL\x01\0\0\0\0\0\0\0\0\0\0\x07\x01\0\0\0\0\0\0\0\x01a\0";
     let cases: [(&[u8], u64, u64); 2] = [(b"", 17, 1), (text, 27, 7)];
     for (b, len, generation) in cases {
-        let mut counts = Counts { batches: 0, sum: 0 };
+        let mut counts = no_counts();
         match Journal::open(alloc, disk_failing(alloc, b"", b, &[])?, &mut counts) {
             Ok(opened) => {
                 assert_eq!(rt;
@@ -233,4 +246,129 @@ fn the_length_of_the_side_in_use_is_told(rt: HostRuntime) -> Result<(), Fail> {
         }
     }
     Ok(())
+}
+
+// A side of this version and generation, with a batch.
+fn side_of(version: u8, generation: u64) -> [u8; 27] {
+    let mut side = *b"\x01TFL\0\0\0\0\0\0\0\0\0\0\0\0\x01\0\0\0\0\0\0\0\x01a\0";
+    side[4] = version;
+    side[8..16].copy_from_slice(&generation.to_be_bytes());
+    side
+}
+
+#[test]
+fn a_replay_is_told_the_version_of_the_side_in_use(rt: HostRuntime) -> Result<(), Fail> {
+    let alloc = rt.alloc();
+    let (first, second, third) = (side_of(1, 7), side_of(2, 7), side_of(3, 7));
+    // Where there is no log, none is told, and one of the newest version is made.
+    let cases: [(&[u8], u8, u8); 4] = [
+        (b"", 0, 3),
+        (&first, 1, 1),
+        (&second, 2, 2),
+        (&third, 3, 3),
+    ];
+    for (a, told, version) in cases {
+        let mut counts = no_counts();
+        match Journal::open(alloc, disk_failing(alloc, a, b"", &[])?, &mut counts) {
+            Ok(opened) => {
+                assert_eq!(rt; (counts.version, opened.journal.version()), (told, version));
+            }
+            Err(_) => return Err(Fail::from("not opened")),
+        }
+    }
+    Ok(())
+}
+
+// Rewrites a log as one of the newest version: whether all was done.
+fn renews(journal: &mut Journal<MemoryDisk>, piece: &Piece) -> bool {
+    begins(journal) && copies(journal, piece) && finishes(journal)
+}
+
+#[test]
+fn a_log_of_an_older_version_is_rewritten_as_one_of_the_newest(
+    rt: HostRuntime,
+) -> Result<(), Fail> {
+    let alloc = rt.alloc();
+    let mut piece = Piece::new(alloc)?;
+    piece.push(b"a")?;
+    let last = u64::MAX;
+    for (version, generation, next) in [
+        (1u8, 1u64, 2u64),
+        (1, 1 << 63, (1 << 63) + 1),
+        (2, 1, 2),
+        (2, last - 1, last),
+    ] {
+        let old = side_of(version, generation);
+        let Ok(mut journal) = open(alloc, disk_failing(alloc, &old, b"", &[])?).0 else {
+            return Err(Fail::from("not opened"));
+        };
+        assert_eq!(rt;
+            (journal.version(), journal.generation()),
+            (version, generation)
+        );
+        // No record goes to the old side.
+        assert!(rt; !journal.has_room(1));
+        assert_eq!(rt; journal.commit(), Ok(()));
+        assert!(rt; renews(&mut journal, &piece));
+        assert_eq!(rt; (journal.version(), journal.generation()), (3, next));
+        assert!(rt; write(&mut journal, b"b"));
+        let mut disk = journal.retire();
+        let mut new = side_of(3, next);
+        let mut bytes = [b'.'; 27];
+        assert_eq!(rt; disk.read(Side::A, 0, &mut bytes), Ok(27));
+        assert_eq!(rt; bytes, old);
+        assert_eq!(rt; disk.read(Side::B, 0, &mut bytes), Ok(27));
+        new[26] = 1;
+        assert_eq!(rt; bytes, new);
+        let (again, held) = open(alloc, disk);
+        assert_eq!(rt; held, 2195);
+        let Ok(journal) = again else {
+            return Err(Fail::from("not opened again"));
+        };
+        assert_eq!(rt; (journal.version(), journal.generation()), (3, next));
+    }
+    Ok(())
+}
+
+#[test]
+fn each_image_of_a_rewriting_of_an_older_log_holds_its_batches(
+    rt: HostRuntime,
+) -> Result<(), Fail> {
+    let alloc = rt.alloc();
+    let mut piece = Piece::new(alloc)?;
+    piece.push(b"a")?;
+    let old = side_of(2, 2);
+    for failing in 1u64..100 {
+        let disk = disk_failing(alloc, &old, b"", &[failing])?;
+        let (disk, done) = match open(alloc, disk).0 {
+            Ok(mut journal) => {
+                let done = renews(&mut journal, &piece);
+                assert_eq!(rt; journal.has_failed(), !done);
+                (journal.retire(), done)
+            }
+            Err((disk, why)) => {
+                assert_eq!(rt; why, OpenFault::Disk);
+                (disk, false)
+            }
+        };
+        // Where no call failed, each moment.
+        let from = if done { 0 } else { disk.moment() };
+        for moment in from..=disk.moment() {
+            for choice in 0u64..27 {
+                let (image, found) = open(alloc, disk.image(moment, choice)?);
+                assert_eq!(rt; found, 1097, "{failing} {moment} {choice}");
+                match image {
+                    Ok(journal) => {
+                        assert_eq!(rt; u64::from(journal.version()), journal.generation());
+                    }
+                    Err(_) => return Err(Fail::from("an image is damaged")),
+                }
+            }
+        }
+        if done {
+            assert_eq!(rt; failing, 19);
+            return Ok(());
+        }
+    }
+    Err(Fail::from("a call failed each time"))
 }

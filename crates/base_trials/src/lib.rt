@@ -9,7 +9,11 @@ mod disks;
 #[cfg(test)]
 mod doors;
 #[cfg(test)]
+mod filters;
+#[cfg(test)]
 mod globs;
+#[cfg(test)]
+mod hubs;
 #[cfg(test)]
 mod journals;
 #[cfg(test)]

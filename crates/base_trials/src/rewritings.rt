@@ -43,7 +43,7 @@ fn a_new_side_is_written(rt: HostRuntime) -> Result<(), Fail> {
     assert_eq!(rt; disk.read(Side::B, 0, &mut bytes), Ok(38));
     assert_eq!(rt;
         bytes.as_slice(),
-        b"\x01TFL\x01\0\0\0\0\0\0\0\0\0\0\x02\x01\0\0\0\0\0\0\0\x02xy\x01\0\0\0\0\0\0\0\x01z\0..".as_slice()
+        b"\x01TFL\x03\0\0\0\0\0\0\0\0\0\0\x02\x01\0\0\0\0\0\0\0\x02xy\x01\0\0\0\0\0\0\0\x01z\0..".as_slice()
     );
     Ok(())
 }

@@ -7,7 +7,7 @@ use planar_geom::{Pt, Shape};
 use resp_frames::Requests;
 use std::alloc::Global;
 use std::test::Fail;
-use world_data::{Channel, Fence, Fields, Object, Tests, Wanted, Watch};
+use world_data::{Channel, Fence, Fields, Object, Tests, Value, Wanted, Watch};
 
 /// The name of these bytes.
 pub(crate) fn name(alloc: Global, bytes: &[u8]) -> Result<Name, Fail>
@@ -46,11 +46,11 @@ pub(crate) fn at(x: i64, y: i64) -> Result<Pt, Fail> {
     }
 }
 
-/// These fields: each is given its value in turn, and goes where that is 0.
-pub(crate) fn fields(alloc: Global, given: &[(&[u8], i64)]) -> Result<Fields, Fail> {
+/// These fields: each is given the value of its word in turn, and goes where that is 0.
+pub(crate) fn fields(alloc: Global, given: &[(&[u8], &[u8])]) -> Result<Fields, Fail> {
     let mut fields = Fields::new(alloc);
-    for (called, value) in given {
-        fields.set(name(alloc, called)?, *value)?;
+    for (called, word) in given {
+        fields.set(name(alloc, called)?, Value::of(name(alloc, word)?))?;
     }
     Ok(fields)
 }
@@ -84,7 +84,8 @@ pub(crate) fn all_wanted() -> Wanted {
     }
 }
 
-/// The channel of this name for all objects of a key that watches this and wants to hear of everything, and has no words.
+/// The channel of this name for all objects of a key that watches this and wants to hear of everything; it has no words, and
+/// it stays.
 pub(crate) fn channel(
     alloc: Global,
     called: &[u8],
@@ -95,6 +96,7 @@ pub(crate) fn channel(
     ensures glob { IfOk result (λ c. c.fence.glob ≡ None) }
     ensures watch { IfOk result (λ c. c.fence.watch ≡ watch) }
     ensures words { IfOk result (λ c. c.words ≡ []) }
+    ensures deadline { IfOk result (λ c. c.deadline ≡ None) }
 {
     Ok(Channel {
         name: name(alloc, called)?,
@@ -106,5 +108,6 @@ pub(crate) fn channel(
             watch,
         },
         words: Request::new(alloc),
+        deadline: None,
     })
 }

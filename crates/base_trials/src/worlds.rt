@@ -12,8 +12,8 @@ use std::test::Fail;
 use world_data::{Change, Kind, Object, Watch};
 use world_store::{StoreParts, StoredWorld};
 
-// In each line letters of changes, and how many objects the world then has, their weight, how many channels, their weight, and the least
-// deadline, or a dash.
+// In each line letters of changes, and how many objects the world then has, their weight, how many channels, their
+// weight, and the least deadline of all, or a dash. The record of a channel with a deadline has two words more.
 const WORLDS: &str = "
     . => 0 0 0 0 -
     a => 1 46 0 0 -
@@ -26,6 +26,12 @@ const WORLDS: &str = "
     fF => 0 0 1 24 -
     Fgef => 0 0 2 49 -
     Fge => 0 0 1 25 -
+    fh => 0 0 1 39 7
+    hfa => 1 46 1 24 -
+    hg => 0 0 2 64 7
+    hge => 0 0 1 25 -
+    bh => 1 61 1 39 7
+    bhe => 1 61 0 0 9
     aFg!b => 1 61 0 0 9
     ";
 
@@ -54,12 +60,14 @@ fn put(
     Ok(Change::Put(told(object, text, deadline)))
 }
 
-// A channel of this name on a disc of this radius, with no words.
-fn setting(alloc: Global, called: &[u8], radius: u32) -> Result<Change, Fail>
+// A channel of this name on a disc of this radius with a deadline, and with no words.
+fn setting(alloc: Global, called: &[u8], radius: u32, deadline: Option<u64>) -> Result<Change, Fail>
     ensures { IfOk result HasFew }
 {
     let watch = Watch::Zone(Kind::Near, Area::Disc(at(0, 0)?, radius));
-    Ok(Change::SetChan(channel(alloc, called, b"k", watch)?))
+    let mut channel = channel(alloc, called, b"k", watch)?;
+    channel.deadline = deadline;
+    Ok(Change::SetChan(channel))
 }
 
 // The change of a letter.
@@ -73,9 +81,10 @@ fn change(alloc: Global, letter: u8) -> Result<Change, Fail>
         b'c' => put(alloc, b"l", b"c", b"x", None),
         b'd' => Ok(Change::Del(name(alloc, b"k")?, name(alloc, b"a")?)),
         b'p' => Ok(Change::Drop(name(alloc, b"k")?)),
-        b'f' => setting(alloc, b"f", 5),
-        b'F' => setting(alloc, b"f", 7),
-        b'g' => setting(alloc, b"gg", 5),
+        b'f' => setting(alloc, b"f", 5, None),
+        b'F' => setting(alloc, b"f", 7, None),
+        b'h' => setting(alloc, b"f", 5, Some(7)),
+        b'g' => setting(alloc, b"gg", 5, None),
         b'e' => Ok(Change::DelChan(name(alloc, b"f")?)),
         _ => Ok(Change::Flush),
     }

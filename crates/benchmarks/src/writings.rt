@@ -18,9 +18,11 @@ pub(crate) struct Counts {
 }
 
 impl Replay for Counts {
-    ghost took = { λ _ _ _. true ≡ true };
+    ghost took = { λ _ _ _ _. true ≡ true };
 
-    ghost fault = { λ _. None };
+    ghost fault = { λ _ _. None };
+
+    fn begin(&mut self, _version: u8) {}
 
     fn take(&mut self, piece: &[u8]) -> Result<(), Refusal> {
         self.bytes = self.bytes.saturating_add(piece.len() as u64);

@@ -8,3 +8,6 @@ pub mod Sorted
 pub mod Concerned
 pub mod Whole
 pub mod Silence
+pub mod Expiring
+pub mod Left
+pub mod DueFrom

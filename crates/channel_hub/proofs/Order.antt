@@ -1,14 +1,14 @@
 -- Slots of channels in order of their names, as a channel comes, goes, or takes the place of another.
-use Rattle.std.proofs.Common.{◌≡◌, ◌≢◌, ◌<◌, ℕ, not, refl, sym, ◌∙◌, List, [], length, arith}
-use Rattle.std.specs.Prelude.{Option, Some, None, filter, slice_get}
+use Rattle.std.proofs.Common.{◌≡◌, ◌≢◌, ◌<◌, ℕ, refl, sym, ◌∙◌, List, [], length, arith}
+use Rattle.std.specs.Prelude.{Option, Some, None, slice_get}
 use Rattle.std.specs.List.{insert, remove}
 use Rattle.byte_text.specs.Names.{Bytes, before}
 use Rattle.ordered_lists.specs.Ascending.{ascends-remove}
 use Rattle.ordered_lists.specs.Lists.{IsHeld, IsFree, put_in}
 use Rattle.world_data.specs.declared.channels.Channel.{Channel}
-use Rattle.world_data.specs.Worlds.{channel_before, is_named}
+use Rattle.world_data.specs.Worlds.{channel_before}
 use Rattle.channel_hub.specs.Hubs.{AreInOrder, channels_in}
-use Rattle.channel_hub.proofs.ChannelsByName.{left, put_by_name, put_free, put_held, removed_by_name}
+use Rattle.channel_hub.proofs.ChannelsByName.{put_by_name, put_free, put_held, removed_by_name}
 use Rattle.ordered_lists.specs.Slots.{are_other, apart_insert, as_many, as_stored, free_slot, others_apart, read_off, stored_at, stored_insert, stored_remove, stored_set}
 
 pub none_in_order : (f : ℕ → Option Channel) → AreInOrder f []
@@ -64,17 +64,14 @@ module _ (f : ℕ → Option Channel) (order : List ℕ) (o : AreInOrder f order
 
     -- one less
 
-    pub channels_remove : (name : Bytes) → IsNamedAt name → slice_get order at ≡ Some slot → channels_in g (remove order at) ≡ filter (λ d. not (is_named name d)) (channels_in f order)
-    channels_remove name held is =
-        let xs = channels_in f order in
-        read_off g (remove order at) _ (stored_remove f g slot others order xs at o.stored (others_apart order at slot is o.apart)) ∙ sym (left name xs at o.by_name held)
+    pub channels_removed : slice_get order at ≡ Some slot → channels_in g (remove order at) ≡ remove (channels_in f order) at
+    channels_removed is = read_off g (remove order at) _ (stored_remove f g slot others order (channels_in f order) at o.stored (others_apart order at slot is o.apart))
 
     pub order_remove : slice_get order at ≡ Some slot → AreInOrder g (remove order at)
     order_remove is =
         let xs = channels_in f order in
-        let stored = stored_remove f g slot others order xs at o.stored (others_apart order at slot is o.apart) in
         record {
-          stored = as_stored g (remove order at) _ stored;
+          stored = as_stored g (remove order at) _ (stored_remove f g slot others order xs at o.stored (others_apart order at slot is o.apart));
           apart = ascends-remove are_other order at o.apart;
-          by_name = rw (read_off g (remove order at) _ stored) (removed_by_name xs at o.by_name);
+          by_name = rw (channels_removed is) (removed_by_name xs at o.by_name);
         }

@@ -1,12 +1,15 @@
 -- What stays as channels come and go: each is whole, and none is prepared once it is put.
-use Rattle.std.proofs.Common.{◌≡◌, Bool, true, false, refl, List, [], ◌∷◌}
+use Rattle.std.proofs.Common.{◌≡◌, ℕ, zero, suc, Bool, true, false, not, refl, List, [], ◌∷◌}
+use Rattle.std.specs.List.{remove}
 use Rattle.std.specs.Prelude.{Option, Some, None, filter, is_some}
 use Rattle.ordered_lists.specs.Lists.{put_in}
 use Rattle.fence_index.specs.declared.marks.Mark.{Mark}
 use Rattle.fence_index.specs.Silence.{IsWholeWatch}
 use Rattle.world_data.specs.declared.channels.Channel.{Channel}
 use Rattle.world_data.specs.Worlds.{channel_before}
+use Rattle.world_data.specs.Expiry.{is_channel_due}
 use Rattle.channel_hub.specs.Hubs.{AreWhole}
+use Rattle.channel_hub.specs.Dues.{left_of}
 
 -- none is prepared any more
 pub none_prepared : {P : Type 0} (o : Option Mark) → o ≡ None → is_some o ≡ true → P
@@ -31,3 +34,13 @@ whole_left kept (c ∷ cs) all = by_test (kept c) refl (whole_left kept cs all.1
     by_test : (b : Bool) → kept c ≡ b → AreWhole (filter kept cs) → AreWhole (filter kept (c ∷ cs))
     by_test true e rest = rw e (all.0, rest)
     by_test false e rest = rw e rest
+
+pub whole_removed : (cs : List Channel) (at : ℕ) → AreWhole cs → AreWhole (remove cs at)
+whole_removed [] zero all = all
+whole_removed [] (suc at) all = all
+whole_removed (c ∷ cs) zero all = all.1
+whole_removed (c ∷ cs) (suc at) all = (all.0, whole_removed cs at all.1)
+
+pub whole_of : (out : Option ℕ) (cs : List Channel) → AreWhole cs → AreWhole (left_of out cs)
+whole_of None cs all = all
+whole_of (Some now) cs all = whole_left (λ c. not (is_channel_due now c)) cs all

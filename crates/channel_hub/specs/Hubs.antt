@@ -15,8 +15,17 @@ use Rattle.fence_index.specs.Candidates.{box_if, is_concerned}
 use Rattle.fence_index.specs.Numbered.{AreBoxed, Indexed}
 use Rattle.fence_index.specs.Silence.{IsWholeWatch}
 
--- channels by name, and what is kept of the one that can be put without taking memory
+-- the channels that are left, those that are out, in the order in which they expire, and both together, by name; the moment at which those
+-- that are out were due; and what is kept of the channel that can be put without taking memory
 pub record Held : Type 0 where
+  pub channels : List Channel
+  pub taken : List Channel
+  pub every : List Channel
+  pub out : Option ℕ
+  pub prepared : Option Mark
+
+-- all channels by name, and what is kept of the one that can be put without taking memory
+pub record ByName : Type 0 where
   pub channels : List Channel
   pub prepared : Option Mark
 

@@ -1,2 +1,3 @@
 pub mod Hubs
+pub mod Dues
 pub mod MessageLaws

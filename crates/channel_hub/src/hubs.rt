@@ -1,8 +1,8 @@
 //! The hub: all channels by name, and their marks in the index.
 //!
-//! A channel stays in its slot, and the index gives out the slot, so that one that a write may concern is read without
-//! seeking its name. The hub's order is a list of slots; those that are named are few, and are put in order of their
-//! names. A channel is prepared before it is put, so that `put` takes no memory.
+//! Channels whose deadline has come are out from a moment on: no call shows them, and their slots and marks stay, so
+//! that they are put back without memory where the call that took them out cannot be done. Once it is done they are let
+//! go.
 
 ghost use Rattle.std.specs.Prelude.{◌≡◌, ◌<◌, [], true, not, length, filter, find, slice_get, Some, None, IfOk, IfNone};
 ghost use Rattle.std.specs.Prelude.{IfSome, OnOk, OnErr, flat_map, option_map};
@@ -14,133 +14,192 @@ ghost use Rattle.world_data.specs.declared.worlds.Change.TheVariants.{Put, Del};
 ghost use Rattle.fence_index.specs.Silence.{IfWhole};
 ghost use Rattle.fence_index.specs.Candidates.{box_if};
 ghost use Rattle.channel_hub.specs.Hubs.{IsPrepared, del_may_concern, may_concern, put_may_concern};
+ghost use Rattle.channel_hub.specs.Dues.{IsSettled, due_in, least_due, left_at};
 ghost use Rattle.channel_hub.specs.MessageLaws.{messages_on};
 ghost use Rattle.rtree.specs.Ledgers.{IsRead};
 
-use crate::candidates::{Candidates, push_of_key, push_slots};
-use crate::channel_slots::{exchange, insert_reserved, place_of};
+use crate::candidates::Candidates;
+use crate::dues::{due_first, earlier, is_out, let_due_go, list_left, push_due};
+use crate::indexed_channels::IndexedChannels;
 use byte_text::{Name, NoMemory};
-use fence_index::{FenceIndex, unconcerned_are_silent, watch_is_whole};
+use fence_index::unconcerned_are_silent;
 use planar_geom::{BBox, box_of, shape_is_whole};
 use rtree::{Ledger, Steps};
-use slab::Slab;
 use std::alloc::Global;
 use std::marker::Model;
 use world_data::{Channel, Object};
 
 /// The channels of a world, in byte order of their names, and an index of their fences. One more may be prepared, which
-/// is then put without taking memory.
+/// is then put without taking memory. Those that are due may be out for a while, and go back without taking memory.
 pub struct Hub {
-    // A channel stays in its slot until it is taken out. There is room for the channel that is prepared in the index.
-    slots: Slab<Channel>,
-    // The slots of all channels, by name. There is room for one more too.
-    order: Vec<usize>,
-    // Each channel under its slot.
-    index: FenceIndex,
+    // Those that are out too.
+    all: IndexedChannels,
+    // The moment at which those that are out were due, where some may be out.
+    out: Option<u64>,
+    // The places of those that are left then. There is room for all, and for the one that is prepared.
+    left: Vec<usize>,
+    // No deadline comes before this moment, so that nobody looks for what is due before it.
+    due_from: u64,
 }
 
 impl Drop for Hub {
     fn drop(self) {
         let Hub {
-            slots: _,
-            order: _,
-            index: _,
+            all: _,
+            out: _,
+            left: _,
+            due_from: _,
         } = self;
     }
 }
 
 impl Model for Hub {
-    ghost use Rattle.std.specs.Prelude.{vec_len, vec_capacity};
-    ghost use Rattle.slab.specs.Slab.{get, slab_len};
-    ghost use Rattle.channel_hub.specs.Hubs.{Held, IsKept, channels_in};
+    ghost use Rattle.std.specs.Prelude.{vec_capacity};
+    ghost use Rattle.channel_hub.specs.Hubs.{Held};
+    ghost use Rattle.channel_hub.specs.Dues.{AreLeft, left_of, taken_of};
 
     ghost Value = { Held };
 
-    ghost view = { λ h. record { channels = channels_in (get h.slots) h.order.items; prepared = h.index.prepared } };
+    ghost view = { λ h. record {
+      channels = left_of h.out h.all.channels;
+      taken = taken_of h.out h.all.channels;
+      every = h.all.channels;
+      out = h.out;
+      prepared = h.all.prepared;
+    } };
 
-    ghost invariant = { λ h. IsKept (get h.slots) h.order.items h.index (slab_len h.slots) h.slots.capacity
-        (vec_len h.order) (vec_capacity h.order) };
+    ghost invariant = { λ h. AreLeft h.all h.out h.left.items (vec_capacity h.left) h.due_from };
 }
 
 impl Hub {
     /// No channel, and none prepared. It takes no memory; channels take it from `alloc`.
     pub fn new(alloc: Global) -> Hub
         ensures channels { result.channels ≡ [] }
+        ensures settled { IsSettled result }
         ensures prepared { result.prepared ≡ None }
     {
         Hub {
-            slots: Slab::new(alloc),
-            order: Vec::new(alloc),
-            index: FenceIndex::new(alloc),
+            all: IndexedChannels::new(alloc),
+            out: None,
+            left: Vec::new(alloc),
+            due_from: u64::MAX,
         }
     }
 
     /// Prepares a channel, in place of the one that was prepared before and not put: all memory that `put` needs is
-    /// taken. For want of it that one stays prepared. The channels stay.
+    /// taken. For want of it that one stays prepared. The channels stay, and those that are out stay out.
     pub fn prepare(&mut self, alloc: Global, channel: &Channel) -> Result<(), NoMemory>
         ensures channels { self.new.channels ≡ self.old.channels }
+        ensures taken { self.new.taken ≡ self.old.taken }
+        ensures every { self.new.every ≡ self.old.every }
+        ensures out { self.new.out ≡ self.old.out }
         ensures ok { OnOk result (IsPrepared self.new channel.now) }
         ensures err { OnErr result (self.new.prepared ≡ self.old.prepared) }
     {
-        if self.slots.reserve(1).is_err() || self.order.reserve(1).is_err() {
+        let Some(count) = self.all.len().checked_add(1) else {
+            return Err(NoMemory);
+        };
+        if self.left.reserve(count).is_err() {
             return Err(NoMemory);
         }
-        self.index.prepare(alloc, channel)
+        self.all.prepare(alloc, channel)
     }
 
     /// Puts the channel that was prepared at its place, and gives out the one of its name that stood there. None is
-    /// prepared then.
+    /// prepared then, and those that are out are let go.
     pub fn put(&mut self, channel: Channel) -> Option<Channel>
         requires { IsPrepared self.old channel }
         ensures channels { self.new.channels ≡ put_in channel_before channel self.old.channels }
+        ensures settled { IsSettled self.new }
         ensures replaced { result ≡ find (is_named channel.name) self.old.channels }
         ensures prepared { self.new.prepared ≡ None }
     {
-        // The hub keeps that what its channels watch is whole: the law on those that no change concerns asks for it.
-        watch_is_whole(&channel.fence.watch);
-        match place_of(&self.slots, self.order.as_slice(), &channel.name) {
-            Ok(at) => {
-                let slot = self.order[at];
-                self.index.take_out(&self.slots[slot], slot);
-                self.index.put(&channel, slot);
-                Some(exchange(&mut self.slots, slot, channel))
-            }
-            Err(at) => {
-                let slot = self.slots.vacant_key();
-                self.index.put(&channel, slot);
-                self.slots.insert_reserved(channel);
-                insert_reserved(&mut self.order, at, slot);
-                None
-            }
-        }
+        self.let_go();
+        self.due_from = due_first(self.due_from, channel.deadline);
+        self.all.put(channel)
     }
 
-    /// Takes out the channel of this name, where there is one. The one that was prepared stays prepared. It takes no
-    /// memory.
+    /// Takes out the channel of this name, where there is one; those that are out are let go. The one that was prepared
+    /// stays prepared. It takes no memory.
     pub fn take_out(&mut self, name: &Name) -> Option<Channel>
         ensures channels { self.new.channels ≡ filter (λ c. not (is_named name.now c)) self.old.channels }
+        ensures settled { IsSettled self.new }
         ensures taken { result ≡ find (is_named name.now) self.old.channels }
         ensures prepared { self.new.prepared ≡ self.old.prepared }
     {
-        match place_of(&self.slots, self.order.as_slice(), name) {
-            Ok(at) => {
-                let slot = self.order.remove(at);
-                let channel = self.slots.remove(slot);
-                self.index.take_out(&channel, slot);
-                Some(channel)
-            }
-            Err(_) => None,
+        self.let_go();
+        self.all.take_out(name)
+    }
+
+    /// Takes out all channels; those that are out are let go. The one that was prepared stays prepared. It takes no
+    /// memory.
+    pub fn clear(&mut self)
+        ensures channels { self.new.channels ≡ [] }
+        ensures settled { IsSettled self.new }
+        ensures prepared { self.new.prepared ≡ self.old.prepared }
+    {
+        self.put_back();
+        self.all.clear();
+    }
+
+    /// Takes all channels out that are due at a moment, until they are put back or let go; those that were out before
+    /// are let go. The one that was prepared stays prepared. It takes no memory.
+    pub fn take_due(&mut self, now: u64)
+        ensures channels { self.new.channels ≡ left_at now self.old.channels }
+        ensures taken { self.new.taken ≡ due_in now self.old.channels }
+        ensures every { self.new.every ≡ self.old.channels }
+        ensures prepared { self.new.prepared ≡ self.old.prepared }
+    {
+        self.let_go();
+        if now < self.due_from {
+            return;
+        }
+        list_left(&self.all, now, &mut self.left);
+        self.out = Some(now);
+    }
+
+    /// The channels that are out, in the order in which they expire.
+    pub fn taken(&self, alloc: Global) -> Result<Candidates<'_>, NoMemory>
+        ensures { IfOk result (λ cs. cs ≡ self.now.taken) }
+    {
+        match self.out {
+            Some(now) => push_due(alloc, &self.all, now),
+            None => Ok(Candidates::new(alloc)),
         }
     }
 
-    /// Takes out all channels. The one that was prepared stays prepared. It takes no memory.
-    pub fn clear(&mut self)
-        ensures channels { self.new.channels ≡ [] }
+    /// Puts back all channels that are out. It takes no memory.
+    pub fn put_back(&mut self)
+        ensures channels { self.new.channels ≡ self.old.every }
+        ensures settled { IsSettled self.new }
         ensures prepared { self.new.prepared ≡ self.old.prepared }
     {
-        self.slots.clear();
-        self.order.clear();
-        self.index.clear();
+        self.out = None;
+    }
+
+    /// Lets all channels go that are out. The one that was prepared stays prepared. It takes no memory.
+    pub fn let_go(&mut self)
+        ensures channels { self.new.channels ≡ self.old.channels }
+        ensures settled { IsSettled self.new }
+        ensures prepared { self.new.prepared ≡ self.old.prepared }
+    {
+        if let Some(now) = self.out.take() {
+            let_due_go(&mut self.all, now);
+            self.due_from = self.least_due().unwrap_or(u64::MAX);
+        }
+    }
+
+    /// The least deadline of all channels; none where no channel has one.
+    pub fn least_due(&self) -> Option<u64>
+        ensures { result ≡ least_due self.now.channels }
+    {
+        let mut least = None;
+        let mut at = self.len();
+        while at > 0 {
+            at -= 1;
+            least = earlier(self.at(at).deadline, least);
+        }
+        least
     }
 
     /// The channel of this name, where there is one.
@@ -148,9 +207,17 @@ impl Hub {
         ensures none { IfNone result (find (is_named name.now) self.now.channels ≡ None) }
         ensures some { IfSome result (λ c. find (is_named name.now) self.now.channels ≡ Some c.now) }
     {
-        match place_of(&self.slots, self.order.as_slice(), name) {
-            Ok(at) => Some(self.at(at)),
-            Err(_) => None,
+        // That no name stands there twice is known where the channels are counted.
+        let _count = self.all.len();
+        match self.all.get(name) {
+            Some(channel) => {
+                if is_out(self.out, channel) {
+                    None
+                } else {
+                    Some(channel)
+                }
+            }
+            None => None,
         }
     }
 
@@ -159,7 +226,11 @@ impl Hub {
         ensures count { result ≡ length self.now.channels }
         ensures by_name { are_channels self.now.channels ≡ true }
     {
-        self.order.len()
+        let count = self.all.len();
+        match self.out {
+            Some(_) => self.left.len(),
+            None => count,
+        }
     }
 
     /// The channel at this place, counted from 0 by ascending name.
@@ -167,7 +238,10 @@ impl Hub {
         requires { i < length self.now.channels }
         ensures { slice_get self.now.channels i ≡ Some result.now }
     {
-        &self.slots[self.order[i]]
+        match self.out {
+            Some(_) => self.all.at(self.left[i]),
+            None => self.all.at(i),
+        }
     }
 
     /// The channels of the key which a change may concern that moves an object from one box, where it was there, to
@@ -185,10 +259,8 @@ impl Hub {
         ensures read { IfOk result (λ cs. IsRead 0 (length cs) steps.old.count steps.new.count) }
         ensures counted { IsRead 0 0 steps.old.count steps.new.count }
     {
-        let numbers = self.index.candidates(alloc, key, old, new, steps)?;
-        let mut candidates = Candidates::new(alloc);
-        push_slots(&self.slots, &numbers, &mut candidates)?;
-        candidates.sort();
+        let mut candidates = self.all.candidates(alloc, key, old, new, steps)?;
+        candidates.leave_out(self.out);
         Ok(candidates)
     }
 
@@ -215,8 +287,8 @@ impl Hub {
         // The law speaks of whole shapes and of the channels that are kept here.
         shape_is_whole(&new.shape);
         unconcerned_are_silent();
-        // Naming the slots shows the proof the hub's invariant.
-        let _kept = &self.slots;
+        // That the channels are whole is known where they are counted.
+        let _count = self.all.len();
         self.candidates(
             alloc,
             &new.key,
@@ -243,8 +315,8 @@ impl Hub {
         ensures counted { IsRead 0 0 steps.old.count steps.new.count }
     {
         unconcerned_are_silent();
-        // Naming the slots shows the proof the hub's invariant.
-        let _kept = &self.slots;
+        // That the channels are whole is known where they are counted.
+        let _count = self.all.len();
         self.candidates(alloc, &old.key, whole_box(Some(old)), None, steps)
     }
 
@@ -252,8 +324,8 @@ impl Hub {
     pub fn of_key(&self, alloc: Global, key: &Name) -> Result<Candidates<'_>, NoMemory>
         ensures { IfOk result (λ cs. cs ≡ filter (watches (Some key.now)) self.now.channels) }
     {
-        let mut candidates = Candidates::new(alloc);
-        push_of_key(&self.slots, self.order.as_slice(), key, &mut candidates)?;
+        let mut candidates = self.all.of_key(alloc, key)?;
+        candidates.leave_out(self.out);
         Ok(candidates)
     }
 }

@@ -3,7 +3,9 @@
 
 mod candidates;
 mod channel_slots;
+mod dues;
 mod hubs;
+mod indexed_channels;
 
 pub use candidates::Candidates;
 pub use hubs::Hub;

@@ -1,6 +1,6 @@
 -- What SETCHAN, DELCHAN, PDELCHAN and CHANS do.
 use Rattle.std.proofs.Common.{◌≡◌, ℕ, ◌≤◌, ◌<◌, true, false, refl, lit<, List, [], ◌∷◌, length, arith}
-use Rattle.std.specs.Prelude.{Some, None, codes, is_none, map, nat_le, ◌&&◌}
+use Rattle.std.specs.Prelude.{Option, Some, None, codes, is_none, map, nat_le, ◌&&◌}
 use Rattle.std.proofs.lemmas.Bool.Decides.{nat_tests}
 use Rattle.byte_text.specs.Names.{Bytes}
 use Rattle.byte_text.specs.Globs.{is_sound_glob}
@@ -19,9 +19,11 @@ use Rattle.world_data.specs.declared.channels.Watch.TheVariants.{Zone, Roam}
 use Rattle.world_data.specs.declared.objects.Object.{Object}
 use Rattle.world_data.specs.declared.worlds.World.{World}
 use Rattle.world_data.specs.declared.worlds.Change.TheVariants as change
-use Rattle.world_model.specs.Effects.{says, changes, refuses, fits, missing, effect, setchan_effect, settled_channel, watch_over, within_reply}
+use Rattle.world_model.specs.Effects.{says, changes, refuses, fits, missing, effect, set_area, setchan_effect, settled_channel, watch_over, within_reply}
+use Rattle.world_model.specs.ChannelEffects.{with_deadline}
 use Rattle.world_model.specs.Replies.{channel_reply}
 use Rattle.world_model.specs.Sound.{is_sound_setting, takes_areas}
+use Rattle.world_model.specs.declared.search_commands.AreaWords.{AreaWords}
 use Rattle.world_model.specs.declared.search_commands.AreaWords.TheVariants as area_words
 use Rattle.world_model.specs.declared.commands.Command.TheVariants as command
 use Rattle.world_model.specs.declared.channel_commands.ChannelCommand.TheVariants as of_channel
@@ -47,22 +49,21 @@ module _ (w : World) (now : ℕ) where
   unfolding effect
   shown pattern = refl
 
-  module _ (c : Channel) where
-    pub set_plain : effect w now [] (command.Channel (of_channel.Setchan c None)) ≡ within_reply (setchan_effect w c)
-    unfolding effect
-    set_plain = refl
+  pub set_until : (c : Channel) (from : Option AreaWords) (after_ex : Option ℕ)
+      → effect w now [] (command.Channel (of_channel.Setchan c from after_ex)) ≡ within_reply (set_area w (with_deadline now after_ex c) from)
+  unfolding effect
+  set_until c from after_ex = refl
 
-    pub set_given : (a : Area) → effect w now [] (command.Channel (of_channel.Setchan c (Some (area_words.Given a)))) ≡ within_reply (setchan_effect w (settled_channel c a []))
-    unfolding effect
-    set_given a = refl
+-- a channel that is put with its area
+module _ (w : World) (c : Channel) where
+  pub set_given : (a : Area) → within_reply (set_area w c (Some (area_words.Given a))) ≡ within_reply (setchan_effect w (settled_channel c a []))
+  set_given a = refl
 
-    pub set_of : (key id : Bytes) (o : Object) → object_at w key id ≡ Some o → effect w now [] (command.Channel (of_channel.Setchan c (Some (area_words.Of key id)))) ≡ within_reply (setchan_effect w (settled_channel c (Figure o.shape) (codes "OBJECT" ∷ o.text ∷ [])))
-    unfolding effect
-    set_of key id o e = rw e refl
+  pub set_of : (key id : Bytes) (o : Object) → object_at w key id ≡ Some o → within_reply (set_area w c (Some (area_words.Of key id))) ≡ within_reply (setchan_effect w (settled_channel c (Figure o.shape) (codes "OBJECT" ∷ o.text ∷ [])))
+  set_of key id o e = rw e refl
 
-    pub set_none : (key id : Bytes) → object_at w key id ≡ None → effect w now [] (command.Channel (of_channel.Setchan c (Some (area_words.Of key id)))) ≡ missing w key
-    unfolding effect
-    set_none key id e = rw e (missing_fits w key)
+  pub set_none : (key id : Bytes) → object_at w key id ≡ None → within_reply (set_area w c (Some (area_words.Of key id))) ≡ missing w key
+  set_none key id e = rw e (missing_fits w key)
 
 -- a channel that is put, by the tests
 module _ (w : World) (c : Channel) where

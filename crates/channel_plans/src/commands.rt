@@ -1,6 +1,7 @@
 //! What a command on channels will do.
 
-ghost use Rattle.std.specs.Prelude.{◌≡◌, ◌+◌, ◌≤◌, ℕ, List, [], IfOk};
+ghost use Rattle.std.specs.Prelude.{◌≡◌, ◌+◌, ◌≤◌, List, [], IfOk};
+ghost use Rattle.world_data.specs.Limits.{max_moment};
 ghost use Rattle.world_model.specs.Effects.{effect};
 ghost use Rattle.world_model.specs.Subscriptions.{Sub};
 ghost use Rattle.world_model.specs.declared.commands.Command.TheVariants as family;
@@ -28,13 +29,17 @@ pub fn plan_channel(
     requires kept { AreKept (objects_in context.objects.now) context.total }
     requires channels { context.channels ≡ channels_weight context.hub.now.channels }
     requires light { context.total + context.channels ≤ most_kept }
+    requires moment { context.now ≤ max_moment }
     requires asked { IsAsked command }
-    ensures { IfOk result (λ p. (now : ℕ) (held : List Sub)
-        → IsPlanned (kept_world context.entry) context.entry.total held
-        (effect (kept_world context.entry) now [] (family.Channel command)) p) }
+    ensures { IfOk result (λ p. (held : List Sub) → IsPlanned (kept_world context.entry) context.entry.total held
+        (effect (kept_world context.entry) context.entry.now [] (family.Channel command)) p) }
 {
     match command {
-        ChannelCommand::Setchan { channel, area } => plan_setchan(alloc, context, channel, area),
+        ChannelCommand::Setchan {
+            channel,
+            area,
+            seconds,
+        } => plan_setchan(alloc, context, channel, area, seconds),
         ChannelCommand::Delchan { name } => plan_delchan(alloc, context, name),
         ChannelCommand::Pdelchan { glob } => plan_pdelchan(alloc, context, &glob),
         ChannelCommand::Chans { glob } => plan_chans(alloc, context, &glob),

@@ -1,24 +1,24 @@
 //! SETCHAN: a channel is put in its place, with its area.
 
-ghost use Rattle.std.specs.Prelude.{◌≡◌, ◌+◌, ◌≤◌, ◌++◌, ◌∷◌, ◌^◌, ℕ, List, []};
+ghost use Rattle.std.specs.Prelude.{◌≡◌, ◌+◌, ◌≤◌, ◌++◌, ◌∷◌, ◌^◌, List, []};
 ghost use Rattle.std.specs.Prelude.{Some, true, ◌&&◌, codes, find, is_none, length, nat_le, IfOk, OnOk};
 ghost use Rattle.byte_text.specs.Requests.{FitsRequest, max_word, total as total_bytes};
 ghost use Rattle.log_record.specs.Words.{IsRecorded};
 ghost use Rattle.ordered_lists.specs.Lists.{put_in};
 ghost use Rattle.planar_geom.specs.declared.shapes.Area.TheVariants.{Figure};
-ghost use Rattle.world_data.specs.Limits.{max_channels};
+ghost use Rattle.world_data.specs.Limits.{max_channels, max_moment};
 ghost use Rattle.world_data.specs.Sound.{is_sound_channel};
 ghost use Rattle.world_data.specs.Worlds.{are_channels, channel_before, is_named};
 ghost use Rattle.world_data.specs.declared.channels.Channel.{Channel};
 ghost use Rattle.world_data.specs.declared.worlds.Change.TheVariants as change;
-ghost use Rattle.world_model.specs.Effects.{effect, setchan_effect, settled_channel, watch_over, within_reply};
+ghost use Rattle.world_model.specs.Effects.{effect, set_area, setchan_effect, settled_channel, watch_over, within_reply};
 ghost use Rattle.world_model.specs.Sound.{is_sound_setting};
 ghost use Rattle.world_model.specs.Subscriptions.{Sub};
 ghost use Rattle.world_model.specs.declared.search_commands.AreaWords.TheVariants as area_words;
 ghost use Rattle.world_model.specs.declared.commands.Command.TheVariants as command;
 ghost use Rattle.world_model.specs.declared.channel_commands.ChannelCommand.TheVariants as of_channel;
 ghost use Rattle.keyspace.specs.Entries.{objects_in};
-ghost use Rattle.channel_plans.specs.Settings.{IsRecordable};
+ghost use Rattle.channel_plans.specs.Settings.{IsRecordable, IsRecordableAt};
 ghost use Rattle.object_plans.specs.Kept.{AreKept, most_kept};
 ghost use Rattle.record_writer.specs.Lengths.{len_of_channel};
 ghost use Rattle.channel_plans.specs.Contexts.{kept_world};
@@ -29,7 +29,7 @@ use crate::contexts::Context;
 use crate::planned::{ChannelChange, ChannelPlan, Planned};
 use byte_text::{MAX_REQUEST, MAX_WORD, MAX_WORDS, Name, NoMemory, Request};
 use channel_hub::Hub;
-use object_plans::{figure_of, plan_missing, say_refusal};
+use object_plans::{deadline_after, figure_of, plan_missing, say_refusal};
 use planar_geom::Area;
 use record_writer::channel_len;
 use reply_text::count_frame;
@@ -177,10 +177,8 @@ fn plan_over(
     requires kept { AreKept (objects_in context.objects.now) context.total }
     requires channels { context.channels ≡ channels_weight context.hub.now.channels }
     requires light { context.total + context.channels ≤ most_kept }
-    ensures { IfOk result (λ p. (now : ℕ) (held : List Sub)
-        → IsPlanned (kept_world context.entry) context.entry.total held
-        (effect (kept_world context.entry) now []
-        (command.Channel (of_channel.Setchan channel (Some (area_words.Of key.now id.now))))) p) }
+    ensures { IfOk result (λ p. (held : List Sub) → IsPlanned (kept_world context.entry) context.entry.total held
+        (within_reply (set_area (kept_world context.entry) channel (Some (area_words.Of key.now id.now)))) p) }
 {
     let Some(object) = context.objects.get(key, id) else {
         drop(channel);
@@ -190,8 +188,8 @@ fn plan_over(
     plan_settled(alloc, context, settled)
 }
 
-/// What SETCHAN will do in its context.
-pub(crate) fn plan_setchan(
+// A channel is put with its area.
+fn plan_area(
     alloc: Global,
     context: Context<'_>,
     channel: Channel,
@@ -202,9 +200,8 @@ pub(crate) fn plan_setchan(
     requires kept { AreKept (objects_in context.objects.now) context.total }
     requires channels { context.channels ≡ channels_weight context.hub.now.channels }
     requires light { context.total + context.channels ≤ most_kept }
-    ensures { IfOk result (λ p. (now : ℕ) (held : List Sub)
-        → IsPlanned (kept_world context.entry) context.entry.total held
-        (effect (kept_world context.entry) now [] (command.Channel (of_channel.Setchan channel area))) p) }
+    ensures { IfOk result (λ p. (held : List Sub) → IsPlanned (kept_world context.entry) context.entry.total held
+        (within_reply (set_area (kept_world context.entry) channel area)) p) }
 {
     match area {
         None => plan_settled(alloc, context, channel),
@@ -214,4 +211,27 @@ pub(crate) fn plan_setchan(
         }
         Some(AreaWords::Of(key, id)) => plan_over(alloc, context, channel, &key, &id),
     }
+}
+
+/// What SETCHAN will do in its context, whose moment the seconds are counted from.
+pub(crate) fn plan_setchan(
+    alloc: Global,
+    context: Context<'_>,
+    channel: Channel,
+    area: Option<AreaWords>,
+    seconds: Option<u32>,
+) -> Result<Planned, NoMemory>
+    requires sound { is_sound_setting channel area ≡ true }
+    requires recorded { IsRecordableAt context.now seconds channel area }
+    requires kept { AreKept (objects_in context.objects.now) context.total }
+    requires channels { context.channels ≡ channels_weight context.hub.now.channels }
+    requires light { context.total + context.channels ≤ most_kept }
+    requires moment { context.now ≤ max_moment }
+    ensures { IfOk result (λ p. (held : List Sub) → IsPlanned (kept_world context.entry) context.entry.total held
+        (effect (kept_world context.entry) context.entry.now []
+        (command.Channel (of_channel.Setchan channel area seconds))) p) }
+{
+    let mut channel = channel;
+    channel.deadline = deadline_after(context.now, seconds);
+    plan_area(alloc, context, channel, area)
 }

@@ -1,11 +1,12 @@
 -- One field or more, to the end of the words.
 use Rattle.std.proofs.Common.{◌≡◌, inl, inr, refl, ◌∙◌, ap, subst, List, [], ◌∷◌, ◌++◌}
-use Rattle.std.specs.Prelude.{ℤ, Some, None, Ok, Err, flat_map}
+use Rattle.std.specs.Prelude.{Some, None, Ok, Err, flat_map}
 use Rattle.std.proofs.lemmas.List.{append-nil}
 use Rattle.byte_text.specs.Names.{Bytes}
 use Rattle.world_model.specs.Grammar.{a_word, spells, runs_out, go_on, ◌>>=◌, done, repeated, once_or_more, live}
-use Rattle.world_model.specs.Kinds.{name, integer}
+use Rattle.world_model.specs.Kinds.{name, value}
 use Rattle.world_data.specs.Filters.{Field}
+use Rattle.world_data.specs.declared.values.Value.{Value}
 use Rattle.world_model.specs.Commands.{field, reads}
 use Rattle.world_model.specs.declared.commands.Command.{Command}
 use Rattle.world_model.specs.FormLaws.{Takes, fair_done, fair_word, fair_bind, takes_word, takes_bind}
@@ -16,7 +17,7 @@ use Rattle.cmd_words.proofs.Binds.{unrolled, done_behind, bind_assoc}
 use Rattle.cmd_words.specs.declared.faults.CommandFault.{CommandFault}
 
 takes_step : (given : List Field) → Takes (field_step given)
-takes_step given = takes_bind field (λ f. done (given ++ f ∷ [])) (takes_bind name _ (takes_word a_word _) (λ n. fair_bind integer _ (fair_word a_word _) (λ v. fair_done (n, v)))) (λ f. fair_done (given ++ f ∷ []))
+takes_step given = takes_bind field (λ f. done (given ++ f ∷ [])) (takes_bind name _ (takes_word a_word _) (λ n. fair_bind value _ (fair_word a_word _) (λ v. fair_done (n, v)))) (λ f. fair_done (given ++ f ∷ []))
 
 -- the first field, and those behind it
 pub first_field : (make : List Field → Command) (words : List Bytes) → (once_or_more field_step [] >>= λ all. done (make all)) words ≡ fields_first make words
@@ -26,13 +27,13 @@ module _ (make : List Field → Command) (given : List Field) where
   unroll : (words : List Bytes) → fields_more make given words ≡ done (make given) words ++ (field_step given >>= λ t. fields_more make t) words
   unroll words = unrolled field_step takes_step (λ all. done (make all)) given words
 
-  behind_name : (n : Bytes) (more : List Bytes) → flat_map (go_on (λ t. fields_more make t)) (flat_map (go_on (λ (f : Field). done (given ++ f ∷ []))) (flat_map (go_on (λ (v : ℤ). done (n, v))) (integer more)))
-      ≡ (integer >>= λ v. fields_more make (given ++ (n, v) ∷ [])) more
+  behind_name : (n : Bytes) (more : List Bytes) → flat_map (go_on (λ t. fields_more make t)) (flat_map (go_on (λ (f : Field). done (given ++ f ∷ []))) (flat_map (go_on (λ (v : Value). done (n, v))) (value more)))
+      ≡ (value >>= λ v. fields_more make (given ++ (n, v) ∷ [])) more
   behind_name n more =
-      done_behind (λ (f : Field). given ++ f ∷ []) (λ t. fields_more make t) (flat_map (go_on (λ (v : ℤ). done (n, v))) (integer more))
-      ∙ done_behind (λ (v : ℤ). (n, v)) (λ f. fields_more make (given ++ f ∷ [])) (integer more)
+      done_behind (λ (f : Field). given ++ f ∷ []) (λ t. fields_more make t) (flat_map (go_on (λ (v : Value). done (n, v))) (value more))
+      ∙ done_behind (λ (v : Value). (n, v)) (λ f. fields_more make (given ++ f ∷ [])) (value more)
 
-  fields_take : (w n : Bytes) (more : List Bytes) → name_of w ≡ Some n → live (fields_more make given (w ∷ more)) ≡ live ((integer >>= λ v. fields_more make (given ++ (n, v) ∷ [])) more)
+  fields_take : (w n : Bytes) (more : List Bytes) → name_of w ≡ Some n → live (fields_more make given (w ∷ more)) ≡ live ((value >>= λ v. fields_more make (given ++ (n, v) ∷ [])) more)
   fields_take w n more e = ap live (unroll (w ∷ more)) ∙ rw e (simp append-nil (ap live (behind_name n more)))
 
   fields_stop : (w : Bytes) → name_of w ≡ None → live (fields_more make given (w ∷ [])) ≡ []
@@ -50,13 +51,13 @@ pub begun : (all p : Place) (f : Field) (given : List Field) → Reads field all
 begun all p f given k e = rw e (record { follows = λ make h. k.1 (λ g. fields_more make (g ∷ [])) h; moved = k.0 })
 
 module _ (all p q : Place) (given : List Field) (w n : Bytes) (s : HasFields all p given) (b : IsBehind w p q) (e : name_of w ≡ Some n) where
-  value_follows : (make : List Field → Command) → Follows all (fields_first make) → Follows q (integer >>= λ v. fields_more make (given ++ (n, v) ∷ []))
-  value_follows make h = step (fields_more make given) (integer >>= λ v. fields_more make (given ++ (n, v) ∷ [])) p q w b (λ more. fields_take make given w n more e) (s.follows make h)
+  value_follows : (make : List Field → Command) → Follows all (fields_first make) → Follows q (value >>= λ v. fields_more make (given ++ (n, v) ∷ []))
+  value_follows make h = step (fields_more make given) (value >>= λ v. fields_more make (given ++ (n, v) ∷ [])) p q w b (λ more. fields_take make given w n more e) (s.follows make h)
 
-  pub one_more : (r : Place) (v : ℤ) (more : List Field) → Reads integer q r (Ok v) → more ≡ given ++ (n, v) ∷ [] → HasFields all r more
+  pub one_more : (r : Place) (v : Value) (more : List Field) → Reads value q r (Ok v) → more ≡ given ++ (n, v) ∷ [] → HasFields all r more
   one_more r v more k m = rw m (record { follows = λ make h. k.1 (λ x. fields_more make (given ++ (n, x) ∷ [])) (value_follows make h); moved = moves_on all q r (moves_on all p q s.moved (moves w p q b)) k.0 })
 
-  pub value_refused : (r : Place) (why : CommandFault) → Reads integer q r (Err why) → ReadsFields all (Err why)
+  pub value_refused : (r : Place) (why : CommandFault) → Reads value q r (Err why) → ReadsFields all (Err why)
   value_refused r why (inl m) = inl m
   value_refused r why (inr k) = inr (λ make h. subst (λ ws. answers ws ≡ Err why) (moves_on all p q s.moved (moves w p q b)).words (k (λ x. fields_more make (given ++ (n, x) ∷ [])) (value_follows make h)))
 

@@ -1,17 +1,19 @@
 -- Of each name the last value counts: the fields that are left, and the names that are written 0.
 use Rattle.std.proofs.Common.{◌≡◌, ℕ, zero, suc, ◌<◌, ◌+◌, Bool, true, false, not, refl, sym, ◌∙◌, ap, List, [], ◌∷◌, ◌++◌, take, length, get_or, arith}
-use Rattle.std.specs.Prelude.{ℤ, pos, filter, map, Some, slice_get, IfSome}
+use Rattle.std.specs.Prelude.{pos, filter, map, Some, slice_get, IfSome}
 use Rattle.std.proofs.lemmas.List.{take_more, map-append}
 use Rattle.std.proofs.lemmas.Option.{get_or_from_slice_get}
 use Rattle.byte_text.specs.Names.{Bytes}
 use Rattle.ordered_lists.specs.Lists.{put_in}
-use Rattle.world_data.specs.Filters.{Field, field_before, is_zero, last_values, with_values}
+use Rattle.world_data.specs.Filters.{Field, field_before, is_absent, last_values, with_values}
 use Rattle.world_data.specs.FieldLaws.{one_given}
+use Rattle.world_data.specs.declared.values.Value.{Value}
+use Rattle.world_data.specs.declared.values.Value.TheVariants.{Whole}
 use Rattle.world_model.specs.Commands.{cleared_of}
 use Rattle.cmd_words.specs.Sets.{mark_of}
 
 abbrev is_kept : Field → Bool
-is_kept f = not (is_zero f)
+is_kept f = not (is_absent f)
 
 -- one more field
 pub value_more : (given : List Field) (f : Field) → with_values (with_values [] given) (f ∷ []) ≡ with_values [] (given ++ f ∷ [])
@@ -36,15 +38,15 @@ values_marked : (found given : List Field) → last_values (map marked found) (m
 values_marked found [] = refl
 values_marked found (f ∷ given) = ap (λ (l : List Field). last_values l (map marked given)) (put_marked f found) ∙ values_marked (put_in field_before f found) given
 
-kept_case : (x : Field) (xs : List Field) (b : Bool) → is_zero x ≡ b → filter is_kept (map marked xs) ≡ map marked (filter is_zero xs) → filter is_kept (map marked (x ∷ xs)) ≡ map marked (filter is_zero (x ∷ xs))
+kept_case : (x : Field) (xs : List Field) (b : Bool) → is_absent x ≡ b → filter is_kept (map marked xs) ≡ map marked (filter is_absent xs) → filter is_kept (map marked (x ∷ xs)) ≡ map marked (filter is_absent (x ∷ xs))
 kept_case x xs true e ih =
-    let one : mark_of x.1 ≡ pos 1 = rw e refl in
-    rw e (ap (λ (l : List Field). (x.0, pos 1) ∷ l) ih ∙ ap (λ (v : ℤ). (x.0, v) ∷ map marked (filter is_zero xs)) (sym one))
+    let one : mark_of x.1 ≡ Whole (pos 1) = rw e refl in
+    rw e (ap (λ (l : List Field). (x.0, Whole (pos 1)) ∷ l) ih ∙ ap (λ (v : Value). (x.0, v) ∷ map marked (filter is_absent xs)) (sym one))
 kept_case x xs false e ih = rw e ih
 
-kept_marked : (xs : List Field) → filter is_kept (map marked xs) ≡ map marked (filter is_zero xs)
+kept_marked : (xs : List Field) → filter is_kept (map marked xs) ≡ map marked (filter is_absent xs)
 kept_marked [] = refl
-kept_marked (x ∷ xs) = kept_case x xs (is_zero x) refl (kept_marked xs)
+kept_marked (x ∷ xs) = kept_case x xs (is_absent x) refl (kept_marked xs)
 
 names_marked : (xs : List Field) → map (λ f. f.0) (map marked xs) ≡ map (λ f. f.0) xs
 names_marked [] = refl
@@ -52,7 +54,7 @@ names_marked (x ∷ xs) = ap (λ (l : List Bytes). x.0 ∷ l) (names_marked xs)
 
 -- the names with a mark are those that are written 0
 pub names_cleared : (given : List Field) → map (λ f. f.0) (with_values [] (map marked given)) ≡ cleared_of given
-names_cleared given = ap (λ (l : List Field). map (λ f. f.0) (filter is_kept l)) (values_marked [] given) ∙ ap (map (λ f. f.0)) (kept_marked (last_values [] given)) ∙ names_marked (filter is_zero (last_values [] given))
+names_cleared given = ap (λ (l : List Field). map (λ f. f.0) (filter is_kept l)) (values_marked [] given) ∙ ap (map (λ f. f.0)) (kept_marked (last_values [] given)) ∙ names_marked (filter is_absent (last_values [] given))
 
 -- one more of the fields that are given
 

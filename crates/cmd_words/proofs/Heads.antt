@@ -6,7 +6,7 @@ use Rattle.std.specs.Str.{str_to_ascii_lowercase}
 use Rattle.std.proofs.lemmas.List.{append-nil}
 use Rattle.byte_text.specs.Names.{Bytes, is_word}
 use Rattle.world_model.specs.Grammar.{Form, done, live, one_of, ◌>>=◌, once_or_more}
-use Rattle.world_model.specs.Commands.{Row, form_of, command_rows, readings, reads, is_open, shown_of, wrong_count}
+use Rattle.world_model.specs.Commands.{Row, form_of, command_rows, setchan_words, readings, reads, is_open, shown_of, wrong_count}
 use Rattle.world_model.specs.declared.faults.WordFault.TheVariants as fault
 use Rattle.cmd_words.proofs.Follows.{stopped, shut_by}
 use Rattle.world_model.specs.declared.commands.Command.{Command}
@@ -24,7 +24,7 @@ use Rattle.cmd_words.specs.NameLists.{some_names}
 use Rattle.cmd_words.specs.Scans.{behind_scan}
 use Rattle.cmd_words.specs.Searches.{behind_search, behind_nearby}
 use Rattle.cmd_words.specs.Channels.{behind_setchan}
-use Rattle.cmd_words.proofs.SetchanHead.{channel_and_more, setchan_same}
+use Rattle.cmd_words.proofs.SetchanHead.{setchan_same}
 use Rattle.world_data.specs.declared.channels.Kind.TheVariants.{Within, Intersects}
 use Rattle.cmd_words.proofs.Gets.{lower_word}
 use Rattle.cmd_words.proofs.NameLists.{first_name}
@@ -221,7 +221,7 @@ psubscribe_goes called more e = rw e (simp append-nil (first_name glob_of (λ pa
 pub psubscribe_head : (called : Bytes) (p : Place) → p.read ≡ called ∷ [] → is_word called (codes "PSUBSCRIBE") ≡ true → Follows p (some_names glob_of (λ patterns. command.Session (of_session.Psubscribe patterns)))
 psubscribe_head called p r e = begins called p _ r (λ more. psubscribe_goes called more (lower_word called (codes "PSUBSCRIBE") e))
 
-setchan_goes : (called : Bytes) (more : List Bytes) → str_to_ascii_lowercase called ≡ codes "setchan" → readings (called ∷ more) ≡ live (channel_and_more more)
+setchan_goes : (called : Bytes) (more : List Bytes) → str_to_ascii_lowercase called ≡ codes "setchan" → readings (called ∷ more) ≡ live (setchan_words more)
 unfolding readings
 setchan_goes called more e = rw e (simp append-nil)
 

@@ -15,7 +15,8 @@ pub mod Coordinates
 pub mod NoNumbers
 pub mod Seconds
 pub mod FieldLists
-pub mod NumberLists
+pub mod ValueLists
+pub mod ValueTests
 pub mod Options
 pub mod SearchWords
 pub mod FenceWords

@@ -9,7 +9,7 @@ use Rattle.geo_text.specs.Texts.{Shape, point_text, bounds_text, corners}
 use Rattle.planar_geom.specs.Points.{Point, Bounds}
 use Rattle.planar_geom.specs.declared.shapes.Part.TheVariants.{Spot, Face}
 use Rattle.world_model.specs.Grammar.{Form, a_word, Reading, runs_out, ◌>>=◌, ◌>>◌, done, where_, word, live, spelled, wants_coordinate, wants_geojson}
-use Rattle.world_model.specs.Kinds.{name, integer, seconds, lat_lon, four, geojson}
+use Rattle.world_model.specs.Kinds.{name, value, seconds, lat_lon, four, geojson}
 use Rattle.world_data.specs.Filters.{Field}
 use Rattle.world_model.specs.Commands.{SetOptions, set_option, field, place, readings, shown_of, fault_at, command_spelled, wrong_count}
 use Rattle.world_model.specs.declared.object_commands.Only.{Only}
@@ -42,7 +42,7 @@ pub takes_alone : {A : Type 0} (called : Bytes) (a : A) → Takes (word called >
 takes_alone called a = takes_bind (word called) (λ _. done a) (takes_word a_word _) (λ _. fair_done a)
 
 fair_field : Fair field
-fair_field = fair_bind name _ (fair_word a_word _) (λ n. fair_bind integer _ (fair_word a_word _) (λ v. fair_done (n, v)))
+fair_field = fair_bind name _ (fair_word a_word _) (λ n. fair_bind value _ (fair_word a_word _) (λ v. fair_done (n, v)))
 
 takes_option : (o : SetOptions) → Takes (set_option o)
 takes_option o words =

@@ -6,14 +6,14 @@ use Rattle.std.proofs.lemmas.List.{append-nil}
 use Rattle.byte_text.specs.Names.{Bytes, is_word}
 use Rattle.world_data.specs.Limits.{max_tests, max_limit}
 use Rattle.world_model.specs.Grammar.{Form, a_word, runs_out, ◌>>=◌, ◌>>◌, done, word, times}
-use Rattle.world_model.specs.Kinds.{name, glob, integer, between, bound}
-use Rattle.world_model.specs.Commands.{SearchOptions, search_option, test}
-use Rattle.world_data.specs.declared.filters.Test.TheVariants.{Range, Among}
+use Rattle.world_model.specs.Kinds.{name, glob, value, between, bound, text, again}
+use Rattle.world_model.specs.Commands.{SearchOptions, search_option, test, where_range, where_same}
+use Rattle.world_data.specs.declared.filters.Test.TheVariants.{Range, Same, Among}
 use Rattle.world_model.specs.declared.commands.Command.{Command}
-use Rattle.world_model.specs.FormLaws.{Each, Takes, Fair, fair_done, fair_word, fair_bind, takes_word, takes_bind, each_append}
+use Rattle.world_model.specs.FormLaws.{Each, Takes, Fair, fair_done, fair_or, fair_word, fair_bind, takes_word, takes_bind, each_append}
 use Rattle.cmd_words.specs.Progress.{IsWordDue}
 use Rattle.cmd_words.specs.Options.{LacksOption}
-use Rattle.cmd_words.specs.SearchWords.{range_test, among_test, with_test, behind_word, option_name, may_come, search_table}
+use Rattle.cmd_words.specs.SearchWords.{behind_name, value_test, among_test, with_test, behind_word, option_name, may_come, search_table}
 use Rattle.cmd_words.specs.declared.search_options.SearchWord.{SearchWord}
 use Rattle.cmd_words.specs.declared.search_options.SearchWord.TheVariants as option
 use Rattle.cmd_words.proofs.Gets.{lower_word}
@@ -26,14 +26,20 @@ fair_times : {A : Type 0} (n : ℕ) (f : Form A) → Fair f → Fair (times n f)
 fair_times zero f p = fair_done []
 fair_times (suc n) f p = fair_bind f _ p (λ a. fair_bind (times n f) _ (fair_times n f p) (λ rest. fair_done (a ∷ rest)))
 
-fair_range : Fair range_test
-fair_range = fair_bind name _ (fair_word a_word _) (λ n. fair_bind bound _ (fair_word a_word _) (λ low. fair_bind bound _ (fair_word a_word _) (λ high. fair_done (Range n low high))))
+fair_range : (n : Bytes) → Fair (where_range n)
+fair_range n = fair_bind bound _ (fair_word a_word _) (λ low. fair_bind bound _ (fair_word a_word _) (λ high. fair_done (Range n low high)))
+
+fair_same : (n : Bytes) → Fair (where_same n)
+fair_same n = fair_bind text _ (fair_word a_word _) (λ t. fair_bind (again t) _ (fair_word a_word _) (λ u. fair_done (Same n t)))
+
+fair_value : Fair value_test
+fair_value = fair_bind name behind_name (fair_word a_word _) (λ n. fair_or (where_range n) (where_same n) (fair_range n) (fair_same n))
 
 fair_among : Fair among_test
-fair_among = fair_bind name _ (fair_word a_word _) (λ n. fair_bind (between 1 _) _ (fair_word a_word _) (λ count. fair_bind (times count integer) _ (fair_times count integer (fair_word a_word _)) (λ values. fair_done (Among n values))))
+fair_among = fair_bind name _ (fair_word a_word _) (λ n. fair_bind (between 1 _) _ (fair_word a_word _) (λ count. fair_bind (times count value) _ (fair_times count value (fair_word a_word _)) (λ values. fair_done (Among n values))))
 
 pub takes_test : Takes test
-takes_test words = each_append _ _ _ (takes_bind (word (codes "WHERE")) (λ _. range_test) (takes_word a_word _) (λ _. fair_range) words) (takes_bind (word (codes "WHEREIN")) (λ _. among_test) (takes_word a_word _) (λ _. fair_among) words)
+takes_test words = each_append _ _ _ (takes_bind (word (codes "WHERE")) (λ _. value_test) (takes_word a_word _) (λ _. fair_value) words) (takes_bind (word (codes "WHEREIN")) (λ _. among_test) (takes_word a_word _) (λ _. fair_among) words)
 
 takes_option : (ordered : Bool) (o : SearchOptions) → Takes (search_option ordered o)
 takes_option ordered o words =

@@ -4,7 +4,7 @@ use Rattle.std.specs.Prelude.{◌&&◌, Option, Some, None, is_none, unwrap_or, 
 use Rattle.std.specs.List.{AllByRecursion}
 use Rattle.byte_text.specs.Names.{Bytes, is_name}
 use Rattle.ordered_lists.specs.Reading.{both_of}
-use Rattle.world_model.specs.Grammar.{Form, done, word, maybe, ◌>>=◌, ◌>>◌, ◌or◌, one_of, where_, repeated, once_or_more, a_word}
+use Rattle.world_model.specs.Grammar.{Form, done, word, maybe, ◌>>=◌, ◌>>◌, ◌or◌, where_, repeated, once_or_more, a_word}
 use Rattle.world_model.specs.Kinds.{name, glob, seconds, meters, lat_lon, four, geojson, when}
 use Rattle.world_data.specs.Limits.{max_tests}
 use Rattle.byte_text.specs.Globs.{is_well_formed}
@@ -182,23 +182,25 @@ makes_psubscribe = makes_some IsPattern glob makes_glob (λ patterns. command.Se
 
 -- SETCHAN: every channel that is read is sound
 
-makes_over : (called : Bytes) (kind : Kind) (channel : Bytes) → Makes Keeps (table.setchan_area called kind channel)
+makes_over : (called : Bytes) (kind : Kind) (channel : table.Called) → Makes Keeps (table.setchan_area called kind channel)
 makes_over called kind channel = makes_then Keeps (word called) _ (makes_behind Keeps name _ (λ key. makes_behind Keeps (repeated (table.fence_option false) table.no_fence_options) _ (λ o.
     makes_behind Keeps (where_ o.fence table.area) _ (λ a. makes_done Keeps (table.setting channel called key o (watch.Zone kind a.area) a.words (Some a.from)) (λ sound. sound)))))
 
-makes_around : (channel key : Bytes) (o : table.FenceOptions) → Makes Keeps (table.near_area channel key o)
+makes_around : (channel : table.Called) (key : Bytes) (o : table.FenceOptions) → Makes Keeps (table.near_area channel key o)
 makes_around channel key o =
     first (makes_where Keeps (not o.nodwell) _ (makes_behind Keeps (word (codes "POINT") >> lat_lon) _ (λ p. makes_behind Keeps meters _ (λ r. makes_done Keeps _ (λ sound. sound))))) (
     first (makes_where Keeps (is_none o.detect) _ (makes_behind Keeps (word (codes "ROAM") >> name) _ (λ other. makes_behind Keeps glob _ (λ pattern. makes_behind Keeps meters _ (λ r.
     makes_done Keeps _ (λ sound. sound)))))) (makes_none Keeps))
 
-makes_near : (channel : Bytes) → Makes Keeps (table.setchan_near channel)
+makes_near : (channel : table.Called) → Makes Keeps (table.setchan_near channel)
 makes_near channel = makes_then Keeps (word (codes "NEARBY")) _ (makes_behind Keeps name _ (λ key. makes_behind Keeps (repeated (table.fence_option true) table.no_fence_options) _ (λ o.
     makes_where Keeps o.fence _ (makes_around channel key o))))
 
+makes_kinds : (channel : table.Called) → Makes Keeps (table.setchan_kinds channel)
+makes_kinds channel = first (makes_over (codes "WITHIN") Within channel) (first (makes_over (codes "INTERSECTS") Intersects channel) (first (makes_near channel) (makes_none Keeps)))
+
 makes_setchan : Makes Keeps table.setchan_words
-makes_setchan = makes_behind Keeps name _ (λ channel.
-    first (makes_over (codes "WITHIN") Within channel) (first (makes_over (codes "INTERSECTS") Intersects channel) (first (makes_near channel) (makes_none Keeps))))
+makes_setchan = makes_behind Keeps name _ (λ n. makes_behind Keeps table.after_ex_words _ (λ after_ex. makes_kinds (record { name = n; after_ex = after_ex })))
 
 -- DELCHAN, PDELCHAN and CHANS
 

@@ -1,16 +1,16 @@
 -- What stands behind SETCHAN, as it is read.
-use Rattle.std.proofs.Common.{◌≡◌, Bool, true, false, not, refl, sym, ◌∙◌, List, [], ◌∷◌, ◌++◌}
+use Rattle.std.proofs.Common.{◌≡◌, Bool, true, false, not, refl, sym, ◌∙◌, List, [], ◌++◌}
 use Rattle.std.specs.Prelude.{codes, is_none}
 use Rattle.byte_text.specs.Names.{Bytes}
 use Rattle.world_data.specs.declared.channels.Kind.{Kind}
 use Rattle.world_data.specs.declared.channels.Kind.TheVariants as kind
-use Rattle.world_model.specs.Grammar.{Form, ◌>>=◌, ◌>>◌, done, one_of, where_, word, repeated}
+use Rattle.world_model.specs.Grammar.{Form, ◌>>=◌, ◌>>◌, done, where_, word, repeated}
 use Rattle.world_model.specs.Kinds.{name, glob, meters, lat_lon}
 use Rattle.world_model.specs.Commands as table
 use Rattle.world_model.specs.declared.commands.Command.{Command}
 use Rattle.cmd_words.specs.Progress.{a_name}
 use Rattle.cmd_words.specs.FenceAreas.{around, beside, near_area}
-use Rattle.cmd_words.specs.Channels.{setchan_of, behind_key, behind_setchan}
+use Rattle.cmd_words.specs.Channels.{setchan_of, behind_key, behind_ex, behind_setchan}
 use Rattle.cmd_words.specs.declared.fence_areas.FenceArea.{FenceArea}
 use Rattle.cmd_words.specs.declared.fence_areas.FenceArea.TheVariants as area
 use Rattle.cmd_words.proofs.Binds.{bind_assoc, bind_same, done_behind}
@@ -31,7 +31,7 @@ three a b c x y z p q r = rw (p, q, r) refl
 two : {A : Type 0} (a b x y : List A) → a ≡ x → b ≡ y → a ++ (b ++ []) ≡ x ++ (y ++ [])
 two a b x y p q = rw (p, q) refl
 
-module _ (n : Bytes) where
+module _ (n : table.Called) where
   abbrev made : Kind → Bytes → table.FenceOptions → FenceArea → Form Command
   made kind key o x = done (setchan_of n kind key o x)
 
@@ -85,12 +85,9 @@ module _ (n : Bytes) where
   near_same words = bind_same (word (codes "NEARBY")) _ _ (λ w behind. bind_same name _ _ (λ key more. bind_same (repeated (table.fence_option true) table.no_fence_options) _ _
       (λ o rest. where_same o.fence _ _ (near_area_same key o) rest) more) behind) words
 
-  kinds_same : (words : List Bytes) → one_of (table.setchan_area (codes "WITHIN") kind.Within n ∷ table.setchan_area (codes "INTERSECTS") kind.Intersects n ∷ table.setchan_near n ∷ []) words ≡ behind_setchan n words
+  kinds_same : (words : List Bytes) → table.setchan_kinds n words ≡ behind_ex n words
   kinds_same words = three _ _ _ _ _ _ (within_same words) (intersects_same words) (near_same words)
 
 -- the channel's name, and what stands behind it
-abbrev pub channel_and_more : Form Command
-channel_and_more = name >>= λ n. one_of (table.setchan_area (codes "WITHIN") kind.Within n ∷ table.setchan_area (codes "INTERSECTS") kind.Intersects n ∷ table.setchan_near n ∷ [])
-
-pub setchan_same : (words : List Bytes) → channel_and_more words ≡ a_name behind_setchan words
-setchan_same words = bind_same name _ _ (λ n rest. kinds_same n rest) words
+pub setchan_same : (words : List Bytes) → table.setchan_words words ≡ a_name behind_setchan words
+setchan_same words = bind_same name _ _ (λ n rest. bind_same table.after_ex_words _ _ (λ after_ex more. kinds_same (record { name = n; after_ex = after_ex }) more) rest) words

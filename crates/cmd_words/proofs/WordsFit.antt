@@ -13,7 +13,7 @@ use Rattle.cmd_words.specs.SettingSizes.{spelled_within, fit_light}
 use Rattle.cmd_words.specs.declared.fence_areas.FenceArea.{FenceArea}
 
 -- the normal words of a channel that words spell are within the limits
-pub setchan_fits : (p : Place) (n : Bytes) (kind : Kind) (key : Bytes) (o : table.FenceOptions) (x : FenceArea) → FitsRequest (all_words p)
+pub setchan_fits : (p : Place) (n : table.Called) (kind : Kind) (key : Bytes) (o : table.FenceOptions) (x : FenceArea) → FitsRequest (all_words p)
     → table.reads (all_words p) ≡ Ok (setchan_of n kind key o x) → FitsRequest (channel_words kind key o x)
 setchan_fits p n kind key o x fits e =
     let said = ok_spelled (all_words p) (table.command_spelled (all_words p)) (setchan_of n kind key o x) e in

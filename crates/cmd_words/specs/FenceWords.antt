@@ -9,7 +9,7 @@ use Rattle.world_model.specs.Kinds.{when, glob, pieces, is_in, list_of}
 use Rattle.world_model.specs.Commands.{FenceOptions, fence_option, detect_names, command_names}
 use Rattle.world_data.specs.declared.filters.Test.{Test}
 use Rattle.cmd_words.specs.Options.{Options}
-use Rattle.cmd_words.specs.SearchWords.{range_test, among_test}
+use Rattle.cmd_words.specs.SearchWords.{value_test, among_test}
 use Rattle.cmd_words.specs.declared.listed_names.ListKind.{ListKind}
 use Rattle.cmd_words.specs.declared.listed_names.ListKind.TheVariants as list
 use Rattle.cmd_words.specs.declared.fence_options.FenceWord.{FenceWord}
@@ -31,7 +31,7 @@ with_test o t = record o { tests = o.tests ++ t ∷ [] }
 -- what is behind the word of an option, and the options with it
 abbrev pub behind_word : FenceOptions → FenceWord → Form FenceOptions
 behind_word o option.Match = glob >>= λ pattern. done (record o { glob = Some pattern })
-behind_word o option.Where = range_test >>= λ t. done (with_test o t)
+behind_word o option.Where = value_test >>= λ t. done (with_test o t)
 behind_word o option.WhereIn = among_test >>= λ t. done (with_test o t)
 behind_word o option.Fence = done (record o { fence = true })
 behind_word o option.Detect = list_of detect_names >>= λ l. done (record o { detect = Some l })

@@ -1,34 +1,59 @@
 -- What stands behind the key of a search: its options in any order, and its output.
-use Rattle.std.specs.Prelude.{◌≡◌, ◌&&◌, not, length, nat_lt, Bool, true, false, [], ◌∷◌, ◌++◌, Option, Some, None, is_none, codes}
-use Rattle.byte_text.specs.Names.{Bytes}
+use Rattle.std.specs.Prelude.{◌≡◌, ◌&&◌, not, length, nat_lt, ℤ, Bool, true, false, [], ◌∷◌, ◌++◌, Option, Some, None, is_none, codes}
+use Rattle.byte_text.specs.Names.{Bytes, is_name}
 use Rattle.world_data.specs.Limits.{max_limit, max_tests, max_values}
-use Rattle.world_model.specs.Grammar.{Form, ◌>>=◌, done, times}
-use Rattle.world_model.specs.Kinds.{name, glob, integer, between, bound}
-use Rattle.world_model.specs.Commands.{SearchOptions, search_option}
+use Rattle.world_model.specs.Grammar.{Form, a_word, ◌>>=◌, ◌>>◌, ◌or◌, done, one_word, times}
+use Rattle.world_model.specs.Kinds.{when, name, glob, value, between, bound, bound_of, again}
+use Rattle.world_model.specs.Commands.{SearchOptions, search_option, where_range, where_same}
+use Rattle.world_model.specs.declared.commands.Command.{Command}
 use Rattle.world_data.specs.declared.filters.Test.{Test}
-use Rattle.world_data.specs.declared.filters.Test.TheVariants.{Range, Among}
+use Rattle.world_data.specs.declared.filters.Test.TheVariants.{Range, Same, Among}
 use Rattle.world_data.specs.declared.queries.Shown.{Shown}
 use Rattle.world_data.specs.declared.queries.Shown.TheVariants as shown
 use Rattle.cmd_words.specs.Options.{Options}
 use Rattle.cmd_words.specs.Progress.{Place, Took, IsNot}
+use Rattle.cmd_words.specs.declared.conditions.FirstValue.{FirstValue}
+use Rattle.cmd_words.specs.declared.conditions.FirstValue.TheVariants.{Least, Text}
 use Rattle.cmd_words.specs.declared.search_options.SearchWord.{SearchWord}
 use Rattle.cmd_words.specs.declared.search_options.SearchWord.TheVariants as option
 
 -- the tests behind WHERE and WHEREIN
 
-abbrev pub range_test : Form Test
-range_test = do
-  field_name ← name
-  low ← bound
-  high ← bound
-  done (Range field_name low high)
+abbrev pub behind_name : Bytes → Form Test
+behind_name field_name = where_range field_name or where_same field_name
+
+abbrev pub value_test : Form Test
+value_test = name >>= behind_name
 
 abbrev pub among_test : Form Test
 among_test = do
   field_name ← name
   count ← between 1 max_values
-  values ← times count integer
+  values ← times count value
   done (Among field_name values)
+
+-- the first word behind the field's name of WHERE, which may be a name or not, and this bound or none: the least value of a range, or a text
+abbrev pub first_by : Bytes → Bool → Option (Option ℤ) → Option FirstValue
+first_by w named (Some low) = Some (Least low)
+first_by w named None = when named (Text w)
+
+abbrev pub first_of : Bytes → Option FirstValue
+first_of w = first_by w (is_name w) (bound_of w)
+
+-- such a word, and what is to follow it
+abbrev pub a_first_value : (FirstValue → Form Command) → Form Command
+a_first_value next = one_word a_word first_of >>= next
+
+-- what is due behind it
+abbrev pub behind_least : Bytes → Option ℤ → Form Test
+behind_least field_name low = bound >>= λ high. done (Range field_name low high)
+
+abbrev pub behind_text : Bytes → Bytes → Form Test
+behind_text field_name t = again t >> done (Same field_name t)
+
+abbrev pub behind_first : Bytes → FirstValue → Form Test
+behind_first field_name (Least low) = behind_least field_name low
+behind_first field_name (Text t) = behind_text field_name t
 
 -- the options with one more test
 abbrev pub with_test : SearchOptions → Test → SearchOptions
@@ -42,7 +67,7 @@ behind_word o option.Limit = between 1 max_limit >>= λ n. done (record o { limi
 behind_word o option.NoFields = done (record o { bare = true })
 behind_word o option.Ascending = done (record o { down = Some false })
 behind_word o option.Descending = done (record o { down = Some true })
-behind_word o option.Where = range_test >>= λ t. done (with_test o t)
+behind_word o option.Where = value_test >>= λ t. done (with_test o t)
 behind_word o option.WhereIn = among_test >>= λ t. done (with_test o t)
 
 -- the word that an option begins with

@@ -1,14 +1,15 @@
 -- SET: its options and its place.
-use Rattle.std.specs.Prelude.{◌≡◌, ◌⊎◌, ◌<◌, length, ℤ, pos, neg_ℤ, ◌^◌, ◌-◌, Bool, true, false, List, [], ◌∷◌, ◌++◌, Option, Some, None, is_none}
+use Rattle.std.specs.Prelude.{◌≡◌, ◌⊎◌, ◌<◌, length, ℤ, pos, Bool, true, false, List, [], ◌∷◌, ◌++◌, Option, Some, None, is_none}
 use Rattle.std.specs.Prelude.{unwrap_or, if◌then◌else◌, Result, Ok, Err, codes}
-use Rattle.planar_geom.specs.Points.{same_int}
 use Rattle.byte_text.specs.Names.{Bytes}
 use Rattle.byte_text.specs.Numbers.{whole_within}
 use Rattle.geo_text.specs.Texts.{Shape, shape_of}
 use Rattle.world_data.specs.Limits.{max_coord}
 use Rattle.world_model.specs.Grammar.{Form, ◌>>=◌, done, repeated}
 use Rattle.world_model.specs.Kinds.{accepted}
-use Rattle.world_data.specs.Filters.{Field}
+use Rattle.world_data.specs.Filters.{Field, is_no_value, zero_value}
+use Rattle.world_data.specs.declared.values.Value.{Value}
+use Rattle.world_data.specs.declared.values.Value.TheVariants.{Whole}
 use Rattle.world_model.specs.Commands.{SetOptions, set_option, field, place, nonzero_of, cleared_of, reads}
 use Rattle.world_model.specs.declared.object_commands.Only.TheVariants.{Any}
 use Rattle.world_model.specs.declared.commands.Command.{Command}
@@ -23,10 +24,6 @@ use Rattle.cmd_words.specs.declared.faults.CommandFault.{CommandFault}
 use Rattle.cmd_words.specs.declared.faults.CommandFault.TheVariants.{Memory}
 
 -- kinds of word
-
--- the number of 64 signed bits that a word is
-abbrev pub integer_of : Bytes → Option ℤ
-integer_of = whole_within (neg_ℤ (pos (2 ^ 63))) (pos (2 ^ 63 - 1))
 
 -- the coordinate of at least this that a word is
 abbrev pub coordinate_of : ℤ → Bytes → Option ℤ
@@ -117,9 +114,9 @@ ReadsPlace o old new (Ok at) = Moves old new
     × ((next : SetOptions → Bytes × Shape → Form Command) → Follows old (options_and_place o next) → Follows new (next o at))
 ReadsPlace o old new (Err why) = Refuses o old why
 
--- what marks a field of this value: 1 where it is 0, and else 0
-abbrev pub mark_of : ℤ → ℤ
-mark_of value = if same_int value (pos 0) then pos 1 else pos 0
+-- what marks a field of this value: 1 where no field has it, and else 0
+abbrev pub mark_of : Value → Value
+mark_of v = if is_no_value v then Whole (pos 1) else zero_value
 
 -- FSET: one more field, and the fields behind those that were read
 abbrev pub field_step : List Field → Form (List Field)

@@ -8,7 +8,7 @@ use Rattle.geo_text.specs.Texts.{Shape, shape_of}
 use Rattle.geo_text.specs.declared.faults.GeoFault.{GeoFault}
 use Rattle.planar_geom.specs.Points.{Point, Bounds, pt}
 use Rattle.planar_geom.specs.declared.shapes.Area.TheVariants.{Rect, Disc, Figure}
-use Rattle.world_data.specs.Limits.{max_coord}
+use Rattle.world_data.specs.Limits.{max_coord, max_seconds}
 use Rattle.world_data.specs.declared.channels.Kind.{Kind}
 use Rattle.world_data.specs.declared.channels.Kind.TheVariants.{Within, Intersects, Near}
 use Rattle.world_data.specs.declared.channels.Watch.{Watch}
@@ -17,7 +17,7 @@ use Rattle.world_model.specs.Grammar.{a_coordinate, a_geojson, Reading, spells, 
 use Rattle.world_model.specs.FormLaws.{each_map}
 use Rattle.world_model.specs.MadeForms.{Said}
 use Rattle.world_model.specs.TableParts.{SetsNone, setting_form, setting_said}
-use Rattle.world_model.specs.Kinds.{name, glob, meters, coordinate_from, coordinate, lat_lon, four, geojson, accepted}
+use Rattle.world_model.specs.Kinds.{name, glob, seconds, meters, coordinate_from, coordinate, lat_lon, four, geojson, accepted}
 use Rattle.world_model.specs.Commands as table
 use Rattle.world_model.specs.declared.search_commands.AreaWords.{AreaWords}
 use Rattle.world_model.specs.declared.search_commands.AreaWords.TheVariants.{Given, Of}
@@ -26,7 +26,8 @@ use Rattle.world_model.specs.declared.commands.Command.TheVariants as command
 use Rattle.world_model.specs.declared.channel_commands.ChannelCommand.TheVariants as of_channel
 use Rattle.cmd_words.specs.SmallWords.{IsSmall, AreSmall, small, small_name, small_signed, small_append, AreLight, light_of, light_text, light_append}
 use Rattle.cmd_words.specs.Costs.{Counts, Costs, costs_done, costs_none, costs_or, costs_where, costs_word, costs_bind, costs_then}
-use Rattle.cmd_words.specs.SettingWords.{IsName, IsNumber, costs_whole, costs_meters, costs_name, costs_glob, options_count, AreFine, with_options}
+use Rattle.cmd_words.specs.SettingWords.{IsName, IsNumber, costs_whole, costs_between, costs_meters, costs_name, costs_glob, options_count, AreFine}
+use Rattle.cmd_words.specs.SettingWords.{with_options}
 use Rattle.cmd_words.specs.SettingWords.{costs_options, options_few, options_small}
 
 -- areas
@@ -144,55 +145,74 @@ module _ (before : ℕ) where
 
 -- settings
 
+-- EX and seconds are two words
+abbrev pub ex_count : Option ℕ → ℕ
+ex_count None = 0
+ex_count (Some s) = 2
+
 abbrev with_setting : Command → ℕ
-with_setting (command.Channel (of_channel.Setchan c from)) = 2 + length c.words + later from
+with_setting (command.Channel (of_channel.Setchan c from after_ex)) = 2 + ex_count after_ex + length c.words + later from
 with_setting c = 0
 
 abbrev IsSized : Command → Type 0
-IsSized (command.Channel (of_channel.Setchan c from)) = IsName c.name × FitAs from c.words
+IsSized (command.Channel (of_channel.Setchan c from after_ex)) = IsName c.name × FitAs from c.words
 IsSized c = Unit {0}
 
-module _ (channel called key : Bytes) (o : table.FenceOptions) (w : Watch) (words : List Bytes) (from : Option AreaWords) where
-  setting_counts : o.fence ≡ true → with_setting (table.setting channel called key o w words from) ≤ 4 + options_count o + length words + later from
+-- the words before the kind, from SETCHAN on
+abbrev before_kind : table.Called → ℕ
+before_kind channel = 2 + ex_count channel.after_ex
+
+-- and with the options behind the key
+abbrev behind_key : table.Called → table.FenceOptions → ℕ
+behind_key channel o = with_options (before_kind channel + 1 + 1) o
+
+module _ (channel : table.Called) (called key : Bytes) (o : table.FenceOptions) (w : Watch) (words : List Bytes) (from : Option AreaWords) where
+  setting_counts : o.fence ≡ true → with_setting (table.setting channel called key o w words from) ≤ behind_key channel o + length words + later from
   setting_counts fence =
       let few = options_few o fence in
       let n = length-append (table.option_words o) words in
       omega (arith, few, n)
 
-  setting_sized : IsName channel → IsSmall called → IsName key → AreFine o → FitAs from words
+  setting_sized : IsName channel.name → IsSmall called → IsName key → AreFine o → FitAs from words
       → IsSized (table.setting channel called key o w words from)
   setting_sized s t u fine fit = (s, fit_behind from (called ∷ key ∷ table.option_words o) words (t, (small_name key u, options_small o fine)) fit)
 
--- from the count before SETCHAN on
-abbrev behind_key : table.FenceOptions → ℕ
-behind_key o = with_options 4 o
+first_options : (k : ℕ) (near : Bool) → Costs k (with_options k) AreFine (repeated (table.fence_option near) table.no_fence_options)
+first_options k near =
+    let none : options_count table.no_fence_options ≡ 0 = refl in
+    let same : k + options_count table.no_fence_options ≡ k = omega (arith, none) in
+    subst (λ n. Costs n (with_options k) AreFine (repeated (table.fence_option near) table.no_fence_options)) same (costs_options k near)
 
 abbrev CostsSetting : ℕ → Form Command → Type 0
 CostsSetting before f = Costs before with_setting IsSized f
 
-costs_setchan_area : (called : Bytes) (kind : Kind) (channel : Bytes) → IsSmall called → IsName channel
-    → CostsSetting 2 (table.setchan_area called kind channel)
+costs_setchan_area : (called : Bytes) (kind : Kind) (channel : table.Called) → IsSmall called → IsName channel.name
+    → CostsSetting (before_kind channel) (table.setchan_area called kind channel)
 costs_setchan_area called kind channel t s =
-    costs_then 2 with_setting IsSized called _ (
-    costs_bind 3 (λ n. 4) IsName with_setting IsSized name _ (costs_name 3) (λ key u.
-    costs_bind 4 behind_key AreFine with_setting IsSized (repeated (table.fence_option false) table.no_fence_options) _ (costs_options 4 false)
+    let k = before_kind channel in
+    costs_then k with_setting IsSized called _ (
+    costs_bind (k + 1) (λ n. k + 1 + 1) IsName with_setting IsSized name _ (costs_name (k + 1)) (λ key u.
+    costs_bind (k + 1 + 1) (behind_key channel) AreFine with_setting IsSized (repeated (table.fence_option false) table.no_fence_options) _
+    (first_options (k + 1 + 1) false)
     (λ o fine.
     behind key u o fine o.fence refl)))
   where
     behind : (key : Bytes) → IsName key → (o : table.FenceOptions) → AreFine o → (b : Bool) → o.fence ≡ b
-        → CostsSetting (behind_key o)
+        → CostsSetting (behind_key channel o)
         (where_ b table.area >>= λ a. done (table.setting channel called key o (watch.Zone kind a.area) a.words (Some a.from)))
     behind key u o fine true fence =
-        costs_bind (behind_key o) (with_area (behind_key o)) IsFit with_setting IsSized table.area _ (costs_area (behind_key o)) (λ a fit.
+        let k = behind_key channel o in
+        costs_bind k (with_area k) IsFit with_setting IsSized table.area _ (costs_area k) (λ a fit.
         let few = setting_counts channel called key o (watch.Zone kind a.area) a.words (Some a.from) fence in
-        costs_done (with_area (behind_key o) a) with_setting IsSized _ few
+        costs_done (with_area k a) with_setting IsSized _ few
         (setting_sized channel called key o (watch.Zone kind a.area) a.words (Some a.from) s t u fine fit))
     behind key u o fine false fence = record { cost = λ words short. tt }
 
-costs_near_area : (channel key : Bytes) (o : table.FenceOptions) → IsName channel → IsName key → AreFine o → o.fence ≡ true
-    → CostsSetting (behind_key o) (table.near_area channel key o)
+costs_near_area : (channel : table.Called) (key : Bytes) (o : table.FenceOptions) → IsName channel.name → IsName key → AreFine o
+    → o.fence ≡ true
+    → CostsSetting (behind_key channel o) (table.near_area channel key o)
 costs_near_area channel key o s u fine fence =
-    let k = behind_key o in
+    let k = behind_key channel o in
     let near = codes "NEARBY" in
     costs_or k with_setting IsSized _ _ (costs_where k with_setting IsSized (not o.nodwell) _ (λ dwells.
     costs_bind k (λ p. k + 1 + 1 + 1) ArePlaced with_setting IsSized (word (codes "POINT") >> lat_lon) _
@@ -219,36 +239,58 @@ costs_near_area channel key o s u fine fence =
     (light_of words (small (codes "ROAM") refl, (small_name other n, (g, (far, tt)))))))))))
     (costs_none k with_setting IsSized))
 
-costs_setchan_near : (channel : Bytes) → IsName channel → CostsSetting 2 (table.setchan_near channel)
+costs_setchan_near : (channel : table.Called) → IsName channel.name → CostsSetting (before_kind channel) (table.setchan_near channel)
 costs_setchan_near channel s =
-    costs_then 2 with_setting IsSized (codes "NEARBY") _ (
-    costs_bind 3 (λ n. 4) IsName with_setting IsSized name _ (costs_name 3) (λ key u.
-    costs_bind 4 behind_key AreFine with_setting IsSized (repeated (table.fence_option true) table.no_fence_options) _ (costs_options 4 true)
+    let k = before_kind channel in
+    costs_then k with_setting IsSized (codes "NEARBY") _ (
+    costs_bind (k + 1) (λ n. k + 1 + 1) IsName with_setting IsSized name _ (costs_name (k + 1)) (λ key u.
+    costs_bind (k + 1 + 1) (behind_key channel) AreFine with_setting IsSized (repeated (table.fence_option true) table.no_fence_options) _
+    (first_options (k + 1 + 1) true)
     (λ o fine.
-    costs_where (behind_key o) with_setting IsSized o.fence _ (costs_near_area channel key o s u fine))))
+    costs_where (behind_key channel o) with_setting IsSized o.fence _ (costs_near_area channel key o s u fine))))
+
+costs_kinds : (channel : table.Called) → IsName channel.name → CostsSetting (before_kind channel) (table.setchan_kinds channel)
+costs_kinds channel s =
+    let k = before_kind channel in
+    costs_or k with_setting IsSized _ _ (costs_setchan_area (codes "WITHIN") Within channel (small (codes "WITHIN") refl) s) (
+    costs_or k with_setting IsSized _ _ (costs_setchan_area (codes "INTERSECTS") Intersects channel (small (codes "INTERSECTS") refl) s) (
+    costs_or k with_setting IsSized _ _ (costs_setchan_near channel s) (costs_none k with_setting IsSized)))
+
+abbrev with_ex : Option ℕ → ℕ
+with_ex after_ex = 2 + ex_count after_ex
+
+abbrev OfAny : Option ℕ → Type 0
+OfAny after_ex = Unit {0}
+
+costs_ex : Costs 2 with_ex OfAny table.after_ex_words
+costs_ex =
+    costs_or 2 with_ex OfAny (done None) _ (costs_done 2 with_ex OfAny None (omega arith) tt) (
+    costs_bind 2 (λ s. 2 + 1 + 1) (λ s. IsSmall (decimal s)) with_ex OfAny (word (codes "EX") >> seconds) _
+    (costs_then 2 (λ s. 2 + 1 + 1) (λ s. IsSmall (decimal s)) (codes "EX") seconds (costs_between (2 + 1) 1 max_seconds refl)) (λ s is.
+    costs_done (2 + 1 + 1) with_ex OfAny (Some s) (omega arith) tt))
 
 costs_setchan : CostsSetting 0 setting_form
 costs_setchan =
     costs_then 0 with_setting IsSized (codes "SETCHAN") _ (
-    costs_bind 1 (λ n. 2) IsName with_setting IsSized name _ (costs_name 1) (λ channel s.
-    costs_or 2 with_setting IsSized _ _ (costs_setchan_area (codes "WITHIN") Within channel (small (codes "WITHIN") refl) s) (
-    costs_or 2 with_setting IsSized _ _ (costs_setchan_area (codes "INTERSECTS") Intersects channel (small (codes "INTERSECTS") refl) s) (
-    costs_or 2 with_setting IsSized _ _ (costs_setchan_near channel s) (costs_none 2 with_setting IsSized)))))
+    costs_bind 1 (λ n. 2) IsName with_setting IsSized name _ (costs_name 1) (λ n s.
+    costs_bind 2 with_ex OfAny with_setting IsSized table.after_ex_words _ costs_ex (λ after_ex is.
+    costs_kinds (record { name = n; after_ex = after_ex }) s)))
 
--- every command that so many words spell: of a setting the words are no more
+-- every command that so many words spell: of a setting the words are no more, and leave as many as EX and its seconds are
 
 abbrev pub IsWithin : ℕ → Command → Type 0
-IsWithin n (command.Channel (of_channel.Setchan c from)) = (2 + length c.words + later from ≤ n) × IsName c.name × FitAs from c.words
+IsWithin n (command.Channel (of_channel.Setchan c from after_ex)) =
+    (2 + ex_count after_ex + length c.words + later from ≤ n) × IsName c.name × FitAs from c.words
 IsWithin n c = Unit {0}
 
 of_setting : (n : ℕ) (r : Reading Command) → Counts with_setting IsSized (0 + n) r → Said (IsWithin n) r
-of_setting n (spells (command.Channel (of_channel.Setchan c from)) rest) x = let le = x.0 in let s = x.2 in (omega (arith, le), s.0, s.1)
+of_setting n (spells (command.Channel (of_channel.Setchan c from after_ex)) rest) x = let le = x.0 in let s = x.2 in (omega (arith, le), s.0, s.1)
 of_setting n (spells c rest) x = tt
 of_setting n (runs_out due) x = tt
 
 -- another command is no setting
 others_within : (n : ℕ) (c : Command) → SetsNone c → IsWithin n c
-others_within n (command.Channel (of_channel.Setchan c from)) none = absurd none
+others_within n (command.Channel (of_channel.Setchan c from after_ex)) none = absurd none
 others_within n c none = tt
 
 pub spelled_within : (words : List Bytes) (c : Command) → AreShort words → table.command_spelled words ≡ Some c → IsWithin (length words) c

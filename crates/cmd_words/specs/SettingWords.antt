@@ -3,7 +3,6 @@ use Rattle.std.proofs.Common.{◌≡◌, ℕ, ℤ, pos, negsuc, ◌+◌, ◌-◌
 use Rattle.std.proofs.Common.{arith, length-append}
 use Rattle.std.specs.Prelude.{Option, Some, None, IfSome, codes, decimal, filter, flat_map, nat_le, int_le, neg_ℤ, option_and_then, ◌&&◌, not}
 use Rattle.std.specs.Prelude.{is_none, if◌then◌else◌, nat_lt}
-use Rattle.std.specs.Fmt.{signed_decimal}
 use Rattle.std.specs.List.{AllByRecursion, list_all}
 use Rattle.std.proofs.lemmas.Bool.{leb-true}
 use Rattle.std.proofs.lemmas.List.{length-map}
@@ -16,9 +15,11 @@ use Rattle.geo_text.specs.Texts.{with_commas}
 use Rattle.ordered_lists.specs.Reading.{both_of, each-append}
 use Rattle.world_data.specs.Limits.{max_meters, max_values, max_tests}
 use Rattle.world_data.specs.declared.filters.Test.{Test}
-use Rattle.world_data.specs.declared.filters.Test.TheVariants.{Range, Among}
+use Rattle.world_data.specs.declared.filters.Test.TheVariants.{Range, Same, Among}
+use Rattle.world_data.specs.declared.values.Value.{Value}
+use Rattle.world_data.specs.Filters.{number_in, number_or_text, value_in, value_text}
 use Rattle.world_model.specs.Grammar.{Due, a_word, Form, ◌>>=◌, ◌>>◌, ◌or◌, done, where_, one_word, word, repeated, times}
-use Rattle.world_model.specs.Kinds.{when, name, glob, integer, between, meters, bound, bound_of, list_of}
+use Rattle.world_model.specs.Kinds.{when, name, glob, value, value_of_word, between, meters, bound, bound_of, text, text_of_word, again, same_text, list_of}
 use Rattle.world_model.specs.Commands as table
 use Rattle.world_model.specs.SoundLaws.{when_is}
 use Rattle.cmd_words.specs.SmallWords.{IsSmall, AreSmall, small, small_name, small_decimal, small_signed, small_append}
@@ -72,9 +73,6 @@ costs_whole before due low high fits most =
 least_fits : IsNumber (neg_ℤ (pos (2 ^ 63)))
 least_fits = record { sfits = omega arith }
 
-costs_integer : (before : ℕ) → Costs before (λ z. before + 1) IsNumber integer
-costs_integer before = costs_whole before a_word (neg_ℤ (pos (2 ^ 63))) (2 ^ 63 - 1) least_fits refl
-
 pub costs_between : (before low high : ℕ) → nat_le high 18446744073709551615 ≡ true
     → Costs before (λ n. before + 1) (λ n. IsSmall (decimal n)) (between low high)
 costs_between before low high most = costs_word before (λ n. before + 1) (λ n. IsSmall (decimal n)) a_word (natural_within low high)
@@ -94,16 +92,43 @@ costs_glob before = costs_word before (λ n. before + 1) IsSmall a_word (λ w. w
     let is = when_is (is_name w && is_well_formed w) w n e in
     (omega arith, subst IsSmall is.1 (small_name w (both_of (is_name w) (is_well_formed w) is.0).0)))
 
+-- values
+
+number_fits : (w : Bytes) (z : ℤ) → number_in w ≡ Some z → IsNumber z
+number_fits w z e =
+    between_fits (neg_ℤ (pos (2 ^ 63))) (2 ^ 63 - 1) z least_fits (omega arith)
+    (whole_passes (neg_ℤ (pos (2 ^ 63))) (pos (2 ^ 63 - 1)) w z e)
+
+abbrev IsSmallValue : Value → Type 0
+IsSmallValue v = IsSmall (value_text v)
+
+value_small : (w : Bytes) → is_name w ≡ true → IsSmallValue (value_in w)
+value_small w named = by (number_in w) refl
+  where
+    by : (o : Option ℤ) → number_in w ≡ o → IsSmallValue (number_or_text w o)
+    by None e = small_name w named
+    by (Some z) e = small_signed z (number_fits w z e)
+
+costs_value : (before : ℕ) → Costs before (λ v. before + 1) IsSmallValue value
+costs_value before = costs_word before (λ v. before + 1) IsSmallValue a_word value_of_word (λ w v short e.
+    let is = when_is (is_name w) (value_in w) v e in (omega arith, subst IsSmallValue is.1 (value_small w is.0)))
+
+costs_text : (before : ℕ) → Costs before (λ t. before + 1) IsSmall text
+costs_text before = costs_word before (λ t. before + 1) IsSmall a_word text_of_word (λ w t short e.
+    let is = when_is (is_name w && is_none (bound_of w)) w t e in
+    (omega arith, subst IsSmall is.1 (small_name w (both_of (is_name w) (is_none (bound_of w)) is.0).0)))
+
+costs_again : (before : ℕ) (t : Bytes) → Costs before (λ u. before + 1) (λ u. Unit {0}) (again t)
+costs_again before t = costs_word before (λ u. before + 1) (λ u. Unit {0}) a_word (same_text t) (λ w u short e. (omega arith, tt))
+
 -- tests
 
-bounded : (w : Bytes) (z : ℤ) → bound_of w ≡ Some (Some z) → whole_within (neg_ℤ (pos (2 ^ 63))) (pos (2 ^ 63 - 1)) w ≡ Some z
+bounded : (w : Bytes) (z : ℤ) → bound_of w ≡ Some (Some z) → number_in w ≡ Some z
 bounded w z e = grind arith
 
 bound_fits : (w : Bytes) (o : Option ℤ) → bound_of w ≡ Some o → IfSome o IsNumber
 bound_fits w None e = tt
-bound_fits w (Some z) e =
-    between_fits (neg_ℤ (pos (2 ^ 63))) (2 ^ 63 - 1) z least_fits (omega arith)
-    (whole_passes (neg_ℤ (pos (2 ^ 63))) (pos (2 ^ 63 - 1)) w z (bounded w z e))
+bound_fits w (Some z) e = number_fits w z (bounded w z e)
 
 costs_bound : (before : ℕ) → Costs before (λ o. before + 1) (λ o. IfSome o IsNumber) bound
 costs_bound before = costs_word before (λ o. before + 1) (λ o. IfSome o IsNumber) a_word bound_of (λ w o short e. (omega arith, bound_fits w o e))
@@ -115,18 +140,16 @@ bound_small endless (Some z) s fits = small_signed z fits
 abbrev pub IsSmallTest : Test → Type 0
 IsSmallTest t = AreSmall (table.test_words t)
 
-numbers_small : (values : List ℤ) → AllByRecursion IsNumber values → AreSmall (map signed_decimal values)
-numbers_small [] fit = tt
-numbers_small (z ∷ values) fit = (small_signed z fit.0, numbers_small values fit.1)
+values_small : (values : List Value) → AllByRecursion IsSmallValue values → AreSmall (map value_text values)
+values_small [] fit = tt
+values_small (v ∷ values) fit = (fit.0, values_small values fit.1)
 
 module _ (before : ℕ) where
   abbrev with_test : Test → ℕ
   with_test t = before + length (table.test_words t)
 
-  costs_range : Costs before with_test IsSmallTest table.where_test
-  costs_range =
-      costs_then before with_test IsSmallTest (codes "WHERE") _ (
-      costs_bind (before + 1) (λ n. before + 1 + 1) IsName with_test IsSmallTest name _ (costs_name (before + 1)) (λ n named.
+  costs_range : (n : Bytes) → IsName n → Costs (before + 1 + 1) with_test IsSmallTest (table.where_range n)
+  costs_range n named =
       costs_bind (before + 1 + 1) (λ o. before + 1 + 1 + 1) (λ o. IfSome o IsNumber) with_test IsSmallTest bound _ (costs_bound (before + 1 + 1))
       (λ low l.
       costs_bind (before + 1 + 1 + 1) (λ o. before + 1 + 1 + 1 + 1) (λ o. IfSome o IsNumber) with_test IsSmallTest bound _
@@ -140,7 +163,21 @@ module _ (before : ℕ) where
             (bound_small (codes "+inf") high (small (codes "+inf") refl) h, tt),
           ),
         ),
-      )))))
+      )))
+
+  costs_same : (n : Bytes) → IsName n → Costs (before + 1 + 1) with_test IsSmallTest (table.where_same n)
+  costs_same n named =
+      costs_bind (before + 1 + 1) (λ t. before + 1 + 1 + 1) IsSmall with_test IsSmallTest text _ (costs_text (before + 1 + 1)) (λ t s.
+      costs_bind (before + 1 + 1 + 1) (λ u. before + 1 + 1 + 1 + 1) (λ u. Unit {0}) with_test IsSmallTest (again t) _
+      (costs_again (before + 1 + 1 + 1) t) (λ u is.
+      costs_done (before + 1 + 1 + 1 + 1) with_test IsSmallTest (Same n t) (omega arith)
+      (small (codes "WHERE") refl, (small_name n named, (s, (s, tt))))))
+
+  costs_where_test : Costs before with_test IsSmallTest table.where_test
+  costs_where_test =
+      costs_then before with_test IsSmallTest (codes "WHERE") _ (
+      costs_bind (before + 1) (λ n. before + 1 + 1) IsName with_test IsSmallTest name _ (costs_name (before + 1)) (λ n named.
+      costs_or (before + 1 + 1) with_test IsSmallTest (table.where_range n) (table.where_same n) (costs_range n named) (costs_same n named)))
 
   costs_among : Costs before with_test IsSmallTest table.wherein_test
   costs_among =
@@ -148,15 +185,15 @@ module _ (before : ℕ) where
       costs_bind (before + 1) (λ n. before + 1 + 1) IsName with_test IsSmallTest name _ (costs_name (before + 1)) (λ n named.
       costs_bind (before + 1 + 1) (λ k. before + 1 + 1 + 1) (λ k. IsSmall (decimal k)) with_test IsSmallTest (between 1 max_values) _
       (costs_between (before + 1 + 1) 1 max_values refl) (λ count counted.
-      costs_bind (before + 1 + 1 + 1) (λ values. before + 1 + 1 + 1 + count) (AreSo IsNumber count) with_test IsSmallTest (times count integer) _
-      (costs_times IsNumber integer costs_integer count (before + 1 + 1 + 1)) (λ values are.
-      let many = length-map values signed_decimal in
+      costs_bind (before + 1 + 1 + 1) (λ values. before + 1 + 1 + 1 + count) (AreSo IsSmallValue count) with_test IsSmallTest (times count value) _
+      (costs_times IsSmallValue value costs_value count (before + 1 + 1 + 1)) (λ values are.
+      let many = length-map values value_text in
       let so = are.0 in
       costs_done (before + 1 + 1 + 1 + count) with_test IsSmallTest (Among n values) (omega (arith, many, so))
-      (small (codes "WHEREIN") refl, (small_name n named, (subst (λ k. IsSmall (decimal k)) (sym so) counted, numbers_small values are.1)))))))
+      (small (codes "WHEREIN") refl, (small_name n named, (subst (λ k. IsSmall (decimal k)) (sym so) counted, values_small values are.1)))))))
 
   costs_test : Costs before with_test IsSmallTest table.test
-  costs_test = costs_or before with_test IsSmallTest table.where_test table.wherein_test costs_range costs_among
+  costs_test = costs_or before with_test IsSmallTest table.where_test table.wherein_test costs_where_test costs_among
 
 -- lists of names
 

@@ -5,6 +5,7 @@ ghost use Rattle.std.specs.Prelude.{OnOk};
 ghost use Rattle.std.specs.Fmt.{signed_decimal};
 ghost use Rattle.byte_text.specs.Requests.{FitsRequest};
 ghost use Rattle.planar_geom.specs.Points.{Point};
+ghost use Rattle.world_data.specs.Filters.{value_text};
 ghost use Rattle.world_model.specs.Commands.{bound_word, test_words, glob_words, list_words, option_words};
 ghost use Rattle.world_model.specs.Commands.{detect_names, command_names};
 ghost use Rattle.cmd_words.specs.Areas.{text_words, given_words};
@@ -20,7 +21,7 @@ use planar_geom::{Area, Pt};
 use std::alloc::Global;
 use std::marker::Model;
 use world_data::{Kind, Wanted};
-use world_model::{AreaWords, Numbers, Test, Tests};
+use world_model::{AreaWords, Test, Tests, Value, Values};
 
 // Words, while they are put together.
 #[derive(Drop)]
@@ -65,6 +66,15 @@ impl Words {
     {
         let mut text = Text::new(self.alloc);
         push_i64(&mut text, n)?;
+        self.push(text.bytes())
+    }
+
+    // Puts the value of a field last.
+    fn push_value(&mut self, value: &Value) -> Result<(), NoMemory>
+        ensures { OnOk result (self.new ≡ self.old ++ value_text value.now ∷ []) }
+    {
+        let mut text = Text::new(self.alloc);
+        value.show(&mut text)?;
         self.push(text.bytes())
     }
 
@@ -176,6 +186,12 @@ fn push_test(words: &mut Words, test: &Test) -> Result<(), NoMemory>
             push_bound(words, b"-inf", *low)?;
             push_bound(words, b"+inf", *high)
         }
+        Test::Same(name, text) => {
+            words.push(b"WHERE")?;
+            words.push(name.bytes())?;
+            words.push(text.bytes())?;
+            words.push(text.bytes())
+        }
         Test::Among(name, values) => {
             words.push(b"WHEREIN")?;
             words.push(name.bytes())?;
@@ -196,11 +212,11 @@ fn push_bound(words: &mut Words, endless: &[u8], bound: Option<i64>) -> Result<(
 }
 
 // Puts the values of a test last.
-fn push_values(words: &mut Words, values: &Numbers) -> Result<(), NoMemory>
-    ensures { OnOk result (words.new ≡ words.old ++ map signed_decimal values.now) }
+fn push_values(words: &mut Words, values: &Values) -> Result<(), NoMemory>
+    ensures { OnOk result (words.new ≡ words.old ++ map value_text values.now) }
 {
     for at in 0..values.len() {
-        words.push_number(*values.at(at))?;
+        words.push_value(values.at(at))?;
     }
     Ok(())
 }

@@ -179,7 +179,7 @@ fn with_option(
             Ok(options)
         }
         FenceWord::Where => {
-            let test = reader.range_test()?;
+            let test = reader.value_test()?;
             push_test(&mut options.tests, test)?;
             Ok(options)
         }

@@ -8,12 +8,12 @@ ghost use Rattle.cmd_words.specs.Sets.{mark_of};
 use crate::faults::CommandFault;
 use byte_text::Name;
 use std::alloc::Global;
-use world_model::{Fields, NameList};
+use world_model::{Fields, NameList, Value};
 
 /// The fields whose value is not 0, and the names of those whose value is 0, both in byte order of the names.
 pub(crate) fn fields_of(
     alloc: Global,
-    given: &[(Name, i64)],
+    given: &[(Name, Value)],
 ) -> Result<(Fields, NameList), CommandFault>
     ensures ok { IfOk result (λ r. (r.0 ≡ nonzero_of given.now) × (r.1 ≡ cleared_of given.now)) }
     ensures err { IfErr result (λ why. why ≡ CommandFault.Memory) }
@@ -22,26 +22,33 @@ pub(crate) fn fields_of(
     // The names that are written 0, each with the value 1: a later value of another kind takes the name out again.
     let mut zeros = Fields::new(alloc);
     for field in given {
-        set(alloc, &mut fields, &field.0, field.1)?;
-        set(alloc, &mut zeros, &field.0, mark(field.1))?;
+        set(alloc, &mut fields, &field.0, &field.1)?;
+        set(alloc, &mut zeros, &field.0, &mark(&field.1))?;
     }
     let cleared = names_of(alloc, &zeros)?;
     Ok((fields, cleared))
 }
 
-// What marks a field of this value: 1 where it is 0, and none otherwise.
-fn mark(value: i64) -> i64
-    ensures { result ≡ mark_of value }
+// What marks a field of this value: 1 where no field has it, and 0 otherwise.
+fn mark(value: &Value) -> Value
+    ensures { result ≡ mark_of value.now }
 {
-    if value == 0 { 1 } else { 0 }
+    if value.is_none() {
+        Value::Whole(1)
+    } else {
+        Value::Whole(0)
+    }
 }
 
 // Gives the field of this name the value.
-fn set(alloc: Global, fields: &mut Fields, name: &Name, value: i64) -> Result<(), CommandFault>
-    ensures ok { OnOk result (fields.new ≡ with_values fields.old ((name.now, value) ∷ [])) }
+fn set(alloc: Global, fields: &mut Fields, name: &Name, value: &Value) -> Result<(), CommandFault>
+    ensures ok { OnOk result (fields.new ≡ with_values fields.old ((name.now, value.now) ∷ [])) }
     ensures err { IfErr result (λ why. why ≡ CommandFault.Memory) }
 {
     let Ok(name) = name.copy(alloc) else {
+        return Err(CommandFault::Memory);
+    };
+    let Ok(value) = value.copy(alloc) else {
         return Err(CommandFault::Memory);
     };
     match fields.set(name, value) {

@@ -19,7 +19,7 @@ use crate::request_reader::Reader;
 use crate::sets::set_command;
 use crate::word_kinds::read_name;
 use byte_text::Name;
-use world_model::{Command, ObjectCommand, Shown};
+use world_model::{Command, ObjectCommand, Shown, Value};
 
 /// Reads the words behind the name of a command on objects.
 pub(crate) fn read_object(reader: &mut Reader, name: ObjectName) -> Result<Command, CommandFault>
@@ -117,7 +117,7 @@ fn fset_command(reader: &mut Reader) -> Result<Command, CommandFault>
 }
 
 // `(field value)+` to the end of the words, as they are given.
-fn read_fields(reader: &mut Reader) -> Result<Vec<(Name, i64)>, CommandFault>
+fn read_fields(reader: &mut Reader) -> Result<Vec<(Name, Value)>, CommandFault>
     ensures ok { IfOk result (λ given. ReadsFields reader.old (Ok given.items)) }
     ensures err { IfErr result (λ why. ReadsFields reader.old (Err why)) }
 {
@@ -126,14 +126,14 @@ fn read_fields(reader: &mut Reader) -> Result<Vec<(Name, i64)>, CommandFault>
     push_field(&mut given, first)?;
     'fields: while let Some(word) = reader.next() {
         let name = read_name(reader.alloc(), word)?;
-        let value = reader.integer()?;
+        let value = reader.value()?;
         push_field(&mut given, (name, value))?;
     }
     Ok(given)
 }
 
 // Puts a field last.
-fn push_field(given: &mut Vec<(Name, i64)>, field: (Name, i64)) -> Result<(), CommandFault>
+fn push_field(given: &mut Vec<(Name, Value)>, field: (Name, Value)) -> Result<(), CommandFault>
     ensures ok { OnOk result (given.new.items ≡ given.old.items ++ field ∷ []) }
     ensures err { IfErr result (λ why. why ≡ CommandFault.Memory) }
 {

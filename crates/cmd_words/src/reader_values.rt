@@ -12,19 +12,20 @@ use crate::faults::CommandFault;
 use crate::listed_names::{ListKind, ListedNames};
 use crate::request_reader::Reader;
 use crate::word_kinds::{
-    read_between, read_bound, read_coordinate, read_geojson, read_glob, read_integer,
+    read_between, read_bound, read_coordinate, read_geojson, read_glob, read_value,
 };
 use byte_text::{Name, Text};
 use planar_geom::{BBox, MAX_COORD, Pt, Shape};
 use world_data::{MAX_METERS, MAX_SECONDS};
+use world_model::Value;
 
 impl<'a> Reader<'a> {
-    /// Reads a number of 64 signed bits.
-    pub(crate) fn integer(&mut self) -> Result<i64, CommandFault>
-        ensures { Reads kinds.integer self.old self.new result }
+    /// Reads the value of a field.
+    pub(crate) fn value(&mut self) -> Result<Value, CommandFault>
+        ensures { Reads kinds.value self.old self.new result }
     {
         match self.next() {
-            Some(word) => read_integer(self.alloc(), word),
+            Some(word) => read_value(self.alloc(), word),
             None => Err(self.wrong_count()),
         }
     }
@@ -136,11 +137,11 @@ impl<'a> Reader<'a> {
     }
 
     /// Reads a field's name and value.
-    pub(crate) fn field(&mut self) -> Result<(Name, i64), CommandFault>
+    pub(crate) fn field(&mut self) -> Result<(Name, Value), CommandFault>
         ensures { Reads a_field self.old self.new result }
     {
         let name = self.name()?;
-        let value = self.integer()?;
+        let value = self.value()?;
         Ok((name, value))
     }
 

@@ -9,7 +9,7 @@ use crate::request_reader::Reader;
 use byte_text::Name;
 use std::alloc::Global;
 use std::marker::Model;
-use world_model::Only;
+use world_model::{Only, Value};
 
 /// The word that an option begins with: FIELD, EX, NX or XX.
 #[derive(Clone, Copy)]
@@ -23,7 +23,7 @@ pub(crate) enum OptionWord {
 /// What the options said so far: the fields as they were given, the time to live in seconds, and under which condition.
 #[derive(Drop)]
 pub(crate) struct SetOptions {
-    pub(crate) fields: Vec<(Name, i64)>,
+    pub(crate) fields: Vec<(Name, Value)>,
     pub(crate) seconds: Option<u32>,
     pub(crate) only: Option<Only>,
 }
@@ -49,7 +49,7 @@ impl SetOptions {
     }
 
     // One more field.
-    fn push(&mut self, field: (Name, i64)) -> Result<(), CommandFault>
+    fn push(&mut self, field: (Name, Value)) -> Result<(), CommandFault>
         ensures ok { OnOk result (self.new ≡ record self.old { given = self.old.given ++ field ∷ [] }) }
         ensures err { IfErr result (λ why. why ≡ CommandFault.Memory) }
     {

@@ -6,11 +6,11 @@ ghost use Rattle.world_model.specs.Grammar.{a_word, a_coordinate, a_geojson};
 ghost use Rattle.world_data.specs.Limits.{max_coord, max_meters};
 ghost use Rattle.byte_text.specs.Numbers.{natural_within};
 ghost use Rattle.byte_text.specs.Streams.{is_digit as is_decimal_digit};
-ghost use Rattle.world_model.specs.Kinds.{is_endless as is_endless_bound, bound_of};
+ghost use Rattle.world_model.specs.Kinds.{is_endless as is_endless_bound, bound_of, value_of_word};
 ghost use Rattle.world_model.specs.Commands.{is_fraction as is_decimal_fraction, are_digits as are_decimal_digits};
 ghost use Rattle.world_model.specs.Commands.{without_minus as without_sign};
 ghost use Rattle.cmd_words.specs.Progress.{IsOne, IsFault, due_fault, name_of, glob_of};
-ghost use Rattle.cmd_words.specs.Sets.{integer_of, coordinate_of, object_of};
+ghost use Rattle.cmd_words.specs.Sets.{coordinate_of, object_of};
 
 use crate::faults::{CommandFault, fraction, invalid, text};
 use byte_text::{Name, NameFault, Text, read_i64, read_u64};
@@ -19,7 +19,7 @@ use glob_match::well_formed;
 use planar_geom::{MAX_COORD, Shape};
 use std::alloc::Global;
 use world_data::MAX_METERS;
-use world_model::WordFault;
+use world_model::{Value, WordFault};
 
 /// The name that the word is.
 pub(crate) fn read_name(alloc: Global, word: &[u8]) -> Result<Name, CommandFault>
@@ -43,13 +43,13 @@ pub(crate) fn read_glob(alloc: Global, word: &[u8]) -> Result<Name, CommandFault
     }
 }
 
-/// The number of 64 signed bits that the word is.
-pub(crate) fn read_integer(alloc: Global, word: &[u8]) -> Result<i64, CommandFault>
-    ensures { IsOne a_word integer_of word.now result }
+/// The value of a field that the word is: a number, or any other name as a text.
+pub(crate) fn read_value(alloc: Global, word: &[u8]) -> Result<Value, CommandFault>
+    ensures { IsOne a_word value_of_word word.now result }
 {
-    match read_i64(word) {
-        Ok(n) => Ok(n),
-        Err(_) => Err(invalid(alloc, word)),
+    match read_name(alloc, word) {
+        Ok(text) => Ok(Value::of(text)),
+        Err(why) => Err(why),
     }
 }
 
@@ -87,12 +87,22 @@ pub(crate) fn read_meters(alloc: Global, word: &[u8]) -> Result<u32, CommandFaul
 pub(crate) fn read_bound(alloc: Global, word: &[u8]) -> Result<Option<i64>, CommandFault>
     ensures { IsOne a_word bound_of word.now result }
 {
+    match bound_in(word) {
+        Some(bound) => Ok(bound),
+        None => Err(invalid(alloc, word)),
+    }
+}
+
+/// The bound of a range that the word is, if it is one: none where it is endless.
+pub(crate) fn bound_in(word: &[u8]) -> Option<Option<i64>>
+    ensures { result ≡ bound_of word.now }
+{
     if is_endless(word) {
-        return Ok(None);
+        return Some(None);
     }
     match read_i64(word) {
-        Ok(n) => Ok(Some(n)),
-        Err(_) => Err(invalid(alloc, word)),
+        Ok(n) => Some(Some(n)),
+        Err(_) => None,
     }
 }
 

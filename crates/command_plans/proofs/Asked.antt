@@ -56,8 +56,8 @@ served_asked normal words fits (family.Object c) e s = tt
 served_asked normal words fits (family.Search (of_search.Scan key q)) e s = glob_sound q s.1.sound
 served_asked normal words fits (family.Search (of_search.Area key q from)) e s = glob_sound q s.1.sound
 served_asked normal words fits (family.Search (of_search.Nearby key q at reach)) e s = glob_sound q s.1.sound
-served_asked normal words fits (family.Channel (of_channel.Setchan c from)) e s =
-    (s, recordable normal words fits c from (spelled_of words (family.Channel (of_channel.Setchan c from)) e))
+served_asked normal words fits (family.Channel (of_channel.Setchan c from after_ex)) e s =
+    (s, recordable normal words fits c from after_ex (spelled_of words (family.Channel (of_channel.Setchan c from after_ex)) e))
 served_asked normal words fits (family.Channel (of_channel.Delchan name)) e s = tt
 served_asked normal words fits (family.Channel (of_channel.Pdelchan pattern)) e s = s.1
 served_asked normal words fits (family.Channel (of_channel.Chans pattern)) e s = s.1

@@ -6,8 +6,7 @@ use Rattle.std.specs.List.{AllByRecursion}
 use Rattle.std.proofs.lemmas.Bool.Decides.{nat_tests}
 use Rattle.byte_text.specs.Names.{Bytes}
 use Rattle.byte_text.specs.Replies.{frame_text}
-use Rattle.fence_model.specs.Writes.{Write, dels}
-use Rattle.world_data.specs.Expiry.{expired}
+use Rattle.fence_model.specs.Writes.{Write, due_writes}
 use Rattle.world_data.specs.declared.worlds.World.{World}
 use Rattle.world_model.specs.Subscriptions.{Sub}
 use Rattle.world_model.specs.Effects.{Effect}
@@ -169,7 +168,7 @@ module _ (h : Hall) (moment n : ℕ) (asked : Asked) (s : Session) (o : HaveOwnN
   now = max h.now moment
 
   abbrev dues : List Write
-  dues = dels (expired h.world now)
+  dues = due_writes h.world now
 
   abbrev later : World
   later = after_all h.world dues

@@ -9,8 +9,7 @@ use Rattle.byte_text.specs.Replies.{frame_text}
 use Rattle.byte_text.specs.declared.replies.Piece.{Piece}
 use Rattle.world_data.specs.Limits.{cap_frames, cap_bytes, full_frames, full_bytes, max_reply}
 use Rattle.world_model.specs.Effects.{Effect}
-use Rattle.fence_model.specs.Writes.{Write, dels}
-use Rattle.world_data.specs.Expiry.{expired}
+use Rattle.fence_model.specs.Writes.{Write, due_writes}
 use Rattle.world_model.specs.Halls.{Hall, Session, Stage, live, cut, closing, is_live, is_session, session_of, placed_each, due, do_call}
 use Rattle.world_data.specs.Frames.{frame_bytes}
 use Rattle.world_model.specs.Histories.{is_full}
@@ -31,7 +30,7 @@ use Rattle.delivery_model.specs.ChangedSessions.{placed_some, caller_some}
 pub plan_of : Hall → ℕ → ℕ → Asked → CallPlan
 plan_of h moment n asked =
     let now = max h.now moment in
-    let writes = dels (expired h.world now) in
+    let writes = due_writes h.world now in
     let w = after_all h.world writes in
     let list = staged h.world h.sessions writes in
     record { dues = list; world = w; length = records_len writes; part = part_if w now h.sessions asked (caller_behind list (session_of h n)) }
@@ -52,7 +51,7 @@ part_is w now ss asked (Some s) o =
 pub plan_is : (h : Hall) (moment n : ℕ) (asked : Asked) → HaveOwnNumbers h.sessions → IsCallPlan h moment n asked (plan_of h moment n asked)
 unfolding plan_of
 plan_is h moment n asked o = record {
-  dues = staged_is h.world h.sessions (dels (expired h.world (max h.now moment))) o;
+  dues = staged_is h.world h.sessions (due_writes h.world (max h.now moment)) o;
   world = refl;
   length_is = refl;
   part = part_is _ _ _ asked _ o;
@@ -99,7 +98,7 @@ module _ (h : Hall) (moment n : ℕ) (asked : Asked) (s : Session) (o : HaveOwnN
   now = max h.now moment
 
   abbrev writes : List Write
-  writes = dels (expired h.world now)
+  writes = due_writes h.world now
 
   abbrev later : World
   later = after_all h.world writes

@@ -7,8 +7,7 @@ use Rattle.byte_text.specs.Replies.{frame_text}
 use Rattle.byte_text.specs.declared.replies.Piece.{Piece}
 use Rattle.world_model.specs.Subscriptions.{Sub}
 use Rattle.world_model.specs.Effects.{Effect}
-use Rattle.fence_model.specs.Writes.{Write, dels}
-use Rattle.world_data.specs.Expiry.{expired}
+use Rattle.fence_model.specs.Writes.{Write, due_writes}
 use Rattle.world_model.specs.Commands.{reads}
 use Rattle.world_model.specs.Refusals.{broken_reply}
 use Rattle.world_model.specs.Halls.{Hall, Session, is_live, is_session, session_of, place, place_all, placed_each, change_session, apply_all, due}
@@ -239,7 +238,7 @@ module _ (h : Hall) (moment : ℕ) (o : HaveOwnNumbers h.sessions) where
   now = max h.now moment
 
   abbrev writes : List Write
-  writes = dels (expired h.world now)
+  writes = due_writes h.world now
 
   -- what is due, staged
   pub due_by : (list : List Delivery) → AreStaged h.world writes h.sessions list

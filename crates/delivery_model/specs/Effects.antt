@@ -18,7 +18,8 @@ use Rattle.world_model.specs.declared.faults.Refusal.{Refusal}
 use Rattle.world_model.specs.declared.faults.Refusal.TheVariants as refusal
 use Rattle.world_model.specs.Effects.{given_and_cleared, Effect, says, changes, refuses, unless, if_object, with_object, missing, resolved}
 use Rattle.world_model.specs.Effects.{command_effect, within_reply, is_served_subscribed, effect, put_effect, fset_effect, deadline_effect}
-use Rattle.world_model.specs.Effects.{persist_effect, setchan_effect, settled_channel, set_area, subscribe_effect, changed_count, fits, is_kept_back}
+use Rattle.world_model.specs.Effects.{persist_effect, setchan_effect, settled_channel, set_area, with_deadline, subscribe_effect, changed_count}
+use Rattle.world_model.specs.Effects.{fits, is_kept_back}
 use Rattle.fence_model.specs.Writes.{Write, announced, silent}
 use Rattle.world_data.specs.declared.objects.Object.{Object}
 use Rattle.world_data.specs.declared.worlds.World.{World}
@@ -147,7 +148,7 @@ command_plain w now held (command.Session of_session.Quit) e = plain _ _ _
 command_plain w now held (command.Search (of_search.Scan key q)) e = answer _
 command_plain w now held (command.Search (of_search.Area key q from)) e = resolved_plain w from _ (λ a words. answer _)
 command_plain w now held (command.Search (of_search.Nearby key q p reach)) e = answer _
-command_plain w now held (command.Channel (of_channel.Setchan c from)) e = area_plain w c from
+command_plain w now held (command.Channel (of_channel.Setchan c from after_ex)) e = area_plain w (with_deadline now after_ex c) from
 command_plain w now held (command.Channel (of_channel.Delchan name)) e = if_plain _ _ _ (plain _ _ _) (answer _)
 command_plain w now held (command.Channel (of_channel.Pdelchan glob)) e = plain _ _ _
 command_plain w now held (command.Channel (of_channel.Chans glob)) e = answer _

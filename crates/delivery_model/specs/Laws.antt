@@ -8,11 +8,10 @@ use Rattle.world_data.specs.Limits.{max_subs, max_reply}
 use Rattle.byte_text.specs.Names.{Bytes}
 use Rattle.world_model.specs.Subscriptions.{Sub, has_subs}
 use Rattle.world_model.specs.Effects.{Effect, effect, refuses, is_served_subscribed}
-use Rattle.fence_model.specs.Writes.{Write, dels}
+use Rattle.fence_model.specs.Writes.{Write, due_writes}
 use Rattle.world_data.specs.declared.worlds.World.{World}
 use Rattle.world_model.specs.declared.commands.Command.{Command}
 use Rattle.world_model.specs.declared.faults.Refusal.TheVariants as refusal
-use Rattle.world_data.specs.Expiry.{expired}
 use Rattle.world_model.specs.Halls.{Hall, Session, session_of, is_live, placed_each, place_all, apply_all, due, do_call}
 use Rattle.delivery_model.specs.Staging.{AreStaged, Suffice, Delivery, HaveOwnNumbers, Rise, after_all, after_writes, staged, frames_to, listens}
 use Rattle.delivery_model.specs.Staging.{heard, placed_all, has_room_for}
@@ -49,7 +48,7 @@ ServedTakesAll = (s : Session) (frames : List Bytes) → is_live s ≡ true → 
 
 -- what is due is done by staging it
 abbrev pub DueIsStaged : Type 0
-DueIsStaged = (h : Hall) (moment : ℕ) → HaveOwnNumbers h.sessions → let writes = dels (expired h.world (max h.now moment)) in
+DueIsStaged = (h : Hall) (moment : ℕ) → HaveOwnNumbers h.sessions → let writes = due_writes h.world (max h.now moment) in
     due h moment ≡ after_writes (record h { now = max h.now moment }) writes (placed_all h.sessions (staged h.world h.sessions writes))
 
 -- the finish of a plan is the whole call
@@ -61,7 +60,7 @@ PlanDoesCall = (h : Hall) (moment n : ℕ) (asked : Asked) (p : CallPlan) → Ha
 -- call's own writes, and then the caller has its subscriptions and replies
 abbrev pub CallBySessions : Type 0
 CallBySessions = (h : Hall) (moment n : ℕ) (asked : Asked) (s : Session) → HaveOwnNumbers h.sessions → session_of h n ≡ Some s → is_live s ≡ true
-    → let now = max h.now moment in let dues = dels (expired h.world now) in let w = after_all h.world dues in
+    → let now = max h.now moment in let dues = due_writes h.world now in let w = after_all h.world dues in
     let e = effect_of_asked w now s.subs asked in
     has_room_for s (heard h.world dues (listens s)) ≡ true
     → do_call (due h moment) n asked ≡ after_writes (after_writes (record h { now = now }) dues h.sessions) e.writes

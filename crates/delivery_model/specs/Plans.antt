@@ -8,8 +8,7 @@ use Rattle.byte_text.specs.Replies.{frame_text}
 use Rattle.byte_text.specs.declared.replies.Piece.{Piece}
 use Rattle.world_model.specs.Subscriptions.{Sub, with_subs}
 use Rattle.world_model.specs.Effects.{Effect, says, effect}
-use Rattle.fence_model.specs.Writes.{Write, dels}
-use Rattle.world_data.specs.Expiry.{expired}
+use Rattle.fence_model.specs.Writes.{Write, due_writes}
 use Rattle.world_model.specs.Refusals.{fault_reply, broken_reply}
 use Rattle.world_model.specs.Commands.{reads}
 use Rattle.world_model.specs.Halls.{Hall, Session, is_live, cut, closing, session_of, placed_each}
@@ -51,7 +50,7 @@ pub record Part : Type 0 where
   pub length : ℕ
   pub closes : Bool
 
--- what a call will do: the frames that the dels of what is due bring, the world after them and the bytes of their records, and the part of its
+-- what a call will do: the frames that the writes of what is due bring, the world after them and the bytes of their records, and the part of its
 -- request, where it is done
 pub record CallPlan : Type 0 where
   pub dues : List Delivery
@@ -81,9 +80,9 @@ IsPartOf w now sessions asked (Some s) (Some q) = IsPart w sessions (effect_of_a
 
 -- the plan of a call at a moment, all of it staged with the sessions of the start
 pub record IsCallPlan (h : Hall) (moment n : ℕ) (asked : Asked) (p : CallPlan) : Type 0 where
-  pub dues : AreStaged h.world (dels (expired h.world (max h.now moment))) h.sessions p.dues
-  pub world : p.world ≡ after_all h.world (dels (expired h.world (max h.now moment)))
-  pub length_is : p.length ≡ records_len (dels (expired h.world (max h.now moment)))
+  pub dues : AreStaged h.world (due_writes h.world (max h.now moment)) h.sessions p.dues
+  pub world : p.world ≡ after_all h.world (due_writes h.world (max h.now moment))
+  pub length_is : p.length ≡ records_len (due_writes h.world (max h.now moment))
   pub part : IsPartOf p.world (max h.now moment) h.sessions asked (caller_behind p.dues (session_of h n)) p.part
 
 -- the finish

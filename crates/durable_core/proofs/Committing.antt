@@ -20,39 +20,45 @@ use Rattle.durable_core.specs.declared.rewritings.Rewriting.{Rewriting}
 use Rattle.durable_core.specs.declared.tails.Tail.{Tail}
 use Rattle.durable_core.proofs.Copying.{copies_on}
 
-module _ {D : Type 0} (crashes : D → Bool) (seen : D → Option Sides) (images : D → Sides → Type 0) (moment : D → ℕ) (left_since : D → ℕ → Sides → Type 0) (old new : Tail D) (same : new.rewriting ≡ old.rewriting) (j : log.Journal) (kept : IsKeptBy crashes seen images old j) where
+module _ {D : Type 0} (crashes : D → Bool) (seen : D → Option Sides) (images : D → Sides → Type 0) (moment : D → ℕ) (left_since : D → ℕ → Sides → Type 0) (old new : Tail D) (same : new.rewriting ≡ old.rewriting)
+    (version : new.journal.log.version ≡ old.journal.log.version) (j : log.Journal) (kept : IsKeptBy crashes seen images old j) where
+  abbrev v : ℕ
+  v = old.journal.log.version
+
   -- the batches with the pending one are the log's
   settles : Keeps crashes seen images new.journal (committed kept.batches (pending old.journal)) (committed kept.copied (pending old.journal)) → pending new.journal ≡ [] → IsKeptBy crashes seen images new (log.settled j)
   settles keeps none = record {
     batches = committed kept.batches (pending old.journal);
     copied = committed kept.copied (pending old.journal);
     keeps = keeps;
-    whole = subst (λ (l : Bytes). AreWhole record_fault (committed kept.batches l)) (sym kept.pending_is) (committed_whole kept.batches j.pending kept.whole kept.recorded);
-    committed = ap (λ (w : World). folded w j.pending) kept.committed ∙ sym (committed_world kept.batches j.pending kept.recorded) ∙ ap (λ (l : Bytes). world_in (committed kept.batches l)) (sym kept.pending_is);
+    whole = subst (λ (k : ℕ). AreWhole (record_fault k) (committed kept.batches (pending old.journal))) (sym version)
+        (subst (λ (l : Bytes). AreWhole (record_fault v) (committed kept.batches l)) (sym kept.pending_is) (committed_whole v kept.batches j.pending kept.whole kept.recorded));
+    committed = ap (λ (w : World). folded w j.pending) kept.committed ∙ sym (committed_world v kept.batches j.pending kept.recorded)
+        ∙ ap (λ (l : Bytes). world_in v (committed kept.batches l)) (sym kept.pending_is) ∙ ap (λ (k : ℕ). world_in k (committed kept.batches (pending old.journal))) (sym version);
     pending_is = none;
     recorded = tt;
-    copies = subst (λ (r : Rewriting). IsCopyWhile r (committed kept.copied (pending old.journal)) (committed kept.batches (pending old.journal))) (sym same)
-        (subst (λ (l : Bytes). IsCopyWhile old.rewriting (committed kept.copied l) (committed kept.batches l)) (sym kept.pending_is) (copies_on old.rewriting kept.copied kept.batches j.pending kept.recorded kept.copies));
+    copies = subst (λ (k : ℕ). IsCopyWhile new.rewriting k (committed kept.copied (pending old.journal)) (committed kept.batches (pending old.journal))) (sym version)
+        (subst (λ (r : Rewriting). IsCopyWhile r v (committed kept.copied (pending old.journal)) (committed kept.batches (pending old.journal))) (sym same)
+        (subst (λ (l : Bytes). IsCopyWhile old.rewriting v (committed kept.copied l) (committed kept.batches l)) (sym kept.pending_is) (copies_on old.rewriting v kept.copied kept.batches j.pending kept.recorded kept.copies)));
   }
 
   -- what a crash leaves of it is recovered as one of the two worlds
-  either : (c : Sides) → HoldsEither kept.batches (committed kept.batches (pending old.journal)) c → RecoversEither j.committed (log.whole j) c
+  either : (c : Sides) → HoldsEither v kept.batches v (committed kept.batches (pending old.journal)) c → RecoversEither j.committed (log.whole j) c
   either c holds = subst (λ (w : World). RecoversEither w (folded w j.pending) c) (sym kept.committed)
-      (either_recovers kept.batches j.pending c kept.whole kept.recorded (subst (λ (l : Bytes). HoldsEither kept.batches (committed kept.batches l) c) kept.pending_is holds))
+      (either_recovers v kept.batches j.pending c kept.whole kept.recorded (subst (λ (l : Bytes). HoldsEither v kept.batches v (committed kept.batches l) c) kept.pending_is holds))
 
-  leaves : ((batches copied : List Bytes) → Keeps crashes seen images old.journal batches copied → crashes old.journal.disk ≡ true
-      → LeavesOnly moment left_since old.journal.disk new.journal.disk (HoldsEither batches (committed batches (pending old.journal)))) → crashes old.journal.disk ≡ true → log.Leaves moment left_since old.journal.disk new.journal.disk j
-  leaves left told = weaker moment left_since old.journal.disk new.journal.disk (HoldsEither kept.batches (committed kept.batches (pending old.journal))) (RecoversEither j.committed (log.whole j)) either (left kept.batches kept.copied kept.keeps told)
+  abbrev LeavesEither : Type 0
+  LeavesEither = (batches copied : List Bytes) → Keeps crashes seen images old.journal batches copied → crashes old.journal.disk ≡ true
+      → LeavesOnly moment left_since old.journal.disk new.journal.disk (HoldsEither v batches v (committed batches (pending old.journal)))
+
+  leaves : LeavesEither → crashes old.journal.disk ≡ true → log.Leaves moment left_since old.journal.disk new.journal.disk j
+  leaves left told = weaker moment left_since old.journal.disk new.journal.disk (HoldsEither v kept.batches v (committed kept.batches (pending old.journal))) (RecoversEither j.committed (log.whole j)) either (left kept.batches kept.copied kept.keeps told)
 
   pub leads_on : {E : Type 0} → ((batches copied : List Bytes) → Keeps crashes seen images old.journal batches copied → Keeps crashes seen images new.journal (committed batches (pending old.journal)) (committed copied (pending old.journal)))
-      → ((batches copied : List Bytes) → Keeps crashes seen images old.journal batches copied → crashes old.journal.disk ≡ true
-      → LeavesOnly moment left_since old.journal.disk new.journal.disk (HoldsEither batches (committed batches (pending old.journal))))
-      → pending new.journal ≡ [] → LeadsTo {E = E} crashes seen images moment left_since old new (Ok tt) j (log.settled j)
+      → LeavesEither → pending new.journal ≡ [] → LeadsTo {E = E} crashes seen images moment left_since old new (Ok tt) j (log.settled j)
   leads_on keeps left none = record { same = refl; leaves = leaves left; kept = settles (keeps kept.batches kept.copied kept.keeps) none }
 
-  pub leads_off : {E : Type 0} (fault : E) → ((batches copied : List Bytes) → Keeps crashes seen images old.journal batches copied → crashes old.journal.disk ≡ true
-      → LeavesOnly moment left_since old.journal.disk new.journal.disk (HoldsEither batches (committed batches (pending old.journal))))
-      → LeadsTo crashes seen images moment left_since old new (Err fault) j (log.settled j)
+  pub leads_off : {E : Type 0} (fault : E) → LeavesEither → LeadsTo crashes seen images moment left_since old new (Err fault) j (log.settled j)
   leads_off fault left = record { same = refl; leaves = leaves left; kept = tt }
 
 -- nothing was done

@@ -19,7 +19,9 @@ use Rattle.log_record.specs.Copying.{IsPicked, StandsIn}
 use Rattle.log_record.specs.CopyingLaws.{parts_grow}
 use Rattle.log_record.specs.Folding.{folded}
 use Rattle.log_record.specs.Batches.{records_text}
-use Rattle.log_record.specs.Words.{IsRecorded}
+use Rattle.log_sides.specs.Texts.{newest}
+use Rattle.log_record.specs.Versions.{IsRecordedIn}
+use Rattle.log_record.specs.VersionLaws.{recorded_any, recorded_newest}
 use Rattle.log_sides.specs.Texts.{committed}
 use Rattle.world_recovery.specs.Recorded.{changes_in, world_in}
 use Rattle.world_recovery.specs.BatchesHeld.{committed_world, committed_whole}
@@ -271,40 +273,42 @@ stays_sorted : (w : World) (changes : List Change) → is_sorted_world w ≡ tru
 stays_sorted w [] sorted = sorted
 stays_sorted w (c ∷ changes) sorted = stays_sorted (after w c) changes (keeps_order w c sorted)
 
-pub world_sorted : (batches : List Bytes) → is_sorted_world (world_in batches) ≡ true
-world_sorted batches = stays_sorted empty_world (flat_map changes_in batches) refl
+pub world_sorted : (v : ℕ) (batches : List Bytes) → is_sorted_world (world_in v batches) ≡ true
+world_sorted v batches = stays_sorted empty_world (flat_map (changes_in v) batches) refl
 
 -- what is committed is copied
-pub copies_on : (r : Rewriting) (copied batches : List Bytes) (changes : List Change) → AllByRecursion IsRecorded changes → IsCopyWhile r copied batches
-    → IsCopyWhile r (committed copied (records_text changes)) (committed batches (records_text changes))
-copies_on rewriting.Idle copied batches changes are copies = tt
-copies_on rewriting.Asked copied batches changes are copies = tt
-copies_on (rewriting.Going last) copied batches changes are copies = record {
-  whole = committed_whole copied changes copies.whole are;
-  part = subst (λ (w : World). IsCopiedTo last w (world_in (committed batches (records_text changes)))) (sym (committed_world copied changes are))
-      (subst (IsCopiedTo last (folded (world_in copied) changes)) (sym (committed_world batches changes are)) (both_changed last (world_in copied) (world_in batches) changes (world_sorted batches) copies.part));
-}
+pub copies_on : (r : Rewriting) (v : ℕ) (copied batches : List Bytes) (changes : List Change) → AllByRecursion (IsRecordedIn v) changes → IsCopyWhile r v copied batches
+    → IsCopyWhile r v (committed copied (records_text changes)) (committed batches (records_text changes))
+copies_on rewriting.Idle v copied batches changes are copies = tt
+copies_on rewriting.Asked v copied batches changes are copies = tt
+copies_on (rewriting.Going last) v copied batches changes are copies =
+    let new = recorded_newest changes (recorded_any v changes are) in
+    record {
+      whole = committed_whole newest copied changes copies.whole new;
+      part = subst (λ (w : World). IsCopiedTo last w (world_in v (committed batches (records_text changes)))) (sym (committed_world newest copied changes new))
+          (subst (IsCopiedTo last (folded (world_in newest copied) changes)) (sym (committed_world v batches changes are)) (both_changed last (world_in newest copied) (world_in v batches) changes (world_sorted v batches) copies.part));
+    }
 
 -- one that is asked for is not begun
-asked_copies : (generation : ℕ) (r : Rewriting) (copied batches : List Bytes) → IsCopyWhile r copied batches → IsCopyWhile (asked_for generation r) copied batches
-asked_copies generation rewriting.Idle copied batches copies = by (nat_lt generation (2 ^ 63))
+asked_copies : (generation : ℕ) (r : Rewriting) (v : ℕ) (copied batches : List Bytes) → IsCopyWhile r v copied batches → IsCopyWhile (asked_for generation r) v copied batches
+asked_copies generation rewriting.Idle v copied batches copies = by (nat_lt generation (2 ^ 63))
   where
-    by : (b : Bool) → IsCopyWhile (if b then rewriting.Asked else rewriting.Idle) copied batches
+    by : (b : Bool) → IsCopyWhile (if b then rewriting.Asked else rewriting.Idle) v copied batches
     by true = tt
     by false = tt
-asked_copies generation rewriting.Asked copied batches copies = copies
-asked_copies generation (rewriting.Going last) copied batches copies = copies
+asked_copies generation rewriting.Asked v copied batches copies = copies
+asked_copies generation (rewriting.Going last) v copied batches copies = copies
 
-pub copies_asked : (answer : CallOutcome) (asks : Bool) (generation : ℕ) (r : Rewriting) (copied batches : List Bytes) → IsCopyWhile r copied batches
-    → IsCopyWhile (rewriting_after answer asks generation r) copied batches
-copies_asked called.Ok asks generation r copied batches copies = by asks
+pub copies_asked : (answer : CallOutcome) (asks : Bool) (generation : ℕ) (r : Rewriting) (v : ℕ) (copied batches : List Bytes) → IsCopyWhile r v copied batches
+    → IsCopyWhile (rewriting_after answer asks generation r) v copied batches
+copies_asked called.Ok asks generation r v copied batches copies = by asks
   where
-    by : (b : Bool) → IsCopyWhile (if b then asked_for generation r else r) copied batches
-    by true = asked_copies generation r copied batches copies
+    by : (b : Bool) → IsCopyWhile (if b then asked_for generation r else r) v copied batches
+    by true = asked_copies generation r v copied batches copies
     by false = copies
-copies_asked called.Full asks generation r copied batches copies = copies
-copies_asked called.Gone asks generation r copied batches copies = copies
-copies_asked called.LogFault asks generation r copied batches copies = copies
-copies_asked called.Stopped asks generation r copied batches copies = copies
-copies_asked called.Spent asks generation r copied batches copies = copies
-copies_asked called.Memory asks generation r copied batches copies = copies
+copies_asked called.Full asks generation r v copied batches copies = copies
+copies_asked called.Gone asks generation r v copied batches copies = copies
+copies_asked called.LogFault asks generation r v copied batches copies = copies
+copies_asked called.Stopped asks generation r v copied batches copies = copies
+copies_asked called.Spent asks generation r v copied batches copies = copies
+copies_asked called.Memory asks generation r v copied batches copies = copies

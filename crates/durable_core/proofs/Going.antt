@@ -24,7 +24,8 @@ use Rattle.journal.specs.Journals.{Keeps, pending}
 use Rattle.journal.specs.Openings.{AreWhole}
 use Rattle.journal.specs.declared.journals.Journal.{Journal}
 use Rattle.journal.specs.KeptLaws.{kept_told, kept_now, kept_images}
-use Rattle.log_record.specs.Words.{IsRecorded}
+use Rattle.log_record.specs.Versions.{IsRecordedIn}
+use Rattle.log_record.specs.VersionLaws.{recorded_newest}
 use Rattle.log_record.specs.Batches.{records_text}
 use Rattle.log_record.specs.Folding.{folded}
 use Rattle.log_record.specs.Recovery.{Recovers, RecoversEither}
@@ -36,7 +37,7 @@ use Rattle.log_record.specs.TurnLaws.{turn_keeps_safe}
 use Rattle.world_recovery.specs.Recorded.{record_fault, world_in}
 use Rattle.world_recovery.specs.BatchesHeld.{held_recovers}
 use Rattle.tile_core.specs.RecordSinks.{IsRecordedBy}
-use Rattle.durable_core.specs.Kept.{IsKeptBy, HasPending, LeadsTo}
+use Rattle.durable_core.specs.Kept.{IsKeptBy, HasPending, HasPushed, LeadsTo}
 use Rattle.durable_core.specs.Logged.{hall_of, disk_of, IsLogOf, KeepsLogOf, Owes, GoesOn}
 use Rattle.durable_core.specs.StepLaws.{does, lacks, same_hall, stops}
 use Rattle.durable_core.specs.declared.cores.DurableCore.{DurableCore}
@@ -71,18 +72,18 @@ module _ {D : Type 0} (crashes : D → Bool) (seen : D → Option Sides) (images
   pub durable : ((disk : D) → IfTold (seen disk) (images disk)) → (t : Tail D) (j : log.Journal) → IsKeptBy crashes seen images t j → crashes t.journal.disk ≡ true → log.IsDurable (images t.journal.disk) j
   durable as_read t j kept crash =
       let k = t.journal in
-      let told = kept_told (crashes k.disk) (seen k.disk) (images k.disk) k.log.side k.log.generation k.log.gate k.rewriter kept.batches kept.copied kept.keeps in
+      let told = kept_told (crashes k.disk) (seen k.disk) (images k.disk) k.log.side k.log.version k.log.generation k.log.gate k.rewriter kept.batches kept.copied kept.keeps in
       record {
         some = (told.0, if_told (seen k.disk) told.0 (images k.disk) told.1 (as_read k.disk));
         each = λ c image. subst (λ (w : World). Recovers c w) (sym kept.committed)
-            (held_recovers kept.batches c kept.whole (kept_images (crashes k.disk) (seen k.disk) (images k.disk) k.log.side k.log.generation k.log.gate k.rewriter kept.batches kept.copied kept.keeps crash c image));
+            (held_recovers k.log.version kept.batches c kept.whole (kept_images (crashes k.disk) (seen k.disk) (images k.disk) k.log.side k.log.version k.log.generation k.log.gate k.rewriter kept.batches kept.copied kept.keeps crash c image));
       }
 
   -- and the disk reads as a log of the committed world
-  pub reads_batches : (k : Journal D) (batches copied : List Bytes) → Keeps crashes seen images k batches copied → AreWhole record_fault batches
-      → (s : Sides) → seen k.disk ≡ Some s → Recovers s (world_in batches)
+  pub reads_batches : (k : Journal D) (batches copied : List Bytes) → Keeps crashes seen images k batches copied → AreWhole (record_fault k.log.version) batches
+      → (s : Sides) → seen k.disk ≡ Some s → Recovers s (world_in k.log.version batches)
   reads_batches k batches copied keeps whole s told =
-      held_recovers batches s whole (kept_now (crashes k.disk) (seen k.disk) (images k.disk) k.log.side k.log.generation k.log.gate k.rewriter batches copied keeps s told)
+      held_recovers k.log.version batches s whole (kept_now (crashes k.disk) (seen k.disk) (images k.disk) k.log.side k.log.version k.log.generation k.log.gate k.rewriter batches copied keeps s told)
 
   pub reads : (t : Tail D) (j : log.Journal) → IsKeptBy crashes seen images t j → (s : Sides) → seen t.journal.disk ≡ Some s → Recovers s j.committed
   reads t j kept s told = subst (λ (w : World). Recovers s w) (sym kept.committed) (reads_batches t.journal kept.batches kept.copied kept.keeps kept.whole s told)
@@ -171,33 +172,37 @@ module _ {D : Type 0} (crashes : D → Bool) (seen : D → Option Sides) (images
 
   -- records that were pushed behind a log
   pub pushed : (mid new : Tail D) (k : log.Journal) (changes : List Change) → IsKeptBy crashes seen images mid k
-      → HasPending crashes seen images mid new (pending mid.journal ++ records_text changes) → AllByRecursion IsRecorded changes
+      → HasPending crashes seen images mid new (pending mid.journal ++ records_text changes) → AllByRecursion (IsRecordedIn mid.journal.log.version) changes
       → IsKeptBy crashes seen images new (record k { pending = k.pending ++ changes })
-  pushed mid new k changes kept pends are = record {
+  pushed mid new k changes kept pends are = let version = sym pends.same.version in record {
     batches = kept.batches;
     copied = kept.copied;
     keeps = pends.kept kept.batches kept.copied kept.keeps;
-    whole = kept.whole;
-    committed = kept.committed;
+    whole = subst (λ (v : ℕ). AreWhole (record_fault v) kept.batches) version kept.whole;
+    committed = kept.committed ∙ ap (λ (v : ℕ). world_in v kept.batches) version;
     pending_is = pends.pending_is ∙ ap (λ (l : Bytes). l ++ records_text changes) kept.pending_is ∙ sym (flat_map-append record_writer k.pending changes);
-    recorded = each-append IsRecorded k.pending changes kept.recorded are;
-    copies = subst (λ (r : Rewriting). IsCopyWhile r kept.copied kept.batches) (sym pends.rewriting) kept.copies;
+    recorded = subst (λ (v : ℕ). AllByRecursion (IsRecordedIn v) (k.pending ++ changes)) version (each-append (IsRecordedIn mid.journal.log.version) k.pending changes kept.recorded are);
+    copies = subst (λ (v : ℕ). IsCopyWhile new.rewriting v kept.copied kept.batches) version
+        (subst (λ (r : Rewriting). IsCopyWhile r mid.journal.log.version kept.copied kept.batches) (sym pends.rewriting) kept.copies);
   }
 
   -- nothing was pushed
   left : (mid new : Tail D) → (new ≡ mid) ⊎ HasPending crashes seen images mid new (pending mid.journal)
       → HasPending crashes seen images mid new (pending mid.journal ++ records_text [])
   left mid new (inl same) = subst (λ (t : Tail D). HasPending crashes seen images mid t (pending mid.journal ++ [])) (sym same)
-      (record { pending_is = sym (append-nil (pending mid.journal)); same = record { disk = refl; side = refl; generation = refl; gate = refl; rewriter = refl; failed = refl }; rewriting = refl; kept = λ batches copied kept. kept })
+      (record { pending_is = sym (append-nil (pending mid.journal)); same = record { disk = refl; side = refl; version = refl; generation = refl; gate = refl; rewriter = refl; failed = refl }; rewriting = refl; kept = λ batches copied kept. kept })
   left mid new (inr pends) = record { pending_is = pends.pending_is ∙ sym (append-nil (pending mid.journal)); same = pends.same; rewriting = pends.rewriting; kept = pends.kept }
 
   -- what a ledger took of an event
   pub led : (mid new : Tail D) (h : Hall) (event : Event) (answer : CallOutcome)
-      → (answer ≡ called.Ok → IsRecordedBy (λ old records next. HasPending crashes seen images old next (pending old.journal ++ records)) h event mid new)
+      → (answer ≡ called.Ok → IsRecordedBy (HasPushed crashes seen images) h event mid new)
       → (answer ≢ called.Ok → (new ≡ mid) ⊎ HasPending crashes seen images mid new (pending mid.journal))
       → let changes = changes_of (writes_by h event (Answered answer)) in
-      HasPending crashes seen images mid new (pending mid.journal ++ records_text changes) × AllByRecursion IsRecorded changes
-  led mid new h event called.Ok took stayed = ((took refl).took, (took refl).recorded)
+      HasPending crashes seen images mid new (pending mid.journal ++ records_text changes) × AllByRecursion (IsRecordedIn mid.journal.log.version) changes
+  led mid new h event called.Ok took stayed =
+      let by = took refl in
+      let changes = changes_of (writes_of h event) in
+      (by.took.pends, subst (λ (v : ℕ). AllByRecursion (IsRecordedIn v) changes) (sym by.took.latest) (recorded_newest changes by.recorded))
   led mid new h event called.Full took stayed = (left mid new (stayed (λ e. cc e)), tt)
   led mid new h event called.Gone took stayed = (left mid new (stayed (λ e. cc e)), tt)
   led mid new h event called.LogFault took stayed = (left mid new (stayed (λ e. cc e)), tt)
@@ -206,18 +211,18 @@ module _ {D : Type 0} (crashes : D → Bool) (seen : D → Option Sides) (images
   led mid new h event called.Memory took stayed = (left mid new (stayed (λ e. cc e)), tt)
 
   -- what else a tail says of a rewriting, where the log is copied as far
-  turned : (late new : Tail D) (k : log.Journal) → new.journal ≡ late.journal
-      → ((copied batches : List Bytes) → IsCopyWhile late.rewriting copied batches → IsCopyWhile new.rewriting copied batches)
+  pub turned : (late new : Tail D) (k : log.Journal) → new.journal ≡ late.journal
+      → ((v : ℕ) (copied batches : List Bytes) → IsCopyWhile late.rewriting v copied batches → IsCopyWhile new.rewriting v copied batches)
       → IsKeptBy crashes seen images late k → IsKeptBy crashes seen images new k
   turned late new k same copies kept = record {
     batches = kept.batches;
     copied = kept.copied;
     keeps = subst (λ (l : Journal D). Keeps crashes seen images l kept.batches kept.copied) (sym same) kept.keeps;
-    whole = kept.whole;
-    committed = kept.committed;
+    whole = subst (λ (l : Journal D). AreWhole (record_fault l.log.version) kept.batches) (sym same) kept.whole;
+    committed = kept.committed ∙ ap (λ (l : Journal D). world_in l.log.version kept.batches) (sym same);
     pending_is = ap pending same ∙ kept.pending_is;
-    recorded = kept.recorded;
-    copies = copies kept.copied kept.batches kept.copies;
+    recorded = subst (λ (l : Journal D). AllByRecursion (IsRecordedIn l.log.version) k.pending) (sym same) kept.recorded;
+    copies = subst (λ (l : Journal D). IsCopyWhile new.rewriting l.log.version kept.copied kept.batches) (sym same) (copies late.journal.log.version kept.copied kept.batches kept.copies);
   }
 
   -- a call whose records were pushed behind a commit
@@ -225,8 +230,8 @@ module _ {D : Type 0} (crashes : D → Bool) (seen : D → Option Sides) (images
       → Step (hall_of old) event (Answered answer) (hall_of new) → KeepsLogOf crashes seen images old before → crashes mid.journal.disk ≡ crashes (disk_of old)
       → LeadsTo {E = E} crashes seen images moment left_since old.tail mid (Ok tt) before k
       → (let changes = changes_of (writes_by (hall_of old) event (Answered answer)) in
-      HasPending crashes seen images mid late (pending mid.journal ++ records_text changes) × AllByRecursion IsRecorded changes)
-      → new.tail.journal ≡ late.journal → ((copied batches : List Bytes) → IsCopyWhile late.rewriting copied batches → IsCopyWhile new.tail.rewriting copied batches)
+      HasPending crashes seen images mid late (pending mid.journal ++ records_text changes) × AllByRecursion (IsRecordedIn mid.journal.log.version) changes)
+      → new.tail.journal ≡ late.journal → ((v : ℕ) (copied batches : List Bytes) → IsCopyWhile late.rewriting v copied batches → IsCopyWhile new.tail.rewriting v copied batches)
       → log.shows event (Answered answer) ≡ false → GoesOn crashes seen images moment left_since old new event (Answered answer) before
   served old new mid late event answer before k going step keeps told leads took same copies hidden =
       let changes = changes_of (writes_by (hall_of old) event (Answered answer)) in

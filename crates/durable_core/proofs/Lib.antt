@@ -6,3 +6,4 @@ mod Sides
 mod Committing
 mod Going
 mod Opening
+mod Older

@@ -3,7 +3,7 @@ use Rattle.std.proofs.Common.{◌≡◌, ◌≢◌, ◌∙◌, ℕ, false, List,
 use Rattle.std.specs.Prelude.{drop, take}
 use Rattle.world_data.specs.declared.worlds.World.{World}
 use Rattle.durable_core.specs.Rewriting.{Item, going, is_ending, next_shown, shown_by}
-use Rattle.durable_core.specs.Steps.{IsCopyStep, next_generation}
+use Rattle.durable_core.specs.Steps.{IsCopyStep, next_generation, next_version}
 use Rattle.durable_core.specs.declared.pieces.NextPiece.{NextPiece}
 use Rattle.durable_core.specs.declared.rewritings.Rewriting.{Rewriting}
 use Rattle.durable_core.specs.declared.rewritings.Rewriting.TheVariants.{Going}
@@ -23,7 +23,11 @@ copy_shown old new gate w next is on =
     ap (λ (r : Rewriting). shown_by r w) on ∙ ap going is.piece.left ∙ ap (λ (l : List Item). going (drop 256 l)) is.some
     ∙ sym (ap (λ (r : Rewriting). next_shown w (shown_by r w)) is.going ∙ ap (λ (l : List Item). next_shown w (going l)) is.some)
 
+copy_goes_on : (old : Rewriting) (gate : ℕ) (w : World) (next : NextPiece) → IsCopyStep old gate w next → is_ending (shown_by old w) ≡ false
+copy_goes_on old gate w next is = ap (λ (r : Rewriting). is_ending (shown_by r w)) is.going ∙ ap (λ (l : List Item). is_ending (going l)) is.some
+
+pub copy_version : (old : Rewriting) (gate : ℕ) (w : World) (next : NextPiece) (n m : ℕ) → IsCopyStep old gate w next → n ≡ m → n ≡ next_version old w m
+copy_version old gate w next n m is same = rw (copy_goes_on old gate w next is) same
+
 pub copy_generation : (old : Rewriting) (gate : ℕ) (w : World) (next : NextPiece) (n m : ℕ) → IsCopyStep old gate w next → n ≡ m → n ≡ next_generation old w m
-copy_generation old gate w next n m is same =
-    let goes_on : is_ending (shown_by old w) ≡ false = ap (λ (r : Rewriting). is_ending (shown_by r w)) is.going ∙ ap (λ (l : List Item). is_ending (going l)) is.some in
-    rw goes_on (omega (arith, same))
+copy_generation old gate w next n m is same = rw (copy_goes_on old gate w next is) (omega (arith, same))

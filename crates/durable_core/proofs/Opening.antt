@@ -1,13 +1,18 @@
 -- The world of a log is sound, and a core over it has a log and stands at an opening.
-use Rattle.std.proofs.Common.{◌≡◌, ◌∙◌, ◌&&◌, ℕ, Bool, true, false, List, [], ◌∷◌, Option, Some, refl, sym, ap, subst}
+use Rattle.std.proofs.Common.{◌≡◌, ◌⊎◌, ◌∙◌, ◌≤◌, ◌<◌, ◌&&◌, ℕ, Bool, true, false, List, [], ◌∷◌, Option, Some, refl, sym, ap, subst, inl, inr, ⊎_elim, arith}
+use Rattle.std.proofs.Math.Nat.{eq-or-lt_of_le}
 use Rattle.std.specs.List.{AllByRecursion, list_all}
 use Rattle.std.proofs.lemmas.Bool.{and_from}
 use Rattle.byte_text.specs.Names.{Bytes, is_name}
 use Rattle.outside.specs.Sides.{Sides, IfTold}
+use Rattle.outside.specs.Crashes.{LeavesOnly}
+use Rattle.outside.specs.CrashLaws.{since_carries, then, weaker}
+use Rattle.log_sides.specs.Texts.{newest}
+use Rattle.journal.specs.Openings.{IsLeftByOpening, opened_version}
 use Rattle.world_data.specs.Filters.{are_fields}
 use Rattle.world_data.specs.Records.{record_reader, is_kept_deadline, is_kept_field}
 use Rattle.world_data.specs.Sound.{IsSoundObject, IsSoundWorld, is_sound_channel}
-use Rattle.world_data.specs.Worlds.{after, is_sorted_world}
+use Rattle.world_data.specs.Worlds.{is_sorted_world}
 use Rattle.world_data.specs.declared.channels.Channel.{Channel}
 use Rattle.world_data.specs.declared.objects.Object.{Object}
 use Rattle.world_data.specs.declared.worlds.Change.TheVariants.{Put, SetChan}
@@ -17,18 +22,20 @@ use Rattle.world_model.specs.Histories.{opening_hall}
 use Rattle.world_model.specs.declared.events.Opening.{Opening}
 use Rattle.journal.specs.Journals.{Keeps, pending}
 use Rattle.journal.specs.KeptLaws.{kept_told}
-use Rattle.journal.specs.declared.openings.OpenFault.TheVariants.{Memory}
+use Rattle.journal.specs.Openings.{AreWhole}
 use Rattle.journal.specs.declared.journals.Journal.{Journal}
+use Rattle.journal.specs.declared.openings.OpenFault.{OpenFault}
+use Rattle.journal.specs.declared.openings.OpenFault.TheVariants.{Disk, Memory}
 use Rattle.log_record.specs.RecordsRead.{record_read}
-use Rattle.log_record.specs.Recovery.{Recovers}
+use Rattle.log_record.specs.Recovery.{Recovers, RecoversEither}
 use Rattle.log_record.specs.Laws.{Stood}
 use Rattle.log_record.specs.TurnLaws.{openings_stand}
 use Rattle.log_record.specs.Words.{IsRecorded}
-use Rattle.world_recovery.specs.Recorded.{world_in}
-use Rattle.world_recovery.specs.Opened.{IsOpened, AreRecorded}
+use Rattle.world_recovery.specs.Recorded.{record_fault, world_in}
+use Rattle.world_recovery.specs.Opened.{IsOpened, AreRecorded, RecoversSince}
 use Rattle.durable_core.specs.Kept.{IsKeptBy, settled_log}
 use Rattle.durable_core.specs.Logged.{hall_of, disk_of}
-use Rattle.durable_core.specs.Opened.{IsOpening, ReadsAlike}
+use Rattle.durable_core.specs.Opened.{IsHalfRewritten, IsLeftByStart, IsOpening, ReadsAlike, WasRead}
 use Rattle.durable_core.specs.StepLaws.{same_hall}
 use Rattle.durable_core.specs.Rewriting.{IsCopyWhile}
 use Rattle.durable_core.specs.declared.rewritings.Rewriting.{Rewriting}
@@ -60,9 +67,9 @@ channels_sound [] are = refl
 channels_sound (c ∷ channels) are =
     and_from (is_sound_channel c) (list_all is_sound_channel channels) (record_read (record_reader (SetChan c)) (SetChan c) are.0.read_back).2 (channels_sound channels are.1)
 
-pub world_sound : (batches : List Bytes) (w : World) → w ≡ world_in batches → AreRecorded w → IsSoundWorld w
-world_sound batches w is are = record {
-  sorted = subst (λ (v : World). is_sorted_world v ≡ true) (sym is) (world_sorted batches);
+pub world_sound : (v : ℕ) (batches : List Bytes) (w : World) → w ≡ world_in v batches → AreRecorded w → IsSoundWorld w
+world_sound v batches w is are = record {
+  sorted = subst (λ (x : World). is_sorted_world x ≡ true) (sym is) (world_sorted v batches);
   objects = objects_sound w.objects are.objects;
   channels = channels_sound w.channels are.channels;
 }
@@ -71,11 +78,59 @@ world_sound batches w is are = record {
 pub opened_hall : (h : Hall) (w : World) (logged : ℕ) → h ≡ opening_hall w logged → record h { stopped = false } ≡ opening_hall h.world h.logged
 opened_hall h w logged is = same_hall h false (ap (λ (g : Hall). g.stopped) is) ∙ is ∙ ap (λ (g : Hall). opening_hall g.world g.logged) (sym is)
 
+-- from a disk to others
+module _ {D : Type 0} (crashes : D → Bool) (seen : D → Option Sides) (images : D → Sides → Type 0) (moment : D → ℕ) (left_since : D → ℕ → Sides → Type 0) (old mid new : D) (w : World) where
+  abbrev AlsoLeaves : Type 0
+  AlsoLeaves = LeavesOnly moment left_since mid new (RecoversEither w w)
+
+  one_of_both : (c : Sides) → RecoversEither w w c → Recovers c w
+  one_of_both c (inl r) = r
+  one_of_both c (inr r) = r
+
+  -- what was recovered since a moment is so still
+  pub since_on : (v : ℕ) (kept : List Bytes → Type 0) → IsOpened crashes seen moment left_since old mid w v kept → (s : Sides) → seen old ≡ Some s → crashes old ≡ true
+      → AlsoLeaves → RecoversSince moment left_since old new w
+  since_on v kept opened s told crash leaves =
+      let since = opened.since s told crash in
+      record {
+        since = since.since;
+        begun = since.begun;
+        past = let past = since.past in omega (arith, past, leaves.later);
+        each = since_carries moment left_since mid new (λ c. Recovers c w) since.since (weaker moment left_since mid new (RecoversEither w w) (λ c. Recovers c w) one_of_both leaves) since.past since.each;
+      }
+
+  pub was_read : (v : ℕ) (kept : List Bytes → Type 0) → IsOpened crashes seen moment left_since old mid w v kept
+      → ((s : Sides) → seen old ≡ Some s → crashes old ≡ true → AlsoLeaves) → WasRead crashes seen moment left_since old new w
+  was_read v kept opened leaves = (
+    v,
+    record {
+      batches = opened.batches;
+      whole = opened.whole;
+      world_is = opened.world_is;
+      keeps = λ s told. tt;
+      recovers = opened.recovers;
+      since = λ s told crash. since_on v kept opened s told crash (leaves s told crash);
+    },
+  )
+
+  -- what a crash leaves of an opening, where a log of an older version is rewritten behind it, and one of the newest is not
+  pub start_leaves : (s : Sides) (v : ℕ) → v ≡ opened_version s → v ≤ newest → (v ≡ newest → new ≡ mid) → Recovers s w
+      → LeavesOnly moment left_since old mid (IsLeftByOpening (images old) s) → AlsoLeaves → LeavesOnly moment left_since old new (IsLeftByStart (images old) s)
+  start_leaves s v version known stays before opened leaves = by_version (eq-or-lt_of_le known)
+    where
+      begun : LeavesOnly moment left_since old mid (IsLeftByStart (images old) s)
+      begun = weaker moment left_since old mid (IsLeftByOpening (images old) s) (IsLeftByStart (images old) s) (λ c left. inl left) opened
+
+      by_version : (v ≡ newest) ⊎ (v < newest) → LeavesOnly moment left_since old new (IsLeftByStart (images old) s)
+      by_version (inl is) = subst (λ (d : D). LeavesOnly moment left_since old d (IsLeftByStart (images old) s)) (sym (stays is)) begun
+      by_version (inr less) = then moment left_since old mid new (IsLeftByStart (images old) s) begun
+          (weaker moment left_since mid new (RecoversEither w w) (IsLeftByStart (images old) s) (λ c either. inr (subst (λ (k : ℕ). k < newest) version less, (w, before, one_of_both c either))) leaves)
+
 -- the disks of which is spoken, with their laws
 module _ {D : Type 0} (crashes : D → Bool) (seen : D → Option Sides) (images : D → Sides → Type 0) (moment : D → ℕ) (left_since : D → ℕ → Sides → Type 0)
     (as_read : (disk : D) → IfTold (seen disk) (images disk)) where
   -- the log of an opened journal is that of its world
-  pub opened_kept : (old : D) (t : Tail D) (w : World) (s : Sides) → IsOpened crashes seen moment left_since old t.journal.disk w (λ batches. Keeps crashes seen images t.journal batches [])
+  pub opened_kept : (old : D) (t : Tail D) (w : World) (s : Sides) → IsOpened crashes seen moment left_since old t.journal.disk w t.journal.log.version (λ batches. Keeps crashes seen images t.journal batches [])
       → seen old ≡ Some s → pending t.journal ≡ [] → t.rewriting ≡ Idle → IsKeptBy crashes seen images t (settled_log w)
   opened_kept old t w s opened told none idle = record {
     batches = opened.batches;
@@ -85,19 +140,17 @@ module _ {D : Type 0} (crashes : D → Bool) (seen : D → Option Sides) (images
     committed = opened.world_is;
     pending_is = none;
     recorded = tt;
-    copies = subst (λ (r : Rewriting). IsCopyWhile r [] opened.batches) (sym idle) tt;
+    copies = subst (λ (r : Rewriting). IsCopyWhile r t.journal.log.version [] opened.batches) (sym idle) tt;
   }
 
   -- and all stands at its opening
-  pub is_opening : (old : D) (c : DurableCore D) (count : ℕ) (s : Sides)
-      → IsOpened crashes seen moment left_since old (disk_of c) (hall_of c).world (λ batches. Keeps crashes seen images c.tail.journal batches [])
-      → hall_of c ≡ opening_hall (hall_of c).world (hall_of c).logged → seen old ≡ Some s → crashes old ≡ true → crashes (disk_of c) ≡ crashes old → pending c.tail.journal ≡ [] → c.tail.rewriting ≡ Idle
+  pub is_opening : (old : D) (c : DurableCore D) (count : ℕ) → RecoversSince moment left_since old (disk_of c) (hall_of c).world
+      → hall_of c ≡ opening_hall (hall_of c).world (hall_of c).logged → IsKeptBy crashes seen images c.tail (settled_log (hall_of c).world) → crashes (disk_of c) ≡ true
       → IsOpening images moment left_since (moment old) count c
-  is_opening old c count s opened is told crash same none idle =
-      let since = opened.since s told crash in
+  is_opening old c count since is kept crash =
       let w = (hall_of c).world in
       let at : Opening = record { world = w; logged = (hall_of c).logged; moment = since.since; count = count } in
-      let holds = durable crashes seen images as_read c.tail (settled_log w) (opened_kept old c.tail w s opened told none idle) (same ∙ crash) in
+      let holds = durable crashes seen images as_read c.tail (settled_log w) kept crash in
       record {
         opening = at;
         world = refl;
@@ -107,17 +160,34 @@ module _ {D : Type 0} (crashes : D → Bool) (seen : D → Option Sides) (images
         stood = subst (λ (h : Hall). Stood images moment left_since (disk_of c) at [] h (settled_log w)) (sym is) (openings_stand images moment left_since (disk_of c) at since.past since.each holds);
       }
 
-  -- a disk that was opened, and handed back
-  pub reads_alike : (old : D) (k : Journal D) (new : D) (w : World) (s : Sides) → IsOpened crashes seen moment left_since old k.disk w (λ batches. Keeps crashes seen images k batches [])
-      → seen old ≡ Some s → pending k ≡ [] → new ≡ k.disk → ReadsAlike (seen new) s Memory
-  reads_alike old k new w s opened told none back =
-      let keeps = opened.keeps s told in
-      let now = kept_told (crashes k.disk) (seen k.disk) (images k.disk) k.log.side k.log.generation k.log.gate k.rewriter opened.batches [] keeps in
+  -- a disk that was opened, and handed back for want of memory
+  pub reads_alike : (k : Journal D) (batches copied : List Bytes) (new : D) (w : World) (s : Sides) (why : OpenFault) → why ≡ Memory → Keeps crashes seen images k batches copied
+      → AreWhole (record_fault k.log.version) batches → w ≡ world_in k.log.version batches → Recovers s w → new ≡ k.disk → ReadsAlike (seen new) s why
+  reads_alike k batches copied new w s why cause keeps whole is before back =
+      let now = kept_told (crashes k.disk) (seen k.disk) (images k.disk) k.log.side k.log.version k.log.generation k.log.gate k.rewriter batches copied keeps in
       record {
-        cause = refl;
+        cause = cause;
         world = w;
-        before = opened.recovers s told;
+        before = before;
         now = now.0;
         told = ap seen back ∙ now.1;
-        after = subst (λ (v : World). Recovers now.0 v) (sym opened.world_is) (reads_batches crashes seen images k opened.batches [] keeps opened.whole now.0 now.1);
+        after = subst (λ (x : World). Recovers now.0 x) (sym is) (reads_batches crashes seen images k batches copied keeps whole now.0 now.1);
       }
+
+  -- one that failed while a log of an older version was rewritten
+  pub half_rewritten : ((disk : D) (t : ℕ) (c : Sides) → t ≤ moment disk → images disk c → left_since disk t c) → ((disk : D) (c : Sides) → left_since disk (moment disk) c → images disk c)
+      → (t : Tail D) (new : D) (w : World) (s : Sides) (why : OpenFault) → why ≡ Disk → IsKeptBy crashes seen images t (settled_log w) → Recovers s w → t.journal.log.version ≡ opened_version s
+      → t.journal.log.version < newest → (crashes t.journal.disk ≡ true → LeavesOnly moment left_since t.journal.disk new (RecoversEither w w)) → crashes new ≡ crashes t.journal.disk
+      → IsHalfRewritten (crashes new) (images new) s why
+  half_rewritten counts_now only_now t new w s why cause kept before version less leaves told = record {
+    cause = cause;
+    old = subst (λ (k : ℕ). k < newest) version less;
+    world = w;
+    before = before;
+    each = λ crash c image.
+        let old = t.journal.disk in
+        let goes = sym told ∙ crash in
+        let left = leaves goes in
+        ⊎_elim (λ now. (durable crashes seen images as_read t (settled_log w) kept goes).each c (only_now old c now)) (λ either. one_of_both crashes seen images moment left_since old old new w c either)
+        (left.either (moment old) c (omega arith) (counts_now new (moment old) c left.later image));
+  }

@@ -2,6 +2,7 @@ pub mod Words
 pub mod Rewriting
 pub mod Pieces
 pub mod Steps
+pub mod Upgrading
 pub mod Written
 pub mod Kept
 pub mod Logged

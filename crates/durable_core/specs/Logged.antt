@@ -24,6 +24,9 @@ shown_of c = shown_by c.tail.rewriting (hall_of c).world
 abbrev pub generation_of : {D : Type 0} → DurableCore D → ℕ
 generation_of c = c.tail.journal.log.generation
 
+abbrev pub version_of : {D : Type 0} → DurableCore D → ℕ
+version_of c = c.tail.journal.log.version
+
 -- the log is the one that the journal keeps, and all of it makes the hall's world
 pub record IsLogOf {D : Type 0} (crashes : D → Bool) (seen : D → Option Sides) (images : D → Sides
     → Type 0) (c : DurableCore D) (j : Journal) : Type 0 where

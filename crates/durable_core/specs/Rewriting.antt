@@ -1,5 +1,5 @@
 -- How a log is rewritten: the items of a world are copied one behind another, and each batch is copied beside them.
-use Rattle.std.specs.Prelude.{◌^◌, ℕ, Bool, true, false, not, nat_lt, List, [], ◌∷◌, ◌++◌, filter, map, drop, if◌then◌else◌}
+use Rattle.std.specs.Prelude.{◌^◌, ℕ, Bool, true, false, not, nat_lt, ◌+◌, List, [], ◌∷◌, ◌++◌, length, filter, map, drop, if◌then◌else◌}
 use Rattle.byte_text.specs.Names.{Bytes}
 use Rattle.world_data.specs.declared.channels.Channel.{Channel}
 use Rattle.world_data.specs.declared.objects.Object.{Object}
@@ -9,6 +9,7 @@ use Rattle.world_data.specs.declared.worlds.World.{World}
 use Rattle.world_model.specs.declared.events.CallOutcome.{CallOutcome}
 use Rattle.world_model.specs.declared.events.CallOutcome.TheVariants as called
 use Rattle.journal.specs.Openings.{AreWhole}
+use Rattle.log_sides.specs.Texts.{newest}
 use Rattle.log_record.specs.Copying.{IsPart}
 use Rattle.world_recovery.specs.Recorded.{record_fault, world_in}
 use Rattle.world_store.specs.Copies.{is_behind, is_behind_name}
@@ -64,16 +65,16 @@ last_behind last (item ∷ items) = last_behind (last_of item) items
 abbrev pub IsCopiedTo : LastCopied → World → World → Type 0
 IsCopiedTo last part w = IsPart (λ o. not (is_object_left last o)) (λ c. not (is_channel_left last c)) part w
 
--- these batches make such a part of the world of the others
-pub record IsCopy (last : LastCopied) (copied batches : List Bytes) : Type 0 where
-  pub whole : AreWhole record_fault copied
-  pub part : IsCopiedTo last (world_in copied) (world_in batches)
+-- these batches of the newest version make such a part of the world of the others, which are of this version
+pub record IsCopy (last : LastCopied) (version : ℕ) (copied batches : List Bytes) : Type 0 where
+  pub whole : AreWhole (record_fault newest) copied
+  pub part : IsCopiedTo last (world_in newest copied) (world_in version batches)
 
 -- so they do where a log is rewritten
-abbrev pub IsCopyWhile : Rewriting → List Bytes → List Bytes → Type 0
-IsCopyWhile rewriting.Idle copied batches = Unit {0}
-IsCopyWhile rewriting.Asked copied batches = Unit {0}
-IsCopyWhile (rewriting.Going last) copied batches = IsCopy last copied batches
+abbrev pub IsCopyWhile : Rewriting → ℕ → List Bytes → List Bytes → Type 0
+IsCopyWhile rewriting.Idle version copied batches = Unit {0}
+IsCopyWhile rewriting.Asked version copied batches = Unit {0}
+IsCopyWhile (rewriting.Going last) version copied batches = IsCopy last version copied batches
 
 -- what a core shows of a rewriting: none, one that is asked for, or one that goes on, with the items that are left
 pub data Shown : Type 0 where
@@ -110,6 +111,17 @@ asked_for generation (rewriting.Going last) = rewriting.Going last
 abbrev pub rewriting_after : CallOutcome → Bool → ℕ → Rewriting → Rewriting
 rewriting_after called.Ok asks generation r = if asks then asked_for generation r else r
 rewriting_after answer asks generation r = r
+
+-- how many steps there are at most, up to the last one
+abbrev pub steps_left : World → Shown → ℕ
+steps_left w idle = 0
+steps_left w asked = length (items_of w) + 2
+steps_left w (going items) = length items + 1
+
+abbrev pub is_idle : Rewriting → Bool
+is_idle rewriting.Idle = true
+is_idle rewriting.Asked = false
+is_idle (rewriting.Going last) = false
 
 abbrev pub is_asked : Rewriting → Bool
 is_asked rewriting.Idle = false

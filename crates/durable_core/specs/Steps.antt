@@ -1,6 +1,7 @@
 -- The next step of a rewriting.
 use Rattle.std.specs.Prelude.{◌≡◌, ◌≤◌, ◌+◌, ◌^◌, ℕ, List, [], ◌∷◌, length, Result, Ok, Err, ◌⊎◌, if◌then◌else◌}
 use Rattle.world_data.specs.declared.worlds.World.{World}
+use Rattle.log_sides.specs.Texts.{newest}
 use Rattle.world_model.specs.declared.events.CallOutcome.{CallOutcome}
 use Rattle.world_model.specs.declared.events.CallOutcome.TheVariants as called
 use Rattle.durable_core.specs.Pieces.{IsNextPiece}
@@ -38,6 +39,10 @@ IsNextStep r gate w step.Finish = IsLastStep r w
 -- how many generations behind a step the log is
 abbrev pub next_generation : Rewriting → World → ℕ → ℕ
 next_generation r w generation = generation + (if is_ending (shown_by r w) then 1 else 0)
+
+-- and of which version it is
+abbrev pub next_version : Rewriting → World → ℕ → ℕ
+next_version r w version = if is_ending (shown_by r w) then newest else version
 
 -- a step ends with Ok, for want of memory, or where the disk failed, which alone is a failure of the log
 abbrev pub ended : CallOutcome → Result Unit CallOutcome

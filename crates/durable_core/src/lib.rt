@@ -7,6 +7,7 @@ mod pieces;
 mod rewritings;
 mod steps;
 mod tails;
+mod upgrades;
 
 pub use cores::DurableCore;
 pub use tails::PENDING;

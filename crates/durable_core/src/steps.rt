@@ -8,9 +8,9 @@ ghost use Rattle.journal.specs.Keeping.{new_gate};
 ghost use Rattle.log_record.specs.Journals as log;
 ghost use Rattle.durable_core.specs.Pieces.{IsNextPiece};
 ghost use Rattle.durable_core.specs.Rewriting.{items_left, next_shown, shown_by};
-ghost use Rattle.durable_core.specs.Steps.{IsEnded, IsNextStep, ended, next_generation};
+ghost use Rattle.durable_core.specs.Steps.{IsEnded, IsNextStep, ended, next_generation, next_version};
 ghost use Rattle.durable_core.specs.Written.{KeepsSided, Sided, sided_next, sided_with};
-ghost use Rattle.log_sides.specs.Texts.{committed};
+ghost use Rattle.log_sides.specs.Texts.{committed, newest};
 ghost use Rattle.durable_core.specs.Kept.{IsKeptBy, LeadsTo};
 ghost use Rattle.durable_core.specs.declared.rewritings.LastCopied.{LastCopied};
 ghost use Rattle.durable_core.specs.declared.rewritings.LastCopied.TheVariants as last;
@@ -47,6 +47,7 @@ impl<D: Disk> Tail<D> {
         ensures log { (j : log.Journal) → IsKeptBy D.crashes D.seen D.images self.old j
             → LeadsTo D.crashes D.seen D.images D.moment D.left_since self.old self.new result j j }
         ensures rewriting { OnOk result (self.new.rewriting ≡ rewriting.Going last.Nothing) }
+        ensures version { self.new.journal.log.version ≡ self.old.journal.log.version }
         ensures generation { self.new.journal.log.generation ≡ self.old.journal.log.generation }
         ensures works { OnOk result (self.new.journal.failed ≡ false) }
         ensures failed { OnErr result (self.new.journal.failed ≡ true) }
@@ -76,6 +77,7 @@ impl<D: Disk> Tail<D> {
             → IsKeptBy D.crashes D.seen D.images self.old j
             → LeadsTo D.crashes D.seen D.images D.moment D.left_since self.old self.new result j j }
         ensures rewriting { OnOk result (self.new.rewriting ≡ rewriting.Going next.last) }
+        ensures version { self.new.journal.log.version ≡ self.old.journal.log.version }
         ensures generation { self.new.journal.log.generation ≡ self.old.journal.log.generation }
         ensures works { OnOk result (self.new.journal.failed ≡ false) }
         ensures failed { OnErr result (self.new.journal.failed ≡ true) }
@@ -105,6 +107,7 @@ impl<D: Disk> Tail<D> {
             → IsKeptBy D.crashes D.seen D.images self.old j
             → LeadsTo D.crashes D.seen D.images D.moment D.left_since self.old self.new result j j }
         ensures rewriting { OnOk result (self.new.rewriting ≡ rewriting.Idle) }
+        ensures version { OnOk result (self.new.journal.log.version ≡ newest) }
         ensures generation { OnOk result (self.new.journal.log.generation ≡ self.old.journal.log.generation + 1) }
         ensures works { OnOk result (self.new.journal.failed ≡ false) }
         ensures failed { OnErr result (self.new.journal.failed ≡ true) }
@@ -154,6 +157,9 @@ impl<D: Disk> Tail<D> {
             → LeadsTo D.crashes D.seen D.images D.moment D.left_since self.old self.new result j j }
         ensures shown { (w : World) → IsNextStep self.old.rewriting (new_gate self.old.journal.rewriter) w step
             → OnOk result (shown_by self.new.rewriting w ≡ next_shown w (shown_by self.old.rewriting w)) }
+        ensures version { (w : World) → IsNextStep self.old.rewriting (new_gate self.old.journal.rewriter) w step
+            → OnOk result
+            (self.new.journal.log.version ≡ next_version self.old.rewriting w self.old.journal.log.version) }
         ensures generation { (w : World) → IsNextStep self.old.rewriting (new_gate self.old.journal.rewriter) w step
             → OnOk result
             (self.new.journal.log.generation ≡ next_generation self.old.rewriting w self.old.journal.log.generation) }
@@ -185,6 +191,9 @@ impl<D: Disk> Tail<D> {
         ensures shown { result ≡ CallOutcome.Ok
             → shown_by self.new.rewriting core.now.hall.world
             ≡ next_shown core.now.hall.world (shown_by self.old.rewriting core.now.hall.world) }
+        ensures version { result ≡ CallOutcome.Ok
+            → self.new.journal.log.version
+            ≡ next_version self.old.rewriting core.now.hall.world self.old.journal.log.version }
         ensures generation { result ≡ CallOutcome.Ok
             → self.new.journal.log.generation
             ≡ next_generation self.old.rewriting core.now.hall.world self.old.journal.log.generation }

@@ -4,7 +4,7 @@
 //! records of one turn. Else nothing is committed before a take that gives frames, a step of rewriting, or the end: one
 //! commit serves all whose takes wait with it.
 
-ghost use Rattle.std.specs.Prelude.{◌≡◌, ◌≤◌, ◌<◌, ◌^◌, ◌++◌, ℕ, Bool, true, false, [], is_some, length, OnOk, OnErr};
+ghost use Rattle.std.specs.Prelude.{◌≡◌, ◌≤◌, ◌<◌, ◌+◌, ◌^◌, ◌++◌, ℕ, Bool, true, false, [], is_some, length, OnOk, OnErr};
 ghost use Rattle.byte_text.specs.Names.{Bytes};
 ghost use Rattle.outside.specs.Causes.{HasCause};
 ghost use Rattle.journal.specs.Journals.{SameBut, pending};
@@ -32,18 +32,18 @@ pub(crate) struct Tail<D> {
     /// How far the log is rewritten.
     pub(crate) rewriting: Rewriting,
     ghost tied: { journal.failed ≡ false → is_some journal.rewriter ≡ is_going rewriting },
-    ghost early: { is_asked rewriting ≡ true → journal.log.generation < 2 ^ 63 },
+    ghost early: { is_asked rewriting ≡ true → journal.log.generation + 1 < 2 ^ 64 },
 }
 
 impl<D: Disk> RecordSink for Tail<D> {
-    ghost use Rattle.durable_core.specs.Kept.{HasPending};
+    ghost use Rattle.durable_core.specs.Kept.{HasPending, HasPushed};
 
-    ghost takes = { λ old records new. HasPending D.crashes D.seen D.images old new (pending old.journal ++ records) };
+    ghost takes = { HasPushed D.crashes D.seen D.images };
 
     ghost stays = { λ old new. HasPending D.crashes D.seen D.images old new (pending old.journal) };
 
     fn take(&mut self, records: &[u8]) -> Result<(), NoMemory> {
-        // Where a side has no room, there is no memory for the call.
+        // Where a side has no room, there is no memory for the call. The log is of the newest version.
         if !self.journal.has_room(records.len()) {
             return Err(NoMemory);
         }
@@ -68,6 +68,7 @@ impl<D: Disk> Tail<D> {
         ensures failed { OnErr result (self.new.journal.failed ≡ true) }
         ensures cause { HasCause (D.faults self.old.journal.disk) (D.faults self.new.journal.disk) result }
         ensures told { D.crashes self.new.journal.disk ≡ D.crashes self.old.journal.disk }
+        ensures version { self.new.journal.log.version ≡ self.old.journal.log.version }
         ensures generation { self.new.journal.log.generation ≡ self.old.journal.log.generation }
         ensures rewriting { self.new.rewriting ≡ self.old.rewriting }
     {
@@ -96,6 +97,7 @@ impl<D: Disk> Tail<D> {
         ensures failed { OnErr result (self.new.journal.failed ≡ true) }
         ensures cause { HasCause (D.faults self.old.journal.disk) (D.faults self.new.journal.disk) result }
         ensures told { D.crashes self.new.journal.disk ≡ D.crashes self.old.journal.disk }
+        ensures version { self.new.journal.log.version ≡ self.old.journal.log.version }
         ensures generation { self.new.journal.log.generation ≡ self.old.journal.log.generation }
         ensures rewriting { self.new.rewriting ≡ self.old.rewriting }
     {

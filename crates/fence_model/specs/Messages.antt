@@ -1,13 +1,12 @@
 -- Messages: their payloads, what a change raises on all channels, and who is sent it.
 use Rattle.std.specs.Prelude.{Bool, false, ◌&&◌, List, [], ◌∷◌, ◌++◌, filter, flat_map, map, Option, Some, None, is_none, if◌then◌else◌, codes}
 use Rattle.std.specs.Prelude.{decimal}
-use Rattle.std.specs.Fmt.{signed_decimal}
 use Rattle.byte_text.specs.Names.{Bytes, same}
 use Rattle.byte_text.specs.JsonText.{quoted}
 use Rattle.planar_geom.specs.Points.{dist2, floor_root}
 use Rattle.geo_text.specs.Texts.{with_commas}
 use Rattle.world_data.specs.Worlds.{object_at, objects_of}
-use Rattle.world_data.specs.Filters.{Field}
+use Rattle.world_data.specs.Filters.{Field, value_json}
 use Rattle.fence_model.specs.Fences.{raised_by_put, raised_by_del, raised_by_drop, near_pairs, roams_over, place_of}
 use Rattle.fence_model.specs.Writes.{Write}
 use Rattle.world_data.specs.declared.objects.Object.{Object}
@@ -39,7 +38,7 @@ detect_name Near = codes "roam"
 detect_name Far = codes "roam"
 
 abbrev field_member : Field → Bytes
-field_member f = member f.0 (signed_decimal f.1)
+field_member f = member f.0 (value_json f.1)
 
 abbrev fields_members : List Field → List Bytes
 fields_members [] = []

@@ -5,7 +5,7 @@ use Rattle.outside.specs.declared.sides.Side.{Side}
 use Rattle.outside.specs.declared.sides.Side.TheVariants.{A, B}
 use Rattle.outside.specs.Sides.{Sides, side_of, other_side}
 use Rattle.outside.specs.SideLaws.{same_sides}
-use Rattle.log_sides.specs.Texts.{StandsFor}
+use Rattle.log_sides.specs.Texts.{StandsFor, newest}
 use Rattle.log_sides.specs.Making.{WhileMade}
 use Rattle.log_sides.specs.States.{SideIsSafe}
 use Rattle.append_log.specs.Heads.{head_of, start_of, IsHeaded}
@@ -34,17 +34,17 @@ same_by_side A c s here there = same_sides c s here there
 same_by_side B c s here there = same_sides c s there here
 
 -- a side that was read to its closed gate
-pub stands_read : (g : ℕ) (batches : List Bytes) (len gate : ℕ) (bytes : Bytes) → IsHeaded bytes g len → IsAtGate g batches len gate bytes → IsEnd g batches bytes
-    → StandsFor g batches bytes
-stands_read g batches len gate bytes headed at end = record { numbered = headed.numbered; within = omega (arith, headed.short, at.whole); gate = end.gate; closed = end.closed; stale = end.stale; text = end.text }
+pub stands_read : (v g : ℕ) (batches : List Bytes) (len gate : ℕ) (bytes : Bytes) → IsHeaded bytes v g len → IsAtGate v g batches len gate bytes → IsEnd v g batches bytes
+    → StandsFor v g batches bytes
+stands_read v g batches len gate bytes headed at end = record { numbered = headed.numbered; within = omega (arith, headed.short, at.whole); gate = end.gate; closed = end.closed; stale = end.stale; text = end.text }
 
-pub holds_read : (s : Sides) (side : Side) (g len : ℕ) (batches : List Bytes) → IsUsed s side g len → StandsFor g batches (side_of s side) → HoldsLog batches s
-holds_read s side g len batches used stands =
-    inl (side, g, record { used = used.used ∙ ap (λ (n : ℕ). Standing side g n) used.headed.first.whole; stands = stands })
+pub holds_read : (s : Sides) (side : Side) (v g len : ℕ) (batches : List Bytes) → IsUsed s side v g len → StandsFor v g batches (side_of s side) → HoldsLog v batches s
+holds_read s side v g len batches used stands =
+    inl (side, g, record { used = used.used ∙ ap (λ (n : ℕ). Standing side v g n) used.headed.first.whole; stands = stands })
 
 -- what a crash leaves while the first side is made holds no batch
-pub holds_made : (s c : Sides) → IsFresh s → c.b ≡ s.b → WhileMade 1 s.a c.a → HoldsLog [] c
-holds_made s c fresh there (inl (inl same)) = inr (subst IsFresh (sym (same_sides c s same there)) fresh, refl)
+pub holds_made : (s c : Sides) → IsFresh s → c.b ≡ s.b → WhileMade 1 s.a c.a → HoldsLog newest [] c
+holds_made s c fresh there (inl (inl same)) = inr (subst IsFresh (sym (same_sides c s same there)) fresh, refl, refl)
 holds_made s c fresh there (inl (inr closed)) =
-    inr (ap (λ (h : Head). start_of h (head_of c.b)) (not_open_head c.a closed) ∙ ap (λ (l : Bytes). start_of (Shut (length c.a)) (head_of l)) there ∙ fresh_shut (head_of s.a) (head_of s.b) (length c.a) fresh, refl)
-holds_made s c fresh there (inr stands) = inl (A, 1, (stands_in c A 1 [] stands (subst (IsBehind 1) (sym there) (fresh_behind s 1 fresh))))
+    inr (ap (λ (h : Head). start_of h (head_of c.b)) (not_open_head c.a closed) ∙ ap (λ (l : Bytes). start_of (Shut (length c.a)) (head_of l)) there ∙ fresh_shut (head_of s.a) (head_of s.b) (length c.a) fresh, refl, refl)
+holds_made s c fresh there (inr stands) = inl (A, 1, (stands_in c A newest 1 [] stands (subst (IsBehind 1) (sym there) (fresh_behind s 1 fresh))))

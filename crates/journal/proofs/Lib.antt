@@ -2,3 +2,4 @@ pub mod Steps
 pub mod Looking
 pub mod Found
 pub mod Opens
+pub mod LogReads

@@ -1,5 +1,6 @@
 -- How a side is read on, and what of it is no record.
 use Rattle.std.proofs.Common.{◌≡◌, ◌∙◌, ◌+◌, ℕ, Bool, List, [], ◌∷◌, ◌++◌, length, take, drop, Option, None, refl, sym, ap, subst, arith, length-append, length-take, length-drop, append_assoc, append-nil, take-append-drop}
+use Rattle.std.specs.Prelude.{Result, Ok, Err, OnOk}
 use Rattle.byte_text.specs.Names.{Bytes}
 use Rattle.outside.specs.declared.sides.Side.{Side}
 use Rattle.outside.specs.Sides.{Sides}
@@ -36,11 +37,16 @@ module _ {D : Type 0} (crashes : D → Bool) (seen : D → Option Sides) (images
   looked_on side other old mid new is one two =
       looked_then side old mid new one (subst (λ (s : Side). Looked crashes seen images moment left_since faults s mid new) is two)
 
+-- two facts of what was done
+pub on_ok_two : {T E : Type 0} {P Q R : Type 0} (r : Result T E) → (P → Q → R) → OnOk r P → OnOk r Q → OnOk r R
+on_ok_two (Ok x) f p q = f p q
+on_ok_two (Err e) f p q = tt
+
 -- a batch of which this was read, and no byte of it is a record from some place on
-pub no_record : (fault : Bytes → Option ℕ) (g : ℕ) (batches : List Bytes) (part : Bytes) (len left at start place : ℕ) (bytes : Bytes)
-    → IsInBatch g batches part len left at bytes → start ≡ gate_place g batches + 9 → IsRefused fault start place (part ++ take left (drop at bytes))
-    → HasNoRecord fault g batches bytes place
-no_record fault g batches part len left at start place bytes reading begun refused =
+pub no_record : (fault : Bytes → Option ℕ) (v g : ℕ) (batches : List Bytes) (part : Bytes) (len left at start place : ℕ) (bytes : Bytes)
+    → IsInBatch v g batches part len left at bytes → start ≡ gate_place v g batches + 9 → IsRefused fault start place (part ++ take left (drop at bytes))
+    → HasNoRecord fault v g batches bytes place
+no_record fault v g batches part len left at start place bytes reading begun refused =
     let behind = drop at bytes in
     let body = take left behind in
     let rest = drop left behind in
@@ -52,7 +58,7 @@ no_record fault g batches part len left at start place bytes reading begun refus
     record {
       batch = batch;
       rest = rest;
-      text = reading.text ∙ ap (λ (l : Bytes). front_text g batches ++ open_gate ∷ l) inner;
+      text = reading.text ∙ ap (λ (l : Bytes). front_text v g batches ++ open_gate ∷ l) inner;
       at = refused.at;
       none = refused.none;
       here = omega (arith, refused.here, begun);
@@ -70,50 +76,50 @@ whole_more fault [] batch whole one = (one, tt)
 whole_more fault (b ∷ batches) batch whole one = (whole.0, whole_more fault batches batch whole.1 one)
 
 -- some batches of a side were taken
-pub record TookSome {R D : Type 0} (took : R → List Bytes → Bytes → Type 0) (fault : Bytes → Option ℕ) (crashes : D → Bool) (seen : D → Option Sides) (images : D → Sides → Type 0) (side : Side) (len at at' : ℕ) (disk : D) (replay : R) : Type 0 where
+pub record TookSome {R D : Type 0} (took : R → ℕ → List Bytes → Bytes → Type 0) (fault : ℕ → Bytes → Option ℕ) (crashes : D → Bool) (seen : D → Option Sides) (images : D → Sides → Type 0) (side : Side) (version len at at' : ℕ) (disk : D) (replay : R) : Type 0 where
   pub batches : List Bytes
-  pub taken : took replay batches []
-  pub whole : AreWhole fault batches
-  pub read : (g : ℕ) (bytes : Bytes) → SideIsSafe (crashes disk) (seen disk) (images disk) side (λ x. x ≡ bytes) → IsAtGate g [] len at bytes → IsAtGate g batches len at' bytes
+  pub taken : took replay version batches []
+  pub whole : AreWhole (fault version) batches
+  pub read : (g : ℕ) (bytes : Bytes) → SideIsSafe (crashes disk) (seen disk) (images disk) side (λ x. x ≡ bytes) → IsAtGate version g [] len at bytes → IsAtGate version g batches len at' bytes
 
-module _ {R D : Type 0} (took : R → List Bytes → Bytes → Type 0) (fault : Bytes → Option ℕ) (crashes : D → Bool) (seen : D → Option Sides) (images : D → Sides → Type 0) (moment : D → ℕ) (left_since : D → ℕ → Sides → Type 0) (faults : D → ℕ) where
+module _ {R D : Type 0} (took : R → ℕ → List Bytes → Bytes → Type 0) (fault : ℕ → Bytes → Option ℕ) (crashes : D → Bool) (seen : D → Option Sides) (images : D → Sides → Type 0) (moment : D → ℕ) (left_since : D → ℕ → Sides → Type 0) (faults : D → ℕ) where
   -- nothing was read of a batch yet
-  pub piece_none : (side : Side) (batches : List Bytes) (len left at : ℕ) (disk : D) (replay : R) → took replay batches []
-      → TookPiece took fault crashes seen images disk side batches [] len left at left at replay
-  piece_none side batches len left at disk replay taken = record { more = []; taken = taken; read = λ g bytes safe inside. inside }
+  pub piece_none : (side : Side) (version : ℕ) (batches : List Bytes) (len left at : ℕ) (disk : D) (replay : R) → took replay version batches []
+      → TookPiece took fault crashes seen images disk side version batches [] len left at left at replay
+  piece_none side version batches len left at disk replay taken = record { more = []; taken = taken; read = λ g bytes safe inside. inside }
 
   -- one piece and then another
-  pub piece_then : (side other : Side) (batches : List Bytes) (len len' left at left' at' left'' at'' : ℕ) (old now : D) (replay replay' : R) → other ≡ side → len' ≡ len
+  pub piece_then : (side other : Side) (version : ℕ) (batches : List Bytes) (len len' left at left' at' left'' at'' : ℕ) (old now : D) (replay replay' : R) → other ≡ side → len' ≡ len
       → Looked crashes seen images moment left_since faults side old now
-      → (one : TookPiece took fault crashes seen images old side batches [] len left at left' at' replay)
-      → TookPiece took fault crashes seen images now other batches one.more len' left' at' left'' at'' replay'
-      → TookPiece took fault crashes seen images old side batches [] len left at left'' at'' replay'
-  piece_then side other batches len len' left at left' at' left'' at'' old now replay replay' is same looked one two = record {
+      → (one : TookPiece took fault crashes seen images old side version batches [] len left at left' at' replay)
+      → TookPiece took fault crashes seen images now other version batches one.more len' left' at' left'' at'' replay'
+      → TookPiece took fault crashes seen images old side version batches [] len left at left'' at'' replay'
+  piece_then side other version batches len len' left at left' at' left'' at'' old now replay replay' is same looked one two = record {
     more = one.more ++ two.more;
     taken = two.taken;
     read = λ g bytes safe inside.
-        subst (λ (n : ℕ). IsInBatch g batches (one.more ++ two.more) n left'' at'' bytes) same
+        subst (λ (n : ℕ). IsInBatch version g batches (one.more ++ two.more) n left'' at'' bytes) same
         (two.read g bytes (subst (λ (s : Side). SideIsSafe (crashes now) (seen now) (images now) s (λ x. x ≡ bytes)) (sym is) (looked.safe bytes safe))
-        (subst (λ (n : ℕ). IsInBatch g batches one.more n left' at' bytes) (sym same) (one.read g bytes safe inside)));
+        (subst (λ (n : ℕ). IsInBatch version g batches one.more n left' at' bytes) (sym same) (one.read g bytes safe inside)));
   }
 
-  pub some_none : (side : Side) (len at : ℕ) (disk : D) (replay : R) → took replay [] [] → TookSome took fault crashes seen images side len at at disk replay
-  some_none side len at disk replay taken = record { batches = []; taken = taken; whole = tt; read = λ g bytes safe first. first }
+  pub some_none : (side : Side) (version len at : ℕ) (disk : D) (replay : R) → took replay version [] [] → TookSome took fault crashes seen images side version len at at disk replay
+  some_none side version len at disk replay taken = record { batches = []; taken = taken; whole = tt; read = λ g bytes safe first. first }
 
   -- and one more
-  pub some_more : (side other : Side) (len len' at at' mid left next : ℕ) (old now later : D) (replay replay' : R) → other ≡ side → len' ≡ len
+  pub some_more : (side other : Side) (version len len' at at' mid left next : ℕ) (old now later : D) (replay replay' : R) → other ≡ side → len' ≡ len
       → Looked crashes seen images moment left_since faults side old now → Looked crashes seen images moment left_since faults side now later
-      → (some : TookSome took fault crashes seen images side len at at' old replay)
-      → ((g : ℕ) (bytes : Bytes) → SideIsSafe (crashes now) (seen now) (images now) side (λ x. x ≡ bytes) → IsAtGate g some.batches len at' bytes
-      → IsInBatch g some.batches [] len' left mid bytes)
-      → TookBatch took fault crashes seen images later other some.batches len' left mid next replay'
-      → TookSome took fault crashes seen images side len at next old replay'
-  some_more side other len len' at at' mid left next old now later replay replay' is same looked again some gate one = record {
+      → (some : TookSome took fault crashes seen images side version len at at' old replay)
+      → ((g : ℕ) (bytes : Bytes) → SideIsSafe (crashes now) (seen now) (images now) side (λ x. x ≡ bytes) → IsAtGate version g some.batches len at' bytes
+      → IsInBatch version g some.batches [] len' left mid bytes)
+      → TookBatch took fault crashes seen images later other version some.batches len' left mid next replay'
+      → TookSome took fault crashes seen images side version len at next old replay'
+  some_more side other version len len' at at' mid left next old now later replay replay' is same looked again some gate one = record {
     batches = with_batch some.batches one.batch;
     taken = one.taken;
-    whole = whole_more fault some.batches one.batch some.whole one.whole;
+    whole = whole_more (fault version) some.batches one.batch some.whole one.whole;
     read = λ g bytes safe first.
-        subst (λ (n : ℕ). IsAtGate g (with_batch some.batches one.batch) n next bytes) same
+        subst (λ (n : ℕ). IsAtGate version g (with_batch some.batches one.batch) n next bytes) same
         (one.read g bytes (subst (λ (s : Side). SideIsSafe (crashes later) (seen later) (images later) s (λ x. x ≡ bytes)) (sym is) (again.safe bytes (looked.safe bytes safe)))
         (gate g bytes (looked.safe bytes safe) (some.read g bytes safe first)));
   }

@@ -7,7 +7,7 @@ use Rattle.outside.specs.declared.sides.Side.TheVariants.{A, B}
 use Rattle.outside.specs.Sides.{Sides, side_of, other_side, Told, IfTold}
 use Rattle.outside.specs.Crashes.{LeavesOnly}
 use Rattle.outside.specs.CrashLaws.{begins, then, weaker, since_begin, if_told, told_next}
-use Rattle.log_sides.specs.Texts.{StandsFor}
+use Rattle.log_sides.specs.Texts.{StandsFor, newest}
 use Rattle.log_sides.specs.Making.{WhileMade}
 use Rattle.log_sides.specs.States.{SideIsSafe, IsLeft, SideLeads, IsLog}
 use Rattle.log_sides.specs.Crashing.{leads_other, safe_weaker}
@@ -30,11 +30,11 @@ use Rattle.journal.proofs.Found.{all_safe, side_safe, same_by_side, stands_read,
 
 module _ {D : Type 0} (crashes : D → Bool) (seen : D → Option Sides) (images : D → Sides → Type 0) (moment : D → ℕ) (left_since : D → ℕ → Sides → Type 0) (faults : D → ℕ) where
   -- a side in use was read to its end
-  pub log_read : {R : Type 0} (took : R → List Bytes → Bytes → Type 0) (fault : Bytes → Option ℕ) (old new : D) (side : Side) (g len gate : ℕ) (replay : R) (log : AppendLog)
-      → TookAll took fault crashes seen images old side len 16 gate replay → Looked crashes seen images moment left_since faults side old new
-      → log.side ≡ side → log.generation ≡ g → log.gate ≡ gate
-      → LogRead took fault crashes seen images old side g len replay (λ batches. IsKept (crashes new) (seen new) (images new) log.side log.generation log.gate None batches [])
-  log_read took fault old new side g len gate replay log all looked side_is generation_is gate_is = record {
+  pub log_read : {R : Type 0} (took : R → ℕ → List Bytes → Bytes → Type 0) (fault : ℕ → Bytes → Option ℕ) (old new : D) (side : Side) (v g len gate : ℕ) (replay : R) (log : AppendLog)
+      → TookAll took fault crashes seen images old side v len 16 gate replay → Looked crashes seen images moment left_since faults side old new
+      → log.side ≡ side → log.version ≡ v → log.generation ≡ g → log.gate ≡ gate
+      → LogRead took fault crashes seen images old side v g len replay (λ batches. IsKept (crashes new) (seen new) (images new) log.side log.version log.generation log.gate None batches [])
+  log_read took fault old new side v g len gate replay log all looked side_is version_is generation_is gate_is = record {
     batches = all.batches;
     taken = all.taken;
     whole = all.whole;
@@ -42,19 +42,19 @@ module _ {D : Type 0} (crashes : D → Bool) (seen : D → Option Sides) (images
         let bytes = side_of s side in
         let here = side_safe (crashes old) (seen old) (images old) s side (λ x. x ≡ bytes) safe refl in
         let read = all.read g bytes here used.headed.first in
-        holds_read s side g len all.batches used (stands_read g all.batches len gate bytes used.headed read.0 read.1);
+        holds_read s side v g len all.batches used (stands_read v g all.batches len gate bytes used.headed read.0 read.1);
     keeps = λ s safe used.
         let bytes = side_of s side in
         let here = side_safe (crashes old) (seen old) (images old) s side (λ x. x ≡ bytes) safe refl in
         let read = all.read g bytes here used.headed.first in
-        let stands = stands_read g all.batches len gate bytes used.headed read.0 read.1 in
-        kept_same (crashes new) (seen new) (images new) side log.side g log.generation gate log.gate None all.batches [] side_is generation_is gate_is (record {
+        let stands = stands_read v g all.batches len gate bytes used.headed read.0 read.1 in
+        kept_same (crashes new) (seen new) (images new) side log.side v log.version g log.generation gate log.gate None all.batches [] side_is version_is generation_is gate_is (record {
           log = record {
             place = read.0.place;
-            safe = safe_weaker (crashes new) (seen new) (images new) side (λ x. x ≡ bytes) (StandsFor g all.batches) (λ x same. subst (StandsFor g all.batches) (sym same) stands) (looked.safe bytes here);
+            safe = safe_weaker (crashes new) (seen new) (images new) side (λ x. x ≡ bytes) (StandsFor v g all.batches) (λ x same. subst (StandsFor v g all.batches) (sym same) stands) (looked.safe bytes here);
           };
           beside = leads_other crashes seen images moment left_since side (λ x. x ≡ bytes) (IsBehind g) old new looked.told (looked.same bytes here)
-              (side_safe (crashes old) (seen old) (images old) s (other_side side) (IsBehind g) safe (beside_used s side g len used.used));
+              (side_safe (crashes old) (seen old) (images old) s (other_side side) (IsBehind g) safe (beside_used s side v g len used.used));
         });
   }
 
@@ -92,12 +92,12 @@ module _ {D : Type 0} (crashes : D → Bool) (seen : D → Option Sides) (images
   }
 
   -- a side that is read from behind its header
-  pub took_from : {R : Type 0} (took : R → List Bytes → Bytes → Type 0) (fault : Bytes → Option ℕ) (disk : D) (side there : Side) (len long at gate : ℕ) (replay : R)
-      → there ≡ side → long ≡ len → at ≡ 16 → TookAll took fault crashes seen images disk there long at gate replay → TookAll took fault crashes seen images disk side len 16 gate replay
-  took_from took fault disk side there len long at gate replay is same first all =
-      subst (λ (s : Side). TookAll took fault crashes seen images disk s len 16 gate replay) is
-      (subst (λ (n : ℕ). TookAll took fault crashes seen images disk there n 16 gate replay) same
-      (subst (λ (n : ℕ). TookAll took fault crashes seen images disk there long n gate replay) first all))
+  pub took_from : {R : Type 0} (took : R → ℕ → List Bytes → Bytes → Type 0) (fault : ℕ → Bytes → Option ℕ) (disk : D) (side there : Side) (v len long at gate : ℕ) (replay : R)
+      → there ≡ side → long ≡ len → at ≡ 16 → TookAll took fault crashes seen images disk there v long at gate replay → TookAll took fault crashes seen images disk side v len 16 gate replay
+  took_from took fault disk side there v len long at gate replay is same first all =
+      subst (λ (s : Side). TookAll took fault crashes seen images disk s v len 16 gate replay) is
+      (subst (λ (n : ℕ). TookAll took fault crashes seen images disk there v n 16 gate replay) same
+      (subst (λ (n : ℕ). TookAll took fault crashes seen images disk there v long n gate replay) first all))
 
   pub looked_from : (old new : D) (side there : Side) → there ≡ side → Looked crashes seen images moment left_since faults there old new
       → Looked crashes seen images moment left_since faults side old new
@@ -105,8 +105,8 @@ module _ {D : Type 0} (crashes : D → Bool) (seen : D → Option Sides) (images
 
   -- the first side was made
   pub kept_made : (old new : D) (gate : ℕ) (s : Sides) → crashes new ≡ crashes old → IsAllSafe (crashes old) (seen old) (images old) s → IsFresh s
-      → SideLeads crashes seen images moment left_since A (WhileMade 1 s.a) old new → IsLog (crashes new) (seen new) (images new) A 1 gate []
-      → IsKept (crashes new) (seen new) (images new) A 1 gate None [] []
+      → SideLeads crashes seen images moment left_since A (WhileMade 1 s.a) old new → IsLog (crashes new) (seen new) (images new) A newest 1 gate []
+      → IsKept (crashes new) (seen new) (images new) A newest 1 gate None [] []
   kept_made old new gate s same safe fresh leads log = record {
     log = log;
     beside = leads_other crashes seen images moment left_since A (WhileMade 1 s.a) (IsBehind 1) old new same leads
@@ -114,9 +114,9 @@ module _ {D : Type 0} (crashes : D → Bool) (seen : D → Option Sides) (images
   }
 
   pub made_leaves : (old new : D) (s : Sides) → IsAllSafe (crashes old) (seen old) (images old) s → IsFresh s
-      → SideLeads crashes seen images moment left_since A (WhileMade 1 s.a) old new → crashes old ≡ true → LeavesOnly moment left_since old new (HoldsLog [])
+      → SideLeads crashes seen images moment left_since A (WhileMade 1 s.a) old new → crashes old ≡ true → LeavesOnly moment left_since old new (HoldsLog newest [])
   made_leaves old new s safe fresh leads told =
-      weaker moment left_since old new (IsLeft (images old) A (WhileMade 1 s.a)) (HoldsLog [])
+      weaker moment left_since old new (IsLeft (images old) A (WhileMade 1 s.a)) (HoldsLog newest [])
       (λ c left. holds_made s c fresh (left.there ∙ ap (λ (t : Sides). t.b) (safe.settled told left.earlier left.could)) left.here) (leads.moments told)
 
   -- both sides were synced
@@ -128,39 +128,39 @@ module _ {D : Type 0} (crashes : D → Bool) (seen : D → Option Sides) (images
       all_safe (crashes mid) (seen mid) (images mid) s (next.1 ∙ ap (λ (t : Sides). Some t) next.2) a b
 
   -- from then on whatever a crash leaves holds these batches
-  pub holds_since : (old mid new : D) (s : Sides) (batches : List Bytes) (P : Sides → Type 0) → moment old ≤ moment mid → LeavesOnly moment left_since mid new P
-      → ((c : Sides) → P c → HoldsLog batches c) → ((c : Sides) → images mid c → c ≡ s) → HoldsLog batches s
+  pub holds_since : (old mid new : D) (s : Sides) (v : ℕ) (batches : List Bytes) (P : Sides → Type 0) → moment old ≤ moment mid → LeavesOnly moment left_since mid new P
+      → ((c : Sides) → P c → HoldsLog v batches c) → ((c : Sides) → images mid c → c ≡ s) → HoldsLog v batches s
       → ((c : Sides) → left_since mid (moment mid) c → images mid c)
-      → HoldsSince moment left_since old new batches
-  holds_since old mid new s batches P later leaves f settled holds only_now = record {
+      → HoldsSince moment left_since old new v batches
+  holds_since old mid new s v batches P later leaves f settled holds only_now = record {
     since = moment mid;
     begun = later;
     past = leaves.later;
-    each = since_begin images moment left_since mid new (HoldsLog batches) only_now (weaker moment left_since mid new P (HoldsLog batches) f leaves)
-        (λ c image. subst (HoldsLog batches) (sym (settled c image)) holds);
+    each = since_begin images moment left_since mid new (HoldsLog v batches) only_now (weaker moment left_since mid new P (HoldsLog v batches) f leaves)
+        (λ c image. subst (HoldsLog v batches) (sym (settled c image)) holds);
   }
 
   -- the moments of an opening
   pub opening_leaves : (old mid new : D) (s : Sides) (P : Sides → Type 0) → seen old ≡ Some s → IfTold (seen old) (images old)
-      → LeavesOnly moment left_since old mid (images old) → LeavesOnly moment left_since mid new P → ((c : Sides) → P c → (c ≡ s) ⊎ (IsFresh s × HoldsLog [] c))
+      → LeavesOnly moment left_since old mid (images old) → LeavesOnly moment left_since mid new P → ((c : Sides) → P c → (c ≡ s) ⊎ (IsFresh s × HoldsLog newest [] c))
       → LeavesOnly moment left_since old new (IsLeftByOpening (images old) s)
   opening_leaves old mid new s P told as_read one two f =
       then moment left_since old mid new (IsLeftByOpening (images old) s)
       (weaker moment left_since old mid (images old) (IsLeftByOpening (images old) s) (λ c image. inl image) one)
       (weaker moment left_since mid new P (IsLeftByOpening (images old) s) (λ c p. by_case c (f c p)) two)
     where
-      by_case : (c : Sides) → (c ≡ s) ⊎ (IsFresh s × HoldsLog [] c) → IsLeftByOpening (images old) s c
+      by_case : (c : Sides) → (c ≡ s) ⊎ (IsFresh s × HoldsLog newest [] c) → IsLeftByOpening (images old) s c
       by_case c (inl same) = inl (subst (images old) (sym same) (if_told (seen old) s (images old) told as_read))
       by_case c (inr holds) = inr holds
 
   -- a log was read
-  pub opened_read : {R : Type 0} (took : R → List Bytes → Bytes → Type 0) (fault : Bytes → Option ℕ) (old mid new : D) (side : Side) (g len : ℕ) (replay : R) (kept : List Bytes → Type 0)
+  pub opened_read : {R : Type 0} (took : R → ℕ → List Bytes → Bytes → Type 0) (fault : ℕ → Bytes → Option ℕ) (old mid new : D) (side : Side) (v w g len : ℕ) (replay : R) (kept : List Bytes → Type 0)
       → moment old ≤ moment mid → crashes mid ≡ crashes old
-      → ((s : Sides) → seen old ≡ Some s → IsAllSafe (crashes mid) (seen mid) (images mid) s) → ((s : Sides) → seen old ≡ Some s → IsUsed s side g len)
+      → ((s : Sides) → seen old ≡ Some s → IsAllSafe (crashes mid) (seen mid) (images mid) s) → ((s : Sides) → seen old ≡ Some s → IsUsed s side v g len)
       → ((s : Sides) → IsAllSafe (crashes mid) (seen mid) (images mid) s → crashes mid ≡ true → LeavesOnly moment left_since mid new (λ c. c ≡ s))
       → ((c : Sides) → left_since mid (moment mid) c → images mid c)
-      → LogRead took fault crashes seen images mid side g len replay kept → IsReplayed took fault crashes seen moment left_since old new replay kept
-  opened_read took fault old mid new side g len replay kept later same all used leaves only_now read = record {
+      → LogRead took fault crashes seen images mid side v g len replay kept → w ≡ v → IsReplayed took fault crashes seen moment left_since old new replay w kept
+  opened_read took fault old mid new side v w g len replay kept later same all used leaves only_now read version_is = subst (λ (m : ℕ). IsReplayed took fault crashes seen moment left_since old new replay m kept) (sym version_is) (record {
     batches = read.batches;
     taken = read.taken;
     whole = read.whole;
@@ -168,32 +168,32 @@ module _ {D : Type 0} (crashes : D → Bool) (seen : D → Option Sides) (images
     keeps = λ s told. read.keeps s (all s told) (used s told);
     since = λ s told yes.
         let holds = read.holds s (all s told) (used s told) in
-        holds_since old mid new s read.batches (λ c. c ≡ s) later (leaves s (all s told) (same ∙ yes)) (λ c is. subst (HoldsLog read.batches) (sym is) holds) ((all s told).settled (same ∙ yes)) holds only_now;
-  }
+        holds_since old mid new s v read.batches (λ c. c ≡ s) later (leaves s (all s told) (same ∙ yes)) (λ c is. subst (HoldsLog v read.batches) (sym is) holds) ((all s told).settled (same ∙ yes)) holds only_now;
+  })
 
   -- or one was begun
-  pub opened_fresh : {R T E : Type 0} (r : Result T E) (took : R → List Bytes → Bytes → Type 0) (fault : Bytes → Option ℕ) (old mid new : D) (replay : R) (kept : T → List Bytes → Type 0)
-      → moment old ≤ moment mid → crashes mid ≡ crashes old → took replay [] []
+  pub opened_fresh : {R T E : Type 0} (r : Result T E) (took : R → ℕ → List Bytes → Bytes → Type 0) (fault : ℕ → Bytes → Option ℕ) (old mid new : D) (replay : R) (version : T → ℕ) (kept : T → List Bytes → Type 0)
+      → moment old ≤ moment mid → crashes mid ≡ crashes old → took replay newest [] []
       → ((s : Sides) → seen old ≡ Some s → IsAllSafe (crashes mid) (seen mid) (images mid) s) → ((s : Sides) → seen old ≡ Some s → IsFresh s)
-      → ((s : Sides) → IsAllSafe (crashes mid) (seen mid) (images mid) s → IsFresh s → crashes mid ≡ true → LeavesOnly moment left_since mid new (HoldsLog []))
+      → ((s : Sides) → IsAllSafe (crashes mid) (seen mid) (images mid) s → IsFresh s → crashes mid ≡ true → LeavesOnly moment left_since mid new (HoldsLog newest []))
       → ((c : Sides) → left_since mid (moment mid) c → images mid c)
-      → ((s : Sides) → IsAllSafe (crashes mid) (seen mid) (images mid) s → IsFresh s → IfOk r (λ x. kept x []))
-      → IfOk r (λ x. IsReplayed took fault crashes seen moment left_since old new replay (kept x))
-  opened_fresh (Err e) took fault old mid new replay kept later same taken all fresh leaves only_now keeps = tt
-  opened_fresh (Ok x) took fault old mid new replay kept later same taken all fresh leaves only_now keeps = record {
+      → ((s : Sides) → IsAllSafe (crashes mid) (seen mid) (images mid) s → IsFresh s → IfOk r (λ x. kept x [])) → IfOk r (λ x. version x ≡ newest)
+      → IfOk r (λ x. IsReplayed took fault crashes seen moment left_since old new replay (version x) (kept x))
+  opened_fresh (Err e) took fault old mid new replay version kept later same taken all fresh leaves only_now keeps newest_is = tt
+  opened_fresh (Ok x) took fault old mid new replay version kept later same taken all fresh leaves only_now keeps newest_is = subst (λ (m : ℕ). IsReplayed took fault crashes seen moment left_since old new replay m (kept x)) (sym newest_is) (record {
     batches = [];
     taken = taken;
     whole = tt;
-    holds = λ s told. inr (fresh s told, refl);
+    holds = λ s told. inr (fresh s told, refl, refl);
     keeps = λ s told. keeps s (all s told) (fresh s told);
     since = λ s told yes.
-        holds_since old mid new s [] (HoldsLog []) later (leaves s (all s told) (fresh s told) (same ∙ yes)) (λ c holds. holds) ((all s told).settled (same ∙ yes)) (inr (fresh s told, refl)) only_now;
-  }
+        holds_since old mid new s newest [] (HoldsLog newest []) later (leaves s (all s told) (fresh s told) (same ∙ yes)) (λ c holds. holds) ((all s told).settled (same ∙ yes)) (inr (fresh s told, refl, refl)) only_now;
+  })
 
 -- a side in use, as a start tells it
-pub used_start : (s : Sides) (side : Side) (g len : ℕ) (start : Start) → Standing side g len ≡ start → (start ≡ start_of (head_of s.a) (head_of s.b)) × IsHeadedIn s start
-    → IsUsed s side g len
-used_start s side g len start is found = record { used = sym (is ∙ found.0); headed = subst (IsHeadedIn s) (sym is) found.1 }
+pub used_start : (s : Sides) (side : Side) (v g len : ℕ) (start : Start) → Standing side v g len ≡ start → (start ≡ start_of (head_of s.a) (head_of s.b)) × IsHeadedIn s start
+    → IsUsed s side v g len
+used_start s side v g len start is found = record { used = sym (is ∙ found.0); headed = subst (IsHeadedIn s) (sym is) found.1 }
 
 pub if_err_each : {T E : Type 0} (r : Result T E) (P : E → Type 0) → ((x : E) → P x) → IfErr r P
 if_err_each (Ok x) P f = tt
@@ -221,7 +221,7 @@ broken_at (stop_of.Broken at) side there place is =
 broken_at stop_of.Disk side there place is = absurd (cc is)
 broken_at stop_of.Memory side there place is = absurd (cc is)
 
-pub broken_in : (fault : Bytes → Option ℕ) (s : Sides) (side there : Side) (g len place : ℕ) → IsUsed s side g len → side ≡ there → IsBroken fault g (side_of s side) place
+pub broken_in : (fault : ℕ → Bytes → Option ℕ) (s : Sides) (side there : Side) (v g len place : ℕ) → IsUsed s side v g len → side ≡ there → IsBroken fault v g (side_of s side) place
     → IsBrokenIn fault s there place
-broken_in fault s side there g len place used is broken =
-    subst (λ (x : Side). IsBrokenIn fault s x place) is (record { generation = g; len = len; used = used.used; broken = broken })
+broken_in fault s side there v g len place used is broken =
+    subst (λ (x : Side). IsBrokenIn fault s x place) is (record { version = v; generation = g; len = len; used = used.used; broken = broken })

@@ -6,7 +6,7 @@ use Rattle.outside.specs.declared.sides.Side.{Side}
 use Rattle.outside.specs.Sides.{Sides, side_of, other_side}
 use Rattle.outside.specs.Crashes.{LeavesOnly}
 use Rattle.outside.specs.CrashLaws.{weaker}
-use Rattle.log_sides.specs.Texts.{StandsFor, written, max_side}
+use Rattle.log_sides.specs.Texts.{StandsFor, newest, written, max_side}
 use Rattle.log_sides.specs.States.{HasNow, IsHeld, SideIsSafe, IsLeft, SideLeads, IsLog}
 use Rattle.log_sides.specs.Making.{IsShut}
 use Rattle.log_sides.specs.Crashing.{other_other, leads_other, safe_weaker}
@@ -86,14 +86,14 @@ module _ {D : Type 0} (crashes : D → Bool) (seen : D → Option Sides) (images
       (leads.moments told)
 
   -- more was copied
-  pub kept_copied : (side : Side) (g gate : ℕ) (r s : Rewriter) (batches copied more : List Bytes) (old new : D) → crashes new ≡ crashes old
+  pub kept_copied : (side : Side) (v g gate : ℕ) (r s : Rewriter) (batches copied more : List Bytes) (old new : D) → crashes new ≡ crashes old
       → s.side ≡ r.side → s.generation ≡ r.generation
-      → IsKept (crashes old) (seen old) (images old) side g gate (Some r) batches copied
+      → IsKept (crashes old) (seen old) (images old) side v g gate (Some r) batches copied
       → SideLeads crashes seen images moment left_since r.side IsShut old new
       → IsNewSide (crashes new) (seen new) (images new) r.side r.generation s.gate more
-      → IsKept (crashes new) (seen new) (images new) side g gate (Some s) batches more
-  kept_copied side g gate r s batches copied more old new same side_is generation_is kept leads grown = record {
-    log = record { place = kept.log.place; safe = used_stays side r.side IsShut (StandsFor g batches) old new same kept.beside.beside leads kept.log.safe };
+      → IsKept (crashes new) (seen new) (images new) side v g gate (Some s) batches more
+  kept_copied side v g gate r s batches copied more old new same side_is generation_is kept leads grown = record {
+    log = record { place = kept.log.place; safe = used_stays side r.side IsShut (StandsFor v g batches) old new same kept.beside.beside leads kept.log.safe };
     beside = record {
       beside = side_is ∙ kept.beside.beside;
       next = generation_is ∙ kept.beside.next;
@@ -103,29 +103,29 @@ module _ {D : Type 0} (crashes : D → Bool) (seen : D → Option Sides) (images
   }
 
   -- the new side was opened
-  pub kept_finished : (side : Side) (g gate last : ℕ) (r : Rewriter) (batches copied any : List Bytes) (old new : D) (P : Bytes → Type 0) → crashes new ≡ crashes old
-      → IsKept (crashes old) (seen old) (images old) side g gate (Some r) batches copied
+  pub kept_finished : (side : Side) (v g gate last : ℕ) (r : Rewriter) (batches copied any : List Bytes) (old new : D) (P : Bytes → Type 0) → crashes new ≡ crashes old
+      → IsKept (crashes old) (seen old) (images old) side v g gate (Some r) batches copied
       → SideLeads crashes seen images moment left_since r.side P old new
-      → IsLog (crashes new) (seen new) (images new) r.side r.generation last copied
-      → IsKept (crashes new) (seen new) (images new) r.side r.generation last None copied any
-  kept_finished side g gate last r batches copied any old new P same kept leads log =
+      → IsLog (crashes new) (seen new) (images new) r.side newest r.generation last copied
+      → IsKept (crashes new) (seen new) (images new) r.side newest r.generation last None copied any
+  kept_finished side v g gate last r batches copied any old new P same kept leads log =
       let back : other_side r.side ≡ side = ap other_side kept.beside.beside ∙ other_other side in
       record {
         log = log;
         beside = subst (λ (s : Side). SideIsSafe (crashes new) (seen new) (images new) s (IsBehind r.generation)) (sym back)
-            (safe_weaker (crashes new) (seen new) (images new) side (StandsFor g batches) (IsBehind r.generation)
-            (λ x stands. older_behind g r.generation batches x (omega (arith, kept.beside.next)) stands)
-            (used_stays side r.side P (StandsFor g batches) old new same kept.beside.beside leads kept.log.safe));
+            (safe_weaker (crashes new) (seen new) (images new) side (StandsFor v g batches) (IsBehind r.generation)
+            (λ x stands. older_behind v g r.generation batches x (omega (arith, kept.beside.next)) stands)
+            (used_stays side r.side P (StandsFor v g batches) old new same kept.beside.beside leads kept.log.safe));
       }
 
   -- a new side was begun
-  pub kept_begun : (side there : Side) (g n gate : ℕ) (r : Rewriter) (batches : List Bytes) (old new : D) (P : Bytes → Type 0) → crashes new ≡ crashes old
-      → there ≡ other_side side → n ≡ g + 1 → IsLog (crashes old) (seen old) (images old) side g gate batches
+  pub kept_begun : (side there : Side) (v g n gate : ℕ) (r : Rewriter) (batches : List Bytes) (old new : D) (P : Bytes → Type 0) → crashes new ≡ crashes old
+      → there ≡ other_side side → n ≡ g + 1 → IsLog (crashes old) (seen old) (images old) side v g gate batches
       → SideLeads crashes seen images moment left_since there P old new
       → IsNewSide (crashes new) (seen new) (images new) there n r.gate [] → r.side ≡ there → r.generation ≡ n
-      → IsKept (crashes new) (seen new) (images new) side g gate (Some r) batches []
-  kept_begun side there g n gate r batches old new P same is next log leads begun side_is generation_is = record {
-    log = record { place = log.place; safe = used_stays side there P (StandsFor g batches) old new same is leads log.safe };
+      → IsKept (crashes new) (seen new) (images new) side v g gate (Some r) batches []
+  kept_begun side there v g n gate r batches old new P same is next log leads begun side_is generation_is = record {
+    log = record { place = log.place; safe = used_stays side there P (StandsFor v g batches) old new same is leads log.safe };
     beside = record {
       beside = side_is ∙ is;
       next = generation_is ∙ next;
@@ -135,18 +135,19 @@ module _ {D : Type 0} (crashes : D → Bool) (seen : D → Option Sides) (images
   }
 
 -- no new side is written
-pub kept_idle : (crashes : Bool) (seen : Option Sides) (images : Sides → Type 0) (side : Side) (g gate : ℕ) (r : Option Rewriter) (batches copied : List Bytes)
-    → is_some r ≡ false → IsKept crashes seen images side g gate r batches copied → IsKept crashes seen images side g gate None batches copied
-kept_idle crashes seen images side g gate None batches copied idle kept = kept
-kept_idle crashes seen images side g gate (Some r) batches copied idle kept = absurd (let clash : true ≡ false = idle in cc)
+pub kept_idle : (crashes : Bool) (seen : Option Sides) (images : Sides → Type 0) (side : Side) (v g gate : ℕ) (r : Option Rewriter) (batches copied : List Bytes)
+    → is_some r ≡ false → IsKept crashes seen images side v g gate r batches copied → IsKept crashes seen images side v g gate None batches copied
+kept_idle crashes seen images side v g gate None batches copied idle kept = kept
+kept_idle crashes seen images side v g gate (Some r) batches copied idle kept = absurd (let clash : true ≡ false = idle in cc)
 
 -- the same, under other names
-pub kept_same : (crashes : Bool) (seen : Option Sides) (images : Sides → Type 0) (side side' : Side) (g g' gate gate' : ℕ) (r : Option Rewriter) (batches copied : List Bytes)
-    → side' ≡ side → g' ≡ g → gate' ≡ gate → IsKept crashes seen images side g gate r batches copied → IsKept crashes seen images side' g' gate' r batches copied
-kept_same crashes seen images side side' g g' gate gate' r batches copied side_is generation_is gate_is kept =
-    subst (λ (s : Side). IsKept crashes seen images s g' gate' r batches copied) (sym side_is)
-    (subst (λ (n : ℕ). IsKept crashes seen images side n gate' r batches copied) (sym generation_is)
-    (subst (λ (n : ℕ). IsKept crashes seen images side g n r batches copied) (sym gate_is) kept))
+pub kept_same : (crashes : Bool) (seen : Option Sides) (images : Sides → Type 0) (side side' : Side) (v v' g g' gate gate' : ℕ) (r : Option Rewriter) (batches copied : List Bytes)
+    → side' ≡ side → v' ≡ v → g' ≡ g → gate' ≡ gate → IsKept crashes seen images side v g gate r batches copied → IsKept crashes seen images side' v' g' gate' r batches copied
+kept_same crashes seen images side side' v v' g g' gate gate' r batches copied side_is version_is generation_is gate_is kept =
+    subst (λ (s : Side). IsKept crashes seen images s v' g' gate' r batches copied) (sym side_is)
+    (subst (λ (m : ℕ). IsKept crashes seen images side m g' gate' r batches copied) (sym version_is)
+    (subst (λ (n : ℕ). IsKept crashes seen images side v n gate' r batches copied) (sym generation_is)
+    (subst (λ (n : ℕ). IsKept crashes seen images side v g n r batches copied) (sym gate_is) kept)))
 
 -- the new side has room for a batch as it is written
 pub new_gate_small : (r : Option Rewriter) → new_gate r ≤ 2 ^ 62
@@ -175,7 +176,17 @@ read_beside crashes seen images side there g is safe =
       reads = record { contents = here.contents; told = here.told; has = refl; settled = here.settled };
     }
 
--- three facts of what a call gave
+-- two facts of what a call gave
+pub if_ok_two : {T E : Type 0} (r : Result T E) (P Q S : T → Type 0) → ((x : T) → P x → Q x → S x) → IfOk r P → IfOk r Q → IfOk r S
+if_ok_two (Ok x) P Q S f p q = f x p q
+if_ok_two (Err e) P Q S f p q = tt
+
+-- three
 pub if_ok_three : {T E : Type 0} (r : Result T E) (P Q R S : T → Type 0) → ((x : T) → P x → Q x → R x → S x) → IfOk r P → IfOk r Q → IfOk r R → IfOk r S
 if_ok_three (Ok x) P Q R S f p q s = f x p q s
 if_ok_three (Err e) P Q R S f p q s = tt
+
+-- and four
+pub if_ok_four : {T E : Type 0} (r : Result T E) (O P Q R S : T → Type 0) → ((x : T) → O x → P x → Q x → R x → S x) → IfOk r O → IfOk r P → IfOk r Q → IfOk r R → IfOk r S
+if_ok_four (Ok x) O P Q R S f o p q s = f x o p q s
+if_ok_four (Err e) O P Q R S f o p q s = tt

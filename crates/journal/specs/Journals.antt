@@ -2,6 +2,7 @@
 use Rattle.std.specs.Prelude.{◌≡◌, ◌+◌, ◌≤◌, ◌^◌, ℕ, Bool, true, false, List, Option, Result, Ok, Err, OnOk, OnErr, IfErr, length, max}
 use Rattle.byte_text.specs.Names.{Bytes}
 use Rattle.outside.specs.Sides.{Sides}
+use Rattle.log_sides.specs.Texts.{newest}
 use Rattle.journal.specs.Keeping.{IsKept, new_gate}
 use Rattle.outside.specs.Causes.{Rose}
 use Rattle.journal.specs.declared.openings.Unopened.{Unopened}
@@ -22,16 +23,17 @@ disk_of (Err u) = u.disk
 -- the disk of a journal holds these committed batches, and its new side, where one is written, holds the copied ones
 abbrev pub Keeps : {D : Type 0} → (D → Bool) → (D → Option Sides) → (D → Sides → Type 0) → Journal D → List Bytes → List Bytes → Type 0
 Keeps crashes seen images j batches copied =
-    IsKept (crashes j.disk) (seen j.disk) (images j.disk) j.log.side j.log.generation j.log.gate j.rewriter batches copied
+    IsKept (crashes j.disk) (seen j.disk) (images j.disk) j.log.side j.log.version j.log.generation j.log.gate j.rewriter batches copied
 
--- both sides have room for the pending batch with so many bytes more
+-- the log is of the newest version, and both sides have room for the pending batch with so many bytes more
 abbrev pub HasRoom : {D : Type 0} → Journal D → ℕ → Type 0
-HasRoom j bytes = max j.log.gate (new_gate j.rewriter) + length j.log.pending + bytes + 10 ≤ 2 ^ 62
+HasRoom j bytes = (j.log.version ≡ newest) × (max j.log.gate (new_gate j.rewriter) + length j.log.pending + bytes + 10 ≤ 2 ^ 62)
 
 -- all but the pending batch stays
 pub record SameBut {D : Type 0} (old new : Journal D) : Type 0 where
   pub disk : new.disk ≡ old.disk
   pub side : new.log.side ≡ old.log.side
+  pub version : new.log.version ≡ old.log.version
   pub generation : new.log.generation ≡ old.log.generation
   pub gate : new.log.gate ≡ old.log.gate
   pub rewriter : new.rewriter ≡ old.rewriter

@@ -30,13 +30,14 @@ abbrev pub IsBeside : Bool → Option Sides → (Sides → Type 0) → Side → 
 IsBeside crashes seen images side generation None copied = SideIsSafe crashes seen images (other_side side) (IsBehind generation)
 IsBeside crashes seen images side generation (Some r) copied = IsCopied crashes seen images side generation r copied
 
--- a side in use stands for these batches, safely; the new side, where one is written, holds the copied ones
+-- a side in use of this version stands for these batches, safely; the new side, where one is written, holds the copied ones
 pub record IsKept (crashes : Bool) (seen : Option Sides) (images : Sides
-    → Type 0) (side : Side) (generation gate : ℕ) (rewriter : Option Rewriter) (batches copied : List Bytes) : Type 0 where
-  pub log : IsLog crashes seen images side generation gate batches
+    → Type 0) (side : Side) (version generation gate : ℕ) (rewriter : Option Rewriter) (batches copied : List Bytes) : Type 0 where
+  pub log : IsLog crashes seen images side version generation gate batches
   pub beside : IsBeside crashes seen images side generation rewriter copied
 
 -- The same of this disk, for clauses.
 module _ {D : Type 0} (crashes : D → Bool) (seen : D → Option Sides) (images : D → Sides → Type 0) (disk : D) where
-  abbrev pub KeptOn : Side → ℕ → ℕ → Option Rewriter → List Bytes → List Bytes → Type 0
-  KeptOn side generation gate rewriter batches copied = IsKept (crashes disk) (seen disk) (images disk) side generation gate rewriter batches copied
+  abbrev pub KeptOn : Side → ℕ → ℕ → ℕ → Option Rewriter → List Bytes → List Bytes → Type 0
+  KeptOn side version generation gate rewriter batches copied =
+      IsKept (crashes disk) (seen disk) (images disk) side version generation gate rewriter batches copied

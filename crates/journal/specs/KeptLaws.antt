@@ -31,29 +31,29 @@ beside_holds crashes seen images side g (Some r) copied beside =
 
 -- the disk tells its contents
 pub kept_told : (crashes : Bool) (seen : Option Sides) (images : Sides
-    → Type 0) (side : Side) (g gate : ℕ) (r : Option Rewriter) (batches copied : List Bytes)
-    → IsKept crashes seen images side g gate r batches copied → (s : Sides) × (seen ≡ Some s)
-kept_told crashes seen images side g gate r batches copied kept = (kept.log.safe.contents, kept.log.safe.told)
+    → Type 0) (side : Side) (v g gate : ℕ) (r : Option Rewriter) (batches copied : List Bytes)
+    → IsKept crashes seen images side v g gate r batches copied → (s : Sides) × (seen ≡ Some s)
+kept_told crashes seen images side v g gate r batches copied kept = (kept.log.safe.contents, kept.log.safe.told)
 
 -- which hold the committed batches
 pub kept_now : (crashes : Bool) (seen : Option Sides) (images : Sides
-    → Type 0) (side : Side) (g gate : ℕ) (r : Option Rewriter) (batches copied : List Bytes)
-    → IsKept crashes seen images side g gate r batches copied → (s : Sides) → seen ≡ Some s → HoldsLog batches s
-kept_now crashes seen images side g gate r batches copied kept s told =
+    → Type 0) (side : Side) (v g gate : ℕ) (r : Option Rewriter) (batches copied : List Bytes)
+    → IsKept crashes seen images side v g gate r batches copied → (s : Sides) → seen ≡ Some s → HoldsLog v batches s
+kept_now crashes seen images side v g gate r batches copied kept s told =
     let safe = kept.log.safe in
     let held = beside_holds crashes seen images side g r copied kept.beside in
     let here = safe.told in
     let there = held.now.told in
     let used : safe.contents ≡ s = cc in
     let beside : held.now.contents ≡ s = cc in
-    holds s side g batches (subst (λ (x : Sides). StandsFor g batches (side_of x side)) used safe.has)
+    holds s side v g batches (subst (λ (x : Sides). StandsFor v g batches (side_of x side)) used safe.has)
     (subst (λ (x : Sides). IsBehind g (side_of x (other_side side))) beside held.now.has)
 
 -- and so does whatever a crash may leave
 pub kept_images : (crashes : Bool) (seen : Option Sides) (images : Sides
-    → Type 0) (side : Side) (g gate : ℕ) (r : Option Rewriter) (batches copied : List Bytes)
-    → IsKept crashes seen images side g gate r batches copied → crashes ≡ true → EachImage images (HoldsLog batches)
-kept_images crashes seen images side g gate r batches copied kept told c image =
+    → Type 0) (side : Side) (v g gate : ℕ) (r : Option Rewriter) (batches copied : List Bytes)
+    → IsKept crashes seen images side v g gate r batches copied → crashes ≡ true → EachImage images (HoldsLog v batches)
+kept_images crashes seen images side v g gate r batches copied kept told c image =
     let safe = kept.log.safe in
-    holds c side g batches (subst (StandsFor g batches) (sym (safe.settled told c image)) safe.has)
+    holds c side v g batches (subst (StandsFor v g batches) (sym (safe.settled told c image)) safe.has)
     ((beside_holds crashes seen images side g r copied kept.beside).each told c image)

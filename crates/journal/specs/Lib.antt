@@ -7,3 +7,4 @@ pub mod Openings
 pub mod Replaying
 pub mod Opened
 pub mod Journals
+pub mod Reads

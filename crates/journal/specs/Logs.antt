@@ -3,25 +3,27 @@ use Rattle.std.specs.Prelude.{◌≡◌, ◌⊎◌, ℕ, Bool, true, false, List
 use Rattle.byte_text.specs.Names.{Bytes}
 use Rattle.outside.specs.declared.sides.Side.{Side}
 use Rattle.outside.specs.Sides.{Sides}
+use Rattle.log_sides.specs.Texts.{newest}
 use Rattle.append_log.specs.Heads.{head_of}
 use Rattle.append_log.specs.Logs.{StandsIn, IsFresh}
 use Rattle.append_log.specs.declared.side_heads.Head.{Head}
 use Rattle.append_log.specs.declared.side_heads.Head.TheVariants.{TooLong, Shut, Wrong, Open}
 
--- the sides hold these batches: a side in use stands for them, or no log was begun and there are none
-abbrev pub HoldsLog : List Bytes → Sides → Type 0
-HoldsLog batches s = ((side : Side) × (generation : ℕ) × StandsIn s side generation batches) ⊎ (IsFresh s × (batches ≡ []))
+-- the sides hold these batches of records of this version: a side in use stands for them, or no log was begun and there are none
+abbrev pub HoldsLog : ℕ → List Bytes → Sides → Type 0
+HoldsLog version batches s =
+    ((side : Side) × (generation : ℕ) × StandsIn s side version generation batches) ⊎ (IsFresh s × (version ≡ newest) × (batches ≡ []))
 
 -- the sides hold the ones or the others
-abbrev pub HoldsEither : List Bytes → List Bytes → Sides → Type 0
-HoldsEither batches others s = HoldsLog batches s ⊎ HoldsLog others s
+abbrev pub HoldsEither : ℕ → List Bytes → ℕ → List Bytes → Sides → Type 0
+HoldsEither version batches other others s = HoldsLog version batches s ⊎ HoldsLog other others s
 
 -- what stands beside a side of this generation and leaves it in use: a side that is not open, or an older one
 abbrev pub leaves_in_use : ℕ → Head → Bool
 leaves_in_use generation TooLong = false
 leaves_in_use generation (Shut len) = true
 leaves_in_use generation (Wrong place) = false
-leaves_in_use generation (Open other len) = nat_lt other generation
+leaves_in_use generation (Open version other len) = nat_lt other generation
 
 abbrev pub IsBehind : ℕ → Bytes → Type 0
 IsBehind generation side = leaves_in_use generation (head_of side) ≡ true

@@ -8,7 +8,7 @@ use Rattle.byte_text.specs.Names.{Bytes}
 use Rattle.outside.specs.declared.sides.Side.{Side}
 use Rattle.outside.specs.declared.sides.Side.TheVariants.{A, B}
 use Rattle.outside.specs.Sides.{Sides, side_of, other_side}
-use Rattle.log_sides.specs.Texts.{StandsFor, open_gate, max_side}
+use Rattle.log_sides.specs.Texts.{StandsFor, open_gate, newest, max_side}
 use Rattle.log_sides.specs.Making.{IsShut, IsNotOpen}
 use Rattle.log_sides.specs.Closing.{shut_closed}
 use Rattle.log_sides.specs.Crashing.{other_other}
@@ -36,31 +36,31 @@ not_after x y e = grind (arith, nat_tests)
 below : (x y : ℕ) → x < y → nat_lt x y ≡ true
 below x y e = grind (arith, nat_tests)
 
-first : (b : Head) (g n : ℕ) → leaves_in_use g b ≡ true → start_of (Open g n) b ≡ Standing A g n
-first TooLong g n e = absurd (let clash : false ≡ true = e in cc)
-first (Shut m) g n e = refl
-first (Wrong place) g n e = absurd (let clash : false ≡ true = e in cc)
-first (Open h m) g n e = if_false (g == h) (Damaged B 8) _ (not_equal g h e) ∙ if_true (nat_lt h g) (Standing A g n) (Standing B h m) e
+first : (b : Head) (v g n : ℕ) → leaves_in_use g b ≡ true → start_of (Open v g n) b ≡ Standing A v g n
+first TooLong v g n e = absurd (let clash : false ≡ true = e in cc)
+first (Shut m) v g n e = refl
+first (Wrong place) v g n e = absurd (let clash : false ≡ true = e in cc)
+first (Open w h m) v g n e = if_false (g == h) (Damaged B 8) _ (not_equal g h e) ∙ if_true (nat_lt h g) (Standing A v g n) (Standing B w h m) e
 
-second : (a : Head) (g n : ℕ) → leaves_in_use g a ≡ true → start_of a (Open g n) ≡ Standing B g n
-second TooLong g n e = absurd (let clash : false ≡ true = e in cc)
-second (Shut m) g n e = refl
-second (Wrong place) g n e = absurd (let clash : false ≡ true = e in cc)
-second (Open h m) g n e = if_false (h == g) (Damaged B 8) _ (not_equal_too g h e)
-    ∙ if_false (nat_lt g h) (Standing A h m) (Standing B g n) (not_after g h e)
+second : (a : Head) (v g n : ℕ) → leaves_in_use g a ≡ true → start_of a (Open v g n) ≡ Standing B v g n
+second TooLong v g n e = absurd (let clash : false ≡ true = e in cc)
+second (Shut m) v g n e = refl
+second (Wrong place) v g n e = absurd (let clash : false ≡ true = e in cc)
+second (Open w h m) v g n e = if_false (h == g) (Damaged B 8) _ (not_equal_too g h e)
+    ∙ if_false (nat_lt g h) (Standing A w h m) (Standing B v g n) (not_after g h e)
 
 -- a side that stands, beside one that leaves it in use
-pub stands_in : (c : Sides) (side : Side) (g : ℕ) (batches : List Bytes) → StandsFor g batches (side_of c side)
+pub stands_in : (c : Sides) (side : Side) (v g : ℕ) (batches : List Bytes) → StandsFor v g batches (side_of c side)
     → IsBehind g (side_of c (other_side side))
-    → StandsIn c side g batches
-stands_in c A g batches stands behind = record {
-  used = ap (λ (h : Head). start_of h (head_of c.b)) (stands_head g batches c.a stands)
-      ∙ first (head_of c.b) g (length c.a) behind;
+    → StandsIn c side v g batches
+stands_in c A v g batches stands behind = record {
+  used = ap (λ (h : Head). start_of h (head_of c.b)) (stands_head v g batches c.a stands)
+      ∙ first (head_of c.b) v g (length c.a) behind;
   stands = stands;
 }
-stands_in c B g batches stands behind = record {
-  used = ap (λ (h : Head). start_of (head_of c.a) h) (stands_head g batches c.b stands)
-      ∙ second (head_of c.a) g (length c.b) behind;
+stands_in c B v g batches stands behind = record {
+  used = ap (λ (h : Head). start_of (head_of c.a) h) (stands_head v g batches c.b stands)
+      ∙ second (head_of c.a) v g (length c.b) behind;
   stands = stands;
 }
 
@@ -86,8 +86,8 @@ pub shut_behind : (g : ℕ) (side : Bytes) → IsShut side → IsBehind g side
 shut_behind g side shut = not_open_behind g side (shut_closed side shut)
 
 -- an older side does
-pub older_behind : (g h : ℕ) (batches : List Bytes) (side : Bytes) → g < h → StandsFor g batches side → IsBehind h side
-older_behind g h batches side less stands = ap (leaves_in_use h) (stands_head g batches side stands) ∙ below g h less
+pub older_behind : (v g h : ℕ) (batches : List Bytes) (side : Bytes) → g < h → StandsFor v g batches side → IsBehind h side
+older_behind v g h batches side less stands = ap (leaves_in_use h) (stands_head v g batches side stands) ∙ below g h less
 
 not_long : (t : Bool) (h : Head) (g : ℕ) → leaves_in_use g (if t then TooLong else h) ≡ true → t ≡ false
 not_long true h g e = sym e
@@ -98,21 +98,21 @@ pub behind_short : (g : ℕ) (side : Bytes) → IsBehind g side → length side 
 behind_short g side behind = ltb-false max_side (length side) (not_long (nat_lt max_side (length side)) _ g behind)
 
 -- so the sides hold its batches
-pub holds : (c : Sides) (side : Side) (g : ℕ) (batches : List Bytes) → StandsFor g batches (side_of c side) → IsBehind g (side_of c (other_side side))
-    → HoldsLog batches c
-holds c side g batches stands behind = inl (side, g, stands_in c side g batches stands behind)
+pub holds : (c : Sides) (side : Side) (v g : ℕ) (batches : List Bytes) → StandsFor v g batches (side_of c side) → IsBehind g (side_of c (other_side side))
+    → HoldsLog v batches c
+holds c side v g batches stands behind = inl (side, g, stands_in c side v g batches stands behind)
 
-pub holds_round : (c : Sides) (side : Side) (g : ℕ) (batches others : List Bytes)
-    → StandsFor g batches (side_of c side) ⊎ StandsFor g others (side_of c side)
-    → IsBehind g (side_of c (other_side side)) → HoldsEither batches others c
-holds_round c side g batches others (inl stands) behind = inl (holds c side g batches stands behind)
-holds_round c side g batches others (inr stands) behind = inr (holds c side g others stands behind)
+pub holds_round : (c : Sides) (side : Side) (v g : ℕ) (batches others : List Bytes)
+    → StandsFor v g batches (side_of c side) ⊎ StandsFor v g others (side_of c side)
+    → IsBehind g (side_of c (other_side side)) → HoldsEither v batches v others c
+holds_round c side v g batches others (inl stands) behind = inl (holds c side v g batches stands behind)
+holds_round c side v g batches others (inr stands) behind = inr (holds c side v g others stands behind)
 
 -- the new side is not open yet, or is in use
-pub holds_opened : (c : Sides) (side : Side) (g n : ℕ) (batches copied : List Bytes) → n ≡ g + 1 → StandsFor g batches (side_of c side)
-    → IsShut (side_of c (other_side side)) ⊎ StandsFor n copied (side_of c (other_side side)) → HoldsEither batches copied c
-holds_opened c side g n batches copied next stands (inl shut) = inl (holds c side g batches stands (shut_behind g (side_of c (other_side side)) shut))
-holds_opened c side g n batches copied next stands (inr opened) =
-    inr (holds c (other_side side) n copied opened
-    (older_behind g n batches (side_of c (other_side (other_side side))) (omega (arith, next))
-    (subst (λ (s : Side). StandsFor g batches (side_of c s)) (sym (other_other side)) stands)))
+pub holds_opened : (c : Sides) (side : Side) (v g n : ℕ) (batches copied : List Bytes) → n ≡ g + 1 → StandsFor v g batches (side_of c side)
+    → IsShut (side_of c (other_side side)) ⊎ StandsFor newest n copied (side_of c (other_side side)) → HoldsEither v batches newest copied c
+holds_opened c side v g n batches copied next stands (inl shut) = inl (holds c side v g batches stands (shut_behind g (side_of c (other_side side)) shut))
+holds_opened c side v g n batches copied next stands (inr opened) =
+    inr (holds c (other_side side) newest n copied opened
+    (older_behind v g n batches (side_of c (other_side (other_side side))) (omega (arith, next))
+    (subst (λ (s : Side). StandsFor v g batches (side_of c s)) (sym (other_other side)) stands)))

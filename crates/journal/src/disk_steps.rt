@@ -7,7 +7,7 @@ ghost use Rattle.outside.specs.Causes.{HasCause};
 ghost use Rattle.outside.specs.Crashes.{LeavesOnly};
 ghost use Rattle.outside.specs.declared.sides.Side.{Side};
 ghost use Rattle.outside.specs.Sides.{other_side};
-ghost use Rattle.log_sides.specs.Texts.{committed, written};
+ghost use Rattle.log_sides.specs.Texts.{IsHeading, newest, committed, written};
 ghost use Rattle.log_rewrite.specs.declared.rewriters.Rewriter.{Rewriter};
 ghost use Rattle.journal.specs.Logs.{HoldsLog, HoldsEither};
 ghost use Rattle.journal.specs.Keeping.{KeptOn, new_gate, next_generation};
@@ -23,17 +23,20 @@ pub(crate) fn commit_log<D: Disk>(disk: &mut D, log: &mut AppendLog) -> Result<(
     ensures idle_ok { log.old.pending ≡ [] → result ≡ Ok tt }
     ensures idle_gate { log.old.pending ≡ [] → log.new.gate ≡ log.old.gate }
     ensures kept { (rewriter : Option Rewriter) (batches copied : List Bytes)
-        → KeptOn D.crashes D.seen D.images disk.old log.old.side log.old.generation log.old.gate rewriter batches copied
+        → KeptOn D.crashes D.seen D.images disk.old log.old.side log.old.version log.old.generation log.old.gate
+        rewriter batches copied
         → OnOk result
-        (KeptOn D.crashes D.seen D.images disk.new log.old.side log.old.generation log.new.gate rewriter
-        (committed batches log.old.pending) copied) }
+        (KeptOn D.crashes D.seen D.images disk.new log.old.side log.old.version log.old.generation log.new.gate
+        rewriter (committed batches log.old.pending) copied) }
     ensures leaves { (rewriter : Option Rewriter) (batches copied : List Bytes)
-        → KeptOn D.crashes D.seen D.images disk.old log.old.side log.old.generation log.old.gate rewriter batches
-        copied → D.crashes disk.old ≡ true
-        → LeavesOnly D.moment D.left_since disk.old disk.new (HoldsEither batches (committed batches log.old.pending)) }
+        → KeptOn D.crashes D.seen D.images disk.old log.old.side log.old.version log.old.generation log.old.gate
+        rewriter batches copied → D.crashes disk.old ≡ true
+        → LeavesOnly D.moment D.left_since disk.old disk.new
+        (HoldsEither log.old.version batches log.old.version (committed batches log.old.pending)) }
     ensures told { D.crashes disk.new ≡ D.crashes disk.old }
     ensures cause { HasCause (D.faults disk.old) (D.faults disk.new) result }
     ensures side { log.new.side ≡ log.old.side }
+    ensures version { log.new.version ≡ log.old.version }
     ensures generation { log.new.generation ≡ log.old.generation }
     ensures pending { OnOk result (log.new.pending ≡ []) }
     ensures err { OnErr result (log.new.pending ≡ log.old.pending) }
@@ -54,16 +57,16 @@ pub(crate) fn mirror_batch<D: Disk>(
     ensures idle_ok { batch.now ≡ [] → result ≡ Ok tt }
     ensures idle_side { batch.now ≡ [] → rewriter.new ≡ rewriter.old }
     ensures alone { rewriter.old ≡ None → disk.new ≡ disk.old }
-    ensures kept { (side : Side) (generation gate : ℕ) (batches copied : List Bytes) (records : Bytes)
+    ensures kept { (side : Side) (version generation gate : ℕ) (batches copied : List Bytes) (records : Bytes)
         → batch.now ≡ written records
-        → KeptOn D.crashes D.seen D.images disk.old side generation gate rewriter.old batches copied
+        → KeptOn D.crashes D.seen D.images disk.old side version generation gate rewriter.old batches copied
         → OnOk result
-        (KeptOn D.crashes D.seen D.images disk.new side generation gate rewriter.new batches
+        (KeptOn D.crashes D.seen D.images disk.new side version generation gate rewriter.new batches
         (committed copied records)) }
-    ensures leaves { (side : Side) (generation gate : ℕ) (batches copied : List Bytes)
-        → KeptOn D.crashes D.seen D.images disk.old side generation gate rewriter.old batches copied
+    ensures leaves { (side : Side) (version generation gate : ℕ) (batches copied : List Bytes)
+        → KeptOn D.crashes D.seen D.images disk.old side version generation gate rewriter.old batches copied
         → D.crashes disk.old ≡ true
-        → LeavesOnly D.moment D.left_since disk.old disk.new (HoldsLog batches) }
+        → LeavesOnly D.moment D.left_since disk.old disk.new (HoldsLog version batches) }
     ensures told { D.crashes disk.new ≡ D.crashes disk.old }
     ensures cause { HasCause (D.faults disk.old) (D.faults disk.new) result }
     ensures goes_on { is_some rewriter.new ≡ is_some rewriter.old }
@@ -76,18 +79,20 @@ pub(crate) fn mirror_batch<D: Disk>(
     }
 }
 
-/// Begins a new side beside the one in use.
+/// Begins a new side of the newest version beside the one in use.
 pub(crate) fn begin_beside<D: Disk>(disk: &mut D, log: &AppendLog) -> Result<Rewriter, Failed>
-    requires { log.now.generation < 2 ^ 63 }
+    requires { log.now.generation + 1 < 2 ^ 64 }
     ensures kept { (batches copied : List Bytes)
-        → KeptOn D.crashes D.seen D.images disk.old log.now.side log.now.generation log.now.gate None batches copied
+        → KeptOn D.crashes D.seen D.images disk.old log.now.side log.now.version log.now.generation log.now.gate None
+        batches copied
         → IfOk result
-        (λ r. KeptOn D.crashes D.seen D.images disk.new log.now.side log.now.generation log.now.gate
+        (λ r. KeptOn D.crashes D.seen D.images disk.new log.now.side log.now.version log.now.generation log.now.gate
         (Some r) batches []) }
     ensures leaves { (batches copied : List Bytes)
-        → KeptOn D.crashes D.seen D.images disk.old log.now.side log.now.generation log.now.gate None batches copied
+        → KeptOn D.crashes D.seen D.images disk.old log.now.side log.now.version log.now.generation log.now.gate None
+        batches copied
         → D.crashes disk.old ≡ true
-        → LeavesOnly D.moment D.left_since disk.old disk.new (HoldsLog batches) }
+        → LeavesOnly D.moment D.left_since disk.old disk.new (HoldsLog log.now.version batches) }
     ensures told { D.crashes disk.new ≡ D.crashes disk.old }
     ensures cause { HasCause (D.faults disk.old) (D.faults disk.new) result }
     ensures generation { IfOk result (λ r. r.generation ≡ log.now.generation + 1) }
@@ -119,15 +124,15 @@ pub(crate) fn copy_records<D: Disk>(
     ensures alone { rewriter.old ≡ None → disk.new ≡ disk.old }
     ensures alone_ok { rewriter.old ≡ None → result ≡ Ok tt }
     ensures alone_side { rewriter.old ≡ None → rewriter.new ≡ None }
-    ensures kept { (side : Side) (generation gate : ℕ) (batches copied : List Bytes)
-        → KeptOn D.crashes D.seen D.images disk.old side generation gate rewriter.old batches copied
+    ensures kept { (side : Side) (version generation gate : ℕ) (batches copied : List Bytes)
+        → KeptOn D.crashes D.seen D.images disk.old side version generation gate rewriter.old batches copied
         → OnOk result
-        (KeptOn D.crashes D.seen D.images disk.new side generation gate rewriter.new batches
+        (KeptOn D.crashes D.seen D.images disk.new side version generation gate rewriter.new batches
         (committed copied records.now)) }
-    ensures leaves { (side : Side) (generation gate : ℕ) (batches copied : List Bytes)
-        → KeptOn D.crashes D.seen D.images disk.old side generation gate rewriter.old batches copied
+    ensures leaves { (side : Side) (version generation gate : ℕ) (batches copied : List Bytes)
+        → KeptOn D.crashes D.seen D.images disk.old side version generation gate rewriter.old batches copied
         → D.crashes disk.old ≡ true
-        → LeavesOnly D.moment D.left_since disk.old disk.new (HoldsLog batches) }
+        → LeavesOnly D.moment D.left_since disk.old disk.new (HoldsLog version batches) }
     ensures told { D.crashes disk.new ≡ D.crashes disk.old }
     ensures cause { HasCause (D.faults disk.old) (D.faults disk.new) result }
     ensures goes_on { is_some rewriter.new ≡ is_some rewriter.old }
@@ -142,18 +147,19 @@ pub(crate) fn copy_records<D: Disk>(
 
 /// Opens the new side, which is in use from then on.
 pub(crate) fn open_new<D: Disk>(disk: &mut D, rewriter: Rewriter) -> Result<NewSide, Failed>
-    ensures kept { (side : Side) (generation gate : ℕ) (batches copied any : List Bytes)
-        → KeptOn D.crashes D.seen D.images disk.old side generation gate (Some rewriter) batches copied
+    ensures kept { (side : Side) (version generation gate : ℕ) (batches copied any : List Bytes)
+        → KeptOn D.crashes D.seen D.images disk.old side version generation gate (Some rewriter) batches copied
         → IfOk result
-        (λ made. KeptOn D.crashes D.seen D.images disk.new made.side made.generation made.gate None copied any) }
-    ensures leaves { (side : Side) (generation gate : ℕ) (batches copied : List Bytes)
-        → KeptOn D.crashes D.seen D.images disk.old side generation gate (Some rewriter) batches copied
+        (λ made. KeptOn D.crashes D.seen D.images disk.new made.side newest made.generation made.gate None copied any) }
+    ensures leaves { (side : Side) (version generation gate : ℕ) (batches copied : List Bytes)
+        → KeptOn D.crashes D.seen D.images disk.old side version generation gate (Some rewriter) batches copied
         → D.crashes disk.old ≡ true
-        → LeavesOnly D.moment D.left_since disk.old disk.new (HoldsEither batches copied) }
+        → LeavesOnly D.moment D.left_since disk.old disk.new (HoldsEither version batches newest copied) }
     ensures told { D.crashes disk.new ≡ D.crashes disk.old }
     ensures cause { HasCause (D.faults disk.old) (D.faults disk.new) result }
     ensures side { IfOk result (λ made. made.side ≡ rewriter.side) }
     ensures generation { IfOk result (λ made. made.generation ≡ rewriter.generation) }
+    ensures headed { IfOk result (λ made. IsHeading newest made.generation) }
     ensures gate { IfOk result (λ made. made.gate ≡ rewriter.gate) }
     ensures placed { IfOk result (λ made. made.gate ≤ 2 ^ 62) }
 {

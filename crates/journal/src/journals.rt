@@ -6,13 +6,13 @@
 //! what its last one did.
 
 ghost use Rattle.std.specs.Prelude.{◌≡◌, ◌+◌, ◌≤◌, ◌<◌, ◌^◌, ◌++◌, ◌⊎◌, ℕ, true, false, List, [], Some, None, is_some};
-ghost use Rattle.std.specs.Prelude.{take, length, Decides, Ok, OnOk, OnErr, IfOk, IfErr};
+ghost use Rattle.std.specs.Prelude.{take, length, max, Decides, Ok, OnOk, OnErr, IfOk, IfErr};
 ghost use Rattle.byte_text.specs.Names.{Bytes};
 ghost use Rattle.outside.specs.Causes.{HasCause, Rose};
 ghost use Rattle.outside.specs.declared.sides.Side.{Side};
 ghost use Rattle.outside.specs.Sides.{Sides};
 ghost use Rattle.outside.specs.Crashes.{LeavesOnly};
-ghost use Rattle.log_sides.specs.Texts.{committed};
+ghost use Rattle.log_sides.specs.Texts.{newest, committed};
 ghost use Rattle.journal.specs.Logs.{HoldsLog, HoldsEither};
 ghost use Rattle.journal.specs.Keeping.{new_gate, next_generation};
 
@@ -23,6 +23,7 @@ use crate::replays::Replay;
 use append_log::AppendLog;
 use byte_text::NoMemory;
 use log_rewrite::Rewriter;
+use log_sides::NEWEST;
 use outside::{Disk, Failed};
 use std::alloc::Global;
 
@@ -66,15 +67,17 @@ pub enum JournalFault {
 
 impl<D: Disk> Journal<D> {
     ghost use Rattle.journal.specs.Journals.{Keeps, HasRoom, SameBut, Ends, pending, disk_of};
-    ghost use Rattle.journal.specs.Openings.{AllSafeOn, IsDamaged, IsLeftByOpening, IsUnopened, opened_len};
+    ghost use Rattle.journal.specs.Openings.{AllSafeOn, IsDamaged, IsLeftByOpening, IsUnopened};
+    ghost use Rattle.journal.specs.Openings.{opened_version, opened_generation, opened_len};
     ghost use Rattle.journal.specs.Opened.{IsReplayed};
 
     /// Opens the log on a disk: both sides are synced, and the batches of the side in use are replayed. On a fresh disk
-    /// a log is begun. A disk that is answered as damaged is so behind a crash, too.
+    /// a log of the newest version is begun. A disk that is answered as damaged is so behind a crash, too.
     pub fn open<R: Replay>(alloc: Global, disk: D, replay: &mut R) -> Result<Opened<D>, Unopened<D>>
-        requires { R.took replay.old [] [] }
+        requires { R.took replay.old newest [] [] }
         ensures opened { IfOk result
             (λ o. IsReplayed R.took R.fault D.crashes D.seen D.moment D.left_since disk o.journal.disk replay.new
+            o.journal.log.version
             (λ batches. Keeps D.crashes D.seen D.images o.journal batches [])) }
         ensures leaves { (s : Sides) → D.seen disk ≡ Some s → D.crashes disk ≡ true
             → LeavesOnly D.moment D.left_since disk (disk_of result) (IsLeftByOpening (D.images disk) s) }
@@ -89,6 +92,10 @@ impl<D: Disk> Journal<D> {
         ensures told { D.crashes (disk_of result) ≡ D.crashes disk }
         ensures later { D.faults disk ≤ D.faults (disk_of result) }
         ensures cause { IfErr result (λ u. u.why ≡ OpenFault.Disk → Rose (D.faults disk) (D.faults u.disk)) }
+        ensures version { (s : Sides) → D.seen disk ≡ Some s
+            → IfOk result (λ o. o.journal.log.version ≡ opened_version s) }
+        ensures generation { (s : Sides) → D.seen disk ≡ Some s
+            → IfOk result (λ o. o.journal.log.generation ≡ opened_generation s) }
         ensures len { (s : Sides) → D.seen disk ≡ Some s → IfOk result (λ o. o.len ≡ opened_len s) }
         ensures short { IfOk result (λ o. o.len ≤ 2 ^ 62) }
         ensures gate { IfOk result (λ o. o.journal.log.gate ≤ o.len) }
@@ -138,6 +145,13 @@ impl<D: Disk> Journal<D> {
         self.log.pending()
     }
 
+    /// The version of the side in use.
+    pub fn version(&self) -> u8
+        ensures { result ≡ self.now.log.version }
+    {
+        self.log.version()
+    }
+
     /// The generation of the side in use.
     pub fn generation(&self) -> u64
         ensures { result ≡ self.now.log.generation }
@@ -145,9 +159,18 @@ impl<D: Disk> Journal<D> {
         self.log.generation()
     }
 
-    /// Whether both sides have room for so many bytes more in the pending batch.
+    /// Whether so many bytes more may be pushed: the log is of the newest version, and both sides have room for them in
+    /// the pending batch.
     pub fn has_room(&self, bytes: usize) -> bool
         ensures { Decides result (HasRoom self.now bytes) }
+    {
+        self.version() == NEWEST && self.both_have_room(bytes)
+    }
+
+    // Whether both sides have room for them.
+    fn both_have_room(&self, bytes: usize) -> bool
+        ensures { Decides result
+            (max self.now.log.gate (new_gate self.now.rewriter) + length self.now.log.pending + bytes + 10 ≤ 2 ^ 62) }
     {
         self.log.has_room(bytes) && self.new_has_room(bytes)
     }
@@ -163,7 +186,8 @@ impl<D: Disk> Journal<D> {
         }
     }
 
-    /// Puts the record of one change last into the pending batch. At want of memory the batch is as before.
+    /// Puts the record of one change last into the pending batch of a log of the newest version. At want of memory the
+    /// batch is as before.
     pub fn push(&mut self, entry: &[u8]) -> Result<(), NoMemory>
         requires { HasRoom self.old (length entry.now) }
         ensures ok { OnOk result (pending self.new ≡ pending self.old ++ entry.now) }
@@ -198,11 +222,12 @@ impl<D: Disk> Journal<D> {
         ensures leaves { (batches copied : List Bytes) → Keeps D.crashes D.seen D.images self.old batches copied
             → D.crashes self.old.disk ≡ true
             → LeavesOnly D.moment D.left_since self.old.disk self.new.disk
-            (HoldsEither batches (committed batches (pending self.old))) }
+            (HoldsEither self.old.log.version batches self.old.log.version (committed batches (pending self.old))) }
         ensures ends { Ends D.faults self.old self.new result }
         ensures told { D.crashes self.new.disk ≡ D.crashes self.old.disk }
         ensures pending { OnOk result (pending self.new ≡ []) }
         ensures side { self.new.log.side ≡ self.old.log.side }
+        ensures version { self.new.log.version ≡ self.old.log.version }
         ensures generation { self.new.log.generation ≡ self.old.log.generation }
         ensures rewriting { is_some self.new.rewriter ≡ is_some self.old.rewriter }
         ensures gate { OnOk result (self.new.log.gate ≤ self.old.log.gate + length (pending self.old) + 9) }
@@ -232,12 +257,13 @@ impl<D: Disk> Journal<D> {
         ensures leaves { (batches copied : List Bytes) → Keeps D.crashes D.seen D.images self.old batches copied
             → D.crashes self.old.disk ≡ true
             → LeavesOnly D.moment D.left_since self.old.disk self.new.disk
-            (HoldsEither batches (committed batches (pending self.old))) }
+            (HoldsEither self.old.log.version batches self.old.log.version (committed batches (pending self.old))) }
         ensures pending { OnOk result (pending self.new ≡ []) }
         ensures told { D.crashes self.new.disk ≡ D.crashes self.old.disk }
         ensures cause { HasCause (D.faults self.old.disk) (D.faults self.new.disk) result }
         ensures failed { self.new.failed ≡ self.old.failed }
         ensures side { self.new.log.side ≡ self.old.log.side }
+        ensures version { self.new.log.version ≡ self.old.log.version }
         ensures generation { self.new.log.generation ≡ self.old.log.generation }
         ensures rewriting { is_some self.new.rewriter ≡ is_some self.old.rewriter }
         ensures gate { OnOk result (self.new.log.gate ≤ self.old.log.gate + length (pending self.old) + 9) }
@@ -250,20 +276,21 @@ impl<D: Disk> Journal<D> {
         }
     }
 
-    /// Begins to rewrite the log: a new side of the next generation, which holds nothing yet. It is not open, whatever
-    /// a crash leaves.
+    /// Begins to rewrite the log: a new side of the next generation and the newest version, which holds nothing yet. It
+    /// is not open, whatever a crash leaves.
     pub fn begin(&mut self) -> Result<(), JournalFault>
         requires idle { is_some self.old.rewriter ≡ false }
         requires committed { pending self.old ≡ [] }
-        requires generation { self.old.log.generation < 2 ^ 63 }
+        requires generation { self.old.log.generation + 1 < 2 ^ 64 }
         ensures kept { (batches copied : List Bytes) → Keeps D.crashes D.seen D.images self.old batches copied
             → OnOk result (Keeps D.crashes D.seen D.images self.new batches []) }
         ensures leaves { (batches copied : List Bytes) → Keeps D.crashes D.seen D.images self.old batches copied
             → D.crashes self.old.disk ≡ true
-            → LeavesOnly D.moment D.left_since self.old.disk self.new.disk (HoldsLog batches) }
+            → LeavesOnly D.moment D.left_since self.old.disk self.new.disk (HoldsLog self.old.log.version batches) }
         ensures ends { Ends D.faults self.old self.new result }
         ensures told { D.crashes self.new.disk ≡ D.crashes self.old.disk }
         ensures pending { pending self.new ≡ [] }
+        ensures version { self.new.log.version ≡ self.old.log.version }
         ensures generation { self.new.log.generation ≡ self.old.log.generation }
         ensures rewriting { OnOk result (is_some self.new.rewriter ≡ true) }
         ensures gate { self.new.log.gate ≡ self.old.log.gate }
@@ -305,10 +332,11 @@ impl<D: Disk> Journal<D> {
             → OnOk result (Keeps D.crashes D.seen D.images self.new batches (committed copied piece.now.records)) }
         ensures leaves { (batches copied : List Bytes) → Keeps D.crashes D.seen D.images self.old batches copied
             → D.crashes self.old.disk ≡ true
-            → LeavesOnly D.moment D.left_since self.old.disk self.new.disk (HoldsLog batches) }
+            → LeavesOnly D.moment D.left_since self.old.disk self.new.disk (HoldsLog self.old.log.version batches) }
         ensures ends { Ends D.faults self.old self.new result }
         ensures told { D.crashes self.new.disk ≡ D.crashes self.old.disk }
         ensures pending { pending self.new ≡ [] }
+        ensures version { self.new.log.version ≡ self.old.log.version }
         ensures generation { self.new.log.generation ≡ self.old.log.generation }
         ensures rewriting { is_some self.new.rewriter ≡ is_some self.old.rewriter }
         ensures gate { self.new.log.gate ≡ self.old.log.gate }
@@ -336,10 +364,12 @@ impl<D: Disk> Journal<D> {
             → OnOk result (Keeps D.crashes D.seen D.images self.new copied any) }
         ensures leaves { (batches copied : List Bytes) → Keeps D.crashes D.seen D.images self.old batches copied
             → D.crashes self.old.disk ≡ true
-            → LeavesOnly D.moment D.left_since self.old.disk self.new.disk (HoldsEither batches copied) }
+            → LeavesOnly D.moment D.left_since self.old.disk self.new.disk
+            (HoldsEither self.old.log.version batches newest copied) }
         ensures ends { Ends D.faults self.old self.new result }
         ensures told { D.crashes self.new.disk ≡ D.crashes self.old.disk }
         ensures pending { pending self.new ≡ [] }
+        ensures version { OnOk result (self.new.log.version ≡ newest) }
         ensures generation { OnOk result (self.new.log.generation ≡ self.old.log.generation + 1) }
         ensures rewriting { OnOk result (is_some self.new.rewriter ≡ false) }
         ensures gate { OnOk result (self.new.log.gate ≡ new_gate self.old.rewriter) }

@@ -1,6 +1,6 @@
 //! Laws of journals. Each is the contract of a function that does nothing.
 
-ghost use Rattle.std.specs.Prelude.{◌≡◌, true, List, Some};
+ghost use Rattle.std.specs.Prelude.{◌≡◌, ℕ, true, List, Some};
 ghost use Rattle.byte_text.specs.Names.{Bytes};
 ghost use Rattle.outside.specs.Sides.{Sides};
 ghost use Rattle.outside.specs.Crashes.{EachImage};
@@ -17,18 +17,19 @@ pub fn kept_logs_hold<D: Disk>(journal: &Journal<D>)
     ensures told { (batches copied : List Bytes) → Keeps D.crashes D.seen D.images journal.now batches copied
         → (s : Sides) × (D.seen journal.now.disk ≡ Some s) }
     ensures now { (batches copied : List Bytes) → Keeps D.crashes D.seen D.images journal.now batches copied
-        → (s : Sides) → D.seen journal.now.disk ≡ Some s → HoldsLog batches s }
+        → (s : Sides) → D.seen journal.now.disk ≡ Some s → HoldsLog journal.now.log.version batches s }
     ensures images { (batches copied : List Bytes) → Keeps D.crashes D.seen D.images journal.now batches copied
         → D.crashes journal.now.disk ≡ true
-        → EachImage (D.images journal.now.disk) (HoldsLog batches) }
+        → EachImage (D.images journal.now.disk) (HoldsLog journal.now.log.version batches) }
 {
     // Naming the journal shows the proof its invariant.
     let _kept = journal;
 }
 
-/// The sides of a disk hold the batches of one log at most.
+/// The sides of a disk hold the batches of one log at most, of one version.
 pub fn logs_hold_once()
-    ensures { (batches others : List Bytes) (s : Sides) → HoldsLog batches s → HoldsLog others s → batches ≡ others }
+    ensures { (v w : ℕ) (batches others : List Bytes) (s : Sides) → HoldsLog v batches s → HoldsLog w others s
+        → (v ≡ w) × (batches ≡ others) }
 {
     logs_read_once();
 }

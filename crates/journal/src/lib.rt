@@ -5,6 +5,7 @@
 mod disk_steps;
 mod journals;
 mod laws;
+mod log_reads;
 mod openings;
 mod pieces;
 mod replays;
@@ -12,6 +13,7 @@ mod side_replays;
 
 pub use journals::{Journal, JournalFault, Opened};
 pub use laws::{kept_logs_hold, logs_hold_once};
+pub use log_reads::replay_log;
 pub use openings::{OpenFault, Unopened};
 pub use pieces::{PIECE, Piece};
 pub use replays::{Refusal, Replay};

@@ -5,12 +5,14 @@ ghost use Rattle.std.specs.Prelude.{◌≡◌, ◌≤◌, ◌<◌, ◌^◌, ◌�
 ghost use Rattle.outside.specs.Causes.{Rose};
 ghost use Rattle.outside.specs.Sides.{Sides};
 ghost use Rattle.outside.specs.Crashes.{LeavesOnly};
+ghost use Rattle.log_sides.specs.Texts.{IsHeading, newest};
 ghost use Rattle.journal.specs.Logs.{HoldsLog};
 ghost use Rattle.journal.specs.Keeping.{KeptOn};
 ghost use Rattle.outside.specs.declared.sides.Side.{Side};
+ghost use Rattle.append_log.specs.Heads.{IsSized};
 ghost use Rattle.append_log.specs.Logs.{IsFresh};
 ghost use Rattle.journal.specs.Openings.{IsDamaged, IsBrokenIn, AllSafeOn, IsUsed, IsLeftByOpening, IsUnopened};
-ghost use Rattle.journal.specs.Openings.{opened_len, fault_in};
+ghost use Rattle.journal.specs.Openings.{opened_version, opened_generation, opened_len, fault_in};
 ghost use Rattle.journal.specs.Opened.{IsReplayed, LogRead};
 
 use crate::replays::Replay;
@@ -48,18 +50,20 @@ pub(crate) struct UsedLog {
     pub(crate) len: u64,
 }
 
-/// The log on a disk. What it holds is replayed; where no log was begun, one is.
+/// The log on a disk. What it holds is replayed; where no log was begun, one of the newest version is.
 pub(crate) fn open_log<D: Disk, R: Replay>(
     alloc: Global,
     disk: &mut D,
     replay: &mut R,
     block: &mut [u8],
 ) -> Result<UsedLog, OpenFault>
-    requires first { R.took replay.old [] [] }
+    requires first { R.took replay.old newest [] [] }
     requires block { 0 < length block.old }
     ensures opened { IfOk result
         (λ u. IsReplayed R.took R.fault D.crashes D.seen D.moment D.left_since disk.old disk.new replay.new
-        (λ batches. KeptOn D.crashes D.seen D.images disk.new u.log.side u.log.generation u.log.gate None batches [])) }
+        u.log.version
+        (λ batches. KeptOn D.crashes D.seen D.images disk.new u.log.side u.log.version u.log.generation u.log.gate
+        None batches [])) }
     ensures leaves { (s : Sides) → D.seen disk.old ≡ Some s → D.crashes disk.old ≡ true
         → LeavesOnly D.moment D.left_since disk.old disk.new (IsLeftByOpening (D.images disk.old) s) }
     ensures same { (s : Sides) → D.seen disk.old ≡ Some s → IfErr result (IsUnopened (D.seen disk.new) s) }
@@ -73,6 +77,9 @@ pub(crate) fn open_log<D: Disk, R: Replay>(
     ensures told { D.crashes disk.new ≡ D.crashes disk.old }
     ensures later { D.faults disk.old ≤ D.faults disk.new }
     ensures cause { IfErr result (λ fault. fault ≡ OpenFault.Disk → Rose (D.faults disk.old) (D.faults disk.new)) }
+    ensures version { (s : Sides) → D.seen disk.old ≡ Some s → IfOk result (λ u. u.log.version ≡ opened_version s) }
+    ensures generation { (s : Sides) → D.seen disk.old ≡ Some s
+        → IfOk result (λ u. u.log.generation ≡ opened_generation s) }
     ensures len { (s : Sides) → D.seen disk.old ≡ Some s → IfOk result (λ u. u.len ≡ opened_len s) }
     ensures short { IfOk result (λ u. u.len ≤ 2 ^ 62) }
     ensures gate { IfOk result (λ u. u.log.gate ≤ u.len) }
@@ -83,10 +90,11 @@ pub(crate) fn open_log<D: Disk, R: Replay>(
         Ok(
             Start::Standing {
                 side,
+                version,
                 generation,
                 len,
             },
-        ) => read_log(alloc, disk, replay, block, side, generation, len),
+        ) => read_log(alloc, disk, replay, block, side, version, generation, len),
         Ok(Start::Damaged { side, place }) => Err(OpenFault::Damaged { side, place }),
         Err(Failed) => Err(OpenFault::Disk),
     }
@@ -96,16 +104,19 @@ pub(crate) fn open_log<D: Disk, R: Replay>(
 fn begin_log<D: Disk>(alloc: Global, disk: &mut D) -> Result<UsedLog, OpenFault>
     ensures kept { (s : Sides) → AllSafeOn D.crashes D.seen D.images disk.old s → IsFresh s
         → IfOk result
-        (λ u. KeptOn D.crashes D.seen D.images disk.new u.log.side u.log.generation u.log.gate None [] []) }
+        (λ u. KeptOn D.crashes D.seen D.images disk.new u.log.side u.log.version u.log.generation u.log.gate
+        None [] []) }
     ensures leaves { (s : Sides) → AllSafeOn D.crashes D.seen D.images disk.old s → IsFresh s
         → D.crashes disk.old ≡ true
-        → LeavesOnly D.moment D.left_since disk.old disk.new (HoldsLog []) }
+        → LeavesOnly D.moment D.left_since disk.old disk.new (HoldsLog newest []) }
     ensures same { (s : Sides) → AllSafeOn D.crashes D.seen D.images disk.old s → IsFresh s
         → IfErr result (IsUnopened (D.seen disk.new) s) }
     ensures damaged { IfErr result (λ fault. (side : Side) (place : ℕ) → fault ≡ OpenFault.Damaged side place → ⊥) }
     ensures told { D.crashes disk.new ≡ D.crashes disk.old }
     ensures later { D.faults disk.old ≤ D.faults disk.new }
     ensures cause { IfErr result (λ fault. fault ≡ OpenFault.Disk → Rose (D.faults disk.old) (D.faults disk.new)) }
+    ensures version { IfOk result (λ u. u.log.version ≡ newest) }
+    ensures generation { IfOk result (λ u. u.log.generation ≡ 1) }
     ensures len { IfOk result (λ u. u.len ≡ 17) }
     ensures gate { IfOk result (λ u. u.log.gate ≤ u.len) }
     ensures pending { IfOk result (λ u. u.log.pending ≡ []) }
@@ -127,33 +138,38 @@ fn read_log<D: Disk, R: Replay>(
     replay: &mut R,
     block: &mut [u8],
     side: Side,
+    version: u8,
     generation: u64,
     len: u64,
 ) -> Result<UsedLog, OpenFault>
-    requires short { len ≤ 2 ^ 62 }
-    requires headed { 17 ≤ len }
-    requires first { R.took replay.old [] [] }
+    requires sized { IsSized version generation len }
+    requires first { R.took replay.old newest [] [] }
     requires block { 0 < length block.old }
     ensures read { IfOk result
-        (λ u. LogRead R.took R.fault D.crashes D.seen D.images disk.old side generation len replay.new
-        (λ batches. KeptOn D.crashes D.seen D.images disk.new u.log.side u.log.generation u.log.gate None batches [])) }
+        (λ u. LogRead R.took R.fault D.crashes D.seen D.images disk.old side version generation len
+        replay.new
+        (λ batches. KeptOn D.crashes D.seen D.images disk.new u.log.side u.log.version u.log.generation u.log.gate
+        None batches [])) }
     ensures leaves { (s : Sides) → AllSafeOn D.crashes D.seen D.images disk.old s → D.crashes disk.old ≡ true
         → LeavesOnly D.moment D.left_since disk.old disk.new (λ c. c ≡ s) }
     ensures settled { (s : Sides) → AllSafeOn D.crashes D.seen D.images disk.old s
         → AllSafeOn D.crashes D.seen D.images disk.new s }
-    ensures damaged { (s : Sides) → AllSafeOn D.crashes D.seen D.images disk.old s → IsUsed s side generation len
+    ensures damaged { (s : Sides) → AllSafeOn D.crashes D.seen D.images disk.old s
+        → IsUsed s side version generation len
         → IfErr result
         (λ fault. (there : Side) (place : ℕ) → fault ≡ OpenFault.Damaged there place
         → IsBrokenIn R.fault s there place) }
     ensures told { D.crashes disk.new ≡ D.crashes disk.old }
     ensures later { D.faults disk.old ≤ D.faults disk.new }
     ensures cause { IfErr result (λ fault. fault ≡ OpenFault.Disk → Rose (D.faults disk.old) (D.faults disk.new)) }
+    ensures version { IfOk result (λ u. u.log.version ≡ version) }
+    ensures generation { IfOk result (λ u. u.log.generation ≡ generation) }
     ensures len { IfOk result (λ u. u.len ≡ len) }
     ensures gate { IfOk result (λ u. u.log.gate ≤ u.len) }
     ensures pending { IfOk result (λ u. u.log.pending ≡ []) }
 {
-    match replay_side(disk, replay, Reader::new(side, len), block) {
-        Ok(gate) => over_side(alloc, side, generation, len, gate),
+    match replay_side(disk, replay, version, Reader::new(side, len), block) {
+        Ok(gate) => over_side(alloc, side, version, generation, len, gate),
         Err(stop) => Err(fault_at(side, stop)),
     }
 }
@@ -162,27 +178,30 @@ fn read_log<D: Disk, R: Replay>(
 fn over_side(
     alloc: Global,
     side: Side,
+    version: u8,
     generation: u64,
     len: u64,
     gate: u64,
 ) -> Result<UsedLog, OpenFault>
+    requires headed { IsHeading version generation }
     requires short { len ≤ 2 ^ 62 }
     requires within { gate ≤ len }
     ensures side { IfOk result (λ u. u.log.side ≡ side) }
+    ensures version { IfOk result (λ u. u.log.version ≡ version) }
     ensures generation { IfOk result (λ u. u.log.generation ≡ generation) }
     ensures gate { IfOk result (λ u. u.log.gate ≡ gate) }
     ensures pending { IfOk result (λ u. u.log.pending ≡ []) }
     ensures len { IfOk result (λ u. u.len ≡ len) }
     ensures memory { IfErr result (λ fault. fault ≡ OpenFault.Memory) }
 {
-    match AppendLog::over(alloc, side, generation, gate) {
+    match AppendLog::over(alloc, side, version, generation, gate) {
         Ok(log) => Ok(UsedLog { log, len }),
         Err(NoMemory) => Err(OpenFault::Memory),
     }
 }
 
-// Why the disk is not opened, where a side was not read to its end.
-fn fault_at(side: Side, stop: Stop) -> OpenFault
+/// Why the disk is not opened, where a side was not read to its end.
+pub(crate) fn fault_at(side: Side, stop: Stop) -> OpenFault
     ensures { result ≡ fault_in side stop }
 {
     match stop {

@@ -3,7 +3,7 @@
 ghost use Rattle.std.specs.Prelude.{◌≡◌, ◌+◌, ◌≤◌, ◌<◌, ◌^◌, ◌++◌, ℕ, List, [], None, length, OnOk, IfOk, IfErr};
 ghost use Rattle.byte_text.specs.Names.{Bytes};
 ghost use Rattle.outside.specs.Causes.{Rose};
-ghost use Rattle.log_sides.specs.Texts.{gate_place, with_batch};
+ghost use Rattle.log_sides.specs.Texts.{gate_place, newest, with_batch};
 ghost use Rattle.log_sides.specs.States.{ReadsAs};
 ghost use Rattle.append_log.specs.Reading.{IsAtGate, IsInBatch};
 ghost use Rattle.journal.specs.Openings.{HasNoRecord, IsRefused, IsBroken, Looked};
@@ -23,25 +23,29 @@ pub(crate) enum Stop {
     Memory,
 }
 
-/// Reads a side to its closed gate, and answers the gate's place.
+/// Reads a side of this version to its closed gate, and answers the gate's place.
 pub(crate) fn replay_side<D: Disk, R: Replay>(
     disk: &mut D,
     replay: &mut R,
+    version: u8,
     mut reader: Reader,
     block: &mut [u8],
 ) -> Result<u64, Stop>
     requires block { 0 < length block.old }
-    requires first { R.took replay.old [] [] }
+    requires known { 1 ≤ version }
+    requires latest { version ≤ newest }
+    requires first { R.took replay.old newest [] [] }
     ensures took { IfOk result
-        (λ gate. TookAll R.took R.fault D.crashes D.seen D.images disk.old reader.side reader.len reader.at gate
+        (λ gate. TookAll R.took R.fault D.crashes D.seen D.images disk.old reader.side version reader.len reader.at gate
         replay.new) }
     ensures placed { IfOk result (λ gate. gate ≤ reader.len) }
     ensures broken { (g : ℕ) (bytes : Bytes) → ReadsAs D.crashes D.seen D.images disk.old reader.side bytes
-        → IsAtGate g [] reader.len reader.at bytes
-        → IfErr result (λ stop. (place : ℕ) → stop ≡ Stop.Broken place → IsBroken R.fault g bytes place) }
+        → IsAtGate version g [] reader.len reader.at bytes
+        → IfErr result (λ stop. (place : ℕ) → stop ≡ Stop.Broken place → IsBroken R.fault version g bytes place) }
     ensures looked { Looked D.crashes D.seen D.images D.moment D.left_since D.faults reader.side disk.old disk.new }
     ensures cause { IfErr result (λ stop. stop ≡ Stop.Disk → Rose (D.faults disk.old) (D.faults disk.new)) }
 {
+    replay.begin(version);
     'batches: loop {
         match reader.next_batch(disk) {
             Ok(Gate::Open(_)) => match replay_batch(disk, replay, &mut reader, block) {
@@ -63,14 +67,15 @@ fn replay_batch<D: Disk, R: Replay>(
     block: &mut [u8],
 ) -> Result<(), Stop>
     requires block { 0 < length block.old }
-    ensures took { (batches : List Bytes) → R.took replay.old batches []
+    ensures took { (v : ℕ) (batches : List Bytes) → R.took replay.old v batches []
         → OnOk result
-        (TookBatch R.took R.fault D.crashes D.seen D.images disk.old reader.old.side batches reader.old.len
+        (TookBatch R.took R.fault D.crashes D.seen D.images disk.old reader.old.side v batches reader.old.len
         reader.old.left reader.old.at reader.new.at replay.new) }
-    ensures broken { (batches : List Bytes) (g : ℕ) (bytes : Bytes) → R.took replay.old batches []
+    ensures broken { (v : ℕ) (batches : List Bytes) (g : ℕ) (bytes : Bytes) → R.took replay.old v batches []
         → ReadsAs D.crashes D.seen D.images disk.old reader.old.side bytes
-        → IsInBatch g batches [] reader.old.len reader.old.left reader.old.at bytes
-        → IfErr result (λ stop. (place : ℕ) → stop ≡ Stop.Broken place → HasNoRecord R.fault g batches bytes place) }
+        → IsInBatch v g batches [] reader.old.len reader.old.left reader.old.at bytes
+        → IfErr result
+        (λ stop. (place : ℕ) → stop ≡ Stop.Broken place → HasNoRecord (R.fault v) v g batches bytes place) }
     ensures looked { Looked D.crashes D.seen D.images D.moment D.left_since D.faults reader.old.side disk.old disk.new }
     ensures cause { IfErr result (λ stop. stop ≡ Stop.Disk → Rose (D.faults disk.old) (D.faults disk.new)) }
     ensures on { OnOk result (reader.old.at ≤ reader.new.at) }
@@ -99,14 +104,17 @@ fn take_piece<D: Disk, R: Replay>(
 ) -> Result<(), Stop>
     requires some { 0 < reader.old.left }
     requires block { 0 < length block.old }
-    ensures took { (batches : List Bytes) (part : Bytes) → R.took replay.old batches part
+    ensures took { (v : ℕ) (batches : List Bytes) (part : Bytes) → R.took replay.old v batches part
         → OnOk result
-        (TookPiece R.took R.fault D.crashes D.seen D.images disk.old reader.old.side batches part reader.old.len
+        (TookPiece R.took R.fault D.crashes D.seen D.images disk.old reader.old.side v batches part reader.old.len
         reader.old.left reader.old.at reader.new.left reader.new.at replay.new) }
-    ensures broken { (batches : List Bytes) (part : Bytes) (g : ℕ) (bytes : Bytes) → R.took replay.old batches part
+    ensures broken { (v : ℕ) (batches : List Bytes) (part : Bytes) (g : ℕ) (bytes : Bytes)
+        → R.took replay.old v batches part
         → ReadsAs D.crashes D.seen D.images disk.old reader.old.side bytes
-        → IsInBatch g batches part reader.old.len reader.old.left reader.old.at bytes → start ≡ gate_place g batches + 9
-        → IfErr result (λ stop. (place : ℕ) → stop ≡ Stop.Broken place → HasNoRecord R.fault g batches bytes place) }
+        → IsInBatch v g batches part reader.old.len reader.old.left reader.old.at bytes
+        → start ≡ gate_place v g batches + 9
+        → IfErr result
+        (λ stop. (place : ℕ) → stop ≡ Stop.Broken place → HasNoRecord (R.fault v) v g batches bytes place) }
     ensures looked { Looked D.crashes D.seen D.images D.moment D.left_since D.faults reader.old.side disk.old disk.new }
     ensures cause { IfErr result (λ stop. stop ≡ Stop.Disk → Rose (D.faults disk.old) (D.faults disk.new)) }
     ensures on { OnOk result (reader.new.left < reader.old.left) }
@@ -129,12 +137,12 @@ fn take_piece<D: Disk, R: Replay>(
 
 // What was read of a batch.
 fn take_read<R: Replay>(replay: &mut R, piece: &[u8], start: u64) -> Result<(), Stop>
-    ensures took { (batches : List Bytes) (part : Bytes) → R.took replay.old batches part
-        → OnOk result (R.took replay.new batches (part ++ piece.now)) }
-    ensures broken { (batches : List Bytes) (part : Bytes) → R.took replay.old batches part
+    ensures took { (v : ℕ) (batches : List Bytes) (part : Bytes) → R.took replay.old v batches part
+        → OnOk result (R.took replay.new v batches (part ++ piece.now)) }
+    ensures broken { (v : ℕ) (batches : List Bytes) (part : Bytes) → R.took replay.old v batches part
         → start + length part + length piece.now ≤ 2 ^ 62
         → IfErr result (λ stop. (place : ℕ) → stop ≡ Stop.Broken place
-        → (rest : Bytes) → IsRefused R.fault start place ((part ++ piece.now) ++ rest)) }
+        → (rest : Bytes) → IsRefused (R.fault v) start place ((part ++ piece.now) ++ rest)) }
     ensures cause { IfErr result (λ stop. stop ≡ Stop.Disk → ⊥) }
 {
     match replay.take(piece) {
@@ -146,13 +154,13 @@ fn take_read<R: Replay>(replay: &mut R, piece: &[u8], start: u64) -> Result<(), 
 
 // The end of a batch.
 fn end_batch<R: Replay>(replay: &mut R, start: u64) -> Result<(), Stop>
-    ensures took { (batches : List Bytes) (part : Bytes) → R.took replay.old batches part
-        → OnOk result (R.took replay.new (with_batch batches part) []) }
-    ensures whole { (batches : List Bytes) (part : Bytes) → R.took replay.old batches part
-        → OnOk result (R.fault part ≡ None) }
-    ensures broken { (batches : List Bytes) (part : Bytes) → R.took replay.old batches part
+    ensures took { (v : ℕ) (batches : List Bytes) (part : Bytes) → R.took replay.old v batches part
+        → OnOk result (R.took replay.new v (with_batch batches part) []) }
+    ensures whole { (v : ℕ) (batches : List Bytes) (part : Bytes) → R.took replay.old v batches part
+        → OnOk result (R.fault v part ≡ None) }
+    ensures broken { (v : ℕ) (batches : List Bytes) (part : Bytes) → R.took replay.old v batches part
         → start + length part ≤ 2 ^ 62
-        → IfErr result (λ stop. (place : ℕ) → stop ≡ Stop.Broken place → IsRefused R.fault start place part) }
+        → IfErr result (λ stop. (place : ℕ) → stop ≡ Stop.Broken place → IsRefused (R.fault v) start place part) }
     ensures cause { IfErr result (λ stop. stop ≡ Stop.Disk → ⊥) }
 {
     match replay.end() {

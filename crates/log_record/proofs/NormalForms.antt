@@ -1,45 +1,33 @@
--- What stands in a setting is read again as it was printed: values, tests, lists of names and areas.
-use Rattle.std.proofs.Common.{◌≡◌, ℕ, zero, suc, ℤ, pos, Bool, true, false, ◌&&◌, ◌||◌, List, [], ◌∷◌, ◌++◌, length, map, refl, sym, ap, subst, ◌∙◌, arith}
-use Rattle.std.specs.Prelude.{Option, Some, None, codes, decimal, neg_ℤ, int_le, nat_le, option_and_then, if◌then◌else◌, Result, Ok, Err, ◌-◌, ◌^◌, ◌==◌}
+-- What stands in a setting is read again as it was printed: numbers, values, tests, lists of names and areas.
+use Rattle.std.proofs.Common.{◌≡◌, ℕ, zero, suc, ℤ, pos, Bool, true, false, ◌&&◌, ◌||◌, List, [], ◌∷◌, ◌++◌, length, map, flat_map, refl, sym, ap, subst, ◌∙◌, arith}
+use Rattle.std.specs.Prelude.{Option, Some, None, is_none, codes, decimal, neg_ℤ, nat_le, option_and_then, if◌then◌else◌, Result, Ok, Err, ◌==◌}
 use Rattle.std.specs.List.{list_any, list_all, AllByRecursion}
 use Rattle.std.specs.Fmt.{signed_decimal}
 use Rattle.std.specs.Str.{str_to_ascii_lowercase}
 use Rattle.std.proofs.lemmas.Bool.{or_right}
 use Rattle.byte_text.specs.Names.{Bytes, same, is_name}
-use Rattle.byte_text.specs.Numbers.{whole, natural, whole_within, natural_within, signed_value, digits_value}
+use Rattle.byte_text.specs.Numbers.{whole, natural, whole_within, natural_within, digits_value}
 use Rattle.byte_text.specs.Globs.{is_well_formed}
 use Rattle.byte_text.specs.ByteOrder.{same_equal, same_refl}
 use Rattle.planar_geom.specs.Points.{Point, Bounds, pt}
 use Rattle.geo_text.specs.Texts.{Shape, shape_of}
 use Rattle.geo_text.specs.declared.faults.GeoFault.{GeoFault}
 use Rattle.world_data.specs.Limits.{max_coord, max_meters, max_values}
+use Rattle.world_data.specs.Filters.{number_in, value_in, value_text}
+use Rattle.world_data.specs.declared.values.Value.{Value}
 use Rattle.world_data.specs.declared.filters.Test.{Test}
-use Rattle.world_data.specs.declared.filters.Test.TheVariants.{Range, Among}
-use Rattle.world_model.specs.Grammar.{Form, done, word, a_word, times, ◌>>=◌}
-use Rattle.world_model.specs.Kinds.{when, name, glob, integer, between, meters, coordinate_from, coordinate, lat_lon, four, geojson, accepted, bound, bound_of, pieces, is_in, list_of}
+use Rattle.world_data.specs.declared.filters.Test.TheVariants.{Range, Same, Among}
+use Rattle.world_model.specs.Grammar.{Form, go_on, done, word, a_word, read_as, times, ◌>>=◌, ◌>>◌, ◌or◌}
+use Rattle.world_model.specs.Kinds.{when, name, glob, value, value_of_word, between, meters, coordinate_from, coordinate, lat_lon, four, geojson, accepted, bound, bound_of, text, text_of_word, again, same_text, pieces, is_in, list_of}
 use Rattle.geo_text.specs.Texts.{joins_first}
-use Rattle.world_model.specs.Commands.{test, where_test, wherein_test, test_words, bound_word, wants}
+use Rattle.world_model.specs.Commands.{test, where_range, where_same, where_test, wherein_test, test_words, bound_word, wants}
 use Rattle.world_model.specs.SoundLaws.{when_is}
 use Rattle.world_model.specs.MadeForms.{Makes, makes_done, makes_or, makes_word, makes_bind, makes_then}
-use Rattle.log_record.specs.RecordsRead.{first}
+use Rattle.log_record.specs.RecordsRead.{first, second}
+use Rattle.log_record.specs.ValuesBack.{whole_printed, within_whole, number_printed, value_again}
 use Rattle.log_record.proofs.ReadBack.{Reads, literal, reads_done, reads_word, reads_bind, reads_then, reads_left, reads_right}
 
 -- numbers
-
-printed : (w : Bytes) (v z : ℤ) (b : Bool) → same (signed_decimal v) w ≡ b → (if b then Some v else None) ≡ Some z → signed_decimal z ≡ w
-printed w v z true test e = let it : v ≡ z = cc e in subst (λ x. signed_decimal x ≡ w) it (same_equal (signed_decimal v) w test)
-printed w v z false test e = absurd (cc e)
-
-whole_printed : (w : Bytes) (z : ℤ) → whole w ≡ Some z → signed_decimal z ≡ w
-whole_printed w z e = printed w (signed_value w) z (same (signed_decimal (signed_value w)) w) refl e
-
-kept_whole : (x z : ℤ) (b : Bool) → (if b then Some x else None) ≡ Some z → Some x ≡ Some z
-kept_whole x z true e = e
-kept_whole x z false e = absurd (cc e)
-
-within_whole : (low high z : ℤ) (o : Option ℤ) → option_and_then (λ x. if int_le low x && int_le x high then Some x else None) o ≡ Some z → o ≡ Some z
-within_whole low high z None e = absurd (cc e)
-within_whole low high z (Some x) e = kept_whole x z (int_le low x && int_le x high) e
 
 -- the number's text is read as the number
 abbrev pub IsWhole : ℤ → ℤ → ℤ → Type 0
@@ -69,15 +57,6 @@ IsNatural low high n = natural_within low high (decimal n) ≡ Some n
 natural_again : (low high : ℕ) (w : Bytes) (n : ℕ) → natural_within low high w ≡ Some n → IsNatural low high n
 natural_again low high w n e = subst (λ v. natural_within low high v ≡ Some n) (sym (natural_printed w n (within_natural low high n (natural w) e))) e
 
-abbrev pub least_integer : ℤ
-least_integer = neg_ℤ (pos (2 ^ 63))
-
-abbrev pub most_integer : ℤ
-most_integer = pos (2 ^ 63 - 1)
-
-pub makes_integer : Makes (IsWhole least_integer most_integer) integer
-makes_integer = makes_word (IsWhole least_integer most_integer) a_word (whole_within least_integer most_integer) (whole_again least_integer most_integer)
-
 pub makes_between : (low high : ℕ) → Makes (IsNatural low high) (between low high)
 makes_between low high = makes_word (IsNatural low high) a_word (natural_within low high) (natural_again low high)
 
@@ -98,13 +77,27 @@ IsPattern w = when (is_name w && is_well_formed w) w ≡ Some w
 pub makes_glob : Makes IsPattern glob
 makes_glob = makes_word IsPattern a_word (λ w. when (is_name w && is_well_formed w) w) (λ w a e. subst (λ v. when (is_name v && is_well_formed v) v ≡ Some a) (when_is (is_name w && is_well_formed w) w a e).1 e)
 
+-- values
+
+-- the value's text is read as the value
+abbrev pub IsAgain : Value → Type 0
+IsAgain v = value_of_word (value_text v) ≡ Some v
+
+value_read : (w : Bytes) (v : Value) → value_of_word w ≡ Some v → IsAgain v
+value_read w v e =
+    let text : value_text v ≡ w = ap value_text (sym (when_is (is_name w) (value_in w) v e).1) ∙ value_again w in
+    subst (λ u. value_of_word u ≡ Some v) (sym text) e
+
+pub makes_value : Makes IsAgain value
+makes_value = makes_word IsAgain a_word value_of_word value_read
+
 -- bounds of a range
 
-bounded : (w : Bytes) (z : ℤ) → bound_of w ≡ Some (Some z) → whole_within least_integer most_integer w ≡ Some z
+bounded : (w : Bytes) (z : ℤ) → bound_of w ≡ Some (Some z) → number_in w ≡ Some z
 bounded w z e = grind arith
 
 bound_printed : (w : Bytes) (z : ℤ) → bound_of w ≡ Some (Some z) → signed_decimal z ≡ w
-bound_printed w z e = whole_printed w z (within_whole least_integer most_integer z (whole w) (bounded w z e))
+bound_printed w z e = number_printed w z (bounded w z e)
 
 abbrev pub IsBound : Bytes → Option ℤ → Type 0
 IsBound endless o = bound_of (bound_word endless o) ≡ Some o
@@ -119,63 +112,113 @@ IsEnd o = IsBound (codes "-inf") o × IsBound (codes "+inf") o
 pub makes_bound : Makes IsEnd bound
 makes_bound = makes_word IsEnd a_word bound_of (λ w o e. (bound_again (codes "-inf") refl w o e, bound_again (codes "+inf") refl w o e))
 
+-- texts that are no bounds
+
+abbrev pub IsPlain : Bytes → Type 0
+IsPlain t = text_of_word t ≡ Some t
+
+makes_text : Makes IsPlain text
+makes_text = makes_word IsPlain a_word text_of_word (λ w t e. subst (λ v. text_of_word v ≡ Some t) (when_is (is_name w && is_none (bound_of w)) w t e).1 e)
+
+refused : (b : Bool) (w : Bytes) → when (b && false) w ≡ None
+refused true w = refl
+refused false w = refl
+
+-- a bound is no text, and a text no bound
+no_text : (w : Bytes) (o : Option ℤ) → bound_of w ≡ Some o → text_of_word w ≡ None
+no_text w o e = ap (λ (b : Option (Option ℤ)). when (is_name w && is_none b) w) e ∙ refused (is_name w) w
+
+nothing : (o : Option (Option ℤ)) → is_none o ≡ true → o ≡ None
+nothing None e = refl
+nothing (Some b) e = absurd (cc e)
+
+no_bound : (t : Bytes) → IsPlain t → bound_of t ≡ None
+no_bound t is = nothing (bound_of t) (second (is_name t) (is_none (bound_of t)) (when_is (is_name t && is_none (bound_of t)) t t is).0)
+
 -- tests
 
-abbrev pub AreIntegers : List ℤ → Type 0
-AreIntegers values = AllByRecursion (IsWhole least_integer most_integer) values
+abbrev pub AreAgain : List Value → Type 0
+AreAgain values = AllByRecursion IsAgain values
 
 abbrev pub IsNormalTest : Test → Type 0
 IsNormalTest (Range n low high) = IsNamed n × IsBound (codes "-inf") low × IsBound (codes "+inf") high
-IsNormalTest (Among n values) = IsNamed n × IsNatural 1 max_values (length values) × AreIntegers values
+IsNormalTest (Same n t) = IsNamed n × IsPlain t
+IsNormalTest (Among n values) = IsNamed n × IsNatural 1 max_values (length values) × AreAgain values
 
-abbrev AreSo : ℕ → List ℤ → Type 0
-AreSo n values = (length values ≡ n) × AreIntegers values
+abbrev AreSo : ℕ → List Value → Type 0
+AreSo n values = (length values ≡ n) × AreAgain values
 
-makes_times : (n : ℕ) → Makes (AreSo n) (times n integer)
+makes_times : (n : ℕ) → Makes (AreSo n) (times n value)
 makes_times zero = makes_done (AreSo 0) [] (refl, tt)
-makes_times (suc n) = makes_bind (IsWhole least_integer most_integer) (AreSo (suc n)) integer _ makes_integer (λ a whole_a.
-    makes_bind (AreSo n) (AreSo (suc n)) (times n integer) _ (makes_times n) (λ values are. makes_done (AreSo (suc n)) (a ∷ values) (ap suc are.0, (whole_a, are.1))))
+makes_times (suc n) = makes_bind IsAgain (AreSo (suc n)) value _ makes_value (λ v again_is.
+    makes_bind (AreSo n) (AreSo (suc n)) (times n value) _ (makes_times n) (λ values are. makes_done (AreSo (suc n)) (v ∷ values) (ap suc are.0, (again_is, are.1))))
+
+makes_range : (n : Bytes) → IsNamed n → Makes IsNormalTest (where_range n)
+makes_range n named = makes_bind IsEnd IsNormalTest bound _ makes_bound (λ low l. makes_bind IsEnd IsNormalTest bound _ makes_bound (λ high h. makes_done IsNormalTest (Range n low high) (named, l.0, h.1)))
+
+makes_same : (n : Bytes) → IsNamed n → Makes IsNormalTest (where_same n)
+makes_same n named = makes_bind IsPlain IsNormalTest text _ makes_text (λ t is. makes_then IsNormalTest (again t) _ (makes_done IsNormalTest (Same n t) (named, is)))
 
 makes_where_test : Makes IsNormalTest where_test
 makes_where_test = makes_then IsNormalTest (word (codes "WHERE")) _ (makes_bind IsNamed IsNormalTest name _ makes_name (λ n named.
-    makes_bind IsEnd IsNormalTest bound _ makes_bound (λ low l. makes_bind IsEnd IsNormalTest bound _ makes_bound (λ high h. makes_done IsNormalTest (Range n low high) (named, l.0, h.1)))))
+    makes_or IsNormalTest (where_range n) (where_same n) (makes_range n named) (makes_same n named)))
 
 makes_wherein_test : Makes IsNormalTest wherein_test
 makes_wherein_test = makes_then IsNormalTest (word (codes "WHEREIN")) _ (makes_bind IsNamed IsNormalTest name _ makes_name (λ n named.
-    makes_bind (IsNatural 1 max_values) IsNormalTest (between 1 max_values) _ (makes_between 1 max_values) (λ count counted. makes_bind (AreSo count) IsNormalTest (times count integer) _ (makes_times count) (λ values are.
+    makes_bind (IsNatural 1 max_values) IsNormalTest (between 1 max_values) _ (makes_between 1 max_values) (λ count counted. makes_bind (AreSo count) IsNormalTest (times count value) _ (makes_times count) (λ values are.
     makes_done IsNormalTest (Among n values) (named, subst (IsNatural 1 max_values) (sym are.0) counted, are.1)))))
 
 pub makes_test : Makes IsNormalTest test
 makes_test = makes_or IsNormalTest where_test wherein_test makes_where_test makes_wherein_test
 
-reads_times : (values : List ℤ) (rest : List Bytes) → AreIntegers values → Reads (times (length values) integer) (map signed_decimal values ++ rest) values rest
+reads_times : (values : List Value) (rest : List Bytes) → AreAgain values → Reads (times (length values) value) (map value_text values ++ rest) values rest
 reads_times [] rest are = reads_done
 reads_times (v ∷ values) rest are =
-    reads_bind integer (λ a. times (length values) integer >>= (λ vs. done (a ∷ vs))) (reads_word a_word (whole_within least_integer most_integer) are.0)
-    (reads_bind (times (length values) integer) (λ vs. done (v ∷ vs)) (reads_times values rest are.1) reads_done)
+    reads_bind value (λ a. times (length values) value >>= (λ vs. done (a ∷ vs))) (reads_word a_word value_of_word are.0)
+    (reads_bind (times (length values) value) (λ vs. done (v ∷ vs)) (reads_times values rest are.1) reads_done)
 
-abbrev range_behind : Form Test
-range_behind = name >>= (λ n. bound >>= (λ low. bound >>= (λ high. done (Range n low high))))
+abbrev where_behind : Bytes → Form Test
+where_behind n = where_range n or where_same n
+
+reads_where_test : (n : Bytes) {t : Test} {words rest : List Bytes} → IsNamed n → Reads (where_behind n) words t rest → Reads where_test (codes "WHERE" ∷ n ∷ words) t rest
+reads_where_test n named behind = reads_then (word (codes "WHERE")) (name >>= where_behind) (literal (codes "WHERE") _ refl)
+    (reads_bind name where_behind (reads_word a_word (λ w. when (is_name w) w) named) behind)
+
+-- a form that begins with a word which is none of its kind reads nothing
+no_range : (n w : Bytes) (words : List Bytes) → bound_of w ≡ None → where_range n (w ∷ words) ≡ []
+no_range n w words e = ap (λ (o : Option (Option ℤ)). flat_map (go_on (λ low. bound >>= (λ high. done (Range n low high)))) (read_as o words)) e
+
+no_same : (n w : Bytes) (words : List Bytes) → text_of_word w ≡ None → where_same n (w ∷ words) ≡ []
+no_same n w words e = ap (λ (o : Option Bytes). flat_map (go_on (λ t. again t >> done (Same n t))) (read_as o words)) e
 
 reads_range : (n : Bytes) (low high : Option ℤ) (rest : List Bytes) → IsNormalTest (Range n low high) → Reads where_test (test_words (Range n low high) ++ rest) (Range n low high) rest
 reads_range n low high rest is =
-    reads_then (word (codes "WHERE")) range_behind (literal (codes "WHERE") _ refl)
-    (reads_bind name (λ m. bound >>= (λ l. bound >>= (λ h. done (Range m l h)))) (reads_word a_word (λ w. when (is_name w) w) is.0)
+    let lowest = bound_word (codes "-inf") low in
+    let highest = bound_word (codes "+inf") high in
+    reads_where_test n is.0 (reads_left (where_range n) (where_same n)
     (reads_bind bound (λ l. bound >>= (λ h. done (Range n l h))) (reads_word a_word bound_of is.1)
-    (reads_bind bound (λ h. done (Range n low h)) (reads_word a_word bound_of is.2) reads_done)))
+    (reads_bind bound (λ h. done (Range n low h)) (reads_word a_word bound_of is.2) reads_done))
+    (no_same n lowest (highest ∷ rest) (no_text lowest low is.1)))
+
+reads_same : (n t : Bytes) (rest : List Bytes) → IsNormalTest (Same n t) → Reads where_test (test_words (Same n t) ++ rest) (Same n t) rest
+reads_same n t rest is =
+    reads_where_test n is.0 (reads_right (where_range n) (where_same n) (no_range n t (t ∷ rest) (no_bound t is.1))
+    (reads_bind text (λ u. again u >> done (Same n u)) (reads_word a_word text_of_word is.1)
+    (reads_then (again t) (done (Same n t)) (reads_word a_word (same_text t) (ap (λ (b : Bool). when b t) (same_refl t))) reads_done)))
 
 abbrev among_behind : Form Test
-among_behind = name >>= (λ n. between 1 max_values >>= (λ count. times count integer >>= (λ values. done (Among n values))))
+among_behind = name >>= (λ n. between 1 max_values >>= (λ count. times count value >>= (λ values. done (Among n values))))
 
-reads_among : (n : Bytes) (values : List ℤ) (rest : List Bytes) → IsNormalTest (Among n values) → Reads wherein_test (test_words (Among n values) ++ rest) (Among n values) rest
+reads_among : (n : Bytes) (values : List Value) (rest : List Bytes) → IsNormalTest (Among n values) → Reads wherein_test (test_words (Among n values) ++ rest) (Among n values) rest
 reads_among n values rest is =
     reads_then (word (codes "WHEREIN")) among_behind (literal (codes "WHEREIN") _ refl)
-    (reads_bind name (λ m. between 1 max_values >>= (λ count. times count integer >>= (λ vs. done (Among m vs)))) (reads_word a_word (λ w. when (is_name w) w) is.0)
-    (reads_bind (between 1 max_values) (λ count. times count integer >>= (λ vs. done (Among n vs))) (reads_word a_word (natural_within 1 max_values) is.1)
-    (reads_bind (times (length values) integer) (λ vs. done (Among n vs)) (reads_times values rest is.2) reads_done)))
+    (reads_bind name (λ m. between 1 max_values >>= (λ count. times count value >>= (λ vs. done (Among m vs)))) (reads_word a_word (λ w. when (is_name w) w) is.0)
+    (reads_bind (between 1 max_values) (λ count. times count value >>= (λ vs. done (Among n vs))) (reads_word a_word (natural_within 1 max_values) is.1)
+    (reads_bind (times (length values) value) (λ vs. done (Among n vs)) (reads_times values rest is.2) reads_done)))
 
 pub reads_test : (t : Test) (rest : List Bytes) → IsNormalTest t → Reads test (test_words t ++ rest) t rest
 reads_test (Range n low high) rest is = reads_left where_test wherein_test (reads_range n low high rest is) refl
+reads_test (Same n t) rest is = reads_left where_test wherein_test (reads_same n t rest is) refl
 reads_test (Among n values) rest is = reads_right where_test wherein_test refl (reads_among n values rest is)
 
 -- places

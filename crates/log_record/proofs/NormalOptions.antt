@@ -5,7 +5,7 @@ use Rattle.std.specs.List.{list_all, AllByRecursion}
 use Rattle.byte_text.specs.Names.{Bytes}
 use Rattle.world_data.specs.Limits.{max_tests}
 use Rattle.world_data.specs.declared.filters.Test.{Test}
-use Rattle.world_data.specs.declared.filters.Test.TheVariants.{Range, Among}
+use Rattle.world_data.specs.declared.filters.Test.TheVariants.{Range, Same, Among}
 use Rattle.byte_text.specs.Names.{is_name}
 use Rattle.byte_text.specs.Globs.{is_well_formed}
 use Rattle.world_model.specs.Kinds.{when, glob, list_of}
@@ -104,24 +104,23 @@ reads_match near tests f d c n p rest is =
     (reads_then (word (codes "MATCH")) glob (literal (codes "MATCH") (p ∷ rest) refl) (reads_word a_word (λ v. when (is_name v && is_well_formed v) v) is)) reads_done))
     (no_test near s (codes "MATCH" ∷ p ∷ rest) refl refl refl refl refl)
 
-reads_one_test : (near : Bool) (g : Option Bytes) (tests : List Test) (f : Bool) (d c : Option (List Bytes)) (n : Bool) (t : Test) (rest : List Bytes) → IsNormalTest t → nat_lt (length tests) max_tests ≡ true
-    → Reads (fence_option near (so_far g tests f d c n)) (test_words t ++ rest) (so_far g (tests ++ t ∷ []) f d c n) rest
-reads_one_test near g tests f d c n (Range name low high) rest is few =
-    let s = so_far g tests f d c n in
-    let t = Range name low high in
-    let to = so_far g (tests ++ t ∷ []) f d c n in
-    past_match near s (test_words t ++ rest) to rest refl
-    (reads_here (where_ (nat_lt (length tests) max_tests) (test_form s)) (behind_tests near s)
-    (reads_where (nat_lt (length tests) max_tests) (test_form s) few (reads_bind test (λ u. done (record s { tests = s.tests ++ u ∷ [] })) (reads_test t rest is) reads_done))
-    (no_fence near s (test_words t ++ rest) refl refl refl refl))
-reads_one_test near g tests f d c n (Among name values) rest is few =
-    let s = so_far g tests f d c n in
-    let t = Among name values in
-    let to = so_far g (tests ++ t ∷ []) f d c n in
-    past_match near s (test_words t ++ rest) to rest refl
-    (reads_here (where_ (nat_lt (length tests) max_tests) (test_form s)) (behind_tests near s)
-    (reads_where (nat_lt (length tests) max_tests) (test_form s) few (reads_bind test (λ u. done (record s { tests = s.tests ++ u ∷ [] })) (reads_test t rest is) reads_done))
-    (no_fence near s (test_words t ++ rest) refl refl refl refl))
+one_test : (near : Bool) (s : FenceOptions) (t : Test) (rest : List Bytes) → IsNormalTest t → nat_lt (length s.tests) max_tests ≡ true
+    → match_form s (test_words t ++ rest) ≡ [] → one_of (behind_tests near s) (test_words t ++ rest) ≡ []
+    → Reads (fence_option near s) (test_words t ++ rest) (record s { tests = s.tests ++ t ∷ [] }) rest
+one_test near s t rest is few match others =
+    past_match near s (test_words t ++ rest) (record s { tests = s.tests ++ t ∷ [] }) rest match
+    (reads_here (where_ (nat_lt (length s.tests) max_tests) (test_form s)) (behind_tests near s)
+    (reads_where (nat_lt (length s.tests) max_tests) (test_form s) few (reads_bind test (λ u. done (record s { tests = s.tests ++ u ∷ [] })) (reads_test t rest is) reads_done))
+    others)
+
+module _ (near : Bool) (g : Option Bytes) (tests : List Test) (f : Bool) (d c : Option (List Bytes)) (n : Bool) where
+  abbrev now : FenceOptions
+  now = so_far g tests f d c n
+
+  reads_one_test : (t : Test) (rest : List Bytes) → IsNormalTest t → nat_lt (length tests) max_tests ≡ true → Reads (fence_option near now) (test_words t ++ rest) (so_far g (tests ++ t ∷ []) f d c n) rest
+  reads_one_test (Range name low high) rest is few = one_test near now (Range name low high) rest is few refl (no_fence near now (test_words (Range name low high) ++ rest) refl refl refl refl)
+  reads_one_test (Same name text) rest is few = one_test near now (Same name text) rest is few refl (no_fence near now (test_words (Same name text) ++ rest) refl refl refl refl)
+  reads_one_test (Among name values) rest is few = one_test near now (Among name values) rest is few refl (no_fence near now (test_words (Among name values) ++ rest) refl refl refl refl)
 
 reads_fence : (near : Bool) (g : Option Bytes) (tests : List Test) (d c : Option (List Bytes)) (n : Bool) (rest : List Bytes)
     → Reads (fence_option near (so_far g tests false d c n)) (codes "FENCE" ∷ rest) (so_far g tests true d c n) rest
@@ -183,6 +182,7 @@ module _ {B : Type 0} (near : Bool) (g : FenceOptions → Form B) (waits : Waits
 
   shorter_test : (t : Test) (rest : List Bytes) → length rest < length (test_words t ++ rest)
   shorter_test (Range n low high) rest = omega arith
+  shorter_test (Same n t) rest = omega arith
   shorter_test (Among n values) rest = omega (arith, length-append (test_words (Among n values)) rest)
 
   pub leads_tests : (o : Option Bytes) (tests more : List Test) (rest : List Bytes) → AllByRecursion IsNormalTest more → length tests + length more ≤ max_tests

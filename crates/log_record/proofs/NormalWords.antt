@@ -6,15 +6,12 @@ use Rattle.std.specs.Fmt.{signed_decimal}
 use Rattle.byte_text.specs.Names.{Bytes, is_name}
 use Rattle.byte_text.specs.Globs.{is_well_formed}
 use Rattle.ordered_lists.specs.Reading.{each-append}
-use Rattle.world_data.specs.declared.queries.Rule.TheVariants.{InArea, Nearest}
-use Rattle.world_data.specs.declared.queries.Shown.TheVariants as shown
 use Rattle.byte_text.specs.Numbers.{natural_within}
 use Rattle.planar_geom.specs.Points.{Point, Bounds}
 use Rattle.planar_geom.specs.declared.shapes.Area.{Area}
 use Rattle.planar_geom.specs.declared.shapes.Area.TheVariants.{Rect, Disc, Figure}
 use Rattle.geo_text.specs.Texts.{Shape, shape_of, with_commas}
 use Rattle.world_data.specs.Limits.{max_tests, max_meters}
-use Rattle.world_data.specs.Records.{record_reader}
 use Rattle.world_data.specs.declared.channels.Channel.{Channel}
 use Rattle.world_data.specs.declared.channels.Kind.{Kind}
 use Rattle.world_data.specs.declared.channels.Kind.TheVariants.{Within, Intersects, Near}
@@ -22,21 +19,20 @@ use Rattle.world_data.specs.declared.channels.Watch.{Watch}
 use Rattle.world_data.specs.declared.channels.Watch.TheVariants as watch
 use Rattle.world_data.specs.declared.channels.Wanted.{Wanted}
 use Rattle.world_data.specs.declared.filters.Test.{Test}
-use Rattle.world_data.specs.declared.worlds.Change.TheVariants.{SetChan}
-use Rattle.world_model.specs.Grammar.{a_word, a_geojson, Form, go_on, done, word, maybe, ◌>>=◌, ◌>>◌, where_, one_of, repeated, live, spelled}
-use Rattle.world_model.specs.Kinds.{when, name, glob, lat_lon, four, meters, geojson, list_of, accepted}
+use Rattle.world_model.specs.Grammar.{a_word, a_geojson, Form, go_on, done, word, ◌>>=◌, ◌>>◌, where_, repeated, live, spelled}
+use Rattle.world_model.specs.Kinds.{when, name, glob, seconds, lat_lon, four, meters, geojson, list_of, accepted}
 use Rattle.world_model.specs.Commands as table
 use Rattle.world_model.specs.Effects.{settled_channel}
 use Rattle.world_model.specs.TableParts.{SetsNone, setting_form, setting_said}
-use Rattle.world_model.specs.MadeForms.{Makes, makes_done, makes_none, makes_bind, makes_behind, makes_then, makes_repeated, spelled_said, makes_if, first}
+use Rattle.world_model.specs.MadeForms.{Makes, makes_done, makes_none, makes_bind, makes_behind, makes_then, makes_repeated, makes_if, first}
 use Rattle.world_model.specs.declared.search_commands.AreaWords.{AreaWords}
 use Rattle.world_model.specs.declared.search_commands.AreaWords.TheVariants.{Given, Of}
 use Rattle.world_model.specs.declared.commands.Command.{Command}
 use Rattle.world_model.specs.declared.commands.Command.TheVariants as command
 use Rattle.world_model.specs.declared.channel_commands.ChannelCommand.TheVariants as of_channel
-use Rattle.log_record.specs.Words.{SettingsAreNormal}
+use Rattle.log_record.specs.Words.{deadline_front, normal_words, IsNormal, SettingsAreNormal}
 use Rattle.log_record.specs.RecordsRead.{second}
-use Rattle.log_record.proofs.ReadBack.{Reads, literal, reads_done, reads_word, reads_bind, reads_then, reads_here, reads_there, reads_where, none_where, skip, over, Goes, stays, goes_then, goes_all}
+use Rattle.log_record.proofs.ReadBack.{Reads, literal, reads_done, reads_word, reads_bind, reads_then, reads_left, reads_here, reads_there, reads_where, none_where, skip, over, Goes, stays, goes_then, goes_all}
 use Rattle.log_record.proofs.NormalForms.{IsNamed, IsPattern, IsNormalTest, IsNatural, IsPlace, IsBox, IsText, WantsSome, makes_name, makes_glob, makes_test, makes_list, makes_meters, makes_lat_lon, makes_four, makes_geojson, reads_lat_lon, reads_four}
 use Rattle.log_record.proofs.NormalLists.{five, three, five_read, three_read, five_in, three_in}
 use Rattle.log_record.proofs.NormalOptions.{so_far, normal, no_option, Waits, leads_glob, leads_tests, leads_fence, leads_nodwell, leads_detect, leads_commands}
@@ -166,17 +162,27 @@ words_of o d c = table.glob_words o.glob ++ flat_map table.test_words o.tests ++
 same_words : (o : table.FenceOptions) → table.option_words (last o) ≡ table.option_words o
 same_words o = ap (λ d. words_of o d (table.list_words (codes "COMMANDS") table.command_names (normal table.command_names o.commands))) (detect_words o.detect) ∙ ap (λ c. words_of o (table.list_words (codes "DETECT") table.detect_names o.detect) c) (command_words o.commands)
 
-abbrev setting_with : Bytes → Bytes → Bytes → table.FenceOptions → Wanted → List Bytes → Watch → List Bytes → Option AreaWords → Command
-setting_with channel kind_word key o wanted words w area_words from = command.Channel (of_channel.Setchan (record {
+-- a setting without the seconds of EX, of a channel without a deadline
+abbrev plain : Bytes → table.Called
+plain channel = record { name = channel; after_ex = None }
+
+abbrev channel_set : Bytes → Bytes → Bytes → table.FenceOptions → Wanted → Watch → List Bytes → Channel
+channel_set channel kind_word key o wanted w words = record {
   name = channel;
   fence = record { key = key; glob = o.glob; tests = o.tests; wanted = wanted; watch = w };
-  words = kind_word ∷ key ∷ words ++ area_words;
-}) from)
+  words = kind_word ∷ key ∷ words;
+  deadline = None;
+}
 
-same_setting : (channel kind_word key : Bytes) (o : table.FenceOptions) (w : Watch) (area_words : List Bytes) (from : Option AreaWords)
-    → table.setting channel kind_word key (last o) w area_words from ≡ table.setting channel kind_word key o w area_words from
-same_setting channel kind_word key o w area_words from =
-    ap (λ x. setting_with channel kind_word key o x (table.option_words (last o)) w area_words from) (same_wanted o) ∙ ap (λ x. setting_with channel kind_word key o (table.wanted_of o) x w area_words from) (same_words o)
+abbrev setting_with : table.Called → Bytes → Bytes → table.FenceOptions → Wanted → List Bytes → Watch → List Bytes → Option AreaWords → Command
+setting_with called kind_word key o wanted words w area_words from =
+    command.Channel (of_channel.Setchan (channel_set called.name kind_word key o wanted w (words ++ area_words)) from called.after_ex)
+
+same_setting : (called : table.Called) (kind_word key : Bytes) (o : table.FenceOptions) (w : Watch) (area_words : List Bytes) (from : Option AreaWords)
+    → table.setting called kind_word key (last o) w area_words from ≡ table.setting called kind_word key o w area_words from
+same_setting called kind_word key o w area_words from =
+    ap (λ x. setting_with called kind_word key o x (table.option_words (last o)) w area_words from) (same_wanted o)
+    ∙ ap (λ x. setting_with called kind_word key o (table.wanted_of o) x w area_words from) (same_words o)
 
 -- the options are read again, up to what stands behind them
 
@@ -280,8 +286,9 @@ makes_area =
 
 -- settings
 
-abbrev Spells : Channel → Option AreaWords → Type 0
-Spells c from = Reads setting_form (record_reader (SetChan c)) (command.Channel (of_channel.Setchan c from)) []
+record Spells (c : Channel) (from : Option AreaWords) : Type 0 where
+  reads : Reads setting_form (normal_words c) (command.Channel (of_channel.Setchan c from None)) []
+  undated : deadline_front c.words ≡ (None, c.words)
 
 -- the setting's normal words spell it, where its area stands in them; else they do once the area's text stands there
 abbrev Respells : Channel → Option AreaWords → Type 0
@@ -291,7 +298,7 @@ Respells c (Some (Of key id)) = (text : Bytes) (shape : Shape) → shape_of text
     → let d = settled_channel c (Figure shape) (codes "OBJECT" ∷ text ∷ []) in Spells d (Some (Given (Figure shape)))
 
 abbrev IsRespelled : Command → Type 0
-IsRespelled (command.Channel (of_channel.Setchan c from)) = Respells c from
+IsRespelled (command.Channel (of_channel.Setchan c from after_ex)) = Respells c from
 IsRespelled c = Unit {0}
 
 -- what goes on behind the options of an area
@@ -305,29 +312,30 @@ closed_behind test f g words e = ap (λ t. (where_ t f >>= g) words) e
 closed_where : {A : Type 0} (test : Bool) (f : Form A) (words : List Bytes) → test ≡ false → where_ test f words ≡ []
 closed_where test f words e = ap (λ t. where_ t f words) e
 
-area_waits : (called : Bytes) (kind : Kind) (channel key : Bytes) → Waits (λ o. where_ o.fence table.area >>= (λ a. done (table.setting channel called key o (watch.Zone kind a.area) a.words (Some a.from))))
-area_waits called kind channel key = record {
+area_waits : (kind_word : Bytes) (kind : Kind) (channel : table.Called) (key : Bytes)
+    → Waits (λ o. where_ o.fence table.area >>= (λ a. done (table.setting channel kind_word key o (watch.Zone kind a.area) a.words (Some a.from))))
+area_waits kind_word kind channel key = record {
   closed = λ s words e. closed_behind s.fence table.area _ words e;
   before_nodwell = λ s words. none_behind s.fence table.area _ (codes "NODWELL" ∷ words) refl;
   before_detect = λ s words. none_behind s.fence table.area _ (codes "DETECT" ∷ words) refl;
   before_commands = λ s words. none_behind s.fence table.area _ (codes "COMMANDS" ∷ words) refl;
 }
 
-abbrev disc_near : Bytes → Bytes → table.FenceOptions → Form Command
+abbrev disc_near : table.Called → Bytes → table.FenceOptions → Form Command
 disc_near channel key o = word (codes "POINT") >> lat_lon >>= (λ p. meters >>= (λ r.
     done (table.setting channel (codes "NEARBY") key o (watch.Zone Near (Disc p r)) (codes "POINT" ∷ signed_decimal p.y ∷ signed_decimal p.x ∷ decimal r ∷ []) None)))
 
-abbrev roam_near : Bytes → Bytes → table.FenceOptions → Form Command
+abbrev roam_near : table.Called → Bytes → table.FenceOptions → Form Command
 roam_near channel key o = word (codes "ROAM") >> name >>= (λ other. glob >>= (λ pattern. meters >>= (λ r.
     done (table.setting channel (codes "NEARBY") key o (watch.Roam other pattern r o.nodwell) (codes "ROAM" ∷ other ∷ pattern ∷ decimal r ∷ []) None))))
 
-no_near : (channel key : Bytes) (o : table.FenceOptions) (words : List Bytes) → disc_near channel key o words ≡ [] → roam_near channel key o words ≡ [] → table.near_area channel key o words ≡ []
+no_near : (channel : table.Called) (key : Bytes) (o : table.FenceOptions) (words : List Bytes) → disc_near channel key o words ≡ [] → roam_near channel key o words ≡ [] → table.near_area channel key o words ≡ []
 no_near channel key o words d r = over (not o.nodwell) (disc_near channel key o) (where_ (is_none o.detect) (roam_near channel key o) ∷ []) words d (over (is_none o.detect) (roam_near channel key o) [] words r refl)
 
-abbrev behind_near : Bytes → Bytes → table.FenceOptions → Form Command
+abbrev behind_near : table.Called → Bytes → table.FenceOptions → Form Command
 behind_near channel key o = where_ o.fence (table.near_area channel key o)
 
-near_waits : (channel key : Bytes) → Waits (behind_near channel key)
+near_waits : (channel : table.Called) (key : Bytes) → Waits (behind_near channel key)
 near_waits channel key = record {
   closed = λ s words e. closed_where s.fence (table.near_area channel key s) words e;
   before_nodwell = λ s words. none_where s.fence (table.near_area channel key s) (codes "NODWELL" ∷ words) (no_near channel key s (codes "NODWELL" ∷ words) refl refl);
@@ -335,24 +343,24 @@ near_waits channel key = record {
   before_commands = λ s words. none_where s.fence (table.near_area channel key s) (codes "COMMANDS" ∷ words) (no_near channel key s (codes "COMMANDS" ∷ words) refl refl);
 }
 
-abbrev behind_area : Bytes → Kind → Bytes → Bytes → table.FenceOptions → Form Command
-behind_area called kind channel key o = where_ o.fence table.area >>= (λ a. done (table.setting channel called key o (watch.Zone kind a.area) a.words (Some a.from)))
+abbrev behind_area : Bytes → Kind → table.Called → Bytes → table.FenceOptions → Form Command
+behind_area kind_word kind channel key o = where_ o.fence table.area >>= (λ a. done (table.setting channel kind_word key o (watch.Zone kind a.area) a.words (Some a.from)))
 
-spells_area : (called : Bytes) (kind : Kind) (channel key : Bytes) (o : table.FenceOptions) (a : table.AreaRead)
-    → ((rest : List Bytes) → Reads (word called) (called ∷ rest) called rest) → IsNamed key → AreNormal false o → Reads table.area a.words a [] → ((s : table.FenceOptions) → table.fence_option false s a.words ≡ [])
-    → Reads (table.setchan_area called kind channel) (called ∷ key ∷ table.option_words o ++ a.words) (table.setting channel called key o (watch.Zone kind a.area) a.words (Some a.from)) []
-spells_area called kind channel key o a called_is named h reads no_option =
-    subst (λ c. Reads (table.setchan_area called kind channel) (called ∷ key ∷ table.option_words o ++ a.words) c []) (same_setting channel called key o (watch.Zone kind a.area) a.words (Some a.from))
-    (reads_then (word called) (name >>= (λ k. repeated (table.fence_option false) table.no_fence_options >>= behind_area called kind channel k)) (called_is _)
-    (reads_bind name (λ k. repeated (table.fence_option false) table.no_fence_options >>= behind_area called kind channel k) (reads_word a_word (λ w. when (is_name w) w) named)
-    (goes_all (table.fence_option false) (behind_area called kind channel key) (all_options false (behind_area called kind channel key) (area_waits called kind channel key) o a.words h) (no_option (last o))
-    (reads_bind (where_ true table.area) (λ b. done (table.setting channel called key (last o) (watch.Zone kind b.area) b.words (Some b.from))) (reads_where true table.area refl reads) reads_done))))
+spells_area : (kind_word : Bytes) (kind : Kind) (channel : table.Called) (key : Bytes) (o : table.FenceOptions) (a : table.AreaRead)
+    → ((rest : List Bytes) → Reads (word kind_word) (kind_word ∷ rest) kind_word rest) → IsNamed key → AreNormal false o → Reads table.area a.words a [] → ((s : table.FenceOptions) → table.fence_option false s a.words ≡ [])
+    → Reads (table.setchan_area kind_word kind channel) (kind_word ∷ key ∷ table.option_words o ++ a.words) (table.setting channel kind_word key o (watch.Zone kind a.area) a.words (Some a.from)) []
+spells_area kind_word kind channel key o a word_is named h reads no_option =
+    subst (λ c. Reads (table.setchan_area kind_word kind channel) (kind_word ∷ key ∷ table.option_words o ++ a.words) c []) (same_setting channel kind_word key o (watch.Zone kind a.area) a.words (Some a.from))
+    (reads_then (word kind_word) (name >>= (λ k. repeated (table.fence_option false) table.no_fence_options >>= behind_area kind_word kind channel k)) (word_is _)
+    (reads_bind name (λ k. repeated (table.fence_option false) table.no_fence_options >>= behind_area kind_word kind channel k) (reads_word a_word (λ w. when (is_name w) w) named)
+    (goes_all (table.fence_option false) (behind_area kind_word kind channel key) (all_options false (behind_area kind_word kind channel key) (area_waits kind_word kind channel key) o a.words h) (no_option (last o))
+    (reads_bind (where_ true table.area) (λ b. done (table.setting channel kind_word key (last o) (watch.Zone kind b.area) b.words (Some b.from))) (reads_where true table.area refl reads) reads_done))))
 
 none_detected : (d : Option (List Bytes)) → is_none d ≡ true → is_none (normal table.detect_names d) ≡ true
 none_detected None e = refl
 none_detected (Some l) e = absurd (cc e)
 
-spells_disc : (channel key : Bytes) (o : table.FenceOptions) (p : Point) (r : ℕ) → IsNamed key → AreNormal true o → not o.nodwell ≡ true → IsPlace p → IsNatural 0 max_meters r
+spells_disc : (channel : table.Called) (key : Bytes) (o : table.FenceOptions) (p : Point) (r : ℕ) → IsNamed key → AreNormal true o → not o.nodwell ≡ true → IsPlace p → IsNatural 0 max_meters r
     → let a = codes "POINT" ∷ signed_decimal p.y ∷ signed_decimal p.x ∷ decimal r ∷ [] in
     Reads (table.setchan_near channel) (codes "NEARBY" ∷ key ∷ table.option_words o ++ a) (table.setting channel (codes "NEARBY") key o (watch.Zone Near (Disc p r)) a None) []
 spells_disc channel key o p r named h dwells place far =
@@ -368,7 +376,7 @@ spells_disc channel key o p r named h dwells place far =
     (reads_bind meters (λ y. done (table.setting channel (codes "NEARBY") key (last o) (watch.Zone Near (Disc p y)) (codes "POINT" ∷ signed_decimal p.y ∷ signed_decimal p.x ∷ decimal y ∷ []) None)) (reads_word a_word (natural_within 0 max_meters) far) reads_done)))
     (over (is_none (last o).detect) (roam_near channel key (last o)) [] a refl refl))))))
 
-spells_roam : (channel key : Bytes) (o : table.FenceOptions) (other pattern : Bytes) (r : ℕ) → IsNamed key → AreNormal true o → is_none o.detect ≡ true → IsNamed other → IsPattern pattern → IsNatural 0 max_meters r
+spells_roam : (channel : table.Called) (key : Bytes) (o : table.FenceOptions) (other pattern : Bytes) (r : ℕ) → IsNamed key → AreNormal true o → is_none o.detect ≡ true → IsNamed other → IsPattern pattern → IsNatural 0 max_meters r
     → let a = codes "ROAM" ∷ other ∷ pattern ∷ decimal r ∷ [] in
     Reads (table.setchan_near channel) (codes "NEARBY" ∷ key ∷ table.option_words o ++ a) (table.setting channel (codes "NEARBY") key o (watch.Roam other pattern r o.nodwell) a None) []
 spells_roam channel key o other pattern r named h alone_is named_other is far =
@@ -386,75 +394,124 @@ spells_roam channel key o other pattern r named h alone_is named_other is far =
 
 -- a whole setting, by how its form stands among the three
 
-abbrev kinds : Bytes → Form Command
-kinds channel = one_of (table.setchan_area (codes "WITHIN") Within channel ∷ table.setchan_area (codes "INTERSECTS") Intersects channel ∷ table.setchan_near channel ∷ [])
-
 abbrev SpellsKind : Bytes → List Bytes → Command → Type 0
-SpellsKind channel words c = Reads (one_of (table.setchan_area (codes "WITHIN") Within channel ∷ table.setchan_area (codes "INTERSECTS") Intersects channel ∷ table.setchan_near channel ∷ [])) words c []
+SpellsKind channel words c = Reads (table.setchan_kinds (plain channel)) words c []
 
-spells_setting : (channel : Bytes) (words : List Bytes) (c : Command) → IsNamed channel → SpellsKind channel words c → Reads setting_form (codes "SETCHAN" ∷ channel ∷ words) c []
-spells_setting channel words c named kind = reads_then (word (codes "SETCHAN")) (name >>= kinds) (literal (codes "SETCHAN") _ refl) (reads_bind name kinds (reads_word a_word (λ w. when (is_name w) w) named) kind)
+abbrev behind_name : Bytes → Form Command
+behind_name channel = table.after_ex_words >>= (λ after_ex. table.setchan_kinds (record { name = channel; after_ex = after_ex }))
+
+abbrev ex_form : Form (Option ℕ)
+ex_form = word (codes "EX") >> seconds >>= (λ s. done (Some s))
+
+-- words that begin with no EX
+spells_setting : (channel : Bytes) (words : List Bytes) (c : Command) → IsNamed channel → ex_form words ≡ [] → SpellsKind channel words c
+    → Reads setting_form (codes "SETCHAN" ∷ channel ∷ words) c []
+spells_setting channel words c named none kind =
+    reads_then (word (codes "SETCHAN")) (name >>= behind_name) (literal (codes "SETCHAN") _ refl)
+    (reads_bind name behind_name (reads_word a_word (λ w. when (is_name w) w) named)
+    (reads_bind table.after_ex_words (λ after_ex. table.setchan_kinds (record { name = channel; after_ex = after_ex }))
+    (reads_left (done None) ex_form reads_done none) kind))
+
+abbrev zone_set : Bytes → Bytes → Bytes → table.FenceOptions → Watch → List Bytes → Channel
+zone_set channel kind_word key o w area_words = channel_set channel kind_word key o (table.wanted_of o) w (table.option_words o ++ area_words)
 
 abbrev SpellsSetting : Bytes → Kind → Type 0
-SpellsSetting called kind = (channel key : Bytes) (o : table.FenceOptions) (a : table.AreaRead) → IsNamed channel → IsNamed key → AreNormal false o → Reads table.area a.words a [] → ((s : table.FenceOptions) → table.fence_option false s a.words ≡ [])
-    → Reads setting_form (codes "SETCHAN" ∷ channel ∷ called ∷ key ∷ table.option_words o ++ a.words) (table.setting channel called key o (watch.Zone kind a.area) a.words (Some a.from)) []
+SpellsSetting kind_word kind = (channel key : Bytes) (o : table.FenceOptions) (a : table.AreaRead) → IsNamed channel → IsNamed key → AreNormal false o
+    → Reads table.area a.words a [] → ((s : table.FenceOptions) → table.fence_option false s a.words ≡ [])
+    → Spells (zone_set channel kind_word key o (watch.Zone kind a.area) a.words) (Some a.from)
+
+abbrev within_form : Bytes → Form Command
+within_form channel = table.setchan_area (codes "WITHIN") Within (plain channel)
+
+abbrev intersects_form : Bytes → Form Command
+intersects_form channel = table.setchan_area (codes "INTERSECTS") Intersects (plain channel)
+
+abbrev near_form : Bytes → Form Command
+near_form channel = table.setchan_near (plain channel)
 
 within_spelled : SpellsSetting (codes "WITHIN") Within
-within_spelled channel key o a named key_named h reads no_option = spells_setting channel _ _ named (reads_here (table.setchan_area (codes "WITHIN") Within channel) (table.setchan_area (codes "INTERSECTS") Intersects channel ∷ table.setchan_near channel ∷ []) (spells_area (codes "WITHIN") Within channel key o a (λ rest. record { is = refl }) key_named h reads no_option) refl)
+within_spelled channel key o a named key_named h reads no_option = record {
+  reads = spells_setting channel _ _ named refl (reads_here (within_form channel) (intersects_form channel ∷ near_form channel ∷ [])
+      (spells_area (codes "WITHIN") Within (plain channel) key o a (λ rest. record { is = refl }) key_named h reads no_option) refl);
+  undated = refl;
+}
 
 intersects_spelled : SpellsSetting (codes "INTERSECTS") Intersects
-intersects_spelled channel key o a named key_named h reads no_option = spells_setting channel _ _ named (reads_there (table.setchan_area (codes "WITHIN") Within channel) (table.setchan_area (codes "INTERSECTS") Intersects channel ∷ table.setchan_near channel ∷ []) refl (reads_here (table.setchan_area (codes "INTERSECTS") Intersects channel) (table.setchan_near channel ∷ []) (spells_area (codes "INTERSECTS") Intersects channel key o a (λ rest. record { is = refl }) key_named h reads no_option) refl))
+intersects_spelled channel key o a named key_named h reads no_option = record {
+  reads = spells_setting channel _ _ named refl (reads_there (within_form channel) (intersects_form channel ∷ near_form channel ∷ []) refl
+      (reads_here (intersects_form channel) (near_form channel ∷ [])
+      (spells_area (codes "INTERSECTS") Intersects (plain channel) key o a (λ rest. record { is = refl }) key_named h reads no_option) refl));
+  undated = refl;
+}
+
+near_spelled : (channel key : Bytes) (o : table.FenceOptions) (w : Watch) (area_words : List Bytes) → IsNamed channel
+    → let c = zone_set channel (codes "NEARBY") key o w area_words in
+    Reads (near_form channel) c.words (command.Channel (of_channel.Setchan c None None)) [] → Spells c None
+near_spelled channel key o w area_words named near = record {
+  reads = spells_setting channel _ _ named refl (reads_there (within_form channel) (intersects_form channel ∷ near_form channel ∷ []) refl
+      (reads_there (intersects_form channel) (near_form channel ∷ []) refl (reads_here (near_form channel) [] near refl)));
+  undated = refl;
+}
 
 text_is : (text : Bytes) (shape : Shape) → shape_of text ≡ Ok shape → IsText (text, shape)
 text_is text shape e = ap (accepted text) e
 
-by_from : (called : Bytes) (kind : Kind) → SpellsSetting called kind → (channel key : Bytes) (o : table.FenceOptions) → IsNamed channel → IsNamed key → AreNormal false o
-    → (from : AreaWords) (area : Area) (words : List Bytes) → IsNormalArea (record { from = from; area = area; words = words }) → IsRespelled (table.setting channel called key o (watch.Zone kind area) words (Some from))
-by_from called kind spelled_is channel key o named key_named h (Given x) area words is = spelled_is channel key o (record { from = Given x; area = area; words = words }) named key_named h is.0 is.1
-by_from called kind spelled_is channel key o named key_named h (Of k id) area words is = λ text shape accepted_is.
+by_from : (kind_word : Bytes) (kind : Kind) → SpellsSetting kind_word kind → (channel : table.Called) (key : Bytes) (o : table.FenceOptions) → IsNamed channel.name
+    → IsNamed key → AreNormal false o → (from : AreaWords) (area : Area) (words : List Bytes) → IsNormalArea (record { from = from; area = area; words = words })
+    → IsRespelled (table.setting channel kind_word key o (watch.Zone kind area) words (Some from))
+by_from kind_word kind spelled_is channel key o named key_named h (Given x) area words is =
+    spelled_is channel.name key o (record { from = Given x; area = area; words = words }) named key_named h is.0 is.1
+by_from kind_word kind spelled_is channel key o named key_named h (Of k id) area words is = λ text shape accepted_is.
     let t = text_area (text, shape) (text_is text shape accepted_is) in
     let given = codes "OBJECT" ∷ text ∷ [] in
     let none : words ≡ [] = ap (λ (a : table.AreaRead). a.words) is in
     let joined_words : table.option_words o ++ given ≡ (table.option_words o ++ words) ++ given = ap (λ l. l ++ given) (sym (append-nil (table.option_words o)) ∙ ap (λ l. table.option_words o ++ l) (sym none)) in
-    subst (λ l. Reads setting_form (codes "SETCHAN" ∷ channel ∷ called ∷ key ∷ l) (command.Channel (of_channel.Setchan (record {
-      name = channel;
-      fence = record { key = key; glob = o.glob; tests = o.tests; wanted = table.wanted_of o; watch = watch.Zone kind (Figure shape) };
-      words = called ∷ key ∷ l;
-    }) (Some (Given (Figure shape))))) []) joined_words (spelled_is channel key o (table.given_area (Figure shape) given) named key_named h t.0 t.1)
+    subst (λ l. Spells (channel_set channel.name kind_word key o (table.wanted_of o) (watch.Zone kind (Figure shape)) l) (Some (Given (Figure shape))))
+    joined_words (spelled_is channel.name key o (table.given_area (Figure shape) given) named key_named h t.0 t.1)
 
-makes_setchan_area : (called : Bytes) (kind : Kind) → SpellsSetting called kind → (channel : Bytes) → IsNamed channel → Makes IsRespelled (table.setchan_area called kind channel)
-makes_setchan_area called kind spelled_is channel named = makes_then IsRespelled (word called) _ (makes_bind IsNamed IsRespelled name _ makes_name (λ key key_named. makes_bind (AreNormal false) IsRespelled _ _ (makes_options false) (λ o h.
-    makes_bind IsNormalArea IsRespelled _ _ (makes_if IsNormalArea o.fence table.area (λ fence. makes_area)) (λ a is. makes_done IsRespelled _ (by_from called kind spelled_is channel key o named key_named h a.from a.area a.words is)))))
+makes_setchan_area : (kind_word : Bytes) (kind : Kind) → SpellsSetting kind_word kind → (channel : table.Called) → IsNamed channel.name
+    → Makes IsRespelled (table.setchan_area kind_word kind channel)
+makes_setchan_area kind_word kind spelled_is channel named = makes_then IsRespelled (word kind_word) _ (makes_bind IsNamed IsRespelled name _ makes_name (λ key key_named. makes_bind (AreNormal false) IsRespelled _ _ (makes_options false) (λ o h.
+    makes_bind IsNormalArea IsRespelled _ _ (makes_if IsNormalArea o.fence table.area (λ fence. makes_area)) (λ a is. makes_done IsRespelled _ (by_from kind_word kind spelled_is channel key o named key_named h a.from a.area a.words is)))))
 
-makes_near_area : (channel key : Bytes) (o : table.FenceOptions) → IsNamed channel → IsNamed key → AreNormal true o → Makes IsRespelled (table.near_area channel key o)
+makes_near_area : (channel : table.Called) (key : Bytes) (o : table.FenceOptions) → IsNamed channel.name → IsNamed key → AreNormal true o
+    → Makes IsRespelled (table.near_area channel key o)
 makes_near_area channel key o named key_named h =
     first (makes_if IsRespelled (not o.nodwell) _ (λ dwells. makes_bind IsPlace IsRespelled (word (codes "POINT") >> lat_lon) _ (makes_then IsPlace (word (codes "POINT")) lat_lon makes_lat_lon) (λ p place.
-    makes_bind (IsNatural 0 max_meters) IsRespelled meters _ makes_meters (λ r far. makes_done IsRespelled _ (spells_setting channel _ _ named (reads_there (table.setchan_area (codes "WITHIN") Within channel) (table.setchan_area (codes "INTERSECTS") Intersects channel ∷ table.setchan_near channel ∷ []) refl (reads_there (table.setchan_area (codes "INTERSECTS") Intersects channel) (table.setchan_near channel ∷ []) refl (reads_here (table.setchan_near channel) [] (spells_disc channel key o p r key_named h dwells place far) refl)))))))) (
+    makes_bind (IsNatural 0 max_meters) IsRespelled meters _ makes_meters (λ r far. makes_done IsRespelled _
+    (near_spelled channel.name key o _ _ named (spells_disc (plain channel.name) key o p r key_named h dwells place far)))))) (
     first (makes_if IsRespelled (is_none o.detect) _ (λ none. makes_bind IsNamed IsRespelled (word (codes "ROAM") >> name) _ (makes_then IsNamed (word (codes "ROAM")) name makes_name) (λ other named_other.
-    makes_bind IsPattern IsRespelled glob _ makes_glob (λ pattern is. makes_bind (IsNatural 0 max_meters) IsRespelled meters _ makes_meters (λ r far. makes_done IsRespelled _ (spells_setting channel _ _ named (reads_there (table.setchan_area (codes "WITHIN") Within channel) (table.setchan_area (codes "INTERSECTS") Intersects channel ∷ table.setchan_near channel ∷ []) refl (reads_there (table.setchan_area (codes "INTERSECTS") Intersects channel) (table.setchan_near channel ∷ []) refl (reads_here (table.setchan_near channel) [] (spells_roam channel key o other pattern r key_named h none named_other is far) refl))))))))) (makes_none IsRespelled))
+    makes_bind IsPattern IsRespelled glob _ makes_glob (λ pattern is. makes_bind (IsNatural 0 max_meters) IsRespelled meters _ makes_meters (λ r far. makes_done IsRespelled _
+    (near_spelled channel.name key o _ _ named (spells_roam (plain channel.name) key o other pattern r key_named h none named_other is far))))))) (makes_none IsRespelled))
 
-makes_setchan : Makes IsRespelled setting_form
-makes_setchan = makes_then IsRespelled (word (codes "SETCHAN")) _ (makes_bind IsNamed IsRespelled name _ makes_name (λ channel named.
+makes_kinds : (channel : table.Called) → IsNamed channel.name → Makes IsRespelled (table.setchan_kinds channel)
+makes_kinds channel named =
     first (makes_setchan_area (codes "WITHIN") Within within_spelled channel named) (
     first (makes_setchan_area (codes "INTERSECTS") Intersects intersects_spelled channel named) (
     first (makes_then IsRespelled (word (codes "NEARBY")) _ (makes_bind IsNamed IsRespelled name _ makes_name (λ key key_named. makes_bind (AreNormal true) IsRespelled _ _ (makes_options true) (λ o h.
-    makes_if IsRespelled o.fence _ (λ fence. makes_near_area channel key o named key_named h))))) (makes_none IsRespelled)))))
+    makes_if IsRespelled o.fence _ (λ fence. makes_near_area channel key o named key_named h))))) (makes_none IsRespelled)))
+
+makes_setchan : Makes IsRespelled setting_form
+makes_setchan = makes_then IsRespelled (word (codes "SETCHAN")) _ (makes_bind IsNamed IsRespelled name _ makes_name
+    (λ channel named. makes_behind IsRespelled table.after_ex_words _ (λ after_ex. makes_kinds (record { name = channel; after_ex = after_ex }) named)))
 
 -- another command is no setting
 others_are : (c : Command) → SetsNone c → IsRespelled c
-others_are (command.Channel (of_channel.Setchan c from)) none = absurd none
+others_are (command.Channel (of_channel.Setchan c from after_ex)) none = absurd none
 others_are c none = tt
 
 respelled : (words : List Bytes) (c : Command) → table.command_spelled words ≡ Some c → IsRespelled c
 respelled words c e = setting_said IsRespelled others_are words c (makes_setchan.made words) e
 
-spelled_again : (c d : Channel) (from : Option AreaWords) → Spells d from → table.command_spelled (record_reader (SetChan d)) ≡ Some (command.Channel (of_channel.Setchan d from))
+normal_again : (c : Channel) (from : Option AreaWords) → Spells c from → IsNormal c from
 unfolding table.readings
-spelled_again c d from is = ap (λ l. spelled (live (l ++ []))) is.is
+normal_again c from is = record { spelled = ap (λ l. spelled (live (l ++ []))) is.reads.is; undated = is.undated }
 
 pub settings_are_normal : SettingsAreNormal
 settings_are_normal = record {
-  given = λ words c a e. spelled_again c c (Some (Given a)) (respelled words (command.Channel (of_channel.Setchan c (Some (Given a)))) e);
-  near = λ words c e. spelled_again c c None (respelled words (command.Channel (of_channel.Setchan c None)) e);
-  stored = λ words c key id text shape e accepted_is. let d = settled_channel c (Figure shape) (codes "OBJECT" ∷ text ∷ []) in spelled_again c d (Some (Given (Figure shape))) (respelled words (command.Channel (of_channel.Setchan c (Some (Of key id)))) e text shape accepted_is);
+  given = λ words c a after_ex e. normal_again c (Some (Given a)) (respelled words (command.Channel (of_channel.Setchan c (Some (Given a)) after_ex)) e);
+  near = λ words c after_ex e. normal_again c None (respelled words (command.Channel (of_channel.Setchan c None after_ex)) e);
+  stored = λ words c after_ex key id text shape e accepted_is.
+      normal_again (settled_channel c (Figure shape) (codes "OBJECT" ∷ text ∷ [])) (Some (Given (Figure shape)))
+      (respelled words (command.Channel (of_channel.Setchan c (Some (Of key id)) after_ex)) e text shape accepted_is);
 }

@@ -7,7 +7,7 @@ use Rattle.std.proofs.lemmas.List.{drop-drop}
 use Rattle.std.proofs.lemmas.Nat.{be_bytes_8}
 use Rattle.byte_text.specs.Names.{Bytes}
 use Rattle.world_data.specs.declared.worlds.Change.{Change}
-use Rattle.log_record.specs.Words.{IsRecorded}
+use Rattle.log_record.specs.Versions.{IsRecordedIn}
 use Rattle.log_record.specs.Batches.{AreBytes, number_bytes, number_of, records_text, batch_text, open_gate, records_in, Batches, with_changes}
 use Rattle.log_record.specs.Batches.{batch_behind, first_batches, batches_in, all_changes, AreRecorded}
 use Rattle.log_record.specs.Readings.{open_batches}
@@ -35,13 +35,13 @@ pub number_found : (bytes : Bytes) → length bytes ≡ 8 → AreBytes bytes →
 unfolding number_bytes
 number_found bytes long are = be_bytes_8 bytes (number_of bytes) long (all_get bytes are) refl
 
-pub record Found (at : ℕ) (bytes : Bytes) (b : Batches) : Type 0 where
+pub record Found (v at : ℕ) (bytes : Bytes) (b : Batches) : Type 0 where
   pub batches : List (List Change)
   pub gate : ℕ
   pub stale : Bytes
   pub text : bytes ≡ open_batches batches ++ gate ∷ stale
   pub closed : gate ≢ open_gate
-  pub recorded : AreRecorded batches
+  pub recorded : AreRecorded v batches
   pub changes : b.changes ≡ all_changes batches
   pub place : b.gate ≡ at + length (open_batches batches)
 
@@ -55,15 +55,15 @@ err_not : (at : ℕ) (b : Batches) → Err at ≡ fine b → ⊥
 err_not at b e = cc e
 
 -- behind an open gate: the batch's text, and more batches
-abbrev Behind : ℕ → Bytes → Batches → Type 0
-Behind at bytes b = Found at (open_gate ∷ bytes) b
+abbrev Behind : ℕ → ℕ → Bytes → Batches → Type 0
+Behind v at bytes b = Found v at (open_gate ∷ bytes) b
 
-with_commas : (at : ℕ) (bytes : Bytes) (changes : List Change) (b others : Batches) → AreBytes bytes → length bytes < 2 ^ 64
+with_commas : (v at : ℕ) (bytes : Bytes) (changes : List Change) (b others : Batches) → AreBytes bytes → length bytes < 2 ^ 64
     → 8 + number_of (take 8 bytes) ≤ length bytes
-    → AllByRecursion IsRecorded changes × (take (number_of (take 8 bytes)) (drop 8 bytes) ≡ records_text changes)
-    → Found (at + 9 + number_of (take 8 bytes)) (drop (8 + number_of (take 8 bytes)) bytes) others
-    → record { changes = changes ++ others.changes; gate = others.gate } ≡ b → Behind at bytes b
-with_commas at bytes changes b others are small within records rest is =
+    → AllByRecursion (IsRecordedIn v) changes × (take (number_of (take 8 bytes)) (drop 8 bytes) ≡ records_text changes)
+    → Found v (at + 9 + number_of (take 8 bytes)) (drop (8 + number_of (take 8 bytes)) bytes) others
+    → record { changes = changes ++ others.changes; gate = others.gate } ≡ b → Behind v at bytes b
+with_commas v at bytes changes b others are small within records rest is =
     let n = number_of (take 8 bytes) in
     let number : number_bytes n ≡ take 8 bytes = number_found (take 8 bytes) (omega (arith, length-take 8 bytes, within)) (all_take 8 bytes are) in
     let size : n ≡ length (records_text changes) = omega (arith, ap length records.1, length-take n (drop 8 bytes), length-drop 8 bytes, within) in
@@ -94,46 +94,46 @@ with_commas at bytes changes b others are small within records rest is =
     }
 
 -- the steps of reading
-abbrev Next : (ℕ → Bytes → Result Batches ℕ) → Type 0
-Next next = (k : ℕ) (rest : Bytes) (c : Batches) → AreBytes rest → length rest < 2 ^ 64 → next k rest ≡ Ok c → Found k rest c
+abbrev Next : ℕ → (ℕ → Bytes → Result Batches ℕ) → Type 0
+Next v next = (k : ℕ) (rest : Bytes) (c : Batches) → AreBytes rest → length rest < 2 ^ 64 → next k rest ≡ Ok c → Found v k rest c
 
-by_others : (at : ℕ) (bytes : Bytes) (changes : List Change) (b : Batches) (r : Result Batches ℕ) → AreBytes bytes → length bytes < 2 ^ 64
+by_others : (v at : ℕ) (bytes : Bytes) (changes : List Change) (b : Batches) (r : Result Batches ℕ) → AreBytes bytes → length bytes < 2 ^ 64
     → 8 + number_of (take 8 bytes) ≤ length bytes
-    → AllByRecursion IsRecorded changes × (take (number_of (take 8 bytes)) (drop 8 bytes) ≡ records_text changes)
-    → ((c : Batches) → r ≡ Ok c → Found (at + 9 + number_of (take 8 bytes)) (drop (8 + number_of (take 8 bytes)) bytes) c)
-    → with_changes (Ok changes) r ≡ Ok b → Behind at bytes b
-by_others at bytes changes b (Ok c) are small within records ih e =
-    with_commas at bytes changes b c are small within records (ih c refl) (ok_is (record { changes = changes ++ c.changes; gate = c.gate }) b e)
-by_others at bytes changes b (Err k) are small within records ih e = absurd (err_not k b e)
+    → AllByRecursion (IsRecordedIn v) changes × (take (number_of (take 8 bytes)) (drop 8 bytes) ≡ records_text changes)
+    → ((c : Batches) → r ≡ Ok c → Found v (at + 9 + number_of (take 8 bytes)) (drop (8 + number_of (take 8 bytes)) bytes) c)
+    → with_changes (Ok changes) r ≡ Ok b → Behind v at bytes b
+by_others v at bytes changes b (Ok c) are small within records ih e =
+    with_commas v at bytes changes b c are small within records (ih c refl) (ok_is (record { changes = changes ++ c.changes; gate = c.gate }) b e)
+by_others v at bytes changes b (Err k) are small within records ih e = absurd (err_not k b e)
 
-by_records : (at : ℕ) (bytes : Bytes) (b : Batches) (r : Result (List Change) ℕ) (others : Result Batches ℕ) → AreBytes bytes
+by_records : (v at : ℕ) (bytes : Bytes) (b : Batches) (r : Result (List Change) ℕ) (others : Result Batches ℕ) → AreBytes bytes
     → length bytes < 2 ^ 64 → 8 + number_of (take 8 bytes) ≤ length bytes
-    → records_in (at + 9) (take (number_of (take 8 bytes)) (drop 8 bytes)) ≡ r
-    → ((c : Batches) → others ≡ Ok c → Found (at + 9 + number_of (take 8 bytes)) (drop (8 + number_of (take 8 bytes)) bytes) c)
-    → with_changes r others ≡ Ok b → Behind at bytes b
-by_records at bytes b (Err k) others are small within read ih e = absurd (err_not k b e)
-by_records at bytes b (Ok changes) others are small within read ih e =
-    by_others at bytes changes b others are small within (records_found (at + 9) (take (number_of (take 8 bytes)) (drop 8 bytes)) changes read) ih e
+    → records_in v (at + 9) (take (number_of (take 8 bytes)) (drop 8 bytes)) ≡ r
+    → ((c : Batches) → others ≡ Ok c → Found v (at + 9 + number_of (take 8 bytes)) (drop (8 + number_of (take 8 bytes)) bytes) c)
+    → with_changes r others ≡ Ok b → Behind v at bytes b
+by_records v at bytes b (Err k) others are small within read ih e = absurd (err_not k b e)
+by_records v at bytes b (Ok changes) others are small within read ih e =
+    by_others v at bytes changes b others are small within (records_found v (at + 9) (take (number_of (take 8 bytes)) (drop 8 bytes)) changes read) ih e
 
-by_length : (at : ℕ) (bytes : Bytes) (b : Batches) (next : ℕ → Bytes → Result Batches ℕ) (t : Bool) → AreBytes bytes → length bytes < 2 ^ 64
-    → nat_le (8 + number_of (take 8 bytes)) (length bytes) ≡ t → Next next
-    → (if t then with_changes (records_in (at + 9) (take (number_of (take 8 bytes)) (drop 8 bytes)))
+by_length : (v at : ℕ) (bytes : Bytes) (b : Batches) (next : ℕ → Bytes → Result Batches ℕ) (t : Bool) → AreBytes bytes → length bytes < 2 ^ 64
+    → nat_le (8 + number_of (take 8 bytes)) (length bytes) ≡ t → Next v next
+    → (if t then with_changes (records_in v (at + 9) (take (number_of (take 8 bytes)) (drop 8 bytes)))
     (next (at + 9 + number_of (take 8 bytes)) (drop (8 + number_of (take 8 bytes)) bytes)) else Err (at + 1)) ≡ Ok b
-    → Behind at bytes b
-by_length at bytes b next true are small test ih e =
+    → Behind v at bytes b
+by_length v at bytes b next true are small test ih e =
     let n = number_of (take 8 bytes) in
-    by_records at bytes b (records_in (at + 9) (take n (drop 8 bytes))) (next (at + 9 + n) (drop (8 + n) bytes)) are small
+    by_records v at bytes b (records_in v (at + 9) (take n (drop 8 bytes))) (next (at + 9 + n) (drop (8 + n) bytes)) are small
     (leb-true (8 + n) (length bytes) test) refl
     (λ c is. ih (at + 9 + n) (drop (8 + n) bytes) c (all_drop (8 + n) bytes are) (omega (arith, small, length-drop (8 + n) bytes)) is) e
-by_length at bytes b next false are small test ih e = absurd (err_not (at + 1) b e)
+by_length v at bytes b next false are small test ih e = absurd (err_not (at + 1) b e)
 
-by_gate : (at gate : ℕ) (bytes : Bytes) (b : Batches) (next : ℕ → Bytes → Result Batches ℕ) (t : Bool) → AreBytes bytes → length bytes < 2 ^ 64
-    → (gate == open_gate) ≡ t → Next next
-    → (if t then batch_behind at bytes next else Ok (record { changes = []; gate = at })) ≡ Ok b → Found at (gate ∷ bytes) b
-by_gate at gate bytes b next true are small test ih e =
-    subst (λ (g : ℕ). Found at (g ∷ bytes) b) (sym (eqb-true gate open_gate test))
-    (by_length at bytes b next (nat_le (8 + number_of (take 8 bytes)) (length bytes)) are small refl ih e)
-by_gate at gate bytes b next false are small test ih e = let is = ok_is (record { changes = []; gate = at }) b e in record {
+by_gate : (v at gate : ℕ) (bytes : Bytes) (b : Batches) (next : ℕ → Bytes → Result Batches ℕ) (t : Bool) → AreBytes bytes → length bytes < 2 ^ 64
+    → (gate == open_gate) ≡ t → Next v next
+    → (if t then batch_behind v at bytes next else Ok (record { changes = []; gate = at })) ≡ Ok b → Found v at (gate ∷ bytes) b
+by_gate v at gate bytes b next true are small test ih e =
+    subst (λ (g : ℕ). Found v at (g ∷ bytes) b) (sym (eqb-true gate open_gate test))
+    (by_length v at bytes b next (nat_le (8 + number_of (take 8 bytes)) (length bytes)) are small refl ih e)
+by_gate v at gate bytes b next false are small test ih e = let is = ok_is (record { changes = []; gate = at }) b e in record {
   batches = [];
   gate = gate;
   stale = bytes;
@@ -144,12 +144,13 @@ by_gate at gate bytes b next false are small test ih e = let is = ok_is (record 
   place = omega (arith, ap (λ (c : Batches). c.gate) is);
 }
 
-first_found : (n : ℕ) → Next (first_batches n)
-first_found zero k rest c are small e = absurd (err_not k c e)
-first_found (suc n) k [] c are small e = absurd (err_not k c e)
-first_found (suc n) k (gate ∷ bytes) c are small e =
-    by_gate k gate bytes c (first_batches n) (gate == open_gate) are.1 (omega (arith, small)) refl (first_found n) e
+first_found : (v n : ℕ) → Next v (first_batches v n)
+first_found v zero k rest c are small e = absurd (err_not k c e)
+first_found v (suc n) k [] c are small e = absurd (err_not k c e)
+first_found v (suc n) k (gate ∷ bytes) c are small e =
+    by_gate v k gate bytes c (first_batches v n) (gate == open_gate) are.1 (omega (arith, small)) refl (first_found v n) e
 
-pub batches_found : (at : ℕ) (bytes : Bytes) (b : Batches) → AreBytes bytes → length bytes < 2 ^ 64 → batches_in at bytes ≡ Ok b → Found at bytes b
+pub batches_found : (v at : ℕ) (bytes : Bytes) (b : Batches) → AreBytes bytes → length bytes < 2 ^ 64 → batches_in v at bytes ≡ Ok b
+    → Found v at bytes b
 unfolding batches_in
-batches_found at bytes b are small e = first_found (length bytes + 1) at bytes b are small e
+batches_found v at bytes b are small e = first_found v (length bytes + 1) at bytes b are small e

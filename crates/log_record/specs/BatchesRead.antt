@@ -10,7 +10,8 @@ use Rattle.byte_text.specs.StreamTexts.{request_read, text_long}
 use Rattle.log_sides.specs.Torn.{length-number_bytes}
 use Rattle.world_data.specs.Records.{record_reader, record_writer}
 use Rattle.world_data.specs.declared.worlds.Change.{Change}
-use Rattle.log_record.specs.Words.{IsRecorded}
+use Rattle.log_record.specs.Versions.{IsRecordedIn}
+use Rattle.log_record.specs.VersionLaws.{read_back_in}
 use Rattle.log_record.specs.Batches.{number_bytes, number_of, records_text, batch_text, open_gate, record_front, with_record, records_behind}
 use Rattle.log_record.specs.Batches.{first_records, records_in, Batches, with_changes, batch_behind, first_batches, batches_in, all_changes}
 use Rattle.log_record.specs.Batches.{AreRecorded}
@@ -18,34 +19,35 @@ use Rattle.log_record.specs.Readings.{open_batches}
 
 -- records
 
-pub front_read : (c : Change) (rest : Bytes) → IsRecorded c → record_front (request (record_writer c ++ rest)) ≡ Some (c, rest)
-front_read c rest is = ap record_front (request_read (record_reader c) rest is.fits) ∙ ap (option_map (λ (d : Change). (d, rest))) is.read_back
+pub front_read : (v : ℕ) (c : Change) (rest : Bytes) → IsRecordedIn v c → record_front v (request (record_writer c ++ rest)) ≡ Some (c, rest)
+front_read v c rest is = ap (record_front v) (request_read (record_reader c) rest is.recorded.fits)
+    ∙ ap (option_map (λ (d : Change). (d, rest))) (read_back_in v c is)
 
-first_read : (n at : ℕ) (changes : List Change) → AllByRecursion IsRecorded changes → length (records_text changes) ≤ n
-    → first_records n at (records_text changes) ≡ Ok changes
-first_read zero at [] are few = refl
-first_read (suc n) at [] are few = refl
-first_read zero at (c ∷ changes) are few =
+first_read : (v n at : ℕ) (changes : List Change) → AllByRecursion (IsRecordedIn v) changes → length (records_text changes) ≤ n
+    → first_records v n at (records_text changes) ≡ Ok changes
+first_read v zero at [] are few = refl
+first_read v (suc n) at [] are few = refl
+first_read v zero at (c ∷ changes) are few =
     absurd (omega (arith, few, text_long (record_reader c), length-append (record_writer c) (records_text changes)))
-first_read (suc n) at (c ∷ changes) are few =
+first_read v (suc n) at (c ∷ changes) are few =
     let bytes = record_writer c ++ records_text changes in
-    let behind = first_read n (at + (length bytes - length (records_text changes))) changes are.1
+    let behind = first_read v n (at + (length bytes - length (records_text changes))) changes are.1
     (omega (arith, few, text_long (record_reader c), length-append (record_writer c) (records_text changes))) in
-    ap (λ (x : Option (Change × Bytes)). records_behind at bytes x (first_records n)) (front_read c (records_text changes) are.0)
+    ap (λ (x : Option (Change × Bytes)). records_behind at bytes x (first_records v n)) (front_read v c (records_text changes) are.0)
     ∙ ap (with_record c) behind
 
-pub records_read : (at : ℕ) (changes : List Change) → AllByRecursion IsRecorded changes → records_in at (records_text changes) ≡ Ok changes
+pub records_read : (v at : ℕ) (changes : List Change) → AllByRecursion (IsRecordedIn v) changes → records_in v at (records_text changes) ≡ Ok changes
 unfolding records_in
-records_read at changes are = first_read (length (records_text changes)) at changes are (omega arith)
+records_read v at changes are = first_read v (length (records_text changes)) at changes are (omega arith)
 
 -- batches
 
 -- whatever a batch holds, so many bytes of it are read as records
-pub framed_read : (at : ℕ) (batch rest : Bytes) (next : ℕ → Bytes → Result Batches ℕ) → length batch < 2 ^ 64
-    → batch_behind at ((number_bytes (length batch) ++ batch) ++ rest) next
-    ≡ with_changes (records_in (at + 9) batch) (next (at + 9 + length batch) rest)
+pub framed_read : (v at : ℕ) (batch rest : Bytes) (next : ℕ → Bytes → Result Batches ℕ) → length batch < 2 ^ 64
+    → batch_behind v at ((number_bytes (length batch) ++ batch) ++ rest) next
+    ≡ with_changes (records_in v (at + 9) batch) (next (at + 9 + length batch) rest)
 unfolding number_bytes
-framed_read at batch rest next small =
+framed_read v at batch rest next small =
     let n = length batch in
     let bytes = number_bytes n ++ (batch ++ rest) in
     let assoc : (number_bytes n ++ batch) ++ rest ≡ bytes = append_assoc (number_bytes n) batch rest in
@@ -54,34 +56,34 @@ framed_read at batch rest next small =
     (omega (arith, length-append (number_bytes n) (batch ++ rest), length-append batch rest, length-number_bytes n)) in
     let inside : take n (drop 8 bytes) ≡ batch = take_at batch rest n refl in
     let behind : drop (8 + n) bytes ≡ rest = sym (drop-drop n 8 bytes) ∙ drop_at batch rest n refl in
-    ap (λ (l : Bytes). batch_behind at l next) assoc
-    ∙ ap (λ (m : ℕ). if nat_le (8 + m) (length bytes) then with_changes (records_in (at + 9) (take m (drop 8 bytes)))
+    ap (λ (l : Bytes). batch_behind v at l next) assoc
+    ∙ ap (λ (m : ℕ). if nat_le (8 + m) (length bytes) then with_changes (records_in v (at + 9) (take m (drop 8 bytes)))
     (next (at + 9 + m) (drop (8 + m) bytes)) else Err (at + 1)) number
-    ∙ rw long (ap (λ (l : Bytes). with_changes (records_in (at + 9) l) (next (at + 9 + n) (drop (8 + n) bytes))) inside
-    ∙ ap (λ (l : Bytes). with_changes (records_in (at + 9) batch) (next (at + 9 + n) l)) behind)
+    ∙ rw long (ap (λ (l : Bytes). with_changes (records_in v (at + 9) l) (next (at + 9 + n) (drop (8 + n) bytes))) inside
+    ∙ ap (λ (l : Bytes). with_changes (records_in v (at + 9) batch) (next (at + 9 + n) l)) behind)
 
-batch_read : (at : ℕ) (changes : List Change) (rest : Bytes) (next : ℕ → Bytes → Result Batches ℕ) → AllByRecursion IsRecorded changes
+batch_read : (v at : ℕ) (changes : List Change) (rest : Bytes) (next : ℕ → Bytes → Result Batches ℕ) → AllByRecursion (IsRecordedIn v) changes
     → length (records_text changes) < 2 ^ 64
-    → batch_behind at (batch_text changes ++ rest) next ≡ with_changes (Ok changes) (next (at + 9 + length (records_text changes)) rest)
-batch_read at changes rest next are small =
+    → batch_behind v at (batch_text changes ++ rest) next ≡ with_changes (Ok changes) (next (at + 9 + length (records_text changes)) rest)
+batch_read v at changes rest next are small =
     let records = records_text changes in
-    framed_read at records rest next small ∙ ap (λ (r : Result (List Change) ℕ). with_changes r (next (at + 9 + length records) rest))
-    (records_read (at + 9) changes are)
+    framed_read v at records rest next small ∙ ap (λ (r : Result (List Change) ℕ). with_changes r (next (at + 9 + length records) rest))
+    (records_read v (at + 9) changes are)
 
 -- batches and a gate that is not open
 
-pub first_batches_read : (n at gate : ℕ) (batches : List (List Change)) (stale : Bytes) → (gate == open_gate) ≡ false → AreRecorded batches
+pub first_batches_read : (v n at gate : ℕ) (batches : List (List Change)) (stale : Bytes) → (gate == open_gate) ≡ false → AreRecorded v batches
     → length batches < n
-    → first_batches n at (open_batches batches ++ gate ∷ stale)
+    → first_batches v n at (open_batches batches ++ gate ∷ stale)
     ≡ Ok (record { changes = all_changes batches; gate = at + length (open_batches batches) })
-first_batches_read zero at gate batches stale closed are few = absurd (omega (arith, few))
-first_batches_read (suc n) at gate [] stale closed are few = rw closed (ap (λ (k : ℕ). Ok (record { changes = []; gate = k })) (omega arith))
-first_batches_read (suc n) at gate (changes ∷ batches) stale closed are few =
+first_batches_read v zero at gate batches stale closed are few = absurd (omega (arith, few))
+first_batches_read v (suc n) at gate [] stale closed are few = rw closed (ap (λ (k : ℕ). Ok (record { changes = []; gate = k })) (omega arith))
+first_batches_read v (suc n) at gate (changes ∷ batches) stale closed are few =
     let rest = open_batches batches ++ gate ∷ stale in
     let size = length (records_text changes) in
     let assoc : open_batches (changes ∷ batches) ++ gate ∷ stale ≡ open_gate ∷
     (batch_text changes ++ rest) = append_assoc (open_gate ∷ batch_text changes) (open_batches batches) (gate ∷ stale) in
-    let behind = first_batches_read n (at + 9 + size) gate batches stale closed are.1 (omega (arith, few)) in
+    let behind = first_batches_read v n (at + 9 + size) gate batches stale closed are.1 (omega (arith, few)) in
     let long : at + 9 + size + length (open_batches batches) ≡ at + length (open_batches (changes ∷ batches)) =
     omega (
       arith,
@@ -89,8 +91,8 @@ first_batches_read (suc n) at gate (changes ∷ batches) stale closed are few =
       length-append (number_bytes size) (records_text changes),
       length-number_bytes size,
     ) in
-    ap (first_batches (suc n) at) assoc
-    ∙ batch_read at changes rest (first_batches n) are.0.0 are.0.1
+    ap (first_batches v (suc n) at) assoc
+    ∙ batch_read v at changes rest (first_batches v n) are.0.0 are.0.1
     ∙ ap (with_changes (Ok changes)) behind
     ∙ ap (λ (k : ℕ). Ok (record { changes = changes ++ all_changes batches; gate = k })) long
 
@@ -98,9 +100,9 @@ batches_long : (batches : List (List Change)) → length batches ≤ length (ope
 batches_long [] = omega arith
 batches_long (changes ∷ batches) = omega (arith, batches_long batches, length-append (open_gate ∷ batch_text changes) (open_batches batches))
 
-pub batches_read : (at gate : ℕ) (batches : List (List Change)) (stale : Bytes) → (gate == open_gate) ≡ false → AreRecorded batches
-    → batches_in at (open_batches batches ++ gate ∷ stale) ≡ Ok (record { changes = all_changes batches; gate = at + length (open_batches batches) })
+pub batches_read : (v at gate : ℕ) (batches : List (List Change)) (stale : Bytes) → (gate == open_gate) ≡ false → AreRecorded v batches
+    → batches_in v at (open_batches batches ++ gate ∷ stale) ≡ Ok (record { changes = all_changes batches; gate = at + length (open_batches batches) })
 unfolding batches_in
-batches_read at gate batches stale closed are =
-    first_batches_read (length (open_batches batches ++ gate ∷ stale) + 1) at gate batches stale closed are
+batches_read v at gate batches stale closed are =
+    first_batches_read v (length (open_batches batches ++ gate ∷ stale) + 1) at gate batches stale closed are
     (omega (arith, batches_long batches, length-append (open_batches batches) (gate ∷ stale)))

@@ -19,7 +19,7 @@ use Rattle.world_model.specs.declared.events.Asked.TheVariants.{Words, Broken}
 use Rattle.world_model.specs.declared.events.Event.{Event}
 use Rattle.world_model.specs.declared.events.Event.TheVariants.{Enter, Call, Take, Tick, Close, Remove, Rewrite, Retire}
 use Rattle.log_record.specs.Folding.{folded}
-use Rattle.log_record.specs.EventWrites.{changes_of, logged_by, due_writes, asked_writes, live_writes, call_writes, writes_of, writes_by, is_fine}
+use Rattle.log_record.specs.EventWrites.{changes_of, logged_by, tick_writes, asked_writes, live_writes, call_writes, writes_of, writes_by, is_fine}
 use Rattle.log_record.specs.EventWrites.{Does}
 use Rattle.log_record.specs.Laws.{StepsMakeTheirWrites}
 use Rattle.log_record.specs.StepCases.{step_by_cases, refusal_by_cases}
@@ -72,9 +72,9 @@ does_from old mid new writes world logged does =
 does_to : (old mid new : Hall) (writes : List Write) → new.world ≡ mid.world → new.logged ≡ mid.logged → Does old mid writes → Does old new writes
 does_to old mid new writes world logged does = record { world = world ∙ does.world; logged = logged ∙ does.logged }
 
-due_does : (h : Hall) (moment : ℕ) → Does h (due h moment) (due_writes h moment)
+due_does : (h : Hall) (moment : ℕ) → Does h (due h moment) (tick_writes h moment)
 due_does h moment = let later = record h { now = max h.now moment } in
-    does_from h later (due h moment) (due_writes h moment) refl refl (apply_all_does later (due_writes h moment))
+    does_from h later (due h moment) (tick_writes h moment) refl refl (apply_all_does later (tick_writes h moment))
 
 closed_does : (closes : Bool) (n : ℕ) (old h : Hall) (writes : List Write) → Does old h writes → Does old (closed_if closes n h) writes
 closed_does true n old h writes does = does_to old h (close_session n h) writes refl refl does
@@ -104,7 +104,7 @@ call_does h n asked = live_does h (session_of h n) asked
 
 done_does : (h : Hall) (event : Event) → Does h (doing h event).1 (writes_by h event (doing h event).0)
 done_does h Enter = does_none h (doing h Enter).1 refl refl
-done_does h (Call n moment asked) = does_then h (due h moment) (do_call (due h moment) n asked) (due_writes h moment)
+done_does h (Call n moment asked) = does_then h (due h moment) (do_call (due h moment) n asked) (tick_writes h moment)
     (call_writes (due h moment) n asked) (due_does h moment) (call_does (due h moment) n asked)
 done_does h (Take n) = does_none h (doing h (Take n)).1 refl refl
 done_does h (Tick moment) = due_does h moment

@@ -2,8 +2,7 @@
 use Rattle.std.specs.Prelude.{◌≡◌, ℕ, ◌+◌, max, Bool, true, false, List, [], ◌∷◌, ◌++◌, map, Option, Some, None, if◌then◌else◌}
 use Rattle.world_data.specs.Records.{record_len}
 use Rattle.world_model.specs.Commands.{reads}
-use Rattle.fence_model.specs.Writes.{Write, dels}
-use Rattle.world_data.specs.Expiry.{expired}
+use Rattle.fence_model.specs.Writes.{Write, due_writes}
 use Rattle.world_model.specs.Halls.{Hall, Session, is_live, session_of, due, effect_of}
 use Rattle.world_data.specs.declared.worlds.Change.{Change}
 use Rattle.world_model.specs.declared.events.Asked.{Asked}
@@ -23,9 +22,9 @@ abbrev pub logged_by : List Write → ℕ
 logged_by [] = 0
 logged_by (d ∷ writes) = record_len d.change + logged_by writes
 
--- the objects that are due at a moment are deleted
-abbrev pub due_writes : Hall → ℕ → List Write
-due_writes h moment = dels (expired h.world (max h.now moment))
+-- what is due at a moment is deleted
+abbrev pub tick_writes : Hall → ℕ → List Write
+tick_writes h moment = due_writes h.world (max h.now moment)
 
 -- what is asked changes the world as its effect says
 abbrev pub asked_writes : Hall → Session → Asked → List Write
@@ -42,8 +41,8 @@ call_writes h n asked = live_writes h (session_of h n) asked
 
 -- the writes of an event that is done: of a call and of a tick alone
 abbrev pub writes_of : Hall → Event → List Write
-writes_of h (Call n moment asked) = due_writes h moment ++ call_writes (due h moment) n asked
-writes_of h (Tick moment) = due_writes h moment
+writes_of h (Call n moment asked) = tick_writes h moment ++ call_writes (due h moment) n asked
+writes_of h (Tick moment) = tick_writes h moment
 writes_of h event = []
 
 abbrev pub is_fine : Outcome → Bool

@@ -1,5 +1,5 @@
 -- Laws of the log.
-use Rattle.std.specs.Prelude.{◌≡◌, ◌≢◌, ◌≤◌, ◌<◌, ◌^◌, ℕ, false, List, [], ◌∷◌, ◌++◌, length}
+use Rattle.std.specs.Prelude.{◌≡◌, ◌≢◌, ◌≤◌, ℕ, false, List, [], ◌∷◌, ◌++◌, length, Ok}
 use Rattle.byte_text.specs.Names.{Bytes}
 use Rattle.world_data.specs.Worlds.{empty_world}
 use Rattle.world_data.specs.declared.worlds.World.{World}
@@ -13,8 +13,9 @@ use Rattle.world_model.specs.declared.events.Entry.{Entry}
 use Rattle.world_model.specs.declared.events.Opening.{Opening}
 use Rattle.outside.specs.Sides.{Sides, side_of, other_side}
 use Rattle.outside.specs.Crashes.{EachSince}
+use Rattle.log_sides.specs.Texts.{IsHeading}
 use Rattle.log_record.specs.Folding.{folded}
-use Rattle.log_record.specs.Batches.{open_gate, all_changes, AreRecorded, AreBytes}
+use Rattle.log_record.specs.Batches.{open_gate, all_changes, AreRecorded, AreBytes, records_in}
 use Rattle.log_record.specs.Readings.{Damaged, Fresh, is_open, reading, stands, side_over, gate_place, max_side, IsOlder, Standing}
 use Rattle.log_record.specs.Standing.{IsFound}
 use Rattle.log_record.specs.Recovery.{Recovers, Holds}
@@ -68,11 +69,12 @@ StepsMakeTheirWrites = (old new : Hall) (event : Event) (outcome : Outcome) → 
 
 -- a side with this text stands, beside one that is not open or older
 abbrev pub SidesStand : Type 0
-SidesStand = (s : Sides) (side : Side) (generation gate : ℕ) (batches : List (List Change)) (stale : Bytes)
-    → side_of s side ≡ side_over generation batches gate stale → gate ≢ open_gate → 0 < generation → generation < 2 ^ 64 → AreRecorded batches
-    → length s.a ≤ max_side → length s.b ≤ max_side → IsOlder generation (side_of s (other_side side))
+SidesStand = (s : Sides) (side : Side) (version generation gate : ℕ) (batches : List (List Change)) (stale : Bytes)
+    → side_of s side ≡ side_over version generation batches gate stale → gate ≢ open_gate → IsHeading version generation
+    → AreRecorded version batches → length s.a ≤ max_side → length s.b ≤ max_side → IsOlder generation (side_of s (other_side side))
     → reading s ≡ stands (record {
       side = side;
+      version = version;
       generation = generation;
       gate = gate_place batches;
       world = folded empty_world (all_changes batches);
@@ -81,3 +83,8 @@ SidesStand = (s : Sides) (side : Side) (generation gate : ℕ) (batches : List (
 -- a log that is read as standing has such a text
 abbrev pub LogsAreFound : Type 0
 LogsAreFound = (s : Sides) (standing : Standing) → AreBytes s.a → AreBytes s.b → reading s ≡ stands standing → IsFound s standing
+
+-- whole records of a version are whole records of each later one, of the same changes
+abbrev pub OlderRecordsAreNewer : Type 0
+OlderRecordsAreNewer = (older newer at : ℕ) (bytes : Bytes) (changes : List Change) → older ≤ newer → records_in older at bytes ≡ Ok changes
+    → records_in newer at bytes ≡ Ok changes

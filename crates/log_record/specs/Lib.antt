@@ -1,5 +1,6 @@
 pub mod Folding
 pub mod Words
+pub mod Versions
 pub mod Batches
 pub mod Readings
 pub mod Recovery
@@ -11,10 +12,13 @@ pub mod Laws
 pub mod Runs
 pub mod Copying
 pub mod RecordsRead
+pub mod ValuesBack
 pub mod RecordsBack
+pub mod VersionLaws
 pub mod RecordsFound
 pub mod BatchesRead
 pub mod BatchesFound
+pub mod OlderRecords
 pub mod SidesRead
 pub mod SidesFound
 pub mod RecoveryLaws

@@ -1,6 +1,6 @@
 -- The two sides of a log: the text of a side, and what is read of both.
 use Rattle.std.specs.Prelude.{◌≡◌, ℕ, ◌+◌, ◌<◌, ◌==◌, Bool, true, false, not, ◌&&◌, ◌||◌, nat_le, nat_lt, List, [], ◌∷◌, ◌++◌, length, take, drop}
-use Rattle.std.specs.Prelude.{flat_map, Option, Some, None, option_map, if◌then◌else◌, Result, Ok, Err, codes}
+use Rattle.std.specs.Prelude.{flat_map, Option, Some, None, option_map, if◌then◌else◌, Result, Ok, Err, codes, slice_index}
 use Rattle.byte_text.specs.Names.{Bytes, same}
 use Rattle.world_data.specs.Worlds.{empty_world}
 use Rattle.world_data.specs.declared.worlds.World.{World}
@@ -8,7 +8,7 @@ use Rattle.world_data.specs.declared.worlds.Change.{Change}
 use Rattle.outside.specs.declared.sides.Side.{Side}
 use Rattle.outside.specs.declared.sides.Side.TheVariants.{A, B}
 use Rattle.outside.specs.Sides.{Sides, side_of}
-pub use Rattle.log_sides.specs.Texts.{header, max_side}
+pub use Rattle.log_sides.specs.Texts.{header, max_side, is_unknown, is_misnumbered}
 use Rattle.log_record.specs.Folding.{folded}
 use Rattle.log_record.specs.Batches.{number_of, batch_text, open_gate, closed_gate, Batches, batches_in}
 
@@ -22,13 +22,13 @@ header_len = 16
 abbrev pub open_batches : List (List Change) → Bytes
 open_batches batches = flat_map (λ changes. open_gate ∷ batch_text changes) batches
 
--- an open side of a generation, up to and with its closed gate
-abbrev pub side_text : ℕ → List (List Change) → Bytes
-side_text generation batches = open_gate ∷ header generation ++ open_batches batches ++ closed_gate ∷ []
+-- an open side of a version and a generation, up to and with its closed gate
+abbrev pub side_text : ℕ → ℕ → List (List Change) → Bytes
+side_text version generation batches = open_gate ∷ header version generation ++ open_batches batches ++ closed_gate ∷ []
 
 -- such a side whose last gate is torn or closed, with stale bytes behind it
-abbrev pub side_over : ℕ → List (List Change) → ℕ → Bytes → Bytes
-side_over generation batches gate stale = open_gate ∷ (header generation ++ (open_batches batches ++ gate ∷ stale))
+abbrev pub side_over : ℕ → ℕ → List (List Change) → ℕ → Bytes → Bytes
+side_over version generation batches gate stale = open_gate ∷ (header version generation ++ (open_batches batches ++ gate ∷ stale))
 
 -- the place of its last gate
 abbrev pub gate_place : List (List Change) → ℕ
@@ -44,6 +44,9 @@ has_open_gate (gate ∷ bytes) = gate == open_gate
 abbrev pub is_open : Bytes → Bool
 is_open bytes = nat_le (header_len + 1) (length bytes) && has_open_gate bytes
 
+abbrev pub version_of : Bytes → ℕ
+version_of bytes = slice_index bytes 4
+
 abbrev pub generation_of : Bytes → ℕ
 generation_of bytes = number_of (take 8 (drop 8 bytes))
 
@@ -51,13 +54,14 @@ generation_of bytes = number_of (take 8 (drop 8 bytes))
 abbrev pub header_fault : Bytes → Option ℕ
 header_fault bytes =
     if not (same (take 3 (drop 1 bytes)) (codes "TFL")) then Some 1 else
-    if not (same (take 1 (drop 4 bytes)) (1 ∷ [])) then Some 4 else
+    if is_unknown (version_of bytes) then Some 4 else
     if not (same (take 3 (drop 5 bytes)) (0 ∷ 0 ∷ 0 ∷ [])) then Some 5 else
-    if generation_of bytes == 0 then Some 8 else None
+    if is_misnumbered (version_of bytes) (generation_of bytes) then Some 8 else None
 
--- a log that stands: the side in use, its generation, the place of its closed gate, and the world
+-- a log that stands: the side in use, its version and generation, the place of its closed gate, and the world
 pub record Standing : Type 0 where
   pub side : Side
+  pub version : ℕ
   pub generation : ℕ
   pub gate : ℕ
   pub world : World
@@ -97,13 +101,19 @@ side_in_use s =
     if is_open s.b then Some B else None
 
 -- what the batches of a side make of it
-abbrev pub reading_of : Side → ℕ → Result Batches ℕ → Reading
-reading_of side generation (Ok batches) =
-    stands (record { side = side; generation = generation; gate = batches.gate; world = folded empty_world batches.changes })
-reading_of side generation (Err place) = damaged side place
+abbrev pub reading_of : Side → ℕ → ℕ → Result Batches ℕ → Reading
+reading_of side version generation (Ok batches) = stands (record {
+  side = side;
+  version = version;
+  generation = generation;
+  gate = batches.gate;
+  world = folded empty_world batches.changes;
+})
+reading_of side version generation (Err place) = damaged side place
 
 abbrev pub side_reading : Side → Bytes → Reading
-side_reading side bytes = reading_of side (generation_of bytes) (batches_in header_len (drop header_len bytes))
+side_reading side bytes =
+    reading_of side (version_of bytes) (generation_of bytes) (batches_in (version_of bytes) header_len (drop header_len bytes))
 
 abbrev pub reading_in_use : Sides → Option Side → Reading
 reading_in_use s None = fresh

@@ -99,15 +99,22 @@ delchan_shaped : (words : List Bytes) → IfSome (delchan_of words) HasShape
 delchan_shaped (name ∷ []) = tt
 delchan_shaped words = tt
 
-settled_sound : (o : Option Command) → IfSome o IsSoundCommand → IfSome (settled o) HasShape
-settled_sound (Some (command.Channel (of_channel.Setchan c None))) sound = sound
-settled_sound (Some (command.Channel (of_channel.Setchan c (Some (Given a))))) sound =
+settled_sound : (deadline : Option ℕ) (o : Option Command) → IfSome o IsSoundCommand → IfSome (settled deadline o) HasShape
+settled_sound deadline (Some (command.Channel (of_channel.Setchan c None after_ex))) sound = sound
+settled_sound deadline (Some (command.Channel (of_channel.Setchan c (Some (Given a)) after_ex))) sound =
     first (is_sound_channel c) (is_sound_area a && takes_areas c.fence.watch) sound
-settled_sound o sound = tt
+settled_sound deadline o sound = tt
 
 spelled_sound : (words : List Bytes) (o : Option Command) → command_spelled words ≡ o → IfSome o IsSoundCommand
 spelled_sound words None e = tt
 spelled_sound words (Some c) e = spellings_are_sound words c e
+
+setting_sound : (words : List Bytes) → IfSome (setchan_of words) HasShape
+setting_sound [] = tt
+setting_sound (name ∷ words) =
+    let behind = deadline_front words in
+    let normal = codes "SETCHAN" ∷ name ∷ behind.1 in
+    settled_sound behind.0 (command_spelled normal) (spelled_sound normal (command_spelled normal) refl)
 
 could_be_shaped : (words : List Bytes) → IfSome (could_be words) HasShape
 could_be_shaped [] = tt
@@ -117,9 +124,7 @@ could_be_shaped (called ∷ words) =
     (by_test P (same called (codes "DEL")) (del_of words) _ (del_shaped words)
     (by_test P (same called (codes "DROP")) (drop_of words) _ (drop_shaped words)
     (by_test P (same called (codes "FLUSHDB")) (flush_of words) _ (flush_shaped words)
-    (by_test P (same called (codes "SETCHAN")) (setchan_of words) _
-    (settled_sound (command_spelled (codes "SETCHAN" ∷ words))
-    (spelled_sound (codes "SETCHAN" ∷ words) (command_spelled (codes "SETCHAN" ∷ words)) refl))
+    (by_test P (same called (codes "SETCHAN")) (setchan_of words) _ (setting_sound words)
     (by_test P (same called (codes "DELCHAN")) (delchan_of words) None (delchan_shaped words) tt)))))
 
 pub record_read : (words : List Bytes) (c : Change) → change_of_words words ≡ Some c → (record_reader c ≡ words) × (is_kept c ≡ true) × HasShape c

@@ -2,9 +2,10 @@
 use Rattle.std.proofs.Common.{arith, ◌≡◌, ◌⊎◌, inl, inr, ℕ, zero, suc, ◌+◌, ◌^◌, ◌<◌, ◌≤◌, Bool, true, false, not, ◌&&◌, ◌||◌, List, [], ◌∷◌, ◌++◌}
 use Rattle.std.proofs.Common.{length, take, drop, Option, Some, None, option_map, Result, Ok, Err, codes, refl, sym, ap, subst, ◌∙◌, nat_le, nat_lt}
 use Rattle.std.proofs.Common.{if◌then◌else◌, ◌==◌, eqb-true, leb-true, ltb-true, ltb-false, eq-eqb, ⊎_elim, length-take, length-drop}
-use Rattle.std.proofs.Common.{take-append-drop}
+use Rattle.std.proofs.Common.{take-append-drop, get_or}
 use Rattle.std.proofs.lemmas.List.{drop-drop}
 use Rattle.std.proofs.Math.Nat.{eq-or-lt_of_le}
+use Rattle.std.proofs.lemmas.Bool.Decides.{nat_tests}
 use Rattle.byte_text.specs.Names.{Bytes, same}
 use Rattle.byte_text.specs.ByteOrder.{same_equal}
 use Rattle.world_data.specs.Worlds.{empty_world}
@@ -13,7 +14,9 @@ use Rattle.outside.specs.declared.sides.Side.TheVariants.{A, B}
 use Rattle.outside.specs.Sides.{Sides, side_of, other_side}
 use Rattle.log_record.specs.Folding.{folded}
 use Rattle.log_record.specs.Batches.{AreBytes, number_bytes, number_of, open_gate, Batches, batches_in}
-use Rattle.log_record.specs.Readings.{header, header_len, side_over, max_side, has_open_gate, is_open, generation_of, header_fault, Standing, fresh}
+use Rattle.log_sides.specs.Texts.{IsHeading, newest}
+use Rattle.log_record.specs.Readings.{header, header_len, side_over, max_side, has_open_gate, is_open, version_of, generation_of, header_fault}
+use Rattle.log_record.specs.Readings.{is_unknown, is_misnumbered, Standing, fresh}
 use Rattle.log_record.specs.Readings.{stands, damaged, too_long, wrong_header, equal_generations, first_cause, cause_of, side_in_use, reading_of}
 use Rattle.log_record.specs.Readings.{reading_in_use, unless_damaged, reading, IsOlder}
 use Rattle.log_record.specs.Standing.{IsFound}
@@ -75,46 +78,38 @@ bit n bytes k text is = sym (take-append-drop n (drop k bytes)) ∙ ap (λ (l : 
     ∙ ap (λ (l : Bytes). text ++ l) (drop-drop n k bytes)
 
 record Header (bytes : Bytes) : Type 0 where
-  text : drop 1 bytes ≡ header (generation_of bytes) ++ drop 16 bytes
-  some : 0 < generation_of bytes
+  text : drop 1 bytes ≡ header (version_of bytes) (generation_of bytes) ++ drop 16 bytes
+  headed : IsHeading (version_of bytes) (generation_of bytes)
 
 abbrev fault : Bool → Bool → Bool → Bool → Option ℕ
-fault m v z g = if not m then Some 1 else if not v then Some 4 else if not z then Some 5 else if g then Some 8 else None
+fault m v z g = if not m then Some 1 else if v then Some 4 else if not z then Some 5 else if g then Some 8 else None
 
-header_parts : (bytes : Bytes) (m v z g : Bool) → same (take 3 (drop 1 bytes)) (codes "TFL") ≡ m → same (take 1 (drop 4 bytes)) (1 ∷ []) ≡ v
-    → same (take 3 (drop 5 bytes)) (0 ∷ 0 ∷ 0 ∷ []) ≡ z → (generation_of bytes == 0) ≡ g
-    → fault m v z g ≡ None → (m ≡ true) × (v ≡ true) × (z ≡ true) × (g ≡ false)
-header_parts bytes true true true true a b c d e = absurd (cc e)
-header_parts bytes true true true false a b c d e = (refl, refl, refl, refl)
-header_parts bytes true true false g a b c d e = absurd (cc e)
-header_parts bytes true false z g a b c d e = absurd (cc e)
-header_parts bytes false v z g a b c d e = absurd (cc e)
+header_parts : (m v z g : Bool) → fault m v z g ≡ None → (m ≡ true) × (v ≡ false) × (z ≡ true) × (g ≡ false)
+header_parts true false true false e = (refl, refl, refl, refl)
+header_parts true false true true e = absurd (cc e)
+header_parts true false false g e = absurd (cc e)
+header_parts true true z g e = absurd (cc e)
+header_parts false v z g e = absurd (cc e)
 
-not_zero : (n : ℕ) → (n == 0) ≡ false → 0 < n
-not_zero zero e = absurd (cc e)
-not_zero (suc n) e = omega arith
+one_at : (n : ℕ) (bytes : Bytes) → n < length bytes → take 1 (drop n bytes) ≡ get_or bytes n 0 ∷ []
+one_at zero [] within = absurd (omega (arith, within))
+one_at zero (b ∷ bytes) within = refl
+one_at (suc n) [] within = absurd (omega (arith, within))
+one_at (suc n) (b ∷ bytes) within = one_at n bytes (omega (arith, within))
 
-header_of : (bytes : Bytes) → header_fault bytes ≡ None → 17 ≤ length bytes → AreBytes bytes → Header bytes
-header_of bytes none long are =
-    let m = same (take 3 (drop 1 bytes)) (codes "TFL") in
-    let v = same (take 1 (drop 4 bytes)) (1 ∷ []) in
-    let z = same (take 3 (drop 5 bytes)) (0 ∷ 0 ∷ 0 ∷ []) in
-    let parts = header_parts bytes m v z (generation_of bytes == 0) refl refl refl refl none in
-    let number : number_bytes (generation_of bytes)
-    ≡ take 8 (drop 8 bytes) = number_found (take 8 (drop 8 bytes)) (omega (arith, length-take 8 (drop 8 bytes), length-drop 8 bytes, long))
-    (all_take 8 (drop 8 bytes) (all_drop 8 bytes are)) in
-    record {
-      text = bit 3 bytes 1 (codes "TFL") (same_equal (take 3 (drop 1 bytes)) (codes "TFL") parts.0)
-          ∙ ap (λ (l : Bytes). codes "TFL" ++ l) (bit 1 bytes 4 (1 ∷ []) (same_equal (take 1 (drop 4 bytes)) (1 ∷ []) parts.1)
-          ∙ ap (λ (l : Bytes). 1 ∷ l) (bit 3 bytes 5 (0 ∷ 0 ∷ 0 ∷ []) (same_equal (take 3 (drop 5 bytes)) (0 ∷ 0 ∷ 0 ∷ []) parts.2)
-          ∙ ap (λ (l : Bytes). 0 ∷ 0 ∷ 0 ∷ l) (bit 8 bytes 8 (number_bytes (generation_of bytes)) (sym number))));
-      some = not_zero (generation_of bytes) parts.3;
-    }
+known : (v : ℕ) → is_unknown v ≡ false → (1 ≤ v) × (v ≤ newest)
+known v e = grind (arith, nat_tests)
 
--- the whole side
-first_gate : (bytes : Bytes) → has_open_gate bytes ≡ true → bytes ≡ open_gate ∷ drop 1 bytes
-first_gate [] e = absurd (cc e)
-first_gate (b ∷ bytes) e = ap (λ (k : ℕ). k ∷ bytes) (eqb-true b open_gate e)
+numbered : (v g : ℕ) → is_misnumbered v g ≡ false → g < 2 ^ 64 → (1 ≤ g) × (v < newest → g + 1 < 2 ^ 64)
+numbered v g e fits = (grind (arith, nat_tests), λ older. grind (arith, nat_tests))
+
+-- what the header says may be said
+headed_of : (version generation : ℕ) → is_unknown version ≡ false → is_misnumbered version generation ≡ false → generation < 2 ^ 64
+    → IsHeading version generation
+headed_of version generation is may fits =
+    let versioned = known version is in
+    let counted = numbered version generation may fits in
+    record { known = versioned.0; latest = versioned.1; least = counted.0; most = fits; followed = counted.1 }
 
 number_small : (bytes : Bytes) → AreBytes bytes → number_of bytes < 2 ^ 64
 number_small bytes are = omega (
@@ -129,6 +124,29 @@ number_small bytes are = omega (
   all_get bytes are 7,
 )
 
+header_of : (bytes : Bytes) → header_fault bytes ≡ None → 17 ≤ length bytes → AreBytes bytes → Header bytes
+header_of bytes none long are =
+    let v = version_of bytes in
+    let g = generation_of bytes in
+    let parts = header_parts (same (take 3 (drop 1 bytes)) (codes "TFL")) (is_unknown v) (same (take 3 (drop 5 bytes)) (0 ∷ 0 ∷ 0 ∷ []))
+    (is_misnumbered v g) none in
+    let fits : g < 2 ^ 64 = number_small (take 8 (drop 8 bytes)) (all_take 8 (drop 8 bytes) (all_drop 8 bytes are)) in
+    let number : number_bytes g
+    ≡ take 8 (drop 8 bytes) = number_found (take 8 (drop 8 bytes)) (omega (arith, length-take 8 (drop 8 bytes), length-drop 8 bytes, long))
+    (all_take 8 (drop 8 bytes) (all_drop 8 bytes are)) in
+    record {
+      text = bit 3 bytes 1 (codes "TFL") (same_equal (take 3 (drop 1 bytes)) (codes "TFL") parts.0)
+          ∙ ap (λ (l : Bytes). codes "TFL" ++ l) (bit 1 bytes 4 (v ∷ []) (one_at 4 bytes (omega (arith, long)))
+          ∙ ap (λ (l : Bytes). v ∷ l) (bit 3 bytes 5 (0 ∷ 0 ∷ 0 ∷ []) (same_equal (take 3 (drop 5 bytes)) (0 ∷ 0 ∷ 0 ∷ []) parts.2)
+          ∙ ap (λ (l : Bytes). 0 ∷ 0 ∷ 0 ∷ l) (bit 8 bytes 8 (number_bytes g) (sym number))));
+      headed = headed_of v g parts.1 parts.3 fits;
+    }
+
+-- the whole side
+first_gate : (bytes : Bytes) → has_open_gate bytes ≡ true → bytes ≡ open_gate ∷ drop 1 bytes
+first_gate [] e = absurd (cc e)
+first_gate (b ∷ bytes) e = ap (λ (k : ℕ). k ∷ bytes) (eqb-true b open_gate e)
+
 -- what is told of the side in use
 record Told (s : Sides) (side : Side) (st : Standing) : Type 0 where
   opened : is_open (side_of s side) ≡ true
@@ -137,33 +155,36 @@ record Told (s : Sides) (side : Side) (st : Standing) : Type 0 where
   here : length (side_of s side) ≤ max_side
   there : length (side_of s (other_side side)) ≤ max_side
 
-standing : Side → ℕ → Batches → Standing
-standing side generation b = record { side = side; generation = generation; gate = b.gate; world = folded empty_world b.changes }
+abbrev standing : Side → ℕ → ℕ → Batches → Standing
+standing side version generation b = record {
+  side = side;
+  version = version;
+  generation = generation;
+  gate = b.gate;
+  world = folded empty_world b.changes;
+}
 
 stands_is : (x y : Standing) → stands x ≡ stands y → x ≡ y
 stands_is x y e = cc e
 
 found_of : (s : Sides) (side : Side) (st : Standing) (b : Batches) → Told s side st → AreBytes (side_of s side)
-    → batches_in header_len (drop header_len (side_of s side)) ≡ Ok b
-    → stands (record { side = side; generation = generation_of (side_of s side); gate = b.gate; world = folded empty_world b.changes }) ≡ stands st
+    → batches_in (version_of (side_of s side)) header_len (drop header_len (side_of s side)) ≡ Ok b
+    → stands (standing side (version_of (side_of s side)) (generation_of (side_of s side)) b) ≡ stands st
     → IsFound s st
 found_of s side st b told are read is =
     let bytes = side_of s side in
+    let v = version_of bytes in
     let g = generation_of bytes in
-    let same_standing = stands_is (record { side = side; generation = g; gate = b.gate; world = folded empty_world b.changes }) st is in
+    let same_standing = stands_is (standing side v g b) st is in
     let long : 17 ≤ length bytes = leb-true 17 (length bytes) (first (nat_le 17 (length bytes)) (has_open_gate bytes) told.opened) in
     let head = header_of bytes told.fault long are in
-    let found = batches_found header_len (drop 16 bytes) b (all_drop 16 bytes are) (omega (arith, length-drop 16 bytes, told.here)) read in
-    let text : bytes ≡ side_over g found.batches found.gate found.stale =
+    let found = batches_found v header_len (drop 16 bytes) b (all_drop 16 bytes are) (omega (arith, length-drop 16 bytes, told.here)) read in
+    let text : bytes ≡ side_over v g found.batches found.gate found.stale =
     first_gate bytes (second (nat_le 17 (length bytes)) (has_open_gate bytes) told.opened)
-    ∙ ap (λ (l : Bytes). open_gate ∷ l) (head.text ∙ ap (λ (l : Bytes). header g ++ l) found.text) in
+    ∙ ap (λ (l : Bytes). open_gate ∷ l) (head.text ∙ ap (λ (l : Bytes). header v g ++ l) found.text) in
     record {
-      log = record { side = side; generation = g; batches = found.batches };
-      is = record {
-        some = head.some;
-        fits = number_small (take 8 (drop 8 bytes)) (all_take 8 (drop 8 bytes) (all_drop 8 bytes are));
-        recorded = found.recorded;
-      };
+      log = record { side = side; version = v; generation = g; batches = found.batches };
+      is = record { headed = head.headed; recorded = found.recorded };
       by = record {
         gate = found.gate;
         stale = found.stale;
@@ -174,6 +195,7 @@ found_of s side st b told are read is =
         there = told.there;
       };
       side = ap (λ (x : Standing). x.side) same_standing;
+      version = ap (λ (x : Standing). x.version) same_standing;
       generation = ap (λ (x : Standing). x.generation) same_standing;
       gate = sym found.place ∙ ap (λ (x : Standing). x.gate) same_standing;
       world = ap (folded empty_world) (sym found.changes) ∙ ap (λ (x : Standing). x.world) same_standing;
@@ -219,8 +241,8 @@ damaged_not : (side : Side) (place : ℕ) (st : Standing) → damaged side place
 damaged_not side place st e = cc e
 
 by_batches : (s : Sides) (side : Side) (st : Standing) (r : Result Batches ℕ) → Told s side st → AreBytes (side_of s side)
-    → batches_in header_len (drop header_len (side_of s side)) ≡ r
-    → reading_of side (generation_of (side_of s side)) r ≡ stands st → IsFound s st
+    → batches_in (version_of (side_of s side)) header_len (drop header_len (side_of s side)) ≡ r
+    → reading_of side (version_of (side_of s side)) (generation_of (side_of s side)) r ≡ stands st → IsFound s st
 by_batches s side st (Ok b) told are read e = found_of s side st b told are read e
 by_batches s side st (Err place) told are read e = absurd (damaged_not side place st e)
 
@@ -230,8 +252,8 @@ fresh_not st e = cc e
 by_side : (s : Sides) (st : Standing) (o : Option Side) → AreBytes s.a → AreBytes s.b → Fine s → side_in_use s ≡ o
     → reading_in_use s o ≡ stands st → IsFound s st
 by_side s st None a b fine used e = absurd (fresh_not st e)
-by_side s st (Some A) a b fine used e = by_batches s A st (batches_in header_len (drop header_len s.a)) (told_of s A st fine used) a refl e
-by_side s st (Some B) a b fine used e = by_batches s B st (batches_in header_len (drop header_len s.b)) (told_of s B st fine used) b refl e
+by_side s st (Some A) a b fine used e = by_batches s A st (batches_in (version_of s.a) header_len (drop header_len s.a)) (told_of s A st fine used) a refl e
+by_side s st (Some B) a b fine used e = by_batches s B st (batches_in (version_of s.b) header_len (drop header_len s.b)) (told_of s B st fine used) b refl e
 
 by_cause : (s : Sides) (st : Standing) (c : Option (Side × ℕ)) → AreBytes s.a → AreBytes s.b → cause_of s ≡ c
     → unless_damaged c (reading_in_use s (side_in_use s)) ≡ stands st → IsFound s st

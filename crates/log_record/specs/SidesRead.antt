@@ -1,8 +1,9 @@
 -- Sides are read back.
-use Rattle.std.proofs.Common.{arith, ◌≡◌, ◌≢◌, ℕ, ◌^◌, ◌<◌, ◌≤◌, Bool, true, false, List, [], ◌∷◌, ◌++◌, length, Option, Some, None, option_map, refl}
-use Rattle.std.proofs.Common.{ap, ◌∙◌, length-append, nat_le, nat_lt, if◌then◌else◌, ◌==◌, ne_eqb, le-leb}
+use Rattle.std.proofs.Common.{arith, ◌≡◌, ◌≢◌, ℕ, ◌+◌, ◌^◌, ◌<◌, ◌≤◌, Bool, true, false, List, [], ◌∷◌, ◌++◌, length, Option, Some, None}
+use Rattle.std.proofs.Common.{option_map, refl, ap, ◌∙◌, length-append, nat_le, nat_lt, if◌then◌else◌, ◌==◌, ne_eqb, le-leb}
 use Rattle.std.proofs.lemmas.Nat.{from_be_bytes-to_be_bytes_8}
 use Rattle.std.proofs.lemmas.Bool.{le-ltb, lt-ltb}
+use Rattle.std.proofs.lemmas.Bool.Decides.{nat_tests}
 use Rattle.byte_text.specs.Names.{Bytes}
 use Rattle.world_data.specs.Worlds.{empty_world}
 use Rattle.world_data.specs.declared.worlds.Change.{Change}
@@ -12,44 +13,66 @@ use Rattle.outside.specs.Sides.{Sides, side_of}
 use Rattle.log_record.specs.Folding.{folded}
 use Rattle.log_record.specs.Batches.{number_bytes, open_gate, batches_in, all_changes, AreRecorded}
 use Rattle.log_record.specs.Readings.{header, open_batches, side_over, gate_place, header_len, max_side, is_open, generation_of, header_fault}
+use Rattle.log_record.specs.Readings.{is_unknown, is_misnumbered}
 use Rattle.log_record.specs.Readings.{too_long, wrong_header, equal_generations, no_header, first_cause, cause_of, side_in_use, reading_of}
 use Rattle.log_record.specs.Readings.{side_reading, reading_in_use, unless_damaged, reading, Reading, stands, IsOlder}
 use Rattle.log_record.specs.Laws.{SidesStand, EmptyIsFresh}
+use Rattle.log_sides.specs.Texts.{IsHeading, newest}
 use Rattle.log_sides.specs.Torn.{length-number_bytes}
 use Rattle.log_record.specs.BatchesRead.{batches_read}
 
-side_open : (generation gate : ℕ) (batches : List (List Change)) (stale : Bytes) → is_open (side_over generation batches gate stale) ≡ true
-side_open generation gate batches stale =
-    let bytes = side_over generation batches gate stale in
+side_open : (version generation gate : ℕ) (batches : List (List Change)) (stale : Bytes)
+    → is_open (side_over version generation batches gate stale) ≡ true
+side_open version generation gate batches stale =
+    let bytes = side_over version generation batches gate stale in
     let long : nat_le 17 (length bytes) ≡ true = le-leb 17 (length bytes)
     (omega (
       arith,
-      length-append (header generation) (open_batches batches ++ gate ∷ stale),
+      length-append (header version generation) (open_batches batches ++ gate ∷ stale),
       length-append (open_batches batches) (gate ∷ stale),
       length-number_bytes generation,
     )) in
     rw long refl
 
-pub side_generation : (generation gate : ℕ) (batches : List (List Change)) (stale : Bytes) → generation < 2 ^ 64
-    → generation_of (side_over generation batches gate stale) ≡ generation
+pub side_generation : (version generation gate : ℕ) (batches : List (List Change)) (stale : Bytes) → generation < 2 ^ 64
+    → generation_of (side_over version generation batches gate stale) ≡ generation
 unfolding number_bytes
-side_generation generation gate batches stale fits = from_be_bytes-to_be_bytes_8 generation fits
+side_generation version generation gate batches stale fits = from_be_bytes-to_be_bytes_8 generation fits
 
-pub side_right : (generation gate : ℕ) (batches : List (List Change)) (stale : Bytes) → 0 < generation → generation < 2 ^ 64
-    → header_fault (side_over generation batches gate stale) ≡ None
-side_right generation gate batches stale some fits =
-    ap (λ (g : ℕ). if g == 0 then Some 8 else None) (side_generation generation gate batches stale fits)
-    ∙ rw (ne_eqb generation 0 (λ e. omega (arith, e, some))) refl
+known : (version generation : ℕ) → IsHeading version generation → is_unknown version ≡ false
+known version generation headed = by_known version headed.known headed.latest
+  where
+    by_known : (v : ℕ) → 1 ≤ v → v ≤ newest → is_unknown v ≡ false
+    by_known v some late = grind (arith, nat_tests)
 
-side_read : (side : Side) (generation gate : ℕ) (batches : List (List Change)) (stale : Bytes) → gate ≢ open_gate → generation < 2 ^ 64
-    → AreRecorded batches
-    → side_reading side (side_over generation batches gate stale)
-    ≡ stands (record { side = side; generation = generation; gate = gate_place batches; world = folded empty_world (all_changes batches) })
+numbered : (version generation : ℕ) → IsHeading version generation → is_misnumbered version generation ≡ false
+numbered version generation headed = by_number version generation headed.least headed.followed
+  where
+    by_number : (v g : ℕ) → 1 ≤ g → (v < newest → g + 1 < 2 ^ 64) → is_misnumbered v g ≡ false
+    by_number v g some followed = grind (arith, nat_tests)
+
+pub side_right : (version generation gate : ℕ) (batches : List (List Change)) (stale : Bytes) → IsHeading version generation
+    → header_fault (side_over version generation batches gate stale) ≡ None
+side_right version generation gate batches stale headed =
+    ap (λ (g : ℕ). if is_unknown version then Some 4 else if is_misnumbered version g then Some 8 else None)
+    (side_generation version generation gate batches stale headed.most)
+    ∙ rw (known version generation headed, numbered version generation headed) refl
+
+side_read : (side : Side) (version generation gate : ℕ) (batches : List (List Change)) (stale : Bytes) → gate ≢ open_gate → generation < 2 ^ 64
+    → AreRecorded version batches
+    → side_reading side (side_over version generation batches gate stale)
+    ≡ stands (record {
+      side = side;
+      version = version;
+      generation = generation;
+      gate = gate_place batches;
+      world = folded empty_world (all_changes batches);
+    })
 unfolding number_bytes
-side_read side generation gate batches stale closed fits are =
-    ap (λ (g : ℕ). reading_of side g (batches_in header_len (open_batches batches ++ gate ∷ stale)))
-    (side_generation generation gate batches stale fits)
-    ∙ ap (reading_of side generation) (batches_read header_len gate batches stale (ne_eqb gate open_gate closed) are)
+side_read side version generation gate batches stale closed fits are =
+    ap (λ (g : ℕ). reading_of side version g (batches_in version header_len (open_batches batches ++ gate ∷ stale)))
+    (side_generation version generation gate batches stale fits)
+    ∙ ap (reading_of side version generation) (batches_read version header_len gate batches stale (ne_eqb gate open_gate closed) are)
 
 -- the causes of damage, one by one
 
@@ -109,26 +132,23 @@ read_in_use s side found none used is =
     ap (λ (c : Option (Side × ℕ)). unless_damaged c (reading_in_use s (side_in_use s))) none ∙ ap (reading_in_use s) used ∙ is
 
 pub sides_stand : SidesStand
-sides_stand s A generation gate batches stale is closed some fits are a_short b_short older =
-    let text = side_over generation batches gate stale in
-    let opened : is_open s.a ≡ true = ap is_open is ∙ side_open generation gate batches stale in
-    let gen : generation_of s.a ≡ generation = ap generation_of is ∙ side_generation generation gate batches stale fits in
+sides_stand s A version generation gate batches stale is closed headed are a_short b_short older =
+    let opened : is_open s.a ≡ true = ap is_open is ∙ side_open version generation gate batches stale in
+    let gen : generation_of s.a ≡ generation = ap generation_of is ∙ side_generation version generation gate batches stale headed.most in
     let used = a_in_use s generation opened gen older (is_open s.b) refl in
-    read_in_use s A (stands
-    (record { side = A; generation = generation; gate = gate_place batches; world = folded empty_world (all_changes batches) }))
-    (no_cause s (short s A a_short) (short s B b_short) (newer_right s A (ap header_fault is ∙ side_right generation gate batches stale some fits))
-    (older_right s generation B older) used.0 (a_has_header s opened))
-    used.1 (ap (side_reading A) is ∙ side_read A generation gate batches stale closed fits are)
-sides_stand s B generation gate batches stale is closed some fits are a_short b_short older =
-    let text = side_over generation batches gate stale in
-    let opened : is_open s.b ≡ true = ap is_open is ∙ side_open generation gate batches stale in
-    let gen : generation_of s.b ≡ generation = ap generation_of is ∙ side_generation generation gate batches stale fits in
+    let right = newer_right s A (ap header_fault is ∙ side_right version generation gate batches stale headed) in
+    read_in_use s A _
+    (no_cause s (short s A a_short) (short s B b_short) right (older_right s generation B older) used.0 (a_has_header s opened))
+    used.1 (ap (side_reading A) is ∙ side_read A version generation gate batches stale closed headed.most are)
+sides_stand s B version generation gate batches stale is closed headed are a_short b_short older =
+    let opened : is_open s.b ≡ true = ap is_open is ∙ side_open version generation gate batches stale in
+    let gen : generation_of s.b ≡ generation = ap generation_of is ∙ side_generation version generation gate batches stale headed.most in
     let used = b_in_use s generation opened gen older (is_open s.a) refl in
-    read_in_use s B (stands
-    (record { side = B; generation = generation; gate = gate_place batches; world = folded empty_world (all_changes batches) }))
-    (no_cause s (short s A a_short) (short s B b_short) (older_right s generation A older)
-    (newer_right s B (ap header_fault is ∙ side_right generation gate batches stale some fits)) used.0 (b_has_header s (is_open s.a) refl opened))
-    used.1 (ap (side_reading B) is ∙ side_read B generation gate batches stale closed fits are)
+    let right = newer_right s B (ap header_fault is ∙ side_right version generation gate batches stale headed) in
+    read_in_use s B _
+    (no_cause s (short s A a_short) (short s B b_short) (older_right s generation A older) right used.0
+    (b_has_header s (is_open s.a) refl opened))
+    used.1 (ap (side_reading B) is ∙ side_read B version generation gate batches stale closed headed.most are)
 
 -- a disk without a log
 

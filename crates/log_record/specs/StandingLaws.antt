@@ -18,5 +18,5 @@ pub stood_recovers : (u : InUse) (s : Sides) → IsInUse u → StandsBy u s → 
 unfolding Recovers
 stood_recovers u s is by =
     let short = a_short s u.side by.here by.there in
-    ap world_read (sides_stand s u.side u.generation by.gate u.batches by.stale by.text by.closed is.some is.fits is.recorded short.0 short.1
+    ap world_read (sides_stand s u.side u.version u.generation by.gate u.batches by.stale by.text by.closed is.headed is.recorded short.0 short.1
     by.older)

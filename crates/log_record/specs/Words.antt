@@ -1,9 +1,8 @@
 -- The record of a change read back: the change that some words are the record of.
-use Rattle.std.specs.Prelude.{◌≡◌, ℕ, pos, neg_ℤ, ◌-◌, ◌^◌, Bool, true, false, ◌&&◌, nat_le, int_le, List, [], ◌∷◌, Option, Some, None, if◌then◌else◌}
+use Rattle.std.specs.Prelude.{◌≡◌, ℕ, Bool, true, false, ◌&&◌, List, [], ◌∷◌, Option, Some, None, if◌then◌else◌}
 use Rattle.std.specs.Prelude.{codes, Result, Ok, Err}
-use Rattle.std.specs.List.{list_all}
-use Rattle.byte_text.specs.Names.{Bytes, same, is_name}
-use Rattle.byte_text.specs.Numbers.{digits_value, signed_value}
+use Rattle.byte_text.specs.Names.{Bytes, same}
+use Rattle.byte_text.specs.Numbers.{digits_value}
 use Rattle.byte_text.specs.Requests.{IsRequest}
 use Rattle.geo_text.specs.Texts.{Shape, shape_of}
 use Rattle.geo_text.specs.declared.faults.GeoFault.{GeoFault}
@@ -11,12 +10,13 @@ use Rattle.planar_geom.specs.declared.shapes.Area.{Area}
 use Rattle.planar_geom.specs.declared.shapes.Area.TheVariants.{Figure}
 use Rattle.world_model.specs.Effects.{settled_channel}
 use Rattle.world_data.specs.declared.channels.Channel.{Channel}
-use Rattle.world_data.specs.Filters.{Field, are_fields}
+use Rattle.world_data.specs.Filters.{Field, value_in}
 use Rattle.world_model.specs.Commands.{command_spelled}
 use Rattle.world_data.specs.Sound.{is_sound_channel}
 use Rattle.world_data.specs.Records.{record_reader, is_kept}
 use Rattle.world_data.specs.declared.worlds.Change.{Change}
 use Rattle.world_data.specs.declared.worlds.Change.TheVariants.{Put, Del, Drop, Flush, SetChan, DelChan}
+use Rattle.world_model.specs.declared.search_commands.AreaWords.{AreaWords}
 use Rattle.world_model.specs.declared.search_commands.AreaWords.TheVariants.{Given, Of}
 use Rattle.world_model.specs.declared.commands.Command.{Command}
 use Rattle.world_model.specs.declared.commands.Command.TheVariants as command
@@ -27,7 +27,7 @@ use Rattle.world_model.specs.declared.channel_commands.ChannelCommand.TheVariant
 -- the fields at the front of some words, and the words behind them
 abbrev pub fields_front : List Bytes → List Field × List Bytes
 fields_front (called ∷ name ∷ value ∷ words) =
-    if same called (codes "FIELD") then (let behind = fields_front words in ((name, signed_value value) ∷ behind.0, behind.1))
+    if same called (codes "FIELD") then (let behind = fields_front words in ((name, value_in value) ∷ behind.0, behind.1))
     else ([], called ∷ name ∷ value ∷ words)
 fields_front words = ([], words)
 
@@ -67,14 +67,23 @@ abbrev pub delchan_of : List Bytes → Option Change
 delchan_of (name ∷ []) = Some (DelChan name)
 delchan_of words = None
 
+-- the channel with this deadline
+abbrev pub until : Option ℕ → Channel → Channel
+until deadline c = record c { deadline = deadline }
+
 -- a setting whose area stands in its words
-abbrev pub settled : Option Command → Option Change
-settled (Some (command.Channel (of_channel.Setchan c None))) = Some (SetChan c)
-settled (Some (command.Channel (of_channel.Setchan c (Some (Given a))))) = Some (SetChan c)
-settled o = None
+abbrev pub settled : Option ℕ → Option Command → Option Change
+settled deadline (Some (command.Channel (of_channel.Setchan c None after_ex))) = Some (SetChan (until deadline c))
+settled deadline (Some (command.Channel (of_channel.Setchan c (Some (Given a)) after_ex))) = Some (SetChan (until deadline c))
+settled deadline o = None
+
+-- a setting with the deadline that stands behind its name
+abbrev pub setchan_until : Bytes → Option ℕ × List Bytes → Option Change
+setchan_until name behind = settled behind.0 (command_spelled (codes "SETCHAN" ∷ name ∷ behind.1))
 
 abbrev pub setchan_of : List Bytes → Option Change
-setchan_of words = settled (command_spelled (codes "SETCHAN" ∷ words))
+setchan_of (name ∷ words) = setchan_until name (deadline_front words)
+setchan_of [] = None
 
 -- the change that the words could be the record of
 abbrev pub could_be : List Bytes → Option Change
@@ -116,13 +125,21 @@ pub record IsRecorded (c : Change) : Type 0 where
   pub read_back : change_of_words (record_reader c) ≡ Some c
   pub fits : IsRequest (record_reader c)
 
--- a setting's normal words spell the setting itself
+-- the words that set a channel anew, without its deadline
+abbrev pub normal_words : Channel → List Bytes
+normal_words c = codes "SETCHAN" ∷ c.name ∷ c.words
+
+-- a setting's normal words spell the setting itself, without the seconds of EX, and no deadline stands at their front
+pub record IsNormal (c : Channel) (from : Option AreaWords) : Type 0 where
+  pub spelled : command_spelled (normal_words c) ≡ Some (command.Channel (of_channel.Setchan c from None))
+  pub undated : deadline_front c.words ≡ (None, c.words)
+
+-- where its area stood in the words, and where it was an object's, once the object's text stands there
 pub record SettingsAreNormal : Type 0 where
-  pub given : (words : List Bytes) (c : Channel) (a : Area) → command_spelled words ≡ Some (command.Channel (of_channel.Setchan c (Some (Given a))))
-      → command_spelled (record_reader (SetChan c)) ≡ Some (command.Channel (of_channel.Setchan c (Some (Given a))))
-  pub near : (words : List Bytes) (c : Channel) → command_spelled words ≡ Some (command.Channel (of_channel.Setchan c None))
-      → command_spelled (record_reader (SetChan c)) ≡ Some (command.Channel (of_channel.Setchan c None))
-  pub stored : (words : List Bytes) (c : Channel) (key id text : Bytes) (shape : Shape)
-      → command_spelled words ≡ Some (command.Channel (of_channel.Setchan c (Some (Of key id)))) → shape_of text ≡ Ok shape
-      → let d = settled_channel c (Figure shape) (codes "OBJECT" ∷ text ∷ []) in
-      command_spelled (record_reader (SetChan d)) ≡ Some (command.Channel (of_channel.Setchan d (Some (Given (Figure shape)))))
+  pub given : (words : List Bytes) (c : Channel) (a : Area) (after_ex : Option ℕ)
+      → command_spelled words ≡ Some (command.Channel (of_channel.Setchan c (Some (Given a)) after_ex)) → IsNormal c (Some (Given a))
+  pub near : (words : List Bytes) (c : Channel) (after_ex : Option ℕ)
+      → command_spelled words ≡ Some (command.Channel (of_channel.Setchan c None after_ex)) → IsNormal c None
+  pub stored : (words : List Bytes) (c : Channel) (after_ex : Option ℕ) (key id text : Bytes) (shape : Shape)
+      → command_spelled words ≡ Some (command.Channel (of_channel.Setchan c (Some (Of key id)) after_ex)) → shape_of text ≡ Ok shape
+      → IsNormal (settled_channel c (Figure shape) (codes "OBJECT" ∷ text ∷ [])) (Some (Given (Figure shape)))

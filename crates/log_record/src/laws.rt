@@ -1,7 +1,8 @@
 //! Laws of the log. Each is the contract of a function that does nothing.
 
-ghost use Rattle.std.specs.Prelude.{◌≡◌, List, Some, Ok, true};
+ghost use Rattle.std.specs.Prelude.{◌≡◌, ◌≤◌, List, Some, Ok, true};
 ghost use Rattle.outside.specs.Sides.{Sides};
+ghost use Rattle.log_sides.specs.Texts.{newest};
 ghost use Rattle.world_data.specs.declared.worlds.World.{World};
 ghost use Rattle.byte_text.specs.Names.{Bytes};
 ghost use Rattle.geo_text.specs.Texts.{shape_of};
@@ -10,10 +11,12 @@ ghost use Rattle.world_data.specs.declared.objects.Object.{Object};
 ghost use Rattle.world_data.specs.declared.worlds.Change.{Change};
 ghost use Rattle.world_data.specs.declared.worlds.Change.TheVariants.{Put, Del, Drop, Flush, DelChan};
 ghost use Rattle.log_record.specs.Words.{HasShape, SettingsAreNormal, change_of_words};
+ghost use Rattle.log_record.specs.Versions.{least_version};
 ghost use Rattle.log_record.specs.Recovery.{Recovers};
 ghost use Rattle.log_record.specs.Copying.{PartsGrow};
 ghost use Rattle.log_record.specs.Runs.{OpeningsKeepRunsSafe, TurnsKeepRunsSafe};
-ghost use Rattle.log_record.specs.Laws.{EmptyIsFresh, LogsAreFound, OpeningsStand, RecoveredIsWhole, SidesStand};
+ghost use Rattle.log_record.specs.Laws.{EmptyIsFresh, LogsAreFound, OlderRecordsAreNewer, OpeningsStand};
+ghost use Rattle.log_record.specs.Laws.{RecoveredIsWhole, SidesStand};
 ghost use Rattle.log_record.specs.Laws.{StepsMakeTheirWrites, TurnsKeepSafe};
 
 use outside::Disk;
@@ -53,6 +56,13 @@ pub fn records_are_sound()
         → (record_reader c ≡ words) × (is_kept c ≡ true) × HasShape c }
 {}
 
+/// Whole records of a version are whole records of each later one, of the same changes: the least version that can say a
+/// change is one from 1 to the newest.
+pub fn older_records_are_newer()
+    ensures records { OlderRecordsAreNewer }
+    ensures known { (c : Change) → (1 ≤ least_version c) × (least_version c ≤ newest) }
+{}
+
 /// The same behind a run, and a run goes on with a history that opens with the world that the last one left behind.
 pub fn runs_stay_safe<D: Disk>()
     ensures turns { TurnsKeepRunsSafe D.images D.moment D.left_since }
@@ -60,7 +70,7 @@ pub fn runs_stay_safe<D: Disk>()
 {}
 
 /// What is kept, and has its shape, is read back from its record. The normal words of a channel's setting spell it
-/// again, and where its area was an object's, they do with the object's text in its place.
+/// again, without the seconds of EX, and where its area was an object's, they do with the object's text in its place.
 pub fn records_are_read_back()
     ensures objects { (o : Object) → is_kept (Put o) ≡ true → shape_of o.text ≡ Ok o.shape
         → change_of_words (record_reader (Put o)) ≡ Some (Put o) }

@@ -6,6 +6,6 @@
 mod laws;
 
 pub use laws::{
-    one_recovery, openings_stand, parts_grow, records_are_read_back, records_are_sound,
-    runs_stay_safe, sides_stand, steps_make_their_writes, turns_keep_safe,
+    older_records_are_newer, one_recovery, openings_stand, parts_grow, records_are_read_back,
+    records_are_sound, runs_stay_safe, sides_stand, steps_make_their_writes, turns_keep_safe,
 };

@@ -5,7 +5,7 @@ use Rattle.std.proofs.lemmas.Bool.{cases_eq}
 use Rattle.outside.specs.Disks.{write_over, Torn}
 use Rattle.outside.specs.WriteLaws.{write_over-within, torn_within}
 use Rattle.byte_text.specs.Names.{Bytes}
-use Rattle.log_sides.specs.Texts.{StandsFor, IsGeneration, open_gate, header, batches_text, framed, sealed, with_batch, committed, written, gate_place, max_side}
+use Rattle.log_sides.specs.Texts.{StandsFor, IsHeading, open_gate, newest, header, batches_text, framed, sealed, with_batch, committed, written, gate_place, max_side}
 use Rattle.log_sides.specs.Making.{IsBare, head_text}
 use Rattle.log_sides.specs.Closing.{head_written}
 use Rattle.log_sides.specs.Torn.{one_byte, gate_written, batches_text-append}
@@ -15,10 +15,10 @@ use Rattle.log_rewrite.specs.NewSides.{IsPart, rear_text, ShutOrStands}
 pub part_begun : (generation : ℕ) (piece old : Bytes) → piece ≡ head_text generation → IsBare old → IsPart generation [] (write_over 1 piece old)
 part_begun generation piece old is bare =
     let made = head_written generation piece old is bare in
-    record { gate = made.gate; closed = made.closed; is = made.is ∙ ap (λ (l : Bytes). made.gate ∷ (l ++ 0 ∷ [])) (sym (append-nil (header generation))) }
+    record { gate = made.gate; closed = made.closed; is = made.is ∙ ap (λ (l : Bytes). made.gate ∷ (l ++ 0 ∷ [])) (sym (append-nil (header newest generation))) }
 
 rear-append : (generation : ℕ) (batches : List Bytes) (batch : Bytes) → rear_text generation (with_batch batches batch) ≡ rear_text generation batches ++ open_gate ∷ framed batch
-rear-append generation batches batch = ap (λ (l : Bytes). header generation ++ l) (batches_text-append batches batch) ∙ sym (append_assoc (header generation) (batches_text batches) (open_gate ∷ framed batch))
+rear-append generation batches batch = ap (λ (l : Bytes). header newest generation ++ l) (batches_text-append batches batch) ∙ sym (append_assoc (header newest generation) (batches_text batches) (open_gate ∷ framed batch))
 
 -- a piece written over the last byte
 over_last : (front piece old : Bytes) (last : ℕ) → old ≡ front ++ last ∷ [] → 1 ≤ length piece → write_over (length front) piece old ≡ front ++ piece
@@ -29,7 +29,7 @@ over_last front piece old last is long =
     write_over-within (length front) piece old (omega (arith, size)) ∙ ap (λ (l : Bytes). l ++ piece ++ drop (length front + length piece) old) kept ∙ ap (λ (l : Bytes). front ++ piece ++ l) none ∙ append-nil (front ++ piece)
 
 -- a batch was written at the last gate
-pub part_grown : (generation : ℕ) (batches : List Bytes) (batch : Bytes) (at : ℕ) (piece old : Bytes) → at ≡ gate_place generation batches → piece ≡ sealed batch → IsPart generation batches old
+pub part_grown : (generation : ℕ) (batches : List Bytes) (batch : Bytes) (at : ℕ) (piece old : Bytes) → at ≡ gate_place newest generation batches → piece ≡ sealed batch → IsPart generation batches old
     → IsPart generation (with_batch batches batch) (write_over at piece old)
 part_grown generation batches batch at piece old place is part =
     let rear = rear_text generation batches in
@@ -40,7 +40,7 @@ part_grown generation batches batch at piece old place is part =
     record { gate = part.gate; closed = part.closed; is = here ∙ wrote ∙ text ∙ ap (λ (l : Bytes). part.gate ∷ (l ++ 0 ∷ [])) (sym (rear-append generation batches batch)) }
 
 -- the place of the last gate then
-pub place_grown : (generation : ℕ) (batches : List Bytes) (batch : Bytes) → gate_place generation (with_batch batches batch) ≡ gate_place generation batches + length (sealed batch) - 1
+pub place_grown : (generation : ℕ) (batches : List Bytes) (batch : Bytes) → gate_place newest generation (with_batch batches batch) ≡ gate_place newest generation batches + length (sealed batch) - 1
 place_grown generation batches batch =
     let rear = rear_text generation batches in
     omega (arith, ap length (rear-append generation batches batch), length-append rear (open_gate ∷ framed batch), length-append (framed batch) (0 ∷ []))
@@ -50,7 +50,7 @@ pub written_some : (records : Bytes) → (length (written records) ≡ 0 → ⊥
 written_some [] some = absurd (some refl)
 written_some (byte ∷ bytes) some = (refl, λ batches. refl)
 
-opened : (generation : ℕ) (batches : List Bytes) (side : Bytes) (b : ℕ) → IsGeneration generation → gate_place generation batches + 1 ≤ max_side → b ≡ open_gate → side ≡ b ∷ (rear_text generation batches ++ 0 ∷ []) → StandsFor generation batches side
+opened : (generation : ℕ) (batches : List Bytes) (side : Bytes) (b : ℕ) → IsHeading newest generation → gate_place newest generation batches + 1 ≤ max_side → b ≡ open_gate → side ≡ b ∷ (rear_text generation batches ++ 0 ∷ []) → StandsFor newest generation batches side
 opened generation batches side b numbered room is text = record {
   numbered = numbered;
   within = omega (arith, room, ap length text, length-append (rear_text generation batches) (0 ∷ []));
@@ -61,12 +61,12 @@ opened generation batches side b numbered room is text = record {
 }
 
 -- the gate was opened
-pub part_opened : (generation : ℕ) (batches : List Bytes) (old : Bytes) → IsGeneration generation → gate_place generation batches + 1 ≤ max_side → IsPart generation batches old → StandsFor generation batches (write_over 0 (1 ∷ []) old)
+pub part_opened : (generation : ℕ) (batches : List Bytes) (old : Bytes) → IsHeading newest generation → gate_place newest generation batches + 1 ≤ max_side → IsPart generation batches old → StandsFor newest generation batches (write_over 0 (1 ∷ []) old)
 part_opened generation batches old numbered room part =
     opened generation batches (write_over 0 (1 ∷ []) old) 1 numbered room refl (gate_written [] (rear_text generation batches ++ 0 ∷ []) old part.gate 1 part.is)
 
 -- the gate was opened, or the write of it was torn
-pub part_torn : (generation : ℕ) (batches : List Bytes) (old new : Bytes) → IsGeneration generation → gate_place generation batches + 1 ≤ max_side → IsPart generation batches old → Torn 0 1 old new → ShutOrStands generation batches new
+pub part_torn : (generation : ℕ) (batches : List Bytes) (old new : Bytes) → IsHeading newest generation → gate_place newest generation batches + 1 ≤ max_side → IsPart generation batches old → Torn 0 1 old new → ShutOrStands generation batches new
 part_torn generation batches old new numbered room part torn =
     let rest = rear_text generation batches ++ 0 ∷ [] in
     let other = torn_within 0 1 old new (omega (arith, ap length part.is)) torn in

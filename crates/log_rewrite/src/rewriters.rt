@@ -3,7 +3,7 @@
 ghost use Rattle.std.specs.Prelude.{◌≡◌, ◌+◌, ◌-◌, ◌≤◌, ◌^◌, ℕ, List, [], length, Decides, IfOk, Ok, OnOk};
 ghost use Rattle.byte_text.specs.Names.{Bytes};
 ghost use Rattle.outside.specs.Causes.{HasCause};
-ghost use Rattle.log_sides.specs.Texts.{IsGeneration, committed, written};
+ghost use Rattle.log_sides.specs.Texts.{IsHeading, newest, committed, written};
 ghost use Rattle.log_sides.specs.States.{HeldOn, ReadsAs, SideLeads, LogOn};
 ghost use Rattle.log_sides.specs.Making.{IsShut, WhileShut};
 ghost use Rattle.log_rewrite.specs.NewSides.{NewSideOn, ShutOrStands};
@@ -12,7 +12,7 @@ use crate::writes::{settle, write_piece};
 use log_sides::{Batch, FIRST_GATE, head_of, shut_side};
 use outside::{Disk, Failed, Side, write_durably};
 
-/// A side that was made: it stands, and its closed gate is at this place.
+/// A side of the newest version that was made: it stands, and its closed gate is at this place.
 #[derive(Clone, Copy, Debug, PartialEq, Eq)]
 pub struct NewSide {
     pub side: Side,
@@ -20,21 +20,23 @@ pub struct NewSide {
     pub gate: u64,
 }
 
-/// A side that is written beside the one in use. Until it is finished it is not open, whatever a crash leaves.
+/// A side of the newest version that is written beside the one in use. Until it is finished it is not open, whatever a
+/// crash leaves.
 #[derive(Drop)]
 pub struct Rewriter {
     side: Side,
     generation: u64,
     gate: u64,
+    ghost headed: { IsHeading newest generation },
     ghost behind: { 1 ≤ gate },
     ghost placed: { gate + 1 ≤ 2 ^ 62 },
 }
 
 impl Rewriter {
-    /// Begins a side of this generation, which is not the one in use: it holds no batch yet. At each moment on the way
-    /// the side is as it was, or not open, and the other one stays.
+    /// Begins a side of this generation and the newest version, which is not the one in use: it holds no batch yet. At
+    /// each moment on the way the side is as it was, or not open, and the other one stays.
     pub fn begin<D: Disk>(disk: &mut D, side: Side, generation: u64) -> Result<Rewriter, Failed>
-        requires { IsGeneration generation }
+        requires { IsHeading newest generation }
         ensures begun { (before : Bytes) → length before ≤ 2 ^ 62
             → ReadsAs D.crashes D.seen D.images disk.old side before
             → IfOk result (λ r. NewSideOn D.crashes D.seen D.images disk.new side generation r.gate []) }
@@ -123,7 +125,7 @@ impl Rewriter {
         ensures stands { (batches : List Bytes)
             → NewSideOn D.crashes D.seen D.images disk.old self.side self.generation self.gate batches
             → IfOk result
-            (λ made. LogOn D.crashes D.seen D.images disk.new self.side self.generation made.gate batches) }
+            (λ made. LogOn D.crashes D.seen D.images disk.new self.side newest self.generation made.gate batches) }
         ensures either { (batches : List Bytes)
             → NewSideOn D.crashes D.seen D.images disk.old self.side self.generation self.gate batches
             → SideLeads D.crashes D.seen D.images D.moment D.left_since self.side
@@ -132,6 +134,7 @@ impl Rewriter {
         ensures cause { HasCause (D.faults disk.old) (D.faults disk.new) result }
         ensures side { IfOk result (λ made. made.side ≡ self.side) }
         ensures generation { IfOk result (λ made. made.generation ≡ self.generation) }
+        ensures headed { IfOk result (λ made. IsHeading newest made.generation) }
         ensures gate { IfOk result (λ made. made.gate ≡ self.gate) }
     {
         match open_side(disk, self.side) {
@@ -147,7 +150,7 @@ impl Rewriter {
 
 // Leaves of a side a closed gate with a header behind it.
 fn begin_side<D: Disk>(disk: &mut D, side: Side, generation: u64) -> Result<(), Failed>
-    requires { IsGeneration generation }
+    requires { IsHeading newest generation }
     ensures begun { (before : Bytes) → length before ≤ 2 ^ 62 → ReadsAs D.crashes D.seen D.images disk.old side before
         → OnOk result (NewSideOn D.crashes D.seen D.images disk.new side generation 16 []) }
     ensures either { (before : Bytes) → length before ≤ 2 ^ 62 → ReadsAs D.crashes D.seen D.images disk.old side before
@@ -165,7 +168,7 @@ fn begin_side<D: Disk>(disk: &mut D, side: Side, generation: u64) -> Result<(), 
 fn open_side<D: Disk>(disk: &mut D, side: Side) -> Result<(), Failed>
     ensures stands { (generation gate : ℕ) (batches : List Bytes) → gate + 1 ≤ 2 ^ 62
         → NewSideOn D.crashes D.seen D.images disk.old side generation gate batches
-        → OnOk result (LogOn D.crashes D.seen D.images disk.new side generation gate batches) }
+        → OnOk result (LogOn D.crashes D.seen D.images disk.new side newest generation gate batches) }
     ensures either { (generation gate : ℕ) (batches : List Bytes) → gate + 1 ≤ 2 ^ 62
         → NewSideOn D.crashes D.seen D.images disk.old side generation gate batches
         → SideLeads D.crashes D.seen D.images D.moment D.left_since side

@@ -7,7 +7,7 @@ use Rattle.std.specs.Prelude.{eqb}
 use Rattle.outside.specs.Disks.{write_over, Torn}
 use Rattle.outside.specs.WriteLaws.{write_over-end, torn_within}
 use Rattle.byte_text.specs.Names.{Bytes}
-use Rattle.log_sides.specs.Texts.{StandsFor, IsGeneration, open_gate, header, max_side}
+use Rattle.log_sides.specs.Texts.{StandsFor, IsHeading, open_gate, header, newest, max_side}
 use Rattle.log_sides.specs.Making.{is_shut, IsShut, IsNotOpen, IsBare, IsMade, WhileShut, WhileMade, head_text}
 use Rattle.log_sides.specs.Torn.{one_byte, gate_written, length-number_bytes}
 
@@ -67,11 +67,11 @@ head_written generation piece old is bare = record {
 }
 
 pub length-head : (generation : ℕ) → length (head_text generation) ≡ 16
-length-head generation = omega (arith, length-append (header generation) (0 ∷ []), length-number_bytes generation)
+length-head generation = omega (arith, length-append (header newest generation) (0 ∷ []), length-number_bytes generation)
 
 -- the gate was opened, whole or torn
-pub made_opened : (generation : ℕ) (side : Bytes) (b : ℕ) → IsGeneration generation → b ≡ open_gate → side ≡ b ∷ head_text generation
-    → StandsFor generation [] side
+pub made_opened : (generation : ℕ) (side : Bytes) (b : ℕ) → IsHeading newest generation → b ≡ open_gate → side ≡ b ∷ head_text generation
+    → StandsFor newest generation [] side
 made_opened generation side b numbered opened text = record {
   numbered = numbered;
   within = omega (arith, ap length text, length-head generation);
@@ -79,15 +79,15 @@ made_opened generation side b numbered opened text = record {
   closed = omega arith;
   stale = [];
   text = text ∙ ap (λ (j : ℕ). j ∷ head_text generation) opened
-      ∙ ap (λ (l : Bytes). open_gate ∷ (l ++ 0 ∷ [])) (sym (append-nil (header generation)));
+      ∙ ap (λ (l : Bytes). open_gate ∷ (l ++ 0 ∷ [])) (sym (append-nil (header newest generation)));
 }
 
-pub made_written : (generation : ℕ) (old : Bytes) → IsGeneration generation → IsMade generation old
-    → StandsFor generation [] (write_over 0 (1 ∷ []) old)
+pub made_written : (generation : ℕ) (old : Bytes) → IsHeading newest generation → IsMade generation old
+    → StandsFor newest generation [] (write_over 0 (1 ∷ []) old)
 made_written generation old numbered made =
     made_opened generation (write_over 0 (1 ∷ []) old) 1 numbered refl (gate_written [] (head_text generation) old made.gate 1 made.is)
 
-pub made_torn : (generation : ℕ) (before old new : Bytes) → IsGeneration generation → IsMade generation old → Torn 0 1 old new
+pub made_torn : (generation : ℕ) (before old new : Bytes) → IsHeading newest generation → IsMade generation old → Torn 0 1 old new
     → WhileMade generation before new
 made_torn generation before old new numbered made torn =
     let other = torn_within 0 1 old new (omega (arith, ap length made.is)) torn in

@@ -1,5 +1,5 @@
 -- What writes on a side of a log leave of the batches that it stands for.
-use Rattle.std.proofs.Common.{◌≡◌, ◌≢◌, ◌⊎◌, ◌+◌, ◌≤◌, ◌∙◌, ℕ, List, [], ◌∷◌, ◌++◌, length, take, drop, refl, sym, ap, subst, inl, inr, arith}
+use Rattle.std.proofs.Common.{◌≡◌, ◌≢◌, ◌⊎◌, ◌+◌, ◌≤◌, ◌<◌, ◌^◌, ◌∙◌, ℕ, List, [], ◌∷◌, ◌++◌, length, take, drop, refl, sym, ap, subst, inl, inr, arith}
 use Rattle.std.proofs.Common.{length-append, append_assoc, append-nil, take-append-drop}
 use Rattle.std.proofs.lemmas.List.{take_at, drop_at}
 use Rattle.std.proofs.lemmas.Bool.{cases_eq}
@@ -7,15 +7,15 @@ use Rattle.outside.specs.WriteLaws.{length-write_over}
 use Rattle.outside.specs.Disks.{write_over, Torn}
 use Rattle.outside.specs.WriteLaws.{write_over-within, torn_within}
 use Rattle.byte_text.specs.Names.{Bytes}
-use Rattle.log_sides.specs.Texts.{StandsFor, IsGeneration, front_text, batches_text, framed, gate_place, header, open_gate, max_side, number_bytes}
+use Rattle.log_sides.specs.Texts.{StandsFor, IsHeading, newest, front_text, batches_text, framed, gate_place, header, open_gate, max_side, number_bytes}
 use Rattle.log_sides.specs.Texts.{IsReady, with_batch, StandsWithin, committed}
 
 -- a torn write behind the closed gate leaves the batches
-pub torn_behind : (generation : ℕ) (batches : List Bytes) (n : ℕ) (old new : Bytes) → StandsFor generation batches old
-    → gate_place generation batches + 1 + n ≤ max_side
-    → Torn (gate_place generation batches + 1) n old new → StandsFor generation batches new
-torn_behind generation batches n old new stands room torn =
-    let front = front_text generation batches in
+pub torn_behind : (version generation : ℕ) (batches : List Bytes) (n : ℕ) (old new : Bytes) → StandsFor version generation batches old
+    → gate_place version generation batches + 1 + n ≤ max_side
+    → Torn (gate_place version generation batches + 1) n old new → StandsFor version generation batches new
+torn_behind version generation batches n old new stands room torn =
+    let front = front_text version generation batches in
     let at = length front + 1 in
     let kept : take at old ≡ front ++ stands.gate ∷ [] = ap (λ (l : Bytes). take at l) (stands.text
     ∙ sym (append_assoc front (stands.gate ∷ []) stands.stale))
@@ -45,24 +45,24 @@ batches_text-append [] batch = ap (λ (l : Bytes). open_gate ∷ l) (append-nil 
 batches_text-append (first ∷ later) batch = ap (λ (l : Bytes). open_gate ∷ l) (ap (λ (l : Bytes). framed first ++ l) (batches_text-append later batch)
     ∙ sym (append_assoc (framed first) (batches_text later) (open_gate ∷ framed batch)))
 
-pub front_text-append : (generation : ℕ) (batches : List Bytes) (batch : Bytes)
-    → front_text generation (with_batch batches batch) ≡ front_text generation batches ++ open_gate ∷ framed batch
-front_text-append generation batches batch =
-    ap (λ (l : Bytes). open_gate ∷ (header generation ++ l)) (batches_text-append batches batch)
-    ∙ ap (λ (l : Bytes). open_gate ∷ l) (sym (append_assoc (header generation) (batches_text batches) (open_gate ∷ framed batch)))
+pub front_text-append : (version generation : ℕ) (batches : List Bytes) (batch : Bytes)
+    → front_text version generation (with_batch batches batch) ≡ front_text version generation batches ++ open_gate ∷ framed batch
+front_text-append version generation batches batch =
+    ap (λ (l : Bytes). open_gate ∷ (header version generation ++ l)) (batches_text-append batches batch)
+    ∙ ap (λ (l : Bytes). open_gate ∷ l) (sym (append_assoc (header version generation) (batches_text batches) (open_gate ∷ framed batch)))
 
-pub gate_place-append : (generation : ℕ) (batches : List Bytes) (batch : Bytes)
-    → gate_place generation (with_batch batches batch) ≡ gate_place generation batches + 9 + length batch
-gate_place-append generation batches batch =
-    ap length (front_text-append generation batches batch) ∙ length-append (front_text generation batches) (open_gate ∷ framed batch)
+pub gate_place-append : (version generation : ℕ) (batches : List Bytes) (batch : Bytes)
+    → gate_place version generation (with_batch batches batch) ≡ gate_place version generation batches + 9 + length batch
+gate_place-append version generation batches batch =
+    ap length (front_text-append version generation batches batch) ∙ length-append (front_text version generation batches) (open_gate ∷ framed batch)
     ∙ omega (arith, length-framed batch)
 
 -- the batch and the next gate were written
-pub written_behind : (generation : ℕ) (batches : List Bytes) (batch old : Bytes) → StandsFor generation batches old
-    → gate_place generation batches + 10 + length batch ≤ max_side
-    → IsReady generation batches batch (write_over (gate_place generation batches + 1) (framed batch ++ 0 ∷ []) old)
-written_behind generation batches batch old stands room =
-    let front = front_text generation batches in
+pub written_behind : (version generation : ℕ) (batches : List Bytes) (batch old : Bytes) → StandsFor version generation batches old
+    → gate_place version generation batches + 10 + length batch ≤ max_side
+    → IsReady version generation batches batch (write_over (gate_place version generation batches + 1) (framed batch ++ 0 ∷ []) old)
+written_behind version generation batches batch old stands room =
+    let front = front_text version generation batches in
     let at = length front + 1 in
     let piece = framed batch ++ 0 ∷ [] in
     let head = front ++ stands.gate ∷ [] in
@@ -84,20 +84,20 @@ written_behind generation batches batch old stands room =
     }
 
 -- a side with a batch that is ready, and any gate in front of it
-gate_chosen : (generation : ℕ) (batches : List Bytes) (batch stale side : Bytes) (gate : ℕ) → IsGeneration generation → length side ≤ max_side
-    → side ≡ front_text generation batches ++ gate ∷ (framed batch ++ 0 ∷ stale)
-    → (gate ≡ open_gate) ⊎ (gate ≢ open_gate) → StandsWithin generation batches batch side
-gate_chosen generation batches batch stale side gate numbered within text (inl opened) = inr (record {
+gate_chosen : (version generation : ℕ) (batches : List Bytes) (batch stale side : Bytes) (gate : ℕ) → IsHeading version generation → length side ≤ max_side
+    → side ≡ front_text version generation batches ++ gate ∷ (framed batch ++ 0 ∷ stale)
+    → (gate ≡ open_gate) ⊎ (gate ≢ open_gate) → StandsWithin version generation batches batch side
+gate_chosen version generation batches batch stale side gate numbered within text (inl opened) = inr (record {
   numbered = numbered;
   within = within;
   gate = 0;
   closed = omega arith;
   stale = stale;
-  text = text ∙ ap (λ (b : ℕ). front_text generation batches ++ b ∷ (framed batch ++ 0 ∷ stale)) opened
-      ∙ sym (append_assoc (front_text generation batches) (open_gate ∷ framed batch) (0 ∷ stale))
-      ∙ ap (λ (l : Bytes). l ++ 0 ∷ stale) (sym (front_text-append generation batches batch));
+  text = text ∙ ap (λ (b : ℕ). front_text version generation batches ++ b ∷ (framed batch ++ 0 ∷ stale)) opened
+      ∙ sym (append_assoc (front_text version generation batches) (open_gate ∷ framed batch) (0 ∷ stale))
+      ∙ ap (λ (l : Bytes). l ++ 0 ∷ stale) (sym (front_text-append version generation batches batch));
 })
-gate_chosen generation batches batch stale side gate numbered within text (inr closed) =
+gate_chosen version generation batches batch stale side gate numbered within text (inr closed) =
     inl (record { numbered = numbered; within = within; gate = gate; closed = closed; stale = framed batch ++ 0 ∷ stale; text = text })
 
 pub one_byte : (bytes : Bytes) → length bytes ≡ 1 → (b : ℕ) × (bytes ≡ b ∷ [])
@@ -117,24 +117,24 @@ gate_written front behind old gate b text =
     ∙ ap (λ (l : Bytes). front ++ b ∷ [] ++ l) rest ∙ append_assoc front (b ∷ []) behind
 
 -- a torn write of the gate leaves the batches without or with the one that is ready
-pub torn_gate : (generation : ℕ) (batches : List Bytes) (batch old new : Bytes) → IsReady generation batches batch old
-    → Torn (gate_place generation batches) 1 old new → StandsWithin generation batches batch new
-torn_gate generation batches batch old new ready torn =
-    let front = front_text generation batches in
+pub torn_gate : (version generation : ℕ) (batches : List Bytes) (batch old new : Bytes) → IsReady version generation batches batch old
+    → Torn (gate_place version generation batches) 1 old new → StandsWithin version generation batches batch new
+torn_gate version generation batches batch old new ready torn =
+    let front = front_text version generation batches in
     let behind = framed batch ++ 0 ∷ ready.stale in
     let inside : length front + 1 ≤ length old = omega (arith, ap length ready.text, length-append front (ready.gate ∷ behind)) in
     let other = torn_within (length front) 1 old new inside torn in
     let byte = one_byte other.0 other.1 in
     let text : new ≡ front ++ byte.0 ∷ behind = other.2 ∙ ap (λ (l : Bytes). write_over (length front) l old) byte.1
     ∙ gate_written front behind old ready.gate byte.0 ready.text in
-    gate_chosen generation batches batch ready.stale new byte.0 ready.numbered (omega (arith, torn.no_longer, ready.within, inside)) text
+    gate_chosen version generation batches batch ready.stale new byte.0 ready.numbered (omega (arith, torn.no_longer, ready.within, inside)) text
     (cases_eq byte.0 open_gate)
 
 -- and one that was done leaves them with it
-pub gate_opened : (generation : ℕ) (batches : List Bytes) (batch old : Bytes) → IsReady generation batches batch old
-    → StandsFor generation (with_batch batches batch) (write_over (gate_place generation batches) (open_gate ∷ []) old)
-gate_opened generation batches batch old ready =
-    let front = front_text generation batches in
+pub gate_opened : (version generation : ℕ) (batches : List Bytes) (batch old : Bytes) → IsReady version generation batches batch old
+    → StandsFor version generation (with_batch batches batch) (write_over (gate_place version generation batches) (open_gate ∷ []) old)
+gate_opened version generation batches batch old ready =
+    let front = front_text version generation batches in
     let behind = framed batch ++ 0 ∷ ready.stale in
     let inside : length front + 1 ≤ length old = omega (arith, ap length ready.text, length-append front (ready.gate ∷ behind)) in
     record {
@@ -144,7 +144,7 @@ gate_opened generation batches batch old ready =
       closed = omega arith;
       stale = ready.stale;
       text = gate_written front behind old ready.gate open_gate ready.text ∙ sym (append_assoc front (open_gate ∷ framed batch) (0 ∷ ready.stale))
-          ∙ ap (λ (l : Bytes). l ++ 0 ∷ ready.stale) (sym (front_text-append generation batches batch));
+          ∙ ap (λ (l : Bytes). l ++ 0 ∷ ready.stale) (sym (front_text-append version generation batches batch));
     }
 
 -- a batch that is not empty is written
@@ -153,16 +153,21 @@ committed_some batches [] some = absurd (some refl)
 committed_some batches (byte ∷ bytes) some = refl
 
 -- the bytes of a batch were written behind the gate
-pub is_ready : (generation : ℕ) (batches : List Bytes) (batch : Bytes) (at gate : ℕ) (piece old : Bytes) → StandsFor generation batches old
-    → gate ≡ gate_place generation batches → at ≡ gate + 1 → piece ≡ framed batch ++ 0 ∷ []
-    → gate + 10 + length batch ≤ max_side → IsReady generation batches batch (write_over at piece old)
-is_ready generation batches batch at gate piece old stands place behind is room =
-    let here : at ≡ gate_place generation batches + 1 = omega (arith, place, behind) in
-    let same : write_over at piece old ≡ write_over (gate_place generation batches + 1) (framed batch
-    ++ 0 ∷ []) old = ap (λ (j : ℕ). write_over j piece old) here ∙ ap (λ (l : Bytes). write_over (gate_place generation batches + 1) l old) is in
-    subst (λ (l : Bytes). IsReady generation batches batch l) (sym same)
-    (written_behind generation batches batch old stands (omega (arith, place, room)))
+pub is_ready : (version generation : ℕ) (batches : List Bytes) (batch : Bytes) (at gate : ℕ) (piece old : Bytes) → StandsFor version generation batches old
+    → gate ≡ gate_place version generation batches → at ≡ gate + 1 → piece ≡ framed batch ++ 0 ∷ []
+    → gate + 10 + length batch ≤ max_side → IsReady version generation batches batch (write_over at piece old)
+is_ready version generation batches batch at gate piece old stands place behind is room =
+    let here : at ≡ gate_place version generation batches + 1 = omega (arith, place, behind) in
+    let same : write_over at piece old ≡ write_over (gate_place version generation batches + 1) (framed batch
+    ++ 0 ∷ []) old = ap (λ (j : ℕ). write_over j piece old) here ∙ ap (λ (l : Bytes). write_over (gate_place version generation batches + 1) l old) is in
+    subst (λ (l : Bytes). IsReady version generation batches batch l) (sym same)
+    (written_behind version generation batches batch old stands (omega (arith, place, room)))
+
+-- a new side is of the newest version, and may have any generation
+pub new_heading : (generation : ℕ) → 1 ≤ generation → generation < 2 ^ 64 → IsHeading newest generation
+new_heading generation least most =
+    record { known = omega arith; latest = omega arith; least = least; most = most; followed = λ older. absurd (omega (arith, older)) }
 
 -- the closed gate of a side without a batch
-pub first_place : (generation : ℕ) → 16 ≡ gate_place generation []
-first_place generation = omega (arith, length-append (header generation) [], length-number_bytes generation)
+pub first_place : (version generation : ℕ) → 16 ≡ gate_place version generation []
+first_place version generation = omega (arith, length-append (header version generation) [], length-number_bytes generation)

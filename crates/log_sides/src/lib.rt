@@ -5,6 +5,8 @@
 
 mod batches;
 mod side_making;
+mod versions;
 
 pub use batches::Batch;
 pub use side_making::{FIRST_GATE, head_of, make_side, shut_side};
+pub use versions::NEWEST;

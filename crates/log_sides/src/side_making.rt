@@ -6,20 +6,22 @@
 ghost use Rattle.std.specs.Prelude.{◌≡◌, ◌≤◌, ◌^◌, [], ◌∷◌, length, IfOk, OnOk};
 ghost use Rattle.byte_text.specs.Names.{Bytes};
 ghost use Rattle.outside.specs.Causes.{HasCause};
-ghost use Rattle.log_sides.specs.Texts.{StandsFor, IsGeneration};
+ghost use Rattle.log_sides.specs.Texts.{StandsFor, IsHeading, newest};
 ghost use Rattle.log_sides.specs.Making.{is_shut, IsShut, IsBare, IsMade, WhileShut, WhileMade, head_text};
 ghost use Rattle.log_sides.specs.States.{HasNow, HeldOn, SafeOn, ReadsAs, SideLeads};
 
+use crate::versions::NEWEST;
 use outside::{Disk, Failed, Side, write_durably};
 
 /// The place of the closed gate of a side without a batch.
 pub const FIRST_GATE: u64 = 16;
 
-/// Makes a side of this generation, without a batch. Its gate is closed first, and opened when all else is safe.
+/// Makes a side of this generation and the newest version, without a batch. Its gate is closed first, and opened when
+/// all else is safe.
 pub fn make_side<D: Disk>(disk: &mut D, side: Side, generation: u64) -> Result<(), Failed>
-    requires { IsGeneration generation }
+    requires { IsHeading newest generation }
     ensures stands { (before : Bytes) → length before ≤ 2 ^ 62 → ReadsAs D.crashes D.seen D.images disk.old side before
-        → OnOk result (SafeOn D.crashes D.seen D.images disk.new side (StandsFor generation [])) }
+        → OnOk result (SafeOn D.crashes D.seen D.images disk.new side (StandsFor newest generation [])) }
     ensures either { (before : Bytes) → length before ≤ 2 ^ 62 → ReadsAs D.crashes D.seen D.images disk.old side before
         → SideLeads D.crashes D.seen D.images D.moment D.left_since side
         (WhileMade generation before) disk.old disk.new }
@@ -47,11 +49,11 @@ fn make_closed<D: Disk>(disk: &mut D, side: Side, generation: u64) -> Result<(),
     }
 }
 
-/// What is written behind the gate of a new side: its header and a closed gate.
+/// What is written behind the gate of a new side: the header of the newest version, and a closed gate.
 pub fn head_of(generation: u64) -> [u8; 16]
     ensures { result ≡ head_text generation }
 {
-    let mut head = [b'T', b'F', b'L', 1, 0, 0, 0, 0, 0, 0, 0, 0, 0, 0, 0, 0];
+    let mut head = [b'T', b'F', b'L', NEWEST, 0, 0, 0, 0, 0, 0, 0, 0, 0, 0, 0, 0];
     head[7..15].copy_from_slice(&generation.to_be_bytes());
     head
 }

@@ -11,8 +11,9 @@ use Rattle.planar_geom.specs.Points.{pt}
 use Rattle.geo_text.specs.Texts.{shape_of}
 use Rattle.world_data.specs.Limits.{max_coord, max_tests}
 use Rattle.world_model.specs.Grammar.{a_word, a_coordinate, a_geojson, Reading, spells, runs_out, Form, ◌>>=◌, ◌>>◌, done, ◌or◌, one_of, where_, word, maybe, at_most_times, repeated, once_or_more, times, live, spelled}
-use Rattle.world_model.specs.Kinds.{name, glob, integer, between, meters, seconds, coordinate_from, coordinate, lat_lon, four, geojson, bound, list_of}
+use Rattle.world_model.specs.Kinds.{name, glob, value, value_of_word, between, meters, seconds, coordinate_from, coordinate, lat_lon, four, geojson, bound, text, text_of_word, again, same_text, list_of}
 use Rattle.world_model.specs.Commands as table
+use Rattle.world_data.specs.declared.values.Value.TheVariants.{Whole}
 use Rattle.world_data.specs.declared.channels.Kind.{Kind}
 use Rattle.world_data.specs.declared.channels.Kind.TheVariants.{Within, Intersects, Near}
 use Rattle.planar_geom.specs.declared.shapes.Area.TheVariants.{Disc}
@@ -25,7 +26,7 @@ use Rattle.world_model.specs.declared.search_commands.SearchCommand.TheVariants 
 use Rattle.std.proofs.lemmas.Bool.Decides.{nat_tests}
 use Rattle.std.proofs.lemmas.List.{append-nil}
 use Rattle.byte_text.specs.ByteOrder.{same_refl}
-use Rattle.world_model.specs.FormLaws.{Out, Spells, Takes, Fair, fair_done, fair_bind, fair_word, fair_times, takes_word, takes_bind, takes_or, takes_where, spells_left, spells_right}
+use Rattle.world_model.specs.FormLaws.{Out, Spells, Takes, Fair, fair_done, fair_or, fair_bind, fair_word, fair_times, takes_word, takes_bind, takes_or, takes_where, spells_left, spells_right}
 use Rattle.world_model.specs.PrefixLaws.{Taking}
 use Rattle.world_model.specs.RowLaws.{of_families}
 use Rattle.world_data.specs.declared.queries.Rule.TheVariants.{InArea, Nearest}
@@ -45,9 +46,9 @@ good_glob : Good glob
 unfolding chars is_utf8 lib.Utf8.encode is_well_formed
 good_glob = good_word a_word _ (codes "a") (codes "a") refl
 
-good_integer : Good integer
-unfolding digits
-good_integer = good_word a_word _ (codes "0") (pos 0) refl
+good_value : Good value
+unfolding chars is_utf8 lib.Utf8.encode digits
+good_value = good_word a_word value_of_word (codes "0") (Whole (pos 0)) refl
 
 good_meters : Good meters
 unfolding digits
@@ -79,6 +80,13 @@ good_geojson = good_word a_geojson _ (codes "{\"type\":\"Point\",\"coordinates\"
 
 good_bound : Good bound
 good_bound = good_word a_word _ (codes "inf") None refl
+
+good_text : Good text
+unfolding chars is_utf8 lib.Utf8.encode digits
+good_text = good_word a_word text_of_word (codes "a") (codes "a") refl
+
+good_again : (t : Bytes) → Good (again t)
+good_again t = good_word a_word (same_text t) t t (rw (same_refl t) refl)
 
 good_detect : Good (list_of table.detect_names)
 good_detect = good_word a_word _ (codes "inside") _ refl
@@ -128,12 +136,18 @@ good_times (suc n) f p = good_any f _ p (λ a. good_any (times n f) _ (good_time
 -- tests, options, places and areas
 
 good_field : Good table.field
-good_field = good_any name _ good_name (λ n. good_any integer _ good_integer (λ v. good_done (n, v)))
+good_field = good_any name _ good_name (λ n. good_any value _ good_value (λ v. good_done (n, v)))
+
+good_range : (n : Bytes) → Good (table.where_range n)
+good_range n = good_any bound _ good_bound (λ a. good_any bound _ good_bound (λ b. good_done _))
+
+good_same : (n : Bytes) → Good (table.where_same n)
+good_same n = good_any text _ good_text (λ t. good_any (again t) _ (good_again t) (λ u. good_done _))
 
 good_test : Good table.test
 good_test = good_or table.where_test table.wherein_test
-    (said (codes "WHERE") _ (good_any name _ good_name (λ n. good_any bound _ good_bound (λ a. good_any bound _ good_bound (λ b. good_done _)))))
-    (said (codes "WHEREIN") _ (good_any name _ good_name (λ n. good_any (between 1 256) _ good_count (λ count. good_any (times count integer) _ (good_times count integer good_integer) (λ values. good_done _)))))
+    (said (codes "WHERE") _ (good_any name _ good_name (λ n. good_or (table.where_range n) (table.where_same n) (good_range n) (good_same n))))
+    (said (codes "WHEREIN") _ (good_any name _ good_name (λ n. good_any (between 1 256) _ good_count (λ count. good_any (times count value) _ (good_times count value good_value) (λ values. good_done _)))))
 
 alternative : {A : Type 0} {f g : Form A} → Weak f → Weak g → Weak (f or g)
 alternative {f = f} {g = g} p q = weak_or f g p q
@@ -258,8 +272,8 @@ after_word n g fair = takes_bind (word n) (λ _. g) (takes_word a_word _) (λ _.
 
 takes_test : Takes table.test
 takes_test = takes_or table.where_test table.wherein_test
-    (after_word (codes "WHERE") _ (search (fair_bind, fair_done, fair_word) depth 40 fits 2000))
-    (after_word (codes "WHEREIN") _ (fair_bind name _ (fair_word a_word _) (λ n. fair_bind (between 1 256) _ (fair_word a_word _) (λ count. fair_bind (times count integer) _ (fair_times count integer (fair_word a_word _)) (λ values. fair_done _)))))
+    (after_word (codes "WHERE") _ (search (fair_bind, fair_done, fair_or, fair_word) depth 40 fits 2000))
+    (after_word (codes "WHEREIN") _ (fair_bind name _ (fair_word a_word _) (λ n. fair_bind (between 1 256) _ (fair_word a_word _) (λ count. fair_bind (times count value) _ (fair_times count value (fair_word a_word _)) (λ values. fair_done _)))))
 
 takes_then_done : {A B : Type 0} (f : Form A) (make : A → B) → Takes f → Takes (f >>= λ a. done (make a))
 takes_then_done f make p = takes_bind f (λ a. done (make a)) p (λ a. fair_done (make a))
@@ -329,14 +343,14 @@ restarted near tail o false e has later = (
 
 -- an area behind FENCE
 
-abbrev area_tail : (called : Bytes) (kind : Kind) (channel key : Bytes) → Options → Form Command
+abbrev area_tail : (called : Bytes) (kind : Kind) (channel : table.Called) (key : Bytes) → Options → Form Command
 area_tail called kind channel key o = where_ o.fence table.area >>= λ a. done (table.setting channel called key o (watch.Zone kind a.area) a.words (Some a.from))
 
-area_there : (called : Bytes) (kind : Kind) (channel key : Bytes) (o : Options) → o.fence ≡ true → Finished (area_tail called kind channel key o) []
+area_there : (called : Bytes) (kind : Kind) (channel : table.Called) (key : Bytes) (o : Options) → o.fence ≡ true → Finished (area_tail called kind channel key o) []
 area_there called kind channel key o e = subst (λ b. Finished (where_ b table.area >>= λ a. done (table.setting channel called key o (watch.Zone kind a.area) a.words (Some a.from))) []) (sym e)
     (done_behind table.area (λ a. table.setting channel called key o (watch.Zone kind a.area) a.words (Some a.from)) good_area).start
 
-good_setchan_area : (called : Bytes) (kind : Kind) (channel : Bytes) → Good (table.setchan_area called kind channel)
+good_setchan_area : (called : Bytes) (kind : Kind) (channel : table.Called) → Good (table.setchan_area called kind channel)
 good_setchan_area called kind channel = said called _ (good_any name _ good_name (λ key.
     good_loop (λ o. Unit {0}) (table.fence_option false) (λ o r. weak_fence_option false o) (λ o r. makes_any (table.fence_option false o)) (λ o. (takes_fence_option false o).takes)
     (area_tail called kind channel key) (λ o r. weak_any (where_ o.fence table.area) _ (weak_where o.fence table.area good_area.weak) (λ a. good_done _))
@@ -344,7 +358,7 @@ good_setchan_area called kind channel = said called _ (good_any name _ good_name
 
 -- a disc, or objects near others
 
-weak_near_area : (channel key : Bytes) (o : Options) → Weak (table.near_area channel key o)
+weak_near_area : (channel : table.Called) (key : Bytes) (o : Options) → Weak (table.near_area channel key o)
 weak_near_area channel key o =
     alternative (weak_where (not o.nodwell) _ (good_any (word (codes "POINT") >> lat_lon) _ (said (codes "POINT") lat_lon good_lat_lon) (λ p. done_behind meters _ good_meters)).weak) (
     alternative (weak_where (is_none o.detect) _ (good_any (word (codes "ROAM") >> name) _ (said (codes "ROAM") name good_name) (λ other. good_any glob _ good_glob (λ p. done_behind meters _ good_meters))).weak) weak_none)
@@ -368,45 +382,51 @@ makes_apart o h =
     first (makes_if Apart (is_none o.commands) _ (λ e. makes_behind Apart (word (codes "COMMANDS") >> list_of table.command_names) _ (λ l. makes_done Apart _ h))) (
     first (makes_if Apart (true && not o.nodwell && is_none o.detect) _ (λ e. makes_then Apart (word (codes "NODWELL")) _ (makes_done Apart (record o { nodwell = true }) (no_detect o e)))) (makes_none Apart))))))
 
-abbrev near_tail : (channel key : Bytes) → Options → Form Command
+abbrev near_tail : (channel : table.Called) (key : Bytes) → Options → Form Command
 near_tail channel key o = where_ o.fence (table.near_area channel key o)
 
-abbrev point_form : (channel key : Bytes) → Options → Form Command
+abbrev point_form : (channel : table.Called) (key : Bytes) → Options → Form Command
 point_form channel key o = word (codes "POINT") >> lat_lon >>= λ p. meters >>= λ r. done (table.setting channel (codes "NEARBY") key o (watch.Zone Near (Disc p r)) (codes "POINT" ∷ signed_decimal p.y ∷ signed_decimal p.x ∷ decimal r ∷ []) None)
 
-abbrev roam_form : (channel key : Bytes) → Options → Form Command
+abbrev roam_form : (channel : table.Called) (key : Bytes) → Options → Form Command
 roam_form channel key o = word (codes "ROAM") >> name >>= λ other. glob >>= λ pattern. meters >>= λ r. done (table.setting channel (codes "NEARBY") key o (watch.Roam other pattern r o.nodwell) (codes "ROAM" ∷ other ∷ pattern ∷ decimal r ∷ []) None)
 
-good_point : (channel key : Bytes) (o : Options) → Good (point_form channel key o)
+good_point : (channel : table.Called) (key : Bytes) (o : Options) → Good (point_form channel key o)
 good_point channel key o = good_any (word (codes "POINT") >> lat_lon) _ (said (codes "POINT") lat_lon good_lat_lon) (λ p. done_behind meters _ good_meters)
 
-good_roam : (channel key : Bytes) (o : Options) → Good (roam_form channel key o)
+good_roam : (channel : table.Called) (key : Bytes) (o : Options) → Good (roam_form channel key o)
 good_roam channel key o = good_any (word (codes "ROAM") >> name) _ (said (codes "ROAM") name good_name) (λ other. good_any glob _ good_glob (λ p. done_behind meters _ good_meters))
 
 second_good : {A : Type 0} (f g : Form A) → Weak f → Good g → Good (f or g)
 second_good f g p q = record { weak = weak_or f g p q.weak; start = (q.start.0, q.start.1, spells_right q.start.1 [] (f q.start.0) (g q.start.0) q.start.2) }
 
 -- by NODWELL, and by the want of DETECT
-abbrev near_of : (channel key : Bytes) → Options → Bool → Bool → Form Command
+abbrev near_of : (channel : table.Called) (key : Bytes) → Options → Bool → Bool → Form Command
 near_of channel key o a b = where_ (not a) (point_form channel key o) or (where_ b (roam_form channel key o) or one_of [])
 
-near_good : (channel key : Bytes) (o : Options) (a b : Bool) → (a && not b) ≡ false → Good (near_of channel key o a b)
+near_good : (channel : table.Called) (key : Bytes) (o : Options) (a b : Bool) → (a && not b) ≡ false → Good (near_of channel key o a b)
 near_good channel key o false b h = good_or_weak (point_form channel key o) (where_ b (roam_form channel key o) or one_of []) (good_point channel key o) (weak_or _ _ (weak_where b _ (good_roam channel key o).weak) weak_none)
 near_good channel key o true true h = second_good (where_ false (point_form channel key o)) (roam_form channel key o or one_of []) (weak_where false _ (good_point channel key o).weak) (good_or_weak (roam_form channel key o) (one_of []) (good_roam channel key o) weak_none)
 near_good channel key o true false h = absurd cc
 
-near_there : (channel key : Bytes) (o : Options) → Apart o → o.fence ≡ true → Finished (near_tail channel key o) []
+near_there : (channel : table.Called) (key : Bytes) (o : Options) → Apart o → o.fence ≡ true → Finished (near_tail channel key o) []
 near_there channel key o h e = subst (λ b. Finished (where_ b (table.near_area channel key o)) []) (sym e) (near_good channel key o o.nodwell (is_none o.detect) h).start
 
-good_setchan_near : (channel : Bytes) → Good (table.setchan_near channel)
+good_setchan_near : (channel : table.Called) → Good (table.setchan_near channel)
 good_setchan_near channel = said (codes "NEARBY") _ (good_any name _ good_name (λ key.
     good_loop Apart (table.fence_option true) (λ o r. weak_fence_option true o) makes_apart (λ o. (takes_fence_option true o).takes)
     (near_tail channel key) (λ o r. weak_where o.fence _ (weak_near_area channel key o))
     (λ o r. restarted true (near_tail channel key) o o.fence refl (near_there channel key o r) (near_there channel key (with_fence o) r refl)) table.no_fence_options refl))
 
+good_kinds : (channel : table.Called) → Good (table.setchan_kinds channel)
+good_kinds channel =
+    first_good (good_setchan_area (codes "WITHIN") Within channel) (alternative (good_setchan_area (codes "INTERSECTS") Intersects channel).weak (alternative (good_setchan_near channel).weak weak_none))
+
+good_ex : Good table.after_ex_words
+good_ex = good_maybe None _ (done_behind (word (codes "EX") >> seconds) (λ s. Some s) (said (codes "EX") seconds good_seconds)).weak
+
 good_setchan : Good table.setchan_words
-good_setchan = good_any name _ good_name (λ channel.
-    first_good (good_setchan_area (codes "WITHIN") Within channel) (alternative (good_setchan_area (codes "INTERSECTS") Intersects channel).weak (alternative (good_setchan_near channel).weak weak_none)))
+good_setchan = good_any name _ good_name (λ n. good_any table.after_ex_words _ good_ex (λ after_ex. good_kinds (record { name = n; after_ex = after_ex })))
 
 -- every command
 

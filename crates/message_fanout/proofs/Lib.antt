@@ -1,3 +1,4 @@
 pub mod Payloads
 pub mod Going
 pub mod Turns
+pub mod Staying

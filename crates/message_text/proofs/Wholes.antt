@@ -2,12 +2,11 @@
 use Rattle.std.proofs.Common.{◌≡◌, List, [], ◌∷◌, ◌++◌, codes, append_assoc, append-nil, arith, refl, sym, ap, ◌∙◌, map, flat_map, decimal}
 use Rattle.std.specs.Prelude.{ℕ, Option}
 use Rattle.std.proofs.lemmas.Grind.{flat_map-append}
-use Rattle.std.specs.Fmt.{signed_decimal}
 use Rattle.byte_text.specs.Names.{Bytes}
 use Rattle.geo_text.specs.Texts.{with_commas, Shape}
 use Rattle.byte_text.specs.JsonText.{quoted}
 use Rattle.fence_model.specs.Messages.{detect_name, set_payload, roam_payload}
-use Rattle.world_data.specs.Filters.{Field}
+use Rattle.world_data.specs.Filters.{Field, value_json}
 use Rattle.world_data.specs.declared.objects.Object.{Object}
 use Rattle.world_data.specs.declared.channels.Detect.{Detect}
 use Rattle.world_data.specs.declared.channels.Detect.TheVariants.{Inside, Outside, Enter, Exit, Cross, Near, Far}
@@ -25,7 +24,7 @@ abbrev member : Bytes → Bytes → Bytes
 member called text = quoted called ++ 58 ∷ text
 
 abbrev field_member : Field → Bytes
-field_member f = member f.0 (signed_decimal f.1)
+field_member f = member f.0 (value_json f.1)
 
 abbrev fields_members : List Field → List Bytes
 fields_members [] = []

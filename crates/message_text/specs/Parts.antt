@@ -1,10 +1,9 @@
 -- The parts of a payload, in the order in which they are written.
 use Rattle.std.specs.Prelude.{ℕ, List, [], ◌∷◌, ◌++◌, flat_map, codes, decimal}
-use Rattle.std.specs.Fmt.{signed_decimal}
 use Rattle.byte_text.specs.Names.{Bytes}
 use Rattle.byte_text.specs.JsonText.{quoted}
 use Rattle.planar_geom.specs.Points.{dist2, floor_root}
-use Rattle.world_data.specs.Filters.{Field}
+use Rattle.world_data.specs.Filters.{Field, value_json}
 use Rattle.fence_model.specs.Fences.{place_of}
 use Rattle.fence_model.specs.Messages.{detect_name}
 use Rattle.world_data.specs.declared.objects.Object.{Object}
@@ -29,7 +28,7 @@ set_part hook d o = detect_part d ++ quoted hook ++ codes "," ++ object_part o
 
 -- a field's name and value
 abbrev pub field_part : Field → Bytes
-field_part f = quoted f.0 ++ codes ":" ++ signed_decimal f.1
+field_part f = quoted f.0 ++ codes ":" ++ value_json f.1
 
 -- fields behind others, each behind a comma
 abbrev pub more_fields : List Field → Bytes

@@ -83,7 +83,7 @@ fn push_field(into: &mut Text, fields: &Fields, i: usize) -> Result<(), NoMemory
 {
     push_json(into, fields.name(i).bytes())?;
     into.push(b":")?;
-    fields.show(i, into)
+    fields.show_json(i, into)
 }
 
 // Appends a field that is not the first.

@@ -1,6 +1,6 @@
 -- What commands on objects do, where channels stand beside the objects.
 use Rattle.std.proofs.Common.{◌≡◌, ℕ, ◌+◌, ◌*◌, ◌<◌, ◌≤◌, ◌^◌, Bool, true, false, not, refl, sym, ap, ◌∙◌, subst, lit≤, lit<, List, [], ◌∷◌, length, length-append, arith}
-use Rattle.std.specs.Prelude.{pos, Option, Some, None, is_none, filter, sum_by, nat_le, nat_lt, ◌==◌, ◌&&◌, map, if◌then◌else◌}
+use Rattle.std.specs.Prelude.{Option, Some, None, is_none, filter, sum_by, nat_le, nat_lt, ◌==◌, ◌&&◌, map, if◌then◌else◌}
 use Rattle.std.specs.List.{list_all, list_any}
 use Rattle.std.proofs.lemmas.Bool.Decides.{nat_tests}
 use Rattle.std.proofs.lemmas.List.{length-map}
@@ -10,9 +10,8 @@ use Rattle.byte_text.specs.Replies.{frame_text, fine, number}
 use Rattle.byte_text.specs.Requests.{max_words}
 use Rattle.byte_text.specs.declared.replies.Piece.{Piece}
 use Rattle.ordered_lists.specs.Lists.{put_in}
-use Rattle.planar_geom.specs.Points.{same_int}
 use Rattle.fence_model.specs.Writes.{Write, announced, silent, dels}
-use Rattle.world_data.specs.Filters.{Field, value_of, with_values}
+use Rattle.world_data.specs.Filters.{Field, value_of, same_value, zero_value, with_values}
 use Rattle.world_data.specs.Limits.{max_fields, max_objects, max_reply, max_weight}
 use Rattle.world_data.specs.Records.{weight}
 use Rattle.world_data.specs.Worlds.{object_at, object_before, has_key, is_at}
@@ -293,12 +292,12 @@ pub changed_few : (old : List Field) (given : List Field) → changed_count old 
 changed_few old [] = omega arith
 changed_few old (f ∷ given) =
     let ih = changed_few old given in
-    let one = one_at_most (not (same_int (value_of old f.0) f.1)) in
-    omega (arith, ih, one, sum_by-cons (λ (g : Field). if not (same_int (value_of old g.0) g.1) then 1 else 0) f given)
+    let one = one_at_most (not (same_value (value_of old f.0) f.1)) in
+    omega (arith, ih, one, sum_by-cons (λ (g : Field). if not (same_value (value_of old g.0) g.1) then 1 else 0) f given)
 
 pub few_counted : (os : List Object) (key id : Bytes) (given : List Field) (cleared : List Bytes) → length given + length cleared ≤ 2 * max_words → IsCounted os (of_object.Fset key id given cleared)
 few_counted os key id given cleared few = λ o e.
     let all = changed_few o.fields (given_and_cleared given cleared) in
-    let long = length-append given (map (λ (n : Bytes). (n, pos 0)) cleared) in
-    let zeros = length-map {B = Field} cleared (λ (n : Bytes). (n, pos 0)) in
+    let long = length-append given (map (λ (n : Bytes). (n, zero_value)) cleared) in
+    let zeros = length-map {B = Field} cleared (λ (n : Bytes). (n, zero_value)) in
     omega (arith, all, long, zeros, few)

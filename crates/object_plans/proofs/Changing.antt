@@ -1,17 +1,17 @@
 -- What FSET and FGET do.
-use Rattle.std.proofs.Common.{◌≡◌, ◌≢◌, ℕ, ℤ, suc, ◌+◌, ◌<◌, ◌≤◌, Bool, true, false, not, refl, ap, ◌∙◌, subst, List, [], ◌∷◌, ◌++◌, length, take, arith}
-use Rattle.std.specs.Prelude.{Option, Some, None, IfSome, pos, nat_lt, ◌==◌, slice_get, if◌then◌else◌}
+use Rattle.std.proofs.Common.{◌≡◌, ◌≢◌, ℕ, suc, ◌+◌, ◌<◌, ◌≤◌, Bool, true, false, not, refl, ap, ◌∙◌, subst, List, [], ◌∷◌, ◌++◌, length, take, arith}
+use Rattle.std.specs.Prelude.{Option, Some, None, IfSome, nat_lt, ◌==◌, slice_get, if◌then◌else◌}
 use Rattle.std.specs.List.{list_any}
 use Rattle.std.proofs.lemmas.Bool.Decides.{nat_tests}
 use Rattle.std.proofs.lemmas.List.Sums.{sum_by_push}
 use Rattle.byte_text.specs.Names.{Bytes}
 use Rattle.byte_text.specs.Replies.{number}
-use Rattle.planar_geom.specs.Points.{same_int}
 use Rattle.byte_text.specs.ListLaws.{item_at}
 use Rattle.world_data.specs.Limits.{max_fields}
 use Rattle.world_data.specs.Worlds.{object_at, has_key}
-use Rattle.world_data.specs.Filters.{Field, with_values, value_of}
-use Rattle.world_model.specs.Replies.{number_text}
+use Rattle.world_data.specs.declared.values.Value.{Value}
+use Rattle.world_data.specs.Filters.{Field, with_values, value_of, same_value, zero_value}
+use Rattle.world_model.specs.Replies.{value_reply}
 use Rattle.world_model.specs.Effects.{effect, says, refuses, missing, within_reply, given_and_cleared, changed_count}
 use Rattle.world_data.specs.declared.objects.Object.{Object}
 use Rattle.world_data.specs.declared.worlds.World.{World}
@@ -41,7 +41,7 @@ module _ (w : World) (now : ℕ) (key id : Bytes) where
   fget_none field e = rw e (missing_fits w key)
 
   module _ (o : Object) (here : object_at w key id ≡ Some o) where
-    pub fget_some : (field : Bytes) → effect w now [] (command.Object (of_object.Fget key id field)) ≡ within_reply (says (number_text (value_of o.fields field)))
+    pub fget_some : (field : Bytes) → effect w now [] (command.Object (of_object.Fget key id field)) ≡ within_reply (says (value_reply (value_of o.fields field)))
     unfolding effect
     fget_some field = rw here refl
 
@@ -69,26 +69,26 @@ module _ (w : World) (now : ℕ) (key id : Bytes) where
 
 module _ (old : List Field) where
   abbrev is_changed : Field → Bool
-  is_changed f = not (same_int (value_of old f.0) f.1)
+  is_changed f = not (same_value (value_of old f.0) f.1)
 
   one_changed : (given : List Field) (f : Field) (count d : ℕ) → count ≡ changed_count old given → d ≡ (if is_changed f then 1 else 0) → count + d ≡ changed_count old (given ++ f ∷ [])
   one_changed given f count d a b = let sum = sum_by_push (λ (g : Field). if is_changed g then 1 else 0) given f in omega (arith, sum, a, b)
 
-  pub next_given : (given : List Field) (i : ℕ) (name : Bytes) (value : ℤ) (count d : ℕ) → i < length given → IfSome (slice_get given i) (λ f. name ≡ f.0) → IfSome (slice_get given i) (λ f. value ≡ f.1)
-      → count ≡ changed_count old (take i given) → d ≡ (if not (same_int (value_of old name) value) then 1 else 0) → count + d ≡ changed_count old (take (i + 1) given)
+  pub next_given : (given : List Field) (i : ℕ) (name : Bytes) (value : Value) (count d : ℕ) → i < length given → IfSome (slice_get given i) (λ f. name ≡ f.0) → IfSome (slice_get given i) (λ f. value ≡ f.1)
+      → count ≡ changed_count old (take i given) → d ≡ (if not (same_value (value_of old name) value) then 1 else 0) → count + d ≡ changed_count old (take (i + 1) given)
   next_given given i name value count d lt named valued before now =
       let s = item_at given i lt in
       let name_is : name ≡ s.0.0 = subst (λ (o : Option Field). IfSome o (λ f. name ≡ f.0)) s.1 named in
       let value_is : value ≡ s.0.1 = subst (λ (o : Option Field). IfSome o (λ f. value ≡ f.1)) s.1 valued in
-      let this : d ≡ (if is_changed s.0 then 1 else 0) = now ∙ ap (λ (m : Bytes). if not (same_int (value_of old m) value) then 1 else 0) name_is ∙ ap (λ (v : ℤ). if not (same_int (value_of old s.0.0) v) then 1 else 0) value_is in
+      let this : d ≡ (if is_changed s.0 then 1 else 0) = now ∙ ap (λ (m : Bytes). if not (same_value (value_of old m) value) then 1 else 0) name_is ∙ ap (λ (v : Value). if not (same_value (value_of old s.0.0) v) then 1 else 0) value_is in
       let one : suc i ≡ i + 1 = omega arith in
       one_changed (take i given) s.0 count d before this ∙ ap (changed_count old) (take_more given i s.0 s.1) ∙ ap (λ (n : ℕ). changed_count old (take n given)) one
 
-  pub next_cleared : (names : List Bytes) (i : ℕ) (name : Bytes) (count d : ℕ) → slice_get names i ≡ Some name → count ≡ changed_count old (given_and_cleared [] (take i names)) → d ≡ (if not (same_int (value_of old name) (pos 0)) then 1 else 0)
+  pub next_cleared : (names : List Bytes) (i : ℕ) (name : Bytes) (count d : ℕ) → slice_get names i ≡ Some name → count ≡ changed_count old (given_and_cleared [] (take i names)) → d ≡ (if not (same_value (value_of old name) (zero_value)) then 1 else 0)
       → count + d ≡ changed_count old (given_and_cleared [] (take (i + 1) names))
   next_cleared names i name count d at before now =
       let one : suc i ≡ i + 1 = omega arith in
-      one_changed (given_and_cleared [] (take i names)) (name, pos 0) count d before now ∙ ap (changed_count old) (zero_more [] names i name at) ∙ ap (λ (n : ℕ). changed_count old (given_and_cleared [] (take n names))) one
+      one_changed (given_and_cleared [] (take i names)) (name, zero_value) count d before now ∙ ap (changed_count old) (zero_more [] names i name at) ∙ ap (λ (n : ℕ). changed_count old (given_and_cleared [] (take n names))) one
 
 pub one_at_most : (b : Bool) → (if b then 1 else 0) ≤ 1
 one_at_most true = omega arith

@@ -2,9 +2,11 @@
 
 ghost use Rattle.std.specs.Prelude.{◌≡◌, [], ℕ, not, if◌then◌else◌, IfOk};
 ghost use Rattle.std.specs.List.{list_any};
-ghost use Rattle.planar_geom.specs.Points.{same_int};
+ghost use Rattle.byte_text.specs.Replies.{frame_text};
+ghost use Rattle.world_data.specs.Filters.{same_value, value_of};
 ghost use Rattle.world_data.specs.Worlds.{has_key};
 ghost use Rattle.world_model.specs.Effects.{effect, changed_count, given_and_cleared, missing};
+ghost use Rattle.world_model.specs.Replies.{value_reply};
 ghost use Rattle.world_model.specs.declared.commands.Command.TheVariants as command;
 ghost use Rattle.world_model.specs.declared.object_commands.ObjectCommand.TheVariants as of_object;
 ghost use Rattle.keyspace.specs.Entries.{objects_in};
@@ -12,16 +14,16 @@ ghost use Rattle.object_plans.specs.Kept.{AreKept};
 ghost use Rattle.object_plans.specs.Moves.{world_in};
 ghost use Rattle.object_plans.specs.Plans.{IsPlan};
 
-use crate::answers::{say, say_count, say_refusal};
+use crate::answers::{say_count, say_frame, say_refusal};
 use crate::fields::with_values;
 use crate::plans::Plan;
 use crate::puts::plan_put;
-use byte_text::{Name, NoMemory};
-use field_filter::value_of;
+use byte_text::{Name, NoMemory, Text};
+use field_filter::{has_value, show_value};
 use keyspace::Keyspace;
-use reply_text::{count_frame, value_reply};
+use reply_text::{count_frame, text_frame};
 use std::alloc::Global;
-use world_data::MAX_FIELDS;
+use world_data::{MAX_FIELDS, Value};
 use world_model::{Fields, NameList, Refusal};
 
 // Whether there is an object of the key.
@@ -51,11 +53,11 @@ pub fn plan_missing(
     }
 }
 
-// 1 where the values differ, else 0.
-fn difference(value: i64, other: i64) -> u64
-    ensures { result ≡ (if not (same_int value other) then 1 else 0) }
+// 0 where the field of this name has the value, else 1.
+fn difference(fields: &Fields, name: &Name, value: &Value) -> u64
+    ensures { result ≡ (if not (same_value (value_of fields.now name.now) value.now) then 1 else 0) }
 {
-    u64::from(value != other)
+    u64::from(!has_value(fields, name, value))
 }
 
 // How many of these values the fields do not have.
@@ -64,7 +66,7 @@ fn changed_given(fields: &Fields, given: &Fields) -> u64
 {
     let mut count = 0;
     for i in 0..given.len() {
-        count += difference(value_of(fields, given.name(i)), given.value(i));
+        count += difference(fields, given.name(i), given.value(i));
     }
     count
 }
@@ -74,8 +76,9 @@ fn changed_cleared(fields: &Fields, cleared: &NameList) -> u64
     ensures { result ≡ changed_count fields.now (given_and_cleared [] cleared.now) }
 {
     let mut count = 0;
+    let zero = Value::Whole(0);
     for i in 0..cleared.len() {
-        count += difference(value_of(fields, cleared.at(i)), 0);
+        count += difference(fields, cleared.at(i), &zero);
     }
     count
 }
@@ -130,7 +133,16 @@ pub(crate) fn plan_fset(
     )
 }
 
-/// What FGET will do. A field that is missing reads 0.
+// The frame of the value of a field, as a bulk string. A field that is missing reads 0.
+fn value_frame(alloc: Global, fields: &Fields, name: &Name) -> Result<Text, NoMemory>
+    ensures { IfOk result (λ frame. frame ≡ frame_text (value_reply (value_of fields.now name.now))) }
+{
+    let mut text = Text::new(alloc);
+    show_value(fields, name, &mut text)?;
+    text_frame(alloc, text.bytes())
+}
+
+/// What FGET will do.
 pub(crate) fn plan_fget(
     alloc: Global,
     objects: &Keyspace,
@@ -146,6 +158,6 @@ pub(crate) fn plan_fget(
     let Some(object) = objects.get(key, id) else {
         return plan_missing(alloc, objects, total, key);
     };
-    let value = value_of(&object.fields, field);
-    say(alloc, total, &value_reply(alloc, value)?)
+    let frame = value_frame(alloc, &object.fields, field)?;
+    say_frame(alloc, total, frame)
 }

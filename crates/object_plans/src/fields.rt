@@ -6,6 +6,7 @@ ghost use Rattle.world_model.specs.Effects.{given_and_cleared};
 
 use byte_text::NoMemory;
 use std::alloc::Global;
+use world_data::Value;
 use world_model::{Fields, NameList};
 
 // The fields with these values given.
@@ -16,7 +17,7 @@ fn with_given(alloc: Global, fields: Fields, given: &Fields) -> Result<Fields, N
     // What the order of the fields is, is known where they are counted.
     let _count = fields.len();
     for i in 0..given.len() {
-        fields.set(given.name(i).copy(alloc)?, given.value(i))?;
+        fields.set(given.name(i).copy(alloc)?, given.value(i).copy(alloc)?)?;
     }
     Ok(fields)
 }
@@ -34,7 +35,8 @@ pub(crate) fn with_values(
     let _count = fields.len();
     let mut fields = with_given(alloc, fields, given)?;
     for i in 0..cleared.len() {
-        fields.set(cleared.at(i).copy(alloc)?, 0)?;
+        let name = cleared.at(i);
+        fields.set(name.copy(alloc)?, Value::Whole(0))?;
     }
     Ok(fields)
 }

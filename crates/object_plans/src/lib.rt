@@ -27,3 +27,4 @@ pub use limits::MOST_KEPT;
 pub use listings::or_refusal;
 pub use moves::ObjectChange;
 pub use plans::Plan;
+pub use puts::deadline_after;

@@ -131,8 +131,8 @@ pub(crate) fn plan_lighter(
     }
 }
 
-/// The deadline that EX gives.
-pub(crate) fn deadline_after(now: u64, seconds: Option<u32>) -> Option<u64>
+/// The deadline that EX gives, in milliseconds.
+pub fn deadline_after(now: u64, seconds: Option<u32>) -> Option<u64>
     requires { now ≤ max_moment }
     ensures { result ≡ deadline_after now seconds }
 {

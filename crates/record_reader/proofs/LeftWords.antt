@@ -7,8 +7,8 @@ use Rattle.byte_text.specs.ByteOrder.{same_refl, same_equal}
 use Rattle.log_record.specs.Words.{same_words}
 use Rattle.cmd_words.specs.LeftWords.{one_less}
 use Rattle.record_reader.specs.Reading.{BeginsNot, IsEnd, IsNotOne}
-use Rattle.record_reader.specs.declared.faults.RecordFault.{RecordFault}
-use Rattle.record_reader.specs.declared.faults.RecordFault.TheVariants.{NotRecord, Memory}
+use Rattle.record_reader.specs.declared.faults.ReadFault.{ReadFault}
+use Rattle.record_reader.specs.declared.faults.ReadFault.TheVariants.{NotRecord, Memory}
 
 pub heads_same : (v w : Bytes) (vs ws : List Bytes) → v ∷ vs ≡ w ∷ ws → v ≡ w
 heads_same v w vs ws e = cc e
@@ -65,17 +65,17 @@ module _ (words old left : List Bytes) (at : ℕ) (so_far : same_words words old
       → same_words words old ≡ same_words (drop (at + 1) words) new
   goes_at w new lt g e = so_far ∙ ap (λ l. same_words l left) (one_less words at w lt g) ∙ same_next w (drop (at + 1) words) left new e
 
-  pub ends_at : (r : Result (Unit {0}) RecordFault) (b : Bool) → length words ≤ at → IsEnd left r → b ≡ is_ok r → b ≡ same_words words old
+  pub ends_at : (r : Result (Unit {0}) ReadFault) (b : Bool) → length words ≤ at → IsEnd left r → b ≡ is_ok r → b ≡ same_words words old
   ends_at r b le end is = is ∙ by left r end ∙ sym (so_far ∙ ap (λ l. same_words l left) (drop_all at words le))
     where
-      by : (l : List Bytes) (r : Result (Unit {0}) RecordFault) → IsEnd l r → is_ok r ≡ same_words [] l
+      by : (l : List Bytes) (r : Result (Unit {0}) ReadFault) → IsEnd l r → is_ok r ≡ same_words [] l
       by l (Ok u) e = rw e refl
       by [] (Err NotRecord) none = absurd (none refl)
       by (w ∷ l) (Err NotRecord) none = refl
       by l (Err Memory) none = absurd none
 
 -- one word is left, or none or more are
-pub not_one : (old new : List Bytes) (w : Bytes) (why : RecordFault) → old ≡ w ∷ new → IsEnd new (Err why) → IsNotOne old
+pub not_one : (old new : List Bytes) (w : Bytes) (why : ReadFault) → old ≡ w ∷ new → IsEnd new (Err why) → IsNotOne old
 not_one old new w NotRecord e none = λ v f. none (rests_same w v new [] (sym e ∙ f))
 not_one old new w Memory e none = absurd none
 

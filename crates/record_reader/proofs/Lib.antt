@@ -4,4 +4,7 @@ pub mod FieldLists
 pub mod PutParts
 pub mod OtherRecords
 pub mod Settings
+pub mod Undated
 pub mod Sizes
+pub mod Versioned
+pub mod LeftTests

@@ -1,18 +1,17 @@
 -- The records of deletions and of channels' ends, and words that are no record.
 use Rattle.std.proofs.Common.{◌≡◌, Bool, true, false, List, [], ◌∷◌, refl, sym, ap, subst, ◌∙◌}
-use Rattle.std.specs.Prelude.{Option, Some, None, Result, Ok, Err, IfOk, IfErr, codes, ◌&&◌, if◌then◌else◌}
+use Rattle.std.specs.Prelude.{Option, Some, None, Result, Ok, Err, codes, ◌&&◌, if◌then◌else◌}
 use Rattle.std.proofs.lemmas.Bool.{and_from}
 use Rattle.byte_text.specs.Names.{Bytes, is_name, same}
 use Rattle.byte_text.specs.ByteOrder.{same_equal}
-use Rattle.byte_text.specs.Requests.{request_text}
-use Rattle.world_data.specs.Records.{record_reader, record_writer, is_kept}
+use Rattle.world_data.specs.Records.{record_reader, is_kept}
 use Rattle.world_data.specs.declared.worlds.Change.{Change}
 use Rattle.world_data.specs.declared.worlds.Change.TheVariants.{Del, Drop, Flush, DelChan}
 use Rattle.log_record.specs.Words.{change_of_words, if_recorded, same_words, put_of, del_of, drop_of, flush_of, setchan_of, delchan_of}
-use Rattle.log_record.specs.RecordsRead.{first, second, record_read}
+use Rattle.log_record.specs.RecordsRead.{first, second}
 use Rattle.log_record.specs.RecordsBack.{del_back, drop_back, flush_back, delchan_back}
-use Rattle.record_reader.specs.declared.faults.RecordFault.{RecordFault}
-use Rattle.record_reader.specs.declared.faults.RecordFault.TheVariants.{NotRecord, Memory}
+use Rattle.record_reader.specs.declared.faults.ReadFault.{ReadFault}
+use Rattle.record_reader.specs.declared.faults.ReadFault.TheVariants.{NotRecord, Memory}
 use Rattle.record_reader.specs.Reading.{BeginsNot, Reads, name_words, IsName, IsEnd, IsChangeOf}
 use Rattle.record_reader.proofs.LeftWords.{rests_same}
 
@@ -35,17 +34,17 @@ no_del (key ∷ id ∷ []) none = not_kept (codes "DEL" ∷ key ∷ id ∷ []) (
 no_del (key ∷ id ∷ w ∷ more) none = refl
 
 module _ (old : List Bytes) where
-  pub del_key_refused : (left : List Bytes) (why : RecordFault) → Reads name_words IsName old left (Err why) → IsChangeOf (codes "DEL" ∷ old) (Err why)
+  pub del_key_refused : (left : List Bytes) (why : ReadFault) → Reads name_words IsName old left (Err why) → IsChangeOf (codes "DEL" ∷ old) (Err why)
   del_key_refused left NotRecord none = no_del old (λ key id is also e. none key (id ∷ []) is e)
   del_key_refused left Memory none = tt
 
   module _ (key : Bytes) (one : List Bytes) (key_read : Reads name_words IsName old one (Ok key)) where
-    pub del_id_refused : (left : List Bytes) (why : RecordFault) → Reads name_words IsName one left (Err why) → IsChangeOf (codes "DEL" ∷ old) (Err why)
+    pub del_id_refused : (left : List Bytes) (why : ReadFault) → Reads name_words IsName one left (Err why) → IsChangeOf (codes "DEL" ∷ old) (Err why)
     del_id_refused left NotRecord none = no_del old (λ k id is also e. none id [] also (rests_same key k one (id ∷ []) (sym key_read.0 ∙ e)))
     del_id_refused left Memory none = tt
 
     module _ (id : Bytes) (two : List Bytes) (id_read : Reads name_words IsName one two (Ok id)) where
-      pub del_longer : (why : RecordFault) → IsEnd two (Err why) → IsChangeOf (codes "DEL" ∷ old) (Err why)
+      pub del_longer : (why : ReadFault) → IsEnd two (Err why) → IsChangeOf (codes "DEL" ∷ old) (Err why)
       del_longer NotRecord none = no_del old (λ k i is also e.
           none (rests_same id i two [] (sym id_read.0 ∙ rests_same key k one (i ∷ []) (sym key_read.0 ∙ e))))
       del_longer Memory none = absurd none
@@ -72,31 +71,31 @@ no_delchan (name ∷ w ∷ more) none = refl
 
 module _ (called : Bytes) (make : Bytes → Change) (none_is : (old : List Bytes) → ((name : Bytes) → IsName name → old ≡ name ∷ [] → ⊥) → change_of_words (called ∷ old) ≡ None)
     (back : (name : Bytes) → IsName name → change_of_words (called ∷ name ∷ []) ≡ Some (make name)) (old : List Bytes) where
-  name_refused : (left : List Bytes) (why : RecordFault) → Reads name_words IsName old left (Err why) → IsChangeOf (called ∷ old) (Err why)
+  name_refused : (left : List Bytes) (why : ReadFault) → Reads name_words IsName old left (Err why) → IsChangeOf (called ∷ old) (Err why)
   name_refused left NotRecord none = none_is old (λ name is e. none name [] is e)
   name_refused left Memory none = tt
 
   module _ (name : Bytes) (one : List Bytes) (read : Reads name_words IsName old one (Ok name)) where
-    longer : (why : RecordFault) → IsEnd one (Err why) → IsChangeOf (called ∷ old) (Err why)
+    longer : (why : ReadFault) → IsEnd one (Err why) → IsChangeOf (called ∷ old) (Err why)
     longer NotRecord none = none_is old (λ n is e. none (rests_same name n one [] (sym read.0 ∙ e)))
     longer Memory none = absurd none
 
     found : one ≡ [] → IsChangeOf (called ∷ old) (Ok (make name))
     found end = subst (λ l. change_of_words (called ∷ l) ≡ Some (make name)) (sym (read.0 ∙ ap (λ l. name ∷ l) end)) (back name read.1)
 
-pub drop_refused : (old left : List Bytes) (why : RecordFault) → Reads name_words IsName old left (Err why) → IsChangeOf (codes "DROP" ∷ old) (Err why)
+pub drop_refused : (old left : List Bytes) (why : ReadFault) → Reads name_words IsName old left (Err why) → IsChangeOf (codes "DROP" ∷ old) (Err why)
 drop_refused = name_refused (codes "DROP") Drop no_drop drop_back
 
-pub drop_longer : (old : List Bytes) (key : Bytes) (one : List Bytes) → Reads name_words IsName old one (Ok key) → (why : RecordFault) → IsEnd one (Err why) → IsChangeOf (codes "DROP" ∷ old) (Err why)
+pub drop_longer : (old : List Bytes) (key : Bytes) (one : List Bytes) → Reads name_words IsName old one (Ok key) → (why : ReadFault) → IsEnd one (Err why) → IsChangeOf (codes "DROP" ∷ old) (Err why)
 drop_longer = longer (codes "DROP") Drop no_drop drop_back
 
 pub drop_found : (old : List Bytes) (key : Bytes) (one : List Bytes) → Reads name_words IsName old one (Ok key) → one ≡ [] → IsChangeOf (codes "DROP" ∷ old) (Ok (Drop key))
 drop_found = found (codes "DROP") Drop no_drop drop_back
 
-pub delchan_refused : (old left : List Bytes) (why : RecordFault) → Reads name_words IsName old left (Err why) → IsChangeOf (codes "DELCHAN" ∷ old) (Err why)
+pub delchan_refused : (old left : List Bytes) (why : ReadFault) → Reads name_words IsName old left (Err why) → IsChangeOf (codes "DELCHAN" ∷ old) (Err why)
 delchan_refused = name_refused (codes "DELCHAN") DelChan no_delchan delchan_back
 
-pub delchan_longer : (old : List Bytes) (name : Bytes) (one : List Bytes) → Reads name_words IsName old one (Ok name) → (why : RecordFault) → IsEnd one (Err why) → IsChangeOf (codes "DELCHAN" ∷ old) (Err why)
+pub delchan_longer : (old : List Bytes) (name : Bytes) (one : List Bytes) → Reads name_words IsName old one (Ok name) → (why : ReadFault) → IsEnd one (Err why) → IsChangeOf (codes "DELCHAN" ∷ old) (Err why)
 delchan_longer = longer (codes "DELCHAN") DelChan no_delchan delchan_back
 
 pub delchan_found : (old : List Bytes) (name : Bytes) (one : List Bytes) → Reads name_words IsName old one (Ok name) → one ≡ [] → IsChangeOf (codes "DELCHAN" ∷ old) (Ok (DelChan name))
@@ -104,7 +103,7 @@ delchan_found = found (codes "DELCHAN") DelChan no_delchan delchan_back
 
 -- FLUSHDB
 
-pub flush_longer : (old : List Bytes) (why : RecordFault) → IsEnd old (Err why) → IsChangeOf (codes "FLUSHDB" ∷ old) (Err why)
+pub flush_longer : (old : List Bytes) (why : ReadFault) → IsEnd old (Err why) → IsChangeOf (codes "FLUSHDB" ∷ old) (Err why)
 unfolding change_of_words
 flush_longer [] NotRecord none = absurd (none refl)
 flush_longer (w ∷ old) NotRecord none = refl
@@ -115,7 +114,7 @@ flush_found old end = subst (λ l. change_of_words (codes "FLUSHDB" ∷ l) ≡ S
 
 -- words that begin with the name of no change
 
-differs : (called w : Bytes) (old : List Bytes) → BeginsNot called (w ∷ old) → same w called ≡ false
+pub differs : (called w : Bytes) (old : List Bytes) → BeginsNot called (w ∷ old) → same w called ≡ false
 differs called w old b = by (same w called) refl
   where
     by : (t : Bool) → same w called ≡ t → same w called ≡ false
@@ -137,21 +136,8 @@ no_name (w ∷ old) set del drop flush setchan delchan =
     (differs (codes "FLUSHDB") w old flush) (differs (codes "SETCHAN") w old setchan) (differs (codes "DELCHAN") w old delchan)
 
 -- the answer to a reader whose words are all those of the record
-pub read_from : (words begun : List Bytes) (r : Result Change RecordFault) → words ≡ begun → IsChangeOf begun r → IsChangeOf words r
+pub read_from : (words begun : List Bytes) (r : Result Change ReadFault) → words ≡ begun → IsChangeOf begun r → IsChangeOf words r
 read_from words begun r e is = subst (λ w. IsChangeOf w r) (sym e) is
-
-pub ok_is : (words : List Bytes) (r : Result Change RecordFault) → IsChangeOf words r → IfOk r (λ c. change_of_words words ≡ Some c)
-ok_is words (Ok c) is = is
-ok_is words (Err why) is = tt
-
-pub written_again : (words : List Bytes) (r : Result Change RecordFault) → IsChangeOf words r → IfOk r (λ c. record_writer c ≡ request_text words)
-written_again words (Ok c) is = ap request_text (record_read words c is).0
-written_again words (Err why) is = tt
-
-pub none_is : (words : List Bytes) (r : Result Change RecordFault) → IsChangeOf words r → IfErr r (λ why. why ≡ NotRecord → change_of_words words ≡ None)
-none_is words (Ok c) is = tt
-none_is words (Err NotRecord) is = λ e. is
-none_is words (Err Memory) is = λ e. absurd (cc e)
 
 -- the same, where the reader looked for one name after the other and has read none
 pub no_name_left : (words a b c d e f : List Bytes) → a ≡ words → (b ≡ a) × BeginsNot (codes "SET") a → (c ≡ b) × BeginsNot (codes "DEL") b

@@ -18,8 +18,8 @@ use Rattle.world_data.specs.declared.worlds.Change.TheVariants.{Put, Del, Drop, 
 use Rattle.log_record.specs.Words.{change_of_words, HasShape}
 use Rattle.log_record.specs.RecordsRead.{first, second, record_read}
 use Rattle.log_record.specs.RecordsBack.{object_back}
-use Rattle.record_reader.specs.declared.faults.RecordFault.{RecordFault}
-use Rattle.record_reader.specs.declared.faults.RecordFault.TheVariants.{NotRecord, Memory}
+use Rattle.record_reader.specs.declared.faults.ReadFault.{ReadFault}
+use Rattle.record_reader.specs.declared.faults.ReadFault.TheVariants.{NotRecord, Memory}
 use Rattle.record_reader.specs.Reading.{BeginsNot, Reads, name_words, IsName, moment_words, IsMoment, AreKept, ReadsFields, ReadsDeadline, IsNotOne, ReadsText, IsPlaceOf, IsChangeOf, one_word, text_words}
 use Rattle.record_reader.proofs.LeftWords.{heads_same, rests_same}
 use Rattle.record_reader.proofs.FieldLists.{texts, fields_same}
@@ -38,10 +38,11 @@ pub no_deadline : (old new : List Bytes) → new ≡ old → BeginsNot (codes "A
 no_deadline old new same ends = (sym same, refl, subst (BeginsNot (codes "AT")) (sym same) ends)
 
 module _ (old mid : List Bytes) (begins : old ≡ codes "AT" ∷ mid) where
-  pub moment_refused : (new : List Bytes) (why : RecordFault) → Reads moment_words IsMoment mid new (Err why) → ReadsDeadline old new (Err why)
+  pub moment_refused : (new : List Bytes) (why : ReadFault) → Reads moment_words IsMoment mid new (Err why) → ReadsDeadline old new (Err why)
   moment_refused new NotRecord none = by
     where
-      by : (deadline : Option ℕ) (behind : List Bytes) → is_kept_deadline deadline ≡ true → BeginsNot (codes "AT") behind → old ≡ deadline_words deadline ++ behind → ⊥
+      by : (deadline : Option ℕ) (behind : List Bytes) → is_kept_deadline deadline ≡ true → IfNone deadline (BeginsNot (codes "AT") behind)
+          → old ≡ deadline_words deadline ++ behind → ⊥
       by None behind kept ends e = ends.other mid (sym e ∙ begins)
       by (Some n) behind kept ends e =
           let small : n ≤ 18446744073709551615 = leb-true n 18446744073709551615 kept in
@@ -67,7 +68,7 @@ module _ (old mid : List Bytes) (begins : old ≡ codes "OBJECT" ∷ mid) where
   pub last_refused : IsNotOne mid → ReadsText old (Err NotRecord)
   last_refused none = λ t shape e. none t.0 (rests_same (codes "OBJECT") (codes "OBJECT") mid (one_word t.0) (sym begins ∙ e))
 
-  pub text_read : (w : Bytes) → mid ≡ one_word w → (r : Result (Bytes × Shape) RecordFault) → IsPlaceOf w r → ReadsText old r
+  pub text_read : (w : Bytes) → mid ≡ one_word w → (r : Result (Bytes × Shape) ReadFault) → IsPlaceOf w r → ReadsText old r
   text_read w is (Ok t) place = (begins ∙ ap (λ l. codes "OBJECT" ∷ l) (is ∙ ap one_word (sym place.0)), ap shape_of place.0 ∙ place.1)
   text_read w is (Err NotRecord) none = λ t shape e.
       let same_text : w ≡ t.0 = heads_same w t.0 [] [] (sym is ∙ rests_same (codes "OBJECT") (codes "OBJECT") mid (one_word t.0) (sym begins ∙ e)) in
@@ -106,7 +107,7 @@ no_put old none = by (change_of_words (codes "SET" ∷ old)) refl
     refutes (Del key id) is kept shape = other (codes "DEL") (key ∷ id ∷ []) refl is
     refutes (Drop key) is kept shape = other (codes "DROP") (key ∷ []) refl is
     refutes Flush is kept shape = other (codes "FLUSHDB") [] refl is
-    refutes (SetChan c) is kept shape = other (codes "SETCHAN") (c.name ∷ c.words) refl is
+    refutes (SetChan c) is kept shape = other (codes "SETCHAN") (c.name ∷ deadline_words c.deadline ++ c.words) refl is
     refutes (DelChan name) is kept shape = other (codes "DELCHAN") (name ∷ []) refl is
 
     by : (x : Option Change) → change_of_words (codes "SET" ∷ old) ≡ x → change_of_words (codes "SET" ∷ old) ≡ None
@@ -155,9 +156,13 @@ no_field_behind (Some n) text = begins_other (codes "FIELD") (codes "AT") (decim
 no_deadline_behind : (text : Bytes) → BeginsNot (codes "AT") (text_words text)
 no_deadline_behind text = begins_other (codes "AT") (codes "OBJECT") (one_word text) refl
 
+none_behind : (d : Option ℕ) (text : Bytes) → IfNone d (BeginsNot (codes "AT") (text_words text))
+none_behind None text = no_deadline_behind text
+none_behind (Some n) text = tt
+
 -- a part that is refused, behind those that were read
 module _ (old : List Bytes) where
-  pub key_refused : (left : List Bytes) (why : RecordFault) → Reads name_words IsName old left (Err why) → IsChangeOf (codes "SET" ∷ old) (Err why)
+  pub key_refused : (left : List Bytes) (why : ReadFault) → Reads name_words IsName old left (Err why) → IsChangeOf (codes "SET" ∷ old) (Err why)
   key_refused left NotRecord none = no_put old (λ o put. none o.key (o.id ∷ behind_id o) (key_kept o put.kept) put.words)
   key_refused left Memory none = tt
 
@@ -165,7 +170,7 @@ module _ (old : List Bytes) where
     behind_key : (o : Object) → IsPut o old → one ≡ o.id ∷ behind_id o
     behind_key o put = rests_same key o.key one (o.id ∷ behind_id o) (sym key_read.0 ∙ put.words)
 
-    pub id_refused : (left : List Bytes) (why : RecordFault) → Reads name_words IsName one left (Err why) → IsChangeOf (codes "SET" ∷ old) (Err why)
+    pub id_refused : (left : List Bytes) (why : ReadFault) → Reads name_words IsName one left (Err why) → IsChangeOf (codes "SET" ∷ old) (Err why)
     id_refused left NotRecord none = no_put old (λ o put. none o.id (behind_id o) (id_kept o put.kept) (behind_key o put))
     id_refused left Memory none = tt
 
@@ -173,7 +178,7 @@ module _ (old : List Bytes) where
       behind_names : (o : Object) → IsPut o old → two ≡ behind_id o
       behind_names o put = rests_same id o.id two (behind_id o) (sym id_read.0 ∙ behind_key o put)
 
-      pub fields_refused : (left : List Bytes) (why : RecordFault) → ReadsFields two left (Err why) → IsChangeOf (codes "SET" ∷ old) (Err why)
+      pub fields_refused : (left : List Bytes) (why : ReadFault) → ReadsFields two left (Err why) → IsChangeOf (codes "SET" ∷ old) (Err why)
       fields_refused left NotRecord none = no_put old (λ o put.
           none o.fields (behind_fields o) (fields_kept o put.kept) (no_field_behind o.deadline o.text) (behind_names o put))
       fields_refused left Memory none = tt
@@ -183,13 +188,13 @@ module _ (old : List Bytes) where
         behind_them o put = fields_same fields o.fields three (behind_fields o) fields_read.1 (fields_kept o put.kept) fields_read.2
             (no_field_behind o.deadline o.text) (sym fields_read.0 ∙ behind_names o put)
 
-        pub deadline_refused : (left : List Bytes) (why : RecordFault) → ReadsDeadline three left (Err why) → IsChangeOf (codes "SET" ∷ old) (Err why)
+        pub deadline_refused : (left : List Bytes) (why : ReadFault) → ReadsDeadline three left (Err why) → IsChangeOf (codes "SET" ∷ old) (Err why)
         deadline_refused left NotRecord none = no_put old (λ o put.
-            none o.deadline (text_words o.text) (deadline_kept o put.kept) (no_deadline_behind o.text) (behind_them o put))
+            none o.deadline (text_words o.text) (deadline_kept o put.kept) (none_behind o.deadline o.text) (behind_them o put))
         deadline_refused left Memory none = tt
 
         module _ (deadline : Option ℕ) (four : List Bytes) (deadline_read : ReadsDeadline three four (Ok deadline)) where
-          pub text_refused : (why : RecordFault) → ReadsText four (Err why) → IsChangeOf (codes "SET" ∷ old) (Err why)
+          pub text_refused : (why : ReadFault) → ReadsText four (Err why) → IsChangeOf (codes "SET" ∷ old) (Err why)
           text_refused NotRecord none = no_put old (λ o put.
               none (o.text, o.shape) put.shape (deadline_same deadline o.deadline four (text_words o.text) deadline_read.2 (no_deadline_behind o.text)
               (sym deadline_read.0 ∙ behind_them o put)))

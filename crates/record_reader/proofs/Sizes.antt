@@ -7,25 +7,31 @@ use Rattle.byte_text.specs.Names.{Bytes, is_name}
 use Rattle.byte_text.specs.Requests.{IsRequest, max_word}
 use Rattle.geo_text.specs.Texts.{shape_of}
 use Rattle.ordered_lists.specs.Reading.{both_of}
-use Rattle.world_data.specs.Filters.{Field}
-use Rattle.world_data.specs.Records.{deadline_words, record_reader, is_kept, is_kept_field, is_kept_deadline}
+use Rattle.world_data.specs.declared.values.Value.{Value}
+use Rattle.world_data.specs.declared.values.Value.TheVariants.{Whole, Word}
+use Rattle.world_data.specs.Filters.{Field, value_text}
+use Rattle.world_data.specs.Records.{deadline_words, record_reader, is_kept, is_kept_value, is_kept_field, is_kept_deadline}
 use Rattle.world_data.specs.declared.objects.Object.{Object}
 use Rattle.world_data.specs.declared.worlds.Change.TheVariants.{Put, Del, Drop, Flush, DelChan}
 use Rattle.log_record.specs.Words.{IsRecorded}
-use Rattle.log_record.specs.RecordsRead.{record_read}
+use Rattle.log_record.specs.RecordsRead.{record_read, fits_of}
 use Rattle.log_record.specs.RecordsBack.{object_back, del_back, drop_back, flush_back, delchan_back}
 use Rattle.cmd_words.specs.ShortRequests.{total_short, each_short}
-use Rattle.cmd_words.specs.SmallWords.{AreSmall, small, small_name, small_decimal, small_signed, small_append, total_append, short_append, short_back}
+use Rattle.cmd_words.specs.SmallWords.{IsSmall, AreSmall, small, small_name, small_decimal, small_signed, small_append, total_append, short_append, short_back}
 use Rattle.record_reader.specs.Recorded.{ChangesAreRecorded, most_fields, most_fields_fit, one_more_does_not}
-use Rattle.record_reader.proofs.Parts.{name_kept, number_kept}
+use Rattle.record_reader.proofs.Parts.{name_kept, value_kept}
 use Rattle.record_reader.proofs.FieldLists.{texts}
 use Rattle.record_reader.proofs.PutParts.{key_kept, id_kept, fields_kept, deadline_kept, all_kept}
+
+small_value : (v : Value) → is_kept_value v ≡ true → IsSmall (value_text v)
+small_value (Whole z) kept = small_signed z (fits_of z kept)
+small_value (Word w) kept = small_name w kept
 
 small_texts : (fields : List Field) → list_all is_kept_field fields ≡ true → AreSmall (texts fields)
 small_texts [] kept = tt
 small_texts (f ∷ fields) kept =
     let parts = both_of (is_kept_field f) (list_all is_kept_field fields) kept in
-    (small (codes "FIELD") refl, (small_name f.0 (name_kept f parts.0), (small_signed f.1 (number_kept f parts.0), small_texts fields parts.1)))
+    (small (codes "FIELD") refl, (small_name f.0 (name_kept f parts.0), (small_value f.1 (value_kept f parts.0), small_texts fields parts.1)))
 
 texts_count : (fields : List Field) → length (texts fields) ≡ 3 * length fields
 texts_count [] = refl

@@ -10,6 +10,7 @@ mod laws;
 mod limits;
 mod puts;
 mod record_reader;
+mod versions;
 
 pub use changes::change_of;
 pub use faults::RecordFault;

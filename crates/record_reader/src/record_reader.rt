@@ -1,15 +1,17 @@
 //! A reader of a record's words, from left to right: one function a kind of word.
 
-ghost use Rattle.std.specs.Prelude.{◌≡◌, ◌∷◌, [], true, false, decimal, MatchOption};
+ghost use Rattle.std.specs.Prelude.{◌≡◌, ◌∷◌, [], true, false, MatchOption};
 ghost use Rattle.byte_text.specs.Names.{same};
+ghost use Rattle.world_data.specs.Filters.{is_number};
 ghost use Rattle.log_record.specs.Words.{same_words};
-ghost use Rattle.record_reader.specs.Reading.{BeginsNot, Reads, one_word, name_words, IsName, number_words, IsNumber};
-ghost use Rattle.record_reader.specs.Reading.{moment_words, IsMoment, value_words, IsValue, IsEnd, IsNotOne};
+ghost use Rattle.record_reader.specs.Reading.{BeginsNot, Reads, one_word, name_words, IsName, value_words, IsValue};
+ghost use Rattle.record_reader.specs.Reading.{moment_words, IsMoment, ReadsDeadline, pair_words, IsPair, IsEnd, IsNotOne};
 
-use crate::faults::RecordFault;
+use crate::faults::ReadFault;
 use byte_text::{Name, NameFault, Request, read_i64, read_u64};
 use std::alloc::Global;
 use std::marker::Model;
+use world_data::Value;
 
 /// The words of a record, and how many of them were read. It is seen as the words that are left.
 #[derive(Drop)]
@@ -87,49 +89,60 @@ impl<'a> RecordReader<'a> {
     }
 
     /// Finds that no word is left.
-    pub(crate) fn end(&self) -> Result<(), RecordFault>
+    pub(crate) fn end(&self) -> Result<(), ReadFault>
         ensures { IsEnd self.now result }
     {
         if self.read == self.words.words() {
             Ok(())
         } else {
-            Err(RecordFault::NotRecord)
+            Err(ReadFault::NotRecord)
         }
     }
 
     /// Reads a name.
-    pub(crate) fn name(&mut self) -> Result<Name, RecordFault>
+    pub(crate) fn name(&mut self) -> Result<Name, ReadFault>
         ensures { Reads name_words IsName self.old self.new result }
     {
         let Some(word) = self.next() else {
-            return Err(RecordFault::NotRecord);
+            return Err(ReadFault::NotRecord);
         };
         name_of(self.alloc, word)
     }
 
     /// Reads a moment: a canonical number of 64 bits.
-    pub(crate) fn moment(&mut self) -> Result<u64, RecordFault>
+    pub(crate) fn moment(&mut self) -> Result<u64, ReadFault>
         ensures { Reads moment_words IsMoment self.old self.new result }
     {
         match self.next() {
             Some(word) => moment_of(word),
-            None => Err(RecordFault::NotRecord),
+            None => Err(ReadFault::NotRecord),
         }
     }
 
-    /// Reads the value of a field: a canonical number of 64 bits.
-    pub(crate) fn value(&mut self) -> Result<i64, RecordFault>
-        ensures { Reads number_words IsNumber self.old self.new result }
+    /// Reads the deadline, where there is one: `AT moment`.
+    pub(crate) fn deadline(&mut self) -> Result<Option<u64>, ReadFault>
+        ensures { ReadsDeadline self.old self.new result }
+    {
+        if !self.takes(b"AT") {
+            return Ok(None);
+        }
+        let moment = self.moment()?;
+        Ok(Some(moment))
+    }
+
+    /// Reads the value of a field: a number where the word is the text of one, else a text.
+    pub(crate) fn value(&mut self) -> Result<Value, ReadFault>
+        ensures { Reads value_words IsValue self.old self.new result }
     {
         match self.next() {
-            Some(word) => number_of(word),
-            None => Err(RecordFault::NotRecord),
+            Some(word) => value_of(self.alloc, word),
+            None => Err(ReadFault::NotRecord),
         }
     }
 
     /// Reads the name and the value of a field.
-    pub(crate) fn field(&mut self) -> Result<(Name, i64), RecordFault>
-        ensures { Reads value_words IsValue self.old self.new result }
+    pub(crate) fn field(&mut self) -> Result<(Name, Value), ReadFault>
+        ensures { Reads pair_words IsPair self.old self.new result }
     {
         let name = self.name()?;
         let value = self.value()?;
@@ -150,40 +163,49 @@ impl<'a> RecordReader<'a> {
     }
 }
 
-// Whether two words have the same bytes.
-fn is_same(word: &[u8], other: &[u8]) -> bool
+/// Whether two words have the same bytes.
+pub(crate) fn is_same(word: &[u8], other: &[u8]) -> bool
     ensures { result ≡ same word.now other.now }
 {
     word == other
 }
 
 // The name that the word is.
-fn name_of(alloc: Global, word: &[u8]) -> Result<Name, RecordFault>
+fn name_of(alloc: Global, word: &[u8]) -> Result<Name, ReadFault>
     ensures { Reads name_words IsName (one_word word.now) [] result }
 {
     match Name::of(alloc, word) {
         Ok(name) => Ok(name),
-        Err(NameFault::Refused(_)) => Err(RecordFault::NotRecord),
-        Err(NameFault::Memory) => Err(RecordFault::Memory),
+        Err(NameFault::Refused(_)) => Err(ReadFault::NotRecord),
+        Err(NameFault::Memory) => Err(ReadFault::Memory),
     }
 }
 
 // The moment that the word is.
-fn moment_of(word: &[u8]) -> Result<u64, RecordFault>
+fn moment_of(word: &[u8]) -> Result<u64, ReadFault>
     ensures { Reads moment_words IsMoment (one_word word.now) [] result }
 {
     match read_u64(word) {
         Ok(moment) => Ok(moment),
-        Err(_) => Err(RecordFault::NotRecord),
+        Err(_) => Err(ReadFault::NotRecord),
     }
 }
 
-// The number that the word is.
-fn number_of(word: &[u8]) -> Result<i64, RecordFault>
-    ensures { Reads number_words IsNumber (one_word word.now) [] result }
+// The value that the word writes: the number of which it is the text, else a text.
+fn value_of(alloc: Global, word: &[u8]) -> Result<Value, ReadFault>
+    ensures { Reads value_words IsValue (one_word word.now) [] result }
 {
     match read_i64(word) {
-        Ok(n) => Ok(n),
-        Err(_) => Err(RecordFault::NotRecord),
+        Ok(number) => Ok(Value::Whole(number)),
+        Err(_) => text_of(alloc, word),
     }
+}
+
+// The text that the word is, which is that of no number.
+fn text_of(alloc: Global, word: &[u8]) -> Result<Value, ReadFault>
+    requires { is_number word.now ≡ false }
+    ensures { Reads value_words IsValue (one_word word.now) [] result }
+{
+    let text = name_of(alloc, word)?;
+    Ok(Value::Word(text))
 }

@@ -1,5 +1,5 @@
 -- The lengths of records, word by word.
-use Rattle.std.proofs.Common.{◌≡◌, ℕ, ℤ, zero, suc, ◌+◌, ◌*◌, ◌^◌, ◌<◌, ◌≤◌, lit<, refl, ap, subst, ◌∙◌, List, [], ◌∷◌, ◌++◌, length, take}
+use Rattle.std.proofs.Common.{◌≡◌, ℕ, zero, suc, ◌+◌, ◌*◌, ◌^◌, ◌<◌, ◌≤◌, lit<, refl, ap, subst, ◌∙◌, List, [], ◌∷◌, ◌++◌, length, take}
 use Rattle.std.proofs.Common.{length-append, arith}
 use Rattle.std.proofs.lemmas.Bool.Decides.{nat_tests}
 use Rattle.std.specs.Prelude.{true, nat_le, Option, Some, None, IfSome, codes, decimal, flat_map, slice_get}
@@ -7,6 +7,7 @@ use Rattle.std.proofs.lemmas.Fmt.{length-decimal-le, decimal_nonempty}
 use Rattle.byte_text.specs.Names.{Bytes}
 use Rattle.byte_text.specs.Lines.{line, bulk_text}
 use Rattle.world_data.specs.Filters.{Field}
+use Rattle.world_data.specs.declared.values.Value.{Value}
 use Rattle.world_data.specs.Records.{record_len, record_reader, field_words, deadline_words}
 use Rattle.byte_text.specs.Requests.{AreShort, FitsRequest, max_request, max_word, max_words, total}
 use Rattle.byte_text.specs.ListLaws.{item_at}
@@ -99,7 +100,7 @@ pub put_sum : (o : Object) (count head set key id fields deadline object text : 
 put_sum o count head set key id fields deadline object text is a b c d e f g h = omega (arith, put_record o count is, a, b, c, d, e, f, g, h)
 
 -- one field more
-pub field_step : (fs : List Field) (i sum n : ℕ) (name : Bytes) (value : ℤ) → i < length fs → IfSome (slice_get fs i) (λ f. name ≡ f.0)
+pub field_step : (fs : List Field) (i sum n : ℕ) (name : Bytes) (value : Value) → i < length fs → IfSome (slice_get fs i) (λ f. name ≡ f.0)
     → IfSome (slice_get fs i) (λ f. value ≡ f.1)
     → sum ≡ words_len (flat_map field_words (take i fs)) → n ≡ words_len (field_words (name, value))
     → sum + n ≡ words_len (flat_map field_words (take (i + 1) fs))
@@ -108,8 +109,13 @@ field_step fs i sum n name value lt named valued before now =
     let name_is : name ≡ s.0.0 = subst (λ (o : Option Field). IfSome o (λ f. name ≡ f.0)) s.1 named in
     let value_is : value ≡ s.0.1 = subst (λ (o : Option Field). IfSome o (λ f. value ≡ f.1)) s.1 valued in
     let field_is : n ≡ words_len (field_words s.0) = now ∙ ap (λ (m : Bytes). words_len (field_words (m, value))) name_is
-    ∙ ap (λ (v : ℤ). words_len (field_words (s.0.0, v))) value_is in
+    ∙ ap (λ (v : Value). words_len (field_words (s.0.0, v))) value_is in
     omega (arith, before, field_is, next_field fs i s.0 s.1)
+
+-- a deadline has two words at most
+two : (d : Option ℕ) → length (deadline_words d) ≤ 2
+two None = omega arith
+two (Some d) = omega arith
 
 -- the record of a del is no longer than that of the put which it undoes
 pub del_short : (o : Object) → HasFewFields o → record_len (change.Del o.key o.id) ≤ record_len (change.Put o)
@@ -136,10 +142,6 @@ del_short o few =
   where
     one : length (decimal 3) ≤ 1
     one = length-decimal-le 1 3 (omega arith) (lit< tt) (lit< tt)
-
-    two : (d : Option ℕ) → length (deadline_words d) ≤ 2
-    two None = omega arith
-    two (Some d) = omega arith
 
 -- the record of a put is shorter where the object has no deadline
 pub bare_short : (o : Object) (m : ℕ) → o.deadline ≡ Some m → HasFewFields o
@@ -172,33 +174,36 @@ bare_short o m is few =
     )
 
 -- the record of a channel
-pub setchan_sum : (c : Channel) (count head set name words : ℕ) → count ≡ 2 + length c.words → head ≡ length (line 42 (decimal count))
-    → set ≡ length (bulk_text (codes "SETCHAN")) → name ≡ length (bulk_text c.name) → words ≡ words_len c.words
-    → head + set + name + words ≡ record_len (change.SetChan c)
-setchan_sum c count head set name words is a b d e =
+pub setchan_count : (c : Channel) → length (record_reader (change.SetChan c)) ≡ 2 + length (deadline_words c.deadline) + length c.words
+setchan_count c = omega (arith, length-append (deadline_words c.deadline) c.words)
+
+setchan_record : (c : Channel) (count : ℕ) → count ≡ length (record_reader (change.SetChan c)) → record_len (change.SetChan c) ≡ length (line 42 (decimal count))
+    + (length (bulk_text (codes "SETCHAN")) + (length (bulk_text c.name) + (words_len (deadline_words c.deadline) + words_len c.words)))
+setchan_record c count is =
     let many = length (record_reader (change.SetChan c)) in
-    let count_is : count ≡ many = omega (arith, is) in
-    let line_is : length (line 42 (decimal count)) ≡ length (line 42 (decimal many)) = ap (λ (n : ℕ). length (line 42 (decimal n))) count_is in
+    let more = deadline_words c.deadline ++ c.words in
+    let line_is : length (line 42 (decimal count)) ≡ length (line 42 (decimal many)) = ap (λ (n : ℕ). length (line 42 (decimal n))) is in
     omega (
       arith,
       line_is,
       length-append (line 42 (decimal many)) (flat_map bulk_text (record_reader (change.SetChan c))),
       words_cons
-          (codes "SETCHAN") (c.name ∷ c.words),
-      words_cons c.name c.words,
-      a,
-      b,
-      d,
-      e,
+          (codes "SETCHAN") (c.name ∷ more),
+      words_cons c.name more,
+      words_append (deadline_words c.deadline) c.words,
     )
+
+pub setchan_sum : (c : Channel) (count head set name deadline words : ℕ) → count ≡ length (record_reader (change.SetChan c)) → head ≡ length (line 42 (decimal count))
+    → set ≡ length (bulk_text (codes "SETCHAN")) → name ≡ length (bulk_text c.name) → deadline ≡ words_len (deadline_words c.deadline)
+    → words ≡ words_len c.words → head + set + name + deadline + words ≡ record_len (change.SetChan c)
+setchan_sum c count head set name deadline words is a b d e f = omega (arith, setchan_record c count is, a, b, d, e, f)
 
 -- that of the change that takes a channel out is no longer
 pub delchan_short : (c : Channel) → length c.words < 2 ^ 32 → record_len (change.DelChan c.name) ≤ record_len (change.SetChan c)
 delchan_short c few =
     let count = length (record_reader (change.SetChan c)) in
-    let small : count < 2 ^ 64 = omega (arith, few) in
+    let small : count < 2 ^ 64 = omega (arith, setchan_count c, two c.deadline, few) in
     let all = length-append (line 42 (decimal 2)) (flat_map bulk_text (codes "DELCHAN" ∷ c.name ∷ [])) in
-    let whole = length-append (line 42 (decimal count)) (flat_map bulk_text (record_reader (change.SetChan c))) in
     let head : length (line 42 (decimal 2)) ≤ length (line 42 (decimal count)) =
     omega (arith, length-append (decimal 2) (13 ∷ 10 ∷ []), length-append (decimal count) (13 ∷ 10 ∷ []), one, decimal_nonempty count small) in
     let del : length (bulk_text (codes "DELCHAN")) ≡ length (line 36 (decimal 7)) + 9 = bulk_size (codes "DELCHAN") in
@@ -206,15 +211,12 @@ delchan_short c few =
     omega (
       arith,
       all,
-      whole,
+      setchan_record c count refl,
       head,
       del,
       set,
       words_cons (codes "DELCHAN") (c.name ∷ []),
       words_cons c.name [],
-      words_cons (codes "SETCHAN")
-          (c.name ∷ c.words),
-      words_cons c.name c.words,
     )
   where
     one : length (decimal 2) ≤ 1

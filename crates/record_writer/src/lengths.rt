@@ -2,6 +2,7 @@
 
 ghost use Rattle.std.specs.Prelude.{◌≡◌, ◌≤◌, ◌+◌, ◌*◌, ◌^◌, length, decimal, flat_map};
 ghost use Rattle.byte_text.specs.Lines.{line, bulk_text};
+ghost use Rattle.world_data.specs.Filters.{value_text};
 ghost use Rattle.world_data.specs.Limits.{max_weight};
 ghost use Rattle.world_data.specs.Records.{record_len, field_words, deadline_words};
 ghost use Rattle.world_data.specs.declared.worlds.Change.TheVariants as change;
@@ -10,7 +11,7 @@ ghost use Rattle.record_writer.specs.Lengths.{words_len};
 
 use byte_text::{Name, Request};
 use itoa::Buffer;
-use world_data::{Channel, Fields, Object};
+use world_data::{Channel, Fields, Object, Value};
 
 // How many digits a number has.
 fn digits_of(n: u64) -> u64
@@ -50,19 +51,30 @@ fn name_len(name: &Name) -> u64
     bulk_len(name.bytes())
 }
 
-// The bytes of the words of a field: `FIELD name value`.
-fn field_len(name: &Name, value: i64) -> u64
-    ensures value { result ≡ words_len (field_words (name.now, value)) }
-    ensures short { result ≤ 400 }
+// The bytes of the word that writes a value.
+fn value_len(value: &Value) -> u64
+    ensures value { result ≡ length (bulk_text (value_text value.now)) }
+    ensures short { result ≤ 280 }
 {
-    bulk_len(b"FIELD") + name_len(name) + bulk_len(Buffer::new().format(value).as_bytes())
+    match value {
+        Value::Whole(number) => bulk_len(Buffer::new().format(*number).as_bytes()),
+        Value::Word(text) => name_len(text),
+    }
+}
+
+// The bytes of the words of a field: `FIELD name value`.
+fn field_len(name: &Name, value: &Value) -> u64
+    ensures value { result ≡ words_len (field_words (name.now, value.now)) }
+    ensures short { result ≤ 600 }
+{
+    bulk_len(b"FIELD") + name_len(name) + value_len(value)
 }
 
 // The bytes of the words of all fields.
 fn fields_len(fields: &Fields) -> u64
     requires { length fields.now ≤ max_weight }
     ensures value { result ≡ words_len (flat_map field_words fields.now) }
-    ensures short { result ≤ 2 ^ 38 }
+    ensures short { result ≤ 2 ^ 38 + 2 ^ 37 }
 {
     let mut sum = 0;
     for i in 0..fields.len() {
@@ -143,15 +155,16 @@ fn words_len(words: &Request) -> u64
     sum
 }
 
-/// The length of the record of a channel: the request `SETCHAN name` and its words. That of the change that takes it
-/// out is no longer.
+/// The length of the record of a channel: the request `SETCHAN name`, its deadline, and its words. That of the change
+/// that takes it out is no longer.
 pub fn channel_len(channel: &Channel) -> u64
     ensures value { result ≡ record_len (change.SetChan channel.now) }
     ensures short { result ≤ 2 ^ 40 }
     ensures drop { record_len (change.DelChan channel.now.name) ≤ result }
 {
-    let count = 2 + channel.words.words() as u64;
-    line_len(count) + bulk_len(b"SETCHAN") + name_len(&channel.name) + words_len(&channel.words)
+    let count = 2 + deadline_count(channel.deadline) + channel.words.words() as u64;
+    let head = line_len(count) + bulk_len(b"SETCHAN") + name_len(&channel.name);
+    head + deadline_len(channel.deadline) + words_len(&channel.words)
 }
 
 /// The length of the record of a change that takes a channel out: the request `DELCHAN name`.

@@ -2,24 +2,38 @@
 
 ghost use Rattle.std.specs.Prelude.{◌≡◌, ◌<◌, ◌++◌, ◌∷◌, [], true, codes, length, take, flat_map, OnOk};
 ghost use Rattle.std.specs.List.{list_all};
-ghost use Rattle.world_data.specs.Records.{is_kept_deadline, is_kept_field, deadline_words, field_words};
-ghost use Rattle.world_data.specs.Filters.{are_fields};
+ghost use Rattle.byte_text.specs.Lines.{bulk_text};
+ghost use Rattle.world_data.specs.Records.{is_kept_deadline, is_kept_field, is_kept_value, deadline_words, field_words};
+ghost use Rattle.world_data.specs.Filters.{are_fields, value_text};
 ghost use Rattle.record_writer.specs.Texts.{words_text};
 
 use byte_text::{Name, NoMemory, Text, push_bulk};
 use itoa::Buffer;
-use world_data::Fields;
+use world_data::{Fields, Value};
+
+// Appends the word that writes a value.
+#[tactic(auto, using(byte_text::specs::TextLaws::kept))]
+fn push_value(into: &mut Text, value: &Value) -> Result<(), NoMemory>
+    ensures ok { OnOk result (into.new ≡ into.old ++ bulk_text (value_text value.now)) }
+    ensures kept { take (length into.old) into.new ≡ into.old }
+    ensures is_kept { OnOk result (is_kept_value value.now ≡ true) }
+{
+    match value {
+        Value::Whole(number) => push_bulk(into, Buffer::new().format(*number).as_bytes()),
+        Value::Word(text) => push_bulk(into, text.bytes()),
+    }
+}
 
 // Appends the words of a field: `FIELD name value`.
 #[tactic(auto, using(byte_text::specs::TextLaws::kept))]
-fn push_field(into: &mut Text, name: &Name, value: i64) -> Result<(), NoMemory>
-    ensures ok { OnOk result (into.new ≡ into.old ++ words_text (field_words (name.now, value))) }
+fn push_field(into: &mut Text, name: &Name, value: &Value) -> Result<(), NoMemory>
+    ensures ok { OnOk result (into.new ≡ into.old ++ words_text (field_words (name.now, value.now))) }
     ensures kept { take (length into.old) into.new ≡ into.old }
-    ensures is_kept { OnOk result (is_kept_field (name.now, value) ≡ true) }
+    ensures is_kept { OnOk result (is_kept_field (name.now, value.now) ≡ true) }
 {
     push_bulk(into, b"FIELD")?;
     push_bulk(into, name.bytes())?;
-    push_bulk(into, Buffer::new().format(value).as_bytes())
+    push_value(into, value)
 }
 
 /// Appends the words of all fields.

@@ -80,6 +80,13 @@ pub fn push_flush(into: &mut Text) -> Result<(), NoMemory>
     push_bulk(into, b"FLUSHDB")
 }
 
+// How many words the record of a setting has: `SETCHAN name`, its deadline, and the channel's words.
+fn setchan_count(channel: &Channel) -> u128
+    ensures { result ≡ length (record_reader (change.SetChan channel.now)) }
+{
+    2 + deadline_count(channel.deadline) + channel.words.words() as u128
+}
+
 /// Appends the record of the setting of a channel. At want of memory a part of it may stand behind what was there.
 #[tactic(auto, using(byte_text::specs::TextLaws::kept))]
 pub fn push_setchan(into: &mut Text, channel: &Channel) -> Result<(), NoMemory>
@@ -87,9 +94,10 @@ pub fn push_setchan(into: &mut Text, channel: &Channel) -> Result<(), NoMemory>
     ensures kept { take (length into.old) into.new ≡ into.old }
     ensures is_kept { OnOk result (is_kept (change.SetChan channel.now) ≡ true) }
 {
-    push_array_head(into, 2 + channel.words.words() as u128)?;
+    push_array_head(into, setchan_count(channel))?;
     push_bulk(into, b"SETCHAN")?;
     push_bulk(into, channel.name.bytes())?;
+    push_deadline(into, channel.deadline)?;
     push_words(into, &channel.words)
 }
 

@@ -3,8 +3,7 @@ use Rattle.std.proofs.Common.{◌≡◌, ◌≢◌, ℕ, ◌+◌, Bool, true, fa
 use Rattle.std.specs.Prelude.{Option, Some, None, max, map, if◌then◌else◌}
 use Rattle.std.proofs.lemmas.Bool.{leb-true}
 use Rattle.byte_text.specs.Names.{Bytes}
-use Rattle.fence_model.specs.Writes.{Write, dels}
-use Rattle.world_data.specs.Expiry.{expired}
+use Rattle.fence_model.specs.Writes.{Write, due_writes}
 use Rattle.byte_text.specs.Replies.{frame_text}
 use Rattle.world_model.specs.Subscriptions.{with_subs}
 use Rattle.world_data.specs.Limits.{most_logged}
@@ -66,7 +65,7 @@ unfolding do_call
 call_on h n asked = live_on h (session_of h n) asked
 
 due_on : (h : Hall) (m : ℕ) → (due h m).stopped ≡ h.stopped
-due_on h m = all_applied_on (record h { now = max h.now m }) (dels (expired h.world (max h.now m)))
+due_on h m = all_applied_on (record h { now = max h.now m }) (due_writes h.world (max h.now m))
 
 doing_on : (h : Hall) (e : Event) → is_retire e ≡ false → (doing h e).1.stopped ≡ h.stopped
 doing_on h Enter other = refl

@@ -3,8 +3,7 @@ use Rattle.std.proofs.Common.{◌≡◌, ◌≢◌, ℕ, Bool, true, false, refl
 use Rattle.std.specs.Prelude.{Option, Some, None, Result, Ok, Err, option_map, map, max, if◌then◌else◌}
 use Rattle.byte_text.specs.Names.{Bytes}
 use Rattle.byte_text.specs.Replies.{frame_text}
-use Rattle.fence_model.specs.Writes.{Write, dels}
-use Rattle.world_data.specs.Expiry.{expired}
+use Rattle.fence_model.specs.Writes.{Write, due_writes}
 use Rattle.world_model.specs.Effects.{Effect}
 use Rattle.world_model.specs.Commands.{reads}
 use Rattle.world_model.specs.Subscriptions.{with_subs}
@@ -33,7 +32,7 @@ quiet_writes h [] = refl
 quiet_writes h (d ∷ ds) = quiet_writes (apply h d) ds ∙ ap (λ (z : Hall). silent (apply_all z ds)) (quiet_apply h d) ∙ sym (quiet_writes (apply (silent h) d) ds)
 
 quiet_due : (h : Hall) (m : ℕ) → silent (due h m) ≡ silent (due (silent h) m)
-quiet_due h m = quiet_writes (record h { now = max h.now m }) (dels (expired h.world (max h.now m)))
+quiet_due h m = quiet_writes (record h { now = max h.now m }) (due_writes h.world (max h.now m))
 
 quiet_closed : (c : Bool) (n : ℕ) (h : Hall) → silent (closed_if c n h) ≡ closed_if c n (silent h)
 quiet_closed true n h = refl

@@ -21,10 +21,9 @@ use Rattle.journal.specs.Journals.{pending}
 use Rattle.journal.specs.Keeping.{IsKept}
 use Rattle.journal.specs.KeptLaws.{beside_holds}
 use Rattle.journal.specs.Logs.{HoldsLog, IsBehind as LeavesInUse}
-use Rattle.journal.specs.Openings.{IsLeftByOpening}
 use Rattle.journal.specs.Standing.{stands_in}
 use Rattle.log_rewrite.specs.declared.rewriters.Rewriter.{Rewriter}
-use Rattle.log_sides.specs.Texts.{StandsFor}
+use Rattle.log_sides.specs.Texts.{StandsFor, newest}
 use Rattle.log_record.specs.AnswerLaws.{call_failed}
 use Rattle.log_record.specs.Acknowledged.{acked_take}
 use Rattle.log_record.specs.Journals.{Journal, TellsNow}
@@ -39,7 +38,7 @@ use Rattle.world_recovery.specs.BatchesHeld.{held_recovers}
 use Rattle.world_recovery.specs.Recorded.{world_in}
 use Rattle.durable_core.specs.Kept.{settled_log}
 use Rattle.durable_core.specs.Logged.{hall_of, disk_of, generation_of, IsLogOf, KeepsLogOf, GoesOn}
-use Rattle.durable_core.specs.Opened.{IsOpening}
+use Rattle.durable_core.specs.Opened.{IsLeftByStart, IsOpening}
 use Rattle.durable_core.specs.Written.{IsMirrored, KeepsSided, Sided, sided_with}
 use Rattle.durable_core.specs.declared.cores.DurableCore.{DurableCore}
 use Rattle.journal.specs.declared.openings.OpenFault.{OpenFault}
@@ -70,8 +69,8 @@ pub held_as : {D : Type 0} (seen : D → Option Sides) (disk left : D) (v w : Wo
 held_as {D} seen disk left v w same is holds = subst (λ (z : World). HoldsWorld (seen left) z) is (subst (λ (d : D). HoldsWorld (seen d) v) same holds)
 
 -- the side in use of what a journal keeps has the journal's generation
-kept_generation : (crashes : Bool) (seen : Option Sides) (images : Sides → Type 0) (side : Side) (g gate : ℕ) (r : Option Rewriter) (batches copied : List Bytes) → IsKept crashes seen images side g gate r batches copied → HasGeneration crashes seen images g
-kept_generation crashes seen images side g gate r batches copied kept =
+kept_generation : (crashes : Bool) (seen : Option Sides) (images : Sides → Type 0) (side : Side) (v g gate : ℕ) (r : Option Rewriter) (batches copied : List Bytes) → IsKept crashes seen images side v g gate r batches copied → HasGeneration crashes seen images g
+kept_generation crashes seen images side v g gate r batches copied kept =
     let safe = kept.log.safe in
     let held = beside_holds crashes seen images side g r copied kept.beside in
     let here = safe.told in
@@ -80,8 +79,8 @@ kept_generation crashes seen images side g gate r batches copied kept =
     record {
       sides = safe.contents;
       told = safe.told;
-      now = (side, batches, stands_in safe.contents side g batches safe.has (subst (λ (x : Sides). LeavesInUse g (side_of x (other_side side))) beside held.now.has));
-      each = λ told c image. (side, batches, stands_in c side g batches (subst (StandsFor g batches) (sym (safe.settled told c image)) safe.has) (held.each told c image));
+      now = (side, v, batches, stands_in safe.contents side v g batches safe.has (subst (λ (x : Sides). LeavesInUse g (side_of x (other_side side))) beside held.now.has));
+      each = λ told c image. (side, v, batches, stands_in c side v g batches (subst (StandsFor v g batches) (sym (safe.settled told c image)) safe.has) (held.each told c image));
     }
 
 -- so has it behind a retirement
@@ -93,7 +92,7 @@ generation_left {D} crashes seen images old mid disk generation s kept written c
     stands t k =
         let j = mid.tail.journal in
         subst (λ (n : ℕ). HasGeneration (crashes j.disk) (seen j.disk) (images j.disk) n) (same ∙ sym counted)
-        (kept_generation (crashes j.disk) (seen j.disk) (images j.disk) j.log.side j.log.generation j.log.gate j.rewriter t.batches t.copied k)
+        (kept_generation (crashes j.disk) (seen j.disk) (images j.disk) j.log.side j.log.version j.log.generation j.log.gate j.rewriter t.batches t.copied k)
 
     by_sides : KeepsSided crashes seen images mid.tail.journal s ⊎ KeepsSided crashes seen images mid.tail.journal (sided_with (pending old.tail.journal) s) → HasGeneration (crashes (disk_of mid)) (seen (disk_of mid)) (images (disk_of mid)) generation
     by_sides (inl k) = stands s k
@@ -157,28 +156,30 @@ module _ {D : Type 0} (crashes : D → Bool) (seen : D → Option Sides) (images
       }
 
   -- where each image is recovered as a world, so is what an opening leaves
-  leaves_world : (old new : D) (s : Sides) (w : World) → images old s → ((c : Sides) → images old c → Recovers c w) → ((c : Sides) → HoldsLog [] c → Recovers c (world_in []))
-      → LeavesOnly moment left_since old new (IsLeftByOpening (images old) s) → LeavesOnly moment left_since old new (λ c. Recovers c w)
-  leaves_world old new s w now each held leaves = weaker moment left_since old new (IsLeftByOpening (images old) s) (λ c. Recovers c w) by_left leaves
+  leaves_world : (old new : D) (s : Sides) (w : World) → images old s → ((c : Sides) → images old c → Recovers c w) → ((c : Sides) → HoldsLog newest [] c → Recovers c (world_in newest []))
+      → LeavesOnly moment left_since old new (IsLeftByStart (images old) s) → LeavesOnly moment left_since old new (λ c. Recovers c w)
+  leaves_world old new s w now each held leaves = weaker moment left_since old new (IsLeftByStart (images old) s) (λ c. Recovers c w) by_left leaves
     where
-      by_left : (c : Sides) → IsLeftByOpening (images old) s c → Recovers c w
-      by_left c (inl before) = each c before
-      by_left c (inr fresh) =
-          let empty : w ≡ world_in [] = one_world s w (world_in []) (each s now) (held s (inr (fresh.0, refl))) in
+      by_left : (c : Sides) → IsLeftByStart (images old) s c → Recovers c w
+      by_left c (inl (inl before)) = each c before
+      by_left c (inl (inr fresh)) =
+          let empty : w ≡ world_in newest [] = one_world s w (world_in newest []) (each s now) (held s (inr (fresh.0, refl, refl))) in
           subst (λ (v : World). Recovers c v) (sym empty) (held c fresh.1)
+      by_left c (inr (old, (v, before, after))) = subst (λ (x : World). Recovers c x) (sym (one_world s w v (each s now) before)) after
 
   -- over an opening and a retirement without pending changes, a crash leaves what it might have left before, or a log of the world
-  pub look_leaves : (old mid new : D) (s : Sides) (w : World) → Recovers s w → LeavesOnly moment left_since old mid (IsLeftByOpening (images old) s) → LeavesOnly moment left_since mid new (RecoversEither w w)
+  pub look_leaves : (old mid new : D) (s : Sides) (w : World) → Recovers s w → LeavesOnly moment left_since old mid (IsLeftByStart (images old) s) → LeavesOnly moment left_since mid new (RecoversEither w w)
       → LeavesOnly moment left_since old new (λ c. images old c ⊎ Recovers c w)
   look_leaves old mid new s w before opened retired = then moment left_since old mid new (λ c. images old c ⊎ Recovers c w)
-      (weaker moment left_since old mid (IsLeftByOpening (images old) s) (λ c. images old c ⊎ Recovers c w) by_opening opened)
+      (weaker moment left_since old mid (IsLeftByStart (images old) s) (λ c. images old c ⊎ Recovers c w) by_opening opened)
       (weaker moment left_since mid new (RecoversEither w w) (λ c. images old c ⊎ Recovers c w) by_retirement retired)
     where
-      by_opening : (c : Sides) → IsLeftByOpening (images old) s c → images old c ⊎ Recovers c w
-      by_opening c (inl image) = inl image
-      by_opening c (inr fresh) =
-          let empty : w ≡ world_in [] = one_world s w (world_in []) before (held_recovers [] s tt (inr (fresh.0, refl))) in
-          inr (subst (λ (v : World). Recovers c v) (sym empty) (held_recovers [] c tt fresh.1))
+      by_opening : (c : Sides) → IsLeftByStart (images old) s c → images old c ⊎ Recovers c w
+      by_opening c (inl (inl image)) = inl image
+      by_opening c (inl (inr fresh)) =
+          let empty : w ≡ world_in newest [] = one_world s w (world_in newest []) before (held_recovers newest [] s tt (inr (fresh.0, refl, refl))) in
+          inr (subst (λ (v : World). Recovers c v) (sym empty) (held_recovers newest [] c tt fresh.1))
+      by_opening c (inr (old, (v, read, after))) = inr (subst (λ (x : World). Recovers c x) (sym (one_world s w v before read)) after)
 
       by_retirement : (c : Sides) → RecoversEither w w c → images old c ⊎ Recovers c w
       by_retirement c (inl now) = inr now
@@ -213,8 +214,8 @@ module _ {D : Type 0} (crashes : D → Bool) (seen : D → Option Sides) (images
       by_left (inl before) = each c (tells_old.only_now c before)
       by_left (inr now) = now
 
-  pub stands_still : (old new : D) (h : Hall) (deeds : List Deed) (s : Sides) → ((d : D) → TellsNow images moment left_since d) → images old s → ((c : Sides) → images old c → Recovers c h.world) → ((c : Sides) → HoldsLog [] c → Recovers c (world_in []))
-      → LeavesOnly moment left_since old new (IsLeftByOpening (images old) s) → IsBehind images moment left_since faults old h deeds → IsSafeFor images left_since new deeds
+  pub stands_still : (old new : D) (h : Hall) (deeds : List Deed) (s : Sides) → ((d : D) → TellsNow images moment left_since d) → images old s → ((c : Sides) → images old c → Recovers c h.world) → ((c : Sides) → HoldsLog newest [] c → Recovers c (world_in newest []))
+      → LeavesOnly moment left_since old new (IsLeftByStart (images old) s) → IsBehind images moment left_since faults old h deeds → IsSafeFor images left_since new deeds
   stands_still old new h deeds s tells now each held leaves b =
       let gone = leaves_world old new s h.world now each held leaves in
       record {
@@ -265,7 +266,7 @@ module _ {D : Type 0} (crashes : D → Bool) (seen : D → Option Sides) (images
   pub reopens_stand : (old mid new : DurableCore D) (before : List Deed) (s : Sides) (earlier count : ℕ) → StandsBehind crashes seen images moment left_since faults old before → Step (hall_of old) event.Retire (answer called.Ok) (hall_of mid)
       → faults (disk_of old) ≤ faults (disk_of mid)
       → ((j : Journal) → KeepsLogOf crashes seen images old j → GoesOn crashes seen images moment left_since old mid event.Retire (answer called.Ok) j)
-      → images (disk_of mid) s → ((c : Sides) → HoldsLog [] c → Recovers c (world_in [])) → LeavesOnly moment left_since (disk_of mid) (disk_of new) (IsLeftByOpening (images (disk_of mid)) s)
+      → images (disk_of mid) s → ((c : Sides) → HoldsLog newest [] c → Recovers c (world_in newest [])) → LeavesOnly moment left_since (disk_of mid) (disk_of new) (IsLeftByStart (images (disk_of mid)) s)
       → faults (disk_of mid) ≤ faults (disk_of new) → (hall_of mid).world ≡ (hall_of new).world → earlier ≡ moment (disk_of mid) → IsOpening images moment left_since earlier count new
       → hall_of new ≡ opening_hall (hall_of new).world (hall_of new).logged → IsSoundWorld (hall_of new).world → IsLogOf crashes seen images new (settled_log (hall_of new).world) → crashes (disk_of new) ≡ true
       → StandsBehind crashes seen images moment left_since faults new (before ++ does event.Retire (answer called.Ok) ∷ opens (hall_of new).world (hall_of new).logged ∷ [])
@@ -330,8 +331,8 @@ module _ {D : Type 0} (crashes : D → Bool) (seen : D → Option Sides) (images
   pub unopened_again : (old mid : DurableCore D) (disk new : D) (readers : List Reader) (why : OpenFault) → disk ≡ disk_of mid → Step (hall_of old) event.Retire (answer called.Ok) (hall_of mid) → (hall_of mid).stopped ≡ true
       → faults (disk_of old) ≤ faults (disk_of mid) → crashes (disk_of mid) ≡ crashes (disk_of old)
       → ((j : Journal) → KeepsLogOf crashes seen images old j → GoesOn crashes seen images moment left_since old mid event.Retire (answer called.Ok) j) → LeftBy old mid
-      → ((d : D) → IfTold (seen d) (images d)) → ((c : Sides) → HoldsLog [] c → Recovers c (world_in []))
-      → ((s : Sides) → seen disk ≡ Some s → crashes disk ≡ true → LeavesOnly moment left_since disk new (IsLeftByOpening (images disk) s))
+      → ((d : D) → IfTold (seen d) (images d)) → ((c : Sides) → HoldsLog newest [] c → Recovers c (world_in newest []))
+      → ((s : Sides) → seen disk ≡ Some s → crashes disk ≡ true → LeavesOnly moment left_since disk new (IsLeftByStart (images disk) s))
       → ((s : Sides) → seen disk ≡ Some s → (side : Side) (place : ℕ) → why ≡ fault_of.Damaged side place → Damaged s side place)
       → (deeds : List Deed) × (last : Hall) × ((told : Bool) → (told ≡ true → Logs crashes seen images old) → ReopenFails told (halt_at why) (record { hall = hall_of old; readers = readers }) deeds last) × (last.stopped ≡ true)
       × ((before : List Deed) → StandsBehind crashes seen images moment left_since faults old before → IsSafeFor images left_since new (before ++ deeds))
@@ -344,7 +345,7 @@ module _ {D : Type 0} (crashes : D → Bool) (seen : D → Option Sides) (images
         let l = left s.behind.log s.kept refl in
         let here : images (disk_of mid) l.0 = subst (λ (o : Option Sides). IfTold o (images (disk_of mid))) l.1 (as_read (disk_of mid)) in
         let gone = leaves l.0 (ap seen is ∙ l.1) (ap crashes is ∙ told ∙ s.told) in
-        let from_mid = subst (λ (d : D). LeavesOnly moment left_since d new (IsLeftByOpening (images d) l.0)) is gone in
+        let from_mid = subst (λ (d : D). LeavesOnly moment left_since d new (IsLeftByStart (images d) l.0)) is gone in
         stands_still crashes seen images moment left_since faults (disk_of mid) new (hall_of mid) (before ++ does event.Retire (answer called.Ok) ∷ []) l.0 tells here (shown_world old mid before s log) held from_mid
         (retires_behind old mid called.Ok before s step later (λ e. absurd (cc)) log),
   )
@@ -361,8 +362,8 @@ module _ {D : Type 0} (crashes : D → Bool) (seen : D → Option Sides) (images
   pub opened_again : (old mid new : DurableCore D) (disk : D) (readers : List Reader) → disk ≡ disk_of mid → Step (hall_of old) event.Retire (answer called.Ok) (hall_of mid)
       → faults (disk_of old) ≤ faults (disk_of mid) → crashes (disk_of mid) ≡ crashes (disk_of old)
       → ((j : Journal) → KeepsLogOf crashes seen images old j → GoesOn crashes seen images moment left_since old mid event.Retire (answer called.Ok) j) → LeftBy old mid
-      → ((d : D) → IfTold (seen d) (images d)) → ((c : Sides) → HoldsLog [] c → Recovers c (world_in []))
-      → ((s : Sides) → seen disk ≡ Some s → crashes disk ≡ true → LeavesOnly moment left_since disk (disk_of new) (IsLeftByOpening (images disk) s))
+      → ((d : D) → IfTold (seen d) (images d)) → ((c : Sides) → HoldsLog newest [] c → Recovers c (world_in newest []))
+      → ((s : Sides) → seen disk ≡ Some s → crashes disk ≡ true → LeavesOnly moment left_since disk (disk_of new) (IsLeftByStart (images disk) s))
       → hall_of new ≡ opening_hall (hall_of new).world (hall_of new).logged → IsSoundWorld (hall_of new).world → ((s : Sides) → seen disk ≡ Some s → Recovers s (hall_of new).world)
       → ((s : Sides) → seen disk ≡ Some s → IsLogOf crashes seen images new (settled_log (hall_of new).world))
       → ((s : Sides) → seen disk ≡ Some s → crashes disk ≡ true → IsOpening images moment left_since (moment disk) (faults (disk_of new)) new)
@@ -391,7 +392,7 @@ module _ {D : Type 0} (crashes : D → Bool) (seen : D → Option Sides) (images
           let tells_it : seen disk ≡ Some l.0 = ap seen is ∙ l.1 in
           let crash : crashes disk ≡ true = ap crashes is ∙ told ∙ s.told in
           let here : images (disk_of mid) l.0 = subst (λ (o : Option Sides). IfTold o (images (disk_of mid))) l.1 (as_read (disk_of mid)) in
-          let from_mid = subst (λ (d : D). LeavesOnly moment left_since d (disk_of new) (IsLeftByOpening (images d) l.0)) is (leaves l.0 tells_it crash) in
+          let from_mid = subst (λ (d : D). LeavesOnly moment left_since d (disk_of new) (IsLeftByStart (images d) l.0)) is (leaves l.0 tells_it crash) in
           let world : (hall_of mid).world ≡ (hall_of new).world = one_world l.0 (hall_of mid).world (hall_of new).world l.2 (recovers l.0 tells_it) in
           let more : faults (disk_of mid) ≤ faults (disk_of new) = subst (λ (d : D). faults d ≤ faults (disk_of new)) is not_fallen in
           reopens_stand old mid new before l.0 (moment disk) (faults (disk_of new)) s step later log here held from_mid more world (ap moment is) (opened l.0 tells_it crash) first sound (logged l.0 tells_it) (told_new ∙ crash);

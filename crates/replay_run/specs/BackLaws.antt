@@ -6,14 +6,13 @@ use Rattle.outside.specs.Crashes.{LeavesOnly}
 use Rattle.outside.specs.CrashLaws.{begins}
 use Rattle.world_data.specs.declared.worlds.World.{World}
 use Rattle.journal.specs.KeptLaws.{kept_told, kept_now}
-use Rattle.journal.specs.Openings.{IsLeftByOpening}
 use Rattle.journal.specs.declared.openings.OpenFault.{OpenFault}
 use Rattle.journal.specs.declared.openings.OpenFault.TheVariants as fault_of
 use Rattle.log_record.specs.Recovery.{Recovers}
 use Rattle.world_recovery.specs.BatchesHeld.{held_recovers}
 use Rattle.durable_core.specs.Kept.{settled_log}
 use Rattle.durable_core.specs.Logged.{hall_of, disk_of, IsLogOf}
-use Rattle.durable_core.specs.Opened.{ReadsAlike}
+use Rattle.durable_core.specs.Opened.{ReadsAlike, IsLeftByStart}
 use Rattle.durable_core.specs.declared.cores.DurableCore.{DurableCore}
 use Rattle.replay_run.specs.HandedBack.{IsBackUnopened}
 
@@ -23,9 +22,9 @@ reads_alike : {D : Type 0} (crashes : D → Bool) (seen : D → Option Sides) (i
 reads_alike crashes seen images c s log before =
     let j = c.tail.journal in
     let kept = log.kept in
-    let told = kept_told (crashes j.disk) (seen j.disk) (images j.disk) j.log.side j.log.generation j.log.gate j.rewriter kept.batches kept.copied
+    let told = kept_told (crashes j.disk) (seen j.disk) (images j.disk) j.log.side j.log.version j.log.generation j.log.gate j.rewriter kept.batches kept.copied
     kept.keeps in
-    let held = kept_now (crashes j.disk) (seen j.disk) (images j.disk) j.log.side j.log.generation j.log.gate j.rewriter kept.batches kept.copied
+    let held = kept_now (crashes j.disk) (seen j.disk) (images j.disk) j.log.side j.log.version j.log.generation j.log.gate j.rewriter kept.batches kept.copied
     kept.keeps in
     record {
       cause = refl;
@@ -33,7 +32,7 @@ reads_alike crashes seen images c s log before =
       before = before;
       now = told.0;
       told = told.1;
-      after = subst (λ (w : World). Recovers told.0 w) (sym kept.committed) (held_recovers kept.batches told.0 kept.whole (held told.0 told.1));
+      after = subst (λ (w : World). Recovers told.0 w) (sym kept.committed) (held_recovers j.log.version kept.batches told.0 kept.whole (held told.0 told.1));
     }
 
 module _ {D : Type 0} (crashes : D → Bool) (seen : D → Option Sides) (images : D → Sides → Type 0) (moment : D → ℕ) (left_since : D → ℕ → Sides
@@ -42,18 +41,18 @@ module _ {D : Type 0} (crashes : D → Bool) (seen : D → Option Sides) (images
   pub untouched : (disk : D) (why : OpenFault) → IsBackUnopened crashes seen images moment left_since disk disk why
   untouched disk why = record {
     reads = λ s told. inl (inl told);
-    leaves = λ s told crash. begins moment left_since disk (IsLeftByOpening (images disk) s);
+    leaves = λ s told crash. begins moment left_since disk (IsLeftByStart (images disk) s);
   }
 
   -- one that was opened, where memory wanted for what is made of the core
   pub given_up : (disk left : D) (c : DurableCore D) (why : OpenFault) → left ≡ disk_of c → why ≡ fault_of.Memory
       → ((s : Sides) → seen disk ≡ Some s → IsLogOf crashes seen images c (settled_log (hall_of c).world))
       → ((s : Sides) → seen disk ≡ Some s → Recovers s (hall_of c).world)
-      → ((s : Sides) → seen disk ≡ Some s → crashes disk ≡ true → LeavesOnly moment left_since disk (disk_of c) (IsLeftByOpening (images disk) s))
+      → ((s : Sides) → seen disk ≡ Some s → crashes disk ≡ true → LeavesOnly moment left_since disk (disk_of c) (IsLeftByStart (images disk) s))
       → IsBackUnopened crashes seen images moment left_since disk left why
   given_up disk left c why is memory log before leaves =
       subst (λ (f : OpenFault). IsBackUnopened crashes seen images moment left_since disk left f) (sym memory)
       (subst (λ (d : D). IsBackUnopened crashes seen images moment left_since disk d fault_of.Memory) (sym is) (record {
-        reads = λ s told. inr (reads_alike crashes seen images c s (log s told) (before s told));
+        reads = λ s told. inr (inl (reads_alike crashes seen images c s (log s told) (before s told)));
         leaves = leaves;
       }))

@@ -26,7 +26,7 @@ pub record IsFound (seen : Option Sides) (w : World) (logged objects channels : 
 
 -- the side in use has this generation
 abbrev pub IsOfGeneration : ℕ → Sides → Type 0
-IsOfGeneration generation s = (side : Side) × (batches : List Bytes) × StandsIn s side generation batches
+IsOfGeneration generation s = (side : Side) × (version : ℕ) × (batches : List Bytes) × StandsIn s side version generation batches
 
 -- so it has as the disk reads, and whatever a crash leaves
 pub record HasGeneration (crashes : Bool) (seen : Option Sides) (images : Sides → Type 0) (generation : ℕ) : Type 0 where

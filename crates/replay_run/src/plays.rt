@@ -243,8 +243,9 @@ fn play<S: Source, K: Sink, D: Disk>(source: &mut S, sink: &mut K, first: Player
 /// left.
 ///
 /// A disk that is not opened is handed back as the opening leaves it: it reads as before, or as a log of the same world
-/// where memory wanted behind the reading, unless it failed while its first side was made. No crash leaves then what it
-/// might not have left before, but for a log without a batch where none had been begun.
+/// where memory wanted behind the reading, unless it failed while its first side was made or while a log of an older
+/// version was rewritten. No crash leaves then what it might not have left before, but for a log without a batch where
+/// none had been begun, and one of the same world where the log was of an older version.
 pub fn replay<S: Source, K: Sink, D: Disk>(
     alloc: Global,
     source: &mut S,

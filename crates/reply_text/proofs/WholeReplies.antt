@@ -8,8 +8,8 @@ use Rattle.byte_text.specs.Lines.{line_end}
 use Rattle.byte_text.specs.Replies.{piece_text, frame_text, AreReplies, IsWhole, IsClean, IsFrame, array, bulk}
 use Rattle.byte_text.specs.declared.replies.Piece.{Piece}
 use Rattle.byte_text.specs.declared.replies.Piece.TheVariants as piece
-use Rattle.world_data.specs.Filters.{Field}
-use Rattle.world_model.specs.Replies.{number_text, fields_reply, fields_part, is_ids, item_reply, object_reply, channel_reply}
+use Rattle.world_data.specs.Filters.{Field, value_text}
+use Rattle.world_model.specs.Replies.{value_reply, fields_reply, fields_part, is_ids, item_reply, object_reply, channel_reply}
 use Rattle.world_data.specs.declared.channels.Channel.{Channel}
 use Rattle.world_data.specs.declared.objects.Object.{Object}
 use Rattle.world_data.specs.declared.queries.Query.{Query}
@@ -42,9 +42,9 @@ array_frame next list rs f = record { whole = list (length rs) _ (items_whole ne
 bulk_frame : (b : Bytes) → IsFrame (bulk b)
 bulk_frame b = record { whole = tt; clean = (tt, tt) }
 
-fields_frames : (fields : List Field) → AllByRecursion IsFrame (flat_map (λ f. bulk f.0 ∷ number_text f.1 ∷ []) fields)
+fields_frames : (fields : List Field) → AllByRecursion IsFrame (flat_map (λ f. bulk f.0 ∷ value_reply f.1 ∷ []) fields)
 fields_frames [] = tt
-fields_frames (f ∷ fields) = (bulk_frame f.0, (bulk_frame (signed_decimal f.1), fields_frames fields))
+fields_frames (f ∷ fields) = (bulk_frame f.0, (bulk_frame (value_text f.1), fields_frames fields))
 
 pub fields_frame : Next → Listed → (fields : List Field) → IsFrame (fields_reply fields)
 fields_frame next list fields = array_frame next list _ (fields_frames fields)

@@ -1,15 +1,15 @@
 //! A reply while it is made, piece by piece.
 
-ghost use Rattle.std.specs.Prelude.{◌≡◌, ◌<◌, ◌++◌, ◌∷◌, [], length, slice_get, IfSome, OnOk};
+ghost use Rattle.std.specs.Prelude.{◌≡◌, ◌++◌, ◌∷◌, [], OnOk};
 ghost use Rattle.byte_text.specs.Replies.{bulk, number};
 ghost use Rattle.byte_text.specs.declared.replies.Piece.TheVariants as piece;
-ghost use Rattle.world_model.specs.Replies.{number_text, point_reply, bounds_reply};
+ghost use Rattle.world_model.specs.Replies.{number_text, value_reply, point_reply, bounds_reply};
 
 use byte_text::{NoMemory, Piece, Reply, Text, push_i64};
 use planar_geom::{BBox, Pt};
 use std::alloc::Global;
 use std::marker::Model;
-use world_model::Fields;
+use world_data::Value;
 
 /// The pieces of a reply so far, with the memory for more.
 #[derive(Drop)]
@@ -81,12 +81,11 @@ impl Draft {
     }
 
     /// Puts the value of a field last, as a bulk string.
-    pub(crate) fn value(&mut self, fields: &Fields, i: usize) -> Result<(), NoMemory>
-        requires { i < length fields.now }
-        ensures { OnOk result (IfSome (slice_get fields.now i) (λ f. self.new ≡ self.old ++ number_text f.1)) }
+    pub(crate) fn value(&mut self, value: &Value) -> Result<(), NoMemory>
+        ensures { OnOk result (self.new ≡ self.old ++ value_reply value.now) }
     {
         let mut text = Text::new(self.alloc);
-        fields.show(i, &mut text)?;
+        value.show(&mut text)?;
         self.piece(Piece::Bulk(text))
     }
 

@@ -18,4 +18,4 @@ pub use lists::ReplyList;
 pub use objects::{bounds_reply, get_frame, stats_reply};
 pub use ready_frames::{count_frame, fine_frame, null_frame, pong_frame, text_frame};
 pub use refusals::{broken_reply, error_reply, fault_reply, refusal_reply};
-pub use replies::{number_reply, value_reply};
+pub use replies::number_reply;

@@ -42,7 +42,7 @@ fn push_fields(draft: &mut Draft, fields: &Fields) -> Result<(), NoMemory>
     draft.head(words)?;
     for i in 0..fields.len() {
         draft.bulk(fields.name(i).bytes())?;
-        draft.value(fields, i)?;
+        draft.value(fields.value(i))?;
     }
     Ok(())
 }

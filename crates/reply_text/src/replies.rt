@@ -2,7 +2,7 @@
 
 ghost use Rattle.std.specs.Prelude.{◌≡◌, IfOk};
 ghost use Rattle.byte_text.specs.Replies.{IsFrame};
-ghost use Rattle.world_model.specs.Replies.{number_text, integer_reply};
+ghost use Rattle.world_model.specs.Replies.{integer_reply};
 
 use crate::drafts::Draft;
 use byte_text::{NoMemory, Piece, Reply};
@@ -15,15 +15,5 @@ pub fn number_reply(alloc: Global, n: i64) -> Result<Reply, NoMemory>
 {
     let mut draft = Draft::new(alloc);
     draft.piece(Piece::Number(n))?;
-    Ok(draft.finish())
-}
-
-/// A number as a bulk string.
-pub fn value_reply(alloc: Global, n: i64) -> Result<Reply, NoMemory>
-    ensures value { IfOk result (λ reply. reply ≡ number_text n) }
-    ensures frame { IfOk result IsFrame }
-{
-    let mut draft = Draft::new(alloc);
-    draft.number(n)?;
     Ok(draft.finish())
 }

@@ -33,9 +33,10 @@ fn push_run(into: &mut Text, bytes: &[u8], at: usize) -> Result<(), NoMemory>
     into.push(percent_encode_byte(bytes[at]).as_bytes())
 }
 
-// The bytes as they stand in a line.
+/// Appends the bytes as they stand in a line: every byte outside 0x21 to 0x7E, and `%`, as `%` and two upper-case
+/// hexadecimal digits. At want of memory the text begins with what it had.
 #[tactic(auto, using(byte_text::specs::TextLaws::kept))]
-fn push_escaped(into: &mut Text, bytes: &[u8]) -> Result<(), NoMemory>
+pub fn push_escaped(into: &mut Text, bytes: &[u8]) -> Result<(), NoMemory>
     ensures ok { OnOk result (into.new ≡ into.old ++ escaped bytes.now) }
     ensures kept { take (length into.old) into.new ≡ into.old }
 {

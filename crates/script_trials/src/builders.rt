@@ -62,9 +62,10 @@ impl Builder {
         Ok(())
     }
 
-    /// The open gate and the header of a log of this generation.
-    pub(crate) fn push_head(&mut self, generation: u64) -> Result<(), Fault> {
-        self.side.push(b"\x01TFL\x01\0\0\0")?;
+    /// The open gate and the header of a log of this version and generation.
+    pub(crate) fn push_head(&mut self, version: u8, generation: u64) -> Result<(), Fault> {
+        self.side.push(b"\x01TFL")?;
+        self.side.push(&[version, 0, 0, 0])?;
         self.side.push(&generation.to_be_bytes())?;
         Ok(())
     }

@@ -20,6 +20,8 @@ pub(crate) enum Play {
     DiskFaults,
     /// The program's one call plays the script, and the disk fails at each call in turn.
     ReplayFaults,
+    /// The disk is opened, fails at each call of the opening in turn, and is crashed at each moment of it.
+    Upgrade,
     /// A core of an empty world plays the script, and the nodes that it visits are counted.
     Visits,
     /// A core of an empty world is driven with the workload, and the nodes that it visits are counted.

@@ -15,11 +15,11 @@ use outside::{Disk, MemoryDisk};
 use std::alloc::Global;
 use world_model::CallOutcome;
 
-// So many choices of what a crash leaves are tried at each moment.
-const CHOICES: u64 = 27;
+/// So many choices of what a crash leaves are tried at each moment.
+pub(crate) const CHOICES: u64 = 27;
 
-// A choice whose digits in base 3 are those of a number under 27, again and again.
-fn choice(pick: u64) -> u64 {
+/// A choice whose digits in base 3 are those of a number under 27, again and again.
+pub(crate) fn choice(pick: u64) -> u64 {
     pick.saturating_mul(1 + 27 + 729 + 19683)
 }
 

@@ -13,6 +13,18 @@ pub(crate) fn fresh_disk(alloc: Global, case: &Case) -> Result<MemoryDisk, Fault
     Ok(MemoryDisk::new(alloc, a, b, failing))
 }
 
+/// A disk of the sides that a case tells, at which the call of this number fails; none where it is 0.
+pub(crate) fn fresh_disk_failing(
+    alloc: Global,
+    case: &Case,
+    failing: u64,
+) -> Result<MemoryDisk, Fault> {
+    let a = case.side(Side::A).to_vec(alloc)?;
+    let b = case.side(Side::B).to_vec(alloc)?;
+    let fails = [failing].to_vec(alloc)?;
+    Ok(MemoryDisk::new(alloc, a, b, fails))
+}
+
 /// An empty disk at which the call of this number fails; none where it is 0.
 pub(crate) fn disk_failing(alloc: Global, failing: u64) -> Result<MemoryDisk, Fault> {
     let fails = [failing].to_vec(alloc)?;

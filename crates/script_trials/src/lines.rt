@@ -5,6 +5,7 @@ use crate::faults::Fault;
 use crate::looks::{Look, side_of};
 use crate::texts::{push_escaped, push_line, push_request, push_text};
 use byte_text::{Text, push_u64};
+use log_sides::NEWEST;
 use script_text::push_frame_line;
 use std::alloc::Global;
 
@@ -54,6 +55,7 @@ fn play_of(how: &str) -> Result<Play, Fault> {
         "crashes" => Ok(Play::Crashes),
         "disk faults" => Ok(Play::DiskFaults),
         "replay faults" => Ok(Play::ReplayFaults),
+        "upgrade" => Ok(Play::Upgrade),
         "visits" => Ok(Play::Visits),
         "drive" => Ok(Play::Drive),
         _ => Err(Fault::Line),
@@ -242,10 +244,20 @@ fn hear_of_caller(case: &mut Case, word: &str, rest: &str) -> Result<(), Fault> 
     }
 }
 
+// The head of a side of an older version: that, and its generation.
+fn push_old(case: &mut Case, rest: &str) -> Result<(), Fault> {
+    let (version, generation) = split(rest)?;
+    match u8::try_from(number(version)?) {
+        Ok(version) => case.builder.push_head(version, number(generation)?),
+        Err(_) => Err(Fault::Line),
+    }
+}
+
 // A line that builds a side.
 fn hear_building(case: &mut Case, word: &str, rest: &str) -> Result<(), Fault> {
     match word {
-        "log" => case.builder.push_head(number(rest)?),
+        "log" => case.builder.push_head(NEWEST, number(rest)?),
+        "old" => push_old(case, rest),
         "batch" => case.builder.begin_batch(),
         "record" => case.builder.begin_record(rest),
         "more" => case.builder.push_more(rest),
@@ -278,7 +290,9 @@ fn hear_split(case: &mut Case, word: &str, rest: &str) -> Result<(), Fault> {
         "words" | "status" | "at" | "plays" | "again" => hear_setting(case, word, rest),
         "fails" => hear_fails(case, rest),
         "crash" => hear_crash(case, rest),
-        "log" | "batch" | "record" | "more" | "bytes" | "shut" => hear_building(case, word, rest),
+        "log" | "old" | "batch" | "record" | "more" | "bytes" | "shut" => hear_building(
+            case, word, rest,
+        ),
         "begins" => hear_begins(case, rest),
         "leaves" => hear_leaves(case, rest),
         "length" => hear_length(case, rest),

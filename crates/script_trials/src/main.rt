@@ -45,6 +45,7 @@ mod plays;
 mod replay_faults;
 mod texts;
 mod turns;
+mod upgrades;
 mod worlds;
 
 use crate::players::Player;

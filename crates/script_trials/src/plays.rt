@@ -9,6 +9,7 @@ use crate::looks::push_seen;
 use crate::openings::play_opening;
 use crate::replay_faults::play_replay_faults;
 use crate::texts::{push_escaped, push_line};
+use crate::upgrades::play_upgrade;
 use byte_text::{Text, push_u64};
 use outside::{BytesSink, BytesSource, HandClock, ListDoor, ListedSpawner, MemoryDisk};
 use std::alloc::Global;
@@ -197,6 +198,7 @@ pub(crate) fn play<R: Wait + Threads + Copy + Send + Sync + 'static>(
         Play::Crashes => without_disk(play_crashes(alloc, case)?),
         Play::DiskFaults => without_disk(play_disk_faults(alloc, case)?),
         Play::ReplayFaults => without_disk(play_replay_faults(rt, alloc, case)?),
+        Play::Upgrade => without_disk(play_upgrade(alloc, case)?),
         Play::Visits => without_disk(play_visits(alloc, case)?),
         Play::Drive => without_disk(play_drive(alloc, case)?),
     }

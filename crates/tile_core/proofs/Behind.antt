@@ -1,13 +1,15 @@
 -- What is staged write by write, behind what was staged before.
-use Rattle.std.proofs.Common.{◌≡◌, ℕ, zero, suc, ◌+◌, Bool, true, false, not, refl, sym, ap, ◌∙◌, subst, List, [], ◌∷◌, ◌++◌, take, map}
-use Rattle.std.specs.Prelude.{Some, None, Result, Ok, Err, OnOk, find, filter, slice_get, if◌then◌else◌}
+use Rattle.std.proofs.Common.{◌≡◌, ℕ, zero, suc, ◌+◌, Bool, true, false, not, refl, sym, ap, ◌∙◌, subst, List, [], ◌∷◌, ◌++◌, take, map, arith}
+use Rattle.std.specs.Prelude.{Some, None, Result, Ok, Err, OnOk, find, filter, slice_get, is_some, nat_lt, ◌&&◌, if◌then◌else◌}
+use Rattle.std.proofs.lemmas.Bool.Decides.{nat_tests}
 use Rattle.std.proofs.lemmas.List.{append-nil, append_assoc}
 use Rattle.std.proofs.lemmas.Option.{same_Some}
 use Rattle.byte_text.specs.ListLaws.{take_next}
 use Rattle.byte_text.specs.Names.{Bytes, same}
 use Rattle.byte_text.specs.ByteOrder.{same_equal}
 use Rattle.ordered_lists.specs.Reading.{both_of}
-use Rattle.fence_model.specs.Writes.{Write, announced, silent, dels}
+use Rattle.world_data.specs.Expiry.{deadline_of}
+use Rattle.fence_model.specs.Writes.{Write, announced, silent}
 use Rattle.world_data.specs.Worlds.{after, has_key, is_at, object_at}
 use Rattle.world_data.specs.declared.channels.Channel.{Channel}
 use Rattle.world_data.specs.declared.objects.Object.{Object}
@@ -18,13 +20,12 @@ use Rattle.delivery_model.specs.Silent.{after_append}
 use Rattle.session_table.specs.Sessions.{State}
 use Rattle.session_table.specs.Fans.{HaveStaged}
 use Rattle.message_fanout.specs.Laws.{QuietBringsNothing}
-use Rattle.message_fanout.specs.Stagings.{IsStagedIn, IsBeforeDel}
+use Rattle.message_fanout.specs.Stagings.{IsStagedIn, IsBeforeDel, those_left}
 use Rattle.channel_plans.specs.declared.planned.ChannelChange.{ChannelChange}
 use Rattle.channel_plans.specs.declared.planned.ChannelChange.TheVariants.{Set, Drop}
 use Rattle.channel_plans.specs.Planned.{channel_writes}
-use Rattle.tile_core.specs.Dues.{AllStand}
 use Rattle.object_plans.specs.Moves.{AllThere, world_with}
-use Rattle.tile_core.specs.Staged.{StagesBehind, dels_of}
+use Rattle.tile_core.specs.Staged.{AreStagedEach, StagesBehind, dels_of}
 use Rattle.object_plans.specs.Weights.{found_at}
 
 -- nothing is staged behind
@@ -42,31 +43,34 @@ behind_more w more d IsSuch old mid new behind such staged first writes is befor
 pub behind_one : (w : World) (d : Write) (IsSuch : World → Type 0) (old new : List State) → IsSuch w → IsStagedIn IsSuch d old new → StagesBehind w (d ∷ []) old new
 behind_one w d IsSuch old new such staged first writes is before = staged.behind first writes (subst IsSuch (sym is) such) before
 
+-- one list of writes behind another
+pub behind_then : (w : World) (a b : List Write) (old mid new : List State) → StagesBehind w a old mid → StagesBehind (after_all w a) b mid new → StagesBehind w (a ++ b) old new
+behind_then w a b old mid new one two first writes is before =
+    subst (λ (ws : List Write). HaveStaged first ws new) (append_assoc writes a b)
+    (two first (writes ++ a) (after_append first writes a ∙ ap (λ (v : World). after_all v a) is) (one first writes is before))
+
 pub take_none : {A : Type 0} (xs : List A) → take 0 xs ≡ []
 take_none [] = refl
 take_none (x ∷ xs) = refl
 
--- the dels of objects that stand
+-- the dels of objects by their deadlines, one more of them
+pub each_behind : (cs : List Channel) (xs : List Object) (o : Object) (old mid new : List State) → AreStagedEach cs xs old mid
+    → IsStagedIn (IsBeforeDel (those_left (deadline_of o.deadline) cs) o) (announced (change.Del o.key o.id)) mid new → AreStagedEach cs (xs ++ o ∷ []) old new
+each_behind cs [] o old mid new each one =
+    (new, subst (λ (ss : List State). IsStagedIn (IsBeforeDel (those_left (deadline_of o.deadline) cs) o) (announced (change.Del o.key o.id)) ss new) (sym each) one, refl)
+each_behind cs (x ∷ xs) o old mid new each one = (each.0, each.1, each_behind cs xs o each.0 mid new each.2 one)
 
-dels_more : (xs : List Object) (o : Object) → dels (xs ++ o ∷ []) ≡ dels xs ++ announced (change.Del o.key o.id) ∷ []
-dels_more [] o = refl
-dels_more (x ∷ xs) o = ap (λ (ws : List Write). announced (change.Del x.key x.id) ∷ ws) (dels_more xs o)
+-- none has gone before the first moment
+none_gone : (cs : List Channel) → those_left 0 cs ≡ cs
+none_gone [] = refl
+none_gone (c ∷ cs) = rw (stays (is_some c.deadline) (deadline_of c.deadline)) (ap (λ (ds : List Channel). c ∷ ds) (none_gone cs))
+  where
+    stays : (b : Bool) (n : ℕ) → (b && nat_lt n 0) ≡ false
+    stays true n = grind (arith, nat_tests)
+    stays false n = refl
 
-channels_stay : (w : World) (xs : List Object) → (after_all w (dels xs)).channels ≡ w.channels
-channels_stay w [] = refl
-channels_stay w (x ∷ xs) = channels_stay (after w (change.Del x.key x.id)) xs
-
-stands : (w : World) (xs : List Object) (i : ℕ) (o : Object) → AllStand w xs → slice_get xs i ≡ Some o → object_at (after_all w (dels (take i xs))) o.key o.id ≡ Some o
-stands w [] i o all at = absurd (cc)
-stands w (x ∷ xs) zero o all at = let is : x ≡ o = cc in subst (λ (p : Object). object_at w p.key p.id ≡ Some p) is all.0
-stands w (x ∷ xs) (suc i) o all at = stands (after w (change.Del x.key x.id)) xs i o all.1 at
-
-pub dels_next : (w : World) (xs : List Object) (i : ℕ) (o : Object) (cs : List Channel) (old mid new : List State) → AllStand w xs → w.channels ≡ cs → slice_get xs i ≡ Some o → StagesBehind w (dels (take i xs)) old mid
-    → IsStagedIn (IsBeforeDel cs o) (announced (change.Del o.key o.id)) mid new → StagesBehind w (dels (take (i + 1) xs)) old new
-dels_next w xs i o cs old mid new all is at behind staged =
-    subst (λ (ws : List Write). StagesBehind w ws old new) (sym (dels_more (take i xs) o) ∙ ap dels (sym (take_next xs i o at)))
-    (behind_more w (dels (take i xs)) (announced (change.Del o.key o.id)) (IsBeforeDel cs o) old mid new behind
-    (record { channels_are = channels_stay w (take i xs) ∙ is; stands = stands w xs i o all at }) staged)
+pub as_all : (cs : List Channel) (o : Object) (w : World) → IsBeforeDel cs o w → IsBeforeDel (those_left 0 cs) o w
+as_all cs o w such = record { channels_are = such.channels_are ∙ sym (none_gone cs); stands = such.stands }
 
 -- the dels of the objects of a key that have these ids
 
@@ -130,7 +134,7 @@ module _ (cs : List Channel) (xs : List Object) (key : Bytes) (ids : List Bytes)
       cc
 
   pub each_next : (o : Object) (old mid new : List State) → find (is_at key id) xs ≡ Some o → StagesBehind (world_with cs xs) (dels_of key (take i ids)) old mid
-      → IsStagedIn (IsBeforeDel cs o) (announced (change.Del o.key o.id)) mid new → StagesBehind (world_with cs xs) (dels_of key (take (i + 1) ids)) old new
+      → IsStagedIn (IsBeforeDel (those_left 0 cs) o) (announced (change.Del o.key o.id)) mid new → StagesBehind (world_with cs xs) (dels_of key (take (i + 1) ids)) old new
   each_next o old mid new found behind staged =
       let w = world_with cs xs in
       let e = each_there w key ids i id there at in
@@ -141,7 +145,7 @@ module _ (cs : List Channel) (xs : List Object) (key : Bytes) (ids : List Bytes)
       ap (λ (k : Bytes). object_at here k o.id) own.0 ∙ ap (λ (k : Bytes). object_at here key k) own.1 ∙ e.1 ∙ ap (λ (p : Object). Some p) is in
       let named : announced (change.Del o.key o.id) ≡ announced (change.Del key id) = ap (λ (k : Bytes). announced (change.Del k o.id)) own.0 ∙ ap (λ (k : Bytes). announced (change.Del key k)) own.1 in
       let such : IsBeforeDel cs o here = record { channels_are = each_stay w key (take i ids); stands = stands } in
-      let one = behind_more w (dels_of key (take i ids)) (announced (change.Del o.key o.id)) (IsBeforeDel cs o) old mid new behind such staged in
+      let one = behind_more w (dels_of key (take i ids)) (announced (change.Del o.key o.id)) (IsBeforeDel (those_left 0 cs) o) old mid new behind (as_all cs o here such) staged in
       subst (λ (ws : List Write). StagesBehind w ws old new)
       (ap (λ (d : Write). dels_of key (take i ids) ++ d ∷ []) named ∙ sym (each_more key (take i ids) id) ∙ ap (dels_of key) (sym (take_next ids i id at))) one
 

@@ -6,9 +6,8 @@ use Rattle.byte_text.specs.ListLaws.{holds_at}
 use Rattle.byte_text.specs.Names.{Bytes}
 use Rattle.byte_text.specs.Replies.{frame_text}
 use Rattle.world_data.specs.Limits.{max_moment, max_reply, most_logged}
-use Rattle.world_data.specs.declared.objects.Object.{Object}
 use Rattle.world_data.specs.declared.worlds.World.{World}
-use Rattle.fence_model.specs.Writes.{Write, dels}
+use Rattle.fence_model.specs.Writes.{Write}
 use Rattle.world_model.specs.Effects.{Effect}
 use Rattle.world_model.specs.Subscriptions.{Sub}
 use Rattle.world_model.specs.Halls as halls
@@ -26,23 +25,22 @@ use Rattle.delivery_model.specs.Plans.{FitBehind, IsReplied, effect_of_asked}
 use Rattle.delivery_model.specs.Placing.{each_number}
 use Rattle.delivery_model.specs.ChangedSessions.{ending_number}
 use Rattle.delivery_model.specs.Silent.{heard_none}
-use Rattle.delivery_model.specs.Staging.{Suffice, after_all, have_room, heard, listens}
+use Rattle.delivery_model.specs.Staging.{Suffice, have_room, heard, listens}
 use Rattle.session_table.specs.Sessions.{State, session_of}
 use Rattle.session_table.specs.Fans.{AreBare, ArePlaced, IsPlaced}
 use Rattle.session_table.specs.FanLaws.{bare_all}
 use Rattle.object_plans.specs.Kept.{most_kept}
-use Rattle.tile_core.specs.declared.dues.Expired.{Expired}
 use Rattle.channel_plans.specs.declared.planned.Planned.{Planned}
 use Rattle.channel_plans.specs.declared.planned.Planned.TheVariants.{Objects, Channels, Subscribed}
 use Rattle.tile_core.specs.declared.ready.Ready.{Ready}
 use Rattle.tile_core.specs.declared.stores.Store.{Store}
 use Rattle.tile_core.specs.Answered.{AreNamed, AreRoomy, AreSessions, IsAnswered, is_named}
-use Rattle.tile_core.specs.RecordSinks.{ready_writes, writes_if}
+use Rattle.tile_core.specs.RecordSinks.{writes_if}
 use Rattle.channel_plans.specs.Planned.{IsPlanned}
-use Rattle.tile_core.specs.Ready.{IsCompleted, IsDone, IsDoneIf, IsReady, IsRestReady, IsSoundAnswer, CanComplete, ending_if, length_if, planned_length, replied, reply_frames}
+use Rattle.tile_core.specs.Ready.{IsCompleted, IsDone, IsDoneIf, IsReady, IsRestReady, IsSoundAnswer, CanComplete, dues, ending_if, length_if, planned_length, replied, reply_frames}
 use Rattle.tile_core.specs.Sessions.{IsServed}
 use Rattle.tile_core.specs.Stores.{ArePresent, IsSound, IsStore, hall_of, world_at}
-use Rattle.tile_core.proofs.Calls.{as_many, cut_done, cut_writes, done, done_writes, due_are, later_world, made, own_numbers, placed_at, rises_as, rises_placed}
+use Rattle.tile_core.proofs.Calls.{as_many, cut_done, cut_writes, done, done_writes, later_world, made, own_numbers, placed_at, rises_as, rises_placed}
 use Rattle.tile_core.proofs.Finishing.{bare_at, bare_set, present_set}
 use Rattle.tile_core.proofs.NamedChanges.{changed_named, placed_named, roomy_as}
 use Rattle.tile_core.proofs.Present.{found}
@@ -94,8 +92,8 @@ module _ (before : Store) (now logged drawn : ℕ) (ss mid : List State) (n i mo
   abbrev hall : Hall
   hall = hall_of before now logged drawn ss
 
-  abbrev g : Expired
-  g = r.gone
+  abbrev gone_len : ℕ
+  gone_len = r.gone.length
 
   abbrev s : State
   s = sv.0.session
@@ -116,7 +114,7 @@ module _ (before : Store) (now logged drawn : ℕ) (ss mid : List State) (n i mo
   pub can : CanComplete store mid i r.planned
   can = by r.planned ready.rest
     where
-      by : (p : Option Planned) → IsRestReady before store g moment_now asked ready.caller mid p → CanComplete store mid i p
+      by : (p : Option Planned) → IsRestReady before store moment_now asked ready.caller mid p → CanComplete store mid i p
       by None q = tt
       by (Some p) q = (
         sound_answer (world_at store) store.weight ready.caller.subs (effect_of_asked (world_at store) moment_now ready.caller.subs asked) p q.plan,
@@ -124,13 +122,13 @@ module _ (before : Store) (now logged drawn : ℕ) (ss mid : List State) (n i mo
         λ t at. λ live. subst (λ (u : State). u.mail.replies ≡ reply_frames p) (same_Some ready.caller t (sym ready.here ∙ at)) q.replies,
       )
 
-  pub short : g.length + length_if r.planned ≤ 2 * most_kept
+  pub short : gone_len + length_if r.planned ≤ 2 * most_kept
   short = by r.planned ready.rest
     where
-      due_short : g.length ≤ most_kept
-      due_short = let small = ready.expired.taken.small in let light = kept.kept.light in omega (arith, small, light)
+      due_short : gone_len ≤ most_kept
+      due_short = ready.gone.small
 
-      by : (p : Option Planned) → IsRestReady before store g moment_now asked ready.caller mid p → g.length + length_if p ≤ 2 * most_kept
+      by : (p : Option Planned) → IsRestReady before store moment_now asked ready.caller mid p → gone_len + length_if p ≤ 2 * most_kept
       by None q = omega (arith, due_short)
       by (Some p) q = let one = short_length (world_at store) store.weight ready.caller.subs (effect_of_asked (world_at store) moment_now ready.caller.subs asked) p q.plan in omega (arith, due_short, one)
 
@@ -169,7 +167,7 @@ module _ (before : Store) (now logged drawn : ℕ) (ss mid : List State) (n i mo
     pub sound : moment_now ≤ max_moment → IsSound last moment_now drawn new
     sound early = by r.planned ready.rest completed.done
       where
-        by : (p : Option Planned) → IsRestReady before store g moment_now asked ready.caller mid p → IsDoneIf store placed_ i p last new → IsSound last moment_now drawn new
+        by : (p : Option Planned) → IsRestReady before store moment_now asked ready.caller mid p → IsDoneIf store placed_ i p last new → IsSound last moment_now drawn new
         by None q d = record {
           kept = d.2 ready.kept;
           early = early;
@@ -195,27 +193,27 @@ module _ (before : Store) (now logged drawn : ℕ) (ss mid : List State) (n i mo
         was : session_of ready_m.caller ≡ session_of s
         was = ap session_of same_caller ∙ as_was
 
-        by : (p : Option Planned) → IsRestReady before store g m asked ready_m.caller mid p → IsDoneIf store placed_ i p last new → len ≡ g.length + length_if p → Step hall (Call n moment asked) (Answered called.Ok) (hall_of last m (logged + len) drawn new)
+        by : (p : Option Planned) → IsRestReady before store m asked ready_m.caller mid p → IsDoneIf store placed_ i p last new → len ≡ gone_len + length_if p → Step hall (Call n moment asked) (Answered called.Ok) (hall_of last m (logged + len) drawn new)
         by None q d is =
-            let cut = cut_done before now logged drawn ss mid placed_ moment store g present.rises same ready_m.expired ready_m.channels n i asked s sv.0.here sv.0.numbered sv.1 sv.2 unspent completed.are_placed ready_m.caller ready_m.here was q.0 q.1 in
-            let sum : logged + len ≡ logged + g.length = omega (arith, is) in
+            let cut = cut_done before now logged drawn ss mid placed_ moment store gone_len present.rises same ready_m.gone n i asked s sv.0.here sv.0.numbered sv.1 sv.2 unspent completed.are_placed ready_m.caller ready_m.here was q.0 q.1 in
+            let sum : logged + len ≡ logged + gone_len = omega (arith, is) in
             subst (λ (xs : List State). Step hall (Call n moment asked) (Answered called.Ok) (hall_of last m (logged + len) drawn xs)) (sym d.0)
             (subst (λ (k : ℕ). Step hall (Call n moment asked) (Answered called.Ok) (hall_of last m k drawn placed_)) (sym sum)
-            (subst (λ (w : World). Step hall (Call n moment asked) (Answered called.Ok) (record (hall_of last m (logged + g.length) drawn placed_) { world = w })) (sym d.1) cut))
+            (subst (λ (w : World). Step hall (Call n moment asked) (Answered called.Ok) (record (hall_of last m (logged + gone_len) drawn placed_) { world = w })) (sym d.1) cut))
         by (Some p) q d is =
             let t = placed_at mid placed_ i ready_m.caller completed.are_placed ready_m.here in
             let one : d.caller ≡ t.0 = same_Some d.caller t.0 (sym d.here ∙ t.1) in
             let reply : session_of d.answered ≡ replied p (session_of t.0) = d.reply ∙ ap (λ (x : State). replied p (session_of x)) one in
-            let whole = done before now logged drawn ss mid placed_ moment store g present.rises same ready_m.expired ready_m.channels n i asked s sv.0.here sv.0.numbered sv.1 sv.2 unspent completed.are_placed ready_m.caller ready_m.here was p q last d.world d.answered reply in
-            let sum : logged + len ≡ (logged + g.length) + planned_length p = omega (arith, is) in
+            let whole = done before now logged drawn ss mid placed_ moment store gone_len present.rises same ready_m.gone n i asked s sv.0.here sv.0.numbered sv.1 sv.2 unspent completed.are_placed ready_m.caller ready_m.here was p q last d.world d.answered reply in
+            let sum : logged + len ≡ (logged + gone_len) + planned_length p = omega (arith, is) in
             subst (λ (xs : List State). Step hall (Call n moment asked) (Answered called.Ok) (hall_of last m (logged + len) drawn xs)) (sym d.set)
             (subst (λ (k : ℕ). Step hall (Call n moment asked) (Answered called.Ok) (hall_of last m k drawn (slice_set placed_ i d.answered))) (sym sum) whole)
 
     -- it does the writes of what was made ready
-    pub writes : writes_of hall (Call n moment asked) ≡ ready_writes r
+    pub writes : writes_of hall (Call n moment asked) ≡ dues before moment_now ++ writes_if r.planned
     writes =
-        ap (λ (os : List Object). dels os ++ call_writes (due hall moment) n asked) (due_are before now logged drawn ss mid placed_ moment store g present.rises same ready_m.expired ready_m.channels)
-        ∙ ap (λ (more : List Write). dels g.held.items ++ more) (by r.planned ready_m.rest completed.done)
+        ap (λ (more : List Write). dues before m ++ more) (by r.planned ready_m.rest completed.done)
+        ∙ ap (λ (k : ℕ). dues before k ++ writes_if r.planned) (sym is_now)
       where
         same_caller : ready_m.caller ≡ ready.caller
         same_caller = same_Some ready_m.caller ready.caller (sym ready_m.here ∙ ready.here)
@@ -223,13 +221,13 @@ module _ (before : Store) (now logged drawn : ℕ) (ss mid : List State) (n i mo
         was : session_of ready_m.caller ≡ session_of s
         was = ap session_of same_caller ∙ as_was
 
-        by : (p : Option Planned) → IsRestReady before store g m asked ready_m.caller mid p → IsDoneIf store placed_ i p last new → call_writes (due hall moment) n asked ≡ writes_if p
-        by None q d = cut_writes before now logged drawn ss mid placed_ moment store g present.rises same ready_m.expired ready_m.channels n i asked s sv.0.here sv.0.numbered sv.1 sv.2 unspent completed.are_placed ready_m.caller ready_m.here was q.0 q.1
+        by : (p : Option Planned) → IsRestReady before store m asked ready_m.caller mid p → IsDoneIf store placed_ i p last new → call_writes (due hall moment) n asked ≡ writes_if p
+        by None q d = cut_writes before now logged drawn ss mid placed_ moment store gone_len present.rises same ready_m.gone n i asked s sv.0.here sv.0.numbered sv.1 sv.2 unspent completed.are_placed ready_m.caller ready_m.here was q.0 q.1
         by (Some p) q d =
             let t = placed_at mid placed_ i ready_m.caller completed.are_placed ready_m.here in
             let one : d.caller ≡ t.0 = same_Some d.caller t.0 (sym d.here ∙ t.1) in
             let reply : session_of d.answered ≡ replied p (session_of t.0) = d.reply ∙ ap (λ (x : State). replied p (session_of x)) one in
-            done_writes before now logged drawn ss mid placed_ moment store g present.rises same ready_m.expired ready_m.channels n i asked s sv.0.here sv.0.numbered sv.1 sv.2 unspent completed.are_placed ready_m.caller ready_m.here was p q last d.world d.answered reply
+            done_writes before now logged drawn ss mid placed_ moment store gone_len present.rises same ready_m.gone n i asked s sv.0.here sv.0.numbered sv.1 sv.2 unspent completed.are_placed ready_m.caller ready_m.here was p q last d.world d.answered reply
 
     -- who is another is named
     module _ (named : List ℕ) (told : AreNamed named mid) (caller_named : is_named named n ≡ true) where
@@ -278,8 +276,7 @@ module _ (before : Store) (now logged drawn : ℕ) (ss mid : List State) (n i mo
         world_is : (due hall moment).world ≡ world_at store
         world_is =
             ap (λ (k : Hall). k.world) (due_staged hall moment (own_numbers drawn ss present.rises))
-            ∙ ap (λ (os : List Object). after_all (world_at before) (dels os)) (due_are before now logged drawn ss mid placed_ moment store g present.rises same ready_m.expired ready_m.channels)
-            ∙ later_world before now logged drawn ss mid placed_ moment store g present.rises same ready_m.expired ready_m.channels
+            ∙ later_world before now logged drawn ss mid placed_ moment store gone_len present.rises same ready_m.gone
 
         -- it hears nothing, and so it is not cut by what is due
         hears_nothing : (writes : List Write) → heard (world_at before) writes (listens (session_of ready_m.caller)) ≡ []
@@ -296,17 +293,17 @@ module _ (before : Store) (now logged drawn : ℕ) (ss mid : List State) (n i mo
         nothing_staged all [] frames e f = refl
         nothing_staged all (x ∷ some) frames e f = absurd (let k : (x ∷ some) ++ f.rest ≡ [] = sym f.front ∙ e in cc)
 
-        by : (p : Option Planned) → IsRestReady before store g m asked ready_m.caller mid p → IsDoneIf store placed_ i p last new → len ≡ g.length + length_if p
+        by : (p : Option Planned) → IsRestReady before store m asked ready_m.caller mid p → IsDoneIf store placed_ i p last new → len ≡ gone_len + length_if p
             → IsReplied (halls.session_of hall n) (halls.session_of after n) (map frame_text (effect_of_asked (due hall moment).world (max hall.now moment) h_s.subs asked).replies)
         by None q d is =
             let c = ready_m.caller in
-            let staged = holds_at (λ t. Suffice t.mail.frames (heard (world_at before) (dels g.held.items) (listens (session_of t))) t.mail.staged) mid i c q.0 ready_m.here in
-            absurd (true≢false (sym (nothing_staged (heard (world_at before) (dels g.held.items) (listens (session_of c))) c.mail.staged c.mail.frames (hears_nothing (dels g.held.items)) staged) ∙ q.1))
+            let staged = holds_at (λ t. Suffice t.mail.frames (heard (world_at before) (dues before m) (listens (session_of t))) t.mail.staged) mid i c q.0 ready_m.here in
+            absurd (true≢false (sym (nothing_staged (heard (world_at before) (dues before m) (listens (session_of c))) c.mail.staged c.mail.frames (hears_nothing (dues before m)) staged) ∙ q.1))
         by (Some p) q d is =
             let t = placed_at mid placed_ i ready_m.caller completed.are_placed ready_m.here in
             let one : d.caller ≡ t.0 = same_Some d.caller t.0 (sym d.here ∙ t.1) in
             let reply : session_of d.answered ≡ replied p (session_of t.0) = d.reply ∙ ap (λ (x : State). replied p (session_of x)) one in
-            let whole = made before now logged drawn ss mid placed_ moment store g present.rises same ready_m.expired ready_m.channels n i asked s sv.0.here sv.0.numbered sv.1 sv.2 unspent completed.are_placed ready_m.caller ready_m.here was p q last d.world d.answered reply in
+            let whole = made before now logged drawn ss mid placed_ moment store gone_len present.rises same ready_m.gone n i asked s sv.0.here sv.0.numbered sv.1 sv.2 unspent completed.are_placed ready_m.caller ready_m.here was p q last d.world d.answered reply in
             let subs_are : ready_m.caller.subs ≡ h_s.subs = ap (λ (h : halls.Session). h.subs) (was ∙ sym is_s) in
             let plan : IsPlanned (world_at store) store.weight h_s.subs (effect_of_asked (world_at store) m h_s.subs asked) p =
             subst (λ (held : List Sub). IsPlanned (world_at store) store.weight held (effect_of_asked (world_at store) m held asked) p) subs_are q.plan in

@@ -1,19 +1,13 @@
 -- Calls and ticks, in the words of the parts of a core.
 use Rattle.std.proofs.Common.{◌≡◌, ◌≢◌, ℕ, zero, suc, ◌+◌, ◌<◌, ◌≤◌, Bool, true, false, refl, sym, ap, ◌∙◌, subst, inl, inr, List, [], ◌∷◌, ◌++◌, length, max, map}
-use Rattle.std.specs.Prelude.{Some, Option, Result, Ok, Err, option_map, slice_get, slice_set, filter, ◌⊎◌, if◌then◌else◌}
+use Rattle.std.specs.Prelude.{Some, Option, Result, Ok, Err, option_map, slice_get, slice_set, ◌⊎◌, if◌then◌else◌}
 use Rattle.std.proofs.lemmas.List.{append-nil}
 use Rattle.std.proofs.lemmas.Option.{same_Some}
 use Rattle.byte_text.specs.Names.{Bytes}
 use Rattle.byte_text.specs.Replies.{frame_text}
 use Rattle.world_data.specs.Limits.{most_logged}
-use Rattle.ordered_lists.specs.Lists.{sorted_by}
-use Rattle.world_data.specs.Expiry.{expired, is_due, due_before}
-use Rattle.world_data.specs.Worlds.{after}
-use Rattle.world_data.specs.declared.objects.Object.{Object}
-use Rattle.world_data.specs.declared.channels.Channel.{Channel}
 use Rattle.world_data.specs.declared.worlds.World.{World}
-use Rattle.world_data.specs.declared.worlds.Change.TheVariants as change
-use Rattle.fence_model.specs.Writes.{Write, dels}
+use Rattle.fence_model.specs.Writes.{Write}
 use Rattle.world_model.specs.Effects.{Effect}
 use Rattle.world_model.specs.Subscriptions.{Sub, with_subs}
 use Rattle.world_model.specs.Commands.{reads}
@@ -28,7 +22,6 @@ use Rattle.world_model.specs.declared.events.CallOutcome.{CallOutcome}
 use Rattle.world_model.specs.declared.events.CallOutcome.TheVariants as called
 use Rattle.world_model.specs.declared.events.Event.TheVariants.{Call, Tick}
 use Rattle.world_model.specs.declared.events.Outcome.TheVariants.{Answered}
-use Rattle.keyspace.specs.Entries.{objects_in}
 use Rattle.log_record.specs.EventWrites.{asked_writes, call_writes, live_writes}
 use Rattle.delivery_model.specs.Addressing.{addressed}
 use Rattle.delivery_model.specs.Calls.{due_staged}
@@ -42,14 +35,11 @@ use Rattle.session_table.specs.Mail.{has_room_left}
 use Rattle.session_table.specs.Sessions.{State, session_of}
 use Rattle.session_table.specs.Fans.{ArePlaced, HaveStaged, IsPlaced}
 use Rattle.session_table.specs.FanLaws.{hall_placed, placed_are}
-use Rattle.tile_core.specs.declared.dues.Expired.{Expired}
 use Rattle.channel_plans.specs.declared.planned.Planned.{Planned}
 use Rattle.channel_plans.specs.declared.planned.Planned.TheVariants.{Objects, Channels, Subscribed}
 use Rattle.tile_core.specs.declared.stores.Store.{Store}
-use Rattle.object_plans.specs.Moves.{world_of, world_with}
-use Rattle.tile_core.specs.Dues.{IsExpired}
 use Rattle.channel_plans.specs.Planned.{IsPlanned}
-use Rattle.tile_core.specs.Ready.{IsRequestReady, ending_if, planned_length, planned_writes, replied}
+use Rattle.tile_core.specs.Ready.{IsDueGone, IsRequestReady, dues, ending_if, planned_length, planned_writes, replied}
 use Rattle.tile_core.specs.Sessions.{is_open, is_full, Rises, AreOthers, IsServed}
 use Rattle.tile_core.specs.Stores.{hall_of, world_at}
 use Rattle.tile_core.proofs.Present.{found, none_found, changed}
@@ -176,43 +166,27 @@ asked_as h s (Broken fault) = refl
 
 -- the clock
 
--- what was taken out is what is due
-gone_are : (objects : List Object) (now total : ℕ) (rest : List Object) (g : Expired) → IsExpired objects now total rest g → sorted_by due_before (filter (is_due now) objects) ≡ g.held.items
-gone_are objects now total rest g e =
-    sym (sym (append-nil g.held.items) ∙ ap (λ (os : List Object). g.held.items ++ sorted_by due_before os) (sym e.none) ∙ e.taken.order)
-
-pub with_channels : (cs : List Channel) (xs held : List Object) → after_all (world_with cs xs) (dels held) ≡ world_with cs (after_all (world_of xs) (dels held)).objects
-with_channels cs xs [] = refl
-with_channels cs xs (h ∷ held) = with_channels cs (after (world_of xs) (change.Del h.key h.id)).objects held
-
-module _ (before : Store) (now logged drawn : ℕ) (ss mid new : List State) (moment : ℕ) (store : Store) (g : Expired) (rises : Rises 0 drawn ss) (same : map session_of mid ≡ map session_of ss) (e : IsExpired (objects_in before.objects) (max now moment) before.weight (objects_in store.objects) g) (channels : store.hub.channels ≡ before.hub.channels) where
+module _ (before : Store) (now logged drawn : ℕ) (ss mid new : List State) (moment : ℕ) (store : Store) (len : ℕ) (rises : Rises 0 drawn ss) (same : map session_of mid ≡ map session_of ss) (e : IsDueGone before (max now moment) store len) where
   abbrev moment_now : ℕ
   moment_now = max now moment
 
-  abbrev held : List Object
-  held = g.held.items
+  abbrev gone_ : List Write
+  gone_ = dues before moment_now
 
   abbrev hall : Hall
   hall = hall_of before now logged drawn ss
 
-  pub due_are : expired (world_at before) moment_now ≡ held
-  due_are = gone_are (objects_in before.objects) moment_now before.weight (objects_in store.objects) g e
+  pub later_world : after_all (world_at before) gone_ ≡ world_at store
+  later_world = e.world
 
-  pub later_world : after_all (world_at before) (dels held) ≡ world_at store
-  later_world =
-      with_channels before.hub.channels (objects_in before.objects) held
-      ∙ ap (λ (w : World). world_with before.hub.channels w.objects) e.taken.world
-      ∙ ap (λ (cs : List Channel). world_with cs (objects_in store.objects)) (sym channels)
-
-  module _ (placed_ : ArePlaced mid new) (staged : HaveStaged (world_at before) (dels held) mid) where
-    pub clock : due hall moment ≡ hall_of store moment_now (logged + g.length) drawn new
+  module _ (placed_ : ArePlaced mid new) (staged : HaveStaged (world_at before) gone_ mid) where
+    pub clock : due hall moment ≡ hall_of store moment_now (logged + len) drawn new
     clock =
-        ap (λ (os : List Object). apply_all (hall_of before moment_now logged drawn ss) (dels os)) due_are
-        ∙ hall_placed (hall_of before moment_now logged drawn ss) (dels held) mid new (own_numbers drawn ss rises) (sym same) placed_ staged
-        ∙ ap (λ (w : World). record (hall_of store moment_now (logged + records_len (dels held)) drawn new) { world = w }) later_world
-        ∙ ap (λ (n : ℕ). hall_of store moment_now (logged + n) drawn new) (sym e.taken.length_is)
+        hall_placed (hall_of before moment_now logged drawn ss) gone_ mid new (own_numbers drawn ss rises) (sym same) placed_ staged
+        ∙ ap (λ (w : World). record (hall_of store moment_now (logged + records_len gone_) drawn new) { world = w }) later_world
+        ∙ ap (λ (n : ℕ). hall_of store moment_now (logged + n) drawn new) (sym e.length_is)
 
-    pub ticked : logged < most_logged → Step hall (Tick moment) (Answered called.Ok) (hall_of store moment_now (logged + g.length) drawn new)
+    pub ticked : logged < most_logged → Step hall (Tick moment) (Answered called.Ok) (hall_of store moment_now (logged + len) drawn new)
     ticked unspent = subst (λ (h : Hall). Step hall (Tick moment) (Answered called.Ok) h) clock (tick_done hall moment refl unspent)
 
   -- a call of the session at a place, which is served and not full
@@ -237,25 +211,25 @@ module _ (before : Store) (now logged drawn : ℕ) (ss mid new : List State) (mo
     live_caller = ap is_live as_was ∙ lives
 
     -- it is cut by what is due
-    pub cut_done : HaveStaged (world_at before) (dels held) mid → has_room_left caller.mail ≡ false → Step hall (Call n moment asked) (Answered called.Ok) (hall_of store moment_now (logged + g.length) drawn new)
+    pub cut_done : HaveStaged (world_at before) gone_ mid → has_room_left caller.mail ≡ false → Step hall (Call n moment asked) (Answered called.Ok) (hall_of store moment_now (logged + len) drawn new)
     unfolding do_call
     cut_done staged room =
         let dead : is_live (session_of p.0) ≡ false = ap is_live p.2.same ∙ lives_on (session_of caller) caller.mail.staged live_caller ∙ room in
         subst (λ (h : Hall). Step hall (Call n moment asked) (Answered called.Ok) h) (ap (λ (h : Hall). do_call h n asked) (clock placed_ staged) ∙ not_done dead)
         (call_done hall n moment asked refl unspent (session_of s) (found 0 drawn ss i n s rises at numbered) lives open_)
       where
-        not_done : is_live (session_of p.0) ≡ false → do_call (hall_of store moment_now (logged + g.length) drawn new) n asked ≡ hall_of store moment_now (logged + g.length) drawn new
+        not_done : is_live (session_of p.0) ≡ false → do_call (hall_of store moment_now (logged + len) drawn new) n asked ≡ hall_of store moment_now (logged + len) drawn new
         not_done dead = rw (found 0 drawn new i n p.0 new_rises p.1 last_number, dead) refl
 
     -- and then its call writes nothing
-    pub cut_writes : HaveStaged (world_at before) (dels held) mid → has_room_left caller.mail ≡ false → call_writes (due hall moment) n asked ≡ []
+    pub cut_writes : HaveStaged (world_at before) gone_ mid → has_room_left caller.mail ≡ false → call_writes (due hall moment) n asked ≡ []
     cut_writes staged room = ap (λ (h : Hall). call_writes h n asked) (clock placed_ staged) ∙ rw (found 0 drawn new i n p.0 new_rises p.1 last_number, dead) refl
       where
         dead : is_live (session_of p.0) ≡ false
         dead = ap is_live p.2.same ∙ lives_on (session_of caller) caller.mail.staged live_caller ∙ room
 
     -- its request is done
-    module _ (q : Planned) (ready : IsRequestReady before store g moment_now asked caller mid q) (last : Store) (lasting : world_at last ≡ after_all (world_at store) (planned_writes q)) (v : State) (answer : session_of v ≡ replied q (session_of p.0)) where
+    module _ (q : Planned) (ready : IsRequestReady before store moment_now asked caller mid q) (last : Store) (lasting : world_at last ≡ after_all (world_at store) (planned_writes q)) (v : State) (answer : session_of v ≡ replied q (session_of p.0)) where
       abbrev e_of : Effect
       e_of = effect_of_asked (world_at store) moment_now s.subs asked
 
@@ -265,8 +239,8 @@ module _ (before : Store) (now logged drawn : ℕ) (ss mid new : List State) (mo
       plan : IsPlanned (world_at store) store.weight s.subs e_of q
       plan = subst (λ (subs : List Sub). IsPlanned (world_at store) store.weight subs (effect_of_asked (world_at store) moment_now subs asked) q) subs_are ready.plan
 
-      room : has_room_for (session_of s) (heard (world_at before) (dels held) (listens (session_of s))) ≡ true
-      room = subst (λ (h : halls.Session). has_room_for h (heard (world_at before) (dels held) (listens h)) ≡ true) as_was ready.roomy
+      room : has_room_for (session_of s) (heard (world_at before) gone_ (listens (session_of s))) ≡ true
+      room = subst (λ (h : halls.Session). has_room_for h (heard (world_at before) gone_ (listens h)) ≡ true) as_was ready.roomy
 
       in_hall : halls.session_of hall n ≡ Some (session_of s)
       in_hall = found 0 drawn ss i n s rises at numbered
@@ -287,45 +261,36 @@ module _ (before : Store) (now logged drawn : ℕ) (ss mid new : List State) (mo
           own : HaveOwnNumbers (map session_of ss)
           own = own_numbers drawn ss rises
 
-          dues : List Write
-          dues = dels (expired (world_at before) moment_now)
-
           frames : List Bytes
-          frames = heard (world_at before) dues (listens (session_of s))
+          frames = heard (world_at before) gone_ (listens (session_of s))
 
           behind : halls.Session
           behind = record (session_of s) { frames = (session_of s).frames ++ frames }
 
-          due_is : due hall moment ≡ record hall { now = moment_now; world = after_all (world_at before) dues; logged = logged + records_len dues; sessions = placed_all (map session_of ss) (staged (world_at before) (map session_of ss) dues) }
+          due_is : due hall moment ≡ record hall { now = moment_now; world = after_all (world_at before) gone_; logged = logged + records_len gone_; sessions = placed_all (map session_of ss) (staged (world_at before) (map session_of ss) gone_) }
           due_is = due_staged hall moment own
 
-          due_world : after_all (world_at before) dues ≡ world_at store
-          due_world = ap (λ (os : List Object). after_all (world_at before) (dels os)) due_are ∙ later_world
+          due_world : after_all (world_at before) gone_ ≡ world_at store
+          due_world = later_world
 
           in_due : halls.session_of (due hall moment) n ≡ Some behind
           in_due =
               ap (λ (h : Hall). halls.session_of h n) due_is
-              ∙ found_placed n (map session_of ss) (staged (world_at before) (map session_of ss) dues)
-              ∙ ap (option_map (λ t. placed_each t (frames_to t.number (staged (world_at before) (map session_of ss) dues)))) in_hall
+              ∙ found_placed n (map session_of ss) (staged (world_at before) (map session_of ss) gone_)
+              ∙ ap (option_map (λ t. placed_each t (frames_to t.number (staged (world_at before) (map session_of ss) gone_)))) in_hall
               ∙ ap (λ (fs : List Bytes). Some (placed_each (session_of s) fs))
-              (found_holds (λ t. frames_to t.number (staged (world_at before) (map session_of ss) dues) ≡ heard (world_at before) dues (listens t)) n (session_of s) (map session_of ss) (addressed (world_at before) dues (map session_of ss) own) in_hall)
+              (found_holds (λ t. frames_to t.number (staged (world_at before) (map session_of ss) gone_) ≡ heard (world_at before) gone_ (listens t)) n (session_of s) (map session_of ss) (addressed (world_at before) gone_ (map session_of ss) own) in_hall)
               ∙ ap (λ (t : halls.Session). Some t)
-              (takes_all (session_of s) frames lives
-              (subst (λ (os : List Object). has_room_for (session_of s) (heard (world_at before) (dels os) (listens (session_of s))) ≡ true) (sym due_are) room))
+              (takes_all (session_of s) frames lives room)
 
       -- by sessions
-      whole : do_call (due hall moment) n asked ≡ record hall { now = moment_now; world = after_all (world_at store) e_of.writes; logged = (logged + records_len (dels held)) + records_len e_of.writes; sessions = answered n e_of (brought (world_at before) (dels held ++ e_of.writes) (map session_of ss)) }
-      whole = through (expired (world_at before) moment_now) due_are (after_all (world_at before) (dels held)) later_world
-        where
-          through : (os : List Object) → os ≡ held → (w : World) → w ≡ world_at store → do_call (due hall moment) n asked ≡ record hall { now = moment_now; world = after_all (world_at store) e_of.writes; logged = (logged + records_len (dels held)) + records_len e_of.writes; sessions = answered n e_of (brought (world_at before) (dels held ++ e_of.writes) (map session_of ss)) }
-          through os a w b =
-              by_sessions hall moment n asked (session_of s) (own_numbers drawn ss rises) in_hall lives
-              (subst (λ (xs : List Object). has_room_for (session_of s) (heard (world_at before) (dels xs) (listens (session_of s))) ≡ true) (sym due_are) room)
-              ∙ ap (λ (xs : List Object). let u = after_all (world_at before) (dels xs) in let d = effect_of_asked u moment_now s.subs asked in record hall { now = moment_now; world = after_all u d.writes; logged = (logged + records_len (dels xs)) + records_len d.writes; sessions = answered n d (brought (world_at before) (dels xs ++ d.writes) (map session_of ss)) }) due_are
-              ∙ ap (λ (u : World). let d = effect_of_asked u moment_now s.subs asked in record hall { now = moment_now; world = after_all u d.writes; logged = (logged + records_len (dels held)) + records_len d.writes; sessions = answered n d (brought (world_at before) (dels held ++ d.writes) (map session_of ss)) }) later_world
+      whole : do_call (due hall moment) n asked ≡ record hall { now = moment_now; world = after_all (world_at store) e_of.writes; logged = (logged + records_len gone_) + records_len e_of.writes; sessions = answered n e_of (brought (world_at before) (gone_ ++ e_of.writes) (map session_of ss)) }
+      whole =
+          by_sessions hall moment n asked (session_of s) (own_numbers drawn ss rises) in_hall lives room
+          ∙ ap (λ (u : World). let d = effect_of_asked u moment_now s.subs asked in record hall { now = moment_now; world = after_all u d.writes; logged = (logged + records_len gone_) + records_len d.writes; sessions = answered n d (brought (world_at before) (gone_ ++ d.writes) (map session_of ss)) }) later_world
 
-      brought_are : brought (world_at before) (dels held ++ planned_writes q) (map session_of ss) ≡ map session_of new
-      brought_are = ap (map (λ h. placed_each h (heard (world_at before) (dels held ++ planned_writes q) (listens h)))) (sym same) ∙ sym (placed_are (world_at before) (dels held ++ planned_writes q) mid new placed_ ready.staged)
+      brought_are : brought (world_at before) (gone_ ++ planned_writes q) (map session_of ss) ≡ map session_of new
+      brought_are = ap (map (λ h. placed_each h (heard (world_at before) (gone_ ++ planned_writes q) (listens h)))) (sym same) ∙ sym (placed_are (world_at before) (gone_ ++ planned_writes q) mid new placed_ ready.staged)
 
       -- a caller that subscribes has the subscriptions that it had
       still : (s.subs ≡ p.0.subs) ⊎ (e_of.writes ≢ [])
@@ -338,14 +303,14 @@ module _ (before : Store) (now logged drawn : ℕ) (ss mid new : List State) (mo
               none : planned_writes q ≡ []
               none = sym writes_are ∙ is
 
-              all_heard : HaveStaged (world_at before) (dels held) mid
-              all_heard = subst (λ (ws : List Write). HaveStaged (world_at before) ws mid) (ap (λ (ws : List Write). dels held ++ ws) none ∙ append-nil (dels held)) ready.staged
+              all_heard : HaveStaged (world_at before) gone_ mid
+              all_heard = subst (λ (ws : List Write). HaveStaged (world_at before) ws mid) (ap (λ (ws : List Write). gone_ ++ ws) none ∙ append-nil gone_) ready.staged
 
               frames : List Bytes
-              frames = heard (world_at before) (dels held) (listens (session_of caller))
+              frames = heard (world_at before) gone_ (listens (session_of caller))
 
-              taken : map session_of new ≡ map (λ h. placed_each h (heard (world_at before) (dels held) (listens h))) (map session_of mid)
-              taken = placed_are (world_at before) (dels held) mid new placed_ all_heard
+              taken : map session_of new ≡ map (λ h. placed_each h (heard (world_at before) gone_ (listens h))) (map session_of mid)
+              taken = placed_are (world_at before) gone_ mid new placed_ all_heard
 
               stands : Some (session_of p.0) ≡ Some (placed_each (session_of caller) frames)
               stands = sym (mapped new i p.0 p.1) ∙ ap (λ (hs : List halls.Session). slice_get hs i) taken ∙ mapped_twice mid i caller here
@@ -355,9 +320,9 @@ module _ (before : Store) (now logged drawn : ℕ) (ss mid new : List State) (mo
                   mapped (y ∷ ys) zero x e = let is : y ≡ x = cc in ap (λ (z : State). Some (session_of z)) is
                   mapped (y ∷ ys) (suc k) x e = mapped ys k x e
 
-                  mapped_twice : (xs : List State) (k : ℕ) (x : State) → slice_get xs k ≡ Some x → slice_get (map (λ h. placed_each h (heard (world_at before) (dels held) (listens h))) (map session_of xs)) k ≡ Some (placed_each (session_of x) (heard (world_at before) (dels held) (listens (session_of x))))
+                  mapped_twice : (xs : List State) (k : ℕ) (x : State) → slice_get xs k ≡ Some x → slice_get (map (λ h. placed_each h (heard (world_at before) gone_ (listens h))) (map session_of xs)) k ≡ Some (placed_each (session_of x) (heard (world_at before) gone_ (listens (session_of x))))
                   mapped_twice [] k x e = absurd (cc)
-                  mapped_twice (y ∷ ys) zero x e = let is : y ≡ x = cc in ap (λ (z : State). Some (placed_each (session_of z) (heard (world_at before) (dels held) (listens (session_of z))))) is
+                  mapped_twice (y ∷ ys) zero x e = let is : y ≡ x = cc in ap (λ (z : State). Some (placed_each (session_of z) (heard (world_at before) gone_ (listens (session_of z))))) is
                   mapped_twice (y ∷ ys) (suc k) x e = mapped_twice ys k x e
 
               one : session_of p.0 ≡ placed_each (session_of caller) frames
@@ -371,19 +336,19 @@ module _ (before : Store) (now logged drawn : ℕ) (ss mid new : List State) (mo
           answered_is n e_of (map session_of new)
           ∙ changed (answers_with e_of) 0 drawn new i n p.0 v new_rises p.1 last_number (replies_as (world_at store) store.weight s.subs e_of q (session_of p.0) plan still ∙ sym answer)
 
-      total : (logged + records_len (dels held)) + records_len e_of.writes ≡ (logged + g.length) + planned_length q
-      total = ap (λ (k : ℕ). (logged + k) + records_len e_of.writes) (sym e.taken.length_is) ∙ ap (λ (ws : List Write). (logged + g.length) + records_len ws) writes_are ∙ ap (λ (k : ℕ). (logged + g.length) + k) (sym (length_as (world_at store) store.weight s.subs e_of q plan))
+      total : (logged + records_len gone_) + records_len e_of.writes ≡ (logged + len) + planned_length q
+      total = ap (λ (k : ℕ). (logged + k) + records_len e_of.writes) (sym e.length_is) ∙ ap (λ (ws : List Write). (logged + len) + records_len ws) writes_are ∙ ap (λ (k : ℕ). (logged + len) + k) (sym (length_as (world_at store) store.weight s.subs e_of q plan))
 
-      pub made : do_call (due hall moment) n asked ≡ hall_of last moment_now ((logged + g.length) + planned_length q) drawn (slice_set new i v)
+      pub made : do_call (due hall moment) n asked ≡ hall_of last moment_now ((logged + len) + planned_length q) drawn (slice_set new i v)
       made =
           whole
-          ∙ ap (λ (ws : List Write). record hall { now = moment_now; world = after_all (world_at store) ws; logged = (logged + records_len (dels held)) + records_len e_of.writes; sessions = answered n e_of (brought (world_at before) (dels held ++ ws) (map session_of ss)) }) writes_are
-          ∙ ap (λ (hs : List halls.Session). record hall { now = moment_now; world = after_all (world_at store) (planned_writes q); logged = (logged + records_len (dels held)) + records_len e_of.writes; sessions = answered n e_of hs }) brought_are
-          ∙ ap (λ (hs : List halls.Session). record hall { now = moment_now; world = after_all (world_at store) (planned_writes q); logged = (logged + records_len (dels held)) + records_len e_of.writes; sessions = hs }) last_sessions
+          ∙ ap (λ (ws : List Write). record hall { now = moment_now; world = after_all (world_at store) ws; logged = (logged + records_len gone_) + records_len e_of.writes; sessions = answered n e_of (brought (world_at before) (gone_ ++ ws) (map session_of ss)) }) writes_are
+          ∙ ap (λ (hs : List halls.Session). record hall { now = moment_now; world = after_all (world_at store) (planned_writes q); logged = (logged + records_len gone_) + records_len e_of.writes; sessions = answered n e_of hs }) brought_are
+          ∙ ap (λ (hs : List halls.Session). record hall { now = moment_now; world = after_all (world_at store) (planned_writes q); logged = (logged + records_len gone_) + records_len e_of.writes; sessions = hs }) last_sessions
           ∙ ap (λ (k : ℕ). record hall { now = moment_now; world = after_all (world_at store) (planned_writes q); logged = k; sessions = map session_of (slice_set new i v) }) total
-          ∙ ap (λ (w : World). record hall { now = moment_now; world = w; logged = (logged + g.length) + planned_length q; sessions = map session_of (slice_set new i v) }) (sym lasting)
+          ∙ ap (λ (w : World). record hall { now = moment_now; world = w; logged = (logged + len) + planned_length q; sessions = map session_of (slice_set new i v) }) (sym lasting)
 
-      pub done : Step hall (Call n moment asked) (Answered called.Ok) (hall_of last moment_now ((logged + g.length) + planned_length q) drawn (slice_set new i v))
+      pub done : Step hall (Call n moment asked) (Answered called.Ok) (hall_of last moment_now ((logged + len) + planned_length q) drawn (slice_set new i v))
       done = subst (λ (h : Hall). Step hall (Call n moment asked) (Answered called.Ok) h) made
           (call_done hall n moment asked refl unspent (session_of s) in_hall lives open_)
 

@@ -33,7 +33,8 @@ use Rattle.object_plans.specs.Beside.{channels_left, channels_weight, weight_lef
 use Rattle.tile_core.specs.Staged.{dels_of}
 use Rattle.object_plans.specs.Kept.{AreKept, most_kept}
 use Rattle.tile_core.specs.Stores.{ArePresent}
-use Rattle.tile_core.specs.Dues.{IsTaken}
+use Rattle.tile_core.specs.Dues.{AreChannelsDueFrom, IsChannelDueFrom, IsTaken}
+use Rattle.tile_core.specs.Ready.{HoldsOfSet}
 use Rattle.tile_core.proofs.Moving.{all_moved}
 use Rattle.tile_core.proofs.Present.{rises_set, rises_remove}
 
@@ -113,7 +114,7 @@ sound_put c (d ∷ cs) s all =
     by false true h r ih = rw (h, ih) refl
     by false false h r ih = rw (s, r) refl
 
-sound_filter : (f : Channel → Bool) (cs : List Channel) → list_all is_sound_channel cs ≡ true → list_all is_sound_channel (filter f cs) ≡ true
+pub sound_filter : (f : Channel → Bool) (cs : List Channel) → list_all is_sound_channel cs ≡ true → list_all is_sound_channel (filter f cs) ≡ true
 sound_filter f [] all = refl
 sound_filter f (c ∷ cs) all =
     let here : is_sound_channel c ≡ true = grind arith in
@@ -140,24 +141,38 @@ sound_left (DeleteEach key ids) cs all = all
 sound_left (DropKey key) cs all = all
 sound_left Clear cs all = refl
 
--- and recorded ones recorded
+-- what holds of each channel holds of each that is left
 
-recorded_without : (names : List Bytes) (cs : List Channel) → AllByRecursion IsRecordedChannel cs → AllByRecursion IsRecordedChannel (without_names names cs)
-recorded_without [] cs all = all
-recorded_without (name ∷ names) cs all =
-    recorded_without names (filter (λ c. not (is_named name c)) cs) (each-filter IsRecordedChannel (λ c. not (is_named name c)) cs all)
+module _ (P : Channel → Type 0) where
+  each_without : (names : List Bytes) (cs : List Channel) → AllByRecursion P cs → AllByRecursion P (without_names names cs)
+  each_without [] cs all = all
+  each_without (name ∷ names) cs all = each_without names (filter (λ c. not (is_named name c)) cs) (each-filter P (λ c. not (is_named name c)) cs all)
 
-pub recorded_moved : (action : ChannelChange) (cs : List Channel) → IsRecordedMove action → AllByRecursion IsRecordedChannel cs → AllByRecursion IsRecordedChannel (channels_moved action cs)
-recorded_moved (Set c) cs r all = each-put_in IsRecordedChannel channel_before c cs r all
-recorded_moved (Drop names) cs r all = recorded_without names cs all
+  pub each_moved : (action : ChannelChange) (cs : List Channel) → HoldsOfSet P action → AllByRecursion P cs → AllByRecursion P (channels_moved action cs)
+  each_moved (Set c) cs r all = each-put_in P channel_before c cs r all
+  each_moved (Drop names) cs r all = each_without names cs all
 
-pub recorded_left : (action : ObjectChange) (cs : List Channel) → AllByRecursion IsRecordedChannel cs → AllByRecursion IsRecordedChannel (channels_left action cs)
-recorded_left Stay cs all = all
-recorded_left (Put o) cs all = all
-recorded_left (Delete key id) cs all = all
-recorded_left (DeleteEach key ids) cs all = all
-recorded_left (DropKey key) cs all = all
-recorded_left Clear cs all = tt
+  pub each_left : (action : ObjectChange) (cs : List Channel) → AllByRecursion P cs → AllByRecursion P (channels_left action cs)
+  each_left Stay cs all = all
+  each_left (Put o) cs all = all
+  each_left (Delete key id) cs all = all
+  each_left (DeleteEach key ids) cs all = all
+  each_left (DropKey key) cs all = all
+  each_left Clear cs all = tt
+
+-- a channel that is set is recorded
+pub set_recorded : (action : ChannelChange) → IsRecordedMove action → HoldsOfSet IsRecordedChannel action
+set_recorded (Set c) r = r
+set_recorded (Drop names) r = tt
+
+-- channels that are due from a moment on are not due before an earlier one
+channels_earlier : (due_from less : ℕ) → less ≤ due_from → (cs : List Channel) → AreChannelsDueFrom due_from cs → AreChannelsDueFrom less cs
+channels_earlier due_from less le [] all = tt
+channels_earlier due_from less le (c ∷ cs) all = (λ d e. let far = all.0 d e in omega (arith, le, far), channels_earlier due_from less le cs all.1)
+
+pub channels_due_moved : (due_from less : ℕ) (action : ChannelChange) (cs : List Channel) → less ≤ due_from → HoldsOfSet (IsChannelDueFrom less) action → AreChannelsDueFrom due_from cs
+    → AreChannelsDueFrom less (channels_moved action cs)
+channels_due_moved due_from less action cs le set all = each_moved (IsChannelDueFrom less) action cs set (channels_earlier due_from less le cs all)
 
 pub weighed_left : (action : ObjectChange) (n : ℕ) (cs : List Channel) → n ≡ channels_weight cs → weight_left action n ≡ channels_weight (channels_left action cs)
 weighed_left Stay n cs e = e

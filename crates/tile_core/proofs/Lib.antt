@@ -1,6 +1,10 @@
 mod Halving
 mod NamedChanges
+mod Orders
+mod Turns
 mod Behind
+mod Leaving
+mod Counting
 mod Named
 mod Present
 mod Steps

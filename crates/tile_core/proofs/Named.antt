@@ -1,5 +1,6 @@
 -- The hall whose store and sessions are as they were is the hall as it was.
 use Rattle.std.proofs.Common.{◌≡◌, ℕ, List, map, sym, ap, ◌∙◌, subst}
+use Rattle.std.specs.Prelude.{Result, Ok, Err, IfOk, OnOk}
 use Rattle.world_data.specs.declared.worlds.World.{World}
 use Rattle.world_model.specs.Halls as halls
 use Rattle.world_model.specs.Halls.{Hall, NamesChanged}
@@ -19,3 +20,8 @@ none_named named old new same n ne = absurd (ne (ap (λ (h : Hall). halls.sessio
 
 pub same_room : (named : List ℕ) (old new : Hall) → new ≡ old → AreSessions named old → AreSessions named new
 same_room named old new same room = subst (AreSessions named) (sym same) room
+
+-- what follows where it is done holds of the result
+pub if_ok : {A E P : Type 0} {Q : A → Type 0} (r : Result A E) → OnOk r P → (P → (a : A) → Q a) → IfOk r Q
+if_ok (Ok a) p f = f p a
+if_ok (Err e) p f = tt

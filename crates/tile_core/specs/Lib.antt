@@ -1,4 +1,5 @@
 pub mod Sessions
+pub mod Orders
 pub mod Dues
 pub mod CoreStates
 pub mod Stores

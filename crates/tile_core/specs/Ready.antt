@@ -1,7 +1,10 @@
 -- A call made ready, and what its finish does.
-use Rattle.std.specs.Prelude.{◌≡◌, ℕ, Bool, ◌≤◌, true, false, List, [], ◌∷◌, ◌++◌, ◌+◌, slice_get, slice_set, Option, Some, None, if◌then◌else◌}
+use Rattle.std.specs.Prelude.{◌≡◌, ℕ, Bool, ◌≤◌, true, false, List, [], ◌∷◌, ◌++◌, ◌+◌, length, map, slice_get, slice_set, Option, Some, None}
+use Rattle.std.specs.Prelude.{if◌then◌else◌}
 use Rattle.byte_text.specs.Names.{Bytes}
-use Rattle.fence_model.specs.Writes.{Write, dels}
+use Rattle.fence_model.specs.Writes.{Write, due_writes, going}
+use Rattle.world_data.specs.Expiry.{deadline_of, in_turn}
+use Rattle.world_data.specs.declared.channels.Channel.{Channel}
 use Rattle.world_data.specs.declared.objects.Object.{Object}
 use Rattle.world_model.specs.Halls as halls
 use Rattle.world_model.specs.Halls.{placed, placed_each}
@@ -10,20 +13,23 @@ use Rattle.keyspace.specs.Entries.{objects_in, room_for}
 use Rattle.channel_hub.specs.Hubs.{Held, IsPrepared}
 use Rattle.world_model.specs.Effects.{Effect}
 use Rattle.world_model.specs.Subscriptions.{Sub}
-use Rattle.delivery_model.specs.Staging.{after_all, has_room_for, heard, listens}
+use Rattle.delivery_model.specs.Staging.{after_all, has_room_for, heard, listens, records_len}
 use Rattle.delivery_model.specs.Plans.{effect_of_asked, ending}
 use Rattle.session_table.specs.Mail.{has_room_left}
 use Rattle.session_table.specs.Sessions.{AreReplies, AreSoundSubs, State, session_of}
 use Rattle.session_table.specs.Fans.{ArePlaced, HaveStaged}
-use Rattle.tile_core.specs.declared.dues.Expired.{Expired}
 use Rattle.object_plans.specs.declared.moves.ObjectChange.{ObjectChange}
 use Rattle.channel_plans.specs.declared.planned.ChannelChange.{ChannelChange}
 use Rattle.channel_plans.specs.declared.planned.ChannelChange.TheVariants.{Set, Drop}
 use Rattle.channel_plans.specs.declared.planned.Planned.{Planned}
 use Rattle.channel_plans.specs.declared.planned.Planned.TheVariants.{Objects, Channels, Subscribed}
+use Rattle.tile_core.specs.declared.ready.Gone.{Gone}
 use Rattle.tile_core.specs.declared.ready.Ready.{Ready}
 use Rattle.tile_core.specs.declared.stores.Store.{Store}
-use Rattle.tile_core.specs.Dues.{IsExpired, with_back}
+use Rattle.tile_core.specs.declared.stores.Sums.{Sums}
+use Rattle.tile_core.specs.Dues.{with_back}
+use Rattle.tile_core.specs.Orders.{Rise}
+use Rattle.object_plans.specs.Kept.{most_kept}
 use Rattle.object_plans.specs.Moves.{HasRoom}
 use Rattle.channel_plans.specs.Planned.{IsPlanned, channel_writes}
 use Rattle.object_plans.specs.Plans.{writes_of}
@@ -41,6 +47,11 @@ abbrev pub HoldsOfObjects : (ObjectChange → Type 0) → Planned → Type 0
 HoldsOfObjects P (Objects p) = P p.action
 HoldsOfObjects P (Channels p) = Unit {0}
 HoldsOfObjects P (Subscribed p) = Unit {0}
+
+-- it holds of what is put among the channels
+abbrev pub HoldsOfSet : (Channel → Type 0) → ChannelChange → Type 0
+HoldsOfSet P (Set c) = P c
+HoldsOfSet P (Drop names) = Unit {0}
 
 -- the bytes of their records
 abbrev pub planned_length : Planned → ℕ
@@ -77,20 +88,47 @@ pub record IsAsBefore (old new : Store) : Type 0 where
   pub objects : objects_in new.objects ≡ objects_in old.objects
   pub channels : new.hub.channels ≡ old.hub.channels
 
--- and none was lost among the objects
+-- and none was lost among the objects; what is out stays out
 pub record IsRoomier (old new : Store) : Type 0 where
   pub before : IsAsBefore old new
   pub room : (key : Bytes) → room_for old.objects key ≤ room_for new.objects key
+  pub taken : new.hub.taken ≡ old.hub.taken
+  pub every : new.hub.every ≡ old.hub.every
 
--- what was taken out is put back into a store, which has this weight again, and nothing due before this moment
-pub record IsUndone (old : Store) (held : List Object) (weight due_from : ℕ) (new : Store) : Type 0 where
+-- what was taken out is put back into a store, which has these sums again
+pub record IsUndone (old : Store) (held : List Object) (sums : Sums) (new : Store) : Type 0 where
   pub objects : objects_in new.objects ≡ with_back (objects_in old.objects) held
-  pub rest : new ≡ record old { objects = new.objects; weight = weight; due_from = due_from; steps = new.steps }
+  pub channels : new.hub.channels ≡ old.hub.every
+  pub rest : new ≡ record {
+    objects = new.objects;
+    weight = sums.weight;
+    due_from = sums.due_from;
+    hub = new.hub;
+    channel_weight = sums.channel_weight;
+    channels_due_from = sums.channels_due_from;
+    steps = new.steps;
+  }
 
--- what is due is taken out of the objects of a store, and what the dels bring is staged
-pub record IsDueTaken (old : Store) (now : ℕ) (store : Store) (gone : Expired) (sessions : List State) : Type 0 where
-  pub expired : IsExpired (objects_in old.objects) now old.weight (objects_in store.objects) gone
-  pub staged : HaveStaged (world_at old) (dels gone.held.items) sessions
+-- the writes of what is due in a store
+abbrev pub dues : Store → ℕ → List Write
+dues store now = due_writes (world_at store) now
+
+-- all that is due has gone from a store, with records of this length
+pub record IsDueGone (before : Store) (now : ℕ) (store : Store) (len : ℕ) : Type 0 where
+  pub world : after_all (world_at before) (dues before now) ≡ world_at store
+  pub length_is : len ≡ records_len (dues before now)
+  pub small : len ≤ most_kept
+
+-- what is due is taken out of a store, from which it may be put back, and what that brings is staged
+pub record IsDueTaken (old : Store) (now : ℕ) (store : Store) (gone : Gone) (sessions : List State) : Type 0 where
+  pub kept : IsStore store
+  pub done : IsDueGone old now store gone.length
+  pub turn : map going (in_turn gone.held.items store.hub.taken) ≡ dues old now
+  pub rise : Rise (λ c. deadline_of c.deadline) store.hub.taken
+  pub back : with_back (objects_in store.objects) gone.held.items ≡ objects_in old.objects
+  pub count : length (objects_in store.objects) + length gone.held.items ≤ length (objects_in old.objects)
+  pub every : store.hub.every ≡ old.hub.channels
+  pub staged : HaveStaged (world_at old) (dues old now) sessions
 
 -- what a request will do is planned for the session at a place, what it brings is staged, with the reply behind, and there is room for all of it
 pub record IsPlannedBehind (before : Store) (now : ℕ) (asked : Asked) (at : ℕ) (store : Store) (old new : List State) (p : Planned) : Type 0 where
@@ -107,28 +145,26 @@ IsRestBehind before now asked at store old new (Some p) = IsPlannedBehind before
     × ((s : State) → slice_get old at ≡ Some s → has_room_left s.mail ≡ true)
 
 -- behind what is due, what a request will do is planned for its session, and what it brings is staged, with room for all that it needs
-pub record IsRequestReady (before store : Store) (gone : Expired) (now : ℕ) (asked : Asked) (caller : State) (sessions : List State)
-    (p : Planned) : Type 0 where
-  pub roomy : has_room_for (session_of caller) (heard (world_at before) (dels gone.held.items) (listens (session_of caller))) ≡ true
+pub record IsRequestReady (before store : Store) (now : ℕ) (asked : Asked) (caller : State) (sessions : List State) (p : Planned) : Type 0 where
+  pub roomy : has_room_for (session_of caller) (heard (world_at before) (dues before now) (listens (session_of caller))) ≡ true
   pub plan : IsPlanned (world_at store) store.weight caller.subs (effect_of_asked (world_at store) now caller.subs asked) p
-  pub staged : HaveStaged (world_at before) (dels gone.held.items ++ planned_writes p) sessions
+  pub staged : HaveStaged (world_at before) (dues before now ++ planned_writes p) sessions
   pub room : HasRoomFor store p
   pub replies : caller.mail.replies ≡ reply_frames p
 
 -- the request of a session that what is due will cut is not done
-abbrev pub IsRestReady : Store → Store → Expired → ℕ → Asked → State → List State → Option Planned → Type 0
-IsRestReady before store gone now asked caller sessions None = HaveStaged (world_at before) (dels gone.held.items) sessions
+abbrev pub IsRestReady : Store → Store → ℕ → Asked → State → List State → Option Planned → Type 0
+IsRestReady before store now asked caller sessions None = HaveStaged (world_at before) (dues before now) sessions
     × (has_room_left caller.mail ≡ false)
-IsRestReady before store gone now asked caller sessions (Some p) = IsRequestReady before store gone now asked caller sessions p
+IsRestReady before store now asked caller sessions (Some p) = IsRequestReady before store now asked caller sessions p
 
 -- a call of the session at a place is ready
 pub record IsReady (before : Store) (now : ℕ) (asked : Asked) (at : ℕ) (store : Store) (sessions : List State) (r : Ready) : Type 0 where
-  pub expired : IsExpired (objects_in before.objects) now before.weight (objects_in store.objects) r.gone
+  pub gone : IsDueGone before now store r.gone.length
   pub kept : IsStore store
-  pub channels : store.hub.channels ≡ before.hub.channels
   pub caller : State
   pub here : slice_get sessions at ≡ Some caller
-  pub rest : IsRestReady before store r.gone now asked caller sessions r.planned
+  pub rest : IsRestReady before store now asked caller sessions r.planned
 
 -- the finish
 

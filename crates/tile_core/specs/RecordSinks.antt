@@ -1,10 +1,12 @@
 -- What a ledger takes of a call.
-use Rattle.std.specs.Prelude.{◌≡◌, List, [], ◌++◌, Option, Some, None}
+use Rattle.std.specs.Prelude.{◌≡◌, List, [], ◌++◌, map, Option, Some, None}
 use Rattle.std.specs.List.{AllByRecursion}
 use Rattle.byte_text.specs.Names.{Bytes}
 use Rattle.world_data.specs.Records.{record_writer}
 use Rattle.world_data.specs.declared.worlds.Change.{Change}
-use Rattle.fence_model.specs.Writes.{Write, dels}
+use Rattle.world_data.specs.Expiry.{in_turn}
+use Rattle.world_data.specs.declared.channels.Channel.{Channel}
+use Rattle.fence_model.specs.Writes.{Write, going}
 use Rattle.world_model.specs.Halls.{Hall}
 use Rattle.world_model.specs.declared.events.Event.{Event}
 use Rattle.log_record.specs.Batches.{records_text}
@@ -37,6 +39,10 @@ pub record ArePushed (writes : List Write) (old new : Bytes) : Type 0 where
   pub text : new ≡ old ++ records_text (changes_of writes)
   pub recorded : AllByRecursion IsRecorded (changes_of writes)
 
+-- with the records of the writes that are left appended behind, those of all are appended to the text that was there
+abbrev pub ArePushedUpTo : List Write → List Write → Bytes → Bytes → Type 0
+ArePushedUpTo all left old now = (new : Bytes) → ArePushed left now new → ArePushed all old new
+
 -- what is put is read back from its record
 abbrev pub CanRecord : Planned → Type 0
 CanRecord (Objects p) = HoldsOfPut IsAccepted p.action
@@ -51,6 +57,6 @@ abbrev pub writes_if : Option Planned → List Write
 writes_if None = []
 writes_if (Some p) = planned_writes p
 
--- the writes of what was made ready: the dels of what is due, and what is planned
-abbrev pub ready_writes : Ready → List Write
-ready_writes r = dels r.gone.held.items ++ writes_if r.planned
+-- the writes of what was made ready, where these channels are out: what goes by its deadline, and what is planned
+abbrev pub ready_writes : List Channel → Ready → List Write
+ready_writes out r = map going (in_turn r.gone.held.items out) ++ writes_if r.planned

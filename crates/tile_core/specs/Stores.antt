@@ -9,15 +9,19 @@ use Rattle.keyspace.specs.Entries.{objects_in}
 use Rattle.session_table.specs.Sessions.{State, session_of}
 use Rattle.session_table.specs.Fans.{AreBare}
 use Rattle.tile_core.specs.declared.stores.Store.{Store}
+use Rattle.tile_core.specs.declared.stores.Sums.{Sums}
 use Rattle.object_plans.specs.Moves.{world_with}
 use Rattle.channel_plans.specs.Planned.{IsRecordedChannel}
 use Rattle.object_plans.specs.Beside.{channels_weight}
 use Rattle.object_plans.specs.Kept.{AreKept, most_kept}
-use Rattle.tile_core.specs.Dues.{AreDueFrom}
+use Rattle.tile_core.specs.Dues.{AreChannelsDueFrom, AreDueFrom}
 use Rattle.tile_core.specs.Sessions.{Rises}
 
 abbrev pub world_at : Store → World
 world_at s = world_with s.hub.channels (objects_in s.objects)
+
+abbrev pub sums_of : Store → Sums
+sums_of s = record { weight = s.weight; due_from = s.due_from; channel_weight = s.channel_weight; channels_due_from = s.channels_due_from }
 
 -- objects in order whose texts have their shapes, sound channels that are read back from their records, their weights at hand and not too much
 -- together, and no deadline before the moment from which one may be due
@@ -28,6 +32,7 @@ pub record IsStore (s : Store) : Type 0 where
   pub weighed : s.channel_weight ≡ channels_weight s.hub.channels
   pub light : s.weight + s.channel_weight ≤ most_kept
   pub due_from : AreDueFrom s.due_from (objects_in s.objects)
+  pub channels_due_from : AreChannelsDueFrom s.channels_due_from s.hub.channels
 
 -- the hall of these parts; no log can fail so far, so it never stops
 abbrev pub hall_of : Store → ℕ → ℕ → ℕ → List State → Hall

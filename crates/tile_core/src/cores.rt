@@ -21,8 +21,7 @@ ghost use Rattle.object_plans.specs.Moves.{IsAccepted};
 ghost use Rattle.tile_core.specs.RecordSinks.{IsRecordedBy};
 ghost use Rattle.tile_core.specs.Answered.{MayCall, MayTake, IsAnswered, AreSessions, StayNamed};
 
-use crate::dues::release;
-use crate::finish::complete;
+use crate::finish::{complete, let_go};
 use crate::ready::{make_ready, make_tick_ready};
 use crate::record_sinks::RecordSink;
 use crate::sessions::{position_of, served};
@@ -156,12 +155,12 @@ impl Core {
         Taken::Ended
     }
 
-    /// Makes a call of a session at a moment: the objects that are due then are deleted, what is asked is done, and its
-    /// reply is put last in the session's queue; each session that listens is told of what changed. A session whose
-    /// queue has no room for what comes for it is cut: it keeps the frames that it has, and is served no more. A broken
-    /// protocol, as QUIT, lets the session end behind the reply. The records of all that it changes go to the ledger
-    /// before anything is changed. For want of memory the core is as before. Each session that it changes is named in
-    /// `touched`, beside those that are named there.
+    /// Makes a call of a session at a moment: what is due then is deleted, what is asked is done, and its reply is put
+    /// last in the session's queue; each session that listens is told of what changed. A session whose queue has no
+    /// room for what comes for it is cut: it keeps the frames that it has, and is served no more. A broken protocol, as
+    /// QUIT, lets the session end behind the reply. The records of all that it changes go to the ledger before anything
+    /// is changed. For want of memory the core is as before. Each session that it changes is named in `touched`, beside
+    /// those that are named there.
     pub fn call<L: RecordSink>(
         &mut self,
         session: u32,
@@ -214,9 +213,9 @@ impl Core {
         CallOutcome::Ok
     }
 
-    /// Lets the clock go on to a moment, and deletes the objects that are due then; each session that listens is told.
-    /// The records of their dels go to the ledger before. For want of memory the core is as before. Each session that
-    /// it changes is named, beside those that are named there.
+    /// Lets the clock go on to a moment, and deletes the objects and channels that are due then; each session that
+    /// listens is told of the objects. The records of all these deletions go to the ledger before. For want of memory
+    /// the core is as before. Each session that it changes is named, beside those that are named there.
     pub fn tick<L: RecordSink>(
         &mut self,
         moment: u64,
@@ -255,7 +254,7 @@ impl Core {
         place_staged(&mut self.sessions);
         self.clock = now;
         self.logged += ready.gone.length;
-        release(&mut self.store.objects, ready.gone.held);
+        let_go(&mut self.store, ready.gone.held);
         CallOutcome::Ok
     }
 

@@ -3,7 +3,7 @@
 //!
 //! Expired objects are deleted, not hidden: each by a change of its own, with its record, in order of deadline, key and
 //! id, before the command is looked at. No deadline is looked for where none can have come: the core keeps a moment
-//! until which nothing is due.
+//! until which no object is due.
 
 ghost use Rattle.std.specs.Prelude.{◌≡◌, ◌≢◌, ◌≤◌, ◌<◌, ◌+◌, ◌^◌, [], true, false, filter, length, IfOk, Ok, OnErr};
 ghost use Rattle.world_data.specs.Expiry.{is_due};
@@ -12,7 +12,7 @@ ghost use Rattle.keyspace.specs.Entries.{objects_in};
 ghost use Rattle.object_plans.specs.Kept.{AreKept, most_kept};
 ghost use Rattle.object_plans.specs.Moves.{world_of};
 ghost use Rattle.record_writer.specs.Lengths.{HaveFewFields};
-ghost use Rattle.tile_core.specs.Dues.{IsDueFrom, AreDueFrom, HaveRoom, IsTaken, IsTakenOut, IsExpired, with_back};
+ghost use Rattle.tile_core.specs.Dues.{IsNotBefore, AreDueFrom, HaveRoom, IsTaken, IsTakenOut, IsExpired, with_back};
 
 use byte_text::NoMemory;
 use keyspace::Keyspace;
@@ -119,12 +119,12 @@ fn take_due(
     }
 }
 
-/// The earlier of a moment and the deadline of an object.
-pub(crate) fn earlier(due_from: u64, object: &Object) -> u64
+/// The earlier of a moment and a deadline, where there is one.
+pub(crate) fn earlier(due_from: u64, deadline: Option<u64>) -> u64
     ensures least { result ≤ due_from }
-    ensures due_from { IsDueFrom result object.now }
+    ensures due_from { IsNotBefore result deadline }
 {
-    match object.deadline {
+    match deadline {
         Some(deadline) => due_from.min(deadline),
         None => due_from,
     }

@@ -8,22 +8,22 @@ ghost use Rattle.keyspace.specs.Entries.{objects_in};
 ghost use Rattle.delivery_model.specs.Staging.{after_all};
 ghost use Rattle.session_table.specs.Sessions.{AreReplies, AreSoundSubs, session_of};
 ghost use Rattle.session_table.specs.Fans.{AreBare};
-ghost use Rattle.tile_core.specs.Dues.{IsDueFrom};
+ghost use Rattle.tile_core.specs.Dues.{IsChannelDueFrom, IsDueFrom};
 ghost use Rattle.object_plans.specs.Moves.{HasRoom, HoldsOfPut, moved};
 ghost use Rattle.channel_plans.specs.Planned.{IsPlanned, channels_moved, without_names};
 ghost use Rattle.object_plans.specs.Beside.{channels_left, weight_left};
-ghost use Rattle.tile_core.specs.Ready.{CanComplete, HasRoomFor, IsCompleted, IsDoneIf, IsPreparedFor, IsSoundAnswer};
-ghost use Rattle.tile_core.specs.Ready.{ending_if, length_if, planned_length, planned_writes, replied, reply_frames};
+ghost use Rattle.tile_core.specs.Ready.{CanComplete, HasRoomFor, HoldsOfSet, IsCompleted, IsDoneIf, IsPreparedFor};
+ghost use Rattle.tile_core.specs.Ready.{IsSoundAnswer, ending_if, length_if, planned_length, planned_writes, replied, reply_frames};
 ghost use Rattle.tile_core.specs.Stores.{IsStore, world_at};
 
 use crate::dues::release;
-use crate::moves::{due_from_after, make_move};
+use crate::moves::{channels_due_from_after, due_from_after, make_move};
 use crate::ready::Ready;
 use crate::stores::Store;
 use channel_hub::Hub;
 use command_plans::{ChannelChange, ChannelPlan, Confirmed, ObjectChange, Plan, Planned};
 use session_table::{Session, place_staged};
-use world_model::NameList;
+use world_model::{NameList, Object};
 
 // Takes out the channels of these names.
 fn drop_channels(hub: &mut Hub, names: &NameList)
@@ -58,6 +58,7 @@ fn finish_objects(store: &mut Store, caller: &mut Session, plan: Plan)
     ensures weight { store.new.weight ≡ plan.weight }
     ensures least { store.new.due_from ≤ store.old.due_from }
     ensures put { HoldsOfPut (IsDueFrom store.new.due_from) plan.action }
+    ensures channels_due_from { store.new.channels_due_from ≡ store.old.channels_due_from }
     ensures channel_weight { store.new.channel_weight ≡ weight_left plan.action store.old.channel_weight }
     ensures caller { session_of caller.new ≡ ending_if plan.closes (placed plan.frame (session_of caller.old)) }
     ensures staged { caller.new.mail.staged ≡ caller.old.mail.staged }
@@ -80,11 +81,18 @@ fn finish_channels(store: &mut Store, caller: &mut Session, plan: ChannelPlan)
     requires room { IsPreparedFor store.old.hub plan.action }
     requires replies { AreReplies (plan.frame ∷ []) caller.old }
     requires bare { caller.old.mail.staged ≡ [] }
-    ensures rest { store.new ≡ record store.old { hub = store.new.hub; channel_weight = plan.weight } }
+    ensures rest { store.new ≡ record store.old {
+      hub = store.new.hub;
+      channel_weight = plan.weight;
+      channels_due_from = store.new.channels_due_from;
+    } }
+    ensures least { store.new.channels_due_from ≤ store.old.channels_due_from }
+    ensures set { HoldsOfSet (IsChannelDueFrom store.new.channels_due_from) plan.action }
     ensures channels { store.new.hub.channels ≡ channels_moved plan.action store.old.hub.channels }
     ensures caller { session_of caller.new ≡ placed plan.frame (session_of caller.old) }
     ensures staged { caller.new.mail.staged ≡ caller.old.mail.staged }
 {
+    store.channels_due_from = channels_due_from_after(store.channels_due_from, &plan.action);
     store.channel_weight = plan.weight;
     move_channels(&mut store.hub, plan.action);
     caller.place_replies();
@@ -155,6 +163,16 @@ fn finish_planned(
     }
 }
 
+/// Lets all go that was taken out.
+pub(crate) fn let_go(store: &mut Store, held: Vec<Object>)
+    ensures objects { objects_in store.new.objects ≡ objects_in store.old.objects }
+    ensures channels { store.new.hub.channels ≡ store.old.hub.channels }
+    ensures rest { store.new ≡ record store.old { objects = store.new.objects; hub = store.new.hub } }
+{
+    release(&mut store.objects, held);
+    store.hub.let_go();
+}
+
 /// Places all that is staged, does what was made ready, and answers the session at the place. It takes no memory. The
 /// bytes of the records of all changes are answered.
 pub(crate) fn complete(
@@ -173,6 +191,7 @@ pub(crate) fn complete(
     let Ready { gone, planned } = ready;
     let length = finish_planned(store, sessions, at, planned);
     // Only now, since a key that has no object left may be that of the object that is put.
-    release(&mut store.objects, gone.held);
-    gone.length + length
+    let gone_length = gone.length;
+    let_go(store, gone.held);
+    gone_length + length
 }

@@ -2,6 +2,7 @@
 //! machine.
 #![tactic(auto)]
 
+mod channel_dues;
 mod cores;
 mod dues;
 mod finish;

@@ -3,12 +3,13 @@
 ghost use Rattle.std.specs.Prelude.{◌≡◌, ◌<◌, ◌≤◌, ◌^◌, length, OnOk};
 ghost use Rattle.byte_text.specs.Names.{Bytes};
 ghost use Rattle.keyspace.specs.Entries.{objects_in, room_for};
-ghost use Rattle.tile_core.specs.Dues.{IsDueFrom};
+ghost use Rattle.tile_core.specs.Dues.{IsChannelDueFrom, IsDueFrom};
+ghost use Rattle.tile_core.specs.Ready.{HoldsOfSet};
 ghost use Rattle.object_plans.specs.Moves.{HasRoom, HoldsOfPut, moved, without_each};
 
 use crate::dues::earlier;
 use byte_text::{Name, NoMemory};
-use command_plans::ObjectChange;
+use command_plans::{ChannelChange, ObjectChange};
 use keyspace::Keyspace;
 use rtree::{Steps, Visits};
 use world_model::NameList;
@@ -65,7 +66,18 @@ pub(crate) fn due_from_after(due_from: u64, action: &ObjectChange) -> u64
     ensures put { HoldsOfPut (IsDueFrom result) action.now }
 {
     match action {
-        ObjectChange::Put(object) => earlier(due_from, object),
+        ObjectChange::Put(object) => earlier(due_from, object.deadline),
         _ => due_from,
+    }
+}
+
+/// No deadline comes before this moment after what is done to channels of which none came before `due_from`.
+pub(crate) fn channels_due_from_after(due_from: u64, action: &ChannelChange) -> u64
+    ensures least { result ≤ due_from }
+    ensures set { HoldsOfSet (IsChannelDueFrom result) action.now }
+{
+    match action {
+        ChannelChange::Set(channel) => earlier(due_from, channel.deadline),
+        ChannelChange::Drop(_) => due_from,
     }
 }

@@ -2,60 +2,126 @@
 //! messages that it brings staged; then the records of all of it go to a ledger. Where that cannot be, all is as
 //! before.
 
-ghost use Rattle.std.specs.Prelude.{◌≡◌, ◌⊎◌, ◌≤◌, ◌<◌, ◌+◌, ◌++◌, ◌^◌, map, length, IfOk, OnErr, OnOk};
+ghost use Rattle.std.specs.Prelude.{◌≡◌, ◌⊎◌, ◌≤◌, ◌<◌, ◌+◌, ◌++◌, ◌^◌, true, map, length, IfOk, OnErr, OnOk};
+ghost use Rattle.std.specs.List.{list_all};
+ghost use Rattle.world_data.specs.Expiry.{deadline_of};
 ghost use Rattle.world_data.specs.Limits.{max_moment};
-ghost use Rattle.fence_model.specs.Writes.{dels};
+ghost use Rattle.world_data.specs.Sound.{is_sound_channel};
 ghost use Rattle.keyspace.specs.Entries.{objects_in};
 ghost use Rattle.session_table.specs.Sessions.{session_of};
 ghost use Rattle.session_table.specs.Fans.{AreBare};
-ghost use Rattle.tile_core.specs.Dues.{HaveRoom};
-ghost use Rattle.tile_core.specs.RecordSinks.{AreTaken, CanRecordIf, ready_writes};
+ghost use Rattle.object_plans.specs.Beside.{channels_weight};
+ghost use Rattle.object_plans.specs.Kept.{most_kept};
+ghost use Rattle.tile_core.specs.Dues.{AreChannelsDueFrom, AreOut, HaveRoom};
+ghost use Rattle.tile_core.specs.Orders.{Rise};
+ghost use Rattle.tile_core.specs.RecordSinks.{AreTaken, CanRecordIf, ready_writes, writes_if};
 ghost use Rattle.tile_core.specs.Ready.{HasRoomFor, IsAsBefore, IsDueTaken, IsPlannedBehind, IsReady, IsRestBehind};
-ghost use Rattle.tile_core.specs.Ready.{IsRoomier, IsUndone, reply_frames};
+ghost use Rattle.tile_core.specs.Ready.{IsRoomier, IsUndone, dues, reply_frames};
+ghost use Rattle.tile_core.specs.Staged.{AreStagedEach};
 ghost use Rattle.tile_core.specs.Stores.{IsStore};
 
+use crate::channel_dues::{ExpiredChannels, expire_channels};
 use crate::dues::{Expired, expire, put_back};
 use crate::moves::make_room;
 use crate::record_sinks::RecordSink;
 use crate::records::record_ready;
 use crate::staging::{stage_dels, stage_planned};
-use crate::stores::Store;
+use crate::stores::{Store, Sums};
 use byte_text::{NoMemory, Text};
 use command_plans::{ChannelChange, Context, Planned, plan_asked};
+use message_fanout::turn_laws;
 use session_table::{Session, unstage};
 use std::alloc::Global;
-use world_model::Asked;
+use world_model::{Asked, Object};
+
+/// What is due and was taken out. Its channels are out in the hub.
+#[derive(Drop)]
+pub(crate) struct Gone {
+    /// The objects, in the order in which they expire.
+    pub(crate) held: Vec<Object>,
+    /// The bytes of the records of the deletions of objects and channels.
+    pub(crate) length: u64,
+}
 
 /// What was taken out, and what is to be done after that, but where its session is cut by what is due.
 #[derive(Drop)]
 pub(crate) struct Ready {
-    pub(crate) gone: Expired,
+    pub(crate) gone: Gone,
     pub(crate) planned: Option<Planned>,
 }
 
-// Takes out what is due, and stages what its dels bring. For want of memory the world is as before, and a part may be
+// Stages what the dels of objects by their deadlines bring, and then takes the channels out that are due. For want of
+// memory the channels are as before, and a part may be staged.
+fn take_out_channels(
+    alloc: Global,
+    store: &mut Store,
+    held: &[Object],
+    sessions: &mut Vec<Session>,
+    now: u64,
+) -> Result<ExpiredChannels, NoMemory>
+    requires sound { list_all is_sound_channel store.old.hub.channels ≡ true }
+    requires light { store.old.channel_weight ≤ most_kept }
+    requires weighed { store.old.channel_weight ≡ channels_weight store.old.hub.channels }
+    requires due_from { AreChannelsDueFrom store.old.channels_due_from store.old.hub.channels }
+    ensures out { IfOk result (AreOut store.old.hub now store.old.channel_weight store.new.hub) }
+    ensures staged { OnOk result
+        (AreStagedEach store.old.hub.channels held.now sessions.old.items sessions.new.items) }
+    ensures rest { store.new ≡ record store.old { hub = store.new.hub; steps = store.new.steps } }
+    ensures same { map session_of sessions.new.items ≡ map session_of sessions.old.items }
+    ensures err { OnErr result (store.new.hub.channels ≡ store.old.hub.channels) }
+{
+    stage_dels(alloc, &store.hub, held, sessions, &mut store.steps)?;
+    expire_channels(
+        alloc,
+        &mut store.hub,
+        store.channel_weight,
+        store.channels_due_from,
+        now,
+    )
+}
+
+// Notes what was taken out of a store.
+fn note_gone(store: &mut Store, objects: Expired, channels: ExpiredChannels) -> Gone
+    requires { objects.length + channels.length < 2 ^ 64 }
+    ensures store { store.new ≡ record store.old {
+      weight = objects.weight;
+      due_from = objects.due_from;
+      channel_weight = channels.weight;
+      channels_due_from = channels.due_from;
+    } }
+    ensures held { result.held ≡ objects.held }
+    ensures length { result.length ≡ objects.length + channels.length }
+{
+    store.weight = objects.weight;
+    store.due_from = objects.due_from;
+    store.channel_weight = channels.weight;
+    store.channels_due_from = channels.due_from;
+    Gone {
+        length: objects.length + channels.length,
+        held: objects.held,
+    }
+}
+
+// Takes out what is due, and stages what that brings. For want of memory the world is as before, and a part may be
 // staged.
 fn take_out_due(
     alloc: Global,
     store: &mut Store,
     sessions: &mut Vec<Session>,
     now: u64,
-) -> Result<Expired, NoMemory>
+) -> Result<Gone, NoMemory>
     requires kept { IsStore store.old }
     requires bare { AreBare sessions.old.items }
     ensures taken { IfOk result (λ g. IsDueTaken store.old now store.new g sessions.new.items) }
     ensures room { IfOk result (λ g. HaveRoom store.new.objects g.held.items) }
-    ensures rest { IfOk result (λ g. store.new
-        ≡ record store.old {
-          objects = store.new.objects;
-          weight = g.weight;
-          due_from = g.due_from;
-          steps = store.new.steps;
-        }) }
     ensures same { map session_of sessions.new.items ≡ map session_of sessions.old.items }
     ensures err { OnErr result (IsAsBefore store.old store.new) }
 {
-    let gone = expire(
+    // A law, of which nothing is left at run time.
+    turn_laws();
+    // What is counted stands in order.
+    let _count = store.hub.len();
+    let objects = expire(
         alloc,
         &mut store.objects,
         store.weight,
@@ -63,20 +129,10 @@ fn take_out_due(
         now,
         &mut store.steps,
     )?;
-    match stage_dels(
-        alloc,
-        &store.hub,
-        gone.held.as_slice(),
-        sessions,
-        &mut store.steps,
-    ) {
-        Ok(()) => {
-            store.weight = gone.weight;
-            store.due_from = gone.due_from;
-            Ok(gone)
-        }
+    match take_out_channels(alloc, store, objects.held.as_slice(), sessions, now) {
+        Ok(channels) => Ok(note_gone(store, objects, channels)),
         Err(NoMemory) => {
-            put_back(&mut store.objects, gone.held, &mut store.steps);
+            put_back(&mut store.objects, objects.held, &mut store.steps);
             Err(NoMemory)
         }
     }
@@ -189,47 +245,51 @@ fn plan_rest(
     }
 }
 
-// Puts back what was taken out of a store of this weight, in which nothing was due before this moment.
-fn undo(store: &mut Store, gone: Expired, weight: u64, due_from: u64)
-    requires room { HaveRoom store.old.objects gone.held.items }
-    requires few { length (objects_in store.old.objects) + length gone.held.items < 2 ^ 32 }
-    ensures { IsUndone store.old gone.held.items weight due_from store.new }
+// Puts back what was taken out of a store, which had these sums before.
+fn undo(store: &mut Store, held: Vec<Object>, sums: Sums)
+    requires room { HaveRoom store.old.objects held.items }
+    requires few { length (objects_in store.old.objects) + length held.items < 2 ^ 32 }
+    ensures { IsUndone store.old held.items sums store.new }
 {
-    put_back(&mut store.objects, gone.held, &mut store.steps);
-    store.weight = weight;
-    store.due_from = due_from;
+    put_back(&mut store.objects, held, &mut store.steps);
+    store.hub.put_back();
+    store.weight = sums.weight;
+    store.due_from = sums.due_from;
+    store.channel_weight = sums.channel_weight;
+    store.channels_due_from = sums.channels_due_from;
 }
 
 // Hands the records of what was made ready to the ledger. For want of memory what is due is put back.
 fn record_or_undo<L: RecordSink>(
     alloc: Global,
     store: &mut Store,
-    weight: u64,
-    due_from: u64,
+    sums: Sums,
     ready: Ready,
     records: &mut Text,
     ledger: &mut L,
 ) -> Result<Ready, NoMemory>
     requires room { HaveRoom store.old.objects ready.gone.held.items }
     requires few { length (objects_in store.old.objects) + length ready.gone.held.items < 2 ^ 32 }
+    requires rise { Rise (λ c. deadline_of c.deadline) store.old.hub.taken }
     requires can { CanRecordIf ready.planned }
     ensures same { IfOk result (λ r. r ≡ ready) }
     ensures stays { OnOk result (store.new ≡ store.old) }
-    ensures recorded { OnOk result (AreTaken L.takes (ready_writes ready) ledger.old ledger.new) }
-    ensures undone { OnErr result (IsUndone store.old ready.gone.held.items weight due_from store.new) }
+    ensures recorded { OnOk result
+        (AreTaken L.takes (ready_writes store.old.hub.taken ready) ledger.old ledger.new) }
+    ensures undone { OnErr result (IsUndone store.old ready.gone.held.items sums store.new) }
     ensures unrecorded { OnErr result ((ledger.new ≡ ledger.old) ⊎ L.stays ledger.old ledger.new) }
 {
-    match record_ready(alloc, records, &ready, ledger) {
+    match record_ready(alloc, records, &store.hub, &ready, ledger) {
         Ok(()) => Ok(ready),
         Err(NoMemory) => {
-            undo(store, ready.gone, weight, due_from);
+            undo(store, ready.gone.held, sums);
             Err(NoMemory)
         }
     }
 }
 
-/// Makes a tick ready: takes out what is due, stages what its dels bring, and hands their records to the ledger. For
-/// want of memory the world is as before, and a part may be staged.
+/// Makes a tick ready: takes out what is due, stages what that brings, and hands its records to the ledger. For want of
+/// memory the world is as before, and a part may be staged.
 pub(crate) fn make_tick_ready<L: RecordSink>(
     alloc: Global,
     store: &mut Store,
@@ -241,24 +301,18 @@ pub(crate) fn make_tick_ready<L: RecordSink>(
     requires kept { IsStore store.old }
     requires bare { AreBare sessions.old.items }
     ensures taken { IfOk result (λ r. IsDueTaken store.old now store.new r.gone sessions.new.items) }
-    ensures rest { IfOk result (λ r. store.new
-        ≡ record store.old {
-          objects = store.new.objects;
-          weight = r.gone.weight;
-          due_from = r.gone.due_from;
-          steps = store.new.steps;
-        }) }
-    ensures recorded { IfOk result (λ r. AreTaken L.takes (dels r.gone.held.items) ledger.old ledger.new) }
+    ensures recorded { IfOk result (λ r. AreTaken L.takes (dues store.old now) ledger.old ledger.new) }
     ensures same { map session_of sessions.new.items ≡ map session_of sessions.old.items }
     ensures err { OnErr result (IsAsBefore store.old store.new) }
     ensures unrecorded { OnErr result ((ledger.new ≡ ledger.old) ⊎ L.stays ledger.old ledger.new) }
 {
-    let (weight, due_from) = (store.weight, store.due_from);
+    let sums = store.sums();
+    let gone = take_out_due(alloc, store, sessions, now)?;
     let ready = Ready {
-        gone: take_out_due(alloc, store, sessions, now)?,
+        gone,
         planned: None,
     };
-    record_or_undo(alloc, store, weight, due_from, ready, records, ledger)
+    record_or_undo(alloc, store, sums, ready, records, ledger)
 }
 
 // Makes a call of the session at a place ready, and hands its records to the ledger. For want of memory the world is as
@@ -278,20 +332,21 @@ fn make_ready_in_part<L: RecordSink>(
     requires at { at < length sessions.old.items }
     requires moment { now ≤ max_moment }
     ensures ready { IfOk result (λ r. IsReady store.old now asked.now at store.new sessions.new.items r) }
-    ensures recorded { IfOk result (λ r. AreTaken L.takes (ready_writes r) ledger.old ledger.new) }
+    ensures recorded { IfOk result (λ r.
+        AreTaken L.takes (dues store.old now ++ writes_if r.planned) ledger.old ledger.new) }
     ensures same { map session_of sessions.new.items ≡ map session_of sessions.old.items }
     ensures err { OnErr result (IsAsBefore store.old store.new) }
     ensures unrecorded { OnErr result ((ledger.new ≡ ledger.old) ⊎ L.stays ledger.old ledger.new) }
 {
-    let (weight, due_from) = (store.weight, store.due_from);
+    let sums = store.sums();
     let gone = take_out_due(alloc, store, sessions, now)?;
     match plan_rest(alloc, store, sessions, at, now, asked) {
         Ok(planned) => {
             let ready = Ready { gone, planned };
-            record_or_undo(alloc, store, weight, due_from, ready, records, ledger)
+            record_or_undo(alloc, store, sums, ready, records, ledger)
         }
         Err(NoMemory) => {
-            undo(store, gone, weight, due_from);
+            undo(store, gone.held, sums);
             Err(NoMemory)
         }
     }
@@ -314,7 +369,8 @@ pub(crate) fn make_ready<L: RecordSink>(
     requires at { at < length sessions.old.items }
     requires moment { now ≤ max_moment }
     ensures ready { IfOk result (λ r. IsReady store.old now asked.now at store.new sessions.new.items r) }
-    ensures recorded { IfOk result (λ r. AreTaken L.takes (ready_writes r) ledger.old ledger.new) }
+    ensures recorded { IfOk result (λ r.
+        AreTaken L.takes (dues store.old now ++ writes_if r.planned) ledger.old ledger.new) }
     ensures same { map session_of sessions.new.items ≡ map session_of sessions.old.items }
     ensures err { OnErr result (IsAsBefore store.old store.new) }
     ensures unrecorded { OnErr result ((ledger.new ≡ ledger.old) ⊎ L.stays ledger.old ledger.new) }

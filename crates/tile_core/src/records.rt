@@ -1,10 +1,15 @@
 //! The records of what was made ready, handed to a ledger before anything is changed.
 
-ghost use Rattle.std.specs.Prelude.{◌≡◌, ◌⊎◌, ◌∷◌, [], Bool, OnErr, OnOk};
-ghost use Rattle.fence_model.specs.Writes.{dels, announced};
+ghost use Rattle.std.specs.Prelude.{◌≡◌, ◌⊎◌, ◌≤◌, ◌<◌, ◌+◌, ◌^◌, ◌∷◌, [], true, Bool, List, drop, length, map, IfOk};
+ghost use Rattle.std.specs.Prelude.{OnErr, OnOk};
+ghost use Rattle.world_data.specs.Expiry.{deadline_of, deletions, in_turn};
+ghost use Rattle.world_data.specs.declared.objects.Object.{Object as ObjectState};
+ghost use Rattle.fence_model.specs.Writes.{announced, going, silent};
 ghost use Rattle.world_data.specs.declared.worlds.Change.TheVariants as change;
 ghost use Rattle.log_record.specs.Words.{IsRecorded};
-ghost use Rattle.tile_core.specs.RecordSinks.{ArePushed, AreTaken, CanRecord, CanRecordIf, IsPushed, ready_writes};
+ghost use Rattle.tile_core.specs.Orders.{Rise, first_goes};
+ghost use Rattle.tile_core.specs.RecordSinks.{ArePushed, ArePushedUpTo, AreTaken, CanRecord, CanRecordIf, IsPushed};
+ghost use Rattle.tile_core.specs.RecordSinks.{ready_writes};
 ghost use Rattle.object_plans.specs.Moves.{HoldsOfPut, IsAccepted};
 ghost use Rattle.channel_plans.specs.Planned.{IsRecordedMove, channel_writes, dropped_of};
 ghost use Rattle.object_plans.specs.Plans.{writes_of};
@@ -14,6 +19,7 @@ ghost use Rattle.tile_core.specs.Staged.{dels_of};
 use crate::ready::Ready;
 use crate::record_sinks::RecordSink;
 use byte_text::{MAX_WORD, Name, NoMemory, Text};
+use channel_hub::{Candidates, Hub};
 use command_plans::{ChannelChange, ObjectChange, Planned};
 use record_reader::{MOST_FIELDS, changes_are_recorded};
 use record_writer::{push_del, push_delchan, push_drop, push_flush, push_put, push_setchan};
@@ -76,15 +82,74 @@ fn push_each(into: &mut Text, key: &Name, ids: &NameList) -> Result<(), NoMemory
     Ok(())
 }
 
-// Appends the records of the dels of objects.
-fn push_dels(into: &mut Text, held: &[Object]) -> Result<(), NoMemory>
-    ensures { OnOk result (ArePushed (dels held.now) into.old into.new) }
+// Appends the record of the deletion of a channel.
+fn push_deletion(into: &mut Text, channel: &Channel) -> Result<(), NoMemory>
+    ensures { OnOk result (ArePushed (silent (change.DelChan channel.now.name) ∷ []) into.old into.new) }
 {
-    for i in 0..held.len() {
-        let object = &held[i];
-        push_one(into, &object.key, &object.id)?;
+    // A law, of which nothing is left at run time.
+    changes_are_recorded();
+    push_delchan(into, &channel.name)
+}
+
+// Whether one of the channels stands at a place that goes before the object.
+fn goes_next(out: &Candidates<'_>, at: usize, object: &Object) -> bool
+    ensures value { result ≡ first_goes object.now (drop at out.now) }
+    ensures short { result ≡ true → at + 1 < 2 ^ 64 }
+{
+    if at >= out.len() {
+        return false;
+    }
+    out.at(at).deadline.unwrap_or(0) < object.deadline.unwrap_or(0)
+}
+
+// Appends the records of the deletions of the channels, from a place on, that go before an object, and answers the
+// place behind them.
+fn push_before(
+    into: &mut Text,
+    out: &Candidates<'_>,
+    at: usize,
+    object: &Object,
+) -> Result<usize, NoMemory>
+    requires rise { Rise (λ c. deadline_of c.deadline) out.now }
+    requires within { at ≤ length out.now }
+    ensures within { IfOk result (λ next. next ≤ length out.now) }
+    ensures pushed { IfOk result (λ next. (more : List ObjectState)
+        → ArePushedUpTo (map going (in_turn (object.now ∷ more) (drop at out.now)))
+        (announced (change.Del object.now.key object.now.id) ∷ map going (in_turn more (drop next out.now)))
+        into.old into.new) }
+{
+    let mut next = at;
+    while goes_next(out, next, object) {
+        push_deletion(into, out.at(next))?;
+        next += 1;
+    }
+    Ok(next)
+}
+
+// Appends the records of the deletions of the channels from a place on.
+fn push_rest(into: &mut Text, out: &Candidates<'_>, from: usize) -> Result<(), NoMemory>
+    requires { from ≤ length out.now }
+    ensures { OnOk result (ArePushed (map going (deletions (drop from out.now))) into.old into.new) }
+{
+    for i in from..out.len() {
+        push_deletion(into, out.at(i))?;
     }
     Ok(())
+}
+
+// Appends the records of the deletions of objects and channels, in turn.
+fn push_in_turn(into: &mut Text, held: &[Object], out: &Candidates<'_>) -> Result<(), NoMemory>
+    requires { Rise (λ c. deadline_of c.deadline) out.now }
+    ensures { OnOk result (ArePushed (map going (in_turn held.now out.now)) into.old into.new) }
+{
+    let mut at = 0;
+    for i in 0..held.len() {
+        let object = &held[i];
+        let next = push_before(into, out, at, object)?;
+        push_one(into, &object.key, &object.id)?;
+        at = next;
+    }
+    push_rest(into, out, at)
 }
 
 // Appends the records of a move of the objects, whether a put is told or not.
@@ -139,12 +204,14 @@ fn push_planned(into: &mut Text, planned: &Planned) -> Result<(), NoMemory>
     }
 }
 
-// Appends the records of what was made ready: of the dels of what is due, and of what is planned behind them.
-fn push_ready(into: &mut Text, ready: &Ready) -> Result<(), NoMemory>
-    requires { CanRecordIf ready.now.planned }
-    ensures { OnOk result (ArePushed (ready_writes ready.now) into.old into.new) }
+// Appends the records of what was made ready: of what goes by its deadline, and of what is planned behind that.
+fn push_ready(alloc: Global, into: &mut Text, hub: &Hub, ready: &Ready) -> Result<(), NoMemory>
+    requires rise { Rise (λ c. deadline_of c.deadline) hub.now.taken }
+    requires can { CanRecordIf ready.now.planned }
+    ensures { OnOk result (ArePushed (ready_writes hub.now.taken ready.now) into.old into.new) }
 {
-    push_dels(into, ready.gone.held.as_slice())?;
+    let out = hub.taken(alloc)?;
+    push_in_turn(into, ready.gone.held.as_slice(), &out)?;
     match &ready.planned {
         Some(planned) => push_planned(into, planned),
         None => Ok(()),
@@ -153,16 +220,19 @@ fn push_ready(into: &mut Text, ready: &Ready) -> Result<(), NoMemory>
 
 // Writes the records into a text in place of what it had, and hands them to the ledger.
 fn hand_over<L: RecordSink>(
+    alloc: Global,
     records: &mut Text,
+    hub: &Hub,
     ready: &Ready,
     ledger: &mut L,
 ) -> Result<(), NoMemory>
-    requires { CanRecordIf ready.now.planned }
-    ensures ok { OnOk result (AreTaken L.takes (ready_writes ready.now) ledger.old ledger.new) }
+    requires rise { Rise (λ c. deadline_of c.deadline) hub.now.taken }
+    requires can { CanRecordIf ready.now.planned }
+    ensures ok { OnOk result (AreTaken L.takes (ready_writes hub.now.taken ready.now) ledger.old ledger.new) }
     ensures err { OnErr result ((ledger.new ≡ ledger.old) ⊎ L.stays ledger.old ledger.new) }
 {
     records.truncate(0);
-    push_ready(records, ready)?;
+    push_ready(alloc, records, hub, ready)?;
     ledger.take(records.bytes())
 }
 
@@ -171,14 +241,16 @@ fn hand_over<L: RecordSink>(
 pub(crate) fn record_ready<L: RecordSink>(
     alloc: Global,
     records: &mut Text,
+    hub: &Hub,
     ready: &Ready,
     ledger: &mut L,
 ) -> Result<(), NoMemory>
-    requires { CanRecordIf ready.now.planned }
-    ensures ok { OnOk result (AreTaken L.takes (ready_writes ready.now) ledger.old ledger.new) }
+    requires rise { Rise (λ c. deadline_of c.deadline) hub.now.taken }
+    requires can { CanRecordIf ready.now.planned }
+    ensures ok { OnOk result (AreTaken L.takes (ready_writes hub.now.taken ready.now) ledger.old ledger.new) }
     ensures err { OnErr result ((ledger.new ≡ ledger.old) ⊎ L.stays ledger.old ledger.new) }
 {
-    let taken = hand_over(records, ready, ledger);
+    let taken = hand_over(alloc, records, hub, ready, ledger);
     if records.len() > KEPT_ROOM {
         *records = Text::new(alloc);
     }

@@ -9,15 +9,15 @@ ghost use Rattle.std.specs.Prelude.{◌≡◌, ◌∷◌, [], true, map, OnOk};
 ghost use Rattle.std.specs.List.{list_all};
 ghost use Rattle.world_data.specs.Sound.{is_sound_channel};
 ghost use Rattle.world_data.specs.declared.worlds.Change.TheVariants as change;
-ghost use Rattle.world_data.specs.declared.worlds.World.{World};
-ghost use Rattle.fence_model.specs.Writes.{announced, dels};
+ghost use Rattle.world_data.specs.Expiry.{deadline_of};
+ghost use Rattle.fence_model.specs.Writes.{announced};
 ghost use Rattle.keyspace.specs.Entries.{objects_in};
 ghost use Rattle.session_table.specs.Sessions.{session_of};
-ghost use Rattle.tile_core.specs.Dues.{AllStand};
+ghost use Rattle.message_fanout.specs.Stagings.{IsBeforeDel, IsStagedIn, those_left};
 ghost use Rattle.object_plans.specs.Moves.{AllThere, HaveAllThere, world_with};
 ghost use Rattle.object_plans.specs.Plans.{writes_of};
 ghost use Rattle.tile_core.specs.Ready.{HoldsOfObjects, planned_writes};
-ghost use Rattle.tile_core.specs.Staged.{StagesBehind, dels_of};
+ghost use Rattle.tile_core.specs.Staged.{AreStagedEach, StagesBehind, dels_of};
 
 use byte_text::{Name, NoMemory};
 use channel_hub::Hub;
@@ -29,7 +29,26 @@ use session_table::Session;
 use std::alloc::Global;
 use world_model::{NameList, Object};
 
-/// Stages what the dels of objects bring, one after another. For want of memory a part may be staged.
+// Stages what the del of an object by its deadline brings: channels whose deadlines come before it have gone then.
+fn stage_due(
+    alloc: Global,
+    hub: &Hub,
+    object: &Object,
+    sessions: &mut Vec<Session>,
+    steps: &mut Steps<Visits>,
+) -> Result<(), NoMemory>
+    requires { list_all is_sound_channel hub.now.channels ≡ true }
+    ensures same { map session_of sessions.new.items ≡ map session_of sessions.old.items }
+    ensures staged { OnOk result
+        (IsStagedIn (IsBeforeDel (those_left (deadline_of object.now.deadline) hub.now.channels) object.now)
+        (announced (change.Del object.now.key object.now.id)) sessions.old.items sessions.new.items) }
+{
+    let gone_before = object.deadline.unwrap_or(0);
+    stage_del(alloc, hub, sessions, object, gone_before, steps)
+}
+
+/// Stages what the dels of objects by their deadlines bring, one after another. For want of memory a part may be
+/// staged.
 pub(crate) fn stage_dels(
     alloc: Global,
     hub: &Hub,
@@ -39,11 +58,11 @@ pub(crate) fn stage_dels(
 ) -> Result<(), NoMemory>
     requires { list_all is_sound_channel hub.now.channels ≡ true }
     ensures same { map session_of sessions.new.items ≡ map session_of sessions.old.items }
-    ensures staged { OnOk result ((w : World) → w.channels ≡ hub.now.channels → AllStand w held.now
-        → StagesBehind w (dels held.now) sessions.old.items sessions.new.items) }
+    ensures staged { OnOk result
+        (AreStagedEach hub.now.channels held.now sessions.old.items sessions.new.items) }
 {
     for i in 0..held.len() {
-        stage_del(alloc, hub, sessions, &held[i], steps)?;
+        stage_due(alloc, hub, &held[i], sessions, steps)?;
     }
     Ok(())
 }
@@ -66,7 +85,7 @@ fn stage_each(
 {
     for i in 0..ids.len() {
         if let Some(object) = objects.get(key, ids.at(i)) {
-            stage_del(alloc, hub, sessions, object, steps)?;
+            stage_del(alloc, hub, sessions, object, 0, steps)?;
         }
     }
     Ok(())
@@ -94,7 +113,7 @@ fn stage_one(
         return Ok(());
     }
     match objects.get(key, id) {
-        Some(object) => stage_del(alloc, hub, sessions, object, steps),
+        Some(object) => stage_del(alloc, hub, sessions, object, 0, steps),
         None => Ok(()),
     }
 }

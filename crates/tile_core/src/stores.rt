@@ -13,13 +13,24 @@ pub(crate) struct Store {
     pub(crate) objects: Keyspace,
     /// The bytes of the records of all objects.
     pub(crate) weight: u64,
-    /// No deadline comes before this moment, so that until then nothing is due.
+    /// No deadline of an object comes before this moment, so that until then none is due.
     pub(crate) due_from: u64,
     pub(crate) hub: Hub,
     /// The bytes of the records of all channels.
     pub(crate) channel_weight: u64,
+    /// No deadline of a channel comes before this moment.
+    pub(crate) channels_due_from: u64,
     /// Counts the nodes of trees that are visited.
     pub(crate) steps: Steps<Visits>,
+}
+
+/// The numbers that a store keeps of its objects and channels.
+#[derive(Clone, Copy)]
+pub(crate) struct Sums {
+    pub(crate) weight: u64,
+    pub(crate) due_from: u64,
+    pub(crate) channel_weight: u64,
+    pub(crate) channels_due_from: u64,
 }
 
 impl Drop for Store {
@@ -30,6 +41,7 @@ impl Drop for Store {
             due_from: _,
             hub: _,
             channel_weight: _,
+            channels_due_from: _,
             steps: _,
         } = self;
     }
@@ -41,7 +53,7 @@ impl Store {
     ghost use Rattle.world_data.specs.Sound.{IsSoundWorld};
     ghost use Rattle.world_data.specs.Worlds.{empty_world};
     ghost use Rattle.channel_plans.specs.Planned.{IsRecordedChannel};
-    ghost use Rattle.tile_core.specs.Stores.{IsStore, world_at};
+    ghost use Rattle.tile_core.specs.Stores.{IsStore, sums_of, world_at};
 
     /// The empty world.
     pub(crate) fn new(alloc: Global) -> Store
@@ -54,7 +66,20 @@ impl Store {
             due_from: u64::MAX,
             hub: Hub::new(alloc),
             channel_weight: 0,
+            channels_due_from: u64::MAX,
             steps: Steps::new(Visits::new()),
+        }
+    }
+
+    /// Its numbers.
+    pub(crate) fn sums(&self) -> Sums
+        ensures { result ≡ sums_of self.now }
+    {
+        Sums {
+            weight: self.weight,
+            due_from: self.due_from,
+            channel_weight: self.channel_weight,
+            channels_due_from: self.channels_due_from,
         }
     }
 
@@ -85,6 +110,7 @@ impl Store {
             due_from,
             hub,
             channel_weight,
+            channels_due_from: due_from,
             steps: Steps::new(Visits::new()),
         })
     }

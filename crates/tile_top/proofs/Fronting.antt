@@ -33,7 +33,7 @@ use Rattle.replay_run.specs.Undone.{halt_at}
 use Rattle.replay_run.specs.HaltLaws.{unspent_at, damaged_at}
 use Rattle.replay_run.specs.declared.halts.Halt.{Halt}
 use Rattle.replay_run.specs.declared.halts.Halt.TheVariants as halted
-use Rattle.tile_top.specs.Tops.{check_line}
+use Rattle.tile_top.specs.Tops.{IsHaltEnd, check_line}
 use Rattle.tile_top.specs.Fronts.{EndsBehind, Fronts, IsCounted, IsDue, IsFirst, IsLeft, IsRetired, IsSettled, ServesFront}
 
 -- what is told of an opening that failed
@@ -49,6 +49,10 @@ damaged_as seen why h is of side place e s told = of s told side place (damaged_
 pub end_as : (held mid held' : Option Bytes) (at : ℕ) (text line : Bytes) (status status' : ℕ) → mid ≡ held' → text ≡ line → status ≡ status' → IsEnd held mid at text status → IsEnd held held' at line status'
 end_as held mid held' at text line status status' m t s e =
     subst (λ (z : Option Bytes). IsEnd held z at line status') m (subst (λ (z : Bytes). IsEnd held mid at z status') t (subst (λ (z : ℕ). IsEnd held mid at text z) s e))
+
+pub halt_as : (halt : Halt) (held mid held' : Option Bytes) (status status' : ℕ) → mid ≡ held' → status ≡ status' → IsHaltEnd halt held mid status → IsHaltEnd halt held held' status'
+halt_as halt held mid held' status status' there at e =
+    subst (λ (n : ℕ). IsHaltEnd halt held held' n) at (subst (λ (m : Option Bytes). IsHaltEnd halt held m status) there e)
 
 pub checked_line : {E : Type 0} (w : World) (objects channels generation : ℕ) (r : Result Bytes E) (text : Bytes) → r ≡ Ok text
     → IfOk r (λ t. t ≡ codes "objects " ++ decimal objects ++ codes " channels " ++ decimal channels ++ codes " generation " ++ decimal generation ++ codes "\n")

@@ -1,3 +1,4 @@
 pub mod Tops
 pub mod Checks
 pub mod Fronts
+pub mod Backtests

@@ -6,8 +6,6 @@ use Rattle.outside.specs.Sides.{Sides}
 use Rattle.outside.specs.declared.sides.Side.{Side}
 use Rattle.outside.specs.declared.sides.Side.TheVariants.{A, B}
 use Rattle.world_data.specs.declared.worlds.World.{World}
-use Rattle.world_model.specs.declared.events.CallOutcome.TheVariants as called
-use Rattle.world_model.specs.declared.events.Event.TheVariants as event
 use Rattle.serve_run.specs.Ends.{IsEnd, disk_line, memory_line, spent_line}
 use Rattle.replay_run.specs.Traces.{Deed}
 use Rattle.replay_run.specs.Played.{Played}
@@ -21,7 +19,7 @@ use Rattle.replay_run.specs.declared.halts.Halt.TheVariants as halted
 
 -- the last lines
 abbrev pub usage_line : Bytes
-usage_line = codes "usage: tile_server replay | check | load N SEED | serve ADDR [--sessions N]\n"
+usage_line = codes "usage: tile_server replay | check | load N SEED | serve ADDR [--sessions N] | backtest\n"
 
 abbrev pub script_line : ℕ → Bytes
 script_line number = codes "script fault at line " ++ decimal number ++ codes "\n"

@@ -10,7 +10,8 @@ use replay_run::{Halt, ReplayEnd};
 use serve_run::{DISK_FAULT, OUT_OF_MEMORY, SPENT, end};
 use std::alloc::Global;
 
-const READ_FAULT: &[u8] = b"read fault\n";
+/// The last line of status 3.
+pub(crate) const READ_FAULT: &[u8] = b"read fault\n";
 
 // The line of a script whose line of this number is none.
 fn script_text(alloc: Global, number: u64) -> Result<Text, NoMemory>

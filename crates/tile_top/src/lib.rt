@@ -1,6 +1,7 @@
 //! The program, as one call over the things outside.
 #![tactic(auto)]
 
+mod backtests;
 mod checks;
 mod halt_ends;
 mod loads;

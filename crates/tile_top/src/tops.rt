@@ -16,9 +16,11 @@ ghost use Rattle.replay_run.specs.Checks.{IsLookedAt};
 ghost use Rattle.shared_hall.specs.Cores.{tells};
 ghost use Rattle.shared_hall.specs.Seats.{knows_of};
 ghost use Rattle.tile_top.specs.Tops.{IsReplay, IsCheck, Replays, usage_line};
+ghost use Rattle.tile_top.specs.Backtests.{Backtests, IsBacktest, IsReadAlone};
 ghost use Rattle.tile_top.specs.Checks.{Checks};
 ghost use Rattle.tile_top.specs.Fronts.{Fronts, IsCounted, IsDue, IsLeft};
 
+use crate::backtests::backtest_disk;
 use crate::checks::check_disk;
 use crate::loads::load_core;
 use crate::replays::{Scripted, replay_script};
@@ -32,13 +34,13 @@ use std::sync::Wait;
 use std::thread::Threads;
 
 const USAGE: &[u8] =
-    b"usage: tile_server replay | check | load N SEED | serve ADDR [--sessions N]\n";
+    b"usage: tile_server replay | check | load N SEED | serve ADDR [--sessions N] | backtest\n";
 
 /// How the program ended.
 #[derive(Drop)]
 pub struct Ended<D: Disk + Drop> {
     /// 0 done, 1 usage, 2 script fault, 3 read fault, 4 write fault, 5 disk fault, 6 damaged, 7 out of memory, 8 door
-    /// fault, 9 log at its greatest length.
+    /// fault, 9 log at its greatest length, 11 bad fence.
     pub status: u8,
     /// The disk; none where a shared hall does not give it out.
     pub disk: Option<D>,
@@ -87,17 +89,19 @@ pub fn out_of_memory<K: Sink, D: Disk + Drop>(sink: &mut K) -> Ended<D>
 /// the world of the disk, and writes its output to the sink. `check` opens the disk, and writes what it has. `serve
 /// ADDR`, which `--sessions N` may follow, opens the door at the address and serves callers on one shared hall of the
 /// disk's world, up to N of them, from 1 to 1,000,000,000, or up to an end. `load N SEED` drives a core of its own with
-/// the generated workload of N commands, from 1 to 1,000,000, and writes its summary. Every other list of words is
-/// answered by a line on the usage and status 1. Nothing is read but with `replay`, and the disk is left alone but with
-/// the first three.
+/// the generated workload of N commands, from 1 to 1,000,000, and writes its summary. `backtest` reads from the source
+/// which fence is asked for, and writes what it would have raised over the changes of the disk's log. Every other list
+/// of words is answered by a line on the usage and status 1. Nothing is read but with `replay` and `backtest`, and the
+/// disk is left alone but with all of these but `load`.
 ///
 /// Where a disk is opened. It begins with the world that the disk is recovered as, where it tells what it holds; else
 /// with some sound world. Status 6 comes exactly where its sides are damaged, and its line says where; 5 comes only
 /// where a call of the disk failed; 7 stands for want of memory alone. The disk is handed back. Where it was not
 /// opened, it is as the opening leaves it: where it tells what it holds, it reads as before, or as a log of the same
-/// world where memory wanted behind the reading, unless it failed while its first side was made; where it tells
-/// crashes, no crash leaves then what it might not have left before, but for a log without a batch where none had been
-/// begun.
+/// world where memory wanted behind the reading, unless it failed while its first side was made, or while a log of an
+/// older version was rewritten, of which each crash leaves a log of the same world; where it tells crashes, no crash
+/// leaves then what it might not have left before, but for a log without a batch where none had been begun, and one of
+/// the same world where the log was of an older version.
 ///
 /// With `replay`. Status 0: the source was read to its end, and the bytes written are the script's output. Status 2:
 /// this line is the first that is none of a script, and the bytes written are the whole output of the lines before it
@@ -137,6 +141,14 @@ pub fn out_of_memory<K: Sink, D: Disk + Drop>(sink: &mut K) -> Ended<D>
 /// Stopped, as at status 0, or is the only one that the seat has seen, the disk is handed back, and its count of
 /// faults is the one that the history ends with; where it was answered Ok, whatever a crash leaves of it is the world
 /// of all of that.
+///
+/// With `backtest`. Status 11 comes exactly where what the source had left is not the text of one request that reads as
+/// a SETCHAN with an area given in its words, or a NEARBY with POINT; the disk is then left alone. Status 0: the source
+/// was read to its end, and the bytes written are the report of that channel over the records of the disk's log, that
+/// of one thread, however the work was cut; and whatever a crash leaves of the disk is what it reads as. Status 3 comes
+/// only where the source failed, 5 where the disk failed, 6 where its sides are damaged, 7 stands for want of memory,
+/// and 4 comes only where the sink failed, with a beginning of what was due. At each status the disk reads as before:
+/// nothing is made of it, and no crash leaves then what it might not have left before.
 ///
 /// With `load`. Status 0: the bytes written are the four lines that N and SEED determine: what the sessions of the
 /// workload are given by the steps of a machine that begins with the empty world, and the number of objects in the end.
@@ -178,6 +190,12 @@ where
         (λ w logged generation answered. IfSome result.disk
         (λ d. IsLookedAt D.crashes D.seen D.images D.moment D.left_since disk d w logged generation answered))
         (K.held sink.old) (K.held sink.new) result.status }
+    ensures backtest { IsBacktest (map string_bytes words.now)
+        → Backtests (D.seen disk) (S.left source.old) (S.left source.new) (K.held sink.old) (K.held sink.new)
+        result.status }
+    ensures read_alone { IsBacktest (map string_bytes words.now)
+        → IfSome result.disk
+        (λ d. IsReadAlone D.crashes D.seen D.images D.moment D.left_since disk d result.status) }
     ensures serve { IfSome (serve_of (map string_bytes words.now)) (λ s. Fronts (D.seen disk)
         (λ halt. IfSome result.disk (λ d. IsBackAt D.crashes D.seen D.images D.moment D.left_since disk d halt))
         (C.told clock.now) s
@@ -192,11 +210,12 @@ where
     ensures load { IfSome (load_of (map string_bytes words.now))
         (λ w. Loads w (K.held sink.old) (K.held sink.new) result.status) }
     ensures usage { (IsReplay (map string_bytes words.now) → ⊥) → (IsCheck (map string_bytes words.now) → ⊥)
-        → serve_of (map string_bytes words.now) ≡ None → load_of (map string_bytes words.now) ≡ None
+        → (IsBacktest (map string_bytes words.now) → ⊥) → serve_of (map string_bytes words.now) ≡ None → load_of (map string_bytes words.now) ≡ None
         → IsEnd (K.held sink.old) (K.held sink.new) 1 usage_line result.status }
-    ensures unread { (IsReplay (map string_bytes words.now) → ⊥) → source.new ≡ source.old }
+    ensures unread { (IsReplay (map string_bytes words.now) → ⊥) → (IsBacktest (map string_bytes words.now) → ⊥)
+        → source.new ≡ source.old }
     ensures untouched { (IsReplay (map string_bytes words.now) → ⊥) → (IsCheck (map string_bytes words.now) → ⊥)
-        → serve_of (map string_bytes words.now) ≡ None → result.disk ≡ Some disk }
+        → (IsBacktest (map string_bytes words.now) → ⊥) → serve_of (map string_bytes words.now) ≡ None → result.disk ≡ Some disk }
     ensures handed { result.front ≡ None → is_some result.disk ≡ true }
     ensures apart { serve_of (map string_bytes words.now) ≡ None → (door.new ≡ door.old) × (spawner.new ≡ spawner.old) }
     ensures alone { serve_of (map string_bytes words.now) ≡ None → result.front ≡ None }
@@ -218,6 +237,10 @@ where
         }
         None if is_alone(words, "check") => {
             let scripted = check_disk(alloc, sink, disk);
+            without_hall(scripted.status, scripted.disk)
+        }
+        None if is_alone(words, "backtest") => {
+            let scripted = backtest_disk(rt, alloc, source, sink, disk);
             without_hall(scripted.status, scripted.disk)
         }
         None => match load_words(words) {

@@ -14,6 +14,7 @@ use Rattle.world_model.specs.declared.faults.WordFault.{WordFault}
 use Rattle.world_model.specs.declared.faults.WordFault.TheVariants as fault
 use Rattle.world_model.specs.declared.object_commands.Only.TheVariants.{Any}
 use Rattle.world_model.specs.declared.search_commands.AreaWords.TheVariants.{Given}
+use Rattle.world_data.specs.declared.values.Value.TheVariants.{Whole, Word}
 use Rattle.world_data.specs.declared.queries.Shown.TheVariants as shown
 use Rattle.world_data.specs.declared.queries.Rule.TheVariants.{InArea}
 use Rattle.world_data.specs.declared.channels.Kind.TheVariants.{Within}
@@ -35,7 +36,7 @@ pub record HoldsCommands : Type 0 where
       (Spot (pt (pos 2) (pos 1)) ∷ [])))
   pub fields : reads (line "SET k a field z 1 FIELD b 2 NX") ≡ Err (fault.WrongCount (codes "set"))
   pub fset : reads (line "FSET k a z 1 b 2 z 0")
-      ≡ Ok (command.Object (of_object.Fset (codes "k") (codes "a") ((codes "b", pos 2) ∷ []) (codes "z" ∷ [])))
+      ≡ Ok (command.Object (of_object.Fset (codes "k") (codes "a") ((codes "b", Whole (pos 2)) ∷ []) (codes "z" ∷ [])))
   pub unfinished : Refused "FSET k a z 1 b" (fault.WrongCount (codes "fset"))
   pub too_far : Refused "SET far b POINT 1000000001 0" (fault.Invalid (codes "1000000001"))
   pub fraction : Refused "SET fleet t POINT 33.5123 -112.2693" (fault.Fraction (codes "33.5123"))
@@ -62,3 +63,16 @@ pub record HoldsCommands : Type 0 where
   pub list_word : Refused "SETCHAN r WITHIN k DETECT enter,,exit" (fault.Invalid (codes "enter,,exit"))
   pub twice : Refused "SCAN k LIMIT 5 LIMIT 6" (fault.Invalid (codes "LIMIT"))
   pub behind_output : Refused "SCAN k IDS LIMIT 6" (fault.WrongCount (codes "scan"))
+  -- values of fields are numbers or texts
+  pub texts : reads (line "FSET k a z 007 b idle z 0")
+      ≡ Ok (command.Object (of_object.Fset (codes "k") (codes "a") ((codes "b", Word (codes "idle")) ∷ []) (codes "z" ∷ [])))
+  pub bound_and_text : Refused "SCAN k WHERE f 5 idle COUNT" (fault.Invalid (codes "idle"))
+  pub text_and_bound : Refused "SCAN k WHERE f idle 5 COUNT" (fault.Invalid (codes "5"))
+  pub endless_and_text : Refused "SCAN k WHERE f inf idle COUNT" (fault.Invalid (codes "idle"))
+  pub two_texts : Refused "SCAN k WHERE f idle busy COUNT" (fault.Invalid (codes "busy"))
+  pub half_test : Refused "SCAN k WHERE f idle" (fault.WrongCount (codes "scan"))
+  -- the seconds of a channel stand directly behind its name
+  pub late_seconds : Refused "SETCHAN z WITHIN k EX 5 FENCE BOUNDS 0 0 1 1" (fault.Invalid (codes "EX"))
+  pub seconds_twice : Refused "SETCHAN z EX 5 EX 5 WITHIN k FENCE BOUNDS 0 0 1 1" (fault.Invalid (codes "EX"))
+  pub no_seconds : Refused "SETCHAN z EX 0 WITHIN k FENCE BOUNDS 0 0 1 1" (fault.Invalid (codes "0"))
+  pub half_setting : Refused "SETCHAN z EX 5" (fault.WrongCount (codes "setchan"))

@@ -6,3 +6,5 @@ pub mod Areas
 pub mod Served
 pub mod LogTexts
 pub mod Workload
+pub mod Values
+pub mod Expiry

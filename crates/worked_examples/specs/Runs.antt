@@ -79,6 +79,21 @@ pub record HoldsRuns : Type 0 where
       ∷ asks 2 0 "SET k b EX 1 POINT 1 1" ∷ asks 2 0 "SET k a EX 1 POINT 2 2" ∷ Tick 999 ∷ Tick 1000 ∷ [])
       ≡ confirmed "z" ∷ on "z" "{\"command\":\"del\",\"hook\":\"z\",\"key\":\"k\",\"id\":\"a\"}" ∷
       on "z" "{\"command\":\"del\",\"hook\":\"z\",\"key\":\"k\",\"id\":\"b\"}" ∷ []
+  -- a channel goes before what is due later, silently, and hears nothing of it
+  pub channel_goes : waiting 1 (asks 1 0 "SUBSCRIBE z" ∷ asks 2 0 "SETCHAN z EX 1 WITHIN k FENCE DETECT inside BOUNDS 0 0 10 10"
+      ∷ asks 2 0 "SET k a EX 1 POINT 1 1" ∷ asks 2 0 "SET k b EX 2 POINT 1 1" ∷ Tick 2000 ∷ [])
+      ≡ confirmed "z"
+      ∷ on "z" "{\"command\":\"set\",\"detect\":\"inside\",\"hook\":\"z\",\"key\":\"k\",\"id\":\"a\",\"object\":{\"type\":\"Point\",\"coordinates\":[1,1]}}"
+      ∷ on "z" "{\"command\":\"set\",\"detect\":\"inside\",\"hook\":\"z\",\"key\":\"k\",\"id\":\"b\",\"object\":{\"type\":\"Point\",\"coordinates\":[1,1]}}"
+      ∷ on "z" "{\"command\":\"del\",\"hook\":\"z\",\"key\":\"k\",\"id\":\"a\"}" ∷ []
+  -- its deadline stands in no words, and a setting without EX has none
+  pub channel_stays : replies 1 ("SETCHAN z EX 1 WITHIN k FENCE BOUNDS 0 0 1 1" ∷ "CHANS *" ∷ "SETCHAN z WITHIN k FENCE BOUNDS 0 0 1 1" ∷ [])
+      ≡ codes ":1\r\n" ∷
+      codes "*1\r\n*3\r\n$1\r\nz\r\n$1\r\nk\r\n*8\r\n$6\r\nWITHIN\r\n$1\r\nk\r\n$5\r\nFENCE\r\n$6\r\nBOUNDS\r\n$1\r\n0\r\n$1\r\n0\r\n$1\r\n1\r\n$1\r\n1\r\n"
+      ∷ codes ":1\r\n" ∷ []
+  pub channel_set_anew : waiting 1 (asks 1 0 "SETCHAN z EX 1 WITHIN k FENCE BOUNDS 0 0 1 1" ∷ asks 1 999 "SETCHAN z WITHIN k FENCE BOUNDS 0 0 1 1" ∷
+      asks 1 1000 "PDELCHAN *" ∷ asks 1 1000 "SETCHAN z EX 1 WITHIN k FENCE BOUNDS 0 0 1 1" ∷ asks 1 2000 "PDELCHAN *" ∷ [])
+      ≡ codes ":1\r\n" ∷ codes ":1\r\n" ∷ codes ":1\r\n" ∷ codes ":1\r\n" ∷ codes ":0\r\n" ∷ []
   pub ttl : waiting 1 (asks 1 0 "SET k a EX 1 POINT 2 2" ∷ asks 1 1 "TTL k a" ∷ asks 1 1000 "TTL k a" ∷ [])
       ≡ codes "+OK\r\n" ∷ codes ":1\r\n" ∷ codes ":-2\r\n" ∷ []
   -- a cursor counts the matches passed
@@ -96,6 +111,11 @@ pub record HoldsRuns : Type 0 where
       codes "*2\r\n$1\r\n1\r\n$1\r\n2\r\n"
       ∷ codes ":1\r\n" ∷ codes "$1\r\n0\r\n" ∷ codes ":0\r\n" ∷ codes "$-1\r\n" ∷
       codes "*2\r\n*4\r\n$11\r\nnum_objects\r\n:1\r\n$10\r\nnum_points\r\n:1\r\n*-1\r\n" ∷ []
+  pub texts : replies 1 ("SET k a FIELD state idle FIELD n 3 POINT 1 2" ∷ "FGET k a state" ∷ "SCAN k WHERE state idle idle COUNT" ∷
+      "SCAN k WHERE state -inf +inf COUNT" ∷ "SCAN k WHEREIN state 2 3 idle COUNT" ∷ "SCAN k WHERE state idle busy COUNT" ∷
+      "FSET k a state idle n idle" ∷ "FSET k a state 0" ∷ [])
+      ≡ codes "+OK\r\n" ∷ codes "$4\r\nidle\r\n" ∷ codes ":1\r\n" ∷ codes ":0\r\n" ∷ codes ":1\r\n" ∷
+      codes "-ERR invalid argument 'busy'\r\n" ∷ codes ":1\r\n" ∷ codes ":1\r\n" ∷ []
   pub refused : replies 1 ("SET fleet t POINT 33.5123 -112.2693" ∷ "GET fleet t" ∷ "FGET k a x" ∷ "SUBSCRIBE z" ∷ "GET k a" ∷ [])
       ≡ codes "-ERR coordinate is not a whole number '33.5123'\r\n" ∷ codes "$-1\r\n" ∷ codes "-ERR key not found\r\n" ∷ confirmed "z"
       ∷ codes "-ERR only SUBSCRIBE, PSUBSCRIBE, PING and QUIT are served while subscribed\r\n" ∷ []

@@ -4,10 +4,12 @@
 ghost use Rattle.worked_examples.specs.Areas.{HoldsAreas};
 ghost use Rattle.worked_examples.specs.ByteTexts.{HoldGlobs, HoldNames, HoldNumbers, HoldStreams, HoldTexts};
 ghost use Rattle.worked_examples.specs.Commands.{HoldsCommands};
-ghost use Rattle.worked_examples.specs.LogTexts.{HoldsSides, HoldsWords};
+ghost use Rattle.worked_examples.specs.Expiry.{HoldsExpiry};
+ghost use Rattle.worked_examples.specs.LogTexts.{HoldsSides, HoldsVersions, HoldsWords};
 ghost use Rattle.worked_examples.specs.Runs.{HoldsRuns};
 ghost use Rattle.worked_examples.specs.Served.{HoldsServed};
 ghost use Rattle.worked_examples.specs.Texts.{HoldsTexts};
+ghost use Rattle.worked_examples.specs.Values.{HoldsTests, HoldsValues};
 ghost use Rattle.worked_examples.specs.Workload.{HoldsSummary, HoldsWorkload};
 
 /// Names, numbers, texts of requests and replies, patterns and streams.
@@ -52,6 +54,22 @@ pub fn log_sides()
 /// Records and other words.
 pub fn log_words()
     ensures { HoldsWords }
+{}
+
+/// Versions of the log: the least one of a change, and sides of each.
+pub fn log_versions()
+    ensures { HoldsVersions }
+{}
+
+/// Values of fields, and the tests on them.
+pub fn values()
+    ensures values { HoldsValues }
+    ensures tests { HoldsTests }
+{}
+
+/// Objects and channels that go by their deadlines.
+pub fn expiry()
+    ensures { HoldsExpiry }
 {}
 
 /// The generated workload: a draw, a command, a channel, the lines of a summary.

@@ -1,2 +1,3 @@
 pub mod Soundness
 mod FrameEnds
+mod NumbersRead

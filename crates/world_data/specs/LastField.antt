@@ -8,11 +8,11 @@ use Rattle.byte_text.specs.Names.{Bytes, before}
 use Rattle.ordered_lists.specs.Ascending.{ascends-left, put_in-last}
 use Rattle.ordered_lists.specs.Lists.{ascends}
 use Rattle.ordered_lists.specs.Reading.{both_of, filter-all, all-left, all-middle}
-use Rattle.world_data.specs.Filters.{Field, field_before, is_zero, with_values, are_fields}
+use Rattle.world_data.specs.Filters.{Field, field_before, is_absent, with_values, are_fields}
 use Rattle.world_data.specs.FieldLaws.{field_trans, field_asym}
 
 abbrev nonzero : Field → Bool
-nonzero f = not (is_zero f)
+nonzero f = not (is_absent f)
 
 -- the fields at the beginning of fields
 pub are_left : (fs gs : List Field) → are_fields (fs ++ gs) ≡ true → are_fields fs ≡ true
@@ -37,7 +37,7 @@ and_true false = refl
 all_snoc : (q : Field → Bool) (fs : List Field) (f : Field) → list_all q (fs ++ f ∷ []) ≡ (list_all q fs && q f)
 all_snoc q fs f = list_all-append q fs (f ∷ []) ∙ ap (λ b. list_all q fs && b) (and_true (q f))
 
-pub zero_last : (fs : List Field) (f : Field) → is_zero f ≡ true → are_fields (fs ++ f ∷ []) ≡ false
+pub zero_last : (fs : List Field) (f : Field) → is_absent f ≡ true → are_fields (fs ++ f ∷ []) ≡ false
 zero_last fs f e = and_right (ascends field_before (fs ++ f ∷ [])) (list_all nonzero (fs ++ f ∷ []))
     (all_snoc nonzero fs f ∙ and_right (list_all nonzero fs) (nonzero f) (ap not e))
 
@@ -73,15 +73,15 @@ last_there g (h ∷ fs) = last_there h fs
 
 -- a field that is not zero may be last exactly where the last of the others, if any, stands before it
 
-nonzero_last : (fs : List Field) (f : Field) → are_fields fs ≡ true → is_zero f ≡ false → list_all nonzero (fs ++ f ∷ []) ≡ true
+nonzero_last : (fs : List Field) (f : Field) → are_fields fs ≡ true → is_absent f ≡ false → list_all nonzero (fs ++ f ∷ []) ≡ true
 nonzero_last fs f are other = all_snoc nonzero fs f
     ∙ and_from (list_all nonzero fs) (nonzero f) (both_of (ascends field_before fs) (list_all nonzero fs) are).1 (ap not other)
 
-pub only_one : (fs : List Field) (f : Field) → is_zero f ≡ false → length fs ≡ 0 → are_fields (fs ++ f ∷ []) ≡ true
+pub only_one : (fs : List Field) (f : Field) → is_absent f ≡ false → length fs ≡ 0 → are_fields (fs ++ f ∷ []) ≡ true
 only_one [] f other none = nonzero_last [] f refl other
 only_one (g ∷ fs) f other none = absurd (omega (arith, none))
 
-pub behind_last : (fs : List Field) (last : Bytes) (f : Field) → are_fields fs ≡ true → is_zero f ≡ false → 0 < length fs
+pub behind_last : (fs : List Field) (last : Bytes) (f : Field) → are_fields fs ≡ true → is_absent f ≡ false → 0 < length fs
     → IfSome (slice_get fs (length fs - 1)) (λ g. last ≡ g.0) → before last f.0 ≡ are_fields (fs ++ f ∷ [])
 behind_last [] last f are other some named = absurd (omega (arith, some))
 behind_last (h ∷ fs) last f are other some named =

@@ -107,11 +107,13 @@ impl Fence {
     }
 }
 
-/// A channel: its name, its fence, and the words that set it, in their normal form.
+/// A channel: its name, its fence, the words that set it, in their normal form, and the moment at which it goes, in
+/// milliseconds, where it does.
 pub struct Channel {
     pub name: Name,
     pub fence: Fence,
     pub words: Request,
+    pub deadline: Option<u64>,
 }
 
 impl Drop for Channel {
@@ -120,6 +122,7 @@ impl Drop for Channel {
             name: _,
             fence: _,
             words: _,
+            deadline: _,
         } = self;
     }
 }
@@ -135,6 +138,7 @@ impl Channel {
             name: self.name.copy(alloc)?,
             fence: self.fence.copy(alloc)?,
             words: copy_request(alloc, &self.words)?,
+            deadline: self.deadline,
         })
     }
 }

@@ -2,16 +2,18 @@
 
 ghost use Rattle.std.specs.Prelude.{◌≡◌, ◌<◌, [], ◌∷◌, ◌++◌, length, slice_get, Some, IfOk, IfErr, OnOk, OnErr};
 
-use crate::lists::Numbers;
+use crate::lists::Values;
 use byte_text::{Name, NoMemory};
 use std::alloc::Global;
 use std::marker::Model;
 
-/// What the value of a field has to be: within a range (`None` is its endless end), or one of some values.
+/// What the value of a field has to be: a number within a range (`None` is its endless end), a text, or one of some
+/// values.
 #[derive(Drop)]
 pub enum Test {
     Range(Name, Option<i64>, Option<i64>),
-    Among(Name, Numbers),
+    Same(Name, Name),
+    Among(Name, Values),
 }
 
 impl Test {
@@ -23,6 +25,7 @@ impl Test {
     {
         match self {
             Test::Range(name, low, high) => Ok(Test::Range(name.copy(alloc)?, *low, *high)),
+            Test::Same(name, text) => Ok(Test::Same(name.copy(alloc)?, text.copy(alloc)?)),
             Test::Among(name, values) => Ok(Test::Among(name.copy(alloc)?, values.copy(alloc)?)),
         }
     }

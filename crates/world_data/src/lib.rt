@@ -12,6 +12,7 @@ mod limits;
 mod lists;
 mod objects;
 mod queries;
+mod values;
 mod worlds;
 
 pub use channels::{Channel, Channels, Detect, Fence, Kind, Raised, Wanted, Watch};
@@ -24,7 +25,8 @@ pub use limits::{
     MAX_METERS, MAX_MOMENT, MAX_OBJECTS, MAX_REPLY, MAX_SECONDS, MAX_SESSIONS, MAX_SUBS, MAX_TESTS,
     MAX_VALUES, MAX_WEIGHT, MOST_DRAWN, MOST_LOGGED, TAKE,
 };
-pub use lists::{NameList, Numbers};
+pub use lists::{NameList, Values};
 pub use objects::{Object, Objects};
 pub use queries::{Page, Query, Rule, Shown};
+pub use values::Value;
 pub use worlds::{Change, World};

@@ -1,7 +1,8 @@
-//! Lists of names and of numbers.
+//! Lists of names and of values.
 
 ghost use Rattle.std.specs.Prelude.{◌≡◌, ◌<◌, [], ◌∷◌, ◌++◌, length, slice_get, Some, IfOk, IfErr, OnOk, OnErr};
 
+use crate::values::Value;
 use byte_text::{Name, NoMemory};
 use std::alloc::Global;
 use std::marker::Model;
@@ -76,62 +77,66 @@ impl NameList {
     }
 }
 
-/// A list of numbers.
+/// A list of values.
 #[derive(Drop)]
-pub struct Numbers {
-    list: Vec<i64>,
+pub struct Values {
+    list: Vec<Value>,
 }
 
-impl Model for Numbers {
-    ghost use Rattle.std.specs.Prelude.{List, ℤ};
+impl Model for Values {
+    ghost use Rattle.std.specs.Prelude.{List};
+    ghost use Rattle.world_data.specs.declared.values.Value.{Value as FieldValue};
 
-    ghost Value = { List ℤ };
+    ghost Value = { List FieldValue };
 
     ghost view = { λ n. n.list.items };
 }
 
-impl Numbers {
-    /// No number yet. What is pushed takes its memory from `alloc`.
-    pub fn new(alloc: Global) -> Numbers
+impl Values {
+    /// No value yet. What is pushed takes its memory from `alloc`.
+    pub fn new(alloc: Global) -> Values
         ensures { result ≡ [] }
     {
-        Numbers {
+        Values {
             list: Vec::new(alloc),
         }
     }
 
-    /// The same numbers in memory of their own.
-    pub fn copy(&self, alloc: Global) -> Result<Numbers, NoMemory>
-        ensures { IfOk result (λ numbers. numbers ≡ self.now) }
+    /// The same values in memory of their own.
+    pub fn copy(&self, alloc: Global) -> Result<Values, NoMemory>
+        ensures { IfOk result (λ values. values ≡ self.now) }
     {
-        let list = Vec::from_slice(alloc, self.list.as_slice())?;
-        Ok(Numbers { list })
+        let mut list = Vec::with_capacity(alloc, self.list.len())?;
+        for value in self.list.as_slice() {
+            list.push(value.copy(alloc)?)?;
+        }
+        Ok(Values { list })
     }
 
-    /// How many numbers there are.
+    /// How many values there are.
     pub fn len(&self) -> usize
         ensures { result ≡ length self.now }
     {
         self.list.len()
     }
 
-    /// The number at a place, counted from 0.
-    pub fn at(&self, i: usize) -> &i64
+    /// The value at a place, counted from 0.
+    pub fn at(&self, i: usize) -> &Value
         requires { i < length self.now }
         ensures { slice_get self.now i ≡ Some result.now }
     {
         &self.list[i]
     }
 
-    /// Lets all numbers go.
+    /// Lets all values go.
     pub fn clear(&mut self)
         ensures { self.new ≡ [] }
     {
         self.list.clear();
     }
 
-    /// Puts a number last. For want of memory the list stays as it was, and the number is handed back.
-    pub fn push(&mut self, item: i64) -> Result<(), i64>
+    /// Puts a value last. For want of memory the list stays as it was, and the value is handed back.
+    pub fn push(&mut self, item: Value) -> Result<(), Value>
         ensures ok { OnOk result (self.new ≡ self.old ++ item ∷ []) }
         ensures err { OnErr result (self.new ≡ self.old) }
         ensures handed_back { IfErr result (λ back. back ≡ item) }

@@ -1,8 +1,8 @@
 //! Worlds, and the changes of them.
 //!
-//! What makes and changes a `World`, its `Objects` and its `Channels`, and `show_json` of fields, is called by tests
-//! alone: these are the types that the definitions speak of, for which the server keeps slots and trees. `World::fold`
-//! is the definition of a change as a plain program.
+//! What makes and changes a `World`, its `Objects` and its `Channels` is called by tests alone: these are the types that
+//! the definitions speak of, for which the server keeps slots and trees. `World::fold` is the definition of a change as
+//! a plain program.
 
 ghost use Rattle.std.specs.Prelude.{◌≡◌, OnOk, OnErr};
 ghost use Rattle.world_data.specs.Worlds.{empty_world, after};

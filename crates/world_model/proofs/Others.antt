@@ -5,8 +5,7 @@ use Rattle.std.proofs.lemmas.Bool.Decides.{nat_tests}
 use Rattle.byte_text.specs.Names.{Bytes}
 use Rattle.world_model.specs.Halls.{Hall, Session, closing, effect_of, is_live, is_session, session_of, change_session, without_session, placed, placed_each, place, place_all, apply, apply_all, due, closed_if, close_session, do_effect, do_asked, do_live, do_call, deliveries}
 use Rattle.world_model.specs.Effects.{Effect}
-use Rattle.fence_model.specs.Writes.{Write, dels}
-use Rattle.world_data.specs.Expiry.{expired}
+use Rattle.fence_model.specs.Writes.{Write, due_writes}
 use Rattle.world_model.specs.SessionLaws.{number_of, placed_number, each_append, found_map, found_number, other_way}
 use Rattle.world_model.specs.Laws.{OnlyPlaced, is_about}
 use Rattle.world_data.specs.Worlds.{after}
@@ -83,7 +82,7 @@ apply_all_only h [] n = only_refl (session_of h n)
 apply_all_only h (d ∷ ds) n = only_trans (session_of h n) (session_of (apply h d) n) (session_of (apply_all (apply h d) ds) n) (apply_only h d n) (apply_all_only (apply h d) ds n)
 
 due_only : (h : Hall) (moment n : ℕ) → OnlyPlaced (session_of h n) (session_of (due h moment) n)
-due_only h moment n = apply_all_only (record h { now = max h.now moment }) (dels (expired h.world (max h.now moment))) n
+due_only h moment n = apply_all_only (record h { now = max h.now moment }) (due_writes h.world (max h.now moment)) n
 
 closing_number : (s : Session) → (if is_live s then record s { stage = closing; subs = [] } else s).number ≡ s.number
 closing_number s = number_of (is_live s) (record s { stage = closing; subs = [] }) s s.number refl refl

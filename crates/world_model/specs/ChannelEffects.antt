@@ -1,5 +1,5 @@
 -- What the commands on channels do.
-use Rattle.std.specs.Prelude.{not, ◌&&◌, nat_le, List, [], ◌∷◌, ◌++◌, length, filter, map, Option, Some, None, is_some, is_none, if◌then◌else◌}
+use Rattle.std.specs.Prelude.{ℕ, not, ◌&&◌, nat_le, List, [], ◌∷◌, ◌++◌, length, filter, map, Option, Some, None, is_some, is_none, if◌then◌else◌}
 use Rattle.byte_text.specs.Names.{Bytes}
 use Rattle.byte_text.specs.Globs.{glob_meets}
 use Rattle.byte_text.specs.Replies.{array, number}
@@ -17,7 +17,7 @@ use Rattle.world_data.specs.declared.channels.Watch.TheVariants.{Zone, Roam}
 use Rattle.world_model.specs.declared.search_commands.AreaWords.{AreaWords}
 use Rattle.world_model.specs.declared.channel_commands.ChannelCommand.{ChannelCommand}
 use Rattle.world_model.specs.declared.channel_commands.ChannelCommand.TheVariants as of_channel
-use Rattle.world_model.specs.EffectParts.{Effect, says, changes, refuses, unless, fits, resolved}
+use Rattle.world_model.specs.EffectParts.{Effect, says, changes, refuses, unless, fits, resolved, deadline_after}
 
 -- the watch with the area in its place
 abbrev pub watch_over : Watch → Area → Watch
@@ -39,11 +39,15 @@ abbrev pub set_area : World → Channel → Option AreaWords → Effect
 set_area w c None = setchan_effect w c
 set_area w c (Some from) = resolved w from (λ a words. setchan_effect w (settled_channel c a words))
 
--- what a command on channels does in a world
-abbrev pub channel_effect : World → ChannelCommand → Effect
-channel_effect w (of_channel.Setchan c from) = set_area w c from
-channel_effect w (of_channel.Delchan name) = if is_some (channel_of w name) then changes (number 1) (silent (change.DelChan name) ∷ [])
+-- the channel with the deadline that EX gives
+abbrev pub with_deadline : ℕ → Option ℕ → Channel → Channel
+with_deadline now after_ex c = record c { deadline = deadline_after now after_ex }
+
+-- what a command on channels does in a world at a moment
+abbrev pub channel_effect : World → ℕ → ChannelCommand → Effect
+channel_effect w now (of_channel.Setchan c from after_ex) = set_area w (with_deadline now after_ex c) from
+channel_effect w now (of_channel.Delchan name) = if is_some (channel_of w name) then changes (number 1) (silent (change.DelChan name) ∷ [])
     else says (number 0)
-channel_effect w (of_channel.Pdelchan glob) = let gone = filter (λ c. glob_meets glob c.name) w.channels in
+channel_effect w now (of_channel.Pdelchan glob) = let gone = filter (λ c. glob_meets glob c.name) w.channels in
     changes (number (length gone)) (map (λ c. silent (change.DelChan c.name)) gone)
-channel_effect w (of_channel.Chans glob) = says (array (map channel_reply (filter (λ c. glob_meets glob c.name) w.channels)))
+channel_effect w now (of_channel.Chans glob) = says (array (map channel_reply (filter (λ c. glob_meets glob c.name) w.channels)))

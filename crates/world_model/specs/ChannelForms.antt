@@ -1,5 +1,5 @@
 -- How the commands on channels are spelled.
-use Rattle.std.specs.Prelude.{ℤ, Bool, true, false, not, ◌&&◌, nat_lt, List, [], ◌∷◌, ◌++◌, length, map, filter, Option, Some, None, is_none}
+use Rattle.std.specs.Prelude.{ℕ, ℤ, Bool, true, false, not, ◌&&◌, nat_lt, List, [], ◌∷◌, ◌++◌, length, map, filter, Option, Some, None, is_none}
 use Rattle.std.specs.Prelude.{if◌then◌else◌, codes, decimal, flat_map}
 use Rattle.std.specs.List.{list_all}
 use Rattle.std.specs.Fmt.{signed_decimal}
@@ -7,10 +7,11 @@ use Rattle.byte_text.specs.Names.{Bytes}
 use Rattle.planar_geom.specs.declared.shapes.Area.TheVariants.{Disc}
 use Rattle.geo_text.specs.Texts.{with_commas}
 use Rattle.world_data.specs.Limits.{max_tests}
-use Rattle.world_model.specs.Grammar.{Form, ◌>>=◌, ◌>>◌, ◌or◌, done, one_of, where_, word, repeated}
-use Rattle.world_model.specs.Kinds.{name, glob, meters, lat_lon, list_of, is_in}
+use Rattle.world_data.specs.Filters.{value_text}
+use Rattle.world_model.specs.Grammar.{Form, ◌>>=◌, ◌>>◌, done, one_of, where_, word, maybe, repeated}
+use Rattle.world_model.specs.Kinds.{name, glob, seconds, meters, lat_lon, list_of, is_in}
 use Rattle.world_data.specs.declared.filters.Test.{Test}
-use Rattle.world_data.specs.declared.filters.Test.TheVariants.{Range, Among}
+use Rattle.world_data.specs.declared.filters.Test.TheVariants.{Range, Same, Among}
 use Rattle.world_data.specs.declared.channels.Kind.{Kind}
 use Rattle.world_data.specs.declared.channels.Kind.TheVariants.{Within, Intersects, Near}
 use Rattle.world_data.specs.declared.channels.Watch.{Watch}
@@ -76,7 +77,8 @@ bound_word endless (Some z) = signed_decimal z
 
 abbrev pub test_words : Test → List Bytes
 test_words (Range n low high) = codes "WHERE" ∷ n ∷ bound_word (codes "-inf") low ∷ bound_word (codes "+inf") high ∷ []
-test_words (Among n values) = codes "WHEREIN" ∷ n ∷ decimal (length values) ∷ map signed_decimal values
+test_words (Same n t) = codes "WHERE" ∷ n ∷ t ∷ t ∷ []
+test_words (Among n values) = codes "WHEREIN" ∷ n ∷ decimal (length values) ∷ map value_text values
 
 abbrev pub glob_words : Option Bytes → List Bytes
 glob_words None = []
@@ -90,23 +92,29 @@ abbrev pub option_words : FenceOptions → List Bytes
 option_words o = glob_words o.glob ++ flat_map test_words o.tests ++ codes "FENCE" ∷ (if o.nodwell then codes "NODWELL" ∷ [] else [])
     ++ list_words (codes "DETECT") detect_names o.detect ++ list_words (codes "COMMANDS") command_names o.commands
 
-abbrev pub setting : Bytes → Bytes → Bytes → FenceOptions → Watch → List Bytes → Option AreaWords → Command
-setting channel kind_word key o w area_words from = command.Channel (of_channel.Setchan (record {
-  name = channel;
+-- a name, and the seconds that EX gives behind it, where it stands there
+pub record Called : Type 0 where
+  pub name : Bytes
+  pub after_ex : Option ℕ
+
+abbrev pub setting : Called → Bytes → Bytes → FenceOptions → Watch → List Bytes → Option AreaWords → Command
+setting called kind_word key o w area_words from = command.Channel (of_channel.Setchan (record {
+  name = called.name;
   fence = record { key = key; glob = o.glob; tests = o.tests; wanted = wanted_of o; watch = w };
   words = kind_word ∷ key ∷ option_words o ++ area_words;
-}) from)
+  deadline = None;
+}) from called.after_ex)
 
-abbrev pub setchan_area : Bytes → Kind → Bytes → Form Command
-setchan_area called kind channel = do
-  word called
+abbrev pub setchan_area : Bytes → Kind → Called → Form Command
+setchan_area kind_word kind channel = do
+  word kind_word
   key ← name
   o ← repeated (fence_option false) no_fence_options
   a ← where_ o.fence area
-  done (setting channel called key o (watch.Zone kind a.area) a.words (Some a.from))
+  done (setting channel kind_word key o (watch.Zone kind a.area) a.words (Some a.from))
 
 -- a disc, or objects near others: NODWELL is of the second alone, DETECT of the first
-abbrev pub near_area : Bytes → Bytes → FenceOptions → Form Command
+abbrev pub near_area : Called → Bytes → FenceOptions → Form Command
 near_area channel key o = one_of (
     where_ (not o.nodwell) (word (codes "POINT") >> lat_lon >>= λ p. meters >>= λ r.
     done (setting channel (codes "NEARBY") key o (watch.Zone Near (Disc p r))
@@ -114,17 +122,27 @@ near_area channel key o = one_of (
     where_ (is_none o.detect) (word (codes "ROAM") >> name >>= λ other. glob >>= λ pattern. meters >>= λ r.
     done (setting channel (codes "NEARBY") key o (watch.Roam other pattern r o.nodwell) (codes "ROAM" ∷ other ∷ pattern ∷ decimal r ∷ []) None)) ∷ [])
 
-abbrev pub setchan_near : Bytes → Form Command
+abbrev pub setchan_near : Called → Form Command
 setchan_near channel = do
   word (codes "NEARBY")
   key ← name
   o ← repeated (fence_option true) no_fence_options
   where_ o.fence (near_area channel key o)
 
+abbrev pub setchan_kinds : Called → Form Command
+setchan_kinds channel =
+    one_of (setchan_area (codes "WITHIN") Within channel ∷ setchan_area (codes "INTERSECTS") Intersects channel ∷ setchan_near channel ∷ [])
+
+-- EX and seconds, or nothing
+abbrev pub after_ex_words : Form (Option ℕ)
+after_ex_words = maybe None (word (codes "EX") >> seconds >>= λ s. done (Some s))
+
+-- EX stands directly behind the name
 abbrev pub setchan_words : Form Command
 setchan_words = do
-  channel ← name
-  one_of (setchan_area (codes "WITHIN") Within channel ∷ setchan_area (codes "INTERSECTS") Intersects channel ∷ setchan_near channel ∷ [])
+  channel_name ← name
+  after_ex ← after_ex_words
+  setchan_kinds (record { name = channel_name; after_ex = after_ex })
 
 -- a row a command
 abbrev pub channel_rows : List Row

@@ -6,7 +6,7 @@ use Rattle.std.specs.Str.{str_to_ascii_lowercase}
 use Rattle.byte_text.specs.Names.{Bytes}
 use Rattle.geo_text.specs.Texts.{Shape, shape_of}
 use Rattle.geo_text.specs.declared.faults.GeoFault.{GeoFault}
-use Rattle.world_model.specs.Grammar.{Form, Reading, ◌or◌, one_of, word, live, spelled, goes_on, wants_coordinate, wants_geojson}
+use Rattle.world_model.specs.Grammar.{Form, Reading, one_of, live, spelled, goes_on, wants_coordinate, wants_geojson}
 use Rattle.byte_text.specs.Streams.{is_digit}
 use Rattle.world_model.specs.declared.commands.Command.{Command}
 use Rattle.world_model.specs.declared.faults.WordFault.{WordFault}
@@ -14,11 +14,12 @@ use Rattle.world_model.specs.declared.faults.WordFault.TheVariants as fault
 pub use Rattle.world_model.specs.Rows.{Row, row, form_of, of_key_and_id, of_one, of_some}
 pub use Rattle.world_model.specs.ObjectForms.{SetOptions, field, set_option, place, nonzero_of, cleared_of, set_words, as_objects, get_words}
 pub use Rattle.world_model.specs.ObjectForms.{pdel_words, fset_words, fget_words, expire_words, object_rows}
-pub use Rattle.world_model.specs.SearchForms.{where_test, wherein_test, test, SearchOptions, no_search_options, search_option, output, query_of}
+pub use Rattle.world_model.specs.SearchForms.{where_range, where_same, where_test, wherein_test, test, SearchOptions, no_search_options}
+pub use Rattle.world_model.specs.SearchForms.{search_option, output, query_of}
 pub use Rattle.world_model.specs.SearchForms.{scan_rule, scan_words, AreaRead, given_area, nowhere, area, area_words, nearby_words, search_rows}
 pub use Rattle.world_model.specs.ChannelForms.{FenceOptions, no_fence_options, detect_names, command_names, fence_option, wants, wanted_of}
-pub use Rattle.world_model.specs.ChannelForms.{bound_word, test_words, glob_words, list_words, option_words, setting, setchan_area, near_area}
-pub use Rattle.world_model.specs.ChannelForms.{setchan_near, setchan_words, channel_rows}
+pub use Rattle.world_model.specs.ChannelForms.{bound_word, test_words, glob_words, list_words, option_words, Called, setting, setchan_area, near_area}
+pub use Rattle.world_model.specs.ChannelForms.{setchan_near, setchan_kinds, after_ex_words, setchan_words, channel_rows}
 pub use Rattle.world_model.specs.SessionForms.{session_rows}
 
 -- every command, by family

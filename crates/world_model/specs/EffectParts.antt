@@ -1,5 +1,5 @@
 -- What effects are made of.
-use Rattle.std.specs.Prelude.{Bool, false, not, nat_le, List, [], ◌∷◌, Option, Some, None, if◌then◌else◌, codes}
+use Rattle.std.specs.Prelude.{ℕ, ◌+◌, ◌*◌, Bool, false, nat_le, List, [], ◌∷◌, Option, Some, None, option_map, if◌then◌else◌, codes}
 use Rattle.std.specs.List.{list_any}
 use Rattle.byte_text.specs.Names.{Bytes}
 use Rattle.byte_text.specs.declared.replies.Piece.{Piece}
@@ -46,6 +46,10 @@ unless (r ∷ refusals) e = if r.0 then r.1 else unless refusals e
 -- the world after the change is no heavier than it may be
 abbrev pub fits : World → Change → Bool
 fits w c = nat_le (weight (after w c)) max_weight
+
+-- the deadline that EX gives, in milliseconds
+abbrev pub deadline_after : ℕ → Option ℕ → Option ℕ
+deadline_after now after_ex = option_map (λ s. now + 1000 * s) after_ex
 
 -- why an object is not found
 abbrev pub missing : World → Bytes → Effect

@@ -8,18 +8,18 @@ use Rattle.world_model.specs.Subscriptions.{Sub, has_subs}
 use Rattle.world_data.specs.declared.worlds.World.{World}
 use Rattle.world_model.specs.declared.commands.Command.{Command}
 use Rattle.world_model.specs.declared.commands.Command.TheVariants as command
-pub use Rattle.world_model.specs.EffectParts.{Effect, says, changes, refuses, unless, fits, missing, with_object, if_object, resolved}
-pub use Rattle.world_model.specs.ObjectEffects.{fields_of, is_kept_back, given_and_cleared, deadline_after, put_effect, changed_count, fset_effect}
+pub use Rattle.world_model.specs.EffectParts.{Effect, says, changes, refuses, unless, fits, deadline_after, missing, with_object, if_object, resolved}
+pub use Rattle.world_model.specs.ObjectEffects.{fields_of, is_kept_back, given_and_cleared, put_effect, changed_count, fset_effect}
 pub use Rattle.world_model.specs.ObjectEffects.{deadline_effect, persist_effect, object_effect}
 pub use Rattle.world_model.specs.SearchEffects.{rule_over, search_effect}
-pub use Rattle.world_model.specs.ChannelEffects.{watch_over, setchan_effect, settled_channel, set_area, channel_effect}
+pub use Rattle.world_model.specs.ChannelEffects.{watch_over, setchan_effect, settled_channel, set_area, with_deadline, channel_effect}
 pub use Rattle.world_model.specs.SessionEffects.{subscribe_effect, session_effect}
 
 -- what a command does in a world at a moment, for a session with these subscriptions
 abbrev pub command_effect : World → ℕ → List Sub → Command → Effect
 command_effect w now held (command.Object c) = object_effect w now c
 command_effect w now held (command.Search c) = search_effect w c
-command_effect w now held (command.Channel c) = channel_effect w c
+command_effect w now held (command.Channel c) = channel_effect w now c
 command_effect w now held (command.Session c) = session_effect held c
 
 -- refused where a reply's frame would be too long

@@ -13,8 +13,7 @@ use Rattle.world_data.specs.Frames.{frame_bytes}
 use Rattle.world_data.specs.Limits.{cap_frames, cap_bytes}
 use Rattle.world_model.specs.Subscriptions.{Sub, with_subs}
 use Rattle.world_model.specs.Effects.{Effect, says, effect}
-use Rattle.fence_model.specs.Writes.{Write, dels}
-use Rattle.world_data.specs.Expiry.{expired}
+use Rattle.fence_model.specs.Writes.{Write, due_writes}
 use Rattle.world_model.specs.Refusals.{fault_reply, broken_reply}
 use Rattle.fence_model.specs.Messages.{Message, messages}
 use Rattle.world_data.specs.declared.worlds.World.{World}
@@ -119,9 +118,9 @@ abbrev pub apply_all : Hall → List Write → Hall
 apply_all h [] = h
 apply_all h (d ∷ writes) = apply_all (apply h d) writes
 
--- the clock goes on, and each object that is due then is deleted
+-- the clock goes on, and each object and channel that is due then is deleted
 abbrev pub due : Hall → ℕ → Hall
-due h moment = let now = max h.now moment in apply_all (record h { now = now }) (dels (expired h.world now))
+due h moment = let now = max h.now moment in apply_all (record h { now = now }) (due_writes h.world now)
 
 -- doing a command
 

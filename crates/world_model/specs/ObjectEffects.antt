@@ -1,18 +1,17 @@
 -- What the commands on objects do.
-use Rattle.std.specs.Prelude.{ℕ, pos, ◌+◌, ◌*◌, Bool, false, not, ◌&&◌, ◌==◌, nat_lt, nat_le, List, [], ◌∷◌, ◌++◌, length, filter, map, count_by}
-use Rattle.std.specs.Prelude.{Option, Some, None, is_some, is_none, option_map, if◌then◌else◌}
+use Rattle.std.specs.Prelude.{ℕ, ◌+◌, ◌*◌, Bool, false, not, ◌&&◌, ◌==◌, nat_lt, nat_le, List, [], ◌∷◌, ◌++◌, length, filter, map, count_by}
+use Rattle.std.specs.Prelude.{Option, Some, None, is_some, is_none, if◌then◌else◌}
 use Rattle.std.specs.List.{list_any}
 use Rattle.byte_text.specs.Names.{Bytes}
 use Rattle.byte_text.specs.Globs.{glob_meets}
 use Rattle.byte_text.specs.Replies.{array, bulk, number, fine}
-use Rattle.planar_geom.specs.Points.{same_int}
 use Rattle.ordered_lists.specs.Lists.{distinct}
 use Rattle.world_data.specs.Limits.{max_fields, max_objects}
 use Rattle.world_data.specs.Worlds.{object_at, objects_of, has_key}
-use Rattle.world_data.specs.Filters.{Field, with_values, value_of}
+use Rattle.world_data.specs.Filters.{Field, with_values, value_of, same_value, zero_value}
 use Rattle.fence_model.specs.Writes.{announced, silent, dels}
 use Rattle.world_model.specs.declared.faults.Refusal.TheVariants as refusal
-use Rattle.world_model.specs.Replies.{null, number_text, integer_reply, object_reply, fields_reply, bounds_of_key, stats_of_key, seconds_left}
+use Rattle.world_model.specs.Replies.{null, value_reply, integer_reply, object_reply, fields_reply, bounds_of_key, stats_of_key, seconds_left}
 use Rattle.world_model.specs.Replies.{no_object}
 use Rattle.world_data.specs.declared.objects.Object.{Object}
 use Rattle.world_data.specs.declared.worlds.World.{World}
@@ -21,7 +20,7 @@ use Rattle.world_model.specs.declared.object_commands.Only.{Only}
 use Rattle.world_model.specs.declared.object_commands.Only.TheVariants.{Any, Absent, Present}
 use Rattle.world_model.specs.declared.object_commands.ObjectCommand.{ObjectCommand}
 use Rattle.world_model.specs.declared.object_commands.ObjectCommand.TheVariants as of_object
-use Rattle.world_model.specs.EffectParts.{Effect, says, changes, refuses, unless, fits, with_object, if_object}
+use Rattle.world_model.specs.EffectParts.{Effect, says, changes, refuses, unless, fits, with_object, if_object, deadline_after}
 
 abbrev pub fields_of : Option Object → List Field
 fields_of None = []
@@ -35,11 +34,7 @@ is_kept_back Present old = is_none old
 
 -- the values that are given, 0 too
 abbrev pub given_and_cleared : List Field → List Bytes → List Field
-given_and_cleared given cleared = given ++ map (λ n. (n, pos 0)) cleared
-
--- the deadline that EX gives, in milliseconds
-abbrev pub deadline_after : ℕ → Option ℕ → Option ℕ
-deadline_after now after_ex = option_map (λ s. now + 1000 * s) after_ex
+given_and_cleared given cleared = given ++ map (λ n. (n, zero_value)) cleared
 
 -- SET of the object o, where `old` stands in its place
 abbrev pub put_effect : World → Only → Option Object → Object → Effect
@@ -52,7 +47,7 @@ put_effect w only old o = unless (
 
 -- how many fields have another value
 abbrev pub changed_count : List Field → List Field → ℕ
-changed_count old given = count_by (λ f. not (same_int (value_of old f.0) f.1)) given
+changed_count old given = count_by (λ f. not (same_value (value_of old f.0) f.1)) given
 
 -- FSET: where no value changes there is no change
 abbrev pub fset_effect : World → Object → List Field → Effect
@@ -92,7 +87,7 @@ object_effect w now (of_object.Pdel key glob) = let gone = filter (λ o. glob_me
 object_effect w now (of_object.Drop key) = if list_any (has_key key) w.objects then changes (number 1) (announced (change.Drop key) ∷ [])
     else says (number 0)
 object_effect w now (of_object.Fset key id given cleared) = with_object w key id (λ o. fset_effect w o (given_and_cleared given cleared))
-object_effect w now (of_object.Fget key id field) = with_object w key id (λ o. says (number_text (value_of o.fields field)))
+object_effect w now (of_object.Fget key id field) = with_object w key id (λ o. says (value_reply (value_of o.fields field)))
 object_effect w now (of_object.Expire key id s) = if_object (object_at w key id) (says (number 0)) (λ o. deadline_effect w o (now + 1000 * s))
 object_effect w now (of_object.Persist key id) = if_object (object_at w key id) (says (number 0)) persist_effect
 object_effect w now (of_object.Ttl key id) =

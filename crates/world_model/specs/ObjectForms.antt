@@ -3,9 +3,9 @@ use Rattle.std.specs.Prelude.{ℕ, true, false, not, List, [], ◌∷◌, ◌++�
 use Rattle.byte_text.specs.Names.{Bytes}
 use Rattle.planar_geom.specs.declared.shapes.Part.TheVariants.{Spot, Face}
 use Rattle.geo_text.specs.Texts.{Shape, point_text, bounds_text, corners}
-use Rattle.world_data.specs.Filters.{Field, last_values, is_zero}
+use Rattle.world_data.specs.Filters.{Field, last_values, is_absent}
 use Rattle.world_model.specs.Grammar.{Form, ◌>>=◌, ◌>>◌, done, one_of, where_, word, maybe, repeated, once_or_more}
-use Rattle.world_model.specs.Kinds.{name, glob, integer, seconds, lat_lon, four, geojson}
+use Rattle.world_model.specs.Kinds.{name, glob, value, seconds, lat_lon, four, geojson}
 use Rattle.world_data.specs.declared.queries.Shown.{Shown}
 use Rattle.world_data.specs.declared.queries.Shown.TheVariants as shown
 use Rattle.world_model.specs.declared.object_commands.Only.{Only}
@@ -25,8 +25,8 @@ pub record SetOptions : Type 0 where
 abbrev pub field : Form Field
 field = do
   field_name ← name
-  value ← integer
-  done (field_name, value)
+  v ← value
+  done (field_name, v)
 
 abbrev pub set_option : SetOptions → Form SetOptions
 set_option so_far = one_of (
@@ -44,10 +44,10 @@ place = one_of (
 
 -- the values that are not 0, and the names whose value is 0; of each name the last value counts
 abbrev pub nonzero_of : List Field → List Field
-nonzero_of given = filter (λ f. not (is_zero f)) (last_values [] given)
+nonzero_of given = filter (λ f. not (is_absent f)) (last_values [] given)
 
 abbrev pub cleared_of : List Field → List Bytes
-cleared_of given = map (λ f. f.0) (filter is_zero (last_values [] given))
+cleared_of given = map (λ f. f.0) (filter is_absent (last_values [] given))
 
 abbrev pub set_words : Form Command
 set_words = do

@@ -8,7 +8,8 @@ use Rattle.byte_text.specs.declared.replies.Piece.{Piece}
 use Rattle.byte_text.specs.declared.replies.Piece.TheVariants as piece
 use Rattle.planar_geom.specs.Points.{Point, Bounds, centre}
 use Rattle.planar_geom.specs.Shapes.{all_vertices, positions, box_of, box_of_points}
-use Rattle.world_data.specs.Filters.{Field}
+use Rattle.world_data.specs.Filters.{Field, value_text}
+use Rattle.world_data.specs.declared.values.Value.{Value}
 use Rattle.fence_model.specs.Queries.{page_items, page_cursor}
 use Rattle.world_model.specs.Subscriptions.{Sub, counts_with}
 use Rattle.world_data.specs.declared.objects.Object.{Object}
@@ -32,6 +33,10 @@ no_list = piece.NoList ∷ []
 abbrev pub number_text : ℤ → List Piece
 number_text z = bulk (signed_decimal z)
 
+-- the value of a field as a bulk string
+abbrev pub value_reply : Value → List Piece
+value_reply v = bulk (value_text v)
+
 abbrev pub integer_reply : ℤ → List Piece
 integer_reply z = piece.Number z ∷ []
 
@@ -45,7 +50,7 @@ bounds_reply b = array (point_reply b.min ∷ point_reply b.max ∷ [])
 
 -- names and values in turn
 abbrev pub fields_reply : List Field → List Piece
-fields_reply fields = array (flat_map (λ f. bulk f.0 ∷ number_text f.1 ∷ []) fields)
+fields_reply fields = array (flat_map (λ f. bulk f.0 ∷ value_reply f.1 ∷ []) fields)
 
 -- an object as it is shown: its text, the centre of its box, or its bounds
 abbrev pub object_reply : Shown → Object → List Piece

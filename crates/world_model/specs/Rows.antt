@@ -1,7 +1,7 @@
 -- The rows of the table of commands.
 use Rattle.std.specs.Prelude.{List, [], ◌∷◌, ◌++◌}
 use Rattle.byte_text.specs.Names.{Bytes}
-use Rattle.world_model.specs.Grammar.{Form, ◌>>=◌, ◌>>◌, ◌or◌, done, word, once_or_more}
+use Rattle.world_model.specs.Grammar.{Form, ◌>>=◌, ◌>>◌, done, word, once_or_more}
 use Rattle.world_model.specs.Kinds.{name}
 use Rattle.world_model.specs.declared.commands.Command.{Command}
 

@@ -8,9 +8,9 @@ use Rattle.planar_geom.specs.declared.shapes.Area.{Area}
 use Rattle.planar_geom.specs.declared.shapes.Area.TheVariants.{Rect, Disc, Figure}
 use Rattle.world_data.specs.Limits.{max_limit, max_tests, max_values}
 use Rattle.world_model.specs.Grammar.{Form, ◌>>=◌, ◌>>◌, ◌or◌, done, one_of, where_, word, maybe, repeated, times}
-use Rattle.world_model.specs.Kinds.{name, glob, integer, between, meters, lat_lon, four, geojson, bound}
+use Rattle.world_model.specs.Kinds.{name, glob, value, between, meters, lat_lon, four, geojson, bound, text, again}
 use Rattle.world_data.specs.declared.filters.Test.{Test}
-use Rattle.world_data.specs.declared.filters.Test.TheVariants.{Range, Among}
+use Rattle.world_data.specs.declared.filters.Test.TheVariants.{Range, Same, Among}
 use Rattle.world_data.specs.declared.channels.Kind.{Kind}
 use Rattle.world_data.specs.declared.channels.Kind.TheVariants.{Within, Intersects}
 use Rattle.world_data.specs.declared.queries.Shown.{Shown}
@@ -27,20 +27,31 @@ use Rattle.world_model.specs.Rows.{Row, row}
 
 -- tests
 
+-- between two bounds, or the same text twice
+abbrev pub where_range : Bytes → Form Test
+where_range field_name = do
+  low ← bound
+  high ← bound
+  done (Range field_name low high)
+
+abbrev pub where_same : Bytes → Form Test
+where_same field_name = do
+  t ← text
+  again t
+  done (Same field_name t)
+
 abbrev pub where_test : Form Test
 where_test = do
   word (codes "WHERE")
   field_name ← name
-  low ← bound
-  high ← bound
-  done (Range field_name low high)
+  where_range field_name or where_same field_name
 
 abbrev pub wherein_test : Form Test
 wherein_test = do
   word (codes "WHEREIN")
   field_name ← name
   count ← between 1 max_values
-  values ← times count integer
+  values ← times count value
   done (Among field_name values)
 
 abbrev pub test : Form Test

@@ -242,16 +242,17 @@ makes_fence_option near o h =
 makes_fence_options : (near : Bool) → Makes SoundFence (repeated (table.fence_option near) table.no_fence_options)
 makes_fence_options near = makes_repeated SoundFence (table.fence_option near) (makes_fence_option near) table.no_fence_options refl
 
-makes_setchan_area : (called : Bytes) (kind : Kind) (channel : Bytes)
+makes_setchan_area : (kind_word : Bytes) (kind : Kind) (channel : table.Called)
     → ((a : Area) → is_sound_area a ≡ true → (is_sound_watch (watch.Zone kind a) ≡ true) × (takes_areas (watch.Zone kind a) ≡ true))
-    → Makes IsSoundCommand (table.setchan_area called kind channel)
-makes_setchan_area called kind channel sound =
-    makes_then IsSoundCommand (word called) _
+    → Makes IsSoundCommand (table.setchan_area kind_word kind channel)
+makes_setchan_area kind_word kind channel sound =
+    makes_then IsSoundCommand (word kind_word) _
     (makes_behind IsSoundCommand name _ (λ key. makes_bind SoundFence IsSoundCommand _ _ (makes_fence_options false) (λ o h.
     makes_bind SoundArea IsSoundCommand _ _ (makes_where SoundArea o.fence table.area makes_area)
     (λ a s. let t = sound a.area s.0 in makes_done IsSoundCommand _ (both_true (both_true h t.0) (both_true s.1 t.1))))))
 
-makes_near_area : (channel key : Bytes) (o : table.FenceOptions) → SoundFence o → Makes IsSoundCommand (table.near_area channel key o)
+makes_near_area : (channel : table.Called) (key : Bytes) (o : table.FenceOptions) → SoundFence o
+    → Makes IsSoundCommand (table.near_area channel key o)
 makes_near_area channel key o h =
     first (makes_where IsSoundCommand (not o.nodwell) _ (makes_behind IsSoundCommand (word (codes "POINT") >> lat_lon) _ (λ p.
     makes_bind (λ r. nat_le r max_meters ≡ true) IsSoundCommand meters _ makes_meters
@@ -260,16 +261,21 @@ makes_near_area channel key o h =
     makes_bind (λ p. is_well_formed p ≡ true) IsSoundCommand glob _ makes_glob
     (λ p w. makes_behind IsSoundCommand meters _ (λ r. makes_done IsSoundCommand _ (both_true h w)))))) (makes_none IsSoundCommand))
 
-makes_setchan_near : (channel : Bytes) → Makes IsSoundCommand (table.setchan_near channel)
+makes_setchan_near : (channel : table.Called) → Makes IsSoundCommand (table.setchan_near channel)
 makes_setchan_near channel = makes_then IsSoundCommand (word (codes "NEARBY")) _
     (makes_behind IsSoundCommand name _ (λ key. makes_bind SoundFence IsSoundCommand _ _ (makes_fence_options true) (λ o h.
     makes_where IsSoundCommand o.fence _ (makes_near_area channel key o h))))
 
-makes_setchan : Makes IsSoundCommand table.setchan_words
-makes_setchan = makes_behind IsSoundCommand name _ (λ channel.
+makes_setchan_kinds : (channel : table.Called) → Makes IsSoundCommand (table.setchan_kinds channel)
+makes_setchan_kinds channel =
     first (makes_setchan_area (codes "WITHIN") Within channel (λ a s. (s, refl))) (
     first (makes_setchan_area (codes "INTERSECTS") Intersects channel (λ a s. (s, refl))) (
-    first (makes_setchan_near channel) (makes_none IsSoundCommand))))
+    first (makes_setchan_near channel) (makes_none IsSoundCommand)))
+
+makes_setchan : Makes IsSoundCommand table.setchan_words
+makes_setchan = makes_behind IsSoundCommand name _
+    (λ n. makes_behind IsSoundCommand table.after_ex_words _
+    (λ after_ex. makes_setchan_kinds (record { name = n; after_ex = after_ex })))
 
 -- the others
 

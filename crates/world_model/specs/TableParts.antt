@@ -13,7 +13,7 @@ use Rattle.world_model.specs.declared.channel_commands.ChannelCommand.TheVariant
 
 -- the command is no setting
 abbrev pub SetsNone : Command → Type 0
-SetsNone (command.Channel (of_channel.Setchan c from)) = ⊥
+SetsNone (command.Channel (of_channel.Setchan c from after_ex)) = ⊥
 SetsNone c = Unit {0}
 
 -- the form of a setting

@@ -31,6 +31,7 @@ pub use serving::HallServe;
 pub use session_commands::SessionCommand;
 pub use touched::ChangedSessions;
 pub use world_data::{
-    Change, Channel, Channels, Detect, Fence, Fields, Frames, Kind, NameList, Numbers, Object,
-    Objects, Page, Query, Raised, Rule, Shown, TAKE, Test, Tests, Wanted, Watch, World, world_laws,
+    Change, Channel, Channels, Detect, Fence, Fields, Frames, Kind, NameList, Object, Objects,
+    Page, Query, Raised, Rule, Shown, TAKE, Test, Tests, Value, Values, Wanted, Watch, World,
+    world_laws,
 };

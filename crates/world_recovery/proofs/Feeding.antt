@@ -11,7 +11,7 @@ use Rattle.resp_frames.specs.declared.faults.FeedFault.TheVariants.{Broken, Dead
 use Rattle.world_data.specs.Worlds.{after}
 use Rattle.world_data.specs.declared.worlds.Change.{Change}
 use Rattle.world_data.specs.declared.worlds.World.{World}
-use Rattle.log_record.specs.Words.{change_of_words}
+use Rattle.log_record.specs.Versions.{change_of_version}
 use Rattle.world_recovery.specs.Replayed.{Begins, Stands, IsNoRecord}
 use Rattle.world_recovery.proofs.Reading.{nothing_begun, some_end}
 use Rattle.world_recovery.proofs.Steps.{stands_on, stands_behind, refuses_words, refuses_bytes}
@@ -50,37 +50,37 @@ fed_request None new bytes n words fed = absurd fed
 fed_request (Some h) new bytes n words fed = fed.3
 
 -- what the replay stands for then
-pub fed_on : (world : World) (held new : Held) (taken place : ℕ) (batches : List Bytes) (part bytes : Bytes) (n end : ℕ) → Stands world held taken place batches part
-    → IsFed held new bytes n None → end ≡ taken + n → Stands world new end place batches (part ++ take n bytes)
-fed_on world None new taken place batches part bytes n end stands fed counted = absurd fed
-fed_on world (Some h) new taken place batches part bytes n end stands fed counted =
+pub fed_on : (v : ℕ) (world : World) (held new : Held) (taken place : ℕ) (batches : List Bytes) (part bytes : Bytes) (n end : ℕ) → Stands v world held taken place batches part
+    → IsFed held new bytes n None → end ≡ taken + n → Stands v world new end place batches (part ++ take n bytes)
+fed_on v world None new taken place batches part bytes n end stands fed counted = absurd fed
+fed_on v world (Some h) new taken place batches part bytes n end stands fed counted =
     let all : n ≡ length bytes = fed.1 in
     let same : take n bytes ≡ bytes = take_all n bytes (omega (arith, all)) in
-    subst (λ (l : Bytes). Stands world new end place batches (part ++ l)) (sym same)
-    (stands_on world h taken place batches part stands bytes new end fed.0 fed.2 (omega (arith, counted, all)))
+    subst (λ (l : Bytes). Stands v world new end place batches (part ++ l)) (sym same)
+    (stands_on v world h taken place batches part stands bytes new end fed.0 fed.2 (omega (arith, counted, all)))
 
-pub fed_record : (world : World) (held new : Held) (taken place : ℕ) (batches : List Bytes) (part bytes : Bytes) (n end : ℕ) (words : List Bytes) (c : Change) (w : World)
-    → Stands world held taken place batches part → IsFed held new bytes n (Some words) → change_of_words words ≡ Some c → w ≡ after world c → end ≡ taken + n
-    → Stands w new end end batches (part ++ take n bytes)
-fed_record world None new taken place batches part bytes n end words c w stands fed of folds counted = absurd fed
-fed_record world (Some h) new taken place batches part bytes n end words c w stands fed of folds counted =
-    let behind = stands_behind world h taken place batches part stands bytes words n end c w fed.3 fed.0 fed.1 of folds counted in
-    subst (λ (l : Held). Stands w l end end batches (part ++ take n bytes)) (sym fed.2) behind
+pub fed_record : (v : ℕ) (world : World) (held new : Held) (taken place : ℕ) (batches : List Bytes) (part bytes : Bytes) (n end : ℕ) (words : List Bytes) (c : Change) (w : World)
+    → Stands v world held taken place batches part → IsFed held new bytes n (Some words) → change_of_version v words ≡ Some c → w ≡ after world c → end ≡ taken + n
+    → Stands v w new end end batches (part ++ take n bytes)
+fed_record v world None new taken place batches part bytes n end words c w stands fed of folds counted = absurd fed
+fed_record v world (Some h) new taken place batches part bytes n end words c w stands fed of folds counted =
+    let behind = stands_behind v world h taken place batches part stands bytes words n end c w fed.3 fed.0 fed.1 of folds counted in
+    subst (λ (l : Held). Stands v w l end end batches (part ++ take n bytes)) (sym fed.2) behind
 
 -- where it refuses
-pub fed_no_record : (world : World) (held new : Held) (taken place : ℕ) (batches : List Bytes) (part bytes : Bytes) (n : ℕ) (words : List Bytes)
-    → Stands world held taken place batches part → IsFed held new bytes n (Some words) → change_of_words words ≡ None → IsNoRecord (part ++ bytes) place
-fed_no_record world None new taken place batches part bytes n words stands fed none = absurd fed
-fed_no_record world (Some h) new taken place batches part bytes n words stands fed none = refuses_words world h taken place batches part stands bytes (drop n bytes) words fed.0 none
+pub fed_no_record : (v : ℕ) (world : World) (held new : Held) (taken place : ℕ) (batches : List Bytes) (part bytes : Bytes) (n : ℕ) (words : List Bytes)
+    → Stands v world held taken place batches part → IsFed held new bytes n (Some words) → change_of_version v words ≡ None → IsNoRecord v (part ++ bytes) place
+fed_no_record v world None new taken place batches part bytes n words stands fed none = absurd fed
+fed_no_record v world (Some h) new taken place batches part bytes n words stands fed none = refuses_words v world h taken place batches part stands bytes (drop n bytes) words fed.0 none
 
-pub not_fed : (world : World) (held new : Held) (taken place : ℕ) (batches : List Bytes) (part bytes : Bytes) (fault : RespFault) → Stands world held taken place batches part
-    → IsNotFed held new bytes (Broken fault) → ((front more : Bytes) (f : RespFault) → request front ≡ broken f → request (front ++ more) ≡ broken f) → IsNoRecord (part ++ bytes) place
-not_fed world None new taken place batches part bytes fault stands not stays = absurd (let e : None ≡ Some stands.beginning = stands.waits in cc)
-not_fed world (Some h) new taken place batches part bytes fault stands not stays =
-    refuses_bytes world h taken place batches part stands bytes fault not.0 (λ rest. stays (h ++ bytes) rest fault not.0)
+pub not_fed : (v : ℕ) (world : World) (held new : Held) (taken place : ℕ) (batches : List Bytes) (part bytes : Bytes) (fault : RespFault) → Stands v world held taken place batches part
+    → IsNotFed held new bytes (Broken fault) → ((front more : Bytes) (f : RespFault) → request front ≡ broken f → request (front ++ more) ≡ broken f) → IsNoRecord v (part ++ bytes) place
+not_fed v world None new taken place batches part bytes fault stands not stays = absurd (let e : None ≡ Some stands.beginning = stands.waits in cc)
+not_fed v world (Some h) new taken place batches part bytes fault stands not stays =
+    refuses_bytes v world h taken place batches part stands bytes fault not.0 (λ rest. stays (h ++ bytes) rest fault not.0)
 
 -- a reader that goes on is not dead
-pub not_dead : (world : World) (held new : Held) (taken place : ℕ) (batches : List Bytes) (part bytes : Bytes) → Stands world held taken place batches part
+pub not_dead : (v : ℕ) (world : World) (held new : Held) (taken place : ℕ) (batches : List Bytes) (part bytes : Bytes) → Stands v world held taken place batches part
     → IsNotFed held new bytes Dead → ⊥
-not_dead world None new taken place batches part bytes stands not = absurd (let e : None ≡ Some stands.beginning = stands.waits in cc)
-not_dead world (Some h) new taken place batches part bytes stands not = not
+not_dead v world None new taken place batches part bytes stands not = absurd (let e : None ≡ Some stands.beginning = stands.waits in cc)
+not_dead v world (Some h) new taken place batches part bytes stands not = not

@@ -1,5 +1,5 @@
 -- The objects and channels of a world that recorded changes made have records.
-use Rattle.std.proofs.Common.{◌≡◌, not, List, [], ◌∷◌, length, flat_map, Some, ap, sym, subst, arith}
+use Rattle.std.proofs.Common.{◌≡◌, ℕ, not, List, [], ◌∷◌, length, flat_map, Some, ap, sym, subst, arith}
 use Rattle.std.specs.List.{AllByRecursion}
 use Rattle.byte_text.specs.Names.{Bytes}
 use Rattle.ordered_lists.specs.Reading.{each-append, each-filter}
@@ -12,7 +12,9 @@ use Rattle.world_data.specs.declared.worlds.World.{World}
 use Rattle.world_data.specs.declared.worlds.Change.TheVariants.{Put, Del, Drop, Flush, SetChan, DelChan}
 use Rattle.journal.specs.Openings.{AreWhole}
 use Rattle.byte_text.specs.Requests.{IsRequest}
-use Rattle.log_record.specs.Words.{IsRecorded, change_of_words}
+use Rattle.log_record.specs.Words.{IsRecorded}
+use Rattle.log_record.specs.Versions.{IsRecordedIn, change_of_version}
+use Rattle.log_record.specs.VersionLaws.{recorded_any, version_read}
 use Rattle.log_record.specs.RecordsRead.{record_read}
 use Rattle.record_writer.specs.LengthLaws.{put_count}
 use Rattle.world_store.specs.Stored.{HasFew}
@@ -41,22 +43,24 @@ after_each : (w : World) (changes : List Change) → AllByRecursion IsRecorded c
 after_each w [] are rest = rest
 after_each w (c ∷ changes) are rest = after_each (after w c) changes are.1 (after_one w c are.0 rest)
 
-all_recorded : (batches : List Bytes) → AreWhole record_fault batches → AllByRecursion IsRecorded (flat_map changes_in batches)
-all_recorded [] whole = tt
-all_recorded (batch ∷ batches) whole =
-    let one = records_found 0 batch (changes_in batch) (read_whole (records_in 0 batch) whole.0) in
-    each-append IsRecorded (changes_in batch) (flat_map changes_in batches) one.0 (all_recorded batches whole.1)
+all_recorded : (v : ℕ) (batches : List Bytes) → AreWhole (record_fault v) batches → AllByRecursion (IsRecordedIn v) (flat_map (changes_in v) batches)
+all_recorded v [] whole = tt
+all_recorded v (batch ∷ batches) whole =
+    let one = records_found v 0 batch (changes_in v batch) (read_whole (records_in v 0 batch) whole.0) in
+    each-append (IsRecordedIn v) (changes_in v batch) (flat_map (changes_in v) batches) one.0 (all_recorded v batches whole.1)
 
-pub world_recorded : (batches : List Bytes) (w : World) → AreWhole record_fault batches → w ≡ world_in batches → AreRecorded w
-world_recorded batches w whole is = subst AreRecorded (sym is) (after_each empty_world (flat_map changes_in batches) (all_recorded batches whole) (record { objects = tt; channels = tt }))
+pub world_recorded : (v : ℕ) (batches : List Bytes) (w : World) → AreWhole (record_fault v) batches → w ≡ world_in v batches → AreRecorded w
+world_recorded v batches w whole is =
+    let changes = flat_map (changes_in v) batches in
+    subst AreRecorded (sym is) (after_each empty_world changes (recorded_any v changes (all_recorded v batches whole)) (record { objects = tt; channels = tt }))
 
 -- what a record puts has no more fields than a request has words
-pub few_of : (words : List Bytes) (c : Change) → IsRequest words → change_of_words words ≡ Some c → HasFew c
-few_of words (Put o) is read =
-    let same = ap (λ (l : List Bytes). length l) (record_read words (Put o) read).0 in
+pub few_of : (v : ℕ) (words : List Bytes) (c : Change) → IsRequest words → change_of_version v words ≡ Some c → HasFew c
+few_of v words (Put o) is read =
+    let same = ap (λ (l : List Bytes). length l) (record_read words (Put o) (version_read v words (Put o) read).0).0 in
     omega (arith, put_count o, same, is.fits.few)
-few_of words (Del key id) is read = tt
-few_of words (Drop key) is read = tt
-few_of words Flush is read = tt
-few_of words (SetChan c) is read = tt
-few_of words (DelChan name) is read = tt
+few_of v words (Del key id) is read = tt
+few_of v words (Drop key) is read = tt
+few_of v words Flush is read = tt
+few_of v words (SetChan c) is read = tt
+few_of v words (DelChan name) is read = tt

@@ -11,7 +11,8 @@ use Rattle.world_data.specs.Records.{record_writer}
 use Rattle.world_data.specs.Worlds.{after, empty_world}
 use Rattle.world_data.specs.declared.worlds.Change.{Change}
 use Rattle.world_data.specs.declared.worlds.World.{World}
-use Rattle.log_record.specs.Words.{IsRecorded, change_of_words}
+use Rattle.log_record.specs.Versions.{IsRecordedIn, change_of_version}
+use Rattle.log_record.specs.VersionLaws.{version_read}
 use Rattle.log_record.specs.Folding.{folded}
 use Rattle.log_record.specs.EventWriteLaws.{folded-append}
 use Rattle.log_record.specs.Batches.{records_text}
@@ -22,8 +23,8 @@ use Rattle.world_recovery.specs.Replayed.{Stands, IsNoRecord}
 use Rattle.world_recovery.proofs.Reading.{nothing_begun, ends_there, words_refused, bytes_refused, cut_off, all_whole}
 
 -- no batch
-pub stands_first : Stands empty_world (Some []) 0 0 [] []
-stands_first = record {
+pub stands_first : (v : ℕ) → Stands v empty_world (Some []) 0 0 [] []
+stands_first v = record {
   changes = [];
   beginning = [];
   text = refl;
@@ -35,7 +36,7 @@ stands_first = record {
   world_is = refl;
 }
 
-module _ (world : World) (held : Bytes) (taken place : ℕ) (batches : List Bytes) (part : Bytes) (stands : Stands world (Some held) taken place batches part) where
+module _ (v : ℕ) (world : World) (held : Bytes) (taken place : ℕ) (batches : List Bytes) (part : Bytes) (stands : Stands v world (Some held) taken place batches part) where
   some_is : (a b : Bytes) → Some a ≡ Some b → a ≡ b
   some_is a b e = cc e
 
@@ -50,7 +51,7 @@ module _ (world : World) (held : Bytes) (taken place : ℕ) (batches : List Byte
 
   -- more bytes of the same record
   pub stands_on : (bytes : Bytes) (waiting : Option Bytes) (end : ℕ) → request (held ++ bytes) ≡ begun → waiting ≡ Some (held ++ bytes) → end ≡ taken + length bytes
-      → Stands world waiting end place batches (part ++ bytes)
+      → Stands v world waiting end place batches (part ++ bytes)
   stands_on bytes waiting end is waits counted = record {
     changes = stands.changes;
     beginning = held ++ bytes;
@@ -75,47 +76,47 @@ module _ (world : World) (held : Bytes) (taken place : ℕ) (batches : List Byte
       ∙ ap (λ (l : Bytes). records_text stands.changes ++ l) (ends ∙ same) ∙ sym (with_one stands.changes c)
 
   pub stands_behind : (bytes : Bytes) (words : List Bytes) (n end : ℕ) (c : Change) (w : World) → IsRequest words → request (held ++ bytes) ≡ found words (drop n bytes) → n ≤ length bytes
-      → change_of_words words ≡ Some c → w ≡ after world c → end ≡ taken + n → Stands w (Some []) end end batches (part ++ take n bytes)
+      → change_of_version v words ≡ Some c → w ≡ after world c → end ≡ taken + n → Stands v w (Some []) end end batches (part ++ take n bytes)
   stands_behind bytes words n end c w is read within of folds counted =
-      let same : request_text words ≡ record_writer c = ap request_text (sym (record_read words c of).0) in
+      let same : request_text words ≡ record_writer c = ap request_text (sym (record_read words c (version_read v words c of).0).0) in
       let text = more_text bytes words n c same (ends_there held bytes words n read) in
       let long : end ≡ length (part ++ take n bytes) = omega (arith, counted, stands.taken_is, length-append part (take n bytes), length-take n bytes, within) in
       record {
         changes = stands.changes ++ c ∷ [];
         beginning = [];
         text = text ∙ sym (append-nil (records_text (stands.changes ++ c ∷ [])));
-        recorded = each-append IsRecorded stands.changes (c ∷ []) stands.recorded (is_recorded words c is of, tt);
+        recorded = each-append (IsRecordedIn v) stands.changes (c ∷ []) stands.recorded (is_recorded v words c is of, tt);
         goes_on = nothing_begun;
         waits = refl;
         taken_is = long;
         place_is = long ∙ ap (λ (l : Bytes). length l) text;
-        world_is = folds ∙ ap (λ (v : World). after v c) stands.world_is ∙ sym (folded-append (world_in batches) stands.changes (c ∷ []));
+        world_is = folds ∙ ap (λ (x : World). after x c) stands.world_is ∙ sym (folded-append (world_in v batches) stands.changes (c ∷ []));
       }
 
   -- refused bytes
   refused_text : (bytes : Bytes) → records_text stands.changes ++ (held ++ bytes) ≡ part ++ bytes
   refused_text bytes = sym (ap (λ (l : Bytes). l ++ bytes) text_is ∙ append_assoc (records_text stands.changes) held bytes)
 
-  refused_there : (bytes : Bytes) → IsNoRecord (records_text stands.changes ++ (held ++ bytes)) (length (records_text stands.changes)) → IsNoRecord (part ++ bytes) place
-  refused_there bytes none = subst (λ (l : Bytes). IsNoRecord l place) (refused_text bytes) (subst (λ (k : ℕ). IsNoRecord (records_text stands.changes ++ (held ++ bytes)) k) (sym stands.place_is) none)
+  refused_there : (bytes : Bytes) → IsNoRecord v (records_text stands.changes ++ (held ++ bytes)) (length (records_text stands.changes)) → IsNoRecord v (part ++ bytes) place
+  refused_there bytes none = subst (λ (l : Bytes). IsNoRecord v l place) (refused_text bytes) (subst (λ (k : ℕ). IsNoRecord v (records_text stands.changes ++ (held ++ bytes)) k) (sym stands.place_is) none)
 
-  pub refuses_words : (bytes behind : Bytes) (words : List Bytes) → request (held ++ bytes) ≡ found words behind → change_of_words words ≡ None → IsNoRecord (part ++ bytes) place
-  refuses_words bytes behind words is none = refused_there bytes (words_refused stands.changes (held ++ bytes) behind words stands.recorded is none)
+  pub refuses_words : (bytes behind : Bytes) (words : List Bytes) → request (held ++ bytes) ≡ found words behind → change_of_version v words ≡ None → IsNoRecord v (part ++ bytes) place
+  refuses_words bytes behind words is none = refused_there bytes (words_refused v stands.changes (held ++ bytes) behind words stands.recorded is none)
 
   pub refuses_bytes : (bytes : Bytes) (fault : RespFault) → request (held ++ bytes) ≡ broken fault
-      → ((rest : Bytes) → request ((held ++ bytes) ++ rest) ≡ broken fault) → IsNoRecord (part ++ bytes) place
-  refuses_bytes bytes fault is stays = refused_there bytes (bytes_refused stands.changes (held ++ bytes) fault stands.recorded is stays)
+      → ((rest : Bytes) → request ((held ++ bytes) ++ rest) ≡ broken fault) → IsNoRecord v (part ++ bytes) place
+  refuses_bytes bytes fault is stays = refused_there bytes (bytes_refused v stands.changes (held ++ bytes) fault stands.recorded is stays)
 
 -- the end of a batch
 
-module _ (world : World) (waiting : Option Bytes) (taken place : ℕ) (batches : List Bytes) (part : Bytes) (stands : Stands world waiting taken place batches part) where
+module _ (v : ℕ) (world : World) (waiting : Option Bytes) (taken place : ℕ) (batches : List Bytes) (part : Bytes) (stands : Stands v world waiting taken place batches part) where
   held_length : taken ≡ place + length stands.beginning
   held_length = omega (arith, stands.taken_is, stands.place_is, ap (λ (l : Bytes). length l) stands.text, length-append (records_text stands.changes) stands.beginning)
 
-  pub cut_there : place < taken → (place ≤ length part) × (record_fault part ≡ Some place)
+  pub cut_there : place < taken → (place ≤ length part) × (record_fault v part ≡ Some place)
   cut_there less =
-      let cut = cut_off stands.changes stands.beginning stands.recorded (omega (arith, held_length, less)) stands.goes_on in
-      (omega (arith, less, stands.taken_is), ap record_fault stands.text ∙ cut ∙ ap (λ (k : ℕ). Some k) (sym stands.place_is))
+      let cut = cut_off v stands.changes stands.beginning stands.recorded (omega (arith, held_length, less)) stands.goes_on in
+      (omega (arith, less, stands.taken_is), ap (record_fault v) stands.text ∙ cut ∙ ap (λ (k : ℕ). Some k) (sym stands.place_is))
 
   no_bytes : (bytes : Bytes) → length bytes ≡ 0 → bytes ≡ []
   no_bytes [] none = refl
@@ -128,16 +129,16 @@ module _ (world : World) (waiting : Option Bytes) (taken place : ℕ) (batches :
   whole_text : taken ≤ place → part ≡ records_text stands.changes
   whole_text all = stands.text ∙ ap (λ (l : Bytes). records_text stands.changes ++ l) (nothing_waits all) ∙ append-nil (records_text stands.changes)
 
-  pub whole_there : taken ≤ place → record_fault part ≡ None
-  whole_there all = ap record_fault (whole_text all) ∙ (all_whole stands.changes stands.recorded).0
+  pub whole_there : taken ≤ place → record_fault v part ≡ None
+  whole_there all = ap (record_fault v) (whole_text all) ∙ (all_whole v stands.changes stands.recorded).0
 
-  one_batch : (others : List Bytes) → flat_map changes_in (others ++ part ∷ []) ≡ flat_map changes_in others ++ changes_in part
-  one_batch [] = append-nil (changes_in part)
-  one_batch (b ∷ others) = ap (λ (l : List Change). changes_in b ++ l) (one_batch others) ∙ sym (append_assoc (changes_in b) (flat_map changes_in others) (changes_in part))
+  one_batch : (others : List Bytes) → flat_map (changes_in v) (others ++ part ∷ []) ≡ flat_map (changes_in v) others ++ changes_in v part
+  one_batch [] = append-nil (changes_in v part)
+  one_batch (b ∷ others) = ap (λ (l : List Change). changes_in v b ++ l) (one_batch others) ∙ sym (append_assoc (changes_in v b) (flat_map (changes_in v) others) (changes_in v part))
 
-  pub stands_ended : taken ≤ place → Stands world waiting 0 0 (batches ++ part ∷ []) []
+  pub stands_ended : taken ≤ place → Stands v world waiting 0 0 (batches ++ part ∷ []) []
   stands_ended all =
-      let same : changes_in part ≡ stands.changes = ap changes_in (whole_text all) ∙ (all_whole stands.changes stands.recorded).1 in
+      let same : changes_in v part ≡ stands.changes = ap (changes_in v) (whole_text all) ∙ (all_whole v stands.changes stands.recorded).1 in
       record {
         changes = [];
         beginning = [];
@@ -147,8 +148,8 @@ module _ (world : World) (waiting : Option Bytes) (taken place : ℕ) (batches :
         waits = stands.waits ∙ ap (λ (l : Bytes). Some l) (nothing_waits all);
         taken_is = refl;
         place_is = refl;
-        world_is = stands.world_is ∙ ap (λ (l : List Change). folded (world_in batches) l) (sym same)
-            ∙ sym (folded-append empty_world (flat_map changes_in batches) (changes_in part)) ∙ ap (λ (l : List Change). folded empty_world l) (sym (one_batch batches));
+        world_is = stands.world_is ∙ ap (λ (l : List Change). folded (world_in v batches) l) (sym same)
+            ∙ sym (folded-append empty_world (flat_map (changes_in v) batches) (changes_in v part)) ∙ ap (λ (l : List Change). folded empty_world l) (sym (one_batch batches));
       }
 
 -- a piece that is taken part by part

@@ -16,7 +16,8 @@ use Rattle.journal.specs.Openings.{AreWhole, HasNoRecord, IsBroken, IsDamaged}
 use Rattle.log_record.specs.Batches.{number_of, record_front, with_record, records_behind, first_records, records_in, with_changes, first_batches}
 use Rattle.log_record.specs.Batches.{batches_in}
 use Rattle.log_record.specs.BatchesRead.{framed_read}
-use Rattle.log_record.specs.Readings.{reading, reading_of, reading_in_use, side_in_use, cause_of, unless_damaged, generation_of, header_len, Damaged}
+use Rattle.log_record.specs.Readings.{reading, reading_of, reading_in_use, side_in_use, cause_of, unless_damaged, generation_of}
+use Rattle.log_record.specs.Readings.{header_len, Damaged}
 use Rattle.world_recovery.specs.Recorded.{fault_of, changes_in, record_fault}
 use Rattle.world_recovery.specs.HeadsRead.{head_says}
 use Rattle.world_recovery.specs.HeadsDamaged.{heads_damaged, heads_used, IsInUse}
@@ -40,106 +41,108 @@ front_later k at bytes (Some front) next f =
     ap (λ (j : ℕ). with_record front.0 (next j front.1)) (let e : k + at + size ≡ k + (at + size) = omega arith in e)
     ∙ ap (with_record front.0) (f (at + size) front.1) ∙ sym (later_with k front.0 (next (at + size) front.1))
 
-first_later : (n k at : ℕ) (bytes : Bytes) → first_records n (k + at) bytes ≡ later k (first_records n at bytes)
-first_later zero k at [] = refl
-first_later (suc n) k at [] = refl
-first_later zero k at (b ∷ bytes) = refl
-first_later (suc n) k at (b ∷ bytes) = front_later k at (b ∷ bytes) (record_front (request (b ∷ bytes))) (first_records n) (first_later n k)
+first_later : (v n k at : ℕ) (bytes : Bytes) → first_records v n (k + at) bytes ≡ later k (first_records v n at bytes)
+first_later v zero k at [] = refl
+first_later v (suc n) k at [] = refl
+first_later v zero k at (b ∷ bytes) = refl
+first_later v (suc n) k at (b ∷ bytes) =
+    front_later k at (b ∷ bytes) (record_front v (request (b ∷ bytes))) (first_records v n) (first_later v n k)
 
-records_later : (at : ℕ) (batch : Bytes) → records_in at batch ≡ later at (records_in 0 batch)
+records_later : (v at : ℕ) (batch : Bytes) → records_in v at batch ≡ later at (records_in v 0 batch)
 unfolding records_in
-records_later at batch = ap (λ (j : ℕ). first_records (length batch) j batch) (let e : at ≡ at + 0 = omega arith in e)
-    ∙ first_later (length batch) at 0 batch
+records_later v at batch = ap (λ (j : ℕ). first_records v (length batch) j batch) (let e : at ≡ at + 0 = omega arith in e)
+    ∙ first_later v (length batch) at 0 batch
 
-whole_there : (at : ℕ) (batch : Bytes) → record_fault batch ≡ None → records_in at batch ≡ Ok (changes_in batch)
-whole_there at batch whole = records_later at batch ∙ ap (later at) (read_whole (records_in 0 batch) whole)
+whole_there : (v at : ℕ) (batch : Bytes) → record_fault v batch ≡ None → records_in v at batch ≡ Ok (changes_in v batch)
+whole_there v at batch whole = records_later v at batch ∙ ap (later at) (read_whole (records_in v 0 batch) whole)
 
 broken_off : (r : Result (List Change) ℕ) (at : ℕ) → fault_of r ≡ Some at → r ≡ Err at
 broken_off (Ok changes) at e = absurd (cc e)
 broken_off (Err j) at e = ap Err (let same : j ≡ at = cc e in same)
 
-broken_there : (at off : ℕ) (batch : Bytes) → record_fault batch ≡ Some off → records_in at batch ≡ Err (at + off)
-broken_there at off batch none = records_later at batch ∙ ap (later at) (broken_off (records_in 0 batch) off none)
+broken_there : (v at off : ℕ) (batch : Bytes) → record_fault v batch ≡ Some off → records_in v at batch ≡ Err (at + off)
+broken_there v at off batch none = records_later v at batch ∙ ap (later at) (broken_off (records_in v 0 batch) off none)
 
 -- what breaks off behind whole batches
 few_batches : (batches : List Bytes) → length batches ≤ length (batches_text batches)
 few_batches [] = omega arith
 few_batches (batch ∷ batches) = omega (arith, few_batches batches, length-append (framed batch) (batches_text batches))
 
-broken_behind : (n at place : ℕ) (batches : List Bytes) (tail : Bytes) → AreWhole record_fault batches → length (batches_text batches) < 2 ^ 64
-    → length batches < n
-    → ((k at' : ℕ) → at' ≡ at + length (batches_text batches) → first_batches (suc k) at' tail ≡ Err place)
-    → first_batches n at (batches_text batches ++ tail) ≡ Err place
-broken_behind zero at place batches tail whole short few broken = absurd (omega (arith, few))
-broken_behind (suc n) at place [] tail whole short few broken = broken n at (omega arith)
-broken_behind (suc n) at place (batch ∷ batches) tail whole short few broken =
+broken_behind : (v n at place : ℕ) (batches : List Bytes) (tail : Bytes) → AreWhole (record_fault v) batches
+    → length (batches_text batches) < 2 ^ 64 → length batches < n
+    → ((k at' : ℕ) → at' ≡ at + length (batches_text batches) → first_batches v (suc k) at' tail ≡ Err place)
+    → first_batches v n at (batches_text batches ++ tail) ≡ Err place
+broken_behind v zero at place batches tail whole short few broken = absurd (omega (arith, few))
+broken_behind v (suc n) at place [] tail whole short few broken = broken n at (omega arith)
+broken_behind v (suc n) at place (batch ∷ batches) tail whole short few broken =
     let rest = batches_text batches ++ tail in
     let size = length batch in
     let long = length-append (framed batch) (batches_text batches) in
     let frame = length-framed batch in
     let assoc : batches_text (batch ∷ batches)
     ++ tail ≡ open_gate ∷ (framed batch ++ rest) = ap (λ (l : Bytes). open_gate ∷ l) (append_assoc (framed batch) (batches_text batches) tail) in
-    let behind = broken_behind n (at + 9 + size) place batches tail whole.1 (omega (arith, short, long)) (omega (arith, few))
+    let behind = broken_behind v n (at + 9 + size) place batches tail whole.1 (omega (arith, short, long)) (omega (arith, few))
     (λ k at' is. broken k at' (omega (arith, is, long, frame))) in
-    ap (first_batches (suc n) at) assoc
-    ∙ framed_read at batch rest (first_batches n) (omega (arith, short, long, frame))
-    ∙ ap (λ (r : Result (List Change) ℕ). with_changes r (first_batches n (at + 9 + size) rest)) (whole_there (at + 9) batch whole.0)
-    ∙ ap (with_changes (Ok (changes_in batch))) behind
+    ap (first_batches v (suc n) at) assoc
+    ∙ framed_read v at batch rest (first_batches v n) (omega (arith, short, long, frame))
+    ∙ ap (λ (r : Result (List Change) ℕ). with_changes r (first_batches v n (at + 9 + size) rest)) (whole_there v (at + 9) batch whole.0)
+    ∙ ap (with_changes (Ok (changes_in v batch))) behind
 
 not_within : (n k : ℕ) → n < k → nat_le k n ≡ false
 not_within n k less = grind (arith, nat_tests)
 
-no_batch : (k at : ℕ) (rest : Bytes) → length rest < 8 + number_in (take 8 rest) → first_batches (suc k) at (open_gate ∷ rest) ≡ Err (at + 1)
-no_batch k at rest past = rw (not_within (length rest) (8 + number_of (take 8 rest)) past) refl
+no_batch : (v k at : ℕ) (rest : Bytes) → length rest < 8 + number_in (take 8 rest) → first_batches v (suc k) at (open_gate ∷ rest) ≡ Err (at + 1)
+no_batch v k at rest past = rw (not_within (length rest) (8 + number_of (take 8 rest)) past) refl
 
-no_record : (k at off : ℕ) (batch rest : Bytes) → length batch < 2 ^ 64 → record_fault batch ≡ Some off
-    → first_batches (suc k) at (open_gate ∷ (framed batch ++ rest)) ≡ Err (at + 9 + off)
-no_record k at off batch rest short none =
-    framed_read at batch rest (first_batches k) short
-    ∙ ap (λ (r : Result (List Change) ℕ). with_changes r (first_batches k (at + 9 + length batch) rest)) (broken_there (at + 9) off batch none)
+no_record : (v k at off : ℕ) (batch rest : Bytes) → length batch < 2 ^ 64 → record_fault v batch ≡ Some off
+    → first_batches v (suc k) at (open_gate ∷ (framed batch ++ rest)) ≡ Err (at + 9 + off)
+no_record v k at off batch rest short none =
+    framed_read v at batch rest (first_batches v k) short
+    ∙ ap (λ (r : Result (List Change) ℕ). with_changes r (first_batches v k (at + 9 + length batch) rest)) (broken_there v (at + 9) off batch none)
 
 -- a side
-behind_header : (g : ℕ) (batches : List Bytes) (tail : Bytes) → drop header_len (front_text g batches ++ tail) ≡ batches_text batches ++ tail
+behind_header : (v g : ℕ) (batches : List Bytes) (tail : Bytes) → drop header_len (front_text v g batches ++ tail) ≡ batches_text batches ++ tail
 unfolding number_bytes
-behind_header g batches tail = refl
+behind_header v g batches tail = refl
 
-place_behind : (g : ℕ) (batches : List Bytes) → gate_place g batches ≡ 16 + length (batches_text batches)
-place_behind g batches = omega (arith, length-append (header g) (batches_text batches), length-number_bytes g)
+place_behind : (v g : ℕ) (batches : List Bytes) → gate_place v g batches ≡ 16 + length (batches_text batches)
+place_behind v g batches = omega (arith, length-append (header v g) (batches_text batches), length-number_bytes g)
 
-broken_text : (g place : ℕ) (batches : List Bytes) (side tail : Bytes) → AreWhole record_fault batches → length side ≤ max_side
-    → side ≡ front_text g batches ++ tail
-    → ((k at : ℕ) → at ≡ gate_place g batches → first_batches (suc k) at tail ≡ Err place) → batches_in header_len (drop header_len side) ≡ Err place
+broken_text : (v g place : ℕ) (batches : List Bytes) (side tail : Bytes) → AreWhole (record_fault v) batches → length side ≤ max_side
+    → side ≡ front_text v g batches ++ tail
+    → ((k at : ℕ) → at ≡ gate_place v g batches → first_batches v (suc k) at tail ≡ Err place)
+    → batches_in v header_len (drop header_len side) ≡ Err place
 unfolding batches_in
-broken_text g place batches side tail whole short text broken =
+broken_text v g place batches side tail whole short text broken =
     let bytes = batches_text batches ++ tail in
-    let long = length-append (front_text g batches) tail in
-    let front = place_behind g batches in
-    ap (λ (l : Bytes). batches_in header_len (drop header_len l)) text ∙ ap (batches_in header_len) (behind_header g batches tail)
-    ∙ broken_behind (length bytes + 1) header_len place batches tail whole (omega (arith, short, ap length text, long, front))
+    let long = length-append (front_text v g batches) tail in
+    let front = place_behind v g batches in
+    ap (λ (l : Bytes). batches_in v header_len (drop header_len l)) text ∙ ap (batches_in v header_len) (behind_header v g batches tail)
+    ∙ broken_behind v (length bytes + 1) header_len place batches tail whole (omega (arith, short, ap length text, long, front))
     (omega (arith, few_batches batches, length-append (batches_text batches) tail))
     (λ k at is. broken k at (omega (arith, is, front)))
 
-broken_reads : (g place : ℕ) (side : Bytes) → length side ≤ max_side → IsBroken record_fault g side place
-    → batches_in header_len (drop header_len side) ≡ Err place
-broken_reads g place side short broken = by_cause broken.cause
+broken_reads : (v g place : ℕ) (side : Bytes) → length side ≤ max_side → IsBroken record_fault v g side place
+    → batches_in v header_len (drop header_len side) ≡ Err place
+broken_reads v g place side short broken = by_cause broken.cause
   where
-    by_cause : (HasNoGate g broken.batches side place ⊎ HasNoBatch g broken.batches side place) ⊎ HasNoRecord record_fault g broken.batches side place
-        → batches_in header_len (drop header_len side) ≡ Err place
+    by_cause : (HasNoGate v g broken.batches side place ⊎ HasNoBatch v g broken.batches side place)
+        ⊎ HasNoRecord (record_fault v) v g broken.batches side place → batches_in v header_len (drop header_len side) ≡ Err place
     by_cause (inl (inl no_gate)) =
-        broken_text g place broken.batches side [] broken.whole short (no_gate.text ∙ sym (append-nil (front_text g broken.batches)))
+        broken_text v g place broken.batches side [] broken.whole short (no_gate.text ∙ sym (append-nil (front_text v g broken.batches)))
         (λ k at is. ap Err (is ∙ sym no_gate.here))
     by_cause (inl (inr past)) =
-        broken_text g place broken.batches side (open_gate ∷ past.rest) broken.whole short past.text
-        (λ k at is. no_batch k at past.rest past.past ∙ ap Err (let e : at + 1 ≡ place = omega (arith, is, past.here) in e))
+        broken_text v g place broken.batches side (open_gate ∷ past.rest) broken.whole short past.text
+        (λ k at is. no_batch v k at past.rest past.past ∙ ap Err (let e : at + 1 ≡ place = omega (arith, is, past.here) in e))
     by_cause (inr none) =
-        broken_text g place broken.batches side (open_gate ∷ (framed none.batch ++ none.rest)) broken.whole short none.text
+        broken_text v g place broken.batches side (open_gate ∷ (framed none.batch ++ none.rest)) broken.whole short none.text
         (λ k at is.
-        no_record k at none.at none.batch none.rest
+        no_record v k at none.at none.batch none.rest
         (omega (
           arith,
           short,
           ap length none.text,
-          length-append (front_text g broken.batches)
+          length-append (front_text v g broken.batches)
               (open_gate ∷ (framed none.batch ++ none.rest)),
           length-append (framed none.batch) none.rest,
           length-framed none.batch,
@@ -147,12 +150,14 @@ broken_reads g place side short broken = by_cause broken.cause
         ∙ ap Err (let e : at + 9 + none.at ≡ place = omega (arith, is, none.here) in e))
 
 -- both sides
-used_damaged : (s : Sides) (side : Side) (g place : ℕ) → IsInUse s side g → batches_in header_len (drop header_len (side_of s side)) ≡ Err place
+used_damaged : (s : Sides) (side : Side) (v place : ℕ) → IsInUse s side v → batches_in v header_len (drop header_len (side_of s side)) ≡ Err place
     → Damaged s side place
 unfolding reading
-used_damaged s side g place kept broken =
+used_damaged s side v place kept broken =
+    let bytes = side_of s side in
     ap (λ (c : Option (Side × ℕ)). unless_damaged c (reading_in_use s (side_in_use s))) kept.fine ∙ ap (reading_in_use s) kept.used
-    ∙ ap (reading_of side (generation_of (side_of s side))) broken
+    ∙ ap (λ (w : ℕ). reading_of side w (generation_of bytes) (batches_in w header_len (drop header_len bytes))) kept.versioned
+    ∙ ap (reading_of side v (generation_of bytes)) broken
 
 heads_are_damaged : (s : Sides) (side : Side) (place : ℕ) → cause_of s ≡ Some (side, place) → Damaged s side place
 unfolding reading
@@ -163,6 +168,7 @@ pub damaged_reads : (s : Sides) (side : Side) (place : ℕ) → IsDamaged record
 damaged_reads s side place (inl heads) =
     heads_are_damaged s side place (heads_damaged s (head_of s.a) (head_of s.b) side place (head_says s.a) (head_says s.b) heads)
 damaged_reads s side place (inr broken) =
-    let kept = heads_used s (head_of s.a) (head_of s.b) side broken.generation broken.len (head_says s.a) (head_says s.b) broken.used in
-    used_damaged s side broken.generation place kept
-    (broken_reads broken.generation place (side_of s side) (ltb-false max_side (length (side_of s side)) kept.short) broken.broken)
+    let v = broken.version in
+    let kept = heads_used s (head_of s.a) (head_of s.b) side v broken.generation broken.len (head_says s.a) (head_says s.b) broken.used in
+    used_damaged s side v place kept
+    (broken_reads v broken.generation place (side_of s side) (ltb-false max_side (length (side_of s side)) kept.short) broken.broken)

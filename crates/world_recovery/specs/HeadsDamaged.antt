@@ -9,7 +9,7 @@ use Rattle.append_log.specs.Heads.{start_of}
 use Rattle.append_log.specs.declared.side_heads.Head.{Head}
 use Rattle.append_log.specs.declared.side_heads.Head.TheVariants.{TooLong, Shut, Wrong, Open}
 use Rattle.append_log.specs.declared.side_heads.Start.TheVariants.{Fresh, Standing, Damaged}
-use Rattle.log_record.specs.Readings.{max_side, is_open, generation_of, header_fault, too_long, wrong_header, equal_generations, no_header}
+use Rattle.log_record.specs.Readings.{max_side, is_open, version_of, header_fault, too_long, wrong_header, equal_generations, no_header}
 use Rattle.log_record.specs.Readings.{first_cause, cause_of, side_in_use}
 use Rattle.world_recovery.specs.HeadsRead.{Says}
 
@@ -68,27 +68,27 @@ module _ (s : Sides) where
       (B, place) (short s A a) (short s B b.0) right_a (wrong s B place b.1 b.2)
 
   -- two open sides
-  both_equal : (g n h m : ℕ) → Says s.a (Open g n) → Says s.b (Open h m) → (g == h) ≡ true → cause_of s ≡ Some (B, 8)
-  both_equal g n h m a b is =
+  both_equal : (v g n w h m : ℕ) → Says s.a (Open v g n) → Says s.b (Open w h m) → (g == h) ≡ true → cause_of s ≡ Some (B, 8)
+  both_equal v g n w h m a b is =
       fifth (too_long s A) (too_long s B) (wrong_header s A) (wrong_header s B) (equal_generations s) (no_header s) (B, 8) (short s A a.0)
       (short s B b.0) (right s A a.1 a.2) (right s B b.1 b.2) (rw (a.1, b.1, a.3, b.3, is) refl)
 
-  both_fine : (g n h m : ℕ) → Says s.a (Open g n) → Says s.b (Open h m) → (g == h) ≡ false → cause_of s ≡ None
-  both_fine g n h m a b is =
+  both_fine : (v g n w h m : ℕ) → Says s.a (Open v g n) → Says s.b (Open w h m) → (g == h) ≡ false → cause_of s ≡ None
+  both_fine v g n w h m a b is =
       last (too_long s A) (too_long s B) (wrong_header s A) (wrong_header s B) (equal_generations s) (no_header s) None (short s A a.0)
       (short s B b.0) (right s A a.1 a.2) (right s B b.1 b.2) (rw (a.1, b.1, a.3, b.3, is) refl)
       (rw a.1 refl)
 
   -- one
-  a_fine : (g n m : ℕ) → Says s.a (Open g n) → Says s.b (Shut m) → (cause_of s ≡ None) × (side_in_use s ≡ Some A)
-  a_fine g n m a b = (
+  a_fine : (v g n m : ℕ) → Says s.a (Open v g n) → Says s.b (Shut m) → (cause_of s ≡ None) × (side_in_use s ≡ Some A)
+  a_fine v g n m a b = (
     last (too_long s A) (too_long s B) (wrong_header s A) (wrong_header s B) (equal_generations s) (no_header s) None (short s A a.0) (short s B b.0)
         (right s A a.1 a.2) (shut s B b.1) (rw (a.1, b.1) refl) (rw a.1 refl),
     rw (a.1, b.1) refl,
   )
 
-  b_fine : (n h m : ℕ) → Says s.a (Shut n) → Says s.b (Open h m) → (cause_of s ≡ None) × (side_in_use s ≡ Some B)
-  b_fine n h m a b = (
+  b_fine : (n w h m : ℕ) → Says s.a (Shut n) → Says s.b (Open w h m) → (cause_of s ≡ None) × (side_in_use s ≡ Some B)
+  b_fine n w h m a b = (
     last (too_long s A) (too_long s B) (wrong_header s A) (wrong_header s B) (equal_generations s) (no_header s) None (short s A a.0) (short s B b.0)
         (shut s A a.1) (right s B b.1 b.2) (rw a.1 refl) (rw (a.1, b.1) refl),
     rw (a.1, b.1) refl,
@@ -110,12 +110,12 @@ module _ (s : Sides) where
       let places : p ≡ place = cc e in
       is ∙ ap (λ (y : Side). Some (y, p)) sides ∙ ap (λ (k : ℕ). Some (side, k)) places
 
-  by_equal : (g n h m : ℕ) (side : Side) (place : ℕ) (t : Bool) → (g == h) ≡ t → Says s.a (Open g n) → Says s.b (Open h m)
-      → (if t then Damaged B 8 else if nat_lt h g then Standing A g n else Standing B h m) ≡ Damaged side place → cause_of s ≡ Some (side, place)
-  by_equal g n h m side place true is a b e = cause_as B side 8 place (both_equal g n h m a b is) e
-  by_equal g n h m side place false is a b e = absurd (not_damaged (nat_lt h g) e)
+  by_equal : (v g n w h m : ℕ) (side : Side) (place : ℕ) (t : Bool) → (g == h) ≡ t → Says s.a (Open v g n) → Says s.b (Open w h m)
+      → (if t then Damaged B 8 else if nat_lt h g then Standing A v g n else Standing B w h m) ≡ Damaged side place → cause_of s ≡ Some (side, place)
+  by_equal v g n w h m side place true is a b e = cause_as B side 8 place (both_equal v g n w h m a b is) e
+  by_equal v g n w h m side place false is a b e = absurd (not_damaged (nat_lt h g) e)
     where
-      not_damaged : (t : Bool) → (if t then Standing A g n else Standing B h m) ≡ Damaged side place → ⊥
+      not_damaged : (t : Bool) → (if t then Standing A v g n else Standing B w h m) ≡ Damaged side place → ⊥
       not_damaged true e = absurd (cc e)
       not_damaged false e = absurd (cc e)
 
@@ -130,61 +130,63 @@ module _ (s : Sides) where
   heads_damaged TooLong b side place says_a says_b e = cause_as A side max_side place (too_long_a says_a) e
   heads_damaged (Shut n) TooLong side place says_a says_b e = cause_as B side max_side place (too_long_b says_a.0 says_b) e
   heads_damaged (Wrong p) TooLong side place says_a says_b e = cause_as B side max_side place (too_long_b says_a.0 says_b) e
-  heads_damaged (Open g n) TooLong side place says_a says_b e = cause_as B side max_side place (too_long_b says_a.0 says_b) e
+  heads_damaged (Open v g n) TooLong side place says_a says_b e = cause_as B side max_side place (too_long_b says_a.0 says_b) e
   heads_damaged (Wrong p) (Shut m) side place says_a says_b e = cause_as A side p place (wrong_a p says_a says_b.0) e
   heads_damaged (Wrong p) (Wrong q) side place says_a says_b e = cause_as A side p place (wrong_a p says_a says_b.0) e
-  heads_damaged (Wrong p) (Open h m) side place says_a says_b e = cause_as A side p place (wrong_a p says_a says_b.0) e
+  heads_damaged (Wrong p) (Open w h m) side place says_a says_b e = cause_as A side p place (wrong_a p says_a says_b.0) e
   heads_damaged (Shut n) (Wrong q) side place says_a says_b e = cause_as B side q place (wrong_b q says_a.0 (shut s A says_a.1) says_b) e
-  heads_damaged (Open g n) (Wrong q) side place says_a says_b e = cause_as B side q place (wrong_b q says_a.0 (right s A says_a.1 says_a.2) says_b) e
-  heads_damaged (Open g n) (Open h m) side place says_a says_b e = by_equal g n h m side place (g == h) refl says_a says_b e
-  heads_damaged (Open g n) (Shut m) side place says_a says_b e = absurd (cc e)
-  heads_damaged (Shut n) (Open h m) side place says_a says_b e = absurd (cc e)
+  heads_damaged (Open v g n) (Wrong q) side place says_a says_b e = cause_as B side q place (wrong_b q says_a.0 (right s A says_a.1 says_a.2) says_b) e
+  heads_damaged (Open v g n) (Open w h m) side place says_a says_b e = by_equal v g n w h m side place (g == h) refl says_a says_b e
+  heads_damaged (Open v g n) (Shut m) side place says_a says_b e = absurd (cc e)
+  heads_damaged (Shut n) (Open w h m) side place says_a says_b e = absurd (cc e)
   heads_damaged (Shut n) (Shut m) side place says_a says_b e = by_byte n m side place (m == 0) refl says_a says_b e
 
   -- a side in use, which no cause stands in the way of
-  pub record IsInUse (side : Side) (generation : ℕ) : Type 0 where
+  pub record IsInUse (side : Side) (version : ℕ) : Type 0 where
     pub fine : cause_of s ≡ None
     pub used : side_in_use s ≡ Some side
-    pub numbered : generation_of (side_of s side) ≡ generation
+    pub versioned : version_of (side_of s side) ≡ version
     pub short : nat_lt max_side (length (side_of s side)) ≡ false
 
-  by_less : (g n h m : ℕ) (side : Side) (k len : ℕ) (t u : Bool) → (g == h) ≡ t → nat_lt h g ≡ u → Says s.a (Open g n) → Says s.b (Open h m)
-      → (if t then Damaged B 8 else if u then Standing A g n else Standing B h m) ≡ Standing side k len → IsInUse side k
-  by_less g n h m side k len true u is less a b e = absurd (cc e)
-  by_less g n h m side k len false true is less a b e =
+  by_less : (v g n w h m : ℕ) (side : Side) (j k len : ℕ) (t u : Bool) → (g == h) ≡ t → nat_lt h g ≡ u → Says s.a (Open v g n)
+      → Says s.b (Open w h m)
+      → (if t then Damaged B 8 else if u then Standing A v g n else Standing B w h m) ≡ Standing side j k len → IsInUse side j
+  by_less v g n w h m side j k len true u is less a b e = absurd (cc e)
+  by_less v g n w h m side j k len false true is less a b e =
       let sides : A ≡ side = cc e in
-      let numbers : g ≡ k = cc e in
-      subst (λ (x : Side). IsInUse x k) sides
-      (record { fine = both_fine g n h m a b is; used = rw (a.1, b.1, a.3, b.3, less) refl; numbered = a.3 ∙ numbers; short = a.0 })
-  by_less g n h m side k len false false is less a b e =
+      let versions : v ≡ j = cc e in
+      subst (λ (x : Side). IsInUse x j) sides
+      (record { fine = both_fine v g n w h m a b is; used = rw (a.1, b.1, a.3, b.3, less) refl; versioned = a.4 ∙ versions; short = a.0 })
+  by_less v g n w h m side j k len false false is less a b e =
       let sides : B ≡ side = cc e in
-      let numbers : h ≡ k = cc e in
-      subst (λ (x : Side). IsInUse x k) sides
-      (record { fine = both_fine g n h m a b is; used = rw (a.1, b.1, a.3, b.3, less) refl; numbered = b.3 ∙ numbers; short = b.0 })
+      let versions : w ≡ j = cc e in
+      subst (λ (x : Side). IsInUse x j) sides
+      (record { fine = both_fine v g n w h m a b is; used = rw (a.1, b.1, a.3, b.3, less) refl; versioned = b.4 ∙ versions; short = b.0 })
 
-  not_standing : (m : ℕ) (side : Side) (k len : ℕ) (t : Bool) → (if t then Fresh else Damaged A 0) ≡ Standing side k len → ⊥
-  not_standing m side k len true e = absurd (cc e)
-  not_standing m side k len false e = absurd (cc e)
+  not_standing : (m : ℕ) (side : Side) (j k len : ℕ) (t : Bool) → (if t then Fresh else Damaged A 0) ≡ Standing side j k len → ⊥
+  not_standing m side j k len true e = absurd (cc e)
+  not_standing m side j k len false e = absurd (cc e)
 
-  pub heads_used : (a b : Head) (side : Side) (k len : ℕ) → Says s.a a → Says s.b b → start_of a b ≡ Standing side k len → IsInUse side k
-  heads_used TooLong b side k len says_a says_b e = absurd (cc e)
-  heads_used (Shut n) TooLong side k len says_a says_b e = absurd (cc e)
-  heads_used (Wrong p) TooLong side k len says_a says_b e = absurd (cc e)
-  heads_used (Open g n) TooLong side k len says_a says_b e = absurd (cc e)
-  heads_used (Wrong p) (Shut m) side k len says_a says_b e = absurd (cc e)
-  heads_used (Wrong p) (Wrong q) side k len says_a says_b e = absurd (cc e)
-  heads_used (Wrong p) (Open h m) side k len says_a says_b e = absurd (cc e)
-  heads_used (Shut n) (Wrong q) side k len says_a says_b e = absurd (cc e)
-  heads_used (Open g n) (Wrong q) side k len says_a says_b e = absurd (cc e)
-  heads_used (Open g n) (Open h m) side k len says_a says_b e = by_less g n h m side k len (g == h) (nat_lt h g) refl refl says_a says_b e
-  heads_used (Open g n) (Shut m) side k len says_a says_b e =
+  pub heads_used : (a b : Head) (side : Side) (j k len : ℕ) → Says s.a a → Says s.b b → start_of a b ≡ Standing side j k len → IsInUse side j
+  heads_used TooLong b side j k len says_a says_b e = absurd (cc e)
+  heads_used (Shut n) TooLong side j k len says_a says_b e = absurd (cc e)
+  heads_used (Wrong p) TooLong side j k len says_a says_b e = absurd (cc e)
+  heads_used (Open v g n) TooLong side j k len says_a says_b e = absurd (cc e)
+  heads_used (Wrong p) (Shut m) side j k len says_a says_b e = absurd (cc e)
+  heads_used (Wrong p) (Wrong q) side j k len says_a says_b e = absurd (cc e)
+  heads_used (Wrong p) (Open w h m) side j k len says_a says_b e = absurd (cc e)
+  heads_used (Shut n) (Wrong q) side j k len says_a says_b e = absurd (cc e)
+  heads_used (Open v g n) (Wrong q) side j k len says_a says_b e = absurd (cc e)
+  heads_used (Open v g n) (Open w h m) side j k len says_a says_b e =
+      by_less v g n w h m side j k len (g == h) (nat_lt h g) refl refl says_a says_b e
+  heads_used (Open v g n) (Shut m) side j k len says_a says_b e =
       let sides : A ≡ side = cc e in
-      let numbers : g ≡ k = cc e in
-      let fine = a_fine g n m says_a says_b in
-      subst (λ (x : Side). IsInUse x k) sides (record { fine = fine.0; used = fine.1; numbered = says_a.3 ∙ numbers; short = says_a.0 })
-  heads_used (Shut n) (Open h m) side k len says_a says_b e =
+      let versions : v ≡ j = cc e in
+      let fine = a_fine v g n m says_a says_b in
+      subst (λ (x : Side). IsInUse x j) sides (record { fine = fine.0; used = fine.1; versioned = says_a.4 ∙ versions; short = says_a.0 })
+  heads_used (Shut n) (Open w h m) side j k len says_a says_b e =
       let sides : B ≡ side = cc e in
-      let numbers : h ≡ k = cc e in
-      let fine = b_fine n h m says_a says_b in
-      subst (λ (x : Side). IsInUse x k) sides (record { fine = fine.0; used = fine.1; numbered = says_b.3 ∙ numbers; short = says_b.0 })
-  heads_used (Shut n) (Shut m) side k len says_a says_b e = absurd (not_standing m side k len (m == 0) e)
+      let versions : w ≡ j = cc e in
+      let fine = b_fine n w h m says_a says_b in
+      subst (λ (x : Side). IsInUse x j) sides (record { fine = fine.0; used = fine.1; versioned = says_b.4 ∙ versions; short = says_b.0 })
+  heads_used (Shut n) (Shut m) side j k len says_a says_b e = absurd (not_standing m side j k len (m == 0) e)

@@ -7,8 +7,8 @@ use Rattle.byte_text.specs.Names.{Bytes, same}
 use Rattle.append_log.specs.Heads.{head_of, generation_in}
 use Rattle.append_log.specs.declared.side_heads.Head.{Head}
 use Rattle.append_log.specs.declared.side_heads.Head.TheVariants.{TooLong, Shut, Wrong, Open}
-use Rattle.log_record.specs.Readings.{max_side, is_open, generation_of, header_fault, IsOlder}
-use Rattle.log_sides.specs.Texts.{open_gate}
+use Rattle.log_record.specs.Readings.{max_side, is_open, version_of, generation_of, header_fault, IsOlder}
+use Rattle.log_sides.specs.Texts.{open_gate, is_unknown, is_misnumbered}
 use Rattle.journal.specs.Logs.{leaves_in_use, IsBehind}
 
 -- a side that is not too long
@@ -20,25 +20,27 @@ abbrev pub Says : Bytes → Head → Type 0
 Says bytes TooLong = nat_lt max_side (length bytes) ≡ true
 Says bytes (Shut n) = IsShort bytes × (is_open bytes ≡ false) × (n ≡ length bytes)
 Says bytes (Wrong place) = IsShort bytes × (is_open bytes ≡ true) × (header_fault bytes ≡ Some place)
-Says bytes (Open generation n) = IsShort bytes × (is_open bytes ≡ true) × (header_fault bytes ≡ None) × (generation_of bytes ≡ generation)
+Says bytes (Open version generation n) =
+    IsShort bytes × (is_open bytes ≡ true) × (header_fault bytes ≡ None) × (generation_of bytes ≡ generation) × (version_of bytes ≡ version)
 
 abbrev fault_by : Bool → Bool → Bool → Bool → Option ℕ
-fault_by letters version zeros none = if not letters then Some 1 else if not version then Some 4 else if not zeros then Some 5 else if none then
-    Some 8 else None
+fault_by letters unknown zeros misnumbered = if not letters then Some 1 else if unknown then Some 4 else if not zeros then Some 5 else if misnumbered
+    then Some 8 else None
 
-says_if : (bytes : Bytes) (long short gate letters version zeros none : Bool) (g : ℕ) → nat_lt max_side (length bytes) ≡ long
-    → is_open bytes ≡ (not short && gate) → (short ≡ false → (header_fault bytes ≡ fault_by letters version zeros none) × (generation_of bytes ≡ g))
+says_if : (bytes : Bytes) (long short gate letters unknown zeros misnumbered : Bool) (v g : ℕ) → nat_lt max_side (length bytes) ≡ long
+    → is_open bytes ≡ (not short && gate)
+    → (short ≡ false → (header_fault bytes ≡ fault_by letters unknown zeros misnumbered) × (generation_of bytes ≡ g) × (version_of bytes ≡ v))
     → Says bytes (if long then TooLong else if short
-    || not gate then Shut (length bytes) else if not letters then Wrong 1 else if not version then Wrong 4 else if not zeros then Wrong 5 else
-    if none then Wrong 8 else Open g (length bytes))
-says_if bytes true short gate letters version zeros none g e o f = e
-says_if bytes false true gate letters version zeros none g e o f = (e, o, refl)
-says_if bytes false false false letters version zeros none g e o f = (e, o, refl)
-says_if bytes false false true false version zeros none g e o f = (e, o, (f refl).0)
-says_if bytes false false true true false zeros none g e o f = (e, o, (f refl).0)
-says_if bytes false false true true true false none g e o f = (e, o, (f refl).0)
-says_if bytes false false true true true true true g e o f = (e, o, (f refl).0)
-says_if bytes false false true true true true false g e o f = (e, o, (f refl).0, (f refl).1)
+    || not gate then Shut (length bytes) else if not letters then Wrong 1 else if unknown then Wrong 4 else if not zeros then Wrong 5 else
+    if misnumbered then Wrong 8 else Open v g (length bytes))
+says_if bytes true short gate letters unknown zeros misnumbered v g e o f = e
+says_if bytes false true gate letters unknown zeros misnumbered v g e o f = (e, o, refl)
+says_if bytes false false false letters unknown zeros misnumbered v g e o f = (e, o, refl)
+says_if bytes false false true false unknown zeros misnumbered v g e o f = (e, o, (f refl).0)
+says_if bytes false false true true true zeros misnumbered v g e o f = (e, o, (f refl).0)
+says_if bytes false false true true false false misnumbered v g e o f = (e, o, (f refl).0)
+says_if bytes false false true true false true true v g e o f = (e, o, (f refl).0)
+says_if bytes false false true true false true false v g e o f = (e, o, (f refl).0, (f refl).1, (f refl).2)
 
 and_true : (b : Bool) → (b && true) ≡ b
 and_true true = refl
@@ -55,20 +57,17 @@ and_assoc : (p q r : Bool) → ((p && q) && r) ≡ (p && (q && r))
 and_assoc true q r = refl
 and_assoc false q r = refl
 
--- three bytes and one are compared one by one
+-- three bytes are compared one by one
 three : (a b c x y z : ℕ) → same (a ∷ b ∷ c ∷ []) (x ∷ y ∷ z ∷ []) ≡ (a == x && b == y && c == z)
 three a b c x y z = ap (λ (t : Bool). (a == x) && ((b == y) && t)) (and_true (c == z)) ∙ sym (and_assoc (a == x) (b == y) (c == z))
-
-one : (a x : ℕ) → same (a ∷ []) (x ∷ []) ≡ (a == x)
-one a x = and_true (a == x)
 
 -- the header of a side that is long enough
 abbrev Reads : Bytes → Type 0
 Reads bytes = let first = take 16 bytes in
     (header_fault bytes ≡ fault_by (slice_index first 1 == 84 && slice_index first 2 == 70
-    && slice_index first 3 == 76) (slice_index first 4 == 1) (slice_index first 5 == 0 && slice_index first 6 == 0
-    && slice_index first 7 == 0) (generation_in first == 0))
-    × (generation_of bytes ≡ generation_in first)
+    && slice_index first 3 == 76) (is_unknown (slice_index first 4)) (slice_index first 5 == 0 && slice_index first 6 == 0
+    && slice_index first 7 == 0) (is_misnumbered (slice_index first 4) (generation_in first)))
+    × (generation_of bytes ≡ generation_in first) × (version_of bytes ≡ slice_index first 4)
 
 header_reads : (bytes : Bytes) → nat_lt (length bytes) 17 ≡ false → Reads bytes
 header_reads [] e = absurd (cc e)
@@ -87,7 +86,7 @@ header_reads (b0 ∷ b1 ∷ b2 ∷ b3 ∷ b4 ∷ b5 ∷ b6 ∷ b7 ∷ b8 ∷ b9 
 header_reads (b0 ∷ b1 ∷ b2 ∷ b3 ∷ b4 ∷ b5 ∷ b6 ∷ b7 ∷ b8 ∷ b9 ∷ b10 ∷ b11 ∷ b12 ∷ []) e = absurd (cc e)
 header_reads (b0 ∷ b1 ∷ b2 ∷ b3 ∷ b4 ∷ b5 ∷ b6 ∷ b7 ∷ b8 ∷ b9 ∷ b10 ∷ b11 ∷ b12 ∷ b13 ∷ []) e = absurd (cc e)
 header_reads (b0 ∷ b1 ∷ b2 ∷ b3 ∷ b4 ∷ b5 ∷ b6 ∷ b7 ∷ b8 ∷ b9 ∷ b10 ∷ b11 ∷ b12 ∷ b13 ∷ b14 ∷ []) e = absurd (cc e)
-header_reads (b0 ∷ b1 ∷ b2 ∷ b3 ∷ b4 ∷ b5 ∷ b6 ∷ b7 ∷ b8 ∷ b9 ∷ b10 ∷ b11 ∷ b12 ∷ b13 ∷ b14 ∷ b15 ∷ rest) e = (fault, refl)
+header_reads (b0 ∷ b1 ∷ b2 ∷ b3 ∷ b4 ∷ b5 ∷ b6 ∷ b7 ∷ b8 ∷ b9 ∷ b10 ∷ b11 ∷ b12 ∷ b13 ∷ b14 ∷ b15 ∷ rest) e = (fault, refl, refl)
   where
     letters : same (b1 ∷ b2 ∷ b3 ∷ []) (codes "TFL") ≡ (b1 == 84 && b2 == 70 && b3 == 76)
     letters = three b1 b2 b3 84 70 76
@@ -96,19 +95,19 @@ header_reads (b0 ∷ b1 ∷ b2 ∷ b3 ∷ b4 ∷ b5 ∷ b6 ∷ b7 ∷ b8 ∷ b9 
     generation = generation_of (b0 ∷ b1 ∷ b2 ∷ b3 ∷ b4 ∷ b5 ∷ b6 ∷ b7 ∷ b8 ∷ b9 ∷ b10 ∷ b11 ∷ b12 ∷ b13 ∷ b14 ∷ b15 ∷ rest)
 
     fault : header_fault (b0 ∷ b1 ∷ b2 ∷ b3 ∷ b4 ∷ b5 ∷ b6 ∷ b7 ∷ b8 ∷ b9 ∷ b10 ∷ b11 ∷ b12 ∷ b13 ∷ b14 ∷ b15 ∷ rest)
-        ≡ fault_by (b1 == 84 && b2 == 70 && b3 == 76) (b4 == 1) (b5 == 0 && b6 == 0 && b7 == 0) (generation == 0)
+        ≡ fault_by (b1 == 84 && b2 == 70 && b3 == 76) (is_unknown b4) (b5 == 0 && b6 == 0 && b7 == 0) (is_misnumbered b4 generation)
     fault =
-        ap (λ (l : Bool). fault_by l (same (b4 ∷ []) (1 ∷ [])) (same (b5 ∷ b6 ∷ b7 ∷ []) (0 ∷ 0 ∷ 0 ∷ [])) (generation == 0)) letters
-        ∙ ap (λ (v : Bool). fault_by (b1 == 84 && b2 == 70 && b3 == 76) v (same (b5 ∷ b6 ∷ b7 ∷ []) (0 ∷ 0 ∷ 0 ∷ [])) (generation == 0)) (one b4 1)
-        ∙ ap (λ (z : Bool). fault_by (b1 == 84 && b2 == 70 && b3 == 76) (b4 == 1) z (generation == 0)) (three b5 b6 b7 0 0 0)
+        ap (λ (l : Bool). fault_by l (is_unknown b4) (same (b5 ∷ b6 ∷ b7 ∷ []) (0 ∷ 0 ∷ 0 ∷ [])) (is_misnumbered b4 generation)) letters
+        ∙ ap (λ (z : Bool). fault_by (b1 == 84 && b2 == 70 && b3 == 76) (is_unknown b4) z (is_misnumbered b4 generation)) (three b5 b6 b7 0 0 0)
 
 pub head_says : (bytes : Bytes) → Says bytes (head_of bytes)
 head_says bytes =
     let first = take 16 bytes in
     says_if bytes (nat_lt max_side (length bytes)) (nat_lt (length bytes) 17) (slice_index first 0 == open_gate) (slice_index first 1 == 84
-    && slice_index first 2 == 70 && slice_index first 3 == 76) (slice_index first 4 == 1)
+    && slice_index first 2 == 70 && slice_index first 3 == 76) (is_unknown (slice_index first 4))
     (slice_index first 5 == 0 && slice_index first 6 == 0
-    && slice_index first 7 == 0) (generation_in first == 0) (generation_in first) refl (opens bytes) (header_reads bytes)
+    && slice_index first 7 == 0) (is_misnumbered (slice_index first 4) (generation_in first)) (slice_index first 4) (generation_in first) refl
+    (opens bytes) (header_reads bytes)
 
 -- a side that leaves another one in use is not open, or older
 lt_of : (a b : ℕ) → nat_lt a b ≡ true → a < b
@@ -118,7 +117,7 @@ by_head : (g : ℕ) (bytes : Bytes) (h : Head) → Says bytes h → leaves_in_us
 by_head g bytes TooLong says leaves opened = absurd (let clash : false ≡ true = leaves in cc)
 by_head g bytes (Shut n) says leaves opened = absurd (let clash : true ≡ false = sym opened ∙ says.1 in cc)
 by_head g bytes (Wrong place) says leaves opened = absurd (let clash : false ≡ true = leaves in cc)
-by_head g bytes (Open h n) says leaves opened = (says.2, (let less = lt_of h g leaves in omega (arith, less, says.3)))
+by_head g bytes (Open v h n) says leaves opened = (says.2, (let less = lt_of h g leaves in omega (arith, less, says.3)))
 
 pub behind_older : (g : ℕ) (bytes : Bytes) → IsBehind g bytes → IsOlder g bytes
 behind_older g bytes behind = by_head g bytes (head_of bytes) (head_says bytes) behind

@@ -5,3 +5,4 @@ pub mod HeadsRead
 pub mod HeadsDamaged
 pub mod BatchesHeld
 pub mod BatchesBroken
+pub mod Records

@@ -20,13 +20,13 @@ pub record RecoversSince {D : Type 0} (moment : D → ℕ) (left_since : D → �
   pub past : since ≤ moment new
   pub each : EachSince left_since new since (λ image. Recovers image world)
 
--- From a disk to a new one: the world is that of batches of whole records, which are kept. Where the disk tells its contents the world is
+-- From a disk to a new one: the world is that of batches of whole records of a version, which are kept. Where the disk tells its contents the world is
 -- the one that they are recovered as; where it tells crashes, so is whatever one leaves, from some moment on.
 pub record IsOpened {D : Type 0} (crashes : D → Bool) (seen : D → Option Sides) (moment : D → ℕ) (left_since : D → ℕ → Sides
-    → Type 0) (old new : D) (world : World) (kept : List Bytes → Type 0) : Type 0 where
+    → Type 0) (old new : D) (world : World) (version : ℕ) (kept : List Bytes → Type 0) : Type 0 where
   pub batches : List Bytes
-  pub whole : AreWhole record_fault batches
-  pub world_is : world ≡ world_in batches
+  pub whole : AreWhole (record_fault version) batches
+  pub world_is : world ≡ world_in version batches
   pub keeps : (s : Sides) → seen old ≡ Some s → kept batches
   pub recovers : (s : Sides) → seen old ≡ Some s → Recovers s world
   pub since : (s : Sides) → seen old ≡ Some s → crashes old ≡ true → RecoversSince moment left_since old new world

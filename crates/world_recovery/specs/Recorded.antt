@@ -15,14 +15,14 @@ abbrev pub changes_of : Result (List Change) ℕ → List Change
 changes_of (Ok changes) = changes
 changes_of (Err at) = []
 
--- the place of the first bytes of a batch that are no record, unless all are
-abbrev pub record_fault : Bytes → Option ℕ
-record_fault batch = fault_of (records_in 0 batch)
+-- the place of the first bytes of a batch that are no record of a version, unless all are
+abbrev pub record_fault : ℕ → Bytes → Option ℕ
+record_fault version batch = fault_of (records_in version 0 batch)
 
--- the changes whose records a batch has
-abbrev pub changes_in : Bytes → List Change
-changes_in batch = changes_of (records_in 0 batch)
+-- the changes whose records in it a batch has
+abbrev pub changes_in : ℕ → Bytes → List Change
+changes_in version batch = changes_of (records_in version 0 batch)
 
--- the world that batches make of the empty one
-abbrev pub world_in : List Bytes → World
-world_in batches = folded empty_world (flat_map changes_in batches)
+-- the world that batches of a version make of the empty one
+abbrev pub world_in : ℕ → List Bytes → World
+world_in version batches = folded empty_world (flat_map (changes_in version) batches)

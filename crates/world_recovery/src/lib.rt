@@ -8,6 +8,8 @@ mod laws;
 mod openings;
 mod world_replays;
 
-pub use laws::{commits_make_changes, damage_is_damage, held_batches_are_recovered};
+pub use laws::{
+    commits_make_changes, damage_is_damage, held_batches_are_recovered, logs_are_their_records,
+};
 pub use openings::{OpenedWorld, open_world};
 pub use world_replays::WorldReplay;

@@ -6,7 +6,8 @@ ghost use Rattle.outside.specs.Crashes.{LeavesOnly};
 ghost use Rattle.outside.specs.Sides.{Sides};
 ghost use Rattle.outside.specs.declared.sides.Side.{Side};
 ghost use Rattle.journal.specs.Journals.{Keeps, pending};
-ghost use Rattle.journal.specs.Openings.{AllSafeOn, IsLeftByOpening, IsUnopened, opened_len};
+ghost use Rattle.journal.specs.Openings.{AllSafeOn, IsLeftByOpening, IsUnopened};
+ghost use Rattle.journal.specs.Openings.{opened_version, opened_generation, opened_len};
 ghost use Rattle.journal.specs.declared.openings.OpenFault.TheVariants as fault_of;
 ghost use Rattle.log_record.specs.Readings.{Damaged};
 ghost use Rattle.world_recovery.specs.Opened.{IsOpened, AreRecorded, disk_of};
@@ -29,11 +30,11 @@ pub struct OpenedWorld<D> {
 }
 
 /// Opens the world on a disk: both sides are synced, and the records of the side in use are folded. On a fresh disk a
-/// log is begun, and the world is empty. Damaged comes only where the sides are damaged, with their first cause and its
+/// log is begun, and the world is empty. A log of an older version stays one. Damaged comes only where the sides are damaged, with their first cause and its
 /// place, and so after a crash, too; want of memory says nothing of them.
 pub fn open_world<D: Disk>(alloc: Global, disk: D) -> Result<OpenedWorld<D>, Unopened<D>>
     ensures opened { IfOk result (λ o. IsOpened D.crashes D.seen D.moment D.left_since disk o.journal.disk o.world
-        (λ batches. Keeps D.crashes D.seen D.images o.journal batches [])) }
+        o.journal.log.version (λ batches. Keeps D.crashes D.seen D.images o.journal batches [])) }
     ensures damaged { (s : Sides) → D.seen disk ≡ Some s
         → IfErr result (λ u. (side : Side) (place : ℕ) → u.why ≡ fault_of.Damaged side place → Damaged s side place) }
     ensures settled { (s : Sides) → D.seen disk ≡ Some s
@@ -49,6 +50,10 @@ pub fn open_world<D: Disk>(alloc: Global, disk: D) -> Result<OpenedWorld<D>, Uno
     ensures later { D.faults disk ≤ D.faults (disk_of result) }
     ensures cause { IfErr result (λ u. u.why ≡ fault_of.Disk → Rose (D.faults disk) (D.faults u.disk)) }
     ensures recorded { IfOk result (λ o. AreRecorded o.world) }
+    ensures version { (s : Sides) → D.seen disk ≡ Some s
+        → IfOk result (λ o. o.journal.log.version ≡ opened_version s) }
+    ensures generation { (s : Sides) → D.seen disk ≡ Some s
+        → IfOk result (λ o. o.journal.log.generation ≡ opened_generation s) }
     ensures len { (s : Sides) → D.seen disk ≡ Some s → IfOk result (λ o. o.len ≡ opened_len s) }
     ensures short { IfOk result (λ o. o.len ≤ 2 ^ 62) }
     ensures gate { IfOk result (λ o. o.journal.log.gate ≤ o.len) }

@@ -6,12 +6,14 @@ ghost use Rattle.byte_text.specs.Names.{Bytes};
 ghost use Rattle.byte_text.specs.Requests.{IsRequest};
 ghost use Rattle.world_data.specs.Worlds.{after, empty_world};
 ghost use Rattle.world_data.specs.declared.worlds.Change.{Change};
-ghost use Rattle.log_record.specs.Words.{change_of_words};
+ghost use Rattle.log_sides.specs.Texts.{newest};
+ghost use Rattle.log_record.specs.Versions.{change_of_version};
 ghost use Rattle.world_recovery.specs.Recorded.{record_fault};
 ghost use Rattle.world_recovery.specs.Replayed.{StandsFor, IsRefused};
 
 use byte_text::{NoMemory, Request, requests_are_read};
 use journal::{Refusal, Replay};
+use log_sides::NEWEST;
 use record_reader::{RecordFault, change_of};
 use resp_frames::{Fed, FeedFault, Requests};
 use std::alloc::Global;
@@ -22,6 +24,8 @@ use world_store::StoredWorld;
 /// for the bytes that end it.
 pub struct WorldReplay {
     alloc: Global,
+    // The version whose records are read.
+    version: u8,
     records: Requests,
     world: StoredWorld,
     // How many bytes of the batch were taken.
@@ -34,6 +38,7 @@ impl Drop for WorldReplay {
     fn drop(self) {
         let WorldReplay {
             alloc: _,
+            version: _,
             records: _,
             world: _,
             taken: _,
@@ -47,18 +52,25 @@ impl Model for WorldReplay {
 
     ghost Value = { Replayed };
 
-    ghost view = { λ r. record { world = r.world; waiting = r.records; taken = r.taken; place = r.place } };
+    ghost view = { λ r. record {
+      version = r.version;
+      world = r.world;
+      waiting = r.records;
+      taken = r.taken;
+      place = r.place;
+    } };
 
     ghost invariant = { λ r. Begins r.records };
 }
 
 impl WorldReplay {
-    /// No batch was taken: the world is empty.
+    /// No batch was taken: the world is empty. Records of the newest version are read, until another one is told.
     pub fn new(alloc: Global) -> WorldReplay
-        ensures { StandsFor result [] [] }
+        ensures { StandsFor result newest [] [] }
     {
         WorldReplay {
             alloc,
+            version: NEWEST,
             records: Requests::new(alloc),
             world: StoredWorld::new(alloc),
             taken: 0,
@@ -72,6 +84,7 @@ impl WorldReplay {
     {
         let WorldReplay {
             alloc: _,
+            version: _,
             records: _,
             world,
             taken: _,
@@ -83,10 +96,10 @@ impl WorldReplay {
     // Takes bytes up to the end of the next record, or all where none ends in them. How many were taken is answered.
     fn take_next(&mut self, bytes: &[u8]) -> Result<usize, Refusal>
         requires { 0 < length bytes.now }
-        ensures took { (batches : List Bytes) (part : Bytes) → StandsFor self.old batches part
-            → IfOk result (λ n. StandsFor self.new batches (part ++ take n bytes.now)) }
-        ensures refused { (batches : List Bytes) (part : Bytes) → StandsFor self.old batches part
-            → IfErr result (IsRefused (part ++ bytes.now)) }
+        ensures took { (v : ℕ) (batches : List Bytes) (part : Bytes) → StandsFor self.old v batches part
+            → IfOk result (λ n. StandsFor self.new v batches (part ++ take n bytes.now)) }
+        ensures refused { (v : ℕ) (batches : List Bytes) (part : Bytes) → StandsFor self.old v batches part
+            → IfErr result (IsRefused v (part ++ bytes.now)) }
         ensures some { IfOk result (λ n. 0 < n) }
         ensures within { IfOk result (λ n. n ≤ length bytes.now) }
     {
@@ -106,7 +119,13 @@ impl WorldReplay {
             self.taken = end;
             return Ok(taken);
         };
-        match take_record(self.alloc, &mut self.world, &words, self.place) {
+        match take_record(
+            self.alloc,
+            &mut self.world,
+            &words,
+            self.version,
+            self.place,
+        ) {
             Ok(()) => {
                 self.taken = end;
                 self.place = end;
@@ -117,25 +136,28 @@ impl WorldReplay {
     }
 }
 
-// Folds the change whose record the words are, which begins at this place.
+// Folds the change whose record of this version the words are, which begins at this place.
 fn take_record(
     alloc: Global,
     world: &mut StoredWorld,
     words: &Request,
+    version: u8,
     place: u64,
 ) -> Result<(), Refusal>
     requires { IsRequest words.now }
     ensures folded { OnOk result
-        ((c : Change) × (change_of_words words.now ≡ Some c) × (world.new ≡ after world.old c)) }
+        ((c : Change) × (change_of_version version words.now ≡ Some c) × (world.new ≡ after world.old c)) }
     ensures refused { IfErr result
-        (λ refusal. (at : ℕ) → refusal ≡ Refusal.NoRecord at → (at ≡ place) × (change_of_words words.now ≡ None)) }
+        (λ refusal. (at : ℕ) → refusal ≡ Refusal.NoRecord at
+        → (at ≡ place) × (change_of_version version words.now ≡ None)) }
 {
-    match change_of(alloc, words) {
+    match change_of(alloc, words, version) {
         Ok(change) => match world.fold(change) {
             Ok(()) => Ok(()),
             Err(NoMemory) => Err(Refusal::Memory),
         },
         Err(RecordFault::NotRecord) => Err(Refusal::NoRecord(place)),
+        Err(RecordFault::Version) => Err(Refusal::NoRecord(place)),
         Err(RecordFault::Memory) => Err(Refusal::Memory),
     }
 }
@@ -144,6 +166,10 @@ impl Replay for WorldReplay {
     ghost took = { StandsFor };
 
     ghost fault = { record_fault };
+
+    fn begin(&mut self, version: u8) {
+        self.version = version;
+    }
 
     fn take(&mut self, piece: &[u8]) -> Result<(), Refusal> {
         let mut at = 0;

@@ -1,10 +1,9 @@
 //! A stored world, and the parts that it is taken apart into.
 
-ghost use Rattle.std.specs.Prelude.{◌≡◌, ◌-◌, ◌<◌, ◌^◌, true, length, sum_by, unwrap_or, OnOk, OnErr};
+ghost use Rattle.std.specs.Prelude.{◌≡◌, ◌<◌, ◌^◌, true, length, sum_by, OnOk, OnErr};
 ghost use Rattle.world_data.specs.Worlds.{empty_world, after};
 ghost use Rattle.record_writer.specs.Lengths.{len_of, len_of_channel, HaveFewFields};
-ghost use Rattle.collection.specs.Objects.{least_due};
-ghost use Rattle.world_store.specs.Stored.{HasFew, is_put, world_of};
+ghost use Rattle.world_store.specs.Stored.{HasFew, due_from, earlier_of, is_put, world_of};
 
 use crate::stored_channels::StoredChannels;
 use crate::stored_objects::StoredObjects;
@@ -45,7 +44,7 @@ pub struct StoreParts {
     pub objects: Keyspace,
     /// The bytes of the records of all objects.
     pub weight: u64,
-    /// The least deadline of all objects, or the greatest moment where none has one.
+    /// The least deadline of all objects and channels, or the greatest moment where none has one.
     pub due_from: u64,
     pub hub: Hub,
     /// The bytes of the records of all channels.
@@ -113,7 +112,7 @@ impl StoredWorld {
         ensures world { world_of result ≡ self }
         ensures weight { result.weight ≡ sum_by len_of self.objects }
         ensures channel_weight { result.channel_weight ≡ sum_by len_of_channel self.channels }
-        ensures due_from { result.due_from ≡ unwrap_or (least_due self.objects) (2 ^ 64 - 1) }
+        ensures due_from { result.due_from ≡ due_from self }
         ensures few { length self.objects < 2 ^ 32 }
         ensures few_fields { HaveFewFields self.objects }
     {
@@ -121,11 +120,18 @@ impl StoredWorld {
         let (objects, weight) = objects.into_parts();
         let (hub, channel_weight) = channels.into_parts();
         StoreParts {
-            due_from: objects.least_due().unwrap_or(u64::MAX),
+            due_from: earlier_of(objects.least_due(), hub.least_due()),
             objects,
             weight,
             hub,
             channel_weight,
         }
     }
+}
+
+// The lesser of two moments; the greatest one stands for a moment that is not there.
+fn earlier_of(first: Option<u64>, second: Option<u64>) -> u64
+    ensures { result ≡ earlier_of first second }
+{
+    first.unwrap_or(u64::MAX).min(second.unwrap_or(u64::MAX))
 }

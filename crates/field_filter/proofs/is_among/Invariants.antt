@@ -1,8 +1,8 @@
 use Rattle.std.proofs.Common.{◌≡◌, drop}
 use Rattle.std.specs.List.{list_any}
-use Rattle.planar_geom.specs.Points.{same_int}
+use Rattle.world_data.specs.Filters.{same_value}
 use Rattle.field_filter.proofs.is_among.Given as goal
 
 -- the values that are left decide
 abbrev pub invariant-loop-i : goal.invariant-loop-i
-invariant-loop-i l = list_any (same_int l.value) (drop l.i l.values) ≡ list_any (same_int l.value) l.values
+invariant-loop-i l = list_any (same_value l.value) (drop l.i l.values) ≡ list_any (same_value l.value) l.values

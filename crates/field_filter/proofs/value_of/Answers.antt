@@ -1,5 +1,4 @@
-use Rattle.std.proofs.Common.{◌≡◌, ◌<◌, true, false, length, w64, to_z, of_z, arith, sym, ◌∙◌}
-use Rattle.std.proofs.lemmas.Int.{ints}
+use Rattle.std.proofs.Common.{◌≡◌, ◌<◌, true, false, length, arith, sym, ◌∙◌}
 use Rattle.byte_text.specs.Names.{same}
 use Rattle.world_data.specs.Filters.{value_of}
 use Rattle.field_filter.proofs.FoundValues.{found, passed}
@@ -11,8 +10,7 @@ returns-then-is_same c =
     let name = c.args.name.now in
     let within : c.loop-i.i < length fields = omega arith in
     let holds : same c.name.result.now name ≡ true = sym c.is_same.ensures ∙ c.if-is_same.true in
-    let value : to_z w64 (of_z w64 c.value.result) ≡ c.value.result = omega (arith, ints) in
-    value ∙ found fields c.loop-i.i c.name.result.now name within c.name.ensures c.value.result (value_of fields name) c.value.ensures holds c.loop-i.invariant
+    found fields c.loop-i.i c.name.result.now name within c.name.ensures c.value.result.now (value_of fields name) c.value.ensures holds c.loop-i.invariant
 
 pub loop-i-preserved : goal.loop-i-preserved
 loop-i-preserved c =

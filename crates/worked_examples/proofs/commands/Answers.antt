@@ -30,4 +30,14 @@ returns c = record {
   list_word = refl;
   twice = refl;
   behind_output = refl;
+  texts = refl;
+  bound_and_text = refl;
+  text_and_bound = refl;
+  endless_and_text = refl;
+  two_texts = refl;
+  half_test = refl;
+  late_seconds = refl;
+  seconds_twice = refl;
+  no_seconds = refl;
+  half_setting = refl;
 }

@@ -6,12 +6,13 @@ use Rattle.byte_text.specs.Streams.{request}
 use Rattle.geo_text.specs.Texts.{shape_of}
 use Rattle.world_model.specs.Commands.{readings}
 use Rattle.log_record.specs.Words.{change_of_words}
+use Rattle.log_record.specs.Versions.{least_version, change_of_version}
 use Rattle.log_record.specs.Batches.{number_bytes, records_in, batches_in}
 use Rattle.log_record.specs.Readings.{reading}
 use Rattle.worked_examples.proofs.log_sides.Goals as goal
 
 pub returns : goal.returns
-unfolding chars is_utf8 digits lib.Utf8.encode is_well_formed request shape_of readings change_of_words records_in batches_in number_bytes reading
+unfolding chars is_utf8 digits lib.Utf8.encode is_well_formed request shape_of readings change_of_words least_version change_of_version records_in batches_in number_bytes reading
 returns c = record {
   length = refl;
   text = refl;

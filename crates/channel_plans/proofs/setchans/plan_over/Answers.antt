@@ -1,4 +1,4 @@
-use Rattle.std.proofs.Common.{◌≡◌, ℕ, true, subst, ap, ◌∙◌, sym, refl, arith, List, [], ◌∷◌}
+use Rattle.std.proofs.Common.{◌≡◌, true, subst, ap, ◌∙◌, sym, refl, arith, List, [], ◌∷◌}
 use Rattle.std.specs.Prelude.{codes}
 use Rattle.std.proofs.lemmas.Result.{IfOk-weaker}
 use Rattle.log_record.specs.Words.{IsRecorded}
@@ -18,11 +18,11 @@ use Rattle.channel_plans.specs.declared.planned.Planned.TheVariants.{Objects}
 use Rattle.channel_plans.proofs.setchans.plan_over.Goals as goal
 
 pub returns-in_default : goal.returns-in_default
-returns-in_default c = λ (now : ℕ) (held : List Sub).
+returns-in_default c = λ (held : List Sub).
     let os = objects_in c.args.context.objects.now in
     let cs = c.args.context.hub.now.channels in
     let w = world_with cs os in
-    subst (λ (e : Effect). IsPlanned w c.args.context.total held e (Objects c.in_ok-plan_missing.field-0)) (sym (set_none w now c.args.channel c.args.key.now c.args.id.now c.in_default.ensures.none))
+    subst (λ (e : Effect). IsPlanned w c.args.context.total held e (Objects c.in_ok-plan_missing.field-0)) (sym (set_none w c.args.channel c.args.key.now c.args.id.now c.in_default.ensures.none))
     (still_beside cs os c.args.context.total c.requires.kept (omega (arith, c.requires.light, c.requires.channels)) _ c.in_ok-plan_missing.field-0 refl c.in_ok-plan_missing.ensures)
 
 pub plan_settled-requires-clause-sound : goal.plan_settled-requires-clause-sound
@@ -41,5 +41,5 @@ returns c =
     let os = objects_in c.args.context.objects.now in
     let cs = c.args.context.hub.now.channels in
     let w = world_with cs os in
-    let is = λ (now : ℕ). ap (λ (x : Channel). within_reply (setchan_effect w x)) c.in_ok-settled.ensures.settled ∙ sym (set_of w now c.args.channel c.args.key.now c.args.id.now c.in-Some.object.now c.in-Some.ensures.some) in
-    IfOk-weaker c.plan_settled.result _ _ (λ p s. λ (now : ℕ) (held : List Sub). subst (λ (e : Effect). IsPlanned w c.args.context.total held e p) (is now) (s held)) c.plan_settled.ensures
+    let is = ap (λ (x : Channel). within_reply (setchan_effect w x)) c.in_ok-settled.ensures.settled ∙ sym (set_of w c.args.channel c.args.key.now c.args.id.now c.in-Some.object.now c.in-Some.ensures.some) in
+    IfOk-weaker c.plan_settled.result _ _ (λ p s. λ (held : List Sub). subst (λ (e : Effect). IsPlanned w c.args.context.total held e p) is (s held)) c.plan_settled.ensures

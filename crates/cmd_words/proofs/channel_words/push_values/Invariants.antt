@@ -1,7 +1,7 @@
 use Rattle.std.proofs.Common.{◌≡◌, ◌++◌, map, take}
-use Rattle.std.specs.Fmt.{signed_decimal}
+use Rattle.world_data.specs.Filters.{value_text}
 use Rattle.cmd_words.proofs.channel_words.push_values.Given as goal
 
 -- the words of the values that were passed stand last
 abbrev pub invariant-loop-at : goal.invariant-loop-at
-invariant-loop-at l = l.words ≡ l.fn.words ++ map signed_decimal (take l.at l.values)
+invariant-loop-at l = l.words ≡ l.fn.words ++ map value_text (take l.at l.values)

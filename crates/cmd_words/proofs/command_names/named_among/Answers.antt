@@ -1,4 +1,4 @@
-use Rattle.std.proofs.Common.{rules, ◌≡◌, false, List, [], get_or}
+use Rattle.std.proofs.Common.{rules, ◌≡◌, false, [], get_or}
 use Rattle.byte_text.specs.Names.{is_word}
 use Rattle.cmd_words.specs.declared.command_names.Row.{Row}
 use Rattle.cmd_words.specs.declared.command_names.CommandName.TheVariants as command

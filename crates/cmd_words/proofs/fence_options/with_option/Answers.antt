@@ -3,7 +3,7 @@ use Rattle.std.proofs.lemmas.Result.{err_from_is_err_and}
 use Rattle.world_model.specs.Grammar.{done}
 use Rattle.world_model.specs.Kinds.{glob, list_of}
 use Rattle.world_model.specs.Commands.{detect_names, command_names}
-use Rattle.cmd_words.specs.SearchWords.{range_test, among_test}
+use Rattle.cmd_words.specs.SearchWords.{value_test, among_test}
 use Rattle.cmd_words.specs.FenceWords.{with_test}
 use Rattle.cmd_words.proofs.Binds.{bind_fails}
 use Rattle.cmd_words.proofs.Options.{value_read}
@@ -20,10 +20,10 @@ returns-in_ok-glob-in-Match-clause-reads c = rw c.in-Match.is (value_read glob (
 pub returns-in_err-test-in-Where-clause-reads : goal.returns-in_err-test-in-Where-clause-reads
 returns-in_err-test-in-Where-clause-reads c =
     let p = err_from_is_err_and c.from_residual-in_err-test-in-Where.result c.from_residual-in_err-test-in-Where.ensures.1 in
-    rw (p.1, p.2, c.in-Where.is) (bind_fails range_test (λ x. done (with_test c.args.options x)) c.args.reader.now c.range_test.new.self c.range_test.new.self _ c.in_err-test-in-Where.ensures)
+    rw (p.1, p.2, c.in-Where.is) (bind_fails value_test (λ x. done (with_test c.args.options x)) c.args.reader.now c.value_test.new.self c.value_test.new.self _ c.in_err-test-in-Where.ensures)
 
 pub returns-in_ok-push_test-in-Where-clause-reads : goal.returns-in_ok-push_test-in-Where-clause-reads
-returns-in_ok-push_test-in-Where-clause-reads c = rw (c.in-Where.is, c.in_ok-push_test-in-Where.ensures.ok) (value_read range_test with_test c.args.options _ c.options-in-Where.view_is c.args.reader.now c.range_test.new.self c.in_ok-test-in-Where.test c.in_ok-test-in-Where.ensures)
+returns-in_ok-push_test-in-Where-clause-reads c = rw (c.in-Where.is, c.in_ok-push_test-in-Where.ensures.ok) (value_read value_test with_test c.args.options _ c.options-in-Where.view_is c.args.reader.now c.value_test.new.self c.in_ok-test-in-Where.test c.in_ok-test-in-Where.ensures)
 
 pub returns-in_err-test-in-WhereIn-clause-reads : goal.returns-in_err-test-in-WhereIn-clause-reads
 returns-in_err-test-in-WhereIn-clause-reads c =

@@ -1,21 +1,13 @@
-use Rattle.std.proofs.Common.{◌≡◌, ◌∙◌, ap, arith, rules}
+use Rattle.std.proofs.Common.{◌∙◌, ap, arith}
 use Rattle.std.specs.Prelude.{map}
-use Rattle.std.proofs.Math.Facts.{to_z-of_z}
 use Rattle.std.proofs.lemmas.List.{take_all}
-use Rattle.cmd_words.specs.Sets.{mark_of}
 use Rattle.cmd_words.proofs.FieldValues.{field_more, mark_more, names_cleared}
 use Rattle.cmd_words.proofs.fields.fields_of.Goals as goal
-use mir.Syntax.{w64}
-use mir.Val.{SFits}
 
 pub loop-field-preserved : goal.loop-field-preserved
 loop-field-preserved c =
-    let fits : SFits w64 c.field-item.result.1 = search rules in
-    let set = rw (to_z-of_z fits) at c.in_ok-set.ensures.ok in
-    let fits_mark : SFits w64 c.mark.result = search rules in
-    let value : c.mark.result ≡ mark_of c.field-item.result.1 = rw (to_z-of_z fits) at c.mark.ensures in
-    let marked_ = rw (to_z-of_z fits_mark, value) at c.in_ok-set-2.ensures.ok in (
-      field_more c.args.given.now c.loop-field.field-index c.field-item.result (omega arith) c.field-item.is c.loop-field.fields _ c.loop-field.invariant.0 set,
+    let marked_ = rw c.mark.ensures at c.in_ok-set-2.ensures.ok in (
+      field_more c.args.given.now c.loop-field.field-index c.field-item.result (omega arith) c.field-item.is c.loop-field.fields _ c.loop-field.invariant.0 c.in_ok-set.ensures.ok,
       mark_more c.args.given.now c.loop-field.field-index c.field-item.result (omega arith) c.field-item.is c.loop-field.zeros _ c.loop-field.invariant.1 marked_,
     )
 

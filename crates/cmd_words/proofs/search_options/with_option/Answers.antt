@@ -3,7 +3,7 @@ use Rattle.std.proofs.lemmas.Result.{err_from_is_err_and}
 use Rattle.world_data.specs.Limits.{max_limit}
 use Rattle.world_model.specs.Grammar.{done}
 use Rattle.world_model.specs.Kinds.{glob, between}
-use Rattle.cmd_words.specs.SearchWords.{range_test, among_test, with_test}
+use Rattle.cmd_words.specs.SearchWords.{value_test, among_test, with_test}
 use Rattle.cmd_words.proofs.Binds.{bind_fails}
 use Rattle.cmd_words.proofs.Options.{value_read}
 use Rattle.cmd_words.proofs.search_options.with_option.Goals as goal
@@ -35,10 +35,10 @@ returns-in_ok-limit-in-Limit c = rw c.in-Limit.is (value_read (between 1 max_lim
 pub returns-in_err-test-in-Where : goal.returns-in_err-test-in-Where
 returns-in_err-test-in-Where c =
     let p = err_from_is_err_and c.from_residual-in_err-test-in-Where.result c.from_residual-in_err-test-in-Where.ensures.1 in
-    rw (p.1, p.2, c.in-Where.is) (bind_fails range_test (λ x. done (with_test c.args.options x)) c.args.reader.now c.range_test.new.self c.range_test.new.self _ c.in_err-test-in-Where.ensures)
+    rw (p.1, p.2, c.in-Where.is) (bind_fails value_test (λ x. done (with_test c.args.options x)) c.args.reader.now c.value_test.new.self c.value_test.new.self _ c.in_err-test-in-Where.ensures)
 
 pub returns-in_ok-push_test-in-Where : goal.returns-in_ok-push_test-in-Where
-returns-in_ok-push_test-in-Where c = rw (c.in-Where.is, c.in_ok-push_test-in-Where.ensures.ok) (value_read range_test with_test c.args.options _ c.options-in-Where.view_is c.args.reader.now c.range_test.new.self c.in_ok-test-in-Where.test c.in_ok-test-in-Where.ensures)
+returns-in_ok-push_test-in-Where c = rw (c.in-Where.is, c.in_ok-push_test-in-Where.ensures.ok) (value_read value_test with_test c.args.options _ c.options-in-Where.view_is c.args.reader.now c.value_test.new.self c.in_ok-test-in-Where.test c.in_ok-test-in-Where.ensures)
 
 pub returns-in_err-test-in-WhereIn : goal.returns-in_err-test-in-WhereIn
 returns-in_err-test-in-WhereIn c =

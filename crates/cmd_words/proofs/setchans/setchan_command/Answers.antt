@@ -1,11 +1,8 @@
-use Rattle.std.proofs.Common.{subst}
 use Rattle.std.proofs.lemmas.Result.{err_from_is_err_and}
-use Rattle.byte_text.specs.Requests.{FitsRequest}
 use Rattle.cmd_words.specs.Progress.{a_name}
 use Rattle.cmd_words.specs.Channels.{behind_setchan}
 use Rattle.cmd_words.proofs.Ends.{begun_fails}
-use Rattle.cmd_words.proofs.SetchanWords.{kind_refused, key_refused, fence_refused, area_refused, new_words, setchan_not_ended, setchan_read}
-use Rattle.cmd_words.proofs.WordsFit.{setchan_fits}
+use Rattle.cmd_words.proofs.SetchanWords.{seconds_refused, kind_refused, key_due, setting_answers}
 use Rattle.cmd_words.proofs.setchans.setchan_command.Goals as goal
 
 pub returns-in_err-name : goal.returns-in_err-name
@@ -13,48 +10,23 @@ returns-in_err-name c =
     let p = err_from_is_err_and c.from_residual.result c.from_residual.ensures.1 in
     rw (p.1, p.2) (begun_fails a_name behind_setchan c.args.reader.now c.name.new.self _ c.in_err-name.ensures c.requires)
 
+pub returns-in_err-seconds : goal.returns-in_err-seconds
+returns-in_err-seconds c =
+    let p = err_from_is_err_and c.from_residual-in_err-seconds.result c.from_residual-in_err-seconds.ensures.1 in
+    rw (p.1, p.2) (seconds_refused c.args.reader.now c.name.new.self c.in_ok-name.name c.in_ok-name.ensures c.requires c.read_seconds.new.reader _ c.in_err-seconds.ensures)
+
 pub returns-in_err-kind : goal.returns-in_err-kind
 returns-in_err-kind c =
     let p = err_from_is_err_and c.from_residual-in_err-kind.result c.from_residual-in_err-kind.ensures.1 in
-    rw (p.1, p.2) (kind_refused c.args.reader.now c.name.new.self c.in_ok-name.name c.in_ok-name.ensures c.requires c.read_kind.new.reader _ c.in_err-kind.ensures)
+    rw (p.1, p.2) (kind_refused c.args.reader.now c.name.new.self c.in_ok-name.name c.in_ok-name.ensures c.requires c.read_seconds.new.reader c.in_ok-seconds.seconds c.in_ok-seconds.ensures
+    c.read_kind.new.reader _ c.in_err-kind.ensures)
 
-pub returns-in_err-key : goal.returns-in_err-key
-returns-in_err-key c =
-    let p = err_from_is_err_and c.from_residual-in_err-key.result c.from_residual-in_err-key.ensures.1 in
-    rw (p.1, p.2) (key_refused c.args.reader.now c.name.new.self c.in_ok-name.name c.in_ok-name.ensures c.requires c.read_kind.new.reader c.in_ok-kind.kind c.in_ok-kind.ensures c.name-3.new.self _ c.in_err-key.ensures)
+pub read_setting-requires : goal.read_setting-requires
+read_setting-requires c =
+    key_due c.args.reader.now c.name.new.self c.in_ok-name.name c.in_ok-name.ensures c.requires c.read_seconds.new.reader c.in_ok-seconds.seconds c.in_ok-seconds.ensures
+    c.read_kind.new.reader c.in_ok-kind.kind c.in_ok-kind.ensures
 
-pub returns-in_err-options : goal.returns-in_err-options
-returns-in_err-options c =
-    let p = err_from_is_err_and c.from_residual-in_err-options.result c.from_residual-in_err-options.ensures.1 in
-    rw (p.1, p.2) (fence_refused c.args.reader.now c.name.new.self c.in_ok-name.name c.in_ok-name.ensures c.requires c.read_kind.new.reader c.in_ok-kind.kind c.in_ok-kind.ensures
-    c.name-3.new.self c.in_ok-key.key c.in_ok-key.ensures _ (rw c.is_near.ensures at c.in_err-options.ensures.reads))
-
-pub returns-in_err-area : goal.returns-in_err-area
-returns-in_err-area c =
-    let p = err_from_is_err_and c.from_residual-in_err-area.result c.from_residual-in_err-area.ensures.1 in
-    rw (p.1, p.2) (area_refused c.args.reader.now c.name.new.self c.in_ok-name.name c.in_ok-name.ensures c.requires c.read_kind.new.reader c.in_ok-kind.kind c.in_ok-kind.ensures
-    c.name-3.new.self c.in_ok-key.key c.in_ok-key.ensures c.read_options.new.reader c.in_ok-options.options (rw c.is_near.ensures at c.in_ok-options.ensures.reads)
-    c.in_ok-options.ensures.apart c.read_fence_area.new.reader _ c.in_err-area.ensures)
-
-pub returns-in_err-end : goal.returns-in_err-end
-returns-in_err-end c =
-    let p = err_from_is_err_and c.from_residual-in_err-end.result c.from_residual-in_err-end.ensures.1 in
-    rw (p.1, p.2) (setchan_not_ended c.args.reader.now c.name.new.self c.in_ok-name.name c.in_ok-name.ensures c.requires c.read_kind.new.reader c.in_ok-kind.kind c.in_ok-kind.ensures
-    c.name-3.new.self c.in_ok-key.key c.in_ok-key.ensures c.read_options.new.reader c.in_ok-options.options (rw c.is_near.ensures at c.in_ok-options.ensures.reads)
-    c.read_fence_area.new.reader c.in_ok-area.area c.in_ok-area.ensures _ c.in_err-end.ensures)
-
-pub channel_words-requires : goal.channel_words-requires
-channel_words-requires c =
-    let o = c.in_ok-options.options in
-    let options = rw c.is_near.ensures at c.in_ok-options.ensures.reads in
-    let same = new_words c.args.reader.now c.name.new.self c.in_ok-name.name c.in_ok-name.ensures c.requires c.read_kind.new.reader c.in_ok-kind.kind c.in_ok-kind.ensures
-    c.name-3.new.self c.in_ok-key.key c.in_ok-key.ensures c.read_options.new.reader o options c.read_fence_area.new.reader c.in_ok-area.area c.in_ok-area.ensures in
-    let read = setchan_read c.args.reader.now c.name.new.self c.in_ok-name.name c.in_ok-name.ensures c.requires c.read_kind.new.reader c.in_ok-kind.kind c.in_ok-kind.ensures
-    c.name-3.new.self c.in_ok-key.key c.in_ok-key.ensures c.read_options.new.reader o options c.read_fence_area.new.reader c.in_ok-area.area c.in_ok-area.ensures c.in_ok-end.ensures in
-    setchan_fits c.args.reader.now c.in_ok-name.name c.in_ok-kind.kind c.in_ok-key.key o c.in_ok-area.area (subst FitsRequest same c.len.ensures.fits) read
-
-pub returns-in-Ok : goal.returns-in-Ok
-returns-in-Ok c =
-    rw (c.setchan_of.ensures c.in-Ok.ensures) (setchan_read c.args.reader.now c.name.new.self c.in_ok-name.name c.in_ok-name.ensures c.requires c.read_kind.new.reader c.in_ok-kind.kind c.in_ok-kind.ensures
-    c.name-3.new.self c.in_ok-key.key c.in_ok-key.ensures c.read_options.new.reader c.in_ok-options.options (rw c.is_near.ensures at c.in_ok-options.ensures.reads)
-    c.read_fence_area.new.reader c.in_ok-area.area c.in_ok-area.ensures c.in_ok-end.ensures)
+pub returns : goal.returns
+returns c =
+    setting_answers c.args.reader.now c.name.new.self c.in_ok-name.name c.in_ok-name.ensures c.requires c.read_seconds.new.reader c.in_ok-seconds.seconds c.in_ok-seconds.ensures
+    c.read_kind.new.reader c.in_ok-kind.kind c.in_ok-kind.ensures _ c.read_setting.ensures

@@ -1,10 +1,9 @@
-use Rattle.std.proofs.Common.{◌≡◌, Bool, false, not, sym, subst}
+use Rattle.std.proofs.Common.{◌≡◌, false, not, sym, subst}
 use Rattle.std.specs.Prelude.{◌&&◌}
 use Rattle.std.proofs.lemmas.Result.{IfOk-weaker}
 use Rattle.world_model.specs.Effects.{Effect, effect, is_served_subscribed}
 use Rattle.world_model.specs.Subscriptions.{has_subs}
 use Rattle.world_model.specs.declared.commands.Command.{Command}
-use Rattle.world_model.specs.declared.commands.Command.TheVariants as family
 use Rattle.keyspace.specs.Entries.{objects_in}
 use Rattle.object_plans.specs.Beside.{IsPlanBeside}
 use Rattle.object_plans.specs.Moves.{world_with}
@@ -46,7 +45,7 @@ returns-in-Channel c =
     IfOk-weaker c.plan_channel.result _ _ (λ p s.
     subst (λ (k : Command). IsPlanned w c.args.context.total held (effect w c.args.context.now held k) p) (sym c.in-Channel.is)
     (subst (λ (e : Effect). IsPlanned w c.args.context.total held e p) (sym (channel_alike w c.args.context.now held c.in-Channel.command may))
-    (s c.args.context.now held))) c.plan_channel.ensures
+    (s held))) c.plan_channel.ensures
 
 pub plan_object-requires-clause-kept : goal.plan_object-requires-clause-kept
 plan_object-requires-clause-kept c = c.requires.context.kept
@@ -77,6 +76,9 @@ plan_channel-requires-clause-channels c = c.requires.context.channels
 
 pub plan_channel-requires-clause-light : goal.plan_channel-requires-clause-light
 plan_channel-requires-clause-light c = c.requires.context.light
+
+pub plan_channel-requires-clause-moment : goal.plan_channel-requires-clause-moment
+plan_channel-requires-clause-moment c = c.requires.context.moment
 
 pub plan_channel-requires-clause-asked : goal.plan_channel-requires-clause-asked
 plan_channel-requires-clause-asked c = subst IsAsked c.in-Channel.is c.requires.asked

@@ -9,25 +9,25 @@ use Rattle.journal.proofs.Steps.{kept_copied, leaves_beside}
 use Rattle.journal.proofs.disk_steps.copy_records.Goals as goal
 
 pub returns-in-Some-clause-kept : goal.returns-in-Some-clause-kept
-returns-in-Some-clause-kept g c side generation gate batches copied all =
+returns-in-Some-clause-kept g c side version generation gate batches copied all =
     let D = g.D.Disk in
     let r = c.in-Some.new_side in
     let kept = rw c.in-Some.is at all in
     on_ok_weaker c.copy_piece.result
-    (λ grown. kept_copied D.crashes D.seen D.images D.moment D.left_since side generation gate r c.copy_piece.new.self batches copied (committed copied c.args.records.now) c.args.disk.now c.copy_piece.new.disk
+    (λ grown. kept_copied D.crashes D.seen D.images D.moment D.left_since side version generation gate r c.copy_piece.new.self batches copied (committed copied c.args.records.now) c.args.disk.now c.copy_piece.new.disk
     c.copy_piece.ensures.told c.copy_piece.ensures.side c.copy_piece.ensures.generation kept (c.copy_piece.ensures.either kept.beside.new.shut) grown)
     (c.copy_piece.ensures.grown copied kept.beside.new)
 
 pub returns-in-Some-clause-leaves : goal.returns-in-Some-clause-leaves
-returns-in-Some-clause-leaves g c side generation gate batches copied all told =
+returns-in-Some-clause-leaves g c side version generation gate batches copied all told =
     let D = g.D.Disk in
     let r = c.in-Some.new_side in
     let kept = rw c.in-Some.is at all in
-    leaves_beside D.crashes D.seen D.images D.moment D.left_since side r.side IsShut (StandsFor generation batches) (HoldsLog batches) c.args.disk.now c.copy_piece.new.disk told kept.beside.beside kept.log.safe
+    leaves_beside D.crashes D.seen D.images D.moment D.left_since side r.side IsShut (StandsFor version generation batches) (HoldsLog version batches) c.args.disk.now c.copy_piece.new.disk told kept.beside.beside kept.log.safe
     (c.copy_piece.ensures.either kept.beside.new.shut)
-    (λ x stands shut. holds x side generation batches stands (shut_behind generation (side_of x (other_side side)) shut))
+    (λ x stands shut. holds x side version generation batches stands (shut_behind generation (side_of x (other_side side)) shut))
 
 pub returns-in-None-clause-leaves : goal.returns-in-None-clause-leaves
-returns-in-None-clause-leaves g c side generation gate batches copied all told =
+returns-in-None-clause-leaves g c side version generation gate batches copied all told =
     let D = g.D.Disk in
-    begins D.moment D.left_since c.args.disk.now (HoldsLog batches)
+    begins D.moment D.left_since c.args.disk.now (HoldsLog version batches)

@@ -5,16 +5,16 @@ pub returns-clause-told : goal.returns-clause-told
 returns-clause-told g c batches copied kept =
     let D = g.D.Disk in
     let j = c.args.journal.now in
-    kept_told (D.crashes j.disk) (D.seen j.disk) (D.images j.disk) j.log.side j.log.generation j.log.gate j.rewriter batches copied kept
+    kept_told (D.crashes j.disk) (D.seen j.disk) (D.images j.disk) j.log.side j.log.version j.log.generation j.log.gate j.rewriter batches copied kept
 
 pub returns-clause-now : goal.returns-clause-now
 returns-clause-now g c batches copied kept =
     let D = g.D.Disk in
     let j = c.args.journal.now in
-    kept_now (D.crashes j.disk) (D.seen j.disk) (D.images j.disk) j.log.side j.log.generation j.log.gate j.rewriter batches copied kept
+    kept_now (D.crashes j.disk) (D.seen j.disk) (D.images j.disk) j.log.side j.log.version j.log.generation j.log.gate j.rewriter batches copied kept
 
 pub returns-clause-images : goal.returns-clause-images
 returns-clause-images g c batches copied kept =
     let D = g.D.Disk in
     let j = c.args.journal.now in
-    kept_images (D.crashes j.disk) (D.seen j.disk) (D.images j.disk) j.log.side j.log.generation j.log.gate j.rewriter batches copied kept
+    kept_images (D.crashes j.disk) (D.seen j.disk) (D.images j.disk) j.log.side j.log.version j.log.generation j.log.gate j.rewriter batches copied kept

@@ -5,7 +5,7 @@ use Rattle.outside.specs.Sides.{side_of}
 use Rattle.log_sides.specs.States.{SideIsSafe}
 use Rattle.append_log.specs.Reading.{IsAtGate}
 use Rattle.journal.proofs.Found.{side_safe}
-use Rattle.journal.proofs.Steps.{if_ok_three}
+use Rattle.journal.proofs.Steps.{if_ok_four}
 use Rattle.journal.proofs.Opens.{log_read, read_leaves, read_safe, took_from, looked_from, broken_at, broken_in}
 use Rattle.journal.proofs.openings.read_log.Goals as goal
 
@@ -17,12 +17,12 @@ returns-in-Ok-clause-read g c =
     let new = c.replay_side.new.disk in
     let side = c.args.side in
     let reader = c.new.result in
-    if_ok_three c.over_side.result (λ u. u.log.side ≡ side) (λ u. u.log.generation ≡ c.args.generation) (λ u. u.log.gate ≡ c.in-Ok.gate) _
-    (λ u side_is generation_is gate_is.
-    log_read D.crashes D.seen D.images D.moment D.left_since D.faults R.took R.fault old new side c.args.generation c.args.len c.in-Ok.gate c.replay_side.new.replay u.log
-    (took_from D.crashes D.seen D.images D.moment D.left_since D.faults R.took R.fault old side reader.side c.args.len reader.len reader.at c.in-Ok.gate c.replay_side.new.replay c.new.ensures.side c.new.ensures.len c.new.ensures.at c.in-Ok.ensures.took)
-    (looked_from D.crashes D.seen D.images D.moment D.left_since D.faults old new side reader.side c.new.ensures.side c.replay_side.ensures.looked) side_is generation_is gate_is)
-    c.over_side.ensures.side c.over_side.ensures.generation c.over_side.ensures.gate
+    if_ok_four c.over_side.result (λ u. u.log.side ≡ side) (λ u. u.log.version ≡ c.args.version) (λ u. u.log.generation ≡ c.args.generation) (λ u. u.log.gate ≡ c.in-Ok.gate) _
+    (λ u side_is version_is generation_is gate_is.
+    log_read D.crashes D.seen D.images D.moment D.left_since D.faults R.took R.fault old new side c.args.version c.args.generation c.args.len c.in-Ok.gate c.replay_side.new.replay u.log
+    (took_from D.crashes D.seen D.images D.moment D.left_since D.faults R.took R.fault old side reader.side c.args.version c.args.len reader.len reader.at c.in-Ok.gate c.replay_side.new.replay c.new.ensures.side c.new.ensures.len c.new.ensures.at c.in-Ok.ensures.took)
+    (looked_from D.crashes D.seen D.images D.moment D.left_since D.faults old new side reader.side c.new.ensures.side c.replay_side.ensures.looked) side_is version_is generation_is gate_is)
+    c.over_side.ensures.side c.over_side.ensures.version c.over_side.ensures.generation c.over_side.ensures.gate
 
 pub returns-in-Ok-clause-leaves : goal.returns-in-Ok-clause-leaves
 returns-in-Ok-clause-leaves g c s safe told =
@@ -57,7 +57,7 @@ returns-in-Err-clause-damaged g c s safe used there place is =
     let reader = c.new.result in
     let bytes = side_of s side in
     let found = broken_at c.in-Err.stop side there place (sym c.fault_at.ensures ∙ is) in
-    broken_in R.fault s side there c.args.generation c.args.len place used found.1 (c.in-Err.ensures.broken c.args.generation bytes
+    broken_in R.fault s side there c.args.version c.args.generation c.args.len place used found.1 (c.in-Err.ensures.broken c.args.generation bytes
     (subst (λ (t : Side). SideIsSafe (D.crashes old) (D.seen old) (D.images old) t (λ x. x ≡ bytes)) (sym c.new.ensures.side) (side_safe (D.crashes old) (D.seen old) (D.images old) s side (λ x. x ≡ bytes) safe refl))
-    (subst (λ (n : ℕ). IsAtGate c.args.generation [] n reader.at bytes) (sym c.new.ensures.len) (subst (λ (n : ℕ). IsAtGate c.args.generation [] c.args.len n bytes) (sym c.new.ensures.at) used.headed.first))
+    (subst (λ (n : ℕ). IsAtGate c.args.version c.args.generation [] n reader.at bytes) (sym c.new.ensures.len) (subst (λ (n : ℕ). IsAtGate c.args.version c.args.generation [] c.args.len n bytes) (sym c.new.ensures.at) used.headed.first))
     place found.0)

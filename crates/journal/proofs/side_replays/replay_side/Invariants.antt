@@ -8,7 +8,7 @@ invariant-batches g l = record {
   side : l.reader.side ≡ l.initial.reader.side;
   len : l.reader.len ≡ l.initial.reader.len;
   looked : Looked g.D.Disk.crashes g.D.Disk.seen g.D.Disk.images g.D.Disk.moment g.D.Disk.left_since g.D.Disk.faults l.initial.reader.side l.initial.disk l.disk;
-  some : TookSome g.R.Replay.took g.R.Replay.fault g.D.Disk.crashes g.D.Disk.seen g.D.Disk.images l.initial.reader.side l.initial.reader.len l.initial.reader.at l.reader.at l.initial.disk l.replay;
+  some : TookSome g.R.Replay.took g.R.Replay.fault g.D.Disk.crashes g.D.Disk.seen g.D.Disk.images l.initial.reader.side l.version l.initial.reader.len l.initial.reader.at l.reader.at l.initial.disk l.replay;
 }
 
 abbrev pub decreases-batches : goal.decreases-batches

@@ -1,6 +1,7 @@
 use Rattle.std.proofs.Common.{[], length, ap, arith}
 use Rattle.std.proofs.lemmas.Result.{on_ok_weaker}
 use Rattle.outside.specs.Disks.{Torn}
+use Rattle.log_sides.specs.Texts.{newest}
 use Rattle.log_sides.specs.Making.{IsShut, IsBare, WhileShut}
 use Rattle.log_sides.specs.Closing.{shut_torn, shut_while, length-head}
 use Rattle.log_sides.specs.Crashing.{leads_step, leads_then, leads_held}
@@ -20,7 +21,7 @@ returns-in-Ok-clause-begun g c before short safe =
     on_ok_weaker c.write_piece.result
     (λ written. record {
       numbered = c.requires;
-      place = first_place c.args.generation;
+      place = first_place newest c.args.generation;
       now = now_write (D.seen mid) (D.seen new) c.args.side 1 c.head_of.result IsBare (IsPart c.args.generation []) (c.in-Ok.ensures.bare before short safe)
           (λ x bare. part_begun c.args.generation c.head_of.result x c.head_of.ensures bare) written;
       shut = leads_held D.crashes D.seen D.images D.moment D.left_since c.args.side IsShut mid new c.write_piece.ensures.told leads;

@@ -1,6 +1,6 @@
 use Rattle.std.proofs.Common.{[], ◌∷◌, inl}
 use Rattle.outside.specs.Disks.{Torn}
-use Rattle.log_sides.specs.Texts.{StandsFor}
+use Rattle.log_sides.specs.Texts.{StandsFor, newest}
 use Rattle.log_sides.specs.Making.{IsMade, WhileShut, WhileMade}
 use Rattle.log_sides.specs.Closing.{made_written, made_torn}
 use Rattle.log_sides.specs.Crashing.{leads_then, leads_weaker, leads_step, safe_now, safe_held, safe_written}
@@ -11,7 +11,7 @@ returns-in-Ok-clause-stands g c before short safe =
     let D = g.D.Disk in
     let mid = c.make_closed.new.disk in
     let new = c.write_durably.new.disk in
-    safe_written c.write_durably.result (D.crashes mid) (D.crashes new) (D.seen mid) (D.seen new) (D.images new) c.args.side 0 (1 ∷ []) (IsMade c.args.generation) (StandsFor c.args.generation [])
+    safe_written c.write_durably.result (D.crashes mid) (D.crashes new) (D.seen mid) (D.seen new) (D.images new) c.args.side 0 (1 ∷ []) (IsMade c.args.generation) (StandsFor newest c.args.generation [])
     (safe_now (D.crashes mid) (D.seen mid) (D.images mid) c.args.side (IsMade c.args.generation) (c.in-Ok.ensures.made before short safe))
     (λ x made. made_written c.args.generation x c.requires made) c.write_durably.ensures.told c.write_durably.ensures.written c.write_durably.ensures.durable
 

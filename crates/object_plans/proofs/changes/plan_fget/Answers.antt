@@ -1,9 +1,8 @@
-use Rattle.std.proofs.Common.{◌≡◌, ℕ, sym, subst, ap, ◌∙◌, to_z-of_z, w64, rules}
-use mir.Val.{SFits}
+use Rattle.std.proofs.Common.{ℕ, refl, sym, subst}
 use Rattle.std.proofs.lemmas.Result.{IfOk-weaker}
 use Rattle.world_model.specs.Effects.{Effect}
 use Rattle.world_data.specs.Filters.{value_of}
-use Rattle.world_model.specs.Replies.{number_text}
+use Rattle.world_model.specs.Replies.{value_reply}
 use Rattle.keyspace.specs.Entries.{objects_in}
 use Rattle.object_plans.specs.Moves.{world_in}
 use Rattle.object_plans.specs.Plans.{IsPlan}
@@ -18,7 +17,6 @@ returns-in_default c =
 pub returns : goal.returns
 returns c =
     let o = c.in-Some.object.now in
-    let fits : SFits w64 c.value_of-value.result = search rules in
-    let value : c.in_ok-value_reply.field-0 ≡ number_text c.value_of-value.result = rw (to_z-of_z fits) at c.in_ok-value_reply.ensures.value in
-    answers_ever (objects_in c.args.objects.now) c.args.total c.requires _ (number_text (value_of o.fields c.args.field.now)) _ (value ∙ ap number_text c.value_of-value.ensures) c.say-2.ensures _
+    let reply = value_reply (value_of o.fields c.args.field.now) in
+    answers_ever (objects_in c.args.objects.now) c.args.total c.requires reply reply _ refl (c.say_frame.ensures reply c.in_ok-frame.ensures) _
     (λ (now : ℕ). fget_some (world_in c.args.objects.now) now c.args.key.now c.args.id.now o c.in-Some.ensures.some c.args.field.now)

@@ -27,13 +27,13 @@ returns-then-takes-4 c =
     read_from c.args.words.now (codes "FLUSHDB" ∷ c.takes-4.new.self) c.flush_of.result
     (sym c.new-reader.ensures ∙ sym one.0 ∙ sym two.0 ∙ sym three.0 ∙ c.takes-4.ensures.taken c.if-takes-4.true) c.flush_of.ensures
 
-pub returns-then-takes-5 : goal.returns-then-takes-5
-returns-then-takes-5 c =
+pub setting_of-requires : goal.setting_of-requires
+setting_of-requires c =
     let one = c.takes.ensures.left c.if-takes.false in
     let two = c.takes-2.ensures.left c.if-takes-2.false in
     let three = c.takes-3.ensures.left c.if-takes-3.false in
     let four = c.takes-4.ensures.left c.if-takes-4.false in
-    c.setting_of.ensures (sym c.new-reader.ensures ∙ sym one.0 ∙ sym two.0 ∙ sym three.0 ∙ sym four.0 ∙ c.takes-5.ensures.taken c.if-takes-5.true)
+    sym c.new-reader.ensures ∙ sym one.0 ∙ sym two.0 ∙ sym three.0 ∙ sym four.0 ∙ c.takes-5.ensures.taken c.if-takes-5.true
 
 pub returns-then-takes-6 : goal.returns-then-takes-6
 returns-then-takes-6 c =

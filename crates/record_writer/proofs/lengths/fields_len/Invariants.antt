@@ -7,5 +7,5 @@ use Rattle.record_writer.proofs.lengths.fields_len.Given as goal
 abbrev pub invariant-loop-i : goal.invariant-loop-i
 invariant-loop-i l = record {
   counted : l.sum ≡ words_len (flat_map field_words (take l.i l.fields));
-  short : l.sum ≤ 400 * l.i;
+  short : l.sum ≤ 600 * l.i;
 }

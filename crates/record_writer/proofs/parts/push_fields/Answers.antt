@@ -10,10 +10,10 @@ use Rattle.record_writer.proofs.parts.push_fields.Goals as goal
 
 pub loop-i-preserved : goal.loop-i-preserved
 loop-i-preserved c =
-    let written : c.push_field.new.into ≡ c.loop-i.into ++ field_text (c.name.result.now, c.value.result) = search rules in
+    let written : c.push_field.new.into ≡ c.loop-i.into ++ field_text (c.name.result.now, c.value.result.now) = search rules in
     record {
-      written = one_field c.args.fields.now c.loop-i.i c.name.result.now c.value.result c.loop-i.into c.push_field.new.into (c.args.into.now ++ flat_map field_text c.args.fields.now) (omega (arith, c.loop-i-test.true, c.len-i-end.ensures.count)) c.name.ensures c.value.ensures written c.loop-i.invariant.written;
-      are_kept = one_kept c.args.fields.now c.loop-i.i c.name.result.now c.value.result (omega (arith, c.loop-i-test.true, c.len-i-end.ensures.count)) c.name.ensures c.value.ensures (search rules) c.loop-i.invariant.are_kept;
+      written = one_field c.args.fields.now c.loop-i.i c.name.result.now c.value.result.now c.loop-i.into c.push_field.new.into (c.args.into.now ++ flat_map field_text c.args.fields.now) (omega (arith, c.loop-i-test.true, c.len-i-end.ensures.count)) c.name.ensures c.value.ensures written c.loop-i.invariant.written;
+      are_kept = one_kept c.args.fields.now c.loop-i.i c.name.result.now c.value.result.now (omega (arith, c.loop-i-test.true, c.len-i-end.ensures.count)) c.name.ensures c.value.ensures (search rules) c.loop-i.invariant.are_kept;
       front = kept_through c.args.into.now c.loop-i.into c.push_field.new.into c.loop-i.invariant.front c.push_field.ensures.kept;
     }
 

@@ -22,12 +22,11 @@ returns-in-Ok-clause-found g c =
     let new = c.retire-answer.new.self in
     let h = hall_of old in
     let log = settled_log h.world in
-    let opened : Sided = record { batches = e.opened.batches; copied = [] } in
     let goes : h.stopped ≡ false = ap (λ (z : Hall). z.stopped) e.hall in (
       h.world,
       h.logged,
       record {
-        opens = record { sound = e.sound; recovered = e.opened.recovers; length = e.len };
+        opens = record { sound = e.sound; recovered = e.recovers; length = e.len };
         objects_are = c.objects-objects.ensures;
         channels_are = c.channels-channels.ensures;
         retires = subst (λ (z : Hall). Retires z c.retire-answer.result) e.hall (record { end = hall_of new; step = r.step });
@@ -39,15 +38,17 @@ returns-in-Ok-clause-found g c =
             held_as g.D.Disk.seen _ _ _ _ (sym c.into_disk.ensures) r.world (r.left log (λ still. e.log s.0 s.1) ok);
         counted = λ is ok.
             let s = some_of (g.D.Disk.seen c.args.disk) is in
+            let k = (e.log s.0 s.1).kept in
+            let opened : Sided = record { batches = k.batches; copied = k.copied } in
             generation_left g.D.Disk.crashes g.D.Disk.seen g.D.Disk.images old new c.into_disk.result c.generation-generation.result opened
-            (e.opened.keeps s.0 s.1) (r.written ok) c.generation-generation.ensures r.generation c.into_disk.ensures;
+            k.keeps (r.written ok) c.generation-generation.ensures r.generation c.into_disk.ensures;
         safe = λ s told crash.
             let stands = opening_stands g.D.Disk.crashes g.D.Disk.seen g.D.Disk.images g.D.Disk.moment g.D.Disk.left_since g.D.Disk.faults old (g.D.Disk.moment c.args.disk) _ (e.safe s told crash) e.hall e.sound (e.log s told) (e.told ∙ crash) in
             subst (λ d. IsSafeFor g.D.Disk.images g.D.Disk.left_since d (opens h.world h.logged ∷ retired c.retire-answer.result)) (sym c.into_disk.ensures)
             (retires_safe g.D.Disk.crashes g.D.Disk.seen g.D.Disk.images g.D.Disk.moment g.D.Disk.left_since g.D.Disk.faults (λ d. record { counts_now = g.met.D.Disk.counts_now d; only_now = g.met.D.Disk.only_now d }) old new c.retire-answer.result (opens h.world h.logged ∷ []) stands r.step r.later (λ f. r.cause (call_failed c.retire-answer.result f)) r.log);
         leaves = λ s told crash.
             subst (λ d. LeavesOnly g.D.Disk.moment g.D.Disk.left_since c.args.disk d (λ image. g.D.Disk.images c.args.disk image ⊎ Recovers image h.world)) (sym c.into_disk.ensures)
-            (look_leaves g.D.Disk.crashes g.D.Disk.seen g.D.Disk.images g.D.Disk.moment g.D.Disk.left_since g.D.Disk.faults c.args.disk (disk_of old) (disk_of new) s h.world (e.opened.recovers s told) (e.leaves s told crash)
+            (look_leaves g.D.Disk.crashes g.D.Disk.seen g.D.Disk.images g.D.Disk.moment g.D.Disk.left_since g.D.Disk.faults c.args.disk (disk_of old) (disk_of new) s h.world (e.recovers s told) (e.leaves s told crash)
             (((r.log log (λ still. e.log s told)).owes (e.told ∙ crash)).turn.leaves goes));
       },
     )

@@ -15,4 +15,4 @@ pub loop-i-preserved : goal.loop-i-preserved
 loop-i-preserved c =
     let between : c.bulk.new.self ≡ c.loop-i.draft ++ bulk c.name.result.now = rw (c.in_ok-bulk.ensures, c.bytes.ensures.same) refl in
     let within : c.loop-i.i < length c.args.fields.now = omega arith in
-    written c.args.fields.now c.loop-i.i c.name.result.now c.loop-i.draft c.bulk.new.self c.value.new.self (c.args.draft.now ++ fields_reply c.args.fields.now) within c.name.ensures between c.in_ok-value.ensures c.loop-i.invariant
+    written c.args.fields.now c.loop-i.i c.name.result.now c.value.result.now c.loop-i.draft c.bulk.new.self c.value-in-loop-i.new.self (c.args.draft.now ++ fields_reply c.args.fields.now) within c.name.ensures between c.value.ensures c.in_ok-value.ensures c.loop-i.invariant

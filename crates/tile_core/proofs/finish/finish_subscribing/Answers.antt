@@ -1,4 +1,4 @@
-use Rattle.std.proofs.Common.{◌≡◌, sym, ap, ◌∙◌, subst}
+use Rattle.std.proofs.Common.{sym, ap, ◌∙◌, subst}
 use Rattle.world_model.specs.Halls.{placed_each}
 use Rattle.session_table.specs.Sessions.{AreReplies, State, session_of}
 use Rattle.tile_core.proofs.finish.finish_subscribing.Goals as goal

@@ -4,10 +4,10 @@ use Rattle.world_data.specs.Worlds.{object_at}
 use Rattle.world_data.specs.declared.worlds.Change.TheVariants as change
 use Rattle.fence_model.specs.Writes.{Write, announced}
 use Rattle.keyspace.specs.Entries.{objects_in}
-use Rattle.message_fanout.specs.Stagings.{IsBeforeDel, IsStagedIn}
+use Rattle.message_fanout.specs.Stagings.{IsBeforeDel, IsStagedIn, those_left}
 use Rattle.object_plans.specs.Moves.{world_with}
 use Rattle.tile_core.specs.Staged.{StagesBehind}
-use Rattle.tile_core.proofs.Behind.{behind_one, on_ok}
+use Rattle.tile_core.proofs.Behind.{as_all, behind_one, on_ok}
 use Rattle.object_plans.specs.Weights.{found_at}
 use Rattle.tile_core.proofs.staging.stage_one.Goals as goal
 
@@ -29,5 +29,5 @@ returns-in-Some-clause-staged c =
     } in
     let named : announced (change.Del o.key o.id) ≡ announced (change.Del key id) = ap (λ (k : Bytes). announced (change.Del k o.id)) own.0 ∙ ap (λ (k : Bytes). announced (change.Del key k)) own.1 in
     on_ok c.stage_del.result _ _
-    (λ (s : IsStagedIn (IsBeforeDel cs o) (announced (change.Del o.key o.id)) old new). subst (λ (d : Write). StagesBehind w (d ∷ []) old new) named (behind_one w (announced (change.Del o.key o.id)) (IsBeforeDel cs o) old new such s))
+    (λ (s : IsStagedIn (IsBeforeDel (those_left 0 cs) o) (announced (change.Del o.key o.id)) old new). subst (λ (d : Write). StagesBehind w (d ∷ []) old new) named (behind_one w (announced (change.Del o.key o.id)) (IsBeforeDel (those_left 0 cs) o) old new (as_all cs o w such) s))
     c.stage_del.ensures.staged

@@ -19,7 +19,7 @@ pub returns-in-Ok-new-clause-first : goal.returns-in-Ok-new-clause-first
 returns-in-Ok-new-clause-first g c =
     let e = c.in-Ok.ensures in
     subst (IsFirst (g.D.Disk.seen c.args.disk)) (sym c.in-Ok-new.ensures.knows) (record {
-      opens = record { sound = e.sound; recovered = e.opened.recovers; length = e.len };
+      opens = record { sound = e.sound; recovered = e.recovers; length = e.len };
       unseen = refl;
       unmade = refl;
       front = refl;
@@ -32,7 +32,7 @@ returns-in-Ok-new-clause-begun g c = subst (λ (k : Knows). min (g.D.Disk.faults
 pub returns-in-Err-new-clause-back : goal.returns-in-Err-new-clause-back
 returns-in-Err-new-clause-back g c =
     let e = c.in-Ok.ensures in
-    given_up g.D.Disk.crashes g.D.Disk.seen g.D.Disk.images g.D.Disk.moment g.D.Disk.left_since c.args.disk _ c.in-Ok.core _ (c.into_disk.ensures ∙ ap disk_of c.in-Err-new.ensures.back) refl e.log e.opened.recovers e.leaves
+    given_up g.D.Disk.crashes g.D.Disk.seen g.D.Disk.images g.D.Disk.moment g.D.Disk.left_since c.args.disk _ c.in-Ok.core _ (c.into_disk.ensures ∙ ap disk_of c.in-Err-new.ensures.back) refl e.log e.recovers e.leaves
 
 pub returns-in-Err-clause-back : goal.returns-in-Err-clause-back
 returns-in-Err-clause-back g c = record { reads = c.in-Err.ensures.same; leaves = c.in-Err.ensures.leaves }

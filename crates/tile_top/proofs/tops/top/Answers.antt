@@ -9,6 +9,7 @@ use Rattle.replay_run.specs.Standing.{IsSafeFor}
 use Rattle.replay_run.specs.Checks.{IsLookedAt}
 use Rattle.replay_run.specs.declared.halts.Halt.{Halt}
 use Rattle.tile_top.specs.Tops.{Replays}
+use Rattle.tile_top.specs.Backtests.{Backtests}
 use Rattle.tile_top.specs.Checks.{Checks}
 use Rattle.tile_top.proofs.tops.top.Goals as goal
 
@@ -37,3 +38,9 @@ returns-in-None-2-clause-check g c asked =
     (subst (λ (n : ℕ). Checks seen (IsBackAt g.D.Disk.crashes g.D.Disk.seen g.D.Disk.images g.D.Disk.moment g.D.Disk.left_since c.args.disk p.result.disk)
     (IsLookedAt g.D.Disk.crashes g.D.Disk.seen g.D.Disk.images g.D.Disk.moment g.D.Disk.left_since c.args.disk p.result.disk)
     (g.K.Sink.held c.args.sink.now) (g.K.Sink.held p.new.sink) n) (sym w.ensures.status) p.ensures.told)
+
+pub returns-in-None-3-clause-backtest : goal.returns-in-None-3-clause-backtest
+returns-in-None-3-clause-backtest g c asked =
+    let p = c.backtest_disk-scripted in
+    subst (λ (n : ℕ). Backtests (g.D.Disk.seen c.args.disk) (g.S.Source.left c.args.source.now) (g.S.Source.left p.new.source) (g.K.Sink.held c.args.sink.now) (g.K.Sink.held p.new.sink) n)
+    (sym c.without_hall-in-None-3.ensures.status) p.ensures.told

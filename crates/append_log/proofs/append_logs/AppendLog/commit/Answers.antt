@@ -22,9 +22,9 @@ returns-in-Ok-clause-stands g c batches is =
     let disk = c.append_batch.new.disk in
     let some = committed_some batches log.pending (λ none. c.if-len-eq0.false (c.len.ensures ∙ none)) in
     record {
-      place = omega (arith, is.place, ap (gate_place log.generation) some, gate_place-append log.generation batches log.pending, c.len-in-Ok.ensures);
-      safe = subst (λ (l : List Bytes). SideIsSafe (D.crashes disk) (D.seen disk) (D.images disk) log.side (StandsFor log.generation l)) (sym some)
-          (c.in-Ok.ensures.stands log.generation batches log.pending c.bytes.ensures is);
+      place = omega (arith, is.place, ap (gate_place log.version log.generation) some, gate_place-append log.version log.generation batches log.pending, c.len-in-Ok.ensures);
+      safe = subst (λ (l : List Bytes). SideIsSafe (D.crashes disk) (D.seen disk) (D.images disk) log.side (StandsFor log.version log.generation l)) (sym some)
+          (c.in-Ok.ensures.stands log.version log.generation batches log.pending c.bytes.ensures is);
     }
 
 pub returns-in-Ok-clause-either : goal.returns-in-Ok-clause-either
@@ -32,13 +32,13 @@ returns-in-Ok-clause-either g c batches is =
     let D = g.D.Disk in
     let log = c.args.self.now in
     let some = committed_some batches log.pending (λ none. c.if-len-eq0.false (c.len.ensures ∙ none)) in
-    subst (λ (l : List Bytes). SideLeads D.crashes D.seen D.images D.moment D.left_since log.side (λ (x : Bytes). StandsFor log.generation batches x ⊎ StandsFor log.generation l x) c.args.disk.now c.append_batch.new.disk) (sym some)
-    (c.in-Ok.ensures.either log.generation batches log.pending c.bytes.ensures is)
+    subst (λ (l : List Bytes). SideLeads D.crashes D.seen D.images D.moment D.left_since log.side (λ (x : Bytes). StandsFor log.version log.generation batches x ⊎ StandsFor log.version log.generation l x) c.args.disk.now c.append_batch.new.disk) (sym some)
+    (c.in-Ok.ensures.either log.version log.generation batches log.pending c.bytes.ensures is)
 
 pub returns-in-Err-clause-either : goal.returns-in-Err-clause-either
 returns-in-Err-clause-either g c batches is =
     let D = g.D.Disk in
     let log = c.args.self.now in
     let some = committed_some batches log.pending (λ none. c.if-len-eq0.false (c.len.ensures ∙ none)) in
-    subst (λ (l : List Bytes). SideLeads D.crashes D.seen D.images D.moment D.left_since log.side (λ (x : Bytes). StandsFor log.generation batches x ⊎ StandsFor log.generation l x) c.args.disk.now c.append_batch.new.disk) (sym some)
-    (c.in-Err.ensures.either log.generation batches log.pending c.bytes.ensures is)
+    subst (λ (l : List Bytes). SideLeads D.crashes D.seen D.images D.moment D.left_since log.side (λ (x : Bytes). StandsFor log.version log.generation batches x ⊎ StandsFor log.version log.generation l x) c.args.disk.now c.append_batch.new.disk) (sym some)
+    (c.in-Err.ensures.either log.version log.generation batches log.pending c.bytes.ensures is)

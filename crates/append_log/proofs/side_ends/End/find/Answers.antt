@@ -29,17 +29,17 @@ returns-in-Ok-Closed-clause-same g c =
     same_next D.crashes D.seen D.images D.moment D.left_since D.faults start.side now.reader.side start.len start.at now.reader.at c.args.disk.now now.disk c.next_batch.new.disk now.invariant.passes now.invariant.side c.next_batch.ensures.same
 
 pub returns-in-Ok-Closed-clause-end : goal.returns-in-Ok-Closed-clause-end
-returns-in-Ok-Closed-clause-end g c generation bytes safe first =
+returns-in-Ok-Closed-clause-end g c version generation bytes safe first =
     let D = g.D.Disk in
     let now = c.loop-reader in
     let start = c.args.reader in
     let disk = now.disk in
     let new = c.next_batch.new.self in
-    let before = now.invariant.passes.gate generation bytes safe first in
+    let before = now.invariant.passes.gate version generation bytes safe first in
     let safe_now = subst (λ (x : Side). SideIsSafe (D.crashes disk) (D.seen disk) (D.images disk) x (λ x. x ≡ bytes)) (sym now.invariant.side) (now.invariant.passes.safe bytes safe) in
-    let at_gate = subst (λ (n : ℕ). IsAtGate generation before.0 n now.reader.at bytes) (sym now.invariant.len) before.1 in
-    let closed = subst (λ (x : Gate). IsGateOf generation before.0 bytes new.len new.left new.at x) c.in-Ok-Closed.field-0-is (c.in-Ok-Closed.ensures.gate generation before.0 bytes safe_now at_gate) in
-    (before.0, subst (λ (n : ℕ). IsAtGate generation before.0 n c.place.result bytes) (c.next_batch.ensures.len ∙ now.invariant.len) (subst (λ (n : ℕ). IsAtGate generation before.0 new.len n bytes) (sym c.place.ensures) closed.0), closed.1)
+    let at_gate = subst (λ (n : ℕ). IsAtGate version generation before.0 n now.reader.at bytes) (sym now.invariant.len) before.1 in
+    let closed = subst (λ (x : Gate). IsGateOf version generation before.0 bytes new.len new.left new.at x) c.in-Ok-Closed.field-0-is (c.in-Ok-Closed.ensures.gate version generation before.0 bytes safe_now at_gate) in
+    (before.0, subst (λ (n : ℕ). IsAtGate version generation before.0 n c.place.result bytes) (c.next_batch.ensures.len ∙ now.invariant.len) (subst (λ (n : ℕ). IsAtGate version generation before.0 new.len n bytes) (sym c.place.ensures) closed.0), closed.1)
 
 pub loop-reader-preserved : goal.loop-reader-preserved
 loop-reader-preserved g c =
@@ -58,13 +58,24 @@ loop-reader-preserved g c =
         later = omega (arith, passes.later, c.next_batch.ensures.cause.later);
         safe = λ bytes safe. safe_next D.crashes D.seen D.images start.side now.reader.side disk c.next_batch.new.disk now.invariant.side c.next_batch.ensures.safe bytes (passes.safe bytes safe);
         same = same_next D.crashes D.seen D.images D.moment D.left_since D.faults start.side now.reader.side start.len start.at now.reader.at c.args.disk.now disk c.next_batch.new.disk passes now.invariant.side c.next_batch.ensures.same;
-        gate = λ generation bytes safe first.
-            let before = passes.gate generation bytes safe first in
+        gate = λ version generation bytes safe first.
+            let before = passes.gate version generation bytes safe first in
             let safe_now = subst (λ (x : Side). SideIsSafe (D.crashes disk) (D.seen disk) (D.images disk) x (λ x. x ≡ bytes)) (sym now.invariant.side) (passes.safe bytes safe) in
-            let at_gate = subst (λ (n : ℕ). IsAtGate generation before.0 n now.reader.at bytes) (sym now.invariant.len) before.1 in
-            let opened = subst (λ (x : Gate). IsGateOf generation before.0 bytes mid.len mid.left mid.at x) c.in-Ok-Open.field-0-is (c.in-Ok-Open.ensures.gate generation before.0 bytes safe_now at_gate) in (
+            let at_gate = subst (λ (n : ℕ). IsAtGate version generation before.0 n now.reader.at bytes) (sym now.invariant.len) before.1 in
+            let opened = subst (λ (x : Gate). IsGateOf version generation before.0 bytes mid.len mid.left mid.at x) c.in-Ok-Open.field-0-is (c.in-Ok-Open.ensures.gate version generation before.0 bytes safe_now at_gate) in (
               with_batch before.0 ([] ++ take mid.left (drop mid.at bytes)),
-              subst (λ (n : ℕ). IsAtGate generation (with_batch before.0 ([] ++ take mid.left (drop mid.at bytes))) n last.at bytes) (c.skip.ensures.len ∙ c.next_batch.ensures.len ∙ now.invariant.len) (c.skip.ensures.at generation before.0 [] bytes opened.1),
+              subst (λ (n : ℕ). IsAtGate version generation (with_batch before.0 ([] ++ take mid.left (drop mid.at bytes))) n last.at bytes) (c.skip.ensures.len ∙ c.next_batch.ensures.len ∙ now.invariant.len) (c.skip.ensures.at version generation before.0 [] bytes opened.1),
             );
       };
     }
+
+pub returns-in-Ok-Damaged-clause-end : goal.returns-in-Ok-Damaged-clause-end
+returns-in-Ok-Damaged-clause-end g c version generation bytes safe first =
+    let D = g.D.Disk in
+    let now = c.loop-reader in
+    let disk = now.disk in
+    let new = c.next_batch.new.self in
+    let before = now.invariant.passes.gate version generation bytes safe first in
+    let safe_now = subst (λ (x : Side). SideIsSafe (D.crashes disk) (D.seen disk) (D.images disk) x (λ x. x ≡ bytes)) (sym now.invariant.side) (now.invariant.passes.safe bytes safe) in
+    let at_gate = subst (λ (n : ℕ). IsAtGate version generation before.0 n now.reader.at bytes) (sym now.invariant.len) before.1 in
+    (before.0, subst (λ (x : Gate). IsGateOf version generation before.0 bytes new.len new.left new.at x) c.in-Ok-Damaged.field-0-is (c.in-Ok-Damaged.ensures.gate version generation before.0 bytes safe_now at_gate))

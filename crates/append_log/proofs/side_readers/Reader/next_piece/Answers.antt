@@ -6,7 +6,7 @@ use Rattle.append_log.proofs.Scanning.{advances}
 use Rattle.append_log.proofs.side_readers.Reader.next_piece.Goals as goal
 
 pub returns-in-Ok-clause-piece : goal.returns-in-Ok-clause-piece
-returns-in-Ok-clause-piece g c generation batches part bytes safe reading =
+returns-in-Ok-clause-piece g c version generation batches part bytes safe reading =
     let D = g.D.Disk in
     let s = c.args.self.now in
     let count = c.in-Ok.count in
@@ -19,6 +19,6 @@ returns-in-Ok-clause-piece g c generation batches part bytes safe reading =
     let many : count ≡ min (length into) s.left = omega (arith, told, ap length safe.has, reading.whole, reading.within, c.min-room.ensures, length-take room into) in
     let whole : take count (read ++ drop room into) ≡ take count read = take-append-le count read (drop room into) (omega (arith, c.in-Ok.ensures.bound)) in (
       many,
-      advances generation batches part (take count (read ++ drop room into)) s.len s.left s.at count c.saturating_sub-self.result c.saturating_add-self.result bytes reading (omega (arith, many)) (whole ∙ copied)
+      advances version generation batches part (take count (read ++ drop room into)) s.len s.left s.at count c.saturating_sub-self.result c.saturating_add-self.result bytes reading (omega (arith, many)) (whole ∙ copied)
           (omega (arith, c.saturating_sub-self.ensures)) (omega (arith, c.saturating_add-self.ensures, reading.within, s.short, many)),
     )

@@ -1,14 +1,14 @@
-use Rattle.slab.specs.Slab.{get}
-use Rattle.channel_hub.specs.Hubs.{channels_in}
-use Rattle.channel_hub.proofs.ChannelsByName.{found, lacking}
+use Rattle.std.proofs.Common.{◌∙◌, sym}
+use Rattle.channel_hub.proofs.Left.{get_left, get_none, get_out}
 use Rattle.channel_hub.proofs.hubs.Hub.get.Goals as goal
 
-pub returns-in-Ok-clause-some : goal.returns-in-Ok-clause-some
-returns-in-Ok-clause-some c =
-    let held = rw c.as_slice.ensures.value at c.in-Ok.ensures.held in
-    rw (← c.self.view_is) (found c.args.name.now (channels_in (get c.self.inside.slots) c.self.inside.order.items) c.in-Ok.at c.at.result.now held (rw (← c.self.view_is) at c.at.ensures))
+pub returns-then-is_out-clause-none : goal.returns-then-is_out-clause-none
+returns-then-is_out-clause-none c =
+    rw (← c.self.view_is) (get_out c.args.name.now c.self.inside.out c.self.inside.all.channels c.in-Some.channel.now c.len-count.ensures.by_name (rw c.in-Some.is at c.get.ensures.some) (sym c.is_out.ensures ∙ c.if-is_out.true))
 
-pub returns-in-Err-clause-none : goal.returns-in-Err-clause-none
-returns-in-Err-clause-none c =
-    let free = rw c.as_slice.ensures.value at c.in-Err.ensures.free in
-    rw (← c.self.view_is) (lacking c.args.name.now (channels_in (get c.self.inside.slots) c.self.inside.order.items) c.in-Err.field-0 c.self.invariant.ordered.by_name free)
+pub returns-else-is_out-clause-some : goal.returns-else-is_out-clause-some
+returns-else-is_out-clause-some c =
+    rw (← c.self.view_is) (get_left c.args.name.now c.self.inside.out c.self.inside.all.channels c.in-Some.channel.now (rw c.in-Some.is at c.get.ensures.some) (sym c.is_out.ensures ∙ c.if-is_out.false))
+
+pub returns-in-None-clause-none : goal.returns-in-None-clause-none
+returns-in-None-clause-none c = rw (← c.self.view_is) (get_none c.args.name.now c.self.inside.out c.self.inside.all.channels (rw c.in-None.is at c.get.ensures.none))

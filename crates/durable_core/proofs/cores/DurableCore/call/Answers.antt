@@ -1,12 +1,10 @@
 use Rattle.std.proofs.Common.{◌∙◌, sym, refl, subst}
-use Rattle.std.specs.Prelude.{◌++◌}
 use Rattle.world_model.specs.Halls.{Hall}
 use Rattle.world_model.specs.declared.events.Event.TheVariants as event
 use Rattle.world_model.specs.declared.events.Outcome.TheVariants as outcome
 use Rattle.world_model.specs.declared.events.CallOutcome.TheVariants as called
-use Rattle.journal.specs.Journals.{pending}
 use Rattle.tile_core.specs.RecordSinks.{IsRecordedBy}
-use Rattle.durable_core.specs.Kept.{HasPending}
+use Rattle.durable_core.specs.Kept.{HasPushed}
 use Rattle.durable_core.specs.Logged.{hall_of}
 use Rattle.durable_core.specs.StepLaws.{call_goes, fails, same_hall}
 use Rattle.durable_core.specs.Rewriting.{IsCopyWhile}
@@ -28,12 +26,12 @@ returns-in-Ok-clause-log g c j keeps =
     let answer = c.call-called.result in
     let going = sym c.is_stopped.ensures ∙ c.if-is_stopped.false in
     let took = led D.crashes D.seen D.images D.moment D.left_since g.met.D.Disk.as_read g.met.D.Disk.counts_now g.met.D.Disk.only_now c.commit_long.new.self c.call-called.new.ledger (hall_of old) event answer
-    (λ is. subst (λ (h : Hall). IsRecordedBy (λ from records to. HasPending D.crashes D.seen D.images from to (pending from.journal ++ records)) h event c.commit_long.new.self c.call-called.new.ledger)
+    (λ is. subst (λ (h : Hall). IsRecordedBy (HasPushed D.crashes D.seen D.images) h event c.commit_long.new.self c.call-called.new.ledger)
     (sym (same_hall old.core.hall _ (old.goes_on ∙ sym going))) (c.call-called.ensures.recorded is)) c.call-called.ensures.unrecorded in
     let step = lifted old.core.hall c.call-called.new.self.hall event (outcome.Answered answer) _ _ old.goes_on (c.call-called.ensures.stopped ∙ old.goes_on) going going c.call-called.ensures.step in
     let leads = c.in-Ok.ensures.log j (keeps going).kept in
     served D.crashes D.seen D.images D.moment D.left_since g.met.D.Disk.as_read g.met.D.Disk.counts_now g.met.D.Disk.only_now old _ c.commit_long.new.self c.call-called.new.ledger event answer j leads.0 going step keeps c.commit_long.ensures.told leads.1 took c.note.ensures.journal
-    (λ copied batches copies. subst (λ (r : Rewriting). IsCopyWhile r copied batches) (sym c.note.ensures.rewriting) (copies_asked answer _ _ c.call-called.new.ledger.rewriting copied batches copies)) refl
+    (λ v copied batches copies. subst (λ (r : Rewriting). IsCopyWhile r v copied batches) (sym c.note.ensures.rewriting) (copies_asked answer _ _ c.call-called.new.ledger.rewriting v copied batches copies)) refl
 
 pub returns-in-Err-clause-log : goal.returns-in-Err-clause-log
 returns-in-Err-clause-log g c j keeps =

@@ -1,36 +1,144 @@
-use Rattle.std.proofs.Common.{List, [], ap, inr, refl, subst, sym}
+use Rattle.std.proofs.Common.{◌∙◌, List, [], ap, inl, inr, refl, subst, sym, arith}
 use Rattle.byte_text.specs.Names.{Bytes}
+use Rattle.outside.specs.CauseLaws.{rose_later}
+use Rattle.outside.specs.Causes.{Rose}
+use Rattle.outside.specs.Crashes.{LeavesOnly}
+use Rattle.outside.specs.CrashLaws.{weaker}
 use Rattle.world_data.specs.Sound.{IsSoundWorld}
 use Rattle.world_data.specs.declared.worlds.World.{World}
 use Rattle.world_model.specs.Halls.{Hall}
 use Rattle.journal.specs.Journals.{Keeps}
+use Rattle.journal.specs.Openings.{IsLeftByOpening}
+use Rattle.log_record.specs.Recovery.{RecoversEither}
 use Rattle.world_recovery.specs.Opened.{IsOpened}
-use Rattle.durable_core.proofs.Opening.{is_opening, opened_hall, reads_alike, world_sound}
+use Rattle.durable_core.specs.Opened.{IsLeftByStart}
+use Rattle.durable_core.proofs.Older.{is_older, log_fault}
+use Rattle.durable_core.proofs.Opening.{half_rewritten, is_opening, opened_hall, opened_kept, reads_alike, since_on, start_leaves, was_read, world_sound}
 use Rattle.durable_core.proofs.cores.DurableCore.open.Goals as goal
 
 pub over-requires-clause-sound : goal.over-requires-clause-sound
-over-requires-clause-sound g c = world_sound c.in-Ok.ensures.opened.batches c.in-Ok.field-0.world c.in-Ok.ensures.opened.world_is c.in-Ok.ensures.recorded
+over-requires-clause-sound g c = world_sound c.in-Ok.field-0.journal.log.version c.in-Ok.ensures.opened.batches c.in-Ok.field-0.world c.in-Ok.ensures.opened.world_is c.in-Ok.ensures.recorded
 
-pub over-requires-clause-recorded : goal.over-requires-clause-recorded
-over-requires-clause-recorded g c = c.in-Ok.ensures.recorded.channels
-
-pub returns-in-Ok-over-clause-sound : goal.returns-in-Ok-over-clause-sound
-returns-in-Ok-over-clause-sound g c =
+pub returns-in-Ok-upgrade-clause-sound : goal.returns-in-Ok-upgrade-clause-sound
+returns-in-Ok-upgrade-clause-sound g c =
     subst IsSoundWorld (sym (ap (λ (h : Hall). h.world) c.in-Ok-over.ensures))
-    (world_sound c.in-Ok.ensures.opened.batches c.in-Ok.field-0.world c.in-Ok.ensures.opened.world_is c.in-Ok.ensures.recorded)
+    (world_sound c.in-Ok.field-0.journal.log.version c.in-Ok.ensures.opened.batches c.in-Ok.field-0.world c.in-Ok.ensures.opened.world_is c.in-Ok.ensures.recorded)
 
-pub returns-in-Ok-over-clause-safe : goal.returns-in-Ok-over-clause-safe
-returns-in-Ok-over-clause-safe g c s told crash =
+pub returns-in-Ok-upgrade-clause-opened : goal.returns-in-Ok-upgrade-clause-opened
+returns-in-Ok-upgrade-clause-opened g c =
     let D = g.D.Disk in
-    let opened = c.in-Ok.field-0 in
-    let kept = λ (batches : List Bytes). Keeps D.crashes D.seen D.images opened.journal batches [] in
-    let hall = c.in-Ok-over.ensures in
-    let is = subst (λ (w : World). IsOpened D.crashes D.seen D.moment D.left_since c.args.disk opened.journal.disk w kept) (sym (ap (λ (h : Hall). h.world) hall)) c.in-Ok.ensures.opened in
-    is_opening D.crashes D.seen D.images D.moment D.left_since g.met.D.Disk.as_read c.args.disk _ _ s is
-    (opened_hall c.in-Ok-over.core.hall opened.world opened.len hall) told crash c.in-Ok.ensures.told c.in-Ok.ensures.pending refl
+    let k = c.in-Ok.field-0.journal in
+    let h = c.in-Ok-over.core.hall in
+    let keeps = λ (batches : List Bytes). Keeps D.crashes D.seen D.images k batches [] in
+    let opened = subst (λ (w : World). IsOpened D.crashes D.seen D.moment D.left_since c.args.disk k.disk w k.log.version keeps) (sym (ap (λ (z : Hall). z.world) c.in-Ok-over.ensures)) c.in-Ok.ensures.opened in
+    was_read D.crashes D.seen D.images D.moment D.left_since c.args.disk k.disk c.upgrade.new.self.journal.disk h.world k.log.version keeps opened
+    (λ s told crash.
+    let kept = opened_kept D.crashes D.seen D.images D.moment D.left_since g.met.D.Disk.as_read c.args.disk _ h.world s opened told c.in-Ok.ensures.pending refl in
+    (c.in-Ok-upgrade.ensures.log h.world kept refl).leaves (c.in-Ok.ensures.told ∙ crash))
+
+pub returns-in-Ok-upgrade-clause-safe : goal.returns-in-Ok-upgrade-clause-safe
+returns-in-Ok-upgrade-clause-safe g c s told crash =
+    let D = g.D.Disk in
+    let k = c.in-Ok.field-0.journal in
+    let h = c.in-Ok-over.core.hall in
+    let keeps = λ (batches : List Bytes). Keeps D.crashes D.seen D.images k batches [] in
+    let opened = subst (λ (w : World). IsOpened D.crashes D.seen D.moment D.left_since c.args.disk k.disk w k.log.version keeps) (sym (ap (λ (z : Hall). z.world) c.in-Ok-over.ensures)) c.in-Ok.ensures.opened in
+    let kept = opened_kept D.crashes D.seen D.images D.moment D.left_since g.met.D.Disk.as_read c.args.disk _ h.world s opened told c.in-Ok.ensures.pending refl in
+    let leads = c.in-Ok-upgrade.ensures.log h.world kept refl in
+    let goes = c.in-Ok.ensures.told ∙ crash in
+    is_opening D.crashes D.seen D.images D.moment D.left_since g.met.D.Disk.as_read c.args.disk _ _
+    (since_on D.crashes D.seen D.images D.moment D.left_since c.args.disk k.disk c.upgrade.new.self.journal.disk h.world k.log.version keeps opened s told crash (leads.leaves goes))
+    (opened_hall h c.in-Ok.field-0.world c.in-Ok.field-0.len c.in-Ok-over.ensures) leads.kept (c.in-Ok-upgrade.ensures.told ∙ goes)
+
+pub returns-in-Ok-upgrade-clause-leaves : goal.returns-in-Ok-upgrade-clause-leaves
+returns-in-Ok-upgrade-clause-leaves g c s told crash =
+    let D = g.D.Disk in
+    let k = c.in-Ok.field-0.journal in
+    let w = c.in-Ok.field-0.world in
+    let world = ap (λ (z : Hall). z.world) c.in-Ok-over.ensures in
+    let kept = opened_kept D.crashes D.seen D.images D.moment D.left_since g.met.D.Disk.as_read c.args.disk _ w s c.in-Ok.ensures.opened told c.in-Ok.ensures.pending refl in
+    start_leaves D.crashes D.seen D.images D.moment D.left_since c.args.disk k.disk c.upgrade.new.self.journal.disk w s k.log.version (c.in-Ok.ensures.version s told) k.log.headed.latest
+    (λ is. ap (λ t. t.journal.disk) (c.in-Ok-upgrade.ensures.same is)) (c.in-Ok.ensures.opened.recovers s told) (c.in-Ok.ensures.leaves s told crash)
+    ((c.in-Ok-upgrade.ensures.log w kept world).leaves (c.in-Ok.ensures.told ∙ crash))
+
+pub returns-in-Memory-clause-leaves : goal.returns-in-Memory-clause-leaves
+returns-in-Memory-clause-leaves g c s told crash =
+    let D = g.D.Disk in
+    let k = c.in-Ok.field-0.journal in
+    let w = c.in-Ok.field-0.world in
+    let world = ap (λ (z : Hall). z.world) c.in-Ok-over.ensures in
+    let kept = opened_kept D.crashes D.seen D.images D.moment D.left_since g.met.D.Disk.as_read c.args.disk _ w s c.in-Ok.ensures.opened told c.in-Ok.ensures.pending refl in
+    subst (λ d. LeavesOnly D.moment D.left_since c.args.disk d (IsLeftByStart (D.images c.args.disk) s)) (sym c.handed_back.ensures.disk)
+    (start_leaves D.crashes D.seen D.images D.moment D.left_since c.args.disk k.disk c.upgrade.new.self.journal.disk w s k.log.version (c.in-Ok.ensures.version s told) k.log.headed.latest
+    (λ is. ap (λ t. t.journal.disk) (c.in-Memory.ensures.same is)) (c.in-Ok.ensures.opened.recovers s told) (c.in-Ok.ensures.leaves s told crash)
+    ((c.in-Memory.ensures.log w kept world).leaves (c.in-Ok.ensures.told ∙ crash)))
+
+pub returns-in-Memory-clause-same : goal.returns-in-Memory-clause-same
+returns-in-Memory-clause-same g c s told =
+    let D = g.D.Disk in
+    let w = c.in-Ok.field-0.world in
+    let world = ap (λ (z : Hall). z.world) c.in-Ok-over.ensures in
+    let kept = opened_kept D.crashes D.seen D.images D.moment D.left_since g.met.D.Disk.as_read c.args.disk _ w s c.in-Ok.ensures.opened told c.in-Ok.ensures.pending refl in
+    let still = (c.in-Memory.ensures.log w kept world).kept in
+    inr (inl (reads_alike D.crashes D.seen D.images D.moment D.left_since g.met.D.Disk.as_read c.upgrade.new.self.journal still.batches still.copied _ w s _ c.handed_back.ensures.why still.keeps still.whole still.committed
+    (c.in-Ok.ensures.opened.recovers s told) c.handed_back.ensures.disk))
+
+pub returns-in_default : goal.returns-in_default
+returns-in_default g c =
+    let D = g.D.Disk in
+    let k = c.in-Ok.field-0.journal in
+    let w = c.in-Ok.field-0.world in
+    let world = ap (λ (z : Hall). z.world) c.in-Ok-over.ensures in
+    let back = c.handed_back-in_default.ensures in
+    let failed = log_fault c.upgrade.result c.in_default.not-Ok c.in_default.not-Memory c.upgrade.ensures.ended in
+    let later = c.in-Ok.ensures.later in
+    record {
+      hall = tt;
+      sound = tt;
+      opened = tt;
+      log = λ s told. tt;
+      safe = λ s told crash. tt;
+      recovers = λ s told. tt;
+      idle = tt;
+      version = tt;
+      generation = λ s told. tt;
+      len = λ s told. tt;
+      short = tt;
+      damaged = λ s told side place is. absurd (cc (back.why, is));
+      whole = λ s told. tt;
+      leaves = λ s told crash.
+          let kept = opened_kept D.crashes D.seen D.images D.moment D.left_since g.met.D.Disk.as_read c.args.disk _ w s c.in-Ok.ensures.opened told c.in-Ok.ensures.pending refl in
+          subst (λ d. LeavesOnly D.moment D.left_since c.args.disk d (IsLeftByStart (D.images c.args.disk) s)) (sym back.disk)
+          (start_leaves D.crashes D.seen D.images D.moment D.left_since c.args.disk k.disk c.upgrade.new.self.journal.disk w s k.log.version (c.in-Ok.ensures.version s told) k.log.headed.latest
+          (λ is. ap (λ t. t.journal.disk) (c.upgrade.ensures.same is)) (c.in-Ok.ensures.opened.recovers s told) (c.in-Ok.ensures.leaves s told crash)
+          ((c.upgrade.ensures.log w kept world).leaves (c.in-Ok.ensures.told ∙ crash)));
+      same = λ s told.
+          let kept = opened_kept D.crashes D.seen D.images D.moment D.left_since g.met.D.Disk.as_read c.args.disk _ w s c.in-Ok.ensures.opened told c.in-Ok.ensures.pending refl in
+          let leads = c.upgrade.ensures.log w kept world in
+          let less = is_older k.log.version k.log.headed.latest (λ is. c.in_default.not-Ok (c.upgrade.ensures.newest is)) in
+          inr (inr (half_rewritten D.crashes D.seen D.images D.moment D.left_since g.met.D.Disk.as_read g.met.D.Disk.counts_now g.met.D.Disk.only_now _ _ w s _ back.why kept (c.in-Ok.ensures.opened.recovers s told) (c.in-Ok.ensures.version s told) less
+          (λ goes. subst (λ d. LeavesOnly D.moment D.left_since k.disk d (RecoversEither w w)) (sym back.disk) (leads.leaves goes)) (ap D.crashes back.disk ∙ c.upgrade.ensures.told)));
+      told = ap D.crashes back.disk ∙ c.upgrade.ensures.told ∙ c.in-Ok.ensures.told;
+      later = let more = c.upgrade.ensures.later in let at = ap D.faults back.disk in omega (arith, later, more, at);
+      cause = λ is. rose_later (D.faults c.args.disk) (D.faults k.disk) (D.faults c.handed_back-in_default.result.disk) later
+          (subst (λ d. Rose (D.faults k.disk) (D.faults d)) (sym back.disk) (c.upgrade.ensures.cause failed));
+    }
+
+pub returns-in-Err-over-clause-leaves : goal.returns-in-Err-over-clause-leaves
+returns-in-Err-over-clause-leaves g c s told crash =
+    let D = g.D.Disk in
+    subst (λ d. LeavesOnly D.moment D.left_since c.args.disk d (IsLeftByStart (D.images c.args.disk) s)) (sym c.handed_back-in-Err-over.ensures.disk)
+    (weaker D.moment D.left_since c.args.disk c.in-Ok.field-0.journal.disk (IsLeftByOpening (D.images c.args.disk) s) (IsLeftByStart (D.images c.args.disk) s) (λ image left. inl left) (c.in-Ok.ensures.leaves s told crash))
 
 pub returns-in-Err-over-clause-same : goal.returns-in-Err-over-clause-same
 returns-in-Err-over-clause-same g c s told =
     let D = g.D.Disk in
-    let opened = c.in-Ok.field-0 in
-    inr (reads_alike D.crashes D.seen D.images D.moment D.left_since g.met.D.Disk.as_read c.args.disk opened.journal c.retire.result opened.world s c.in-Ok.ensures.opened told c.in-Ok.ensures.pending c.retire.ensures)
+    let w = c.in-Ok.field-0.world in
+    let back = c.handed_back-in-Err-over.ensures in
+    let opened = c.in-Ok.ensures.opened in
+    inr (inl (reads_alike D.crashes D.seen D.images D.moment D.left_since g.met.D.Disk.as_read c.in-Ok.field-0.journal opened.batches [] _ w s _ back.why (opened.keeps s told) opened.whole opened.world_is (opened.recovers s told) back.disk))
+
+pub returns-in-Err-clause-leaves : goal.returns-in-Err-clause-leaves
+returns-in-Err-clause-leaves g c s told crash =
+    let D = g.D.Disk in
+    weaker D.moment D.left_since c.args.disk c.in-Err.unopened.disk (IsLeftByOpening (D.images c.args.disk) s) (IsLeftByStart (D.images c.args.disk) s) (λ image left. inl left) (c.in-Err.ensures.leaves s told crash)

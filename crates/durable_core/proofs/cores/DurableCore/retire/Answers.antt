@@ -28,7 +28,7 @@ returns-in-Ok-clause-left g c j keeps _ =
     let D = g.D.Disk in
     let of = keeps (sym c.is_stopped.ensures ∙ c.if-is_stopped.false) in
     let kept = (c.in-Ok.ensures.log j of.kept).kept in
-    let told = kept_told _ _ _ _ _ _ _ kept.batches kept.copied kept.keeps in
+    let told = kept_told _ _ _ _ _ _ _ _ kept.batches kept.copied kept.keeps in
     (told.0, told.1, subst (Recovers told.0) (sym of.world) (reads D.crashes D.seen D.images c.commit.new.self (log.settled j) kept told.0 told.1))
 
 pub returns-in-Err-clause-log : goal.returns-in-Err-clause-log

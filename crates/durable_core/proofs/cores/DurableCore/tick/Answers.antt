@@ -1,13 +1,11 @@
 use Rattle.std.proofs.Common.{◌∙◌, sym, refl, subst}
-use Rattle.std.specs.Prelude.{true, false, ◌++◌}
 use Rattle.std.proofs.lemmas.Bool.{not-true}
 use Rattle.world_model.specs.Halls.{Hall}
 use Rattle.world_model.specs.declared.events.Event.TheVariants as event
 use Rattle.world_model.specs.declared.events.Outcome.TheVariants as outcome
 use Rattle.world_model.specs.declared.events.CallOutcome.TheVariants as called
-use Rattle.journal.specs.Journals.{pending}
 use Rattle.tile_core.specs.RecordSinks.{IsRecordedBy}
-use Rattle.durable_core.specs.Kept.{HasPending}
+use Rattle.durable_core.specs.Kept.{HasPushed}
 use Rattle.durable_core.specs.Logged.{hall_of}
 use Rattle.durable_core.specs.StepLaws.{tick_goes, fails, same_hall}
 use Rattle.durable_core.proofs.Going.{faulted, led, lifted, served, stays}
@@ -26,11 +24,11 @@ returns-in-Ok-clause-log g c j keeps =
     let answer = c.tick.result in
     let going = sym c.is_stopped.ensures ∙ c.if-is_stopped.false in
     let took = led D.crashes D.seen D.images D.moment D.left_since g.met.D.Disk.as_read g.met.D.Disk.counts_now g.met.D.Disk.only_now c.commit_long.new.self c.tick.new.ledger (hall_of old) event answer
-    (λ is. subst (λ (h : Hall). IsRecordedBy (λ from records to. HasPending D.crashes D.seen D.images from to (pending from.journal ++ records)) h event c.commit_long.new.self c.tick.new.ledger)
+    (λ is. subst (λ (h : Hall). IsRecordedBy (HasPushed D.crashes D.seen D.images) h event c.commit_long.new.self c.tick.new.ledger)
     (sym (same_hall old.core.hall _ (old.goes_on ∙ sym going))) (c.tick.ensures.recorded is)) c.tick.ensures.unrecorded in
     let step = lifted old.core.hall c.tick.new.self.hall event (outcome.Answered answer) _ _ old.goes_on (c.tick.ensures.stopped ∙ old.goes_on) going going c.tick.ensures.step in
     let leads = c.in-Ok.ensures.log j (keeps going).kept in
-    served D.crashes D.seen D.images D.moment D.left_since g.met.D.Disk.as_read g.met.D.Disk.counts_now g.met.D.Disk.only_now old _ c.commit_long.new.self _ event answer j leads.0 going step keeps c.commit_long.ensures.told leads.1 took refl (λ copied batches copies. copies) refl
+    served D.crashes D.seen D.images D.moment D.left_since g.met.D.Disk.as_read g.met.D.Disk.counts_now g.met.D.Disk.only_now old _ c.commit_long.new.self _ event answer j leads.0 going step keeps c.commit_long.ensures.told leads.1 took refl (λ v copied batches copies. copies) refl
 
 pub returns-in-Err-clause-log : goal.returns-in-Err-clause-log
 returns-in-Err-clause-log g c j keeps =

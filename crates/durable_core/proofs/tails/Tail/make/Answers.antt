@@ -5,7 +5,7 @@ use Rattle.durable_core.specs.Steps.{IsNextStep}
 use Rattle.durable_core.specs.Written.{KeepsSided}
 use Rattle.durable_core.specs.declared.steps.RewriteStep.TheVariants.{Copy}
 use Rattle.durable_core.proofs.Sides.{next_sided}
-use Rattle.durable_core.proofs.NextSteps.{copy_generation, copy_shown, on_ok}
+use Rattle.durable_core.proofs.NextSteps.{copy_generation, copy_shown, copy_version, on_ok}
 use Rattle.durable_core.proofs.tails.Tail.make.Goals as goal
 
 pub returns-in-Copy-clause-shown : goal.returns-in-Copy-clause-shown
@@ -21,6 +21,13 @@ returns-in-Copy-clause-generation g c w is =
     let gate = new_gate old.journal.rewriter in
     let copies = subst (IsNextStep old.rewriting gate w) c.in-Copy.is is in
     on_ok c.copy.result (copy_generation old.rewriting gate w c.in-Copy.next c.copy.new.self.journal.log.generation old.journal.log.generation copies c.copy.ensures.generation)
+
+pub returns-in-Copy-clause-version : goal.returns-in-Copy-clause-version
+returns-in-Copy-clause-version g c w is =
+    let old = c.args.self.now in
+    let gate = new_gate old.journal.rewriter in
+    let copies = subst (IsNextStep old.rewriting gate w) c.in-Copy.is is in
+    on_ok c.copy.result (copy_version old.rewriting gate w c.in-Copy.next c.copy.new.self.journal.log.version old.journal.log.version copies c.copy.ensures.version)
 
 pub returns-in-Copy-clause-written : goal.returns-in-Copy-clause-written
 returns-in-Copy-clause-written g c w s is keeps =

@@ -21,8 +21,8 @@ returns-in-Ok-clause-kept g c batches copied kept =
     let new = c.mirror_batch.new.disk in
     let pending = j.log.pending in
     on_ok_weaker c.mirror_batch.result
-    (λ done. kept_same (D.crashes new) (D.seen new) (D.images new) j.log.side log.side j.log.generation log.generation log.gate log.gate c.mirror_batch.new.rewriter (committed batches pending) (committed copied pending) c.in-Ok.ensures.side c.in-Ok.ensures.generation refl done)
-    (c.mirror_batch.ensures.kept j.log.side j.log.generation log.gate (committed batches pending) copied pending (c.last_batch.ensures ∙ ap written c.in-Ok.ensures.last) (c.in-Ok.ensures.kept j.rewriter batches copied kept))
+    (λ done. kept_same (D.crashes new) (D.seen new) (D.images new) j.log.side log.side j.log.version log.version j.log.generation log.generation log.gate log.gate c.mirror_batch.new.rewriter (committed batches pending) (committed copied pending) c.in-Ok.ensures.side c.in-Ok.ensures.version c.in-Ok.ensures.generation refl done)
+    (c.mirror_batch.ensures.kept j.log.side j.log.version j.log.generation log.gate (committed batches pending) copied pending (c.last_batch.ensures ∙ ap written c.in-Ok.ensures.last) (c.in-Ok.ensures.kept j.rewriter batches copied kept))
 
 pub returns-in-Ok-clause-leaves : goal.returns-in-Ok-clause-leaves
 returns-in-Ok-clause-leaves g c batches copied kept told =
@@ -32,9 +32,9 @@ returns-in-Ok-clause-leaves g c batches copied kept told =
     let mid = c.commit_log.new.disk in
     let new = c.mirror_batch.new.disk in
     let all = committed batches j.log.pending in
-    then D.moment D.left_since j.disk mid new (HoldsEither batches all) (c.in-Ok.ensures.leaves j.rewriter batches copied kept told)
-    (weaker D.moment D.left_since mid new (HoldsLog all) (HoldsEither batches all) (λ x holds. inr holds)
-    (c.mirror_batch.ensures.leaves j.log.side j.log.generation log.gate all copied (c.in-Ok.ensures.kept j.rewriter batches copied kept) (c.in-Ok.ensures.told ∙ told)))
+    then D.moment D.left_since j.disk mid new (HoldsEither j.log.version batches j.log.version all) (c.in-Ok.ensures.leaves j.rewriter batches copied kept told)
+    (weaker D.moment D.left_since mid new (HoldsLog j.log.version all) (HoldsEither j.log.version batches j.log.version all) (λ x holds. inr holds)
+    (c.mirror_batch.ensures.leaves j.log.side j.log.version j.log.generation log.gate all copied (c.in-Ok.ensures.kept j.rewriter batches copied kept) (c.in-Ok.ensures.told ∙ told)))
 
 pub returns-in-Ok-clause-new_gate : goal.returns-in-Ok-clause-new_gate
 returns-in-Ok-clause-new_gate g c =

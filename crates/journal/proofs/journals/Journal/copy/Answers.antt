@@ -13,15 +13,15 @@ returns-in-Ok-clause-kept g c batches copied kept =
     let D = g.D.Disk in
     let j = c.args.self.now in
     let new = c.copy_records.new.disk in
-    subst (λ (l : Bytes). IsKept (D.crashes new) (D.seen new) (D.images new) j.log.side j.log.generation j.log.gate c.copy_records.new.rewriter batches (committed copied l)) c.records.ensures
-    (c.in-Ok.ensures.kept j.log.side j.log.generation j.log.gate batches copied kept)
+    subst (λ (l : Bytes). IsKept (D.crashes new) (D.seen new) (D.images new) j.log.side j.log.version j.log.generation j.log.gate c.copy_records.new.rewriter batches (committed copied l)) c.records.ensures
+    (c.in-Ok.ensures.kept j.log.side j.log.version j.log.generation j.log.gate batches copied kept)
 
 pub returns-in-Ok-clause-leaves : goal.returns-in-Ok-clause-leaves
 returns-in-Ok-clause-leaves g c batches copied kept told =
     let j = c.args.self.now in
-    c.in-Ok.ensures.leaves j.log.side j.log.generation j.log.gate batches copied kept told
+    c.in-Ok.ensures.leaves j.log.side j.log.version j.log.generation j.log.gate batches copied kept told
 
 pub returns-in-Err-clause-leaves : goal.returns-in-Err-clause-leaves
 returns-in-Err-clause-leaves g c batches copied kept told =
     let j = c.args.self.now in
-    c.in-Err.ensures.leaves j.log.side j.log.generation j.log.gate batches copied kept told
+    c.in-Err.ensures.leaves j.log.side j.log.version j.log.generation j.log.gate batches copied kept told

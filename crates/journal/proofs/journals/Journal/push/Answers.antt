@@ -6,4 +6,4 @@ returns-clause-kept g c batches copied kept =
     let D = g.D.Disk in
     let j = c.args.self.now in
     let log = c.push.new.self in
-    kept_same (D.crashes j.disk) (D.seen j.disk) (D.images j.disk) j.log.side log.side j.log.generation log.generation j.log.gate log.gate j.rewriter batches copied c.push.ensures.side c.push.ensures.generation c.push.ensures.gate kept
+    kept_same (D.crashes j.disk) (D.seen j.disk) (D.images j.disk) j.log.side log.side j.log.version log.version j.log.generation log.generation j.log.gate log.gate j.rewriter batches copied c.push.ensures.side c.push.ensures.version c.push.ensures.generation c.push.ensures.gate kept

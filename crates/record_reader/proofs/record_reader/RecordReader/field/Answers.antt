@@ -1,8 +1,4 @@
-use Rattle.std.proofs.Common.{rules}
-use Rattle.std.proofs.Math.Facts.{to_z-of_z}
 use Rattle.std.proofs.lemmas.Result.{err_from_is_err_and}
-use mir.Syntax.{w64}
-use mir.Val.{SFits}
 use Rattle.record_reader.proofs.Parts.{name_refused, value_refused, field_found}
 use Rattle.record_reader.proofs.record_reader.RecordReader.field.Goals as goal
 
@@ -17,6 +13,4 @@ returns-in_err-value c =
     rw (p.1, p.2) (value_refused c.args.self.now c.value.new.self c.in_ok-name.name c.name.new.self _ c.in_ok-name.ensures c.in_err-value.ensures)
 
 pub returns : goal.returns
-returns c =
-    let fits : SFits w64 c.in_ok-value.value = search rules in
-    rw (to_z-of_z fits) (field_found c.args.self.now c.value.new.self c.in_ok-name.name c.in_ok-value.value c.name.new.self c.in_ok-name.ensures c.in_ok-value.ensures)
+returns c = field_found c.args.self.now c.value.new.self c.in_ok-name.name c.in_ok-value.value c.name.new.self c.in_ok-name.ensures c.in_ok-value.ensures

@@ -1,5 +1,6 @@
 use Rattle.std.proofs.Common.{◌≤◌, List, [], subst, sym}
 use Rattle.outside.specs.Causes.{Rose}
+use Rattle.log_sides.specs.Texts.{newest}
 use Rattle.durable_core.specs.Logged.{hall_of, disk_of}
 use Rattle.replay_run.specs.declared.readers.Reader.{Reader}
 use Rattle.replay_run.specs.Scripts.{Reopens}
@@ -13,14 +14,14 @@ returns-in-Ok-open-clause-again g c =
     let e = c.in-Ok.ensures in
     let o = c.in-Ok-open.ensures in
     let r = opened_again g.D.Disk.crashes g.D.Disk.seen g.D.Disk.images g.D.Disk.moment g.D.Disk.left_since g.D.Disk.faults (λ d. record { counts_now = g.met.D.Disk.counts_now d; only_now = g.met.D.Disk.only_now d }) c.args.self.core c.retire-answer.new.self c.in-Ok-open.core c.into_disk-disk.result c.args.self.readers.items c.into_disk-disk.ensures e.step e.later e.told e.log e.left
-    g.met.D.Disk.as_read (λ s h. c.held_batches_are_recovered.ensures.held [] s tt h) o.leaves o.hall o.sound o.opened.recovers o.log o.safe o.told o.later in
+    g.met.D.Disk.as_read (λ s h. c.held_batches_are_recovered.ensures.held newest [] s tt h) o.leaves o.hall o.sound o.recovers o.log o.safe o.told o.later in
     (r.0, λ told logs. subst (λ (rs : List Reader). Reopens told (played c.args.self) r.0 (record { hall = hall_of c.in-Ok-open.core; readers = rs })) (sym c.new.ensures.items) (r.1 told logs), r.2)
 
 pub returns-in-Ok-clause-failed : goal.returns-in-Ok-clause-failed
 returns-in-Ok-clause-failed g c =
     let e = c.in-Ok.ensures in
     unopened_again g.D.Disk.crashes g.D.Disk.seen g.D.Disk.images g.D.Disk.moment g.D.Disk.left_since g.D.Disk.faults (λ d. record { counts_now = g.met.D.Disk.counts_now d; only_now = g.met.D.Disk.only_now d }) c.args.self.core c.retire-answer.new.self c.into_disk-disk.result c.in-Err.unopened.disk c.args.self.readers.items c.in-Err.unopened.why c.into_disk-disk.ensures e.step e.stopped e.later e.told e.log e.left
-    g.met.D.Disk.as_read (λ s h. c.held_batches_are_recovered.ensures.held [] s tt h) c.in-Err.ensures.leaves c.in-Err.ensures.damaged
+    g.met.D.Disk.as_read (λ s h. c.held_batches_are_recovered.ensures.held newest [] s tt h) c.in-Err.ensures.leaves c.in-Err.ensures.damaged
 
 pub returns : goal.returns
 returns g c =

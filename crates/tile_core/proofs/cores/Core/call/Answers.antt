@@ -1,4 +1,4 @@
-use Rattle.std.proofs.Common.{◌≡◌, ◌≤◌, ◌+◌, ℕ, true, List, length, sym, ap, ◌∙◌, subst, arith}
+use Rattle.std.proofs.Common.{◌≡◌, ◌≤◌, ◌+◌, ◌++◌, ℕ, true, List, length, sym, ap, ◌∙◌, subst, arith}
 use Rattle.std.specs.Prelude.{Result, Ok, Err, filter}
 use Rattle.world_model.specs.Halls.{Hall, NamesChanged}
 use Rattle.world_model.specs.Halls as halls
@@ -11,7 +11,8 @@ use Rattle.keyspace.specs.Entries.{objects_in}
 use Rattle.session_table.specs.Sessions.{State}
 use Rattle.tile_core.specs.CoreStates.{CoreState}
 use Rattle.tile_core.specs.Answered.{AreNamed, AreRoomy, AreSessions, IsAnswered, MayCall, is_named}
-use Rattle.tile_core.specs.RecordSinks.{IsRecordedBy, ready_writes}
+use Rattle.tile_core.specs.Ready.{dues}
+use Rattle.tile_core.specs.RecordSinks.{IsRecordedBy, writes_if}
 use Rattle.tile_core.specs.Sessions.{IsServed, are_rising}
 use Rattle.tile_core.specs.Stores.{hall_of}
 use Rattle.tile_core.proofs.Answered.{may_not}
@@ -239,7 +240,7 @@ returns-clause-recorded g c = λ fine.
     let sv = subst (λ (ss : List State). IsServed ss c.args.session (Ok c.in-Ok.at)) c.as_slice.ensures.value c.in-Ok.ensures in
     let call = event.Call c.args.session c.args.moment c.args.asked.now in
     subst (λ (n : CoreState). IsRecordedBy g.L.RecordSink.takes n.hall call c.args.ledger.now c.make_ready-ready.new.ledger) c.self.view_is
-    (recorded_by g.L.RecordSink.takes (hall_of k.store k.clock k.logged k.drawn k.sessions.items) call (ready_writes c.in-Ok-ready.ready) c.args.ledger.now c.make_ready-ready.new.ledger
+    (recorded_by g.L.RecordSink.takes (hall_of k.store k.clock k.logged k.drawn k.sessions.items) call (dues k.store c.max-now.result ++ writes_if c.in-Ok-ready.ready.planned) c.args.ledger.now c.make_ready-ready.new.ledger
     (writes k.store k.clock k.logged k.drawn k.sessions.items c.make_ready-ready.new.sessions.items c.args.session c.in-Ok.at c.args.moment c.max-now.result c.args.asked.now c.make_ready-ready.new.store c.in-Ok-ready.ready
     c.self.invariant.kept c.self.invariant.present sv c.max-now.ensures c.make_ready-ready.ensures.same c.in-Ok-ready.ensures.ready
     c.if-self-ge-MOST_LOGGED.false c.complete.new.store c.complete.new.sessions.items c.complete.result c.complete.ensures)

@@ -1,6 +1,5 @@
-use Rattle.std.proofs.Common.{◌≡◌, ◌≤◌, ◌+◌, List, length, map, refl, sym, ap, ◌∙◌, subst, arith}
+use Rattle.std.proofs.Common.{◌≡◌, ◌≤◌, ◌+◌, List, length, map, sym, ap, ◌∙◌, subst, arith}
 use Rattle.std.specs.Prelude.{filter}
-use Rattle.fence_model.specs.Writes.{dels}
 use Rattle.world_model.specs.Halls.{Hall, NamesChanged}
 use Rattle.world_model.specs.Halls as halls
 use Rattle.world_model.specs.Histories.{Step}
@@ -10,6 +9,7 @@ use Rattle.world_model.specs.declared.events.CallOutcome.TheVariants as called
 use Rattle.session_table.specs.Sessions.{State, session_of}
 use Rattle.tile_core.specs.CoreStates.{CoreState}
 use Rattle.tile_core.specs.Answered.{AreNamed, AreRoomy, AreSessions, is_named}
+use Rattle.tile_core.specs.Ready.{dues}
 use Rattle.tile_core.specs.RecordSinks.{IsRecordedBy}
 use Rattle.tile_core.specs.Stores.{hall_of}
 use Rattle.tile_core.proofs.Calls.{rises_as, tick_refused}
@@ -79,31 +79,31 @@ pub invariant_of-self-2 : goal.invariant_of-self-2
 invariant_of-self-2 g c =
     let k = c.self.inside in
     let early = c.self.invariant.early in
-    tick_sound k.store k.clock k.logged k.drawn k.sessions.items c.make_tick_ready-ready.new.sessions.items c.place_staged.new.sessions.items c.args.moment c.max-now.result c.make_tick_ready-ready.new.store (record c.make_tick_ready-ready.new.store { objects = c.release.new.objects }) c.in-Ok.ready.gone
-    c.self.invariant.kept c.self.invariant.present c.max-now.ensures c.make_tick_ready-ready.ensures.same c.in-Ok.ensures.taken c.in-Ok.ensures.rest c.place_staged.ensures.placed c.release.ensures refl
+    tick_sound k.store k.clock k.logged k.drawn k.sessions.items c.make_tick_ready-ready.new.sessions.items c.place_staged.new.sessions.items c.args.moment c.max-now.result c.make_tick_ready-ready.new.store c.let_go.new.store c.in-Ok.ready.gone
+    c.self.invariant.kept c.self.invariant.present c.max-now.ensures c.make_tick_ready-ready.ensures.same c.in-Ok.ensures.taken c.place_staged.ensures.placed c.let_go.ensures.objects c.let_go.ensures.channels c.let_go.ensures.rest
     (omega (arith, c.max-now.ensures, early, c.requires.moment))
 
 pub returns-clause-step : goal.returns-clause-step
 returns-clause-step g c =
     let k = c.self.inside in
-    subst (λ (n : CoreState). Step n.hall (event.Tick c.args.moment) (outcome.Answered called.Ok) (hall_of (record c.make_tick_ready-ready.new.store { objects = c.release.new.objects }) c.max-now.result (k.logged + c.in-Ok.ready.gone.length) k.drawn c.place_staged.new.sessions.items)) c.self.view_is
-    (tick_step k.store k.clock k.logged k.drawn k.sessions.items c.make_tick_ready-ready.new.sessions.items c.place_staged.new.sessions.items c.args.moment c.max-now.result c.make_tick_ready-ready.new.store (record c.make_tick_ready-ready.new.store { objects = c.release.new.objects }) c.in-Ok.ready.gone
-    c.self.invariant.kept c.self.invariant.present c.max-now.ensures c.make_tick_ready-ready.ensures.same c.in-Ok.ensures.taken c.in-Ok.ensures.rest c.place_staged.ensures.placed c.release.ensures refl
+    subst (λ (n : CoreState). Step n.hall (event.Tick c.args.moment) (outcome.Answered called.Ok) (hall_of c.let_go.new.store c.max-now.result (k.logged + c.in-Ok.ready.gone.length) k.drawn c.place_staged.new.sessions.items)) c.self.view_is
+    (tick_step k.store k.clock k.logged k.drawn k.sessions.items c.make_tick_ready-ready.new.sessions.items c.place_staged.new.sessions.items c.args.moment c.max-now.result c.make_tick_ready-ready.new.store c.let_go.new.store c.in-Ok.ready.gone
+    c.self.invariant.kept c.self.invariant.present c.max-now.ensures c.make_tick_ready-ready.ensures.same c.in-Ok.ensures.taken c.place_staged.ensures.placed c.let_go.ensures.objects c.let_go.ensures.channels c.let_go.ensures.rest
     c.if-self-ge-MOST_LOGGED.false)
 
 pub returns-clause-named : goal.returns-clause-named
 returns-clause-named g c =
     let k = c.self.inside in
-    subst (λ (n : CoreState). NamesChanged c.name_told.new.touched n.hall (hall_of (record c.make_tick_ready-ready.new.store { objects = c.release.new.objects }) c.max-now.result (k.logged + c.in-Ok.ready.gone.length) k.drawn c.place_staged.new.sessions.items)) c.self.view_is
-    (tick_named k.store k.clock k.logged k.drawn k.sessions.items c.make_tick_ready-ready.new.sessions.items c.place_staged.new.sessions.items c.args.moment c.max-now.result c.make_tick_ready-ready.new.store (record c.make_tick_ready-ready.new.store { objects = c.release.new.objects }) c.in-Ok.ready.gone
-    c.self.invariant.kept c.self.invariant.present c.max-now.ensures c.make_tick_ready-ready.ensures.same c.in-Ok.ensures.taken c.in-Ok.ensures.rest c.place_staged.ensures.placed c.release.ensures refl
+    subst (λ (n : CoreState). NamesChanged c.name_told.new.touched n.hall (hall_of c.let_go.new.store c.max-now.result (k.logged + c.in-Ok.ready.gone.length) k.drawn c.place_staged.new.sessions.items)) c.self.view_is
+    (tick_named k.store k.clock k.logged k.drawn k.sessions.items c.make_tick_ready-ready.new.sessions.items c.place_staged.new.sessions.items c.args.moment c.max-now.result c.make_tick_ready-ready.new.store c.let_go.new.store c.in-Ok.ready.gone
+    c.self.invariant.kept c.self.invariant.present c.max-now.ensures c.make_tick_ready-ready.ensures.same c.in-Ok.ensures.taken c.place_staged.ensures.placed c.let_go.ensures.objects c.let_go.ensures.channels c.let_go.ensures.rest
     c.name_told.new.touched (subst (AreNamed c.name_told.new.touched) c.as_slice.ensures.value c.name_told.ensures.named))
 
 pub returns-clause-room : goal.returns-clause-room
 returns-clause-room g c =
     let k = c.self.inside in
-    tick_room k.store k.clock k.logged k.drawn k.sessions.items c.make_tick_ready-ready.new.sessions.items c.place_staged.new.sessions.items c.args.moment c.max-now.result c.make_tick_ready-ready.new.store (record c.make_tick_ready-ready.new.store { objects = c.release.new.objects }) c.in-Ok.ready.gone
-    c.self.invariant.kept c.self.invariant.present c.max-now.ensures c.make_tick_ready-ready.ensures.same c.in-Ok.ensures.taken c.in-Ok.ensures.rest c.place_staged.ensures.placed c.release.ensures refl
+    tick_room k.store k.clock k.logged k.drawn k.sessions.items c.make_tick_ready-ready.new.sessions.items c.place_staged.new.sessions.items c.args.moment c.max-now.result c.make_tick_ready-ready.new.store c.let_go.new.store c.in-Ok.ready.gone
+    c.self.invariant.kept c.self.invariant.present c.max-now.ensures c.make_tick_ready-ready.ensures.same c.in-Ok.ensures.taken c.place_staged.ensures.placed c.let_go.ensures.objects c.let_go.ensures.channels c.let_go.ensures.rest
     c.name_told.new.touched (subst (AreNamed c.name_told.new.touched) c.as_slice.ensures.value c.name_told.ensures.named)
     (subst (AreRoomy c.name_told.new.touched) c.as_slice.ensures.value c.name_told.ensures.room)
 
@@ -113,7 +113,7 @@ returns-clause-recorded g c = λ fine.
     let gone = c.in-Ok.ready.gone in
     let tick = event.Tick c.args.moment in
     subst (λ (n : CoreState). IsRecordedBy g.L.RecordSink.takes n.hall tick c.args.ledger.now c.make_tick_ready-ready.new.ledger) c.self.view_is
-    (recorded_by g.L.RecordSink.takes (hall_of k.store k.clock k.logged k.drawn k.sessions.items) tick (dels gone.held.items) c.args.ledger.now c.make_tick_ready-ready.new.ledger
-    (tick_writes k.store k.clock k.logged k.drawn k.sessions.items c.make_tick_ready-ready.new.sessions.items c.place_staged.new.sessions.items c.args.moment c.max-now.result c.make_tick_ready-ready.new.store (record c.make_tick_ready-ready.new.store { objects = c.release.new.objects }) gone
-    c.self.invariant.kept c.self.invariant.present c.max-now.ensures c.make_tick_ready-ready.ensures.same c.in-Ok.ensures.taken c.in-Ok.ensures.rest c.place_staged.ensures.placed c.release.ensures refl)
+    (recorded_by g.L.RecordSink.takes (hall_of k.store k.clock k.logged k.drawn k.sessions.items) tick (dues k.store c.max-now.result) c.args.ledger.now c.make_tick_ready-ready.new.ledger
+    (tick_writes k.store k.clock k.logged k.drawn k.sessions.items c.make_tick_ready-ready.new.sessions.items c.place_staged.new.sessions.items c.args.moment c.max-now.result c.make_tick_ready-ready.new.store c.let_go.new.store gone
+    c.self.invariant.kept c.self.invariant.present c.max-now.ensures c.make_tick_ready-ready.ensures.same c.in-Ok.ensures.taken c.place_staged.ensures.placed c.let_go.ensures.objects c.let_go.ensures.channels c.let_go.ensures.rest)
     c.in-Ok.ensures.recorded)

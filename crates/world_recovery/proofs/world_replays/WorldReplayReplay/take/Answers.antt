@@ -11,18 +11,18 @@ loop-at-preserved c =
     let at = c.loop-at.at in
     record {
       within = omega (arith, c.loop-at.invariant.within, c.in-Ok.ensures.within, ap (λ (l : Bytes). length l) (behind piece at), length-drop at piece);
-      took = λ batches part stands.
-          subst (λ (l : Bytes). StandsFor c.take_next.new.self batches l) (ap (λ (l : Bytes). (part ++ take at piece) ++ take c.in-Ok.taken l) (behind piece at) ∙ more_taken part piece at c.in-Ok.taken)
-          (c.in-Ok.ensures.took batches (part ++ take at piece) (c.loop-at.invariant.took batches part stands));
+      took = λ v batches part stands.
+          subst (λ (l : Bytes). StandsFor c.take_next.new.self v batches l) (ap (λ (l : Bytes). (part ++ take at piece) ++ take c.in-Ok.taken l) (behind piece at) ∙ more_taken part piece at c.in-Ok.taken)
+          (c.in-Ok.ensures.took v batches (part ++ take at piece) (c.loop-at.invariant.took v batches part stands));
     }
 
 pub returns-in-Err-clause-refused : goal.returns-in-Err-clause-refused
-returns-in-Err-clause-refused c = λ batches part stands at is.
+returns-in-Err-clause-refused c = λ v batches part stands at is.
     let piece = c.args.piece.now in
-    let none = c.in-Err.ensures.refused batches (part ++ take c.loop-at.at piece) (c.loop-at.invariant.took batches part stands) at is in
-    let there = subst (λ (l : Bytes). IsNoRecord l at) (ap (λ (l : Bytes). (part ++ take c.loop-at.at piece) ++ l) (behind piece c.loop-at.at) ∙ all_taken part piece c.loop-at.at) none in
+    let none = c.in-Err.ensures.refused v batches (part ++ take c.loop-at.at piece) (c.loop-at.invariant.took v batches part stands) at is in
+    let there = subst (λ (l : Bytes). IsNoRecord v l at) (ap (λ (l : Bytes). (part ++ take c.loop-at.at piece) ++ l) (behind piece c.loop-at.at) ∙ all_taken part piece c.loop-at.at) none in
     (omega (arith, there.within, length-append part piece), there.none)
 
 pub returns-clause-took : goal.returns-clause-took
-returns-clause-took c = λ batches part stands.
-    subst (λ (l : Bytes). StandsFor c.loop-at.self batches (part ++ l)) (take_all c.loop-at.at c.args.piece.now (omega (arith, c.loop-at-test.false))) (c.loop-at.invariant.took batches part stands)
+returns-clause-took c = λ v batches part stands.
+    subst (λ (l : Bytes). StandsFor c.loop-at.self v batches (part ++ l)) (take_all c.loop-at.at c.args.piece.now (omega (arith, c.loop-at-test.false))) (c.loop-at.invariant.took v batches part stands)

@@ -1,0 +1,68 @@
+use Rattle.std.proofs.Common.{sym, subst, ℕ, List, arith}
+use Rattle.std.specs.List.{remove}
+use Rattle.ordered_lists.specs.Reading.{stands_at}
+use Rattle.slab.specs.Slab.{get}
+use Rattle.fence_index.specs.Numbered.{AreBoxed}
+use Rattle.channel_hub.specs.Hubs.{AreInOrder, AreWhole, channels_in, mark_in}
+use Rattle.channel_hub.proofs.Boxes.{boxed_remove, is_among}
+use Rattle.channel_hub.proofs.Order.{channels_removed, order_remove, seat, within_order}
+use Rattle.ordered_lists.specs.Slots.{has_at}
+use Rattle.channel_hub.proofs.Whole.{whole_removed}
+use Rattle.channel_hub.proofs.indexed_channels.IndexedChannels.remove.Goals as goal
+
+pub remove-channel-requires : goal.remove-channel-requires
+remove-channel-requires c =
+    let f = get c.self.inside.slots in
+    let order = c.self.inside.order.items in
+    let is = stands_at order c.args.at c.remove-slot.result (within_order f order c.self.invariant.ordered c.args.at (rw (← c.self.view_is) at c.requires)) c.remove-slot.ensures.value in
+    has_at f order (channels_in f order) c.args.at c.remove-slot.result c.self.invariant.ordered.stored is
+
+pub take_out-requires : goal.take_out-requires
+take_out-requires c =
+    let f = get c.self.inside.slots in
+    let order = c.self.inside.order.items in
+    let is = stands_at order c.args.at c.remove-slot.result (within_order f order c.self.invariant.ordered c.args.at (rw (← c.self.view_is) at c.requires)) c.remove-slot.ensures.value in
+    is_among f order c.self.inside.index.boxes c.args.at c.remove-slot.result c.remove-channel.result is c.remove-channel.ensures.value c.self.invariant.boxed
+
+pub invariant_of-self : goal.invariant_of-self
+invariant_of-self c =
+    let f = get c.self.inside.slots in
+    let g = get c.remove-channel.new.self in
+    let slot = c.remove-slot.result in
+    let at = c.args.at in
+    let order = c.self.inside.order.items in
+    let kept = c.self.invariant in
+    let is = stands_at order at slot (within_order f order kept.ordered at (rw (← c.self.view_is) at c.requires)) c.remove-slot.ensures.value in
+    let others = c.remove-channel.ensures.updates.others in
+    let whole : AreWhole (channels_in g (remove order at)) = rw (channels_removed f order kept.ordered g slot others at is) (whole_removed (channels_in f order) at kept.whole) in
+    let boxed = boxed_remove f g slot others order c.take_out.new.self.boxes c.self.inside.index.boxes at c.remove-channel.result is kept.ordered.apart c.remove-channel.ensures.value c.take_out.ensures.boxes kept.boxed in
+    let items = sym c.remove-slot.ensures.items in
+    record {
+      ordered = subst (AreInOrder g) items (order_remove f order kept.ordered g slot others at is);
+      boxed = subst (λ (l : List ℕ). AreBoxed (mark_in g) l c.take_out.new.self.boxes) items boxed;
+      whole = subst (λ (l : List ℕ). AreWhole (channels_in g l)) items whole;
+      taken = omega (arith, kept.taken, c.remove-channel.ensures.len, c.remove-slot.ensures.len);
+      room = λ some.
+          let room = kept.room (rw (← c.take_out.ensures.prepared) some) in (
+            omega (arith, room.0, c.remove-channel.ensures.len, c.remove-channel.ensures.capacity),
+            omega (arith, room.1, c.remove-slot.ensures.len, c.remove-slot.ensures.capacity),
+          );
+    }
+
+pub returns-clause-channels : goal.returns-clause-channels
+returns-clause-channels c =
+    let f = get c.self.inside.slots in
+    let slot = c.remove-slot.result in
+    let order = c.self.inside.order.items in
+    let ordered = c.self.invariant.ordered in
+    let is = stands_at order c.args.at slot (within_order f order ordered c.args.at (rw (← c.self.view_is) at c.requires)) c.remove-slot.ensures.value in
+    rw (← c.self.view_is, c.remove-slot.ensures.items) (channels_removed f order ordered (get c.remove-channel.new.self) slot c.remove-channel.ensures.updates.others c.args.at is)
+
+pub returns-clause-taken : goal.returns-clause-taken
+returns-clause-taken c =
+    let f = get c.self.inside.slots in
+    let slot = c.remove-slot.result in
+    let order = c.self.inside.order.items in
+    let ordered = c.self.invariant.ordered in
+    let is = stands_at order c.args.at slot (within_order f order ordered c.args.at (rw (← c.self.view_is) at c.requires)) c.remove-slot.ensures.value in
+    rw (← c.self.view_is) (seat f order ordered c.args.at slot c.remove-channel.result is c.remove-channel.ensures.value)

@@ -1,0 +1,211 @@
+//! All channels of a hub by name, and their marks in the index.
+//!
+//! A channel stays in its slot, and the index gives out the slot, so that one that a write may concern is read without
+//! seeking its name. The order is a list of slots; those that are named are few, and are put in order of their names. A
+//! channel is prepared before it is put, so that `put` takes no memory.
+
+ghost use Rattle.std.specs.Prelude.{◌≡◌, ◌<◌, [], true, not, length, filter, find, slice_get, Some, None, IfOk, IfNone};
+ghost use Rattle.std.specs.Prelude.{IfSome, OnOk, OnErr};
+ghost use Rattle.std.specs.List.{remove};
+ghost use Rattle.ordered_lists.specs.Lists.{put_in};
+ghost use Rattle.world_data.specs.Worlds.{are_channels, channel_before, is_named};
+ghost use Rattle.fence_model.specs.Messages.{watches};
+ghost use Rattle.fence_index.specs.Marks.{mark_of};
+ghost use Rattle.channel_hub.specs.Hubs.{AreWhole, may_concern};
+ghost use Rattle.rtree.specs.Ledgers.{IsRead};
+
+use crate::candidates::{Candidates, push_of_key, push_slots};
+use crate::channel_slots::{exchange, insert_reserved, place_of};
+use byte_text::{Name, NoMemory};
+use fence_index::{FenceIndex, watch_is_whole};
+use planar_geom::BBox;
+use rtree::{Ledger, Steps};
+use slab::Slab;
+use std::alloc::Global;
+use std::marker::Model;
+use world_data::Channel;
+
+/// Channels in byte order of their names, and an index of their fences. One more may be prepared, which is then put
+/// without taking memory.
+pub(crate) struct IndexedChannels {
+    // A channel stays in its slot until it is taken out. There is room for the channel that is prepared in the index.
+    slots: Slab<Channel>,
+    // The slots of all channels, by name. There is room for one more too.
+    order: Vec<usize>,
+    // Each channel under its slot.
+    index: FenceIndex,
+}
+
+impl Drop for IndexedChannels {
+    fn drop(self) {
+        let IndexedChannels {
+            slots: _,
+            order: _,
+            index: _,
+        } = self;
+    }
+}
+
+impl Model for IndexedChannels {
+    ghost use Rattle.std.specs.Prelude.{vec_len, vec_capacity};
+    ghost use Rattle.slab.specs.Slab.{get, slab_len};
+    ghost use Rattle.channel_hub.specs.Hubs.{ByName, IsKept, channels_in};
+
+    ghost Value = { ByName };
+
+    ghost view = { λ h. record { channels = channels_in (get h.slots) h.order.items; prepared = h.index.prepared } };
+
+    ghost invariant = { λ h. IsKept (get h.slots) h.order.items h.index (slab_len h.slots) h.slots.capacity
+        (vec_len h.order) (vec_capacity h.order) };
+}
+
+impl IndexedChannels {
+    /// No channel, and none prepared. It takes no memory; channels take it from `alloc`.
+    pub(crate) fn new(alloc: Global) -> IndexedChannels
+        ensures channels { result.channels ≡ [] }
+        ensures prepared { result.prepared ≡ None }
+    {
+        IndexedChannels {
+            slots: Slab::new(alloc),
+            order: Vec::new(alloc),
+            index: FenceIndex::new(alloc),
+        }
+    }
+
+    /// Prepares a channel, in place of the one that was prepared before and not put: all memory that `put` needs is
+    /// taken. For want of it that one stays prepared. The channels stay.
+    pub(crate) fn prepare(&mut self, alloc: Global, channel: &Channel) -> Result<(), NoMemory>
+        ensures channels { self.new.channels ≡ self.old.channels }
+        ensures ok { OnOk result (self.new.prepared ≡ Some (mark_of channel.now)) }
+        ensures err { OnErr result (self.new.prepared ≡ self.old.prepared) }
+    {
+        if self.slots.reserve(1).is_err() || self.order.reserve(1).is_err() {
+            return Err(NoMemory);
+        }
+        self.index.prepare(alloc, channel)
+    }
+
+    /// Puts the channel that was prepared at its place, and gives out the one of its name that stood there. None is
+    /// prepared then.
+    pub(crate) fn put(&mut self, channel: Channel) -> Option<Channel>
+        requires { self.old.prepared ≡ Some (mark_of channel) }
+        ensures channels { self.new.channels ≡ put_in channel_before channel self.old.channels }
+        ensures replaced { result ≡ find (is_named channel.name) self.old.channels }
+        ensures prepared { self.new.prepared ≡ None }
+    {
+        // What the channels watch is kept whole: the law on those that no change concerns asks for it.
+        watch_is_whole(&channel.fence.watch);
+        match place_of(&self.slots, self.order.as_slice(), &channel.name) {
+            Ok(at) => {
+                let slot = self.order[at];
+                self.index.take_out(&self.slots[slot], slot);
+                self.index.put(&channel, slot);
+                Some(exchange(&mut self.slots, slot, channel))
+            }
+            Err(at) => {
+                let slot = self.slots.vacant_key();
+                self.index.put(&channel, slot);
+                self.slots.insert_reserved(channel);
+                insert_reserved(&mut self.order, at, slot);
+                None
+            }
+        }
+    }
+
+    /// Takes out the channel of this name, where there is one. The one that was prepared stays prepared. It takes no
+    /// memory.
+    pub(crate) fn take_out(&mut self, name: &Name) -> Option<Channel>
+        ensures channels { self.new.channels ≡ filter (λ c. not (is_named name.now c)) self.old.channels }
+        ensures taken { result ≡ find (is_named name.now) self.old.channels }
+        ensures prepared { self.new.prepared ≡ self.old.prepared }
+    {
+        match place_of(&self.slots, self.order.as_slice(), name) {
+            Ok(at) => Some(self.remove(at)),
+            Err(_) => None,
+        }
+    }
+
+    /// Takes out the channel at a place. The one that was prepared stays prepared. It takes no memory.
+    pub(crate) fn remove(&mut self, at: usize) -> Channel
+        requires { at < length self.old.channels }
+        ensures channels { self.new.channels ≡ remove self.old.channels at }
+        ensures taken { slice_get self.old.channels at ≡ Some result }
+        ensures prepared { self.new.prepared ≡ self.old.prepared }
+    {
+        let slot = self.order.remove(at);
+        let channel = self.slots.remove(slot);
+        self.index.take_out(&channel, slot);
+        channel
+    }
+
+    /// Takes out all channels. The one that was prepared stays prepared. It takes no memory.
+    pub(crate) fn clear(&mut self)
+        ensures channels { self.new.channels ≡ [] }
+        ensures prepared { self.new.prepared ≡ self.old.prepared }
+    {
+        self.slots.clear();
+        self.order.clear();
+        self.index.clear();
+    }
+
+    /// The channel of this name, where there is one.
+    pub(crate) fn get(&self, name: &Name) -> Option<&Channel>
+        ensures none { IfNone result (find (is_named name.now) self.now.channels ≡ None) }
+        ensures some { IfSome result (λ c. find (is_named name.now) self.now.channels ≡ Some c.now) }
+    {
+        match place_of(&self.slots, self.order.as_slice(), name) {
+            Ok(at) => Some(self.at(at)),
+            Err(_) => None,
+        }
+    }
+
+    /// How many channels there are.
+    pub(crate) fn len(&self) -> usize
+        ensures count { result ≡ length self.now.channels }
+        ensures by_name { are_channels self.now.channels ≡ true }
+        ensures whole { AreWhole self.now.channels }
+    {
+        // Naming the slots shows the proof what is kept of them.
+        let _kept = &self.slots;
+        self.order.len()
+    }
+
+    /// The channel at this place, counted from 0 by ascending name.
+    pub(crate) fn at(&self, i: usize) -> &Channel
+        requires { i < length self.now.channels }
+        ensures { slice_get self.now.channels i ≡ Some result.now }
+    {
+        &self.slots[self.order[i]]
+    }
+
+    /// The channels of the key which a change may concern that moves an object from one box, where it was there, to
+    /// another, where it is there after it. The steps do not fall, and rise by enough nodes to hold these channels, at
+    /// most 16 each.
+    pub(crate) fn candidates<L: Ledger>(
+        &self,
+        alloc: Global,
+        key: &Name,
+        old: Option<BBox>,
+        new: Option<BBox>,
+        steps: &mut Steps<L>,
+    ) -> Result<Candidates<'_>, NoMemory>
+        ensures channels { IfOk result (λ cs. cs ≡ filter (may_concern key.now old new) self.now.channels) }
+        ensures read { IfOk result (λ cs. IsRead 0 (length cs) steps.old.count steps.new.count) }
+        ensures counted { IsRead 0 0 steps.old.count steps.new.count }
+    {
+        let numbers = self.index.candidates(alloc, key, old, new, steps)?;
+        let mut candidates = Candidates::new(alloc);
+        push_slots(&self.slots, &numbers, &mut candidates)?;
+        candidates.sort();
+        Ok(candidates)
+    }
+
+    /// All channels of the key: a drop of it may concern each.
+    pub(crate) fn of_key(&self, alloc: Global, key: &Name) -> Result<Candidates<'_>, NoMemory>
+        ensures { IfOk result (λ cs. cs ≡ filter (watches (Some key.now)) self.now.channels) }
+    {
+        let mut candidates = Candidates::new(alloc);
+        push_of_key(&self.slots, self.order.as_slice(), key, &mut candidates)?;
+        Ok(candidates)
+    }
+}

@@ -1,0 +1,7 @@
+pub mod Telling
+pub mod Tables
+pub mod RecordsRead
+pub mod LineLaws
+pub mod ZoneLaws
+pub mod Lengths
+pub mod Joining

@@ -1,0 +1,7 @@
+mod Fronts
+pub mod FenceForms
+mod Words
+mod Spellings
+mod Replies
+mod Messages
+mod Asking

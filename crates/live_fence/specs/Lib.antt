@@ -1,0 +1,4 @@
+pub mod LiveFences
+pub mod Parts
+pub mod FenceWord
+pub mod Laws
