@@ -1,6 +1,7 @@
 #!/usr/bin/env bash
 # Measures what fields cost: SETs of points bare, with two numbers and with two texts, the resident bytes of a point of each, the opening of the
-# log that they leave, the bytes of an idle session, and the rewriting of a log of version 1 when it is opened.
+# log that they leave, the bytes of an idle session, and the rewriting of a log of version 1 when it is opened; and what channels cost that
+# end: microseconds of a SETCHAN with EX, and the seconds of the one call in which 65,536 of them end.
 # Usage: bench/fields.sh [N [PROGRAM...]]   N points, 200000 if left out; PROGRAM: other builds of tile_server to measure in the same run, as
 # one from before a change. Needs python3. Each row has a folder of its own, made where TMPDIR says; in a folder in memory a sync costs nothing.
 # A row tells microseconds of a SET (the least of three), bytes a point, and seconds of the opening.
@@ -12,11 +13,11 @@ n=${1:-200000}
 ./fudrask load 1 1 >/dev/null
 
 exec python3 - "$n" crates/tile_server/out/tile_server "$@" <<'PYTHON'
-import os, subprocess, sys, tempfile, threading, time
+import os, random, subprocess, sys, tempfile, threading, time
 
 END = b"frame +PONG%0D%0A\n"
 KINDS = {"bare": [], "numbers": ["FIELD", "load", 7, "FIELD", "speed", 55], "texts": ["FIELD", "driver", "ann", "FIELD", "state", "idle"]}
-SESSIONS = 512
+SESSIONS, CHANNELS = 512, 65536
 
 
 def request(*words):
@@ -24,8 +25,8 @@ def request(*words):
     return f"*{len(words)}%0D%0A" + "".join(f"${len(word)}%0D%0A{word}%0D%0A" for word in words)
 
 
-def line(*words):
-    return f"feed 1 0 {request(*words)}\ntake 1\n"
+def line(*words, moment=0):
+    return f"feed 1 {moment} {request(*words)}\ntake 1\n"
 
 
 class Played:
@@ -104,6 +105,20 @@ def idle(program):
     return each
 
 
+def channels(program):
+    """Microseconds of a SETCHAN that ends in a minute, and the seconds of the call in which all end."""
+    played = Played(program)
+    played.step(["open\n"])
+    places = [(10 * (i % 256), 10 * (i // 256)) for i in range(CHANNELS)]
+    random.Random(1).shuffle(places)
+    fences = [line("SETCHAN", f"gate{x}/{y}", "EX", 60, "WITHIN", "fleet", "FENCE", "BOUNDS", x, y, x + 9, y + 9) for x, y in places]
+    took = played.step(fences)
+    alone = played.step([])
+    ended = played.step([line("PING", moment=60000)]) - alone
+    played.end()
+    return took * 1e6 / CHANNELS, ended
+
+
 n, programs = int(sys.argv[1]), [os.path.abspath(it) for it in sys.argv[2:]]
 for program in programs:
     print(program)
@@ -115,4 +130,6 @@ for program in programs:
             if again:
                 print(f"  {'':8} a log of version 1 opened in {again[0]:5.2f} s: {again[1]}", flush=True)
     print(f"  an idle session: {idle(program):.0f} bytes", flush=True)
+    each, ended = channels(program)
+    print(f"  a SETCHAN with EX: {each:.1f} us; all {CHANNELS} end in {ended:.2f} s", flush=True)
 PYTHON
