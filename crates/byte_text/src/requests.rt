@@ -10,8 +10,12 @@ use crate::numbers::push_number;
 use crate::texts::Text;
 use itoa::Integer;
 use memory::NoMemory;
+use smallvec::SmallVec;
 use std::alloc::Global;
 use std::marker::Model;
+
+// So many words take no allocation but that of their bytes: those of most requests.
+const INLINE_WORDS: usize = 12;
 
 /// A list of words, each a list of bytes: at most 4,096 words, each of at most 1,048,576 bytes, together of at most
 /// 2,097,152. The words lie in one buffer, one behind another.
@@ -19,7 +23,7 @@ use std::marker::Model;
 pub struct Request {
     bytes: Vec<u8>,
     // Where each word ends.
-    ends: Vec<u32>,
+    ends: SmallVec<u32, INLINE_WORDS>,
 }
 
 impl Model for Request {
@@ -41,7 +45,7 @@ impl Request {
     {
         Request {
             bytes: Vec::new(alloc),
-            ends: Vec::new(alloc),
+            ends: SmallVec::new(alloc),
         }
     }
 
@@ -50,7 +54,8 @@ impl Request {
         ensures { IfOk result (λ r. r ≡ []) }
     {
         let bytes = Vec::with_capacity(alloc, bytes)?;
-        let ends = Vec::with_capacity(alloc, words)?;
+        let mut ends = SmallVec::new(alloc);
+        ends.reserve(words)?;
         Ok(Request { bytes, ends })
     }
 
