@@ -1,10 +1,11 @@
 #!/usr/bin/env python3
-"""A plain machine over lists: it writes two groups of cases for script_trials, each with what it answers itself.
+"""A plain machine over lists: it writes three groups of cases for script_trials, each with what it answers itself.
 
 The first has 400 mixed calls of one session. In the second one session sets and deletes points on a line and channels
-over them, and two listeners hear of it, one by names and one by patterns; every channel is tested at every write. Which
-calls, is drawn by a generator of numbers, so that the same text comes of each run. The groups stand last in
-crates/script_trials/stdin; they are written anew where a command or a message changes:
+over them, and two listeners hear of it, one by names and one by patterns; every channel is tested at every write. The
+third goes over the log of the generated workload, change by change, and tells what a fence would have told of it. Which
+calls, is drawn by a generator of numbers, so that the same text comes of each run. The groups stand one behind another
+in crates/script_trials/stdin; they are written anew where a command, a message or a report changes:
 
     bench/plain_machine.py > groups
 """
@@ -434,5 +435,89 @@ def listeners():
         told_lines(3, board.by_pattern)
 
 
+# --- The generated workload, and what a fence would have told of it.
+
+COMMANDS, SEED = 20000, 3
+GLOB, LOW, HIGH = "v1?", 250000, 749999
+FENCE = f"SETCHAN z WITHIN fleet MATCH {GLOB} FENCE BOUNDS {LOW} {LOW} {HIGH} {HIGH}"
+
+
+def changes_of(count, seed):
+    """What stands in the log of the workload, record by record: None for a channel that is set, else an id and the
+    place where it is put, or None where it is deleted."""
+    numbers, standing = Numbers(seed), set()
+    changes = [None] * 16
+    for _ in range(count):
+        kind = numbers.below(10)
+        if kind > 7:
+            # What is searched for: two numbers are drawn.
+            numbers.below(1)
+            numbers.below(1)
+            continue
+        name = f"v{numbers.below(count // 10 + 1)}"
+        if kind < 7:
+            y = numbers.below(1000000)
+            changes.append((name, (numbers.below(1000000), y)))
+            standing.add(name)
+        elif name in standing:
+            changes.append((name, None))
+            standing.remove(name)
+    return changes, len(standing)
+
+
+def is_in(place):
+    return place is not None and all(LOW <= at <= HIGH for at in place)
+
+
+def meets_square(old, new):
+    """Whether the way from one place to another meets the square: it does unless all of it is beyond a side, or all
+    corners are on one side of its line."""
+    if any(max(a, b) < LOW or min(a, b) > HIGH for a, b in zip(old, new)):
+        return False
+    (ax, ay), (bx, by) = old, new
+    turns = [(bx - ax) * (y - ay) - (by - ay) * (x - ax) for x in (LOW, HIGH) for y in (LOW, HIGH)]
+    return min(turns) <= 0 <= max(turns)
+
+
+def raised(old, new):
+    """What the fence tells of an object that is put at a new place, or is deleted, by the place where it stood."""
+    if new is None:
+        return ["del"] if is_in(old) else []
+    if is_in(new):
+        return ["inside"] if is_in(old) else ["enter", "inside"]
+    if is_in(old):
+        return ["exit", "outside"]
+    return ["cross", "outside"] if old is not None and meets_square(old, new) else ["outside"]
+
+
+def reported(changes):
+    """The lines of the report, change by change."""
+    places, lines = {}, []
+    grid = [[0] * 8 for _ in range(8)]
+    for at, change in enumerate(changes, 1):
+        if change is None:
+            continue
+        name, place = change
+        if fnmatch.fnmatchcase(name, GLOB):
+            lines += [f"{at} {word} {name}" for word in raised(places.get(name), place)]
+        places[name] = place
+        if is_in(place):
+            x, y = ((axis - LOW) * 8 // (HIGH - LOW + 1) for axis in place)
+            grid[y][x] += 1
+    return lines + [f"total {len(lines)}"] + [" ".join(map(str, row)) for row in grid]
+
+
+def workload_and_fence():
+    changes, objects = changes_of(COMMANDS, SEED)
+    words = FENCE.split(" ")
+    print("\ngroup what a fence would have told of a workload")
+    print(f"\ncase the workload stands in a log\nplays workload\nwords {COMMANDS} {SEED}\n= objects {objects}")
+    print("\ncase each line of the report, and as many as the total says\nagain\nwords backtest")
+    print(f"last {array([bulk(word) for word in words])}")
+    for line in reported(changes):
+        print(f"= {line}")
+
+
 mixed_calls()
 listeners()
+workload_and_fence()

@@ -26,6 +26,8 @@ pub(crate) enum Play {
     Visits,
     /// A core of an empty world is driven with the workload, and the nodes that it visits are counted.
     Drive,
+    /// A core over the disk is asked for the workload, which stands in its log then.
+    Workload,
 }
 
 /// Over which disk a case is played.

@@ -43,20 +43,20 @@ fn ask(alloc: Global, machine: &mut CoreMachine, line: &str) -> Result<(), Fault
     Ok(())
 }
 
-// Two numbers of a line.
-fn bounds_of(words: &str) -> Result<(u64, u64), Fault> {
-    let Some((least, most)) = words.split_once(' ') else {
+/// Two numbers of a line.
+pub(crate) fn two_numbers(words: &str) -> Result<(u64, u64), Fault> {
+    let Some((first, second)) = words.split_once(' ') else {
         return Err(Fault::Line);
     };
-    match (least.parse::<u64>(), most.parse::<u64>()) {
-        (Ok(least), Ok(most)) => Ok((least, most)),
+    match (first.parse::<u64>(), second.parse::<u64>()) {
+        (Ok(first), Ok(second)) => Ok((first, second)),
         _ => Err(Fault::Line),
     }
 }
 
 // Appends whether a number is within bounds, or else the number.
 fn push_within(out: &mut Text, number: u64, words: &str) -> Result<(), Fault> {
-    let (least, most) = bounds_of(words)?;
+    let (least, most) = two_numbers(words)?;
     if least <= number && number <= most {
         push_line(out, b"within")
     } else {
@@ -128,11 +128,19 @@ fn drive_of(case: &Case) -> Result<(u32, u64, u64), Fault> {
     let Some((commands, rest)) = case.asked()?.split_once(' ') else {
         return Err(Fault::Line);
     };
-    let (seed, most) = bounds_of(rest)?;
+    let (seed, most) = two_numbers(rest)?;
     match commands.parse::<u32>() {
         Ok(commands) => Ok((commands, seed, most)),
         Err(_) => Err(Fault::Line),
     }
+}
+
+/// The line of how many objects there are.
+pub(crate) fn objects_line(alloc: Global, objects: u64) -> Result<Text, Fault> {
+    let mut line = Text::of(alloc, b"objects ")?;
+    push_u64(&mut line, objects)?;
+    push_line(&mut line, b"")?;
+    Ok(line)
 }
 
 /// Drives a core with the workload of the words. How many objects are left, and whether few nodes were visited.
@@ -144,9 +152,7 @@ pub(crate) fn play_drive(alloc: Global, case: &Case) -> Result<Text, Fault> {
     let visited = machine.visited();
     drop(machine);
     let summary = driven?;
-    let mut out = Text::of(alloc, b"objects ")?;
-    push_u64(&mut out, summary.objects)?;
-    push_line(&mut out, b"")?;
+    let mut out = objects_line(alloc, summary.objects)?;
     if visited <= most {
         push_line(&mut out, b"few nodes are visited")?;
     }

@@ -27,6 +27,18 @@ pub(crate) fn asked_of(alloc: Global, line: &str) -> Result<Asked, Fault>
     }
 }
 
+/// How the call of the first session at moment 0 is answered.
+pub(crate) fn answered(
+    alloc: Global,
+    core: &mut DurableCore<MemoryDisk>,
+    asked: &Asked,
+) -> Result<CallOutcome, Fault>
+    requires { is_proper asked.now ≡ true }
+{
+    let mut touched = ChangedSessions::new(alloc)?;
+    Ok(core.call(1, 0, asked, &mut touched))
+}
+
 /// How the call of the first session with a line at moment 0 is answered.
 pub(crate) fn called(
     alloc: Global,
@@ -34,8 +46,7 @@ pub(crate) fn called(
     line: &str,
 ) -> Result<CallOutcome, Fault> {
     let asked = asked_of(alloc, line)?;
-    let mut touched = ChangedSessions::new(alloc)?;
-    Ok(core.call(1, 0, &asked, &mut touched))
+    answered(alloc, core, &asked)
 }
 
 // How a tick of moment 5 is answered.

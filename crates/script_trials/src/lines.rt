@@ -58,6 +58,7 @@ fn play_of(how: &str) -> Result<Play, Fault> {
         "upgrade" => Ok(Play::Upgrade),
         "visits" => Ok(Play::Visits),
         "drive" => Ok(Play::Drive),
+        "workload" => Ok(Play::Workload),
         _ => Err(Fault::Line),
     }
 }

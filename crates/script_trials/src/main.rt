@@ -46,6 +46,7 @@ mod replay_faults;
 mod texts;
 mod turns;
 mod upgrades;
+mod workloads;
 mod worlds;
 
 use crate::players::Player;

@@ -10,6 +10,7 @@ use crate::openings::play_opening;
 use crate::replay_faults::play_replay_faults;
 use crate::texts::{push_escaped, push_line};
 use crate::upgrades::play_upgrade;
+use crate::workloads::play_workload;
 use byte_text::{Text, push_u64};
 use outside::{BytesSink, BytesSource, HandClock, ListDoor, ListedSpawner, MemoryDisk};
 use std::alloc::Global;
@@ -178,11 +179,21 @@ fn seen_behind(
     })
 }
 
-// What came of a case that leaves no disk: the lines, and status 0.
-fn without_disk(lines: Text) -> Result<Came, Fault> {
+// What came of a case that has no status of its own: the lines, and status 0.
+fn came_of(lines: Text, disk: Option<MemoryDisk>) -> Result<Came, Fault> {
     let mut text = lines;
     push_line(&mut text, b"status 0")?;
-    Ok(Came { text, disk: None })
+    Ok(Came { text, disk })
+}
+
+fn without_disk(lines: Text) -> Result<Came, Fault> {
+    came_of(lines, None)
+}
+
+// A core is asked for the workload, and leaves the disk with its log.
+fn recorded(alloc: Global, case: &Case, disk: MemoryDisk) -> Result<Came, Fault> {
+    let (lines, disk) = play_workload(alloc, case, disk)?;
+    came_of(lines, Some(disk))
 }
 
 /// Plays a case over the disk that it asks for, where the case before left this one.
@@ -201,5 +212,6 @@ pub(crate) fn play<R: Wait + Threads + Copy + Send + Sync + 'static>(
         Play::Upgrade => without_disk(play_upgrade(alloc, case)?),
         Play::Visits => without_disk(play_visits(alloc, case)?),
         Play::Drive => without_disk(play_drive(alloc, case)?),
+        Play::Workload => recorded(alloc, case, disk_of(alloc, case, left)?),
     }
 }
