@@ -10,7 +10,7 @@ use Rattle.world_data.specs.declared.worlds.Change.{Change}
 use Rattle.world_data.specs.declared.worlds.World.{World}
 use Rattle.fence_model.specs.Writes.{Write}
 use Rattle.world_model.specs.Halls.{Hall}
-use Rattle.world_model.specs.Histories.{Step, answer, when_stopped}
+use Rattle.world_model.specs.Histories.{Step, answer, given, is_fine, when_stopped}
 use Rattle.world_model.specs.declared.events.CallOutcome.{CallOutcome}
 use Rattle.world_model.specs.declared.events.CallOutcome.TheVariants as called
 use Rattle.world_model.specs.declared.events.Event.{Event}
@@ -29,7 +29,7 @@ use Rattle.log_record.specs.VersionLaws.{recorded_newest}
 use Rattle.log_record.specs.Batches.{records_text}
 use Rattle.log_record.specs.Folding.{folded}
 use Rattle.log_record.specs.Recovery.{Recovers, RecoversEither}
-use Rattle.log_record.specs.EventWrites.{changes_of, writes_of, writes_by, is_fine}
+use Rattle.log_record.specs.EventWrites.{changes_of, writes_of, writes_by}
 use Rattle.log_record.specs.EventWriteLaws.{folded-append, steps_make_their_writes}
 use Rattle.log_record.specs.Journals as log
 use Rattle.log_record.specs.AnswerLaws.{stopped_says}
@@ -56,7 +56,7 @@ none_if false none is = refl
 pub makes_none : (h : Hall) (event : Event) (outcome : Outcome) → writes_of h event ≡ [] → changes_of (writes_by h event outcome) ≡ []
 makes_none h event outcome none = ap changes_of (none_if (is_fine outcome) (writes_of h event) none)
 
-pub take_hides : (n : ℕ) (outcome : Outcome) → log.given outcome ≡ false → log.shows (Take n) outcome ≡ false
+pub take_hides : (n : ℕ) (outcome : Outcome) → given outcome ≡ false → log.shows (Take n) outcome ≡ false
 take_hides n outcome none = ap (λ (b : Bool). b || (false && is_fine outcome)) none
 
 -- a step of a core's hall is one of the hall over a disk that has not failed

@@ -3,14 +3,13 @@ use Rattle.std.specs.Prelude.{if◌then◌else◌}
 use Rattle.std.proofs.Common.{◌≡◌, ◌∙◌, ℕ, Bool, true, false, [], ◌∷◌, Option, Some, None, refl, sym, ap, subst, inl, inr}
 use Rattle.world_model.specs.Halls.{Hall, session_of}
 use Rattle.world_model.specs.Histories.{Ending, Step, StepBy, answer, doing, ended, first_of, full, gone, idle, is_spent, may_fail, may_lack_memory}
-use Rattle.world_model.specs.Histories.{refusal, refusal_going, stopped, when_stopped}
+use Rattle.world_model.specs.Histories.{given, refusal, refusal_going, stopped, when_stopped}
 use Rattle.world_model.specs.declared.events.Asked.{Asked}
 use Rattle.world_model.specs.declared.events.CallOutcome.TheVariants as called
 use Rattle.world_model.specs.declared.events.Event.{Event}
 use Rattle.world_model.specs.declared.events.Event.TheVariants.{Call, Take, Tick}
 use Rattle.world_model.specs.declared.events.Outcome.{Outcome}
 use Rattle.world_model.specs.declared.events.Outcome.TheVariants as outcome
-use Rattle.log_record.specs.Journals.{given}
 use Rattle.tile_core.specs.Answered.{MayCall, MayTake}
 
 -- a hall that has stopped, as far as it says so itself

@@ -2,7 +2,7 @@
 use Rattle.std.proofs.Common.{◌≡◌, ◌≢◌, ℕ, true, false, List, Result, Ok, Err, refl}
 use Rattle.byte_text.specs.Names.{Bytes}
 use Rattle.world_model.specs.Halls.{Hall}
-use Rattle.world_model.specs.Histories.{answer, doing, when_stopped, is_log_fault}
+use Rattle.world_model.specs.Histories.{answer, doing, when_stopped, is_log_fault, is_fine}
 use Rattle.world_model.specs.Outcomes.{enter_outcome, take_outcome}
 use Rattle.world_model.specs.declared.events.CallOutcome.{CallOutcome}
 use Rattle.world_model.specs.declared.events.CallOutcome.TheVariants as called
@@ -13,7 +13,6 @@ use Rattle.world_model.specs.declared.events.Event.TheVariants.{Enter, Call, Tak
 use Rattle.world_model.specs.declared.events.Outcome.{Outcome}
 use Rattle.world_model.specs.declared.events.Taken.{Taken}
 use Rattle.world_model.specs.declared.events.Taken.TheVariants as taken
-use Rattle.log_record.specs.EventWrites.{is_fine}
 use Rattle.log_record.specs.Journals.{shows}
 
 -- no writes were done, the log did not fail, and a crash may still leave what was before

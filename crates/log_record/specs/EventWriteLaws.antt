@@ -11,7 +11,7 @@ use Rattle.world_data.specs.Records.{record_len}
 use Rattle.world_data.specs.Worlds.{after}
 use Rattle.world_model.specs.Halls.{Hall, Session, is_live, session_of, place, place_all, deliveries, apply, apply_all, change_session, due}
 use Rattle.world_model.specs.Halls.{close_session, closed_if, do_effect, effect_of, do_asked, do_live, do_call}
-use Rattle.world_model.specs.Histories.{Ending, refusal, doing, stopped}
+use Rattle.world_model.specs.Histories.{Ending, refusal, doing, stopped, is_fine}
 use Rattle.world_data.specs.declared.worlds.World.{World}
 use Rattle.world_data.specs.declared.worlds.Change.{Change}
 use Rattle.world_model.specs.declared.events.Asked.{Asked}
@@ -19,7 +19,7 @@ use Rattle.world_model.specs.declared.events.Asked.TheVariants.{Words, Broken}
 use Rattle.world_model.specs.declared.events.Event.{Event}
 use Rattle.world_model.specs.declared.events.Event.TheVariants.{Enter, Call, Take, Tick, Close, Remove, Rewrite, Retire}
 use Rattle.log_record.specs.Folding.{folded}
-use Rattle.log_record.specs.EventWrites.{changes_of, logged_by, tick_writes, asked_writes, live_writes, call_writes, writes_of, writes_by, is_fine}
+use Rattle.log_record.specs.EventWrites.{changes_of, logged_by, tick_writes, asked_writes, live_writes, call_writes, writes_of, writes_by}
 use Rattle.log_record.specs.EventWrites.{Does}
 use Rattle.log_record.specs.Laws.{StepsMakeTheirWrites}
 use Rattle.log_record.specs.StepCases.{step_by_cases, refusal_by_cases}

@@ -4,14 +4,13 @@ use Rattle.world_data.specs.Records.{record_len}
 use Rattle.world_model.specs.Commands.{reads}
 use Rattle.fence_model.specs.Writes.{Write, due_writes}
 use Rattle.world_model.specs.Halls.{Hall, Session, is_live, session_of, due, effect_of}
+use Rattle.world_model.specs.Histories.{is_fine}
 use Rattle.world_data.specs.declared.worlds.Change.{Change}
 use Rattle.world_model.specs.declared.events.Asked.{Asked}
 use Rattle.world_model.specs.declared.events.Asked.TheVariants.{Words, Broken}
-use Rattle.world_model.specs.declared.events.CallOutcome.TheVariants as called
 use Rattle.world_model.specs.declared.events.Event.{Event}
 use Rattle.world_model.specs.declared.events.Event.TheVariants.{Call, Tick}
 use Rattle.world_model.specs.declared.events.Outcome.{Outcome}
-use Rattle.world_model.specs.declared.events.Outcome.TheVariants.{Answered}
 use Rattle.log_record.specs.Folding.{folded}
 
 abbrev pub changes_of : List Write → List Change
@@ -44,10 +43,6 @@ abbrev pub writes_of : Hall → Event → List Write
 writes_of h (Call n moment asked) = tick_writes h moment ++ call_writes (due h moment) n asked
 writes_of h (Tick moment) = tick_writes h moment
 writes_of h event = []
-
-abbrev pub is_fine : Outcome → Bool
-is_fine (Answered called.Ok) = true
-is_fine outcome = false
 
 -- the writes of an event that ended so
 abbrev pub writes_by : Hall → Event → Outcome → List Write

@@ -2,16 +2,16 @@
 -- is not seen.
 use Rattle.std.specs.Prelude.{◌≡◌, ◌≤◌, ℕ, Bool, true, false, ◌&&◌, ◌||◌, List, [], ◌∷◌, ◌++◌, take}
 use Rattle.world_model.specs.Halls.{Hall}
+use Rattle.world_model.specs.Histories.{given, is_fine}
 use Rattle.world_data.specs.declared.worlds.World.{World}
 use Rattle.world_data.specs.declared.worlds.Change.{Change}
 use Rattle.world_model.specs.declared.events.Event.{Event}
 use Rattle.world_model.specs.declared.events.Event.TheVariants.{Rewrite, Retire}
 use Rattle.world_model.specs.declared.events.Outcome.{Outcome}
-use Rattle.world_model.specs.declared.events.Outcome.TheVariants.{Given}
 use Rattle.outside.specs.Sides.{Sides}
 use Rattle.outside.specs.Crashes.{EachImage, LeavesOnly}
 use Rattle.log_record.specs.Folding.{folded}
-use Rattle.log_record.specs.EventWrites.{changes_of, writes_by, is_fine}
+use Rattle.log_record.specs.EventWrites.{changes_of, writes_by}
 use Rattle.log_record.specs.Recovery.{Recovers, RecoversEither, Holds}
 
 pub record Journal : Type 0 where
@@ -55,11 +55,6 @@ pub record IsLogged (images : Sides → Type 0) (h : Hall) (j : Journal) : Type 
 -- what a core keeps to between two calls
 abbrev pub KeepsLog : (Sides → Type 0) → Hall → Journal → Type 0
 KeepsLog images h j = h.stopped ≡ false → IsLogged images h j
-
--- frames were given
-abbrev pub given : Outcome → Bool
-given (Given frames) = true
-given outcome = false
 
 -- a step of rewriting, or a retirement
 abbrev pub settles : Event → Bool

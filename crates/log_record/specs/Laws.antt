@@ -1,12 +1,12 @@
 -- Laws of the log.
-use Rattle.std.specs.Prelude.{◌≡◌, ◌≢◌, ◌≤◌, ℕ, false, List, [], ◌∷◌, ◌++◌, length, Ok}
+use Rattle.std.specs.Prelude.{◌≡◌, ◌≢◌, ◌≤◌, ℕ, Bool, true, false, List, [], ◌∷◌, ◌++◌, length, Ok}
 use Rattle.byte_text.specs.Names.{Bytes}
 use Rattle.world_data.specs.Worlds.{empty_world}
 use Rattle.world_data.specs.declared.worlds.World.{World}
 use Rattle.world_data.specs.declared.worlds.Change.{Change}
 use Rattle.outside.specs.declared.sides.Side.{Side}
 use Rattle.world_model.specs.Halls.{Hall}
-use Rattle.world_model.specs.Histories.{opening_hall, Step, Reaches}
+use Rattle.world_model.specs.Histories.{opening_hall, Step, Reaches, gave}
 use Rattle.world_model.specs.declared.events.Event.{Event}
 use Rattle.world_model.specs.declared.events.Outcome.{Outcome}
 use Rattle.world_model.specs.declared.events.Entry.{Entry}
@@ -19,7 +19,7 @@ use Rattle.log_record.specs.Batches.{open_gate, all_changes, AreRecorded, AreByt
 use Rattle.log_record.specs.Readings.{Damaged, Fresh, is_open, reading, stands, side_over, gate_place, max_side, IsOlder, Standing}
 use Rattle.log_record.specs.Standing.{IsFound}
 use Rattle.log_record.specs.Recovery.{Recovers, Holds}
-use Rattle.log_record.specs.Safety.{moment_after, ComesNext, Safe}
+use Rattle.log_record.specs.Safety.{moment_after, ComesNext, Passes, IsSafe, Safe}
 use Rattle.log_record.specs.EventWrites.{Does, writes_by}
 use Rattle.log_record.specs.Journals.{Journal, KeepsLog, Turn, TellsNow}
 
@@ -48,6 +48,17 @@ KeepsSafe images moment left_since old new h before event outcome next after = (
     → Stood images moment left_since old o entries h before
     → e.event ≡ event → e.outcome ≡ outcome → e.moment ≡ moment new → ComesNext o entries e
     → Stood images moment left_since new o (entries ++ e ∷ []) next after
+
+-- a disk that is safe for a history by a mark is safe by each that marks fewer entries
+abbrev pub FewerStaySafe : {D : Type 0} → (D → ℕ → Sides → Type 0) → Type 0
+FewerStaySafe {D} left_since = (less more : Entry → Bool) (disk : D) (o : Opening) (entries : List Entry)
+    → ((e : Entry) → less e ≡ true → more e ≡ true) → IsSafe more left_since disk o.moment entries (Passes o entries)
+    → IsSafe less left_since disk o.moment entries (Passes o entries)
+
+-- so a safe disk is safe where frames alone acknowledge
+abbrev pub FramesStaySafe : {D : Type 0} → (D → ℕ → Sides → Type 0) → Type 0
+FramesStaySafe {D} left_since = (disk : D) (o : Opening) (entries : List Entry) → Safe left_since disk o entries
+    → IsSafe gave left_since disk o.moment entries (Passes o entries)
 
 -- all stands at an opening, where all that a crash since then might have left is the opening's world
 abbrev pub OpeningsStand : {D : Type 0} → (D → Sides → Type 0) → (D → ℕ) → (D → ℕ → Sides → Type 0) → Type 0

@@ -2,7 +2,7 @@
 -- that holds all that was acknowledged.
 use Rattle.std.specs.Prelude.{◌≡◌, ◌⊎◌, ◌≤◌, ◌-◌, ◌||◌, ℕ, Bool, false, List, [], ◌∷◌, ◌++◌, length, take}
 use Rattle.world_model.specs.Halls.{Hall}
-use Rattle.world_model.specs.Histories.{Reaches, Follows, gives_disk, acked_count}
+use Rattle.world_model.specs.Histories.{Reaches, Follows, gives_disk, acknowledges, acked_count}
 use Rattle.world_data.specs.declared.worlds.World.{World}
 use Rattle.world_model.specs.declared.events.Entry.{Entry}
 use Rattle.world_model.specs.declared.events.Opening.{Opening}
@@ -42,14 +42,14 @@ pub record RecoversPassed (Worlds : ℕ → World → Type 0) (least most : ℕ)
   pub recovers : Recovers image world
 
 -- whatever a crash since the end of the first n entries might have left is recovered as the world after some of all
--- entries, those that were acknowledged by then among them
-abbrev pub IsSafe : {D : Type 0} → (D → ℕ → Sides → Type 0) → D → ℕ → List Entry → (ℕ → World → Type 0) → Type 0
-IsSafe left_since disk start entries Worlds = (n : ℕ) → n ≤ length entries
-    → EachSince left_since disk (moment_after start (take n entries)) (RecoversPassed Worlds (acked_count (take n entries)) (length entries))
+-- entries, those that were acknowledged by then among them, by a mark of what acknowledges
+abbrev pub IsSafe : {D : Type 0} → (Entry → Bool) → (D → ℕ → Sides → Type 0) → D → ℕ → List Entry → (ℕ → World → Type 0) → Type 0
+IsSafe marks left_since disk start entries Worlds = (n : ℕ) → n ≤ length entries
+    → EachSince left_since disk (moment_after start (take n entries)) (RecoversPassed Worlds (acked_count marks (take n entries)) (length entries))
 
--- a disk is safe for a history
+-- a disk is safe for a history: frames that were given acknowledge, and a step of rewriting that was answered Ok
 unfoldable pub Safe : {D : Type 0} → (D → ℕ → Sides → Type 0) → D → Opening → List Entry → Type 0
-Safe left_since disk o entries = IsSafe left_since disk o.moment entries (Passes o entries)
+Safe left_since disk o entries = IsSafe acknowledges left_since disk o.moment entries (Passes o entries)
 
 -- runs: histories one behind another, whose entries are counted through
 
@@ -69,6 +69,6 @@ abbrev pub RunPasses : Run → ℕ → World → Type 0
 RunPasses [] n w = ⊥
 RunPasses ((o, entries) ∷ rest) n w = ((n ≤ length entries) × Passes o entries n w) ⊎ ((length entries ≤ n) × RunPasses rest (n - length entries) w)
 
--- a disk is safe for a run
+-- a disk is safe for a run, by the same mark
 unfoldable pub SafeRun : {D : Type 0} → (D → ℕ → Sides → Type 0) → D → Run → Type 0
-SafeRun left_since disk run = IsSafe left_since disk (start_of run) (entries_of run) (RunPasses run)
+SafeRun left_since disk run = IsSafe acknowledges left_since disk (start_of run) (entries_of run) (RunPasses run)

@@ -1,48 +1,51 @@
 -- A call of a core keeps its disk safe.
 use Rattle.std.proofs.Common.{◌≡◌, ◌≤◌, ℕ, zero, suc, Bool, true, false, ◌&&◌, ◌||◌, List, [], ◌∷◌, ◌++◌, length, refl, sym, ap, subst, ◌∙◌, arith}
-use Rattle.std.proofs.Common.{⊎_elim, length-append}
+use Rattle.std.proofs.Common.{⊎_elim, length-append, true≢false}
 use Rattle.outside.specs.Sides.{Sides}
 use Rattle.outside.specs.Crashes.{EachSince, LeavesOnly}
 use Rattle.outside.specs.CrashLaws.{weaker, begins}
 use Rattle.world_model.specs.Halls.{Hall}
 use Rattle.std.specs.Prelude.{Some, if◌then◌else◌}
-use Rattle.world_model.specs.Histories.{Step, StepBy, when_stopped, refusal_going, Reaches, acked_count, gave, opening_hall}
+use Rattle.world_model.specs.Histories.{Step, StepBy, when_stopped, refusal_going, Reaches, opening_hall}
+use Rattle.world_model.specs.Histories.{given, is_fine, is_rewrite, acknowledges, acked_count}
+use Rattle.world_model.specs.declared.events.Event.{Event}
+use Rattle.world_model.specs.declared.events.Event.TheVariants.{Retire}
 use Rattle.world_model.specs.declared.events.Outcome.{Outcome}
 use Rattle.world_model.specs.declared.events.Outcome.TheVariants.{Given}
-use Rattle.world_model.specs.declared.events.Event.{Event}
-use Rattle.world_model.specs.declared.events.Outcome.{Outcome}
 use Rattle.world_model.specs.declared.events.Entry.{Entry}
 use Rattle.world_model.specs.declared.events.Opening.{Opening}
 use Rattle.log_record.specs.Recovery.{Recovers, RecoversEither}
 use Rattle.log_record.specs.Safety.{moment_after, Passes, RecoversPassed, IsSafe, Safe}
-use Rattle.log_record.specs.Journals.{Journal, whole, given, settles, shows, IsLogged, KeepsLog, Turn, TellsNow}
+use Rattle.log_record.specs.Journals.{Journal, whole, shows, IsLogged, KeepsLog, Turn, TellsNow}
 use Rattle.log_record.specs.Laws.{TurnsKeepSafe, OpeningsStand, KeepsSafe}
 use Rattle.log_record.specs.Folding.{folded}
-use Rattle.log_record.specs.EventWrites.{changes_of, writes_by, is_fine}
+use Rattle.log_record.specs.EventWrites.{changes_of, writes_by}
 use Rattle.log_record.specs.Acknowledged.{acked_within, moment_last}
 use Rattle.log_record.specs.EventWriteLaws.{steps_make_their_writes}
 use Rattle.log_record.specs.LeadingLaws.{moments_ascend, leads_on, passes_still, passes_all}
 use Rattle.log_record.specs.SafetyLaws.{committed_passed, safe_with_one_more}
 
-gave_given : (e : Entry) (outcome : Outcome) → gave (record e { outcome = outcome }) ≡ given outcome
-gave_given e (Given frames) = refl
-gave_given e outcome = refl
-
-pub gave_shows : (e : Entry) → gave e ≡ true → shows e.event e.outcome ≡ true
-gave_shows e gives = ap (λ b. b || (settles e.event && is_fine e.outcome)) (sym (gave_given e e.outcome) ∙ gives)
+-- behind an entry that acknowledges, a crash leaves the hall's world
+pub acknowledges_shows : (e : Entry) → acknowledges e ≡ true → shows e.event e.outcome ≡ true
+acknowledges_shows e marks = by e.event e.outcome marks
+  where
+    by : (event : Event) (outcome : Outcome) → (given outcome || (is_rewrite event && is_fine outcome)) ≡ true → shows event outcome ≡ true
+    by Retire (Given frames) marks = refl
+    by Retire outcome marks = absurd (true≢false (sym marks))
+    by event outcome marks = marks
 
 either_passed : {D : Type 0} (images : D → Sides → Type 0) (moment : D → ℕ) (left_since : D → ℕ → Sides → Type 0) (old : D) (o : Opening)
     (entries : List Entry) (h : Hall) (j : Journal)
     → TellsNow images moment left_since old → Reaches o entries h → moment_after o.moment entries ≤ moment old
-    → IsSafe left_since old o.moment entries (Passes o entries) → IsLogged (images old) h j
-    → (c : Sides) → RecoversEither j.committed (whole j) c → RecoversPassed (Passes o entries) (acked_count entries) (length entries) c
+    → IsSafe acknowledges left_since old o.moment entries (Passes o entries) → IsLogged (images old) h j
+    → (c : Sides) → RecoversEither j.committed (whole j) c → RecoversPassed (Passes o entries) (acked_count acknowledges entries) (length entries) c
 either_passed images moment left_since old o entries h j tells reached past safe log c either = ⊎_elim
     (λ first. let found = committed_passed images moment left_since old o.moment entries
     (Passes o entries) j.committed tells.counts_now safe past log.durable in
     record { count = found.0; at_least = found.1; at_most = found.2; world = j.committed; passed = found.3; recovers = first })
     (λ second. record {
       count = length entries;
-      at_least = acked_within entries;
+      at_least = acked_within acknowledges entries;
       at_most = omega arith;
       world = whole j;
       passed = passes_all o entries h (length entries) (whole j) (omega arith) reached log.world;
@@ -54,15 +57,15 @@ either_passed images moment left_since old o entries h j tells reached past safe
 leaves_passed : {D : Type 0} (images : D → Sides → Type 0) (moment : D → ℕ) (left_since : D → ℕ → Sides → Type 0) (old new : D) (o : Opening)
     (entries : List Entry) (e : Entry) (h next : Hall) (before after : Journal)
     → TellsNow images moment left_since old → Reaches o entries h → moment_after o.moment entries ≤ moment old
-    → IsSafe left_since old o.moment entries (Passes o entries) → KeepsLog (images old) h before
+    → IsSafe acknowledges left_since old o.moment entries (Passes o entries) → KeepsLog (images old) h before
     → Turn images moment left_since old new h before e.event e.outcome next after → (b : Bool) → h.stopped ≡ b
-    → LeavesOnly moment left_since old new (RecoversPassed (Passes o entries) (acked_count entries) (length entries))
+    → LeavesOnly moment left_since old new (RecoversPassed (Passes o entries) (acked_count acknowledges entries) (length entries))
 leaves_passed {D} images moment left_since old new o entries e h next before after tells reached past safe log turn true stops =
-    subst (λ (d : D). LeavesOnly moment left_since old d (RecoversPassed (Passes o entries) (acked_count entries) (length entries)))
-    (sym (turn.stopped stops)) (begins moment left_since old (RecoversPassed (Passes o entries) (acked_count entries) (length entries)))
+    subst (λ (d : D). LeavesOnly moment left_since old d (RecoversPassed (Passes o entries) (acked_count acknowledges entries) (length entries)))
+    (sym (turn.stopped stops)) (begins moment left_since old (RecoversPassed (Passes o entries) (acked_count acknowledges entries) (length entries)))
 leaves_passed images moment left_since old new o entries e h next before after tells reached past safe log turn false goes =
     weaker moment left_since old new (RecoversEither before.committed (whole before))
-    (RecoversPassed (Passes o entries) (acked_count entries) (length entries))
+    (RecoversPassed (Passes o entries) (acked_count acknowledges entries) (length entries))
     (either_passed images moment left_since old o entries h before tells reached past safe (log goes)) (turn.leaves goes)
 
 -- a hall that goes on went on before
@@ -110,7 +113,7 @@ turns_keep_safe images moment left_since old new o entries e h next before after
             next.world,
             passes_all o (entries ++ e ∷ []) next (suc (length entries)) next.world
                 (omega (arith, length-append entries (e ∷ []))) on refl,
-            turn.shown (gave_shows e gives) c image,
+            turn.shown (acknowledges_shows e gives) c image,
           ));
       log = keeps_log_on images moment left_since old new e.event e.outcome h next before after stood.log step turn;
     }

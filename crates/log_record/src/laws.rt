@@ -15,7 +15,8 @@ ghost use Rattle.log_record.specs.Versions.{least_version};
 ghost use Rattle.log_record.specs.Recovery.{Recovers};
 ghost use Rattle.log_record.specs.Copying.{PartsGrow};
 ghost use Rattle.log_record.specs.Runs.{OpeningsKeepRunsSafe, TurnsKeepRunsSafe};
-ghost use Rattle.log_record.specs.Laws.{EmptyIsFresh, LogsAreFound, OlderRecordsAreNewer, OpeningsStand};
+ghost use Rattle.log_record.specs.Laws.{EmptyIsFresh, FewerStaySafe, FramesStaySafe, LogsAreFound};
+ghost use Rattle.log_record.specs.Laws.{OlderRecordsAreNewer, OpeningsStand};
 ghost use Rattle.log_record.specs.Laws.{RecoveredIsWhole, SidesStand};
 ghost use Rattle.log_record.specs.Laws.{StepsMakeTheirWrites, TurnsKeepSafe};
 
@@ -41,6 +42,13 @@ pub fn openings_stand<D: Disk>()
 /// A call of a core that does to the disk what it owes keeps it safe, and the log with it.
 pub fn turns_keep_safe<D: Disk>()
     ensures { TurnsKeepSafe D.images D.moment D.left_since }
+{}
+
+/// A disk that is safe by a mark of what acknowledges is safe by each that marks fewer entries, so also where frames
+/// alone acknowledge.
+pub fn fewer_stay_safe<D: Disk>()
+    ensures fewer { FewerStaySafe D.left_since }
+    ensures frames { FramesStaySafe D.left_since }
 {}
 
 /// A side with batches of records stands for the fold of their changes, beside one that is not open or older. What

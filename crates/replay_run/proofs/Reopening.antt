@@ -11,7 +11,7 @@ use Rattle.outside.specs.CrashLaws.{then, weaker}
 use Rattle.world_data.specs.Sound.{IsSoundWorld}
 use Rattle.world_data.specs.declared.worlds.World.{World}
 use Rattle.world_model.specs.Halls.{Hall}
-use Rattle.world_model.specs.Histories.{opening_hall, Step, answer, is_log_fault, acked_count, EndsWith}
+use Rattle.world_model.specs.Histories.{opening_hall, Step, answer, is_log_fault, acknowledges, acked_count, EndsWith}
 use Rattle.world_model.specs.declared.events.CallOutcome.{CallOutcome}
 use Rattle.world_model.specs.declared.events.CallOutcome.TheVariants as called
 use Rattle.world_model.specs.declared.events.Event.TheVariants as event
@@ -106,10 +106,10 @@ safe_first left_since disk o p moment world safe n few c left = by_count found f
     since : left_since disk (moment_after o.moment (take n [])) c
     since = subst (λ (t : ℕ). left_since disk t c) (none_taken n p.moment ∙ moment ∙ sym (none_taken n o.moment)) left
 
-    found : RecoversPassed (Passes o []) (acked_count (take n [])) 0 c
+    found : RecoversPassed (Passes o []) (acked_count acknowledges (take n [])) 0 c
     found = safe n few c since
 
-    by_count : (f : RecoversPassed (Passes o []) (acked_count (take n [])) 0 c) (k : ℕ) → f.count ≡ k → RecoversPassed (RunPasses ((p, []) ∷ [])) (acked_count (take n [])) 0 c
+    by_count : (f : RecoversPassed (Passes o []) (acked_count acknowledges (take n [])) 0 c) (k : ℕ) → f.count ≡ k → RecoversPassed (RunPasses ((p, []) ∷ [])) (acked_count acknowledges (take n [])) 0 c
     by_count f k is = record {
       count = 0;
       at_least = let least = f.at_least in let most = f.at_most in omega (arith, least, most);
@@ -187,17 +187,17 @@ module _ {D : Type 0} (crashes : D → Bool) (seen : D → Option Sides) (images
 
   -- time goes on without an entry, and leaves the world of now
   safe_still : (old new : D) (start : ℕ) (entries : List Entry) (Worlds : ℕ → World → Type 0) (w : World) → ((t : ℕ) (c : Sides) → t ≤ moment old → images old c → left_since old t c)
-      → ((n : ℕ) → moment_after start (take n entries) ≤ moment old) → Holds (images old) w → LeavesOnly moment left_since old new (λ c. Recovers c w) → IsSafe left_since old start entries Worlds → IsSafe left_since new start entries Worlds
+      → ((n : ℕ) → moment_after start (take n entries) ≤ moment old) → Holds (images old) w → LeavesOnly moment left_since old new (λ c. Recovers c w) → IsSafe acknowledges left_since old start entries Worlds → IsSafe acknowledges left_since new start entries Worlds
   safe_still old new start entries Worlds w counts past holds leaves safe n few c left = by_left (leaves.either (moment_after start (take n entries)) c (past n) left)
     where
       all_past : moment_after start entries ≤ moment old
       all_past = subst (λ (l : List Entry). moment_after start l ≤ moment old) (take_all (length entries) entries (omega arith)) (past (length entries))
 
-      by_left : left_since old (moment_after start (take n entries)) c ⊎ Recovers c w → RecoversPassed Worlds (acked_count (take n entries)) (length entries) c
+      by_left : left_since old (moment_after start (take n entries)) c ⊎ Recovers c w → RecoversPassed Worlds (acked_count acknowledges (take n entries)) (length entries) c
       by_left (inl before) = safe n few c before
       by_left (inr now) =
           let found = committed_passed images moment left_since old start entries Worlds w counts safe all_past holds in
-          passed_still Worlds Worlds (acked_count entries) (acked_count (take n entries)) (length entries) (length entries) c (acked_take n entries) (omega arith) (λ m v le x. x)
+          passed_still Worlds Worlds (acked_count acknowledges entries) (acked_count acknowledges (take n entries)) (length entries) (length entries) c (acked_take acknowledges n entries) (omega arith) (λ m v le x. x)
           (record { count = found.0; at_least = found.1; at_most = found.2; world = w; passed = found.3; recovers = now })
 
   run_still : (old new : D) (run : Run) (w : World) → ((t : ℕ) (c : Sides) → t ≤ moment old → images old c → left_since old t c)

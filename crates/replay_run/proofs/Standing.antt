@@ -145,7 +145,7 @@ module _ {D : Type 0} (crashes : D → Bool) (seen : D → Option Sides) (images
     moment_stays = λ out. absurd (cc);
     count_stays = λ out. absurd (cc);
     cause = λ failed. count_rose (count_after o.count entries) (faults old) (faults new) counted (cause failed);
-    note = refl;
+    note = λ _. refl;
   }
 
   -- one deed more behind all others, on whatever disk the call left

@@ -4,7 +4,7 @@ use Rattle.std.specs.Prelude.{if◌then◌else◌}
 use Rattle.std.proofs.lemmas.List.{take_all}
 use Rattle.outside.specs.Sides.{Sides}
 use Rattle.world_model.specs.Halls.{Hall}
-use Rattle.world_model.specs.Histories.{opening_hall, Follows, Leads, Reaches, gives_disk, gave, acked_count, is_log_fault}
+use Rattle.world_model.specs.Histories.{opening_hall, Follows, Leads, Reaches, gives_disk, acknowledges, acked_count, is_log_fault}
 use Rattle.world_model.specs.Seats.{Act, act_of}
 use Rattle.world_model.specs.declared.events.Entry.{Entry}
 use Rattle.world_model.specs.declared.events.Opening.{Opening}
@@ -39,7 +39,7 @@ raise_leads t (suc n) (e ∷ es) h last m c m' c' is_out plain later more still 
       moment_stays = λ out. (still out).0;
       count_stays = λ out. (still out).1;
       cause = λ failed. absurd (true≢false (sym failed ∙ plain.0));
-      note = refl;
+      note = λ _. refl;
     } in (
       leads.0,
       leads.1,
@@ -73,10 +73,10 @@ raised_later t (suc n) (b ∷ before) es h last m c is_out later leads =
     raised_later t n before es leads.0 last b.moment b.count (is_out || gives_disk b) later leads.3
 
 -- who is acknowledged is told by the acts
-same_gave : (d e : Entry) → act_of d ≡ act_of e → gave d ≡ gave e
-same_gave d e is = ap (λ (a : Act). gave (record { event = a.0; outcome = a.1; note = []; moment = 0; count = 0 })) is
+same_mark : (d e : Entry) → act_of d ≡ act_of e → acknowledges d ≡ acknowledges e
+same_mark d e is = ap (λ (a : Act). acknowledges (record { event = a.0; outcome = a.1; note = []; moment = 0; count = 0 })) is
 
-same_acked : (xs ys : List Entry) → map act_of xs ≡ map act_of ys → acked_count xs ≡ acked_count ys
+same_acked : (xs ys : List Entry) → map act_of xs ≡ map act_of ys → acked_count acknowledges xs ≡ acked_count acknowledges ys
 same_acked [] [] is = refl
 same_acked [] (y ∷ ys) is = absurd (cc)
 same_acked (x ∷ xs) [] is = absurd (cc)
@@ -84,7 +84,8 @@ same_acked (x ∷ xs) (y ∷ ys) is =
     let here : act_of x ≡ act_of y = cc in
     let more : map act_of xs ≡ map act_of ys = cc in
     let n = same_acked xs ys more in
-    ap (λ (k : ℕ). if k == 0 then (if gave x then 1 else 0) else k + 1) n ∙ ap (λ (g : Bool). if acked_count ys == 0 then (if g then 1 else 0) else acked_count ys + 1) (same_gave x y here)
+    ap (λ (k : ℕ). if k == 0 then (if acknowledges x then 1 else 0) else k + 1) n
+    ∙ ap (λ (g : Bool). if acked_count acknowledges ys == 0 then (if g then 1 else 0) else acked_count acknowledges ys + 1) (same_mark x y here)
 
 map_taken : {A B : Type 0} (f : A → B) (n : ℕ) (xs : List A) → map f (take n xs) ≡ take n (map f xs)
 map_taken f zero xs = refl
@@ -99,7 +100,8 @@ behind_acts : (t : Time) (before es : List Entry) → map act_of (before ++ map 
 behind_acts t [] es = raised_acts t es
 behind_acts t (b ∷ before) es = ap (λ (l : List Act). act_of b ∷ l) (behind_acts t before es)
 
-raised_acked : (t : Time) (n : ℕ) (before es : List Entry) → acked_count (take n (before ++ map (raised t) es)) ≡ acked_count (take n (before ++ es))
+raised_acked : (t : Time) (n : ℕ) (before es : List Entry)
+    → acked_count acknowledges (take n (before ++ map (raised t) es)) ≡ acked_count acknowledges (take n (before ++ es))
 raised_acked t n before es = same_acked (take n (before ++ map (raised t) es)) (take n (before ++ es))
     (map_taken act_of n (before ++ map (raised t) es) ∙ ap (λ (l : List Act). take n l) (behind_acts t before es) ∙ sym (map_taken act_of n (before ++ es)))
 

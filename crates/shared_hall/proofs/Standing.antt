@@ -140,7 +140,7 @@ module _ {S D : Type 0} (hall : S → Hall) (disk : S → D) (is_out : S → Boo
     moment_stays = λ out. let is = is_still told s o log stands out in ap (λ (d : D). (time_of moment faults told d).moment) (act.stays is) ∙ sym (stands.still is).0;
     count_stays = λ out. let is = is_still told s o log stands out in ap (λ (d : D). (time_of moment faults told d).count) (act.stays is) ∙ sym (stands.still is).1;
     cause = λ failed. rose_counted (count_after o.count log) (faults (disk s)) (faults (disk t)) stands.counted act.later (act.cause failed);
-    note = refl;
+    note = λ _. refl;
   }
 
   kept_more : (told : Bool) (s t : S) (o : Opening) (log : List Entry) (a : Act) → StandsAt told s o log → Acted s t a → told ≡ true → Kept t o (log ++ entry_at (time told t) a ∷ [])

@@ -120,9 +120,10 @@ pub fn out_of_memory<K: Sink, D: Disk + Drop>(sink: &mut K) -> Ended<D>
 /// Where the disk tells what it holds and what a crash may leave, all events that the script made are a run of legal
 /// histories, one for each opening, with their outcomes, and the disk that is handed back is safe for it: whatever a
 /// crash might have left since the first opening, at each moment of it, is recovered as the world after a beginning of
-/// the run, which holds all that was acknowledged by then, that is all before the last frame that was given. Where the
-/// hall's retirement was answered Ok, as at status 0, whatever a crash leaves of the disk is the world after the whole
-/// run. Where the disk tells no crashes, it holds at status 0 the world that the script left.
+/// the run, which holds all that was acknowledged by then, that is all before the last frame that was given, and before
+/// the last step of rewriting that was answered Ok. Where the hall's retirement was answered Ok, as at status 0,
+/// whatever a crash leaves of the disk is the world after the whole run. Where the disk tells no crashes, it holds at
+/// status 0 the world that the script left.
 ///
 /// With `check`. Status 0: the line of the disk's world was written, with the generation of the side in use of the disk
 /// handed back, which holds that world; and that disk is safe for that world. At each status at which it was opened, at

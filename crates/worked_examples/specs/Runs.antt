@@ -7,10 +7,14 @@ use Rattle.world_data.specs.Worlds.{empty_world}
 use Rattle.worked_examples.specs.Commands.{line}
 use Rattle.world_model.specs.Commands.{reads}
 use Rattle.world_model.specs.Halls.{Hall, Session, session_of, is_live, due, do_words}
-use Rattle.world_model.specs.Histories.{Ending, refusal, doing, opening_hall}
+use Rattle.world_model.specs.Histories.{Ending, answer, refusal, doing, opening_hall, gave, acknowledges, acked_count}
 use Rattle.world_model.specs.declared.events.Asked.TheVariants.{Words, Broken}
+use Rattle.world_model.specs.declared.events.CallOutcome.TheVariants as called
+use Rattle.world_model.specs.declared.events.Entry.{Entry}
 use Rattle.world_model.specs.declared.events.Event.{Event}
 use Rattle.world_model.specs.declared.events.Event.TheVariants.{Enter, Call, Take, Tick, Close, Remove, Rewrite, Retire}
+use Rattle.world_model.specs.declared.events.Outcome.{Outcome}
+use Rattle.world_model.specs.declared.events.Outcome.TheVariants.{Given}
 
 abbrev done_words : Hall → Option Session → List Bytes → Hall
 done_words h None words = h
@@ -62,6 +66,13 @@ square = asks 1 0 "SUBSCRIBE z" ∷ asks 2 0 "SETCHAN z WITHIN k FENCE BOUNDS 0 
 
 abbrev replies : ℕ → List String → List Bytes
 replies n lines = waiting n (map (asks n 0) lines)
+
+abbrev ends : Event → Outcome → Entry
+ends event outcome = record { event = event; outcome = outcome; note = []; moment = 0; count = 0 }
+
+-- a frame is given, a step of rewriting is done, and another wants memory
+abbrev rewriting : List Entry
+rewriting = ends (Take 1) (Given (codes "+OK\r\n" ∷ [])) ∷ ends Rewrite (answer called.Ok) ∷ ends Rewrite (answer called.Memory) ∷ []
 
 pub record HoldsRuns : Type 0 where
   pub one_point : waiting 1 (asks 1 0 "SET fleet truck1 POINT 33 112" ∷ asks 1 0 "GET fleet truck1" ∷ [])
@@ -141,3 +152,6 @@ pub record HoldsRuns : Type 0 where
   pub chans : replies 1 ("SET k a POINT 1 2" ∷ "SETCHAN z WITHIN k FENCE DETECT enter,exit GET k a" ∷ "CHANS *" ∷ [])
       ≡ codes "+OK\r\n" ∷ codes ":1\r\n" ∷
       codes "*1\r\n*3\r\n$1\r\nz\r\n$1\r\nk\r\n*7\r\n$6\r\nWITHIN\r\n$1\r\nk\r\n$5\r\nFENCE\r\n$6\r\nDETECT\r\n$10\r\nenter,exit\r\n$6\r\nOBJECT\r\n$36\r\n{\"type\":\"Point\",\"coordinates\":[2,1]}\r\n" ∷ []
+  -- two of three entries are acknowledged; where frames alone acknowledge, the first
+  pub acked : acked_count acknowledges rewriting ≡ 2
+  pub acked_by_frames : acked_count gave rewriting ≡ 1

@@ -94,8 +94,8 @@ pub enum Outcome {
     Ended,
 }
 
-/// An event with its outcome, a note, and the disk's moment and count of faults at its end. No value of it is ever
-/// made.
+/// An event with its outcome, a note, and the disk's moment and count of faults at its end. The note of an event that
+/// is no Rewrite is empty. No value of it is ever made.
 #[derive(Drop)]
 pub struct Entry {
     pub event: Event,

@@ -32,4 +32,6 @@ returns c = record {
   patterns = refl;
   record_length = refl;
   chans = refl;
+  acked = refl;
+  acked_by_frames = refl;
 }
