@@ -16,7 +16,7 @@ ghost use Rattle.channel_plans.specs.Contexts.{IsContext, IsPlannedIn, kept_worl
 ghost use Rattle.command_plans.specs.Asking.{IsAsked};
 
 use crate::sessions::{is_refused, plan_session};
-use byte_text::{NoMemory, Request, RespFault};
+use byte_text::{NoMemory, Request, RespFault, Text};
 use channel_plans::{Context, Planned, plan_channel};
 use cmd_words::{CommandFault, command_of, served_commands};
 use keyspace::Keyspace;
@@ -63,6 +63,7 @@ fn plan_open(
     context: Context<'_>,
     command: Command,
     steps: &mut Steps<Visits>,
+    spare: &mut Text,
 ) -> Result<Planned, NoMemory>
     requires context { IsContext context }
     requires asked { IsAsked command }
@@ -77,12 +78,14 @@ fn plan_open(
         now: context.now,
     };
     match command {
-        Command::Object(command) => { Ok(Planned::Objects(plan_object(alloc, alone, command)?)) }
+        Command::Object(command) => {
+            Ok(Planned::Objects(plan_object(alloc, alone, command, spare)?))
+        }
         Command::Search(command) => {
             Ok(Planned::Objects(plan_search(alloc, alone, command, steps)?))
         }
         Command::Channel(command) => plan_channel(alloc, context, command),
-        Command::Session(command) => plan_session(alloc, context, command),
+        Command::Session(command) => plan_session(alloc, context, command, spare),
     }
 }
 
@@ -92,6 +95,7 @@ fn plan_served(
     context: Context<'_>,
     command: Command,
     steps: &mut Steps<Visits>,
+    spare: &mut Text,
 ) -> Result<Planned, NoMemory>
     requires context { IsContext context }
     requires asked { IsAsked command }
@@ -104,7 +108,7 @@ fn plan_served(
         let refusal = say_refusal(alloc, context.total, Refusal::Subscribed)?;
         return Ok(Planned::Objects(refusal));
     }
-    plan_open(alloc, context, command, steps)
+    plan_open(alloc, context, command, steps, spare)
 }
 
 // Of the laws of records the one that a request needs.
@@ -120,6 +124,7 @@ fn plan_words(
     context: Context<'_>,
     words: &Request,
     steps: &mut Steps<Visits>,
+    spare: &mut Text,
 ) -> Result<Planned, NoMemory>
     requires context { IsContext context }
     ensures { IfOk result (λ p. IsPlannedIn context.entry
@@ -131,7 +136,7 @@ fn plan_words(
     // A request is within its limits, and so is what a refusal shows of it.
     let _count = words.words();
     match command_of(alloc, words) {
-        Ok(command) => plan_served(alloc, context, command, steps),
+        Ok(command) => plan_served(alloc, context, command, steps, spare),
         Err(CommandFault::Refused(fault)) => {
             Ok(Planned::Objects(plan_fault(alloc, context.objects, context.total, &fault)?))
         }
@@ -140,19 +145,21 @@ fn plan_words(
 }
 
 /// What is asked will do this in its context: a request what its words say, and the fault that broke a session's
-/// protocol ends the session. The steps count the nodes of trees that are visited. It fails for want of memory alone.
+/// protocol ends the session. The steps count the nodes of trees that are visited. The frame of a reply may stand in the
+/// memory of `spare`, a text whose bytes are not needed any more. It fails for want of memory alone.
 pub fn plan_asked(
     alloc: Global,
     context: Context<'_>,
     asked: &Asked,
     steps: &mut Steps<Visits>,
+    spare: &mut Text,
 ) -> Result<Planned, NoMemory>
     requires context { IsContext context }
     ensures { IfOk result (λ p. IsPlannedIn context.entry
         (effect_of_asked (kept_world context.entry) context.entry.now context.entry.subs.now asked.now) p) }
 {
     match asked {
-        Asked::Words(words) => { plan_words(alloc, context, words, steps) }
+        Asked::Words(words) => { plan_words(alloc, context, words, steps, spare) }
         Asked::Broken(fault) => Ok(Planned::Objects(plan_broken(
             alloc,
             context.objects,

@@ -24,7 +24,7 @@ use crate::listings::plan_keys;
 use crate::plans::Plan;
 use crate::puts::{Terms, plan_set};
 use crate::reads::{plan_bounds, plan_get, plan_stats};
-use byte_text::{MAX_WORDS, NoMemory};
+use byte_text::{MAX_WORDS, NoMemory, Text};
 use keyspace::Keyspace;
 use reply_text::fine_frame;
 use std::alloc::Global;
@@ -44,6 +44,7 @@ fn plan_alone(
     alloc: Global,
     context: ObjectContext<'_>,
     command: ObjectCommand,
+    spare: &mut Text,
 ) -> Result<Plan, NoMemory>
     requires kept { AreKept (objects_in context.objects.now) context.total }
     requires moment { context.now ≤ max_moment }
@@ -81,14 +82,14 @@ fn plan_alone(
                 seconds,
                 only,
             };
-            plan_set(alloc, objects, total, now, terms, object)
+            plan_set(alloc, objects, total, now, terms, object, spare)
         }
         ObjectCommand::Get {
             key,
             id,
             with_fields,
             shown,
-        } => plan_get(alloc, objects, total, &key, &id, with_fields, shown),
+        } => plan_get(alloc, objects, total, &key, &id, with_fields, shown, spare),
         ObjectCommand::Del { key, id } => plan_del(alloc, objects, total, key, id),
         ObjectCommand::Drop { key } => plan_drop(alloc, objects, total, key),
         ObjectCommand::Pdel { key, glob } => plan_pdel(alloc, objects, total, key, &glob),
@@ -150,11 +151,12 @@ fn is_weighed(command: &ObjectCommand) -> bool
 }
 
 /// What a command on objects will do beside channels of the context's weight: a put for which they leave no room is
-/// refused.
+/// refused. A frame may stand in the memory of `spare`.
 pub fn plan_object(
     alloc: Global,
     context: ObjectContext<'_>,
     command: ObjectCommand,
+    spare: &mut Text,
 ) -> Result<Plan, NoMemory>
     requires kept { AreKept (objects_in context.objects.now) context.total }
     requires light { context.total + context.channels ≤ most_kept }
@@ -172,7 +174,7 @@ pub fn plan_object(
         return Err(NoMemory);
     }
     let is_weighed = is_weighed(&command);
-    let plan = plan_alone(alloc, context, command)?;
+    let plan = plan_alone(alloc, context, command, spare)?;
     if !is_weighed {
         return Ok(plan);
     }

@@ -22,12 +22,13 @@ ghost use Rattle.object_plans.specs.Plans.{IsPlan, put_or_full};
 
 use crate::answers::{say_frame, say_refusal};
 use crate::fields::with_values;
+use crate::frames::fine_frame_in;
 use crate::moves::ObjectChange;
 use crate::plans::Plan;
 use byte_text::{NoMemory, Text};
 use keyspace::Keyspace;
 use record_writer::put_len;
-use reply_text::{fine_frame, null_frame};
+use reply_text::null_frame;
 use std::alloc::Global;
 use world_data::{MAX_FIELDS, MAX_OBJECTS, MAX_WEIGHT};
 use world_model::{Fields, NameList, Object, Only, Refusal};
@@ -170,7 +171,8 @@ impl Drop for Terms {
     }
 }
 
-/// What a SET of this object will do, whose fields are those that are given, and whose text has its shape.
+/// What a SET of this object will do, whose fields are those that are given, and whose text has its shape. `+OK` stands
+/// in the memory of `spare`.
 pub(crate) fn plan_set(
     alloc: Global,
     objects: &Keyspace,
@@ -178,6 +180,7 @@ pub(crate) fn plan_set(
     now: u64,
     terms: Terms,
     object: Object,
+    spare: &mut Text,
 ) -> Result<Plan, NoMemory>
     requires kept { AreKept (objects_in objects.now) total }
     requires accepted { IsAccepted object }
@@ -201,5 +204,6 @@ pub(crate) fn plan_set(
     if is_new && objects.len() >= MAX_OBJECTS {
         return say_refusal(alloc, total, Refusal::TooManyObjects);
     }
-    plan_put(alloc, objects, total, old, whole, true, fine_frame(alloc)?)
+    let frame = fine_frame_in(alloc, spare)?;
+    plan_put(alloc, objects, total, old, whole, true, frame)
 }

@@ -2,28 +2,47 @@
 
 ghost use Rattle.std.specs.Prelude.{◌≡◌, ◌≢◌, ℕ, [], map, sum_by, IfOk};
 ghost use Rattle.std.specs.List.{AllByRecursion};
-ghost use Rattle.byte_text.specs.Replies.{IsFrame};
+ghost use Rattle.byte_text.specs.Replies.{IsFrame, frame_text};
 ghost use Rattle.planar_geom.specs.Shapes.{positions};
 ghost use Rattle.world_data.specs.Worlds.{objects_of};
 ghost use Rattle.world_model.specs.Effects.{effect};
 ghost use Rattle.world_model.specs.Replies.{stats_of_key, bounds_of_key};
 ghost use Rattle.world_model.specs.declared.commands.Command.TheVariants as command;
 ghost use Rattle.world_model.specs.declared.object_commands.ObjectCommand.TheVariants as of_object;
+ghost use Rattle.reply_text.specs.Gets.{get_pieces};
 ghost use Rattle.keyspace.specs.Entries.{objects_in};
 ghost use Rattle.object_plans.specs.Kept.{AreKept};
 ghost use Rattle.object_plans.specs.Moves.{world_in};
 ghost use Rattle.object_plans.specs.Plans.{IsPlan};
 
 use crate::answers::{say, say_frame};
+use crate::frames::text_frame_in;
 use crate::plans::Plan;
-use byte_text::{Name, NoMemory, Reply};
+use byte_text::{Name, NoMemory, Reply, Text};
 use collection::Collection;
 use keyspace::Keyspace;
 use reply_text::{ReplyList, bounds_reply, get_frame, null_frame, stats_reply};
 use std::alloc::Global;
-use world_model::{NameList, Shown};
+use world_model::{NameList, Object, Shown};
 
-/// What GET will do.
+// The frame of the answer to GET for an object that is there. Its text alone stands in the memory of `spare`.
+fn shown_frame(
+    alloc: Global,
+    object: &Object,
+    with_fields: bool,
+    shown: Shown,
+    spare: &mut Text,
+) -> Result<Text, NoMemory>
+    requires { shown ≢ Shown.Count }
+    ensures { IfOk result (λ frame. frame ≡ frame_text (get_pieces with_fields shown object.now)) }
+{
+    match (with_fields, shown) {
+        (false, Shown::Objects) => text_frame_in(alloc, spare, object.text.bytes()),
+        _ => get_frame(alloc, object, with_fields, shown),
+    }
+}
+
+/// What GET will do. An object's text alone is answered in the memory of `spare`.
 pub(crate) fn plan_get(
     alloc: Global,
     objects: &Keyspace,
@@ -32,6 +51,7 @@ pub(crate) fn plan_get(
     id: &Name,
     with_fields: bool,
     shown: Shown,
+    spare: &mut Text,
 ) -> Result<Plan, NoMemory>
     requires kept { AreKept (objects_in objects.now) total }
     requires shown { shown ≢ Shown.Count }
@@ -40,7 +60,7 @@ pub(crate) fn plan_get(
 {
     match objects.get(key, id) {
         Some(object) => {
-            let frame = get_frame(alloc, object, with_fields, shown)?;
+            let frame = shown_frame(alloc, object, with_fields, shown, spare)?;
             say_frame(alloc, total, frame)
         }
         None => say_frame(alloc, total, null_frame(alloc)?),

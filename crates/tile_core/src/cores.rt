@@ -25,9 +25,10 @@ use crate::finish::{complete, let_go};
 use crate::ready::{make_ready, make_tick_ready};
 use crate::record_sinks::RecordSink;
 use crate::sessions::{position_of, served};
+use crate::spares::Spares;
 use crate::stores::Store;
 use crate::touching::{name_session, name_told};
-use byte_text::{Name, NoMemory, Text};
+use byte_text::{Name, NoMemory};
 use session_table::{Session, place_staged, unstage};
 use std::alloc::Global;
 use std::marker::Model;
@@ -43,8 +44,8 @@ pub struct Core {
     logged: u64,
     drawn: u32,
     sessions: Vec<Session>,
-    /// The records of the last call, whose memory serves the next one.
-    records: Text,
+    /// What was written for the last call, whose memory serves the next one.
+    spares: Spares,
 }
 
 impl Drop for Core {
@@ -56,7 +57,7 @@ impl Drop for Core {
             logged: _,
             drawn: _,
             sessions: _,
-            records: _,
+            spares: _,
         } = self;
     }
 }
@@ -87,7 +88,7 @@ impl Core {
             logged: 0,
             drawn: 0,
             sessions: Vec::new(alloc),
-            records: Text::new(alloc),
+            spares: Spares::new(alloc),
         }
     }
 
@@ -200,7 +201,7 @@ impl Core {
             at,
             now,
             asked,
-            &mut self.records,
+            &mut self.spares,
             ledger,
         );
         let Ok(ready) = ready else {
@@ -209,7 +210,13 @@ impl Core {
         name_told(touched, self.sessions.as_slice());
         name_session(touched, session);
         self.clock = now;
-        self.logged += complete(&mut self.store, &mut self.sessions, at, ready);
+        self.logged += complete(
+            &mut self.store,
+            &mut self.sessions,
+            at,
+            ready,
+            &mut self.spares.frame,
+        );
         CallOutcome::Ok
     }
 
@@ -243,7 +250,7 @@ impl Core {
             &mut self.store,
             &mut self.sessions,
             now,
-            &mut self.records,
+            &mut self.spares.records,
             ledger,
         );
         let Ok(ready) = ready else {
@@ -294,7 +301,7 @@ impl Core {
             logged,
             drawn: 0,
             sessions: Vec::new(alloc),
-            records: Text::new(alloc),
+            spares: Spares::new(alloc),
         })
     }
 

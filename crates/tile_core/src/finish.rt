@@ -19,7 +19,9 @@ ghost use Rattle.tile_core.specs.Stores.{IsStore, world_at};
 use crate::dues::release;
 use crate::moves::{channels_due_from_after, due_from_after, make_move};
 use crate::ready::Ready;
+use crate::spares::keep_room;
 use crate::stores::Store;
+use byte_text::Text;
 use channel_hub::Hub;
 use command_plans::{ChannelChange, ChannelPlan, Confirmed, ObjectChange, Plan, Planned};
 use session_table::{Session, place_staged};
@@ -47,8 +49,8 @@ fn move_channels(hub: &mut Hub, action: ChannelChange)
     }
 }
 
-// Does what a plan of objects says, and answers its session.
-fn finish_objects(store: &mut Store, caller: &mut Session, plan: Plan)
+// Does what a plan of objects says, and answers its session. The memory of the frame is kept in a spare text.
+fn finish_objects(store: &mut Store, caller: &mut Session, plan: Plan, spare: &mut Text)
     requires room { HasRoom store.old.objects plan.action }
     requires few { length (objects_in store.old.objects) < 2 ^ 32 }
     requires replies { AreReplies (plan.frame ∷ []) caller.old }
@@ -70,6 +72,7 @@ fn finish_objects(store: &mut Store, caller: &mut Session, plan: Plan)
         store.channel_weight = 0;
     }
     make_move(&mut store.objects, plan.action, &mut store.steps);
+    keep_room(spare, plan.frame);
     caller.place_replies();
     if plan.closes {
         caller.close();
@@ -112,7 +115,12 @@ fn finish_subscribing(caller: &mut Session, confirmed: Confirmed)
 }
 
 // Does what was planned for a session, and answers it. The bytes of the records are answered.
-fn finish(store: &mut Store, caller: &mut Session, planned: Planned) -> u64
+fn finish(
+    store: &mut Store,
+    caller: &mut Session,
+    planned: Planned,
+    spare: &mut Text,
+) -> u64
     requires plan { IsSoundAnswer planned }
     requires room { HasRoomFor store.old planned }
     requires few { length (objects_in store.old.objects) < 2 ^ 32 }
@@ -128,7 +136,7 @@ fn finish(store: &mut Store, caller: &mut Session, planned: Planned) -> u64
     match planned {
         Planned::Objects(plan) => {
             let length = plan.length;
-            finish_objects(store, caller, plan);
+            finish_objects(store, caller, plan, spare);
             length
         }
         Planned::Channels(plan) => {
@@ -149,6 +157,7 @@ fn finish_planned(
     sessions: &mut Vec<Session>,
     at: usize,
     planned: Option<Planned>,
+    spare: &mut Text,
 ) -> u64
     requires few { length (objects_in store.old.objects) < 2 ^ 32 }
     requires at { at < length sessions.old.items }
@@ -158,7 +167,7 @@ fn finish_planned(
     ensures length { result ≡ length_if planned }
 {
     match planned {
-        Some(planned) => finish(store, &mut sessions[at], planned),
+        Some(planned) => finish(store, &mut sessions[at], planned, spare),
         None => 0,
     }
 }
@@ -173,13 +182,14 @@ pub(crate) fn let_go(store: &mut Store, held: Vec<Object>)
     store.hub.let_go();
 }
 
-/// Places all that is staged, does what was made ready, and answers the session at the place. It takes no memory. The
-/// bytes of the records of all changes are answered.
+/// Places all that is staged, does what was made ready, and answers the session at the place. It takes no memory; that of
+/// the reply's frame is kept in a spare text. The bytes of the records of all changes are answered.
 pub(crate) fn complete(
     store: &mut Store,
     sessions: &mut Vec<Session>,
     at: usize,
     ready: Ready,
+    spare: &mut Text,
 ) -> u64
     requires few { length (objects_in store.old.objects) < 2 ^ 32 }
     requires at { at < length sessions.old.items }
@@ -189,7 +199,7 @@ pub(crate) fn complete(
 {
     place_staged(sessions);
     let Ready { gone, planned } = ready;
-    let length = finish_planned(store, sessions, at, planned);
+    let length = finish_planned(store, sessions, at, planned, spare);
     // Only now, since a key that has no object left may be that of the object that is put.
     let gone_length = gone.length;
     let_go(store, gone.held);

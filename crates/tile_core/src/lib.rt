@@ -11,6 +11,7 @@ mod ready;
 mod record_sinks;
 mod records;
 mod sessions;
+mod spares;
 mod staging;
 mod stores;
 mod touching;

@@ -25,6 +25,7 @@ use crate::dues::{Expired, expire, put_back};
 use crate::moves::make_room;
 use crate::record_sinks::RecordSink;
 use crate::records::record_ready;
+use crate::spares::Spares;
 use crate::staging::{stage_dels, stage_planned};
 use crate::stores::{Store, Sums};
 use byte_text::{NoMemory, Text};
@@ -179,8 +180,8 @@ fn hold_reply(caller: &mut Session, planned: &Planned) -> Result<(), NoMemory>
     }
 }
 
-// What is asked is planned for the session at a place, with the messages that it brings, its reply, and room for the
-// rest.
+// What is asked is planned for the session at a place, with the messages that it brings, its reply, which may stand in
+// the memory of a spare text, and room for the rest.
 fn plan_request(
     alloc: Global,
     store: &mut Store,
@@ -188,6 +189,7 @@ fn plan_request(
     at: usize,
     now: u64,
     asked: &Asked,
+    spare: &mut Text,
 ) -> Result<Planned, NoMemory>
     requires kept { IsStore store.old }
     requires at { at < length sessions.old.items }
@@ -205,7 +207,7 @@ fn plan_request(
         subs: sessions[at].subscriptions(),
         now,
     };
-    let planned = plan_asked(alloc, context, asked, &mut store.steps)?;
+    let planned = plan_asked(alloc, context, asked, &mut store.steps, spare)?;
     make_room_for(alloc, store, &planned)?;
     stage_planned(
         alloc,
@@ -227,6 +229,7 @@ fn plan_rest(
     at: usize,
     now: u64,
     asked: &Asked,
+    spare: &mut Text,
 ) -> Result<Option<Planned>, NoMemory>
     requires kept { IsStore store.old }
     requires at { at < length sessions.old.items }
@@ -239,7 +242,7 @@ fn plan_rest(
     if !sessions[at].has_room_left() {
         return Ok(None);
     }
-    match plan_request(alloc, store, sessions, at, now, asked) {
+    match plan_request(alloc, store, sessions, at, now, asked, spare) {
         Ok(planned) => Ok(Some(planned)),
         Err(NoMemory) => Err(NoMemory),
     }
@@ -324,7 +327,7 @@ fn make_ready_in_part<L: RecordSink>(
     at: usize,
     now: u64,
     asked: &Asked,
-    records: &mut Text,
+    spares: &mut Spares,
     ledger: &mut L,
 ) -> Result<Ready, NoMemory>
     requires kept { IsStore store.old }
@@ -340,10 +343,10 @@ fn make_ready_in_part<L: RecordSink>(
 {
     let sums = store.sums();
     let gone = take_out_due(alloc, store, sessions, now)?;
-    match plan_rest(alloc, store, sessions, at, now, asked) {
+    match plan_rest(alloc, store, sessions, at, now, asked, &mut spares.frame) {
         Ok(planned) => {
             let ready = Ready { gone, planned };
-            record_or_undo(alloc, store, sums, ready, records, ledger)
+            record_or_undo(alloc, store, sums, ready, &mut spares.records, ledger)
         }
         Err(NoMemory) => {
             undo(store, gone.held, sums);
@@ -361,7 +364,7 @@ pub(crate) fn make_ready<L: RecordSink>(
     at: usize,
     now: u64,
     asked: &Asked,
-    records: &mut Text,
+    spares: &mut Spares,
     ledger: &mut L,
 ) -> Result<Ready, NoMemory>
     requires kept { IsStore store.old }
@@ -376,7 +379,7 @@ pub(crate) fn make_ready<L: RecordSink>(
     ensures unrecorded { OnErr result ((ledger.new ≡ ledger.old) ⊎ L.stays ledger.old ledger.new) }
     ensures bare { OnErr result (AreBare sessions.new.items) }
 {
-    match make_ready_in_part(alloc, store, sessions, at, now, asked, records, ledger) {
+    match make_ready_in_part(alloc, store, sessions, at, now, asked, spares, ledger) {
         Ok(ready) => Ok(ready),
         Err(NoMemory) => {
             unstage(sessions);

@@ -18,6 +18,7 @@ ghost use Rattle.tile_core.specs.Staged.{dels_of};
 
 use crate::ready::Ready;
 use crate::record_sinks::RecordSink;
+use crate::spares::KEPT_ROOM;
 use byte_text::{MAX_WORD, Name, NoMemory, Text};
 use channel_hub::{Candidates, Hub};
 use command_plans::{ChannelChange, ObjectChange, Planned};
@@ -25,9 +26,6 @@ use record_reader::{MOST_FIELDS, changes_are_recorded};
 use record_writer::{push_del, push_delchan, push_drop, push_flush, push_put, push_setchan};
 use std::alloc::Global;
 use world_model::{Channel, NameList, Object};
-
-/// The text of the records keeps its memory for the next call, where it has no more bytes than this.
-const KEPT_ROOM: usize = 65_536;
 
 /// Appends the record of the put of an object, which is read back from it. One that no request puts, as its record
 /// would be too long for one, is want of memory.

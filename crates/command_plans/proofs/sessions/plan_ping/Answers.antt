@@ -13,4 +13,4 @@ returns c =
     let cs = c.args.context.hub.now.channels in
     let pong = piece.Status (codes "PONG") ∷ [] in
     says_beside cs os c.args.context.total c.requires.kept (omega (arith, c.requires.light, c.requires.channels)) _ pong c.in_ok-say_frame.field-0
-    (answered (world_with cs os) c.args.context.now c.args.context.subs.now) (c.in_ok-say_frame.ensures pong c.in_ok-pong_frame.ensures)
+    (answered (world_with cs os) c.args.context.now c.args.context.subs.now) (c.in_ok-say_frame.ensures pong c.in_ok-frame.ensures)

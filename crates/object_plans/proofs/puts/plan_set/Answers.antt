@@ -51,7 +51,7 @@ returns-then-len-ge-MAX_OBJECTS c =
     (full xs o o.fields c.args.terms.cleared c.args.terms.seconds c.args.terms.only c.args.now r c.get-old.ensures.none c.get-old.ensures.some free c.in_ok-whole.field-0 c.deadline_after-whole.result fields c.deadline_after-whole.ensures less new le)
 
 pub plan_put-requires-clause-short : goal.plan_put-requires-clause-short
-plan_put-requires-clause-short c = subst (λ (f : Bytes). length f ≤ max_reply) (sym c.in_ok-fine_frame.ensures) (lit≤ tt)
+plan_put-requires-clause-short c = subst (λ (f : Bytes). length f ≤ max_reply) (sym c.in_ok-frame.ensures) (lit≤ tt)
 
 pub returns : goal.returns
 returns c =
@@ -71,4 +71,4 @@ returns c =
       | else-is_new-via-else-is_new b ↦
           put_over xs o o.fields c.args.terms.cleared c.args.terms.seconds c.args.terms.only c.args.now r c.get-old.ensures.none c.get-old.ensures.some free fs d fields c.deadline_after-whole.ensures less (new_is r _ c.is_none-is_new.ensures ∙ b.if-is_new.false)
     ] in
-    IfOk-weaker c.plan_put.result _ _ (λ p s. subst (λ (e : Effect). IsPlan xs e p) (sym put) s) (c.plan_put.ensures fine c.in_ok-fine_frame.ensures)
+    IfOk-weaker c.plan_put.result _ _ (λ p s. subst (λ (e : Effect). IsPlan xs e p) (sym put) s) (c.plan_put.ensures fine c.in_ok-frame.ensures)
