@@ -5,7 +5,7 @@ use Rattle.std.specs.List.{slice_set, insert, remove}
 use Rattle.byte_text.specs.Names.{Bytes, before}
 use Rattle.ordered_lists.specs.Lists.{put_in, IsHeld, IsFree}
 use Rattle.ordered_lists.specs.Ascending.{set_held, insert_free, ascends-put_in, ascends-remove}
-use Rattle.ordered_lists.specs.NameOrder.{name_trans, name_tie, name_asym, name_found, name_missing, name_left, all_names_left}
+use Rattle.ordered_lists.specs.NameOrder.{name_trans, name_tie, name_asym, name_found, name_missing, name_left}
 use Rattle.world_data.specs.declared.channels.Channel.{Channel}
 use Rattle.world_data.specs.Worlds.{channel_before, are_channels, is_named}
 
@@ -18,9 +18,6 @@ lacking = name_missing (λ (c : Channel). c.name)
 
 pub left : (name : Bytes) (xs : List Channel) (at : ℕ) → are_channels xs ≡ true → IsHeld (λ d. before d.name name) (λ d. before name d.name) xs at → filter (λ d. not (is_named name d)) xs ≡ remove xs at
 left = name_left (λ (c : Channel). c.name)
-
-pub none_left : (name : Bytes) (xs : List Channel) (at : ℕ) → are_channels xs ≡ true → IsFree (λ d. before d.name name) (λ d. before name d.name) xs at → filter (λ d. not (is_named name d)) xs ≡ xs
-none_left = all_names_left (λ (c : Channel). c.name)
 
 -- a channel of this name put at its place
 pub put_held : (c : Channel) (xs : List Channel) (at : ℕ) → IsHeld (λ d. before d.name c.name) (λ d. before c.name d.name) xs at → slice_set xs at c ≡ put_in channel_before c xs

@@ -1,14 +1,18 @@
 -- A place that halving finds among slots is one among their channels.
-use Rattle.std.proofs.Common.{◌≡◌, ◌<◌, ◌≤◌, ℕ, true, false, refl, sym, ap, ◌∙◌, List, length, get_or, arith}
-use Rattle.std.specs.Prelude.{Option, Some, None}
+use Rattle.std.proofs.Common.{◌≡◌, ◌≢◌, ◌<◌, ◌≤◌, ℕ, Bool, true, false, refl, sym, ap, ◌∙◌, List, length, get_or, arith}
+use Rattle.std.specs.Prelude.{Option, Some, None, IsSome, find, nat_eq, slice_get}
+use Rattle.std.proofs.lemmas.Bool.Decides.{nat_tests}
 use Rattle.std.specs.List.Sorted.{IsPartitionedBy, IsPartitionPoint}
+use Rattle.byte_text.specs.ListLaws.{item_at}
 use Rattle.byte_text.specs.Names.{Bytes, before, same}
 use Rattle.ordered_lists.specs.Lists.{IsHeld, IsFree}
 use Rattle.ordered_lists.specs.NameOrder.{partitioned, named_held, named_free}
 use Rattle.ordered_lists.specs.Places.{free_at_end}
+use Rattle.ordered_lists.specs.Reading.{got_at}
 use Rattle.world_data.specs.declared.channels.Channel.{Channel}
-use Rattle.world_data.specs.Worlds.{are_channels}
+use Rattle.world_data.specs.Worlds.{are_channels, is_named}
 use Rattle.channel_hub.specs.Hubs.{stands_before}
+use Rattle.channel_hub.proofs.ChannelsByName.{found, lacking}
 use Rattle.ordered_lists.specs.Slots.{Stores, as_many, stored_or}
 
 module _ (f : ℕ → Option Channel) (order : List ℕ) (xs : List Channel) (stored : Stores f order xs) (name : Bytes) where
@@ -34,22 +38,43 @@ module _ (f : ℕ → Option Channel) (order : List ℕ) (xs : List Channel) (st
         λ k d lo hi. sym (there k 0 d (omega (arith, hi, long))) ∙ parts.1 k 0 lo (omega (arith, hi, long)),
       )
 
-  module _ (at : ℕ) (bound : at ≤ length order) (parts : IsPartitionPoint (λ s. stands_before name (f s) ≡ true) (λ s. stands_before name (f s) ≡ false) order at) where
-    pub free_behind : at ≡ length order → IsFree (λ (c : Channel). before c.name name) (λ c. before name c.name) xs at
-    free_behind end =
-        let long = as_many f order xs stored in
-        free_at_end (λ (c : Channel). before c.name name) (λ c. before name c.name) xs at (omega (arith, bound, long)) (same_parts at bound parts) (omega (arith, end, long))
+-- so it is the place of the channel of the name, or the place where that would go
+module _ (name : Bytes) (xs : List Channel) (asc : are_channels xs ≡ true) (at : ℕ) (bound : at ≤ length xs)
+    (parts : IsPartitionPoint (λ (c : Channel). before c.name name ≡ true) (λ c. before c.name name ≡ false) xs at) where
+  abbrev Held : Type 0
+  Held = IsHeld (λ (c : Channel). before c.name name) (λ c. before name c.name) xs at
 
-    module _ (within : at < length order) (x : Channel) (has : f (get_or order at 0) ≡ Some x) where
-      read : x ≡ get_or xs at x
-      read = let both : Some x ≡ Some (get_or xs at x) = sym has ∙ stored_or f order xs at 0 x stored within in cc
+  abbrev Free : Type 0
+  Free = IsFree (λ (c : Channel). before c.name name) (λ c. before name c.name) xs at
 
-      pub held_there : same x.name name ≡ true → IsHeld (λ (c : Channel). before c.name name) (λ c. before name c.name) xs at
-      held_there is =
-          let long = as_many f order xs stored in
-          named_held (λ (c : Channel). c.name) name xs at (omega (arith, bound, long)) (same_parts at bound parts) x (omega (arith, within, long)) read is
+  place_is : {P : Type 0} → (Held → (c : Channel) → find (is_named name) xs ≡ Some c → P) → (Free → find (is_named name) xs ≡ None → P) → P
+  place_is {P = P} held free = by_end (nat_eq at (length xs)) refl
+    where
+      no_channel : Free → P
+      no_channel at_end = free at_end (lacking name xs at asc at_end)
 
-      pub free_there : same x.name name ≡ false → IsFree (λ (c : Channel). before c.name name) (λ c. before name c.name) xs at
-      free_there other =
-          let long = as_many f order xs stored in
-          named_free (λ (c : Channel). c.name) name xs at (omega (arith, bound, long)) (same_parts at bound parts) x (omega (arith, within, long)) read other
+      by_name : (c : Channel) → at < length xs → slice_get xs at ≡ Some c → (b : Bool) → same c.name name ≡ b → P
+      by_name c within is true n =
+          let it = named_held (λ (c : Channel). c.name) name xs at bound parts c within (sym (got_at xs at c c is)) n in
+          held it c (found name xs at c it is)
+      by_name c within is false n = no_channel (named_free (λ (c : Channel). c.name) name xs at bound parts c within (sym (got_at xs at c c is)) n)
+
+      by_end : (b : Bool) → nat_eq at (length xs) ≡ b → P
+      by_end true e =
+          let end : at ≡ length xs = grind (arith, nat_tests) in
+          no_channel (free_at_end (λ (c : Channel). before c.name name) (λ c. before name c.name) xs at bound parts end)
+      by_end false e =
+          let other : at ≢ length xs = grind (arith, nat_tests) in
+          let within : at < length xs = omega (arith, bound, other) in
+          let one = item_at xs at within in
+          by_name one.0 within one.1 (same one.0.name name) refl
+
+  pub place_held : IsSome (find (is_named name) xs) → Held
+  place_held some = place_is (λ it c is. it) (λ it none. none_some (find (is_named name) xs) none some)
+    where
+      none_some : (o : Option Channel) → o ≡ None → IsSome o → Held
+      none_some None e some = absurd (cc)
+      none_some (Some c) e some = absurd (cc)
+
+  pub place_free : find (is_named name) xs ≡ None → Free
+  place_free none = place_is (λ it c is. let both : Some c ≡ None = sym is ∙ none in absurd (cc)) (λ it e. it)

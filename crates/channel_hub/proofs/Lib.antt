@@ -1,6 +1,8 @@
 pub mod Slots
 pub mod ChannelsByName
 pub mod Halving
+pub mod Keys
+pub mod Naming
 pub mod Order
 pub mod Boxes
 pub mod NamesInOrder

@@ -14,6 +14,7 @@ use Rattle.fence_index.specs.Marks.{mark_of}
 use Rattle.fence_index.specs.Candidates.{box_if, is_concerned}
 use Rattle.fence_index.specs.Numbered.{AreBoxed, Indexed}
 use Rattle.fence_index.specs.Silence.{IsWholeWatch}
+use Rattle.channel_hub.specs.Named.{AreNamed, Named}
 
 -- the channels that are left, those that are out, in the order in which they expire, and both together, by name; the moment at which those
 -- that are out were due; and what is kept of the channel that can be put without taking memory
@@ -58,14 +59,15 @@ abbrev pub stands_before : Bytes → Option Channel → Bool
 stands_before name None = false
 stands_before name (Some c) = before c.name name
 
--- what a hub keeps: whole channels in order, an index that has each under its slot, no slot taken beside theirs, and room for the one that
--- is prepared, where so many slots and places in the order are taken, of so many
-pub record IsKept (slots : ℕ → Option Channel) (order : List ℕ) (index : Indexed) (used capacity count places : ℕ) : Type 0 where
+-- what a hub keeps: whole channels in order, an index that has each under its slot, names that lead to these slots alone, no slot taken
+-- beside theirs, and room for the one that is prepared, where so many slots and places in the order are taken, of so many
+pub record IsKept (slots : ℕ → Option Channel) (order : List ℕ) (index : Indexed) (names : Named) (used capacity count places : ℕ) : Type 0 where
   pub ordered : AreInOrder slots order
   pub boxed : AreBoxed (mark_in slots) order index.boxes
+  pub named : AreNamed slots order names.slots
   pub whole : AreWhole (channels_in slots order)
   pub taken : used ≡ count
-  pub room : is_some index.prepared ≡ true → (used < capacity) × (count < places)
+  pub room : is_some index.prepared ≡ true → (names.ready ≡ true) × (used < capacity) × (count < places)
 
 -- what a change may concern
 

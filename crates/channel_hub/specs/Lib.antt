@@ -1,3 +1,4 @@
 pub mod Hubs
 pub mod Dues
 pub mod MessageLaws
+pub mod Named

@@ -1,14 +1,15 @@
 //! Channels in slots, and a list of the slots in byte order of the channels' names.
 
-ghost use Rattle.std.specs.Prelude.{◌≡◌, ◌+◌, ◌<◌, ◌≤◌, vec_len, vec_capacity, Some, IfOk, IfErr};
+ghost use Rattle.std.specs.Prelude.{◌≡◌, ◌+◌, ◌<◌, ◌≤◌, vec_len, vec_capacity, find, Some, None, IsSome};
 ghost use Rattle.std.specs.List.{insert};
 ghost use Rattle.byte_text.specs.Names.{before};
 ghost use Rattle.ordered_lists.specs.Lists.{IsHeld, IsFree};
+ghost use Rattle.world_data.specs.Worlds.{is_named};
 ghost use Rattle.slab.specs.Slab.{ContainsKey, Updates, get, slab_len};
 ghost use Rattle.channel_hub.specs.Hubs.{AreInOrder, channels_in, stands_before};
 
 use byte_text::Name;
-use ordered_lists::{is_before, is_same};
+use ordered_lists::is_before;
 use slab::Slab;
 use std::mem;
 use world_data::Channel;
@@ -24,28 +25,20 @@ fn stands_before(slots: &Slab<Channel>, slot: usize, name: &Name) -> bool
 }
 
 /// The place of the slot of the channel of this name, or, where there is none, the place where it would go.
-pub(crate) fn place_of(slots: &Slab<Channel>, order: &[usize], name: &Name) -> Result<usize, usize>
+pub(crate) fn place_of(slots: &Slab<Channel>, order: &[usize], name: &Name) -> usize
     requires { AreInOrder (get slots.now) order.now }
-    ensures held { IfOk result
-        (λ at. IsHeld (λ c. before c.name name.now) (λ c. before name.now c.name)
-        (channels_in (get slots.now) order.now) at) }
-    ensures free { IfErr result
-        (λ at. IsFree (λ c. before c.name name.now) (λ c. before name.now c.name)
-        (channels_in (get slots.now) order.now) at) }
+    ensures held { IsSome (find (is_named name.now) (channels_in (get slots.now) order.now))
+        → IsHeld (λ c. before c.name name.now) (λ c. before name.now c.name)
+        (channels_in (get slots.now) order.now) result }
+    ensures free { find (is_named name.now) (channels_in (get slots.now) order.now) ≡ None
+        → IsFree (λ c. before c.name name.now) (λ c. before name.now c.name)
+        (channels_in (get slots.now) order.now) result }
 {
-    let at = order.partition_point(
+    order.partition_point(
         |slot: &usize| -> bool
             ensures { result ≡ stands_before name.entry.now (get slots.entry.now slot.now) }
         { stands_before(slots, *slot, name) },
-    );
-    if at == order.len() {
-        return Err(at);
-    }
-    if is_same(&slots[order[at]].name, name) {
-        Ok(at)
-    } else {
-        Err(at)
-    }
+    )
 }
 
 /// Puts a channel in the slot of another, which it gives out.

@@ -1,7 +1,8 @@
 //! All channels of a hub by name, and their marks in the index.
 //!
-//! A channel stays in its slot, and the index gives out the slot, so that one that a write may concern is read without
-//! seeking its name. The order is a list of slots; those that are named are few, and are put in order of their names. A
+//! A channel stays in its slot. The index gives out the slot, so that one that a write may concern is read without
+//! seeking its name; those that are named are few, and are put in order of their names. A name that is sought leads to
+//! the slot through a hash map. The order is a list of slots, which is halved only where a channel comes or goes. A
 //! channel is prepared before it is put, so that `put` takes no memory.
 
 ghost use Rattle.std.specs.Prelude.{◌≡◌, ◌<◌, [], true, not, length, filter, find, slice_get, Some, None, IfOk, IfNone};
@@ -16,6 +17,7 @@ ghost use Rattle.rtree.specs.Ledgers.{IsRead};
 
 use crate::candidates::{Candidates, push_of_key, push_slots};
 use crate::channel_slots::{exchange, insert_reserved, place_of};
+use crate::slots_by_name::SlotsByName;
 use byte_text::{Name, NoMemory};
 use fence_index::{FenceIndex, watch_is_whole};
 use planar_geom::BBox;
@@ -30,8 +32,10 @@ use world_data::Channel;
 pub(crate) struct IndexedChannels {
     // A channel stays in its slot until it is taken out. There is room for the channel that is prepared in the index.
     slots: Slab<Channel>,
-    // The slots of all channels, by name. There is room for one more too.
+    // The slots of all channels, in byte order of their names. There is room for one more too.
     order: Vec<usize>,
+    // The same slots, each found by its channel's name. One more can be put too.
+    names: SlotsByName,
     // Each channel under its slot.
     index: FenceIndex,
 }
@@ -41,6 +45,7 @@ impl Drop for IndexedChannels {
         let IndexedChannels {
             slots: _,
             order: _,
+            names: _,
             index: _,
         } = self;
     }
@@ -55,7 +60,7 @@ impl Model for IndexedChannels {
 
     ghost view = { λ h. record { channels = channels_in (get h.slots) h.order.items; prepared = h.index.prepared } };
 
-    ghost invariant = { λ h. IsKept (get h.slots) h.order.items h.index (slab_len h.slots) h.slots.capacity
+    ghost invariant = { λ h. IsKept (get h.slots) h.order.items h.index h.names (slab_len h.slots) h.slots.capacity
         (vec_len h.order) (vec_capacity h.order) };
 }
 
@@ -68,6 +73,7 @@ impl IndexedChannels {
         IndexedChannels {
             slots: Slab::new(alloc),
             order: Vec::new(alloc),
+            names: SlotsByName::new(alloc),
             index: FenceIndex::new(alloc),
         }
     }
@@ -82,6 +88,7 @@ impl IndexedChannels {
         if self.slots.reserve(1).is_err() || self.order.reserve(1).is_err() {
             return Err(NoMemory);
         }
+        self.names.prepare(alloc)?;
         self.index.prepare(alloc, channel)
     }
 
@@ -95,16 +102,17 @@ impl IndexedChannels {
     {
         // What the channels watch is kept whole: the law on those that no change concerns asks for it.
         watch_is_whole(&channel.fence.watch);
-        match place_of(&self.slots, self.order.as_slice(), &channel.name) {
-            Ok(at) => {
-                let slot = self.order[at];
+        match self.names.get(&channel.name) {
+            Some(slot) => {
                 self.index.take_out(&self.slots[slot], slot);
                 self.index.put(&channel, slot);
                 Some(exchange(&mut self.slots, slot, channel))
             }
-            Err(at) => {
+            None => {
+                let at = place_of(&self.slots, self.order.as_slice(), &channel.name);
                 let slot = self.slots.vacant_key();
                 self.index.put(&channel, slot);
+                self.names.put(&channel.name, slot);
                 self.slots.insert_reserved(channel);
                 insert_reserved(&mut self.order, at, slot);
                 None
@@ -119,9 +127,12 @@ impl IndexedChannels {
         ensures taken { result ≡ find (is_named name.now) self.old.channels }
         ensures prepared { self.new.prepared ≡ self.old.prepared }
     {
-        match place_of(&self.slots, self.order.as_slice(), name) {
-            Ok(at) => Some(self.remove(at)),
-            Err(_) => None,
+        match self.names.get(name) {
+            Some(_) => {
+                let at = place_of(&self.slots, self.order.as_slice(), name);
+                Some(self.remove(at))
+            }
+            None => None,
         }
     }
 
@@ -135,6 +146,7 @@ impl IndexedChannels {
         let slot = self.order.remove(at);
         let channel = self.slots.remove(slot);
         self.index.take_out(&channel, slot);
+        self.names.take_out(&channel.name);
         channel
     }
 
@@ -145,6 +157,7 @@ impl IndexedChannels {
     {
         self.slots.clear();
         self.order.clear();
+        self.names.clear();
         self.index.clear();
     }
 
@@ -153,9 +166,9 @@ impl IndexedChannels {
         ensures none { IfNone result (find (is_named name.now) self.now.channels ≡ None) }
         ensures some { IfSome result (λ c. find (is_named name.now) self.now.channels ≡ Some c.now) }
     {
-        match place_of(&self.slots, self.order.as_slice(), name) {
-            Ok(at) => Some(self.at(at)),
-            Err(_) => None,
+        match self.names.get(name) {
+            Some(slot) => Some(&self.slots[slot]),
+            None => None,
         }
     }
 

@@ -6,6 +6,7 @@ mod channel_slots;
 mod dues;
 mod hubs;
 mod indexed_channels;
+mod slots_by_name;
 
 pub use candidates::Candidates;
 pub use hubs::Hub;

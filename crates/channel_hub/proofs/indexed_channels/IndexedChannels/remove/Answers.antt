@@ -1,10 +1,14 @@
-use Rattle.std.proofs.Common.{sym, subst, ℕ, List, arith}
+use Rattle.std.proofs.Common.{◌∙◌, sym, ap, subst, ℕ, List, arith}
+use Rattle.std.specs.Prelude.{Option, None, if◌then◌else◌}
 use Rattle.std.specs.List.{remove}
 use Rattle.ordered_lists.specs.Reading.{stands_at}
+use Rattle.byte_text.specs.Names.{same}
 use Rattle.slab.specs.Slab.{get}
 use Rattle.fence_index.specs.Numbered.{AreBoxed}
 use Rattle.channel_hub.specs.Hubs.{AreInOrder, AreWhole, channels_in, mark_in}
+use Rattle.channel_hub.specs.Named.{AreNamed}
 use Rattle.channel_hub.proofs.Boxes.{boxed_remove, is_among}
+use Rattle.channel_hub.proofs.Naming.{slots_remove}
 use Rattle.channel_hub.proofs.Order.{channels_removed, order_remove, seat, within_order}
 use Rattle.ordered_lists.specs.Slots.{has_at}
 use Rattle.channel_hub.proofs.Whole.{whole_removed}
@@ -36,16 +40,24 @@ invariant_of-self c =
     let others = c.remove-channel.ensures.updates.others in
     let whole : AreWhole (channels_in g (remove order at)) = rw (channels_removed f order kept.ordered g slot others at is) (whole_removed (channels_in f order) at kept.whole) in
     let boxed = boxed_remove f g slot others order c.take_out.new.self.boxes c.self.inside.index.boxes at c.remove-channel.result is kept.ordered.apart c.remove-channel.ensures.value c.take_out.ensures.boxes kept.boxed in
+    let xs = channels_in f order in
+    let channel = c.remove-channel.result in
+    let under = c.take_out-2.new.self.slots in
+    let named : AreNamed g (remove order at) under = λ n.
+    c.take_out-2.ensures.slots n ∙ ap (λ (o : Option ℕ). if same channel.name n then None else o) (kept.named n)
+    ∙ sym (slots_remove f g slot others channel c.remove-channel.ensures.value order xs kept.ordered.stored kept.ordered.apart kept.ordered.by_name at is n) in
     let items = sym c.remove-slot.ensures.items in
     record {
       ordered = subst (AreInOrder g) items (order_remove f order kept.ordered g slot others at is);
       boxed = subst (λ (l : List ℕ). AreBoxed (mark_in g) l c.take_out.new.self.boxes) items boxed;
+      named = subst (λ (l : List ℕ). AreNamed g l under) items named;
       whole = subst (λ (l : List ℕ). AreWhole (channels_in g l)) items whole;
       taken = omega (arith, kept.taken, c.remove-channel.ensures.len, c.remove-slot.ensures.len);
       room = λ some.
           let room = kept.room (rw (← c.take_out.ensures.prepared) some) in (
-            omega (arith, room.0, c.remove-channel.ensures.len, c.remove-channel.ensures.capacity),
-            omega (arith, room.1, c.remove-slot.ensures.len, c.remove-slot.ensures.capacity),
+            c.take_out-2.ensures.ready room.0,
+            omega (arith, room.1, c.remove-channel.ensures.len, c.remove-channel.ensures.capacity),
+            omega (arith, room.2, c.remove-slot.ensures.len, c.remove-slot.ensures.capacity),
           );
     }
 
