@@ -1,5 +1,5 @@
 -- The changes that an event makes, in order.
-use Rattle.std.specs.Prelude.{◌≡◌, ℕ, ◌+◌, max, Bool, true, false, List, [], ◌∷◌, ◌++◌, map, Option, Some, None, if◌then◌else◌}
+use Rattle.std.specs.Prelude.{◌≡◌, ℕ, ◌+◌, max, List, [], ◌∷◌, ◌++◌, map, Option, Some, None, if◌then◌else◌}
 use Rattle.world_data.specs.Records.{record_len}
 use Rattle.world_model.specs.Commands.{reads}
 use Rattle.fence_model.specs.Writes.{Write, due_writes}
