@@ -1,11 +1,11 @@
 -- Of each name the last value counts: the fields that are left, and the names that are written 0.
-use Rattle.std.proofs.Common.{◌≡◌, ℕ, zero, suc, ◌<◌, ◌+◌, Bool, true, false, not, refl, sym, ◌∙◌, ap, List, [], ◌∷◌, ◌++◌, take, length, get_or, arith}
+use Rattle.std.proofs.Common.{◌≡◌, ℕ, zero, suc, ◌<◌, ◌+◌, Bool, true, false, not, refl, sym, ◌∙◌, ap, List, [], ◌∷◌, ◌++◌, take, length, arith}
 use Rattle.std.specs.Prelude.{pos, filter, map, Some, slice_get, IfSome}
 use Rattle.std.proofs.lemmas.List.{take_more, map-append}
 use Rattle.std.proofs.lemmas.Option.{get_or_from_slice_get}
 use Rattle.byte_text.specs.Names.{Bytes}
 use Rattle.ordered_lists.specs.Lists.{put_in}
-use Rattle.world_data.specs.Filters.{Field, field_before, is_absent, last_values, with_values}
+use Rattle.world_data.specs.Filters.{Field, field_before, is_absent, is_no_value, last_values, with_values}
 use Rattle.world_data.specs.FieldLaws.{one_given}
 use Rattle.world_data.specs.declared.values.Value.{Value}
 use Rattle.world_data.specs.declared.values.Value.TheVariants.{Whole}
@@ -16,7 +16,7 @@ abbrev is_kept : Field → Bool
 is_kept f = not (is_absent f)
 
 -- one more field
-pub value_more : (given : List Field) (f : Field) → with_values (with_values [] given) (f ∷ []) ≡ with_values [] (given ++ f ∷ [])
+value_more : (given : List Field) (f : Field) → with_values (with_values [] given) (f ∷ []) ≡ with_values [] (given ++ f ∷ [])
 value_more given f = one_given [] given f refl
 
 -- marks
@@ -58,16 +58,16 @@ names_cleared given = ap (λ (l : List Field). map (λ f. f.0) (filter is_kept l
 
 -- one more of the fields that are given
 
-module _ (given : List Field) (i : ℕ) (f : Field) (within : i < length given) (is : f ≡ get_or given i f) where
-  taken : take (i + 1) given ≡ take i given ++ f ∷ []
-  taken = take_more given i f within ∙ ap (λ (x : Field). take i given ++ x ∷ []) (sym is)
+pub field_more : (given : List Field) (f : Field) (fields new : List Field) → fields ≡ with_values [] given → new ≡ with_values fields (f ∷ []) → new ≡ with_values [] (given ++ f ∷ [])
+field_more given f fields new s e = e ∙ ap (λ (l : List Field). with_values l (f ∷ [])) s ∙ value_more given f
 
-  pub field_more : (fields new : List Field) → fields ≡ with_values [] (take i given) → new ≡ with_values fields (f ∷ []) → new ≡ with_values [] (take (i + 1) given)
-  field_more fields new s e = e ∙ ap (λ (l : List Field). with_values l (f ∷ [])) s ∙ value_more (take i given) f ∙ ap (with_values []) (sym taken)
+pub mark_more : (given : List Field) (f : Field) (zeros new : List Field) → zeros ≡ with_values [] (map marked given) → new ≡ with_values zeros (marked f ∷ []) → new ≡ with_values [] (map marked (given ++ f ∷ []))
+mark_more given f zeros new s e = field_more (map marked given) (marked f) zeros new s e ∙ ap (with_values []) (sym (map-append marked given (f ∷ [])))
 
-  pub mark_more : (zeros new : List Field) → zeros ≡ with_values [] (map marked (take i given)) → new ≡ with_values zeros (marked f ∷ []) → new ≡ with_values [] (map marked (take (i + 1) given))
-  mark_more zeros new s e = e ∙ ap (λ (l : List Field). with_values l (marked f ∷ [])) s ∙ value_more (map marked (take i given)) (marked f)
-      ∙ ap (with_values []) (sym (ap (map marked) taken ∙ map-append marked (take i given) (f ∷ [])))
+-- a name that is not written 0 gets no mark, and there is none to take out
+pub no_mark : (zeros : List Field) (name : Bytes) (v : Value) → length zeros ≡ 0 → is_no_value v ≡ false → zeros ≡ with_values zeros ((name, mark_of v) ∷ [])
+no_mark [] name v none e = rw e refl
+no_mark (z ∷ zeros) name v none e = absurd (omega (arith, none))
 
 some_at : (fields : List Field) (at : ℕ) → at < length fields → (f : Field) × (slice_get fields at ≡ Some f)
 some_at [] at within = absurd (omega arith)

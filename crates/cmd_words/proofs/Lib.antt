@@ -13,6 +13,7 @@ pub mod SetWords
 pub mod FieldValues
 pub mod Coordinates
 pub mod NoNumbers
+pub mod NumberWords
 pub mod Seconds
 pub mod FieldLists
 pub mod ValueLists

@@ -13,20 +13,40 @@ use world_model::{Fields, NameList, Value};
 /// The fields whose value is not 0, and the names of those whose value is 0, both in byte order of the names.
 pub(crate) fn fields_of(
     alloc: Global,
-    given: &[(Name, Value)],
+    given: Vec<(Name, Value)>,
 ) -> Result<(Fields, NameList), CommandFault>
-    ensures ok { IfOk result (λ r. (r.0 ≡ nonzero_of given.now) × (r.1 ≡ cleared_of given.now)) }
+    ensures ok { IfOk result (λ r. (r.0 ≡ nonzero_of given.items) × (r.1 ≡ cleared_of given.items)) }
     ensures err { IfErr result (λ why. why ≡ CommandFault.Memory) }
 {
     let mut fields = Fields::new(alloc);
     // The names that are written 0, each with the value 1: a later value of another kind takes the name out again.
     let mut zeros = Fields::new(alloc);
-    for field in given {
-        set(alloc, &mut fields, &field.0, &field.1)?;
-        set(alloc, &mut zeros, &field.0, &mark(&field.1))?;
+    for (name, value) in given {
+        set_mark(alloc, &mut zeros, &name, &value)?;
+        set(&mut fields, name, value)?;
     }
     let cleared = names_of(alloc, &zeros)?;
     Ok((fields, cleared))
+}
+
+// Marks the name as one that is written this value. Where no name has a mark and this one gets none, nothing is copied.
+#[tactic(auto, using(crate::proofs::FieldValues::no_mark))]
+fn set_mark(
+    alloc: Global,
+    zeros: &mut Fields,
+    name: &Name,
+    value: &Value,
+) -> Result<(), CommandFault>
+    ensures ok { OnOk result (zeros.new ≡ with_values zeros.old ((name.now, mark_of value.now) ∷ [])) }
+    ensures err { IfErr result (λ why. why ≡ CommandFault.Memory) }
+{
+    if zeros.len() == 0 && !value.is_none() {
+        return Ok(());
+    }
+    let Ok(name) = name.copy(alloc) else {
+        return Err(CommandFault::Memory);
+    };
+    set(zeros, name, mark(value))
 }
 
 // What marks a field of this value: 1 where no field has it, and 0 otherwise.
@@ -41,16 +61,10 @@ fn mark(value: &Value) -> Value
 }
 
 // Gives the field of this name the value.
-fn set(alloc: Global, fields: &mut Fields, name: &Name, value: &Value) -> Result<(), CommandFault>
-    ensures ok { OnOk result (fields.new ≡ with_values fields.old ((name.now, value.now) ∷ [])) }
+fn set(fields: &mut Fields, name: Name, value: Value) -> Result<(), CommandFault>
+    ensures ok { OnOk result (fields.new ≡ with_values fields.old ((name, value) ∷ [])) }
     ensures err { IfErr result (λ why. why ≡ CommandFault.Memory) }
 {
-    let Ok(name) = name.copy(alloc) else {
-        return Err(CommandFault::Memory);
-    };
-    let Ok(value) = value.copy(alloc) else {
-        return Err(CommandFault::Memory);
-    };
     match fields.set(name, value) {
         Ok(()) => Ok(()),
         Err(_) => Err(CommandFault::Memory),

@@ -55,12 +55,19 @@ pub(crate) fn read_place(reader: &mut Reader) -> Result<(Text, Shape), CommandFa
     }
 }
 
+// The bytes of the longest text that is stored for a point: 30 before the position, two coordinates of up to 11 bytes
+// with `[`, `,` and `]`, and the `}`. Usual positions are a few digits shorter, and an allocator mostly gives all of
+// them the same room: so the digits are not counted. (A text that grows to the position would keep room for 60 bytes.)
+const POINT_ROOM: usize = 30 + 25 + 1;
+
 // The text and shape of a point.
 fn point_object(alloc: Global, at: Pt) -> Result<(Text, Shape), CommandFault>
     ensures ok { IfOk result (λ t. t ≡ (point_text at, Spot at ∷ [])) }
     ensures err { IfErr result (λ why. why ≡ CommandFault.Memory) }
 {
-    let mut text = Text::new(alloc);
+    let Ok(mut text) = Text::with_room(alloc, POINT_ROOM) else {
+        return Err(CommandFault::Memory);
+    };
     let Ok(()) = push_point(&mut text, at) else {
         return Err(CommandFault::Memory);
     };

@@ -107,7 +107,7 @@ fn fset_command(reader: &mut Reader) -> Result<Command, CommandFault>
 {
     let (key, id) = reader.key_and_id()?;
     let given = read_fields(reader)?;
-    let (fields, cleared) = fields_of(reader.alloc(), given.as_slice())?;
+    let (fields, cleared) = fields_of(reader.alloc(), given)?;
     Ok(Command::Object(ObjectCommand::Fset {
         key,
         id,

@@ -42,7 +42,7 @@ fn put_command(
         seconds,
         only,
     } = options;
-    let (fields, cleared) = fields_of(alloc, fields.as_slice())?;
+    let (fields, cleared) = fields_of(alloc, fields)?;
     Ok(Command::Object(ObjectCommand::Set {
         key,
         id,

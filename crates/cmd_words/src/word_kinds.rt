@@ -1,8 +1,9 @@
 //! The kinds of word that stand in commands, each read from one word.
 
-ghost use Rattle.std.specs.Prelude.{◌≡◌, ◌==◌, ◌≤◌, ◌≤ℤ◌, pos, length, IfOk};
+ghost use Rattle.std.specs.Prelude.{◌≡◌, ◌==◌, ◌≤◌, ◌≤ℤ◌, pos, length, IfOk, None};
 ghost use Rattle.std.specs.List.{list_all, position_or_len};
 ghost use Rattle.world_model.specs.Grammar.{a_word, a_coordinate, a_geojson};
+ghost use Rattle.world_data.specs.Filters.{number_in};
 ghost use Rattle.world_data.specs.Limits.{max_coord, max_meters};
 ghost use Rattle.byte_text.specs.Numbers.{natural_within};
 ghost use Rattle.byte_text.specs.Streams.{is_digit as is_decimal_digit};
@@ -43,12 +44,23 @@ pub(crate) fn read_glob(alloc: Global, word: &[u8]) -> Result<Name, CommandFault
     }
 }
 
-/// The value of a field that the word is: a number, or any other name as a text.
+/// The value of a field that the word is: a number, or any other name as a text. Only a text takes memory.
 pub(crate) fn read_value(alloc: Global, word: &[u8]) -> Result<Value, CommandFault>
     ensures { IsOne a_word value_of_word word.now result }
 {
+    match read_i64(word) {
+        Ok(number) => Ok(Value::Whole(number)),
+        Err(_) => read_text(alloc, word),
+    }
+}
+
+// The text that the word is, which writes no number.
+fn read_text(alloc: Global, word: &[u8]) -> Result<Value, CommandFault>
+    requires { number_in word.now ≡ None }
+    ensures { IsOne a_word value_of_word word.now result }
+{
     match read_name(alloc, word) {
-        Ok(text) => Ok(Value::of(text)),
+        Ok(text) => Ok(Value::Word(text)),
         Err(why) => Err(why),
     }
 }

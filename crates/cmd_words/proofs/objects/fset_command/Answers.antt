@@ -17,5 +17,5 @@ returns-in_err-given c =
 
 pub returns : goal.returns
 returns c = λ h.
-    let values = rw c.as_slice.ensures.value at c.in_ok-fields.ensures.ok in
+    let values = c.in_ok-fields.ensures.ok in
     rw (values.0, values.1) (fields_set c.args.reader.now c.key_and_id.new.self _ c.in_ok-key.ensures h c.in_ok-given.given.items c.in_ok-given.ensures.ok)
