@@ -15,7 +15,7 @@ allocations() {
 
 printf '%-6s %8s %10s %12s %12s\n' kind ids answered nanoseconds allocations
 for ids in 1000 100000; do
-    for kind in set get ping; do
+    for kind in set fields get ping; do
         each=-
         if command -v valgrind >/dev/null && [ "$ids" -le 1000 ]; then
             each=$((($(allocations "$kind" "$ids" 2000) - $(allocations "$kind" "$ids" 1000)) / 1000))

@@ -8,3 +8,4 @@ mod Sweeping
 mod Reading
 mod There
 mod BesideLaws
+mod Covering

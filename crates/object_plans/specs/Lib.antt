@@ -10,3 +10,4 @@ pub mod Weights
 pub mod Answering
 pub mod ListingLaws
 pub mod ChannelWeights
+pub mod Covered

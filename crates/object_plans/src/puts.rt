@@ -1,6 +1,6 @@
 //! SET: an object is put, with fields and a deadline.
 
-ghost use Rattle.std.specs.Prelude.{◌≡◌, ◌≤◌, ◌+◌, ◌^◌, ◌∷◌, List, Option, Some, None, [], is_some, option_map, length};
+ghost use Rattle.std.specs.Prelude.{◌≡◌, ◌≤◌, ◌+◌, ◌^◌, ◌∷◌, List, Option, Some, None, [], is_some, length};
 ghost use Rattle.std.specs.Prelude.{find, IfOk, IfSome, IfNone};
 ghost use Rattle.byte_text.specs.Replies.{frame_text};
 ghost use Rattle.byte_text.specs.declared.replies.Piece.{Piece};
@@ -10,7 +10,7 @@ ghost use Rattle.world_data.specs.Worlds.{object_before, is_at};
 ghost use Rattle.world_data.specs.Records.{weight};
 ghost use Rattle.fence_model.specs.Writes.{silent};
 ghost use Rattle.world_data.specs.declared.worlds.Change.TheVariants as change;
-ghost use Rattle.world_model.specs.Effects.{effect, changes, deadline_after, fields_of, is_kept_back};
+ghost use Rattle.world_model.specs.Effects.{effect, changes, deadline_after, is_kept_back};
 ghost use Rattle.world_model.specs.declared.commands.Command.TheVariants as command;
 ghost use Rattle.world_model.specs.declared.object_commands.ObjectCommand.TheVariants as of_object;
 ghost use Rattle.world_data.specs.declared.objects.Object.{Object};
@@ -21,7 +21,7 @@ ghost use Rattle.record_writer.specs.Lengths.{HasFewFields, len_of};
 ghost use Rattle.object_plans.specs.Plans.{IsPlan, put_or_full};
 
 use crate::answers::{say_frame, say_refusal};
-use crate::fields::with_values;
+use crate::fields::whole_fields;
 use crate::frames::fine_frame_in;
 use crate::moves::ObjectChange;
 use crate::plans::Plan;
@@ -30,6 +30,7 @@ use keyspace::Keyspace;
 use record_writer::put_len;
 use reply_text::null_frame;
 use std::alloc::Global;
+use std::mem;
 use world_data::{MAX_FIELDS, MAX_OBJECTS, MAX_WEIGHT};
 use world_model::{Fields, NameList, Object, Only, Refusal};
 
@@ -143,16 +144,6 @@ pub fn deadline_after(now: u64, seconds: Option<u32>) -> Option<u64>
     }
 }
 
-// The fields of the object that stands there, if one does.
-fn fields_of(alloc: Global, old: Option<&Object>) -> Result<Fields, NoMemory>
-    ensures { IfOk result (λ fields. fields ≡ fields_of (option_map (λ o. o.now) old.entry)) }
-{
-    match old {
-        Some(object) => object.fields.copy(alloc),
-        None => Ok(Fields::new(alloc)),
-    }
-}
-
 /// How a SET puts its object: the names of fields that are written 0, after how many seconds the object expires, and
 /// whether it is done for an object that is there, or for one that is not.
 pub(crate) struct Terms {
@@ -194,9 +185,9 @@ pub(crate) fn plan_set(
     if keeps_back(terms.only, !is_new) {
         return say_frame(alloc, total, null_frame(alloc)?);
     }
-    let fields = fields_of(alloc, old)?;
     let mut whole = object;
-    whole.fields = with_values(alloc, fields, &whole.fields, &terms.cleared)?;
+    let given = mem::replace(&mut whole.fields, Fields::new(alloc));
+    whole.fields = whole_fields(alloc, old, given, &terms.cleared)?;
     whole.deadline = deadline_after(now, terms.seconds);
     if whole.fields.len() > MAX_FIELDS {
         return say_refusal(alloc, total, Refusal::TooManyFields);

@@ -6,7 +6,7 @@ use Rattle.byte_text.specs.Replies.{fine}
 use Rattle.world_data.specs.Limits.{max_fields, max_objects, max_reply}
 use Rattle.world_data.specs.Filters.{Field, with_values}
 use Rattle.world_model.specs.Replies.{null}
-use Rattle.world_model.specs.Effects.{Effect, given_and_cleared, is_kept_back}
+use Rattle.world_model.specs.Effects.{Effect, fields_of, given_and_cleared, is_kept_back}
 use Rattle.world_data.specs.declared.objects.Object.{Object}
 use Rattle.world_model.specs.Refusals.{refusal_reply}
 use Rattle.world_model.specs.declared.faults.Refusal.TheVariants as refusal
@@ -32,7 +32,7 @@ returns-then-len-gt-MAX_FIELDS c =
     let o = c.args.object in
     let r = c.get-old.result in
     let free : is_kept_back c.args.terms.only (option_map (λ (o : Bor Object). o.now) r) ≡ false = sym (c.keeps_back.ensures _ (sym c.is_none-is_new.ensures ∙ is_there r)) ∙ c.if-keeps_back.false in
-    let fields = c.in_ok-whole.ensures ∙ ap (λ (fs : List Field). with_values fs (given_and_cleared o.fields c.args.terms.cleared)) c.in_ok-fields.ensures in
+    let fields = c.in_ok-whole.ensures ∙ ap (λ (fs : List Field). with_values (fields_of (option_map (λ (o : Bor Object). o.now) r)) (given_and_cleared fs c.args.terms.cleared)) c.replace-given.ensures.value in
     let more : max_fields < length c.in_ok-whole.field-0 = omega (arith, c.if-len-gt-MAX_FIELDS.true, c.len.ensures.count) in
     answers xs c.args.total c.requires.kept _ (refusal_reply refusal.TooManyFields) _ refl c.say_refusal.ensures _
     (many xs o o.fields c.args.terms.cleared c.args.terms.seconds c.args.terms.only c.args.now r c.get-old.ensures.none c.get-old.ensures.some free c.in_ok-whole.field-0 c.deadline_after-whole.result fields c.deadline_after-whole.ensures more)
@@ -43,7 +43,7 @@ returns-then-len-ge-MAX_OBJECTS c =
     let o = c.args.object in
     let r = c.get-old.result in
     let free : is_kept_back c.args.terms.only (option_map (λ (o : Bor Object). o.now) r) ≡ false = sym (c.keeps_back.ensures _ (sym c.is_none-is_new.ensures ∙ is_there r)) ∙ c.if-keeps_back.false in
-    let fields = c.in_ok-whole.ensures ∙ ap (λ (fs : List Field). with_values fs (given_and_cleared o.fields c.args.terms.cleared)) c.in_ok-fields.ensures in
+    let fields = c.in_ok-whole.ensures ∙ ap (λ (fs : List Field). with_values (fields_of (option_map (λ (o : Bor Object). o.now) r)) (given_and_cleared fs c.args.terms.cleared)) c.replace-given.ensures.value in
     let less : length c.in_ok-whole.field-0 ≤ max_fields = omega (arith, c.if-len-gt-MAX_FIELDS.false, c.len.ensures.count) in
     let new : is_none r ≡ true = new_is r _ c.is_none-is_new.ensures ∙ c.if-is_new.true in
     let le : max_objects ≤ length xs = omega (arith, c.if-len-ge-MAX_OBJECTS.true, c.len-then-is_new.ensures.count) in
@@ -62,7 +62,7 @@ returns c =
     let fs = c.in_ok-whole.field-0 in
     let d = c.deadline_after-whole.result in
     let free : is_kept_back c.args.terms.only (option_map (λ (o : Bor Object). o.now) r) ≡ false = sym (c.keeps_back.ensures _ (sym c.is_none-is_new.ensures ∙ is_there r)) ∙ c.if-keeps_back.false in
-    let fields = c.in_ok-whole.ensures ∙ ap (λ (fs : List Field). with_values fs (given_and_cleared o.fields c.args.terms.cleared)) c.in_ok-fields.ensures in
+    let fields = c.in_ok-whole.ensures ∙ ap (λ (fs : List Field). with_values (fields_of (option_map (λ (o : Bor Object). o.now) r)) (given_and_cleared fs c.args.terms.cleared)) c.replace-given.ensures.value in
     let less : length fs ≤ max_fields = omega (arith, c.if-len-gt-MAX_FIELDS.false, c.len.ensures.count) in
     let whole : Object = record { key = o.key; id = o.id; text = o.text; shape = o.shape; fields = fs; deadline = d } in
     let put : setting xs o o.fields c.args.terms.cleared c.args.terms.seconds c.args.terms.only c.args.now r c.get-old.ensures.none c.get-old.ensures.some ≡ put_or_full w whole fine true = elim c.else-is_new.branch [
