@@ -145,8 +145,8 @@ fn plan_words(
 }
 
 /// What is asked will do this in its context: a request what its words say, and the fault that broke a session's
-/// protocol ends the session. The steps count the nodes of trees that are visited. The frame of a reply may stand in the
-/// memory of `spare`, a text whose bytes are not needed any more. It fails for want of memory alone.
+/// protocol ends the session. The steps count the nodes of trees that are visited. The frame of a reply may stand in
+/// the memory of `spare`, a text whose bytes are not needed any more. It fails for want of memory alone.
 pub fn plan_asked(
     alloc: Global,
     context: Context<'_>,

@@ -80,8 +80,8 @@ fn are_whole(fields: &Fields, given: &Fields, cleared: &NameList) -> bool
     are_given(fields, given)
 }
 
-// The fields with these values given, and with those of the names in `cleared` taken away. No field is copied where each
-// is given another value, as most who write fields do.
+// The fields with these values given, and with those of the names in `cleared` taken away. None is copied where each is
+// given another value, as by those who write the same fields again and again.
 fn fields_after(
     alloc: Global,
     fields: &Fields,

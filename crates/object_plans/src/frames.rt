@@ -1,5 +1,5 @@
-//! Frames in memory that served one before: a frame is copied into the queue of its session, and the memory that it stood
-//! in serves the next one.
+//! Frames in memory that served one before: a frame is copied into the queue of its session, and the memory in which it
+//! stood serves the next one.
 
 ghost use Rattle.std.specs.Prelude.{◌≡◌, [], IfOk};
 ghost use Rattle.byte_text.specs.Replies.{bulk, fine, frame_text};

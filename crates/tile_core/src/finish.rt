@@ -182,8 +182,8 @@ pub(crate) fn let_go(store: &mut Store, held: Vec<Object>)
     store.hub.let_go();
 }
 
-/// Places all that is staged, does what was made ready, and answers the session at the place. It takes no memory; that of
-/// the reply's frame is kept in a spare text. The bytes of the records of all changes are answered.
+/// Places all that is staged, does what was made ready, and answers the session at the place. It takes no memory; that
+/// of the reply's frame is kept in a spare text. The bytes of the records of all changes are answered.
 pub(crate) fn complete(
     store: &mut Store,
     sessions: &mut Vec<Session>,
