@@ -6,7 +6,9 @@ use std::io;
 use std::time::{Clock, Instant};
 
 // The words of two number fields, and of a point, in a SET.
-const FIELDS: &str = "$5\r\nFIELD\r\n$5\r\nspeed\r\n$2\r\n90\r\n$5\r\nFIELD\r\n$4\r\nload\r\n$3\r\n750\r\n";
+const FIELDS: &str =
+    "$5\r\nFIELD\r\n$5\r\nspeed\r\n$2\r\n90\r\n$5\r\nFIELD\r\n$4\r\nload\r\n$3\r\n750\r\n";
+
 const POINT: &str = "$5\r\nPOINT\r\n$2\r\n33\r\n$3\r\n112\r\n";
 
 // The text of one request about an id.
@@ -15,14 +17,11 @@ fn push_text(alloc: Global, all: &mut Vec<u8>, kind: &str, id: u64) -> io::Resul
     let text = match kind {
         "set" => format!(in alloc;
             "*6\r\n$3\r\nSET\r\n$5\r\nfleet\r\n$17\r\n{}\r\n{}",
-            name,
-            POINT
+            name, POINT
         )?,
         "fields" => format!(in alloc;
             "*12\r\n$3\r\nSET\r\n$5\r\nfleet\r\n$17\r\n{}\r\n{}{}",
-            name,
-            FIELDS,
-            POINT
+            name, FIELDS, POINT
         )?,
         "get" => format!(in alloc; "*3\r\n$3\r\nGET\r\n$5\r\nfleet\r\n$17\r\n{}\r\n", name)?,
         _ => format!(in alloc; "*1\r\n$4\r\nPING\r\n")?,

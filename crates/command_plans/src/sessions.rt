@@ -26,11 +26,7 @@ fn pong_frame_in(alloc: Global, spare: &mut Text) -> Result<Text, NoMemory>
 }
 
 // What PING will do.
-fn plan_ping(
-    alloc: Global,
-    context: Context<'_>,
-    spare: &mut Text,
-) -> Result<Planned, NoMemory>
+fn plan_ping(alloc: Global, context: Context<'_>, spare: &mut Text) -> Result<Planned, NoMemory>
     requires { IsContext context }
     ensures { IfOk result (λ p. IsPlannedIn context.entry
         (effect (kept_world context.entry) context.entry.now context.entry.subs.now

@@ -34,11 +34,7 @@ pub(crate) fn fine_frame_in(alloc: Global, spare: &mut Text) -> Result<Text, NoM
 }
 
 /// The frame of a text, as a bulk string, in the memory of a text that is left without any.
-pub(crate) fn text_frame_in(
-    alloc: Global,
-    spare: &mut Text,
-    text: &[u8],
-) -> Result<Text, NoMemory>
+pub(crate) fn text_frame_in(alloc: Global, spare: &mut Text, text: &[u8]) -> Result<Text, NoMemory>
     ensures { IfOk result (λ frame. frame ≡ frame_text (bulk text.now)) }
 {
     let mut frame = emptied(alloc, spare);

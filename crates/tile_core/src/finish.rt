@@ -115,12 +115,7 @@ fn finish_subscribing(caller: &mut Session, confirmed: Confirmed)
 }
 
 // Does what was planned for a session, and answers it. The bytes of the records are answered.
-fn finish(
-    store: &mut Store,
-    caller: &mut Session,
-    planned: Planned,
-    spare: &mut Text,
-) -> u64
+fn finish(store: &mut Store, caller: &mut Session, planned: Planned, spare: &mut Text) -> u64
     requires plan { IsSoundAnswer planned }
     requires room { HasRoomFor store.old planned }
     requires few { length (objects_in store.old.objects) < 2 ^ 32 }
