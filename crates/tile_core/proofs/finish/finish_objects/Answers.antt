@@ -9,6 +9,6 @@ pub returns-then-plan-clause-caller : goal.returns-then-plan-clause-caller
 returns-then-plan-clause-caller c =
     c.close.ensures.same ∙ ap ending (c.place_replies.ensures.same (c.args.plan.frame ∷ []) c.requires.replies) ∙ ap (λ (b : Bool). ending_if b (placed c.args.plan.frame (session_of c.args.caller.now))) (sym c.if-plan.true)
 
-pub returns-clause-caller : goal.returns-clause-caller
-returns-clause-caller c =
+pub returns-else-plan-clause-caller : goal.returns-else-plan-clause-caller
+returns-else-plan-clause-caller c =
     c.place_replies.ensures.same (c.args.plan.frame ∷ []) c.requires.replies ∙ ap (λ (b : Bool). ending_if b (placed c.args.plan.frame (session_of c.args.caller.now))) (sym c.if-plan.false)
