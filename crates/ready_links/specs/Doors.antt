@@ -1,0 +1,31 @@
+-- What a door shows, and what one call of it does.
+use Rattle.std.specs.Prelude.{◌≡◌, ◌≤◌, ℕ, List, Option, Some, Result, Ok, Err}
+use Rattle.outside.specs.Causes.{Rose, next_count}
+use Rattle.ready_links.specs.Links.{LinkState, IsNew}
+use Rattle.ready_links.specs.declared.doors.Caller.{Caller}
+use Rattle.ready_links.specs.declared.doors.Caller.TheVariants as caller
+
+-- at which address it was opened last, if it was; how many callers came, how often it told that none will come, and how often it failed
+pub record DoorState : Type 0 where
+  pub addr : Option (List ℕ)
+  pub links : ℕ
+  pub ends : ℕ
+  pub faults : ℕ
+
+-- a call failed: the count of failures rose, and nothing else changed
+pub record DoorFails (old new : DoorState) : Type 0 where
+  pub rose : Rose old.faults new.faults
+  pub later : old.faults ≤ new.faults
+  pub same : new ≡ record old { faults = new.faults }
+
+-- it was opened at this address
+abbrev pub Opens : {T E : Type 0} → DoorState → DoorState → Result T E → List ℕ → Type 0
+Opens old new (Ok v) addr = new ≡ record old { addr = Some addr }
+Opens old new (Err e) addr = DoorFails old new
+
+-- a link to the next caller, who bears the number of those before; or nobody yet, and nothing changed; or nobody any more
+abbrev pub Accepts : {K E : Type 0} → (K → LinkState) → DoorState → DoorState → Result (Caller K) E → Type 0
+Accepts shows old new (Ok (caller.Came link)) = IsNew old.links (shows link) × (new ≡ record old { links = next_count old.links })
+Accepts shows old new (Ok caller.Later) = new ≡ old
+Accepts shows old new (Ok caller.Over) = new ≡ record old { ends = next_count old.ends }
+Accepts shows old new (Err e) = DoorFails old new
