@@ -1,5 +1,5 @@
 -- What one that waits in memory shows: a script that is played, and what came of it.
-use Rattle.std.specs.Prelude.{◌≡◌, ℕ, List, [], ◌∷◌, map, Option, Some, None}
+use Rattle.std.specs.Prelude.{ℕ, List, [], ◌∷◌, map, Option, Some, None}
 use Rattle.ready_links.specs.Waits.{WaitState}
 use Rattle.ready_links.specs.LinkScripts.{Scripted, shown}
 use Rattle.ready_links.specs.declared.waits.Named.{Named}
