@@ -48,16 +48,25 @@ fn ask_all(
     Ok(())
 }
 
-/// A core over a disk is asked for the workload of the words, a number of commands and a seed. How many objects there
-/// are in the end, and the disk with the log.
+// The workload of the words, a number of commands and a seed.
+fn workload_of(case: &Case) -> Result<Workload, Fault> {
+    let (commands, seed) = two_numbers(case.asked()?)?;
+    match u32::try_from(commands) {
+        Ok(commands) => Ok(Workload::new(commands, seed)),
+        Err(_) => Err(Fault::Line),
+    }
+}
+
+/// A core over a disk is asked for the workload of the words. How many objects there are in the end, and the disk with
+/// the log.
 pub(crate) fn play_workload(
     alloc: Global,
     case: &Case,
     disk: MemoryDisk,
 ) -> Result<(Text, MemoryDisk), Fault> {
-    let (commands, seed) = two_numbers(case.asked()?)?;
+    let workload = workload_of(case)?;
     let mut core = open(alloc, disk)?;
-    let asked = ask_all(alloc, &mut core, Workload::new(commands as u32, seed));
+    let asked = ask_all(alloc, &mut core, workload);
     let objects = core.objects();
     let disk = core.into_disk();
     match asked {
