@@ -1,0 +1,5 @@
+pub mod Filling
+pub mod Sessions
+pub mod Steps
+pub mod Owing
+pub mod Turns
