@@ -1,5 +1,5 @@
 -- Requests that are made of what is read and kept.
-use Rattle.std.proofs.Common.{◌≡◌, ℕ, ◌≤◌, Bool, true, false, refl, sym, ap, ◌∙◌, List, [], ◌∷◌, ◌++◌, length, take, drop, append_assoc, take-append-drop, length-drop, arith}
+use Rattle.std.proofs.Common.{◌≡◌, ℕ, ◌≤◌, Bool, true, false, refl, sym, ap, ◌∙◌, List, [], ◌∷◌, ◌++◌, length, take, drop, length-drop, arith}
 use Rattle.std.specs.Prelude.{Some, suc, zero, ◌&&◌}
 use Rattle.std.specs.List.{list_all}
 use Rattle.byte_text.specs.Names.{Bytes}
@@ -12,7 +12,8 @@ use Rattle.session_run.specs.declared.ends.InEnd.TheVariants as ended
 use Rattle.stepped_session.specs.declared.phases.Asking.{Asking}
 use Rattle.stepped_session.specs.declared.phases.Asking.TheVariants.{Open, Breaking, Ended}
 use Rattle.stepped_session.specs.Filling.{IsFilled, IsFit}
-use Rattle.stepped_session.specs.Steps.{UnlessMemory}
+use Rattle.stepped_session.specs.Steps.{UnlessMemory, said, said_too}
+use Rattle.stepped_session.specs.Turns.{split_asks}
 
 no_bytes_ask : asked_behind (Some []) [] ≡ []
 unfolding stream_of
@@ -48,22 +49,6 @@ fit_passed held before asks asking now n fit few proper stays = record {
   proper = proper_drop asks n proper;
   dead = λ is. fit.dead (stays is);
 }
-
-said : {P : Type 0} → (asking : Asking) → P → UnlessMemory asking P
-said Open p = p
-said Breaking p = p
-said (Ended ended.Memory) p = tt
-said (Ended end) p = p
-
-said_too : {P Q : Type 0} → (asking : Asking) → (P → Q) → UnlessMemory asking P → UnlessMemory asking Q
-said_too Open f p = f p
-said_too Breaking f p = f p
-said_too (Ended ended.Memory) f p = tt
-said_too (Ended end) f p = f p
-
--- what was answered Ok, and then what is left
-split_asks : (n : ℕ) (asks more : List Asked) → asks ++ more ≡ take n asks ++ (drop n asks ++ more)
-split_asks n asks more = ap (λ (l : List Asked). l ++ more) (sym (take-append-drop n asks)) ∙ append_assoc (take n asks) (drop n asks) more
 
 module _ (held held' : Held) (rest rest' : Bytes) (asks left now : List Asked) (served : ℕ) where
   -- what is to be asked before and behind the answers

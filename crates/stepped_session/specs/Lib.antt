@@ -3,3 +3,6 @@ pub mod Sessions
 pub mod Steps
 pub mod Owing
 pub mod Turns
+pub mod SoFar
+pub mod AskedSteps
+pub mod WrittenSteps

@@ -7,10 +7,12 @@ use Rattle.outside.specs.Writing.{AppendsPart}
 use Rattle.byte_text.specs.Names.{Bytes}
 
 -- what is still to be written is known where the link tells what it holds; these were written, and the rest is to be
-pub owed_sent : (held held' : Option Bytes) (out : Bytes) (n : ℕ) → Appends held held' (take n out) → Keeps (append_known held out) (append_known held' (drop n out))
+pub owed_sent : (held held' : Option Bytes) (out : Bytes) (n : ℕ) → Appends held held' (take n out)
+    → Keeps (append_known held out) (append_known held' (drop n out))
 owed_sent None held' out n a = tt
 owed_sent (Some xs) None out n a = absurd a
-owed_sent (Some xs) (Some ys) out n a = ap (λ (l : Bytes). l ++ drop n out) a ∙ append_assoc xs (take n out) (drop n out) ∙ ap (λ (l : Bytes). xs ++ l) (take-append-drop n out)
+owed_sent (Some xs) (Some ys) out n a = ap (λ (l : Bytes). l ++ drop n out) a ∙ append_assoc xs (take n out) (drop n out)
+    ∙ ap (λ (l : Bytes). xs ++ l) (take-append-drop n out)
 
 pub owed_same : (held : Option Bytes) (out : Bytes) → Keeps (append_known held out) (append_known held out)
 owed_same None out = tt

@@ -33,6 +33,18 @@ abbrev pub UnlessMemory : Asking → Type 0 → Type 0
 UnlessMemory (Ended ended.Memory) fact = Unit {0}
 UnlessMemory asking fact = fact
 
+pub said : {P : Type 0} → (asking : Asking) → P → UnlessMemory asking P
+said Open p = p
+said Breaking p = p
+said (Ended ended.Memory) p = tt
+said (Ended end) p = p
+
+pub said_too : {P Q : Type 0} → (asking : Asking) → (P → Q) → UnlessMemory asking P → UnlessMemory asking Q
+said_too Open f p = f p
+said_too Breaking f p = f p
+said_too (Ended ended.Memory) f p = tt
+said_too (Ended end) f p = f p
+
 -- what a read brought was made requests, and the rest is kept; at the end and at a fault its asking ended, and it is to be asked nothing
 abbrev pub Readies : {E : Type 0} → SessionState → SessionState → Result Got E → Bytes → Type 0
 Readies old new (Ok (got.Bytes n)) into = IsFilled old.held (take n into) new.held new.rest new.asked new.asking

@@ -10,7 +10,7 @@ ghost use Rattle.byte_text.specs.Names.{Bytes};
 ghost use Rattle.world_model.specs.Outcomes.{IsCount, is_proper, take_outcome};
 ghost use Rattle.ready_links.specs.Links.{Reads, Writes};
 ghost use Rattle.session_run.specs.Outs.{given_bytes};
-ghost use Rattle.stepped_session.specs.Sessions.{SessionState, opened, demand, owed, WantsToRead, WantsTurn, WantsTake};
+ghost use Rattle.stepped_session.specs.Sessions.{opened, demand, owed, WantsToRead, WantsTurn, WantsTake};
 ghost use Rattle.stepped_session.specs.Sessions.{WantsToWrite, IsOver, goes_on, end_of_asking};
 ghost use Rattle.stepped_session.specs.Steps.{got_bytes, UnlessMemory, UnlessLost, Readies, Answered, Takes, WritesOut};
 ghost use Rattle.stepped_session.specs.Filling.{IsFilled, IsFit};
