@@ -1,5 +1,5 @@
 -- Requests that are made of what is read and kept.
-use Rattle.std.proofs.Common.{◌≡◌, ℕ, ◌≤◌, Bool, true, false, refl, sym, ap, ◌∙◌, List, [], ◌∷◌, ◌++◌, length, take, drop, length-drop, arith}
+use Rattle.std.proofs.Common.{◌≡◌, ℕ, Bool, true, false, refl, sym, ap, ◌∙◌, List, [], ◌∷◌, ◌++◌, take, drop, arith}
 use Rattle.std.specs.Prelude.{Some, suc, zero, ◌&&◌}
 use Rattle.std.specs.List.{list_all}
 use Rattle.byte_text.specs.Names.{Bytes}
@@ -36,19 +36,10 @@ second_too : (a b : Bool) → (a && b) ≡ true → b ≡ true
 second_too true b h = h
 second_too false b h = absurd (cc)
 
-proper_drop : (asks : List Asked) (n : ℕ) → list_all is_proper asks ≡ true → list_all is_proper (drop n asks) ≡ true
+pub proper_drop : (asks : List Asked) (n : ℕ) → list_all is_proper asks ≡ true → list_all is_proper (drop n asks) ≡ true
 proper_drop asks zero h = h
 proper_drop [] (suc n) h = h
 proper_drop (a ∷ asks) (suc n) h = proper_drop asks n (second_too (is_proper a) (list_all is_proper asks) h)
-
-pub fit_passed : (held : Held) (before asks : List Asked) (asking now : Asking) (n : ℕ) → IsFit held before asking → length asks ≤ 64 → list_all is_proper asks ≡ true
-    → (now ≡ Breaking → asking ≡ Breaking) → IsFit held (drop n asks) now
-fit_passed held before asks asking now n fit few proper stays = record {
-  dry = fit.dry;
-  few = omega (arith, few, length-drop n asks);
-  proper = proper_drop asks n proper;
-  dead = λ is. fit.dead (stays is);
-}
 
 module _ (held held' : Held) (rest rest' : Bytes) (asks left now : List Asked) (served : ℕ) where
   -- what is to be asked before and behind the answers

@@ -372,3 +372,14 @@ module _ (told : Option ℕ) (made : List Call) (came : LinkState) (old new : Se
   asked_written (Ok sent.Later) w is = asked_at is s
   asked_written (Err e) w is = asked_at is
       (same_asked new.line old.out (Some taking.WriteFault) (left_of w.same) w.later)
+
+-- ---- at the end of a link, whatever ended it
+
+pub left_over : (told : Option ℕ) (made : List Call) (came : LinkState) (s : SessionState) (a : AskedSoFar told made came s)
+    → (left : List Asked) × Serves told a.calls (asked_for a.read) left
+left_over told made came s a = left_by s.asking a.asks
+  where
+    left_by : (asking : Asking) → Asks told a.calls a.stop a.read s asking → (left : List Asked) × Serves told a.calls (asked_for a.read) left
+    left_by Open asks = (demand s [], read_all told a.calls a.read s (demand s []) (asks.1 []))
+    left_by Breaking asks = (demand s [], read_all told a.calls a.read s (demand s []) (asks.1 []))
+    left_by (Ended end) asks = (asks.0, asks.1)

@@ -29,7 +29,6 @@ turn_calls m asked served end = ok_calls m asked served ++ next_calls m asked se
 abbrev pub IsTold : Option ℕ → ℕ → Type 0
 IsTold told m = MatchOption told (Unit {0}) (λ t. m ≡ t)
 
--- these are the acts that a turn of the hall makes
 map_more : (n : ℕ) (a b : List Call) → map (call_of n) (a ++ b) ≡ map (call_of n) a ++ map (call_of n) b
 map_more n [] b = refl
 map_more n (c ∷ a) b = ap (λ (l : List Act). call_of n c ∷ l) (map_more n a b)
@@ -48,6 +47,7 @@ next_behind : (m : ℕ) (asked : List Asked) (served : ℕ) (end : CallOutcome) 
 next_behind m asked served called.Ok = refl
 next_behind m asked served end = refl
 
+-- these are the acts that a turn of the hall makes
 pub turn_acts : (n m : ℕ) (asked : List Asked) (served : ℕ) (end : CallOutcome)
     → map (call_of n) (turn_calls m asked served end) ≡ call_acts n m asked served end
 turn_acts n m asked served end =

@@ -3,7 +3,7 @@
 //! It is read, asked and taken from only where nothing of it is to be written. So it holds at most the rest of one
 //! block, the requests of one turn, and the frames of one take.
 
-ghost use Rattle.std.specs.Prelude.{◌≡◌, ◌≤◌, ◌<◌, ◌++◌, [], length, take, true, false, None, Decides};
+ghost use Rattle.std.specs.Prelude.{◌≡◌, ◌≤◌, ◌<◌, ◌++◌, [], length, take, drop, true, false, None, Decides};
 ghost use Rattle.std.specs.List.{list_all};
 ghost use Rattle.std.specs.Io.KnownBytes.{Appends, Keeps};
 ghost use Rattle.byte_text.specs.Names.{Bytes};
@@ -61,6 +61,21 @@ impl<K: ReadyLink> Model for Session<K> {
     } };
 
     ghost invariant = { λ s. IsFit s.reader s.asked s.asking };
+}
+
+// What is left of the requests of a turn behind those that were answered Ok.
+#[tactic(auto, using(crate::proofs::Filled::proper_drop))]
+fn left_of(asked: AskedList, served: usize) -> AskedList
+    requires within { served ≤ length asked }
+    requires few { length asked ≤ 64 }
+    requires proper { list_all is_proper asked ≡ true }
+    ensures left { result ≡ drop served asked }
+    ensures few { length result ≤ 64 }
+    ensures proper { list_all is_proper result ≡ true }
+{
+    let mut asked = asked;
+    asked.pass(served);
+    asked
 }
 
 // Goes on behind the answers to all that was asked: makes requests of what is kept, or comes to the end that a fault
@@ -223,9 +238,7 @@ impl<K: ReadyLink> Session<K> {
             ((more : Bytes) → demand (record self.old { asked = asked }) more
             ≡ take answers.served asked ++ demand self.new more) }
     {
-        let mut asked = asked;
-        asked.pass(answers.served);
-        self.asked = asked;
+        self.asked = left_of(asked, answers.served);
         if let Some(end) = end_of(answers.end) {
             self.asking = Asking::Ended(end);
         } else if self.asked.len() == 0 {
