@@ -8,7 +8,7 @@ ghost use Rattle.std.specs.List.{list_all};
 ghost use Rattle.std.specs.Io.KnownBytes.{Appends, Keeps};
 ghost use Rattle.byte_text.specs.Names.{Bytes};
 ghost use Rattle.world_model.specs.Outcomes.{IsCount, is_proper, take_outcome};
-ghost use Rattle.ready_links.specs.Links.{Reads, Writes};
+ghost use Rattle.ready_links.specs.Links.{GotWithin, SentWithin, Reads, Writes};
 ghost use Rattle.session_run.specs.Outs.{given_bytes};
 ghost use Rattle.stepped_session.specs.Sessions.{opened, demand, owed, WantsToRead, WantsTurn, WantsTake};
 ghost use Rattle.stepped_session.specs.Sessions.{WantsToWrite, IsOver, goes_on, end_of_asking};
@@ -192,6 +192,7 @@ impl<K: ReadyLink> Session<K> {
     pub fn on_readable(&mut self, block: &mut [u8]) -> Result<Got, Failed>
         requires some { 0 < length block.old }
         requires ready { WantsToRead self.old }
+        ensures within { GotWithin result (length block.new) }
         ensures read { Reads self.old.line self.new.line result block.new }
         ensures readies { Readies self.old self.new result block.new }
         ensures demand { UnlessMemory self.new.asking
@@ -275,6 +276,7 @@ impl<K: ReadyLink> Session<K> {
     /// Writes once. All that was written and is to be written stays the same. Where the link fails, the taking ends so.
     pub fn on_writable(&mut self) -> Result<Sent, Failed>
         requires { WantsToWrite self.old }
+        ensures within { SentWithin result (length self.old.out) }
         ensures written { Writes self.old.line self.new.line result self.old.out }
         ensures writes { WritesOut self.old self.new result }
         ensures owed { Keeps (owed self.old) (owed self.new) }
