@@ -44,10 +44,11 @@ fn join(
 }
 
 // Writes until the link takes no more for now. How many bytes it took.
-fn fill(abort: &impl Abort, link: &mut PollLink, piece: &[u8]) -> usize {
+fn fill(abort: &impl Abort, link: &mut PollLink) -> usize {
+    let piece = [7u8; MUCH];
     let mut all = 0usize;
     for _ in 0..10_000u32 {
-        match link.write(piece) {
+        match link.write(&piece) {
             Ok(Sent::Bytes(count)) => all = all.saturating_add(count),
             Ok(Sent::Later) => return all,
             Err(_) => panic!(abort; "a write failed"),
@@ -98,8 +99,7 @@ fn links_wait_for_nobody(rt: HostRuntime) -> Result<(), Fail> {
     assert_eq!(rt; two.read(&mut into), Ok(Got::Later));
 
     // A write waits until its caller reads.
-    let piece = [7u8; MUCH];
-    let all = fill(&rt, &mut one, &piece);
+    let all = fill(&rt, &mut one);
     assert_eq!(rt; one.write(b"x"), Ok(Sent::Later));
     assert!(rt; read_whole(&mut first, all)?);
     assert!(rt; is_named(&mut wait, Named::Link(1)));
