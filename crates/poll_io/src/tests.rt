@@ -43,12 +43,15 @@ fn join(
     Ok((caller, link))
 }
 
-// Writes until the link takes no more for now. How many bytes it took.
-fn fill(abort: &impl Abort, link: &mut PollLink) -> usize {
-    let piece = [7u8; MUCH];
+// Writes a piece until the link takes no more for now. How many bytes it took.
+fn fill(abort: &impl Abort, link: &mut PollLink, piece: &[u8]) -> usize {
     let mut all = 0usize;
     for _ in 0..10_000u32 {
-        match link.write(&piece) {
+        // A link is never asked to write nothing.
+        if piece.is_empty() {
+            return all;
+        }
+        match link.write(piece) {
             Ok(Sent::Bytes(count)) => all = all.saturating_add(count),
             Ok(Sent::Later) => return all,
             Err(_) => panic!(abort; "a write failed"),
@@ -99,7 +102,8 @@ fn links_wait_for_nobody(rt: HostRuntime) -> Result<(), Fail> {
     assert_eq!(rt; two.read(&mut into), Ok(Got::Later));
 
     // A write waits until its caller reads.
-    let all = fill(&rt, &mut one);
+    let piece = [7u8; MUCH];
+    let all = fill(&rt, &mut one, &piece);
     assert_eq!(rt; one.write(b"x"), Ok(Sent::Later));
     assert!(rt; read_whole(&mut first, all)?);
     assert!(rt; is_named(&mut wait, Named::Link(1)));
