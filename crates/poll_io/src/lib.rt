@@ -5,8 +5,6 @@
 mod alive;
 mod doors;
 mod links;
-#[cfg(test)]
-mod tests;
 mod waits;
 
 pub use doors::PollDoor;
