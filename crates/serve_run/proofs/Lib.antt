@@ -1,3 +1,4 @@
+mod Drawn
 mod Tending
 mod Starting
 mod Rounding

@@ -43,8 +43,8 @@ fn shared_of<H: Drop>(
     })
 }
 
-// The line of a door that was opened.
-fn listening(alloc: Global, addr: &str) -> Result<Text, NoMemory>
+/// The line of a door that was opened.
+pub(crate) fn listening(alloc: Global, addr: &str) -> Result<Text, NoMemory>
     ensures { IfOk result (λ t. t ≡ listening_line addr.now) }
 {
     let mut text = Text::new(alloc);
@@ -71,8 +71,8 @@ fn served(alloc: Global, joined: u32, starved: u32) -> Result<Text, NoMemory>
     Ok(text)
 }
 
-// Writes the lines of the loop's end, and answers the status.
-fn finish<K: Sink>(alloc: Global, sink: &mut K, done: Served) -> u8
+/// Writes the lines of the loop's end, and answers the status.
+pub(crate) fn finish<K: Sink>(alloc: Global, sink: &mut K, done: Served) -> u8
     ensures told { Finishes done.end done.joined done.starved (K.held sink.old) (K.held sink.new) result }
     ensures later { K.faults sink.old ≤ K.faults sink.new }
     ensures cause { result ≡ 4 → Rose (K.faults sink.old) (K.faults sink.new) }

@@ -4,9 +4,10 @@
 //! a step copies at most 256 items. Each step is a turn of its own, so a write waits for one step and not for all. A
 //! step that is not answered Ok ends the loop.
 
-ghost use Rattle.std.specs.Prelude.{◌≡◌, ℕ};
+ghost use Rattle.std.specs.Prelude.{◌≡◌, ◌≤◌, ℕ, Option};
 ghost use Rattle.std.specs.Arc.{arc_value};
-ghost use Rattle.serve_run.specs.Links.{Tends, Rewritten, serve_end};
+ghost use Rattle.world_data.specs.Limits.{max_moment};
+ghost use Rattle.serve_run.specs.Links.{IsTold, Tends, Rewritten, serve_end};
 
 use crate::shared::Shared;
 use outside::{Bell, Clock};
@@ -59,6 +60,27 @@ fn step_rewrites<H: HallApi, R: Wait>(rt: &R, hall: &H, seat: &mut H::Seat) -> O
         }
     }
     None
+}
+
+/// Makes a Tick at a moment and the Rewrites behind it. The end that they bring, and the sessions that were touched.
+pub(crate) fn tick_and_rewrite<H: HallApi, R: Wait>(
+    rt: &R,
+    hall: &H,
+    seat: &mut H::Seat,
+    moment: u64,
+    touched: ChangedSessions,
+) -> (Option<ServeEnd>, ChangedSessions)
+    requires seat { H.is_of hall.now seat.old }
+    requires moment { moment ≤ max_moment }
+    ensures seat { H.is_of hall.now seat.new }
+    ensures tends { (told : Option ℕ) → IsTold told moment
+        → Tends told (H.knows seat.old) (H.knows seat.new) result.0 }
+{
+    let (ticked, touched) = hall.tick(rt, seat, moment, touched);
+    match serve_end(ticked) {
+        Some(end) => (Some(end), touched),
+        None => (step_rewrites(rt, hall, seat), touched),
+    }
 }
 
 /// Makes a Tick and the Rewrites behind it, and rings for the sessions that were touched. The end that they bring.
