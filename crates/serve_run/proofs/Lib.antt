@@ -1,4 +1,8 @@
 mod Drawn
+mod Stepping
+mod Places
+mod Records
+mod Keeping
 mod Tending
 mod Starting
 mod Rounding

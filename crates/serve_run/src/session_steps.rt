@@ -7,7 +7,7 @@
 ghost use Rattle.std.specs.Prelude.{◌≡◌, ◌≤◌, ◌<◌, ℕ, Option, [], length};
 ghost use Rattle.world_data.specs.Limits.{max_moment, take_frames};
 ghost use Rattle.world_model.specs.Seats.{Knows};
-ghost use Rattle.stepped_session.specs.Sessions.{WantsToRead, WantsTurn, WantsTake, WantsToWrite};
+ghost use Rattle.stepped_session.specs.Sessions.{WantsTurn};
 ghost use Rattle.serve_run.specs.Links.{IsTold};
 ghost use Rattle.serve_run.specs.SessionSteps.{StepsSession};
 
@@ -17,14 +17,19 @@ use std::sync::Wait;
 use stepped_session::Session;
 use world_model::{ChangedSessions, Frames, HallApi, Taken};
 
-// Reads a session once. A read that does not fill the block has most likely all that came, so the next one can wait.
-fn read_once<K: ReadyLink>(session: &mut Session<K>, marks: &mut Marks, block: &mut [u8])
+// Reads a session once, where it may. A read that does not fill the block has most likely all that came, so the next one
+// can wait.
+fn read_once<K: ReadyLink + Drop>(session: &mut Session<K>, marks: &mut Marks, block: &mut [u8])
     requires some { 0 < length block.old }
-    requires ready { WantsToRead session.old }
     ensures steps { (told : Option ℕ) → (k : Knows) → StepsSession told k k session.old session.new }
+    ensures block { length block.new ≡ length block.old }
 {
     let room = block.len();
-    match session.on_readable(block) {
+    if !marks.may_read || !session.wants_to_read() {
+        return;
+    }
+    let got = session.on_readable(block);
+    match got {
         Ok(Got::Bytes(count)) => marks.is_filled = count == room,
         _ => {
             marks.may_read = false;
@@ -34,7 +39,7 @@ fn read_once<K: ReadyLink>(session: &mut Session<K>, marks: &mut Marks, block: &
 }
 
 // Makes the calls of a session's requests.
-fn ask<H: HallApi, K: ReadyLink, R: Wait>(
+fn ask<H: HallApi, K: ReadyLink + Drop, R: Wait>(
     rt: &R,
     hall: &H,
     seat: &mut H::Seat,
@@ -56,7 +61,7 @@ fn ask<H: HallApi, K: ReadyLink, R: Wait>(
 }
 
 /// The first half of a round: what came is read, and one turn of calls is made.
-pub(crate) fn step_in<H: HallApi, K: ReadyLink, R: Wait>(
+pub(crate) fn step_in<H: HallApi, K: ReadyLink + Drop, R: Wait>(
     rt: &R,
     hall: &H,
     seat: &mut H::Seat,
@@ -76,9 +81,7 @@ pub(crate) fn step_in<H: HallApi, K: ReadyLink, R: Wait>(
     ensures block { length block.new ≡ length block.old }
 {
     let mut marks = all.at(place);
-    if marks.may_read && session.wants_to_read() {
-        read_once(session, &mut marks, block);
-    }
+    read_once(session, &mut marks, block);
     if !session.wants_turn() {
         all.put(place, marks);
         return touched;
@@ -90,8 +93,8 @@ pub(crate) fn step_in<H: HallApi, K: ReadyLink, R: Wait>(
     touched
 }
 
-// Takes a session's frames once.
-fn take_once<H: HallApi, K: ReadyLink, R: Wait>(
+// Takes a session's frames once, where there may be some.
+fn take_once<H: HallApi, K: ReadyLink + Drop, R: Wait>(
     rt: &R,
     hall: &H,
     seat: &mut H::Seat,
@@ -100,7 +103,6 @@ fn take_once<H: HallApi, K: ReadyLink, R: Wait>(
     frames: &mut Frames,
 )
     requires seat { H.is_of hall.now seat.old }
-    requires ready { WantsTake session.old }
     requires bare { frames.old.list ≡ [] }
     requires places { frames.old.places ≡ take_frames }
     ensures seat { H.is_of hall.now seat.new }
@@ -109,25 +111,33 @@ fn take_once<H: HallApi, K: ReadyLink, R: Wait>(
     ensures steps { (told : Option ℕ)
         → StepsSession told (H.knows seat.old) (H.knows seat.new) session.old session.new }
 {
+    if !marks.is_due || !session.wants_take() {
+        return;
+    }
     let taken = hall.take(rt, seat, session.number(), frames);
     session.on_taken(taken, frames);
     frames.clear();
-    marks.is_due = matches!(taken, Taken::Some(_));
+    marks.is_due = gave_some(taken);
 }
 
-// Writes a session's link once.
-fn write_once<K: ReadyLink>(session: &mut Session<K>, marks: &mut Marks)
-    requires ready { WantsToWrite session.old }
+// Whether there may be more frames behind a take.
+fn gave_some(taken: Taken) -> bool {
+    matches!(taken, Taken::Some(_))
+}
+
+// Writes a session's link once, where it may.
+fn write_once<K: ReadyLink + Drop>(session: &mut Session<K>, marks: &mut Marks)
     ensures steps { (told : Option ℕ) → (k : Knows) → StepsSession told k k session.old session.new }
 {
-    match session.on_writable() {
-        Ok(Sent::Bytes(_)) => {}
-        _ => marks.may_write = false,
+    if !marks.may_write || !session.wants_to_write() {
+        return;
     }
+    let sent = session.on_writable();
+    marks.may_write = matches!(sent, Ok(Sent::Bytes(_)));
 }
 
-// Takes once and writes once, where it may.
-fn give_once<H: HallApi, K: ReadyLink, R: Wait>(
+// Takes once and writes once.
+fn give_once<H: HallApi, K: ReadyLink + Drop, R: Wait>(
     rt: &R,
     hall: &H,
     seat: &mut H::Seat,
@@ -144,16 +154,12 @@ fn give_once<H: HallApi, K: ReadyLink, R: Wait>(
     ensures steps { (told : Option ℕ)
         → StepsSession told (H.knows seat.old) (H.knows seat.new) session.old session.new }
 {
-    if marks.is_due && session.wants_take() {
-        take_once(rt, hall, seat, session, marks, frames);
-    }
-    if marks.may_write && session.wants_to_write() {
-        write_once(session, marks);
-    }
+    take_once(rt, hall, seat, session, marks, frames);
+    write_once(session, marks);
 }
 
 // Tells the hall to close the session, where its asking has ended and the hall was not told yet.
-fn close_once<H: HallApi, K: ReadyLink, R: Wait>(
+fn close_once<H: HallApi, K: ReadyLink + Drop, R: Wait>(
     rt: &R,
     hall: &H,
     seat: &mut H::Seat,
@@ -165,11 +171,12 @@ fn close_once<H: HallApi, K: ReadyLink, R: Wait>(
     ensures steps { (told : Option ℕ)
         → StepsSession told (H.knows seat.old) (H.knows seat.new) session.now session.now }
 {
-    if session.end_of_asking().is_some() && !marks.is_closed {
-        hall.close(rt, seat, session.number());
-        marks.is_closed = true;
-        marks.is_due = true;
+    if marks.is_closed || session.end_of_asking().is_none() {
+        return;
     }
+    hall.close(rt, seat, session.number());
+    marks.is_closed = true;
+    marks.is_due = true;
 }
 
 // Whether there is something to do for the session without a wait.
@@ -182,7 +189,7 @@ fn is_busy<K: ReadyLink>(session: &Session<K>, marks: Marks) -> bool {
 
 /// The second half of a round: the session is given its frames, and they are written. A second take finds out that there
 /// are no more, so that no further round is needed for that.
-pub(crate) fn step_out<H: HallApi, K: ReadyLink, R: Wait>(
+pub(crate) fn step_out<H: HallApi, K: ReadyLink + Drop, R: Wait>(
     rt: &R,
     hall: &H,
     seat: &mut H::Seat,
