@@ -4,6 +4,3 @@ mod Places
 mod Records
 mod Keeping
 mod Tending
-mod Starting
-mod Rounding
-mod Serving

@@ -10,9 +10,8 @@ ghost use Rattle.serve_run.specs.LoopEnds.{LoopTurn, TendsTable};
 
 use crate::joins::{Counts, let_in};
 use crate::marks::AllMarks;
-use crate::rounds::Served;
 use crate::tables::{Table, all_in, all_out, none_open, shut_all, shut_over};
-use crate::tends::{ServeEnd, tick_and_rewrite};
+use crate::tends::{ServeEnd, Served, tick_and_rewrite};
 use byte_text::NoMemory;
 use outside::{Clock, Failed};
 use ready_links::{Named, ReadyDoor, ReadyLink, WaitForLinks};
