@@ -2,7 +2,12 @@ mod Drawn
 mod Stepping
 mod Places
 mod Records
+mod Owners
 mod Keeping
+mod Shutting
+mod Numbers
+mod Joining
+mod Looping
 mod Tending
 mod Starting
 mod Rounding
