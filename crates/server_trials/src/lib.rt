@@ -25,6 +25,8 @@ mod loads;
 #[cfg(test)]
 mod positions;
 #[cfg(test)]
+mod ready_loops;
+#[cfg(test)]
 mod requests;
 #[cfg(test)]
 mod sessions;
