@@ -5,7 +5,9 @@ use crate::requests::push_line;
 use crate::texts::{MESSAGE, PING, PONG, SET, SETCHAN, SUBSCRIBED, push_times};
 use byte_text::Text;
 use outside::{HandClock, PlainDisk};
-use ready_links::{CallerScript, DoorScript, Move, ScriptedDoor, ScriptedWait, Visit};
+use ready_links::{
+    CallerScript, DoorScript, Move, ScriptedDoor, ScriptedWait, Visit, WaitForLinks,
+};
 use serve_run::{ServeEnd, Served, serve_loop};
 use std::alloc::{AllocError, Global};
 use std::sync::Wait;
@@ -44,6 +46,9 @@ fn serve_anew<R: Wait>(
     let Ok(mut wait) = ScriptedWait::new(alloc, Vec::new(alloc)) else {
         return Err(Fail::from(AllocError));
     };
+    if wait.watch_door(&mut door).is_err() {
+        return Err(Fail::from(AllocError));
+    }
     let clock = HandClock::at(0);
     let served = serve_loop(rt, alloc, &hall, &mut seat, &mut door, &clock, &mut wait, 9);
     Ok((served, wait))
