@@ -18,7 +18,7 @@ use crate::tops::Ended;
 use durable_core::DurableCore;
 use journal::{OpenFault, Unopened};
 use outside::{Clock, Disk, Sink};
-use ready_links::{ReadyDoor, ReadyLink, WaitForLinks};
+use ready_links::{ReadyDoor, WaitForLinks};
 use replay_run::halt_of;
 use serve_run::{DISK_FAULT, ServeWords, end, serve_ready};
 use shared_hall::{HallSeat, SharedHall};

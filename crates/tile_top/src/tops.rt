@@ -26,7 +26,7 @@ use crate::replays::{Scripted, replay_script};
 use crate::serves::serve_hall;
 use load_command::load_words;
 use outside::{Clock, Disk, Sink, Source};
-use ready_links::{ReadyDoor, ReadyLink, WaitForLinks};
+use ready_links::{ReadyDoor, WaitForLinks};
 use serve_run::{OUT_OF_MEMORY, end, serve_words};
 use shared_hall::HallSeat;
 use std::alloc::Global;

@@ -4,7 +4,10 @@ use Rattle.tile_top.proofs.serves.serve_on.Goals as goal
 
 pub returns-clause-serves : goal.returns-clause-serves
 returns-clause-serves g c seen first =
-    fronts_behind knows_of _ _ _ _ _ _ _ _ _ _ _ _ _ _ c.retire_hall.result.front first c.serve_ready-status.ensures.serves c.retire_hall.ensures.front
+    let s = c.serve_ready-status in
+    fronts_behind knows_of seen (g.C.Clock.told c.args.clock.now) _ (knows_of c.args.seat) (knows_of s.new.seat) (g.L.ReadyDoor.shows c.args.door.now)
+    (g.L.ReadyDoor.shows s.new.door) (g.W.WaitForLinks.shows c.args.wait.now) (g.W.WaitForLinks.shows s.new.wait) (g.K.Sink.held c.args.sink.now)
+    (g.K.Sink.held s.new.sink) _ s.result c.retire_hall.result.status c.retire_hall.result.front first s.ensures.serves c.retire_hall.ensures.front
 
 pub returns-clause-counted : goal.returns-clause-counted
 returns-clause-counted g c handed begun = c.retire_hall.ensures.counted handed
