@@ -1,4 +1,5 @@
 pub mod Hubs
+pub mod DueOrder
 pub mod Dues
 pub mod MessageLaws
 pub mod Named

@@ -19,7 +19,7 @@ ghost use Rattle.channel_hub.specs.MessageLaws.{messages_on};
 ghost use Rattle.rtree.specs.Ledgers.{IsRead};
 
 use crate::candidates::Candidates;
-use crate::dues::{due_first, earlier, is_out, let_due_go, list_left, push_due};
+use crate::dues::{is_out, let_due_go, list_left};
 use crate::indexed_channels::IndexedChannels;
 use byte_text::{Name, NoMemory};
 use fence_index::unconcerned_are_silent;
@@ -38,8 +38,6 @@ pub struct Hub {
     out: Option<u64>,
     // The places of those that are left then. There is room for all, and for the one that is prepared.
     left: Vec<usize>,
-    // No deadline comes before this moment, so that nobody looks for what is due before it.
-    due_from: u64,
 }
 
 impl Drop for Hub {
@@ -48,7 +46,6 @@ impl Drop for Hub {
             all: _,
             out: _,
             left: _,
-            due_from: _,
         } = self;
     }
 }
@@ -68,7 +65,7 @@ impl Model for Hub {
       prepared = h.all.prepared;
     } };
 
-    ghost invariant = { λ h. AreLeft h.all h.out h.left.items (vec_capacity h.left) h.due_from };
+    ghost invariant = { λ h. AreLeft h.all h.out h.left.items (vec_capacity h.left) };
 }
 
 impl Hub {
@@ -82,7 +79,6 @@ impl Hub {
             all: IndexedChannels::new(alloc),
             out: None,
             left: Vec::new(alloc),
-            due_from: u64::MAX,
         }
     }
 
@@ -115,7 +111,6 @@ impl Hub {
         ensures prepared { self.new.prepared ≡ None }
     {
         self.let_go();
-        self.due_from = due_first(self.due_from, channel.deadline);
         self.all.put(channel)
     }
 
@@ -151,7 +146,7 @@ impl Hub {
         ensures prepared { self.new.prepared ≡ self.old.prepared }
     {
         self.let_go();
-        if now < self.due_from {
+        if now < self.least_due().unwrap_or(u64::MAX) {
             return;
         }
         list_left(&self.all, now, &mut self.left);
@@ -163,7 +158,7 @@ impl Hub {
         ensures { IfOk result (λ cs. cs ≡ self.now.taken) }
     {
         match self.out {
-            Some(now) => push_due(alloc, &self.all, now),
+            Some(now) => self.all.due(alloc, now),
             None => Ok(Candidates::new(alloc)),
         }
     }
@@ -185,7 +180,6 @@ impl Hub {
     {
         if let Some(now) = self.out.take() {
             let_due_go(&mut self.all, now);
-            self.due_from = self.least_due().unwrap_or(u64::MAX);
         }
     }
 
@@ -193,13 +187,7 @@ impl Hub {
     pub fn least_due(&self) -> Option<u64>
         ensures { result ≡ least_due self.now.channels }
     {
-        let mut least = None;
-        let mut at = self.len();
-        while at > 0 {
-            at -= 1;
-            least = earlier(self.at(at).deadline, least);
-        }
-        least
+        self.all.least_due(self.out)
     }
 
     /// The channel of this name, where there is one.

@@ -1,8 +1,6 @@
 use Rattle.std.proofs.Common.{◌≡◌, ◌∙◌, true, refl, sym, subst, ap, length, arith}
 use Rattle.std.specs.Prelude.{None, Some, is_some}
 use Rattle.fence_index.specs.Marks.{mark_of}
-use Rattle.channel_hub.specs.Dues.{AreFrom}
-use Rattle.channel_hub.proofs.DueFrom.{from_put}
 use Rattle.channel_hub.proofs.Left.{put_more}
 use Rattle.channel_hub.proofs.Whole.{none_prepared}
 use Rattle.channel_hub.proofs.hubs.Hub.put.Goals as goal
@@ -18,6 +16,4 @@ invariant_of-self c =
       listed = λ now e. absurd (cc);
       fits = omega (arith, more, same, c.self.invariant.more some);
       more = λ any. none_prepared c.put.new.self.prepared c.put.ensures.prepared any;
-      from = subst (λ xs. AreFrom c.due_first-self-inside.result xs) (sym c.put.ensures.channels)
-          (from_put c.due_first-self-inside.result c.self.inside.due_from c.args.channel c.self.inside.all.channels c.due_first-self-inside.ensures.within c.due_first-self-inside.ensures.first c.self.invariant.from);
     }

@@ -1,7 +1,6 @@
 use Rattle.std.proofs.Common.{◌≡◌, not, sym, subst, ap, length, arith}
 use Rattle.std.specs.Prelude.{None}
-use Rattle.ordered_lists.specs.Reading.{filter-most, each-filter}
-use Rattle.channel_hub.specs.Dues.{AreFrom, IsFrom}
+use Rattle.ordered_lists.specs.Reading.{filter-most}
 use Rattle.world_data.specs.Worlds.{is_named}
 use Rattle.channel_hub.proofs.hubs.Hub.take_out.Goals as goal
 
@@ -14,6 +13,4 @@ invariant_of-self c =
       listed = λ now e. absurd (cc);
       fits = omega (arith, fewer, same, c.self.invariant.fits);
       more = λ some. let more = c.self.invariant.more (rw (← c.take_out.ensures.prepared) some) in omega (arith, fewer, same, more);
-      from = subst (λ xs. AreFrom c.self.inside.due_from xs) (sym c.take_out.ensures.channels)
-          (each-filter (λ d. IsFrom c.self.inside.due_from d.deadline) (λ d. not (is_named c.args.name.now d)) c.self.inside.all.channels c.self.invariant.from);
     }
