@@ -1,6 +1,6 @@
 -- The channel that expires first, and its place by name.
-use Rattle.std.proofs.Common.{◌≡◌, ◌≢◌, ◌<◌, ◌≤◌, ◌+◌, ◌∙◌, ℕ, zero, suc, true, not, refl, sym, ap, subst, List, [], ◌∷◌, length, arith}
-use Rattle.std.specs.Prelude.{Option, Some, None, IsSome, find, nat_le, slice_get}
+use Rattle.std.proofs.Common.{◌≡◌, ◌≢◌, ◌<◌, ◌≤◌, ◌+◌, ◌∙◌, ℕ, zero, suc, Bool, true, false, not, refl, sym, ap, subst, List, [], ◌∷◌, length, get_or, arith}
+use Rattle.std.specs.Prelude.{Option, Some, None, IsSome, find, nat_le, slice_get, slice_index}
 use Rattle.std.specs.List.{list_all, AllByRecursion, remove}
 use Rattle.std.proofs.lemmas.Bool.Decides.{nat_tests}
 use Rattle.byte_text.specs.ListLaws.{item_at}
@@ -9,12 +9,14 @@ use Rattle.ordered_lists.specs.Lists.{IsHeld}
 use Rattle.world_data.specs.declared.channels.Channel.{Channel}
 use Rattle.world_data.specs.Expiry.{is_channel_due}
 use Rattle.world_data.specs.Worlds.{is_named}
-use Rattle.channel_hub.specs.DueOrder.{dues_of, expiring}
+use Rattle.channel_hub.specs.DueOrder.{dues_of, expiring, has_deadline}
+use Rattle.channel_hub.specs.DuePlaces.{place_among, place_in}
 use Rattle.channel_hub.specs.Dues.{least_due, left_at}
 use Rattle.channel_hub.specs.Hubs.{AreInOrder, channels_in}
 use Rattle.channel_hub.proofs.ChannelsByName.{found}
 use Rattle.channel_hub.proofs.DueFrom.{all_left, from_least}
-use Rattle.channel_hub.proofs.DueSlots.{dues_expiring}
+use Rattle.channel_hub.proofs.DueSlots.{all_expire, dues_expiring, has_one, some_in}
+use Rattle.channel_hub.proofs.Order.{at_place}
 use Rattle.channel_hub.proofs.Expiring.{IsFound, expiring_found, first_deadline, least_first}
 
 module _ (f : ℕ → Option Channel) (order dues : List ℕ) (o : AreInOrder f order) (is : dues ≡ dues_of f order) where
@@ -32,23 +34,42 @@ module _ (f : ℕ → Option Channel) (order dues : List ℕ) (o : AreInOrder f 
           absurd (cc)
       by_dues (t ∷ ts) e = omega arith
 
-  module _ (slot : ℕ) (c : Channel) (first : slice_get dues 0 ≡ Some slot) (has : f slot ≡ Some c) where
-    in_front : (ts : List ℕ) → slice_get ts 0 ≡ Some slot → (rest : List Channel) × (channels_in f ts ≡ c ∷ rest)
-    in_front [] e = absurd (cc)
-    in_front (t ∷ ts) e =
-        let it : t ≡ slot = cc in
-        let here : f t ≡ Some c = ap f it ∙ has in
-        (channels_in f ts, rw here refl)
+  -- the first has the least deadline
+  pub first_least : (slot : ℕ) (c : Channel) → slice_get dues 0 ≡ Some slot → f slot ≡ Some c → least_due (channels_in f order) ≡ c.deadline
+  first_least slot c first has = least_first (channels_in f order) ∙ ap first_deadline (sym listed ∙ in_front dues first)
+    where
+      rest : List ℕ → List Channel
+      rest [] = []
+      rest (t ∷ ts) = channels_in f ts
 
-    pub first_least : least_due (channels_in f order) ≡ c.deadline
-    first_least = let front = in_front dues first in least_first (channels_in f order) ∙ ap first_deadline (sym listed ∙ front.1)
+      in_front : (ts : List ℕ) → slice_get ts 0 ≡ Some slot → channels_in f ts ≡ c ∷ rest ts
+      in_front [] e = absurd (cc)
+      in_front (t ∷ ts) e =
+          let it : t ≡ slot = cc in
+          let here : f t ≡ Some c = ap f it ∙ has in
+          rw here refl
 
-    pub first_found : IsFound (channels_in f order) c
-    first_found =
-        let front = in_front dues first in
-        let all = expiring_found (channels_in f order) o.by_name in
-        let head : AllByRecursion (IsFound (channels_in f order)) (c ∷ front.0) = subst (AllByRecursion (IsFound (channels_in f order))) (sym listed ∙ front.1) all in
-        head.0
+  -- each is found by its name
+  pub due_found : (at slot : ℕ) (c : Channel) → slice_get dues at ≡ Some slot → f slot ≡ Some c → IsFound (channels_in f order) c
+  due_found at slot c is has =
+      let all = expiring_found (channels_in f order) o.by_name in
+      each_at dues at is (subst (AllByRecursion (IsFound (channels_in f order))) (sym listed) all)
+    where
+      both_found : (ts : List ℕ) (t : ℕ) (d : Channel) → f t ≡ Some d → AllByRecursion (IsFound (channels_in f order)) (channels_in f (t ∷ ts))
+          → IsFound (channels_in f order) d × AllByRecursion (IsFound (channels_in f order)) (channels_in f ts)
+      both_found ts t d h each = rw h at each
+
+      skipped : (ts : List ℕ) (t : ℕ) (d : Option Channel) → f t ≡ d → AllByRecursion (IsFound (channels_in f order)) (channels_in f (t ∷ ts))
+          → AllByRecursion (IsFound (channels_in f order)) (channels_in f ts)
+      skipped ts t None h each = rw h at each
+      skipped ts t (Some d) h each = (both_found ts t d h each).1
+
+      each_at : (ts : List ℕ) (n : ℕ) → slice_get ts n ≡ Some slot → AllByRecursion (IsFound (channels_in f order)) (channels_in f ts) → IsFound (channels_in f order) c
+      each_at [] n e each = absurd (cc)
+      each_at (t ∷ ts) zero e each =
+          let it : t ≡ slot = cc in
+          (both_found ts t c (ap f it ∙ has) each).0
+      each_at (t ∷ ts) (suc n) e each = each_at ts n e (skipped ts t (f t) refl each)
 
 -- the channel that is found by its name stands at the place of the name
 pub found_there : (xs : List Channel) (c : Channel) (at : ℕ) → IsFound xs c → IsHeld (λ (d : Channel). before d.name c.name) (λ d. before c.name d.name) xs at → slice_get xs at ≡ Some c
@@ -59,6 +80,30 @@ found_there xs c at is held =
 
 pub is_found : (xs : List Channel) (c : Channel) → IsFound xs c → IsSome (find (is_named c.name) xs)
 is_found xs c is = rw is refl
+
+-- the first stands at its place
+pub first_there : (f : ℕ → Option Channel) (order dues : List ℕ) (o : AreInOrder f order) (is : dues ≡ dues_of f order) (d : ℕ) → least_due (channels_in f order) ≡ Some d
+    → (c : Channel) × (slice_get (channels_in f order) (place_among (channels_in f order) (f (slice_index dues 0))) ≡ Some c) × (c.deadline ≡ Some d)
+first_there f order dues o is d least =
+    let some = some_due f order dues o is d least in
+    let first = at_place dues 0 0 (get_or dues 0 0) some refl in
+    let one = some_in (f (get_or dues 0 0)) (has_one f dues 0 (get_or dues 0 0) first (subst (λ (l : List ℕ). list_all (λ s. has_deadline (f s)) l ≡ true) (sym is) (all_expire f order))) in
+    let by_name = due_found f order dues o is 0 (get_or dues 0 0) one.0 first one.1 in
+    (one.0, place_found (channels_in f order) one.0 by_name (f (get_or dues 0 0)) one.1, sym (first_least f order dues o is (get_or dues 0 0) one.0 first one.1) ∙ least)
+  where
+    place_found : (xs : List Channel) (c : Channel) → IsFound xs c → (p : Option Channel) → p ≡ Some c → slice_get xs (place_among xs p) ≡ Some c
+    place_found xs c by_name p e = ap (λ (q : Option Channel). slice_get xs (place_among xs q)) e ∙ at_named xs by_name
+      where
+        at_named : (ys : List Channel) → find (is_named c.name) ys ≡ Some c → slice_get ys (place_in ys c) ≡ Some c
+        at_named [] e = absurd (cc)
+        at_named (y ∷ ys) e = by_test (is_named c.name y) refl (at_named ys)
+          where
+            next : (n : ℕ) → slice_get (y ∷ ys) (n + 1) ≡ slice_get ys n
+            next n = let one : n + 1 ≡ suc n = omega arith in ap (slice_get (y ∷ ys)) one
+
+            by_test : (b : Bool) → is_named c.name y ≡ b → (find (is_named c.name) ys ≡ Some c → slice_get ys (place_in ys c) ≡ Some c) → slice_get (y ∷ ys) (place_in (y ∷ ys) c) ≡ Some c
+            by_test true n ih = let it : Some y ≡ Some c = rw n at e in rw n it
+            by_test false n ih = let it : find (is_named c.name) ys ≡ Some c = rw n at e in rw n (next (place_in ys c) ∙ ih it)
 
 -- none is due before the least deadline
 pub none_yet : (now : ℕ) (xs : List Channel) → ((d : ℕ) → least_due xs ≡ Some d → now < d) → left_at now xs ≡ xs

@@ -220,22 +220,22 @@ module _ (f : ℕ → Option Channel) where
         channels_sorted (filter (λ s. q (f s)) order) (all-filter (λ t. is_some (f t)) (λ s. q (f s)) order (all_stored order xs stored))
         ∙ ap (sorted_by channel_due_before) (passing f test q each order xs stored)
 
-    pub dues_passing : ((o : Option Channel) → has_deadline o ≡ false → q o ≡ false) → channels_in f (filter (λ s. q (f s)) (dues_of f order)) ≡ sorted_by channel_due_before (filter test xs)
-    dues_passing none =
-        ap (channels_in f) (filter_sorted (due_order f) (order_down f) (order_asym f) (λ s. q (f s)) (filter (λ s. has_deadline (f s)) order)
-        ∙ ap (sorted_by (due_order f)) (filter-both (λ s. has_deadline (f s)) (λ s. q (f s)) (λ s. q (f s)) order (λ s e. none (f s) e) (λ s e. refl)))
-        ∙ channels_passing
+  none_come : (now : ℕ) (o : Option Channel) → has_deadline o ≡ false → has_come_in now o ≡ false
+  none_come now None e = refl
+  none_come now (Some c) e = grind arith
+
+  -- those that are due, of those that expire, are those of all
+  pub come_sorted : (order : List ℕ) (now : ℕ) → filter (λ s. has_come_in now (f s)) (dues_of f order) ≡ sorted_by (due_order f) (filter (λ s. has_come_in now (f s)) order)
+  come_sorted order now =
+      filter_sorted (due_order f) (order_down f) (order_asym f) (λ s. has_come_in now (f s)) (filter (λ s. has_deadline (f s)) order)
+      ∙ ap (sorted_by (due_order f)) (filter-both (λ s. has_deadline (f s)) (λ s. has_come_in now (f s)) (λ s. has_come_in now (f s)) order (λ s e. none_come now (f s) e) (λ s e. refl))
 
   module _ (order : List ℕ) (xs : List Channel) (stored : Stores f order xs) where
     pub dues_expiring : channels_in f (dues_of f order) ≡ expiring xs
     dues_expiring = channels_passing order xs stored (λ c. is_some c.deadline) has_deadline (λ x. refl)
 
-    none_come : (now : ℕ) (o : Option Channel) → has_deadline o ≡ false → has_come_in now o ≡ false
-    none_come now None e = refl
-    none_come now (Some c) e = grind arith
-
     pub dues_come : (now : ℕ) → channels_in f (filter (λ s. has_come_in now (f s)) (dues_of f order)) ≡ due_in now xs
-    dues_come now = dues_passing order xs stored (is_channel_due now) (has_come_in now) (λ x. refl) (none_come now)
+    dues_come now = ap (channels_in f) (come_sorted order now) ∙ channels_passing order xs stored (is_channel_due now) (has_come_in now) (λ x. refl)
 
     pub dues_left : (now : ℕ) → channels_in f (filter (λ s. not (has_come_in now (f s))) (dues_of f order)) ≡ expiring (left_at now xs)
     dues_left now =

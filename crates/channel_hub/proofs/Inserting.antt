@@ -85,7 +85,7 @@ module _ {A : Type 0} (lt : A → A → Bool) where
       let q = both_of (lt y x) (list_all (λ z. lt z x) (take at ys)) front in
       rw q.0 (ap (λ (l : List A). y ∷ l) (insert_here x ys at q.1 back))
 
-  length_insert : (x : A) (ys : List A) → length (insert_by lt x ys) ≡ length ys + 1
+  pub length_insert : (x : A) (ys : List A) → length (insert_by lt x ys) ≡ length ys + 1
   length_insert x [] = refl
   length_insert x (y ∷ ys) = by_test (lt y x) refl (length_insert x ys)
     where
@@ -177,7 +177,7 @@ module _ {A : Type 0} (lt : A → A → Bool) (down : (x y c : A) → lt y x ≡
       by_test false e ih = insert_left_out p x (sorted_by lt xs) e ∙ ih ∙ sym (ap (sorted_by lt) (fails p x xs e))
 
   -- two that don't tie may be put in one before the other or after it
-  insert_two : (x y : A) (zs : List A) → (lt x y || lt y x) ≡ true → insert_by lt x (insert_by lt y zs) ≡ insert_by lt y (insert_by lt x zs)
+  pub insert_two : (x y : A) (zs : List A) → (lt x y || lt y x) ≡ true → insert_by lt x (insert_by lt y zs) ≡ insert_by lt y (insert_by lt x zs)
   insert_two x y [] either = by_order (lt x y) refl (lt y x) refl
     where
       by_order : (a : Bool) → lt x y ≡ a → (b : Bool) → lt y x ≡ b → insert_by lt x (y ∷ []) ≡ insert_by lt y (x ∷ [])

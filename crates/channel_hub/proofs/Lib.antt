@@ -14,6 +14,7 @@ pub mod Inserting
 pub mod Expiring
 pub mod DueSlots
 pub mod DuePlaces
+pub mod Places
 pub mod Kept
 pub mod Left
 pub mod DueFrom

@@ -1,9 +1,10 @@
 -- Channels whose deadline has come: those that are out, and those that are left.
-use Rattle.std.specs.Prelude.{◌≡◌, ◌≤◌, ◌<◌, ℕ, min, Bool, true, false, not, List, [], ◌∷◌, length, filter, slice_get, Option, Some, None, is_some}
+use Rattle.std.specs.Prelude.{◌≡◌, ◌≤◌, ◌+◌, ℕ, min, Bool, true, false, not, List, [], ◌∷◌, length, filter, slice_get, Option, Some, None, is_some}
 use Rattle.ordered_lists.specs.Lists.{sorted_by}
-use Rattle.ordered_lists.specs.Slots.{Stores}
 use Rattle.world_data.specs.declared.channels.Channel.{Channel}
 use Rattle.world_data.specs.Expiry.{channel_due_before, is_channel_due}
+use Rattle.run_list.specs.Runs.{Sequence}
+use Rattle.channel_hub.specs.DuePlaces.{places_out}
 use Rattle.channel_hub.specs.Hubs.{Held, ByName}
 
 -- those that are due at a moment, in the order in which they expire, and those that are left then
@@ -32,11 +33,11 @@ pub record IsSettled (held : Held) : Type 0 where
   pub all : held.every ≡ held.channels
   pub moment : held.out ≡ None
 
--- what a hub keeps beside all channels: the places of those that are left, where some may be out, with room for all
-pub record AreLeft (all : ByName) (out : Option ℕ) (left : List ℕ) (room : ℕ) : Type 0 where
-  pub listed : (now : ℕ) → out ≡ Some now → Stores (slice_get all.channels) left (left_at now all.channels)
-  pub fits : length all.channels ≤ room
-  pub more : is_some all.prepared ≡ true → length all.channels < room
+-- what a hub keeps beside all channels: the places of those that are out, with room for all
+pub record AreOut (all : ByName) (out : Option ℕ) (gone : Sequence) : Type 0 where
+  pub listed : gone.items ≡ places_out out all.channels
+  pub fits : length all.channels ≤ length gone.items + gone.spare
+  pub more : is_some all.prepared ≡ true → length all.channels + 1 ≤ length gone.items + gone.spare
 
 -- the lesser of two moments, where there are two
 abbrev pub earlier : Option ℕ → Option ℕ → Option ℕ

@@ -1,7 +1,6 @@
 //! Channels whose deadline has come.
 
-ghost use Rattle.std.specs.Prelude.{◌≡◌, ◌≤◌, length, slice_get, vec_capacity};
-ghost use Rattle.ordered_lists.specs.Slots.{Stores};
+ghost use Rattle.std.specs.Prelude.{◌≡◌};
 ghost use Rattle.world_data.specs.Expiry.{is_channel_due};
 ghost use Rattle.channel_hub.specs.Dues.{is_out, left_at};
 
@@ -25,20 +24,6 @@ pub(crate) fn is_out(out: Option<u64>, channel: &Channel) -> bool
     match out {
         Some(now) => is_due(channel, now),
         None => false,
-    }
-}
-
-/// Lists the places of the channels that are not due, where there is room for the places of all.
-pub(crate) fn list_left(all: &IndexedChannels, now: u64, left: &mut Vec<usize>)
-    requires { length all.now.channels ≤ vec_capacity left.old }
-    ensures left { Stores (slice_get all.now.channels) left.new.items (left_at now all.now.channels) }
-    ensures capacity { vec_capacity left.new ≡ vec_capacity left.old }
-{
-    left.clear();
-    for at in 0..all.len() {
-        if !is_due(all.at(at), now) {
-            left.push_reserved(at);
-        }
     }
 }
 

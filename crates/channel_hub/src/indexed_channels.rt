@@ -7,7 +7,7 @@
 //! due are in front, so no deadline is sought among all. A channel is prepared before it is put, so that `put` takes no
 //! memory.
 
-ghost use Rattle.std.specs.Prelude.{◌≡◌, ◌<◌, ℕ, [], true, not, length, filter, find, slice_get, Some, None, IfOk};
+ghost use Rattle.std.specs.Prelude.{◌≡◌, ◌+◌, ◌<◌, ◌≤◌, [], true, not, length, filter, find, slice_get, Some, None, IfOk};
 ghost use Rattle.std.specs.Prelude.{IfNone, IfSome, OnOk, OnErr};
 ghost use Rattle.std.specs.List.{remove};
 ghost use Rattle.ordered_lists.specs.Lists.{put_in};
@@ -15,12 +15,14 @@ ghost use Rattle.world_data.specs.Expiry.{is_channel_due};
 ghost use Rattle.world_data.specs.Worlds.{are_channels, channel_before, is_named};
 ghost use Rattle.fence_model.specs.Messages.{watches};
 ghost use Rattle.fence_index.specs.Marks.{mark_of};
+ghost use Rattle.channel_hub.specs.DuePlaces.{places_out};
 ghost use Rattle.channel_hub.specs.Dues.{due_in, least_due, left_at, left_of};
 ghost use Rattle.channel_hub.specs.Hubs.{AreWhole, may_concern};
 ghost use Rattle.rtree.specs.Ledgers.{IsRead};
 
 use crate::candidates::{Candidates, push_of_key, push_slots};
 use crate::channel_slots::{exchange, place_of};
+use crate::due_places::{list_places, place_of_due};
 use crate::due_slots::{due_count, first_channels, out_count, put_due, take_due};
 use crate::slots_by_name::SlotsByName;
 use byte_text::{Name, NoMemory};
@@ -230,6 +232,17 @@ impl IndexedChannels {
         Ok(due)
     }
 
+    /// Lists the places of the channels that are due, from the front to the back, where there is room for all.
+    pub(crate) fn list_due(&self, now: u64, places: &mut RunList)
+        requires none { places.old.items ≡ [] }
+        requires room { length self.now.channels ≤ places.old.spare }
+        ensures places { places.new.items ≡ places_out (Some now) self.now.channels }
+        ensures room { length places.new.items + places.new.spare ≡ places.old.spare }
+    {
+        let count = due_count(&self.slots, &self.dues, now);
+        list_places(&self.slots, &self.order, &self.dues, count, places);
+    }
+
     /// The place of the channel that expires first, where that is due.
     pub(crate) fn due_place(&self, now: u64) -> Option<usize>
         ensures none { IfNone result (left_at now self.now.channels ≡ self.now.channels) }
@@ -239,8 +252,7 @@ impl IndexedChannels {
     {
         match self.least_due(None) {
             Some(deadline) if deadline <= now => {
-                let first = &self.slots[self.dues.at(0)];
-                Some(place_of(&self.slots, &self.order, &first.name))
+                Some(place_of_due(&self.slots, &self.order, &self.dues, 0))
             }
             _ => None,
         }

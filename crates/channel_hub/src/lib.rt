@@ -3,6 +3,7 @@
 
 mod candidates;
 mod channel_slots;
+mod due_places;
 mod due_slots;
 mod dues;
 mod hubs;
