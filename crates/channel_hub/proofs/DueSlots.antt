@@ -1,11 +1,11 @@
 -- Slots of channels that have a deadline, as a channel comes, goes, or takes the place of another.
-use Rattle.std.proofs.Common.{◌≡◌, ◌≢◌, ◌<◌, ◌≤◌, ◌+◌, ◌∙◌, ℕ, zero, suc, Bool, true, false, not, refl, sym, ap, subst, List, [], ◌∷◌, length, take, drop, get_or, arith}
-use Rattle.std.specs.Prelude.{◌||◌, ◌&&◌, Option, Some, None, IsSome, filter, filter_map, is_some, slice_get}
-use Rattle.std.specs.List.{list_all, insert, remove}
+use Rattle.std.proofs.Common.{◌≡◌, ◌≢◌, ◌<◌, ◌≤◌, ◌+◌, ◌∙◌, ℕ, zero, suc, Bool, true, false, not, refl, sym, ap, subst, List, [], ◌∷◌, length, take, drop, arith}
+use Rattle.std.specs.Prelude.{◌||◌, ◌&&◌, Option, Some, None, IsSome, filter, is_some, slice_get}
+use Rattle.std.specs.List.{list_all, remove}
 use Rattle.std.proofs.lemmas.Option.{slice_get_within}
 use Rattle.byte_text.specs.ListLaws.{drop_next}
-use Rattle.ordered_lists.specs.Lists.{ascends, insert_by, sorted_by}
-use Rattle.ordered_lists.specs.Reading.{all-filter, all_at, both_of, filter-both, filter-most, filter-passes, got_at, stands_at}
+use Rattle.ordered_lists.specs.Lists.{insert_by, sorted_by}
+use Rattle.ordered_lists.specs.Reading.{all-filter, all_at, both_of, filter-both, filter-most, filter-passes}
 use Rattle.ordered_lists.specs.Slots.{Stores, are_other, differs, stored_at}
 use Rattle.ordered_lists.specs.Sorting.{all-sorted_by}
 use Rattle.run_list.specs.Runs.{is_cut}
@@ -13,7 +13,7 @@ use Rattle.world_data.specs.declared.channels.Channel.{Channel}
 use Rattle.world_data.specs.Expiry.{channel_due_before, is_channel_due}
 use Rattle.world_data.specs.Worlds.{are_channels, channel_before}
 use Rattle.channel_hub.specs.DueOrder.{dues_of, due_order, expiring, has_come_in, has_deadline, slot_due_before, with_due}
-use Rattle.channel_hub.specs.Dues.{due_in, left_at, left_of}
+use Rattle.channel_hub.specs.Dues.{due_in, left_at}
 use Rattle.channel_hub.specs.Hubs.{AreInOrder, channels_in}
 use Rattle.channel_hub.proofs.Concerned.{passing}
 use Rattle.channel_hub.proofs.Expiring.{due_apart, due_asym, due_down, first_deadline, goes_down}

@@ -1,6 +1,6 @@
 -- The order in which channels expire.
-use Rattle.std.proofs.Common.{◌≡◌, ◌≤◌, ◌∙◌, ℕ, min, Bool, true, false, not, refl, sym, ap, subst, List, [], ◌∷◌, arith}
-use Rattle.std.specs.Prelude.{◌||◌, ◌&&◌, Option, Some, None, filter, find, is_some}
+use Rattle.std.proofs.Common.{◌≡◌, ◌≤◌, ◌∙◌, ℕ, min, Bool, true, false, refl, sym, ap, subst, List, [], ◌∷◌, arith}
+use Rattle.std.specs.Prelude.{◌||◌, Option, Some, None, filter, find, is_some}
 use Rattle.std.specs.List.{list_all, AllByRecursion}
 use Rattle.std.proofs.lemmas.Bool.Decides.{nat_tests}
 use Rattle.byte_text.specs.Names.{Bytes, before}

@@ -112,10 +112,10 @@ module _ (name : Bytes) (xs : List Channel) (asc : are_channels xs ≡ true) (at
           } in
           held it c (found name xs at c it is)
       by_name c within is false n = no_channel (record {
-            front = front;
-            within = bound;
-            behind = subst (λ (o : Option Channel). IfSome o (λ d. before name d.name ≡ true)) (sym is) (behind_others c.name name (not_before c is) n);
-          })
+        front = front;
+        within = bound;
+        behind = subst (λ (o : Option Channel). IfSome o (λ d. before name d.name ≡ true)) (sym is) (behind_others c.name name (not_before c is) n);
+      })
 
       by_end : (b : Bool) → nat_eq at (length xs) ≡ b → P
       by_end true e =

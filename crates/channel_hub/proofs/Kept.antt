@@ -1,5 +1,5 @@
 -- What is kept of channels stays where room is added.
-use Rattle.std.proofs.Common.{◌≡◌, ◌<◌, ◌≤◌, ◌+◌, ℕ, true, length, refl, arith}
+use Rattle.std.proofs.Common.{◌≡◌, ◌<◌, ◌≤◌, ◌+◌, ℕ, true, length, refl}
 use Rattle.std.specs.Prelude.{Option, is_some}
 use Rattle.world_data.specs.declared.channels.Channel.{Channel}
 use Rattle.fence_index.specs.Boxed.{AreSame}

@@ -1,5 +1,5 @@
 -- Channels whose deadline has come: those that are out, and those that are left.
-use Rattle.std.specs.Prelude.{◌≡◌, ◌≤◌, ◌+◌, ℕ, min, Bool, true, false, not, List, [], ◌∷◌, length, filter, slice_get, Option, Some, None, is_some}
+use Rattle.std.specs.Prelude.{◌≡◌, ◌≤◌, ◌+◌, ℕ, min, Bool, true, false, not, List, [], ◌∷◌, length, filter, Option, Some, None, is_some}
 use Rattle.ordered_lists.specs.Lists.{sorted_by}
 use Rattle.world_data.specs.declared.channels.Channel.{Channel}
 use Rattle.world_data.specs.Expiry.{channel_due_before, is_channel_due}

@@ -1,4 +1,4 @@
-use Rattle.std.proofs.Common.{◌≡◌, ◌≤◌, ◌+◌, ◌-◌, ◌∙◌, true, not, sym, ap, subst, ℕ, List, length, map, take, drop, get_or, arith}
+use Rattle.std.proofs.Common.{◌≡◌, ◌-◌, ◌∙◌, true, not, sym, ap, subst, ℕ, List, length, map, take, drop, get_or, arith}
 use Rattle.std.specs.Prelude.{nat_lt}
 use Rattle.ordered_lists.specs.Lists.{ascends, insert_by, sorted_by}
 use Rattle.slab.specs.Slab.{get}

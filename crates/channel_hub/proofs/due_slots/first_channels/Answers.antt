@@ -1,4 +1,4 @@
-use Rattle.std.proofs.Common.{◌++◌, ◌∙◌, List, [], take, ap, sym, get_or, arith}
+use Rattle.std.proofs.Common.{◌++◌, ◌∙◌, List, [], ap, sym, get_or, arith}
 use Rattle.std.specs.Prelude.{Option}
 use Rattle.std.specs.List.{cons_option}
 use Rattle.world_data.specs.declared.channels.Channel.{Channel}

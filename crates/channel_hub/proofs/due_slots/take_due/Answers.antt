@@ -1,5 +1,4 @@
-use Rattle.std.proofs.Common.{◌≡◌, ◌∙◌, true, sym, subst, ap, ℕ, List, arith}
-use Rattle.std.specs.List.{remove}
+use Rattle.std.proofs.Common.{◌≡◌, ◌∙◌, true, sym, subst, ℕ, List, arith}
 use Rattle.std.proofs.lemmas.List.Edits.{length-remove}
 use Rattle.run_list.specs.Runs.{is_cut}
 use Rattle.slab.specs.Slab.{get}

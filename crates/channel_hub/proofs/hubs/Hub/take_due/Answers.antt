@@ -1,4 +1,4 @@
-use Rattle.std.proofs.Common.{◌≡◌, ◌<◌, ◌∙◌, ap, arith}
+use Rattle.std.proofs.Common.{◌<◌, ◌∙◌, ap, arith}
 use Rattle.std.specs.Prelude.{unwrap_or}
 use Rattle.channel_hub.specs.Dues.{least_due}
 use Rattle.channel_hub.proofs.DueFrom.{all_left, from_least_or, nothing_due}

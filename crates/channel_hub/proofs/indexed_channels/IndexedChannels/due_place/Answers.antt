@@ -1,12 +1,9 @@
-use Rattle.std.proofs.Common.{◌≡◌, ◌<◌, ◌∙◌, sym, ap, arith}
+use Rattle.std.proofs.Common.{◌≡◌, ◌∙◌, sym, ap, arith}
 use Rattle.std.specs.Prelude.{Some, None, slice_get}
-
 use Rattle.slab.specs.Slab.{get}
-
 use Rattle.channel_hub.specs.Dues.{least_due}
 use Rattle.channel_hub.specs.Hubs.{channels_in}
 use Rattle.channel_hub.proofs.DuePlaces.{first_there, is_due, none_yet, some_due}
-
 use Rattle.std.proofs.lemmas.Option.{slice_get_within}
 use Rattle.channel_hub.proofs.indexed_channels.IndexedChannels.due_place.Goals as goal
 

@@ -1,4 +1,4 @@
-use Rattle.std.proofs.Common.{◌≡◌, ◌≤◌, ◌∙◌, ap, subst, sym, ℕ, length, arith}
+use Rattle.std.proofs.Common.{◌≤◌, ◌∙◌, ap, length, arith}
 use Rattle.std.specs.Prelude.{filter, map, nat_lt}
 use Rattle.ordered_lists.specs.Lists.{sorted_by}
 use Rattle.ordered_lists.specs.Slots.{as_many}

@@ -1,5 +1,4 @@
-use Rattle.std.proofs.Common.{◌≡◌, ◌<◌, ◌≤◌, ◌+◌, ◌∙◌, true, length, refl, ap, rules, arith}
-use Rattle.std.specs.Prelude.{is_some}
+use Rattle.std.proofs.Common.{length, refl, ap, rules, arith}
 use Rattle.slab.specs.Slab.{get, slab_len}
 use Rattle.channel_hub.proofs.DueSlots.{fewer_dues}
 use Rattle.channel_hub.proofs.Kept.{kept_more, same_boxes}
