@@ -5,6 +5,7 @@ use crate::faults::Fault;
 use crate::looks::Look;
 use byte_text::Text;
 use outside::Side;
+use ready_links::{CallerScript, DoorScript, Named, Visit};
 use std::alloc::Global;
 
 /// How a case is played.
@@ -46,8 +47,6 @@ pub(crate) struct Fails {
     pub(crate) disk: Vec<u64>,
     pub(crate) source: Vec<u64>,
     pub(crate) sink: Vec<u64>,
-    pub(crate) door: Vec<u64>,
-    pub(crate) spawner: Vec<u64>,
 }
 
 impl Drop for Fails {
@@ -56,8 +55,6 @@ impl Drop for Fails {
             disk: _,
             source: _,
             sink: _,
-            door: _,
-            spawner: _,
         } = self;
     }
 }
@@ -81,10 +78,14 @@ pub(crate) struct Case {
     /// What stands on the sides at first.
     pub(crate) a: Text,
     pub(crate) b: Text,
-    /// What each caller sends.
-    pub(crate) callers: Vec<Text>,
+    /// What happens at the door.
+    pub(crate) door: DoorScript,
+    /// Whom each wait names, up to the end of the list; behind it all who are watched.
+    pub(crate) waits: Vec<Vec<Named>>,
     /// What each caller is written.
     pub(crate) told: Vec<Text>,
+    /// Whose link is shut last, where that is said.
+    pub(crate) last: Option<u64>,
     /// What is looked at behind all, and what has to be seen.
     pub(crate) looks: Vec<(Look, Text)>,
     /// Whether a line of the case was none.
@@ -107,8 +108,10 @@ impl Drop for Case {
             builder: _,
             a: _,
             b: _,
-            callers: _,
+            door: _,
+            waits: _,
             told: _,
+            last: _,
             looks: _,
             is_faulty: _,
         } = self;
@@ -120,8 +123,6 @@ fn no_fails(alloc: Global) -> Fails {
         disk: Vec::new(alloc),
         source: Vec::new(alloc),
         sink: Vec::new(alloc),
-        door: Vec::new(alloc),
-        spawner: Vec::new(alloc),
     }
 }
 
@@ -150,8 +151,14 @@ impl Case {
             builder: Builder::new(alloc),
             a: Text::new(alloc),
             b: Text::new(alloc),
-            callers: Vec::new(alloc),
+            door: DoorScript {
+                visits: Vec::new(alloc),
+                stays: false,
+                opens: true,
+            },
+            waits: Vec::new(alloc),
             told: Vec::new(alloc),
+            last: None,
             looks: Vec::new(alloc),
             is_faulty: false,
         }
@@ -167,6 +174,14 @@ impl Case {
         match &self.words {
             Some(words) => line_of(words),
             None => Err(Fault::Line),
+        }
+    }
+
+    /// The caller that was heard of last.
+    pub(crate) fn caller(&mut self) -> Result<&mut CallerScript, Fault> {
+        match self.door.visits.last_mut() {
+            Some(Visit::Comes(caller)) => Ok(caller),
+            _ => Err(Fault::Line),
         }
     }
 

@@ -6,6 +6,7 @@ use crate::looks::{Look, side_of};
 use crate::texts::{push_escaped, push_line, push_request, push_text};
 use byte_text::{Text, push_u64};
 use log_sides::NEWEST;
+use ready_links::{CallerScript, Move, Named, Visit};
 use script_text::push_frame_line;
 use std::alloc::Global;
 
@@ -155,8 +156,6 @@ fn hear_fails(case: &mut Case, rest: &str) -> Result<(), Fault> {
         "disk" => push_numbers(&mut case.fails.disk, numbers),
         "source" => push_numbers(&mut case.fails.source, numbers),
         "sink" => push_numbers(&mut case.fails.sink, numbers),
-        "door" => push_numbers(&mut case.fails.door, numbers),
-        "spawner" => push_numbers(&mut case.fails.spawner, numbers),
         _ => Err(Fault::Line),
     }
 }
@@ -210,9 +209,72 @@ fn hear_under(case: &mut Case, rest: &str) -> Result<(), Fault> {
 
 // A caller comes.
 fn hear_caller(case: &mut Case) -> Result<(), Fault> {
-    let (sent, told) = (Text::new(case.alloc), Text::new(case.alloc));
-    case.callers.push(sent)?;
-    case.told.push(told)?;
+    let caller = CallerScript {
+        sends: Vec::new(case.alloc),
+        stays: false,
+        reads: Vec::new(case.alloc),
+        writes: Vec::new(case.alloc),
+    };
+    case.door.visits.push(Visit::Comes(caller))?;
+    case.told.push(Text::new(case.alloc))?;
+    Ok(())
+}
+
+// Something else happens at the door.
+fn hear_of_door(case: &mut Case, what: &str) -> Result<(), Fault> {
+    match what {
+        "nobody" => case.door.visits.push(Visit::Nobody)?,
+        "fails" => case.door.visits.push(Visit::Fails)?,
+        "closed" => case.door.opens = false,
+        _ => return Err(Fault::Line),
+    }
+    Ok(())
+}
+
+// The link of the last caller is shut behind all others.
+fn hear_last(case: &mut Case) -> Result<(), Fault> {
+    case.last = (case.told.len() as u64).checked_sub(1);
+    Ok(())
+}
+
+// How a call of a link moves.
+fn move_of(word: &str) -> Result<Move, Fault> {
+    match word {
+        "later" => Ok(Move::Later),
+        "fails" => Ok(Move::Fails),
+        _ => Ok(Move::Most(number(word)? as usize)),
+    }
+}
+
+// Puts the moves of a line last in a list.
+fn push_moves(moves: &mut Vec<Move>, words: &str) -> Result<(), Fault> {
+    for word in words.split(' ') {
+        moves.push(move_of(word)?)?;
+    }
+    Ok(())
+}
+
+// Whom a wait names.
+fn named_of(word: &str) -> Result<Named, Fault> {
+    match word {
+        "door" => Ok(Named::Door),
+        "waker" => Ok(Named::Waker),
+        _ => match u32::try_from(number(word)?) {
+            Ok(place) => Ok(Named::Link(place)),
+            Err(_) => Err(Fault::Line),
+        },
+    }
+}
+
+// A wait names these.
+fn hear_names(case: &mut Case, words: &str) -> Result<(), Fault> {
+    let mut names = Vec::new(case.alloc);
+    if !words.is_empty() {
+        for word in words.split(' ') {
+            names.push(named_of(word)?)?;
+        }
+    }
+    case.waits.push(names)?;
     Ok(())
 }
 
@@ -227,17 +289,21 @@ fn push_last(texts: &mut [Text], bytes: &Text) -> Result<(), Fault> {
     }
 }
 
-// The last caller sends something or is written something.
+// The last caller sends something, its link moves so, or it is written something.
 fn hear_of_caller(case: &mut Case, word: &str, rest: &str) -> Result<(), Fault> {
     match word {
         "sends" => {
             let request = request_of(case.alloc, rest)?;
-            push_last(&mut case.callers, &request)
+            case.caller()?.sends.extend_from_slice(request.bytes())?;
+            Ok(())
         }
         "sent" => {
             let bytes = text_of(case.alloc, rest)?;
-            push_last(&mut case.callers, &bytes)
+            case.caller()?.sends.extend_from_slice(bytes.bytes())?;
+            Ok(())
         }
+        "reads" => push_moves(&mut case.caller()?.reads, rest),
+        "writes" => push_moves(&mut case.caller()?.writes, rest),
         _ => {
             let frame = frame_of(case.alloc, rest)?;
             push_last(&mut case.told, &frame)
@@ -299,7 +365,10 @@ fn hear_split(case: &mut Case, word: &str, rest: &str) -> Result<(), Fault> {
         "length" => hear_length(case, rest),
         "under" => hear_under(case, rest),
         "caller" => hear_caller(case),
-        "sends" | "sent" | "told" => hear_of_caller(case, word, rest),
+        "door" => hear_of_door(case, rest),
+        "names" => hear_names(case, rest),
+        "lasts" => hear_last(case),
+        "sends" | "sent" | "reads" | "writes" | "told" => hear_of_caller(case, word, rest),
         _ => hear_session(case, word, rest),
     }
 }

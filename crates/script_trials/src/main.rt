@@ -18,12 +18,17 @@
 //! | `cut N SIZE TEXT` | lines that feed them in pieces of a size |
 //! | `= LINE`, `- FRAME`, `part TEXT` | a line that is printed, or a frame; or the text without its end |
 //! | `status N` | the status; 0 where nothing is said |
-//! | `fails WHICH N ..` | these calls of the `disk`, `source`, `sink`, `door` or `spawner` fail |
+//! | `fails WHICH N ..` | these calls of the `disk`, `source` or `sink` fail |
 //! | `again` | the disk is what the case before left |
 //! | `crash M C` | the disk is what a crash at moment M leaves of that, by choice C |
-//! | `caller` | a caller comes |
-//! | `sends WORDS`, `sent TEXT` | it sends a request, or bytes |
+//! | `caller` | a caller comes at the next look for one |
+//! | `door nobody`, `door fails` | at the next look nobody comes yet, or the door fails |
+//! | `door closed` | the door can't be opened |
+//! | `names WHO ..` | the next wait names these: `door`, `waker`, or the number of a link's place; behind all these lines it names all |
+//! | `sends WORDS`, `sent TEXT` | the last caller sends a request, or bytes |
+//! | `reads HOW ..`, `writes HOW ..` | its link's next reads or writes move by N bytes at most, answer `later`, or it `fails`; behind these as much as may be |
 //! | `told FRAME` | it is written the frame |
+//! | `lasts` | its link is shut behind all others |
 //! | `log N`, `batch`, `shut` | a side is built: its head with generation N, a batch, the closed gate at its end |
 //! | `record WORDS`, `more WORDS`, `bytes TEXT` | a record, more words of it, bytes |
 //! | `begins S`, `leaves S` | what was built stands on side A or B at first, or at the end |
@@ -65,7 +70,7 @@ fn write_report(out: &mut impl Write, player: &mut Player) -> io::Result<()> {
 }
 
 // Plays each line of the input, and writes what is reported behind it.
-fn play_lines<B: BufRead + Drop, R: Wait + Threads + Copy + Send + Sync + 'static>(
+fn play_lines<B: BufRead + Drop, R: Wait + Threads + Sync>(
     rt: &R,
     alloc: Global,
     input: B,

@@ -4,7 +4,7 @@ use crate::cases::Case;
 use crate::faults::Fault;
 use crate::lines::{hear_each, hear_line};
 use crate::plays::{Came, play};
-use crate::texts::{push_escaped, push_line};
+use crate::texts::{push_escaped, push_last_line, push_line};
 use byte_text::{Text, push_u64};
 use outside::MemoryDisk;
 use std::alloc::Global;
@@ -82,6 +82,9 @@ fn wanted_of(case: &Case) -> Result<Text, Fault> {
     for told in case.told.iter() {
         push_told(case.alloc, &mut wanted, b"told ", told.bytes())?;
     }
+    if let Some(caller) = case.last {
+        push_last_line(&mut wanted, caller)?;
+    }
     for (_, seen) in case.looks.iter() {
         wanted.push(b"seen ")?;
         push_line(&mut wanted, seen.bytes())?;
@@ -139,11 +142,7 @@ impl Player {
     }
 
     // Plays a case.
-    fn play_case<R: Wait + Threads + Copy + Send + Sync + 'static>(
-        &mut self,
-        rt: &R,
-        case: &Case,
-    ) -> Result<(), Fault> {
+    fn play_case<R: Wait + Threads + Sync>(&mut self, rt: &R, case: &Case) -> Result<(), Fault> {
         let left = self.left.take();
         let came = play(rt, self.alloc, case, left)?;
         let Came { text, disk } = came;
@@ -152,7 +151,7 @@ impl Player {
     }
 
     // Plays the case that was heard last.
-    fn end_case<R: Wait + Threads + Copy + Send + Sync + 'static>(&mut self, rt: &R) {
+    fn end_case<R: Wait + Threads + Sync>(&mut self, rt: &R) {
         let Some(case) = self.case.take() else {
             return;
         };
@@ -166,7 +165,7 @@ impl Player {
     }
 
     /// Ends a group, and reports it.
-    pub(crate) fn end_group<R: Wait + Threads + Copy + Send + Sync + 'static>(&mut self, rt: &R) {
+    pub(crate) fn end_group<R: Wait + Threads + Sync>(&mut self, rt: &R) {
         self.end_case(rt);
         if self.group.len() > 0 && self.report_group().is_err() {
             self.complain("no memory", "");
@@ -205,11 +204,7 @@ impl Player {
     }
 
     // A line that begins a group or a case, or one of a case.
-    fn hear_any<R: Wait + Threads + Copy + Send + Sync + 'static>(
-        &mut self,
-        rt: &R,
-        line: &str,
-    ) -> Result<(), Fault> {
+    fn hear_any<R: Wait + Threads + Sync>(&mut self, rt: &R, line: &str) -> Result<(), Fault> {
         if let Some(name) = line.strip_prefix("case ") {
             self.end_case(rt);
             return self.begin_case(name);
@@ -223,11 +218,7 @@ impl Player {
     }
 
     /// A line of the input.
-    pub(crate) fn hear<R: Wait + Threads + Copy + Send + Sync + 'static>(
-        &mut self,
-        rt: &R,
-        line: &str,
-    ) {
+    pub(crate) fn hear<R: Wait + Threads + Sync>(&mut self, rt: &R, line: &str) {
         if line.is_empty() || line.starts_with('#') {
             return;
         }

@@ -8,11 +8,14 @@ use crate::faults::Fault;
 use crate::looks::push_seen;
 use crate::openings::play_opening;
 use crate::replay_faults::play_replay_faults;
-use crate::texts::{push_escaped, push_line};
+use crate::texts::{push_escaped, push_last_line, push_line};
 use crate::upgrades::play_upgrade;
 use crate::workloads::play_workload;
 use byte_text::{Text, push_u64};
-use outside::{BytesSink, BytesSource, HandClock, ListDoor, ListedSpawner, MemoryDisk};
+use outside::{BytesSink, BytesSource, HandClock, MemoryDisk};
+use ready_links::{
+    CallerScript, DoorScript, Named, ScriptedDoor, ScriptedLink, ScriptedWait, Visit,
+};
 use std::alloc::Global;
 use std::sync::Wait;
 use std::thread::Threads;
@@ -25,13 +28,41 @@ pub(crate) struct Came {
     pub(crate) disk: Option<MemoryDisk>,
 }
 
-// A copy of some texts, as bytes.
-fn copied(alloc: Global, texts: &[Text]) -> Result<Vec<Vec<u8>>, Fault> {
-    let mut all = Vec::new(alloc);
-    for text in texts.iter() {
-        all.push(text.bytes().to_vec(alloc)?)?;
+// What a caller does, once more.
+fn copied_caller(alloc: Global, caller: &CallerScript) -> Result<CallerScript, Fault> {
+    Ok(CallerScript {
+        sends: caller.sends.as_slice().to_vec(alloc)?,
+        stays: caller.stays,
+        reads: caller.reads.as_slice().to_vec(alloc)?,
+        writes: caller.writes.as_slice().to_vec(alloc)?,
+    })
+}
+
+// The door of a case.
+fn door_of(alloc: Global, case: &Case) -> Result<ScriptedDoor, Fault> {
+    let mut visits = Vec::new(alloc);
+    for visit in case.door.visits.iter() {
+        visits.push(match visit {
+            Visit::Comes(caller) => Visit::Comes(copied_caller(alloc, caller)?),
+            Visit::Nobody => Visit::Nobody,
+            Visit::Fails => Visit::Fails,
+        })?;
     }
-    Ok(all)
+    let script = DoorScript {
+        visits,
+        stays: case.door.stays,
+        opens: case.door.opens,
+    };
+    Ok(ScriptedDoor::new(alloc, script))
+}
+
+// The one that waits in a case.
+fn wait_of(alloc: Global, case: &Case) -> Result<ScriptedWait, Fault> {
+    let mut waits: Vec<Vec<Named>> = Vec::new(alloc);
+    for names in case.waits.iter() {
+        waits.push(names.as_slice().to_vec(alloc)?)?;
+    }
+    Ok(ScriptedWait::new(alloc, waits)?)
 }
 
 // The disk over which a case is played.
@@ -56,20 +87,26 @@ pub(crate) fn words_of(alloc: Global, line: &str) -> Result<Vec<String>, Fault> 
     Ok(all)
 }
 
-// Appends what each caller was written.
-fn push_told<R: Wait>(
-    rt: &R,
+// What the caller of this number was written, whose link was shut; nothing where none was.
+fn written_to(links: &[ScriptedLink], caller: u64) -> &[u8] {
+    for link in links.iter() {
+        if link.caller() == caller {
+            return link.written();
+        }
+    }
+    b""
+}
+
+// Appends what each of so many callers was written.
+fn push_told(
     alloc: Global,
     out: &mut Text,
-    door: &ListDoor,
-    links: usize,
+    wait: &ScriptedWait,
+    callers: u64,
 ) -> Result<(), Fault> {
-    for link in 0..links {
-        let Some(written) = door.written(rt, alloc, link)? else {
-            return Err(Fault::Step);
-        };
+    for caller in 0..callers {
         out.push(b"told ")?;
-        push_escaped(alloc, out, &written)?;
+        push_escaped(alloc, out, written_to(wait.shut_links(), caller))?;
         out.push(b"\n")?;
     }
     Ok(())
@@ -77,7 +114,7 @@ fn push_told<R: Wait>(
 
 /// Asks for what the words say: the script is read in pieces of 7 bytes, and its output is written in pieces of 5. How
 /// it ended, what was written, and what each caller was.
-pub(crate) fn asked<R: Wait + Threads + Copy + Send + Sync + 'static>(
+pub(crate) fn asked<R: Wait + Threads + Sync>(
     rt: &R,
     alloc: Global,
     words: &[String],
@@ -88,10 +125,8 @@ pub(crate) fn asked<R: Wait + Threads + Copy + Send + Sync + 'static>(
     let script = case.script.bytes().to_vec(alloc)?;
     let mut source = BytesSource::new(script, 7, fails.source.as_slice().to_vec(alloc)?);
     let mut sink = BytesSink::new(alloc, 5, fails.sink.as_slice().to_vec(alloc)?);
-    let links = copied(alloc, case.callers.as_slice())?;
-    let failing = fails.door.as_slice().to_vec(alloc)?;
-    let mut door = ListDoor::new(alloc, links, failing)?;
-    let mut spawner = ListedSpawner::new(alloc, fails.spawner.as_slice().to_vec(alloc)?);
+    let mut door = door_of(alloc, case)?;
+    let mut wait = wait_of(alloc, case)?;
     let clock = HandClock::at(7);
     let ended = top(
         rt,
@@ -102,26 +137,34 @@ pub(crate) fn asked<R: Wait + Threads + Copy + Send + Sync + 'static>(
         disk,
         &mut door,
         &clock,
-        &mut spawner,
+        &mut wait,
     );
-    let came = written(rt, alloc, &sink, &door, ended.status, case.callers.len())?;
+    let came = written(alloc, case, &sink, &wait, ended.status)?;
     Ok((ended, came))
 }
 
+// Appends which caller's link was shut last, where a case asks for it.
+fn push_last(out: &mut Text, case: &Case, wait: &ScriptedWait) -> Result<(), Fault> {
+    match (case.last, wait.shut_links().last()) {
+        (Some(_), Some(link)) => push_last_line(out, link.caller()),
+        _ => Ok(()),
+    }
+}
+
 // What was written, the status, and what each caller was written.
-fn written<R: Wait>(
-    rt: &R,
+fn written(
     alloc: Global,
+    case: &Case,
     sink: &BytesSink,
-    door: &ListDoor,
+    wait: &ScriptedWait,
     status: u8,
-    links: usize,
 ) -> Result<Text, Fault> {
     let mut text = Text::of(alloc, sink.written())?;
     text.push(b"status ")?;
     push_u64(&mut text, u64::from(status))?;
     text.push(b"\n")?;
-    push_told(rt, alloc, &mut text, door, links)?;
+    push_told(alloc, &mut text, wait, case.told.len() as u64)?;
+    push_last(&mut text, case, wait)?;
     Ok(text)
 }
 
@@ -142,7 +185,7 @@ fn push_looks(
 }
 
 // The program's one call is asked for what the words say, and what is left is looked at.
-fn play_top<R: Wait + Threads + Copy + Send + Sync + 'static>(
+fn play_top<R: Wait + Threads + Sync>(
     rt: &R,
     alloc: Global,
     case: &Case,
@@ -197,7 +240,7 @@ fn recorded(alloc: Global, case: &Case, disk: MemoryDisk) -> Result<Came, Fault>
 }
 
 /// Plays a case over the disk that it asks for, where the case before left this one.
-pub(crate) fn play<R: Wait + Threads + Copy + Send + Sync + 'static>(
+pub(crate) fn play<R: Wait + Threads + Sync>(
     rt: &R,
     alloc: Global,
     case: &Case,

@@ -40,7 +40,7 @@ fn has_objects(alloc: Global, output: &[u8], objects: u64) -> Result<bool, Fault
 }
 
 // Asks for what a word says, with the script of a case and over this disk.
-fn asked_by<R: Wait + Threads + Copy + Send + Sync + 'static>(
+fn asked_by<R: Wait + Threads + Sync>(
     rt: &R,
     alloc: Global,
     word: &str,
@@ -52,7 +52,7 @@ fn asked_by<R: Wait + Threads + Copy + Send + Sync + 'static>(
 }
 
 // Looks at a disk that failed: what was acknowledged stands, and no more than was asked for. Another thing is told of.
-fn look<R: Wait + Threads + Copy + Send + Sync + 'static>(
+fn look<R: Wait + Threads + Sync>(
     rt: &R,
     alloc: Global,
     out: &mut Text,
@@ -73,7 +73,7 @@ fn look<R: Wait + Threads + Copy + Send + Sync + 'static>(
 }
 
 // Plays the script on a disk whose call of this number fails, and looks at what is left. Whether the call was made.
-fn fail_at<R: Wait + Threads + Copy + Send + Sync + 'static>(
+fn fail_at<R: Wait + Threads + Sync>(
     rt: &R,
     alloc: Global,
     out: &mut Text,
@@ -102,7 +102,7 @@ fn fail_at<R: Wait + Threads + Copy + Send + Sync + 'static>(
 
 /// Plays a script on a disk that fails at each call in turn, until there is none. Then whether they were more than the
 /// words say.
-pub(crate) fn play_replay_faults<R: Wait + Threads + Copy + Send + Sync + 'static>(
+pub(crate) fn play_replay_faults<R: Wait + Threads + Sync>(
     rt: &R,
     alloc: Global,
     case: &Case,

@@ -1,7 +1,7 @@
 //! Texts as the input writes them, and bytes as the report writes them.
 
 use crate::faults::Fault;
-use byte_text::{Text, push_array_head, push_bulk};
+use byte_text::{Text, push_array_head, push_bulk, push_u64};
 use script_text::push_frame_line;
 use std::alloc::Global;
 
@@ -148,4 +148,11 @@ pub(crate) fn push_line(out: &mut Text, line: &[u8]) -> Result<(), Fault> {
     out.push(line)?;
     out.push(b"\n")?;
     Ok(())
+}
+
+/// Appends the line of the caller whose link was shut last.
+pub(crate) fn push_last_line(out: &mut Text, caller: u64) -> Result<(), Fault> {
+    out.push(b"last ")?;
+    push_u64(out, caller)?;
+    push_line(out, b"")
 }

@@ -1,4 +1,6 @@
+mod Drawn
+mod Stepping
+mod Places
+mod Records
+mod Keeping
 mod Tending
-mod Starting
-mod Rounding
-mod Serving

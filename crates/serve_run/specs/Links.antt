@@ -1,66 +1,14 @@
--- What the loop of a server does for one accept.
-use Rattle.std.specs.Prelude.{◌≡◌, ◌⊎◌, ◌≤◌, ◌<◌, ℕ, ◌+◌, Bool, true, false, List, [], ◌∷◌, ◌++◌, replicate, min, Option, Some, None, MatchOption}
-use Rattle.outside.specs.Causes.{next_count, most_count}
+-- The Tick and the Rewrites that stand between the steps of a loop.
+use Rattle.std.specs.Prelude.{◌≡◌, ◌⊎◌, ◌<◌, ℕ, List, [], ◌∷◌, ◌++◌, replicate, Option, Some, None, MatchOption}
 use Rattle.world_model.specs.declared.events.CallOutcome.{CallOutcome}
 use Rattle.world_model.specs.declared.events.CallOutcome.TheVariants as called
 use Rattle.world_model.specs.declared.events.Event.TheVariants as event
-use Rattle.world_model.specs.declared.events.Outcome.{Outcome}
 use Rattle.world_model.specs.declared.events.Outcome.TheVariants as outcome
 use Rattle.world_model.specs.Seats.{Knows, Act}
 use Rattle.session_run.specs.Gains.{Gains}
-use Rattle.serve_run.specs.declared.starts.Fate.{Fate}
-use Rattle.serve_run.specs.declared.starts.Fate.TheVariants.{Refused, Served, Unread, Dropped, Starved}
 use Rattle.serve_run.specs.declared.tends.ServeEnd.{ServeEnd}
 use Rattle.serve_run.specs.declared.tends.ServeEnd.TheVariants as end
 use Rattle.serve_run.specs.declared.tends.TheConstants.{REWRITE_STEPS}
-
--- the entries behind the Enter of a session
-abbrev pub start_acts : ℕ → Fate → List Act
-start_acts n Refused = []
-start_acts n Served = []
-start_acts n Unread = (event.Remove n, outcome.Done) ∷ []
-start_acts n Dropped = (event.Remove n, outcome.Done) ∷ []
-start_acts n Starved = (event.Remove n, outcome.Done) ∷ []
-
--- the number of jobs, behind those that were started for a link
-abbrev pub jobs_after : Fate → ℕ → ℕ
-jobs_after Served n = next_count (next_count n)
-jobs_after Unread n = next_count n
-jobs_after fate n = n
-
--- how many jobs of a link were refused
-abbrev pub refusals : Fate → ℕ
-refusals Unread = 1
-refusals Dropped = 1
-refusals fate = 0
-
-abbrev pub was_entered : Fate → Bool
-was_entered Refused = false
-was_entered fate = true
-
--- the jobs of a session were started, as far as this says
-pub record Starts (n : ℕ) (old new : Knows) (jobs jobs' faults faults' : ℕ) (fate : Fate) : Type 0 where
-  pub gains : Gains old new (start_acts n fate)
-  pub entered : was_entered fate ≡ true
-  pub jobs_are : jobs' ≡ jobs_after fate jobs
-  pub refused : min (faults + refusals fate) most_count ≤ faults'
-
-abbrev pub fate_acts : Outcome → Fate → List Act
-fate_acts (outcome.Entered n) fate = start_acts n fate
-fate_acts o fate = []
-
--- a session was entered exactly where the link was not refused
-abbrev pub IsFate : Outcome → Fate → Type 0
-IsFate (outcome.Entered n) fate = was_entered fate ≡ true
-IsFate o fate = fate ≡ Refused
-
--- a link: one Enter, and at most one Remove of the session that was entered
-pub record Joins (old new : Knows) (jobs jobs' faults faults' : ℕ) (fate : Fate) : Type 0 where
-  pub entered : Outcome
-  pub gains : Gains old new ((event.Enter, entered) ∷ fate_acts entered fate)
-  pub is_fate : IsFate entered fate
-  pub jobs_are : jobs' ≡ jobs_after fate jobs
-  pub refused : min (faults + refusals fate) most_count ≤ faults'
 
 -- the end that the answer to a Tick or Rewrite brings
 abbrev pub serve_end : CallOutcome → Option ServeEnd

@@ -19,18 +19,12 @@ mod journals;
 #[cfg(test)]
 mod late_works;
 #[cfg(test)]
-mod links;
-#[cfg(test)]
 mod loads;
 #[cfg(test)]
 mod positions;
 #[cfg(test)]
 mod requests;
 #[cfg(test)]
-mod sessions;
-#[cfg(test)]
 mod stores;
 #[cfg(test)]
 mod system;
-#[cfg(test)]
-mod texts;

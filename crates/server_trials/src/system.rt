@@ -1,110 +1,117 @@
 //! The real things, over the loopback and in the current folder.
 
-use outside::{
-    Accepted, Clock, Disk, Door, Failed, Job, Link, MAX_MOMENT, Side, Sink, Source, Spawner, Tally,
-};
-use std::alloc::Global;
+use outside::{Clock, Disk, Failed, MAX_MOMENT, Side, Sink, Source};
+use poll_io::{PollDoor, PollLink, PollWait};
+use ready_links::{Caller, Got, Named, ReadyDoor, ReadyLink, Sent, WaitForLinks, Wake};
 use std::fs;
 use std::io::{Read, Write};
 use std::net::TcpStream;
 use std::process::Abort;
-use std::sync::atomic::{AtomicU64, Ordering};
-use std::sync::{Arc, Wait};
 use std::test::Fail;
-use std::time::Duration;
-use system_io::{
-    FolderDisk, StdinSource, StdoutSink, TcpDoor, TcpSink, TcpSource, ThreadSpawner, WallClock,
-};
+use system_io::{FolderDisk, StdinSource, StdoutSink, WallClock};
 
-// A door at a port of this machine, where a write waits for its caller so many milliseconds.
-fn door_at(rt: &HostRuntime, addr: &str, patience: u64) -> Result<TcpDoor<HostRuntime>, Failed> {
-    let mut door = TcpDoor::new(*rt, rt.alloc(), Duration::from_millis(patience));
+// A door at a port of this machine.
+fn door_at(rt: &HostRuntime, addr: &str) -> Result<PollDoor<HostRuntime>, Failed> {
+    let mut door = PollDoor::new(*rt, rt.alloc());
     match door.listen(addr) {
         Ok(()) => Ok(door),
         Err(Failed) => Err(Failed),
     }
 }
 
-// A caller at the address of a door, and the door's ends of the link to it.
+// The link to the caller who waits at a door.
+fn accepted(door: &mut PollDoor<HostRuntime>) -> Result<PollLink, Failed> {
+    match door.accept() {
+        Ok(Caller::Came(link)) => Ok(link),
+        _ => Err(Failed),
+    }
+}
+
+// A caller at the address of a door, and the door's end of the link to him.
 fn call_at(
     rt: &HostRuntime,
-    door: &mut TcpDoor<HostRuntime>,
+    door: &mut PollDoor<HostRuntime>,
     addr: &str,
-) -> Result<(TcpStream, Link<TcpSource, TcpSink>), Fail> {
+) -> Result<(TcpStream, PollLink), Fail> {
     let caller = TcpStream::connect(rt, addr)?;
-    match door.accept() {
-        Ok(Accepted::Joined(link)) => Ok((caller, link)),
-        _ => Err(Fail::from(Failed)),
-    }
+    let link = accepted(door)?;
+    Ok((caller, link))
+}
+
+#[test]
+fn a_door_fails_where_it_cannot_listen(rt: HostRuntime) -> Result<(), Fail> {
+    let mut door = PollDoor::new(rt, rt.alloc());
+    assert!(rt; matches!(door.accept(), Err(Failed)));
+    assert_eq!(rt; door.listen("no address"), Err(Failed));
+    Ok(())
 }
 
 #[test]
 fn a_link_carries_bytes_both_ways_up_to_its_end(rt: HostRuntime) -> Result<(), Fail> {
     let addr = "127.0.0.1:39411";
-    let mut door = door_at(&rt, addr, 1000)?;
-    assert!(rt; matches!(door.accept(), Ok(Accepted::Idle)));
-    let (mut caller, link) = call_at(&rt, &mut door, addr)?;
-    let Link {
-        mut incoming,
-        mut outgoing,
-    } = link;
+    let mut door = door_at(&rt, addr)?;
+    assert!(rt; matches!(door.accept(), Ok(Caller::Later)));
+    let (mut caller, mut link) = call_at(&rt, &mut door, addr)?;
     let mut got = [b'.'; 2];
+    assert_eq!(rt; link.read(&mut got), Ok(Got::Later));
     caller.write_all(b"ab")?;
-    assert_eq!(rt; incoming.read(&mut got), Ok(2));
+    assert_eq!(rt; link.read(&mut got), Ok(Got::Bytes(2)));
     assert_eq!(rt; got, *b"ab");
-    assert_eq!(rt; outgoing.write(b"cd"), Ok(2));
-    drop(outgoing);
+    assert_eq!(rt; link.write(b"cd"), Ok(Sent::Bytes(2)));
+    drop(link);
     assert_eq!(rt; caller.read(&mut got)?, 2);
     assert_eq!(rt; got, *b"cd");
     assert_eq!(rt; caller.read(&mut got)?, 0);
-    assert_eq!(rt; incoming.read(&mut got), Ok(0));
     Ok(())
 }
 
-#[test]
-fn a_peer_that_never_reads_is_a_failure_of_its_sink(rt: HostRuntime) -> Result<(), Fail> {
-    let addr = "127.0.0.1:39412";
-    let mut door = door_at(&rt, addr, 20)?;
-    let (caller, link) = call_at(&rt, &mut door, addr)?;
-    let Link {
-        incoming: _incoming,
-        mut outgoing,
-    } = link;
-    let piece = vec![in rt.alloc(); 0u8; 1_000_000]?;
-    let mut failed = false;
-    for _ in 0..100 {
-        if outgoing.write(&piece) == Err(Failed) {
-            failed = true;
-            break;
+// Writes pieces until the link takes no more for now. Whether it came to that.
+fn is_filled(link: &mut PollLink) -> bool {
+    let piece = [b'.'; 4_096];
+    for _ in 0..100_000u32 {
+        if let Ok(Sent::Later) = link.write(&piece) {
+            return true;
         }
     }
-    assert!(rt; failed);
+    false
+}
+
+#[test]
+fn a_write_to_a_caller_who_never_reads_waits_for_nobody(rt: HostRuntime) -> Result<(), Fail> {
+    let addr = "127.0.0.1:39412";
+    let mut door = door_at(&rt, addr)?;
+    let (caller, mut link) = call_at(&rt, &mut door, addr)?;
+    assert!(rt; is_filled(&mut link));
     drop(caller);
     Ok(())
 }
 
+// Waits until somebody is named, for ten seconds at most.
+fn is_named(wait: &mut PollWait<HostRuntime>, name: Named) -> bool {
+    for _ in 0..100u32 {
+        let count = wait.wait(100).unwrap_or(0);
+        if (0..count).any(|nth| wait.named(nth) == Some(name)) {
+            return true;
+        }
+    }
+    false
+}
+
 #[test]
-fn a_caller_that_leaves_bytes_unread_is_a_failure_of_its_source(
-    rt: HostRuntime,
-) -> Result<(), Fail> {
+fn a_wait_names_who_is_ready(rt: HostRuntime) -> Result<(), Fail> {
     let addr = "127.0.0.1:39413";
-    let mut door = door_at(&rt, addr, 1000)?;
-    let (caller, link) = call_at(&rt, &mut door, addr)?;
-    let Link {
-        mut incoming,
-        mut outgoing,
-    } = link;
-    assert_eq!(rt; outgoing.write(b"ab"), Ok(2));
+    let mut door = door_at(&rt, addr)?;
+    let mut wait = PollWait::new(rt, rt.alloc())?;
+    assert_eq!(rt; wait.watch_door(&mut door), Ok(()));
+    let caller = TcpStream::connect(&rt, addr)?;
+    assert!(rt; is_named(&mut wait, Named::Door));
+    let mut link = accepted(&mut door)?;
+    assert_eq!(rt; wait.watch(&mut link, 7), Ok(()));
     drop(caller);
-    assert_eq!(rt; incoming.read(&mut [b'.'; 2]), Err(Failed));
-    Ok(())
-}
-
-#[test]
-fn a_door_fails_where_it_cannot_listen(rt: HostRuntime) -> Result<(), Fail> {
-    let mut door = TcpDoor::new(rt, rt.alloc(), Duration::from_secs(1));
-    assert!(rt; matches!(door.accept(), Err(Failed)));
-    assert_eq!(rt; door.listen("no address"), Err(Failed));
+    assert!(rt; is_named(&mut wait, Named::Link(7)));
+    assert_eq!(rt; link.read(&mut [b'.'; 2]), Ok(Got::End));
+    wait.waker()?.wake();
+    assert!(rt; is_named(&mut wait, Named::Waker));
     Ok(())
 }
 
@@ -112,39 +119,6 @@ fn a_door_fails_where_it_cannot_listen(rt: HostRuntime) -> Result<(), Fail> {
 fn a_wall_clock_tells_milliseconds(rt: HostRuntime) {
     let now = WallClock::new(rt).twin().now();
     assert!(rt; now > 1_600_000_000_000 && now <= MAX_MOMENT);
-}
-
-#[derive(Drop)]
-struct Adds {
-    sum: Arc<AtomicU64, Global>,
-}
-
-impl Job for Adds {
-    type Out = u64;
-
-    ghost gives = { λ _ _. Unit {0} };
-
-    ghost ready = { λ _. Unit {0} };
-
-    fn run<R: Wait>(self, _rt: &R) -> u64 {
-        self.sum.fetch_add(1, Ordering::SeqCst)
-    }
-}
-
-#[test]
-fn a_spawner_runs_each_job(rt: HostRuntime) -> Result<(), Fail> {
-    let alloc = rt.alloc();
-    let sum = Arc::new(alloc, AtomicU64::new(0))?;
-    let mut spawner = ThreadSpawner::new(alloc);
-    for _ in 0..3 {
-        let job = Adds {
-            sum: Arc::try_clone(&sum)?,
-        };
-        assert_eq!(rt; spawner.start(&rt, job), Ok(()));
-    }
-    spawner.finish(&rt);
-    assert_eq!(rt; sum.load(Ordering::SeqCst), 3);
-    Ok(())
 }
 
 // What stands behind a lock goes from thread to thread.

@@ -1,5 +1,5 @@
 -- What a reader of requests makes of bytes, some requests at a time.
-use Rattle.std.specs.Prelude.{◌≡◌, ◌≤◌, true, List, [], ◌∷◌, ◌++◌, length, map, drop, Some, None}
+use Rattle.std.specs.Prelude.{◌≡◌, true, List, [], ◌∷◌, ◌++◌, map, Some, None}
 use Rattle.byte_text.specs.Names.{Bytes}
 use Rattle.byte_text.specs.Streams.{Stream, StreamEnd, holds, fails, stream_of}
 use Rattle.byte_text.specs.declared.faults.RespFault.{RespFault}
@@ -7,10 +7,6 @@ use Rattle.resp_frames.specs.RequestReader.{Held}
 use Rattle.world_model.specs.Outcomes.{is_proper}
 use Rattle.world_model.specs.declared.events.Asked.{Asked}
 use Rattle.world_model.specs.declared.events.Asked.TheVariants.{Words, Broken}
-use Rattle.session_run.specs.declared.batches.Step.{Step}
-use Rattle.session_run.specs.declared.batches.Step.TheVariants as step
-use Rattle.session_run.specs.declared.batches.Fill.{Fill}
-use Rattle.session_run.specs.declared.batches.Fill.TheVariants as fill
 
 -- what a stream asks for: each of its requests, and at last the end that its fault brings
 abbrev pub last_asked : StreamEnd → List Asked
@@ -46,16 +42,3 @@ pub record ReadsFault (old : Held) (bytes : Bytes) (new : Held) (before now : Li
   pub proper : is_proper (Broken fault) ≡ true
   pub feeds : Feeds old bytes new [] (Broken fault ∷ [])
   pub dead : new ≡ None
-
-abbrev pub IsStep : Held → Bytes → Held → List Asked → List Asked → Step → Type 0
-IsStep old bytes new before now (step.Next taken) = (taken ≤ length bytes) × Reads old bytes new (drop taken bytes) before now
-IsStep old bytes new before now step.Dry = (now ≡ before) × Feeds old bytes new [] [] × (asked_behind new [] ≡ [])
-IsStep old bytes new before now step.Broken = ReadsFault old bytes new before now
-IsStep old bytes new before now step.Memory = now ≡ before
-
--- the requests of the bytes were collected, as far as this says
-abbrev pub IsFill : Held → Bytes → Held → List Asked → Fill → Type 0
-IsFill old bytes new asks (fill.Full taken) = (taken ≤ length bytes) × Feeds old bytes new (drop taken bytes) asks
-IsFill old bytes new asks fill.Dry = Feeds old bytes new [] asks × (asked_behind new [] ≡ [])
-IsFill old bytes new asks fill.Broken = Feeds old bytes new [] asks × EndsBroken asks × (new ≡ None)
-IsFill old bytes new asks fill.Memory = (now : Held) × (rest : Bytes) × Feeds old bytes now rest asks

@@ -1,16 +1,11 @@
 -- The entries that a seat gains, one behind another.
-use Rattle.std.specs.Prelude.{◌≡◌, ◌⊎◌, ℕ, ◌+◌, ◌<◌, List, [], ◌∷◌, ◌++◌, length, map}
+use Rattle.std.specs.Prelude.{◌≡◌, ℕ, ◌+◌, ◌<◌, List, [], ◌∷◌, ◌++◌, length, map}
 use Rattle.std.proofs.Common.{refl, sym, ap, ◌∙◌, subst, arith, append_assoc, length-append}
 use Rattle.std.proofs.lemmas.List.{append-nil}
-use Rattle.world_model.specs.Histories.{IsLegal}
 use Rattle.world_model.specs.Seats.{Knows, Act, act_of, places_from, AddsCalls, Adds}
 use Rattle.world_model.specs.declared.events.Event.{Event}
 use Rattle.world_model.specs.declared.events.Outcome.{Outcome}
 use Rattle.world_model.specs.declared.events.Entry.{Entry}
-
--- all that is seen is a legal history
-abbrev pub SeesLegal : Knows → Type 0
-SeesLegal k = IsLegal k.opening k.seen
 
 -- an entry of the seat's own: others may have come between
 pub record Makes (a : Act) (old new : Knows) : Type 0 where
@@ -36,22 +31,6 @@ gains_one old new a m = (new, m, refl)
 
 pub gains_last : (old mid new : Knows) (a : List Act) (x : Act) → Gains old mid a → Makes x mid new → Gains old new (a ++ x ∷ [])
 gains_last old mid new a x g m = gains_more old mid new a (x ∷ []) g (gains_one mid new x m)
-
--- two lists of acts as one, each in its order
-abbrev pub Mixes : List Act → List Act → List Act → Type 0
-Mixes [] calls takes = (calls ≡ []) × (takes ≡ [])
-Mixes (a ∷ acts) calls takes = ((more : List Act) × (calls ≡ a ∷ more) × Mixes acts more takes) ⊎ ((more : List Act) × (takes ≡ a ∷ more)
-    × Mixes acts calls more)
-
--- the seat made the entries of calls and those of takes, each in their order, and no other
-pub record GainsBoth (old new : Knows) (calls takes : List Act) : Type 0 where
-  pub acts : List Act
-  pub gains : Gains old new acts
-  pub mixed : Mixes acts calls takes
-
--- one says of some takes what was called beside them, the other what was written of them
-abbrev pub WithTakes : (List Act → Type 0) → (List Act → Type 0) → Type 0
-WithTakes calls writes = (took : List Act) × calls took × writes took
 
 same_knows : (a b : Knows) → a.opening ≡ b.opening → a.seen ≡ b.seen → a.mine ≡ b.mine → a.first ≡ b.first → a ≡ b
 same_knows a b o s m f =

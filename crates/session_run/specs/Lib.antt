@@ -3,5 +3,3 @@ pub mod Outs
 pub mod Calls
 pub mod Feeds
 pub mod Ends
-pub mod Writings
-pub mod Jobs

@@ -1,9 +1,4 @@
-//! How the serving of a session's requests may end.
-
-ghost use Rattle.std.specs.Prelude.{◌≡◌};
-ghost use Rattle.session_run.specs.Ends.{end_of};
-
-use world_model::CallOutcome;
+//! How the asking of a session may end.
 
 /// How the serving of a session's requests ended.
 #[derive(Clone, Copy, Debug, PartialEq, Eq)]
@@ -14,8 +9,6 @@ pub enum InEnd {
     Broken,
     /// The hall serves the session no more.
     ClosedByHall,
-    /// The session had ended, or its frames could not be taken or written.
-    OutEnded,
     /// The source failed.
     ReadFault,
     /// The log could not be written; the hall has stopped.
@@ -26,18 +19,4 @@ pub enum InEnd {
     Spent,
     /// Memory ran out, here or in the hall.
     Memory,
-}
-
-/// The end that a call's answer brings.
-pub(crate) fn end_of(answer: CallOutcome) -> Option<InEnd>
-    ensures { result ≡ end_of answer }
-{
-    match answer {
-        CallOutcome::Ok | CallOutcome::Full => None,
-        CallOutcome::Gone => Some(InEnd::ClosedByHall),
-        CallOutcome::LogFault => Some(InEnd::LogFault),
-        CallOutcome::Stopped => Some(InEnd::Stopped),
-        CallOutcome::Spent => Some(InEnd::Spent),
-        CallOutcome::Memory => Some(InEnd::Memory),
-    }
 }

@@ -22,9 +22,12 @@ use Rattle.journal.specs.declared.openings.OpenFault.TheVariants as fault_of
 use Rattle.log_record.specs.Readings.{Damaged}
 use Rattle.log_record.specs.Recovery.{Recovers}
 use Rattle.log_record.specs.Safety.{Safe, count_after}
-use Rattle.serve_run.specs.Ends.{IsEnd, memory_line}
+use Rattle.serve_run.specs.Ends.{IsEnd}
 use Rattle.serve_run.specs.Words.{Serve}
-use Rattle.serve_run.specs.Serves.{Serves, Counted}
+use Rattle.serve_run.specs.Loops.{around}
+use Rattle.serve_run.specs.LoopServes.{ServesLoop}
+use Rattle.ready_links.specs.Doors.{DoorState}
+use Rattle.ready_links.specs.Waits.{WaitState}
 use Rattle.world_model.specs.declared.events.Opening.{Opening}
 use Rattle.shared_hall.specs.Times.{is_retirement}
 use Rattle.shared_hall.specs.Turns.{retire_outcome}
@@ -190,33 +193,19 @@ given_left {D} images left_since old new (Some p) given is adds safe stands =
       settled = λ s. stands (retired_ok old new p.1 adds s);
     })
 
--- a relation, told of what is the same
-pub told_of : {A B : Type 0} (P : A → B → Type 0) (a a' : A) (b b' : B) → a ≡ a' → b ≡ b' → P a b → P a' b'
-told_of {A} {B} P a a' b b' e f p = subst (λ (z : A). P z b') e (subst (λ (z : B). P a z) f p)
-
-pub serves_as : (told : Option ℕ) (s : Serve) (k k1 k2 : Knows) (c c1 c2 : Counted) (held h1 h2 : Option Bytes) (st1 st2 : ℕ) → k1 ≡ k2 → c1 ≡ c2 → h1 ≡ h2 → st1 ≡ st2
-    → Serves told s k k1 c c1 held h1 st1 → Serves told s k k2 c c2 held h2 st2
-serves_as told s k k1 k2 c c1 c2 held h1 h2 st1 st2 ek ec eh es v =
-    subst (λ (z : Knows). Serves told s k z c c2 held h2 st2) ek (subst (λ (z : Counted). Serves told s k k1 c z held h2 st2) ec
-    (subst (λ (z : Option Bytes). Serves told s k k1 c c1 held z st2) eh (subst (λ (z : ℕ). Serves told s k k1 c c1 held h1 z) es v)))
-
--- where no more than the hall was made, memory wanted
-pub unbegun : (told : Option ℕ) (s : Serve) (k : Knows) (c : Counted) (held held' : Option Bytes) (status : ℕ) → IsEnd held held' 7 memory_line status → Serves told s k k c c held held' status
-unbegun told s k c held held' status e = inl (record { unseen = refl; same = refl; ended = e })
-
 -- a hall was retired behind its serving
-pub fronts_behind : {F : Type 0} (shows : F → Knows) (seen : Option Sides) (told : Option ℕ) (s : Serve) (first served : Knows) (c c' : Counted) (held between held' : Option Bytes) (before status : ℕ) (front : Option F)
-    → IsFirst seen first → Serves told s first served c c' held between before
-    → IfSome (option_map shows front) (λ k. IsRetired served k between held' before status) → IfSome (option_map shows front) (ServesFront seen told s c c' held held' status)
-fronts_behind shows seen told s first served c c' held between held' before status None f v r = tt
-fronts_behind shows seen told s first served c c' held between held' before status (Some x) f v r =
+pub fronts_behind : {F : Type 0} (shows : F → Knows) (seen : Option Sides) (told : Option ℕ) (s : Serve) (first served : Knows) (door door' : DoorState) (wait wait' : WaitState) (held between held' : Option Bytes) (before status : ℕ) (front : Option F)
+    → IsFirst seen first → ServesLoop told s (around first door wait) (around served door' wait') held between before
+    → IfSome (option_map shows front) (λ k. IsRetired served k between held' before status) → IfSome (option_map shows front) (ServesFront seen told s door door' wait wait' held held' status)
+fronts_behind shows seen told s first served door door' wait wait' held between held' before status None f v r = tt
+fronts_behind shows seen told s first served door door' wait wait' held between held' before status (Some x) f v r =
     record { first = first; is_first = f; served = served; between = between; before = before; serves = v; retired = r }
 
 pub mapped_some : {F : Type 0} (shows : F → Knows) (front : Option F) → is_some front ≡ true → is_some (option_map shows front) ≡ true
 mapped_some shows None some = absurd (cc)
 mapped_some shows (Some x) some = refl
 
-pub fronts_of : (seen : Option Sides) (Back : Halt → Type 0) (told : Option ℕ) (s : Serve) (c c' : Counted) (held held' : Option Bytes) (status : ℕ) (front : Option Knows) → is_some front ≡ true
-    → IfSome front (ServesFront seen told s c c' held held' status) → Fronts seen Back told s c c' held held' status front
-fronts_of seen Back told s c c' held held' status None some v = absurd (cc)
-fronts_of seen Back told s c c' held held' status (Some k) some v = v
+pub fronts_of : (seen : Option Sides) (Back : Halt → Type 0) (told : Option ℕ) (s : Serve) (door door' : DoorState) (wait wait' : WaitState) (held held' : Option Bytes) (status : ℕ) (front : Option Knows) → is_some front ≡ true
+    → IfSome front (ServesFront seen told s door door' wait wait' held held' status) → Fronts seen Back told s door door' wait wait' held held' status front
+fronts_of seen Back told s door door' wait wait' held held' status None some v = absurd (cc)
+fronts_of seen Back told s door door' wait wait' held held' status (Some k) some v = v

@@ -17,16 +17,22 @@ use Rattle.log_record.specs.Recovery.{Recovers}
 use Rattle.log_record.specs.Safety.{Safe, count_after}
 use Rattle.serve_run.specs.Ends.{IsEnd, disk_line}
 use Rattle.serve_run.specs.Words.{Serve}
-use Rattle.serve_run.specs.Serves.{Serves, Counted}
+use Rattle.serve_run.specs.Loops.{around}
+use Rattle.serve_run.specs.LoopServes.{ServesLoop}
+use Rattle.ready_links.specs.Doors.{DoorState}
+use Rattle.ready_links.specs.Waits.{WaitState}
 use Rattle.shared_hall.specs.Times.{is_retirement}
 use Rattle.replay_run.specs.Openings.{Opens, IsDamagedAt}
 use Rattle.replay_run.specs.declared.halts.Halt.{Halt}
 use Rattle.replay_run.specs.declared.halts.Halt.TheVariants as halted
 use Rattle.tile_top.specs.Tops.{IsHaltEnd}
 
--- no shared hall was made: the disk was not opened, or memory wanted; nothing was counted; `Back` is what is left of the disk, by the halt
-pub record IsUnmade (seen : Option Sides) (Back : Halt → Type 0) (c c' : Counted) (held held' : Option Bytes) (status : ℕ) : Type 0 where
-  pub same : c' ≡ c
+-- no shared hall was made: the disk was not opened, or memory wanted; the door and the one that waits are as before; `Back` is what is left
+-- of the disk, by the halt
+pub record IsUnmade (seen : Option Sides) (Back : Halt → Type 0) (door door' : DoorState) (wait wait' : WaitState) (held held' : Option Bytes)
+    (status : ℕ) : Type 0 where
+  pub same_door : door' ≡ door
+  pub same_wait : wait' ≡ wait
   pub why : Halt
   pub unspent : why ≢ halted.Spent
   pub damaged : (side : Side) (place : ℕ) → why ≡ halted.Damaged side place → IsDamagedAt seen side place
@@ -74,19 +80,20 @@ pub record IsLeft {D : Type 0} (images : D → Sides → Type 0) (left_since : D
   pub safe : Safe left_since disk k.opening k.seen
   pub settled : IsSettled k.seen → (h : Hall) → Reaches k.opening k.seen h → EachImage (images disk) (λ image. Recovers image h.world)
 
--- A shared hall of the disk's world was made, and callers were served up to an end; then it was retired. The server's seat has seen a
--- legal history, and its own entries are those of the serving, and the retirement.
-pub record ServesFront (seen : Option Sides) (told : Option ℕ) (s : Serve) (c c' : Counted) (held held' : Option Bytes) (status : ℕ)
-    (k : Knows) : Type 0 where
+-- A shared hall of the disk's world was made, and links were served in a loop up to an end; then it was retired. The server's seat has seen
+-- a legal history, and its own entries are those of the serving, and the retirement.
+pub record ServesFront (seen : Option Sides) (told : Option ℕ) (s : Serve) (door door' : DoorState) (wait wait' : WaitState)
+    (held held' : Option Bytes) (status : ℕ) (k : Knows) : Type 0 where
   pub first : Knows
   pub is_first : IsFirst seen first
   pub served : Knows
   pub between : Option Bytes
   pub before : ℕ
-  pub serves : Serves told s first served c c' held between before
+  pub serves : ServesLoop told s (around first door wait) (around served door' wait') held between before
   pub retired : IsRetired served k between held' before status
 
 -- by what the server's seat has seen, where a hall was made
-abbrev pub Fronts : Option Sides → (Halt → Type 0) → Option ℕ → Serve → Counted → Counted → Option Bytes → Option Bytes → ℕ → Option Knows → Type 0
-Fronts seen Back told s c c' held held' status None = IsUnmade seen Back c c' held held' status
-Fronts seen Back told s c c' held held' status (Some k) = ServesFront seen told s c c' held held' status k
+abbrev pub Fronts : Option Sides → (Halt → Type 0) → Option ℕ → Serve → DoorState → DoorState → WaitState → WaitState → Option Bytes
+    → Option Bytes → ℕ → Option Knows → Type 0
+Fronts seen Back told s door door' wait wait' held held' status None = IsUnmade seen Back door door' wait wait' held held' status
+Fronts seen Back told s door door' wait wait' held held' status (Some k) = ServesFront seen told s door door' wait wait' held held' status k

@@ -9,7 +9,6 @@ ghost use Rattle.world_model.specs.declared.events.Outcome.TheVariants as outcom
 ghost use Rattle.journal.specs.declared.openings.OpenFault.TheVariants as fault_of;
 ghost use Rattle.log_record.specs.Readings.{Damaged};
 ghost use Rattle.replay_run.specs.HandedBack.{IsBackAt, IsBackUnopened};
-ghost use Rattle.serve_run.specs.Serves.{counted};
 ghost use Rattle.shared_hall.specs.Cores.{tells};
 ghost use Rattle.shared_hall.specs.Seats.{IsOf, handed_of, knows_of};
 ghost use Rattle.tile_top.specs.Fronts.{EndsBehind, Fronts, IsCounted, IsDue, IsFirst, IsLeft, IsRetired, ServesFront};
@@ -18,14 +17,14 @@ use crate::halt_ends::end_halt;
 use crate::tops::Ended;
 use durable_core::DurableCore;
 use journal::{OpenFault, Unopened};
-use outside::{Clock, Disk, Door, NoGate, PlainBell, Sink, Spawner};
+use outside::{Clock, Disk, Sink};
+use ready_links::{ReadyDoor, ReadyLink, WaitForLinks};
 use replay_run::halt_of;
-use serve_run::{DISK_FAULT, Jobs, OUT_OF_MEMORY, ServeWords, end, serve_links};
+use serve_run::{DISK_FAULT, ServeWords, end, serve_ready};
 use shared_hall::{HallSeat, SharedHall};
 use std::alloc::Global;
 use std::snapshot::Snapshot;
-use std::sync::{Arc, Wait};
-use std::thread::Threads;
+use std::sync::Wait;
 use world_model::CallOutcome;
 
 // A shared hall of a disk's world, and its first seat; or why there is none, and the disk.
@@ -115,73 +114,53 @@ fn retire_hall<K: Sink, D: Disk + Drop, R: Wait>(
 }
 
 // Serves callers on a hall, and retires it.
-fn serve_on<
-    K: Sink,
-    D: Disk + Drop + Send + 'static,
-    L: Door,
-    C: Clock + Send + Drop + 'static,
-    P: Spawner<Jobs<SharedHall<D>, L, C, PlainBell, NoGate>>,
-    R: Wait + Threads + Copy + Send + Sync + 'static,
->(
+fn serve_on<K: Sink, D: Disk + Drop, L: ReadyDoor, C: Clock, W: WaitForLinks<L>, R: Wait>(
     rt: &R,
     alloc: Global,
-    hall: SharedHall<D>,
+    hall: &SharedHall<D>,
     seat: HallSeat<D>,
     asked: ServeWords<'_>,
     sink: &mut K,
     door: &mut L,
     clock: &C,
-    spawner: &mut P,
+    wait: &mut W,
 ) -> Ended<D>
 where
-    L::In: Send + Drop + 'static,
-    L::Out: Send + Drop + 'static,
-    requires seat { IsOf D.crashes D.seen D.images D.moment D.left_since D.faults hall seat }
+    L::Link: Drop,
+    requires seat { IsOf D.crashes D.seen D.images D.moment D.left_since D.faults hall.now seat }
     requires first { (knows_of seat).first ≡ true }
     ensures serves { (seen : Option Sides) → IsFirst seen (knows_of seat)
         → IfSome (option_map knows_of result.front) (ServesFront seen (C.told clock.now)
         (record { addr = asked.entry.addr.now; limit = asked.entry.limit })
-        (counted (P.jobs spawner.old) (P.faults spawner.old) (L.links door.old) (L.ends door.old) (L.faults door.old))
-        (counted (P.jobs spawner.new) (P.faults spawner.new) (L.links door.new) (L.ends door.new) (L.faults door.new))
+        (L.shows door.old) (L.shows door.new) (W.shows wait.old) (W.shows wait.new)
         (K.held sink.old) (K.held sink.new) result.status) }
-    ensures safe { tells D.crashes D.seen (handed_of hall) ≡ true
+    ensures safe { tells D.crashes D.seen (handed_of hall.now) ≡ true
         → IfSome result.front (λ last. IfSome result.disk (λ d. IsLeft D.images D.left_since d (knows_of last))) }
     ensures some { is_some result.front ≡ true }
     ensures given { IfSome result.front (λ last. IsDue (knows_of last).seen → is_some result.disk ≡ true) }
     ensures counted { (handed : ℕ) → min handed most_count ≤ (knows_of seat).opening.count
         → IfSome result.front (λ last. IfSome result.disk (λ d. IsCounted handed (D.faults d) (knows_of last))) }
     ensures sink { K.faults sink.old ≤ K.faults sink.new }
-    ensures door { L.faults door.old ≤ L.faults door.new }
+    ensures door { (L.shows door.old).faults ≤ (L.shows door.new).faults }
+    ensures wait { (W.shows wait.old).faults ≤ (W.shows wait.new).faults }
     ensures write { result.status ≡ 4 → Rose (K.faults sink.old) (K.faults sink.new) }
-    ensures accept { result.status ≡ 8 → Rose (L.faults door.old) (L.faults door.new) }
+    ensures accept { result.status ≡ 8 → Rose (L.shows door.old).faults (L.shows door.new).faults
+        ⊎ Rose (W.shows wait.old).faults (W.shows wait.new).faults }
     ensures unread { result.status ≡ 3 → ⊥ }
 {
     let mut seat = seat;
-    match Arc::new(alloc, hall) {
-        Ok(hall) => {
-            let status = match Arc::try_clone(&hall) {
-                Ok(shared) => serve_links(
-                    rt, alloc, shared, &mut seat, asked, sink, door, clock, spawner,
-                ),
-                Err(_) => end(sink, 7, OUT_OF_MEMORY),
-            };
-            retire_hall(rt, &hall, seat, sink, status)
-        }
-        Err(failed) => {
-            let status = end(sink, 7, OUT_OF_MEMORY);
-            retire_hall(rt, &failed.value, seat, sink, status)
-        }
-    }
+    let status = serve_ready(rt, alloc, hall, &mut seat, asked, sink, door, clock, wait);
+    retire_hall(rt, hall, seat, sink, status)
 }
 
 /// Makes a shared hall of a disk's world, serves callers on it, as the words ask for, and retires it.
 pub(crate) fn serve_hall<
     K: Sink,
-    D: Disk + Drop + Send + 'static,
-    L: Door,
-    C: Clock + Send + Drop + 'static,
-    P: Spawner<Jobs<SharedHall<D>, L, C, PlainBell, NoGate>>,
-    R: Wait + Threads + Copy + Send + Sync + 'static,
+    D: Disk + Drop,
+    L: ReadyDoor,
+    C: Clock,
+    W: WaitForLinks<L>,
+    R: Wait,
 >(
     rt: &R,
     alloc: Global,
@@ -190,17 +169,15 @@ pub(crate) fn serve_hall<
     disk: D,
     door: &mut L,
     clock: &C,
-    spawner: &mut P,
+    wait: &mut W,
 ) -> Ended<D>
 where
-    L::In: Send + Drop + 'static,
-    L::Out: Send + Drop + 'static,
+    L::Link: Drop,
     ensures serves { Fronts (D.seen disk)
         (λ halt. IfSome result.disk (λ d. IsBackAt D.crashes D.seen D.images D.moment D.left_since disk d halt))
         (C.told clock.now)
         (record { addr = asked.entry.addr.now; limit = asked.entry.limit })
-        (counted (P.jobs spawner.old) (P.faults spawner.old) (L.links door.old) (L.ends door.old) (L.faults door.old))
-        (counted (P.jobs spawner.new) (P.faults spawner.new) (L.links door.new) (L.ends door.new) (L.faults door.new))
+        (L.shows door.old) (L.shows door.new) (W.shows wait.old) (W.shows wait.new)
         (K.held sink.old) (K.held sink.new) result.status (option_map knows_of result.front) }
     ensures safe { tells D.crashes D.seen disk ≡ true
         → IfSome result.front (λ last. IfSome result.disk (λ d. IsLeft D.images D.left_since d (knows_of last))) }
@@ -212,13 +189,15 @@ where
     ensures counted { IfSome result.front
         (λ last. IfSome result.disk (λ d. IsCounted (D.faults disk) (D.faults d) (knows_of last))) }
     ensures sink { K.faults sink.old ≤ K.faults sink.new }
-    ensures door { L.faults door.old ≤ L.faults door.new }
+    ensures door { (L.shows door.old).faults ≤ (L.shows door.new).faults }
+    ensures wait { (W.shows wait.old).faults ≤ (W.shows wait.new).faults }
     ensures write { result.status ≡ 4 → Rose (K.faults sink.old) (K.faults sink.new) }
-    ensures accept { result.status ≡ 8 → Rose (L.faults door.old) (L.faults door.new) }
+    ensures accept { result.status ≡ 8 → Rose (L.shows door.old).faults (L.shows door.new).faults
+        ⊎ Rose (W.shows wait.old).faults (W.shows wait.new).faults }
     ensures unread { result.status ≡ 3 → ⊥ }
 {
     match open_hall(alloc, disk) {
-        Ok((hall, seat)) => serve_on(rt, alloc, hall, seat, asked, sink, door, clock, spawner),
+        Ok((hall, seat)) => serve_on(rt, alloc, &hall, seat, asked, sink, door, clock, wait),
         Err(unopened) => Ended {
             status: end_halt(alloc, sink, halt_of(unopened.why)),
             disk: Some(unopened.disk),

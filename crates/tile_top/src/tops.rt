@@ -6,7 +6,6 @@ ghost use Rattle.outside.specs.Causes.{Rose};
 ghost use Rattle.outside.specs.Sides.{Sides};
 ghost use Rattle.serve_run.specs.Ends.{IsEnd, memory_line};
 ghost use Rattle.serve_run.specs.Words.{serve_of};
-ghost use Rattle.serve_run.specs.Serves.{counted};
 ghost use Rattle.load_command.specs.Loads.{Loads};
 ghost use Rattle.load_command.specs.Words.{load_of};
 ghost use Rattle.replay_run.specs.Traces.{opens};
@@ -26,9 +25,10 @@ use crate::loads::load_core;
 use crate::replays::{Scripted, replay_script};
 use crate::serves::serve_hall;
 use load_command::load_words;
-use outside::{Clock, Disk, Door, NoGate, PlainBell, Sink, Source, Spawner};
-use serve_run::{Jobs, OUT_OF_MEMORY, end, serve_words};
-use shared_hall::{HallSeat, SharedHall};
+use outside::{Clock, Disk, Sink, Source};
+use ready_links::{ReadyDoor, ReadyLink, WaitForLinks};
+use serve_run::{OUT_OF_MEMORY, end, serve_words};
+use shared_hall::HallSeat;
 use std::alloc::Global;
 use std::sync::Wait;
 use std::thread::Threads;
@@ -87,7 +87,7 @@ pub fn out_of_memory<K: Sink, D: Disk + Drop>(sink: &mut K) -> Ended<D>
 
 /// Does what the words ask for, the words after the program's name: `replay` plays the script that the source gives on
 /// the world of the disk, and writes its output to the sink. `check` opens the disk, and writes what it has. `serve
-/// ADDR`, which `--sessions N` may follow, opens the door at the address and serves callers on one shared hall of the
+/// ADDR`, which `--sessions N` may follow, opens the door at the address and serves callers in a loop on one hall of the
 /// disk's world, up to N of them, from 1 to 1,000,000,000, or up to an end. `load N SEED` drives a core of its own with
 /// the generated workload of N commands, from 1 to 1,000,000, and writes its summary. `backtest` reads from the source
 /// which fence is asked for, and writes what it would have raised over the changes of the disk's log. Every other list
@@ -130,18 +130,28 @@ pub fn out_of_memory<K: Sink, D: Disk + Drop>(sink: &mut K) -> Ended<D>
 /// no moment might a crash have left anything but what it might have left before, or a log of that world.
 ///
 /// With `serve`. All entries that the server's seat has seen are a legal history that opens with the disk's world, and
-/// its own are those of whole groups, one for each look for a caller: a tick, as many steps of rewriting as the loop
-/// makes behind each, and for a caller who came the entering of a session, and its closing or removal where it was not
-/// served; then, where a tick or a step brought the end, a group up to that one; and then the retirement. Each caller
-/// who came is counted, and was served, or dropped for a reason that is named. Status 0: the door told its end, or N
-/// callers came; the bytes written are the lines `listening ADDR`, `served N`, and `starved M` where sessions were
-/// removed for want of memory. Status 8 comes only where the door has failed, 5 where a tick or a step of rewriting
-/// found the hall stopped, or the log failed at the retirement, 9 where one found the machine's log at its greatest
-/// length, 7 where memory wanted, 4 where the sink failed. Where the disk tells what it holds and what a crash may
-/// leave, the disk that is handed back is safe for all that the seat has seen. Where the retirement was not answered
-/// Stopped, as at status 0, or is the only one that the seat has seen, the disk is handed back, and its count of
-/// faults is the one that the history ends with; where it was answered Ok, whatever a crash leaves of it is the world
-/// of all of that.
+/// its own are those of the loop's steps, in their order: a tick and as many steps of rewriting as the loop makes
+/// behind each; the entering of a session for a caller; the calls of a session in one turn; a take of a session; its
+/// closing; its removal; then, where a tick or a step of rewriting brought the end, a tick and the steps up to that
+/// one; and then the retirement. The door was opened at the address that was asked for; where it could not be, it
+/// stands open where it did before. Each caller who came bears the next number of the door, and is the caller of
+/// exactly one link. No link is left open: the one that waits, where it tells which links were shut, tells these behind
+/// those before, each as it was then, but for those for whose telling it had no memory. Of each link one of these
+/// holds. No session was entered for it; or one was, and was removed at once, for want of memory or because the link
+/// could not be watched, which comes only where the one that waits has failed; then the link is as it came. Or it was
+/// served as one session: the calls of that session are those of the requests of the bytes that were read of the link,
+/// in order, each once but again while it is answered Full, up to an end that is named; and what the link was written
+/// is what the takes of that session gave, in order: all of it where the takes came to an end, and a first part of it
+/// where the link failed, where memory ran out, or where the loop ended first.
+///
+/// Status 0: the door told its end, or N callers came, and all links went on to their own ends; the bytes written are
+/// the lines `listening ADDR`, `served N`, and `starved M` where sessions were removed for want of memory. Status 8
+/// comes only where the door has failed or the one that waits has, 5 where a tick or a step of rewriting found the hall
+/// stopped, or the log failed at the retirement, 9 where one found the machine's log at its greatest length, 7 where
+/// memory wanted, 4 where the sink failed. Where the disk tells what it holds and what a crash may leave, the disk that
+/// is handed back is safe for all that the seat has seen. Where the retirement was not answered Stopped, as at status
+/// 0, or is the only one that the seat has seen, the disk is handed back, and its count of faults is the one that the
+/// history ends with; where it was answered Ok, whatever a crash leaves of it is the world of all of that.
 ///
 /// With `backtest`. Status 11 comes exactly where what the source had left is not the text of one request that reads as
 /// a SETCHAN with an area given in its words, or a NEARBY with POINT; the disk is then left alone. Status 0: the source
@@ -158,11 +168,11 @@ pub fn out_of_memory<K: Sink, D: Disk + Drop>(sink: &mut K) -> Ended<D>
 pub fn top<
     S: Source,
     K: Sink,
-    D: Disk + Drop + Send + 'static,
-    L: Door,
-    C: Clock + Send + Drop + 'static,
-    P: Spawner<Jobs<SharedHall<D>, L, C, PlainBell, NoGate>>,
-    R: Wait + Threads + Copy + Send + Sync + 'static,
+    D: Disk + Drop,
+    L: ReadyDoor,
+    C: Clock,
+    W: WaitForLinks<L>,
+    R: Wait + Threads + Sync,
 >(
     rt: &R,
     alloc: Global,
@@ -172,11 +182,10 @@ pub fn top<
     disk: D,
     door: &mut L,
     clock: &C,
-    spawner: &mut P,
+    wait: &mut W,
 ) -> Ended<D>
 where
-    L::In: Send + Drop + 'static,
-    L::Out: Send + Drop + 'static,
+    L::Link: Drop,
     ensures replay { IsReplay (map string_bytes words.now)
         → Replays (D.seen disk)
         (λ halt. IfSome result.disk (λ d. IsBackAt D.crashes D.seen D.images D.moment D.left_since disk d halt))
@@ -200,8 +209,7 @@ where
     ensures serve { IfSome (serve_of (map string_bytes words.now)) (λ s. Fronts (D.seen disk)
         (λ halt. IfSome result.disk (λ d. IsBackAt D.crashes D.seen D.images D.moment D.left_since disk d halt))
         (C.told clock.now) s
-        (counted (P.jobs spawner.old) (P.faults spawner.old) (L.links door.old) (L.ends door.old) (L.faults door.old))
-        (counted (P.jobs spawner.new) (P.faults spawner.new) (L.links door.new) (L.ends door.new) (L.faults door.new))
+        (L.shows door.old) (L.shows door.new) (W.shows wait.old) (W.shows wait.new)
         (K.held sink.old) (K.held sink.new) result.status (option_map knows_of result.front)) }
     ensures safe { tells D.crashes D.seen disk ≡ true
         → IfSome result.front (λ last. IfSome result.disk (λ d. IsLeft D.images D.left_since d (knows_of last))) }
@@ -218,20 +226,22 @@ where
     ensures untouched { (IsReplay (map string_bytes words.now) → ⊥) → (IsCheck (map string_bytes words.now) → ⊥)
         → (IsBacktest (map string_bytes words.now) → ⊥) → serve_of (map string_bytes words.now) ≡ None → result.disk ≡ Some disk }
     ensures handed { result.front ≡ None → is_some result.disk ≡ true }
-    ensures apart { serve_of (map string_bytes words.now) ≡ None → (door.new ≡ door.old) × (spawner.new ≡ spawner.old) }
+    ensures apart { serve_of (map string_bytes words.now) ≡ None → (door.new ≡ door.old) × (wait.new ≡ wait.old) }
     ensures alone { serve_of (map string_bytes words.now) ≡ None → result.front ≡ None }
     ensures source { S.faults source.old ≤ S.faults source.new }
     ensures sink { K.faults sink.old ≤ K.faults sink.new }
-    ensures door { L.faults door.old ≤ L.faults door.new }
+    ensures door { (L.shows door.old).faults ≤ (L.shows door.new).faults }
+    ensures wait { (W.shows wait.old).faults ≤ (W.shows wait.new).faults }
     ensures later { result.front ≡ None → IfSome result.disk (λ d. D.faults disk ≤ D.faults d) }
     ensures read { result.status ≡ 3 → Rose (S.faults source.old) (S.faults source.new) }
     ensures write { result.status ≡ 4 → Rose (K.faults sink.old) (K.faults sink.new) }
     ensures disk { result.front ≡ None → result.status ≡ 5
         → IfSome result.disk (λ d. Rose (D.faults disk) (D.faults d)) }
-    ensures accept { result.status ≡ 8 → Rose (L.faults door.old) (L.faults door.new) }
+    ensures accept { result.status ≡ 8 → Rose (L.shows door.old).faults (L.shows door.new).faults
+        ⊎ Rose (W.shows wait.old).faults (W.shows wait.new).faults }
 {
     match serve_words(words) {
-        Some(asked) => serve_hall(rt, alloc, asked, sink, disk, door, clock, spawner),
+        Some(asked) => serve_hall(rt, alloc, asked, sink, disk, door, clock, wait),
         None if is_alone(words, "replay") => {
             let scripted = replay_script(alloc, source, sink, disk);
             without_hall(scripted.status, scripted.disk)

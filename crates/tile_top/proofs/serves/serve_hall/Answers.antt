@@ -5,11 +5,12 @@ use Rattle.tile_top.proofs.Fronting.{damaged_as, fronts_of, mapped_some, unspent
 use Rattle.tile_top.proofs.serves.serve_hall.Goals as goal
 
 pub returns-in-Ok-clause-serves : goal.returns-in-Ok-clause-serves
-returns-in-Ok-clause-serves g c = fronts_of _ _ _ _ _ _ _ _ _ (option_map knows_of c.serve_on.result.front) (mapped_some knows_of c.serve_on.result.front c.serve_on.ensures.some) (c.serve_on.ensures.serves _ c.in-Ok.ensures.first)
+returns-in-Ok-clause-serves g c = fronts_of _ _ _ _ _ _ _ _ _ _ _ (option_map knows_of c.serve_on.result.front) (mapped_some knows_of c.serve_on.result.front c.serve_on.ensures.some) (c.serve_on.ensures.serves _ c.in-Ok.ensures.first)
 
 pub returns-in-Err-clause-serves : goal.returns-in-Err-clause-serves
 returns-in-Err-clause-serves g c = record {
-  same = refl;
+  same_door = refl;
+  same_wait = refl;
   why = c.halt_of.result;
   unspent = unspent_as c.in-Err.unopened.why c.halt_of.result c.halt_of.ensures;
   damaged = damaged_as _ c.in-Err.unopened.why c.halt_of.result c.halt_of.ensures c.in-Err.ensures.damaged;

@@ -1,0 +1,244 @@
+-- The steps of one session, and what they add to its records.
+use Rattle.std.proofs.Common.{◌≡◌, ◌≤◌, ◌<◌, ◌+◌, ◌==◌, ℕ, zero, suc, Bool, true, false, List, [], ◌∷◌, ◌++◌, refl, sym, ap, ◌∙◌, subst, inl, inr, arith, append_assoc}
+use Rattle.std.specs.Prelude.{Option, Some, None, Result, Ok, Err, length, map, take, drop, if◌then◌else◌}
+use Rattle.std.proofs.lemmas.List.{append-nil}
+use Rattle.std.proofs.lemmas.Grind.{flat_map-append}
+use Rattle.std.proofs.lemmas.Bool.Decides.{nat_tests}
+use Rattle.std.specs.Io.KnownBytes.{Keeps}
+use Rattle.byte_text.specs.Names.{Bytes}
+use Rattle.world_model.specs.Outcomes.{call_act, call_acts, last_call, IsCount}
+use Rattle.world_model.specs.Seats.{Knows, Act, Adds, AddsNamed}
+use Rattle.world_model.specs.declared.events.Asked.{Asked}
+use Rattle.world_model.specs.declared.events.CallOutcome.{CallOutcome}
+use Rattle.world_model.specs.declared.events.CallOutcome.TheVariants as called
+use Rattle.world_model.specs.declared.events.Event.TheVariants as event
+use Rattle.world_model.specs.declared.events.Outcome.{Outcome}
+use Rattle.world_model.specs.declared.events.Outcome.TheVariants as outcome
+use Rattle.ready_links.specs.Links.{LinkState, Reads, Writes}
+use Rattle.ready_links.specs.declared.links.Got.{Got}
+use Rattle.ready_links.specs.declared.links.Got.TheVariants as got
+use Rattle.ready_links.specs.declared.links.Sent.{Sent}
+use Rattle.ready_links.specs.declared.links.Sent.TheVariants as sent
+use Rattle.session_run.specs.Calls.{Call}
+use Rattle.session_run.specs.Gains.{Gains, gains_more, gains_one, gains_calls, made}
+use Rattle.stepped_session.specs.declared.phases.Asking.TheVariants.{Open, Breaking, Ended}
+use Rattle.stepped_session.specs.declared.phases.Asking.{Asking}
+use Rattle.stepped_session.specs.Sessions.{SessionState, demand, owed, WantsToRead, WantsTurn, WantsTake}
+use Rattle.session_run.specs.Outs.{bytes_given}
+use Rattle.stepped_session.specs.declared.phases.TakeEnd.{TakeEnd}
+use Rattle.stepped_session.specs.declared.phases.TakeEnd.TheVariants as took
+use Rattle.stepped_session.specs.SoFar.{AskedSoFar, WrittenSoFar, Owes}
+use Rattle.stepped_session.specs.Steps.{got_bytes, UnlessMemory, Readies, AsksOn, Answered, Takes, WritesOut}
+use Rattle.stepped_session.specs.Turns.{turn_calls}
+use Rattle.stepped_session.specs.AskedSteps.{asked_read, asked_answered, asked_taken, asked_written}
+use Rattle.stepped_session.specs.WrittenSteps.{written_read, written_answered, written_taken, written_sent}
+use Rattle.serve_run.specs.Links.{IsTold}
+use Rattle.serve_run.specs.Steps.{Step, Called, Took, Closed, step_acts, steps_acts, calls_in, calls_of, takes_in, takes_of, AreTimely}
+use Rattle.serve_run.specs.SessionSteps.{IsOf, AreOf, StepsSession}
+
+same_test : (n : ℕ) → (n == n) ≡ true
+same_test n = grind (arith, nat_tests)
+
+-- ---- one behind another
+
+of_more : (n : ℕ) (a b : List Step) → AreOf n a → AreOf n b → AreOf n (a ++ b)
+of_more n [] b p q = q
+of_more n (x ∷ a) b p q = (p.0, of_more n a b p.1 q)
+
+pub timely_more : (told : Option ℕ) (a b : List Step) → AreTimely told a → AreTimely told b → AreTimely told (a ++ b)
+timely_more told [] b p q = q
+timely_more told (x ∷ a) b p q = (p.0, timely_more told a b p.1 q)
+
+pub acts_more : (a b : List Step) → steps_acts (a ++ b) ≡ steps_acts a ++ steps_acts b
+acts_more a b = flat_map-append step_acts a b
+
+pub calls_more : (n : ℕ) (a b : List Step) → calls_of n (a ++ b) ≡ calls_of n a ++ calls_of n b
+calls_more n a b = flat_map-append (calls_in n) a b
+
+pub takes_more : (n : ℕ) (a b : List Step) → takes_of n (a ++ b) ≡ takes_of n a ++ takes_of n b
+takes_more n a b = flat_map-append (takes_in n) a b
+
+pub gains_steps : (k1 k2 k3 : Knows) (a b : List Step) → Gains k1 k2 (steps_acts a) → Gains k2 k3 (steps_acts b) → Gains k1 k3 (steps_acts (a ++ b))
+gains_steps k1 k2 k3 a b p q = subst (λ (l : List Act). Gains k1 k3 l) (sym (acts_more a b)) (gains_more k1 k2 k3 (steps_acts a) (steps_acts b) p q)
+
+pub steps_more : (told : Option ℕ) (k1 k2 k3 : Knows) (s t u : SessionState) → StepsSession told k1 k2 s t → StepsSession told k2 k3 t u → StepsSession told k1 k3 s u
+steps_more told k1 k2 k3 s t u a b = record {
+  steps = a.steps ++ b.steps;
+  own = of_more s.number a.steps b.steps a.own (subst (λ (n : ℕ). AreOf n b.steps) a.number b.own);
+  gains = gains_steps k1 k2 k3 a.steps b.steps a.gains b.gains;
+  timely = timely_more told a.steps b.steps a.timely b.timely;
+  number = b.number ∙ a.number;
+  caller = b.caller ∙ a.caller;
+  asked = λ calls came x. subst (λ (l : List Call). AskedSoFar told l came u)
+      (append_assoc calls (calls_of s.number a.steps) (calls_of s.number b.steps) ∙ ap (λ (l : List Call). calls ++ l) (sym (calls_more s.number a.steps b.steps)))
+      (subst (λ (n : ℕ). AskedSoFar told ((calls ++ calls_of s.number a.steps) ++ calls_of n b.steps) came u) a.number
+      (b.asked (calls ++ calls_of s.number a.steps) came (a.asked calls came x)));
+  written = λ takes came x. subst (λ (l : List Outcome). WrittenSoFar l came u)
+      (append_assoc takes (takes_of s.number a.steps) (takes_of s.number b.steps) ∙ ap (λ (l : List Outcome). takes ++ l) (sym (takes_more s.number a.steps b.steps)))
+      (subst (λ (n : ℕ). WrittenSoFar ((takes ++ takes_of s.number a.steps) ++ takes_of n b.steps) came u) a.number
+      (b.written (takes ++ takes_of s.number a.steps) came (a.written takes came x)));
+}
+
+-- ---- steps that ask nothing of the hall
+
+quiet : (told : Option ℕ) (k : Knows) (s t : SessionState) → t.number ≡ s.number → t.line.caller ≡ s.line.caller
+    → ((calls : List Call) → (came : LinkState) → AskedSoFar told calls came s → AskedSoFar told calls came t)
+    → ((takes : List Outcome) → (came : LinkState) → WrittenSoFar takes came s → WrittenSoFar takes came t) → StepsSession told k k s t
+quiet told k s t number caller asked written = record {
+  steps = [];
+  own = tt;
+  gains = refl;
+  timely = tt;
+  number = number;
+  caller = caller;
+  asked = λ calls came x. subst (λ (l : List Call). AskedSoFar told l came t) (sym (append-nil calls)) (asked calls came x);
+  written = λ takes came x. subst (λ (l : List Outcome). WrittenSoFar l came t) (sym (append-nil takes)) (written takes came x);
+}
+
+pub steps_none : (told : Option ℕ) (k : Knows) (s : SessionState) → StepsSession told k k s s
+steps_none told k s = quiet told k s s refl refl (λ calls came x. x) (λ takes came x. x)
+
+read_number : {E : Type 0} (s t : SessionState) (r : Result Got E) (into : Bytes) → Readies s t r into → t.number ≡ s.number
+read_number s t (Ok (got.Bytes n)) into is = ap (λ (x : SessionState). x.number) is.1
+read_number s t (Ok got.End) into is = ap (λ (x : SessionState). x.number) is.0
+read_number s t (Ok got.Later) into is = ap (λ (x : SessionState). x.number) is
+read_number s t (Err e) into is = ap (λ (x : SessionState). x.number) is.0
+
+read_caller : {E : Type 0} (s t : LinkState) (r : Result Got E) (into : Bytes) → Reads s t r into → t.caller ≡ s.caller
+read_caller s t (Ok (got.Bytes n)) into is = ap (λ (x : LinkState). x.caller) is.1
+read_caller s t (Ok got.End) into is = ap (λ (x : LinkState). x.caller) is.1
+read_caller s t (Ok got.Later) into is = ap (λ (x : LinkState). x.caller) is
+read_caller s t (Err e) into is = ap (λ (x : LinkState). x.caller) is.same
+
+pub steps_read : {E : Type 0} (told : Option ℕ) (k : Knows) (s t : SessionState) (r : Result Got E) (into : Bytes) → WantsToRead s → Reads s.line t.line r into
+    → Readies s t r into → UnlessMemory t.asking ((more : Bytes) → demand s (got_bytes r into ++ more) ≡ demand t more) → StepsSession told k k s t
+steps_read told k s t r into wants reads readies goes = quiet told k s t (read_number s t r into readies) (read_caller s.line t.line r into reads)
+    (λ calls came x. asked_read told calls came s t into wants x r reads readies goes) (λ takes came x. written_read takes came s x t r into reads readies)
+
+write_number : {E : Type 0} (s t : SessionState) (r : Result Sent E) → WritesOut s t r → t.number ≡ s.number
+write_number s t (Ok (sent.Bytes n)) is = ap (λ (x : SessionState). x.number) is
+write_number s t (Ok sent.Later) is = ap (λ (x : SessionState). x.number) is
+write_number s t (Err e) is = ap (λ (x : SessionState). x.number) is
+
+write_caller : {E : Type 0} (s t : LinkState) (r : Result Sent E) (piece : Bytes) → Writes s t r piece → t.caller ≡ s.caller
+write_caller s t (Ok (sent.Bytes n)) piece is = ap (λ (x : LinkState). x.caller) is.1
+write_caller s t (Ok sent.Later) piece is = ap (λ (x : LinkState). x.caller) is
+write_caller s t (Err e) piece is = ap (λ (x : LinkState). x.caller) is.same
+
+pub steps_written : {E : Type 0} (told : Option ℕ) (k : Knows) (s t : SessionState) (r : Result Sent E) → Writes s.line t.line r s.out → WritesOut s t r
+    → Keeps (owed s) (owed t) → StepsSession told k k s t
+steps_written told k s t r writes out keeps = quiet told k s t (write_number s t r out) (write_caller s.line t.line r s.out writes)
+    (λ calls came x. asked_written told calls came s t x r writes out) (λ takes came x. written_sent takes came s x t r writes out keeps)
+
+-- ---- a take, and a close
+
+taken_at : (n : ℕ) (o : Outcome) → takes_of n (Took n o ∷ []) ≡ o ∷ []
+taken_at n o = rw (same_test n) refl
+
+take_number : (s t : SessionState) (o : Outcome) → Takes s t o → t.number ≡ s.number
+take_number s t (outcome.Given frames) (inl is) = ap (λ (x : SessionState). x.number) is
+take_number s t (outcome.Given frames) (inr is) = ap (λ (x : SessionState). x.number) is
+take_number s t o is = ap (λ (x : SessionState). x.number) is
+
+take_caller : (s t : SessionState) (o : Outcome) → Takes s t o → t.line.caller ≡ s.line.caller
+take_caller s t (outcome.Given frames) (inl is) = ap (λ (x : SessionState). x.line.caller) is
+take_caller s t (outcome.Given frames) (inr is) = ap (λ (x : SessionState). x.line.caller) is
+take_caller s t o is = ap (λ (x : SessionState). x.line.caller) is
+
+pub steps_taken : (told : Option ℕ) (k k' : Knows) (s t : SessionState) (o : Outcome) → WantsTake s → Adds (event.Take s.number) o k k' → Takes s t o
+    → StepsSession told k k' s t
+steps_taken told k k' s t o wants adds takes = record {
+  steps = Took s.number o ∷ [];
+  own = (refl, tt);
+  gains = gains_one k k' (event.Take s.number, o) (made (event.Take s.number) o k k' adds);
+  timely = (tt, tt);
+  number = take_number s t o takes;
+  caller = take_caller s t o takes;
+  asked = λ calls came x. subst (λ (l : List Call). AskedSoFar told l came t) (sym (append-nil calls)) (asked_taken told calls came s t x o takes);
+  written = λ before came x. subst (λ (l : List Outcome). WrittenSoFar (before ++ l) came t) (sym (taken_at s.number o)) (written_taken before came s x t o wants takes);
+}
+
+pub steps_closed : (told : Option ℕ) (k k' : Knows) (s : SessionState) → Adds (event.Close s.number) outcome.Done k k' → StepsSession told k k' s s
+steps_closed told k k' s adds = record {
+  steps = Closed s.number ∷ [];
+  own = (refl, tt);
+  gains = gains_one k k' (event.Close s.number, outcome.Done) (made (event.Close s.number) outcome.Done k k' adds);
+  timely = (tt, tt);
+  number = refl;
+  caller = refl;
+  asked = λ calls came x. subst (λ (l : List Call). AskedSoFar told l came s) (sym (append-nil calls)) x;
+  written = λ takes came x. subst (λ (l : List Outcome). WrittenSoFar l came s) (sym (append-nil takes)) x;
+}
+
+-- ---- the calls of a turn
+
+some_acts : (n m served : ℕ) (end : CallOutcome) (asked : List Asked) → 0 < length asked → IsCount served end (length asked)
+    → 0 < length (call_acts n m asked served end)
+some_acts n m served end [] some count = absurd (omega (arith, some))
+some_acts n m zero called.Ok (a ∷ asked) some count = absurd (omega (arith, count))
+some_acts n m zero end (a ∷ asked) some count = omega arith
+some_acts n m (suc served) end (a ∷ asked) some count = omega arith
+
+called_at : (n m served : ℕ) (end : CallOutcome) (asked : List Asked) → calls_of n (Called n m asked served end ∷ []) ≡ turn_calls m asked served end
+called_at n m served end asked = ap (λ (l : List Call). l ++ []) (by_test (n == n) (same_test n)) ∙ append-nil (turn_calls m asked served end)
+  where
+    by_test : (b : Bool) → b ≡ true → (if b then turn_calls m asked served end else []) ≡ turn_calls m asked served end
+    by_test true is = refl
+    by_test false is = absurd (cc)
+
+ended_on : (asking : Asking) (s t : SessionState) → AsksOn asking s t → (t.number ≡ s.number) × (t.line.caller ≡ s.line.caller)
+ended_on Open s t is = (ap (λ (x : SessionState). x.number) is.1, ap (λ (x : SessionState). x.line.caller) is.1)
+ended_on Breaking s t is = (ap (λ (x : SessionState). x.number) is.0, ap (λ (x : SessionState). x.line.caller) is.0)
+ended_on (Ended end) s t is = (ap (λ (x : SessionState). x.number) is, ap (λ (x : SessionState). x.line.caller) is)
+
+answered_same : (s t : SessionState) (asked : List Asked) (served : ℕ) (end : CallOutcome) → Answered s t asked served end
+    → (t.number ≡ s.number) × (t.line.caller ≡ s.line.caller)
+answered_same s t asked served called.Ok is = ended_on s.asking s t is
+answered_same s t asked served called.Full is = (ap (λ (x : SessionState). x.number) is, ap (λ (x : SessionState). x.line.caller) is)
+answered_same s t asked served end is = (ap (λ (x : SessionState). x.number) is.2, ap (λ (x : SessionState). x.line.caller) is.2)
+
+owes_bare : (t : Option TakeEnd) (held : Option Bytes) (s : SessionState) (given : Bytes) → Owes t held s given → Owes t held (record s { asked = [] }) given
+owes_bare None held s given o = o
+owes_bare (Some took.WriteFault) held s given o = o
+owes_bare (Some took.Memory) held s given o = o
+owes_bare (Some end) held s given o = o
+
+-- the requests in hand, of a session from which they were moved out
+steps_answered : (told : Option ℕ) (m : ℕ) → IsTold told m → (k k' : Knows) (s t : SessionState) (served : ℕ) (end : CallOutcome) (named : List ℕ)
+    → WantsTurn s → IsCount served end (length s.asked) → AddsNamed (call_acts s.number m s.asked served end) named k k'
+    → Answered (record s { asked = [] }) t s.asked served end
+    → UnlessMemory t.asking ((more : Bytes) → demand s more ≡ take served s.asked ++ demand t more)
+    → StepsSession told k k' s t
+steps_answered told m timely k k' s t served end named wants count adds answered goes =
+    let same = answered_same (record s { asked = [] }) t s.asked served end answered in
+    record {
+      steps = Called s.number m s.asked served end ∷ [];
+      own = (refl, tt);
+      gains = subst (λ (l : List Act). Gains k k' l) (sym (append-nil (call_acts s.number m s.asked served end)))
+          (gains_calls (call_acts s.number m s.asked served end) k k' (some_acts s.number m served end s.asked wants.2 count) adds.adds);
+      timely = (timely, tt);
+      number = same.0;
+      caller = same.1;
+      asked = λ calls came x. subst (λ (l : List Call). AskedSoFar told (calls ++ l) came t) (sym (called_at s.number m served end s.asked))
+          (asked_answered told calls came (record s { asked = [] }) t s.asked served m timely wants.0 x end count refl answered goes);
+      written = λ takes came x. subst (λ (l : List Outcome). WrittenSoFar l came t) (sym (append-nil takes))
+          (written_answered takes came (record s { asked = [] }) (written_bare takes came s x) t s.asked served end answered);
+    }
+  where
+    written_bare : (takes : List Outcome) (came : LinkState) (s : SessionState) → WrittenSoFar takes came s → WrittenSoFar takes came (record s { asked = [] })
+    written_bare takes came s x = record { owes = owes_bare s.taking came.held s (bytes_given takes) x.owes; last = x.last; cause = x.cause; later = x.later }
+
+pub steps_asked : (told : Option ℕ) (m : ℕ) → IsTold told m → (k k' : Knows) (s mid t : SessionState) (moved asked : List Asked) (served : ℕ) (end : CallOutcome)
+    (named : List ℕ) → WantsTurn s → moved ≡ s.asked → mid ≡ record s { asked = [] } → asked ≡ moved → IsCount served end (length moved)
+    → AddsNamed (call_acts mid.number m moved served end) named k k' → Answered mid t asked served end
+    → UnlessMemory t.asking ((more : Bytes) → demand (record mid { asked = asked }) more ≡ take served asked ++ demand t more)
+    → StepsSession told k k' s t
+steps_asked told m timely k k' s mid t moved asked served end named wants is bare back count adds answered goes =
+    let all : asked ≡ s.asked = back ∙ is in
+    steps_answered told m timely k k' s t served end named wants
+    (subst (λ (l : List Asked). IsCount served end (length l)) is count)
+    (subst (λ (x : SessionState). AddsNamed (call_acts x.number m s.asked served end) named k k') bare
+    (subst (λ (l : List Asked). AddsNamed (call_acts mid.number m l served end) named k k') is adds))
+    (subst (λ (x : SessionState). Answered x t s.asked served end) bare (subst (λ (l : List Asked). Answered mid t l served end) all answered))
+    (subst (λ (x : SessionState). UnlessMemory t.asking ((more : Bytes) → demand (record x { asked = s.asked }) more ≡ take served s.asked ++ demand t more)) bare
+    (subst (λ (l : List Asked). UnlessMemory t.asking ((more : Bytes) → demand (record mid { asked = l }) more ≡ take served l ++ demand t more)) all goes))

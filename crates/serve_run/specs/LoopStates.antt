@@ -1,0 +1,115 @@
+-- What a loop keeps from step to step.
+use Rattle.std.specs.Prelude.{◌≡◌, ◌==◌, ◌≤◌, ◌+◌, ℕ, Bool, true, false, List, [], ◌∷◌, ◌++◌, Option, Some, None, option_map}
+use Rattle.std.specs.List.{slice_get}
+use Rattle.outside.specs.Causes.{Rose}
+use Rattle.world_model.specs.declared.events.Outcome.TheVariants as outcome
+use Rattle.world_model.specs.Seats.{Knows, Act}
+use Rattle.ready_links.specs.Links.{LinkState, IsNew}
+use Rattle.ready_links.specs.Doors.{DoorState}
+use Rattle.ready_links.specs.Waits.{WaitState}
+use Rattle.session_run.specs.Gains.{Gains}
+use Rattle.stepped_session.specs.Sessions.{SessionState}
+use Rattle.stepped_session.specs.SoFar.{AskedSoFar, WrittenSoFar}
+use Rattle.serve_run.specs.declared.tends.ServeEnd.{ServeEnd}
+use Rattle.serve_run.specs.Links.{IsTold}
+use Rattle.serve_run.specs.Loops.{Around, around, ServesReady}
+use Rattle.serve_run.specs.Steps.{Step, Joined, steps_acts, calls_of, takes_of, callers_of, numbered, behind_callers, AreTimely, IsAmong}
+use Rattle.serve_run.specs.Runs.{LinkRun, LinkFate, AreRuns, AreThrough, WatchFaults, one_if, times, times_shut, told_links, starved_of}
+use Rattle.serve_run.specs.Runs.{TurnedOut, Starved, Unwatched, Served}
+
+-- where a loop stands: what is around it; its table of open sessions; how many callers came, and how many were removed for want of memory;
+-- whether the door told its end; and whether the loop goes on
+pub record LoopState : Type 0 where
+  pub around : Around
+  pub places : List (Option SessionState)
+  pub joined : ℕ
+  pub starved : ℕ
+  pub is_over : Bool
+  pub goes_on : Bool
+
+abbrev pub loop_state : Knows → DoorState → WaitState → List (Option SessionState) → ℕ → ℕ → Bool → Bool → LoopState
+loop_state k d w places joined starved is_over goes_on = record {
+  around = around k d w;
+  places = places;
+  joined = joined;
+  starved = starved;
+  is_over = is_over;
+  goes_on = goes_on;
+}
+
+-- an open session, at its place: its link came as the caller of its number, the session was entered for it, and its calls, its takes and
+-- what was written are those of the steps so far
+pub record IsOpen (told : Option ℕ) (steps : List Step) (owner : ℕ → Option ℕ) (place : ℕ) (s : SessionState) : Type 0 where
+  pub came : LinkState
+  pub is_new : IsNew came.caller came
+  pub caller : s.line.caller ≡ came.caller
+  pub joined : IsAmong (Joined came.caller (outcome.Entered s.number)) steps
+  pub asked : AskedSoFar told (calls_of s.number steps) came s
+  pub written : WrittenSoFar (takes_of s.number steps) came s
+  pub owned : owner s.number ≡ Some place
+
+-- no open session has the number of one that is gone
+abbrev pub IsGone : (ℕ → Option ℕ) → LinkFate → Type 0
+IsGone owner (TurnedOut o) = Unit {0}
+IsGone owner (Starved n) = owner n ≡ None
+IsGone owner (Unwatched n) = owner n ≡ None
+IsGone owner (Served n asking taking) = owner n ≡ None
+
+abbrev pub AreGone : (ℕ → Option ℕ) → List LinkRun → Type 0
+AreGone owner [] = Unit {0}
+AreGone owner (run ∷ runs) = IsGone owner run.fate × AreGone owner runs
+
+-- how often a caller stands in the table
+abbrev pub time_at : ℕ → Option SessionState → ℕ
+time_at c None = 0
+time_at c (Some s) = one_if (s.line.caller == c)
+
+abbrev pub times_open : ℕ → List (Option SessionState) → ℕ
+times_open c [] = 0
+times_open c (place ∷ places) = time_at c place + times_open c places
+
+-- no session of this number was entered
+abbrev pub NeverJoined : ℕ → List Step → Type 0
+NeverJoined n steps = (caller : ℕ) → IsAmong (Joined caller (outcome.Entered n)) steps → ⊥
+
+-- what the loop keeps, from where it began on
+pub record Holds (told : Option ℕ) (old : Around) (s : LoopState) : Type 0 where
+  pub steps : List Step
+  pub gains : Gains old.knows s.around.knows (steps_acts steps)
+  pub timely : AreTimely told steps
+  pub callers : callers_of steps ≡ numbered old.door.links s.joined
+  pub door_links : s.around.door.links ≡ behind_callers old.door.links s.joined
+  pub unused : (n : ℕ) → NeverJoined n steps → (calls_of n steps ≡ []) × (takes_of n steps ≡ [])
+  pub owner : ℕ → Option ℕ
+  pub open_are : (i : ℕ) → (x : SessionState) → slice_get s.places i ≡ Some (Some x) → IsOpen told steps owner i x
+  pub runs : List LinkRun
+  pub are : AreRuns told steps runs
+  pub gone : AreGone owner runs
+  pub once : (c : ℕ) → times_shut c runs + times_open c s.places ≡ times c (callers_of steps)
+  pub shut : s.around.wait.shut ≡ option_map (λ links. links ++ told_links runs) old.wait.shut
+  pub starved_are : s.starved ≡ starved_of runs
+  pub unwatched : WatchFaults (Rose old.wait.faults s.around.wait.faults) runs
+  pub through : s.goes_on ≡ true → AreThrough runs
+  pub addr : s.around.door.addr ≡ old.door.addr
+  pub door_ends : old.door.ends ≤ s.around.door.ends
+  pub over_cause : s.is_over ≡ true → Rose old.door.ends s.around.door.ends
+  pub door_later : old.door.faults ≤ s.around.door.faults
+  pub wait_later : old.wait.faults ≤ s.around.wait.faults
+
+-- whatever the loop began with: what it kept, it keeps
+abbrev pub Keeps : Option ℕ → LoopState → LoopState → Type 0
+Keeps told s t = (old : Around) → Holds told old s → Holds told old t
+
+-- sessions of the table went on, and all else is as it was
+abbrev pub KeepsTable : Option ℕ → Knows → Knows → List (Option SessionState) → List (Option SessionState) → Type 0
+KeepsTable told k k' places places' = (d : DoorState) → (w : WaitState) → (joined starved : ℕ) → (is_over goes_on : Bool)
+    → Keeps told (loop_state k d w places joined starved is_over goes_on) (loop_state k' d w places' joined starved is_over goes_on)
+
+-- the same, and the one that waits was given links to shut; the loop goes on only where it could tell each
+abbrev pub KeepsShut : Option ℕ → Knows → Knows → WaitState → WaitState → List (Option SessionState) → List (Option SessionState) → Bool → Type 0
+KeepsShut told k k' w w' places places' is_told = (d : DoorState) → (joined starved : ℕ) → (is_over : Bool)
+    → Keeps told (loop_state k d w places joined starved is_over true) (loop_state k' d w' places' joined starved is_over is_told)
+
+-- no session is open
+abbrev pub NoneOpen : List (Option SessionState) → Type 0
+NoneOpen places = (i : ℕ) → (x : SessionState) → slice_get places i ≡ Some (Some x) → ⊥

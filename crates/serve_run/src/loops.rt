@@ -1,0 +1,275 @@
+//! The server in a loop over readiness: many sessions by one thread, and one commit a round.
+
+ghost use Rattle.std.specs.Prelude.{◌≡◌, ◌≤◌, ◌<◌, ℕ, Option, Some, Bool, true, false, [], length, IfOk};
+ghost use Rattle.world_data.specs.Limits.{max_moment, take_frames};
+ghost use Rattle.ready_links.specs.Waits.{Tries};
+ghost use Rattle.serve_run.specs.Links.{IsTold};
+ghost use Rattle.serve_run.specs.Loops.{ServesReady, around};
+ghost use Rattle.serve_run.specs.LoopStates.{KeepsShut, loop_state};
+ghost use Rattle.serve_run.specs.LoopEnds.{LoopTurn, TendsTable};
+
+use crate::joins::{Counts, let_in};
+use crate::marks::AllMarks;
+use crate::tables::{Table, all_in, all_out, none_open, shut_all, shut_over};
+use crate::tends::{ServeEnd, Served, tick_and_rewrite};
+use byte_text::NoMemory;
+use outside::{Clock, Failed};
+use ready_links::{Named, ReadyDoor, ReadyLink, WaitForLinks};
+use std::alloc::Global;
+use std::sync::Wait;
+use world_model::{ChangedSessions, Frames, HallApi};
+
+// So many bytes are read at once.
+const BLOCK: usize = 65_536;
+
+/// What a loop works with.
+#[derive(Drop)]
+struct Work {
+    block: Vec<u8>,
+    frames: Frames,
+}
+
+impl Work {
+    fn new(alloc: Global) -> Result<Work, NoMemory>
+        ensures some { IfOk result (λ w. 0 < length w.block.items) }
+        ensures bare { IfOk result (λ w. w.frames.list ≡ []) }
+        ensures places { IfOk result (λ w. w.frames.places ≡ take_frames) }
+    {
+        let Ok(block) = vec![in alloc; 0u8; BLOCK] else {
+            return Err(NoMemory);
+        };
+        let frames = Frames::new(alloc)?;
+        Ok(Work { block, frames })
+    }
+}
+
+// Waits until somebody may be ready, or until the next tick is due, and marks who was named.
+fn look<D: ReadyDoor, W: WaitForLinks<D>>(wait: &mut W, all: &mut AllMarks) -> Result<(), Failed>
+where
+    D::Link: Drop,
+    ensures { Tries (W.shows wait.old) (W.shows wait.new) result }
+{
+    let count = wait.wait(all.patience())?;
+    all.is_busy = false;
+    for nth in 0..count {
+        match wait.named(nth) {
+            Some(Named::Link(token)) => all.name(token as usize),
+            Some(Named::Door) => all.may_accept = true,
+            Some(Named::Waker) => {}
+            None => break,
+        }
+    }
+    Ok(())
+}
+
+// Makes a Tick and the Rewrites behind it, where one is due. The end that they bring.
+fn tend_if_due<H: HallApi, R: Wait>(
+    rt: &R,
+    hall: &H,
+    seat: &mut H::Seat,
+    moment: u64,
+    all: &mut AllMarks,
+    touched: ChangedSessions,
+) -> (Option<ServeEnd>, ChangedSessions)
+    requires seat { H.is_of hall.now seat.old }
+    requires moment { moment ≤ max_moment }
+    ensures seat { H.is_of hall.now seat.new }
+    ensures tends { (told : Option ℕ) → IsTold told moment
+        → TendsTable told (H.knows seat.old) (H.knows seat.new) result.0 }
+{
+    if !all.is_tick_due(moment) {
+        return (None, touched);
+    }
+    let (end, touched) = tick_and_rewrite(rt, hall, seat, moment, touched);
+    all.touch(&touched);
+    (end, touched)
+}
+
+// What a round does for those who are served: the calls of all, and then the takes of all, so that one commit serves the
+// round; and the links of those who are through are shut. Whether the loop can go on.
+fn serve_all<H: HallApi, D: ReadyDoor, W: WaitForLinks<D>, R: Wait>(
+    rt: &R,
+    hall: &H,
+    seat: &mut H::Seat,
+    moment: u64,
+    wait: &mut W,
+    table: &mut Table<D::Link>,
+    all: &mut AllMarks,
+    work: &mut Work,
+    touched: ChangedSessions,
+) -> (bool, ChangedSessions)
+where
+    D::Link: Drop,
+    requires seat { H.is_of hall.now seat.old }
+    requires moment { moment ≤ max_moment }
+    requires some { 0 < length work.old.block.items }
+    requires bare { work.old.frames.list ≡ [] }
+    requires places { work.old.frames.places ≡ take_frames }
+    ensures seat { H.is_of hall.now seat.new }
+    ensures some { 0 < length work.new.block.items }
+    ensures bare { work.new.frames.list ≡ [] }
+    ensures places { work.new.frames.places ≡ take_frames }
+    ensures keeps { (told : Option ℕ) → IsTold told moment → KeepsShut told (H.knows seat.old) (H.knows seat.new)
+        (W.shows wait.old) (W.shows wait.new) table.old.items table.new.items result.0 }
+{
+    let touched = all_in(rt, hall, seat, moment, table, all, &mut work.block, touched);
+    all_out(rt, hall, seat, table, all, &mut work.frames);
+    (shut_over(rt, hall, seat, wait, table, all), touched)
+}
+
+// One round. The end that it brings.
+fn round<H: HallApi, D: ReadyDoor, C: Clock, W: WaitForLinks<D>, R: Wait>(
+    rt: &R,
+    alloc: Global,
+    hall: &H,
+    seat: &mut H::Seat,
+    door: &mut D,
+    clock: &C,
+    wait: &mut W,
+    table: &mut Table<D::Link>,
+    all: &mut AllMarks,
+    counts: &mut Counts,
+    work: &mut Work,
+    touched: ChangedSessions,
+    limit: u32,
+) -> (Option<ServeEnd>, ChangedSessions)
+where
+    D::Link: Drop,
+    requires seat { H.is_of hall.now seat.old }
+    requires some { 0 < length work.old.block.items }
+    requires bare { work.old.frames.list ≡ [] }
+    requires places { work.old.frames.places ≡ take_frames }
+    requires room { counts.old.joined ≤ limit }
+    requires few { counts.old.starved ≤ counts.old.joined }
+    ensures seat { H.is_of hall.now seat.new }
+    ensures some { 0 < length work.new.block.items }
+    ensures bare { work.new.frames.list ≡ [] }
+    ensures places { work.new.frames.places ≡ take_frames }
+    ensures room { counts.new.joined ≤ limit }
+    ensures few { counts.new.starved ≤ counts.new.joined }
+    ensures turn { LoopTurn (C.told clock.now) limit
+        (loop_state (H.knows seat.old) (D.shows door.old) (W.shows wait.old) table.old.items
+        counts.old.joined counts.old.starved counts.old.is_over true)
+        (loop_state (H.knows seat.new) (D.shows door.new) (W.shows wait.new) table.new.items
+        counts.new.joined counts.new.starved counts.new.is_over true) result.0 }
+{
+    if let Err(Failed) = look(wait, all) {
+        return (Some(ServeEnd::DoorFault), touched);
+    }
+    let moment = clock.now();
+    let (tended, touched) = tend_if_due(rt, hall, seat, moment, all, touched);
+    if let Some(end) = tended {
+        return (Some(end), touched);
+    }
+    let came = let_in(rt, alloc, hall, seat, door, wait, table, all, counts, limit);
+    if let Some(end) = came {
+        return (Some(end), touched);
+    }
+    let (goes_on, touched) = serve_all(rt, hall, seat, moment, wait, table, all, work, touched);
+    if !goes_on {
+        return (Some(ServeEnd::Memory), touched);
+    }
+    if (counts.is_over || counts.joined == limit) && none_open(table) {
+        return (Some(ServeEnd::Done), touched);
+    }
+    (None, touched)
+}
+
+// Serves links up to an end, with what was made for it.
+fn serve_with<H: HallApi, D: ReadyDoor, C: Clock, W: WaitForLinks<D>, R: Wait>(
+    rt: &R,
+    alloc: Global,
+    hall: &H,
+    seat: &mut H::Seat,
+    door: &mut D,
+    clock: &C,
+    wait: &mut W,
+    table: &mut Table<D::Link>,
+    counts: &mut Counts,
+    work: &mut Work,
+    touched: ChangedSessions,
+    limit: u32,
+) -> ServeEnd
+where
+    D::Link: Drop,
+    requires seat { H.is_of hall.now seat.old }
+    requires some { 0 < length work.old.block.items }
+    requires bare { work.old.frames.list ≡ [] }
+    requires places { work.old.frames.places ≡ take_frames }
+    requires room { counts.old.joined ≤ limit }
+    requires few { counts.old.starved ≤ counts.old.joined }
+    ensures seat { H.is_of hall.now seat.new }
+    ensures room { counts.new.joined ≤ limit }
+    ensures turn { LoopTurn (C.told clock.now) limit
+        (loop_state (H.knows seat.old) (D.shows door.old) (W.shows wait.old) table.old.items
+        counts.old.joined counts.old.starved counts.old.is_over true)
+        (loop_state (H.knows seat.new) (D.shows door.new) (W.shows wait.new) table.new.items
+        counts.new.joined counts.new.starved counts.new.is_over true) (Some result) }
+{
+    let mut touched = touched;
+    let mut all = AllMarks::new(alloc);
+    for _ in rt.forever() {
+        let (end, back) = round(
+            rt, alloc, hall, seat, door, clock, wait, table, &mut all, counts, work, touched, limit,
+        );
+        touched = back;
+        if let Some(end) = end {
+            return end;
+        }
+    }
+    unreachable!()
+}
+
+/// Serves links over readiness, up to `limit` of them or an end, and shuts them all.
+pub fn serve_loop<H: HallApi, D: ReadyDoor, C: Clock, W: WaitForLinks<D>, R: Wait>(
+    rt: &R,
+    alloc: Global,
+    hall: &H,
+    seat: &mut H::Seat,
+    door: &mut D,
+    clock: &C,
+    wait: &mut W,
+    limit: u32,
+) -> Served
+where
+    D::Link: Drop,
+    requires seat { H.is_of hall.now seat.old }
+    ensures seat { H.is_of hall.now seat.new }
+    ensures serves { ServesReady (C.told clock.now) limit
+        (around (H.knows seat.old) (D.shows door.old) (W.shows wait.old))
+        (around (H.knows seat.new) (D.shows door.new) (W.shows wait.new))
+        result.joined result.starved result.end }
+{
+    let mut counts = Counts {
+        joined: 0,
+        starved: 0,
+        is_over: false,
+    };
+    let mut table = Vec::new(alloc);
+    let end = match (ChangedSessions::new(alloc), Work::new(alloc)) {
+        (Ok(touched), Ok(work)) => {
+            let mut work = work;
+            serve_with(
+                rt,
+                alloc,
+                hall,
+                seat,
+                door,
+                clock,
+                wait,
+                &mut table,
+                &mut counts,
+                &mut work,
+                touched,
+                limit,
+            )
+        }
+        _ => ServeEnd::Memory,
+    };
+    shut_all(wait, &mut table);
+    Served {
+        joined: counts.joined,
+        starved: counts.starved,
+        end,
+    }
+}

@@ -1,0 +1,218 @@
+//! The steps of one session in a round of a loop.
+//!
+//! A round has two halves. In the first each session is read and its calls are made; in the second each is given what it
+//! was made, and its link is written. So the first take of the second half commits for all calls of the first, and no
+//! reply is written before.
+
+ghost use Rattle.std.specs.Prelude.{◌≡◌, ◌≤◌, ◌<◌, ℕ, Option, [], length};
+ghost use Rattle.world_data.specs.Limits.{max_moment, take_frames};
+ghost use Rattle.world_model.specs.Seats.{Knows};
+ghost use Rattle.stepped_session.specs.Sessions.{WantsTurn};
+ghost use Rattle.serve_run.specs.Links.{IsTold};
+ghost use Rattle.serve_run.specs.SessionSteps.{StepsSession};
+
+use crate::marks::{AllMarks, Marks};
+use ready_links::{Got, ReadyLink, Sent};
+use std::sync::Wait;
+use stepped_session::Session;
+use world_model::{ChangedSessions, Frames, HallApi, Taken};
+
+// Reads a session once, where it may. A read that does not fill the block has most likely all that came, so the next one
+// can wait.
+fn read_once<K: ReadyLink + Drop>(session: &mut Session<K>, marks: &mut Marks, block: &mut [u8])
+    requires some { 0 < length block.old }
+    ensures steps { (told : Option ℕ) → (k : Knows) → StepsSession told k k session.old session.new }
+    ensures block { length block.new ≡ length block.old }
+{
+    let room = block.len();
+    if !marks.may_read || !session.wants_to_read() {
+        return;
+    }
+    let got = session.on_readable(block);
+    match got {
+        Ok(Got::Bytes(count)) => marks.is_filled = count == room,
+        _ => {
+            marks.may_read = false;
+            marks.is_filled = false;
+        }
+    }
+}
+
+// Makes the calls of a session's requests.
+fn ask<H: HallApi, K: ReadyLink + Drop, R: Wait>(
+    rt: &R,
+    hall: &H,
+    seat: &mut H::Seat,
+    moment: u64,
+    session: &mut Session<K>,
+    touched: ChangedSessions,
+) -> ChangedSessions
+    requires seat { H.is_of hall.now seat.old }
+    requires moment { moment ≤ max_moment }
+    requires ready { WantsTurn session.old }
+    ensures seat { H.is_of hall.now seat.new }
+    ensures steps { (told : Option ℕ) → IsTold told moment
+        → StepsSession told (H.knows seat.old) (H.knows seat.new) session.old session.new }
+{
+    let asked = session.move_asked();
+    let (answers, asked, touched) = hall.calls(rt, seat, session.number(), moment, asked, touched);
+    session.on_answered(asked, answers);
+    touched
+}
+
+/// The first half of a round: what came is read, and one turn of calls is made.
+pub(crate) fn step_in<H: HallApi, K: ReadyLink + Drop, R: Wait>(
+    rt: &R,
+    hall: &H,
+    seat: &mut H::Seat,
+    moment: u64,
+    session: &mut Session<K>,
+    place: usize,
+    all: &mut AllMarks,
+    block: &mut [u8],
+    touched: ChangedSessions,
+) -> ChangedSessions
+    requires seat { H.is_of hall.now seat.old }
+    requires moment { moment ≤ max_moment }
+    requires some { 0 < length block.old }
+    ensures seat { H.is_of hall.now seat.new }
+    ensures steps { (told : Option ℕ) → IsTold told moment
+        → StepsSession told (H.knows seat.old) (H.knows seat.new) session.old session.new }
+    ensures block { length block.new ≡ length block.old }
+{
+    let mut marks = all.at(place);
+    read_once(session, &mut marks, block);
+    if !session.wants_turn() {
+        all.put(place, marks);
+        return touched;
+    }
+    marks.is_due = true;
+    all.put(place, marks);
+    let touched = ask(rt, hall, seat, moment, session, touched);
+    all.touch(&touched);
+    touched
+}
+
+// Takes a session's frames once, where there may be some.
+fn take_once<H: HallApi, K: ReadyLink + Drop, R: Wait>(
+    rt: &R,
+    hall: &H,
+    seat: &mut H::Seat,
+    session: &mut Session<K>,
+    marks: &mut Marks,
+    frames: &mut Frames,
+)
+    requires seat { H.is_of hall.now seat.old }
+    requires bare { frames.old.list ≡ [] }
+    requires places { frames.old.places ≡ take_frames }
+    ensures seat { H.is_of hall.now seat.new }
+    ensures bare { frames.new.list ≡ [] }
+    ensures places { frames.new.places ≡ take_frames }
+    ensures steps { (told : Option ℕ)
+        → StepsSession told (H.knows seat.old) (H.knows seat.new) session.old session.new }
+{
+    if !marks.is_due || !session.wants_take() {
+        return;
+    }
+    let taken = hall.take(rt, seat, session.number(), frames);
+    session.on_taken(taken, frames);
+    frames.clear();
+    marks.is_due = gave_some(taken);
+}
+
+// Whether there may be more frames behind a take.
+fn gave_some(taken: Taken) -> bool {
+    matches!(taken, Taken::Some(_))
+}
+
+// Writes a session's link once, where it may.
+fn write_once<K: ReadyLink + Drop>(session: &mut Session<K>, marks: &mut Marks)
+    ensures steps { (told : Option ℕ) → (k : Knows) → StepsSession told k k session.old session.new }
+{
+    if !marks.may_write || !session.wants_to_write() {
+        return;
+    }
+    let sent = session.on_writable();
+    marks.may_write = matches!(sent, Ok(Sent::Bytes(_)));
+}
+
+// Takes once and writes once.
+fn give_once<H: HallApi, K: ReadyLink + Drop, R: Wait>(
+    rt: &R,
+    hall: &H,
+    seat: &mut H::Seat,
+    session: &mut Session<K>,
+    marks: &mut Marks,
+    frames: &mut Frames,
+)
+    requires seat { H.is_of hall.now seat.old }
+    requires bare { frames.old.list ≡ [] }
+    requires places { frames.old.places ≡ take_frames }
+    ensures seat { H.is_of hall.now seat.new }
+    ensures bare { frames.new.list ≡ [] }
+    ensures places { frames.new.places ≡ take_frames }
+    ensures steps { (told : Option ℕ)
+        → StepsSession told (H.knows seat.old) (H.knows seat.new) session.old session.new }
+{
+    take_once(rt, hall, seat, session, marks, frames);
+    write_once(session, marks);
+}
+
+// Tells the hall to close the session, where its asking has ended and the hall was not told yet.
+fn close_once<H: HallApi, K: ReadyLink + Drop, R: Wait>(
+    rt: &R,
+    hall: &H,
+    seat: &mut H::Seat,
+    session: &Session<K>,
+    marks: &mut Marks,
+)
+    requires seat { H.is_of hall.now seat.old }
+    ensures seat { H.is_of hall.now seat.new }
+    ensures steps { (told : Option ℕ)
+        → StepsSession told (H.knows seat.old) (H.knows seat.new) session.now session.now }
+{
+    if marks.is_closed || session.end_of_asking().is_none() {
+        return;
+    }
+    hall.close(rt, seat, session.number());
+    marks.is_closed = true;
+    marks.is_due = true;
+}
+
+// Whether there is something to do for the session without a wait.
+fn is_busy<K: ReadyLink>(session: &Session<K>, marks: Marks) -> bool {
+    session.wants_turn()
+        || (marks.is_due && session.wants_take())
+        || (marks.may_write && session.wants_to_write())
+        || (marks.is_filled && session.wants_to_read())
+}
+
+/// The second half of a round: the session is given its frames, and they are written. A second take finds out that there
+/// are no more, so that no further round is needed for that.
+pub(crate) fn step_out<H: HallApi, K: ReadyLink + Drop, R: Wait>(
+    rt: &R,
+    hall: &H,
+    seat: &mut H::Seat,
+    session: &mut Session<K>,
+    place: usize,
+    all: &mut AllMarks,
+    frames: &mut Frames,
+)
+    requires seat { H.is_of hall.now seat.old }
+    requires bare { frames.old.list ≡ [] }
+    requires places { frames.old.places ≡ take_frames }
+    ensures seat { H.is_of hall.now seat.new }
+    ensures bare { frames.new.list ≡ [] }
+    ensures places { frames.new.places ≡ take_frames }
+    ensures steps { (told : Option ℕ)
+        → StepsSession told (H.knows seat.old) (H.knows seat.new) session.old session.new }
+{
+    let mut marks = all.at(place);
+    close_once(rt, hall, seat, session, &mut marks);
+    give_once(rt, hall, seat, session, &mut marks, frames);
+    give_once(rt, hall, seat, session, &mut marks, frames);
+    all.put(place, marks);
+    if is_busy(session, marks) {
+        all.is_busy = true;
+    }
+}
