@@ -22,11 +22,11 @@ use Rattle.serve_run.specs.LoopEnds.{TendsTable}
 use Rattle.serve_run.specs.Loops.{Around}
 use Rattle.serve_run.specs.SessionSteps.{StepsSession}
 use Rattle.serve_run.specs.LoopStates.{LoopState, loop_state, IsOpen, Holds, Keeps, KeepsTable, KeepsShut, NeverJoined, time_at, times_open}
-use Rattle.serve_run.proofs.Places.{set_some, times_set}
+use Rattle.serve_run.proofs.Places.{set_some, times_set, less_last, times_last}
 use Rattle.serve_run.proofs.Records.{Spares, spared_calls, spared_takes, others_spared, own_callers, callers_more, among_more, never_before, joined_other, open_on, runs_on}
 use Rattle.serve_run.proofs.Stepping.{timely_more, calls_more, takes_more, gains_steps}
 
-other_place : (owner : ℕ → Option ℕ) (n m i j : ℕ) → owner n ≡ Some i → owner m ≡ Some j → (j ≡ i → ⊥) → n ≡ m → ⊥
+pub other_place : (owner : ℕ → Option ℕ) (n m i j : ℕ) → owner n ≡ Some i → owner m ≡ Some j → (j ≡ i → ⊥) → n ≡ m → ⊥
 other_place owner n m i j p q apart e = let same : Some i ≡ Some j = sym p ∙ ap owner e ∙ q in apart (sym (some_number i j same))
   where
     some_number : (a b : ℕ) → Some a ≡ Some b → a ≡ b
@@ -152,3 +152,57 @@ table_tended told k k' m timely gains places = λ d w joined starved is_over goe
 pub tended_table : (told : Option ℕ) (k k' : Knows) (o : Option ServeEnd) → Tends told k k' o → TendsTable told k k' o
 tended_table told k k' None t = λ places. table_tended told k k' t.moment t.is_told t.gains places
 tended_table told k k' (Some e) t = t
+
+-- the loop ends
+pub goes_off : (told : Option ℕ) (k : Knows) (d : DoorState) (w : WaitState) (places : List (Option SessionState)) (joined starved : ℕ) (is_over goes : Bool)
+    → Keeps told (loop_state k d w places joined starved is_over goes) (loop_state k d w places joined starved is_over false)
+goes_off told k d w places joined starved is_over goes = λ old h. record {
+  steps = h.steps;
+  gains = h.gains;
+  timely = h.timely;
+  callers = h.callers;
+  door_links = h.door_links;
+  unused = h.unused;
+  owner = h.owner;
+  open_are = h.open_are;
+  runs = h.runs;
+  are = h.are;
+  gone = h.gone;
+  once = h.once;
+  shut = h.shut;
+  starved_are = h.starved_are;
+  unwatched = h.unwatched;
+  through = λ is. absurd (cc);
+  addr = h.addr;
+  door_ends = h.door_ends;
+  over_cause = h.over_cause;
+  door_later = h.door_later;
+  wait_later = h.wait_later;
+}
+
+-- a place with nobody goes
+pub pop_none : (told : Option ℕ) (k : Knows) (d : DoorState) (w : WaitState) (places : List (Option SessionState)) (joined starved : ℕ) (is_over goes : Bool)
+    → Keeps told (loop_state k d w (places ++ None ∷ []) joined starved is_over goes) (loop_state k d w places joined starved is_over false)
+pop_none told k d w places joined starved is_over goes = λ old h. record {
+  steps = h.steps;
+  gains = h.gains;
+  timely = h.timely;
+  callers = h.callers;
+  door_links = h.door_links;
+  unused = h.unused;
+  owner = h.owner;
+  open_are = λ j z is. h.open_are j z (less_last places None j z is);
+  runs = h.runs;
+  are = h.are;
+  gone = h.gone;
+  once = λ c. let t = times_last c places None in let o = h.once c in omega (arith, t, o);
+  shut = h.shut;
+  starved_are = h.starved_are;
+  unwatched = h.unwatched;
+  through = λ is. absurd (cc);
+  addr = h.addr;
+  door_ends = h.door_ends;
+  over_cause = h.over_cause;
+  door_later = h.door_later;
+  wait_later = h.wait_later;
+}

@@ -2,5 +2,10 @@ mod Drawn
 mod Stepping
 mod Places
 mod Records
+mod Owners
 mod Keeping
+mod Shutting
+mod Numbers
+mod Joining
+mod Looping
 mod Tending

@@ -90,3 +90,11 @@ pub times_none : (c : ℕ) (l : Places) → NoneOpen l → times_open c l ≡ 0
 times_none c [] none = refl
 times_none c (None ∷ l) none = let r = times_none c l (λ i x is. none (suc i) x is) in omega (arith, r)
 times_none c (Some x ∷ l) none = absurd (none zero x refl)
+
+-- ---- whether none is open
+
+abbrev pub NoneBelow : ℕ → Places → Type 0
+NoneBelow n l = (i : ℕ) → (x : SessionState) → i < n → slice_get l i ≡ Some (Some x) → ⊥
+
+pub none_all : (n : ℕ) (l : Places) → n ≡ length l → NoneBelow n l → NoneOpen l
+none_all n l all none = λ i x is. let r = not_last l i x is in none i x (omega (arith, r, all)) is

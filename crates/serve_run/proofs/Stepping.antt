@@ -36,7 +36,7 @@ use Rattle.serve_run.specs.Links.{IsTold}
 use Rattle.serve_run.specs.Steps.{Step, Called, Took, Closed, step_acts, steps_acts, calls_in, calls_of, takes_in, takes_of, AreTimely}
 use Rattle.serve_run.specs.SessionSteps.{IsOf, AreOf, StepsSession}
 
-same_test : (n : ℕ) → (n == n) ≡ true
+pub same_test : (n : ℕ) → (n == n) ≡ true
 same_test n = grind (arith, nat_tests)
 
 -- ---- one behind another

@@ -1,7 +1,7 @@
 -- What a loop keeps from step to step.
-use Rattle.std.specs.Prelude.{◌≡◌, ◌==◌, ◌≤◌, ◌+◌, ℕ, Bool, true, false, List, [], ◌∷◌, ◌++◌, Option, Some, None, option_map}
+use Rattle.std.specs.Prelude.{◌≡◌, ◌==◌, ◌≤◌, ◌+◌, ℕ, Bool, true, false, List, [], ◌∷◌, ◌++◌, Option, Some, None, option_map, min}
 use Rattle.std.specs.List.{slice_get}
-use Rattle.outside.specs.Causes.{Rose}
+use Rattle.outside.specs.Causes.{Rose, most_count}
 use Rattle.world_model.specs.declared.events.Outcome.TheVariants as outcome
 use Rattle.world_model.specs.Seats.{Knows, Act}
 use Rattle.ready_links.specs.Links.{LinkState, IsNew}
@@ -91,7 +91,7 @@ pub record Holds (told : Option ℕ) (old : Around) (s : LoopState) : Type 0 whe
   pub unwatched : WatchFaults (Rose old.wait.faults s.around.wait.faults) runs
   pub through : s.goes_on ≡ true → AreThrough runs
   pub addr : s.around.door.addr ≡ old.door.addr
-  pub door_ends : old.door.ends ≤ s.around.door.ends
+  pub door_ends : min old.door.ends most_count ≤ s.around.door.ends
   pub over_cause : s.is_over ≡ true → Rose old.door.ends s.around.door.ends
   pub door_later : old.door.faults ≤ s.around.door.faults
   pub wait_later : old.wait.faults ≤ s.around.wait.faults

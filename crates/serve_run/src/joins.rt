@@ -5,10 +5,10 @@ ghost use Rattle.outside.specs.Causes.{next_count};
 ghost use Rattle.ready_links.specs.Doors.{DoorState};
 ghost use Rattle.ready_links.specs.Links.{IsNew};
 ghost use Rattle.serve_run.specs.LoopStates.{Keeps, loop_state};
-ghost use Rattle.serve_run.specs.LoopEnds.{ShutBy, HasPlace, IsPlaced, LoopTurn};
+ghost use Rattle.serve_run.specs.LoopEnds.{HasPlace, IsPlaced, LoopTurn};
 
 use crate::marks::AllMarks;
-use crate::tables::{Table, free_place};
+use crate::tables::{Table, free_place, shut};
 use crate::tends::ServeEnd;
 use outside::Failed;
 use ready_links::{Caller, ReadyDoor, ReadyLink, WaitForLinks};
@@ -39,15 +39,6 @@ pub(crate) enum Unseated {
 
 // Callers that are let in behind one wait, at most: those who are served wait meanwhile.
 const MOST_JOINED: u32 = 64;
-
-/// Shuts a link. Whether the one that waits could tell it.
-pub(crate) fn shut<D: ReadyDoor, W: WaitForLinks<D>>(wait: &mut W, link: D::Link) -> bool
-where
-    D::Link: Drop,
-    ensures { ShutBy (W.shows wait.old) (W.shows wait.new) result (D.Link.shows link) }
-{
-    wait.shut(link).is_ok()
-}
 
 // Finds a place for a link, and has it watched under the number of the place.
 fn place_for<D: ReadyDoor, W: WaitForLinks<D>>(

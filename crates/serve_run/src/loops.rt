@@ -2,10 +2,12 @@
 
 ghost use Rattle.std.specs.Prelude.{◌≡◌, ◌≤◌, ◌<◌, ℕ, Option, Some, Bool, true, false, [], length, IfOk};
 ghost use Rattle.world_data.specs.Limits.{max_moment, take_frames};
+ghost use Rattle.world_model.specs.Seats.{Knows};
+ghost use Rattle.ready_links.specs.Doors.{DoorState};
 ghost use Rattle.ready_links.specs.Waits.{Tries};
 ghost use Rattle.serve_run.specs.Links.{IsTold};
 ghost use Rattle.serve_run.specs.Loops.{ServesReady, around};
-ghost use Rattle.serve_run.specs.LoopStates.{KeepsShut, loop_state};
+ghost use Rattle.serve_run.specs.LoopStates.{Keeps, KeepsShut, loop_state};
 ghost use Rattle.serve_run.specs.LoopEnds.{LoopTurn, TendsTable};
 
 use crate::joins::{Counts, let_in};
@@ -220,6 +222,60 @@ where
     unreachable!()
 }
 
+// Serves links up to an end, with an empty table.
+fn serve_up_to<H: HallApi, D: ReadyDoor, C: Clock, W: WaitForLinks<D>, R: Wait>(
+    rt: &R,
+    alloc: Global,
+    hall: &H,
+    seat: &mut H::Seat,
+    door: &mut D,
+    clock: &C,
+    wait: &mut W,
+    table: &mut Table<D::Link>,
+    counts: &mut Counts,
+    limit: u32,
+) -> ServeEnd
+where
+    D::Link: Drop,
+    requires seat { H.is_of hall.now seat.old }
+    requires room { counts.old.joined ≤ limit }
+    requires few { counts.old.starved ≤ counts.old.joined }
+    ensures seat { H.is_of hall.now seat.new }
+    ensures room { counts.new.joined ≤ limit }
+    ensures turn { LoopTurn (C.told clock.now) limit
+        (loop_state (H.knows seat.old) (D.shows door.old) (W.shows wait.old) table.old.items
+        counts.old.joined counts.old.starved counts.old.is_over true)
+        (loop_state (H.knows seat.new) (D.shows door.new) (W.shows wait.new) table.new.items
+        counts.new.joined counts.new.starved counts.new.is_over true) (Some result) }
+{
+    let Ok(touched) = ChangedSessions::new(alloc) else {
+        return ServeEnd::Memory;
+    };
+    let Ok(mut work) = Work::new(alloc) else {
+        return ServeEnd::Memory;
+    };
+    serve_with(
+        rt, alloc, hall, seat, door, clock, wait, table, counts, &mut work, touched, limit,
+    )
+}
+
+// Shuts the links that are open as the loop ends. At its own end none is.
+fn end_loop<D: ReadyDoor, W: WaitForLinks<D>>(wait: &mut W, table: &mut Table<D::Link>, end: ServeEnd)
+where
+    D::Link: Drop,
+    ensures done { end ≡ ServeEnd.Done → W.shows wait.new ≡ W.shows wait.old }
+    ensures rest { (end ≡ ServeEnd.Done → ⊥) → (told : Option ℕ) → (k : Knows) → (d : DoorState) → (joined starved : ℕ)
+        → (is_over goes_on : Bool)
+        → Keeps told (loop_state k d (W.shows wait.old) table.old.items joined starved is_over goes_on)
+        (loop_state k d (W.shows wait.new) [] joined starved is_over false) }
+    ensures faults { (W.shows wait.new).faults ≡ (W.shows wait.old).faults }
+{
+    if let ServeEnd::Done = end {
+        return;
+    }
+    shut_all(wait, table);
+}
+
 /// Serves links over readiness, up to `limit` of them or an end, and shuts them all.
 pub fn serve_loop<H: HallApi, D: ReadyDoor, C: Clock, W: WaitForLinks<D>, R: Wait>(
     rt: &R,
@@ -246,27 +302,10 @@ where
         is_over: false,
     };
     let mut table = Vec::new(alloc);
-    let end = match (ChangedSessions::new(alloc), Work::new(alloc)) {
-        (Ok(touched), Ok(work)) => {
-            let mut work = work;
-            serve_with(
-                rt,
-                alloc,
-                hall,
-                seat,
-                door,
-                clock,
-                wait,
-                &mut table,
-                &mut counts,
-                &mut work,
-                touched,
-                limit,
-            )
-        }
-        _ => ServeEnd::Memory,
-    };
-    shut_all(wait, &mut table);
+    let end = serve_up_to(
+        rt, alloc, hall, seat, door, clock, wait, &mut table, &mut counts, limit,
+    );
+    end_loop(wait, &mut table, end);
     Served {
         joined: counts.joined,
         starved: counts.starved,

@@ -1,11 +1,14 @@
 //! The table of a loop's open sessions, and what a round does with all of them.
 
-ghost use Rattle.std.specs.Prelude.{◌≡◌, ◌≤◌, ◌<◌, ◌++◌, ◌∷◌, ◌⊎◌, ℕ, Option, Some, None, Bool, true, false, [], length, IfSome};
+ghost use Rattle.std.specs.Prelude.{◌≡◌, ◌≤◌, ◌<◌, ◌++◌, ◌∷◌, ◌⊎◌, ℕ, Option, Some, None, Bool, true, false, List, [], length, IfSome, slice_set};
 ghost use Rattle.std.specs.List.{slice_get};
 ghost use Rattle.world_data.specs.Limits.{max_moment, take_frames};
 ghost use Rattle.serve_run.specs.Links.{IsTold};
 ghost use Rattle.world_model.specs.Seats.{Knows};
 ghost use Rattle.ready_links.specs.Doors.{DoorState};
+ghost use Rattle.stepped_session.specs.Sessions.{SessionState, IsOver};
+ghost use Rattle.serve_run.specs.SessionSteps.{StepsSession};
+ghost use Rattle.serve_run.specs.LoopEnds.{ShutBy};
 ghost use Rattle.serve_run.specs.LoopStates.{Keeps, KeepsTable, KeepsShut, NoneOpen, loop_state};
 
 use crate::marks::AllMarks;
@@ -18,6 +21,36 @@ use world_model::{ChangedSessions, Frames, HallApi};
 
 /// The open sessions of a loop, each at the place by whose number its link is named.
 pub(crate) type Table<K> = Vec<Option<Session<K>>>;
+
+// The first half of a round, for the session of a place.
+fn one_in<H: HallApi, K: ReadyLink + Drop, R: Wait>(
+    rt: &R,
+    hall: &H,
+    seat: &mut H::Seat,
+    moment: u64,
+    table: &mut Table<K>,
+    place: usize,
+    all: &mut AllMarks,
+    block: &mut [u8],
+    touched: ChangedSessions,
+) -> ChangedSessions
+    requires seat { H.is_of hall.now seat.old }
+    requires moment { moment ≤ max_moment }
+    requires some { 0 < length block.old }
+    requires within { place < length table.old.items }
+    ensures seat { H.is_of hall.now seat.new }
+    ensures keeps { (told : Option ℕ) → IsTold told moment
+        → KeepsTable told (H.knows seat.old) (H.knows seat.new) table.old.items table.new.items }
+    ensures length { length table.new.items ≡ length table.old.items }
+    ensures block { length block.new ≡ length block.old }
+{
+    match &mut table[place] {
+        Some(session) => step_in(
+            rt, hall, seat, moment, session, place, all, block, touched,
+        ),
+        None => touched,
+    }
+}
 
 /// The first half of a round, for each session.
 pub(crate) fn all_in<H: HallApi, K: ReadyLink + Drop, R: Wait>(
@@ -40,11 +73,38 @@ pub(crate) fn all_in<H: HallApi, K: ReadyLink + Drop, R: Wait>(
 {
     let mut touched = touched;
     for place in 0..table.len() {
-        if let Some(session) = &mut table[place] {
-            touched = step_in(rt, hall, seat, moment, session, place, all, block, touched);
-        }
+        touched = one_in(
+            rt, hall, seat, moment, table, place, all, block, touched,
+        );
     }
     touched
+}
+
+// The second half of a round, for the session of a place.
+fn one_out<H: HallApi, K: ReadyLink + Drop, R: Wait>(
+    rt: &R,
+    hall: &H,
+    seat: &mut H::Seat,
+    table: &mut Table<K>,
+    place: usize,
+    all: &mut AllMarks,
+    frames: &mut Frames,
+)
+    requires seat { H.is_of hall.now seat.old }
+    requires bare { frames.old.list ≡ [] }
+    requires places { frames.old.places ≡ take_frames }
+    requires within { place < length table.old.items }
+    ensures seat { H.is_of hall.now seat.new }
+    ensures bare { frames.new.list ≡ [] }
+    ensures places { frames.new.places ≡ take_frames }
+    ensures keeps { (told : Option ℕ)
+        → KeepsTable told (H.knows seat.old) (H.knows seat.new) table.old.items table.new.items }
+    ensures length { length table.new.items ≡ length table.old.items }
+{
+    match &mut table[place] {
+        Some(session) => step_out(rt, hall, seat, session, place, all, frames),
+        None => {}
+    }
 }
 
 /// The second half of a round, for each session.
@@ -66,14 +126,45 @@ pub(crate) fn all_out<H: HallApi, K: ReadyLink + Drop, R: Wait>(
         → KeepsTable told (H.knows seat.old) (H.knows seat.new) table.old.items table.new.items }
 {
     for place in 0..table.len() {
-        if let Some(session) = &mut table[place] {
-            step_out(rt, hall, seat, session, place, all, frames);
-        }
+        one_out(rt, hall, seat, table, place, all, frames);
     }
 }
 
-// Shuts the link of a session that is over, and removes the session where the hall still has it. Whether the one that
-// waits could tell it.
+// Takes the session of a place out of the table, where it is over.
+fn take_over<K: ReadyLink + Drop>(table: &mut Table<K>, place: usize) -> Option<Session<K>>
+    requires within { place < length table.old.items }
+    ensures there { IfSome result (λ s. slice_get table.old.items place ≡ Some (Some s)) }
+    ensures over { IfSome result (λ s. IsOver s) }
+    ensures taken { IfSome result (λ s. table.new.items ≡ slice_set table.old.items place None) }
+    ensures none { result ≡ None → table.new.items ≡ table.old.items }
+    ensures length { length table.new.items ≡ length table.old.items }
+{
+    match &table[place] {
+        Some(session) if session.is_over() => {}
+        _ => return None,
+    }
+    mem::replace(&mut table[place], None)
+}
+
+// Removes a session from the hall, where its taking has not come to its end there.
+fn remove_if_there<H: HallApi, K: ReadyLink + Drop, R: Wait>(
+    rt: &R,
+    hall: &H,
+    seat: &mut H::Seat,
+    session: &Session<K>,
+)
+    requires seat { H.is_of hall.now seat.old }
+    ensures seat { H.is_of hall.now seat.new }
+    ensures steps { (told : Option ℕ)
+        → StepsSession told (H.knows seat.old) (H.knows seat.new) session.now session.now }
+{
+    if let Some(TakeEnd::Ended) = session.end_of_taking() {
+        return;
+    }
+    hall.remove(rt, seat, session.number());
+}
+
+// Shuts the link of the session of a place, where it is over. Whether the one that waits could tell it.
 fn shut_one<H: HallApi, D: ReadyDoor, W: WaitForLinks<D>, R: Wait>(
     rt: &R,
     hall: &H,
@@ -92,20 +183,11 @@ where
         (W.shows wait.old) (W.shows wait.new) table.old.items table.new.items result }
     ensures length { length table.new.items ≡ length table.old.items }
 {
-    let is_over = match &table[place] {
-        Some(session) => session.is_over(),
-        None => false,
-    };
-    if !is_over {
-        return true;
-    }
-    match mem::replace(&mut table[place], None) {
+    match take_over(table, place) {
         Some(session) => {
             all.leave(session.number());
-            if !matches!(session.end_of_taking(), Some(TakeEnd::Ended)) {
-                hall.remove(rt, seat, session.number());
-            }
-            wait.shut(session.into_link()).is_ok()
+            remove_if_there(rt, hall, seat, &session);
+            shut(wait, session.into_link())
         }
         None => true,
     }
@@ -165,6 +247,28 @@ pub(crate) fn free_place<K: ReadyLink + Drop>(table: &mut Table<K>) -> Option<us
     }
 }
 
+/// Shuts a link. Whether the one that waits could tell it.
+pub(crate) fn shut<D: ReadyDoor, W: WaitForLinks<D>>(wait: &mut W, link: D::Link) -> bool
+    ensures { ShutBy (W.shows wait.old) (W.shows wait.new) result (D.Link.shows link) }
+{
+    wait.shut(link).is_ok()
+}
+
+// Shuts the link of the last session of a table, as the loop ends. Where it can't be told, the loop ends all the same.
+fn shut_popped<D: ReadyDoor, W: WaitForLinks<D>>(wait: &mut W, place: Option<Session<D::Link>>)
+where
+    D::Link: Drop,
+    ensures keeps { (told : Option ℕ) → (k : Knows) → (d : DoorState) → (places : List (Option SessionState))
+        → (joined starved : ℕ) → (is_over goes_on : Bool)
+        → Keeps told (loop_state k d (W.shows wait.old) (places ++ place ∷ []) joined starved is_over goes_on)
+        (loop_state k d (W.shows wait.new) places joined starved is_over false) }
+    ensures faults { (W.shows wait.new).faults ≡ (W.shows wait.old).faults }
+{
+    if let Some(session) = place {
+        shut(wait, session.into_link());
+    }
+}
+
 /// Shuts the links of all sessions, wherever they are, as the loop ends.
 pub(crate) fn shut_all<D: ReadyDoor, W: WaitForLinks<D>>(wait: &mut W, table: &mut Table<D::Link>)
 where
@@ -173,11 +277,9 @@ where
         → Keeps told (loop_state k d (W.shows wait.old) table.old.items joined starved is_over goes_on)
         (loop_state k d (W.shows wait.new) table.new.items joined starved is_over false) }
     ensures none { table.new.items ≡ [] }
+    ensures faults { (W.shows wait.new).faults ≡ (W.shows wait.old).faults }
 {
     while let Some(place) = table.pop() {
-        if let Some(session) = place {
-            // Where it can't be told there is nobody left to tell it to.
-            let _ = wait.shut(session.into_link());
-        }
+        shut_popped(wait, place);
     }
 }

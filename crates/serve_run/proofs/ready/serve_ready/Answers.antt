@@ -1,0 +1,32 @@
+use Rattle.std.proofs.Common.{ap, ◌∙◌, inl, inr}
+use Rattle.std.specs.Prelude.{Some}
+use Rattle.ready_links.specs.Doors.{DoorState}
+use Rattle.ready_links.specs.Waits.{WaitState}
+use Rattle.serve_run.specs.Loops.{around}
+use Rattle.serve_run.specs.Openings.{gains_opening, gains_first}
+use Rattle.serve_run.proofs.ready.serve_ready.Goals as goal
+
+pub returns-in-Err-clause-serves : goal.returns-in-Err-clause-serves
+returns-in-Err-clause-serves g c = inr (inl (record {
+  same = ap (λ (d : DoorState). around (g.H.HallApi.knows c.args.seat.now) d (g.W.WaitForLinks.shows c.args.wait.now)) c.in-Err.ensures.same;
+  cause = c.in-Err.ensures.rose;
+  later = c.in-Err.ensures.later;
+  ended = c.end-in-Err.ensures.told;
+}))
+
+pub returns-in-Err-watch_door-clause-serves : goal.returns-in-Err-watch_door-clause-serves
+returns-in-Err-watch_door-clause-serves g c =
+    let k = g.H.HallApi.knows c.args.seat.now in
+    inr (inr (inl (record {
+      same = ap (λ (d : DoorState). around k d (g.W.WaitForLinks.shows c.watch_door.new.self)) (c.watch_door.ensures.door ∙ c.in_default-listen.ensures)
+          ∙ ap (λ (w : WaitState). around k (record (g.D.ReadyDoor.shows c.args.door.now) { addr = Some c.args.asked.addr.now }) w) c.in-Err-watch_door.ensures.tries.2;
+      cause = c.in-Err-watch_door.ensures.tries.0;
+      later = c.in-Err-watch_door.ensures.tries.1;
+      ended = c.end-in-Err-watch_door.ensures.told;
+    })))
+
+pub returns-clause-opening : goal.returns-clause-opening
+returns-clause-opening g c = gains_opening _ _ _ c.serve_loop-done.ensures.serves.gains
+
+pub returns-clause-first : goal.returns-clause-first
+returns-clause-first g c = gains_first _ _ _ c.serve_loop-done.ensures.serves.gains
