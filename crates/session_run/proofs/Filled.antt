@@ -9,11 +9,11 @@ use Rattle.world_model.specs.Outcomes.{is_proper}
 use Rattle.world_model.specs.declared.events.Asked.{Asked}
 use Rattle.session_run.specs.Feeds.{asked_behind}
 use Rattle.session_run.specs.declared.ends.InEnd.TheVariants as ended
-use Rattle.stepped_session.specs.declared.phases.Asking.{Asking}
-use Rattle.stepped_session.specs.declared.phases.Asking.TheVariants.{Open, Breaking, Ended}
-use Rattle.stepped_session.specs.Filling.{IsFilled, IsFit}
-use Rattle.stepped_session.specs.Steps.{UnlessMemory, said, said_too}
-use Rattle.stepped_session.specs.Turns.{split_asks}
+use Rattle.session_run.specs.declared.phases.Asking.{Asking}
+use Rattle.session_run.specs.declared.phases.Asking.TheVariants.{Open, Breaking, Ended}
+use Rattle.session_run.specs.Filling.{IsFilled, IsFit}
+use Rattle.session_run.specs.Steps.{UnlessMemory, said, said_too}
+use Rattle.session_run.specs.Turns.{split_asks}
 
 no_bytes_ask : asked_behind (Some []) [] ≡ []
 unfolding stream_of

@@ -10,17 +10,17 @@ ghost use Rattle.byte_text.specs.Names.{Bytes};
 ghost use Rattle.world_model.specs.Outcomes.{IsCount, is_proper, take_outcome};
 ghost use Rattle.ready_links.specs.Links.{GotWithin, SentWithin, Reads, Writes};
 ghost use Rattle.session_run.specs.Outs.{given_bytes};
-ghost use Rattle.stepped_session.specs.Sessions.{opened, demand, owed, WantsToRead, WantsTurn, WantsTake};
-ghost use Rattle.stepped_session.specs.Sessions.{WantsToWrite, IsOver, goes_on, end_of_asking};
-ghost use Rattle.stepped_session.specs.Steps.{got_bytes, UnlessMemory, UnlessLost, Readies, Answered, Takes, WritesOut};
-ghost use Rattle.stepped_session.specs.Filling.{IsFilled, IsFit};
+ghost use Rattle.session_run.specs.Sessions.{opened, demand, owed, WantsToRead, WantsTurn, WantsTake};
+ghost use Rattle.session_run.specs.Sessions.{WantsToWrite, IsOver, goes_on, end_of_asking};
+ghost use Rattle.session_run.specs.Steps.{got_bytes, UnlessMemory, UnlessLost, Readies, Answered, Takes, WritesOut};
+ghost use Rattle.session_run.specs.Filling.{IsFilled, IsFit};
 
+use crate::ends::InEnd;
 use crate::filling::{fill_from, refill};
 use crate::phases::{Asking, TakeEnd, end_of};
 use crate::waiting_bytes::WaitingBytes;
 use ready_links::{Failed, Got, ReadyLink, Sent};
 use resp_frames::Requests;
-use session_run::InEnd;
 use std::alloc::Global;
 use std::marker::Model;
 use std::mem;
@@ -44,8 +44,8 @@ pub struct Session<K: ReadyLink> {
 }
 
 impl<K: ReadyLink> Model for Session<K> {
-    ghost use Rattle.stepped_session.specs.Sessions.{SessionState};
-    ghost use Rattle.stepped_session.specs.Filling.{IsFit};
+    ghost use Rattle.session_run.specs.Sessions.{SessionState};
+    ghost use Rattle.session_run.specs.Filling.{IsFit};
 
     ghost Value = { SessionState };
 

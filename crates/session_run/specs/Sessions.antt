@@ -7,10 +7,10 @@ use Rattle.world_model.specs.declared.events.Asked.{Asked}
 use Rattle.ready_links.specs.Links.{LinkState}
 use Rattle.session_run.specs.Feeds.{asked_behind}
 use Rattle.session_run.specs.declared.ends.InEnd.{InEnd}
-use Rattle.stepped_session.specs.declared.phases.Asking.{Asking}
-use Rattle.stepped_session.specs.declared.phases.Asking.TheVariants.{Open, Breaking, Ended}
-use Rattle.stepped_session.specs.declared.phases.TakeEnd.{TakeEnd}
-use Rattle.stepped_session.specs.declared.phases.TakeEnd.TheVariants.{WriteFault}
+use Rattle.session_run.specs.declared.phases.Asking.{Asking}
+use Rattle.session_run.specs.declared.phases.Asking.TheVariants.{Open, Breaking, Ended}
+use Rattle.session_run.specs.declared.phases.TakeEnd.{TakeEnd}
+use Rattle.session_run.specs.declared.phases.TakeEnd.TheVariants.{WriteFault}
 
 -- its link and its number; the bytes that begin a request, what was read behind them and not looked at yet, and the requests that wait
 -- for their calls; what is to be written; how far its asking is, and how the taking of its frames ended, if it did

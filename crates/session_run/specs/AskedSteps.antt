@@ -24,16 +24,16 @@ use Rattle.session_run.specs.Ends.{end_of}
 use Rattle.session_run.specs.Feeds.{asked_behind, EndsBroken}
 use Rattle.session_run.specs.declared.ends.InEnd.{InEnd}
 use Rattle.session_run.specs.declared.ends.InEnd.TheVariants as ended
-use Rattle.stepped_session.specs.declared.phases.Asking.{Asking}
-use Rattle.stepped_session.specs.declared.phases.Asking.TheVariants.{Open, Breaking, Ended}
-use Rattle.stepped_session.specs.declared.phases.TakeEnd.{TakeEnd}
-use Rattle.stepped_session.specs.declared.phases.TakeEnd.TheVariants as taking
-use Rattle.stepped_session.specs.Filling.{IsFilled}
-use Rattle.stepped_session.specs.Sessions.{SessionState, opened, demand, goes_on, WantsToRead}
-use Rattle.stepped_session.specs.Steps.{got_bytes, UnlessMemory, said_too, Readies, AsksOn, Answered, Takes, WritesOut, taking_behind}
-use Rattle.stepped_session.specs.SoFar.{asked_for, ServesOn, Asks, AskedSoFar, asked_at, left_of, line_of, no_less, rose_before}
-use Rattle.stepped_session.specs.Turns.{ok_calls, next_calls, turn_calls, call_at, IsTold, serves_more, serves_oks, serves_full, stops_next}
-use Rattle.stepped_session.specs.Turns.{split_asks, serves_front, ends_at}
+use Rattle.session_run.specs.declared.phases.Asking.{Asking}
+use Rattle.session_run.specs.declared.phases.Asking.TheVariants.{Open, Breaking, Ended}
+use Rattle.session_run.specs.declared.phases.TakeEnd.{TakeEnd}
+use Rattle.session_run.specs.declared.phases.TakeEnd.TheVariants as taking
+use Rattle.session_run.specs.Filling.{IsFilled}
+use Rattle.session_run.specs.Sessions.{SessionState, opened, demand, goes_on, WantsToRead}
+use Rattle.session_run.specs.Steps.{got_bytes, UnlessMemory, said_too, Readies, AsksOn, Answered, Takes, WritesOut, taking_behind}
+use Rattle.session_run.specs.SoFar.{asked_for, ServesOn, Asks, AskedSoFar, asked_at, left_of, line_of, no_less, rose_before}
+use Rattle.session_run.specs.Turns.{ok_calls, next_calls, turn_calls, call_at, IsTold, serves_more, serves_oks, serves_full, stops_next}
+use Rattle.session_run.specs.Turns.{split_asks, serves_front, ends_at}
 
 -- ---- before the first byte
 

@@ -2,7 +2,7 @@ use Rattle.std.proofs.Common.{◌≡◌, ◌≤◌, ◌-◌, [], length, true, d
 use Rattle.std.specs.List.{list_all}
 use Rattle.world_model.specs.Outcomes.{is_proper}
 use Rattle.session_run.specs.Feeds.{Feeds, asked_behind}
-use Rattle.stepped_session.proofs.filling.collect.Given as goal
+use Rattle.session_run.proofs.filling.collect.Given as goal
 
 abbrev pub invariant-loop-reader : goal.invariant-loop-reader
 invariant-loop-reader l = record {

@@ -5,13 +5,13 @@ ghost use Rattle.std.specs.List.{list_all};
 ghost use Rattle.resp_frames.specs.RequestReader.{IsFed, IsNotFed};
 ghost use Rattle.world_model.specs.Outcomes.{is_proper};
 ghost use Rattle.session_run.specs.Feeds.{asked_behind};
-ghost use Rattle.stepped_session.specs.Filling.{IsStep, IsFill, IsFilled};
+ghost use Rattle.session_run.specs.Filling.{IsStep, IsFill, IsFilled};
 
+use crate::ends::InEnd;
 use crate::phases::Asking;
 use crate::waiting_bytes::WaitingBytes;
 use byte_text::{requests_are_read, streams_read_once};
 use resp_frames::{Fed, FeedFault, Requests};
-use session_run::InEnd;
 use world_model::{Asked, AskedList, MOST_ASKED};
 
 // What comes of the first request, or fault, of some bytes.

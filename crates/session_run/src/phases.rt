@@ -3,7 +3,7 @@
 ghost use Rattle.std.specs.Prelude.{◌≡◌};
 ghost use Rattle.session_run.specs.Ends.{end_of};
 
-use session_run::InEnd;
+use crate::ends::InEnd;
 use world_model::CallOutcome;
 
 /// How far the asking of a session's requests is.

@@ -15,11 +15,11 @@ use Rattle.session_run.specs.Ends.{EndsAt}
 use Rattle.session_run.specs.Feeds.{asked_by, EndsBroken}
 use Rattle.session_run.specs.Outs.{bytes_given}
 use Rattle.session_run.specs.declared.ends.InEnd.TheVariants as ended
-use Rattle.stepped_session.specs.declared.phases.Asking.{Asking}
-use Rattle.stepped_session.specs.declared.phases.Asking.TheVariants.{Open, Breaking, Ended}
-use Rattle.stepped_session.specs.declared.phases.TakeEnd.{TakeEnd}
-use Rattle.stepped_session.specs.declared.phases.TakeEnd.TheVariants as taking
-use Rattle.stepped_session.specs.Sessions.{SessionState, demand, owed}
+use Rattle.session_run.specs.declared.phases.Asking.{Asking}
+use Rattle.session_run.specs.declared.phases.Asking.TheVariants.{Open, Breaking, Ended}
+use Rattle.session_run.specs.declared.phases.TakeEnd.{TakeEnd}
+use Rattle.session_run.specs.declared.phases.TakeEnd.TheVariants as taking
+use Rattle.session_run.specs.Sessions.{SessionState, demand, owed}
 
 -- what these bytes ask
 abbrev pub asked_for : Bytes → List Asked

@@ -14,12 +14,12 @@ use Rattle.ready_links.specs.declared.links.Sent.TheVariants as sent
 use Rattle.session_run.specs.Ends.{end_of}
 use Rattle.session_run.specs.declared.ends.InEnd.{InEnd}
 use Rattle.session_run.specs.declared.ends.InEnd.TheVariants as ended
-use Rattle.stepped_session.specs.declared.phases.Asking.{Asking}
-use Rattle.stepped_session.specs.declared.phases.Asking.TheVariants.{Open, Breaking, Ended}
-use Rattle.stepped_session.specs.declared.phases.TakeEnd.{TakeEnd}
-use Rattle.stepped_session.specs.declared.phases.TakeEnd.TheVariants as taking
-use Rattle.stepped_session.specs.Filling.{IsFilled}
-use Rattle.stepped_session.specs.Sessions.{SessionState, demand}
+use Rattle.session_run.specs.declared.phases.Asking.{Asking}
+use Rattle.session_run.specs.declared.phases.Asking.TheVariants.{Open, Breaking, Ended}
+use Rattle.session_run.specs.declared.phases.TakeEnd.{TakeEnd}
+use Rattle.session_run.specs.declared.phases.TakeEnd.TheVariants as taking
+use Rattle.session_run.specs.Filling.{IsFilled}
+use Rattle.session_run.specs.Sessions.{SessionState, demand}
 
 -- the bytes that a read brought
 abbrev pub got_bytes : {E : Type 0} → Result Got E → Bytes → Bytes

@@ -1,7 +1,7 @@
 //! Sessions over links in memory, stepped to their ends. Each request is one word, and is answered by it.
 
 ghost use Rattle.std.specs.Prelude.{◌≡◌};
-ghost use Rattle.stepped_session.specs.Sessions.{WantsTurn};
+ghost use Rattle.session_run.specs.Sessions.{WantsTurn};
 
 use crate::{InEnd, Session, TakeEnd};
 use ready_links::{CallerScript, Move, ScriptedLink};

@@ -20,14 +20,14 @@ use Rattle.ready_links.specs.declared.links.Got.TheVariants as got
 use Rattle.ready_links.specs.declared.links.Sent.{Sent}
 use Rattle.ready_links.specs.declared.links.Sent.TheVariants as sent
 use Rattle.session_run.specs.Outs.{given_bytes, bytes_given}
-use Rattle.stepped_session.specs.declared.phases.Asking.{Asking}
-use Rattle.stepped_session.specs.declared.phases.Asking.TheVariants.{Open, Breaking, Ended}
-use Rattle.stepped_session.specs.declared.phases.TakeEnd.{TakeEnd}
-use Rattle.stepped_session.specs.declared.phases.TakeEnd.TheVariants as taking
-use Rattle.stepped_session.specs.Sessions.{SessionState, opened, owed, WantsTake}
-use Rattle.stepped_session.specs.Steps.{Readies, AsksOn, Answered, Takes, WritesOut, taking_behind}
-use Rattle.stepped_session.specs.Owing.{owed_same, owed_taken, owed_part, owed_all}
-use Rattle.stepped_session.specs.SoFar.{Owes, WrittenSoFar, held_of, line_of, no_less, out_of, rose_before, taking_of, written_at}
+use Rattle.session_run.specs.declared.phases.Asking.{Asking}
+use Rattle.session_run.specs.declared.phases.Asking.TheVariants.{Open, Breaking, Ended}
+use Rattle.session_run.specs.declared.phases.TakeEnd.{TakeEnd}
+use Rattle.session_run.specs.declared.phases.TakeEnd.TheVariants as taking
+use Rattle.session_run.specs.Sessions.{SessionState, opened, owed, WantsTake}
+use Rattle.session_run.specs.Steps.{Readies, AsksOn, Answered, Takes, WritesOut, taking_behind}
+use Rattle.session_run.specs.Owing.{owed_same, owed_taken, owed_part, owed_all}
+use Rattle.session_run.specs.SoFar.{Owes, WrittenSoFar, held_of, line_of, no_less, out_of, rose_before, taking_of, written_at}
 
 owes_first : (held : Option Bytes) → Appends held (append_known held []) []
 owes_first None = tt

@@ -7,12 +7,12 @@ use Rattle.world_model.specs.Outcomes.{is_proper}
 use Rattle.world_model.specs.declared.events.Asked.{Asked}
 use Rattle.session_run.specs.Feeds.{Feeds, EndsBroken, Reads, ReadsFault, asked_behind}
 use Rattle.session_run.specs.declared.ends.InEnd.TheVariants.{Memory}
-use Rattle.stepped_session.specs.declared.filling.Step.{Step}
-use Rattle.stepped_session.specs.declared.filling.Step.TheVariants as step
-use Rattle.stepped_session.specs.declared.filling.Fill.{Fill}
-use Rattle.stepped_session.specs.declared.filling.Fill.TheVariants as fill
-use Rattle.stepped_session.specs.declared.phases.Asking.{Asking}
-use Rattle.stepped_session.specs.declared.phases.Asking.TheVariants.{Open, Breaking, Ended}
+use Rattle.session_run.specs.declared.filling.Step.{Step}
+use Rattle.session_run.specs.declared.filling.Step.TheVariants as step
+use Rattle.session_run.specs.declared.filling.Fill.{Fill}
+use Rattle.session_run.specs.declared.filling.Fill.TheVariants as fill
+use Rattle.session_run.specs.declared.phases.Asking.{Asking}
+use Rattle.session_run.specs.declared.phases.Asking.TheVariants.{Open, Breaking, Ended}
 
 -- the first request of the bytes was made, or their fault met, or there is none
 abbrev pub IsStep : Held → Bytes → Held → List Asked → List Asked → Step → Type 0

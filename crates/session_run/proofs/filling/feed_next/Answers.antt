@@ -3,8 +3,8 @@ use Rattle.std.specs.Prelude.{Option}
 use Rattle.byte_text.specs.Names.{Bytes}
 use Rattle.resp_frames.specs.RequestReader.{IsFed, IsNotFed}
 use Rattle.resp_frames.specs.declared.faults.FeedFault.{FeedFault}
-use Rattle.stepped_session.proofs.Feeding.{reads_next, reads_fault}
-use Rattle.stepped_session.proofs.filling.feed_next.Goals as goal
+use Rattle.session_run.proofs.Feeding.{reads_next, reads_fault}
+use Rattle.session_run.proofs.filling.feed_next.Goals as goal
 
 pub returns-then-push-clause-step : goal.returns-then-push-clause-step
 returns-then-push-clause-step c =

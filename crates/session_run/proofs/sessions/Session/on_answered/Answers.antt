@@ -1,8 +1,8 @@
 use Rattle.std.proofs.Common.{sym, ◌∙◌}
 use Rattle.std.proofs.lemmas.List.{nil_from_length}
-use Rattle.stepped_session.specs.declared.phases.Asking.TheVariants.{Ended}
-use Rattle.stepped_session.proofs.Filled.{some_answered, all_answered}
-use Rattle.stepped_session.proofs.sessions.Session.on_answered.Goals as goal
+use Rattle.session_run.specs.declared.phases.Asking.TheVariants.{Ended}
+use Rattle.session_run.proofs.Filled.{some_answered, all_answered}
+use Rattle.session_run.proofs.sessions.Session.on_answered.Goals as goal
 
 pub returns-in-Some-clause-demand : goal.returns-in-Some-clause-demand
 returns-in-Some-clause-demand g c =
