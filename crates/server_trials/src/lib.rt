@@ -23,8 +23,6 @@ mod loads;
 #[cfg(test)]
 mod positions;
 #[cfg(test)]
-mod ready_loops;
-#[cfg(test)]
 mod requests;
 #[cfg(test)]
 mod stores;
