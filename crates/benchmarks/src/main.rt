@@ -1,8 +1,8 @@
 //! A program to measure by, on one thread and in memory. Without words it does nothing.
 //!
 //! `core KIND IDS COUNT` sends requests through reader and core: the kind is `set`, `fields` (a SET with two number
-//! fields), `get` or `ping`, the requests go over so many ids, and so many of them are made, each called and taken. It
-//! prints how many were answered and the nanoseconds that each took.
+//! fields), `get`, `ping` or `setchan` (a fence that ends), the requests go over so many ids, and so many of them are
+//! made, each called and taken. It prints how many were answered and the nanoseconds that each took.
 //! `journal RECORDS BATCH` writes so many records through a journal over a disk in memory, so many of them in one
 //! commit, and opens the log again. It prints how many records were found again, and the nanoseconds that each took to
 //! be written and to be opened.

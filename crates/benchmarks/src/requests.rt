@@ -11,6 +11,28 @@ const FIELDS: &str =
 
 const POINT: &str = "$5\r\nPOINT\r\n$2\r\n33\r\n$3\r\n112\r\n";
 
+// A fence that ends in a minute: a square of its own, of 256 in a row.
+fn fence_text(alloc: Global, id: u64) -> io::Result<String> {
+    let name = format!(in alloc; "gate{:012}", id)?;
+    let column = (id & 255).wrapping_mul(10);
+    let row = (id >> 8).wrapping_mul(10);
+    Ok(format!(in alloc;
+        "*12\r\n$7\r\nSETCHAN\r\n$16\r\n{}\r\n$2\r\nEX\r\n$2\r\n60\r\n{}{}{}{}{}",
+        name,
+        "$6\r\nWITHIN\r\n$5\r\nfleet\r\n$5\r\nFENCE\r\n$6\r\nBOUNDS\r\n",
+        bulk(alloc, column)?,
+        bulk(alloc, row)?,
+        bulk(alloc, column.wrapping_add(9))?,
+        bulk(alloc, row.wrapping_add(9))?
+    )?)
+}
+
+// A number as one word of a request.
+fn bulk(alloc: Global, number: u64) -> io::Result<String> {
+    let digits = format!(in alloc; "{}", number)?;
+    Ok(format!(in alloc; "${}\r\n{}\r\n", digits.len(), digits)?)
+}
+
 // The text of one request about an id.
 fn push_text(alloc: Global, all: &mut Vec<u8>, kind: &str, id: u64) -> io::Result<()> {
     let name = format!(in alloc; "truck{:012}", id)?;
@@ -23,6 +45,7 @@ fn push_text(alloc: Global, all: &mut Vec<u8>, kind: &str, id: u64) -> io::Resul
             "*12\r\n$3\r\nSET\r\n$5\r\nfleet\r\n$17\r\n{}\r\n{}{}",
             name, FIELDS, POINT
         )?,
+        "setchan" => fence_text(alloc, id)?,
         "get" => format!(in alloc; "*3\r\n$3\r\nGET\r\n$5\r\nfleet\r\n$17\r\n{}\r\n", name)?,
         _ => format!(in alloc; "*1\r\n$4\r\nPING\r\n")?,
     };
@@ -57,7 +80,9 @@ pub(crate) fn request_each<C: Clock>(
     ids: u64,
     count: u64,
 ) -> io::Result<Option<Requested>> {
-    let filling = texts(alloc, "set", ids)?;
+    // Fences are set over no object: what is measured is the fence alone.
+    let filled = if kind == "setchan" { "ping" } else { "set" };
+    let filling = texts(alloc, filled, ids)?;
     let all = texts(alloc, kind, ids)?;
     let Ok(mut driver) = Driver::new(alloc) else {
         return Ok(None);

@@ -107,7 +107,7 @@ each_among (k ∷ ks) =
 -- those that pass a test, in slots
 
 module _ {A : Type 0} (f : ℕ → Option A) (test : A → Bool) (q : Option A → Bool) (each : (x : A) → q (Some x) ≡ test x) where
-  passing : (ks : List ℕ) (xs : List A) → Stores f ks xs → filter_map f (filter (λ k. q (f k)) ks) ≡ filter test xs
+  pub passing : (ks : List ℕ) (xs : List A) → Stores f ks xs → filter_map f (filter (λ k. q (f k)) ks) ≡ filter test xs
   passing [] [] e = refl
   passing [] (x ∷ xs) e = absurd (cc)
   passing (k ∷ ks) [] e = absurd (cc)

@@ -1,17 +1,23 @@
 -- A moment before which no channel is due.
 use Rattle.std.proofs.Common.{◌≡◌, ◌≤◌, ◌<◌, ℕ, true, false, not, List, [], ◌∷◌, refl, sym, ap, arith}
 use Rattle.std.specs.Prelude.{Option, None, Some, nat_le, min, unwrap_or}
-use Rattle.std.specs.List.{list_all}
+use Rattle.std.specs.List.{list_all, AllByRecursion}
 use Rattle.std.proofs.lemmas.Bool.{and_from}
 use Rattle.std.proofs.lemmas.Bool.Decides.{nat_tests}
 use Rattle.std.proofs.Math.Nat.{min-le_left, min-le_right}
-use Rattle.ordered_lists.specs.Ascending.{each-put_in}
-use Rattle.ordered_lists.specs.Lists.{put_in, sorted_by}
+use Rattle.ordered_lists.specs.Lists.{sorted_by}
 use Rattle.ordered_lists.specs.Reading.{filter-all, filter-none}
 use Rattle.world_data.specs.Expiry.{channel_due_before, has_come, is_channel_due}
-use Rattle.world_data.specs.Worlds.{channel_before}
 use Rattle.world_data.specs.declared.channels.Channel.{Channel}
-use Rattle.channel_hub.specs.Dues.{IsFrom, AreFrom, due_in, earlier, least_due, left_at}
+use Rattle.channel_hub.specs.Dues.{due_in, earlier, least_due, left_at}
+
+-- a deadline does not come before this moment
+abbrev pub IsFrom : ℕ → Option ℕ → Type 0
+IsFrom due_from deadline = (d : ℕ) → deadline ≡ Some d → due_from ≤ d
+
+-- none of these channels is due before it
+abbrev pub AreFrom : ℕ → List Channel → Type 0
+AreFrom due_from channels = AllByRecursion (λ c. IsFrom due_from c.deadline) channels
 
 too_late : (n k : ℕ) → n < k → nat_le k n ≡ false
 too_late n k less = grind (arith, nat_tests)
@@ -37,18 +43,6 @@ pub nothing_due : (from now : ℕ) (channels : List Channel) → AreFrom from ch
 nothing_due from now channels are less =
     sym (ap (sorted_by channel_due_before) (filter-none (is_channel_due now) channels (none_due from now channels are less)))
 
--- an earlier moment is one, too
-pub from_earlier : (least from : ℕ) (channels : List Channel) → least ≤ from → AreFrom from channels → AreFrom least channels
-from_earlier least from [] le are = tt
-from_earlier least from (c ∷ channels) le are =
-    (λ d e. let first = are.0 d e in omega (arith, first, le), from_earlier least from channels le are.1)
-
--- one more
-pub from_put : (least from : ℕ) (c : Channel) (channels : List Channel) → least ≤ from → IsFrom least c.deadline → AreFrom from channels
-    → AreFrom least (put_in channel_before c channels)
-from_put least from c channels le is are =
-    each-put_in (λ (d : Channel). IsFrom least d.deadline) channel_before c channels is (from_earlier least from channels le are)
-
 -- the least deadline is such a moment
 earlier_first : (a b : Option ℕ) (least d : ℕ) → IsFrom least (earlier a b) → a ≡ Some d → least ≤ d
 earlier_first None b least d is e = absurd (cc e)
@@ -68,7 +62,7 @@ earlier_second (Some x) (Some y) least is d e =
     let same : y ≡ d = cc e in
     omega (arith, both, right, same)
 
-from_least : (channels : List Channel) (least : ℕ) → IsFrom least (least_due channels) → AreFrom least channels
+pub from_least : (channels : List Channel) (least : ℕ) → IsFrom least (least_due channels) → AreFrom least channels
 from_least [] least is = tt
 from_least (c ∷ channels) least is = (
   λ d e. earlier_first c.deadline (least_due channels) least d is e,

@@ -10,6 +10,11 @@ pub mod Sorted
 pub mod Concerned
 pub mod Whole
 pub mod Silence
+pub mod Inserting
 pub mod Expiring
+pub mod DueSlots
+pub mod DuePlaces
+pub mod Places
+pub mod Kept
 pub mod Left
 pub mod DueFrom

@@ -1,7 +1,8 @@
 -- Slots of channels in order of their names, as a channel comes, goes, or takes the place of another.
-use Rattle.std.proofs.Common.{◌≡◌, ◌≢◌, ◌<◌, ℕ, refl, sym, ◌∙◌, List, [], length, arith}
+use Rattle.std.proofs.Common.{◌≡◌, ◌≢◌, ◌<◌, ℕ, refl, sym, ap, ◌∙◌, List, [], length, get_or, arith}
 use Rattle.std.specs.Prelude.{Option, Some, None, slice_get}
 use Rattle.std.specs.List.{insert, remove}
+use Rattle.std.proofs.lemmas.Option.{slice_get-get_or}
 use Rattle.byte_text.specs.Names.{Bytes, before}
 use Rattle.ordered_lists.specs.Ascending.{ascends-remove}
 use Rattle.ordered_lists.specs.Lists.{IsHeld, IsFree, put_in}
@@ -10,6 +11,10 @@ use Rattle.world_data.specs.Worlds.{channel_before}
 use Rattle.channel_hub.specs.Hubs.{AreInOrder, channels_in}
 use Rattle.channel_hub.proofs.ChannelsByName.{put_by_name, put_free, put_held, removed_by_name}
 use Rattle.ordered_lists.specs.Slots.{are_other, apart_insert, as_many, as_stored, free_slot, others_apart, read_off, stored_at, stored_insert, stored_remove, stored_set}
+
+-- what is read at a place stands there
+pub at_place : (slots : List ℕ) (i d slot : ℕ) → i < length slots → slot ≡ get_or slots i d → slice_get slots i ≡ Some slot
+at_place slots i d slot lt is = slice_get-get_or slots i d lt ∙ ap Some (sym is)
 
 pub none_in_order : (f : ℕ → Option Channel) → AreInOrder f []
 none_in_order f = record { stored = refl; apart = refl; by_name = refl }

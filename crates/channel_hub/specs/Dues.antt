@@ -1,10 +1,10 @@
 -- Channels whose deadline has come: those that are out, and those that are left.
-use Rattle.std.specs.Prelude.{◌≡◌, ◌≤◌, ◌<◌, ℕ, min, Bool, true, false, not, List, [], ◌∷◌, length, filter, slice_get, Option, Some, None, is_some}
-use Rattle.std.specs.List.{AllByRecursion}
-use Rattle.ordered_lists.specs.Lists.{ascends, sorted_by}
-use Rattle.ordered_lists.specs.Slots.{Stores}
+use Rattle.std.specs.Prelude.{◌≡◌, ◌≤◌, ◌+◌, ℕ, min, Bool, true, false, not, List, [], ◌∷◌, length, filter, Option, Some, None, is_some}
+use Rattle.ordered_lists.specs.Lists.{sorted_by}
 use Rattle.world_data.specs.declared.channels.Channel.{Channel}
 use Rattle.world_data.specs.Expiry.{channel_due_before, is_channel_due}
+use Rattle.run_list.specs.Runs.{Sequence}
+use Rattle.channel_hub.specs.DuePlaces.{places_out}
 use Rattle.channel_hub.specs.Hubs.{Held, ByName}
 
 -- those that are due at a moment, in the order in which they expire, and those that are left then
@@ -33,25 +33,11 @@ pub record IsSettled (held : Held) : Type 0 where
   pub all : held.every ≡ held.channels
   pub moment : held.out ≡ None
 
--- a deadline does not come before this moment
-abbrev pub IsFrom : ℕ → Option ℕ → Type 0
-IsFrom due_from deadline = (d : ℕ) → deadline ≡ Some d → due_from ≤ d
-
--- none of these channels is due before it
-abbrev pub AreFrom : ℕ → List Channel → Type 0
-AreFrom due_from channels = AllByRecursion (λ c. IsFrom due_from c.deadline) channels
-
--- what a hub keeps beside all channels: the places of those that are left, where some may be out, with room for all, and a moment before
--- which none is due
-pub record AreLeft (all : ByName) (out : Option ℕ) (left : List ℕ) (room due_from : ℕ) : Type 0 where
-  pub listed : (now : ℕ) → out ≡ Some now → Stores (slice_get all.channels) left (left_at now all.channels)
-  pub fits : length all.channels ≤ room
-  pub more : is_some all.prepared ≡ true → length all.channels < room
-  pub from : AreFrom due_from all.channels
-
--- none goes before one in front of it
-abbrev pub expire_in_order : List Channel → Bool
-expire_in_order channels = ascends (λ c d. not (channel_due_before d c)) channels
+-- what a hub keeps beside all channels: the places of those that are out, with room for all
+pub record AreOut (all : ByName) (out : Option ℕ) (gone : Sequence) : Type 0 where
+  pub listed : gone.items ≡ places_out out all.channels
+  pub fits : length all.channels ≤ length gone.items + gone.spare
+  pub more : is_some all.prepared ≡ true → length all.channels + 1 ≤ length gone.items + gone.spare
 
 -- the lesser of two moments, where there are two
 abbrev pub earlier : Option ℕ → Option ℕ → Option ℕ

@@ -1,5 +1,5 @@
 -- What a contract sees of a hub, and what it keeps.
-use Rattle.std.specs.Prelude.{◌≡◌, ◌<◌, ℕ, Bool, true, false, ◌&&◌, List, Option, Some, None, is_some, filter_map, option_map}
+use Rattle.std.specs.Prelude.{◌≡◌, ◌<◌, ◌≤◌, ◌+◌, ℕ, Bool, true, false, ◌&&◌, List, length, Option, Some, None, is_some, filter_map, option_map}
 use Rattle.std.specs.List.{AllByRecursion}
 use Rattle.byte_text.specs.Names.{Bytes, before}
 use Rattle.planar_geom.specs.Points.{Bounds}
@@ -14,6 +14,8 @@ use Rattle.fence_index.specs.Marks.{mark_of}
 use Rattle.fence_index.specs.Candidates.{box_if, is_concerned}
 use Rattle.fence_index.specs.Numbered.{AreBoxed, Indexed}
 use Rattle.fence_index.specs.Silence.{IsWholeWatch}
+use Rattle.run_list.specs.Runs.{Sequence}
+use Rattle.channel_hub.specs.DueOrder.{dues_of}
 use Rattle.channel_hub.specs.Named.{AreNamed, Named}
 
 -- the channels that are left, those that are out, in the order in which they expire, and both together, by name; the moment at which those
@@ -59,15 +61,18 @@ abbrev pub stands_before : Bytes → Option Channel → Bool
 stands_before name None = false
 stands_before name (Some c) = before c.name name
 
--- what a hub keeps: whole channels in order, an index that has each under its slot, names that lead to these slots alone, no slot taken
--- beside theirs, and room for the one that is prepared, where so many slots and places in the order are taken, of so many
-pub record IsKept (slots : ℕ → Option Channel) (order : List ℕ) (index : Indexed) (names : Named) (used capacity count places : ℕ) : Type 0 where
-  pub ordered : AreInOrder slots order
-  pub boxed : AreBoxed (mark_in slots) order index.boxes
-  pub named : AreNamed slots order names.slots
-  pub whole : AreWhole (channels_in slots order)
-  pub taken : used ≡ count
-  pub room : is_some index.prepared ≡ true → (names.ready ≡ true) × (used < capacity) × (count < places)
+-- what a hub keeps: whole channels in order, an index that has each under its slot, names that lead to these slots alone, the slots of those
+-- that have a deadline in the order in which they expire, no slot taken beside theirs, and room for the one that is prepared, where so many
+-- slots are taken, of so many
+pub record IsKept (slots : ℕ → Option Channel) (order dues : Sequence) (index : Indexed) (names : Named) (used capacity : ℕ) : Type 0 where
+  pub ordered : AreInOrder slots order.items
+  pub boxed : AreBoxed (mark_in slots) order.items index.boxes
+  pub named : AreNamed slots order.items names.slots
+  pub whole : AreWhole (channels_in slots order.items)
+  pub expire : dues.items ≡ dues_of slots order.items
+  pub taken : used ≡ length order.items
+  pub room : is_some index.prepared ≡ true
+      → (names.ready ≡ true) × (used < capacity) × (1 ≤ order.spare) × (length order.items + 1 ≤ length dues.items + dues.spare)
 
 -- what a change may concern
 

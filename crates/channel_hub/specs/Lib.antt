@@ -1,4 +1,6 @@
 pub mod Hubs
+pub mod DueOrder
+pub mod DuePlaces
 pub mod Dues
 pub mod MessageLaws
 pub mod Named

@@ -1,23 +1,23 @@
 //! Channels of a hub, by name.
 
-ghost use Rattle.std.specs.Prelude.{◌≡◌, ◌<◌, [], ◌∷◌, ◌++◌, true, not, filter, filter_map, length, slice_get, Some, OnOk};
+ghost use Rattle.std.specs.Prelude.{◌≡◌, ◌<◌, [], ◌∷◌, ◌++◌, not, filter, filter_map, length, slice_get, Some, OnOk};
 ghost use Rattle.std.specs.Prelude.{IsPermutation};
 ghost use Rattle.std.specs.Cmp.Lexicographic.{slice_cmp};
 ghost use Rattle.std.specs.List.{cons_option};
 ghost use Rattle.std.specs.List.Sorted.{IsSortedByKey};
 ghost use Rattle.std.specs.Option.{option_copied};
 ghost use Rattle.std.specs.Ordering.{nat_cmp};
-ghost use Rattle.ordered_lists.specs.Lists.{insert_by};
-ghost use Rattle.world_data.specs.Expiry.{channel_due_before, is_channel_due};
+ghost use Rattle.world_data.specs.Expiry.{is_channel_due};
 ghost use Rattle.fence_model.specs.Messages.{watches};
 ghost use Rattle.slab.specs.Slab.{get};
 ghost use Rattle.channel_hub.specs.Hubs.{channels_in};
-ghost use Rattle.channel_hub.specs.Dues.{expire_in_order, left_of};
+ghost use Rattle.channel_hub.specs.Dues.{left_of};
 
-use crate::dues::{goes_before, is_due};
+use crate::dues::is_due;
 use byte_text::{Name, NoMemory};
-use ordered_lists::{insert_at, is_same};
+use ordered_lists::is_same;
 use rtree::Ids;
+use run_list::RunList;
 use slab::Slab;
 use std::alloc::Global;
 use std::cmp::Ordering;
@@ -77,19 +77,6 @@ impl<'a> Candidates<'a> {
         }
     }
 
-    /// Puts a channel at its place among these, which stand in the order in which they expire.
-    pub(crate) fn insert(&mut self, channel: &'a Channel) -> Result<(), NoMemory>
-        requires { expire_in_order self.old ≡ true }
-        ensures { OnOk result (self.new ≡ insert_by channel_due_before channel.now self.old) }
-    {
-        let at = self.channels.partition_point(
-            |other: &&Channel| -> bool
-                ensures { result ≡ channel_due_before other.now.now channel.entry.now }
-            { goes_before(other, channel) },
-        );
-        insert_at(&mut self.channels, at, channel)
-    }
-
     /// Leaves out those that are out, where those are that were due at a moment. It takes no memory.
     pub(crate) fn leave_out(&mut self, out: Option<u64>)
         ensures { self.new ≡ left_of out self.old }
@@ -144,15 +131,15 @@ fn of_key<'a>(channel: Option<&'a Channel>, key: &Name) -> Option<&'a Channel>
 /// Appends the channels of the key, of those in these slots.
 pub(crate) fn push_of_key<'a>(
     slots: &'a Slab<Channel>,
-    order: &[usize],
+    order: &RunList,
     key: &Name,
     into: &mut Candidates<'a>,
 ) -> Result<(), NoMemory>
     ensures { OnOk result
-        (into.new ≡ into.old ++ filter (watches (Some key.now)) (channels_in (get slots.now) order.now)) }
+        (into.new ≡ into.old ++ filter (watches (Some key.now)) (channels_in (get slots.now) order.now.items)) }
 {
-    for slot in order {
-        into.push(of_key(slots.get(*slot), key))?;
+    for i in 0..order.len() {
+        into.push(of_key(slots.get(order.at(i)), key))?;
     }
     Ok(())
 }

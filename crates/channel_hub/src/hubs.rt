@@ -19,12 +19,14 @@ ghost use Rattle.channel_hub.specs.MessageLaws.{messages_on};
 ghost use Rattle.rtree.specs.Ledgers.{IsRead};
 
 use crate::candidates::Candidates;
-use crate::dues::{due_first, earlier, is_out, let_due_go, list_left, push_due};
+use crate::due_places::gone_before;
+use crate::dues::{is_out, let_due_go};
 use crate::indexed_channels::IndexedChannels;
 use byte_text::{Name, NoMemory};
 use fence_index::unconcerned_are_silent;
 use planar_geom::{BBox, box_of, shape_is_whole};
 use rtree::{Ledger, Steps};
+use run_list::RunList;
 use std::alloc::Global;
 use std::marker::Model;
 use world_data::{Channel, Object};
@@ -36,10 +38,8 @@ pub struct Hub {
     all: IndexedChannels,
     // The moment at which those that are out were due, where some may be out.
     out: Option<u64>,
-    // The places of those that are left then. There is room for all, and for the one that is prepared.
-    left: Vec<usize>,
-    // No deadline comes before this moment, so that nobody looks for what is due before it.
-    due_from: u64,
+    // Their places, which ascend. There is room for all, and for the one that is prepared.
+    gone: RunList,
 }
 
 impl Drop for Hub {
@@ -47,16 +47,14 @@ impl Drop for Hub {
         let Hub {
             all: _,
             out: _,
-            left: _,
-            due_from: _,
+            gone: _,
         } = self;
     }
 }
 
 impl Model for Hub {
-    ghost use Rattle.std.specs.Prelude.{vec_capacity};
     ghost use Rattle.channel_hub.specs.Hubs.{Held};
-    ghost use Rattle.channel_hub.specs.Dues.{AreLeft, left_of, taken_of};
+    ghost use Rattle.channel_hub.specs.Dues.{AreOut, left_of, taken_of};
 
     ghost Value = { Held };
 
@@ -68,7 +66,7 @@ impl Model for Hub {
       prepared = h.all.prepared;
     } };
 
-    ghost invariant = { λ h. AreLeft h.all h.out h.left.items (vec_capacity h.left) h.due_from };
+    ghost invariant = { λ h. AreOut h.all h.out h.gone };
 }
 
 impl Hub {
@@ -81,8 +79,7 @@ impl Hub {
         Hub {
             all: IndexedChannels::new(alloc),
             out: None,
-            left: Vec::new(alloc),
-            due_from: u64::MAX,
+            gone: RunList::new(alloc),
         }
     }
 
@@ -99,9 +96,7 @@ impl Hub {
         let Some(count) = self.all.len().checked_add(1) else {
             return Err(NoMemory);
         };
-        if self.left.reserve(count).is_err() {
-            return Err(NoMemory);
-        }
+        self.gone.reserve(count)?;
         self.all.prepare(alloc, channel)
     }
 
@@ -115,7 +110,6 @@ impl Hub {
         ensures prepared { self.new.prepared ≡ None }
     {
         self.let_go();
-        self.due_from = due_first(self.due_from, channel.deadline);
         self.all.put(channel)
     }
 
@@ -151,10 +145,10 @@ impl Hub {
         ensures prepared { self.new.prepared ≡ self.old.prepared }
     {
         self.let_go();
-        if now < self.due_from {
+        if now < self.least_due().unwrap_or(u64::MAX) {
             return;
         }
-        list_left(&self.all, now, &mut self.left);
+        self.all.list_due(now, &mut self.gone);
         self.out = Some(now);
     }
 
@@ -163,7 +157,7 @@ impl Hub {
         ensures { IfOk result (λ cs. cs ≡ self.now.taken) }
     {
         match self.out {
-            Some(now) => push_due(alloc, &self.all, now),
+            Some(now) => self.all.due(alloc, now),
             None => Ok(Candidates::new(alloc)),
         }
     }
@@ -175,6 +169,7 @@ impl Hub {
         ensures prepared { self.new.prepared ≡ self.old.prepared }
     {
         self.out = None;
+        self.gone.remove_between(0, self.gone.len());
     }
 
     /// Lets all channels go that are out. The one that was prepared stays prepared. It takes no memory.
@@ -185,7 +180,7 @@ impl Hub {
     {
         if let Some(now) = self.out.take() {
             let_due_go(&mut self.all, now);
-            self.due_from = self.least_due().unwrap_or(u64::MAX);
+            self.gone.remove_between(0, self.gone.len());
         }
     }
 
@@ -193,13 +188,7 @@ impl Hub {
     pub fn least_due(&self) -> Option<u64>
         ensures { result ≡ least_due self.now.channels }
     {
-        let mut least = None;
-        let mut at = self.len();
-        while at > 0 {
-            at -= 1;
-            least = earlier(self.at(at).deadline, least);
-        }
-        least
+        self.all.least_due(self.out)
     }
 
     /// The channel of this name, where there is one.
@@ -226,11 +215,7 @@ impl Hub {
         ensures count { result ≡ length self.now.channels }
         ensures by_name { are_channels self.now.channels ≡ true }
     {
-        let count = self.all.len();
-        match self.out {
-            Some(_) => self.left.len(),
-            None => count,
-        }
+        self.all.len() - self.gone.len()
     }
 
     /// The channel at this place, counted from 0 by ascending name.
@@ -238,10 +223,9 @@ impl Hub {
         requires { i < length self.now.channels }
         ensures { slice_get self.now.channels i ≡ Some result.now }
     {
-        match self.out {
-            Some(_) => self.all.at(self.left[i]),
-            None => self.all.at(i),
-        }
+        // That there are no more than can be counted is known where they are counted.
+        let _count = self.all.len();
+        self.all.at(i + gone_before(&self.gone, i))
     }
 
     /// The channels of the key which a change may concern that moves an object from one box, where it was there, to

@@ -2,26 +2,34 @@
 //!
 //! A channel stays in its slot. The index gives out the slot, so that one that a write may concern is read without
 //! seeking its name; those that are named are few, and are put in order of their names. A name that is sought leads to
-//! the slot through a hash map. The order is a list of slots, which is halved only where a channel comes or goes. A
-//! channel is prepared before it is put, so that `put` takes no memory.
+//! the slot through a hash map. The order is a list of slots, which is halved only where a channel comes or goes. The
+//! slots of the channels that have a deadline stand in a second list, in the order in which they expire: those that are
+//! due are in front, so no deadline is sought among all. A channel is prepared before it is put, so that `put` takes no
+//! memory.
 
-ghost use Rattle.std.specs.Prelude.{◌≡◌, ◌<◌, [], true, not, length, filter, find, slice_get, Some, None, IfOk, IfNone};
-ghost use Rattle.std.specs.Prelude.{IfSome, OnOk, OnErr};
+ghost use Rattle.std.specs.Prelude.{◌≡◌, ◌+◌, ◌<◌, ◌≤◌, [], true, not, length, filter, find, slice_get, Some, None, IfOk};
+ghost use Rattle.std.specs.Prelude.{IfNone, IfSome, OnOk, OnErr};
 ghost use Rattle.std.specs.List.{remove};
 ghost use Rattle.ordered_lists.specs.Lists.{put_in};
+ghost use Rattle.world_data.specs.Expiry.{is_channel_due};
 ghost use Rattle.world_data.specs.Worlds.{are_channels, channel_before, is_named};
 ghost use Rattle.fence_model.specs.Messages.{watches};
 ghost use Rattle.fence_index.specs.Marks.{mark_of};
+ghost use Rattle.channel_hub.specs.DuePlaces.{places_out};
+ghost use Rattle.channel_hub.specs.Dues.{due_in, least_due, left_at, left_of};
 ghost use Rattle.channel_hub.specs.Hubs.{AreWhole, may_concern};
 ghost use Rattle.rtree.specs.Ledgers.{IsRead};
 
 use crate::candidates::{Candidates, push_of_key, push_slots};
-use crate::channel_slots::{exchange, insert_reserved, place_of};
+use crate::channel_slots::{exchange, place_of};
+use crate::due_places::{list_places, place_of_due};
+use crate::due_slots::{due_count, first_channels, out_count, put_due, take_due};
 use crate::slots_by_name::SlotsByName;
 use byte_text::{Name, NoMemory};
 use fence_index::{FenceIndex, watch_is_whole};
 use planar_geom::BBox;
 use rtree::{Ledger, Steps};
+use run_list::RunList;
 use slab::Slab;
 use std::alloc::Global;
 use std::marker::Model;
@@ -33,7 +41,9 @@ pub(crate) struct IndexedChannels {
     // A channel stays in its slot until it is taken out. There is room for the channel that is prepared in the index.
     slots: Slab<Channel>,
     // The slots of all channels, in byte order of their names. There is room for one more too.
-    order: Vec<usize>,
+    order: RunList,
+    // Those of channels with a deadline, in order of deadline and name. There is room for all, and for one more too.
+    dues: RunList,
     // The same slots, each found by its channel's name. One more can be put too.
     names: SlotsByName,
     // Each channel under its slot.
@@ -45,6 +55,7 @@ impl Drop for IndexedChannels {
         let IndexedChannels {
             slots: _,
             order: _,
+            dues: _,
             names: _,
             index: _,
         } = self;
@@ -52,7 +63,6 @@ impl Drop for IndexedChannels {
 }
 
 impl Model for IndexedChannels {
-    ghost use Rattle.std.specs.Prelude.{vec_len, vec_capacity};
     ghost use Rattle.slab.specs.Slab.{get, slab_len};
     ghost use Rattle.channel_hub.specs.Hubs.{ByName, IsKept, channels_in};
 
@@ -60,8 +70,7 @@ impl Model for IndexedChannels {
 
     ghost view = { λ h. record { channels = channels_in (get h.slots) h.order.items; prepared = h.index.prepared } };
 
-    ghost invariant = { λ h. IsKept (get h.slots) h.order.items h.index h.names (slab_len h.slots) h.slots.capacity
-        (vec_len h.order) (vec_capacity h.order) };
+    ghost invariant = { λ h. IsKept (get h.slots) h.order h.dues h.index h.names (slab_len h.slots) h.slots.capacity };
 }
 
 impl IndexedChannels {
@@ -72,7 +81,8 @@ impl IndexedChannels {
     {
         IndexedChannels {
             slots: Slab::new(alloc),
-            order: Vec::new(alloc),
+            order: RunList::new(alloc),
+            dues: RunList::new(alloc),
             names: SlotsByName::new(alloc),
             index: FenceIndex::new(alloc),
         }
@@ -85,9 +95,11 @@ impl IndexedChannels {
         ensures ok { OnOk result (self.new.prepared ≡ Some (mark_of channel.now)) }
         ensures err { OnErr result (self.new.prepared ≡ self.old.prepared) }
     {
-        if self.slots.reserve(1).is_err() || self.order.reserve(1).is_err() {
+        if self.slots.reserve(1).is_err() {
             return Err(NoMemory);
         }
+        self.order.reserve(1)?;
+        self.dues.reserve(self.order.len() + 1 - self.dues.len())?;
         self.names.prepare(alloc)?;
         self.index.prepare(alloc, channel)
     }
@@ -106,15 +118,19 @@ impl IndexedChannels {
             Some(slot) => {
                 self.index.take_out(&self.slots[slot], slot);
                 self.index.put(&channel, slot);
-                Some(exchange(&mut self.slots, slot, channel))
+                take_due(&mut self.dues, &self.slots, slot);
+                let old = exchange(&mut self.slots, slot, channel);
+                put_due(&mut self.dues, &self.slots, slot);
+                Some(old)
             }
             None => {
-                let at = place_of(&self.slots, self.order.as_slice(), &channel.name);
+                let at = place_of(&self.slots, &self.order, &channel.name);
                 let slot = self.slots.vacant_key();
                 self.index.put(&channel, slot);
                 self.names.put(&channel.name, slot);
                 self.slots.insert_reserved(channel);
-                insert_reserved(&mut self.order, at, slot);
+                self.order.insert(at, slot);
+                put_due(&mut self.dues, &self.slots, slot);
                 None
             }
         }
@@ -129,7 +145,7 @@ impl IndexedChannels {
     {
         match self.names.get(name) {
             Some(_) => {
-                let at = place_of(&self.slots, self.order.as_slice(), name);
+                let at = place_of(&self.slots, &self.order, name);
                 Some(self.remove(at))
             }
             None => None,
@@ -144,6 +160,7 @@ impl IndexedChannels {
         ensures prepared { self.new.prepared ≡ self.old.prepared }
     {
         let slot = self.order.remove(at);
+        take_due(&mut self.dues, &self.slots, slot);
         let channel = self.slots.remove(slot);
         self.index.take_out(&channel, slot);
         self.names.take_out(&channel.name);
@@ -156,7 +173,8 @@ impl IndexedChannels {
         ensures prepared { self.new.prepared ≡ self.old.prepared }
     {
         self.slots.clear();
-        self.order.clear();
+        self.order.remove_between(0, self.order.len());
+        self.dues.remove_between(0, self.dues.len());
         self.names.clear();
         self.index.clear();
     }
@@ -188,7 +206,56 @@ impl IndexedChannels {
         requires { i < length self.now.channels }
         ensures { slice_get self.now.channels i ≡ Some result.now }
     {
-        &self.slots[self.order[i]]
+        &self.slots[self.order.at(i)]
+    }
+
+    /// The least deadline of those that are left where those are out that were due at a moment.
+    pub(crate) fn least_due(&self, out: Option<u64>) -> Option<u64>
+        ensures { result ≡ least_due (left_of out self.now.channels) }
+    {
+        let first = out_count(&self.slots, &self.dues, out);
+        if first == self.dues.len() {
+            return None;
+        }
+        match self.slots.get(self.dues.at(first)) {
+            Some(channel) => channel.deadline,
+            None => unreachable!(),
+        }
+    }
+
+    /// The channels that are due, in the order in which they expire.
+    pub(crate) fn due(&self, alloc: Global, now: u64) -> Result<Candidates<'_>, NoMemory>
+        ensures { IfOk result (λ cs. cs ≡ due_in now self.now.channels) }
+    {
+        let count = due_count(&self.slots, &self.dues, now);
+        let due = first_channels(alloc, &self.slots, &self.dues, count)?;
+        Ok(due)
+    }
+
+    /// Lists the places of the channels that are due, from the front to the back, where there is room for all.
+    pub(crate) fn list_due(&self, now: u64, places: &mut RunList)
+        requires none { places.old.items ≡ [] }
+        requires room { length self.now.channels ≤ places.old.spare }
+        ensures places { places.new.items ≡ places_out (Some now) self.now.channels }
+        ensures room { length places.new.items + places.new.spare ≡ places.old.spare }
+    {
+        let count = due_count(&self.slots, &self.dues, now);
+        list_places(&self.slots, &self.order, &self.dues, count, places);
+    }
+
+    /// The place of the channel that expires first, where that is due.
+    pub(crate) fn due_place(&self, now: u64) -> Option<usize>
+        ensures none { IfNone result (left_at now self.now.channels ≡ self.now.channels) }
+        ensures within { IfSome result (λ at. at < length self.now.channels) }
+        ensures due { IfSome result
+            (λ at. IfSome (slice_get self.now.channels at) (λ c. is_channel_due now c ≡ true)) }
+    {
+        match self.least_due(None) {
+            Some(deadline) if deadline <= now => {
+                Some(place_of_due(&self.slots, &self.order, &self.dues, 0))
+            }
+            _ => None,
+        }
     }
 
     /// The channels of the key which a change may concern that moves an object from one box, where it was there, to
@@ -218,7 +285,7 @@ impl IndexedChannels {
         ensures { IfOk result (λ cs. cs ≡ filter (watches (Some key.now)) self.now.channels) }
     {
         let mut candidates = Candidates::new(alloc);
-        push_of_key(&self.slots, self.order.as_slice(), key, &mut candidates)?;
+        push_of_key(&self.slots, &self.order, key, &mut candidates)?;
         Ok(candidates)
     }
 }

@@ -3,6 +3,8 @@
 
 mod candidates;
 mod channel_slots;
+mod due_places;
+mod due_slots;
 mod dues;
 mod hubs;
 mod indexed_channels;

@@ -5,3 +5,4 @@ pub mod LineLaws
 pub mod ZoneLaws
 pub mod Lengths
 pub mod Joining
+pub mod TallyLaws

@@ -1,5 +1,5 @@
 -- What a change came to, by the place of the put whose object stood there.
-use Rattle.std.specs.Prelude.{◌≡◌, ℕ, ◌==◌, Bool, false, ◌&&◌, List, [], ◌∷◌, ◌++◌, slice_get, length, map, filter, flat_map, Option, Some, None}
+use Rattle.std.specs.Prelude.{◌≡◌, ◌<◌, ℕ, ◌+◌, ◌*◌, ◌==◌, Bool, false, ◌&&◌, List, [], ◌∷◌, ◌++◌, slice_get, slice_index, length, map, filter, flat_map, Option, Some, None}
 use Rattle.std.specs.Prelude.{if◌then◌else◌}
 use Rattle.std.specs.List.{AllZip, range_with_len}
 use Rattle.byte_text.specs.Names.{Bytes, same}
@@ -69,6 +69,15 @@ IsOutcomeAt c area changes olds at o = (change : Change) (old : Option ℕ) → 
 -- how many outcomes are puts in a part
 abbrev pub cells_in : List Outcome → ℕ → ℕ → ℕ
 cells_in outcomes row column = length (filter (λ o. is_cell row column o.cell) outcomes)
+
+-- the number of a part, of a list of eight rows of eight
+abbrev pub count_at : List ℕ → ℕ → ℕ → ℕ
+count_at counts row column = slice_index counts (row * 8 + column)
+
+-- these numbers say how many of the outcomes are puts in each part
+pub record IsTally (outcomes : List Outcome) (counts : List ℕ) : Type 0 where
+  pub long : length counts ≡ 64
+  pub counted : (row column : ℕ) → row < 8 → column < 8 → count_at counts row column ≡ cells_in outcomes row column
 
 -- the outcomes of all changes, in order
 abbrev pub AreOutcomes : Channel → Bounds → List Change → List (Option ℕ) → List Outcome → Type 0

@@ -1,8 +1,7 @@
 -- What a replay of changes stands for.
-use Rattle.std.specs.Prelude.{◌≡◌, ℕ, List, [], ◌∷◌, ◌++◌, flat_map, Option, None, Result, Ok, Err}
+use Rattle.std.specs.Prelude.{◌≡◌, ℕ, List, ◌++◌, flat_map, Option, None, Result, Ok, Err}
 use Rattle.byte_text.specs.Names.{Bytes}
 use Rattle.world_data.specs.declared.worlds.Change.{Change}
-use Rattle.journal.specs.declared.replays.Refusal.{Refusal}
 use Rattle.log_record.specs.Batches.{records_in}
 use Rattle.world_recovery.specs.Recorded.{changes_in}
 
@@ -37,13 +36,6 @@ pub record TookAs (r : Taken) (version : ℕ) (batches : List Bytes) (part : Byt
 abbrev pub no_fault : ℕ → Bytes → Option ℕ
 no_fault version batch = None
 
--- what was read of a batch of this version, unless it was refused
-abbrev pub IsBatchRead : ℕ → Bytes → Result (List Change) Refusal → Type 0
-IsBatchRead version batch (Ok changes) = records_in version 0 batch ≡ Ok changes
-IsBatchRead version batch (Err refusal) = Unit {0}
-
--- nothing was refused, and these are all the changes, one behind another
-abbrev pub AreJoined : List (Result (List Change) Refusal) → List Change → Type 0
-AreJoined [] all = all ≡ []
-AreJoined (Ok changes ∷ read) all = (others : List Change) × (all ≡ changes ++ others) × AreJoined read others
-AreJoined (Err refusal ∷ read) all = ⊥
+-- these are the changes of the records of a batch of this version, which has nothing else
+abbrev pub IsPartOf : ℕ → Bytes → List Change → Type 0
+IsPartOf version batch changes = records_in version 0 batch ≡ Ok changes

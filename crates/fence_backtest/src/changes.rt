@@ -2,7 +2,6 @@
 
 ghost use Rattle.std.specs.Prelude.{◌≡◌, [], ◌∷◌, ◌++◌, length, OnOk, OnErr, IfErr};
 
-use byte_text::NoMemory;
 use std::alloc::Global;
 use std::marker::Model;
 use world_data::Change;
@@ -56,16 +55,5 @@ impl Changes {
             Ok(()) => Ok(()),
             Err(full) => Err(full.value),
         }
-    }
-
-    /// Puts other changes last. For want of memory some of them may be there, behind those that were.
-    pub(crate) fn append(&mut self, other: Changes) -> Result<(), NoMemory>
-        ensures { OnOk result (self.new ≡ self.old ++ other) }
-    {
-        let Changes { list } = other;
-        for change in list {
-            self.list.push(change)?;
-        }
-        Ok(())
     }
 }

@@ -1,13 +1,14 @@
 //! The grid: in which of eight by eight equal parts of a box a point stands, and how many stand in each.
 
-ghost use Rattle.std.specs.Prelude.{◌≡◌, ◌++◌, ◌∷◌, OnOk, decimal};
+ghost use Rattle.std.specs.Prelude.{◌≡◌, ◌++◌, ◌∷◌, ◌+◌, ◌^◌, ◌<◌, length, take, IfOk, OnOk, decimal};
 ghost use Rattle.planar_geom.specs.Points.{in_box, in_range};
 ghost use Rattle.fence_backtest.specs.Reports.{eighth as eighth_of, grid_text, row_text};
-ghost use Rattle.fence_backtest.specs.Outcomes.{cell_of as cell_of_point, is_cell, cells_in};
+ghost use Rattle.fence_backtest.specs.Outcomes.{IsTally, cell_of as cell_of_point, cells_in, count_at};
 
 use crate::outcomes::Outcome;
 use byte_text::{NoMemory, Text, push_u64};
 use planar_geom::{BBox, Pt};
+use std::alloc::{AllocError, Global};
 
 /// One of eight by eight equal parts of a box: its row from the south, and its column from the west, from 0 on.
 #[derive(Clone, Copy, Debug, PartialEq, Eq)]
@@ -15,10 +16,6 @@ pub(crate) struct Cell {
     pub(crate) row: u64,
     pub(crate) column: u64,
 }
-
-const ROWS: [u64; 8] = [0, 1, 2, 3, 4, 5, 6, 7];
-
-const LATER_COLUMNS: [u64; 7] = [1, 2, 3, 4, 5, 6, 7];
 
 // In which of eight equal parts of a range a number of it stands.
 fn eighth(low: i32, high: i32, at: i32) -> u64
@@ -69,54 +66,76 @@ pub(crate) fn cell_of(area: BBox, place: Pt) -> Option<Cell>
     })
 }
 
-// Whether the outcome is a put in this part.
-fn is_in(outcome: &Outcome, row: u64, column: u64) -> bool
-    ensures { result ≡ is_cell row column outcome.now.cell }
+// Counts what a change came to, if it is a put in a part of the grid. Here `seen` of the outcomes were counted.
+fn count_next(counts: &mut [u64], outcomes: &[Outcome], seen: usize)
+    requires here { seen < length outcomes.now }
+    requires fits { seen + 1 < 2 ^ 64 }
+    requires so_far { IsTally (take seen outcomes.now) counts.old }
+    ensures { IsTally (take (seen + 1) outcomes.now) counts.new }
 {
-    match outcome.cell {
-        Some(cell) => cell.row == row && cell.column == column,
-        None => false,
-    }
-}
-
-// How many outcomes are puts in this part.
-fn count_in(outcomes: &[Outcome], row: u64, column: u64) -> u64
-    ensures { result ≡ cells_in outcomes.now row column }
-{
-    let mut count = 0;
-    for outcome in outcomes {
-        if is_in(outcome, row, column) {
-            count += 1;
+    match outcomes[seen].cell {
+        Some(cell) if cell.row < 8 && cell.column < 8 => {
+            let place = (cell.row * 8 + cell.column) as usize;
+            counts[place] += 1;
         }
+        _ => {}
     }
-    count
 }
 
-// Appends how many outcomes are puts in a part, behind a space.
-fn push_later(into: &mut Text, outcomes: &[Outcome], row: u64, column: u64) -> Result<(), NoMemory>
-    ensures { OnOk result (into.new ≡ into.old ++ 32 ∷ decimal (cells_in outcomes.now row column)) }
+// How many of some outcomes are puts in each part, row by row.
+fn tally_of(alloc: Global, outcomes: &[Outcome]) -> Result<Vec<u64>, AllocError>
+    ensures { IfOk result (λ counts. IsTally outcomes.now counts.items) }
+{
+    let mut counts = vec![in alloc; 0u64; 64]?;
+    for seen in 0..outcomes.len() {
+        count_next(&mut counts, outcomes, seen);
+    }
+    Ok(counts)
+}
+
+// Appends how many puts are in a part, behind a space.
+fn push_later(into: &mut Text, counts: &[u64], row: usize, column: usize) -> Result<(), NoMemory>
+    requires long { length counts.now ≡ 64 }
+    requires row { row < 8 }
+    requires column { column < 8 }
+    ensures { OnOk result (into.new ≡ into.old ++ 32 ∷ decimal (count_at counts.now row column)) }
 {
     into.push(b" ")?;
-    push_u64(into, count_in(outcomes, row, column))
+    push_u64(into, counts[row * 8 + column])
 }
 
 // Appends a row of the grid.
-fn push_row(into: &mut Text, outcomes: &[Outcome], row: u64) -> Result<(), NoMemory>
-    ensures { OnOk result (into.new ≡ into.old ++ row_text (cells_in outcomes.now row)) }
+fn push_row(into: &mut Text, counts: &[u64], row: usize) -> Result<(), NoMemory>
+    requires long { length counts.now ≡ 64 }
+    requires row { row < 8 }
+    ensures { OnOk result (into.new ≡ into.old ++ row_text (count_at counts.now row)) }
 {
-    push_u64(into, count_in(outcomes, row, 0))?;
-    for column in &LATER_COLUMNS {
-        push_later(into, outcomes, row, *column)?;
+    push_u64(into, counts[row * 8])?;
+    for later in 0..7 {
+        push_later(into, counts, row, later + 1)?;
     }
     into.push(b"\n")
 }
 
-/// Appends the grid of the puts of some outcomes.
-pub(crate) fn push_grid(into: &mut Text, outcomes: &[Outcome]) -> Result<(), NoMemory>
-    ensures { OnOk result (into.new ≡ into.old ++ grid_text (cells_in outcomes.now)) }
+// Appends the grid of these counts.
+fn push_counts(into: &mut Text, counts: &[u64]) -> Result<(), NoMemory>
+    requires { length counts.now ≡ 64 }
+    ensures { OnOk result (into.new ≡ into.old ++ grid_text (count_at counts.now)) }
 {
-    for row in &ROWS {
-        push_row(into, outcomes, *row)?;
+    for row in 0..8 {
+        push_row(into, counts, row)?;
     }
     Ok(())
+}
+
+/// Appends the grid of the puts of some outcomes.
+pub(crate) fn push_grid(
+    alloc: Global,
+    into: &mut Text,
+    outcomes: &[Outcome],
+) -> Result<(), NoMemory>
+    ensures { OnOk result (into.new ≡ into.old ++ grid_text (cells_in outcomes.now)) }
+{
+    let counts = tally_of(alloc, outcomes)?;
+    push_counts(into, counts.as_slice())
 }

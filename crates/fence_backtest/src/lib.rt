@@ -7,11 +7,13 @@
 mod asked;
 mod changes;
 mod grids;
+mod in_order;
 mod lines;
 mod log_batches;
 mod log_changes;
 mod log_reports;
 mod outcomes;
+mod parts;
 mod records;
 mod reports;
 mod requests;

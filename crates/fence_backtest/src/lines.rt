@@ -5,6 +5,7 @@ ghost use Rattle.fence_model.specs.Messages.{detect_name as name_of_detect};
 ghost use Rattle.fence_backtest.specs.Reports.{id_word, item_line, lines_of, raised_name as name_of_raised, total_line};
 ghost use Rattle.fence_backtest.specs.Outcomes.{any_item, raised_in};
 
+use crate::in_order::InOrder;
 use crate::outcomes::Outcome;
 use byte_text::{NoMemory, Text, push_u64};
 use script_text::push_escaped;
@@ -97,7 +98,7 @@ fn push_outcome(
 /// Appends the lines of what all changes came to, numbered from 1 on. How many these are.
 pub(crate) fn push_lines(
     into: &mut Text,
-    changes: &[Change],
+    changes: &InOrder,
     outcomes: &[Outcome],
 ) -> Result<u64, NoMemory>
     requires { length outcomes.now ≡ length changes.now }
@@ -106,8 +107,8 @@ pub(crate) fn push_lines(
     ensures count { IfOk result (λ n. n ≡ length (lines_of 1 changes.now (map raised_in outcomes.now))) }
 {
     let mut total = 0;
-    for (at, change) in changes.iter().enumerate() {
-        let count = push_outcome(into, at as u64 + 1, change, &outcomes[at])?;
+    for at in 0..changes.len() {
+        let count = push_outcome(into, at as u64 + 1, changes.at(at), &outcomes[at])?;
         total += count;
     }
     Ok(total)

@@ -3,14 +3,15 @@
 //! A batch that is no records is not refused where it is taken: who takes a log so finds it behind the others, and reads
 //! the log once more to learn where its first damage is.
 
-ghost use Rattle.std.specs.Prelude.{◌≡◌, ◌++◌, [], true, OnOk, IfOk, is_ok, flat_map};
+ghost use Rattle.std.specs.Prelude.{◌≡◌, [], IfOk, flat_map};
 ghost use Rattle.std.specs.List.{AllZip};
 ghost use Rattle.log_sides.specs.Texts.{newest};
 ghost use Rattle.journal.specs.Openings.{AreWhole};
 ghost use Rattle.world_recovery.specs.Recorded.{changes_in, record_fault};
-ghost use Rattle.fence_backtest.specs.Replayed.{AreJoined, IsBatchRead, TookAs, no_fault};
+ghost use Rattle.fence_backtest.specs.Replayed.{IsPartOf, TookAs, no_fault};
 
 use crate::changes::Changes;
+use crate::parts::Parts;
 use crate::records::push_changes;
 use byte_text::{NoMemory, Text};
 use journal::{Refusal, Replay};
@@ -105,17 +106,21 @@ impl Replay for LogBatches {
     }
 }
 
-// The changes of the records of a batch of this version.
-fn read_batch(alloc: Global, version: u8, batch: &[u8]) -> Result<Changes, Refusal>
-    ensures { IsBatchRead version batch.now result }
+/// The changes of the records of batches of this version, which are read side by side, a part a batch. Why there are
+/// none may be another batch than the first that is no records.
+pub(crate) fn read_batches<R: Threads + Sync>(
+    rt: &R,
+    alloc: Global,
+    version: u8,
+    batches: &[Text],
+) -> Result<Parts, Refusal>
+    ensures changes { IfOk result (λ parts. parts ≡ flat_map (changes_in version) batches.now) }
+    ensures whole { IfOk result (λ _. AreWhole (record_fault version) batches.now) }
 {
-    let mut changes = Changes::new(alloc);
-    match push_changes(alloc, batch, version, &mut changes) {
-        Ok(()) => Ok(changes),
-        Err(refusal) => {
-            drop(changes);
-            Err(refusal)
-        }
+    match read_each(rt, alloc, version, batches) {
+        Ok(Ok(parts)) => Ok(Parts::of(parts)),
+        Ok(Err(refusal)) => Err(refusal),
+        Err(AllocError) => Err(Refusal::Memory),
     }
 }
 
@@ -125,58 +130,30 @@ fn read_each<R: Threads + Sync>(
     alloc: Global,
     version: u8,
     batches: &[Text],
-) -> Result<Vec<Result<Changes, Refusal>>, AllocError>
-    ensures { IfOk result (λ read. AllZip (IsBatchRead version) batches.now read.items) }
+) -> Result<Result<Vec<Changes>, Refusal>, AllocError>
+    ensures { IfOk result (λ read. IfOk read (λ parts. AllZip (IsPartOf version) batches.now parts.items)) }
 {
     batches
         .par_iter()
         .with_min_len(1)
         .map(
             |batch: &Text| -> Result<Changes, Refusal>
-                ensures { IsBatchRead version batch.now result }
+                ensures { IfOk result (IsPartOf version batch.now) }
             { read_batch(alloc, version, batch.bytes()) },
         )
         .collect(rt, alloc)
 }
 
-// Puts what was read of a batch last.
-fn join(all: &mut Changes, read: Result<Changes, Refusal>) -> Result<(), Refusal>
-    ensures joined { OnOk result (IfOk read (λ changes. all.new ≡ all.old ++ changes)) }
-    ensures fine { OnOk result (is_ok read ≡ true) }
+// The changes of the records of a batch of this version.
+fn read_batch(alloc: Global, version: u8, batch: &[u8]) -> Result<Changes, Refusal>
+    ensures { IfOk result (IsPartOf version batch.now) }
 {
-    match read {
-        Ok(changes) => match all.append(changes) {
-            Ok(()) => Ok(()),
-            Err(NoMemory) => Err(Refusal::Memory),
-        },
-        Err(refusal) => Err(refusal),
-    }
-}
-
-// All that was read, one behind another.
-fn join_all(alloc: Global, read: Vec<Result<Changes, Refusal>>) -> Result<Changes, Refusal>
-    ensures { IfOk result (AreJoined read.items) }
-{
-    let mut all = Changes::new(alloc);
-    for one in read {
-        join(&mut all, one)?;
-    }
-    Ok(all)
-}
-
-/// The changes of the records of batches of this version, which are read side by side. Why there are none may be another batch than the
-/// first that is no records.
-pub(crate) fn changes_of<R: Threads + Sync>(
-    rt: &R,
-    alloc: Global,
-    version: u8,
-    batches: &[Text],
-) -> Result<Changes, Refusal>
-    ensures changes { IfOk result (λ changes. changes ≡ flat_map (changes_in version) batches.now) }
-    ensures whole { IfOk result (λ _. AreWhole (record_fault version) batches.now) }
-{
-    match read_each(rt, alloc, version, batches) {
-        Ok(read) => join_all(alloc, read),
-        Err(AllocError) => Err(Refusal::Memory),
+    let mut changes = Changes::new(alloc);
+    match push_changes(alloc, batch, version, &mut changes) {
+        Ok(()) => Ok(changes),
+        Err(refusal) => {
+            drop(changes);
+            Err(refusal)
+        }
     }
 }

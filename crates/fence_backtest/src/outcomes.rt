@@ -11,6 +11,7 @@ ghost use Rattle.fence_backtest.specs.Outcomes.{AreOutcomes, IsOutcome, IsOutcom
 ghost use Rattle.fence_backtest.specs.Outcomes.{object_put as object_put_at};
 
 use crate::grids::{Cell, cell_of};
+use crate::in_order::InOrder;
 use byte_text::Name;
 use fence_table::{Pair, raised};
 use ordered_lists::is_same;
@@ -79,7 +80,7 @@ fn cell_at(key: &Name, area: BBox, change: &Change) -> Option<Cell>
 }
 
 // The object of the put at a place, if a place is named.
-fn object_put(changes: &[Change], place: Option<usize>) -> Option<&Object>
+fn object_put<'a>(changes: &InOrder<'a>, place: Option<usize>) -> Option<&'a Object>
     ensures { option_map (λ o. o.now) result ≡ object_put_at changes.now place }
 {
     match changes.get(place?) {
@@ -103,7 +104,7 @@ fn outcome_of(channel: &Channel, area: BBox, old: Option<&Object>, change: &Chan
 fn outcome_at(
     channel: &Channel,
     area: BBox,
-    changes: &[Change],
+    changes: &InOrder,
     olds: &[Option<usize>],
     at: usize,
 ) -> Outcome
@@ -112,7 +113,7 @@ fn outcome_at(
     requires known { at < length olds.now }
     ensures { IsOutcomeAt channel.now area changes.now olds.now at result }
 {
-    outcome_of(channel, area, object_put(changes, olds[at]), &changes[at])
+    outcome_of(channel, area, object_put(changes, olds[at]), changes.at(at))
 }
 
 /// What each change comes to, by the places of the puts whose objects stood there.
@@ -121,7 +122,7 @@ pub(crate) fn outcomes<R: Threads + Sync>(
     alloc: Global,
     channel: &Channel,
     area: BBox,
-    changes: &[Change],
+    changes: &InOrder,
     olds: &[Option<usize>],
 ) -> Result<Vec<Outcome>, AllocError>
     requires sound { is_sound_glob channel.now.fence.glob ≡ true }

@@ -8,6 +8,7 @@ ghost use Rattle.fence_backtest.specs.Reports.{report, watch_box};
 
 use crate::changes::Changes;
 use crate::grids::push_grid;
+use crate::in_order::InOrder;
 use crate::lines::{push_lines, push_total};
 use crate::outcomes::{Outcome, outcomes};
 use crate::standing::stood_before;
@@ -15,7 +16,7 @@ use byte_text::{NoMemory, Text};
 use planar_geom::{BBox, area_box};
 use std::alloc::Global;
 use std::thread::Threads;
-use world_data::{Change, Channel, Watch};
+use world_data::{Channel, Watch};
 
 // The box of the area that is watched.
 fn watched_box(watch: &Watch) -> BBox
@@ -29,22 +30,22 @@ fn watched_box(watch: &Watch) -> BBox
 }
 
 // The report of what changes came to.
-fn report_of(alloc: Global, changes: &[Change], outcomes: &[Outcome]) -> Result<Text, NoMemory>
+fn report_of(alloc: Global, changes: &InOrder, outcomes: &[Outcome]) -> Result<Text, NoMemory>
     requires { length outcomes.now ≡ length changes.now }
     ensures { IfOk result (λ text. text ≡ outcomes_text changes.now outcomes.now) }
 {
     let mut text = Text::new(alloc);
     let total = push_lines(&mut text, changes, outcomes)?;
     push_total(&mut text, total)?;
-    push_grid(&mut text, outcomes)?;
+    push_grid(alloc, &mut text, outcomes)?;
     Ok(text)
 }
 
-// The report of changes.
-fn report_changes<R: Threads + Sync>(
+/// The report of changes.
+pub(crate) fn report_changes<R: Threads + Sync>(
     rt: &R,
     alloc: Global,
-    changes: &[Change],
+    changes: &InOrder,
     channel: &Channel,
 ) -> Result<Text, NoMemory>
     requires sound { is_sound_glob channel.now.fence.glob ≡ true }
@@ -70,5 +71,7 @@ pub fn backtest<R: Threads + Sync>(
     requires zone { roams_over channel.now.fence.watch ≡ None }
     ensures { IfOk result (λ text. text ≡ report channel.now changes.now) }
 {
-    report_changes(rt, alloc, changes.as_slice(), channel)
+    let mut all = InOrder::new(alloc);
+    all.append(changes.as_slice())?;
+    report_changes(rt, alloc, &all, channel)
 }

@@ -13,6 +13,7 @@ ghost use Rattle.fence_backtest.specs.Outcomes.{object_put};
 ghost use Rattle.fence_backtest.specs.Reports.{stood};
 ghost use Rattle.fence_backtest.specs.Standing.{AreStood, IsTable, StoodSo};
 
+use crate::in_order::InOrder;
 use byte_text::{Name, NoMemory};
 use ordered_lists::is_same;
 use std::alloc::Global;
@@ -23,14 +24,14 @@ use world_data::Change;
 pub(crate) fn stood_before(
     alloc: Global,
     key: &Name,
-    changes: &[Change],
+    changes: &InOrder,
 ) -> Result<Vec<Option<usize>>, NoMemory>
     ensures { IfOk result (λ olds. AreStood key.now changes.now empty_world changes.now olds.items) }
 {
     let mut table: HashMap<Name, usize> = HashMap::new(alloc);
     let mut olds = Vec::with_capacity(alloc, changes.len())?;
-    for (at, change) in changes.iter().enumerate() {
-        let old = take_change(alloc, key, &mut table, at, change)?;
+    for at in 0..changes.len() {
+        let old = take_change(alloc, key, &mut table, at, changes.at(at))?;
         olds.push(old)?;
     }
     Ok(olds)

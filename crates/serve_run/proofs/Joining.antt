@@ -18,10 +18,10 @@ use Rattle.ready_links.specs.Links.{LinkState, IsNew}
 use Rattle.ready_links.specs.Waits.{WaitState}
 use Rattle.session_run.specs.Calls.{Call}
 use Rattle.session_run.specs.Gains.{Gains, gains_more, gains_one, made}
-use Rattle.stepped_session.specs.Sessions.{SessionState, opened}
-use Rattle.stepped_session.specs.SoFar.{AskedSoFar, WrittenSoFar}
-use Rattle.stepped_session.specs.AskedSteps.{asked_at_first}
-use Rattle.stepped_session.specs.WrittenSteps.{written_at_first}
+use Rattle.session_run.specs.Sessions.{SessionState, opened}
+use Rattle.session_run.specs.SoFar.{AskedSoFar, WrittenSoFar}
+use Rattle.session_run.specs.AskedSteps.{asked_at_first}
+use Rattle.session_run.specs.WrittenSteps.{written_at_first}
 use Rattle.serve_run.specs.Steps.{Step, IsAmong, Joined, Removed, steps_acts, calls_of, takes_of, callers_of, numbered, behind_callers, AreTimely}
 use Rattle.serve_run.specs.Runs.{LinkRun, LinkFate, TurnedOut, Starved, Unwatched, Served, IsRefusal, IsUnserved, HasFate, fate_outcome, IsRun, AreRuns, WatchFault, one_if, times, times_shut, is_through, starved_in, starved_of, told_of}
 use Rattle.serve_run.specs.Loops.{Around}

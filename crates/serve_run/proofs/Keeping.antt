@@ -12,8 +12,8 @@ use Rattle.ready_links.specs.Doors.{DoorState}
 use Rattle.ready_links.specs.Waits.{WaitState}
 use Rattle.session_run.specs.Calls.{Call}
 use Rattle.session_run.specs.Gains.{Gains}
-use Rattle.stepped_session.specs.Sessions.{SessionState}
-use Rattle.stepped_session.specs.SoFar.{AskedSoFar, WrittenSoFar}
+use Rattle.session_run.specs.Sessions.{SessionState}
+use Rattle.session_run.specs.SoFar.{AskedSoFar, WrittenSoFar}
 use Rattle.serve_run.specs.Steps.{Step, Tended, Joined, steps_acts, calls_of, takes_of, callers_of, AreTimely, IsAmong}
 use Rattle.serve_run.specs.Runs.{LinkRun, one_if, times, times_shut}
 use Rattle.serve_run.specs.declared.tends.ServeEnd.{ServeEnd}

@@ -12,7 +12,7 @@ use Rattle.ready_links.specs.Doors.{DoorState, Accepts}
 use Rattle.ready_links.specs.Links.{LinkState, IsNew}
 use Rattle.ready_links.specs.Waits.{WaitState}
 use Rattle.session_run.specs.Gains.{Gains, gains_more}
-use Rattle.stepped_session.specs.Sessions.{SessionState}
+use Rattle.session_run.specs.Sessions.{SessionState}
 use Rattle.serve_run.specs.declared.tends.ServeEnd.{ServeEnd}
 use Rattle.serve_run.specs.declared.tends.ServeEnd.TheVariants as end
 use Rattle.serve_run.specs.Links.{IsLast, TendsLast, serve_end}

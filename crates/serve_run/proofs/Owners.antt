@@ -2,7 +2,7 @@
 use Rattle.std.proofs.Common.{◌≡◌, ◌==◌, ℕ, Bool, true, false, List, [], ◌∷◌, ◌++◌, refl, sym, ap, ◌∙◌}
 use Rattle.std.specs.Prelude.{Option, Some, None, if◌then◌else◌}
 use Rattle.std.proofs.lemmas.Bool.{ne_eqb}
-use Rattle.stepped_session.specs.Sessions.{SessionState}
+use Rattle.session_run.specs.Sessions.{SessionState}
 use Rattle.serve_run.specs.Steps.{Step}
 use Rattle.serve_run.specs.Runs.{LinkRun, LinkFate, TurnedOut, Starved, Unwatched, Served}
 use Rattle.serve_run.specs.LoopStates.{IsOpen, IsGone, AreGone}

@@ -10,9 +10,9 @@ use Rattle.world_model.specs.declared.events.Outcome.TheVariants as outcome
 use Rattle.ready_links.specs.Links.{LinkState}
 use Rattle.session_run.specs.Calls.{Call}
 use Rattle.session_run.specs.Outs.{bytes_given}
-use Rattle.stepped_session.specs.Sessions.{SessionState}
-use Rattle.stepped_session.specs.SoFar.{AskedSoFar, WrittenSoFar}
-use Rattle.stepped_session.specs.Turns.{turn_calls}
+use Rattle.session_run.specs.Sessions.{SessionState}
+use Rattle.session_run.specs.SoFar.{AskedSoFar, WrittenSoFar}
+use Rattle.session_run.specs.Turns.{turn_calls}
 use Rattle.serve_run.specs.Steps.{Step, Tended, Joined, Called, Took, Closed, Removed, calls_in, calls_of, takes_in, takes_of, caller_in, callers_of, numbered, behind_callers, IsAmong}
 use Rattle.serve_run.specs.Runs.{LinkRun, LinkFate, TurnedOut, Starved, Unwatched, Served, IsServed, IsUnserved, HasFate, Wrote, IsRun, AreRuns, AreThrough, WatchFault, WatchFaults, is_through, one_if, times, times_shut, told_of, told_links, starved_in, starved_of}
 use Rattle.serve_run.specs.SessionSteps.{AreOf}

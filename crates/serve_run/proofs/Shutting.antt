@@ -20,14 +20,14 @@ use Rattle.session_run.specs.Gains.{gains_one, made}
 use Rattle.session_run.specs.Outs.{bytes_given}
 use Rattle.session_run.specs.declared.ends.InEnd.{InEnd}
 use Rattle.session_run.specs.declared.ends.InEnd.TheVariants as ended
-use Rattle.stepped_session.specs.declared.phases.Asking.{Asking}
-use Rattle.stepped_session.specs.declared.phases.Asking.TheVariants.{Open, Breaking, Ended}
-use Rattle.stepped_session.specs.declared.phases.TakeEnd.{TakeEnd}
-use Rattle.stepped_session.specs.declared.phases.TakeEnd.TheVariants as took
-use Rattle.stepped_session.specs.Owing.{owed_all}
-use Rattle.stepped_session.specs.Sessions.{SessionState, demand, owed, can_write, IsOver, WantsToWrite, end_of_asking}
-use Rattle.stepped_session.specs.SoFar.{asked_for, Asks, AskedSoFar, Owes, WrittenSoFar}
-use Rattle.stepped_session.specs.WrittenSteps.{written_part}
+use Rattle.session_run.specs.declared.phases.Asking.{Asking}
+use Rattle.session_run.specs.declared.phases.Asking.TheVariants.{Open, Breaking, Ended}
+use Rattle.session_run.specs.declared.phases.TakeEnd.{TakeEnd}
+use Rattle.session_run.specs.declared.phases.TakeEnd.TheVariants as took
+use Rattle.session_run.specs.Owing.{owed_all}
+use Rattle.session_run.specs.Sessions.{SessionState, demand, owed, can_write, IsOver, WantsToWrite, end_of_asking}
+use Rattle.session_run.specs.SoFar.{asked_for, Asks, AskedSoFar, Owes, WrittenSoFar}
+use Rattle.session_run.specs.WrittenSteps.{written_part}
 use Rattle.serve_run.specs.Steps.{Step, Removed, calls_of, takes_of, callers_of}
 use Rattle.serve_run.specs.Runs.{LinkRun, Served, AskingEnds, Wrote, IsServed, IsRun, is_through, AreThrough, one_if, times, times_shut, starved_of}
 use Rattle.serve_run.specs.Loops.{Around}

@@ -21,17 +21,17 @@ use Rattle.ready_links.specs.declared.links.Sent.{Sent}
 use Rattle.ready_links.specs.declared.links.Sent.TheVariants as sent
 use Rattle.session_run.specs.Calls.{Call}
 use Rattle.session_run.specs.Gains.{Gains, gains_more, gains_one, gains_calls, made}
-use Rattle.stepped_session.specs.declared.phases.Asking.TheVariants.{Open, Breaking, Ended}
-use Rattle.stepped_session.specs.declared.phases.Asking.{Asking}
-use Rattle.stepped_session.specs.Sessions.{SessionState, demand, owed, WantsToRead, WantsTurn, WantsTake}
+use Rattle.session_run.specs.declared.phases.Asking.TheVariants.{Open, Breaking, Ended}
+use Rattle.session_run.specs.declared.phases.Asking.{Asking}
+use Rattle.session_run.specs.Sessions.{SessionState, demand, owed, WantsToRead, WantsTurn, WantsTake}
 use Rattle.session_run.specs.Outs.{bytes_given}
-use Rattle.stepped_session.specs.declared.phases.TakeEnd.{TakeEnd}
-use Rattle.stepped_session.specs.declared.phases.TakeEnd.TheVariants as took
-use Rattle.stepped_session.specs.SoFar.{AskedSoFar, WrittenSoFar, Owes}
-use Rattle.stepped_session.specs.Steps.{got_bytes, UnlessMemory, Readies, AsksOn, Answered, Takes, WritesOut}
-use Rattle.stepped_session.specs.Turns.{turn_calls}
-use Rattle.stepped_session.specs.AskedSteps.{asked_read, asked_answered, asked_taken, asked_written}
-use Rattle.stepped_session.specs.WrittenSteps.{written_read, written_answered, written_taken, written_sent}
+use Rattle.session_run.specs.declared.phases.TakeEnd.{TakeEnd}
+use Rattle.session_run.specs.declared.phases.TakeEnd.TheVariants as took
+use Rattle.session_run.specs.SoFar.{AskedSoFar, WrittenSoFar, Owes}
+use Rattle.session_run.specs.Steps.{got_bytes, UnlessMemory, Readies, AsksOn, Answered, Takes, WritesOut}
+use Rattle.session_run.specs.Turns.{turn_calls}
+use Rattle.session_run.specs.AskedSteps.{asked_read, asked_answered, asked_taken, asked_written}
+use Rattle.session_run.specs.WrittenSteps.{written_read, written_answered, written_taken, written_sent}
 use Rattle.serve_run.specs.Links.{IsTold}
 use Rattle.serve_run.specs.Steps.{Step, Called, Took, Closed, step_acts, steps_acts, calls_in, calls_of, takes_in, takes_of, AreTimely}
 use Rattle.serve_run.specs.SessionSteps.{IsOf, AreOf, StepsSession}

@@ -5,7 +5,7 @@ use Rattle.outside.specs.Causes.{Rose}
 use Rattle.world_model.specs.Seats.{Knows}
 use Rattle.ready_links.specs.Links.{LinkState}
 use Rattle.ready_links.specs.Waits.{WaitState}
-use Rattle.stepped_session.specs.Sessions.{SessionState}
+use Rattle.session_run.specs.Sessions.{SessionState}
 use Rattle.serve_run.specs.declared.tends.ServeEnd.{ServeEnd}
 use Rattle.serve_run.specs.declared.tends.ServeEnd.TheVariants as end
 use Rattle.serve_run.specs.declared.joins.Unseated.{Unseated}

@@ -8,8 +8,8 @@ use Rattle.ready_links.specs.Links.{LinkState, IsNew}
 use Rattle.ready_links.specs.Doors.{DoorState}
 use Rattle.ready_links.specs.Waits.{WaitState}
 use Rattle.session_run.specs.Gains.{Gains}
-use Rattle.stepped_session.specs.Sessions.{SessionState}
-use Rattle.stepped_session.specs.SoFar.{AskedSoFar, WrittenSoFar}
+use Rattle.session_run.specs.Sessions.{SessionState}
+use Rattle.session_run.specs.SoFar.{AskedSoFar, WrittenSoFar}
 use Rattle.serve_run.specs.declared.tends.ServeEnd.{ServeEnd}
 use Rattle.serve_run.specs.Links.{IsTold}
 use Rattle.serve_run.specs.Loops.{Around, around, ServesReady}

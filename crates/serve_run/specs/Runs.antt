@@ -13,9 +13,9 @@ use Rattle.session_run.specs.Ends.{EndsAt}
 use Rattle.session_run.specs.Outs.{bytes_given}
 use Rattle.session_run.specs.declared.ends.InEnd.{InEnd}
 use Rattle.session_run.specs.declared.ends.InEnd.TheVariants as ended
-use Rattle.stepped_session.specs.declared.phases.TakeEnd.{TakeEnd}
-use Rattle.stepped_session.specs.declared.phases.TakeEnd.TheVariants as took
-use Rattle.stepped_session.specs.SoFar.{asked_for}
+use Rattle.session_run.specs.declared.phases.TakeEnd.{TakeEnd}
+use Rattle.session_run.specs.declared.phases.TakeEnd.TheVariants as took
+use Rattle.session_run.specs.SoFar.{asked_for}
 use Rattle.serve_run.specs.Steps.{Step, Joined, calls_of, takes_of, IsAmong}
 
 -- What became of a link. No session was entered, and the Enter was answered so; or the session of this number was entered, and removed at

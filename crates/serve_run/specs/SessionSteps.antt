@@ -5,8 +5,8 @@ use Rattle.world_model.specs.Seats.{Knows}
 use Rattle.ready_links.specs.Links.{LinkState}
 use Rattle.session_run.specs.Calls.{Call}
 use Rattle.session_run.specs.Gains.{Gains}
-use Rattle.stepped_session.specs.Sessions.{SessionState}
-use Rattle.stepped_session.specs.SoFar.{AskedSoFar, WrittenSoFar}
+use Rattle.session_run.specs.Sessions.{SessionState}
+use Rattle.session_run.specs.SoFar.{AskedSoFar, WrittenSoFar}
 use Rattle.serve_run.specs.Steps.{Step, Tended, Joined, Called, Took, Closed, Removed, steps_acts, calls_of, takes_of, AreTimely}
 
 -- the step is of this session

@@ -11,7 +11,7 @@ use Rattle.world_model.specs.Outcomes.{call_acts}
 use Rattle.world_model.specs.Seats.{Act}
 use Rattle.session_run.specs.Calls.{Call}
 use Rattle.session_run.specs.Outs.{take_act}
-use Rattle.stepped_session.specs.Turns.{turn_calls}
+use Rattle.session_run.specs.Turns.{turn_calls}
 use Rattle.serve_run.specs.Links.{IsTold, tend_acts}
 
 -- a Tick at a moment and the Rewrites behind it, each answered Ok; the caller of this number, and how the Enter for it was answered; the

@@ -12,9 +12,9 @@ use crate::tables::{Table, free_place, shut};
 use crate::tends::ServeEnd;
 use outside::Failed;
 use ready_links::{Caller, ReadyDoor, ReadyLink, WaitForLinks};
+use session_run::Session;
 use std::alloc::Global;
 use std::sync::Wait;
-use stepped_session::Session;
 use world_model::HallApi;
 
 /// What a loop counts.

@@ -52,7 +52,7 @@ where
     ensures { Tries (W.shows wait.old) (W.shows wait.new) result }
 {
     let count = wait.wait(all.patience())?;
-    all.is_busy = false;
+    all.looked(count);
     for nth in 0..count {
         match wait.named(nth) {
             Some(Named::Link(token)) => all.name(token as usize),
@@ -65,10 +65,11 @@ where
 }
 
 // Makes a Tick and the Rewrites behind it, where one is due. The end that they bring.
-fn tend_if_due<H: HallApi, R: Wait>(
+fn tend_if_due<H: HallApi, C: Clock, R: Wait>(
     rt: &R,
     hall: &H,
     seat: &mut H::Seat,
+    clock: &C,
     moment: u64,
     all: &mut AllMarks,
     touched: ChangedSessions,
@@ -83,6 +84,7 @@ fn tend_if_due<H: HallApi, R: Wait>(
         return (None, touched);
     }
     let (end, touched) = tick_and_rewrite(rt, hall, seat, moment, touched);
+    all.tended(moment, clock.now());
     all.touch(&touched);
     (end, touched)
 }
@@ -159,7 +161,7 @@ where
         return (Some(ServeEnd::DoorFault), touched);
     }
     let moment = clock.now();
-    let (tended, touched) = tend_if_due(rt, hall, seat, moment, all, touched);
+    let (tended, touched) = tend_if_due(rt, hall, seat, clock, moment, all, touched);
     if let Some(end) = tended {
         return (Some(end), touched);
     }

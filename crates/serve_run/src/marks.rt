@@ -11,6 +11,12 @@ use world_model::ChangedSessions;
 // Milliseconds from one tick to the next.
 const TICK_MILLIS: u64 = 100;
 
+// The same while the log is rewritten and callers are served, and how long somebody is waited for then. Where nobody
+// comes, one tick follows the other.
+const REWRITING_MILLIS: u64 = 20;
+
+const GLANCE_MILLIS: u32 = 1;
+
 /// What is to be tried for a session.
 #[derive(Clone, Copy, Debug, PartialEq, Eq)]
 pub(crate) struct Marks {
@@ -59,6 +65,10 @@ pub(crate) struct AllMarks {
     pub(crate) may_accept: bool,
     /// There is something to do without a wait.
     pub(crate) is_busy: bool,
+    // Nobody was named by the last wait, and nothing was left to be done.
+    is_idle: bool,
+    // The steps behind the last tick took a while, so the log is being rewritten.
+    is_rewriting: bool,
     last_tick: Option<u64>,
     // How long it is to the next tick.
     to_tick: u32,
@@ -72,6 +82,8 @@ impl AllMarks {
             places: BTreeMap::new(alloc),
             may_accept: true,
             is_busy: false,
+            is_idle: false,
+            is_rewriting: false,
             last_tick: None,
             to_tick: 0,
         }
@@ -79,18 +91,49 @@ impl AllMarks {
 
     /// Milliseconds to wait for somebody to be ready.
     pub(crate) fn patience(&self) -> u32 {
-        if self.is_busy { 0 } else { self.to_tick }
+        if self.is_busy {
+            0
+        } else if self.is_rewriting {
+            GLANCE_MILLIS
+        } else {
+            self.to_tick
+        }
+    }
+
+    /// So many were named by a wait.
+    pub(crate) fn looked(&mut self, count: usize) {
+        self.is_idle = count == 0 && !self.is_busy;
+        self.is_busy = false;
+    }
+
+    // Milliseconds from the last tick to the next.
+    fn between_ticks(&self) -> u64 {
+        if !self.is_rewriting {
+            TICK_MILLIS
+        } else if self.is_idle {
+            0
+        } else {
+            REWRITING_MILLIS
+        }
+    }
+
+    /// A tick's steps of rewriting began and ended at these moments. A step takes microseconds where there is nothing to
+    /// rewrite, so those that took a millisecond have copied something.
+    pub(crate) fn tended(&mut self, began: u64, ended: u64) {
+        self.is_rewriting = ended > began;
+        self.last_tick = Some(ended);
     }
 
     /// Whether a tick is due at this moment; it is made then. A clock that was set back is followed. A door that had no
     /// means to let a caller in does not name him again, so it is looked at then.
     pub(crate) fn is_tick_due(&mut self, moment: u64) -> bool {
+        let between = self.between_ticks();
         let since = match self.last_tick {
             Some(last) if last <= moment => moment - last,
-            _ => TICK_MILLIS,
+            _ => between,
         };
-        if since < TICK_MILLIS {
-            self.to_tick = (TICK_MILLIS - since) as u32;
+        if since < between {
+            self.to_tick = (between - since) as u32;
             return false;
         }
         self.last_tick = Some(moment);

@@ -7,14 +7,14 @@
 ghost use Rattle.std.specs.Prelude.{◌≡◌, ◌≤◌, ◌<◌, ℕ, Option, [], length};
 ghost use Rattle.world_data.specs.Limits.{max_moment, take_frames};
 ghost use Rattle.world_model.specs.Seats.{Knows};
-ghost use Rattle.stepped_session.specs.Sessions.{WantsTurn};
+ghost use Rattle.session_run.specs.Sessions.{WantsTurn};
 ghost use Rattle.serve_run.specs.Links.{IsTold};
 ghost use Rattle.serve_run.specs.SessionSteps.{StepsSession};
 
 use crate::marks::{AllMarks, Marks};
 use ready_links::{Got, ReadyLink, Sent};
+use session_run::Session;
 use std::sync::Wait;
-use stepped_session::Session;
 use world_model::{ChangedSessions, Frames, HallApi, Taken};
 
 // Reads a session once, where it may. A read that does not fill the block has most likely all that came, so the next one

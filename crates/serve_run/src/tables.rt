@@ -6,7 +6,7 @@ ghost use Rattle.world_data.specs.Limits.{max_moment, take_frames};
 ghost use Rattle.serve_run.specs.Links.{IsTold};
 ghost use Rattle.world_model.specs.Seats.{Knows};
 ghost use Rattle.ready_links.specs.Doors.{DoorState};
-ghost use Rattle.stepped_session.specs.Sessions.{SessionState, IsOver};
+ghost use Rattle.session_run.specs.Sessions.{SessionState, IsOver};
 ghost use Rattle.serve_run.specs.SessionSteps.{StepsSession};
 ghost use Rattle.serve_run.specs.LoopEnds.{ShutBy};
 ghost use Rattle.serve_run.specs.LoopStates.{Keeps, KeepsTable, KeepsShut, NoneOpen, loop_state};
@@ -14,9 +14,9 @@ ghost use Rattle.serve_run.specs.LoopStates.{Keeps, KeepsTable, KeepsShut, NoneO
 use crate::marks::AllMarks;
 use crate::session_steps::{step_in, step_out};
 use ready_links::{ReadyDoor, ReadyLink, WaitForLinks};
+use session_run::{Session, TakeEnd};
 use std::mem;
 use std::sync::Wait;
-use stepped_session::{Session, TakeEnd};
 use world_model::{ChangedSessions, Frames, HallApi};
 
 /// The open sessions of a loop, each at the place by whose number its link is named.

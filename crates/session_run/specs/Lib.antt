@@ -3,3 +3,11 @@ pub mod Outs
 pub mod Calls
 pub mod Feeds
 pub mod Ends
+pub mod Filling
+pub mod Sessions
+pub mod Steps
+pub mod Owing
+pub mod Turns
+pub mod SoFar
+pub mod AskedSteps
+pub mod WrittenSteps

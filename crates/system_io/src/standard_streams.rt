@@ -1,18 +1,31 @@
 //! Standard input and output, or another reader and writer.
 
-ghost use Rattle.std.specs.Prelude.{◌≡◌, None};
+ghost use Rattle.std.specs.Prelude.{◌≡◌, ◌≤◌, None, length};
 
 use outside::{Failed, Sink, Source};
-use std::io::{Read, Write};
+use std::io::{BufRead, Write};
 
-/// What is read from standard input, or another reader.
+// Copies the front of what was read ahead; how many bytes fit. A script is read byte by byte, so one is copied by itself.
+fn front_into(ahead: &[u8], into: &mut [u8]) -> usize
+    ensures { result ≤ length into.old }
+{
+    if let ([first, ..], [one]) = (ahead, &mut *into) {
+        *one = *first;
+        return 1;
+    }
+    let count = ahead.len().min(into.len());
+    into[..count].copy_from_slice(&ahead[..count]);
+    count
+}
+
+/// What is read from standard input, or another reader that reads ahead.
 #[derive(Drop)]
-pub struct StdinSource<R: Read + Drop> {
+pub struct StdinSource<R: BufRead + Drop> {
     reader: R,
     faults: u64,
 }
 
-impl<R: Read + Drop> StdinSource<R> {
+impl<R: BufRead + Drop> StdinSource<R> {
     /// Nothing was read yet, and nothing has failed.
     pub fn new(reader: R) -> StdinSource<R>
         ensures { result.faults ≡ 0 }
@@ -21,19 +34,21 @@ impl<R: Read + Drop> StdinSource<R> {
     }
 }
 
-impl<R: Read + Drop> Source for StdinSource<R> {
+impl<R: BufRead + Drop> Source for StdinSource<R> {
     ghost left = { λ s. None };
 
     ghost faults = { λ s. s.faults };
 
     fn read(&mut self, into: &mut [u8]) -> Result<usize, Failed> {
-        match self.reader.read(into) {
-            Ok(count) => Ok(count),
+        let count = match self.reader.fill_buf() {
+            Ok(ahead) => front_into(ahead, into),
             Err(_) => {
                 self.faults = self.faults.saturating_add(1);
-                Err(Failed)
+                return Err(Failed);
             }
-        }
+        };
+        self.reader.consume(count);
+        Ok(count)
     }
 }
 

@@ -6,5 +6,5 @@ use Rattle.channel_hub.specs.Hubs.{channels_in}
 use Rattle.channel_hub.proofs.candidates.push_of_key.Given as goal
 
 -- those of the key in the first slots are appended
-abbrev pub invariant-loop-slot : goal.invariant-loop-slot
-invariant-loop-slot l = l.into ≡ l.initial.into ++ filter (watches (Some l.key)) (channels_in (get l.slots) (take l.slot-index l.order))
+abbrev pub invariant-loop-i : goal.invariant-loop-i
+invariant-loop-i l = l.into ≡ l.initial.into ++ filter (watches (Some l.key)) (channels_in (get l.slots) (take l.i l.order.items))

@@ -1,35 +1,34 @@
-use Rattle.std.proofs.Common.{rules, arith}
-use Rattle.std.proofs.lemmas.List.Sorted.{IsPartitionPoint-from_clause}
+use Rattle.std.proofs.Common.{arith}
 use Rattle.ordered_lists.specs.Slots.{as_many}
 use Rattle.slab.specs.Slab.{get}
-use Rattle.channel_hub.specs.Hubs.{channels_in, stands_before}
-use Rattle.channel_hub.proofs.Halving.{place_free, place_held, same_parts, slots_partitioned}
+use Rattle.channel_hub.specs.Hubs.{channels_in}
+use Rattle.channel_hub.proofs.Halving.{behind_channels, front_channels, name_cut, place_free, place_held}
 use Rattle.channel_hub.proofs.channel_slots.place_of.Goals as goal
+
+pub place_of-requires : goal.place_of-requires
+place_of-requires c =
+    let f = get c.args.slots.now in
+    let order = c.args.order.now.items in
+    name_cut f c.args.name.now order (channels_in f order) c.requires.stored c.requires.by_name
 
 pub returns-clause-held : goal.returns-clause-held
 returns-clause-held c =
     let f = get c.args.slots.now in
     let name = c.args.name.now in
-    let order = c.args.order.now in
+    let order = c.args.order.now.items in
     let xs = channels_in f order in
-    let ordered = c.requires in
-    let at = c.partition_point.result in
-    let bound = c.partition_point.ensures.bound in
-    let split = slots_partitioned f order xs ordered.stored name ordered.by_name in
-    let parts = IsPartitionPoint-from_clause (λ s. stands_before name (f s)) order at c.partition_point.ensures.partitioned split (λ a r f' called. search rules) in
-    let long = as_many f order xs ordered.stored in
-    place_held name xs ordered.by_name at (omega (arith, bound, long)) (same_parts f order xs ordered.stored name at bound parts)
+    let at = c.place_of.result in
+    let long = as_many f order xs c.requires.stored in
+    place_held name xs c.requires.by_name at (omega (arith, c.place_of.ensures.within, long)) (front_channels f name order xs at c.requires.stored c.place_of.ensures.front)
+    (behind_channels f name order xs at c.requires.stored c.place_of.ensures.behind)
 
 pub returns-clause-free : goal.returns-clause-free
 returns-clause-free c =
     let f = get c.args.slots.now in
     let name = c.args.name.now in
-    let order = c.args.order.now in
+    let order = c.args.order.now.items in
     let xs = channels_in f order in
-    let ordered = c.requires in
-    let at = c.partition_point.result in
-    let bound = c.partition_point.ensures.bound in
-    let split = slots_partitioned f order xs ordered.stored name ordered.by_name in
-    let parts = IsPartitionPoint-from_clause (λ s. stands_before name (f s)) order at c.partition_point.ensures.partitioned split (λ a r f' called. search rules) in
-    let long = as_many f order xs ordered.stored in
-    place_free name xs ordered.by_name at (omega (arith, bound, long)) (same_parts f order xs ordered.stored name at bound parts)
+    let at = c.place_of.result in
+    let long = as_many f order xs c.requires.stored in
+    place_free name xs c.requires.by_name at (omega (arith, c.place_of.ensures.within, long)) (front_channels f name order xs at c.requires.stored c.place_of.ensures.front)
+    (behind_channels f name order xs at c.requires.stored c.place_of.ensures.behind)

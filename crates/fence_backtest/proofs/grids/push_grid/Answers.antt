@@ -1,10 +1,11 @@
-use Rattle.std.proofs.Common.{◌∷◌, []}
-use Rattle.fence_backtest.specs.Reports.{row_text}
-use Rattle.fence_backtest.specs.Outcomes.{cells_in}
-use Rattle.fence_backtest.proofs.LineLaws.{flat_more}
+use Rattle.std.proofs.Common.{◌≡◌, ◌∙◌, ◌++◌, OnOk, ap, subst}
+use Rattle.byte_text.specs.Names.{Bytes}
+use Rattle.fence_backtest.specs.Outcomes.{cells_in, count_at}
+use Rattle.fence_backtest.specs.Reports.{grid_text}
+use Rattle.fence_backtest.proofs.TallyLaws.{same_grid}
 use Rattle.fence_backtest.proofs.grids.push_grid.Goals as goal
 
-pub loop-row-preserved : goal.loop-row-preserved
-loop-row-preserved c =
-    flat_more (λ row. row_text (cells_in c.args.outcomes.now row)) (0 ∷ 1 ∷ 2 ∷ 3 ∷ 4 ∷ 5 ∷ 6 ∷ 7 ∷ []) c.loop-row.row-index c.args.into.now c.loop-row.into
-    c.push_row.new.into c.loop-row-test.true c.loop-row.invariant c.in_ok-push_row.ensures
+pub returns : goal.returns
+returns c =
+    let grid = ap (λ l. grid_text (count_at l)) c.as_slice.ensures.value ∙ same_grid (count_at c.in_ok-counts.counts.items) (cells_in c.args.outcomes.now) c.in_ok-counts.ensures.counted in
+    subst (λ (g : Bytes). OnOk c.push_counts.result (c.push_counts.new.into ≡ c.args.into.now ++ g)) grid c.push_counts.ensures

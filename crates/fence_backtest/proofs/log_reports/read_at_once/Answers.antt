@@ -1,13 +1,13 @@
-use Rattle.std.proofs.Common.{◌≡◌, ◌∙◌, flat_map, sym, ap, subst}
+use Rattle.std.proofs.Common.{◌∙◌, flat_map, sym, ap, subst}
 use Rattle.journal.specs.Openings.{AreWhole}
 use Rattle.log_record.specs.RecoveryLaws.{recovered_is_whole}
 use Rattle.world_recovery.specs.Recorded.{changes_in, record_fault, world_in}
 use Rattle.fence_backtest.proofs.log_reports.read_at_once.Goals as goal
 
-pub returns-in-Ok-changes_of-clause-read : goal.returns-in-Ok-changes_of-clause-read
-returns-in-Ok-changes_of-clause-read g c =
+pub returns-in-Ok-read_batches-clause-read : goal.returns-in-Ok-read_batches-clause-read
+returns-in-Ok-read_batches-clause-read g c =
     let read = c.in-Ok.ensures.read in
-    let found = c.in-Ok-changes_of.ensures in
+    let found = c.in-Ok-read_batches.ensures in
     let same = c.as_slice.ensures ∙ read.taken.batches_are in
     let version = c.version.ensures ∙ read.taken.version_is in
     let are = found.changes ∙ ap (λ v. flat_map (changes_in v) c.as_slice.result.now) version ∙ ap (flat_map (changes_in read.version)) same in

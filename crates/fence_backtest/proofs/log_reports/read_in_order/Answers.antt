@@ -1,13 +1,13 @@
-use Rattle.std.proofs.Common.{◌≡◌, ◌∙◌, sym}
+use Rattle.std.proofs.Common.{◌∙◌, sym}
 use Rattle.log_record.specs.RecoveryLaws.{recovered_is_whole}
 use Rattle.world_recovery.specs.Recorded.{world_in}
 use Rattle.fence_backtest.proofs.log_reports.read_in_order.Goals as goal
 
-pub returns-in-Ok-clause-read : goal.returns-in-Ok-clause-read
-returns-in-Ok-clause-read g c =
+pub returns-in-Ok-one-clause-read : goal.returns-in-Ok-one-clause-read
+returns-in-Ok-one-clause-read g c =
     let read = c.in-Ok.ensures.read in
     record {
-      records_are = λ s told. c.into_changes.ensures ∙ read.taken.changes_are ∙ sym (c.logs_are_their_records.ensures read.version read.batches s read.whole (read.holds s told));
+      records_are = λ s told. c.in-Ok-one.ensures ∙ c.into_changes.ensures ∙ read.taken.changes_are ∙ sym (c.logs_are_their_records.ensures read.version read.batches s read.whole (read.holds s told));
       undamaged = λ s told side place damaged.
           recovered_is_whole s (world_in read.version read.batches) side place (c.held_batches_are_recovered.ensures.held read.version read.batches s read.whole (read.holds s told)) damaged;
     }

@@ -12,16 +12,15 @@ use Rattle.fence_backtest.proofs.outcomes.outcomes.Goals as goal
 pub collect-requires-clause-ready : goal.collect-requires-clause-ready
 collect-requires-clause-ready g c κs within =
     let ends = c.into_par_iter.ensures in
-    let n = length c.args.changes.now in
-    let inside = nat_range-All (λ i. (is_sound_glob c.args.channel.now.fence.glob ≡ true) × (i < length c.args.changes.now) × (i < length c.args.olds.now)) 0 n
-    (λ i low high. (c.requires.sound, high, omega (arith, high, c.requires.known))) in
+    let inside = nat_range-All (λ i. (is_sound_glob c.args.channel.now.fence.glob ≡ true) × (i < length c.args.changes.now) × (i < length c.args.olds.now)) 0 c.len.result
+    (λ i low high. (c.requires.sound, omega (arith, high, c.len.ensures), omega (arith, high, c.len.ensures, c.requires.known))) in
     rw (c.map.ensures.base, c.map.ensures.f, ends.0, ends.1) (λ k d lt. (inside k d lt, λ y p. tt))
 
 pub returns : goal.returns
 returns g c =
     let ends = c.into_par_iter.ensures in
     let n = length c.args.changes.now in
-    let whole : n - 0 ≡ n = omega arith in
+    let whole : c.len.result - 0 ≡ n = omega (arith, c.len.ensures) in
     let R = IsOutcomeAt c.args.channel.now c.args.area c.args.changes.now c.args.olds.now in
     IfOk-then c.collect.result _ _ c.collect.ensures (λ v h.
     let chain = rw (c.map.ensures.base, c.map.ensures.f) at h.1 in

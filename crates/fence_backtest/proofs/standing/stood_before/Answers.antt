@@ -1,5 +1,4 @@
-use Rattle.std.proofs.Common.{◌∙◌, ◌++◌, ◌∷◌, [], Some, List, sym, ap, subst, take}
-use Rattle.std.proofs.lemmas.Option.{slice_get-get_or}
+use Rattle.std.proofs.Common.{◌∙◌, ◌++◌, ◌∷◌, [], List, sym, ap, subst, take}
 use Rattle.std.proofs.Math.Numerals.{add-one}
 use Rattle.world_data.specs.Worlds.{empty_world}
 use Rattle.world_data.specs.declared.worlds.Change.{Change}
@@ -15,9 +14,9 @@ loop-at-preserved c =
     let key = c.args.key.now in
     let changes = c.args.changes.now in
     let at = c.loop-at.at in
-    let change = c.index-changes-at.result in
+    let change = c.at.result.now in
     let w = folded empty_world (take at changes) in
-    let here = slice_get-get_or changes at change c.loop-at-test.true ∙ ap Some (sym c.index-changes-at.is) in
+    let here = c.at.ensures in
     let more = ap (λ n. take n changes) (add-one at) ∙ take_more changes at change here in
     let told = c.in_ok-old.ensures changes w here c.loop-at.invariant.table in
     record {

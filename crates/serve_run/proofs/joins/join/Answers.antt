@@ -2,7 +2,7 @@ use Rattle.std.proofs.Common.{◌<◌, arith, subst, sym, ap, ◌∙◌, length}
 use Rattle.std.specs.Prelude.{None, Err}
 use Rattle.std.proofs.lemmas.Option.{slice_get_within}
 use Rattle.ready_links.specs.Links.{LinkState}
-use Rattle.stepped_session.specs.Sessions.{opened}
+use Rattle.session_run.specs.Sessions.{opened}
 use Rattle.serve_run.specs.declared.joins.Unseated.{Unseated}
 use Rattle.serve_run.specs.declared.joins.Unseated.TheVariants as unseated
 use Rattle.serve_run.specs.LoopEnds.{ShutBy, IsPlaced}

@@ -1,6 +1,6 @@
 use Rattle.std.proofs.Common.{List, true, false, sym, subst}
 use Rattle.std.specs.Prelude.{Option}
-use Rattle.stepped_session.specs.Sessions.{SessionState}
+use Rattle.session_run.specs.Sessions.{SessionState}
 use Rattle.serve_run.specs.Loops.{around}
 use Rattle.serve_run.specs.LoopStates.{Holds, loop_state}
 use Rattle.serve_run.proofs.Looping.{holds_at_first, serves_end}

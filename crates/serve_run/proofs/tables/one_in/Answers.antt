@@ -1,7 +1,7 @@
 use Rattle.std.proofs.Common.{◌≡◌, refl, ap, ◌∙◌}
 use Rattle.std.specs.Prelude.{Option, Some, length}
 use Rattle.std.proofs.lemmas.Option.{slice_get_read}
-use Rattle.stepped_session.specs.Sessions.{SessionState}
+use Rattle.session_run.specs.Sessions.{SessionState}
 use Rattle.std.specs.List.{slice_get}
 use Rattle.serve_run.proofs.Keeping.{table_step}
 use Rattle.serve_run.proofs.tables.one_in.Goals as goal

@@ -1,7 +1,7 @@
 use Rattle.std.proofs.Common.{List, subst, sym}
 use Rattle.std.specs.Prelude.{Option}
 use Rattle.ready_links.specs.Links.{LinkState}
-use Rattle.stepped_session.specs.Sessions.{SessionState}
+use Rattle.session_run.specs.Sessions.{SessionState}
 use Rattle.serve_run.specs.LoopEnds.{ShutBy}
 use Rattle.serve_run.specs.LoopStates.{KeepsShut}
 use Rattle.serve_run.proofs.Shutting.{shut_place}

@@ -1,9 +1,8 @@
-use Rattle.std.proofs.Common.{◌≡◌, ◌∙◌, true, refl, sym, subst, ap, length, arith}
+use Rattle.std.proofs.Common.{◌≡◌, ◌∙◌, true, refl, ap, length, arith}
 use Rattle.std.specs.Prelude.{None, Some, is_some}
 use Rattle.fence_index.specs.Marks.{mark_of}
-use Rattle.channel_hub.specs.Dues.{AreFrom}
-use Rattle.channel_hub.proofs.DueFrom.{from_put}
 use Rattle.channel_hub.proofs.Left.{put_more}
+use Rattle.channel_hub.proofs.Places.{none_out}
 use Rattle.channel_hub.proofs.Whole.{none_prepared}
 use Rattle.channel_hub.proofs.hubs.Hub.put.Goals as goal
 
@@ -15,9 +14,7 @@ invariant_of-self c =
     let more = put_more c.args.channel c.self.inside.all.channels in
     let same = ap length c.put.ensures.channels in
     record {
-      listed = λ now e. absurd (cc);
+      listed = none_out c.self.inside.out c.self.inside.gone.items c.self.inside.all.channels c.put.new.self.channels none c.self.invariant.listed;
       fits = omega (arith, more, same, c.self.invariant.more some);
       more = λ any. none_prepared c.put.new.self.prepared c.put.ensures.prepared any;
-      from = subst (λ xs. AreFrom c.due_first-self-inside.result xs) (sym c.put.ensures.channels)
-          (from_put c.due_first-self-inside.result c.self.inside.due_from c.args.channel c.self.inside.all.channels c.due_first-self-inside.ensures.within c.due_first-self-inside.ensures.first c.self.invariant.from);
     }

@@ -1,8 +1,8 @@
-use Rattle.std.proofs.Common.{◌≡◌, not, sym, subst, ap, length, arith}
+use Rattle.std.proofs.Common.{◌≡◌, not, ap, length, arith}
 use Rattle.std.specs.Prelude.{None}
-use Rattle.ordered_lists.specs.Reading.{filter-most, each-filter}
-use Rattle.channel_hub.specs.Dues.{AreFrom, IsFrom}
+use Rattle.ordered_lists.specs.Reading.{filter-most}
 use Rattle.world_data.specs.Worlds.{is_named}
+use Rattle.channel_hub.proofs.Places.{none_out}
 use Rattle.channel_hub.proofs.hubs.Hub.take_out.Goals as goal
 
 pub invariant_of-self : goal.invariant_of-self
@@ -11,9 +11,7 @@ invariant_of-self c =
     let fewer = filter-most (λ d. not (is_named c.args.name.now d)) c.self.inside.all.channels in
     let same = ap length c.take_out.ensures.channels in
     record {
-      listed = λ now e. absurd (cc);
+      listed = none_out c.self.inside.out c.self.inside.gone.items c.self.inside.all.channels c.take_out.new.self.channels none c.self.invariant.listed;
       fits = omega (arith, fewer, same, c.self.invariant.fits);
       more = λ some. let more = c.self.invariant.more (rw (← c.take_out.ensures.prepared) some) in omega (arith, fewer, same, more);
-      from = subst (λ xs. AreFrom c.self.inside.due_from xs) (sym c.take_out.ensures.channels)
-          (each-filter (λ d. IsFrom c.self.inside.due_from d.deadline) (λ d. not (is_named c.args.name.now d)) c.self.inside.all.channels c.self.invariant.from);
     }

@@ -17,7 +17,7 @@ remove-requires c =
     let name = c.args.name.now in
     let is : slot_of f order name ≡ Some c.in-Some.field-0 = sym (kept.named name) ∙ sym c.get.ensures ∙ c.in-Some.is in
     let some : IsSome (find (is_named name) xs) = rw (found_by_name f order xs kept.ordered.stored name c.in-Some.field-0 is) (is_there f order name c.in-Some.field-0 is) in
-    let held = (rw c.as_slice.ensures.value at c.place_of-at.ensures.held) some in
+    let held = c.place_of-at.ensures.held some in
     rw (← c.self.view_is) held.within
 
 pub returns-in-Some-clause-channels : goal.returns-in-Some-clause-channels
@@ -29,7 +29,7 @@ returns-in-Some-clause-channels c =
     let name = c.args.name.now in
     let is : slot_of f order name ≡ Some c.in-Some.field-0 = sym (kept.named name) ∙ sym c.get.ensures ∙ c.in-Some.is in
     let some : IsSome (find (is_named name) xs) = rw (found_by_name f order xs kept.ordered.stored name c.in-Some.field-0 is) (is_there f order name c.in-Some.field-0 is) in
-    let held = (rw c.as_slice.ensures.value at c.place_of-at.ensures.held) some in
+    let held = c.place_of-at.ensures.held some in
     rw (← c.self.view_is) ((rw (← c.self.view_is) at c.remove.ensures.channels) ∙ sym (left name xs c.place_of-at.result kept.ordered.by_name held))
 
 pub returns-in-Some-clause-taken : goal.returns-in-Some-clause-taken
@@ -41,7 +41,7 @@ returns-in-Some-clause-taken c =
     let name = c.args.name.now in
     let is : slot_of f order name ≡ Some c.in-Some.field-0 = sym (kept.named name) ∙ sym c.get.ensures ∙ c.in-Some.is in
     let some : IsSome (find (is_named name) xs) = rw (found_by_name f order xs kept.ordered.stored name c.in-Some.field-0 is) (is_there f order name c.in-Some.field-0 is) in
-    let held = (rw c.as_slice.ensures.value at c.place_of-at.ensures.held) some in
+    let held = c.place_of-at.ensures.held some in
     rw (← c.self.view_is) (sym (found name xs c.place_of-at.result c.remove.result held (rw (← c.self.view_is) at c.remove.ensures.taken)))
 
 pub returns-in-None-clause-channels : goal.returns-in-None-clause-channels

@@ -1,0 +1,170 @@
+//! The requests of bytes, as many as one turn carries.
+
+ghost use Rattle.std.specs.Prelude.{◌≡◌, ◌≤◌, ◌++◌, ◌∷◌, [], length, true, false, IfOk, IfErr};
+ghost use Rattle.std.specs.List.{list_all};
+ghost use Rattle.resp_frames.specs.RequestReader.{IsFed, IsNotFed};
+ghost use Rattle.world_model.specs.Outcomes.{is_proper};
+ghost use Rattle.session_run.specs.Feeds.{asked_behind};
+ghost use Rattle.session_run.specs.Filling.{IsStep, IsFill, IsFilled};
+
+use crate::ends::InEnd;
+use crate::phases::Asking;
+use crate::waiting_bytes::WaitingBytes;
+use byte_text::{requests_are_read, streams_read_once};
+use resp_frames::{Fed, FeedFault, Requests};
+use world_model::{Asked, AskedList, MOST_ASKED};
+
+// What comes of the first request, or fault, of some bytes.
+#[derive(Clone, Copy, Debug, PartialEq, Eq)]
+enum Step {
+    /// A request was put last, which ends with so many bytes.
+    Next(usize),
+    /// No request ends in the bytes.
+    Dry,
+    /// The end that a fault brings was put last.
+    Broken,
+    /// Nothing was put last, for want of memory.
+    Memory,
+}
+
+// How far the requests of some bytes were made.
+#[derive(Clone, Copy, Debug, PartialEq, Eq)]
+enum Fill {
+    /// There are as many as one turn carries, from so many bytes.
+    Full(usize),
+    /// No further request ends in the bytes.
+    Dry,
+    /// The last is the end that a fault brings.
+    Broken,
+    /// There may be more, for which there was no memory.
+    Memory,
+}
+
+// Puts what is asked last; `false` for want of memory.
+fn push(asked: &mut AskedList, ask: Asked) -> bool
+    ensures pushed { result ≡ true → asked.new ≡ asked.old ++ ask ∷ [] }
+    ensures kept { result ≡ false → asked.new ≡ asked.old }
+{
+    asked.push(ask).is_ok()
+}
+
+// Feeds the bytes to a reader that holds no whole request, and holds none then.
+fn feed(reader: &mut Requests, bytes: &[u8]) -> Result<Fed, FeedFault>
+    requires dry { asked_behind reader.old [] ≡ [] }
+    ensures fed { IfOk result (λ f. IsFed reader.old reader.new bytes.now f.taken f.request) }
+    ensures fault { IfErr result (λ f. IsNotFed reader.old reader.new bytes.now f) }
+    ensures dry { asked_behind reader.new [] ≡ [] }
+{
+    streams_read_once();
+    reader.feed(bytes)
+}
+
+// Reads the first request of the bytes, or their fault, and puts it last.
+fn feed_next(reader: &mut Requests, bytes: &[u8], asked: &mut AskedList) -> Step
+    requires dry { asked_behind reader.old [] ≡ [] }
+    ensures step { IsStep reader.old bytes.now reader.new asked.old asked.new result }
+    ensures dry { asked_behind reader.new [] ≡ [] }
+{
+    // The laws that this function's proof stands on: what is read first is the stream's first request.
+    streams_read_once();
+    requests_are_read();
+    match feed(reader, bytes) {
+        Ok(fed) => {
+            let Fed { taken, request } = fed;
+            match request {
+                Some(request) => {
+                    if push(asked, Asked::Words(request)) {
+                        Step::Next(taken)
+                    } else {
+                        Step::Memory
+                    }
+                }
+                None => Step::Dry,
+            }
+        }
+        Err(FeedFault::Broken(fault)) => {
+            if push(asked, Asked::Broken(fault)) {
+                Step::Broken
+            } else {
+                Step::Memory
+            }
+        }
+        // Nothing is fed behind a fault, so a reader that is fed is not dead.
+        Err(FeedFault::Dead | FeedFault::Memory) => Step::Memory,
+    }
+}
+
+// Makes the requests of the bytes, and the end that their fault brings, as many as one turn carries.
+fn collect(reader: &mut Requests, bytes: &[u8], asked: &mut AskedList) -> Fill
+    requires dry { asked_behind reader.old [] ≡ [] }
+    ensures fill { IsFill reader.old bytes.now reader.new asked.new result }
+    ensures dry { asked_behind reader.new [] ≡ [] }
+    ensures few { length asked.new ≤ 64 }
+    ensures proper { list_all is_proper asked.new ≡ true }
+{
+    asked.clear();
+    let mut taken = 0;
+    while asked.len() < MOST_ASKED {
+        match feed_next(reader, &bytes[taken..], asked) {
+            Step::Next(count) => taken += count,
+            Step::Dry => return Fill::Dry,
+            Step::Broken => return Fill::Broken,
+            Step::Memory => return Fill::Memory,
+        }
+    }
+    Fill::Full(taken)
+}
+
+/// Makes the requests of bytes that were read, as many as one turn carries, and keeps the rest.
+pub(crate) fn fill_from(
+    reader: &mut Requests,
+    bytes: &[u8],
+    rest: &mut WaitingBytes,
+    asked: &mut AskedList,
+) -> Asking
+    requires dry { asked_behind reader.old [] ≡ [] }
+    requires bare { rest.old ≡ [] }
+    ensures filled { IsFilled reader.old bytes.now reader.new rest.new asked.new result }
+    ensures dry { asked_behind reader.new [] ≡ [] }
+    ensures few { length asked.new ≤ 64 }
+    ensures proper { list_all is_proper asked.new ≡ true }
+{
+    match collect(reader, bytes, asked) {
+        Fill::Full(taken) => match rest.put(&bytes[taken..]) {
+            Ok(()) => Asking::Open,
+            Err(_) => Asking::Ended(InEnd::Memory),
+        },
+        Fill::Dry => Asking::Open,
+        Fill::Broken => Asking::Breaking,
+        Fill::Memory => Asking::Ended(InEnd::Memory),
+    }
+}
+
+/// Makes the requests of the bytes that were kept, as many as one turn carries, and keeps the rest.
+pub(crate) fn refill(
+    reader: &mut Requests,
+    rest: &mut WaitingBytes,
+    asked: &mut AskedList,
+) -> Asking
+    requires dry { asked_behind reader.old [] ≡ [] }
+    ensures filled { IsFilled reader.old rest.old reader.new rest.new asked.new result }
+    ensures dry { asked_behind reader.new [] ≡ [] }
+    ensures few { length asked.new ≤ 64 }
+    ensures proper { list_all is_proper asked.new ≡ true }
+{
+    match collect(reader, rest.bytes(), asked) {
+        Fill::Full(taken) => {
+            rest.pass(taken);
+            Asking::Open
+        }
+        Fill::Dry => {
+            rest.clear();
+            Asking::Open
+        }
+        Fill::Broken => {
+            rest.clear();
+            Asking::Breaking
+        }
+        Fill::Memory => Asking::Ended(InEnd::Memory),
+    }
+}
