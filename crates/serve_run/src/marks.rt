@@ -9,11 +9,11 @@ use std::collections::BTreeMap;
 use world_model::ChangedSessions;
 
 // Milliseconds from one tick to the next.
-const TICK_MILLIS: u64 = 100;
+const TICK_MILLIS: u32 = 100;
 
 // The same while the log is rewritten and callers are served, and how long somebody is waited for then. Where nobody
 // comes, one tick follows the other.
-const REWRITING_MILLIS: u64 = 20;
+const REWRITING_MILLIS: u32 = 20;
 
 const GLANCE_MILLIS: u32 = 1;
 
@@ -107,7 +107,7 @@ impl AllMarks {
     }
 
     // Milliseconds from the last tick to the next.
-    fn between_ticks(&self) -> u64 {
+    fn between_ticks(&self) -> u32 {
         if !self.is_rewriting {
             TICK_MILLIS
         } else if self.is_idle {
@@ -130,14 +130,15 @@ impl AllMarks {
         let between = self.between_ticks();
         let since = match self.last_tick {
             Some(last) if last <= moment => moment - last,
-            _ => between,
+            _ => u64::from(between),
         };
-        if since < between {
-            self.to_tick = (between - since) as u32;
+        let left = u64::from(between).saturating_sub(since);
+        if left > 0 {
+            self.to_tick = u32::try_from(left).unwrap_or(between);
             return false;
         }
         self.last_tick = Some(moment);
-        self.to_tick = TICK_MILLIS as u32;
+        self.to_tick = TICK_MILLIS;
         self.may_accept = true;
         true
     }
