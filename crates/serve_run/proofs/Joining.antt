@@ -261,28 +261,28 @@ module _ (told : Option ℕ) (old : Around) (d : DoorState) (w : WaitState) (k :
       pub seated : Holds told old (loop_state k1 (record d { links = next_count d.links }) w' (slice_set mid i (Some x)) (joined + 1) starved is_over true)
       seated = subst (λ (v : WaitState). Holds told old (loop_state k1 (record d { links = next_count d.links }) v (slice_set mid i (Some x)) (joined + 1) starved is_over true)) (sym same)
           (record {
-        steps = h.steps ++ step;
-        gains = gains_steps old.knows k k1 h.steps step h.gains (gains_one k k1 (event.Enter, outcome.Entered n) (made event.Enter (outcome.Entered n) k k1 adds));
-        timely = timely_more told h.steps step h.timely (tt, tt);
-        callers = all_callers step refl;
-        door_links = links_next;
-        unused = unused_next step spared;
-        owner = owner_now;
-        open_are = λ j z there. open_all j z (set_some mid i j x z there);
-        runs = h.runs;
-        are = runs_on told h.steps step h.owner (λ m none. spared m) h.runs h.gone h.are;
-        gone = runs_other h.runs h.are h.gone;
-        once = once_one;
-        shut = h.shut;
-        starved_are = h.starved_are;
-        unwatched = h.unwatched;
-        through = h.through;
-        addr = h.addr;
-        door_ends = h.door_ends;
-        over_cause = h.over_cause;
-        door_later = h.door_later;
-        wait_later = h.wait_later;
-      })
+            steps = h.steps ++ step;
+            gains = gains_steps old.knows k k1 h.steps step h.gains (gains_one k k1 (event.Enter, outcome.Entered n) (made event.Enter (outcome.Entered n) k k1 adds));
+            timely = timely_more told h.steps step h.timely (tt, tt);
+            callers = all_callers step refl;
+            door_links = links_next;
+            unused = unused_next step spared;
+            owner = owner_now;
+            open_are = λ j z there. open_all j z (set_some mid i j x z there);
+            runs = h.runs;
+            are = runs_on told h.steps step h.owner (λ m none. spared m) h.runs h.gone h.are;
+            gone = runs_other h.runs h.are h.gone;
+            once = once_one;
+            shut = h.shut;
+            starved_are = h.starved_are;
+            unwatched = h.unwatched;
+            through = h.through;
+            addr = h.addr;
+            door_ends = h.door_ends;
+            over_cause = h.over_cause;
+            door_later = h.door_later;
+            wait_later = h.wait_later;
+          })
 
 pub enter_refusal : (f : EnterFault) → IsRefusal (enter_outcome (Err f))
 enter_refusal refused.TooMany = tt

@@ -261,7 +261,11 @@ where
 }
 
 // Shuts the links that are open as the loop ends. At its own end none is.
-fn end_loop<D: ReadyDoor, W: WaitForLinks<D>>(wait: &mut W, table: &mut Table<D::Link>, end: ServeEnd)
+fn end_loop<D: ReadyDoor, W: WaitForLinks<D>>(
+    wait: &mut W,
+    table: &mut Table<D::Link>,
+    end: ServeEnd,
+)
 where
     D::Link: Drop,
     ensures done { end ≡ ServeEnd.Done → W.shows wait.new ≡ W.shows wait.old }
@@ -304,7 +308,16 @@ where
     };
     let mut table = Vec::new(alloc);
     let end = serve_up_to(
-        rt, alloc, hall, seat, door, clock, wait, &mut table, &mut counts, limit,
+        rt,
+        alloc,
+        hall,
+        seat,
+        door,
+        clock,
+        wait,
+        &mut table,
+        &mut counts,
+        limit,
     );
     end_loop(wait, &mut table, end);
     Served {

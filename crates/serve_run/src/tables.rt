@@ -45,9 +45,7 @@ fn one_in<H: HallApi, K: ReadyLink + Drop, R: Wait>(
     ensures block { length block.new ≡ length block.old }
 {
     match &mut table[place] {
-        Some(session) => step_in(
-            rt, hall, seat, moment, session, place, all, block, touched,
-        ),
+        Some(session) => step_in(rt, hall, seat, moment, session, place, all, block, touched),
         None => touched,
     }
 }
@@ -73,9 +71,7 @@ pub(crate) fn all_in<H: HallApi, K: ReadyLink + Drop, R: Wait>(
 {
     let mut touched = touched;
     for place in 0..table.len() {
-        touched = one_in(
-            rt, hall, seat, moment, table, place, all, block, touched,
-        );
+        touched = one_in(rt, hall, seat, moment, table, place, all, block, touched);
     }
     touched
 }

@@ -43,8 +43,8 @@ returns-in-Err-Starved-clause-keeps g c = λ told door new old h.
 pub returns-in-Err-Unwatched-clause-keeps : goal.returns-in-Err-Unwatched-clause-keeps
 returns-in-Err-Unwatched-clause-keeps g c = λ told door new old h.
     let placed : IsPlaced c.place_for.new.table.items (g.W.WaitForLinks.shows c.args.wait.now) (g.W.WaitForLinks.shows c.place_for.new.wait) (Err unseated.Unwatched) =
-        subst (λ (u : Unseated). IsPlaced c.place_for.new.table.items (g.W.WaitForLinks.shows c.args.wait.now) (g.W.WaitForLinks.shows c.place_for.new.wait) (Err u))
-        c.in-Err-Unwatched.field-0-is c.in-Err-Unwatched.ensures.placed in
+    subst (λ (u : Unseated). IsPlaced c.place_for.new.table.items (g.W.WaitForLinks.shows c.args.wait.now) (g.W.WaitForLinks.shows c.place_for.new.wait) (Err u))
+    c.in-Err-Unwatched.field-0-is c.in-Err-Unwatched.ensures.placed in
     turned_unwatched told old door (g.W.WaitForLinks.shows c.args.wait.now) (g.H.HallApi.knows c.args.seat.now) c.args.table.now.items c.args.counts.now.joined
     c.args.counts.now.starved c.args.counts.now.is_over (g.D.Link.ReadyLink.shows c.args.link) new h (g.H.HallApi.knows c.enter.new.seat) c.in-Ok.session
     c.in-Ok.ensures.entry (g.H.HallApi.knows c.remove-in-Err-Unwatched.new.seat) (g.W.WaitForLinks.shows c.place_for.new.wait)

@@ -34,7 +34,7 @@ returns-then-not-goes_on-clause-turn g c = λ old h.
     let w = g.W.WaitForLinks.shows c.look.new.wait in
     let same : w ≡ g.W.WaitForLinks.shows c.args.wait.now = c.in_default.ensures in
     let looked : Holds told old (loop_state k d w c.args.table.now.items c.args.counts.now.joined c.args.counts.now.starved c.args.counts.now.is_over true) =
-        subst (λ (x : WaitState). Holds told old (loop_state k d x c.args.table.now.items c.args.counts.now.joined c.args.counts.now.starved c.args.counts.now.is_over true)) (sym same) h in
+    subst (λ (x : WaitState). Holds told old (loop_state k d x c.args.table.now.items c.args.counts.now.joined c.args.counts.now.starved c.args.counts.now.is_over true)) (sym same) h in
     let tends = subst (λ (r : Option ServeEnd). TendsTable told k k' r) c.in_default-tended.is (c.tend_if_due-tended.ensures.tends told c.now-moment.ensures.told) in
     let tended = tends c.args.table.now.items d w c.args.counts.now.joined c.args.counts.now.starved c.args.counts.now.is_over true old looked in
     let came = c.in_default-came.ensures.turn told old tended in
