@@ -1,15 +1,12 @@
 -- A loop's rounds, and its end.
 use Rattle.std.proofs.Common.{◌≡◌, ◌⊎◌, ◌≤◌, ◌<◌, ◌+◌, ℕ, Bool, true, false, List, [], ◌∷◌, ◌++◌, refl, sym, ap, ◌∙◌, subst, inl, inr, arith}
-use Rattle.std.specs.Prelude.{Option, Some, None, Ok, option_map, min}
+use Rattle.std.specs.Prelude.{Option, Some, None, option_map, min}
 use Rattle.outside.specs.Causes.{Rose, next_count, most_count}
 use Rattle.outside.specs.CauseLaws.{rose_later}
 use Rattle.world_model.specs.declared.events.CallOutcome.{CallOutcome}
 use Rattle.world_model.specs.declared.events.CallOutcome.TheVariants as called
 use Rattle.world_model.specs.Seats.{Knows, Act}
-use Rattle.ready_links.specs.declared.doors.Caller.{Caller}
-use Rattle.ready_links.specs.declared.doors.Caller.TheVariants as caller
-use Rattle.ready_links.specs.Doors.{DoorState, Accepts}
-use Rattle.ready_links.specs.Links.{LinkState, IsNew}
+use Rattle.ready_links.specs.Doors.{DoorState}
 use Rattle.ready_links.specs.Waits.{WaitState}
 use Rattle.session_run.specs.Gains.{Gains, gains_more}
 use Rattle.session_run.specs.Sessions.{SessionState}
@@ -55,14 +52,6 @@ holds_at_first told k d w = record {
 }
 
 -- ---- the door and the one that waits
-
-pub accepts_over : {K : Type 0} (E : Type 0) (shows : K → LinkState) (d d' : DoorState) (r : Caller K) → r ≡ caller.Over → Accepts {E = E} shows d d' (Ok r)
-    → d' ≡ record d { ends = next_count d.ends }
-accepts_over {K} E shows d d' r is a = subst (λ (x : Caller K). Accepts {E = E} shows d d' (Ok x)) is a
-
-pub accepts_came : {K : Type 0} (E : Type 0) (shows : K → LinkState) (d d' : DoorState) (r : Caller K) (link : K) → r ≡ caller.Came link → Accepts {E = E} shows d d' (Ok r)
-    → IsNew d.links (shows link) × (d' ≡ record d { links = next_count d.links })
-accepts_came {K} E shows d d' r link is a = subst (λ (x : Caller K). Accepts {E = E} shows d d' (Ok x)) is a
 
 -- the door told that no caller will come
 over_state : (told : Option ℕ) (k : Knows) (d : DoorState) (w : WaitState) (places : Places) (joined starved : ℕ) (is_over : Bool)
