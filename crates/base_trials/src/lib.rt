@@ -1,13 +1,13 @@
 //! Tests of the crates below the core that no request tells of: texts, the plane, values of a world and its plain program, the store, records,
-//! replies that are too long, the queues and subscriptions of sessions, streams, disks and doors in memory, the log, and the lock.
+//! replies that are too long, the queues and subscriptions of sessions, streams and disks in memory, a clock and the log.
 #![tactic(auto)]
 
 #[cfg(test)]
 mod appends;
 #[cfg(test)]
-mod disks;
+mod clocks;
 #[cfg(test)]
-mod doors;
+mod disks;
 #[cfg(test)]
 mod filters;
 #[cfg(test)]
@@ -35,11 +35,11 @@ mod sessions;
 #[cfg(test)]
 mod shapes;
 #[cfg(test)]
+mod streams;
+#[cfg(test)]
 mod tables;
 #[cfg(test)]
 mod texts;
-#[cfg(test)]
-mod threads;
 #[cfg(test)]
 mod trees;
 #[cfg(test)]

@@ -6,11 +6,14 @@ pub mod Crashes
 pub mod DiskCallLaws
 pub mod DiskCalls
 pub mod Disks
+pub mod DoorScripts
+pub mod Doors
+pub mod LinkScripts
 pub mod Links
-pub mod Listed
 pub mod Memory
 pub mod SideLaws
 pub mod Sides
-pub mod Spawners
+pub mod WaitScripts
+pub mod Waits
 pub mod WriteLaws
 pub mod Writing

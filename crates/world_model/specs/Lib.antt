@@ -28,4 +28,3 @@ pub mod PrefixLaws
 pub mod SoundLaws
 pub mod TableParts
 pub mod SessionLaws
-pub mod Turns

@@ -67,6 +67,15 @@ pub struct Answers {
     pub end: CallOutcome,
 }
 
+/// What a step of rewriting tells of the log beside its answer, for whoever makes the steps. No clause hangs on it.
+#[derive(Clone, Copy, Debug, PartialEq, Eq)]
+pub struct LogState {
+    /// How many bytes the side in use has.
+    pub bytes: u64,
+    /// Whether the log is rewritten by the steps to come.
+    pub is_rewriting: bool,
+}
+
 /// What may happen to a hall. No value of it is ever made.
 #[derive(Drop)]
 pub enum Event {

@@ -3,7 +3,7 @@
 //! What a turn carries is handed over and comes back, since whoever holds the lock does the work: it can't be lent.
 
 use crate::asked_lists::AskedList;
-use crate::events::{Answers, CallOutcome, EnterFault, Taken};
+use crate::events::{Answers, CallOutcome, EnterFault, LogState, Taken};
 use crate::touched::ChangedSessions;
 use std::sync::Wait;
 use world_data::Frames;
@@ -96,11 +96,11 @@ pub trait HallApi {
         ensures seat { is_of self.now seat.new }
         ensures entry { Adds (event.Remove session) outcome.Done (knows seat.old) (knows seat.new) };
 
-    /// Makes one step of rewriting the log, where that was asked for.
-    fn step_rewrite<R: Wait>(&self, rt: &R, seat: &mut Self::Seat) -> CallOutcome
+    /// Makes one step of rewriting the log, where that was asked for, and tells how large the log is.
+    fn step_rewrite<R: Wait>(&self, rt: &R, seat: &mut Self::Seat) -> (CallOutcome, LogState)
         requires { is_of self.now seat.old }
         ensures seat { is_of self.now seat.new }
-        ensures entry { Adds event.Rewrite (outcome.Answered result) (knows seat.old) (knows seat.new) };
+        ensures entry { Adds event.Rewrite (outcome.Answered result.0) (knows seat.old) (knows seat.new) };
 }
 
 /// A hall that gives out further seats, tells what they have seen and puts them together. It is a trait of its own, so

@@ -14,20 +14,20 @@ mod halls;
 mod laws;
 mod object_commands;
 mod search_commands;
-mod serving;
 mod session_commands;
 mod touched;
 
 pub use asked_lists::{AskedList, MOST_ASKED};
 pub use channel_commands::ChannelCommand;
 pub use commands::Command;
-pub use events::{Answers, Asked, CallOutcome, EnterFault, Entry, Event, Opening, Outcome, Taken};
+pub use events::{
+    Answers, Asked, CallOutcome, EnterFault, Entry, Event, LogState, Opening, Outcome, Taken,
+};
 pub use faults::{Refusal, WordFault};
 pub use halls::{HallApi, HallSplit};
 pub use laws::{command_laws, step_laws};
 pub use object_commands::{ObjectCommand, Only};
 pub use search_commands::{AreaWords, SearchCommand};
-pub use serving::HallServe;
 pub use session_commands::SessionCommand;
 pub use touched::ChangedSessions;
 pub use world_data::{

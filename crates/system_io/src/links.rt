@@ -8,7 +8,7 @@ ghost use Rattle.std.specs.Io.{ReadsAtMost, WritesAtMost};
 ghost use Rattle.outside.specs.Causes.{Rose};
 
 use mio::net::TcpStream;
-use ready_links::{Failed, Got, ReadyLink, Sent};
+use outside::{Failed, Got, ReadyLink, Sent};
 use std::io::{self, ErrorKind, Read, Write};
 use std::net::Shutdown;
 
@@ -77,7 +77,7 @@ fn throw_away(stream: &TcpStream) {
 
 impl ReadyLink for PollLink {
     ghost use Rattle.std.specs.Prelude.{◌<◌, length};
-    ghost use Rattle.ready_links.specs.Links.{LinkState, GotWithin, SentWithin, Reads, Writes};
+    ghost use Rattle.outside.specs.Links.{LinkState, GotWithin, SentWithin, Reads, Writes};
 
     ghost shows = { λ link. record { caller = link.caller; left = None; held = None; faults = link.faults } };
 

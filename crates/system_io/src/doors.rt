@@ -11,7 +11,7 @@ ghost use Rattle.outside.specs.Causes.{Rose};
 use crate::alive::keep_alive;
 use crate::links::PollLink;
 use mio::net::{TcpListener, TcpStream};
-use ready_links::{Caller, Failed, ReadyDoor};
+use outside::{Caller, Failed, ReadyDoor};
 use std::alloc::Global;
 use std::io::{self, ErrorKind};
 use std::net::{Net, ToSocketAddrs};
@@ -126,7 +126,7 @@ fn look_past_lost(listener: &TcpListener) -> Found {
 
 impl<R: Net + Copy + Drop> ReadyDoor for PollDoor<R> {
     ghost use Rattle.std.specs.Prelude.{option_map};
-    ghost use Rattle.ready_links.specs.Doors.{DoorState, Opens, Accepts};
+    ghost use Rattle.outside.specs.Doors.{DoorState, Opens, Accepts};
 
     type Link = PollLink;
 

@@ -1,11 +1,11 @@
 -- What a door in memory shows: a script that is played, and what came of it.
 use Rattle.std.specs.Prelude.{◌≡◌, ℕ, Bool, List, [], ◌∷◌, Result, Ok, IsErr, if◌then◌else◌}
-use Rattle.ready_links.specs.Doors.{DoorState}
-use Rattle.ready_links.specs.LinkScripts.{Scripted, begun}
-use Rattle.ready_links.specs.declared.doors.Caller.{Caller}
-use Rattle.ready_links.specs.declared.doors.Caller.TheVariants as caller
-use Rattle.ready_links.specs.declared.scripted_doors.Visit.{Visit}
-use Rattle.ready_links.specs.declared.scripted_doors.Visit.TheVariants as visit
+use Rattle.outside.specs.Doors.{DoorState}
+use Rattle.outside.specs.LinkScripts.{Scripted, begun}
+use Rattle.outside.specs.declared.doors.Caller.{Caller}
+use Rattle.outside.specs.declared.doors.Caller.TheVariants as caller
+use Rattle.outside.specs.declared.scripted_doors.Visit.{Visit}
+use Rattle.outside.specs.declared.scripted_doors.Visit.TheVariants as visit
 
 -- a door: who visits it at each look to come; whether it stays open behind them; whether it can be opened; and what any door shows
 pub record Visited : Type 0 where

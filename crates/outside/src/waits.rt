@@ -5,7 +5,8 @@
 //! for ever: what it names is to be used until it answers Later.
 
 use crate::doors::ReadyDoor;
-use outside::{Failed, NoMemory};
+use crate::failures::Failed;
+use memory::NoMemory;
 
 /// Who may be ready.
 #[derive(Clone, Copy, Debug, PartialEq, Eq)]
@@ -16,6 +17,8 @@ pub enum Named {
     Door,
     /// Somebody called the waker.
     Waker,
+    /// Whoever runs the program has asked for its end.
+    End,
 }
 
 /// Ends the wait of another. It promises nothing.
@@ -27,11 +30,11 @@ pub trait Wake {
 /// One that waits for the links of a door, and where they are shut.
 pub trait WaitForLinks<D: ReadyDoor> {
     ghost use Rattle.std.specs.Prelude.{◌≡◌};
-    ghost use Rattle.ready_links.specs.Waits.{WaitState, Tries, Shuts};
+    ghost use Rattle.outside.specs.Waits.{WaitState, Tries, Waits, Shuts};
 
     type Waker: Wake;
 
-    /// The links that were shut, where it tells them, and its failures.
+    /// The links that were shut, where it tells them, whether an end was asked for, and its failures.
     ghost shows: { Self → WaitState };
 
     /// Names the door from now on, as long as it stands open.
@@ -44,9 +47,17 @@ pub trait WaitForLinks<D: ReadyDoor> {
         ensures link { D.Link.shows link.new ≡ D.Link.shows link.old }
         ensures tries { Tries (shows self.old) (shows self.new) result };
 
+    /// Learns from now on when whoever runs the program asks for its end.
+    fn watch_end(&mut self) -> Result<(), Failed>
+        ensures { Tries (shows self.old) (shows self.new) result };
+
     /// Waits until somebody is ready, at most so many milliseconds, and answers how many it names.
     fn wait(&mut self, millis: u32) -> Result<usize, Failed>
-        ensures { Tries (shows self.old) (shows self.new) result };
+        ensures { Waits (shows self.old) (shows self.new) result };
+
+    /// Whether whoever runs the program has asked for its end.
+    fn is_over(&self) -> bool
+        ensures { result ≡ (shows self.now).over };
 
     /// The nth that the last wait named, counted from 0; none where it named fewer.
     fn named(&self, nth: usize) -> Option<Named>;

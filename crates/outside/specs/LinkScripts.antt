@@ -1,13 +1,13 @@
 -- What a link in memory shows: a script that is played, and what came of it.
 use Rattle.std.specs.Prelude.{◌≡◌, ◌==◌, ◌-◌, ◌^◌, ℕ, Bool, List, [], ◌∷◌, length, min, Some, Result, Ok, IsErr, IfOk, if◌then◌else◌}
-use Rattle.ready_links.specs.Links.{LinkState}
-use Rattle.ready_links.specs.declared.links.Got.{Got}
-use Rattle.ready_links.specs.declared.links.Got.TheVariants as got
-use Rattle.ready_links.specs.declared.links.Sent.{Sent}
-use Rattle.ready_links.specs.declared.links.Sent.TheVariants as sent
-use Rattle.ready_links.specs.declared.scripted_links.CallerScript.{CallerScript}
-use Rattle.ready_links.specs.declared.scripted_links.Move.{Move}
-use Rattle.ready_links.specs.declared.scripted_links.Move.TheVariants as move
+use Rattle.outside.specs.Links.{LinkState}
+use Rattle.outside.specs.declared.links.Got.{Got}
+use Rattle.outside.specs.declared.links.Got.TheVariants as got
+use Rattle.outside.specs.declared.links.Sent.{Sent}
+use Rattle.outside.specs.declared.links.Sent.TheVariants as sent
+use Rattle.outside.specs.declared.scripted_links.CallerScript.{CallerScript}
+use Rattle.outside.specs.declared.scripted_links.Move.{Move}
+use Rattle.outside.specs.declared.scripted_links.Move.TheVariants as move
 
 -- a link: its caller, the bytes to be read and those that were written, whether the caller stays behind its last byte, how each read and
 -- each write to come moves, and how often it failed

@@ -1,14 +1,15 @@
-//! One that waits for sockets by the system's readiness.
+//! One that waits for sockets by the system's readiness, and for the end of standard input.
 //!
 //! An edge is reported once: a link or a door that was named is to be used until it answers Later.
 
-ghost use Rattle.std.specs.Prelude.{◌≡◌, ◌≤◌, None, IfOk};
+ghost use Rattle.std.specs.Prelude.{◌≡◌, ◌≤◌, None, false, IfOk};
 ghost use Rattle.outside.specs.Causes.{Rose};
 
 use crate::doors::PollDoor;
+use crate::inputs::{Input, look_at_input, watch_input};
 use crate::links::PollLink;
 use mio::{Events, Interest, Poll, Token, Waker};
-use ready_links::{Failed, Named, NoMemory, WaitForLinks, Wake};
+use outside::{Failed, Named, NoMemory, WaitForLinks, Wake};
 use std::alloc::Global;
 use std::io::{self, ErrorKind};
 use std::marker::PhantomData;
@@ -16,10 +17,12 @@ use std::net::Net;
 use std::sync::Arc;
 use std::time::Duration;
 
-/// The door's token, and the waker's. A link's is its number.
+/// The door's token, the waker's, and that of standard input. A link's is its number.
 const DOOR: Token = Token(usize::MAX);
 
 const WAKER: Token = Token(usize::MAX - 1);
+
+const INPUT: Token = Token(usize::MAX - 2);
 
 /// The most that one wait names. The next wait names those that it left out.
 const MOST_NAMED: usize = 1_024;
@@ -37,7 +40,8 @@ impl Wake for PollWaker {
     }
 }
 
-/// One that waits for sockets by the system's readiness.
+/// One that waits for sockets by the system's readiness. The end of standard input asks for the end of the program,
+/// where that is watched: what comes there before it is read and thrown away.
 #[derive(Drop)]
 pub struct PollWait<R: Net + Copy + Drop> {
     // It watches doors of this runtime.
@@ -45,13 +49,18 @@ pub struct PollWait<R: Net + Copy + Drop> {
     poll: Poll,
     events: Events<Global>,
     waker: Arc<Waker, Global>,
+    // Whether standard input is one that can't be waited for, which counts as its end.
+    is_input_still: bool,
+    // Whether a wait has found the end of standard input.
+    pub(crate) over: bool,
     pub(crate) faults: u64,
 }
 
 impl<R: Net + Copy + Drop> PollWait<R> {
     /// It watches nobody yet.
     pub fn new(rt: R, alloc: Global) -> io::Result<PollWait<R>>
-        ensures { IfOk result (λ wait. wait.faults ≡ 0) }
+        ensures faults { IfOk result (λ wait. wait.faults ≡ 0) }
+        ensures over { IfOk result (λ wait. wait.over ≡ false) }
     {
         let Ok(events) = Events::with_capacity(alloc, MOST_NAMED) else {
             return Err(io::Error::from(ErrorKind::OutOfMemory));
@@ -64,12 +73,22 @@ impl<R: Net + Copy + Drop> PollWait<R> {
             poll,
             events,
             waker,
+            is_input_still: false,
+            over: false,
             faults: 0,
         })
     }
 
+    // Whether standard input is at its end, as the last wait found it.
+    fn finds_end(&self) -> bool {
+        self.is_input_still
+            || (self.events.iter().any(|event| event.token() == INPUT)
+                && look_at_input(self.poll.registry(), INPUT))
+    }
+
     // Counts a failure.
     fn fail(&mut self) -> Failed
+        ensures over { self.new.over ≡ self.old.over }
         ensures rose { Rose self.old.faults self.new.faults }
         ensures later { self.old.faults ≤ self.new.faults }
     {
@@ -78,23 +97,24 @@ impl<R: Net + Copy + Drop> PollWait<R> {
     }
 }
 
-// Who bears a token.
-fn named_by(token: Token) -> Named {
+// Who bears a token. Bytes on standard input are nobody's.
+fn named_by(token: Token, over: bool) -> Named {
     let Token(number) = token;
     match u32::try_from(number) {
         Ok(number) => Named::Link(number),
         Err(_) if token == DOOR => Named::Door,
+        Err(_) if token == INPUT && over => Named::End,
         Err(_) => Named::Waker,
     }
 }
 
 impl<R: Net + Copy + Drop> WaitForLinks<PollDoor<R>> for PollWait<R> {
     ghost use Rattle.std.specs.Prelude.{◌≡◌};
-    ghost use Rattle.ready_links.specs.Waits.{WaitState, Tries, Shuts};
+    ghost use Rattle.outside.specs.Waits.{WaitState, Tries, Waits, Shuts};
 
     type Waker = PollWaker;
 
-    ghost shows = { λ wait. record { shut = None; faults = wait.faults } };
+    ghost shows = { λ wait. record { shut = None; over = wait.over; faults = wait.faults } };
 
     fn watch_door(&mut self, door: &mut PollDoor<R>) -> Result<(), Failed> {
         let Some(listener) = &mut door.listener else {
@@ -122,17 +142,41 @@ impl<R: Net + Copy + Drop> WaitForLinks<PollDoor<R>> for PollWait<R> {
         }
     }
 
+    /// An input that can't be waited for is found at its end by the next wait. It fails where the system is out of
+    /// memory.
+    fn watch_end(&mut self) -> Result<(), Failed> {
+        match watch_input(self.poll.registry(), INPUT) {
+            Input::Waits => Ok(()),
+            Input::Still => {
+                self.is_input_still = true;
+                Ok(())
+            }
+            Input::NoMeans => Err(self.fail()),
+        }
+    }
+
+    /// A signal ends a wait early.
     fn wait(&mut self, millis: u32) -> Result<usize, Failed> {
+        // An end that no event tells is not waited for.
+        let millis = if self.is_input_still { 0 } else { millis };
         let limit = Duration::from_millis(u64::from(millis));
         match self.poll.poll(&mut self.events, Some(limit)) {
-            Ok(()) => Ok(self.events.iter().len()),
+            Ok(()) => {
+                self.over = self.over || self.finds_end();
+                self.is_input_still = false;
+                Ok(self.events.iter().len())
+            }
             Err(_) => Err(self.fail()),
         }
     }
 
+    fn is_over(&self) -> bool {
+        self.over
+    }
+
     fn named(&self, nth: usize) -> Option<Named> {
         match self.events.iter().nth(nth) {
-            Some(event) => Some(named_by(event.token())),
+            Some(event) => Some(named_by(event.token(), self.over)),
             None => None,
         }
     }

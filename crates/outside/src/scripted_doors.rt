@@ -1,13 +1,13 @@
 //! A door in memory, which a script drives.
 
 ghost use Rattle.std.specs.Prelude.{◌≡◌, None, Some, true, IsErr, IfOk};
-ghost use Rattle.ready_links.specs.Doors.{DoorFails, Opens, Accepts};
-ghost use Rattle.ready_links.specs.LinkScripts.{later, shown};
-ghost use Rattle.ready_links.specs.DoorScripts.{Visited, CallerBy};
+ghost use Rattle.outside.specs.Doors.{DoorFails, Opens, Accepts};
+ghost use Rattle.outside.specs.LinkScripts.{later, shown};
+ghost use Rattle.outside.specs.DoorScripts.{Visited, CallerBy};
 
 use crate::doors::{Caller, ReadyDoor};
+use crate::failures::Failed;
 use crate::scripted_links::{CallerScript, ScriptedLink};
-use outside::Failed;
 use std::alloc::Global;
 use std::collections::VecDeque;
 use std::marker::Model;
@@ -63,7 +63,7 @@ impl Drop for ScriptedDoor {
 
 impl Model for ScriptedDoor {
     ghost use Rattle.std.specs.Prelude.{option_map};
-    ghost use Rattle.ready_links.specs.DoorScripts.{Visited};
+    ghost use Rattle.outside.specs.DoorScripts.{Visited};
 
     ghost Value = { Visited };
 
@@ -114,7 +114,7 @@ impl ScriptedDoor {
 }
 
 impl ReadyDoor for ScriptedDoor {
-    ghost use Rattle.ready_links.specs.Doors.{DoorState, Opens, Accepts};
+    ghost use Rattle.outside.specs.Doors.{DoorState, Opens, Accepts};
 
     type Link = ScriptedLink;
 

@@ -2,11 +2,13 @@
 
 ghost use Rattle.std.specs.Prelude.{◌≡◌, ◌<◌, ◌-◌, ◌^◌, [], length};
 ghost use Rattle.outside.specs.Causes.{next_count};
-ghost use Rattle.ready_links.specs.Links.{LinkState, GotWithin, SentWithin, Reads, Writes};
-ghost use Rattle.ready_links.specs.LinkScripts.{Scripted, begun, shown, next_move, later, ReadBy, WrittenBy};
+ghost use Rattle.outside.specs.Links.{LinkState, GotWithin, SentWithin, Reads, Writes};
+ghost use Rattle.outside.specs.LinkScripts.{Scripted, begun, shown, next_move, later, ReadBy, WrittenBy};
 
+use crate::failures::Failed;
 use crate::links::{Got, ReadyLink, Sent};
-use outside::{BytesSink, BytesSource, Failed, Sink, Source};
+use crate::memory_streams::{BytesSink, BytesSource};
+use crate::streams::{Sink, Source};
 use std::alloc::Global;
 use std::collections::VecDeque;
 use std::marker::Model;
@@ -155,8 +157,8 @@ impl ScriptedLink {
 }
 
 impl ReadyLink for ScriptedLink {
-    ghost use Rattle.ready_links.specs.Links.{LinkState, GotWithin, SentWithin, Reads, Writes};
-    ghost use Rattle.ready_links.specs.LinkScripts.{shown};
+    ghost use Rattle.outside.specs.Links.{LinkState, GotWithin, SentWithin, Reads, Writes};
+    ghost use Rattle.outside.specs.LinkScripts.{shown};
 
     ghost shows = { λ s. shown s };
 

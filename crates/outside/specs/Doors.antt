@@ -1,9 +1,9 @@
 -- What a door shows, and what one call of it does.
 use Rattle.std.specs.Prelude.{◌≡◌, ◌≤◌, ℕ, List, Option, Some, Result, Ok, Err}
 use Rattle.outside.specs.Causes.{Rose, next_count}
-use Rattle.ready_links.specs.Links.{LinkState, IsNew}
-use Rattle.ready_links.specs.declared.doors.Caller.{Caller}
-use Rattle.ready_links.specs.declared.doors.Caller.TheVariants as caller
+use Rattle.outside.specs.Links.{LinkState, IsNew}
+use Rattle.outside.specs.declared.doors.Caller.{Caller}
+use Rattle.outside.specs.declared.doors.Caller.TheVariants as caller
 
 -- at which address it was opened last, if it was; how many callers came, how often it told that none will come, and how often it failed
 pub record DoorState : Type 0 where

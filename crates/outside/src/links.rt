@@ -1,6 +1,6 @@
 //! A link to a caller, both ways, whose calls never wait.
 
-use outside::Failed;
+use crate::failures::Failed;
 
 /// What a read of a link brought.
 #[derive(Clone, Copy, Debug, PartialEq, Eq)]
@@ -25,7 +25,7 @@ pub enum Sent {
 /// A link to a caller, both ways, whose calls never wait. Where the link is dropped it ends both ways.
 pub trait ReadyLink {
     ghost use Rattle.std.specs.Prelude.{◌<◌, length};
-    ghost use Rattle.ready_links.specs.Links.{LinkState, GotWithin, SentWithin, Reads, Writes};
+    ghost use Rattle.outside.specs.Links.{LinkState, GotWithin, SentWithin, Reads, Writes};
 
     /// What the link shows: its caller, what is left to be read and what was written where it tells them, and its
     /// failures.

@@ -1,16 +1,17 @@
 //! One that waits in memory, which a script drives.
 
-ghost use Rattle.std.specs.Prelude.{◌≡◌, ◌∷◌, ◌++◌, [], length, map, IfOk, OnOk, OnErr};
+ghost use Rattle.std.specs.Prelude.{◌≡◌, ◌∷◌, ◌++◌, [], length, map, false, IfOk, OnOk, OnErr};
 ghost use Rattle.std.specs.List.{slice_get};
 ghost use Rattle.outside.specs.Causes.{next_count};
-ghost use Rattle.ready_links.specs.Waits.{WaitState, Tries, Shuts};
-ghost use Rattle.ready_links.specs.LinkScripts.{later, shown};
-ghost use Rattle.ready_links.specs.WaitScripts.{Waited, waited, next_named};
+ghost use Rattle.outside.specs.Waits.{WaitState, Tries, Waits, Shuts};
+ghost use Rattle.outside.specs.LinkScripts.{later, shown};
+ghost use Rattle.outside.specs.WaitScripts.{Waited, waited, is_end, names_end, next_named, next_over};
 
+use crate::failures::Failed;
 use crate::scripted_doors::ScriptedDoor;
 use crate::scripted_links::ScriptedLink;
 use crate::waits::{Named, WaitForLinks, Wake};
-use outside::{Failed, NoMemory};
+use memory::NoMemory;
 use std::alloc::Global;
 use std::collections::VecDeque;
 use std::marker::Model;
@@ -29,6 +30,19 @@ impl Wake for CountingWaker {
     }
 }
 
+fn is_end(name: &Named) -> bool
+    ensures { result ≡ is_end name.now }
+{
+    matches!(name, Named::End)
+}
+
+// Whether an end is among those who are named.
+fn names_end(names: &[Named]) -> bool
+    ensures { result ≡ names_end names.now }
+{
+    names.iter().any(|name| is_end(name))
+}
+
 /// One that waits in memory: it names whom its script says, ready or not. Behind the end of the script each wait names
 /// all that are watched.
 pub struct ScriptedWait {
@@ -37,6 +51,8 @@ pub struct ScriptedWait {
     // Whom the last wait named by the script, where it did.
     listed: Option<Vec<Named>>,
     shut: Vec<ScriptedLink>,
+    // Whether the script has named an end.
+    over: bool,
     calls: Arc<AtomicU64, Global>,
     faults: u64,
 }
@@ -48,6 +64,7 @@ impl Drop for ScriptedWait {
             watched: _,
             listed: _,
             shut: _,
+            over: _,
             calls: _,
             faults: _,
         } = self;
@@ -56,7 +73,7 @@ impl Drop for ScriptedWait {
 
 impl Model for ScriptedWait {
     ghost use Rattle.std.specs.Prelude.{map, option_map};
-    ghost use Rattle.ready_links.specs.WaitScripts.{Waited, listed_or};
+    ghost use Rattle.outside.specs.WaitScripts.{Waited, listed_or};
 
     ghost Value = { Waited };
 
@@ -65,6 +82,7 @@ impl Model for ScriptedWait {
       watched = w.watched.items;
       named = listed_or (option_map (λ names. names.items) w.listed) w.watched.items;
       shut = w.shut.items;
+      over = w.over;
       faults = w.faults;
     } };
 }
@@ -78,6 +96,7 @@ impl ScriptedWait {
               watched = [];
               named = [];
               shut = [];
+              over = false;
               faults = 0;
             }) }
     {
@@ -86,6 +105,7 @@ impl ScriptedWait {
             watched: Vec::new(alloc),
             listed: None,
             shut: Vec::new(alloc),
+            over: false,
             calls: Arc::new(alloc, AtomicU64::new(0))?,
             faults: 0,
         })
@@ -121,8 +141,8 @@ impl ScriptedWait {
 
 impl WaitForLinks<ScriptedDoor> for ScriptedWait {
     ghost use Rattle.std.specs.Prelude.{◌≡◌};
-    ghost use Rattle.ready_links.specs.Waits.{WaitState, Tries, Shuts};
-    ghost use Rattle.ready_links.specs.WaitScripts.{waited};
+    ghost use Rattle.outside.specs.Waits.{WaitState, Tries, Waits, Shuts};
+    ghost use Rattle.outside.specs.WaitScripts.{waited};
 
     type Waker = CountingWaker;
 
@@ -148,18 +168,37 @@ impl WaitForLinks<ScriptedDoor> for ScriptedWait {
         self.add(Named::Link(token))
     }
 
+    /// The script says when.
+    fn watch_end(&mut self) -> Result<(), Failed>
+        ensures same { self.new ≡ self.old }
+        ensures never { OnErr result ⊥ }
+    {
+        Ok(())
+    }
+
     /// It waits for nobody.
     fn wait(&mut self, millis: u32) -> Result<usize, Failed>
-        ensures tries { Tries (waited self.old) (waited self.new) result }
+        ensures waits { Waits (waited self.old) (waited self.new) result }
         ensures count { IfOk result (λ n. n ≡ length self.new.named) }
         ensures same { self.new
-            ≡ record self.old { waits = later self.old.waits; named = next_named self.old.waits self.old.watched } }
+            ≡ record self.old {
+              waits = later self.old.waits;
+              named = next_named self.old.waits self.old.watched;
+              over = next_over self.old.waits self.old.over;
+            } }
     {
         self.listed = self.waits.pop_front();
         match &self.listed {
-            Some(names) => Ok(names.len()),
+            Some(names) => {
+                self.over = self.over || names_end(names);
+                Ok(names.len())
+            }
             None => Ok(self.watched.len()),
         }
+    }
+
+    fn is_over(&self) -> bool {
+        self.over
     }
 
     fn named(&self, nth: usize) -> Option<Named>

@@ -1,6 +1,0 @@
-pub mod Links
-pub mod Doors
-pub mod Waits
-pub mod LinkScripts
-pub mod DoorScripts
-pub mod WaitScripts
