@@ -3,14 +3,14 @@ use Rattle.std.proofs.Common.{◌≡◌, ◌≢◌, ◌<◌, ◌≤◌, ◌+◌,
 use Rattle.std.specs.Prelude.{Option, Some, None, is_some, nat_eq, nat_lt, not, ◌&&◌, ◌||◌}
 use Rattle.std.specs.List.{list_all, insert, remove}
 use Rattle.std.proofs.lemmas.Bool.Decides.{nat_tests}
-use Rattle.byte_text.specs.Names.{before}
+use Rattle.byte_text.specs.Names.{Bytes, before}
 use Rattle.byte_text.specs.ByteOrder.{before_trans, before_tie, before_asym}
 use Rattle.ordered_lists.specs.Lists.{ascends}
 use Rattle.ordered_lists.specs.Reading.{both_of}
 use Rattle.world_data.specs.Expiry.{deadline_of}
 use Rattle.world_data.specs.declared.objects.Object.{Object}
 use Rattle.collection.specs.Objects.{id_before, are_by_id}
-use Rattle.collection.specs.Deadlines.{slot_before, is_expiring, is_among, due_order, AreDues}
+use Rattle.collection.specs.Deadlines.{slot_before, is_expiring, is_among, due_order, rank_of, AreDues}
 use Rattle.collection.specs.Slotted.{objects_at, are_stored, are_apart}
 use Rattle.collection.proofs.Numbers.{itself, all_among, among_insert, among_remove, fits, apart_of}
 use Rattle.collection.proofs.Slots.{some_of}
@@ -197,6 +197,52 @@ module _ (f g : ℕ → Option Object) (key : ℕ) (others : (other : ℕ) → o
       all k false e a =
           let same : is_expiring (g k) ≡ is_expiring (f k) = ap is_expiring (others k (other_key k key e)) in
           grind arith
+
+-- the order hangs on deadlines and ids alone
+
+abbrev rank_before : Option (Option ℕ × Bytes) → Option (Option ℕ × Bytes) → Bool
+rank_before None q = false
+rank_before (Some o) None = true
+rank_before (Some o) (Some p) = nat_lt (deadline_of o.0) (deadline_of p.0) || (nat_eq (deadline_of o.0) (deadline_of p.0) && before o.1 p.1)
+
+by_rank : (p q : Option Object) → slot_before p q ≡ rank_before (rank_of p) (rank_of q)
+by_rank None q = refl
+by_rank (Some o) None = refl
+by_rank (Some o) (Some p) = refl
+
+abbrev rank_expires : Option (Option ℕ × Bytes) → Bool
+rank_expires None = false
+rank_expires (Some o) = is_some o.0
+
+by_rank_too : (o : Option Object) → is_expiring o ≡ rank_expires (rank_of o)
+by_rank_too None = refl
+by_rank_too (Some o) = refl
+
+module _ (f g : ℕ → Option Object) (alike : (k : ℕ) → rank_of (g k) ≡ rank_of (f k)) where
+  order_alike : (k l : ℕ) → due_order g k l ≡ due_order f k l
+  order_alike k l = by_rank (g k) (g l) ∙ ap (λ r. rank_before r (rank_of (g l))) (alike k) ∙ ap (λ r. rank_before (rank_of (f k)) r) (alike l) ∙ sym (by_rank (f k) (f l))
+
+  all_alike : (k : ℕ) (xs : List ℕ) → list_all (due_order g k) xs ≡ list_all (due_order f k) xs
+  all_alike k [] = refl
+  all_alike k (x ∷ xs) = ap (λ (b : Bool). b && list_all (due_order g k) xs) (order_alike k x) ∙ ap (λ (b : Bool). due_order f k x && b) (all_alike k xs)
+
+  ascends_alike : (xs : List ℕ) → ascends (due_order g) xs ≡ ascends (due_order f) xs
+  ascends_alike [] = refl
+  ascends_alike (x ∷ xs) = ap (λ (b : Bool). b && ascends (due_order g) xs) (all_alike x xs) ∙ ap (λ (b : Bool). list_all (due_order f x) xs && b) (ascends_alike xs)
+
+-- an object of the same deadline and id in the place of another keeps its place
+pub dues_alike : (f g : ℕ → Option Object) (key : ℕ) → ((other : ℕ) → other ≢ key → g other ≡ f other) → (keys dues : List ℕ) → rank_of (g key) ≡ rank_of (f key) → AreDues f keys dues → AreDues g keys dues
+dues_alike f g key others keys dues here d = record {
+  order = ascends_alike f g alike dues ∙ d.order;
+  among = λ k. d.among k ∙ ap (λ (b : Bool). is_among k keys && b) (by_rank_too (f k) ∙ ap rank_expires (sym (alike k)) ∙ sym (by_rank_too (g k)));
+}
+  where
+    alike : (k : ℕ) → rank_of (g k) ≡ rank_of (f k)
+    alike k = by_key (nat_eq k key) refl
+      where
+        by_key : (b : Bool) → nat_eq k key ≡ b → rank_of (g k) ≡ rank_of (f k)
+        by_key true e = ap (λ (j : ℕ). rank_of (g j)) (same_key k key e) ∙ here ∙ sym (ap (λ (j : ℕ). rank_of (f j)) (same_key k key e))
+        by_key false e = ap rank_of (others k (other_key k key e))
 
 -- a key that is taken out is not among those with a deadline
 pub dues_removed : (f : ℕ → Option Object) (keys dues : List ℕ) (key i d : ℕ) → are_apart keys ≡ true → i < length keys → key ≡ get_or keys i d → AreOthers f keys key dues → AreDues f (remove keys i) dues

@@ -6,6 +6,7 @@ pub mod InTree
 pub mod Least
 pub mod Nearest
 pub mod Numbers
-pub mod Placing
+pub mod Passing
 pub mod Rooms
 pub mod Slots
+pub mod SortedMap

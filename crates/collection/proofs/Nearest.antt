@@ -1,5 +1,5 @@
 -- What a walk by distance through a tree gives, told of the objects.
-use Rattle.std.proofs.Common.{◌≡◌, ◌<◌, ◌≤◌, ◌+◌, ℕ, Bool, true, false, cond, refl, sym, ap, ◌∙◌, List, [], ◌∷◌, ◌++◌, length, All, arith}
+use Rattle.std.proofs.Common.{◌≡◌, ◌<◌, ◌≤◌, ◌+◌, ℕ, suc, Bool, true, false, cond, refl, sym, ap, ◌∙◌, List, [], ◌∷◌, ◌++◌, length, All, arith}
 use Rattle.std.specs.Prelude.{Option, Some, None, is_some, nat_eq, nat_lt, nat_le, not, ◌&&◌, ◌||◌}
 use Rattle.std.specs.List.{list_all, sum_by}
 use Rattle.std.proofs.lemmas.Bool.Decides.{nat_tests}
@@ -7,16 +7,14 @@ use Rattle.std.proofs.lemmas.List.Elements.{All-head, All-tail}
 use Rattle.std.proofs.lemmas.List.Sorted.{sum_by-IsPermutation}
 use Rattle.std.proofs.lemmas.List.Sums.{sum_by-append, sum_by-cons}
 use Rattle.ordered_lists.specs.Reading.{both_of}
-use Rattle.planar_geom.specs.Points.{Point, Bounds, box_dist2}
-use Rattle.planar_geom.specs.Shapes.{box_of}
+use Rattle.planar_geom.specs.Points.{Point, box_dist2}
 use Rattle.rtree.specs.Pairs.{Pair, ids}
 use Rattle.rtree.specs.Near.{IsNearest}
 use Rattle.world_data.specs.declared.objects.Object.{Object}
 use Rattle.collection.specs.Boxed.{box_in, pair_at, AreBoxed}
 use Rattle.collection.specs.Nearing.{distance_to, is_farther, AreLeft}
-use Rattle.collection.specs.Places.{places_where, ArePassing}
-use Rattle.collection.specs.Slotted.{objects_at, are_stored, AreSlotted}
-use Rattle.collection.proofs.Placing.{sum_places}
+use Rattle.collection.specs.Meeting.{ArePassing}
+use Rattle.collection.specs.Slotted.{objects_at, are_stored}
 use Rattle.collection.proofs.Slots.{some_of}
 
 -- sums whose weights are the same at each pair of a kind
@@ -220,16 +218,13 @@ pub not_given_up : (b : Bool) → (b ≡ true → false ≡ true) → b ≡ fals
 not_given_up false up = refl
 not_given_up true up = let no = up refl in absurd (cc)
 
--- some are listed
-count_numbers : (ns : List ℕ) → sum_by (λ n. 1) ns ≡ length ns
-count_numbers [] = refl
-count_numbers (n ∷ ns) = let a = sum_by-cons (λ (n : ℕ). 1) n ns in omega (arith, a, count_numbers ns)
-
-pub next_some : (f : ℕ → Option Object) (test : Bounds → Bool) (keys : List ℕ) (d : ℕ) (from : Point) (old new : List Pair) (after : List ℕ) → AreSlotted f keys → ArePassing f test keys after → IsNearest d from old new [] after → 1 ≤ length (places_where (λ o. test (box_of o.shape)) (objects_at f keys))
-next_some f test keys d from old new after s passing n =
-    let given = n.giving.given in
-    let places = places_where (λ o. test (box_of o.shape)) (objects_at f keys) in
-    let put : sum_by (λ n. 1) after ≡ sum_by (λ (p : Pair). 1) given = ap (sum_by (λ (n : ℕ). 1)) n.giving.put ∙ sum_ids (λ n. 1) given in
-    let through : sum_by (λ n. 1) after ≡ sum_by (λ k. cond (test (box_in (f k))) 1 0) keys = passing (λ n. 1) in
-    let there : sum_by (λ k. cond (test (box_in (f k))) 1 0) keys ≡ sum_by (λ n. 1) places = sum_places f test (λ n. 1) 0 keys s.stored s.apart in
-    omega (arith, put, through, there, length_sum given, count_numbers places, n.some)
+-- some are given
+pub next_some : (d : ℕ) (from : Point) (old new : List Pair) (after : List ℕ) (found : List Object) → length found ≡ length after → IsNearest d from old new [] after → 1 ≤ length found
+next_some d from old new after found many n =
+    let put : length after ≡ length (ids n.giving.given) = ap length n.giving.put in
+    let as_many : length (ids n.giving.given) ≡ length n.giving.given = length-ids n.giving.given in
+    omega (arith, many, put, as_many, n.some)
+  where
+    length-ids : (ps : List Pair) → length (ids ps) ≡ length ps
+    length-ids [] = refl
+    length-ids (p ∷ ps) = ap suc (length-ids ps)

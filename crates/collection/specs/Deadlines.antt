@@ -2,7 +2,7 @@
 use Rattle.std.specs.Prelude.{ℕ, ◌≡◌, ◌<◌, Bool, true, false, not, ◌&&◌, ◌||◌, nat_eq, nat_lt, ◌==◌, List, length, take, slice_get, Option, Some}
 use Rattle.std.specs.Prelude.{None, is_some, IfSome}
 use Rattle.std.specs.List.{list_all, list_any}
-use Rattle.byte_text.specs.Names.{before}
+use Rattle.byte_text.specs.Names.{Bytes, before}
 use Rattle.ordered_lists.specs.Lists.{ascends}
 use Rattle.world_data.specs.Expiry.{deadline_of}
 use Rattle.world_data.specs.declared.objects.Object.{Object}
@@ -56,6 +56,11 @@ is_among k keys = list_any (nat_eq k) keys
 -- the order of keys by what their slots hold
 abbrev pub due_order : (ℕ → Option Object) → ℕ → ℕ → Bool
 due_order slots k l = slot_before (slots k) (slots l)
+
+-- what an object's place in that order hangs on
+abbrev pub rank_of : Option Object → Option (Option ℕ × Bytes)
+rank_of None = None
+rank_of (Some o) = Some (o.deadline, o.id)
 
 -- of these keys those of objects that have a deadline, in order of deadline and id
 pub record AreDues (slots : ℕ → Option Object) (keys dues : List ℕ) : Type 0 where

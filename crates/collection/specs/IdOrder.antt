@@ -1,16 +1,27 @@
 -- Objects by id: where one stands, and what is found.
-use Rattle.std.proofs.Common.{◌≡◌, ℕ, true, false, not, subst, List}
+use Rattle.std.proofs.Common.{◌≡◌, ℕ, zero, suc, Bool, true, false, not, refl, subst, List, [], ◌∷◌, take}
 use Rattle.std.specs.Prelude.{Some, None, filter, find}
 use Rattle.std.specs.List.{list_all, slice_get, slice_set, insert, remove}
 use Rattle.byte_text.specs.Names.{Bytes, before, same}
 use Rattle.byte_text.specs.ByteOrder.{before_trans, before_tie}
-use Rattle.ordered_lists.specs.Lists.{put_in, IsHeld, IsFree}
+use Rattle.ordered_lists.specs.Lists.{ascends, put_in, IsHeld, IsFree}
+use Rattle.ordered_lists.specs.Reading.{both_of, all_at}
 use Rattle.ordered_lists.specs.Ascending.{set_held, insert_free, ascends-put_in, ascends-filter, ascends-remove}
 use Rattle.ordered_lists.specs.NameOrder.{name_trans, name_tie, name_asym, name_ties, is_named_so, name_sought, name_found, name_missing, name_left}
 use Rattle.ordered_lists.specs.NameOrder.{all_names_left}
 use Rattle.ordered_lists.specs.Places as place
 use Rattle.world_data.specs.declared.objects.Object.{Object}
 use Rattle.collection.specs.Objects.{id_before, has_id, are_by_id}
+
+-- what stands in front of an item of an ascending list stands before it
+pub in_front : {A : Type 0} (lt : A → A → Bool) (xs : List A) (at : ℕ) (x : A) → ascends lt xs ≡ true → slice_get xs at ≡ Some x
+    → list_all (λ y. lt y x) (take at xs) ≡ true
+in_front lt [] zero x asc is = refl
+in_front lt [] (suc at) x asc is = refl
+in_front lt (y ∷ xs) zero x asc is = refl
+in_front lt (y ∷ xs) (suc at) x asc is =
+    let p = both_of (list_all (lt y) xs) (ascends lt xs) asc in
+    rw (all_at (lt y) xs at x is p.0, in_front lt xs at x p.1 is) refl
 
 -- one of this id ties with it
 pub tied : (id : Bytes) (x : Object) → same x.id id ≡ true → (before id x.id ≡ false) × (before x.id id ≡ false)

@@ -3,8 +3,7 @@ pub mod Deadlines
 pub mod IdOrder
 pub mod Boxed
 pub mod Slotted
-pub mod Places
-pub mod PlaceLaws
+pub mod Meeting
 pub mod Nearing
 pub mod Costs
 pub mod DueLaws

@@ -1,5 +1,5 @@
 -- A walk through objects by rising distance of their boxes from a point.
-use Rattle.std.specs.Prelude.{ℕ, ◌≡◌, ◌≤◌, Bool, true, false, not, cond, ◌||◌, nat_eq, nat_lt, nat_le, List, length, Option, Some, None}
+use Rattle.std.specs.Prelude.{ℕ, ◌≡◌, ◌≤◌, Bool, true, false, not, cond, ◌||◌, nat_eq, nat_lt, nat_le, List, length, filter, Option, Some, None}
 use Rattle.std.specs.List.{list_all, sum_by}
 use Rattle.planar_geom.specs.Points.{Point, box_dist2}
 use Rattle.planar_geom.specs.Shapes.{box_of}
@@ -7,7 +7,6 @@ use Rattle.rtree.specs.Pairs.{Pair}
 use Rattle.world_data.specs.declared.objects.Object.{Object}
 use Rattle.collection.specs.Objects.{are_by_id}
 use Rattle.collection.specs.Boxed.{box_in, pair_at}
-use Rattle.collection.specs.Places.{places_where}
 use Rattle.collection.specs.Slotted.{AreSlotted, objects_at}
 
 -- the objects, the point from which the walk goes, and the distance, squared, of those that were given last
@@ -25,18 +24,18 @@ abbrev pub is_farther : Option ℕ → ℕ → Bool
 is_farther None d = true
 is_farther (Some given) d = nat_lt given d
 
--- the next that a walk gives: the places of all objects at the least distance that was not given yet
-pub record IsNext (d : ℕ) (old new : Nearing) (places : List ℕ) : Type 0 where
+-- the next that a walk gives: all objects at the least distance that was not given yet
+pub record IsNext (d : ℕ) (old new : Nearing) (found : List Object) : Type 0 where
   pub farther : is_farther old.given d ≡ true
   pub least : list_all (λ o. not (is_farther old.given (distance_to old.from o)) || nat_le d (distance_to old.from o)) old.objects ≡ true
-  pub listed : places ≡ places_where (λ o. nat_eq (distance_to old.from o) d) old.objects
-  pub some : 1 ≤ length places
+  pub listed : found ≡ filter (λ o. nat_eq (distance_to old.from o) d) old.objects
+  pub some : 1 ≤ length found
   pub given : new.given ≡ Some d
 
 -- what a walk answers: all were given, or those nearest
-abbrev pub IsNearing : Option ℕ → Nearing → Nearing → List ℕ → Type 0
-IsNearing None old new places = (list_all (λ o. not (is_farther old.given (distance_to old.from o))) old.objects ≡ true) × (new ≡ old)
-IsNearing (Some d) old new places = IsNext d old new places
+abbrev pub IsNearing : Option ℕ → Nearing → Nearing → List Object → Type 0
+IsNearing None old new found = (list_all (λ o. not (is_farther old.given (distance_to old.from o))) old.objects ≡ true) × (new ≡ old)
+IsNearing (Some d) old new found = IsNext d old new found
 
 -- the pairs are those of the keys whose objects were not given yet
 abbrev pub AreLeft : (ℕ → Option Object) → List ℕ → Point → Option ℕ → List Pair → Type 0

@@ -14,15 +14,17 @@ ghost use Rattle.collection.specs.Objects.{id_before, has_id, are_by_id, has_roo
 ghost use Rattle.planar_geom.specs.Nearness.{IsWholeShape};
 ghost use Rattle.collection.specs.Costs.{IsCheap};
 ghost use Rattle.collection.specs.Deadlines.{FirstDue};
-ghost use Rattle.collection.specs.Places.{places_where, meets_box, ArePlaces, IsListed, IsVisited};
+ghost use Rattle.collection.specs.Meeting.{meets_box, IsVisited};
 
 use crate::bounds;
-use crate::id_order::place_of;
+use crate::found_objects::FoundObjects;
+use crate::hints::Hint;
+use crate::id_order::place_near;
 use crate::near_objects::NearObjects;
 use crate::object_lists::ObjectList;
 use byte_text::{Name, NoMemory};
 use planar_geom::{BBox, Pt};
-use rtree::{Ids, Ledger, Steps};
+use rtree::{Ledger, Steps};
 use std::alloc::Global;
 use std::marker::Model;
 use world_data::Object;
@@ -31,6 +33,8 @@ use world_data::Object;
 #[derive(Drop)]
 pub struct Collection {
     objects: ObjectList,
+    // Where an object was found by its id last.
+    last: Hint,
 }
 
 impl Model for Collection {
@@ -51,6 +55,7 @@ impl Collection {
     {
         Collection {
             objects: ObjectList::new(alloc),
+            last: Hint::new(),
         }
     }
 
@@ -73,7 +78,7 @@ impl Collection {
         ensures spare { self.new.spare + (if is_some result then 0 else 1) ≡ self.old.spare }
         ensures cost { IsCheap (length self.old.objects) steps.old.count steps.new.count }
     {
-        match place_of(&self.objects, &object.id) {
+        match place_near(&self.objects, &object.id, &self.last) {
             Ok(at) => Some(self.objects.exchange(at, object, steps)),
             Err(at) => {
                 self.objects.insert(at, object, steps);
@@ -90,7 +95,7 @@ impl Collection {
         ensures spare { self.new.spare ≡ self.old.spare + (if is_some result then 1 else 0) }
         ensures cost { IsCheap (length self.old.objects) steps.old.count steps.new.count }
     {
-        match place_of(&self.objects, id) {
+        match place_near(&self.objects, id, &self.last) {
             Ok(at) => Some(self.take_at(at, steps)),
             Err(_) => None,
         }
@@ -113,7 +118,7 @@ impl Collection {
         ensures none { IfNone result (find (has_id id.now) self.now.objects ≡ None) }
         ensures some { IfSome result (λ o. find (has_id id.now) self.now.objects ≡ Some o.now) }
     {
-        match place_of(&self.objects, id) {
+        match place_near(&self.objects, id, &self.last) {
             Ok(at) => Some(self.objects.at(at)),
             Err(_) => None,
         }
@@ -156,30 +161,21 @@ impl Collection {
     {
         bounds::bounds_of(&self.objects)
     }
-    /// Lists the places of the objects whose box meets a box, counted from 0 by ascending id. The steps rise by the
-    /// nodes of the tree that are visited, one at least where there is an object. For want of memory the list may hold
-    /// anything.
-    pub fn met<L: Ledger>(
-        &self,
+
+    /// Lists the objects whose box meets a box, in byte order of their ids. The steps rise by the nodes of the tree that
+    /// are visited, one at least where there is an object. For want of memory the list may hold anything.
+    pub fn met<'a, L: Ledger>(
+        &'a self,
         alloc: Global,
         b: BBox,
-        into: &mut Ids,
+        into: &mut FoundObjects<'a>,
         steps: &mut Steps<L>,
     ) -> Result<(), NoMemory>
-        ensures places { OnOk result (into.new ≡ places_where (meets_box b) self.now.objects) }
+        ensures found { OnOk result (into.new ≡ filter (meets_box b) self.now.objects) }
         ensures whole { All (λ o. IsWholeShape o.shape) self.now.objects }
         ensures visits { IsVisited self.now.objects steps.old.count steps.new.count }
     {
         self.objects.met(alloc, b, into, steps)
-    }
-
-    /// The object at the i-th of these places, which are those of all objects that pass a test.
-    pub fn listed(&self, places: &Ids, i: usize) -> &Object
-        requires within { i < length places.now }
-        requires places { ArePlaces places.now self.now.objects }
-        ensures { IsListed places.now self.now.objects i result.now }
-    {
-        self.objects.at(places.at(i))
     }
 
     /// A walk through the objects by rising distance of their boxes from a point, which has given none yet.

@@ -7,7 +7,7 @@ ghost use Rattle.collection.specs.Boxed.{AreBoxed};
 ghost use Rattle.collection.specs.Nearing.{IsNearing};
 ghost use Rattle.collection.specs.Slotted.{objects_at, AreSlotted};
 
-use crate::place_lists::list_places;
+use crate::found_objects::{FoundObjects, list_found};
 use byte_text::NoMemory;
 use planar_geom::Pt;
 use rtree::{Ids, Ledger, NearWalk, Steps, Tree};
@@ -85,12 +85,12 @@ impl<'a> NearObjects<'a> {
         }
     }
 
-    /// Lists the places of all objects at the least squared distance not given yet, counted from 0 by ascending id, and
-    /// answers that distance; `None` exactly where all were given. For want of memory the list may hold anything, and
-    /// the walk with it.
+    /// Lists all objects at the least squared distance not given yet, in byte order of their ids, and answers that
+    /// distance; `None` exactly where all were given. For want of memory the list may hold anything, and the walk with
+    /// it.
     pub fn next<L: Ledger>(
         &mut self,
-        into: &mut Ids,
+        into: &mut FoundObjects<'a>,
         steps: &mut Steps<L>,
     ) -> Result<Option<u64>, NoMemory>
         ensures ok { IfOk result (λ d. IsNearing d self.old self.new into.new) }
@@ -104,7 +104,7 @@ impl<'a> NearObjects<'a> {
         match answer {
             Some(distance) => {
                 self.given = Some(distance);
-                list_places(self.slots, self.keys, &self.numbers, into)?;
+                list_found(self.slots, &self.numbers, into)?;
                 Ok(Some(distance))
             }
             None => Ok(None),

@@ -1,6 +1,6 @@
 //! Objects in slots, in an order of their own: none moves when another is put in or taken out.
 
-ghost use Rattle.std.specs.Prelude.{◌≡◌, ◌<◌, ◌≤◌, ◌+◌, [], true, not, length, take, drop, slice_get, Some, None, All};
+ghost use Rattle.std.specs.Prelude.{◌≡◌, ◌<◌, ◌≤◌, ◌+◌, [], true, not, length, take, drop, slice_get, Some, None, All, filter};
 ghost use Rattle.std.specs.Prelude.{OnOk, IfOk};
 ghost use Rattle.std.specs.List.{insert, remove, slice_set, list_all};
 ghost use Rattle.byte_text.specs.Names.{before};
@@ -8,13 +8,13 @@ ghost use Rattle.collection.specs.Objects.{are_by_id, least_due};
 ghost use Rattle.planar_geom.specs.Nearness.{IsWholeShape};
 ghost use Rattle.collection.specs.Costs.{IsCheap};
 ghost use Rattle.collection.specs.Deadlines.{FirstDue};
-ghost use Rattle.collection.specs.Places.{places_where, meets_box, IsVisited};
+ghost use Rattle.collection.specs.Meeting.{meets_box, IsVisited};
 
 use crate::box_lists::{move_box, put_box, take_box};
-use crate::due_lists::{put_due, take_due};
+use crate::due_lists::{is_moved, put_due, put_moved, take_due, take_moved};
+use crate::found_objects::{FoundObjects, list_found};
 use crate::id_tests::IsBefore;
 use crate::near_objects::NearObjects;
-use crate::place_lists::list_places;
 use byte_text::{Name, NoMemory};
 use planar_geom::{BBox, Pt, box_of};
 use rtree::{Ids, Ledger, Steps, Tree};
@@ -152,7 +152,8 @@ impl ObjectList {
         self.slots.remove(key)
     }
 
-    /// Puts an object in the place of another, which it gives out, where all are in order then.
+    /// Puts an object in the place of another, which it gives out, where all are in order then. One that keeps its
+    /// deadline keeps its place in the order of deadlines, and one that keeps its box its node.
     pub(crate) fn exchange<L: Ledger>(
         &mut self,
         i: usize,
@@ -167,10 +168,11 @@ impl ObjectList {
         ensures cost { IsCheap (length self.old.objects) steps.old.count steps.new.count }
     {
         let key = self.keys.at(i);
-        take_due(&mut self.dues, &self.slots, key);
+        let moves = is_moved(&self.slots, key, &object);
+        take_moved(&mut self.dues, &self.slots, key, moves);
         let old = self.slots.remove(key);
         let _ = self.slots.insert_reserved(object);
-        put_due(&mut self.dues, &self.slots, key);
+        put_moved(&mut self.dues, &self.slots, key, moves);
         move_box(&mut self.boxes, &self.slots, key, box_of(&old.shape), steps);
         old
     }
@@ -201,22 +203,23 @@ impl ObjectList {
             None => unreachable!(),
         }
     }
-    /// Lists the places of the objects whose box meets a box, from the front to the back.
-    pub(crate) fn met<L: Ledger>(
-        &self,
+
+    /// Lists the objects whose box meets a box, in byte order of their ids, in which all stand.
+    pub(crate) fn met<'a, L: Ledger>(
+        &'a self,
         alloc: Global,
         b: BBox,
-        into: &mut Ids,
+        into: &mut FoundObjects<'a>,
         steps: &mut Steps<L>,
     ) -> Result<(), NoMemory>
         requires { are_by_id self.now.objects ≡ true }
-        ensures places { OnOk result (into.new ≡ places_where (meets_box b) self.now.objects) }
+        ensures found { OnOk result (into.new ≡ filter (meets_box b) self.now.objects) }
         ensures whole { All (λ o. IsWholeShape o.shape) self.now.objects }
         ensures visits { IsVisited self.now.objects steps.old.count steps.new.count }
     {
         let mut numbers = Ids::new(alloc);
         match self.boxes.search(&b, &mut numbers, steps) {
-            Ok(()) => list_places(&self.slots, &self.keys, &numbers, into),
+            Ok(()) => list_found(&self.slots, &numbers, into),
             Err(_) => Err(NoMemory),
         }
     }

@@ -46,7 +46,7 @@ module _ (test : Option ℕ → Bool) (least : Least test) where
       let p = both_of (test (least_due x.objects)) (list_all (λ e. test (least_due e.objects)) xs) all in
       all_both (λ o. test o.deadline) x.objects (objects_in xs) (sym (least_all x.objects) ∙ p.0) (least_each xs p.1)
 
-  each_least : (xs : List Entry) → list_all (λ o. test o.deadline) (objects_in xs) ≡ true → list_all (λ e. test (least_due e.objects)) xs ≡ true
+  pub each_least : (xs : List Entry) → list_all (λ o. test o.deadline) (objects_in xs) ≡ true → list_all (λ e. test (least_due e.objects)) xs ≡ true
   each_least [] all = refl
   each_least (x ∷ xs) all =
       rw (least_all x.objects ∙ first_all x.objects (objects_in xs) all, each_least xs (last_all x.objects (objects_in xs) all)) refl
@@ -98,7 +98,7 @@ pub least_pushed : (xs : List Entry) (x : Entry) → least_due (objects_in (xs +
 least_pushed xs x =
     ap least_due (flat_map-append (λ (e : Entry). e.objects) xs (x ∷ [])) ∙ least_both (objects_in xs) (x.objects ++ []) ∙ ap (λ (l : List Object). earlier (least_due (objects_in xs)) (least_due l)) (append-nil x.objects)
 
-le_itself : (n : ℕ) → nat_le n n ≡ true
+pub le_itself : (n : ℕ) → nat_le n n ≡ true
 le_itself n = grind (arith, nat_tests)
 
 -- moments that are later than another

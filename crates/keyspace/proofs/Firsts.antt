@@ -113,7 +113,7 @@ module _ (now due : ℕ) (o : Object) (here : o.deadline ≡ Some due) where
       ∙ ap (λ (l : List Object). o ∷ sorted_by due_before l) (sym (filter_both (is_due now) xs ys))
 
 -- none is due where all deadlines are later
-none_due : (now due : ℕ) (xs : List Object) → now < due → list_all (λ p. is_no_sooner due p.deadline) xs ≡ true → filter (is_due now) xs ≡ []
+pub none_due : (now due : ℕ) (xs : List Object) → now < due → list_all (λ p. is_no_sooner due p.deadline) xs ≡ true → filter (is_due now) xs ≡ []
 none_due now due [] lt all = refl
 none_due now due (x ∷ xs) lt all =
     let p = both_of (is_no_sooner due x.deadline) (list_all (λ p. is_no_sooner due p.deadline) xs) all in

@@ -1,6 +1,7 @@
 pub mod Parts
 pub mod Held
 pub mod Keys
+pub mod Known
 pub mod Lookups
 pub mod Orders
 pub mod Rooms

@@ -1,5 +1,5 @@
 -- Where the first object that expires is found.
-use Rattle.std.specs.Prelude.{◌≡◌, ℕ, Bool, true, not, nat_lt, nat_le, List, ◌∷◌, ◌++◌, length, take, slice_get, Option, Some, None, if◌then◌else◌}
+use Rattle.std.specs.Prelude.{◌≡◌, ℕ, Bool, true, false, not, nat_eq, nat_lt, nat_le, List, ◌∷◌, ◌++◌, length, take, slice_get, Option, Some, None, if◌then◌else◌}
 use Rattle.std.specs.List.{list_all, remove}
 use Rattle.world_data.specs.declared.objects.Object.{Object}
 use Rattle.collection.specs.Objects.{least_due}
@@ -45,3 +45,18 @@ abbrev pub sooner : Option (ℕ × ℕ) → ℕ → Option ℕ → Option (ℕ �
 sooner found at None = found
 sooner None at (Some due) = Some (at, due)
 sooner (Some found) at (Some due) = if nat_lt due found.1 then Some (at, due) else Some found
+
+-- no deadline is sooner than a known moment, and those of the entries in front of a known place are later
+pub record IsKnown (entries : List Entry) (known : ℕ × ℕ) : Type 0 where
+  pub front : list_all (λ e. is_later known.1 (least_due e.objects)) (take known.0 entries) ≡ true
+  pub all : list_all (λ e. is_no_sooner known.1 (least_due e.objects)) entries ≡ true
+
+-- what is known once an object with this deadline is put
+abbrev pub noted : ℕ × ℕ → Option ℕ → ℕ × ℕ
+noted known None = known
+noted known (Some due) = if nat_lt known.1 due then known else (0, due)
+
+-- this is the deadline
+abbrev pub has_due : ℕ → Option ℕ → Bool
+has_due due None = false
+has_due due (Some d) = nat_eq d due

@@ -18,7 +18,7 @@ ghost use Rattle.keyspace.specs.KeyOrder.{IsAdded};
 ghost use Rattle.keyspace.specs.Entries.{objects_in, keys_of, is_held, are_held, room_for, has_room, has_objects};
 ghost use Rattle.keyspace.specs.Entries.{is_entry_of};
 
-use crate::deadlines::soonest;
+use crate::deadlines::{noted, soonest};
 use crate::key_order::place_of;
 use crate::keyed_collections::KeyedCollection;
 use byte_text::{Name, NoMemory};
@@ -35,11 +35,14 @@ pub struct Keyspace {
     collections: Vec<KeyedCollection>,
     // How many objects there are.
     count: usize,
+    // What is known of deadlines: the keys in front of a place have none up to a moment, and no key has one before it.
+    known: (usize, u64),
 }
 
 impl Model for Keyspace {
     ghost use Rattle.std.specs.Prelude.{◌≡◌, List, true, length};
     ghost use Rattle.keyspace.specs.Entries.{Entry, objects_in};
+    ghost use Rattle.keyspace.specs.FirstDue.{IsKnown};
     ghost use Rattle.keyspace.specs.KeyOrder.{are_entries};
 
     ghost Value = { List Entry };
@@ -47,7 +50,7 @@ impl Model for Keyspace {
     ghost view = { λ k. k.collections.items };
 
     ghost invariant = { λ k. (are_entries k.collections.items ≡ true)
-        × (k.count ≡ length (objects_in k.collections.items)) };
+        × ((k.count ≡ length (objects_in k.collections.items)) × IsKnown k.collections.items k.known) };
 }
 
 impl Keyspace {
@@ -59,6 +62,7 @@ impl Keyspace {
             alloc,
             collections: Vec::new(alloc),
             count: 0,
+            known: (0, u64::MAX),
         }
     }
 
@@ -123,7 +127,7 @@ impl Keyspace {
     pub fn least_due(&self) -> Option<u64>
         ensures { result ≡ least_due (objects_in self.now) }
     {
-        match soonest(self.collections.as_slice()) {
+        match soonest(self.collections.as_slice(), self.known) {
             Some((_, due)) => Some(due),
             None => None,
         }
@@ -140,7 +144,10 @@ impl Keyspace {
     {
         match place_of(self.collections.as_slice(), key) {
             Ok(at) => self.collections[at].prepare(),
-            Err(at) => add(self.alloc, &mut self.collections, at, key),
+            Err(at) => {
+                self.known.0 = 0;
+                add(self.alloc, &mut self.collections, at, key)
+            }
         }
     }
 
@@ -158,6 +165,7 @@ impl Keyspace {
     {
         match place_of(self.collections.as_slice(), &object.key) {
             Ok(at) => {
+                self.known = noted(self.known, object.deadline);
                 let old = self.collections[at].put(object, steps);
                 self.count += usize::from(old.is_none());
                 old
@@ -191,7 +199,8 @@ impl Keyspace {
     }
 
     /// Takes out the object that expires first, where one is due: the one of the least deadline, then key, then id. Its
-    /// place is room for another of its key, which stays also without an object. The steps rise as with `put`.
+    /// place is room for another of its key, which stays also without an object. Of a moment before all deadlines that
+    /// are known no key is looked at. The steps rise as with `put`.
     pub fn take_due<L: Ledger>(&mut self, now: u64, steps: &mut Steps<L>) -> Option<Object>
         ensures none { IfNone result (filter (is_due now) (objects_in self.old) ≡ []) }
         ensures stays { IfNone result (self.new ≡ self.old) }
@@ -205,8 +214,12 @@ impl Keyspace {
         ensures kept { IfSome result
             (λ o. (k : Bytes) → room_for self.old k + (if same o.key k then 1 else 0) ≤ room_for self.new k) }
     {
-        match soonest(self.collections.as_slice()) {
+        if now < self.known.1 {
+            return None;
+        }
+        match soonest(self.collections.as_slice(), self.known) {
             Some((at, due)) => {
+                self.known = (at, due);
                 if due > now {
                     return None;
                 }
@@ -214,7 +227,10 @@ impl Keyspace {
                 self.count -= 1;
                 Some(object)
             }
-            None => None,
+            None => {
+                self.known = (0, u64::MAX);
+                None
+            }
         }
     }
 
@@ -227,6 +243,7 @@ impl Keyspace {
         match place_of(self.collections.as_slice(), key) {
             Ok(at) => {
                 let keyed = self.collections.remove(at);
+                self.known.0 = 0;
                 self.count -= keyed.objects().len();
                 drop(keyed);
             }
@@ -240,6 +257,7 @@ impl Keyspace {
     {
         self.collections.clear();
         self.count = 0;
+        self.known = (0, u64::MAX);
     }
 
     /// Gives up the key where it has no object. All else stays as it is.
@@ -252,6 +270,7 @@ impl Keyspace {
         match place_of(self.collections.as_slice(), key) {
             Ok(at) => {
                 if self.collections[at].objects().len() == 0 {
+                    self.known.0 = 0;
                     drop(self.collections.remove(at));
                 }
             }

@@ -9,7 +9,7 @@ use Rattle.planar_geom.specs.Points.{Bounds, IsBox, boxes_meet, box_of_disc, box
 use Rattle.planar_geom.specs.Shapes.{box_of}
 use Rattle.world_data.specs.declared.objects.Object.{Object}
 use Rattle.fence_model.specs.Fences.{is_near, place_of, roamed, was_near}
-use Rattle.collection.specs.Places.{meets_box}
+use Rattle.collection.specs.Meeting.{meets_box}
 use Rattle.roam_fence.specs.Pairs.{is_near_now, is_target, noted, told, told_of_all}
 use Rattle.roam_fence.specs.Reaches.{HoldsNear}
 

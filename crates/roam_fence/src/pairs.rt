@@ -4,24 +4,23 @@
 //! once, in order of ids. After a long jump it looks at what stands between them. COMMANDS is not asked here; who calls
 //! this has asked.
 
-ghost use Rattle.std.specs.Prelude.{◌≡◌, ◌++◌, Bool, true, filter, option_map, OnOk};
+ghost use Rattle.std.specs.Prelude.{◌≡◌, ◌++◌, true, option_map, OnOk};
 ghost use Rattle.planar_geom.specs.Points.{IsBox, box_of_disc};
 ghost use Rattle.byte_text.specs.Globs.{is_sound_glob, is_well_formed};
-ghost use Rattle.collection.specs.Places.{ArePlaces, IsVisited, places_where};
+ghost use Rattle.collection.specs.Meeting.{IsVisited};
 ghost use Rattle.fence_model.specs.Fences.{is_near, place_of, was_near, roamed};
 ghost use Rattle.world_data.specs.Sound.{is_sound_watch};
-ghost use Rattle.world_data.specs.declared.objects.Object.{Object};
 ghost use Rattle.roam_fence.specs.Pairs.{is_near_now, is_target, noted, shown_pairs, told, told_of_all};
 ghost use Rattle.roam_fence.specs.Reaches.{HoldsNear};
 
 use crate::lists::RoamList;
 use byte_text::{Name, NoMemory};
-use collection::Collection;
+use collection::{Collection, FoundObjects};
 use glob_match::glob_meets;
 use object_match::meets_fence;
 use ordered_lists::is_same;
 use planar_geom::{Area, BBox, area_box, box_of, centre, dist2, met_is_near};
-use rtree::{Ids, Ledger, Steps};
+use rtree::{Ledger, Steps};
 use std::alloc::Global;
 use world_data::{Fence, Object, Watch};
 
@@ -132,24 +131,22 @@ fn round_reach(meters: u32, old: Option<&Object>, new: &Object) -> BBox
     }
 }
 
-// Appends what is told of the targets at these places.
-fn push_listed(
+// Appends what is told of these targets.
+fn push_found(
     alloc: Global,
     reach: Reach<'_>,
-    targets: &Collection,
-    places: &Ids,
+    targets: &FoundObjects<'_>,
     old: Option<&Object>,
     new: &Object,
     into: &mut RoamList,
 ) -> Result<(), NoMemory>
-    requires pattern { is_well_formed reach.pattern.now ≡ true }
-    requires places { ArePlaces places.now targets.now.objects }
-    ensures { OnOk result ((test : Object → Bool) → places.now ≡ places_where test targets.now.objects
-        → into.new ≡ into.old ++ told_of_all reach.entry.pattern.now reach.entry.meters reach.entry.nodwell
-        (option_map (λ o. o.now) old.entry) new.now (filter test targets.now.objects)) }
+    requires { is_well_formed reach.pattern.now ≡ true }
+    ensures { OnOk result
+        (into.new ≡ into.old ++ told_of_all reach.entry.pattern.now reach.entry.meters reach.entry.nodwell
+        (option_map (λ o. o.now) old.entry) new.now targets.now) }
 {
-    for i in 0..places.len() {
-        let target = targets.listed(places, i);
+    for i in 0..targets.len() {
+        let target = targets.at(i);
         note(alloc, told(reach, old, new, target), target, into)?;
     }
     Ok(())
@@ -172,9 +169,9 @@ fn push_pairs<L: Ledger>(
     ensures visits { IsVisited targets.now.objects steps.old.count steps.new.count }
 {
     let round = round_reach(reach.meters, old, new);
-    let mut places = Ids::new(alloc);
-    targets.met(alloc, round, &mut places, steps)?;
-    push_listed(alloc, reach, targets, &places, old, new, into)
+    let mut found = FoundObjects::new(alloc);
+    targets.met(alloc, round, &mut found, steps)?;
+    push_found(alloc, reach, &found, old, new, into)
 }
 
 /// Appends the pairs that a put of an object raises on a channel that roams: of the objects of the channel's second key

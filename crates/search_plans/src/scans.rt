@@ -20,12 +20,11 @@ ghost use Rattle.search_plans.specs.Pages.{listing, objects_of_ids, IsFirst};
 use byte_text::{Name, NoMemory, Text};
 use collection::Collection;
 use keyspace::Keyspace;
-use nearest_query::near_page;
 use object_plans::{Plan, or_refusal, say_count};
 use planar_geom::Pt;
 use reply_text::{ItemFrames, ReplyFault};
 use rtree::{Steps, Visits};
-use search_query::page;
+use search_query::{near_page, page};
 use std::alloc::Global;
 use world_model::{Page, Query, Shown};
 

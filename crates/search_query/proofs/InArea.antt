@@ -19,7 +19,7 @@ use Rattle.world_data.specs.declared.queries.Query.{Query}
 use Rattle.world_data.specs.declared.queries.Rule.{Rule}
 use Rattle.world_data.specs.declared.queries.Rule.TheVariants.{InArea}
 use Rattle.fence_model.specs.Queries.{in_order, matches, meets_area, meets_query, meets_rule}
-use Rattle.collection.specs.Places.{meets_box}
+use Rattle.collection.specs.Meeting.{meets_box}
 
 le_of : (a b : ℕ) → nat_le a b ≡ true → a ≤ b
 le_of a b e = grind (arith, nat_tests)

@@ -1,2 +1,5 @@
 pub mod InArea
 pub mod InOrder
+pub mod Nearest
+pub mod Noted
+pub mod Sorting

@@ -1,3 +1,4 @@
 pub mod Directions
 pub mod Pages
 pub mod PageLaws
+pub mod Found

@@ -1,6 +1,8 @@
-//! Queries over the objects of one key by id: SCAN, WITHIN and INTERSECTS.
+//! Queries over the objects of one key: SCAN, WITHIN and INTERSECTS by id, NEARBY by distance from a point.
 #![tactic(auto)]
 
+mod near_pages;
 mod pages;
 
-pub use pages::{end_page, is_past, note, page};
+pub use near_pages::near_page;
+pub use pages::page;

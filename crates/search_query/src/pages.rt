@@ -1,4 +1,4 @@
-//! Pages of what a query finds.
+//! Pages of what a query finds, by id.
 
 ghost use Rattle.std.specs.Prelude.{◌≡◌, ◌<◌, ◌≤◌, ◌+◌, ◌^◌, ◌++◌, ◌∷◌, [], List, ◌&&◌, true, false, not};
 ghost use Rattle.std.specs.Prelude.{if◌then◌else◌, length, filter, reverse, slice_get, Some, nat_lt, nat_le, IfOk};
@@ -8,15 +8,15 @@ ghost use Rattle.world_data.specs.declared.objects.Object.{Object};
 ghost use Rattle.byte_text.specs.Globs.{is_sound_glob};
 ghost use Rattle.world_data.specs.declared.channels.Kind.{Kind};
 ghost use Rattle.world_data.specs.declared.queries.Rule.TheVariants.{InArea};
-ghost use Rattle.collection.specs.Places.{IsVisited};
+ghost use Rattle.collection.specs.Meeting.{IsVisited};
 ghost use Rattle.search_query.specs.Directions.{is_down, has_area};
 ghost use Rattle.search_query.specs.Pages.{is_past, IsEnough};
 
 use byte_text::{Name, NoMemory};
-use collection::Collection;
+use collection::{Collection, FoundObjects};
 use object_match::meets_query;
 use planar_geom::{Area, area_box, area_is_whole, met_is_near};
-use rtree::{Ids, Ledger, Steps};
+use rtree::{Ledger, Steps};
 use std::alloc::Global;
 use world_data::{NameList, Object, Page, Query, Rule, Shown};
 
@@ -48,7 +48,7 @@ pub fn page<L: Ledger>(
 }
 
 /// Notes behind the ids of a page where the next one begins, and of a count how many were found.
-pub fn end_page(query: &Query, found: u64, page: &mut Page)
+pub(crate) fn end_page(query: &Query, found: u64, page: &mut Page)
     ensures { (all : List Object) → page.old.ids ≡ page_ids query.now all → IsEnough query.now all found
         → IsPageOf query.now all page.new }
 {
@@ -105,11 +105,11 @@ fn list_met<L: Ledger>(
     // Laws, of which nothing is left at run time.
     met_is_near();
     area_is_whole(area);
-    let mut places = Ids::new(alloc);
-    collection.met(alloc, area_box(area), &mut places, steps)?;
+    let mut met = FoundObjects::new(alloc);
+    collection.met(alloc, area_box(area), &mut met, steps)?;
     let mut found = 0;
-    for i in 0..places.len() {
-        found = note(alloc, query, collection.listed(&places, i), found, ids)?;
+    for i in 0..met.len() {
+        found = note(alloc, query, met.at(i), found, ids)?;
         if is_past(query, found) {
             return Ok(found);
         }
@@ -118,7 +118,7 @@ fn list_met<L: Ledger>(
 }
 
 /// Whether a page is asked for, and of so many that were found one is behind it.
-pub fn is_past(query: &Query, found: u64) -> bool
+pub(crate) fn is_past(query: &Query, found: u64) -> bool
     ensures { result ≡ is_past query.now found }
 {
     !is_count(query.shown) && u64::from(query.cursor) + u64::from(query.limit) < found
@@ -144,7 +144,7 @@ fn is_down(rule: &Rule) -> bool
 
 /// Notes the next object behind those that were found: where it meets the query it is found too, and its id is listed
 /// where it is on the page. Gives the number of all that is found.
-pub fn note(
+pub(crate) fn note(
     alloc: Global,
     query: &Query,
     object: &Object,

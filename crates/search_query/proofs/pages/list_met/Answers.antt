@@ -1,22 +1,17 @@
-use Rattle.std.proofs.Common.{◌≡◌, ◌+◌, ◌≤◌, ℕ, true, sym, ap, subst, ◌∙◌, length, take, arith}
+use Rattle.std.proofs.Common.{◌≡◌, ◌+◌, ◌≤◌, ℕ, true, sym, ap, subst, ◌∙◌, List, length, take, arith}
 use Rattle.std.specs.Prelude.{filter, slice_get, Some}
 use Rattle.std.proofs.lemmas.List.{length-take, take_all}
 use Rattle.ordered_lists.specs.Reading.{filter-most}
 use Rattle.planar_geom.specs.Points.{Bounds}
+use Rattle.world_data.specs.declared.objects.Object.{Object}
 use Rattle.planar_geom.specs.Relations.{area_box}
 use Rattle.fence_model.specs.Queries.{matches, meets_query, page_ids}
-use Rattle.collection.specs.Places.{meets_box, places_where}
-use Rattle.collection.specs.PlaceLaws.{count_places}
+use Rattle.collection.specs.Meeting.{meets_box}
 use Rattle.search_query.specs.Pages.{is_past}
 use Rattle.search_query.specs.PageLaws.{ids_first, enough_first, read_first, count_all}
 use Rattle.search_query.proofs.InArea.{met_all}
 use Rattle.search_query.proofs.InOrder.{noted}
 use Rattle.search_query.proofs.pages.list_met.Goals as goal
-
-pub listed-requires-clause-places : goal.listed-requires-clause-places
-listed-requires-clause-places g c =
-    let objects = c.args.collection.now.objects in
-    (meets_box c.area_box.result, c.in_ok-met.ensures.places)
 
 pub note-requires-clause-room : goal.note-requires-clause-room
 note-requires-clause-room g c =
@@ -33,9 +28,9 @@ loop-i-preserved g c =
     let objects = c.args.collection.now.objects in
     let read = filter (meets_box (area_box c.args.area.now)) objects in
     let before = filter p (take c.loop-i.i read) in
-    let is = c.in_ok-met.ensures.places ∙ ap (λ (b : Bounds). places_where (meets_box b) objects) c.area_box.ensures in
-    let here : slice_get read c.loop-i.i ≡ Some c.listed.result.now = c.listed.ensures (meets_box (area_box c.args.area.now)) is in
-    let more = noted p read c.loop-i.i c.listed.result.now here in
+    let is = c.in_ok-met.ensures.found ∙ ap (λ (b : Bounds). filter (meets_box b) objects) c.area_box.ensures in
+    let here : slice_get read c.loop-i.i ≡ Some c.at.result.now = ap (λ (l : List Object). slice_get l c.loop-i.i) (sym is) ∙ c.at.ensures in
+    let more = noted p read c.loop-i.i c.at.result.now here in
     record {
       count = rw more (c.in_ok-found.ensures.count before c.loop-i.invariant.count);
       ids = rw more (c.in_ok-found.ensures.ids before c.loop-i.invariant.count c.loop-i.invariant.ids);
@@ -48,8 +43,8 @@ returns-clause-count g c =
     let objects = c.args.collection.now.objects in
     let area = c.args.area.now in
     let read = filter (meets_box (area_box area)) objects in
-    let is = c.in_ok-met.ensures.places ∙ ap (λ (b : Bounds). places_where (meets_box b) objects) c.area_box.ensures in
-    let long = ap length is ∙ count_places (meets_box (area_box area)) 0 objects in
+    let is = c.in_ok-met.ensures.found ∙ ap (λ (b : Bounds). filter (meets_box b) objects) c.area_box.ensures in
+    let long = ap length is in
     let all = ap (filter p) (take_all c.loop-i.i read (omega (arith, long))) ∙ met_all c.met_is_near.ensures q c.requires.area.0 area c.area_is_whole.ensures c.requires.area.1 objects c.met.ensures.whole in
     count_all q (matches q objects) c.loop-i.found (c.loop-i.invariant.count ∙ ap length all)
 
@@ -60,8 +55,8 @@ returns-clause-ids g c =
     let objects = c.args.collection.now.objects in
     let area = c.args.area.now in
     let read = filter (meets_box (area_box area)) objects in
-    let is = c.in_ok-met.ensures.places ∙ ap (λ (b : Bounds). places_where (meets_box b) objects) c.area_box.ensures in
-    let long = ap length is ∙ count_places (meets_box (area_box area)) 0 objects in
+    let is = c.in_ok-met.ensures.found ∙ ap (λ (b : Bounds). filter (meets_box b) objects) c.area_box.ensures in
+    let long = ap length is in
     let all = ap (filter p) (take_all c.loop-i.i read (omega (arith, long))) ∙ met_all c.met_is_near.ensures q c.requires.area.0 area c.area_is_whole.ensures c.requires.area.1 objects c.met.ensures.whole in
     rw (← all) c.loop-i.invariant.ids
 
@@ -73,9 +68,9 @@ returns-then-is_past-clause-count g c =
     let objects = c.args.collection.now.objects in
     let area = c.args.area.now in
     let read = filter (meets_box (area_box area)) objects in
-    let is = c.in_ok-met.ensures.places ∙ ap (λ (b : Bounds). places_where (meets_box b) objects) c.area_box.ensures in
-    let here : slice_get read c.loop-i.i ≡ Some c.listed.result.now = c.listed.ensures (meets_box (area_box area)) is in
-    let more = noted p read c.loop-i.i c.listed.result.now here in
+    let is = c.in_ok-met.ensures.found ∙ ap (λ (b : Bounds). filter (meets_box b) objects) c.area_box.ensures in
+    let here : slice_get read c.loop-i.i ≡ Some c.at.result.now = ap (λ (l : List Object). slice_get l c.loop-i.i) (sym is) ∙ c.at.ensures in
+    let more = noted p read c.loop-i.i c.at.result.now here in
     let count = c.in_ok-found.ensures.count (filter p (take c.loop-i.i read)) c.loop-i.invariant.count ∙ ap length (sym more) in
     let all = met_all c.met_is_near.ensures q c.requires.area.0 area c.area_is_whole.ensures c.requires.area.1 objects c.met.ensures.whole in
     enough_first q (matches q objects) _ _ c.in_ok-found.found (read_first q (matches q objects) read (c.loop-i.i + 1) all) count (sym c.is_past.ensures ∙ c.if-is_past.true)
@@ -88,9 +83,9 @@ returns-then-is_past-clause-ids g c =
     let area = c.args.area.now in
     let read = filter (meets_box (area_box area)) objects in
     let before = filter p (take c.loop-i.i read) in
-    let is = c.in_ok-met.ensures.places ∙ ap (λ (b : Bounds). places_where (meets_box b) objects) c.area_box.ensures in
-    let here : slice_get read c.loop-i.i ≡ Some c.listed.result.now = c.listed.ensures (meets_box (area_box area)) is in
-    let more = noted p read c.loop-i.i c.listed.result.now here in
+    let is = c.in_ok-met.ensures.found ∙ ap (λ (b : Bounds). filter (meets_box b) objects) c.area_box.ensures in
+    let here : slice_get read c.loop-i.i ≡ Some c.at.result.now = ap (λ (l : List Object). slice_get l c.loop-i.i) (sym is) ∙ c.at.ensures in
+    let more = noted p read c.loop-i.i c.at.result.now here in
     let count = c.in_ok-found.ensures.count before c.loop-i.invariant.count ∙ ap length (sym more) in
     let past = subst (λ (n : ℕ). is_past q n ≡ true) count (sym c.is_past.ensures ∙ c.if-is_past.true) in
     let all = met_all c.met_is_near.ensures q c.requires.area.0 area c.area_is_whole.ensures c.requires.area.1 objects c.met.ensures.whole in

@@ -2,7 +2,7 @@ use Rattle.std.proofs.Common.{◌≡◌, length, take}
 use Rattle.std.specs.Prelude.{filter}
 use Rattle.planar_geom.specs.Relations.{area_box}
 use Rattle.fence_model.specs.Queries.{meets_query, page_ids}
-use Rattle.collection.specs.Places.{meets_box}
+use Rattle.collection.specs.Meeting.{meets_box}
 use Rattle.search_query.proofs.pages.list_met.Given as goal
 
 -- what is found among the first objects whose box meets the area's

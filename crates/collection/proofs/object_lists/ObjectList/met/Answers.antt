@@ -3,21 +3,18 @@ use Rattle.std.proofs.lemmas.Result.{on_ok_weaker}
 use Rattle.slab.specs.Slab.{get}
 use Rattle.rtree.specs.Pairs.{ids_meeting}
 use Rattle.planar_geom.specs.Points.{boxes_meet}
-use Rattle.collection.proofs.Placing.{meeting_passing, none_boxed, whole_objects}
+use Rattle.collection.proofs.Passing.{found_are, meeting_passing, none_boxed, whole_objects}
 use Rattle.collection.proofs.object_lists.ObjectList.met.Goals as goal
 
-pub list_places-requires-clause-passing : goal.list_places-requires-clause-passing
-list_places-requires-clause-passing g c =
+pub returns-in-Ok-clause-found : goal.returns-in-Ok-clause-found
+returns-in-Ok-clause-found g c =
+    let f = get c.self.inside.slots in
+    let keys = c.self.inside.keys.items in
     let found = rw c.in-Ok.is at c.search.ensures.ok in
     let is = found ∙ ap (λ (l : List ℕ). l ++ ids_meeting c.args.b c.self.inside.boxes.pairs) c.new-numbers.ensures in
-    (λ b. boxes_meet b c.args.b, meeting_passing (get c.self.inside.slots) c.self.inside.keys.items c.self.inside.boxes.pairs c.args.b c.search.new.into c.self.invariant.in_tree.boxed is)
-
-pub returns-in-Ok-clause-places : goal.returns-in-Ok-clause-places
-returns-in-Ok-clause-places g c =
-    let found = rw c.in-Ok.is at c.search.ensures.ok in
-    let is = found ∙ ap (λ (l : List ℕ). l ++ ids_meeting c.args.b c.self.inside.boxes.pairs) c.new-numbers.ensures in
-    let passing = meeting_passing (get c.self.inside.slots) c.self.inside.keys.items c.self.inside.boxes.pairs c.args.b c.search.new.into c.self.invariant.in_tree.boxed is in
-    rw (← c.self.view_is) (on_ok_weaker c.list_places.result (λ are. are (λ b. boxes_meet b c.args.b) passing) c.list_places.ensures)
+    let passing = meeting_passing f keys c.self.inside.boxes.pairs c.args.b c.search.new.into c.self.invariant.in_tree.boxed is in
+    let by_id = rw (← c.self.view_is) at c.requires in
+    rw (← c.self.view_is) (on_ok_weaker c.list_found.result (λ o. found_are f (λ b. boxes_meet b c.args.b) keys c.search.new.into c.self.invariant.slotted passing c.list_found.new.into o.moved by_id o.order) c.list_found.ensures)
 
 pub returns-in-Ok-clause-whole : goal.returns-in-Ok-clause-whole
 returns-in-Ok-clause-whole g c = rw (← c.self.view_is) (whole_objects (get c.self.inside.slots) c.self.inside.keys.items c.self.invariant.slotted.stored c.self.invariant.in_tree.whole)

@@ -7,6 +7,8 @@ use Rattle.keyspace.proofs.Keys.{stands, lacks, left_entries}
 use Rattle.keyspace.proofs.Lookups.{others_in, others_stay, length_taken, at_most_all}
 use Rattle.keyspace.proofs.KeyLists.{is_other, other_stays, key_left_out, none_left_out}
 use Rattle.keyspace.proofs.Held.{keys_dropped}
+use Rattle.keyspace.specs.FirstDue.{IsKnown}
+use Rattle.keyspace.proofs.Known.{known_without}
 use Rattle.keyspace.proofs.keyspaces.Keyspace.drop_key.Goals as goal
 
 pub overflow_sub-self : goal.overflow_sub-self
@@ -17,7 +19,7 @@ overflow_sub-self c =
     let held = rw c.as_slice.ensures.value at c.in-Ok.ensures.held in
     let s = stands key xs c.in-Ok.at e c.self.invariant.0 held c.remove-keyed.ensures.value in
     let most : length e.objects ≤ length (objects_in xs) = at_most_all key xs c.in-Ok.at e s in
-    let count : c.self.inside.count ≡ length (objects_in xs) = c.self.invariant.1 in
+    let count : c.self.inside.count ≡ length (objects_in xs) = c.self.invariant.1.0 in
     let own : c.len.result ≡ length e.objects = c.len.ensures.count ∙ ap (λ (h : Held). length h.objects) c.objects.ensures in
     omega (arith, most, count, own)
 
@@ -30,8 +32,8 @@ invariant_of-self c =
     let s = stands key xs c.in-Ok.at e c.self.invariant.0 held c.remove-keyed.ensures.value in
     let own : c.len.result ≡ length e.objects = c.len.ensures.count ∙ ap (λ (h : Held). length h.objects) c.objects.ensures in
     let less = length_taken key xs c.in-Ok.at e s in
-    let count = left_count c.self.inside.count c.len.result (length (objects_in (remove xs c.in-Ok.at))) (length (objects_in xs)) (length e.objects) c.self.invariant.1 own less in
-    (subst (λ (l : List Entry). are_entries l ≡ true) (sym c.remove-keyed.ensures.items) (left_entries key xs c.in-Ok.at e s), count ∙ ap (λ (l : List Entry). length (objects_in l)) (sym c.remove-keyed.ensures.items))
+    let count = left_count c.self.inside.count c.len.result (length (objects_in (remove xs c.in-Ok.at))) (length (objects_in xs)) (length e.objects) c.self.invariant.1.0 own less in
+    (subst (λ (l : List Entry). are_entries l ≡ true) (sym c.remove-keyed.ensures.items) (left_entries key xs c.in-Ok.at e s), (count ∙ ap (λ (l : List Entry). length (objects_in l)) (sym c.remove-keyed.ensures.items), subst (λ (l : List Entry). IsKnown l (0, c.self.inside.known.1)) (sym c.remove-keyed.ensures.items) (known_without xs c.self.inside.known c.in-Ok.at c.self.invariant.1.1)))
   where
     left_count : (count r n m e : ℕ) → count ≡ m → r ≡ e → n + e ≡ m → count - r ≡ n
     left_count count r n m e p q t = omega arith

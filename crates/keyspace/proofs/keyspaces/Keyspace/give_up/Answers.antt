@@ -5,6 +5,8 @@ use Rattle.keyspace.specs.KeyOrder.{are_entries}
 use Rattle.keyspace.proofs.Keys.{stands, lacks, left_entries}
 use Rattle.keyspace.proofs.KeyLists.{is_needed, other_needed, gone_objects, given_up, needed, none_left_out}
 use Rattle.keyspace.proofs.Held.{keys_given_up, keys_needed, keys_not_there}
+use Rattle.keyspace.specs.FirstDue.{IsKnown}
+use Rattle.keyspace.proofs.Known.{known_without}
 use Rattle.keyspace.proofs.keyspaces.Keyspace.give_up.Goals as goal
 
 pub invariant_of-self : goal.invariant_of-self
@@ -15,7 +17,7 @@ invariant_of-self c =
     let held = rw c.as_slice.ensures.value at c.in-Ok.ensures.held in
     let s = stands key xs c.in-Ok.at e c.self.invariant.0 held c.index.ensures in
     let own : length e.objects ≡ 0 = sym (c.len.ensures.count ∙ ap (λ (h : Held). length h.objects) c.objects.ensures) ∙ c.if-len-eq0.true in
-    (subst (λ (l : List Entry). are_entries l ≡ true) (sym c.remove.ensures.items) (left_entries key xs c.in-Ok.at e s), c.self.invariant.1 ∙ ap length (sym (gone_objects key xs c.in-Ok.at e s own)) ∙ ap (λ (l : List Entry). length (objects_in l)) (sym c.remove.ensures.items))
+    (subst (λ (l : List Entry). are_entries l ≡ true) (sym c.remove.ensures.items) (left_entries key xs c.in-Ok.at e s), (c.self.invariant.1.0 ∙ ap length (sym (gone_objects key xs c.in-Ok.at e s own)) ∙ ap (λ (l : List Entry). length (objects_in l)) (sym c.remove.ensures.items), subst (λ (l : List Entry). IsKnown l (0, c.self.inside.known.1)) (sym c.remove.ensures.items) (known_without xs c.self.inside.known c.in-Ok.at c.self.invariant.1.1)))
 
 pub returns-then-len-eq0-clause-objects : goal.returns-then-len-eq0-clause-objects
 returns-then-len-eq0-clause-objects c =

@@ -6,6 +6,7 @@ use Rattle.keyspace.proofs.Rooms.{room_new, kept_all}
 use Rattle.keyspace.proofs.Counts.{same_entry}
 use Rattle.keyspace.proofs.Added.{after_adding, added_objects_too, added_room, added_kept}
 use Rattle.keyspace.proofs.KeyLists.{same_keys, keys_there, keys_added, keys_kept, on_ok, on_err}
+use Rattle.keyspace.proofs.Known.{known_added, known_same}
 use Rattle.keyspace.proofs.keyspaces.Keyspace.prepare.Goals as goal
 
 pub invariant_of-self : goal.invariant_of-self
@@ -18,7 +19,7 @@ invariant_of-self c =
     let held = rw c.as_slice.ensures.value at c.in-Ok.ensures.held in
     let s = stands key xs at e c.self.invariant.0 held c.index_mut.ensures.value in
     let here = same_entry e f (entry_here key xs at e s) c.prepare.ensures.key c.prepare.ensures.objects in
-    (set_entries key xs at e s f held.within (c.prepare.ensures.key ∙ s.key_is) here, c.self.invariant.1 ∙ ap length (sym (same_objects key xs at e s f c.prepare.ensures.objects)))
+    (set_entries key xs at e s f held.within (c.prepare.ensures.key ∙ s.key_is) here, (c.self.invariant.1.0 ∙ ap length (sym (same_objects key xs at e s f c.prepare.ensures.objects)), known_same xs c.self.inside.known at e f s.is c.prepare.ensures.objects c.self.invariant.1.1))
 
 pub returns-in-Ok-clause-objects : goal.returns-in-Ok-clause-objects
 returns-in-Ok-clause-objects c =
@@ -55,7 +56,7 @@ invariant_of-self-in-Err c =
     let free = rw c.as_slice.ensures.value at c.in-Err.ensures.free in
     let s = lacks key xs at c.self.invariant.0 free in
     let objects = added_objects_too key xs c.add.new.collections.items at s c.add.result c.add.ensures.ok c.add.ensures.err in
-    (after_adding key xs c.add.new.collections.items at s c.add.result c.self.invariant.0 c.add.ensures.ok c.add.ensures.err, c.self.invariant.1 ∙ ap length (sym objects))
+    (after_adding key xs c.add.new.collections.items at s c.add.result c.self.invariant.0 c.add.ensures.ok c.add.ensures.err, (c.self.invariant.1.0 ∙ ap length (sym objects), known_added key xs c.add.new.collections.items c.self.inside.known at c.add.result c.add.ensures.ok c.add.ensures.err c.self.invariant.1.1))
 
 pub returns-in-Err-clause-objects : goal.returns-in-Err-clause-objects
 returns-in-Err-clause-objects c =

@@ -6,6 +6,8 @@ use Rattle.keyspace.proofs.Lookups.{found_in, put_there, length_changed}
 use Rattle.keyspace.proofs.Rooms.{room_in, room_not, kept_put}
 use Rattle.keyspace.proofs.Counts.{put_entry, length_put_entry, count_put}
 use Rattle.keyspace.proofs.KeyLists.{same_keys}
+use Rattle.keyspace.specs.FirstDue.{IsKnown}
+use Rattle.keyspace.proofs.Known.{known_put}
 use Rattle.keyspace.proofs.keyspaces.Keyspace.put.Goals as goal
 
 pub put-old-requires : goal.put-old-requires
@@ -29,8 +31,9 @@ invariant_of-self g c =
     let h = entry_here o.key xs at e s in
     let here = put_entry e f h c.put-old.ensures.key o (sym s.key_is) c.put-old.ensures.objects in
     let more = length_put_entry e f h o c.put-old.result c.put-old.ensures.objects c.put-old.ensures.replaced in
-    let count = count_put c.self.inside.count c.from.result (length (objects_in (slice_set xs at f))) (length (objects_in xs)) (length e.objects) (length f.objects) c.put-old.result c.is_none.result c.self.invariant.1 c.from.ensures c.is_none.ensures (length_changed o.key xs at e s f) more in
-    (set_entries o.key xs at e s f held.within (c.put-old.ensures.key ∙ s.key_is) here, count)
+    let count = count_put c.self.inside.count c.from.result (length (objects_in (slice_set xs at f))) (length (objects_in xs)) (length e.objects) (length f.objects) c.put-old.result c.is_none.result c.self.invariant.1.0 c.from.ensures c.is_none.ensures (length_changed o.key xs at e s f) more in
+    let known = subst (λ (k : ℕ × ℕ). IsKnown (slice_set xs at f) k) (sym c.noted-self-inside.ensures) (known_put xs c.self.inside.known at e f o s.is c.put-old.ensures.objects c.self.invariant.1.1) in
+    (set_entries o.key xs at e s f held.within (c.put-old.ensures.key ∙ s.key_is) here, (count, known))
 
 pub unreachable-requires : goal.unreachable-requires
 unreachable-requires g c =

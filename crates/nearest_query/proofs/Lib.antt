@@ -1,3 +1,0 @@
-pub mod Nearest
-pub mod Noted
-pub mod Sorting
