@@ -4,3 +4,4 @@ pub mod Fans
 pub mod FanLaws
 pub mod Subscribed
 pub mod SubscribeLaws
+pub mod Sendings

@@ -80,7 +80,7 @@ impl Subscription {
     fn is(&self, word: &Name, pattern: bool) -> bool
         ensures { result ≡ same_sub (sub pattern word.now) self.now }
     {
-        is_same(word, &self.word) && self.pattern == pattern
+        self.pattern == pattern && is_same(word, &self.word)
     }
 }
 

@@ -11,6 +11,7 @@ ghost use Rattle.session_table.specs.Sessions.{AreReplies, AreSoundSubs, session
 ghost use Rattle.session_table.specs.Mail.{Stages, has_room_left};
 
 use crate::Subscriptions;
+use crate::frames::Sending;
 use crate::listening::stage_heard;
 use crate::mailboxes::Mailbox;
 use byte_text::{Name, NoMemory, Text};
@@ -199,6 +200,10 @@ impl Session {
         ensures staged { self.new.mail.staged ≡ [] }
         ensures replies { is_live (session_of self.new) ≡ true → self.new.mail.replies ≡ self.old.mail.replies }
     {
+        // Of most sessions nothing more is looked at.
+        if self.mail.staged() == 0 {
+            return;
+        }
         for _ in 0..self.mail.staged() {
             self.place_first();
         }
@@ -260,9 +265,20 @@ impl Session {
         ensures staged { OnOk result
             (Stages (frames_for (name.now, payload.now) (listens (session_of self.old))) self.old.mail self.new.mail) }
     {
+        let mut sending = Sending::new(alloc, name, payload);
+        self.stage_sent(&mut sending)
+    }
+
+    /// The same, of a message on its way to more sessions than this one.
+    pub(crate) fn stage_sent(&mut self, sending: &mut Sending<'_>) -> Result<(), NoMemory>
+        ensures message { sending.new ≡ sending.old }
+        ensures same { session_of self.new ≡ session_of self.old }
+        ensures staged { OnOk result
+            (Stages (frames_for sending.old (listens (session_of self.old))) self.old.mail self.new.mail) }
+    {
         if !self.is_live() {
             return Ok(());
         }
-        stage_heard(alloc, &self.subs, name, payload, &mut self.mail)
+        stage_heard(&self.subs, sending, &mut self.mail)
     }
 }

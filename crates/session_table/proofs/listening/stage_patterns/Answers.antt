@@ -13,16 +13,18 @@ use Rattle.session_table.proofs.listening.stage_patterns.Goals as goal
 pub loop-i-preserved : goal.loop-i-preserved
 loop-i-preserved c =
     let l = c.loop-i in
-    let m : Message = (c.args.name.now, c.args.payload.now) in
+    let m : Message = c.args.sending.now in
     let subs = c.args.subs.now in
     let s = c.at.result.now in
     record {
-      frames = c.stage_pattern.ensures.frames ∙ l.invariant.frames;
-      staged = subst (λ (fs : List Bytes). Stages fs c.args.mail.now c.stage_pattern.new.mail) (sym (met_more m subs l.i s c.at.ensures))
-          (stages_both (met m (take l.i subs)) (if pattern_meets m.0 s then pattern_frame s.word m ∷ [] else []) c.args.mail.now l.mail c.stage_pattern.new.mail l.invariant.staged c.in_ok-stage_pattern.ensures.staged);
+      message = c.stage_for.ensures.message ∙ l.invariant.message;
+      frames = c.stage_for.ensures.frames ∙ l.invariant.frames;
+      staged = subst (λ (fs : List Bytes). Stages fs c.args.mail.now c.stage_for.new.mail) (sym (met_more m subs l.i s c.at.ensures))
+          (stages_both (met m (take l.i subs)) (if pattern_meets m.0 s then pattern_frame s.word m ∷ [] else []) c.args.mail.now l.mail c.stage_for.new.mail l.invariant.staged
+          (subst (λ (n : Message). Stages (if pattern_meets n.0 s then pattern_frame s.word n ∷ [] else []) l.mail c.stage_for.new.mail) l.invariant.message c.in_ok-stage_for.ensures.staged));
     }
 
 pub returns-clause-staged : goal.returns-clause-staged
 returns-clause-staged c =
     let subs = c.args.subs.now in
-    subst (λ (ss : List Sub). Stages (met (c.args.name.now, c.args.payload.now) ss) c.args.mail.now c.loop-i.mail) (take_all c.loop-i.i subs (omega (arith, c.loop-i-test.false, c.len-i-end.ensures.count))) c.loop-i.invariant.staged
+    subst (λ (ss : List Sub). Stages (met c.args.sending.now ss) c.args.mail.now c.loop-i.mail) (take_all c.loop-i.i subs (omega (arith, c.loop-i-test.false, c.len-i-end.ensures.count))) c.loop-i.invariant.staged

@@ -7,6 +7,7 @@ use Rattle.session_table.proofs.listening.stage_patterns.Given as goal
 -- it was staged for the first subscriptions
 abbrev pub invariant-loop-i : goal.invariant-loop-i
 invariant-loop-i l = record {
+  message : l.sending ≡ l.initial.sending;
   frames : l.mail.frames ≡ l.initial.mail.frames;
-  staged : Stages (map (λ s. pattern_frame s.word (l.name, l.payload)) (filter (pattern_meets l.name) (take l.i l.subs))) l.initial.mail l.mail;
+  staged : Stages (map (λ s. pattern_frame s.word l.initial.sending) (filter (pattern_meets l.initial.sending.0) (take l.i l.subs))) l.initial.mail l.mail;
 }
