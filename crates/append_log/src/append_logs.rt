@@ -163,6 +163,13 @@ impl AppendLog {
         self.pending.len() as u64
     }
 
+    /// How many bytes the side has in front of the gate where the next batch goes, and the pending records with them.
+    pub fn bytes(&self) -> u64
+        ensures { result ≡ self.now.gate + length self.now.pending }
+    {
+        self.gate + self.pending()
+    }
+
     /// The version of the side in use.
     pub fn version(&self) -> u8
         ensures { result ≡ self.now.version }

@@ -7,4 +7,6 @@ pub mod Written
 pub mod Kept
 pub mod Logged
 pub mod Opened
+pub mod Histories
+pub mod HistoryLaws
 pub mod StepLaws

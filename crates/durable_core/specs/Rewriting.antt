@@ -1,5 +1,5 @@
 -- How a log is rewritten: the items of a world are copied one behind another, and each batch is copied beside them.
-use Rattle.std.specs.Prelude.{◌^◌, ℕ, Bool, true, false, not, nat_lt, ◌+◌, List, [], ◌∷◌, ◌++◌, length, filter, map, drop, if◌then◌else◌}
+use Rattle.std.specs.Prelude.{◌^◌, ℕ, Bool, true, false, not, nat_lt, ◌+◌, List, [], ◌∷◌, ◌++◌, length, filter, map, take, drop, if◌then◌else◌}
 use Rattle.byte_text.specs.Names.{Bytes}
 use Rattle.world_data.specs.declared.channels.Channel.{Channel}
 use Rattle.world_data.specs.declared.objects.Object.{Object}
@@ -93,6 +93,16 @@ next_shown w idle = idle
 next_shown w asked = going (items_of w)
 next_shown w (going []) = idle
 next_shown w (going (item ∷ items)) = going (drop 256 (item ∷ items))
+
+-- the same of what it is: it goes on behind these items that are left
+abbrev pub goes_behind : LastCopied → List Item → Rewriting
+goes_behind last [] = rewriting.Idle
+goes_behind last (item ∷ items) = rewriting.Going (last_behind last (take 256 (item ∷ items)))
+
+abbrev pub next_rewriting : World → Rewriting → Rewriting
+next_rewriting w rewriting.Idle = rewriting.Idle
+next_rewriting w rewriting.Asked = rewriting.Going last.Nothing
+next_rewriting w (rewriting.Going last) = goes_behind last (items_left last w)
 
 -- it ends with the step
 abbrev pub is_ending : Shown → Bool

@@ -1,6 +1,6 @@
 //! The core over a disk and its calls.
 
-ghost use Rattle.std.specs.Prelude.{◌≡◌, ◌≢◌, ◌⊎◌, ◌≤◌, ◌<◌, ◌+◌, ◌*◌, true, false, [], if◌then◌else◌, length, Some};
+ghost use Rattle.std.specs.Prelude.{◌≡◌, ◌≢◌, ◌⊎◌, ◌≤◌, ◌<◌, ◌+◌, ◌*◌, true, false, not, [], if◌then◌else◌, length, Some};
 ghost use Rattle.std.specs.Prelude.{Decides};
 ghost use Rattle.outside.specs.Causes.{Rose};
 ghost use Rattle.outside.specs.Sides.{Sides};
@@ -10,13 +10,14 @@ ghost use Rattle.world_model.specs.Outcomes.{enter_outcome, take_outcome, given_
 ghost use Rattle.world_model.specs.Halls.{NamesChanged, session_of};
 ghost use Rattle.world_model.specs.declared.events.Event.TheVariants as event;
 ghost use Rattle.world_model.specs.declared.events.Outcome.TheVariants as outcome;
-ghost use Rattle.journal.specs.Journals.{pending};
+ghost use Rattle.journal.specs.Journals.{log_bytes, pending};
+ghost use Rattle.journal.specs.Openings.{opened_generation};
 ghost use Rattle.log_record.specs.Batches.{records_text};
 ghost use Rattle.log_record.specs.EventWrites.{changes_of, writes_of};
 ghost use Rattle.log_record.specs.Journals.{Journal as Log};
 ghost use Rattle.log_record.specs.Recovery.{Recovers};
 ghost use Rattle.durable_core.specs.Written.{IsMirrored, KeepsSided, Sided, much, sided_next, sided_with};
-ghost use Rattle.durable_core.specs.Rewriting.{is_ending, next_shown, rewriting_after};
+ghost use Rattle.durable_core.specs.Rewriting.{is_ending, is_idle, next_shown, rewriting_after};
 ghost use Rattle.durable_core.specs.Words.{is_served_rewriting};
 ghost use Rattle.tile_core.specs.Answered.{MayCall, IsAnswered, AreSessions, StayNamed};
 ghost use Rattle.object_plans.specs.Kept.{most_kept};
@@ -53,6 +54,7 @@ impl<D: Drop> Drop for DurableCore<D> {
 
 impl<D: Disk> DurableCore<D> {
     ghost use Rattle.durable_core.specs.Logged.{hall_of, disk_of, generation_of, shown_of, KeepsLogOf, GoesOn};
+    ghost use Rattle.durable_core.specs.Histories.{writing_of, written};
 
     /// How many objects there are.
     pub fn objects(&self) -> u64
@@ -73,6 +75,20 @@ impl<D: Disk> DurableCore<D> {
         ensures { result ≡ self.now.tail.journal.log.generation }
     {
         self.tail.journal.generation()
+    }
+
+    /// How many bytes the log takes on the side in use, up to its last gate, and those that are pending with them.
+    pub fn log_bytes(&self) -> u64
+        ensures { result ≡ log_bytes self.now.tail.journal }
+    {
+        self.tail.journal.log_bytes()
+    }
+
+    /// Whether the steps to come rewrite the log: that was asked for, or it goes on.
+    pub fn is_rewriting(&self) -> bool
+        ensures { result ≡ not (is_idle self.now.tail.rewriting) }
+    {
+        !self.tail.is_idle()
     }
 
     /// Whether records are pending, which the next take that gives frames makes stand first.
@@ -295,6 +311,9 @@ impl<D: Disk> DurableCore<D> {
             (sided_with (pending self.old.tail.journal) s)) }
         ensures memory { result ≡ CallOutcome.Memory
             → (shown_of self.new ≡ shown_of self.old) × (generation_of self.new ≡ generation_of self.old) }
+        ensures writes { result ≢ CallOutcome.LogFault
+            → writing_of self.new
+            ≡ written (hall_of self.old) event.Rewrite (outcome.Answered result) (writing_of self.old) }
         ensures cause { result ≡ CallOutcome.LogFault
             → Rose (D.faults (disk_of self.old)) (D.faults (disk_of self.new)) }
         ensures later { D.faults (disk_of self.old) ≤ D.faults (disk_of self.new) }
@@ -333,6 +352,8 @@ impl<D: Disk> DurableCore<D> {
             (outcome.Answered result) j }
         ensures left { (j : Log) → KeepsLogOf D.crashes D.seen D.images self.old j → result ≡ CallOutcome.Ok
             → (s : Sides) × (D.seen (disk_of self.new) ≡ Some s) × Recovers s (hall_of self.new).world }
+        ensures found { (j : Log) → KeepsLogOf D.crashes D.seen D.images self.old j → result ≡ CallOutcome.Ok
+            → (s : Sides) → D.seen (disk_of self.new) ≡ Some s → opened_generation s ≡ generation_of self.new }
     {
         if self.is_stopped() {
             return CallOutcome::Stopped;

@@ -7,7 +7,7 @@ ghost use Rattle.journal.specs.Journals.{pending};
 ghost use Rattle.journal.specs.Keeping.{new_gate};
 ghost use Rattle.log_record.specs.Journals as log;
 ghost use Rattle.durable_core.specs.Pieces.{IsNextPiece};
-ghost use Rattle.durable_core.specs.Rewriting.{items_left, next_shown, shown_by};
+ghost use Rattle.durable_core.specs.Rewriting.{items_left, next_rewriting, next_shown, shown_by};
 ghost use Rattle.durable_core.specs.Steps.{IsEnded, IsNextStep, ended, next_generation, next_version};
 ghost use Rattle.durable_core.specs.Written.{KeepsSided, Sided, sided_next, sided_with};
 ghost use Rattle.log_sides.specs.Texts.{committed, newest};
@@ -157,6 +157,8 @@ impl<D: Disk> Tail<D> {
             → LeadsTo D.crashes D.seen D.images D.moment D.left_since self.old self.new result j j }
         ensures shown { (w : World) → IsNextStep self.old.rewriting (new_gate self.old.journal.rewriter) w step
             → OnOk result (shown_by self.new.rewriting w ≡ next_shown w (shown_by self.old.rewriting w)) }
+        ensures rewriting { (w : World) → IsNextStep self.old.rewriting (new_gate self.old.journal.rewriter) w step
+            → OnOk result (self.new.rewriting ≡ next_rewriting w self.old.rewriting) }
         ensures version { (w : World) → IsNextStep self.old.rewriting (new_gate self.old.journal.rewriter) w step
             → OnOk result
             (self.new.journal.log.version ≡ next_version self.old.rewriting w self.old.journal.log.version) }
@@ -191,6 +193,8 @@ impl<D: Disk> Tail<D> {
         ensures shown { result ≡ CallOutcome.Ok
             → shown_by self.new.rewriting core.now.hall.world
             ≡ next_shown core.now.hall.world (shown_by self.old.rewriting core.now.hall.world) }
+        ensures rewriting { result ≡ CallOutcome.Ok
+            → self.new.rewriting ≡ next_rewriting core.now.hall.world self.old.rewriting }
         ensures version { result ≡ CallOutcome.Ok
             → self.new.journal.log.version
             ≡ next_version self.old.rewriting core.now.hall.world self.old.journal.log.version }

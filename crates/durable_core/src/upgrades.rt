@@ -76,8 +76,8 @@ impl<D: Disk> Tail<D> {
         CallOutcome::Ok
     }
 
-    // Whether no rewriting is under way.
-    fn is_idle(&self) -> bool
+    /// Whether no rewriting was asked for, and none is under way.
+    pub(crate) fn is_idle(&self) -> bool
         ensures { result ≡ is_idle self.now.rewriting }
     {
         matches!(self.rewriting, Rewriting::Idle)

@@ -15,6 +15,10 @@ use Rattle.journal.specs.declared.journals.JournalFault.TheVariants.{Disk, Faile
 abbrev pub pending : {D : Type 0} → Journal D → Bytes
 pending j = j.log.pending
 
+-- the bytes in front of the closed gate of the side in use, with those that are pending
+abbrev pub log_bytes : {D : Type 0} → Journal D → ℕ
+log_bytes j = j.log.gate + length j.log.pending
+
 -- the disk of what an opening gave
 abbrev pub disk_of : {D : Type 0} → Result (Opened D) (Unopened D) → D
 disk_of (Ok o) = o.journal.disk

@@ -1,5 +1,5 @@
 -- What a journal keeps of its disk, an opening would find there.
-use Rattle.std.proofs.Common.{◌≡◌, ℕ, Bool, true, List, Option, None, Some, sym, subst}
+use Rattle.std.proofs.Common.{◌≡◌, ℕ, Bool, true, List, Option, None, Some, sym, ap, subst}
 use Rattle.byte_text.specs.Names.{Bytes}
 use Rattle.outside.specs.declared.sides.Side.{Side}
 use Rattle.outside.specs.Sides.{Sides, side_of, other_side}
@@ -11,7 +11,8 @@ use Rattle.log_sides.specs.Crashing.{safe_held}
 use Rattle.log_rewrite.specs.declared.rewriters.Rewriter.{Rewriter}
 use Rattle.journal.specs.Logs.{IsBehind, HoldsLog}
 use Rattle.journal.specs.Keeping.{IsBeside, IsKept}
-use Rattle.journal.specs.Standing.{holds, shut_behind}
+use Rattle.journal.specs.Openings.{first_generation, opened_generation}
+use Rattle.journal.specs.Standing.{holds, shut_behind, stands_in}
 
 -- what stands beside the side in use leaves it in use, whatever a crash leaves
 pub beside_holds : (crashes : Bool) (seen : Option Sides) (images : Sides → Type 0) (side : Side) (g : ℕ) (r : Option Rewriter) (copied : List Bytes)
@@ -57,3 +58,18 @@ kept_images crashes seen images side v g gate r batches copied kept told c image
     let safe = kept.log.safe in
     holds c side v g batches (subst (StandsFor v g batches) (sym (safe.settled told c image)) safe.has)
     ((beside_holds crashes seen images side g r copied kept.beside).each told c image)
+
+-- of a log of the journal's generation
+pub kept_generation : (crashes : Bool) (seen : Option Sides) (images : Sides
+    → Type 0) (side : Side) (v g gate : ℕ) (r : Option Rewriter) (batches copied : List Bytes)
+    → IsKept crashes seen images side v g gate r batches copied → (s : Sides) → seen ≡ Some s → opened_generation s ≡ g
+kept_generation crashes seen images side v g gate r batches copied kept s told =
+    let safe = kept.log.safe in
+    let held = beside_holds crashes seen images side g r copied kept.beside in
+    let here = safe.told in
+    let there = held.now.told in
+    let used : safe.contents ≡ s = cc in
+    let beside : held.now.contents ≡ s = cc in
+    ap first_generation
+    (stands_in s side v g batches (subst (λ (x : Sides). StandsFor v g batches (side_of x side)) used safe.has)
+    (subst (λ (x : Sides). IsBehind g (side_of x (other_side side))) beside held.now.has)).used

@@ -66,7 +66,7 @@ pub enum JournalFault {
 }
 
 impl<D: Disk> Journal<D> {
-    ghost use Rattle.journal.specs.Journals.{Keeps, HasRoom, SameBut, Ends, pending, disk_of};
+    ghost use Rattle.journal.specs.Journals.{Keeps, HasRoom, SameBut, Ends, pending, log_bytes, disk_of};
     ghost use Rattle.journal.specs.Openings.{AllSafeOn, IsDamaged, IsLeftByOpening, IsUnopened};
     ghost use Rattle.journal.specs.Openings.{opened_version, opened_generation, opened_len};
     ghost use Rattle.journal.specs.Opened.{IsReplayed};
@@ -143,6 +143,13 @@ impl<D: Disk> Journal<D> {
         ensures { result ≡ length (pending self.now) }
     {
         self.log.pending()
+    }
+
+    /// How many bytes the side in use has in front of its last gate, and those that are pending with them.
+    pub fn log_bytes(&self) -> u64
+        ensures { result ≡ log_bytes self.now }
+    {
+        self.log.bytes()
     }
 
     /// The version of the side in use.

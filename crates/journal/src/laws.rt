@@ -6,13 +6,14 @@ ghost use Rattle.outside.specs.Sides.{Sides};
 ghost use Rattle.outside.specs.Crashes.{EachImage};
 ghost use Rattle.journal.specs.Logs.{HoldsLog};
 ghost use Rattle.journal.specs.Journals.{Keeps};
+ghost use Rattle.journal.specs.Openings.{opened_generation};
 
 use crate::journals::Journal;
 use append_log::logs_read_once;
 use outside::Disk;
 
 /// What a journal keeps of its disk, an opening would find there: the disk tells its contents, which hold the committed
-/// batches, and so does whatever a crash may leave.
+/// batches in a log of the journal's generation, and whatever a crash may leave holds the batches.
 pub fn kept_logs_hold<D: Disk>(journal: &Journal<D>)
     ensures told { (batches copied : List Bytes) → Keeps D.crashes D.seen D.images journal.now batches copied
         → (s : Sides) × (D.seen journal.now.disk ≡ Some s) }
@@ -21,6 +22,8 @@ pub fn kept_logs_hold<D: Disk>(journal: &Journal<D>)
     ensures images { (batches copied : List Bytes) → Keeps D.crashes D.seen D.images journal.now batches copied
         → D.crashes journal.now.disk ≡ true
         → EachImage (D.images journal.now.disk) (HoldsLog journal.now.log.version batches) }
+    ensures generation { (batches copied : List Bytes) → Keeps D.crashes D.seen D.images journal.now batches copied
+        → (s : Sides) → D.seen journal.now.disk ≡ Some s → opened_generation s ≡ journal.now.log.generation }
 {
     // Naming the journal shows the proof its invariant.
     let _kept = journal;

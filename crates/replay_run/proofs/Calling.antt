@@ -11,6 +11,7 @@ use Rattle.world_model.specs.declared.events.CallOutcome.TheVariants as called
 use Rattle.world_model.specs.declared.events.Event.{Event}
 use Rattle.world_model.specs.declared.events.Outcome.{Outcome}
 use Rattle.log_record.specs.Journals.{Journal, TellsNow, is_retire}
+use Rattle.durable_core.specs.Histories.{is_failed_step, writing_of, written}
 use Rattle.durable_core.specs.Logged.{hall_of, disk_of, KeepsLogOf, GoesOn}
 use Rattle.durable_core.specs.declared.cores.DurableCore.{DurableCore}
 use Rattle.replay_run.specs.declared.halts.Halt.{Halt}
@@ -77,12 +78,13 @@ module _ {D : Type 0} (crashes : D → Bool) (seen : D → Option Sides) (images
 
   -- of a call whose answer is printed
   pub comes_of : (r : Result Bytes Halt) → is_retire e ≡ false → (hall_of old).stopped ≡ false → Step (hall_of old) e o (hall_of new)
+      → (is_failed_step e o ≡ false → writing_of new ≡ written (hall_of old) e o (writing_of old))
       → crashes (disk_of new) ≡ crashes (disk_of old) → faults (disk_of old) ≤ faults (disk_of new) → (is_log_fault o ≡ true → Rose (faults (disk_of old)) (faults (disk_of new)))
       → ((j : Journal) → KeepsLogOf crashes seen images old j → GoesOn crashes seen images moment left_since old new e o j)
       → IfOk r (λ out. printed o ≡ Some out) → IfErr r (λ halt. IsUnprinted halt o)
       → Comes crashes seen images moment left_since faults old new (λ out deeds. Makes (hall_of old) e (trace deeds out) (hall_of new)) (λ halt deeds. Fails halt (hall_of old) e deeds (hall_of new)) r
-  comes_of r other goes step told later cause log done failed =
-      comes_by r goes step other later cause (stays_safe crashes seen images moment left_since faults tells old new e o other step told later cause log) done failed
+  comes_of r other goes step writes told later cause log done failed =
+      comes_by r goes step other later cause (stays_safe crashes seen images moment left_since faults tells old new e o other step writes told later cause log) done failed
 
 module _ {D : Type 0} (crashes : D → Bool) (seen : D → Option Sides) (images : D → Sides → Type 0) (moment : D → ℕ) (left_since : D → ℕ → Sides → Type 0) (faults : D → ℕ) where
   -- what comes of calls that were done, or not, seen otherwise

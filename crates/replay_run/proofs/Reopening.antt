@@ -37,10 +37,15 @@ use Rattle.log_record.specs.RunLaws.{openings_keep_runs_safe}
 use Rattle.world_recovery.specs.BatchesHeld.{held_recovers}
 use Rattle.world_recovery.specs.Recorded.{world_in}
 use Rattle.durable_core.specs.Kept.{settled_log}
+use Rattle.durable_core.specs.Histories.{writing_of}
+use Rattle.durable_core.specs.HistoryLaws.{writing_is}
 use Rattle.durable_core.specs.Logged.{hall_of, disk_of, generation_of, IsLogOf, KeepsLogOf, GoesOn}
+use Rattle.durable_core.specs.Upgrading.{upgraded}
+use Rattle.durable_core.specs.declared.rewritings.Rewriting.TheVariants.{Idle}
 use Rattle.durable_core.specs.Opened.{IsLeftByStart, IsOpening}
 use Rattle.durable_core.specs.Written.{IsMirrored, KeepsSided, Sided, sided_with}
 use Rattle.durable_core.specs.declared.cores.DurableCore.{DurableCore}
+use Rattle.journal.specs.Openings.{opened_generation, opened_version}
 use Rattle.journal.specs.declared.openings.OpenFault.{OpenFault}
 use Rattle.journal.specs.declared.openings.OpenFault.TheVariants as fault_of
 use Rattle.replay_run.specs.declared.halts.Halt.TheVariants as halted
@@ -368,9 +373,12 @@ module _ {D : Type 0} (crashes : D → Bool) (seen : D → Option Sides) (images
       → ((s : Sides) → seen disk ≡ Some s → IsLogOf crashes seen images new (settled_log (hall_of new).world))
       → ((s : Sides) → seen disk ≡ Some s → crashes disk ≡ true → IsOpening images moment left_since (moment disk) (faults (disk_of new)) new)
       → crashes (disk_of new) ≡ crashes disk → faults disk ≤ faults (disk_of new)
+      → writing_of mid ≡ writing_of old
+      → ((j : Journal) → KeepsLogOf crashes seen images old j → called.Ok ≡ called.Ok → (s : Sides) → seen (disk_of mid) ≡ Some s → opened_generation s ≡ generation_of mid)
+      → new.tail.rewriting ≡ Idle → ((s : Sides) → seen disk ≡ Some s → generation_of new ≡ upgraded (opened_version s) (opened_generation s))
       → (deeds : List Deed) × ((told : Bool) → (told ≡ true → Logs crashes seen images old) → Reopens told (record { hall = hall_of old; readers = readers }) deeds (record { hall = hall_of new; readers = [] }))
       × StaysSafe crashes seen images moment left_since faults old new deeds
-  opened_again old mid new disk readers is step later told log left as_read held leaves first sound recovers logged opened told_new not_fallen = (
+  opened_again old mid new disk readers is step later told log left as_read held leaves first sound recovers logged opened told_new not_fallen kept found idle at = (
     does event.Retire (answer called.Ok) ∷ opens (hall_of new).world (hall_of new).logged ∷ [],
     λ keeps logs. record {
       left = hall_of mid;
@@ -386,6 +394,15 @@ module _ {D : Type 0} (crashes : D → Bool) (seen : D → Option Sides) (images
       made = refl;
     },
     record {
+      rewrites = λ j.
+          let l = left j.0 j.1 refl in
+          let same : opened_generation l.0 ≡ generation_of mid = found j.0 j.1 refl l.0 l.1 in (
+            hall_of mid,
+            writing_of mid,
+            step,
+            λ _. kept,
+            (opened_version l.0, (first, writing_is new _ _ idle (at l.0 (ap seen is ∙ l.1) ∙ ap (λ (g : ℕ). upgraded (opened_version l.0) g) same))),
+          );
       logs = λ j. let l = left j.0 j.1 refl in (settled_log (hall_of new).world, λ goes. logged l.0 (ap seen is ∙ l.1));
       stands = λ before s.
           let l = left s.behind.log s.kept refl in

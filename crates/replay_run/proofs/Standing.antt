@@ -22,9 +22,11 @@ use Rattle.log_record.specs.Runs.{and_then}
 use Rattle.log_record.specs.RunLaws.{turns_keep_runs_safe}
 use Rattle.log_record.specs.LeadingLaws.{leads_on, passes_all}
 use Rattle.log_record.specs.Acknowledged.{moment_last, count_last}
+use Rattle.durable_core.specs.Histories.{Writing, is_failed_step, writing_of, written}
 use Rattle.durable_core.specs.Logged.{hall_of, disk_of, KeepsLogOf, GoesOn}
 use Rattle.durable_core.specs.declared.cores.DurableCore.{DurableCore}
 use Rattle.replay_run.specs.Traces.{Deed, opens, does, done_by, deeds_of}
+use Rattle.replay_run.specs.Rewritings.{Rewrites}
 use Rattle.replay_run.specs.Standing.{IsSafeFor, IsBehind, StandsBehind, StaysSafe}
 
 -- what a run shows
@@ -127,6 +129,12 @@ count_rose c a b le rose = by_new (one_of (nat_lt b most_count) b most_count ref
         let most : most_count ≤ b = subst (λ (z : ℕ). z ≤ b) last rose in
         inr (min-eq_right most)
 
+-- deeds behind others
+rewrites_then : (h mid last : Hall) (w m end : Writing) (first others : List Deed) → Rewrites h w first mid m → Rewrites mid m others last end → Rewrites h w (first ++ others) last end
+rewrites_then h mid last w m end [] others a b = subst (λ (g : Hall). Rewrites g w others last end) a.0 (subst (λ (x : Writing). Rewrites mid x others last end) a.1 b)
+rewrites_then h mid last w m end (does event outcome ∷ first) others a b = (a.0, a.1, a.2, a.3, rewrites_then a.0 mid last a.1 m end first others a.4 b)
+rewrites_then h mid last w m end (opens world logged ∷ first) others a b = (a.0, rewrites_then _ mid last _ m end first others a.1 b)
+
 module _ {D : Type 0} (crashes : D → Bool) (seen : D → Option Sides) (images : D → Sides → Type 0) (moment : D → ℕ) (left_since : D → ℕ → Sides → Type 0) (faults : D → ℕ) (tells : (d : D) → TellsNow images moment left_since d) where
   -- the entry of an event at the end of its call
   abbrev entry_of : D → Event → Outcome → Entry
@@ -171,11 +179,13 @@ module _ {D : Type 0} (crashes : D → Bool) (seen : D → Option Sides) (images
 
   -- a call of a core that goes on
   pub stays_safe : (old new : DurableCore D) (event : Event) (outcome : Outcome) → is_retire event ≡ false → Step (hall_of old) event outcome (hall_of new)
+      → (is_failed_step event outcome ≡ false → writing_of new ≡ written (hall_of old) event outcome (writing_of old))
       → crashes (disk_of new) ≡ crashes (disk_of old) → faults (disk_of old) ≤ faults (disk_of new) → (is_log_fault outcome ≡ true → Rose (faults (disk_of old)) (faults (disk_of new)))
       → ((j : Journal) → KeepsLogOf crashes seen images old j → GoesOn crashes seen images moment left_since old new event outcome j)
       → StaysSafe crashes seen images moment left_since faults old new (does event outcome ∷ [])
   unfolding one_more
-  stays_safe old new event outcome other step told not_fallen cause goes = record {
+  stays_safe old new event outcome other step writes told not_fallen cause goes = record {
+    rewrites = λ _. (hall_of new, writing_of new, step, writes, (refl, refl));
     logs = λ l. let went = goes l.0 l.1 in (went.after, went.log);
     stands = λ before s.
         let went = goes s.behind.log s.kept in
@@ -189,12 +199,13 @@ module _ {D : Type 0} (crashes : D → Bool) (seen : D → Option Sides) (images
 
 module _ {D : Type 0} (crashes : D → Bool) (seen : D → Option Sides) (images : D → Sides → Type 0) (moment : D → ℕ) (left_since : D → ℕ → Sides → Type 0) (faults : D → ℕ) where
   pub stays_same : (core : DurableCore D) → StaysSafe crashes seen images moment left_since faults core core []
-  stays_same core = record { logs = λ l. l; stands = λ before s. subst (λ (z : List Deed). StandsBehind crashes seen images moment left_since faults core z) (sym (append-nil before)) s }
+  stays_same core = record { logs = λ l. l; rewrites = λ _. (refl, refl); stands = λ before s. subst (λ (z : List Deed). StandsBehind crashes seen images moment left_since faults core z) (sym (append-nil before)) s }
 
   pub stays_more : (old mid new : DurableCore D) (first others : List Deed) → StaysSafe crashes seen images moment left_since faults old mid first → StaysSafe crashes seen images moment left_since faults mid new others
       → StaysSafe crashes seen images moment left_since faults old new (first ++ others)
   stays_more old mid new first others a b = record {
     logs = λ l. b.logs (a.logs l);
+    rewrites = λ l. rewrites_then (hall_of old) (hall_of mid) (hall_of new) (writing_of old) (writing_of mid) (writing_of new) first others (a.rewrites l) (b.rewrites (a.logs l));
     stands = λ before s. subst (λ (z : List Deed). StandsBehind crashes seen images moment left_since faults new z) (append_assoc before first others) (b.stands (before ++ first) (a.stands before s));
   }
 

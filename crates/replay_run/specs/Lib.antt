@@ -13,6 +13,7 @@ pub mod Steps
 pub mod Cuts
 pub mod OneOutput
 pub mod Openings
+pub mod Rewritings
 pub mod Standing
 pub mod Players
 pub mod Plays

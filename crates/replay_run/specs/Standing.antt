@@ -12,8 +12,10 @@ use Rattle.world_model.specs.declared.events.Opening.{Opening}
 use Rattle.log_record.specs.Journals.{Journal}
 use Rattle.log_record.specs.Safety.{Run, moment_after, count_after, out_after, entries_of, RecoversPassed, RunPasses, SafeRun}
 use Rattle.log_record.specs.Runs.{and_then, RunStood}
+use Rattle.durable_core.specs.Histories.{writing_of}
 use Rattle.durable_core.specs.Logged.{hall_of, disk_of, KeepsLogOf}
 use Rattle.durable_core.specs.declared.cores.DurableCore.{DurableCore}
+use Rattle.replay_run.specs.Rewritings.{Rewrites}
 use Rattle.replay_run.specs.Traces.{Deed, does, deeds_of}
 use Rattle.replay_run.specs.declared.halts.Halt.{Halt}
 use Rattle.replay_run.specs.declared.halts.Halt.TheVariants as halted
@@ -53,10 +55,11 @@ pub record StandsBehind {D : Type 0} (crashes : D → Bool) (seen : D → Option
 abbrev pub Logs : {D : Type 0} → (D → Bool) → (D → Option Sides) → (D → Sides → Type 0) → DurableCore D → Type 0
 Logs crashes seen images core = (j : Journal) × KeepsLogOf crashes seen images core j
 
--- from one core to another these deeds were made: a log is kept still, and the disk stays safe for all
+-- From one core to another these deeds were made: a log is kept still, it is rewritten as they say, and the disk stays safe for all.
 pub record StaysSafe {D : Type 0} (crashes : D → Bool) (seen : D → Option Sides) (images : D → Sides → Type 0) (moment : D → ℕ) (left_since : D → ℕ
     → Sides → Type 0) (faults : D → ℕ) (old new : DurableCore D) (deeds : List Deed) : Type 0 where
   pub logs : Logs crashes seen images old → Logs crashes seen images new
+  pub rewrites : Logs crashes seen images old → Rewrites (hall_of old) (writing_of old) deeds (hall_of new) (writing_of new)
   pub stands : (before : List Deed) → StandsBehind crashes seen images moment left_since faults old before
       → StandsBehind crashes seen images moment left_since faults new (before ++ deeds)
 

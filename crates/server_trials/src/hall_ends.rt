@@ -10,7 +10,7 @@ use std::alloc::Global;
 use std::process::Abort;
 use std::sync::Wait;
 use std::test::Fail;
-use world_model::{CallOutcome, ChangedSessions, EnterFault, Frames, HallApi, Taken};
+use world_model::{CallOutcome, ChangedSessions, EnterFault, Frames, HallApi, LogState, Taken};
 
 // Sessions are entered, closed and removed.
 fn end_sessions<D: Disk + Drop, R: Wait + Abort>(
@@ -31,7 +31,7 @@ fn end_sessions<D: Disk + Drop, R: Wait + Abort>(
         hall.tick(rt, seat, 5, ChangedSessions::new(alloc)?).0,
         CallOutcome::Ok
     );
-    assert_eq!(rt; hall.step_rewrite(rt, seat), CallOutcome::Ok);
+    assert_eq!(rt; hall.step_rewrite(rt, seat).0, CallOutcome::Ok);
     let closed = taken(rt, alloc, hall, seat, 1);
     assert!(rt; closed.is_some_and(|text| text.bytes().is_empty()));
     let removed = taken(rt, alloc, hall, seat, 2);
@@ -67,7 +67,14 @@ fn a_hall_gives_its_disk_out_once(rt: HostRuntime) -> Result<(), Fail> {
     assert_eq!(rt; end, CallOutcome::Ok);
     assert!(rt; hall.retire(&rt, &mut seat).is_none());
     assert_eq!(rt; hall.enter(&rt, &mut seat), Err(EnterFault::Stopped));
-    assert_eq!(rt; hall.step_rewrite(&rt, &mut seat), CallOutcome::Stopped);
+    let gone = LogState {
+        bytes: 0,
+        is_rewriting: false,
+    };
+    assert_eq!(rt;
+        hall.step_rewrite(&rt, &mut seat),
+        (CallOutcome::Stopped, gone)
+    );
     let mut frames = Frames::new(alloc)?;
     assert_eq!(rt; hall.take(&rt, &mut seat, 1, &mut frames), Taken::Stopped);
     hall.close(&rt, &mut seat, 1);

@@ -11,7 +11,7 @@ fn asked(alloc: Global, words: &[&str]) -> Result<Option<LoadWords>, Fail> {
     for word in words {
         all.push(word.to_string(alloc)?)?;
     }
-    Ok(load_words(all.as_slice()))
+    Ok(load_words(alloc, all.as_slice())?)
 }
 
 #[test]

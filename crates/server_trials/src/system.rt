@@ -1,14 +1,15 @@
 //! The real things, over the loopback and in the current folder.
 
-use outside::{Clock, Disk, Failed, MAX_MOMENT, Side, Sink, Source};
-use poll_io::{PollDoor, PollLink, PollWait};
-use ready_links::{Caller, Got, Named, ReadyDoor, ReadyLink, Sent, WaitForLinks, Wake};
+use outside::{
+    Caller, Clock, Disk, Failed, Got, MAX_MOMENT, Named, ReadyDoor, ReadyLink, Sent, Side, Sink,
+    Source, WaitForLinks, Wake,
+};
 use std::fs;
 use std::io::{Read, Write};
 use std::net::TcpStream;
 use std::process::Abort;
 use std::test::Fail;
-use system_io::{FolderDisk, StdinSource, StdoutSink, WallClock};
+use system_io::{FolderDisk, PollDoor, PollLink, PollWait, StdinSource, StdoutSink, WallClock};
 
 // A door at a port of this machine.
 fn door_at(rt: &HostRuntime, addr: &str) -> Result<PollDoor<HostRuntime>, Failed> {

@@ -1,28 +1,40 @@
 -- What each call of a core is to its history: an act.
 use Rattle.std.proofs.Common.{◌≡◌, ◌≤◌, ℕ, Bool, true, false, Option, refl, sym, ap, ◌∙◌, subst, arith, true≢false}
-use Rattle.std.specs.Prelude.{◌||◌}
+use Rattle.std.specs.Prelude.{◌||◌, Some}
 use Rattle.outside.specs.Causes.{Rose}
 use Rattle.outside.specs.Sides.{Sides}
 use Rattle.world_model.specs.Halls.{Hall}
 use Rattle.world_model.specs.Histories.{Step, when_stopped, stopped, is_log_fault}
 use Rattle.world_model.specs.Seats.{Act}
+use Rattle.world_model.specs.declared.events.CallOutcome.{CallOutcome}
+use Rattle.world_model.specs.declared.events.CallOutcome.TheVariants as called
 use Rattle.world_model.specs.declared.events.Event.{Event}
 use Rattle.world_model.specs.declared.events.Event.TheVariants.{Retire}
 use Rattle.world_model.specs.declared.events.Outcome.{Outcome}
-use Rattle.log_record.specs.Journals.{Journal, Turn, TellsNow, is_retire}
+use Rattle.world_model.specs.declared.events.Outcome.TheVariants.{Answered}
+use Rattle.journal.specs.Openings.{opened_generation}
+use Rattle.log_record.specs.Journals.{Journal, Turn, TellsNow, is_retire, shows}
+use Rattle.log_record.specs.Recovery.{Recovers}
 use Rattle.log_record.specs.AnswerLaws.{stopped_says}
 use Rattle.log_record.specs.Laws.{KeepsSafe}
 use Rattle.log_record.specs.TurnLaws.{turn_keeps_safe}
-use Rattle.durable_core.specs.Logged.{hall_of, disk_of, KeepsLogOf, GoesOn}
+use Rattle.durable_core.specs.Logged.{hall_of, disk_of, generation_of, KeepsLogOf, GoesOn}
 use Rattle.durable_core.specs.StepLaws.{stops, same_hall}
 use Rattle.durable_core.specs.declared.cores.DurableCore.{DurableCore}
-use Rattle.shared_hall.specs.Cores.{hall_in, disk_in, has_left, KeepsIn, Acts}
+use Rattle.durable_core.specs.Histories.{Writing, is_failed_step, written, writing_of}
+use Rattle.shared_hall.specs.Cores.{hall_in, writing_in, disk_in, has_left, KeepsIn, Acts}
+use Rattle.shared_hall.specs.Turns.{GivesOut}
 use Rattle.shared_hall.specs.declared.places.Place.{Place}
 use Rattle.shared_hall.specs.declared.places.Place.TheVariants.{Inside}
+use Rattle.shared_hall.proofs.Writes.{nothing_written}
 
 module _ {D : Type 0} (crashes : D → Bool) (seen : D → Option Sides) (images : D → Sides → Type 0) (moment : D → ℕ) (left_since : D → ℕ → Sides → Type 0) (faults : D → ℕ) where
   abbrev Acted : Place D → Place D → Act → Type 0
   Acted = Acts crashes seen images moment left_since faults
+
+  -- what an event does to a rewriting
+  abbrev HasWritten : DurableCore D → DurableCore D → Event → Outcome → Type 0
+  HasWritten c d event outcome = is_failed_step event outcome ≡ false → writing_of d ≡ written (hall_of c) event outcome (writing_of c)
 
   -- moments do not fall
   not_earlier : (old new : D) (h next : Hall) (event : Event) (outcome : Outcome) (before after : Journal) → Turn images moment left_since old new h before event outcome next after → (b : Bool) → h.stopped ≡ b → moment old ≤ moment new
@@ -30,12 +42,13 @@ module _ {D : Type 0} (crashes : D → Bool) (seen : D → Option Sides) (images
   not_earlier old new h next event outcome before after turn false is = (turn.leaves is).later
 
   -- a call of a core
-  pub acted_inside : (c d : DurableCore D) (event : Event) (outcome : Outcome) → is_retire event ≡ false → Step (hall_of c) event outcome (hall_of d)
+  pub acted_inside : (c d : DurableCore D) (event : Event) (outcome : Outcome) → is_retire event ≡ false → Step (hall_of c) event outcome (hall_of d) → HasWritten c d event outcome
       → (is_log_fault outcome ≡ true → Rose (faults (disk_of c)) (faults (disk_of d))) → faults (disk_of c) ≤ faults (disk_of d) → crashes (disk_of d) ≡ crashes (disk_of c)
       → ((j : Journal) → KeepsLogOf crashes seen images c j → GoesOn crashes seen images moment left_since c d event outcome j)
       → Acted (Inside c) (Inside d) (event, outcome)
-  acted_inside c d event outcome stays step cause later told log = record {
+  acted_inside c d event outcome stays step writes cause later told log = record {
     step = step;
+    writes = writes;
     later = later;
     cause = cause;
     told = told;
@@ -48,12 +61,12 @@ module _ {D : Type 0} (crashes : D → Bool) (seen : D → Option Sides) (images
   }
 
   -- one that leaves the disk alone
-  pub acted_beside : (c d : DurableCore D) (event : Event) (outcome : Outcome) → is_retire event ≡ false → Step (hall_of c) event outcome (hall_of d) → is_log_fault outcome ≡ false → disk_of d ≡ disk_of c
+  pub acted_beside : (c d : DurableCore D) (event : Event) (outcome : Outcome) → is_retire event ≡ false → Step (hall_of c) event outcome (hall_of d) → HasWritten c d event outcome → is_log_fault outcome ≡ false → disk_of d ≡ disk_of c
       → ((j : Journal) → KeepsLogOf crashes seen images c j → GoesOn crashes seen images moment left_since c d event outcome j)
       → Acted (Inside c) (Inside d) (event, outcome)
-  acted_beside c d event outcome stays step fine same log =
+  acted_beside c d event outcome stays step writes fine same log =
       let kept = ap faults same in
-      acted_inside c d event outcome stays step (λ failed. absurd (true≢false (sym failed ∙ fine))) (omega (arith, kept)) (ap crashes same) log
+      acted_inside c d event outcome stays step writes (λ failed. absurd (true≢false (sym failed ∙ fine))) (omega (arith, kept)) (ap crashes same) log
 
   -- a core whose disk was given out does nothing
   acted_outside : (p : Place D) (event : Event) → has_left p ≡ true → (hall_in p).stopped ≡ true → ((disk : D) → TellsNow images moment left_since disk) → Acted p p (event, when_stopped event)
@@ -68,6 +81,7 @@ module _ {D : Type 0} (crashes : D → Bool) (seen : D → Option Sides) (images
         told = refl;
         out = left ∙ sym (ap (λ (b : Bool). b || is_retire event) left);
         stays = λ _. refl;
+        writes = λ _. nothing_written h event (writing_in p);
         log = λ j kept crash.
             let turn : Turn images moment left_since d d h j event (when_stopped event) h j = record {
               stopped = λ _. refl;
@@ -81,18 +95,18 @@ module _ {D : Type 0} (crashes : D → Bool) (seen : D → Option Sides) (images
 
   -- the same of the place where a core was found
 
-  pub does_inside : (p q : Place D) (c d : DurableCore D) (event : Event) (outcome : Outcome) → q ≡ p → q ≡ Inside c → is_retire event ≡ false → Step (hall_of c) event outcome (hall_of d)
+  pub does_inside : (p q : Place D) (c d : DurableCore D) (event : Event) (outcome : Outcome) → q ≡ p → q ≡ Inside c → is_retire event ≡ false → Step (hall_of c) event outcome (hall_of d) → HasWritten c d event outcome
       → (is_log_fault outcome ≡ true → Rose (faults (disk_of c)) (faults (disk_of d))) → faults (disk_of c) ≤ faults (disk_of d) → crashes (disk_of d) ≡ crashes (disk_of c)
       → ((j : Journal) → KeepsLogOf crashes seen images c j → GoesOn crashes seen images moment left_since c d event outcome j)
       → Acted p (Inside d) (event, outcome)
-  does_inside p q c d event outcome same is stays step cause later told log =
-      subst (λ (x : Place D). Acted x (Inside d) (event, outcome)) (sym is ∙ same) (acted_inside c d event outcome stays step cause later told log)
+  does_inside p q c d event outcome same is stays step writes cause later told log =
+      subst (λ (x : Place D). Acted x (Inside d) (event, outcome)) (sym is ∙ same) (acted_inside c d event outcome stays step writes cause later told log)
 
-  pub does_beside : (p q : Place D) (c d : DurableCore D) (event : Event) (outcome : Outcome) → q ≡ p → q ≡ Inside c → is_retire event ≡ false → Step (hall_of c) event outcome (hall_of d) → is_log_fault outcome ≡ false → disk_of d ≡ disk_of c
+  pub does_beside : (p q : Place D) (c d : DurableCore D) (event : Event) (outcome : Outcome) → q ≡ p → q ≡ Inside c → is_retire event ≡ false → Step (hall_of c) event outcome (hall_of d) → HasWritten c d event outcome → is_log_fault outcome ≡ false → disk_of d ≡ disk_of c
       → ((j : Journal) → KeepsLogOf crashes seen images c j → GoesOn crashes seen images moment left_since c d event outcome j)
       → Acted p (Inside d) (event, outcome)
-  does_beside p q c d event outcome same is stays step fine alone log =
-      subst (λ (x : Place D). Acted x (Inside d) (event, outcome)) (sym is ∙ same) (acted_beside c d event outcome stays step fine alone log)
+  does_beside p q c d event outcome same is stays step writes fine alone log =
+      subst (λ (x : Place D). Acted x (Inside d) (event, outcome)) (sym is ∙ same) (acted_beside c d event outcome stays step writes fine alone log)
 
   pub does_nothing : (p q left : Place D) (event : Event) → q ≡ p → q ≡ left → has_left left ≡ true → (hall_in left).stopped ≡ true → ((disk : D) → TellsNow images moment left_since disk) → Acted p q (event, when_stopped event)
   does_nothing p q left event same is out stops tells =
@@ -103,12 +117,12 @@ module _ {D : Type 0} (crashes : D → Bool) (seen : D → Option Sides) (images
   hall_inside p q c same is = ap hall_in (sym is ∙ same)
 
   -- a retirement, after which the disk is given out
-  pub retired : (p q : Place D) (c d : DurableCore D) (outcome : Outcome) → p ≡ Inside c → has_left q ≡ true → hall_in q ≡ stopped (hall_of d) → disk_in q ≡ disk_of d → ((k : Journal) → KeepsIn crashes seen images q k)
+  pub retired : (p q : Place D) (c d : DurableCore D) (outcome : Outcome) → p ≡ Inside c → has_left q ≡ true → hall_in q ≡ stopped (hall_of d) → disk_in q ≡ disk_of d → writing_in q ≡ writing_of d → writing_of d ≡ writing_of c → ((k : Journal) → KeepsIn crashes seen images q k)
       → (hall_of d).stopped ≡ true → Step (hall_of c) Retire outcome (hall_of d)
       → (is_log_fault outcome ≡ true → Rose (faults (disk_of c)) (faults (disk_of d))) → faults (disk_of c) ≤ faults (disk_of d) → crashes (disk_of d) ≡ crashes (disk_of c)
       → ((j : Journal) → KeepsLogOf crashes seen images c j → GoesOn crashes seen images moment left_since c d Retire outcome j)
       → Acted p q (Retire, outcome)
-  retired p q c d outcome is out hall same keeps stops step cause later told log =
+  retired p q c d outcome is out hall same carried kept_so keeps stops step cause later told log =
       let there : hall_of d ≡ hall_in q = sym (hall ∙ same_hall (hall_of d) true stops) in
       subst (λ (x : Place D). Acted x q (Retire, outcome)) (sym is) (record {
         step = subst (λ (h : Hall). Step (hall_of c) Retire outcome h) there step;
@@ -117,6 +131,7 @@ module _ {D : Type 0} (crashes : D → Bool) (seen : D → Option Sides) (images
         told = ap crashes same ∙ told;
         out = out;
         stays = λ out. absurd (true≢false (sym out));
+        writes = λ _. carried ∙ kept_so;
         log = λ j kept crash.
             let on = log j kept in
             let owes = on.owes crash in (
@@ -127,3 +142,19 @@ module _ {D : Type 0} (crashes : D → Bool) (seen : D → Option Sides) (images
                   (subst (λ (h : Hall). KeepsSafe images moment left_since (disk_of c) (disk_of d) (hall_of c) j Retire outcome h on.after) there owes.safe),
             );
       })
+
+  -- and the disk that it gives out
+  pub gives_out : (p q : Place D) (c d : DurableCore D) (given : D) (answer : CallOutcome) → p ≡ Inside c → has_left q ≡ true → hall_in q ≡ stopped (hall_of d) → disk_in q ≡ disk_of d → writing_in q ≡ writing_of d → given ≡ disk_of d
+      → ((j : Journal) → KeepsLogOf crashes seen images c j → GoesOn crashes seen images moment left_since c d Retire (Answered answer) j)
+      → ((j : Journal) → KeepsLogOf crashes seen images c j → answer ≡ called.Ok → (s : Sides) → seen (disk_of d) ≡ Some s → opened_generation s ≡ generation_of d)
+      → GivesOut crashes seen images moment left_since faults p (Some (given, answer)) q
+  gives_out p q c d given answer is out hall same carried back log found =
+      subst (λ (x : Place D). GivesOut crashes seen images moment left_since faults x (Some (given, answer)) q) (sym is) (
+        refl,
+        out,
+        same ∙ sym back,
+        λ j kept crash ok image at.
+            let shown = ((log j kept).owes crash).turn.shown (ap (λ (a : CallOutcome). shows Retire (Answered a)) ok) in
+            subst (λ (h : Hall). Recovers image h.world) (sym hall) (shown image (subst (λ (x : D). images x image) back at)),
+        λ j kept ok s told. found j kept ok s (subst (λ (x : D). seen x ≡ Some s) back told) ∙ sym (ap (λ (w : Writing). w.generation) carried),
+      )

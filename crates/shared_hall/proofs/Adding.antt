@@ -1,5 +1,5 @@
 -- What a turn adds to what a seat shows.
-use Rattle.std.proofs.Common.{◌≡◌, ℕ, zero, suc, ◌+◌, Bool, false, List, [], ◌∷◌, ◌++◌, length, map, take, drop, refl, sym, ap, ◌∙◌, subst, take-append-drop}
+use Rattle.std.proofs.Common.{◌≡◌, ℕ, zero, suc, ◌+◌, Bool, false, List, [], ◌∷◌, ◌++◌, length, map, take, drop, refl, sym, ap, ◌∙◌, subst}
 use Rattle.std.specs.Prelude.{Option, Some}
 use Rattle.std.specs.List.{range_with_len}
 use Rattle.outside.specs.Sides.{Sides}
@@ -16,11 +16,11 @@ use Rattle.world_model.specs.declared.events.CallOutcome.{CallOutcome}
 use Rattle.world_model.specs.declared.events.CallOutcome.TheVariants as called
 use Rattle.world_model.specs.declared.events.Entry.{Entry}
 use Rattle.world_model.specs.declared.events.Opening.{Opening}
-use Rattle.world_model.specs.Turns.{AddsServed}
 use Rattle.log_record.specs.Journals.{is_retire}
+use Rattle.durable_core.specs.Histories.{Writing}
 use Rattle.shared_hall.specs.Cores.{hall_in, tells, StandsIn}
 use Rattle.shared_hall.specs.Times.{Time, entries_at, is_retirement}
-use Rattle.shared_hall.specs.Turns.{acts, Gives, CallsNamed}
+use Rattle.shared_hall.specs.Turns.{acts, Gives}
 use Rattle.shared_hall.specs.declared.places.Begun.{Begun}
 use Rattle.shared_hall.specs.declared.places.Place.{Place}
 use Rattle.shared_hall.specs.declared.works.HallWork.{HallWork}
@@ -53,20 +53,12 @@ adds k l b log made acts was t are legal =
       legal = subst (λ (z : Opening). IsLegal z l.seen) (sym opens) (subst (λ (z : List Entry). IsLegal b.opening z) (sym t.seen) legal);
     }
 
-front_are : (es : List Entry) (calls rest : List Act) → map act_of es ≡ calls ++ rest → map act_of (take (length calls) es) ≡ calls
-front_are es [] rest is = refl
-front_are [] (c ∷ calls) rest is = absurd (cc)
-front_are (e ∷ es) (c ∷ calls) rest is =
-    let here : act_of e ≡ c = cc in
-    let more : map act_of es ≡ calls ++ rest = cc in
-    ap (λ (a : Act). a ∷ map act_of (take (length calls) es)) here ∙ ap (λ (l : List Act). c ∷ l) (front_are es calls rest more)
-
-module _ {D : Type 0} (crashes : D → Bool) (seen : D → Option Sides) (images : D → Sides → Type 0) (moment : D → ℕ) (left_since : D → ℕ → Sides → Type 0) (faults : D → ℕ) (handed : D) where
+module _ {D : Type 0} (crashes : D → Bool) (seen : D → Option Sides) (images : D → Sides → Type 0) (moment : D → ℕ) (left_since : D → ℕ → Sides → Type 0) (faults : D → ℕ) (handed : D) (first : Writing) where
   abbrev Done : HallWork → HallAnswer D → Knows → Knows → Type 0
-  Done = IsDone crashes seen images moment left_since faults handed
+  Done = IsDone crashes seen images moment left_since faults handed first
 
   abbrev In : Bool → Place D → Opening → List Entry → Type 0
-  In = StandsIn crashes seen images moment left_since faults
+  In told = StandsIn crashes seen images moment left_since faults told first
 
   -- a turn did the work, and its acts are the seat's own
   pub is_done : StepsLeadToOne → (told : Bool) (w : HallWork) (out : HallAnswer D) (k l : Known (Begun D) Entry) (b : Begun D) (log made : List Entry) (g h' : Place D) → told ≡ tells crashes seen handed → OwnPlaces k → OwnsKept is_retirement l → Gives crashes seen images moment left_since faults w g out h'
@@ -82,9 +74,6 @@ module _ {D : Type 0} (crashes : D → Bool) (seen : D → Option Sides) (images
         gives = gives;
         adds = adds k l b log made (acts w out) was t are (record { opening = s.sound; hall = hall_in h'; reached = s.reached });
         names = λ named names. back made named (names_changed one b.opening log made (map act_of made) (hall_in g) (hall_in h') named refl p.reached (steps_between one b.opening log made (hall_in g) (hall_in h') p.reached s.reached) names);
-        front = λ calls rest is mid steps named names.
-            let some = take (length calls) made in
-            back some named (names_changed one b.opening log some calls (hall_in g) mid named (front_are made calls rest (are ∙ is)) p.reached steps names);
         stood = subst (λ (b : Bool). In b g (opening_in l.opening) (k.seen ++ t.begins.0)) same
             (subst (λ (z : Opening). In told g z (k.seen ++ t.begins.0)) (sym opens) (subst (λ (z : List Entry). In told g b.opening z) (sym t.begins.1) p));
         stands = subst (λ (b : Bool). In b h' (opening_in l.opening) l.seen) same
@@ -100,26 +89,6 @@ module _ {D : Type 0} (crashes : D → Bool) (seen : D → Option Sides) (images
   -- the same, with the sessions that were changed
   pub adds_named : (w : HallWork) (out : HallAnswer D) (old new : Knows) (made : List Act) (named : List ℕ) → acts w out ≡ made → (d : Done w out old new) → NamesChanged named (hall_in d.before) (hall_in d.after) → AddsNamed made named old new
   adds_named w out old new made named is d names = subst (λ (z : List Act). AddsNamed z named old new) is (record { adds = d.adds; names = d.names named names })
-
-  -- the same of calls and a take behind them, with the sessions that the calls changed
-  pub adds_served : (w : HallWork) (out : HallAnswer D) (old new : Knows) (calls takes : List Act) (named : List ℕ) → acts w out ≡ calls ++ takes → (d : Done w out old new) → CallsNamed calls named (hall_in d.before) → AddsServed calls takes named old new
-  adds_served w out old new calls takes named is d c = record {
-    adds = record {
-      between = d.adds.between;
-      entries = d.adds.entries;
-      seen = d.adds.seen;
-      mine = d.adds.mine;
-      are = d.adds.are ∙ is;
-      opening = d.adds.opening;
-      first = d.adds.first;
-      legal = d.adds.legal;
-    };
-    called = take (length calls) d.adds.entries;
-    taken = drop (length calls) d.adds.entries;
-    split = sym (take-append-drop (length calls) d.adds.entries);
-    are = front_are d.adds.entries calls takes (d.adds.are ∙ is);
-    names = d.front calls takes is c.mid c.steps named c.names;
-  }
 
 -- acts that are no retirement are kept for no seat
 
@@ -147,9 +116,6 @@ calls_go_on n m xs served end = none_behind (map (call_act n m called.Ok) (take 
     all : (ys : List Asked) → NoRetire (map (call_act n m called.Ok) ys)
     all [] = tt
     all (y ∷ ys) = (refl, all ys)
-
-pub goes_on_behind : (xs ys : List Act) → NoRetire xs → NoRetire ys → NoRetire (xs ++ ys)
-goes_on_behind = none_behind
 
 pub none_kept : (begun ended : Time) (acts : List Act) → NoRetire acts → NoneKept is_retirement (entries_at begun ended acts)
 none_kept begun ended [] none = tt

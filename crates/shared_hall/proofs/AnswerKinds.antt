@@ -1,6 +1,6 @@
 -- Each work has an answer of its own kind, which tells what was done.
 use Rattle.std.proofs.Common.{◌≡◌, ℕ, List, [], ◌∷◌, length, false, refl, sym, ap, subst, true≢false}
-use Rattle.std.specs.Prelude.{Result, Option, None, Some, Bool}
+use Rattle.std.specs.Prelude.{Result, Option, Bool}
 use Rattle.world_data.specs.Frames.{FrameList}
 use Rattle.world_data.specs.Limits.{take_frames}
 use Rattle.outside.specs.Sides.{Sides}
@@ -11,12 +11,11 @@ use Rattle.world_model.specs.declared.events.Answers.{Answers}
 use Rattle.world_model.specs.declared.events.Asked.{Asked}
 use Rattle.world_model.specs.declared.events.CallOutcome.{CallOutcome}
 use Rattle.world_model.specs.declared.events.EnterFault.{EnterFault}
+use Rattle.world_model.specs.declared.events.LogState.{LogState}
 use Rattle.world_model.specs.declared.events.Taken.{Taken}
 use Rattle.world_model.specs.declared.events.Event.TheVariants as event
 use Rattle.world_model.specs.declared.events.Outcome.TheVariants as outcome
 use Rattle.shared_hall.specs.declared.works.Asking.{Asking}
-use Rattle.world_model.specs.Turns.{AddsServed, take_acts, taken_count}
-use Rattle.shared_hall.specs.declared.works.Serving.{Serving}
 use Rattle.shared_hall.specs.declared.works.Taking.{Taking}
 use Rattle.shared_hall.specs.declared.works.Ticking.{Ticking}
 use Rattle.shared_hall.specs.declared.works.HallAnswer.{HallAnswer}
@@ -24,26 +23,25 @@ use Rattle.shared_hall.specs.declared.works.HallAnswer.TheVariants as answer
 use Rattle.shared_hall.specs.declared.works.HallWork.{HallWork}
 use Rattle.shared_hall.specs.declared.works.HallWork.TheVariants as work
 use Rattle.shared_hall.specs.declared.places.Place.{Place}
+use Rattle.durable_core.specs.Histories.{Writing}
 use Rattle.shared_hall.specs.Cores.{hall_in}
-use Rattle.shared_hall.specs.Turns.{acts, retires, Gives, CallsNamed}
+use Rattle.shared_hall.specs.Turns.{acts, retires, Gives}
 use Rattle.shared_hall.specs.Seats.{IsDone}
-use Rattle.byte_text.specs.Names.{Bytes}
-use Rattle.shared_hall.proofs.Adding.{NoRetire, calls_go_on, goes_on_behind, adds_acts, adds_named, adds_served}
+use Rattle.shared_hall.proofs.Adding.{NoRetire, calls_go_on, adds_acts, adds_named}
 
-module _ {D : Type 0} (crashes : D → Bool) (seen : D → Option Sides) (images : D → Sides → Type 0) (moment : D → ℕ) (left_since : D → ℕ → Sides → Type 0) (faults : D → ℕ) (handed : D) where
+module _ {D : Type 0} (crashes : D → Bool) (seen : D → Option Sides) (images : D → Sides → Type 0) (moment : D → ℕ) (left_since : D → ℕ → Sides → Type 0) (faults : D → ℕ) (handed : D) (first : Writing) where
   abbrev GivesIn : HallWork → Place D → HallAnswer D → Place D → Type 0
   GivesIn = Gives crashes seen images moment left_since faults
 
   abbrev Done : HallWork → HallAnswer D → Knows → Knows → Type 0
-  Done = IsDone crashes seen images moment left_since faults handed
+  Done = IsDone crashes seen images moment left_since faults handed first
 
   is_entered : (old new : Place D) (out : HallAnswer D) → GivesIn work.Enter old out new → (r : Result ℕ EnterFault) × (out ≡ answer.Entered r)
   is_entered old new (answer.Entered r) g = (r, refl)
   is_entered old new (answer.Called a asked touched) g = absurd g
   is_entered old new (answer.Taken t into) g = absurd g
-  is_entered old new (answer.Served a asked touched t into) g = absurd g
   is_entered old new (answer.Ticked c touched) g = absurd g
-  is_entered old new (answer.Rewrote c) g = absurd g
+  is_entered old new (answer.Rewrote c state) g = absurd g
   is_entered old new (answer.Retired given) g = absurd g
   is_entered old new answer.Done g = absurd g
 
@@ -51,9 +49,8 @@ module _ {D : Type 0} (crashes : D → Bool) (seen : D → Option Sides) (images
   is_called w old new (answer.Entered r) g = absurd g
   is_called w old new (answer.Called a asked touched) g = (a, asked, touched, refl)
   is_called w old new (answer.Taken t into) g = absurd g
-  is_called w old new (answer.Served a asked touched t into) g = absurd g
   is_called w old new (answer.Ticked c touched) g = absurd g
-  is_called w old new (answer.Rewrote c) g = absurd g
+  is_called w old new (answer.Rewrote c state) g = absurd g
   is_called w old new (answer.Retired given) g = absurd g
   is_called w old new answer.Done g = absurd g
 
@@ -61,29 +58,17 @@ module _ {D : Type 0} (crashes : D → Bool) (seen : D → Option Sides) (images
   is_taken w old new (answer.Entered r) g = absurd g
   is_taken w old new (answer.Called a asked touched) g = absurd g
   is_taken w old new (answer.Taken t into) g = (t, into, refl)
-  is_taken w old new (answer.Served a asked touched t into) g = absurd g
   is_taken w old new (answer.Ticked c touched) g = absurd g
-  is_taken w old new (answer.Rewrote c) g = absurd g
+  is_taken w old new (answer.Rewrote c state) g = absurd g
   is_taken w old new (answer.Retired given) g = absurd g
   is_taken w old new answer.Done g = absurd g
-
-  is_served : (w : Serving) (old new : Place D) (out : HallAnswer D) → GivesIn (work.Serve w) old out new → (a : Answers) × (asked : List Asked) × (touched : List ℕ) × (t : Option Taken) × (into : FrameList) × (out ≡ answer.Served a asked touched t into)
-  is_served w old new (answer.Entered r) g = absurd g
-  is_served w old new (answer.Called a asked touched) g = absurd g
-  is_served w old new (answer.Taken t into) g = absurd g
-  is_served w old new (answer.Served a asked touched t into) g = (a, asked, touched, t, into, refl)
-  is_served w old new (answer.Ticked c touched) g = absurd g
-  is_served w old new (answer.Rewrote c) g = absurd g
-  is_served w old new (answer.Retired given) g = absurd g
-  is_served w old new answer.Done g = absurd g
 
   is_ticked : (w : Ticking) (old new : Place D) (out : HallAnswer D) → GivesIn (work.Tick w) old out new → (c : CallOutcome) × (touched : List ℕ) × (out ≡ answer.Ticked c touched)
   is_ticked w old new (answer.Entered r) g = absurd g
   is_ticked w old new (answer.Called a asked touched) g = absurd g
   is_ticked w old new (answer.Taken t into) g = absurd g
-  is_ticked w old new (answer.Served a asked touched t into) g = absurd g
   is_ticked w old new (answer.Ticked c touched) g = (c, touched, refl)
-  is_ticked w old new (answer.Rewrote c) g = absurd g
+  is_ticked w old new (answer.Rewrote c state) g = absurd g
   is_ticked w old new (answer.Retired given) g = absurd g
   is_ticked w old new answer.Done g = absurd g
 
@@ -91,9 +76,8 @@ module _ {D : Type 0} (crashes : D → Bool) (seen : D → Option Sides) (images
   is_closed n old new (answer.Entered r) g = absurd g
   is_closed n old new (answer.Called a asked touched) g = absurd g
   is_closed n old new (answer.Taken t into) g = absurd g
-  is_closed n old new (answer.Served a asked touched t into) g = absurd g
   is_closed n old new (answer.Ticked c touched) g = absurd g
-  is_closed n old new (answer.Rewrote c) g = absurd g
+  is_closed n old new (answer.Rewrote c state) g = absurd g
   is_closed n old new (answer.Retired given) g = absurd g
   is_closed n old new answer.Done g = refl
 
@@ -101,19 +85,17 @@ module _ {D : Type 0} (crashes : D → Bool) (seen : D → Option Sides) (images
   is_removed n old new (answer.Entered r) g = absurd g
   is_removed n old new (answer.Called a asked touched) g = absurd g
   is_removed n old new (answer.Taken t into) g = absurd g
-  is_removed n old new (answer.Served a asked touched t into) g = absurd g
   is_removed n old new (answer.Ticked c touched) g = absurd g
-  is_removed n old new (answer.Rewrote c) g = absurd g
+  is_removed n old new (answer.Rewrote c state) g = absurd g
   is_removed n old new (answer.Retired given) g = absurd g
   is_removed n old new answer.Done g = refl
 
-  is_rewrote : (old new : Place D) (out : HallAnswer D) → GivesIn work.StepRewrite old out new → (c : CallOutcome) × (out ≡ answer.Rewrote c)
+  is_rewrote : (old new : Place D) (out : HallAnswer D) → GivesIn work.StepRewrite old out new → (c : CallOutcome) × (state : LogState) × (out ≡ answer.Rewrote c state)
   is_rewrote old new (answer.Entered r) g = absurd g
   is_rewrote old new (answer.Called a asked touched) g = absurd g
   is_rewrote old new (answer.Taken t into) g = absurd g
-  is_rewrote old new (answer.Served a asked touched t into) g = absurd g
   is_rewrote old new (answer.Ticked c touched) g = absurd g
-  is_rewrote old new (answer.Rewrote c) g = (c, refl)
+  is_rewrote old new (answer.Rewrote c state) g = (c, state, refl)
   is_rewrote old new (answer.Retired given) g = absurd g
   is_rewrote old new answer.Done g = absurd g
 
@@ -121,23 +103,22 @@ module _ {D : Type 0} (crashes : D → Bool) (seen : D → Option Sides) (images
   is_retired old new (answer.Entered r) g = absurd g
   is_retired old new (answer.Called a asked touched) g = absurd g
   is_retired old new (answer.Taken t into) g = absurd g
-  is_retired old new (answer.Served a asked touched t into) g = absurd g
   is_retired old new (answer.Ticked c touched) g = absurd g
-  is_retired old new (answer.Rewrote c) g = absurd g
+  is_retired old new (answer.Rewrote c state) g = absurd g
   is_retired old new (answer.Retired given) g = (given, refl)
   is_retired old new answer.Done g = absurd g
 
   -- what each answer tells of the work that was done
 
   pub entered : (out : HallAnswer D) (old new : Knows) (r : Result ℕ EnterFault) → out ≡ answer.Entered r → Done work.Enter out old new → AddsCalls ((event.Enter, enter_outcome r) ∷ []) old new
-  entered out old new r is d = adds_acts crashes seen images moment left_since faults handed work.Enter out old new ((event.Enter, enter_outcome r) ∷ []) (ap (λ (z : HallAnswer D). acts work.Enter z) is) d
+  entered out old new r is d = adds_acts crashes seen images moment left_since faults handed first work.Enter out old new ((event.Enter, enter_outcome r) ∷ []) (ap (λ (z : HallAnswer D). acts work.Enter z) is) d
 
   called_gives : (w : Asking) (out : HallAnswer D) (old new : Knows) (a : Answers) (asked : List Asked) (touched : List ℕ) → out ≡ answer.Called a asked touched → (d : Done (work.Call w) out old new) → (asked ≡ w.asked) × IsCount a.served a.end (length w.asked) × NamesChanged touched (hall_in d.before) (hall_in d.after)
   called_gives w out old new a asked touched is d = subst (λ (z : HallAnswer D). GivesIn (work.Call w) d.before z d.after) is d.gives
 
   pub called : (w : Asking) (out : HallAnswer D) (old new : Knows) (a : Answers) (asked : List Asked) (touched : List ℕ) → out ≡ answer.Called a asked touched → Done (work.Call w) out old new → AddsNamed (call_acts w.session w.moment w.asked a.served a.end) touched old new
   called w out old new a asked touched is d =
-      adds_named crashes seen images moment left_since faults handed (work.Call w) out old new (call_acts w.session w.moment w.asked a.served a.end) touched (ap (λ (z : HallAnswer D). acts (work.Call w) z) is) d (called_gives w out old new a asked touched is d).2
+      adds_named crashes seen images moment left_since faults handed first (work.Call w) out old new (call_acts w.session w.moment w.asked a.served a.end) touched (ap (λ (z : HallAnswer D). acts (work.Call w) z) is) d (called_gives w out old new a asked touched is d).2
 
   pub called_count : (w : Asking) (out : HallAnswer D) (old new : Knows) (a : Answers) (asked : List Asked) (touched : List ℕ) → out ≡ answer.Called a asked touched → Done (work.Call w) out old new → IsCount a.served a.end (length w.asked)
   called_count w out old new a asked touched is d = (called_gives w out old new a asked touched is d).1
@@ -146,38 +127,23 @@ module _ {D : Type 0} (crashes : D → Bool) (seen : D → Option Sides) (images
   called_back w out old new a asked touched is d = (called_gives w out old new a asked touched is d).0
 
   pub taken : (w : Taking) (out : HallAnswer D) (old new : Knows) (t : Taken) (into : FrameList) → out ≡ answer.Taken t into → Done (work.Take w) out old new → AddsCalls ((event.Take w.session, take_outcome t into.list) ∷ []) old new
-  taken w out old new t into is d = adds_acts crashes seen images moment left_since faults handed (work.Take w) out old new ((event.Take w.session, take_outcome t into.list) ∷ []) (ap (λ (z : HallAnswer D). acts (work.Take w) z) is) d
+  taken w out old new t into is d = adds_acts crashes seen images moment left_since faults handed first (work.Take w) out old new ((event.Take w.session, take_outcome t into.list) ∷ []) (ap (λ (z : HallAnswer D). acts (work.Take w) z) is) d
 
   pub taken_places : (w : Taking) (out : HallAnswer D) (old new : Knows) (t : Taken) (into : FrameList) → out ≡ answer.Taken t into → Done (work.Take w) out old new → (length into.list ≡ given_count t) × (into.places ≡ take_frames)
   taken_places w out old new t into is d = subst (λ (z : HallAnswer D). GivesIn (work.Take w) d.before z d.after) is d.gives
 
-  pub served_gives : (w : Serving) (out : HallAnswer D) (old new : Knows) (a : Answers) (asked : List Asked) (touched : List ℕ) (t : Option Taken) (into : FrameList) → out ≡ answer.Served a asked touched t into → (d : Done (work.Serve w) out old new)
-      → (asked ≡ w.asking.asked)
-      × IsCount a.served a.end (length w.asking.asked)
-      × CallsNamed (call_acts w.asking.session w.asking.moment w.asking.asked a.served a.end) touched (hall_in d.before)
-      × (length into.list ≡ taken_count t)
-      × (into.places ≡ take_frames)
-  served_gives w out old new a asked touched t into is d = subst (λ (z : HallAnswer D). GivesIn (work.Serve w) d.before z d.after) is d.gives
-
-  pub served : (w : Serving) (out : HallAnswer D) (old new : Knows) (a : Answers) (asked : List Asked) (touched : List ℕ) (t : Option Taken) (into : FrameList) → out ≡ answer.Served a asked touched t into → Done (work.Serve w) out old new
-      → AddsServed (call_acts w.asking.session w.asking.moment w.asking.asked a.served a.end) (take_acts w.asking.session t into.list) touched old new
-  served w out old new a asked touched t into is d =
-      let calls = call_acts w.asking.session w.asking.moment w.asking.asked a.served a.end in
-      let takes = take_acts w.asking.session t into.list in
-      adds_served crashes seen images moment left_since faults handed (work.Serve w) out old new calls takes touched (ap (λ (z : HallAnswer D). acts (work.Serve w) z) is) d (served_gives w out old new a asked touched t into is d).2
-
   pub ticked : (w : Ticking) (out : HallAnswer D) (old new : Knows) (a : CallOutcome) (touched : List ℕ) → out ≡ answer.Ticked a touched → Done (work.Tick w) out old new → AddsNamed ((event.Tick w.moment, outcome.Answered a) ∷ []) touched old new
   ticked w out old new a touched is d =
-      adds_named crashes seen images moment left_since faults handed (work.Tick w) out old new ((event.Tick w.moment, outcome.Answered a) ∷ []) touched (ap (λ (z : HallAnswer D). acts (work.Tick w) z) is) d (subst (λ (z : HallAnswer D). GivesIn (work.Tick w) d.before z d.after) is d.gives)
+      adds_named crashes seen images moment left_since faults handed first (work.Tick w) out old new ((event.Tick w.moment, outcome.Answered a) ∷ []) touched (ap (λ (z : HallAnswer D). acts (work.Tick w) z) is) d (subst (λ (z : HallAnswer D). GivesIn (work.Tick w) d.before z d.after) is d.gives)
 
   pub closed : (n : ℕ) (out : HallAnswer D) (old new : Knows) → Done (work.Close n) out old new → AddsCalls ((event.Close n, outcome.Done) ∷ []) old new
-  closed n out old new d = adds_acts crashes seen images moment left_since faults handed (work.Close n) out old new ((event.Close n, outcome.Done) ∷ []) (ap (λ (z : HallAnswer D). acts (work.Close n) z) (is_closed n d.before d.after out d.gives)) d
+  closed n out old new d = adds_acts crashes seen images moment left_since faults handed first (work.Close n) out old new ((event.Close n, outcome.Done) ∷ []) (ap (λ (z : HallAnswer D). acts (work.Close n) z) (is_closed n d.before d.after out d.gives)) d
 
   pub removed : (n : ℕ) (out : HallAnswer D) (old new : Knows) → Done (work.Remove n) out old new → AddsCalls ((event.Remove n, outcome.Done) ∷ []) old new
-  removed n out old new d = adds_acts crashes seen images moment left_since faults handed (work.Remove n) out old new ((event.Remove n, outcome.Done) ∷ []) (ap (λ (z : HallAnswer D). acts (work.Remove n) z) (is_removed n d.before d.after out d.gives)) d
+  removed n out old new d = adds_acts crashes seen images moment left_since faults handed first (work.Remove n) out old new ((event.Remove n, outcome.Done) ∷ []) (ap (λ (z : HallAnswer D). acts (work.Remove n) z) (is_removed n d.before d.after out d.gives)) d
 
-  pub rewrote : (out : HallAnswer D) (old new : Knows) (a : CallOutcome) → out ≡ answer.Rewrote a → Done work.StepRewrite out old new → AddsCalls ((event.Rewrite, outcome.Answered a) ∷ []) old new
-  rewrote out old new a is d = adds_acts crashes seen images moment left_since faults handed work.StepRewrite out old new ((event.Rewrite, outcome.Answered a) ∷ []) (ap (λ (z : HallAnswer D). acts work.StepRewrite z) is) d
+  pub rewrote : (out : HallAnswer D) (old new : Knows) (a : CallOutcome) (state : LogState) → out ≡ answer.Rewrote a state → Done work.StepRewrite out old new → AddsCalls ((event.Rewrite, outcome.Answered a) ∷ []) old new
+  rewrote out old new a state is d = adds_acts crashes seen images moment left_since faults handed first work.StepRewrite out old new ((event.Rewrite, outcome.Answered a) ∷ []) (ap (λ (z : HallAnswer D). acts work.StepRewrite z) is) d
 
   -- of a work that was done, the answer's own kind
 
@@ -190,13 +156,10 @@ module _ {D : Type 0} (crashes : D → Bool) (seen : D → Option Sides) (images
   pub taken_out : (w : Taking) (out : HallAnswer D) (old new : Knows) → Done (work.Take w) out old new → (t : Taken) × (into : FrameList) × (out ≡ answer.Taken t into)
   taken_out w out old new d = is_taken w d.before d.after out d.gives
 
-  pub served_out : (w : Serving) (out : HallAnswer D) (old new : Knows) → Done (work.Serve w) out old new → (a : Answers) × (asked : List Asked) × (touched : List ℕ) × (t : Option Taken) × (into : FrameList) × (out ≡ answer.Served a asked touched t into)
-  served_out w out old new d = is_served w d.before d.after out d.gives
-
   pub ticked_out : (w : Ticking) (out : HallAnswer D) (old new : Knows) → Done (work.Tick w) out old new → (c : CallOutcome) × (touched : List ℕ) × (out ≡ answer.Ticked c touched)
   ticked_out w out old new d = is_ticked w d.before d.after out d.gives
 
-  pub rewrote_out : (out : HallAnswer D) (old new : Knows) → Done work.StepRewrite out old new → (c : CallOutcome) × (out ≡ answer.Rewrote c)
+  pub rewrote_out : (out : HallAnswer D) (old new : Knows) → Done work.StepRewrite out old new → (c : CallOutcome) × (state : LogState) × (out ≡ answer.Rewrote c state)
   rewrote_out out old new d = is_rewrote d.before d.after out d.gives
 
   -- none of its acts is a retirement
@@ -205,17 +168,10 @@ module _ {D : Type 0} (crashes : D → Bool) (seen : D → Option Sides) (images
   goes_on (work.Call w) old new out g stays = let k = is_called w old new out g in
       subst (λ (z : HallAnswer D). NoRetire (acts (work.Call w) z)) (sym k.3) (calls_go_on w.session w.moment w.asked k.0.served k.0.end)
   goes_on (work.Take w) old new out g stays = let k = is_taken w old new out g in subst (λ (z : HallAnswer D). NoRetire (acts (work.Take w) z)) (sym k.2) (refl, tt)
-  goes_on (work.Serve w) old new out g stays = let k = is_served w old new out g in
-      subst (λ (z : HallAnswer D). NoRetire (acts (work.Serve w) z)) (sym k.5)
-      (goes_on_behind (call_acts w.asking.session w.asking.moment w.asking.asked k.0.served k.0.end) (take_acts w.asking.session k.3 k.4.list) (calls_go_on w.asking.session w.asking.moment w.asking.asked k.0.served k.0.end) (take_goes_on w.asking.session k.3 k.4.list))
-    where
-      take_goes_on : (n : ℕ) (t : Option Taken) (frames : List Bytes) → NoRetire (take_acts n t frames)
-      take_goes_on n None frames = tt
-      take_goes_on n (Some t) frames = (refl, tt)
   goes_on (work.Tick w) old new out g stays = let k = is_ticked w old new out g in subst (λ (z : HallAnswer D). NoRetire (acts (work.Tick w) z)) (sym k.2) (refl, tt)
   goes_on (work.Close n) old new out g stays = subst (λ (z : HallAnswer D). NoRetire (acts (work.Close n) z)) (sym (is_closed n old new out g)) (refl, tt)
   goes_on (work.Remove n) old new out g stays = subst (λ (z : HallAnswer D). NoRetire (acts (work.Remove n) z)) (sym (is_removed n old new out g)) (refl, tt)
-  goes_on work.StepRewrite old new out g stays = let k = is_rewrote old new out g in subst (λ (z : HallAnswer D). NoRetire (acts work.StepRewrite z)) (sym k.1) (refl, tt)
+  goes_on work.StepRewrite old new out g stays = let k = is_rewrote old new out g in subst (λ (z : HallAnswer D). NoRetire (acts work.StepRewrite z)) (sym k.2) (refl, tt)
   goes_on work.Retire old new out g stays = absurd (true≢false stays)
 
   pub retired_out : (out : HallAnswer D) (old new : Knows) → Done work.Retire out old new → (given : Option (D × CallOutcome)) × (out ≡ answer.Retired given)

@@ -10,8 +10,8 @@ use Rattle.world_model.proofs.asked_lists.AskedList.TheSendSync as asked
 use Rattle.world_model.proofs.events.Answers.TheSendSync as answers
 use Rattle.world_model.proofs.events.EnterFault.TheSendSync as fault
 use Rattle.world_model.specs.contracts.events.EnterFault as fault_row
+use Rattle.world_model.proofs.events.LogState.TheSendSync as state
 use Rattle.world_model.proofs.events.Taken.TheSendSync as taken
-use Rattle.world_model.specs.contracts.events.Taken as taken_row
 use Rattle.world_model.proofs.touched.ChangedSessions.TheSendSync as touched
 use denote.Struct.Tuple.{Tuple, tuple_field, tuple_type}
 use Rattle.std.proofs.Common.{List, [], ◌∷◌}
@@ -82,17 +82,13 @@ given_send D s = option_sends.the_field_send (Tuple (given D)) (recorded_send (t
 answer_field_send : (D : RattleType) → IsSend D → IsSend (answer.the_field D).row
 answer_field_send D s =
     let entered = result_sends.the_field_send u32 fault_row.the_row (plain_send _ _ _ _ _) fault.the_send in
-    let taken_some = option_sends.the_field_send taken_row.the_row taken.the_send in
     enum_send (enum_shape (answer.the_type D)) (
       (entered, tt),
       (
         (answers.the_field_send, (asked.the_send, (touched.the_send, tt))),
         (
           (taken.the_field_send, (frames.the_send, tt)),
-          (
-            (answers.the_field_send, (asked.the_send, (touched.the_send, (taken_some, (frames.the_send, tt))))),
-            ((called.the_field_send, (touched.the_send, tt)), ((called.the_field_send, tt), ((given_send D s, tt), (tt, tt)))),
-          ),
+          ((called.the_field_send, (touched.the_send, tt)), ((called.the_field_send, (state.the_field_send, tt)), ((given_send D s, tt), (tt, tt)))),
         ),
       ),
     )

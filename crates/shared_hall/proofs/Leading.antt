@@ -1,5 +1,5 @@
 -- What leads from one state of a core to another, act by act.
-use Rattle.std.proofs.Common.{◌≡◌, ℕ, Bool, false, List, [], ◌∷◌, ◌++◌, map, refl, sym, ap, ◌∙◌, subst, inl, inr}
+use Rattle.std.proofs.Common.{◌≡◌, ℕ, Bool, false, List, [], ◌∷◌, ◌++◌, map, refl, sym, ◌∙◌, subst, inl, inr}
 use Rattle.std.specs.Prelude.{◌||◌}
 use Rattle.outside.specs.Sides.{Sides}
 use Rattle.world_model.specs.Halls.{Hall, NamesChanged}
@@ -9,19 +9,19 @@ use Rattle.world_model.specs.Seats.{Act, act_of, NamesChangedBy}
 use Rattle.world_model.specs.declared.events.Entry.{Entry}
 use Rattle.world_model.specs.declared.events.Opening.{Opening}
 use Rattle.log_record.specs.Journals.{Journal, is_retire}
-use Rattle.shared_hall.specs.Turns.{StepsBy}
+use Rattle.durable_core.specs.Histories.{Writing}
 use Rattle.shared_hall.specs.Standing.{IsAct, FrontBy, TurnBy}
 
-module _ {S D : Type 0} (hall : S → Hall) (disk : S → D) (is_out : S → Bool) (is_log : S → Journal → Type 0)
+module _ {S D : Type 0} (hall : S → Hall) (writing : S → Writing) (disk : S → D) (is_out : S → Bool) (is_log : S → Journal → Type 0)
     (crashes : D → Bool) (images : D → Sides → Type 0) (moment : D → ℕ) (left_since : D → ℕ → Sides → Type 0) (faults : D → ℕ) where
   abbrev Acted : S → S → Act → Type 0
-  Acted = IsAct hall disk is_out is_log crashes images moment left_since faults
+  Acted = IsAct hall writing disk is_out is_log crashes images moment left_since faults
 
   abbrev Fronted : List Act → S → S → Type 0
-  Fronted = FrontBy hall disk is_out is_log crashes images moment left_since faults
+  Fronted = FrontBy hall writing disk is_out is_log crashes images moment left_since faults
 
   abbrev Turned : List Act → D → S → S → Type 0
-  Turned = TurnBy hall disk is_out is_log crashes images moment left_since faults
+  Turned = TurnBy hall writing disk is_out is_log crashes images moment left_since faults
 
   -- one act more in front
   pub front_more : (acts : List Act) (a : Act) (old mid new : S) → Fronted acts old mid → Acted mid new a → is_log_fault a.1 ≡ false → is_retire a.0 ≡ false → Fronted (acts ++ a ∷ []) old new
@@ -39,17 +39,10 @@ module _ {S D : Type 0} (hall : S → Hall) (disk : S → D) (is_out : S → Boo
   pub no_act : (begun : D) (old new : S) → new ≡ old → Turned [] begun old new
   no_act begun old new same = inl (refl, same)
 
-  pub front_steps : (acts : List Act) (old new : S) → Fronted acts old new → StepsBy acts (hall old) (hall new)
-  front_steps [] old new made = ap hall made
-  front_steps (a ∷ acts) old new made = (hall made.0, made.1.step, front_steps acts made.0 new made.4)
-
-  pub turn_steps : (acts : List Act) (begun : D) (old new : S) → Turned acts begun old new → StepsBy acts (hall old) (hall new)
-  turn_steps acts begun old new (inl none) = subst (λ (l : List Act). StepsBy l (hall old) (hall new)) (sym none.0) (ap hall none.1)
-  turn_steps acts begun old new (inr e) = subst (λ (l : List Act). StepsBy l (hall old) (hall new)) (sym e.are) (behind e.front (hall old) (front_steps e.front old e.mid e.made))
-    where
-      behind : (front : List Act) (h : Hall) → StepsBy front h (hall e.mid) → StepsBy (front ++ e.last ∷ []) h (hall new)
-      behind [] h steps = (hall new, subst (λ (g : Hall). Step g e.last.0 e.last.1 (hall new)) steps e.act.step, refl)
-      behind (b ∷ front) h steps = (steps.0, steps.1, behind front steps.0 steps.2)
+-- these acts lead from a hall to another
+abbrev pub StepsBy : List Act → Hall → Hall → Type 0
+StepsBy [] old new = new ≡ old
+StepsBy (a ∷ more) old new = (next : Hall) × Step old a.0 a.1 next × StepsBy more next new
 
 -- acts lead to one hall
 steps_to_one : StepsLeadToOne → (acts : List Act) (h k l : Hall) → StepsBy acts h k → StepsBy acts h l → k ≡ l

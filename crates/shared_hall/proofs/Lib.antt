@@ -3,7 +3,6 @@ mod Adding
 mod AnswerKinds
 mod Calling
 pub mod Crosses
-mod Fine
 mod Joining
 mod Leading
 mod Once
@@ -12,3 +11,4 @@ mod Raising
 mod Retiring
 mod Standing
 mod Turning
+mod Writes

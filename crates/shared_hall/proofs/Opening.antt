@@ -15,7 +15,7 @@ use Rattle.log_record.specs.Safety.{Safe}
 use Rattle.durable_core.specs.Kept.{settled_log}
 use Rattle.durable_core.specs.Logged.{hall_of, disk_of}
 use Rattle.durable_core.specs.declared.cores.DurableCore.{DurableCore}
-use Rattle.shared_hall.specs.Cores.{hall_in, disk_in, tells, begun, opening_with, StandsFor, StandsIn, IsOpenedOn}
+use Rattle.shared_hall.specs.Cores.{core_in, hall_in, writing_in, disk_in, tells, begun, opening_with, StandsFor, StandsIn, IsOpenedOn}
 use Rattle.shared_hall.specs.Seats.{shown, first_knows}
 use Rattle.shared_hall.specs.declared.places.Begun.{Begun}
 use Rattle.shared_hall.specs.declared.places.HallCore.{HallCore}
@@ -70,8 +70,9 @@ module _ {D : Type 0} (crashes : D → Bool) (seen : D → Option Sides) (images
   pub stands_at : (h : HallCore D) (c : DurableCore D) → h.place ≡ Inside c → OpenedOn c h.handed.value → StandsFor crashes seen images moment left_since faults h (begun crashes seen images moment left_since faults h) []
   stands_at h c is opened = record {
     handed = refl;
-    stands = subst (λ (p : Place D). StandsIn crashes seen images moment left_since faults (tells crashes seen h.handed.value) p (opening_with crashes seen images moment left_since faults h.handed.value (hall_in p) (disk_in p)) []) (sym is) (record {
+    stands = subst (λ (p : Place D). StandsIn crashes seen images moment left_since faults (tells crashes seen h.handed.value) (writing_in p) p (opening_with crashes seen images moment left_since faults h.handed.value (hall_in p) (disk_in p)) []) (sym is) (record {
       reached = opened.hall;
+      writes = (opened.hall, refl);
       sound = opened.sound;
       past = omega arith;
       counted = omega arith;
@@ -95,7 +96,7 @@ module _ {D : Type 0} (crashes : D → Bool) (seen : D → Option Sides) (images
   -- the first seat of a lock round it
   pub shows_first : (h : HallCore D) (c : DurableCore D) (k : Known (Begun D) Entry) → h.place ≡ Inside c → k ≡ first_known (begun crashes seen images moment left_since faults h)
       → shown k ≡ first_knows crashes seen images moment left_since faults c h.handed.value
-  shows_first h c k is first = ap shown first ∙ ap (λ (p : Place D). shown (first_known (record { opening = opening_with crashes seen images moment left_since faults h.handed.value (hall_in p) (disk_in p); disk = h.handed.value }))) is
+  shows_first h c k is first = ap shown first ∙ ap (λ (p : Place D). shown (first_known (record { opening = opening_with crashes seen images moment left_since faults h.handed.value (hall_in p) (disk_in p); disk = h.handed.value; core = core_in p }))) is
 
   pub opening_legal : (h : HallCore D) (c : DurableCore D) (k : Known (Begun D) Entry) → h.place ≡ Inside c → OpenedOn c h.handed.value → k ≡ first_known (begun crashes seen images moment left_since faults h)
       → IsLegal (shown k).opening k.seen

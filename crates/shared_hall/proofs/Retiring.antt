@@ -13,7 +13,9 @@ use Rattle.world_model.specs.declared.events.CallOutcome.TheVariants as called
 use Rattle.world_model.specs.declared.events.Event.TheVariants as event
 use Rattle.log_record.specs.Recovery.{Recovers}
 use Rattle.log_record.specs.Safety.{Safe, count_after}
-use Rattle.shared_hall.specs.Cores.{has_left, tells}
+use Rattle.durable_core.specs.Histories.{LeavesGeneration, Writing}
+use Rattle.journal.specs.Openings.{opened_generation}
+use Rattle.shared_hall.specs.Cores.{hall_in, has_left, tells, writing_in}
 use Rattle.shared_hall.specs.Seats.{IsDone}
 use Rattle.shared_hall.specs.Times.{is_retirement}
 use Rattle.shared_hall.specs.Turns.{acts, retire_outcome, Gives, GivesOut}
@@ -22,10 +24,10 @@ use Rattle.shared_hall.specs.declared.works.HallAnswer.TheVariants as answer
 use Rattle.shared_hall.specs.declared.works.HallWork.TheVariants as work
 use Rattle.shared_hall.proofs.Adding.{adds_acts}
 
-module _ {D : Type 0} (crashes : D → Bool) (seen : D → Option Sides) (images : D → Sides → Type 0) (moment : D → ℕ) (left_since : D → ℕ → Sides → Type 0) (faults : D → ℕ) (handed : D)
-    (out : HallAnswer D) (old new : Knows) (given : Option (D × CallOutcome)) (is : out ≡ answer.Retired given) (d : IsDone crashes seen images moment left_since faults handed work.Retire out old new) where
+module _ {D : Type 0} (crashes : D → Bool) (seen : D → Option Sides) (images : D → Sides → Type 0) (moment : D → ℕ) (left_since : D → ℕ → Sides → Type 0) (faults : D → ℕ) (handed : D) (first : Writing)
+    (out : HallAnswer D) (old new : Knows) (given : Option (D × CallOutcome)) (is : out ≡ answer.Retired given) (d : IsDone crashes seen images moment left_since faults handed first work.Retire out old new) where
   pub retired : AddsCalls ((event.Retire, retire_outcome given) ∷ []) old new
-  retired = adds_acts crashes seen images moment left_since faults handed work.Retire out old new ((event.Retire, retire_outcome given) ∷ []) (ap (λ (z : HallAnswer D). acts work.Retire z) is) d
+  retired = adds_acts crashes seen images moment left_since faults handed first work.Retire out old new ((event.Retire, retire_outcome given) ∷ []) (ap (λ (z : HallAnswer D). acts work.Retire z) is) d
 
   gives : GivesOut crashes seen images moment left_since faults d.before given d.after
   gives = subst (λ (z : HallAnswer D). Gives crashes seen images moment left_since faults work.Retire d.before z d.after) is d.gives
@@ -60,3 +62,13 @@ module _ {D : Type 0} (crashes : D → Bool) (seen : D → Option Sides) (images
       by (Some p) g = λ ok h reached image at.
           let k = d.stood.kept told in
           subst (λ (x : Hall). Recovers image x.world) (sym (d.one h reached)) (g.3 k.1.0 k.1.1 k.0 ok image at)
+
+  pub given_generation : tells crashes seen handed ≡ true → IfSome given (λ p. p.1 ≡ called.Ok → (s : Sides) → seen p.0 ≡ Some s → LeavesGeneration new.opening first new.seen (opened_generation s))
+  given_generation told = by given gives
+    where
+      by : (given : Option (D × CallOutcome)) → GivesOut crashes seen images moment left_since faults d.before given d.after
+          → IfSome given (λ p. p.1 ≡ called.Ok → (s : Sides) → seen p.0 ≡ Some s → LeavesGeneration new.opening first new.seen (opened_generation s))
+      by None g = tt
+      by (Some p) g = λ ok s found.
+          let k = d.stood.kept told in
+          record { hall = hall_in d.after; end = writing_in d.after; writes = d.stands.writes; is = g.4 k.1.0 k.1.1 ok s found }

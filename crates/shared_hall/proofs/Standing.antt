@@ -1,5 +1,5 @@
 -- How a core goes on standing for its history, act by act and turn by turn.
-use Rattle.std.proofs.Common.{◌≡◌, ◌≤◌, ◌<◌, ◌⊎◌, ◌||◌, ◌+◌, ℕ, Bool, true, false, List, [], ◌∷◌, ◌++◌, map, min, refl, sym, ap, ◌∙◌, subst, arith, inl, inr, true≢false, append_assoc, append-nil}
+use Rattle.std.proofs.Common.{◌≡◌, ◌≤◌, ◌<◌, ◌⊎◌, ◌||◌, ℕ, Bool, true, false, List, [], ◌∷◌, ◌++◌, map, min, refl, sym, ap, ◌∙◌, subst, arith, inl, inr, true≢false, append_assoc, append-nil}
 use Rattle.std.specs.Prelude.{◌-◌, ◌^◌, nat_le}
 use Rattle.std.proofs.lemmas.Bool.Decides.{nat_tests}
 use Rattle.std.specs.List.{list_any}
@@ -18,9 +18,11 @@ use Rattle.log_record.specs.Laws.{Stood}
 use Rattle.log_record.specs.Safety.{moment_after, count_after, out_after, ComesNext}
 use Rattle.log_record.specs.Acknowledged.{moment_last, count_last}
 use Rattle.log_record.specs.LeadingLaws.{leads_on}
+use Rattle.durable_core.specs.Histories.{Writing, Writes}
 use Rattle.shared_hall.specs.Times.{Time, time_of, entry_at, entries_at, is_retirement}
 use Rattle.shared_hall.specs.Standing.{IsAct, FrontBy, TurnBy, Stands}
 use Rattle.shared_hall.proofs.Raising.{ArePlain, Raises, raised, raise_reaches, raise_stood, raised_past}
+use Rattle.shared_hall.proofs.Writes.{acts_last, raised_acts, writes_last}
 
 -- an entry that gave the disk out is a retirement
 gives_retires : (event : Event) (e : Entry) → gives_disk (record e { event = event }) ≡ true → is_retire event ≡ true
@@ -109,16 +111,16 @@ entries_end begun ended [] last = refl
 entries_end begun ended (a ∷ []) last = refl
 entries_end begun ended (a ∷ b ∷ front) last = ap (λ (l : List Entry). entry_at begun a ∷ l) (entries_end begun ended (b ∷ front) last)
 
-module _ {S D : Type 0} (hall : S → Hall) (disk : S → D) (is_out : S → Bool) (is_log : S → Journal → Type 0)
-    (crashes : D → Bool) (images : D → Sides → Type 0) (moment : D → ℕ) (left_since : D → ℕ → Sides → Type 0) (faults : D → ℕ) where
+module _ {S D : Type 0} (hall : S → Hall) (writing : S → Writing) (disk : S → D) (is_out : S → Bool) (is_log : S → Journal → Type 0)
+    (crashes : D → Bool) (images : D → Sides → Type 0) (moment : D → ℕ) (left_since : D → ℕ → Sides → Type 0) (faults : D → ℕ) (first : Writing) where
   abbrev Acted : S → S → Act → Type 0
-  Acted = IsAct hall disk is_out is_log crashes images moment left_since faults
+  Acted = IsAct hall writing disk is_out is_log crashes images moment left_since faults
 
   abbrev Fronted : List Act → S → S → Type 0
-  Fronted = FrontBy hall disk is_out is_log crashes images moment left_since faults
+  Fronted = FrontBy hall writing disk is_out is_log crashes images moment left_since faults
 
   abbrev StandsAt : Bool → S → Opening → List Entry → Type 0
-  StandsAt = Stands hall disk is_out is_log crashes images moment left_since faults
+  StandsAt told = Stands hall writing disk is_out is_log crashes images moment left_since faults told first
 
   abbrev time : Bool → S → Time
   time told s = time_of moment faults told (disk s)
@@ -156,6 +158,8 @@ module _ {S D : Type 0} (hall : S → Hall) (disk : S → D) (is_out : S → Boo
       let e = entry_at (time told t) a in
       record {
         reached = leads_on (opening_hall o.world o.logged) (hall s) (hall t) o.moment o.count false log e stands.reached act.step (follows told s t o log a stands act);
+        writes = subst (λ (l : List Act). Writes (opening_hall o.world o.logged) first l (hall t) (writing t)) (sym (acts_last log e))
+            (writes_last (map act_of log) a (opening_hall o.world o.logged) (hall s) (hall t) first (writing s) (writing t) stands.writes act.step act.writes);
         sound = stands.sound;
         past = omega (arith, moment_last o.moment log e);
         counted = omega (arith, count_last o.count log e);
@@ -220,6 +224,7 @@ module _ {S D : Type 0} (hall : S → Hall) (disk : S → D) (is_out : S → Boo
         } in
         subst (λ (l : List Entry). StandsAt told t o (log ++ l)) (raised_are u es ∙ ap (λ (l : List Act). map (entry_at u) l) own.are) (record {
           reached = raise_reaches u o log es raises (hall t) own.stands.reached;
+          writes = subst (λ (l : List Act). Writes (opening_hall o.world o.logged) first l (hall t) (writing t)) (sym (raised_acts u log es)) own.stands.writes;
           sound = stands.sound;
           past = raised_past u o log es raises (hall t) own.stands.reached u.moment (omega arith) own.stands.past;
           counted = raised_counted u u.count log es o.count (omega arith) own.stands.counted;
@@ -230,7 +235,7 @@ module _ {S D : Type 0} (hall : S → Hall) (disk : S → D) (is_out : S → Boo
 
     -- a turn
     pub turn_stands : (told : Bool) (acts : List Act) (begun : D) (s t : S) (o : Opening) (log : List Entry) → StandsAt told s o log
-        → TurnBy hall disk is_out is_log crashes images moment left_since faults acts begun s t
+        → TurnBy hall writing disk is_out is_log crashes images moment left_since faults acts begun s t
         → StandsAt told t o (log ++ entries_at (time_of moment faults told begun) (time told t) acts)
     turn_stands told acts begun s t o log stands (inl none) =
         subst (λ (l : List Act). StandsAt told t o (log ++ entries_at (time_of moment faults told begun) (time told t) l)) (sym none.0)

@@ -1,16 +1,20 @@
 -- A core that takes turns: its hall and its disk, while the disk is in and when it was given out.
-use Rattle.std.specs.Prelude.{◌≡◌, ◌&&◌, ℕ, Bool, true, false, List, [], Option, is_some}
+use Rattle.std.specs.Prelude.{◌≡◌, ◌&&◌, ℕ, Bool, true, false, not, List, [], Option, is_some}
 use Rattle.outside.specs.Sides.{Sides}
 use Rattle.world_data.specs.Sound.{IsSoundWorld}
 use Rattle.world_model.specs.Halls.{Hall}
 use Rattle.world_model.specs.Histories.{stopped, opening_hall}
 use Rattle.world_model.specs.Seats.{Act}
 use Rattle.world_model.specs.declared.events.Entry.{Entry}
+use Rattle.world_model.specs.declared.events.LogState.{LogState}
 use Rattle.world_model.specs.declared.events.Opening.{Opening}
+use Rattle.journal.specs.Journals.{log_bytes}
 use Rattle.log_record.specs.Journals.{Journal}
 use Rattle.log_record.specs.Laws.{Stood}
 use Rattle.durable_core.specs.Kept.{settled_log}
 use Rattle.durable_core.specs.Logged.{hall_of, disk_of, KeepsLogOf}
+use Rattle.durable_core.specs.Histories.{Writing, writing_of}
+use Rattle.durable_core.specs.Rewriting.{is_idle}
 use Rattle.durable_core.specs.declared.cores.DurableCore.{DurableCore}
 use Rattle.shared_hall.specs.Times.{Time, time_of}
 use Rattle.shared_hall.specs.Standing.{IsAct, FrontBy, TurnBy, Stands}
@@ -28,6 +32,19 @@ hall_in (Out left) = stopped (hall_of left.value)
 abbrev pub disk_in : {D : Type 0} → Place D → D
 disk_in (Inside c) = disk_of c
 disk_in (Out left) = disk_of left.value
+
+-- what its log tells beside an answer; a log that was given out has no bytes
+abbrev pub log_state_in : {D : Type 0} → Place D → LogState
+log_state_in (Inside c) = record { bytes = log_bytes c.tail.journal; is_rewriting = not (is_idle c.tail.rewriting) }
+log_state_in (Out left) = record { bytes = 0; is_rewriting = false }
+
+-- the core, also as it was when its disk was given out; and how far its log was rewritten
+abbrev pub core_in : {D : Type 0} → Place D → DurableCore D
+core_in (Inside c) = c
+core_in (Out left) = left.value
+
+abbrev pub writing_in : {D : Type 0} → Place D → Writing
+writing_in p = writing_of (core_in p)
 
 abbrev pub has_left : {D : Type 0} → Place D → Bool
 has_left (Inside c) = false
@@ -47,18 +64,18 @@ module _ {D : Type 0} (crashes : D → Bool) (seen : D → Option Sides) (images
     → Type 0) (faults : D → ℕ) where
   -- one act of a core
   abbrev pub Acts : Place D → Place D → Act → Type 0
-  Acts = IsAct hall_in disk_in has_left (KeepsIn crashes seen images) crashes images moment left_since faults
+  Acts = IsAct hall_in writing_in disk_in has_left (KeepsIn crashes seen images) crashes images moment left_since faults
 
   -- acts behind which others may come
   abbrev pub ActsInFront : List Act → Place D → Place D → Type 0
-  ActsInFront = FrontBy hall_in disk_in has_left (KeepsIn crashes seen images) crashes images moment left_since faults
+  ActsInFront = FrontBy hall_in writing_in disk_in has_left (KeepsIn crashes seen images) crashes images moment left_since faults
 
   -- the acts of a turn, of which the last begins with this disk
   abbrev pub TurnsBy : List Act → D → Place D → Place D → Type 0
-  TurnsBy = TurnBy hall_in disk_in has_left (KeepsIn crashes seen images) crashes images moment left_since faults
+  TurnsBy = TurnBy hall_in writing_in disk_in has_left (KeepsIn crashes seen images) crashes images moment left_since faults
 
-  abbrev pub StandsIn : Bool → Place D → Opening → List Entry → Type 0
-  StandsIn = Stands hall_in disk_in has_left (KeepsIn crashes seen images) crashes images moment left_since faults
+  abbrev pub StandsIn : Bool → Writing → Place D → Opening → List Entry → Type 0
+  StandsIn = Stands hall_in writing_in disk_in has_left (KeepsIn crashes seen images) crashes images moment left_since faults
 
   -- the time of a disk; what was told of the one that was handed in decides whether moments are counted
   abbrev pub time_with : D → D → Time
@@ -75,12 +92,12 @@ module _ {D : Type 0} (crashes : D → Bool) (seen : D → Option Sides) (images
 
   -- how the history of a value begins that has none yet
   abbrev pub begun : HallCore D → Begun D
-  begun h = record { opening = opening_with h.handed.value (hall_in h.place) (disk_in h.place); disk = h.handed.value }
+  begun h = record { opening = opening_with h.handed.value (hall_in h.place) (disk_in h.place); disk = h.handed.value; core = core_in h.place }
 
   -- the value is as this history leaves it
   pub record StandsFor (h : HallCore D) (b : Begun D) (log : List Entry) : Type 0 where
     pub handed : h.handed.value ≡ b.disk
-    pub stands : StandsIn (tells crashes seen b.disk) h.place b.opening log
+    pub stands : StandsIn (tells crashes seen b.disk) (writing_of b.core) h.place b.opening log
 
   -- A core as an opening gives it, over the disk that was handed in there: its hall opens with a sound world, and where that disk told its
   -- contents and its crashes, the log stands with nothing pending.

@@ -9,7 +9,7 @@ use Rattle.durable_core.specs.Kept.{settled_log}
 use Rattle.durable_core.specs.Logged.{hall_of, disk_of, IsLogOf}
 use Rattle.durable_core.specs.Opened.{IsOpening}
 use Rattle.durable_core.specs.declared.cores.DurableCore.{DurableCore}
-use Rattle.shared_hall.specs.Cores.{tells, IsOpenedOn}
+use Rattle.shared_hall.specs.Cores.{IsOpenedOn}
 
 contents : (o : Option Sides) → is_some o ≡ true → (s : Sides) × (o ≡ Some s)
 contents None is = absurd (true≢false (sym is))

@@ -1,7 +1,7 @@
 -- Whose seat a seat is, and what it shows.
 use Rattle.std.specs.List.{list_any}
 use Rattle.shared_hall.specs.Times.{is_retirement}
-use Rattle.std.specs.Prelude.{◌≡◌, ℕ, Bool, true, Option, None, Some, List, [], ◌++◌, take, length}
+use Rattle.std.specs.Prelude.{◌≡◌, ℕ, Bool, true, Option, None, Some, List, [], ◌++◌}
 use Rattle.atomic_table.specs.declared.shared.Seat.{Seat}
 use Rattle.turn_lock.specs.declared.seat.Held.{Held}
 use Rattle.turn_lock.specs.declared.seat.Known.{Known}
@@ -12,10 +12,11 @@ use Rattle.outside.specs.Sides.{Sides}
 use Rattle.world_data.specs.Worlds.{empty_world}
 use Rattle.world_model.specs.Histories.{IsLegal, Reaches}
 use Rattle.world_model.specs.Halls.{Hall, NamesChanged}
-use Rattle.world_model.specs.Seats.{Act, Knows, AddsCalls, NamesChangedBy}
+use Rattle.world_model.specs.Seats.{Knows, AddsCalls, NamesChangedBy}
 use Rattle.world_model.specs.declared.events.Entry.{Entry}
 use Rattle.world_model.specs.declared.events.Opening.{Opening}
 use Rattle.durable_core.specs.declared.cores.DurableCore.{DurableCore}
+use Rattle.durable_core.specs.Histories.{Writing, writing_of}
 use Rattle.durable_core.specs.Logged.{hall_of, disk_of}
 use Rattle.shared_hall.specs.declared.places.HallCore.{HallCore}
 use Rattle.shared_hall.specs.declared.places.Place.{Place}
@@ -23,8 +24,8 @@ use Rattle.shared_hall.specs.declared.places.Begun.{Begun}
 use Rattle.shared_hall.specs.declared.works.HallWork.{HallWork}
 use Rattle.shared_hall.specs.declared.works.HallAnswer.{HallAnswer}
 use Rattle.shared_hall.specs.declared.halls.SharedHall.{SharedHall}
-use Rattle.shared_hall.specs.Cores.{begun, hall_in, has_left, opening_with, tells, StandsIn}
-use Rattle.shared_hall.specs.Turns.{acts, Gives, StepsBy}
+use Rattle.shared_hall.specs.Cores.{begun, core_in, hall_in, has_left, opening_with, tells, StandsIn}
+use Rattle.shared_hall.specs.Turns.{acts, Gives}
 
 abbrev pub LockSeat : Type 0 → Type 0
 LockSeat D = Seat (Option (Held (HallCore D) HallWork (HallAnswer D))) (View (Begun D) Entry HallWork)
@@ -48,6 +49,13 @@ knows_of s = shown (known_of s)
 abbrev pub handed_of : {D : Type 0} → SharedHall D → D
 handed_of hall = hall.lock.table.shared.key.value.handed.value
 
+-- the core that it was made round, as it was then; and how far its log was rewritten
+abbrev pub opened_of : {D : Type 0} → SharedHall D → DurableCore D
+opened_of hall = core_in hall.lock.table.shared.key.value.place
+
+abbrev pub first_writing : {D : Type 0} → SharedHall D → Writing
+first_writing hall = writing_of (opened_of hall)
+
 module _ {D : Type 0} (crashes : D → Bool) (seen : D → Option Sides) (images : D → Sides → Type 0) (moment : D → ℕ) (left_since : D → ℕ → Sides
     → Type 0) (faults : D → ℕ) where
   -- the seat is one of this hall; what it has seen is a legal history, and its own entries stand there in order
@@ -67,19 +75,16 @@ module _ {D : Type 0} (crashes : D → Bool) (seen : D → Option Sides) (images
   }
 
   -- A turn did a work once, between two states of the core: its acts are entries of the seat's own, and who names the sessions that differ
-  -- names all that the entries changed; so too of the first acts alone. The core stands for all that is seen before and behind it. The
-  -- first seat has seen whether the disk was given out before.
-  pub record IsDone (handed : D) (w : HallWork) (out : HallAnswer D) (old new : Knows) : Type 0 where
+  -- names all that the entries changed. The core stands for all that is seen before and behind it. The first seat has seen whether the disk
+  -- was given out before.
+  pub record IsDone (handed : D) (first : Writing) (w : HallWork) (out : HallAnswer D) (old new : Knows) : Type 0 where
     pub before : Place D
     pub after : Place D
     pub gives : Gives crashes seen images moment left_since faults w before out after
     pub adds : AddsCalls (acts w out) old new
     pub names : (named : List ℕ) → NamesChanged named (hall_in before) (hall_in after)
         → NamesChangedBy new.opening (old.seen ++ adds.between) adds.entries named
-    pub front : (calls rest : List Act) → acts w out ≡ calls ++ rest → (mid : Hall) → StepsBy calls (hall_in before) mid → (named : List ℕ)
-        → NamesChanged named (hall_in before) mid
-        → NamesChangedBy new.opening (old.seen ++ adds.between) (take (length calls) adds.entries) named
-    pub stood : StandsIn crashes seen images moment left_since faults (tells crashes seen handed) before new.opening (old.seen ++ adds.between)
-    pub stands : StandsIn crashes seen images moment left_since faults (tells crashes seen handed) after new.opening new.seen
+    pub stood : StandsIn crashes seen images moment left_since faults (tells crashes seen handed) first before new.opening (old.seen ++ adds.between)
+    pub stands : StandsIn crashes seen images moment left_since faults (tells crashes seen handed) first after new.opening new.seen
     pub one : (h : Hall) → Reaches new.opening new.seen h → h ≡ hall_in after
     pub once : old.first ≡ true → list_any is_retirement old.seen ≡ has_left before

@@ -1,23 +1,25 @@
 -- What the acts of a turn do to a core and its disk, and the histories that a core stands for.
-use Rattle.std.specs.Prelude.{◌≡◌, ◌⊎◌, ◌≤◌, ◌||◌, ℕ, Bool, true, false, List, [], ◌∷◌, ◌++◌}
+use Rattle.std.specs.Prelude.{◌≡◌, ◌⊎◌, ◌≤◌, ◌||◌, ℕ, Bool, true, false, List, [], ◌∷◌, ◌++◌, map}
 use Rattle.std.specs.List.{list_any}
 use Rattle.outside.specs.Causes.{Rose}
 use Rattle.outside.specs.Sides.{Sides}
 use Rattle.world_data.specs.Sound.{IsSoundWorld}
 use Rattle.world_model.specs.Halls.{Hall}
-use Rattle.world_model.specs.Histories.{Step, Reaches, is_log_fault}
-use Rattle.world_model.specs.Seats.{Act}
+use Rattle.world_model.specs.Histories.{Step, Reaches, is_log_fault, opening_hall}
+use Rattle.world_model.specs.Seats.{Act, act_of}
 use Rattle.world_model.specs.declared.events.Entry.{Entry}
 use Rattle.world_model.specs.declared.events.Opening.{Opening}
 use Rattle.log_record.specs.Journals.{Journal, is_retire}
 use Rattle.log_record.specs.Laws.{KeepsSafe, Stood}
 use Rattle.log_record.specs.Safety.{moment_after, count_after}
+use Rattle.durable_core.specs.Histories.{Writing, Writes, is_failed_step, written}
 use Rattle.shared_hall.specs.Times.{time_of, is_retirement}
 
--- Of a state: its hall, its disk, whether the disk was given out, and the journals that its log keeps
-module _ {S D : Type 0} (hall : S → Hall) (disk : S → D) (is_out : S → Bool) (is_log : S → Journal → Type 0)
+-- Of a state: its hall, how far its log is rewritten, its disk, whether the disk was given out, and the journals that its log keeps
+module _ {S D : Type 0} (hall : S → Hall) (writing : S → Writing) (disk : S → D) (is_out : S → Bool) (is_log : S → Journal → Type 0)
     (crashes : D → Bool) (images : D → Sides → Type 0) (moment : D → ℕ) (left_since : D → ℕ → Sides → Type 0) (faults : D → ℕ) where
-  -- one act: a step of the hall. The log fails only where the disk did, and where it is kept, the disk stays safe.
+  -- one act: a step of the hall, with what that does to a rewriting of the log. The log fails only where the disk did, and where it is kept, the
+  -- disk stays safe.
   pub record IsAct (old new : S) (a : Act) : Type 0 where
     pub step : Step (hall old) a.0 a.1 (hall new)
     pub later : faults (disk old) ≤ faults (disk new)
@@ -25,6 +27,7 @@ module _ {S D : Type 0} (hall : S → Hall) (disk : S → D) (is_out : S → Boo
     pub told : crashes (disk new) ≡ crashes (disk old)
     pub out : is_out new ≡ (is_out old || is_retire a.0)
     pub stays : is_out old ≡ true → disk new ≡ disk old
+    pub writes : is_failed_step a.0 a.1 ≡ false → writing new ≡ written (hall old) a.0 a.1 (writing old)
     pub log : (j : Journal) → is_log old j → crashes (disk old) ≡ true → (k : Journal) × is_log new k × (moment (disk old) ≤ moment (disk new))
         × KeepsSafe images moment left_since (disk old) (disk new) (hall old) j a.0 a.1 (hall new) k
 
@@ -46,10 +49,11 @@ module _ {S D : Type 0} (hall : S → Hall) (disk : S → D) (is_out : S → Boo
   abbrev pub TurnBy : List Act → D → S → S → Type 0
   TurnBy acts begun old new = ((acts ≡ []) × (new ≡ old)) ⊎ EndsBy acts begun old new
 
-  -- The history, from an opening with a sound world on, leads to the hall. Its entries ended when the disk's time says, or before; where
+  -- The history, from an opening with a sound world and a log so far on, leads to the hall and its log. Its entries ended when the disk's time says, or before; where
   -- the disk was given out, that was a retirement, and time stands still. Where contents and crashes are told, the log is kept and the disk safe.
-  pub record Stands (told : Bool) (s : S) (o : Opening) (log : List Entry) : Type 0 where
+  pub record Stands (told : Bool) (first : Writing) (s : S) (o : Opening) (log : List Entry) : Type 0 where
     pub reached : Reaches o log (hall s)
+    pub writes : Writes (opening_hall o.world o.logged) first (map act_of log) (hall s) (writing s)
     pub sound : IsSoundWorld o.world
     pub past : moment_after o.moment log ≤ (time_of moment faults told (disk s)).moment
     pub counted : count_after o.count log ≤ (time_of moment faults told (disk s)).count

@@ -1,10 +1,9 @@
 -- What the works of a hall do.
-use Rattle.std.specs.Prelude.{◌≡◌, ℕ, Bool, true, false, List, [], ◌∷◌, ◌++◌, length, Option, Some, None}
+use Rattle.std.specs.Prelude.{◌≡◌, ℕ, Bool, true, false, List, [], ◌∷◌, length, Option, Some, None}
 use Rattle.outside.specs.Crashes.{EachImage}
 use Rattle.outside.specs.Sides.{Sides}
 use Rattle.world_data.specs.Limits.{take_frames}
-use Rattle.world_model.specs.Halls.{Hall, NamesChanged}
-use Rattle.world_model.specs.Histories.{Step}
+use Rattle.world_model.specs.Halls.{NamesChanged}
 use Rattle.world_model.specs.Outcomes.{enter_outcome, take_outcome, given_count, call_acts, IsCount}
 use Rattle.world_model.specs.Seats.{Act}
 use Rattle.world_model.specs.declared.events.CallOutcome.{CallOutcome}
@@ -13,10 +12,10 @@ use Rattle.world_model.specs.declared.events.Event.TheVariants as event
 use Rattle.world_model.specs.declared.events.Outcome.{Outcome}
 use Rattle.world_model.specs.declared.events.Outcome.TheVariants as outcome
 use Rattle.world_model.specs.declared.events.Entry.{Entry}
-use Rattle.world_model.specs.Turns.{take_acts, taken_count}
+use Rattle.journal.specs.Openings.{opened_generation}
 use Rattle.log_record.specs.Journals.{Journal}
 use Rattle.log_record.specs.Recovery.{Recovers}
-use Rattle.shared_hall.specs.Cores.{hall_in, disk_in, has_left, KeepsIn, time_with}
+use Rattle.shared_hall.specs.Cores.{hall_in, disk_in, has_left, log_state_in, writing_in, KeepsIn, time_with}
 use Rattle.shared_hall.specs.Times.{entries_at}
 use Rattle.shared_hall.specs.declared.places.HallCore.{HallCore}
 use Rattle.shared_hall.specs.declared.places.Place.{Place}
@@ -35,12 +34,10 @@ abbrev pub acts : {D : Type 0} → HallWork → HallAnswer D → List Act
 acts work.Enter (answer.Entered r) = (event.Enter, enter_outcome r) ∷ []
 acts (work.Call w) (answer.Called a asked touched) = call_acts w.session w.moment w.asked a.served a.end
 acts (work.Take w) (answer.Taken t into) = (event.Take w.session, take_outcome t into.list) ∷ []
-acts (work.Serve w) (answer.Served a asked touched t into) = call_acts w.asking.session w.asking.moment w.asking.asked a.served a.end
-    ++ take_acts w.asking.session t into.list
 acts (work.Tick w) (answer.Ticked c touched) = (event.Tick w.moment, outcome.Answered c) ∷ []
 acts (work.Close n) answer.Done = (event.Close n, outcome.Done) ∷ []
 acts (work.Remove n) answer.Done = (event.Remove n, outcome.Done) ∷ []
-acts work.StepRewrite (answer.Rewrote c) = (event.Rewrite, outcome.Answered c) ∷ []
+acts work.StepRewrite (answer.Rewrote c state) = (event.Rewrite, outcome.Answered c) ∷ []
 acts work.Retire (answer.Retired given) = (event.Retire, retire_outcome given) ∷ []
 acts _ _ = []
 
@@ -48,17 +45,6 @@ acts _ _ = []
 abbrev pub retires : HallWork → Bool
 retires work.Retire = true
 retires w = false
-
--- these acts lead from a hall to another
-abbrev pub StepsBy : List Act → Hall → Hall → Type 0
-StepsBy [] old new = new ≡ old
-StepsBy (a ∷ more) old new = (next : Hall) × Step old a.0 a.1 next × StepsBy more next new
-
--- calls led to a hall where who was changed is named
-pub record CallsNamed (calls : List Act) (named : List ℕ) (old : Hall) : Type 0 where
-  pub mid : Hall
-  pub steps : StepsBy calls old mid
-  pub names : NamesChanged named old mid
 
 module _ {D : Type 0} (crashes : D → Bool) (seen : D → Option Sides) (images : D → Sides → Type 0) (moment : D → ℕ) (left_since : D → ℕ → Sides
     → Type 0) (faults : D → ℕ) where
@@ -68,7 +54,8 @@ module _ {D : Type 0} (crashes : D → Bool) (seen : D → Option Sides) (images
       (time_with crashes seen images moment left_since faults h.handed.value (disk_in h.before.value))
       (time_with crashes seen images moment left_since faults h.handed.value (disk_in h.place)) (acts w out)
 
-  -- the disk is given out once; where all was committed before, whatever a crash may leave of it is the hall's world
+  -- the disk is given out once; where all was committed before, whatever a crash may leave of it is the hall's world, and an opening finds a log
+  -- of the core's generation there
   abbrev pub GivesOut : Place D → Option (D × CallOutcome) → Place D → Type 0
   GivesOut old None new = has_left old ≡ true
   GivesOut old (Some given) new =
@@ -77,6 +64,8 @@ module _ {D : Type 0} (crashes : D → Bool) (seen : D → Option Sides) (images
       × (disk_in new ≡ given.0)
       × ((j : Journal) → KeepsIn crashes seen images old j → crashes (disk_in old) ≡ true → given.1 ≡ called.Ok
       → EachImage (images given.0) (λ image. Recovers image (hall_in new).world))
+      × ((j : Journal) → KeepsIn crashes seen images old j → given.1 ≡ called.Ok → (s : Sides) → seen given.0 ≡ Some s
+      → opened_generation s ≡ (writing_in new).generation)
 
   -- each work has an answer of its own kind, with what the work had brought
   abbrev pub Gives : HallWork → Place D → HallAnswer D → Place D → Type 0
@@ -84,15 +73,9 @@ module _ {D : Type 0} (crashes : D → Bool) (seen : D → Option Sides) (images
   Gives (work.Call w) old (answer.Called a asked touched) new = (asked ≡ w.asked) × IsCount a.served a.end (length w.asked)
       × NamesChanged touched (hall_in old) (hall_in new)
   Gives (work.Take w) old (answer.Taken t into) new = (length into.list ≡ given_count t) × (into.places ≡ take_frames)
-  Gives (work.Serve w) old (answer.Served a asked touched t into) new =
-      (asked ≡ w.asking.asked)
-      × IsCount a.served a.end (length w.asking.asked)
-      × CallsNamed (call_acts w.asking.session w.asking.moment w.asking.asked a.served a.end) touched (hall_in old)
-      × (length into.list ≡ taken_count t)
-      × (into.places ≡ take_frames)
   Gives (work.Tick w) old (answer.Ticked c touched) new = NamesChanged touched (hall_in old) (hall_in new)
   Gives (work.Close n) old answer.Done new = Unit {0}
   Gives (work.Remove n) old answer.Done new = Unit {0}
-  Gives work.StepRewrite old (answer.Rewrote c) new = Unit {0}
+  Gives work.StepRewrite old (answer.Rewrote c state) new = state ≡ log_state_in new
   Gives work.Retire old (answer.Retired given) new = GivesOut old given new
   Gives _ _ _ _ = ⊥

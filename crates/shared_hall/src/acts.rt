@@ -8,14 +8,14 @@ ghost use Rattle.world_model.specs.Outcomes.{enter_outcome, take_outcome, given_
 ghost use Rattle.world_model.specs.declared.events.Event.TheVariants as event;
 ghost use Rattle.world_model.specs.declared.events.Outcome.TheVariants as outcome;
 ghost use Rattle.tile_core.specs.Answered.{AreSessions, StayNamed};
-ghost use Rattle.shared_hall.specs.Cores.{Acts, hall_in};
+ghost use Rattle.shared_hall.specs.Cores.{Acts, hall_in, log_state_in};
 ghost use Rattle.shared_hall.specs.Turns.{GivesOut, retire_outcome};
 
 use crate::places::{HallCore, Place};
 use outside::Disk;
 use std::mem;
 use std::snapshot::Snapshot;
-use world_model::{Asked, CallOutcome, ChangedSessions, EnterFault, Frames, Taken};
+use world_model::{Asked, CallOutcome, ChangedSessions, EnterFault, Frames, LogState, Taken};
 
 impl<D: Disk + Drop> HallCore<D> {
     // Notes where the core is before its next act.
@@ -25,16 +25,6 @@ impl<D: Disk + Drop> HallCore<D> {
         ensures handed { self.new.handed ≡ self.old.handed }
     {
         self.before = Snapshot::of(&self.place);
-    }
-
-    /// Whether nothing waits for the next commit of a core that goes on.
-    pub(crate) fn is_settled(&self) -> bool
-        ensures { result ≡ true → (hall_in self.now.place).stopped ≡ false }
-    {
-        match &self.place {
-            Place::Inside(core) => !core.is_stopped() && !core.has_pending(),
-            Place::Out(_) => false,
-        }
     }
 
     pub(crate) fn enter(&mut self) -> Result<u32, EnterFault>
@@ -133,16 +123,31 @@ impl<D: Disk + Drop> HallCore<D> {
         }
     }
 
-    pub(crate) fn step_rewrite(&mut self) -> CallOutcome
+    /// A step of rewriting, and what the log is behind it. A log that was given out has no bytes.
+    pub(crate) fn step_rewrite(&mut self) -> (CallOutcome, LogState)
         ensures act { Acts D.crashes D.seen D.images D.moment D.left_since D.faults self.old.place self.new.place
-            (event.Rewrite, outcome.Answered result) }
+            (event.Rewrite, outcome.Answered result.0) }
+        ensures state { result.1 ≡ log_state_in self.new.place }
         ensures before { self.new.before.value ≡ self.old.place }
         ensures handed { self.new.handed ≡ self.old.handed }
     {
         self.begin();
         match &mut self.place {
-            Place::Inside(core) => core.step_rewrite(),
-            Place::Out(_) => CallOutcome::Stopped,
+            Place::Inside(core) => {
+                let called = core.step_rewrite();
+                let log = LogState {
+                    bytes: core.log_bytes(),
+                    is_rewriting: core.is_rewriting(),
+                };
+                (called, log)
+            }
+            Place::Out(_) => (
+                CallOutcome::Stopped,
+                LogState {
+                    bytes: 0,
+                    is_rewriting: false,
+                },
+            ),
         }
     }
 

@@ -5,12 +5,12 @@ ghost use Rattle.std.specs.List.{list_all};
 ghost use Rattle.world_data.specs.Limits.{max_moment};
 ghost use Rattle.world_model.specs.Outcomes.{is_proper, call_acts, IsCount};
 ghost use Rattle.world_model.specs.Halls.{NamesChanged};
-ghost use Rattle.shared_hall.specs.Cores.{hall_in, disk_in, ActsInFront, TurnsBy};
+ghost use Rattle.shared_hall.specs.Cores.{hall_in, disk_in, TurnsBy};
 ghost use Rattle.shared_hall.specs.Turns.{acts, Gives};
 ghost use Rattle.shared_hall.specs.declared.works.HallWork.TheVariants as work;
 
 use crate::places::HallCore;
-use crate::works::{Asking, HallAnswer, HallWork, Serving, Taking, Ticking};
+use crate::works::{Asking, HallAnswer, HallWork, Taking, Ticking};
 use outside::Disk;
 use turn_lock::Work;
 use world_model::{Answers, AskedList, CallOutcome, ChangedSessions};
@@ -50,7 +50,6 @@ fn answer<D: Disk + Drop>(core: &mut HallCore<D>, asked: HallWork) -> HallAnswer
         HallWork::Enter => HallAnswer::Entered(core.enter()),
         HallWork::Call(asking) => answer_call(core, asking),
         HallWork::Take(taking) => answer_take(core, taking),
-        HallWork::Serve(serving) => answer_serve(core, serving),
         HallWork::Tick(ticking) => answer_tick(core, ticking),
         HallWork::Close(session) => {
             core.close(session);
@@ -60,7 +59,10 @@ fn answer<D: Disk + Drop>(core: &mut HallCore<D>, asked: HallWork) -> HallAnswer
             core.remove(session);
             HallAnswer::Done
         }
-        HallWork::StepRewrite => HallAnswer::Rewrote(core.step_rewrite()),
+        HallWork::StepRewrite => {
+            let (called, log) = core.step_rewrite();
+            HallAnswer::Rewrote(called, log)
+        }
         HallWork::Retire => HallAnswer::Retired(core.retire()),
     }
 }
@@ -95,35 +97,6 @@ fn answer_take<D: Disk + Drop>(core: &mut HallCore<D>, taking: Taking) -> HallAn
     HallAnswer::Taken(taken, into)
 }
 
-// Makes the calls, and the take behind them where nothing waits for a commit. Else a take of its own makes the commit,
-// which then serves the changes of others, too.
-fn answer_serve<D: Disk + Drop>(core: &mut HallCore<D>, serving: Serving) -> HallAnswer<D>
-    ensures handed { core.new.handed ≡ core.old.handed }
-    ensures gives { Gives D.crashes D.seen D.images D.moment D.left_since D.faults
-        (work.Serve serving) core.old.place result core.new.place }
-    ensures turn { TurnsBy D.crashes D.seen D.images D.moment D.left_since D.faults (acts (work.Serve serving) result)
-        (disk_in core.new.before.value) core.old.place core.new.place }
-{
-    let Serving {
-        asking,
-        into: mut frames,
-    } = serving;
-    let Asking {
-        session,
-        moment,
-        asked,
-        mut touched,
-    } = asking;
-    touched.clear();
-    let made = call_each(core, session, moment, &asked, &mut touched);
-    if core.is_settled() {
-        let taken = core.take(session, &mut frames);
-        HallAnswer::Served(made, asked, touched, Some(taken), frames)
-    } else {
-        HallAnswer::Served(made, asked, touched, None, frames)
-    }
-}
-
 fn answer_tick<D: Disk + Drop>(core: &mut HallCore<D>, ticking: Ticking) -> HallAnswer<D>
     ensures handed { core.new.handed ≡ core.old.handed }
     ensures gives { Gives D.crashes D.seen D.images D.moment D.left_since D.faults
@@ -156,9 +129,6 @@ fn call_each<D: Disk + Drop>(
     ensures turn { TurnsBy D.crashes D.seen D.images D.moment D.left_since D.faults
         (call_acts session moment asked.now result.served result.end)
         (disk_in core.new.before.value) core.old.place core.new.place }
-    ensures front { (hall_in core.new.place).stopped ≡ false
-        → ActsInFront D.crashes D.seen D.images D.moment D.left_since D.faults
-        (call_acts session moment asked.now result.served result.end) core.old.place core.new.place }
     ensures named { NamesChanged touched.new (hall_in core.old.place) (hall_in core.new.place) }
 {
     for i in 0..asked.len() {

@@ -1,26 +1,27 @@
 //! The hall that many threads share, and its calls.
 //!
-//! A hall retires by its first seat alone, as the one entry that is kept for it. A take in the turn of its calls is
-//! made only where they left nothing pending: a reader that wrote takes in a turn of its own, which is late and shares
-//! its commit.
+//! A hall retires by its first seat alone, as the one entry that is kept for it.
 
-ghost use Rattle.std.specs.Prelude.{◌≡◌, ◌≤◌, ◌⊎◌, ◌^◌, ◌-◌, true, false, is_some, not, min, IfOk, IfErr, IfSome};
+ghost use Rattle.std.specs.Prelude.{◌≡◌, ◌≤◌, ◌⊎◌, ◌^◌, ◌-◌, true, false, is_some, not, min, Some, IfOk, IfErr, IfSome};
 ghost use Rattle.std.specs.List.{list_any};
 ghost use Rattle.outside.specs.Causes.{most_count};
 ghost use Rattle.outside.specs.Crashes.{EachImage};
+ghost use Rattle.outside.specs.Sides.{Sides};
 ghost use Rattle.world_model.specs.Halls.{Hall};
 ghost use Rattle.world_model.specs.Histories.{Reaches};
 ghost use Rattle.world_model.specs.Seats.{Adds};
 ghost use Rattle.world_model.specs.declared.events.Event.TheVariants as event;
+ghost use Rattle.journal.specs.Openings.{opened_generation};
 ghost use Rattle.log_record.specs.Recovery.{Recovers};
 ghost use Rattle.log_record.specs.Safety.{Safe, count_after};
+ghost use Rattle.durable_core.specs.Histories.{LeavesGeneration};
 ghost use Rattle.shared_hall.specs.Cores.{tells, IsOpenedOn};
-ghost use Rattle.shared_hall.specs.Seats.{IsOf, IsDone, knows_of, first_knows, handed_of};
+ghost use Rattle.shared_hall.specs.Seats.{IsOf, IsDone, knows_of, first_knows, first_writing, handed_of, opened_of};
 ghost use Rattle.shared_hall.specs.Times.{is_retirement};
 ghost use Rattle.shared_hall.specs.Turns.{retire_outcome, retires};
 
 use crate::places::{HallCore, Place};
-use crate::works::{Asking, HallAnswer, HallWork, Serving, Taking, Ticking};
+use crate::works::{Asking, HallAnswer, HallWork, Taking, Ticking};
 use durable_core::DurableCore;
 use outside::Disk;
 use std::alloc::Global;
@@ -28,8 +29,8 @@ use std::snapshot::Snapshot;
 use std::sync::Wait;
 use turn_lock::{Seat, TurnLock};
 use world_model::{
-    Answers, AskedList, CallOutcome, ChangedSessions, EnterFault, Frames, HallApi, HallServe,
-    HallSplit, Taken, step_laws,
+    Answers, AskedList, CallOutcome, ChangedSessions, EnterFault, Frames, HallApi, HallSplit,
+    LogState, Taken, step_laws,
 };
 
 /// What a caller has seen of the hall's history.
@@ -62,6 +63,7 @@ impl<D: Disk + Drop> SharedHall<D> {
             (λ r. knows_of r.1
             ≡ first_knows D.crashes D.seen D.images D.moment D.left_since D.faults core handed.value) }
         ensures handed { IfOk result (λ r. handed_of r.0 ≡ handed.value) }
+        ensures opened { IfOk result (λ r. opened_of r.0 ≡ core) }
         ensures back { IfErr result (λ c. c ≡ core) }
     {
         let place = Place::Inside(core);
@@ -92,8 +94,8 @@ impl<D: Disk + Drop> SharedHall<D> {
         requires seat { IsOf D.crashes D.seen D.images D.moment D.left_since D.faults self.now seat.old }
         requires may { (knows_of seat.old).first ≡ false → retires work ≡ false }
         ensures seat { IsOf D.crashes D.seen D.images D.moment D.left_since D.faults self.now seat.new }
-        ensures done { IsDone D.crashes D.seen D.images D.moment D.left_since D.faults (handed_of self.now) work result
-            (knows_of seat.old) (knows_of seat.new) }
+        ensures done { IsDone D.crashes D.seen D.images D.moment D.left_since D.faults (handed_of self.now)
+            (first_writing self.now) work result (knows_of seat.old) (knows_of seat.new) }
     {
         // An entry leads to one hall, so that the history alone tells who was changed.
         step_laws();
@@ -103,7 +105,7 @@ impl<D: Disk + Drop> SharedHall<D> {
     /// Makes all that is pending stand, and gives the disk out; from then on each call is answered Stopped. None where
     /// it was given out before. Where the disk told its contents and what a crash may leave, it is safe for all that
     /// the seat has seen then; and where all was made to stand, whatever a crash may leave is the world of that
-    /// history.
+    /// history, and the log there is of the generation that its rewritings lead to.
     pub fn retire<R: Wait>(&self, rt: &R, seat: &mut HallSeat<D>) -> Option<(D, CallOutcome)>
         requires seat { IsOf D.crashes D.seen D.images D.moment D.left_since D.faults self.now seat.old }
         requires first { (knows_of seat.old).first ≡ true }
@@ -120,6 +122,11 @@ impl<D: Disk + Drop> SharedHall<D> {
             (λ given. given.1 ≡ CallOutcome.Ok → (h : Hall)
             → Reaches (knows_of seat.new).opening (knows_of seat.new).seen h
             → EachImage (D.images given.0) (λ image. Recovers image h.world)) }
+        ensures generation { tells D.crashes D.seen (handed_of self.now) ≡ true
+            → IfSome result
+            (λ given. given.1 ≡ CallOutcome.Ok → (s : Sides) → D.seen given.0 ≡ Some s
+            → LeavesGeneration (knows_of seat.new).opening (first_writing self.now) (knows_of seat.new).seen
+            (opened_generation s)) }
     {
         match self.turn(rt, seat, HallWork::Retire) {
             HallAnswer::Retired(given) => given,
@@ -206,40 +213,9 @@ impl<D: Disk + Drop> HallApi for SharedHall<D> {
         self.turn(rt, seat, HallWork::Remove(session));
     }
 
-    fn step_rewrite<R: Wait>(&self, rt: &R, seat: &mut HallSeat<D>) -> CallOutcome {
+    fn step_rewrite<R: Wait>(&self, rt: &R, seat: &mut HallSeat<D>) -> (CallOutcome, LogState) {
         match self.turn(rt, seat, HallWork::StepRewrite) {
-            HallAnswer::Rewrote(called) => called,
-            _ => unreachable!(),
-        }
-    }
-}
-
-impl<D: Disk + Drop> HallServe for SharedHall<D> {
-    fn calls_and_take<R: Wait>(
-        &self,
-        rt: &R,
-        seat: &mut HallSeat<D>,
-        session: u32,
-        moment: u64,
-        asked: AskedList,
-        touched: ChangedSessions,
-        into: &mut Frames,
-    ) -> (Answers, AskedList, ChangedSessions, Option<Taken>) {
-        let asking = Asking {
-            session,
-            moment,
-            asked,
-            touched,
-        };
-        let serving = Serving {
-            asking,
-            into: into.move_out(),
-        };
-        match self.turn(rt, seat, HallWork::Serve(serving)) {
-            HallAnswer::Served(answers, asked, touched, taken, frames) => {
-                *into = frames;
-                (answers, asked, touched, taken)
-            }
+            HallAnswer::Rewrote(called, log) => (called, log),
             _ => unreachable!(),
         }
     }

@@ -11,4 +11,4 @@ mod works;
 
 pub use halls::{HallSeat, SharedHall};
 pub use places::{Begun, HallCore, Place};
-pub use works::{Asking, HallAnswer, HallWork, Serving, Taking, Ticking};
+pub use works::{Asking, HallAnswer, HallWork, Taking, Ticking};

@@ -25,9 +25,11 @@ pub struct HallCore<D> {
     pub(crate) handed: Snapshot<D>,
 }
 
-/// The opening of a hall's history, and the disk as it was before it was opened. No value of it is ever made.
+/// The opening of a hall's history, the disk as it was before it was opened, and the core as its opening gave it. No
+/// value of it is ever made.
 #[derive(Drop)]
 pub struct Begun<D> {
     pub opening: Opening,
     pub disk: D,
+    pub core: DurableCore<D>,
 }

@@ -5,7 +5,9 @@ ghost use Rattle.std.specs.List.{list_all};
 ghost use Rattle.world_data.specs.Limits.{max_moment, take_frames};
 ghost use Rattle.world_model.specs.Outcomes.{is_proper};
 
-use world_model::{Answers, AskedList, CallOutcome, ChangedSessions, EnterFault, Frames, Taken};
+use world_model::{
+    Answers, AskedList, CallOutcome, ChangedSessions, EnterFault, Frames, LogState, Taken,
+};
 
 /// What a session asks for at a moment, and where the sessions are named that it changes.
 #[derive(Drop)]
@@ -26,14 +28,6 @@ pub struct Taking {
     ghost bare: { into ≡ record { list = []; places = take_frames } },
 }
 
-/// What a session asks for, and the places for a take of its frames behind it.
-#[derive(Drop)]
-pub struct Serving {
-    pub asking: Asking,
-    pub into: Frames,
-    ghost bare: { into ≡ record { list = []; places = take_frames } },
-}
-
 /// A moment that the clock goes on to, and where the sessions are named that this changes.
 #[derive(Drop)]
 pub struct Ticking {
@@ -48,7 +42,6 @@ pub enum HallWork {
     Enter,
     Call(Asking),
     Take(Taking),
-    Serve(Serving),
     Tick(Ticking),
     Close(u32),
     Remove(u32),
@@ -62,10 +55,9 @@ pub enum HallAnswer<D> {
     Entered(Result<u32, EnterFault>),
     Called(Answers, AskedList, ChangedSessions),
     Taken(Taken, Frames),
-    /// There is no take where it is better made in a turn of its own.
-    Served(Answers, AskedList, ChangedSessions, Option<Taken>, Frames),
     Ticked(CallOutcome, ChangedSessions),
-    Rewrote(CallOutcome),
+    /// How a step of rewriting ended, and how large the log is then.
+    Rewrote(CallOutcome, LogState),
     /// The disk, where it was in, and how the retirement ended.
     Retired(Option<(D, CallOutcome)>),
     Done,

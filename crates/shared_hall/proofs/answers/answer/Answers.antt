@@ -24,11 +24,6 @@ returns-in-Take-clause-turn g c = let m = g.D.Disk in
     subst (λ (w : HallWork). TurnsBy m.crashes m.seen m.images m.moment m.left_since m.faults (acts w (c.answer_take.result)) (disk_in c.answer_take.new.core.before.value) c.args.core.now.place c.answer_take.new.core.place) (sym c.in-Take.is)
     (c.answer_take.ensures.turn)
 
-pub returns-in-Serve-clause-turn : goal.returns-in-Serve-clause-turn
-returns-in-Serve-clause-turn g c = let m = g.D.Disk in
-    subst (λ (w : HallWork). TurnsBy m.crashes m.seen m.images m.moment m.left_since m.faults (acts w (c.answer_serve.result)) (disk_in c.answer_serve.new.core.before.value) c.args.core.now.place c.answer_serve.new.core.place) (sym c.in-Serve.is)
-    (c.answer_serve.ensures.turn)
-
 pub returns-in-Tick-clause-turn : goal.returns-in-Tick-clause-turn
 returns-in-Tick-clause-turn g c = let m = g.D.Disk in
     subst (λ (w : HallWork). TurnsBy m.crashes m.seen m.images m.moment m.left_since m.faults (acts w (c.answer_tick.result)) (disk_in c.answer_tick.new.core.before.value) c.args.core.now.place c.answer_tick.new.core.place) (sym c.in-Tick.is)
@@ -46,8 +41,8 @@ returns-in-Remove-clause-turn g c = let m = g.D.Disk in
 
 pub returns-in-StepRewrite-clause-turn : goal.returns-in-StepRewrite-clause-turn
 returns-in-StepRewrite-clause-turn g c = let m = g.D.Disk in
-    subst (λ (w : HallWork). TurnsBy m.crashes m.seen m.images m.moment m.left_since m.faults (acts w (given.Rewrote c.step_rewrite.result)) (disk_in c.step_rewrite.new.self.before.value) c.args.core.now.place c.step_rewrite.new.self.place) (sym c.in-StepRewrite.is)
-    (acts_alone m.crashes m.seen m.images m.moment m.left_since m.faults (event.Rewrite, outcome.Answered c.step_rewrite.result) c.args.core.now.place c.step_rewrite.new.self.place c.step_rewrite.new.self.before.value c.step_rewrite.ensures.before c.step_rewrite.ensures.act)
+    subst (λ (w : HallWork). TurnsBy m.crashes m.seen m.images m.moment m.left_since m.faults (acts w (given.Rewrote c.step_rewrite-called.result.0 c.step_rewrite-called.result.1)) (disk_in c.step_rewrite-called.new.self.before.value) c.args.core.now.place c.step_rewrite-called.new.self.place) (sym c.in-StepRewrite.is)
+    (acts_alone m.crashes m.seen m.images m.moment m.left_since m.faults (event.Rewrite, outcome.Answered c.step_rewrite-called.result.0) c.args.core.now.place c.step_rewrite-called.new.self.place c.step_rewrite-called.new.self.before.value c.step_rewrite-called.ensures.before c.step_rewrite-called.ensures.act)
 
 pub returns-in-Retire-clause-turn : goal.returns-in-Retire-clause-turn
 returns-in-Retire-clause-turn g c = let m = g.D.Disk in

@@ -4,7 +4,7 @@ use Rattle.world_model.specs.Outcomes.{call_act, call_acts}
 use Rattle.world_model.specs.declared.events.CallOutcome.TheVariants as called
 use Rattle.shared_hall.specs.Cores.{hall_in, disk_in, ActsInFront, TurnsBy}
 use Rattle.shared_hall.proofs.Calling.{next_call, is_proper_at, acts_to, acts_all, names_more}
-use Rattle.shared_hall.proofs.Turning.{acts_behind, acts_go_on, acts_fine}
+use Rattle.shared_hall.proofs.Turning.{acts_behind, acts_go_on}
 use Rattle.shared_hall.proofs.answers.call_each.Goals as goal
 
 pub call-requires-clause-proper : goal.call-requires-clause-proper
@@ -20,19 +20,6 @@ returns-in_default-clause-turn g c =
     (acts_to c.args.session c.args.moment c.call.result c.args.asked.now c.loop-i.i c.at.result.now c.in_default.not-Ok c.at.ensures)
     (acts_behind m.crashes m.seen m.images m.moment m.left_since m.faults (map f (take c.loop-i.i c.args.asked.now)) (call_act c.args.session c.args.moment c.call.result c.at.result.now) start c.loop-i.core.place new.place new.before.value
     c.call.ensures.before c.loop-i.invariant.front c.call.ensures.act)
-
-pub returns-in_default-clause-front : goal.returns-in_default-clause-front
-returns-in_default-clause-front g c = λ goes.
-    let m = g.D.Disk in
-    let f = call_act c.args.session c.args.moment called.Ok in
-    let start = c.args.core.now.place in
-    let mid = c.loop-i.core.place in
-    let new = c.call.new.self.place in
-    let a = call_act c.args.session c.args.moment c.call.result c.at.result.now in
-    subst (λ (acts : List Act). ActsInFront m.crashes m.seen m.images m.moment m.left_since m.faults acts start new)
-    (acts_to c.args.session c.args.moment c.call.result c.args.asked.now c.loop-i.i c.at.result.now c.in_default.not-Ok c.at.ensures)
-    (acts_go_on m.crashes m.seen m.images m.moment m.left_since m.faults (map f (take c.loop-i.i c.args.asked.now)) a start mid new
-    c.loop-i.invariant.front c.call.ensures.act (acts_fine m.crashes m.seen m.images m.moment m.left_since m.faults a mid new c.call.ensures.act goes) refl)
 
 pub returns-in_default-clause-handed : goal.returns-in_default-clause-handed
 returns-in_default-clause-handed g c = c.call.ensures.handed ∙ c.loop-i.invariant.handed

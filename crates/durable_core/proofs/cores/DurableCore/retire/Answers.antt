@@ -2,7 +2,7 @@ use Rattle.std.proofs.Common.{◌∙◌, refl, subst, sym}
 use Rattle.world_model.specs.declared.events.CallOutcome.TheVariants as called
 use Rattle.world_model.specs.declared.events.Event.TheVariants as event
 use Rattle.world_model.specs.declared.events.Outcome.TheVariants as outcome
-use Rattle.journal.specs.KeptLaws.{kept_told}
+use Rattle.journal.specs.KeptLaws.{kept_generation, kept_told}
 use Rattle.log_record.specs.Journals as log
 use Rattle.log_record.specs.Recovery.{Recovers}
 use Rattle.durable_core.specs.Logged.{hall_of}
@@ -38,3 +38,9 @@ returns-in-Err-clause-log g c j keeps =
     let going = sym c.is_stopped.ensures ∙ c.if-is_stopped.false in
     let step = fails (hall_of old) _ event.Retire refl going refl refl in
     faulted D.crashes D.seen D.images D.moment D.left_since g.met.D.Disk.as_read g.met.D.Disk.counts_now g.met.D.Disk.only_now _ old _ event.Retire (outcome.Answered called.LogFault) j (log.settled j) going refl step keeps c.commit.ensures.told (c.in-Err.ensures.log j (keeps going).kept) refl
+
+pub returns-in-Ok-clause-found : goal.returns-in-Ok-clause-found
+returns-in-Ok-clause-found g c j keeps _ s told =
+    let of = keeps (sym c.is_stopped.ensures ∙ c.if-is_stopped.false) in
+    let kept = (c.in-Ok.ensures.log j of.kept).kept in
+    kept_generation _ _ _ _ _ _ _ _ kept.batches kept.copied kept.keeps s told

@@ -5,7 +5,7 @@ use Rattle.durable_core.specs.Steps.{IsNextStep}
 use Rattle.durable_core.specs.Written.{KeepsSided}
 use Rattle.durable_core.specs.declared.steps.RewriteStep.TheVariants.{Copy}
 use Rattle.durable_core.proofs.Sides.{next_sided}
-use Rattle.durable_core.proofs.NextSteps.{copy_generation, copy_shown, copy_version, on_ok}
+use Rattle.durable_core.proofs.NextSteps.{copy_generation, copy_rewriting, copy_shown, copy_version, on_ok}
 use Rattle.durable_core.proofs.tails.Tail.make.Goals as goal
 
 pub returns-in-Copy-clause-shown : goal.returns-in-Copy-clause-shown
@@ -36,3 +36,10 @@ returns-in-Copy-clause-written g c w s is keeps =
     let gate = new_gate old.journal.rewriter in
     let copies = subst (IsNextStep old.rewriting gate w) c.in-Copy.is is in
     on_ok_weaker c.copy.result (subst (KeepsSided D.crashes D.seen D.images c.copy.new.self.journal) (next_sided old.rewriting gate w (Copy c.in-Copy.next) s copies)) (c.copy.ensures.written s keeps)
+
+pub returns-in-Copy-clause-rewriting : goal.returns-in-Copy-clause-rewriting
+returns-in-Copy-clause-rewriting g c w is =
+    let old = c.args.self.now in
+    let gate = new_gate old.journal.rewriter in
+    let copies = subst (IsNextStep old.rewriting gate w) c.in-Copy.is is in
+    on_ok_weaker c.copy.result (copy_rewriting old.rewriting c.copy.new.self.rewriting gate w c.in-Copy.next copies) c.copy.ensures.rewriting

@@ -1,6 +1,7 @@
 use Rattle.std.proofs.Common.{◌≤◌, List, [], subst, sym}
 use Rattle.outside.specs.Causes.{Rose}
 use Rattle.log_sides.specs.Texts.{newest}
+use Rattle.durable_core.specs.HistoryLaws.{writing_is}
 use Rattle.durable_core.specs.Logged.{hall_of, disk_of}
 use Rattle.replay_run.specs.declared.readers.Reader.{Reader}
 use Rattle.replay_run.specs.Scripts.{Reopens}
@@ -14,7 +15,7 @@ returns-in-Ok-open-clause-again g c =
     let e = c.in-Ok.ensures in
     let o = c.in-Ok-open.ensures in
     let r = opened_again g.D.Disk.crashes g.D.Disk.seen g.D.Disk.images g.D.Disk.moment g.D.Disk.left_since g.D.Disk.faults (λ d. record { counts_now = g.met.D.Disk.counts_now d; only_now = g.met.D.Disk.only_now d }) c.args.self.core c.retire-answer.new.self c.in-Ok-open.core c.into_disk-disk.result c.args.self.readers.items c.into_disk-disk.ensures e.step e.later e.told e.log e.left
-    g.met.D.Disk.as_read (λ s h. c.held_batches_are_recovered.ensures.held newest [] s tt h) o.leaves o.hall o.sound o.recovers o.log o.safe o.told o.later in
+    g.met.D.Disk.as_read (λ s h. c.held_batches_are_recovered.ensures.held newest [] s tt h) o.leaves o.hall o.sound o.recovers o.log o.safe o.told o.later (writing_is c.retire-answer.new.self _ _ e.rewriting e.generation) e.found o.idle o.generation in
     (r.0, λ told logs. subst (λ (rs : List Reader). Reopens told (played c.args.self) r.0 (record { hall = hall_of c.in-Ok-open.core; readers = rs })) (sym c.new.ensures.items) (r.1 told logs), r.2)
 
 pub returns-in-Ok-clause-failed : goal.returns-in-Ok-clause-failed

@@ -1,6 +1,6 @@
-use Rattle.shared_hall.specs.Seats.{handed_of}
+use Rattle.shared_hall.specs.Seats.{first_writing, handed_of}
 use Rattle.shared_hall.proofs.AnswerKinds.{closed}
 use Rattle.shared_hall.proofs.halls.SharedHallHallApi.close.Goals as goal
 
 pub returns-clause-entry : goal.returns-clause-entry
-returns-clause-entry g c = let m = g.D.Disk in closed m.crashes m.seen m.images m.moment m.left_since m.faults (handed_of c.args.self.now) _ _ _ _ c.turn.ensures.done
+returns-clause-entry g c = let m = g.D.Disk in closed m.crashes m.seen m.images m.moment m.left_since m.faults (handed_of c.args.self.now) (first_writing c.args.self.now) _ _ _ _ c.turn.ensures.done

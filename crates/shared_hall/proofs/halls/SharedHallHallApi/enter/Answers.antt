@@ -1,9 +1,9 @@
-use Rattle.shared_hall.specs.Seats.{handed_of}
+use Rattle.shared_hall.specs.Seats.{first_writing, handed_of}
 use Rattle.shared_hall.proofs.AnswerKinds.{entered, entered_out}
 use Rattle.shared_hall.proofs.halls.SharedHallHallApi.enter.Goals as goal
 
 pub returns-clause-entry : goal.returns-clause-entry
-returns-clause-entry g c = let m = g.D.Disk in entered m.crashes m.seen m.images m.moment m.left_since m.faults (handed_of c.args.self.now) _ _ _ _ c.in-Entered.is c.turn.ensures.done
+returns-clause-entry g c = let m = g.D.Disk in entered m.crashes m.seen m.images m.moment m.left_since m.faults (handed_of c.args.self.now) (first_writing c.args.self.now) _ _ _ _ c.in-Entered.is c.turn.ensures.done
 
 pub unreachable-requires : goal.unreachable-requires
-unreachable-requires g c = let m = g.D.Disk in let k = entered_out m.crashes m.seen m.images m.moment m.left_since m.faults (handed_of c.args.self.now) _ _ _ c.turn.ensures.done in c.in_default.not-Entered k.0 k.1
+unreachable-requires g c = let m = g.D.Disk in let k = entered_out m.crashes m.seen m.images m.moment m.left_since m.faults (handed_of c.args.self.now) (first_writing c.args.self.now) _ _ _ c.turn.ensures.done in c.in_default.not-Entered k.0 k.1

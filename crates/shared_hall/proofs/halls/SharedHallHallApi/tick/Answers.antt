@@ -1,9 +1,9 @@
-use Rattle.shared_hall.specs.Seats.{handed_of}
+use Rattle.shared_hall.specs.Seats.{first_writing, handed_of}
 use Rattle.shared_hall.proofs.AnswerKinds.{ticked, ticked_out}
 use Rattle.shared_hall.proofs.halls.SharedHallHallApi.tick.Goals as goal
 
 pub returns-clause-entry : goal.returns-clause-entry
-returns-clause-entry g c = let m = g.D.Disk in ticked m.crashes m.seen m.images m.moment m.left_since m.faults (handed_of c.args.self.now) _ _ _ _ _ _ c.in-Ticked.is c.turn.ensures.done
+returns-clause-entry g c = let m = g.D.Disk in ticked m.crashes m.seen m.images m.moment m.left_since m.faults (handed_of c.args.self.now) (first_writing c.args.self.now) _ _ _ _ _ _ c.in-Ticked.is c.turn.ensures.done
 
 pub unreachable-requires : goal.unreachable-requires
-unreachable-requires g c = let m = g.D.Disk in let k = ticked_out m.crashes m.seen m.images m.moment m.left_since m.faults (handed_of c.args.self.now) _ _ _ _ c.turn.ensures.done in c.in_default.not-Ticked k.0 k.1 k.2
+unreachable-requires g c = let m = g.D.Disk in let k = ticked_out m.crashes m.seen m.images m.moment m.left_since m.faults (handed_of c.args.self.now) (first_writing c.args.self.now) _ _ _ _ c.turn.ensures.done in c.in_default.not-Ticked k.0 k.1 k.2
